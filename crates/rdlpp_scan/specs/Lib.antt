@@ -1,0 +1,5 @@
+pub mod Bytes
+pub mod Tokens
+pub mod Front
+pub mod SourceTokens
+pub mod Stage

@@ -1,0 +1,2 @@
+//! The macro table: limits, and a counted store of definitions.
+#![tactic(auto)]
