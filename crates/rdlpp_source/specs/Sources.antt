@@ -30,6 +30,14 @@ is_no_memory (Err PathTooLong) = false
 is_no_memory (Err Device) = false
 is_no_memory (Err NoMemory) = true
 
+-- a search answered so, with the whole text unread (source: this project's profile)
+abbrev pub Gives : {R : Type 0} → (R → List ℕ) → Answer → Result (Found R) SourceFault → Type 0
+Gives unread answer (Ok found) = answer ≡ Present found.path.bytes (unread found.reader)
+Gives unread answer (Err Absent) = answer ≡ Missing
+Gives unread answer (Err PathTooLong) = answer ≡ Overlong
+Gives unread answer (Err Device) = ⊥
+Gives unread answer (Err NoMemory) = ⊥
+
 -- a search answered what the catalog answers, with the whole text unread, or failed at a device or for memory (source: this project's profile)
 abbrev pub Finds : {R : Type 0} → (R → List ℕ) → Answer → Result (Found R) SourceFault → Type 0
 Finds unread answer (Ok found) = answer ≡ Present found.path.bytes (unread found.reader)
