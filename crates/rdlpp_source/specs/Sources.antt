@@ -10,9 +10,10 @@ pub data Answer : Type 0 where
   Overlong : Answer
   Present : List ℕ → List ℕ → Answer
 
--- what sources that tell their texts answer: `top` for each path (source: this project's profile)
+-- what sources that tell their texts answer: `top` for each path, and `find` for the path of the including source and the name (source: this project's profile)
 pub record Catalog : Type 0 where
   pub top : List ℕ → Answer
+  pub find : List ℕ → List ℕ → Answer
 
 -- whether a call failed at a device (source: this project's profile)
 abbrev pub is_device : {A : Type 0} → Result A SourceFault → Bool

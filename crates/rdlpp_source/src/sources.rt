@@ -71,6 +71,26 @@ pub trait Sources: Drop {
         ensures tells { tells self.old → tells self.new }
         ensures catalog { catalog self.new ≡ catalog self.old };
 
+    /// Opens the source that `name` names, as it stands in an include directive of the source whose
+    /// path is `from`.
+    ///
+    /// A name that begins with `/` is the one candidate. The candidates of any other are the name
+    /// joined to the folder of `from`, then to each include folder of the value in order. The
+    /// folder of a path is all up to and with its last `/`, or nothing; a folder is joined as it is
+    /// where it is empty or ends in `/`, and else with one `/`. Paths aren't rewritten. The first
+    /// candidate that exists is opened; one with an LF byte doesn't.
+    ///
+    /// `Absent` where no candidate exists; `PathTooLong` at a candidate of more than 1,024 bytes,
+    /// which ends the search, where none before it exists; `Device` or `NoMemory` where the value's
+    /// count of it rose. After a refusal no source is open that wasn't, and the value is as good as
+    /// before. The search rule is this project's.
+    fn find(&mut self, from: &str, name: &str) -> Result<Found<Self::Reader>, SourceFault>
+        ensures answer { tells self.old → Finds unread ((catalog self.old).find from.now name.now) result }
+        ensures failures { Counts (is_device result) (failures self.old) (failures self.new) }
+        ensures refusals { Counts (is_no_memory result) (refusals self.old) (refusals self.new) }
+        ensures tells { tells self.old → tells self.new }
+        ensures catalog { catalog self.new ≡ catalog self.old };
+
     /// Reads the next bytes of a source into the front of `to`, and answers how many: from 0 to
     /// the length of `to`. What stands in `to` behind them is left open.
     ///

@@ -1,8 +1,9 @@
 //! Sources in memory.
-ghost use Rattle.std.specs.Prelude.{◌≡◌, false, min, length, take, drop, Ok, [], ◌∷◌};
+ghost use Rattle.std.specs.Prelude.{◌≡◌, map, min, drop, IfOk, MatchOption, length, ◌<◌};
 ghost use Rattle.std.specs.Option.{option_copied};
-ghost use Rattle.rdlpp_source.specs.Search.{first_text, search};
-ghost use Rattle.rdlpp_source.specs.Sources.{Gives};
+ghost use Rattle.std.specs.Io.{ReadsAtMost};
+ghost use Rattle.rdlpp_source.specs.Sources.{Gives, Reads};
+ghost use Rattle.rdlpp_source.specs.Search.{folder_of, joined, try_candidate, search};
 
 use crate::{Found, SourceFault, Sources};
 use arrayvec::ArrayString;
@@ -22,12 +23,35 @@ pub struct TextReader<'a> {
     left: &'a [u8],
 }
 
+// The folder of a path: all up to and with its last `/`, or nothing.
+fn folder_of(path: &str) -> &str
+    ensures { result.now ≡ folder_of path.now }
+{
+    match path.rfind('/') {
+        Some(at) => &path[..at + 1],
+        None => "",
+    }
+}
+
+// A name joined to a folder, where that has at most 1,024 bytes.
+fn join(folder: &str, name: &str) -> Option<ArrayString<1024>>
+    ensures { MatchOption result (1024 < length (joined folder.now name.now))
+        (λ path. path.bytes ≡ joined folder.now name.now) }
+{
+    let mut path = ArrayString::from(folder).ok()?;
+    if !folder.is_empty() && !folder.ends_with('/') {
+        path.try_push('/').ok()?;
+    }
+    path.try_push_str(name).ok()?;
+    Some(path)
+}
+
 impl<'a> Texts<'a> {
-    ghost use Rattle.rdlpp_source.specs.Texts.{left_of};
+    ghost use Rattle.rdlpp_source.specs.Texts.{text_at, folders_of, left_of};
 
     // The text of the first entry of a path.
     fn text_of(&self, path: &str) -> Option<&'a [u8]>
-        ensures { option_copied result ≡ first_text self.now.files.now path.now }
+        ensures { option_copied result ≡ text_at self.now path.now }
     {
         self.files
             .iter()
@@ -36,12 +60,9 @@ impl<'a> Texts<'a> {
     }
 
     // The source at one candidate.
-    fn open(&self, path: &str) -> Result<Found<TextReader<'a>>, SourceFault>
-        ensures { Gives left_of (search (first_text self.now.files.now) (path.now ∷ [])) result }
+    fn open(&self, path: ArrayString<1024>) -> Result<Found<TextReader<'a>>, SourceFault>
+        ensures { Gives left_of (try_candidate (text_at self.now) path.bytes) result }
     {
-        let Ok(path) = ArrayString::from(path) else {
-            return Err(SourceFault::PathTooLong);
-        };
         if path.as_bytes().contains(&b'\n') {
             return Err(SourceFault::Absent);
         }
@@ -52,6 +73,30 @@ impl<'a> Texts<'a> {
             }),
             None => Err(SourceFault::Absent),
         }
+    }
+
+    // The source of a name in a folder.
+    fn open_in(&self, folder: &str, name: &str) -> Result<Found<TextReader<'a>>, SourceFault>
+        ensures { Gives left_of (try_candidate (text_at self.now) (joined folder.now name.now)) result }
+    {
+        match join(folder, name) {
+            Some(path) => self.open(path),
+            None => Err(SourceFault::PathTooLong),
+        }
+    }
+
+    // The source of a name in the first of the include folders that has it.
+    fn open_in_folders(&self, name: &str) -> Result<Found<TextReader<'a>>, SourceFault>
+        ensures { Gives left_of (search (text_at self.now)
+            (map (λ folder. joined folder name.now) (folders_of self.now))) result }
+    {
+        for folder in self.folders {
+            match self.open_in(folder, name) {
+                Err(SourceFault::Absent) => {}
+                answer => return answer,
+            }
+        }
+        Err(SourceFault::Absent)
     }
 }
 
@@ -71,11 +116,36 @@ impl<'a> Sources for Texts<'a> {
 
     ghost refusals = { λ _. 0 };
 
-    fn top(&mut self, path: &str) -> Result<Found<TextReader<'a>>, SourceFault> {
-        self.open(path)
+    fn top(&mut self, path: &str) -> Result<Found<TextReader<'a>>, SourceFault>
+        ensures answer { Gives left_of ((texts_catalog self.old).top path.now) result }
+        ensures unchanged { self.new ≡ self.old }
+    {
+        match ArrayString::from(path) {
+            Ok(path) => self.open(path),
+            Err(_) => Err(SourceFault::PathTooLong),
+        }
     }
 
-    fn read(&mut self, reader: &mut TextReader<'a>, to: &mut [u8]) -> Result<usize, SourceFault> {
+    fn find(&mut self, from: &str, name: &str) -> Result<Found<TextReader<'a>>, SourceFault>
+        ensures answer { Gives left_of ((texts_catalog self.old).find from.now name.now) result }
+        ensures unchanged { self.new ≡ self.old }
+    {
+        if name.starts_with('/') {
+            return self.top(name);
+        }
+        match self.open_in(folder_of(from), name) {
+            Err(SourceFault::Absent) => self.open_in_folders(name),
+            answer => answer,
+        }
+    }
+
+    fn read(&mut self, reader: &mut TextReader<'a>, to: &mut [u8]) -> Result<usize, SourceFault>
+        ensures bound { ReadsAtMost result to.new }
+        ensures bytes { Reads (left_of reader.old) (left_of reader.new) result to.new }
+        ensures count { result ≡ Ok (min (length to.old) (length (left_of reader.old))) }
+        ensures rest { IfOk result (λ n. drop n to.new ≡ drop n to.old) }
+        ensures unchanged { self.new ≡ self.old }
+    {
         let len = to.len().min(reader.left.len());
         to[..len].copy_from_slice(&reader.left[..len]);
         reader.left = &reader.left[len..];
