@@ -9,8 +9,8 @@ folder_of [] = []
 folder_of (b ∷ bs) = if list_any (λ c. c == 47) (b ∷ bs) then b ∷ folder_of bs else []
 
 -- a name joined to a folder: as it is where the folder is empty or ends in `/`, else with one `/` between (source: this project's profile)
-abbrev pub joined : List ℕ → List ℕ → List ℕ
-joined folder name =
+abbrev pub joined_path : List ℕ → List ℕ → List ℕ
+joined_path folder name =
     if (length folder == 0) || (slice_index folder (length folder - 1) == 47) then folder ++ name
     else folder ++ 47 ∷ name
 
@@ -18,7 +18,7 @@ joined folder name =
 abbrev pub candidates : List (List ℕ) → List ℕ → List ℕ → List (List ℕ)
 candidates folders from name =
     if slice_index name 0 == 47 then name ∷ []
-    else map (λ folder. joined folder name) (folder_of from ∷ folders)
+    else map (λ folder. joined_path folder name) (folder_of from ∷ folders)
 
 -- what stands at a path: nothing, or a text (source: this project's profile)
 abbrev pub at_path : List ℕ → Option (List ℕ) → Answer
@@ -26,18 +26,18 @@ at_path path None = Missing
 at_path path (Some text) = Present path text
 
 -- what one candidate comes to, where `text_of` says what stands at each path: more than 1,024 bytes are too long, and nothing stands at a path with an LF byte (source: this project's profile)
-abbrev pub try_candidate : (List ℕ → Option (List ℕ)) → List ℕ → Answer
-try_candidate text_of path =
+abbrev pub answer_at : (List ℕ → Option (List ℕ)) → List ℕ → Answer
+answer_at text_of path =
     if nat_lt 1024 (length path) then Overlong
     else (if list_any (λ b. b == 10) path then Missing else at_path path (text_of path))
 
 -- an answer, or the next one where it is that nothing stands there (source: this project's profile)
-abbrev pub or_next : Answer → Answer → Answer
-or_next Missing next = next
-or_next Overlong next = Overlong
-or_next (Present path text) next = Present path text
+abbrev pub answer_or : Answer → Answer → Answer
+answer_or Missing next = next
+answer_or Overlong next = Overlong
+answer_or (Present path text) next = Present path text
 
 -- what the candidates come to: the first that exists, unless one before it is too long (source: this project's profile)
-abbrev pub search : (List ℕ → Option (List ℕ)) → List (List ℕ) → Answer
-search text_of [] = Missing
-search text_of (path ∷ paths) = or_next (try_candidate text_of path) (search text_of paths)
+abbrev pub first_answer : (List ℕ → Option (List ℕ)) → List (List ℕ) → Answer
+first_answer text_of [] = Missing
+first_answer text_of (path ∷ paths) = answer_or (answer_at text_of path) (first_answer text_of paths)

@@ -6,7 +6,7 @@ use Rattle.std.specs.Borrow.{Bor}
 use Rattle.rdlpp_source.specs.declared.texts.Texts.{Texts}
 use Rattle.rdlpp_source.specs.declared.texts.TextReader.{TextReader}
 use Rattle.rdlpp_source.specs.Sources.{Catalog}
-use Rattle.rdlpp_source.specs.Search.{candidates, try_candidate, search}
+use Rattle.rdlpp_source.specs.Search.{candidates, answer_at, first_answer}
 
 -- the text of the first entry of a path (source: this project's profile)
 abbrev pub first_text : List (Bor (List ℕ) × Bor (List ℕ)) → List ℕ → Option (List ℕ)
@@ -23,8 +23,8 @@ folders_of texts = map (λ folder. folder.now) texts.folders.now
 -- what the searches of texts in memory answer (source: this project's profile)
 abbrev pub texts_catalog : Texts → Catalog
 texts_catalog texts = record {
-  top = try_candidate (text_at texts);
-  find = λ from name. search (text_at texts) (candidates (folders_of texts) from name);
+  top = answer_at (text_at texts);
+  find = λ from name. first_answer (text_at texts) (candidates (folders_of texts) from name);
 }
 
 -- the bytes that are left of a text (source: this project's profile)

@@ -4,7 +4,11 @@ ghost use Rattle.std.specs.Prelude.{◌≡◌, ◌+◌, ◌-◌, ◌^◌, min};
 use crate::{Sink, SinkFault};
 use std::io::Write;
 
-/// A sink over any writer, which counts the writer's failures.
+/// A sink over any writer.
+///
+/// What it took is what the writer holds. Each write and flush is one call of the writer's, and
+/// each error of the writer, of whatever kind, is one failure, as is a write of some bytes of which
+/// the writer takes none.
 #[derive(Drop)]
 pub struct Counted<W> {
     writer: W,
@@ -25,7 +29,7 @@ impl<W> Counted<W> {
         }
     }
 
-    /// Gives the writer back.
+    /// Gives the writer back, with all that was taken.
     pub fn into_writer(self) -> W
         ensures { result ≡ counted_writer self }
     {

@@ -5,6 +5,8 @@
 mod counted;
 mod sinks;
 mod sources;
+#[cfg(test)]
+mod tests;
 mod texts;
 
 pub use counted::Counted;

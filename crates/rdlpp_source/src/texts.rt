@@ -3,21 +3,26 @@ ghost use Rattle.std.specs.Prelude.{◌≡◌, map, min, drop, IfOk, MatchOption
 ghost use Rattle.std.specs.Option.{option_copied};
 ghost use Rattle.std.specs.Io.{ReadsAtMost};
 ghost use Rattle.rdlpp_source.specs.Sources.{Gives, Reads};
-ghost use Rattle.rdlpp_source.specs.Search.{folder_of, joined, try_candidate, search};
+ghost use Rattle.rdlpp_source.specs.Search.{folder_of, joined_path, answer_at, first_answer};
 
 use crate::{Found, SourceFault, Sources};
 use arrayvec::ArrayString;
 
-/// Sources in memory.
+/// Sources in memory, by this project's search rule.
+///
+/// They tell their texts: `top` and `find` answer by the entries of `files` and the order of
+/// `folders`, and a reader gives the very text of its entry. No device and no memory is asked, so
+/// `Device` and `NoMemory` are never answered and both counts are 0.
 #[derive(Clone, Copy)]
 pub struct Texts<'a> {
-    /// Each path with its text. The first entry of a path counts.
+    /// Each path with the bytes of its text. The first entry of a path counts. An entry whose path
+    /// has more than 1,024 bytes or an LF byte is never found.
     pub files: &'a [(&'a str, &'a [u8])],
     /// The include folders, in the order of the search.
     pub folders: &'a [&'a str],
 }
 
-/// What is left of a text of `Texts`.
+/// What reads a text of `Texts`: the bytes that weren't read yet.
 #[derive(Drop)]
 pub struct TextReader<'a> {
     left: &'a [u8],
@@ -35,8 +40,8 @@ fn folder_of(path: &str) -> &str
 
 // A name joined to a folder, where that has at most 1,024 bytes.
 fn join(folder: &str, name: &str) -> Option<ArrayString<1024>>
-    ensures { MatchOption result (1024 < length (joined folder.now name.now))
-        (λ path. path.bytes ≡ joined folder.now name.now) }
+    ensures { MatchOption result (1024 < length (joined_path folder.now name.now))
+        (λ path. path.bytes ≡ joined_path folder.now name.now) }
 {
     let mut path = ArrayString::from(folder).ok()?;
     if !folder.is_empty() && !folder.ends_with('/') {
@@ -61,7 +66,7 @@ impl<'a> Texts<'a> {
 
     // The source at one candidate.
     fn open(&self, path: ArrayString<1024>) -> Result<Found<TextReader<'a>>, SourceFault>
-        ensures { Gives left_of (try_candidate (text_at self.now) path.bytes) result }
+        ensures { Gives left_of (answer_at (text_at self.now) path.bytes) result }
     {
         if path.as_bytes().contains(&b'\n') {
             return Err(SourceFault::Absent);
@@ -77,7 +82,7 @@ impl<'a> Texts<'a> {
 
     // The source of a name in a folder.
     fn open_in(&self, folder: &str, name: &str) -> Result<Found<TextReader<'a>>, SourceFault>
-        ensures { Gives left_of (try_candidate (text_at self.now) (joined folder.now name.now)) result }
+        ensures { Gives left_of (answer_at (text_at self.now) (joined_path folder.now name.now)) result }
     {
         match join(folder, name) {
             Some(path) => self.open(path),
@@ -87,8 +92,8 @@ impl<'a> Texts<'a> {
 
     // The source of a name in the first of the include folders that has it.
     fn open_in_folders(&self, name: &str) -> Result<Found<TextReader<'a>>, SourceFault>
-        ensures { Gives left_of (search (text_at self.now)
-            (map (λ folder. joined folder name.now) (folders_of self.now))) result }
+        ensures { Gives left_of (first_answer (text_at self.now)
+            (map (λ folder. joined_path folder name.now) (folders_of self.now))) result }
     {
         for folder in self.folders {
             match self.open_in(folder, name) {
