@@ -1,5 +1,6 @@
 use crate::{Counted, Sink, SourceFault, Sources, Texts};
 use arrayvec::ArrayString;
+use std::io::BufWriter;
 use std::test::Fail;
 
 // The texts that the tests search.
@@ -73,11 +74,12 @@ fn reads_the_first_entry(rt: HostRuntime) -> Result<(), Fail> {
 }
 
 #[test]
-fn takes_what_the_writer_takes(rt: HostRuntime) -> Result<(), Fail> {
-    let mut counted = Counted::new(Vec::new(rt.alloc()));
+fn takes_and_flushes(rt: HostRuntime) -> Result<(), Fail> {
+    let writer = BufWriter::new(rt.alloc(), Vec::new(rt.alloc()))?;
+    let mut counted = Counted::new(writer);
     assert_eq!(rt; counted.write(b"q\n"), Ok(2));
     assert_eq!(rt; counted.flush(), Ok(()));
-    let bytes = counted.into_writer();
-    assert!(rt; bytes.as_slice() == b"q\n".as_slice());
+    let writer = counted.into_writer();
+    assert!(rt; writer.get_ref().as_slice() == b"q\n".as_slice());
     Ok(())
 }
