@@ -1,0 +1,6 @@
+pub mod Counts
+pub mod Sources
+pub mod Sinks
+pub mod Search
+pub mod Texts
+pub mod Counted

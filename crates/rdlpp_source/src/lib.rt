@@ -1,0 +1,15 @@
+//! Where a preprocessor's texts come from and where its text goes: the traits `Sources` and `Sink`,
+//! sources in memory, and a sink over any writer.
+#![tactic(auto)]
+
+mod counted;
+mod sinks;
+mod sources;
+#[cfg(test)]
+mod tests;
+mod texts;
+
+pub use counted::Counted;
+pub use sinks::{Sink, SinkFault};
+pub use sources::{Found, SourceFault, Sources};
+pub use texts::{TextReader, Texts};

@@ -1,0 +1,159 @@
+//! Sources in memory.
+ghost use Rattle.std.specs.Prelude.{◌≡◌, map, min, drop, IfOk, MatchOption, length, ◌<◌};
+ghost use Rattle.std.specs.Option.{option_copied};
+ghost use Rattle.std.specs.Io.{ReadsAtMost};
+ghost use Rattle.rdlpp_source.specs.Sources.{Gives, Reads};
+ghost use Rattle.rdlpp_source.specs.Search.{folder_of, joined_path, answer_at, first_answer};
+
+use crate::{Found, SourceFault, Sources};
+use arrayvec::ArrayString;
+
+/// Sources in memory, by this project's search rule.
+///
+/// They tell their texts: `top` and `find` answer by the entries of `files` and the order of
+/// `folders`, and a reader gives the very text of its entry. No device and no memory is asked, so
+/// `Device` and `NoMemory` are never answered and both counts are 0.
+#[derive(Clone, Copy)]
+pub struct Texts<'a> {
+    /// Each path with the bytes of its text. The first entry of a path counts. An entry whose path
+    /// has more than 1,024 bytes or an LF byte is never found.
+    pub files: &'a [(&'a str, &'a [u8])],
+    /// The include folders, in the order of the search.
+    pub folders: &'a [&'a str],
+}
+
+/// What reads a text of `Texts`: the bytes that weren't read yet.
+#[derive(Drop)]
+pub struct TextReader<'a> {
+    left: &'a [u8],
+}
+
+// The folder of a path: all up to and with its last `/`, or nothing.
+fn folder_of(path: &str) -> &str
+    ensures { result.now ≡ folder_of path.now }
+{
+    match path.rfind('/') {
+        Some(at) => &path[..at + 1],
+        None => "",
+    }
+}
+
+// A name joined to a folder, where that has at most 1,024 bytes.
+fn join(folder: &str, name: &str) -> Option<ArrayString<1024>>
+    ensures { MatchOption result (1024 < length (joined_path folder.now name.now))
+        (λ path. path.bytes ≡ joined_path folder.now name.now) }
+{
+    let mut path = ArrayString::from(folder).ok()?;
+    if !folder.is_empty() && !folder.ends_with('/') {
+        path.try_push('/').ok()?;
+    }
+    path.try_push_str(name).ok()?;
+    Some(path)
+}
+
+impl<'a> Texts<'a> {
+    ghost use Rattle.rdlpp_source.specs.Texts.{text_at, folders_of, left_of};
+
+    // The text of the first entry of a path.
+    fn text_of(&self, path: &str) -> Option<&'a [u8]>
+        ensures { option_copied result ≡ text_at self.now path.now }
+    {
+        self.files
+            .iter()
+            .find(|entry| entry.0 == path)
+            .map(|entry| entry.1)
+    }
+
+    // The source at one candidate.
+    fn open(&self, path: ArrayString<1024>) -> Result<Found<TextReader<'a>>, SourceFault>
+        ensures { Gives left_of (answer_at (text_at self.now) path.bytes) result }
+    {
+        if path.as_bytes().contains(&b'\n') {
+            return Err(SourceFault::Absent);
+        }
+        match self.text_of(path.as_str()) {
+            Some(left) => Ok(Found {
+                path,
+                reader: TextReader { left },
+            }),
+            None => Err(SourceFault::Absent),
+        }
+    }
+
+    // The source of a name in a folder.
+    fn open_in(&self, folder: &str, name: &str) -> Result<Found<TextReader<'a>>, SourceFault>
+        ensures { Gives left_of (answer_at (text_at self.now) (joined_path folder.now name.now)) result }
+    {
+        match join(folder, name) {
+            Some(path) => self.open(path),
+            None => Err(SourceFault::PathTooLong),
+        }
+    }
+
+    // The source of a name in the first of the include folders that has it.
+    fn open_in_folders(&self, name: &str) -> Result<Found<TextReader<'a>>, SourceFault>
+        ensures { Gives left_of (first_answer (text_at self.now)
+            (map (λ folder. joined_path folder name.now) (folders_of self.now))) result }
+    {
+        for folder in self.folders {
+            match self.open_in(folder, name) {
+                Err(SourceFault::Absent) => {}
+                answer => return answer,
+            }
+        }
+        Err(SourceFault::Absent)
+    }
+}
+
+impl<'a> Sources for Texts<'a> {
+    type Reader = TextReader<'a>;
+
+    ghost use Rattle.std.specs.Prelude.{⊤};
+    ghost use Rattle.rdlpp_source.specs.Texts.{texts_catalog, left_of};
+
+    ghost tells = { λ _. ⊤ };
+
+    ghost catalog = { texts_catalog };
+
+    ghost unread = { left_of };
+
+    ghost failures = { λ _. 0 };
+
+    ghost refusals = { λ _. 0 };
+
+    fn top(&mut self, path: &str) -> Result<Found<TextReader<'a>>, SourceFault>
+        ensures answer { Gives left_of ((texts_catalog self.old).top path.now) result }
+        ensures unchanged { self.new ≡ self.old }
+    {
+        match ArrayString::from(path) {
+            Ok(path) => self.open(path),
+            Err(_) => Err(SourceFault::PathTooLong),
+        }
+    }
+
+    fn find(&mut self, from: &str, name: &str) -> Result<Found<TextReader<'a>>, SourceFault>
+        ensures answer { Gives left_of ((texts_catalog self.old).find from.now name.now) result }
+        ensures unchanged { self.new ≡ self.old }
+    {
+        if name.starts_with('/') {
+            return self.top(name);
+        }
+        match self.open_in(folder_of(from), name) {
+            Err(SourceFault::Absent) => self.open_in_folders(name),
+            answer => answer,
+        }
+    }
+
+    fn read(&mut self, reader: &mut TextReader<'a>, to: &mut [u8]) -> Result<usize, SourceFault>
+        ensures bound { ReadsAtMost result to.new }
+        ensures bytes { Reads (left_of reader.old) (left_of reader.new) result to.new }
+        ensures count { result ≡ Ok (min (length to.old) (length (left_of reader.old))) }
+        ensures rest { IfOk result (λ n. drop n to.new ≡ drop n to.old) }
+        ensures unchanged { self.new ≡ self.old }
+    {
+        let len = to.len().min(reader.left.len());
+        to[..len].copy_from_slice(&reader.left[..len]);
+        reader.left = &reader.left[len..];
+        Ok(len)
+    }
+}
