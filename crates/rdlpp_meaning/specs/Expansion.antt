@@ -1,5 +1,5 @@
 -- Expansion: the bytes of items, with each usage replaced by what its macro stands for.
-use Rattle.std.specs.Prelude.{ℕ, zero, suc, Bool, ◌&&◌, ◌||◌, ◌==◌, List, [], ◌∷◌, map, length, drop, bytes_eq, Option, None, Some, unwrap_or, is_none, if◌then◌else◌}
+use Rattle.std.specs.Prelude.{ℕ, zero, suc, Bool, true, false, ◌&&◌, ◌||◌, ◌==◌, List, [], ◌∷◌, map, length, drop, bytes_eq, Option, None, Some, unwrap_or, is_none, if◌then◌else◌}
 use Rattle.std.specs.List.{list_any}
 use Rattle.rdlpp_scan.specs.declared.token.Kind.{Kind}
 use Rattle.rdlpp_scan.specs.declared.token.Kind.TheVariants.{Back, BareBackquote}
@@ -37,15 +37,18 @@ usage_of_call m formals line name (Bound first further used) =
     let actuals = map (trimmed item_role) (first ∷ further) in
     if is_count formals actuals then Opens m actuals used else Refuses ArgumentCount name line
 
+-- a usage of a macro by the list of formals that it has, if it has one (source: IEEE 1364-2001, `define`)
+unfoldable pub usage_of_formals : Rules → Option ℕ → ℕ → List ℕ → List Item → Macro → Option (List Formal) → Usage
+usage_of_formals rules source line name items m None = Opens m [] 0
+usage_of_formals rules source line name items m (Some formals) =
+    usage_of_call m formals line name (call_of item_role (item_size source) rules.argument_bytes items)
+
 -- a usage of a macro that is defined, in the text of the macros o (source: this project's profile)
 unfoldable pub usage_of_macro : Rules → Option ℕ → ℕ → List (List ℕ) → List ℕ → List Item → Macro → Usage
 usage_of_macro rules source line o name items m =
     if rules.unbuilt_macro m then Refuses Unbuilt [] line
     else (if list_any (bytes_eq name) o then Refuses RecursiveMacro name line
-    else elim m.formals [
-      | None ↦ Opens m [] 0
-      | Some formals ↦ usage_of_call m formals line name (call_of item_role (item_size source) rules.argument_bytes items)
-    ])
+    else usage_of_formals rules source line name items m m.formals)
 
 -- a usage of a name, with the items behind it; `source` has the line of the outermost usage, and none in a source
 -- (source: this project's profile)
@@ -86,6 +89,13 @@ expand rules s zero source o items =
     walk rules s (λ line p g. fails (fault_at DepthPassed line [] s)) source o 0 items
 expand rules s (suc d) source o items =
     walk rules s (λ line p g. expand rules s d (Some line) p g) source o 0 items
+
+-- whether a token of a source is copied: neither a usage nor a lone backquote (source: this project's profile)
+unfoldable pub is_copied : SourceToken → Bool
+is_copied t = elim t.sort [
+  | Ordinary k ↦ elim k [ Back ↦ false | BareBackquote ↦ false | _ ↦ true ]
+  | _ ↦ false
+]
 
 -- the bytes of a run of a source's tokens (source: this project's profile)
 unfoldable pub run_outcome : Rules → State → List SourceToken → Outcome

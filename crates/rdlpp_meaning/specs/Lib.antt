@@ -1,6 +1,7 @@
 pub mod FaultNumbers
 pub mod Outcome
 pub mod State
+pub mod Stage
 pub mod Items
 pub mod Actuals
 pub mod Substitution

@@ -1,0 +1,6 @@
+pub mod Outcomes
+pub mod Passages
+pub mod Walks
+pub mod PlainBodies
+pub mod Usages
+pub mod Runs
