@@ -4,3 +4,4 @@ pub mod Walks
 pub mod PlainBodies
 pub mod Usages
 pub mod Runs
+pub mod Remaining

@@ -13,7 +13,7 @@ use Rattle.rdlpp_meaning.proofs.Passages.{on_leaves, leaves-and_then, goes_on-ni
 use Rattle.rdlpp_meaning.proofs.Walks.{expand_walk}
 
 -- a token writes an outcome in front of each run
-pub Writes : Rules → State → SourceToken → Outcome → Type 0
+unfoldable pub Writes : Rules → State → SourceToken → Outcome → Type 0
 Writes rules s t o = (us : List SourceToken) → run_outcome rules s (t ∷ us) ≡ and_then o (run_outcome rules s us)
 
 -- an empty run gives nothing

@@ -103,13 +103,13 @@ usage_plain rules source line name xs m e f =
     ∙ ap (usage_of_formals rules source line name xs m) f
 
 -- what a usage writes in front of further items, by what it comes to
-after_usage : Rules → State → (ℕ → List (List ℕ) → List Item → Outcome) → List ℕ → ℕ → List Item → Usage → Outcome
+unfoldable pub after_usage : Rules → State → (ℕ → List (List ℕ) → List Item → Outcome) → List ℕ → ℕ → List Item → Usage → Outcome
 after_usage rules s deeper name line xs (Refuses f word at) = fails (fault_at f at word s)
 after_usage rules s deeper name line xs (Opens m actuals used) =
     and_then (deeper line (name ∷ []) (substituted m actuals [])) (walk rules s deeper None [] used xs)
 
 -- a usage in a source writes that
-walk_usage : (rules : Rules) (s : State) (deeper : ℕ → List (List ℕ) → List Item → Outcome) (name : List ℕ) (line : ℕ) (xs : List Item) (u : Usage)
+pub walk_usage : (rules : Rules) (s : State) (deeper : ℕ → List (List ℕ) → List Item → Outcome) (name : List ℕ) (line : ℕ) (xs : List Item) (u : Usage)
     → usage_of rules s None line [] name xs ≡ u
     → walk rules s deeper None [] 0 (Written (usage_token name line) ∷ xs) ≡ after_usage rules s deeper name line xs u
 unfolding walk after_usage name_of

@@ -12,7 +12,7 @@ use Rattle.rdlpp_meaning.specs.Expansion.{walk, expand, run_outcome, is_copied}
 use Rattle.rdlpp_meaning.proofs.Outcomes.{and_then-gives_gives, and_then-gives}
 
 -- what opens a body or an actual where so many may be open
-pub deeper_of : Rules → State → ℕ → ℕ → List (List ℕ) → List Item → Outcome
+unfoldable pub deeper_of : Rules → State → ℕ → ℕ → List (List ℕ) → List Item → Outcome
 deeper_of rules s zero line p g = fails (fault_at DepthPassed line [] s)
 deeper_of rules s (suc d) line p g = expand rules s d (Some line) p g
 
