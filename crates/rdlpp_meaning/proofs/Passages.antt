@@ -1,5 +1,5 @@
 -- Laws of passages: one and then what goes on from its state.
-use Rattle.std.proofs.Common.{◌≡◌, ℕ, List, [], ◌++◌, refl, ap, append_assoc, Option, None, Some}
+use Rattle.std.proofs.Common.{◌≡◌, ℕ, List, [], refl, ap, append_assoc, Option, None, Some}
 use Rattle.rdlpp_meaning.specs.Outcome.{Told, Outcome, gives, and_then}
 use Rattle.rdlpp_meaning.specs.State.{State}
 use Rattle.rdlpp_meaning.specs.Meaning.{Passage, leaves, outcome, behind_bytes, goes_on}

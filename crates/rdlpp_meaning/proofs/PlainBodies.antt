@@ -1,18 +1,17 @@
 -- Ordinary text as the body of a macro: its tokens are copied, and have its bytes.
-use Rattle.std.proofs.Common.{◌≡◌, ℕ, zero, suc, ◌+◌, ◌-◌, ◌<◌, Bool, true, false, ◌&&◌, ◌||◌, cond, List, [], ◌∷◌, ◌++◌, length, take, drop, refl, sym, ap, subst, ◌∙◌, arith}
+use Rattle.std.proofs.Common.{◌≡◌, ℕ, zero, suc, ◌-◌, ◌<◌, Bool, true, false, ◌&&◌, ◌||◌, List, [], ◌∷◌, ◌++◌, length, take, drop, refl, sym, ap, subst, ◌∙◌, arith}
 use Rattle.std.specs.Prelude.{◌==◌, slice_index, if◌then◌else◌}
 use Rattle.std.specs.List.{flat_map, list_all, prefix_len}
 use Rattle.std.proofs.lemmas.List.{take-append-drop}
-use Rattle.std.proofs.lemmas.Bool.{or_parts}
 use Rattle.rdlpp_scan.specs.declared.token.Kind.{Kind}
-use Rattle.rdlpp_scan.specs.declared.token.Kind.TheVariants.{Name, Word, Back, Blank, LineEnd, Str, LineComment, BlockComment, Opener, Closer, Comma, Other, Perl, BareBackquote}
+use Rattle.rdlpp_scan.specs.declared.token.Kind.TheVariants.{Name, Word, Blank, LineEnd, Opener, Closer, Comma, Other}
 use Rattle.rdlpp_scan.specs.declared.token.Mode.{Mode}
 use Rattle.rdlpp_scan.specs.declared.token.Mode.TheVariants.{Plain}
 use Rattle.rdlpp_scan.specs.declared.token.Token.{Token}
 use Rattle.rdlpp_scan.specs.Bytes.{is_blank, is_line_end, is_letter, is_digit, is_word, is_opener, is_closer, takes_word, begins_perl, begins_line_comment, begins_block_comment}
-use Rattle.rdlpp_scan.specs.Tokens.{first_place, whole, string_token, block_token, plain_token, token_of, tokens_from, stops_plain_text, plain_len}
-use Rattle.rdlpp_scan.specs.SourceTokens.{Sort, Ordinary, SourceToken}
-use Rattle.rdlpp_meaning.specs.Substitution.{spelled, body_tokens}
+use Rattle.rdlpp_scan.specs.Tokens.{first_place, whole, plain_token, token_of, tokens_from, stops_plain_text, plain_len}
+use Rattle.rdlpp_scan.specs.SourceTokens.{Ordinary}
+use Rattle.rdlpp_meaning.specs.Substitution.{spelled}
 use Rattle.rdlpp_meaning.specs.Expansion.{is_copied}
 
 -- a token of ordinary text: it is copied, leaves plain text and has a byte
@@ -74,7 +73,7 @@ going_on : (bytes : List ℕ) → stops_plain_text bytes ≡ false → IsGoingOn
 unfolding stops_plain_text
 going_on bytes e =
     let h = none_of_five (slice_index bytes 0 == 96) (slice_index bytes 0 == 34) (begins_line_comment bytes)
-      (begins_block_comment bytes) (begins_perl bytes) e in
+    (begins_block_comment bytes) (begins_perl bytes) e in
     record { backquote = h.0; quote = h.1; line_comment = h.2; block_comment = h.3; perl = h.4 }
 
 -- a whole token of a kind that is copied
@@ -137,8 +136,8 @@ one_more kind n mode next b bs rest t r =
     record {
       copied = rw e (both_hold _ _ (t.copied (take n (b ∷ bs)) 0) r.copied);
       text = ap (λ (r : List ℕ). take n (b ∷ bs) ++ flat_map (λ t. t.bytes) (spelled rest r)) e
-        ∙ ap (λ (r : List ℕ). take n (b ∷ bs) ++ r) (r.text ∙ sym e)
-        ∙ take-append-drop n (b ∷ bs);
+          ∙ ap (λ (r : List ℕ). take n (b ∷ bs) ++ r) (r.text ∙ sym e)
+          ∙ take-append-drop n (b ∷ bs);
     }
 
 -- the first place of ordinary text
@@ -163,8 +162,8 @@ tokens_ordinary zero (b ∷ bs) e =
     let t = plain_token (b ∷ bs) in
     let o = first_ordinary b bs (going_on (b ∷ bs) p.0) in
     let rest : IsOrdinaryText (tokens_from t.next_mode (t.len - 1) bs) (drop (t.len - 1) bs) =
-      subst (λ (m : Mode). IsOrdinaryText (tokens_from m (t.len - 1) bs) (drop (t.len - 1) bs)) (sym o.mode)
-      (tokens_ordinary (t.len - 1) bs p.1) in
+    subst (λ (m : Mode). IsOrdinaryText (tokens_from m (t.len - 1) bs) (drop (t.len - 1) bs)) (sym o.mode)
+    (tokens_ordinary (t.len - 1) bs p.1) in
     one_more t.kind t.len Plain t.next_mode b bs (tokens_from t.next_mode (t.len - 1) bs) o rest
 
 -- the tokens of a body of ordinary text are copied, and have its bytes

@@ -1,11 +1,9 @@
 -- Laws of what remains of a file in live text: for each kind of token in front of it.
-use Rattle.std.proofs.Common.{◌≡◌, ℕ, zero, suc, ◌<◌, Bool, true, false, ◌||◌, List, [], ◌∷◌, ◌++◌, length, refl, sym, ap, ◌∙◌, Option, None, Some, append-nil, arith, map, ◌&&◌}
-use Rattle.std.specs.Prelude.{bytes_eq, codes, drop, if◌then◌else◌}
-use Rattle.std.specs.List.{flat_map, list_all, list_any, AllByRecursion}
+use Rattle.std.proofs.Common.{◌≡◌, ℕ, zero, suc, ◌<◌, Bool, true, false, ◌||◌, List, [], ◌∷◌, ◌++◌, length, refl, sym, ap, ◌∙◌, None, Some, append-nil, arith, map, ◌&&◌}
+use Rattle.std.specs.Prelude.{bytes_eq, drop}
+use Rattle.std.specs.List.{list_all, list_any, AllByRecursion}
 use Rattle.std.proofs.lemmas.Bool.{or_parts}
-use Rattle.rdlpp_scan.specs.declared.token.Kind.{Kind}
 use Rattle.rdlpp_scan.specs.declared.token.Kind.TheVariants.{Back, BareBackquote}
-use Rattle.rdlpp_scan.specs.declared.token.Directive.{Directive}
 use Rattle.rdlpp_scan.specs.declared.token.Directive.TheVariants.{Define}
 use Rattle.rdlpp_scan.specs.Bytes.{is_blank, is_line_end}
 use Rattle.rdlpp_scan.specs.Front.{Breach}
@@ -17,21 +15,17 @@ use Rattle.rdlpp_meaning.specs.declared.fault.FaultKind.{FaultKind}
 use Rattle.rdlpp_meaning.specs.declared.fault.FaultKind.TheVariants.{BareBackquote as NoName, UndefinedMacro, Unbuilt}
 use Rattle.rdlpp_meaning.specs.Outcome.{Outcome, gives, fails, and_then}
 use Rattle.rdlpp_meaning.specs.State.{Defined, Accepted, Refused, Rules, State, fault_at, breach_kind}
-use Rattle.rdlpp_meaning.specs.Items.{Item, Written}
+use Rattle.rdlpp_meaning.specs.Items.{Written}
 use Rattle.rdlpp_meaning.specs.Substitution.{substituted}
-use Rattle.rdlpp_meaning.specs.Expansion.{Usage, Refuses, Opens, usage_of, walk, expand, is_copied, run_outcome}
-use Rattle.rdlpp_meaning.specs.Parts.{Command, Piece, Single, only_blanks, line_ends_of, directive_named, directive_of, Argument, no_argument, argument_of, command_of, piece_of, pieces}
-use Rattle.rdlpp_meaning.specs.Meaning.{Passage, leaves, outcome, goes_on, refusal, defines, single, Nest, Progress, nest_of}
-use Rattle.rdlpp_meaning.specs.Resumed.{Place, Live, Skipped, resume, resumed, remains}
+use Rattle.rdlpp_meaning.specs.Expansion.{Opens, walk, is_copied, run_outcome, usage_token, bytes_of}
+use Rattle.rdlpp_meaning.specs.Parts.{Command, Piece, Single, only_blanks, line_ends_of, directive_named, directive_of, no_argument, argument_of, command_of, piece_of, pieces}
+use Rattle.rdlpp_meaning.specs.Meaning.{Passage, leaves, outcome, goes_on, refusal, defines, single, Progress, nest_of}
+use Rattle.rdlpp_meaning.specs.Resumed.{Live, resume, resumed, remains}
 use Rattle.rdlpp_meaning.proofs.Outcomes.{and_then-assoc, and_then-fails, and_then-gives_gives, and_then-gives_nil}
-use Rattle.rdlpp_meaning.proofs.Passages.{on_leaves, outcome-goes_on, outcome-leaves}
+use Rattle.rdlpp_meaning.proofs.Passages.{outcome-goes_on}
 use Rattle.rdlpp_meaning.proofs.Walks.{deeper_of, expand_walk, walk_copied}
-use Rattle.rdlpp_meaning.proofs.Usages.{usage_token, usage_none, usage_some, usage_unbuilt, usage_plain, after_usage, walk_usage, run_refused, expand_body}
+use Rattle.rdlpp_meaning.proofs.Usages.{usage_none, usage_some, usage_unbuilt, usage_plain, after_usage, walk_usage, run_refused, expand_body}
 use Rattle.rdlpp_meaning.proofs.Runs.{Writes, remains_token}
-
--- the bytes of tokens
-abbrev pub bytes_of : List SourceToken → List ℕ
-bytes_of ts = flat_map (λ t. t.bytes) ts
 
 -- a token that is copied begins no directive, by what it is
 copied_text_by : (sort : Sort) (bytes : List ℕ) (line : ℕ) → is_copied (record { sort = sort; bytes = bytes; line = line }) ≡ true
@@ -82,10 +76,10 @@ remains_copied rules os first (t ∷ ts) more s e =
     let own = first_passes (is_copied t) (list_all is_copied ts) e in
     remains_token rules os first t (ts ++ more) s (gives t.bytes) (copied_text t own) (copied_writes rules s t own)
     ∙ ap (λ (x : Outcome). and_then (gives t.bytes) x)
-      (remains_copied rules os (only_blanks first t.bytes) ts more s (rest_passes (is_copied t) (list_all is_copied ts) e))
+    (remains_copied rules os (only_blanks first t.bytes) ts more s (rest_passes (is_copied t) (list_all is_copied ts) e))
     ∙ and_then-gives_gives t.bytes (bytes_of ts) (remains rules (Live os) (only_blanks (only_blanks first t.bytes) (bytes_of ts)) more s)
     ∙ ap (λ (f : Bool). and_then (gives (t.bytes ++ bytes_of ts)) (remains rules (Live os) f more s))
-      (sym (only_blanks-append first t.bytes (bytes_of ts)))
+    (sym (only_blanks-append first t.bytes (bytes_of ts)))
 
 -- a name that is none of some words is none of each
 none_of_words : (name : List ℕ) (words : List (List ℕ)) → list_any (bytes_eq name) words ≡ false
@@ -115,8 +109,8 @@ unfolding Writes
 remains_undefined rules os first name line more s r e =
     let f = fault_at UndefinedMacro line name s in
     remains_token rules os first (usage_token name line) more s (fails f) (usage_text name line r)
-      (λ us. run_refused rules s name line us UndefinedMacro name line (usage_none rules s None line [] name (map Written us) r e)
-        ∙ sym (and_then-fails f (run_outcome rules s us)))
+    (λ us. run_refused rules s name line us UndefinedMacro name line (usage_none rules s None line [] name (map Written us) r e)
+    ∙ sym (and_then-fails f (run_outcome rules s us)))
     ∙ and_then-fails f (remains rules (Live os) (only_blanks first (96 ∷ name)) more s)
 
 -- a usage of a macro that isn't built ends the output
@@ -127,10 +121,10 @@ unfolding Writes
 remains_unbuilt rules os first name line more s m r e u =
     let f = fault_at Unbuilt line [] s in
     remains_token rules os first (usage_token name line) more s (fails f) (usage_text name line r)
-      (λ us. run_refused rules s name line us Unbuilt [] line
-          (usage_some rules s None line [] name (map Written us) m r e
-            ∙ usage_unbuilt rules None line [] name (map Written us) m u)
-        ∙ sym (and_then-fails f (run_outcome rules s us)))
+    (λ us. run_refused rules s name line us Unbuilt [] line
+    (usage_some rules s None line [] name (map Written us) m r e
+    ∙ usage_unbuilt rules None line [] name (map Written us) m u)
+    ∙ sym (and_then-fails f (run_outcome rules s us)))
     ∙ and_then-fails f (remains rules (Live os) (only_blanks first (96 ∷ name)) more s)
 
 -- a macro without a list and with ordinary text, opened in a source where one more body may be open
@@ -151,9 +145,9 @@ plain_writes rules s name line m h r e u f plain us =
     let deeper = deeper_of rules s rules.depth in
     expand_walk rules s rules.depth None [] (Written (usage_token name line) ∷ map Written us)
     ∙ walk_usage rules s deeper name line (map Written us) (Opens m [] 0)
-      (usage_some rules s None line [] name (map Written us) m r e ∙ usage_plain rules None line name (map Written us) m u f)
+    (usage_some rules s None line [] name (map Written us) m r e ∙ usage_plain rules None line name (map Written us) m u f)
     ∙ ap (λ (x : Outcome). and_then x (walk rules s deeper None [] 0 (map Written us)))
-      (deeper_body rules s rules.depth line (name ∷ []) m h f plain)
+    (deeper_body rules s rules.depth line (name ∷ []) m h f plain)
     ∙ ap (λ (x : Outcome). and_then (gives m.body) x) (sym (expand_walk rules s rules.depth None [] (map Written us)))
 
 -- a usage of a macro without a list and with ordinary text gives its body, and then what remains behind it
@@ -181,13 +175,13 @@ pub remains_bare : (rules : Rules) (os : List Progress) (first : Bool) (bytes : 
 unfolding directive_of
 remains_bare rules os first bytes line more s =
     remains_token rules os first (record { sort = Ordinary BareBackquote; bytes = bytes; line = line }) more s
-      (fails (fault_at NoName line [] s)) refl (bare_writes rules s bytes line)
+    (fails (fault_at NoName line [] s)) refl (bare_writes rules s bytes line)
     ∙ and_then-fails (fault_at NoName line [] s) (remains rules (Live os) (only_blanks first bytes) more s)
 
 -- a broken token writes its bytes and its fault
 broken_writes : (rules : Rules) (s : State) (b : Breach) (bytes : List ℕ) (line : ℕ)
     → Writes rules s (record { sort = Broken b; bytes = bytes; line = line })
-      (and_then (gives bytes) (fails (fault_at (breach_kind b) line [] s)))
+    (and_then (gives bytes) (fails (fault_at (breach_kind b) line [] s)))
 unfolding Writes run_outcome walk and_then gives fails
 broken_writes rules s b bytes line us =
     expand_walk rules s rules.depth None [] (Written (record { sort = Broken b; bytes = bytes; line = line }) ∷ map Written us)
@@ -201,7 +195,7 @@ remains_broken rules os first b bytes line more s =
     let f = fault_at (breach_kind b) line [] s in
     let rest = remains rules (Live os) (only_blanks first bytes) more s in
     remains_token rules os first (record { sort = Broken b; bytes = bytes; line = line }) more s
-      (and_then (gives bytes) (fails f)) refl (broken_writes rules s b bytes line)
+    (and_then (gives bytes) (fails f)) refl (broken_writes rules s b bytes line)
     ∙ and_then-assoc (gives bytes) (fails f) rest
     ∙ ap (λ (x : Outcome). and_then (gives bytes) x) (and_then-fails f rest)
 
@@ -222,7 +216,7 @@ remains_define : (rules : Rules) (os : List Progress) (first : Bool) (bytes : Li
     → rules.define s.macros (drop 7 bytes) ≡ d
     → remains rules (Live os) first (record { sort = Definition; bytes = bytes; line = line } ∷ more) s
     ≡ outcome (goes_on (defines d (define_command first bytes line) s)
-      (λ after. resume rules (nest_of rules s.sources_left) (Live os) (pieces (only_blanks first bytes) 0 more) after))
+    (λ after. resume rules (nest_of rules s.sources_left) (Live os) (pieces (only_blanks first bytes) 0 more) after))
 unfolding remains resumed resume single
 remains_define rules os first bytes line more s d e =
     let next : State → Passage = λ after. resume rules (nest_of rules s.sources_left) (Live os) (pieces (only_blanks first bytes) 0 more) after in
@@ -238,7 +232,7 @@ unfolding defines remains resumed
 remains_defined rules os first bytes line more s macros e =
     remains_define rules os first bytes line more s (Accepted macros) e
     ∙ outcome-goes_on (gives (line_ends_of bytes)) (record s { macros = macros })
-      (λ after. resume rules (nest_of rules s.sources_left) (Live os) (pieces (only_blanks first bytes) 0 more) after)
+    (λ after. resume rules (nest_of rules s.sources_left) (Live os) (pieces (only_blanks first bytes) 0 more) after)
 
 -- a `define` that is refused ends the output
 pub remains_refused : (rules : Rules) (os : List Progress) (first : Bool) (bytes : List ℕ) (line : ℕ) (more : List SourceToken) (s : State) (kind : FaultKind) (word : List ℕ)

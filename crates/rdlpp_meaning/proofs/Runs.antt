@@ -1,15 +1,14 @@
 -- The law of a token in a run: where the run goes on behind it, so does what remains of the file.
-use Rattle.std.proofs.Common.{◌≡◌, ℕ, Bool, true, false, List, [], ◌∷◌, ◌++◌, refl, sym, ap, ◌∙◌, Option, None, Some}
-use Rattle.rdlpp_scan.specs.declared.token.Directive.{Directive}
+use Rattle.std.proofs.Common.{◌≡◌, Bool, List, [], ◌∷◌, refl, ap, ◌∙◌, None}
 use Rattle.rdlpp_scan.specs.SourceTokens.{SourceToken}
 use Rattle.rdlpp_meaning.specs.Outcome.{Outcome, gives, and_then}
 use Rattle.rdlpp_meaning.specs.State.{Rules, State}
-use Rattle.rdlpp_meaning.specs.Expansion.{walk, expand, run_outcome}
+use Rattle.rdlpp_meaning.specs.Expansion.{walk, run_outcome}
 use Rattle.rdlpp_meaning.specs.Parts.{Piece, Run, Single, Opening, Branching, Closing, only_blanks, directive_of, joined, pieces}
-use Rattle.rdlpp_meaning.specs.Meaning.{Passage, leaves, outcome, behind_bytes, goes_on, Nest, Progress, nest_of}
-use Rattle.rdlpp_meaning.specs.Resumed.{Place, Live, Skipped, resume, resumed, remains}
+use Rattle.rdlpp_meaning.specs.Meaning.{leaves, outcome, goes_on, Nest, Progress, nest_of}
+use Rattle.rdlpp_meaning.specs.Resumed.{Live, resume, resumed, remains}
 use Rattle.rdlpp_meaning.proofs.Outcomes.{and_then-nil}
-use Rattle.rdlpp_meaning.proofs.Passages.{on_leaves, leaves-and_then, goes_on-nil, outcome-goes_on}
+use Rattle.rdlpp_meaning.proofs.Passages.{on_leaves, leaves-and_then, outcome-goes_on}
 use Rattle.rdlpp_meaning.proofs.Walks.{expand_walk}
 
 -- a token writes an outcome in front of each run
@@ -28,7 +27,7 @@ alone : (rules : Rules) (nest : Nest) (os : List Progress) (t : SourceToken) (o 
 unfolding resume Writes
 alone rules nest os t o ps s w =
     ap (λ (x : Outcome). goes_on (leaves x s) (λ after. resume rules nest (Live os) ps after))
-      (w [] ∙ ap (λ (x : Outcome). and_then o x) (run_nil rules s) ∙ and_then-nil o)
+    (w [] ∙ ap (λ (x : Outcome). and_then o x) (run_nil rules s) ∙ and_then-nil o)
 
 -- a token that writes an outcome in front of pieces
 pub resume_joined : (rules : Rules) (nest : Nest) (os : List Progress) (t : SourceToken) (o : Outcome) (ps : List Piece) (s : State)
@@ -40,8 +39,8 @@ resume_joined rules nest os t o (Run us ∷ ps) s w =
     ap (λ (x : Outcome). goes_on (leaves x s) (λ after. resume rules nest (Live os) ps after)) (w us)
     ∙ leaves-and_then o (run_outcome rules s us) s (λ after. resume rules nest (Live os) ps after)
     ∙ on_leaves o s
-      (λ after. goes_on (leaves (run_outcome rules s us) after) (λ last. resume rules nest (Live os) ps last))
-      (λ after. resume rules nest (Live os) (Run us ∷ ps) after) refl
+    (λ after. goes_on (leaves (run_outcome rules s us) after) (λ last. resume rules nest (Live os) ps last))
+    (λ after. resume rules nest (Live os) (Run us ∷ ps) after) refl
 resume_joined rules nest os t o (Single c ∷ ps) s w = alone rules nest os t o (Single c ∷ ps) s w
 resume_joined rules nest os t o (Opening c ∷ ps) s w = alone rules nest os t o (Opening c ∷ ps) s w
 resume_joined rules nest os t o (Branching c ∷ ps) s w = alone rules nest os t o (Branching c ∷ ps) s w
@@ -64,8 +63,8 @@ resumed_token rules os first t ts s o e w =
     ap (λ (ps : List Piece). resume rules (nest_of rules s.sources_left) (Live os) ps s) (pieces_text first t ts e)
     ∙ resume_joined rules (nest_of rules s.sources_left) os t o rest s w
     ∙ on_leaves o s
-      (λ after. resume rules (nest_of rules s.sources_left) (Live os) rest after)
-      (λ after. resumed rules (Live os) (only_blanks first t.bytes) ts after) refl
+    (λ after. resume rules (nest_of rules s.sources_left) (Live os) rest after)
+    (λ after. resumed rules (Live os) (only_blanks first t.bytes) ts after) refl
 
 -- the outcome of a token, and then what remains behind it
 pub remains_token : (rules : Rules) (os : List Progress) (first : Bool) (t : SourceToken) (ts : List SourceToken) (s : State) (o : Outcome)

@@ -1,15 +1,14 @@
 -- Laws of expansion over tokens that are copied, lone backquotes, broken tokens and usages.
-use Rattle.std.proofs.Common.{◌≡◌, ℕ, zero, suc, ◌+◌, ◌≤◌, Bool, true, false, ◌&&◌, List, [], ◌∷◌, ◌++◌, map, refl, ap, ◌∙◌, Option, None, Some}
+use Rattle.std.proofs.Common.{◌≡◌, ℕ, zero, suc, Bool, true, false, ◌&&◌, List, [], ◌∷◌, map, refl, ap, ◌∙◌, Option, Some}
 use Rattle.std.specs.List.{flat_map, list_all}
-use Rattle.rdlpp_scan.specs.declared.token.Kind.{Kind}
 use Rattle.rdlpp_scan.specs.declared.token.Kind.TheVariants.{Back, BareBackquote}
 use Rattle.rdlpp_scan.specs.SourceTokens.{Sort, Ordinary, Definition, Renumbering, Broken, SourceToken}
 use Rattle.rdlpp_meaning.specs.declared.fault.FaultKind.TheVariants.{DepthPassed}
 use Rattle.rdlpp_meaning.specs.Outcome.{Outcome, gives, fails, and_then}
 use Rattle.rdlpp_meaning.specs.State.{Rules, State, fault_at}
 use Rattle.rdlpp_meaning.specs.Items.{Item, Written}
-use Rattle.rdlpp_meaning.specs.Expansion.{walk, expand, run_outcome, is_copied}
-use Rattle.rdlpp_meaning.proofs.Outcomes.{and_then-gives_gives, and_then-gives}
+use Rattle.rdlpp_meaning.specs.Expansion.{walk, expand, is_copied}
+use Rattle.rdlpp_meaning.proofs.Outcomes.{and_then-gives}
 
 -- what opens a body or an actual where so many may be open
 unfoldable pub deeper_of : Rules → State → ℕ → ℕ → List (List ℕ) → List Item → Outcome
@@ -62,7 +61,7 @@ walk_all_copied rules s deeper source o [] e = refl
 walk_all_copied rules s deeper source o (t ∷ ts) e =
     walk_copied rules s deeper source o t (map Written ts) (first_passes (is_copied t) (list_all is_copied ts) e)
     ∙ ap (λ (x : Outcome). and_then (gives t.bytes) x)
-      (walk_all_copied rules s deeper source o ts (rest_passes (is_copied t) (list_all is_copied ts) e))
+    (walk_all_copied rules s deeper source o ts (rest_passes (is_copied t) (list_all is_copied ts) e))
     ∙ and_then-gives t.bytes (flat_map (λ t. t.bytes) ts)
 
 -- tokens that are copied give their bytes at any depth

@@ -1,9 +1,8 @@
 -- Expansion: the bytes of items, with each usage replaced by what its macro stands for.
-use Rattle.std.specs.Prelude.{ℕ, zero, suc, Bool, true, false, ◌&&◌, ◌||◌, ◌==◌, List, [], ◌∷◌, map, length, drop, bytes_eq, Option, None, Some, unwrap_or, is_none, if◌then◌else◌}
-use Rattle.std.specs.List.{list_any}
-use Rattle.rdlpp_scan.specs.declared.token.Kind.{Kind}
+use Rattle.std.specs.Prelude.{ℕ, zero, suc, Bool, true, false, ◌&&◌, ◌==◌, List, [], ◌∷◌, map, length, drop, bytes_eq, Option, None, Some, unwrap_or, if◌then◌else◌}
+use Rattle.std.specs.List.{flat_map, list_any}
 use Rattle.rdlpp_scan.specs.declared.token.Kind.TheVariants.{Back, BareBackquote}
-use Rattle.rdlpp_scan.specs.SourceTokens.{Sort, Ordinary, Broken, SourceToken}
+use Rattle.rdlpp_scan.specs.SourceTokens.{Ordinary, Broken, SourceToken}
 use Rattle.rdlpp_scan.specs.Stage.{is_reserved}
 use Rattle.rdlpp_table.specs.Table.{Formal, Macro, macro_named}
 use Rattle.rdlpp_meaning.specs.declared.fault.FaultKind.{FaultKind}
@@ -89,6 +88,14 @@ expand rules s zero source o items =
     walk rules s (λ line p g. fails (fault_at DepthPassed line [] s)) source o 0 items
 expand rules s (suc d) source o items =
     walk rules s (λ line p g. expand rules s d (Some line) p g) source o 0 items
+
+-- a backquote with a name, as a token of a source
+abbrev pub usage_token : List ℕ → ℕ → SourceToken
+usage_token name line = record { sort = Ordinary Back; bytes = 96 ∷ name; line = line }
+
+-- the bytes of tokens
+abbrev pub bytes_of : List SourceToken → List ℕ
+bytes_of ts = flat_map (λ t. t.bytes) ts
 
 -- whether a token of a source is copied: neither a usage nor a lone backquote (source: this project's profile)
 unfoldable pub is_copied : SourceToken → Bool

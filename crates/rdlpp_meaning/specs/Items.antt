@@ -8,6 +8,7 @@ mutual
   pub data Item : Type 0 where
     Written : SourceToken → Item
     Arg : List (List ℕ) → Items → Item
+
   pub data Items : Type 0 where
     Nothing : Items
     More : Item → Items → Items

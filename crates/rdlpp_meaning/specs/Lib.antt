@@ -10,3 +10,4 @@ pub mod Parts
 pub mod Meaning
 pub mod Resumed
 pub mod Output
+pub mod Laws

@@ -1,17 +1,17 @@
 -- The meaning of parts: what they write, the state behind them, and the fault that ends them.
-use Rattle.std.specs.Prelude.{ℕ, zero, suc, ◌+◌, ◌-◌, ◌*◌, Bool, true, false, not, ◌&&◌, ◌||◌, ◌==◌, nat_lt, nat_le, List, [], ◌∷◌, ◌++◌, length, take, drop, bytes_eq, slice_index, fold, Option, None, Some, codes, decimal, is_some, if◌then◌else◌}
-use Rattle.std.specs.List.{prefix_len, list_any}
+use Rattle.std.specs.Prelude.{ℕ, zero, suc, ◌+◌, ◌-◌, ◌*◌, Bool, true, false, not, ◌&&◌, ◌||◌, ◌==◌, nat_le, List, [], ◌∷◌, ◌++◌, length, take, drop, bytes_eq, slice_index, fold, Option, None, Some, codes, decimal, is_some, if◌then◌else◌}
+use Rattle.std.specs.List.{prefix_len}
 use Rattle.std.specs.Str.Lossy.{utf8_valid_len}
 use Rattle.rdlpp_scan.specs.declared.token.Directive.{Directive}
-use Rattle.rdlpp_scan.specs.declared.token.Directive.TheVariants.{Define, Undef, Ifdef, Ifndef, Elsif, Else, Endif, Include, Line}
-use Rattle.rdlpp_scan.specs.Bytes.{is_blank, is_line_end, is_digit}
-use Rattle.rdlpp_scan.specs.SourceTokens.{Sort, Broken, SourceToken}
+use Rattle.rdlpp_scan.specs.declared.token.Directive.TheVariants.{Define, Undef, Ifndef, Else, Include, Line}
+use Rattle.rdlpp_scan.specs.Bytes.{is_blank, is_digit}
+use Rattle.rdlpp_scan.specs.SourceTokens.{Broken, SourceToken}
 use Rattle.rdlpp_scan.specs.Stage.{is_reserved}
-use Rattle.rdlpp_table.specs.Table.{Macro, macro_named, without}
+use Rattle.rdlpp_table.specs.Table.{macro_named, without}
 use Rattle.rdlpp_meaning.specs.declared.fault.FaultKind.{FaultKind}
 use Rattle.rdlpp_meaning.specs.declared.fault.FaultKind.TheVariants.{NameExpected, ReservedName, StrayBranch, BranchAfterElse, OpenConditional, TooManyConditionals, IncludeName, SourceNotFound, TooManyIncludes, BadLine, PathTooLong}
 use Rattle.rdlpp_meaning.specs.Outcome.{Told, Outcome, gives, fails, and_then}
-use Rattle.rdlpp_meaning.specs.State.{Defined, Accepted, Refused, Lookup, NoSource, LongPath, Source, Rules, Shift, no_shift, shown_line, State, fault_at, breach_kind}
+use Rattle.rdlpp_meaning.specs.State.{Defined, Accepted, Refused, Lookup, NoSource, LongPath, Source, Rules, no_shift, shown_line, State, fault_at, breach_kind}
 use Rattle.rdlpp_meaning.specs.Expansion.{run_outcome}
 use Rattle.rdlpp_meaning.specs.Parts.{Command, Parts, Nothing, More, Part, Text, Alone, Stray, Conditional, Branches, Unclosed, Closed, Branch, line_ends_of, parts_of}
 
@@ -62,11 +62,13 @@ unfoldable mutual
   pub skip : State → Parts → Outcome
   skip s Nothing = gives []
   skip s (More p ps) = and_then (skip_part s p) (skip s ps)
+
   pub skip_part : State → Part → Outcome
   skip_part s (Text ts) = skipped_run s ts
   skip_part s (Alone c) = skipped_command c
   skip_part s (Stray c) = skipped_command c
   skip_part s (Conditional c ps bs) = and_then (skipped_command c) (and_then (skip s ps) (skip_branches s bs))
+
   pub skip_branches : State → Branches → Outcome
   skip_branches s Unclosed = gives []
   skip_branches s (Closed c) = skipped_command c
@@ -117,7 +119,7 @@ unfoldable pub includes : Rules → (State → List ℕ → Passage) → List �
 includes rules within path text c s =
     behind_bytes (origin_line rules path 1)
     (goes_on (within (at_start_of path s) text) (λ after.
-      leaves (gives (added_end text ++ origin_line rules s.name (shown_line s.shift c.line))) (back_in s after)))
+    leaves (gives (added_end text ++ origin_line rules s.name (shown_line s.shift c.line))) (back_in s after)))
 
 -- an `include` of what was found (source: this project's profile)
 unfoldable pub includes_found : Rules → (State → List ℕ → Passage) → Lookup → Command → State → Passage
@@ -196,7 +198,7 @@ renumbers rules None c s = refusal BadLine [] c s
 renumbers rules (Some r) c s =
     if c.first
     then leaves (gives (line_ends_of c.text ++ origin_line rules r.name r.number))
-      (record s { name = r.name; shift = record { from = suc c.line; number = r.number } })
+    (record s { name = r.name; shift = record { from = suc c.line; number = r.number } })
     else refusal BadLine [] c s
 
 -- a directive by itself (source: IEEE 1364-2001, compiler directives)
@@ -284,6 +286,7 @@ unfoldable mutual
   pub mean : Rules → Nest → Parts → State → Passage
   mean rules nest Nothing s = leaves (gives []) s
   mean rules nest (More p ps) s = goes_on (mean_part rules nest p s) (λ after. mean rules nest ps after)
+
   pub mean_part : Rules → Nest → Part → State → Passage
   mean_part rules nest (Text ts) s = leaves (run_outcome rules s ts) s
   mean_part rules nest (Alone c) s = single rules nest c s
@@ -295,6 +298,7 @@ unfoldable mutual
       | false ↦ goes_on (leaves (skip s ps) (in_conditional s)) (λ after. mean_branches rules nest bs (begun c s false) after)
     ]
   ]
+
   pub mean_branches : Rules → Nest → Branches → Progress → State → Passage
   mean_branches rules nest Unclosed o s = unclosed o s
   mean_branches rules nest (Closed c) o s = leaves (gives []) (past_conditional s)

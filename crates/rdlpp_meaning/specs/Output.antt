@@ -34,4 +34,4 @@ output rules macros sources conditions path NoSource = fails (opening_fault Sour
 output rules macros sources conditions path LongPath = fails (opening_fault PathTooLong path)
 output rules macros sources conditions path (Source found text) =
     outcome (behind_bytes (origin_line rules found 1)
-      (text_meaning rules (start_state macros sources conditions found) text))
+    (text_meaning rules (start_state macros sources conditions found) text))

@@ -1,12 +1,11 @@
 -- The parts of a file: runs of text, directives, and conditionals matched by balance alone.
-use Rattle.std.specs.Prelude.{ℕ, zero, suc, ◌+◌, ◌-◌, Bool, true, false, not, ◌&&◌, ◌||◌, ◌==◌, List, [], ◌∷◌, ◌++◌, length, take, drop, filter, bytes_eq, Option, None, Some, codes, if◌then◌else◌}
-use Rattle.std.specs.List.{flat_map, list_any}
-use Rattle.rdlpp_scan.specs.declared.token.Kind.{Kind}
+use Rattle.std.specs.Prelude.{ℕ, zero, suc, Bool, true, ◌&&◌, ◌||◌, List, [], ◌∷◌, ◌++◌, filter, bytes_eq, Option, None, Some, codes, if◌then◌else◌}
+use Rattle.std.specs.List.{list_any}
 use Rattle.rdlpp_scan.specs.declared.token.Kind.TheVariants.{Name, Back, Blank, Str}
 use Rattle.rdlpp_scan.specs.declared.token.Directive.{Directive}
 use Rattle.rdlpp_scan.specs.declared.token.Directive.TheVariants.{Define, Undef, Ifdef, Ifndef, Elsif, Else, Endif, Include, Line}
 use Rattle.rdlpp_scan.specs.Bytes.{is_blank, is_line_end}
-use Rattle.rdlpp_scan.specs.SourceTokens.{Sort, Ordinary, Definition, Renumbering, Broken, SourceToken}
+use Rattle.rdlpp_scan.specs.SourceTokens.{Ordinary, Definition, Renumbering, Broken, SourceToken}
 
 -- a directive of a source: which it is, the name or string that it is given, if that stands there, its whole text, its
 -- physical line, and whether only blanks stand before it on that line (source: IEEE 1364-2001, compiler directives)
@@ -150,11 +149,13 @@ mutual
   pub data Parts : Type 0 where
     Nothing : Parts
     More : Part → Parts → Parts
+
   pub data Part : Type 0 where
     Text : List SourceToken → Part
     Alone : Command → Part
     Stray : Command → Part
     Conditional : Command → Parts → Branches → Part
+
   pub data Branches : Type 0 where
     Unclosed : Branches
     Closed : Command → Branches

@@ -5,8 +5,8 @@ use Rattle.rdlpp_meaning.specs.declared.fault.FaultKind.TheVariants.{StrayBranch
 use Rattle.rdlpp_meaning.specs.Outcome.{Outcome, gives}
 use Rattle.rdlpp_meaning.specs.State.{Rules, State}
 use Rattle.rdlpp_meaning.specs.Expansion.{run_outcome}
-use Rattle.rdlpp_meaning.specs.Parts.{Command, Piece, Run, Single, Opening, Branching, Closing, pieces}
-use Rattle.rdlpp_meaning.specs.Meaning.{Passage, leaves, outcome, goes_on, refusal, Nest, skipped_run, skipped_command, single, Progress, Test, Stopped, Holds, opening, in_conditional, past_conditional, begun, turn, turned, unclosed, nest_of}
+use Rattle.rdlpp_meaning.specs.Parts.{Piece, Run, Single, Opening, Branching, Closing, pieces}
+use Rattle.rdlpp_meaning.specs.Meaning.{Passage, leaves, outcome, goes_on, refusal, Nest, skipped_run, skipped_command, single, Progress, Stopped, Holds, opening, in_conditional, past_conditional, begun, turn, turned, unclosed, nest_of}
 
 -- where a file stands among its conditionals: in live text in these open ones, innermost first, or in skipped text, with so
 -- many that opened there, in the open one that skips it, and in those around it (source: this project's profile)

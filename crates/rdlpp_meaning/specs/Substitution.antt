@@ -1,11 +1,10 @@
 -- Substitution: the body of a macro with each formal marked as its actual.
-use Rattle.std.specs.Prelude.{ℕ, zero, suc, ◌-◌, List, [], ◌∷◌, map, length, take, drop, bytes_eq, Option, None, Some, unwrap_or, if◌then◌else◌}
-use Rattle.rdlpp_scan.specs.declared.token.Kind.{Kind}
+use Rattle.std.specs.Prelude.{ℕ, List, [], ◌∷◌, map, take, drop, bytes_eq, Option, None, Some, unwrap_or, if◌then◌else◌}
 use Rattle.rdlpp_scan.specs.declared.token.Kind.TheVariants.{Name}
 use Rattle.rdlpp_scan.specs.declared.token.Mode.TheVariants.{Plain}
 use Rattle.rdlpp_scan.specs.declared.token.Token.{Token}
 use Rattle.rdlpp_scan.specs.Tokens.{tokens_from}
-use Rattle.rdlpp_scan.specs.SourceTokens.{Sort, Ordinary, SourceToken}
+use Rattle.rdlpp_scan.specs.SourceTokens.{Ordinary, SourceToken}
 use Rattle.rdlpp_table.specs.Table.{Formal, Macro}
 use Rattle.rdlpp_meaning.specs.Items.{Item, Written, Arg, packed}
 

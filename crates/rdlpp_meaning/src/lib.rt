@@ -4,5 +4,6 @@
 #![tactic(auto)]
 
 mod fault;
+pub mod laws;
 
 pub use fault::{Fault, FaultKind};
