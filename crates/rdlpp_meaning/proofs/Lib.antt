@@ -5,3 +5,5 @@ pub mod PlainBodies
 pub mod Usages
 pub mod Runs
 pub mod Remaining
+pub mod Resuming
+pub mod Outputs

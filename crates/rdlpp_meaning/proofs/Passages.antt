@@ -1,8 +1,10 @@
 -- Laws of passages: one and then what goes on from its state.
 use Rattle.std.proofs.Common.{◌≡◌, ℕ, List, [], refl, ap, append_assoc, Option, None, Some}
-use Rattle.rdlpp_meaning.specs.Outcome.{Told, Outcome, gives, and_then}
+use Rattle.rdlpp_meaning.specs.declared.fault.FaultKind.{FaultKind}
+use Rattle.rdlpp_meaning.specs.Outcome.{Told, Outcome, gives, fails, and_then}
 use Rattle.rdlpp_meaning.specs.State.{State}
-use Rattle.rdlpp_meaning.specs.Meaning.{Passage, leaves, outcome, behind_bytes, goes_on}
+use Rattle.rdlpp_meaning.specs.Parts.{Command}
+use Rattle.rdlpp_meaning.specs.Meaning.{Passage, leaves, outcome, behind_bytes, goes_on, refusal}
 
 -- what goes on from an outcome's state, by the outcome's fault
 on_leaves_by : (x : List ℕ) (f : Option Told) (s : State) (g h : State → Passage) → g s ≡ h s
@@ -71,3 +73,9 @@ assoc_by x None s g h = by_second (g s).bytes (g s).fault (g s).after
 -- a passage, a second and a third are the same however they are grouped
 pub goes_on-assoc : (p : Passage) (g h : State → Passage) → goes_on (goes_on p g) h ≡ goes_on p (λ after. goes_on (g after) h)
 goes_on-assoc p g h = assoc_by p.bytes p.fault p.after g h
+
+-- nothing goes on behind a refusal
+pub refusal-goes_on : (kind : FaultKind) (word : List ℕ) (c : Command) (s : State) (next : State → Passage)
+    → refusal kind word c s ≡ goes_on (refusal kind word c s) next
+unfolding refusal goes_on leaves fails
+refusal-goes_on kind word c s next = refl

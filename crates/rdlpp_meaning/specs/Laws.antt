@@ -8,13 +8,14 @@ use Rattle.rdlpp_scan.specs.SourceTokens.{Ordinary, Definition, Broken, SourceTo
 use Rattle.rdlpp_scan.specs.Stage.{is_reserved}
 use Rattle.rdlpp_table.specs.Table.{Macro, macro_named}
 use Rattle.rdlpp_meaning.specs.declared.fault.FaultKind.{FaultKind}
-use Rattle.rdlpp_meaning.specs.declared.fault.FaultKind.TheVariants.{BareBackquote as NoName, UndefinedMacro, Unbuilt}
+use Rattle.rdlpp_meaning.specs.declared.fault.FaultKind.TheVariants.{BareBackquote as NoName, UndefinedMacro, SourceNotFound, PathTooLong, Unbuilt}
 use Rattle.rdlpp_meaning.specs.Outcome.{Outcome, gives, fails, and_then}
-use Rattle.rdlpp_meaning.specs.State.{Accepted, Refused, Rules, State, fault_at, breach_kind}
+use Rattle.rdlpp_meaning.specs.State.{Accepted, Refused, NoSource, LongPath, Source, Rules, State, fault_at, breach_kind}
 use Rattle.rdlpp_meaning.specs.Expansion.{is_copied, bytes_of, usage_token}
 use Rattle.rdlpp_meaning.specs.Parts.{only_blanks, line_ends_of}
-use Rattle.rdlpp_meaning.specs.Meaning.{Progress}
-use Rattle.rdlpp_meaning.specs.Resumed.{Live, remains}
+use Rattle.rdlpp_meaning.specs.Meaning.{Progress, origin_line, text_meaning}
+use Rattle.rdlpp_meaning.specs.Resumed.{Live, resumed, remains}
+use Rattle.rdlpp_meaning.specs.Output.{opening_fault, start_state, output}
 
 -- one outcome, a second and a third are the same however they are grouped
 abbrev pub IsGrouped : Type 0
@@ -77,3 +78,32 @@ RefusedRemains = (rules : Rules) (os : List Progress) (first : Bool) (bytes : Li
 -- at the end of a file without an open conditional nothing remains
 abbrev pub NothingRemains : Type 0
 NothingRemains = (rules : Rules) (first : Bool) (s : State) → remains rules (Live []) first [] s ≡ gives []
+
+-- at the start of a text, what it means is what remains of it
+abbrev pub MeaningRemains : Type 0
+MeaningRemains = (rules : Rules) (s : State) (text : List ℕ)
+    → text_meaning rules s text ≡ resumed rules (Live []) true (rules.tokens text) s
+
+-- the output of a main text that is found is its origin line, where asked for, and then what remains at its start
+abbrev pub FoundOutput : Type 0
+FoundOutput = (rules : Rules) (macros : List Macro) (sources conditions : ℕ) (path found text : List ℕ)
+    → output rules macros sources conditions path (Source found text)
+    ≡ and_then (gives (origin_line rules found 1))
+    (remains rules (Live []) true (rules.tokens text) (start_state macros sources conditions found))
+
+-- without origin lines the output of a main text that is found is what remains at its start
+abbrev pub PlainOutput : Type 0
+PlainOutput = (rules : Rules) (macros : List Macro) (sources conditions : ℕ) (path found text : List ℕ)
+    → rules.origins ≡ false
+    → output rules macros sources conditions path (Source found text)
+    ≡ remains rules (Live []) true (rules.tokens text) (start_state macros sources conditions found)
+
+-- the output of a main text that isn't found is its fault
+abbrev pub MissingOutput : Type 0
+MissingOutput = (rules : Rules) (macros : List Macro) (sources conditions : ℕ) (path : List ℕ)
+    → output rules macros sources conditions path NoSource ≡ fails (opening_fault SourceNotFound path)
+
+-- the output of a main path that is too long is its fault
+abbrev pub OverlongOutput : Type 0
+OverlongOutput = (rules : Rules) (macros : List Macro) (sources conditions : ℕ) (path : List ℕ)
+    → output rules macros sources conditions path LongPath ≡ fails (opening_fault PathTooLong path)

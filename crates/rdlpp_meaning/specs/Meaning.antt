@@ -225,6 +225,12 @@ pub data Test : Type 0 where
   Stopped : FaultKind → List ℕ → Test
   Holds : Bool → Test
 
+-- what a directive with a test comes to: its fault, or what goes on in live or in skipped text
+unfoldable pub by_test : Test → Command → State → (State → Passage) → (State → Passage) → Passage
+by_test (Stopped kind word) c s live skipped = refusal kind word c s
+by_test (Holds true) c s live skipped = live s
+by_test (Holds false) c s live skipped = skipped s
+
 -- whether a macro of a name is defined
 unfoldable pub is_defined : State → List ℕ → Bool
 is_defined s name = is_some (macro_named s.macros name)
@@ -291,24 +297,16 @@ unfoldable mutual
   mean_part rules nest (Text ts) s = leaves (run_outcome rules s ts) s
   mean_part rules nest (Alone c) s = single rules nest c s
   mean_part rules nest (Stray c) s = refusal StrayBranch [] c s
-  mean_part rules nest (Conditional c ps bs) s = elim (opening c s) [
-    | Stopped kind word ↦ refusal kind word c s
-    | Holds live ↦ elim live [
-      | true ↦ goes_on (mean rules nest ps (in_conditional s)) (λ after. mean_branches rules nest bs (begun c s true) after)
-      | false ↦ goes_on (leaves (skip s ps) (in_conditional s)) (λ after. mean_branches rules nest bs (begun c s false) after)
-    ]
-  ]
+  mean_part rules nest (Conditional c ps bs) s = by_test (opening c s) c s
+      (λ t. goes_on (mean rules nest ps (in_conditional t)) (λ after. mean_branches rules nest bs (begun c t true) after))
+      (λ t. goes_on (leaves (skip (in_conditional t) ps) (in_conditional t)) (λ after. mean_branches rules nest bs (begun c t false) after))
 
   pub mean_branches : Rules → Nest → Branches → Progress → State → Passage
   mean_branches rules nest Unclosed o s = unclosed o s
   mean_branches rules nest (Closed c) o s = leaves (gives []) (past_conditional s)
-  mean_branches rules nest (Branch c ps bs) o s = elim (turn o c s) [
-    | Stopped kind word ↦ refusal kind word c s
-    | Holds live ↦ elim live [
-      | true ↦ goes_on (mean rules nest ps s) (λ after. mean_branches rules nest bs (turned o c true) after)
-      | false ↦ goes_on (leaves (skip s ps) s) (λ after. mean_branches rules nest bs (turned o c false) after)
-    ]
-  ]
+  mean_branches rules nest (Branch c ps bs) o s = by_test (turn o c s) c s
+      (λ t. goes_on (mean rules nest ps t) (λ after. mean_branches rules nest bs (turned o c true) after))
+      (λ t. goes_on (leaves (skip t ps) t) (λ after. mean_branches rules nest bs (turned o c false) after))
 
 -- what an included text means, where so many sources may be opened in it (source: this project's profile)
 unfoldable pub nest_of : Rules → ℕ → Nest

@@ -6,7 +6,7 @@ use Rattle.rdlpp_meaning.specs.Outcome.{Outcome, gives}
 use Rattle.rdlpp_meaning.specs.State.{Rules, State}
 use Rattle.rdlpp_meaning.specs.Expansion.{run_outcome}
 use Rattle.rdlpp_meaning.specs.Parts.{Piece, Run, Single, Opening, Branching, Closing, pieces}
-use Rattle.rdlpp_meaning.specs.Meaning.{Passage, leaves, outcome, goes_on, refusal, Nest, skipped_run, skipped_command, single, Progress, Stopped, Holds, opening, in_conditional, past_conditional, begun, turn, turned, unclosed, nest_of}
+use Rattle.rdlpp_meaning.specs.Meaning.{Passage, leaves, outcome, goes_on, refusal, Nest, skipped_run, skipped_command, single, Progress, by_test, opening, in_conditional, past_conditional, begun, turn, turned, unclosed, nest_of}
 
 -- where a file stands among its conditionals: in live text in these open ones, innermost first, or in skipped text, with so
 -- many that opened there, in the open one that skips it, and in those around it (source: this project's profile)
@@ -22,21 +22,13 @@ resume rules nest (Live os) (Run ts ∷ ps) s =
     goes_on (leaves (run_outcome rules s ts) s) (λ after. resume rules nest (Live os) ps after)
 resume rules nest (Live os) (Single c ∷ ps) s =
     goes_on (single rules nest c s) (λ after. resume rules nest (Live os) ps after)
-resume rules nest (Live os) (Opening c ∷ ps) s = elim (opening c s) [
-  | Stopped kind word ↦ refusal kind word c s
-  | Holds live ↦ elim live [
-    | true ↦ resume rules nest (Live (begun c s true ∷ os)) ps (in_conditional s)
-    | false ↦ resume rules nest (Skipped 0 (begun c s false) os) ps (in_conditional s)
-  ]
-]
+resume rules nest (Live os) (Opening c ∷ ps) s = by_test (opening c s) c s
+    (λ t. resume rules nest (Live (begun c t true ∷ os)) ps (in_conditional t))
+    (λ t. resume rules nest (Skipped 0 (begun c t false) os) ps (in_conditional t))
 resume rules nest (Live []) (Branching c ∷ ps) s = refusal StrayBranch [] c s
-resume rules nest (Live (o ∷ os)) (Branching c ∷ ps) s = elim (turn o c s) [
-  | Stopped kind word ↦ refusal kind word c s
-  | Holds live ↦ elim live [
-    | true ↦ resume rules nest (Live (turned o c true ∷ os)) ps s
-    | false ↦ resume rules nest (Skipped 0 (turned o c false) os) ps s
-  ]
-]
+resume rules nest (Live (o ∷ os)) (Branching c ∷ ps) s = by_test (turn o c s) c s
+    (λ t. resume rules nest (Live (turned o c true ∷ os)) ps t)
+    (λ t. resume rules nest (Skipped 0 (turned o c false) os) ps t)
 resume rules nest (Live []) (Closing c ∷ ps) s = refusal StrayBranch [] c s
 resume rules nest (Live (o ∷ os)) (Closing c ∷ ps) s = resume rules nest (Live os) ps (past_conditional s)
 resume rules nest (Skipped n o os) [] s = unclosed o s
@@ -48,13 +40,9 @@ resume rules nest (Skipped n o os) (Opening c ∷ ps) s =
     goes_on (leaves (skipped_command c) s) (λ after. resume rules nest (Skipped (suc n) o os) ps after)
 resume rules nest (Skipped (suc n) o os) (Branching c ∷ ps) s =
     goes_on (leaves (skipped_command c) s) (λ after. resume rules nest (Skipped (suc n) o os) ps after)
-resume rules nest (Skipped zero o os) (Branching c ∷ ps) s = elim (turn o c s) [
-  | Stopped kind word ↦ refusal kind word c s
-  | Holds live ↦ elim live [
-    | true ↦ resume rules nest (Live (turned o c true ∷ os)) ps s
-    | false ↦ resume rules nest (Skipped 0 (turned o c false) os) ps s
-  ]
-]
+resume rules nest (Skipped zero o os) (Branching c ∷ ps) s = by_test (turn o c s) c s
+    (λ t. resume rules nest (Live (turned o c true ∷ os)) ps t)
+    (λ t. resume rules nest (Skipped 0 (turned o c false) os) ps t)
 resume rules nest (Skipped (suc n) o os) (Closing c ∷ ps) s =
     goes_on (leaves (skipped_command c) s) (λ after. resume rules nest (Skipped n o os) ps after)
 resume rules nest (Skipped zero o os) (Closing c ∷ ps) s = resume rules nest (Live os) ps (past_conditional s)

@@ -1,6 +1,6 @@
 // The laws of the definitions, each as the contract of a function that does nothing.
 
-ghost use Rattle.rdlpp_meaning.specs.Laws.{BareRemains, BrokenRemains, CopiedRemains, DefinedRemains, IsGrouped, NothingRemains, RefusedRemains, UnbuiltRemains, UndefinedRemains, UsageRemains};
+ghost use Rattle.rdlpp_meaning.specs.Laws.{BareRemains, BrokenRemains, CopiedRemains, DefinedRemains, FoundOutput, IsGrouped, MeaningRemains, MissingOutput, NothingRemains, OverlongOutput, PlainOutput, RefusedRemains, UnbuiltRemains, UndefinedRemains, UsageRemains};
 
 /// One outcome and then another goes on in one way however three of them are grouped.
 pub fn grouping()
@@ -39,4 +39,17 @@ pub fn definition()
 /// At the end of a file without an open conditional nothing remains.
 pub fn end_of_file()
     ensures { NothingRemains }
+{}
+
+/// What a text means by the tree of its parts is what remains at its start, read piece by piece.
+pub fn meaning()
+    ensures { MeaningRemains }
+{}
+
+/// The output of a main text is what remains at its start, or the fault of its opening (this project's profile).
+pub fn output()
+    ensures found { FoundOutput }
+    ensures plain { PlainOutput }
+    ensures missing { MissingOutput }
+    ensures overlong { OverlongOutput }
 {}
