@@ -1,2 +1,4 @@
 pub mod Table
+pub mod View
 pub mod Limits
+pub mod Define
