@@ -4,7 +4,7 @@ ghost use Rattle.rdlpp_table.specs.Limits.{AreInRange};
 ghost use Rattle.rdlpp_table.specs.Table.{table_bytes, macro_named};
 ghost use Rattle.rdlpp_table.specs.View.{TableView, IsSound, macro_at, place_named};
 
-use crate::entry::Entry;
+use crate::entry::{Entry, body_in, place_in};
 use crate::fault::NoMemory;
 use crate::limits::Limits;
 use std::alloc::Global;
@@ -95,5 +95,32 @@ impl Table {
         ensures sound { IsSound self.now }
     {
         self.bytes.as_slice()
+    }
+
+    /// The macro of a name; `None` where there is none.
+    pub fn find(&self, name: &[u8]) -> Option<MacroId>
+        ensures value { result ≡ place_named self.now.macros name.now }
+        ensures inside { IfSome result (λ id. id < length self.now.macros) }
+        ensures named { macro_named self.now.macros name.now ≡ option_map (macro_at self.now.macros) result }
+        ensures sound { IsSound self.now }
+    {
+        let index = place_in(self.bytes.as_slice(), self.entries.as_slice(), name)?;
+        Some(MacroId { index })
+    }
+
+    /// The body of a macro.
+    pub fn body(&self, id: MacroId) -> &[u8]
+        requires { id < length self.now.macros }
+        ensures { result.now ≡ (macro_at self.now.macros id).body }
+    {
+        body_in(self.bytes.as_slice(), &self.entries[id.index])
+    }
+
+    /// How many formals a macro has; `None` where it has no list.
+    pub fn arity(&self, id: MacroId) -> Option<usize>
+        requires { id < length self.now.macros }
+        ensures { result ≡ option_map length (macro_at self.now.macros id).formals }
+    {
+        self.entries[id.index].arity
     }
 }
