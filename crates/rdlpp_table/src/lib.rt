@@ -4,6 +4,7 @@
 mod entry;
 mod fault;
 mod limits;
+mod removal;
 mod table;
 
 pub use fault::{DefineFault, DefineKind, NoMemory};
