@@ -7,3 +7,4 @@ pub mod Runs
 pub mod Remaining
 pub mod Resuming
 pub mod Outputs
+pub mod Rows

@@ -11,3 +11,4 @@ pub mod Meaning
 pub mod Resumed
 pub mod Output
 pub mod Laws
+pub mod Profile
