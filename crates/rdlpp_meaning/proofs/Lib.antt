@@ -1,0 +1,10 @@
+pub mod Outcomes
+pub mod Passages
+pub mod Walks
+pub mod PlainBodies
+pub mod Usages
+pub mod Runs
+pub mod Remaining
+pub mod Resuming
+pub mod Outputs
+pub mod Rows

@@ -1,0 +1,119 @@
+-- Laws of usages: of a name that isn't defined, of what isn't built, and of a macro without a list and with ordinary text.
+use Rattle.std.proofs.Common.{◌≡◌, ℕ, Bool, true, false, List, [], ◌∷◌, length, map, refl, ap, ◌∙◌, Option, None, Some}
+use Rattle.std.specs.Prelude.{if◌then◌else◌, nat_lt, is_some, unwrap_or}
+use Rattle.std.proofs.lemmas.Bool.{or_parts}
+use Rattle.rdlpp_scan.specs.declared.token.Kind.TheVariants.{Name}
+use Rattle.rdlpp_scan.specs.Tokens.{plain_len}
+use Rattle.rdlpp_scan.specs.SourceTokens.{Sort, Ordinary, Definition, Renumbering, Broken, SourceToken}
+use Rattle.rdlpp_scan.specs.Stage.{is_reserved}
+use Rattle.rdlpp_table.specs.Table.{Formal, Macro, macro_named}
+use Rattle.rdlpp_meaning.specs.declared.fault.FaultKind.{FaultKind}
+use Rattle.rdlpp_meaning.specs.declared.fault.FaultKind.TheVariants.{UndefinedMacro, Unbuilt}
+use Rattle.rdlpp_meaning.specs.Outcome.{Outcome, gives, fails, and_then}
+use Rattle.rdlpp_meaning.specs.State.{Rules, State, fault_at}
+use Rattle.rdlpp_meaning.specs.Stage.{is_unbuilt_macro}
+use Rattle.rdlpp_meaning.specs.Items.{Item, Written}
+use Rattle.rdlpp_meaning.specs.Substitution.{body_tokens, bound_to, marked, substituted}
+use Rattle.rdlpp_meaning.specs.Expansion.{Usage, Refuses, Opens, name_of, usage_of, usage_of_macro, usage_of_formals, walk, expand, run_outcome, usage_token}
+use Rattle.rdlpp_meaning.proofs.Walks.{deeper_of, expand_walk, expand_all_copied}
+use Rattle.rdlpp_meaning.proofs.PlainBodies.{body_ordinary}
+
+-- an optional value that is none
+none_of : {A : Type 0} (o : Option A) → is_some o ≡ false → o ≡ None
+none_of None e = refl
+none_of (Some x) e = cc
+
+-- a macro that is built has no list
+pub built_formals : (m : Macro) → is_unbuilt_macro m ≡ false → m.formals ≡ None
+unfolding is_unbuilt_macro
+built_formals m e = none_of m.formals (or_parts (is_some m.formals) (nat_lt (plain_len m.body) (length m.body)) e).0
+
+-- with no formals each token stays as it is
+marked_none : (actuals : List (List Item)) (o : List (List ℕ)) (sort : Sort) (bytes : List ℕ) (line : ℕ)
+    → marked [] actuals o (record { sort = sort; bytes = bytes; line = line }) ≡ Written (record { sort = sort; bytes = bytes; line = line })
+unfolding marked bound_to
+marked_none actuals o (Ordinary Name) bytes line = refl
+marked_none actuals o (Ordinary k) bytes line = refl
+marked_none actuals o Definition bytes line = refl
+marked_none actuals o Renumbering bytes line = refl
+marked_none actuals o (Broken b) bytes line = refl
+
+-- with no formals all tokens stay as they are
+all_marked_none : (actuals : List (List Item)) (o : List (List ℕ)) (ts : List SourceToken)
+    → map (marked [] actuals o) ts ≡ map Written ts
+all_marked_none actuals o [] = refl
+all_marked_none actuals o (t ∷ ts) =
+    ap (λ (x : Item). x ∷ map (marked [] actuals o) ts) (marked_none actuals o t.sort t.bytes t.line)
+    ∙ ap (λ (xs : List Item). Written t ∷ xs) (all_marked_none actuals o ts)
+
+-- the body of a macro without a list is substituted as it is
+pub substituted_none : (m : Macro) (o : List (List ℕ)) → m.formals ≡ None
+    → substituted m [] o ≡ map Written (body_tokens m.body)
+unfolding substituted
+substituted_none m o e =
+    ap (λ (fs : Option (List Formal)). map (marked (unwrap_or fs []) [] o) (body_tokens m.body)) e
+    ∙ all_marked_none [] o (body_tokens m.body)
+
+-- the body of ordinary text of a macro without a list gives its bytes at any depth
+pub expand_body : (rules : Rules) (s : State) (d : ℕ) (source : Option ℕ) (o p : List (List ℕ)) (m : Macro)
+    → m.formals ≡ None → plain_len m.body ≡ length m.body
+    → expand rules s d source o (substituted m [] p) ≡ gives m.body
+unfolding body_tokens
+expand_body rules s d source o p m e plain =
+    let b = body_ordinary m.body plain in
+    ap (λ (items : List Item). expand rules s d source o items) (substituted_none m p e)
+    ∙ expand_all_copied rules s d source o (body_tokens m.body) b.copied
+    ∙ ap gives b.text
+
+-- a usage of a name that isn't defined
+pub usage_none : (rules : Rules) (s : State) (source : Option ℕ) (line : ℕ) (o : List (List ℕ)) (name : List ℕ) (xs : List Item)
+    → is_reserved name ≡ false → macro_named s.macros name ≡ None
+    → usage_of rules s source line o name xs ≡ Refuses UndefinedMacro name line
+unfolding usage_of
+usage_none rules s source line o name xs r e = rw (r, e) refl
+
+-- a usage of a macro
+pub usage_some : (rules : Rules) (s : State) (source : Option ℕ) (line : ℕ) (o : List (List ℕ)) (name : List ℕ) (xs : List Item) (m : Macro)
+    → is_reserved name ≡ false → macro_named s.macros name ≡ Some m
+    → usage_of rules s source line o name xs ≡ usage_of_macro rules source line o name xs m
+unfolding usage_of
+usage_some rules s source line o name xs m r e = rw (r, e) refl
+
+-- a usage of a macro that isn't built
+pub usage_unbuilt : (rules : Rules) (source : Option ℕ) (line : ℕ) (o : List (List ℕ)) (name : List ℕ) (xs : List Item) (m : Macro)
+    → rules.unbuilt_macro m ≡ true
+    → usage_of_macro rules source line o name xs m ≡ Refuses Unbuilt [] line
+unfolding usage_of_macro
+usage_unbuilt rules source line o name xs m e = rw e refl
+
+-- a usage in a source of a macro that is built and has no list
+pub usage_plain : (rules : Rules) (source : Option ℕ) (line : ℕ) (name : List ℕ) (xs : List Item) (m : Macro)
+    → rules.unbuilt_macro m ≡ false → m.formals ≡ None
+    → usage_of_macro rules source line [] name xs m ≡ Opens m [] 0
+unfolding usage_of_macro usage_of_formals
+usage_plain rules source line name xs m e f =
+    ap (λ (unbuilt : Bool). if unbuilt then Refuses Unbuilt [] line else usage_of_formals rules source line name xs m m.formals) e
+    ∙ ap (usage_of_formals rules source line name xs m) f
+
+-- what a usage writes in front of further items, by what it comes to
+unfoldable pub after_usage : Rules → State → (ℕ → List (List ℕ) → List Item → Outcome) → List ℕ → ℕ → List Item → Usage → Outcome
+after_usage rules s deeper name line xs (Refuses f word at) = fails (fault_at f at word s)
+after_usage rules s deeper name line xs (Opens m actuals used) =
+    and_then (deeper line (name ∷ []) (substituted m actuals [])) (walk rules s deeper None [] used xs)
+
+-- a usage in a source writes that
+pub walk_usage : (rules : Rules) (s : State) (deeper : ℕ → List (List ℕ) → List Item → Outcome) (name : List ℕ) (line : ℕ) (xs : List Item) (u : Usage)
+    → usage_of rules s None line [] name xs ≡ u
+    → walk rules s deeper None [] 0 (Written (usage_token name line) ∷ xs) ≡ after_usage rules s deeper name line xs u
+unfolding walk after_usage name_of
+walk_usage rules s deeper name line xs (Refuses f word at) e = rw (e, walk) refl
+walk_usage rules s deeper name line xs (Opens m actuals used) e = rw (e, walk) refl
+
+-- a run that begins with a usage that is refused fails with its fault
+pub run_refused : (rules : Rules) (s : State) (name : List ℕ) (line : ℕ) (us : List SourceToken) (f : FaultKind) (word : List ℕ) (at : ℕ)
+    → usage_of rules s None line [] name (map Written us) ≡ Refuses f word at
+    → run_outcome rules s (usage_token name line ∷ us) ≡ fails (fault_at f at word s)
+unfolding run_outcome after_usage
+run_refused rules s name line us f word at e =
+    expand_walk rules s rules.depth None [] (map Written (usage_token name line ∷ us))
+    ∙ walk_usage rules s (deeper_of rules s rules.depth) name line (map Written us) (Refuses f word at) e

@@ -1,0 +1,127 @@
+-- The actuals of a call: what stands between its parentheses, by the role that each thing has in a call.
+use Rattle.std.specs.Prelude.{ℕ, zero, suc, ◌-◌, Bool, true, false, ◌==◌, nat_le, List, [], ◌∷◌, reverse, length, drop, slice_index, Option, None, Some, if◌then◌else◌}
+use Rattle.std.specs.List.{prefix_len}
+use Rattle.rdlpp_scan.specs.declared.token.Kind.{Kind}
+use Rattle.rdlpp_scan.specs.declared.token.Kind.TheVariants.{Blank, LineEnd, LineComment, BlockComment, Opener, Closer, Comma}
+use Rattle.rdlpp_scan.specs.SourceTokens.{Ordinary, Broken, SourceToken}
+use Rattle.rdlpp_meaning.specs.declared.fault.FaultKind.{FaultKind}
+use Rattle.rdlpp_meaning.specs.declared.fault.FaultKind.TheVariants.{ArgumentsMissing, ArgumentsOpen, ArgumentBytes}
+use Rattle.rdlpp_meaning.specs.State.{breach_kind}
+use Rattle.rdlpp_meaning.specs.Items.{Item, Written, Arg}
+
+-- the role of a thing in a call: white space, a comment that is dropped, one that is kept, `(`, a further opener, `)`,
+-- a further closer, a comma, a broken string and another broken token with fault and line, or any other text
+-- (source: this project's profile)
+pub data Role : Type 0 where
+  Space Dropped Remark Start Up End Down Cut Text : Role
+  Ends Stops : FaultKind → ℕ → Role
+
+-- what a call comes to: its own fault, that of a broken token at its line, or the first part between its parentheses,
+-- the further parts, and how many things it took (source: this project's profile)
+pub data Call (A : Type 0) : Type 0 where
+  Lacking : FaultKind → Call A
+  Broke : FaultKind → ℕ → Call A
+  Bound : List A → List (List A) → ℕ → Call A
+
+-- a thing that is passed over in front of a call
+unfoldable pub passed : {A : Type 0} → Call A → Call A
+passed (Lacking f) = Lacking f
+passed (Broke f line) = Broke f line
+passed (Bound first further used) = Bound first further (suc used)
+
+-- a thing in front of the first part of a call
+unfoldable pub put : {A : Type 0} → A → Call A → Call A
+put x (Lacking f) = Lacking f
+put x (Broke f line) = Broke f line
+put x (Bound first further used) = Bound (x ∷ first) further (suc used)
+
+-- a comma in front of the first part of a call
+unfoldable pub parted : {A : Type 0} → Call A → Call A
+parted (Lacking f) = Lacking f
+parted (Broke f line) = Broke f line
+parted (Bound first further used) = Bound [] (first ∷ further) (suc used)
+
+-- the level of openers behind a thing (source: this project's profile)
+unfoldable pub level_behind : Role → ℕ → ℕ
+level_behind Start k = suc k
+level_behind Up k = suc k
+level_behind End k = k - 1
+level_behind Down k = k - 1
+level_behind r k = k
+
+-- how many bytes of a thing count as kept (source: this project's profile)
+unfoldable pub kept_size : Role → ℕ → ℕ
+kept_size Dropped n = 0
+kept_size r n = n
+
+-- a thing at a level of openers, which fits what may be kept or not, in front of the rest of a call (source: this project's profile)
+unfoldable pub heed : {A : Type 0} → Role → ℕ → Bool → A → Call A → Call A
+heed End zero fits x rest = Bound [] [] 1
+heed Dropped k fits x rest = passed rest
+heed r k false x rest = Lacking ArgumentBytes
+heed Cut zero true x rest = parted rest
+heed (Ends f line) k true x rest = Broke f line
+heed (Stops f line) k true x rest = Broke f line
+heed r k true x rest = put x rest
+
+-- what stands in a call behind its `(`, at a level of openers and with room for so many kept bytes (source: this project's profile)
+unfoldable pub inside_call : {A : Type 0} → (A → Role) → (A → ℕ) → ℕ → ℕ → List A → Call A
+inside_call role size k room [] = Lacking ArgumentsOpen
+inside_call role size k room (x ∷ xs) =
+    heed (role x) k (nat_le (size x) room) x
+    (inside_call role size (level_behind (role x) k) (room - kept_size (role x) (size x)) xs)
+
+-- a call behind the name of its macro (source: this project's profile)
+unfoldable pub call_of : {A : Type 0} → (A → Role) → (A → ℕ) → ℕ → List A → Call A
+call_of role size room [] = Lacking ArgumentsMissing
+call_of role size room (x ∷ xs) = elim (role x) [
+  | Space ↦ passed (call_of role size room xs)
+  | Dropped ↦ passed (call_of role size room xs)
+  | Remark ↦ passed (call_of role size room xs)
+  | Start ↦ passed (inside_call role size 0 room xs)
+  | Stops f line ↦ Broke f line
+  | _ ↦ Lacking ArgumentsMissing
+]
+
+-- whether a role is white space
+unfoldable pub is_space : Role → Bool
+is_space Space = true
+is_space r = false
+
+-- things without the white space at their front
+unfoldable pub behind_space : {A : Type 0} → (A → Role) → List A → List A
+behind_space role xs = drop (prefix_len (λ x. is_space (role x)) xs) xs
+
+-- things without the white space at both ends (source: this project's profile)
+unfoldable pub trimmed : {A : Type 0} → (A → Role) → List A → List A
+trimmed role xs = reverse (behind_space role (reverse (behind_space role xs)))
+
+-- the role of a token of a kind (source: this project's profile)
+unfoldable pub kind_role : Kind → List ℕ → Role
+kind_role Blank bytes = Space
+kind_role LineEnd bytes = Space
+kind_role LineComment bytes = Dropped
+kind_role BlockComment bytes = Remark
+kind_role Opener bytes = if slice_index bytes 0 == 40 then Start else Up
+kind_role Closer bytes = if slice_index bytes 0 == 41 then End else Down
+kind_role Comma bytes = Cut
+kind_role k bytes = Text
+
+-- the role of a token: a broken one is a string where it begins with a quote (source: this project's profile)
+unfoldable pub token_role : SourceToken → Role
+token_role t = elim t.sort [
+  | Ordinary k ↦ kind_role k t.bytes
+  | Broken b ↦ if slice_index t.bytes 0 == 34 then Ends (breach_kind b) t.line else Stops (breach_kind b) t.line
+  | _ ↦ Text
+]
+
+-- the role of an item; marks aren't looked into, and are never blank (source: this project's profile)
+unfoldable pub item_role : Item → Role
+item_role (Written t) = token_role t
+item_role (Arg o items) = Text
+
+-- the bytes of an item that count as kept: in a source those of its tokens, elsewhere none (source: this project's profile)
+unfoldable pub item_size : Option ℕ → Item → ℕ
+item_size None (Written t) = length t.bytes
+item_size None (Arg o items) = 0
+item_size (Some line) x = 0

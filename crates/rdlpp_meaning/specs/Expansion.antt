@@ -1,0 +1,109 @@
+-- Expansion: the bytes of items, with each usage replaced by what its macro stands for.
+use Rattle.std.specs.Prelude.{ℕ, zero, suc, Bool, true, false, ◌&&◌, ◌==◌, List, [], ◌∷◌, map, length, drop, bytes_eq, Option, None, Some, unwrap_or, if◌then◌else◌}
+use Rattle.std.specs.List.{flat_map, list_any}
+use Rattle.rdlpp_scan.specs.declared.token.Kind.TheVariants.{Back, BareBackquote}
+use Rattle.rdlpp_scan.specs.SourceTokens.{Ordinary, Broken, SourceToken}
+use Rattle.rdlpp_scan.specs.Stage.{is_reserved}
+use Rattle.rdlpp_table.specs.Table.{Formal, Macro, macro_named}
+use Rattle.rdlpp_meaning.specs.declared.fault.FaultKind.{FaultKind}
+use Rattle.rdlpp_meaning.specs.declared.fault.FaultKind.TheVariants.{BareBackquote as NoName, UndefinedMacro, RecursiveMacro, DirectiveInText, ArgumentCount, DepthPassed, Unbuilt}
+use Rattle.rdlpp_meaning.specs.Outcome.{Outcome, gives, fails, and_then}
+use Rattle.rdlpp_meaning.specs.State.{Rules, State, fault_at, breach_kind}
+use Rattle.rdlpp_meaning.specs.Items.{Item, Written, Arg, listed}
+use Rattle.rdlpp_meaning.specs.Actuals.{Call, Lacking, Broke, Bound, call_of, trimmed, item_role, item_size}
+use Rattle.rdlpp_meaning.specs.Substitution.{substituted}
+
+-- what a usage comes to: a fault with its word and line, or a macro whose body is opened, its actuals, and how many items
+-- the usage took behind its name (source: this project's profile)
+pub data Usage : Type 0 where
+  Refuses : FaultKind → List ℕ → ℕ → Usage
+  Opens : Macro → List (List Item) → ℕ → Usage
+
+-- the name behind a backquote
+unfoldable pub name_of : SourceToken → List ℕ
+name_of t = drop 1 t.bytes
+
+-- whether a list of no formals is met by one part without items, or one of so many formals by as many parts (source: this project's profile)
+unfoldable pub is_count : List Formal → List (List Item) → Bool
+is_count [] parts = length parts == 1 && list_any (λ part. length part == 0) parts
+is_count (f ∷ fs) parts = length parts == length (f ∷ fs)
+
+-- a call of a macro with these formals, by what it comes to (source: this project's profile)
+unfoldable pub usage_of_call : Macro → List Formal → ℕ → List ℕ → Call Item → Usage
+usage_of_call m formals line name (Lacking f) = Refuses f name line
+usage_of_call m formals line name (Broke f own) = Refuses f [] own
+usage_of_call m formals line name (Bound first further used) =
+    let actuals = map (trimmed item_role) (first ∷ further) in
+    if is_count formals actuals then Opens m actuals used else Refuses ArgumentCount name line
+
+-- a usage of a macro by the list of formals that it has, if it has one (source: IEEE 1364-2001, `define`)
+unfoldable pub usage_of_formals : Rules → Option ℕ → ℕ → List ℕ → List Item → Macro → Option (List Formal) → Usage
+usage_of_formals rules source line name items m None = Opens m [] 0
+usage_of_formals rules source line name items m (Some formals) =
+    usage_of_call m formals line name (call_of item_role (item_size source) rules.argument_bytes items)
+
+-- a usage of a macro that is defined, in the text of the macros o (source: this project's profile)
+unfoldable pub usage_of_macro : Rules → Option ℕ → ℕ → List (List ℕ) → List ℕ → List Item → Macro → Usage
+usage_of_macro rules source line o name items m =
+    if rules.unbuilt_macro m then Refuses Unbuilt [] line
+    else (if list_any (bytes_eq name) o then Refuses RecursiveMacro name line
+    else usage_of_formals rules source line name items m m.formals)
+
+-- a usage of a name, with the items behind it; `source` has the line of the outermost usage, and none in a source
+-- (source: this project's profile)
+unfoldable pub usage_of : Rules → State → Option ℕ → ℕ → List (List ℕ) → List ℕ → List Item → Usage
+usage_of rules s source line o name items =
+    if is_reserved name then Refuses DirectiveInText name line
+    else elim (macro_named s.macros name) [
+      | None ↦ Refuses UndefinedMacro name line
+      | Some m ↦ usage_of_macro rules source line o name items m
+    ]
+
+-- the bytes of items in the text of the macros o, after so many items are passed over, where `deeper` expands the items of
+-- a mark or of a body that a usage at a line opens; `source` has the line of the outermost usage, and none in a source
+-- (source: this project's profile)
+unfoldable pub walk : Rules → State → (ℕ → List (List ℕ) → List Item → Outcome) → Option ℕ → List (List ℕ) → ℕ → List Item → Outcome
+walk rules s deeper source o skip [] = gives []
+walk rules s deeper source o (suc skip) (x ∷ xs) = walk rules s deeper source o skip xs
+walk rules s deeper source o zero (Arg p g ∷ xs) =
+    and_then (deeper (unwrap_or source 0) p (listed g)) (walk rules s deeper source o 0 xs)
+walk rules s deeper source o zero (Written t ∷ xs) = elim t.sort [
+  | Ordinary k ↦ elim k [
+    | Back ↦ elim (usage_of rules s source (unwrap_or source t.line) o (name_of t) xs) [
+      | Refuses f word line ↦ fails (fault_at f line word s)
+      | Opens m actuals used ↦ and_then
+          (deeper (unwrap_or source t.line) (name_of t ∷ o) (substituted m actuals o))
+          (walk rules s deeper source o used xs)
+    ]
+    | BareBackquote ↦ fails (fault_at NoName (unwrap_or source t.line) [] s)
+    | _ ↦ and_then (gives t.bytes) (walk rules s deeper source o 0 xs)
+  ]
+  | Broken b ↦ and_then (gives t.bytes) (fails (fault_at (breach_kind b) t.line [] s))
+  | _ ↦ and_then (gives t.bytes) (walk rules s deeper source o 0 xs)
+]
+
+-- the bytes of items in the text of the macros o, where so many further bodies and actuals may be open (source: this project's profile)
+unfoldable pub expand : Rules → State → ℕ → Option ℕ → List (List ℕ) → List Item → Outcome
+expand rules s zero source o items =
+    walk rules s (λ line p g. fails (fault_at DepthPassed line [] s)) source o 0 items
+expand rules s (suc d) source o items =
+    walk rules s (λ line p g. expand rules s d (Some line) p g) source o 0 items
+
+-- a backquote with a name, as a token of a source
+abbrev pub usage_token : List ℕ → ℕ → SourceToken
+usage_token name line = record { sort = Ordinary Back; bytes = 96 ∷ name; line = line }
+
+-- the bytes of tokens
+abbrev pub bytes_of : List SourceToken → List ℕ
+bytes_of ts = flat_map (λ t. t.bytes) ts
+
+-- whether a token of a source is copied: neither a usage nor a lone backquote (source: this project's profile)
+unfoldable pub is_copied : SourceToken → Bool
+is_copied t = elim t.sort [
+  | Ordinary k ↦ elim k [ Back ↦ false | BareBackquote ↦ false | _ ↦ true ]
+  | _ ↦ false
+]
+
+-- the bytes of a run of a source's tokens (source: this project's profile)
+unfoldable pub run_outcome : Rules → State → List SourceToken → Outcome
+run_outcome rules s ts = expand rules s rules.depth None [] (map Written ts)

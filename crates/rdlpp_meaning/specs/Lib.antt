@@ -1,0 +1,14 @@
+pub mod FaultNumbers
+pub mod Outcome
+pub mod State
+pub mod Stage
+pub mod Items
+pub mod Actuals
+pub mod Substitution
+pub mod Expansion
+pub mod Parts
+pub mod Meaning
+pub mod Resumed
+pub mod Output
+pub mod Laws
+pub mod Profile

@@ -1,0 +1,43 @@
+-- The rules of this project's profile, from the limits and what a search finds.
+use Rattle.std.specs.Prelude.{ℕ, Bool, List}
+use Rattle.rdlpp_scan.specs.SourceTokens.{whole_tokens}
+use Rattle.rdlpp_table.specs.declared.limits.Limits.{Limits}
+use Rattle.rdlpp_table.specs.declared.fault.DefineKind.{DefineKind}
+use Rattle.rdlpp_table.specs.declared.fault.DefineKind.TheVariants as kind
+use Rattle.rdlpp_table.specs.Table.{Macro}
+use Rattle.rdlpp_table.specs.Define.{Defined as TableDefined, Accepted as TableAccepted, Refused as TableRefused, define_of}
+use Rattle.rdlpp_meaning.specs.declared.fault.FaultKind.{FaultKind}
+use Rattle.rdlpp_meaning.specs.declared.fault.FaultKind.TheVariants as fault
+use Rattle.rdlpp_meaning.specs.State.{Defined, Accepted, Refused, Lookup, Rules}
+
+-- the fault of a `define` that is refused (source: this project's profile)
+unfoldable pub define_fault : DefineKind → FaultKind
+define_fault kind.EmbeddedPerl = fault.EmbeddedPerl
+define_fault kind.OpenString = fault.OpenString
+define_fault kind.OpenComment = fault.OpenComment
+define_fault kind.NameExpected = fault.NameExpected
+define_fault kind.ReservedName = fault.ReservedName
+define_fault kind.NameTooLong = fault.NameTooLong
+define_fault kind.BadFormals = fault.BadFormals
+define_fault kind.FormalTwice = fault.FormalTwice
+define_fault kind.TooManyFormals = fault.TooManyFormals
+define_fault kind.DefinitionBytes = fault.DefinitionBytes
+define_fault kind.TooManyDefinitions = fault.TooManyDefinitions
+
+-- what a `define` gives, with its fault (source: IEEE 1364-2001, `define`)
+unfoldable pub with_fault : TableDefined → Defined
+with_fault (TableAccepted macros) = Accepted macros
+with_fault (TableRefused kind word) = Refused (define_fault kind) word
+
+-- the rules by limits, by what isn't built of sources and of macros, by what an `include` from a path finds, and by whether
+-- origin lines are asked for (source: this project's profile)
+unfoldable pub rules_of : Limits → (List ℕ → Bool) → (Macro → Bool) → (List ℕ → List ℕ → Lookup) → Bool → Rules
+rules_of limits unbuilt unbuilt_macro find origins = record {
+  depth = limits.depth;
+  argument_bytes = limits.argument_bytes;
+  unbuilt_macro = unbuilt_macro;
+  define = λ macros rest. with_fault (define_of limits.definition_bytes limits.definitions macros rest);
+  tokens = λ text. whole_tokens unbuilt limits.line_bytes limits.source_bytes text;
+  find = find;
+  origins = origins;
+}

@@ -1,0 +1,26 @@
+-- Places in a list, and in the list that a map makes of it.
+use Rattle.std.proofs.Common.{◌≡◌, ℕ, zero, suc, ◌+◌, ◌<◌, ◌≤◌, Bool, true, false, cond, not, List, [], ◌∷◌, length, map, get_or, Option, Some, None, option_map, ltb, refl, ap, sym, ◌∙◌, arith, inl, inr}
+use Rattle.std.specs.List.{prefix_len, position_or_len, position, find, slice_get}
+use Rattle.std.proofs.lemmas.List.{length-map, get_or-map}
+use Rattle.std.proofs.lemmas.List.Folds.{find_at}
+use Rattle.std.proofs.lemmas.Option.{slice_get-get_or}
+use Rattle.std.proofs.lemmas.Bool.{cases_lt, lt-ltb, le-ltb, cond-true, cond-false}
+
+pub prefix_len-map : {X Y : Type 0} (p : Y → Bool) (f : X → Y) (xs : List X) → prefix_len p (map f xs) ≡ prefix_len (λ x. p (f x)) xs
+prefix_len-map p f [] = refl
+prefix_len-map p f (x ∷ xs) = ap (λ (n : ℕ). cond (p (f x)) (1 + n) 0) (prefix_len-map p f xs)
+
+pub position-map : {X Y : Type 0} (p : Y → Bool) (f : X → Y) (xs : List X) → position p (map f xs) ≡ position (λ x. p (f x)) xs
+position-map p f xs = rw (prefix_len-map (λ y. not (p y)) f xs, length-map xs f) refl
+
+slice_get_past : {X : Type 0} (xs : List X) (i : ℕ) → length xs ≤ i → slice_get xs i ≡ None
+slice_get_past [] i h = refl
+slice_get_past (x ∷ xs) zero h = absurd (omega arith)
+slice_get_past (x ∷ xs) (suc i) h = slice_get_past xs i (omega arith)
+
+pub find_by_position : {X : Type 0} (p : X → Bool) (xs : List X) (d : X) → find p xs ≡ option_map (λ i. get_or xs i d) (position p xs)
+find_by_position p xs d =
+    elim (cases_lt (position_or_len p xs) (length xs)) [
+      | inl h ↦ find_at p xs ∙ (slice_get-get_or xs _ d h ∙ sym (ap (option_map (λ i. get_or xs i d)) (cond-true _ (Some (position_or_len p xs)) None (lt-ltb _ _ h))))
+      | inr h ↦ find_at p xs ∙ (slice_get_past xs _ h ∙ sym (ap (option_map (λ i. get_or xs i d)) (cond-false _ (Some (position_or_len p xs)) None (le-ltb _ _ h))))
+    ]

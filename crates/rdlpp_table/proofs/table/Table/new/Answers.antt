@@ -1,0 +1,13 @@
+use Rattle.std.proofs.Common.{arith}
+use Rattle.rdlpp_table.proofs.Laid.{held_when_empty, empty_view}
+use Rattle.rdlpp_table.proofs.table.Table.new.Goals as goal
+
+pub invariant_of-result : goal.invariant_of-result
+invariant_of-result c = record {
+  held = held_when_empty _ _ _ _ c.in-Ok.ensures.items c.in-Ok-with_capacity.ensures.items;
+  room = c.in-Ok.ensures.capacity;
+  entry_room = c.in-Ok-with_capacity.ensures.capacity;
+}
+
+pub returns : goal.returns
+returns c = empty_view _ _ _ _ c.in-Ok-with_capacity.ensures.items

@@ -1,0 +1,238 @@
+-- What a `define` gives: the table with the new macro, or its first fault.
+use Rattle.std.specs.Prelude.{ℕ, zero, suc, ◌+◌, ◌-◌, Bool, not, ◌&&◌, ◌||◌, ◌==◌, nat_lt, nat_le, List, [], ◌∷◌, ◌++◌, length, take, drop, bytes_eq, slice_index, Option, None, Some, is_some, unwrap_or, if◌then◌else◌}
+use Rattle.std.specs.List.{prefix_len, suffix_len, list_any, list_all}
+use Rattle.rdlpp_scan.specs.declared.token.Kind.TheVariants.{LineComment, Perl as PerlKind}
+use Rattle.rdlpp_scan.specs.declared.token.Mode.{Mode}
+use Rattle.rdlpp_scan.specs.declared.token.Mode.TheVariants.{Plain, InStr, InBlock}
+use Rattle.rdlpp_scan.specs.declared.token.Token.{Token}
+use Rattle.rdlpp_scan.specs.declared.token.LexFault.{LexFault}
+use Rattle.rdlpp_scan.specs.declared.token.LexFault.TheVariants.{Perl, OpenString, OpenComment}
+use Rattle.rdlpp_scan.specs.Bytes.{is_blank, is_line_end, is_letter, is_word}
+use Rattle.rdlpp_scan.specs.Tokens.{tokens_from}
+use Rattle.rdlpp_scan.specs.SourceTokens.{logical_len}
+use Rattle.rdlpp_scan.specs.Stage.{is_reserved}
+use Rattle.rdlpp_table.specs.Table.{Formal, Macro, macro_size, table_size, without}
+use Rattle.rdlpp_table.specs.declared.fault.DefineKind.{DefineKind}
+use Rattle.rdlpp_table.specs.declared.fault.DefineKind.TheVariants as kind
+
+-- the macros with the new one, or why there is none, and for a reserved name that name
+pub data Defined : Type 0 where
+  Accepted : List Macro → Defined
+  Refused : DefineKind → List ℕ → Defined
+
+-- how many bytes stand before the LF of a continuation, where a text begins with one: `\`, or `\` and CR
+-- (IEEE 1364-2001, `define`)
+unfoldable pub continuation_len : List ℕ → ℕ
+continuation_len bytes =
+    if slice_index bytes 0 == 92 && slice_index bytes 1 == 10 then 1
+    else (if slice_index bytes 0 == 92 && (slice_index bytes 1 == 13 && slice_index bytes 2 == 10) then 2
+    else 0)
+
+-- a text with LF in the place of each continuation, after so many bytes are dropped (IEEE 1364-2001, `define`)
+unfoldable pub without_continuations : ℕ → List ℕ → List ℕ
+without_continuations skip [] = []
+without_continuations (suc skip) (b ∷ bs) = without_continuations skip bs
+without_continuations zero (b ∷ bs) =
+    if continuation_len (b ∷ bs) == 0 then b ∷ without_continuations 0 bs
+    else without_continuations (continuation_len (b ∷ bs) - 1) bs
+
+-- the text of a logical line: without the LF that ends it, and with LF in the place of each continuation (this project's profile)
+unfoldable pub logical_text : List ℕ → List ℕ
+logical_text rest = without_continuations 0 (elim (logical_len 0 0 rest) [ Some n ↦ take (n - 1) rest | None ↦ rest ])
+
+-- white space of a header: a blank or an LF (this project's profile)
+unfoldable pub is_space : ℕ → Bool
+is_space b = is_blank b || is_line_end b
+
+-- a text without the white space with which it begins
+unfoldable pub after_space : List ℕ → List ℕ
+after_space bytes = drop (prefix_len is_space bytes) bytes
+
+-- the name with which a text begins, or nothing
+unfoldable pub leading_name : List ℕ → List ℕ
+leading_name bytes = if is_letter (slice_index bytes 0) then take (prefix_len is_word bytes) bytes else []
+
+-- whether a list is empty
+abbrev pub is_nothing : {A : Type 0} → List A → Bool
+is_nothing xs = length xs == 0
+
+-- what is wrong with the name of a macro: nothing stands there, it is reserved, it is too long (this project's profile)
+unfoldable pub name_fault : List ℕ → Option DefineKind
+name_fault name =
+    if is_nothing name then Some kind.NameExpected
+    else (if is_reserved name then Some kind.ReservedName
+    else (if nat_lt 128 (length name) then Some kind.NameTooLong
+    else None))
+
+-- what is left of tokens and their text without the `//` comments (this project's profile)
+unfoldable pub without_remarks : List Token → List ℕ → List ℕ
+without_remarks [] text = []
+without_remarks (t ∷ ts) text = elim t.kind [
+  | LineComment ↦ without_remarks ts (drop t.len text)
+  | _ ↦ take t.len text ++ without_remarks ts (drop t.len text)
+]
+
+-- what is wrong where a text ends in a mode: a string or a comment isn't closed
+unfoldable pub end_fault : Mode → Option LexFault
+end_fault Plain = None
+end_fault InStr = Some OpenString
+end_fault InBlock = Some OpenComment
+
+-- what is wrong with tokens that begin in a mode: `<%`, or a string or a comment that isn't closed at the end (this project's profile)
+unfoldable pub token_fault : Mode → List Token → Option LexFault
+token_fault mode [] = end_fault mode
+token_fault mode (t ∷ ts) = elim t.kind [
+  | PerlKind ↦ Some Perl
+  | _ ↦ token_fault t.next_mode ts
+]
+
+-- a text without the blanks at both ends (this project's profile)
+unfoldable pub trimmed : List ℕ → List ℕ
+trimmed bytes =
+    let rest = drop (prefix_len is_blank bytes) bytes in take (length rest - suffix_len is_blank rest) rest
+
+-- a fault of the tokens, as a reason to refuse a definition
+unfoldable pub lexical : LexFault → DefineKind
+lexical Perl = kind.EmbeddedPerl
+lexical OpenString = kind.OpenString
+lexical OpenComment = kind.OpenComment
+
+-- a formal that was read, or what is wrong with it
+pub data OneFormal : Type 0 where
+  Good : Formal → OneFormal
+  Bad : DefineKind → OneFormal
+
+-- the formals of a list and the text behind it, or what is wrong with them
+pub data FormalList : Type 0 where
+  Listed : Option (List Formal) → List ℕ → FormalList
+  Unlisted : DefineKind → FormalList
+
+-- the text of a formal list, after its `(`: the parts between its commas, and what stands behind its `)`, where it has one
+pub record ListText : Type 0 where
+  pub parts : List (List ℕ)
+  pub behind : Option (List ℕ)
+
+-- a byte in front of the first part
+unfoldable pub onto_part : ℕ → ListText → ListText
+onto_part b l = elim l.parts [
+  | [] ↦ record { parts = (b ∷ []) ∷ []; behind = l.behind }
+  | p ∷ ps ↦ record { parts = (b ∷ p) ∷ ps; behind = l.behind }
+]
+
+-- the parts of a formal list (IEEE 1364-2001, `define`)
+unfoldable pub list_text : List ℕ → ListText
+list_text [] = record { parts = [] ∷ []; behind = None }
+list_text (b ∷ bs) =
+    if b == 41 then record { parts = [] ∷ []; behind = Some bs }
+    else (if b == 44 then record { parts = [] ∷ (list_text bs).parts; behind = (list_text bs).behind }
+    else onto_part b (list_text bs))
+
+-- the formal in a part, behind other formals; `ended` says that a comma or the `)` stands behind the part (this project's profile)
+unfoldable pub formal_in : List Formal → Bool → List ℕ → OneFormal
+formal_in before ended part =
+    let text = after_space part in
+    let name = leading_name text in
+    if is_nothing name then Bad kind.BadFormals
+    else (if nat_lt 128 (length name) then Bad kind.NameTooLong
+    else (if list_any (λ f. bytes_eq f.name name) before then Bad kind.FormalTwice
+    else (if nat_le 64 (length before) then Bad kind.TooManyFormals
+    else (if ended && list_all is_space (drop (length name) text) then Good (record { name = name; text = [] })
+    else Bad kind.BadFormals))))
+
+-- whether a part is followed by another one or by the `)`
+unfoldable pub is_ended : List (List ℕ) → Option (List ℕ) → Bool
+is_ended parts behind = not (is_nothing parts) || is_some behind
+
+-- the formals in parts, behind other formals, up to the first fault; behind all parts stands `behind`, where the list is closed
+unfoldable pub formals_in : List Formal → List (List ℕ) → Option (List ℕ) → FormalList
+formals_in before [] None = Unlisted kind.BadFormals
+formals_in before [] (Some after) = Listed (Some before) after
+formals_in before (p ∷ ps) behind = elim (formal_in before (is_ended ps behind) p) [
+  | Bad k ↦ Unlisted k
+  | Good f ↦ formals_in (before ++ f ∷ []) ps behind
+]
+
+-- whether a list has no formals: all is white space up to its `)`
+unfoldable pub has_no_formals : ListText → Bool
+has_no_formals l = is_some l.behind && (length l.parts == 1 && list_all (list_all is_space) l.parts)
+
+-- the formals of a list, after its `(`, and the text behind it (this project's profile)
+unfoldable pub formals_of_list : ListText → FormalList
+formals_of_list l = if has_no_formals l then Listed (Some []) (unwrap_or l.behind []) else formals_in [] l.parts l.behind
+
+-- what stands behind the name of a macro: a formal list where a `(` follows at once, then the text of the body
+-- (IEEE 1364-2001, `define`)
+unfoldable pub formal_list : List ℕ → FormalList
+formal_list after =
+    if slice_index after 0 == 40 then formals_of_list (list_text (drop 1 after)) else Listed None after
+
+-- a macro that isn't stored yet, or why there is none, and for a reserved name that name
+pub data Draft : Type 0 where
+  Drawn : Macro → Draft
+  Rejected : DefineKind → List ℕ → Draft
+
+-- a macro with a body, or the first lexical fault of the body's text (this project's profile)
+unfoldable pub with_body : List ℕ → Option (List Formal) → List ℕ → Draft
+with_body name formals text =
+    let tokens = tokens_from Plain 0 text in
+    elim (token_fault Plain tokens) [
+      | Some fault ↦ Rejected (lexical fault) []
+      | None ↦ Drawn (record { name = name; formals = formals; body = trimmed (without_remarks tokens text) })
+    ]
+
+-- the word of a refusal: a reserved name, else nothing
+unfoldable pub refused_word : DefineKind → List ℕ → List ℕ
+refused_word kind.ReservedName name = name
+refused_word _ name = []
+
+-- a macro of a name with what stands behind the name (this project's profile)
+unfoldable pub with_list : List ℕ → List ℕ → Draft
+with_list name after = elim (formal_list after) [
+  | Unlisted k ↦ Rejected k []
+  | Listed formals text ↦ with_body name formals text
+]
+
+-- the macro of a text whose header begins with a name (this project's profile)
+unfoldable pub macro_from : List ℕ → Draft
+macro_from text =
+    let name = leading_name text in
+    elim (name_fault name) [
+      | Some k ↦ Rejected k (refused_word k name)
+      | None ↦ with_list name (drop (length name) text)
+    ]
+
+-- the macro of what follows the word `define` (IEEE 1364-2001, `define`; the faults are this project's profile)
+unfoldable pub macro_of : List ℕ → Draft
+macro_of rest = macro_from (after_space (logical_text rest))
+
+-- a text that is one name as a whole, or nothing
+unfoldable pub whole_name : List ℕ → List ℕ
+whole_name name = if length (leading_name name) == length name then name else []
+
+-- the macro without a formal list of a name and a body's text without continuations (this project's profile)
+unfoldable pub macro_set : List ℕ → List ℕ → Draft
+macro_set name text = elim (name_fault (whole_name name)) [
+  | Some k ↦ Rejected k (refused_word k name)
+  | None ↦ with_body name None text
+]
+
+-- a macro as the newest of a table, in the place of one of its name (this project's profile)
+unfoldable pub stored : ℕ → ℕ → List Macro → Macro → Defined
+stored most_bytes most_macros macros m =
+    let others = without m.name macros in
+    if nat_lt most_bytes (table_size others + macro_size m) then Refused kind.DefinitionBytes []
+    else (if nat_lt most_macros (length others + 1) then Refused kind.TooManyDefinitions []
+    else Accepted (others ++ m ∷ []))
+
+-- a draft in a table
+unfoldable pub stored_draft : ℕ → ℕ → List Macro → Draft → Defined
+stored_draft most_bytes most_macros macros (Drawn m) = stored most_bytes most_macros macros m
+stored_draft most_bytes most_macros macros (Rejected k word) = Refused k word
+
+-- what a `define` gives, from what follows that word, in a table that takes so many bytes and so many macros (this project's profile)
+unfoldable pub define_of : ℕ → ℕ → List Macro → List ℕ → Defined
+define_of most_bytes most_macros macros rest = stored_draft most_bytes most_macros macros (macro_of rest)
+
+-- what the setting of a name to a text gives (this project's profile)
+unfoldable pub set_of : ℕ → ℕ → List Macro → List ℕ → List ℕ → Defined
+set_of most_bytes most_macros macros name text = stored_draft most_bytes most_macros macros (macro_set name text)

@@ -1,0 +1,25 @@
+-- The fields of a table, and the table that they stand for.
+use Rattle.std.specs.Prelude.{ℕ, ◌≤◌, List, vec_capacity}
+use Rattle.rdlpp_table.specs.View.{TableView, IsSound}
+use Rattle.rdlpp_table.specs.Store.{IsStored, macros_in}
+use Rattle.rdlpp_table.specs.declared.entry.Entry.{Entry}
+use Rattle.rdlpp_table.specs.declared.table.Table.TheInside.{Inside}
+
+-- the table of bytes and entries
+abbrev pub view_of : List ℕ → List Entry → ℕ → ℕ → TableView
+view_of bytes entries most_bytes most_macros = record { macros = macros_in bytes entries; most_bytes = most_bytes; most_macros = most_macros }
+
+-- the table of the fields
+abbrev pub table_view : Inside → TableView
+table_view t = view_of t.bytes.items t.entries.items t.most_bytes t.most_macros
+
+-- what holds of bytes and entries
+pub record IsHeld (bytes : List ℕ) (entries : List Entry) (most_bytes most_macros : ℕ) : Type 0 where
+  pub stored : IsStored bytes entries (macros_in bytes entries)
+  pub sound : IsSound (view_of bytes entries most_bytes most_macros)
+
+-- what holds of the fields
+pub record IsLaidOut (t : Inside) : Type 0 where
+  pub held : IsHeld t.bytes.items t.entries.items t.most_bytes t.most_macros
+  pub room : t.most_bytes ≤ vec_capacity t.bytes
+  pub entry_room : t.most_macros ≤ vec_capacity t.entries

@@ -1,0 +1,44 @@
+-- The ranges of the limits.
+use Rattle.std.specs.Prelude.{◌≡◌, ℕ, ◌≤◌, Bool, ◌&&◌, nat_le, Option, None, Some, if◌then◌else◌}
+use Rattle.rdlpp_table.specs.declared.limits.Limits.{Limits}
+use Rattle.rdlpp_table.specs.declared.limits.LimitFault.{LimitFault}
+use Rattle.rdlpp_table.specs.declared.limits.LimitFault.TheVariants.{Depth, Includes, LineBytes, SourceBytes, ArgumentBytes, DefinitionBytes, Definitions, Conditions}
+
+-- from the least up to the greatest
+abbrev pub IsWithin : ℕ → ℕ → ℕ → Type 0
+IsWithin least greatest n = (least ≤ n) × (n ≤ greatest)
+
+-- every limit in its range (this project's profile)
+pub record AreInRange (limits : Limits) : Type 0 where
+  pub depth : IsWithin 1 1024 limits.depth
+  pub includes : IsWithin 0 64 limits.includes
+  pub line_bytes : IsWithin 256 1048576 limits.line_bytes
+  pub source_bytes : IsWithin 1 1073741824 limits.source_bytes
+  pub argument_bytes : IsWithin 16 1048576 limits.argument_bytes
+  pub definition_bytes : IsWithin 1024 16777216 limits.definition_bytes
+  pub definitions : IsWithin 1 65536 limits.definitions
+  pub conditions : IsWithin 1 4096 limits.conditions
+
+-- the same as a test
+unfoldable pub is_within : ℕ → ℕ → ℕ → Bool
+is_within least greatest n = nat_le least n && nat_le n greatest
+
+-- the first limit, in the order of the fields, that is out of its range (this project's profile)
+unfoldable pub limit_fault : Limits → Option LimitFault
+limit_fault limits =
+    if is_within 1 1024 limits.depth then (
+    if is_within 0 64 limits.includes then (
+    if is_within 256 1048576 limits.line_bytes then (
+    if is_within 1 1073741824 limits.source_bytes then (
+    if is_within 16 1048576 limits.argument_bytes then (
+    if is_within 1024 16777216 limits.definition_bytes then (
+    if is_within 1 65536 limits.definitions then (
+    if is_within 1 4096 limits.conditions then None
+    else Some Conditions)
+    else Some Definitions)
+    else Some DefinitionBytes)
+    else Some ArgumentBytes)
+    else Some SourceBytes)
+    else Some LineBytes)
+    else Some Includes)
+    else Some Depth

@@ -1,0 +1,36 @@
+-- What a contract sees of a table.
+use Rattle.std.specs.Prelude.{ℕ, ◌≤◌, List, [], length, map, bytes_eq, slice_index_or, Option, None, unwrap_or, position}
+use Rattle.std.specs.List.{IsDistinct}
+use Rattle.rdlpp_table.specs.Table.{Formal, Macro, table_size}
+
+-- the macros, oldest first, and the most bytes and the most macros that the table takes
+pub record TableView : Type 0 where
+  pub macros : List Macro
+  pub most_bytes : ℕ
+  pub most_macros : ℕ
+
+-- a macro without anything
+abbrev pub no_macro : Macro
+no_macro = record { name = []; formals = None; body = [] }
+
+-- the macro at a place
+abbrev pub macro_at : List Macro → ℕ → Macro
+macro_at macros place = slice_index_or macros place no_macro
+
+-- the place of the macro of a name
+abbrev pub place_named : List Macro → List ℕ → Option ℕ
+place_named macros name = position (λ m. bytes_eq m.name name) macros
+
+-- the formals of a macro, none where it has no list
+abbrev pub formals_of : Macro → List Formal
+formals_of m = unwrap_or m.formals []
+
+-- the place of the formal of a name
+abbrev pub formal_named : List Formal → List ℕ → Option ℕ
+formal_named formals name = position (λ f. bytes_eq f.name name) formals
+
+-- what holds of every table: its macros have distinct names, and are no more and no larger than it takes
+pub record IsSound (table : TableView) : Type 0 where
+  pub distinct : IsDistinct bytes_eq (map (λ m. m.name) table.macros)
+  pub bytes_fit : table_size table.macros ≤ table.most_bytes
+  pub macros_fit : length table.macros ≤ table.most_macros

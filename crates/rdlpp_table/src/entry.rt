@@ -1,0 +1,54 @@
+// Where the parts of one definition lie in a table's bytes.
+ghost use Rattle.std.specs.Prelude.{◌≡◌, ◌≤◌, ◌<◌, length, bytes_eq, position};
+ghost use Rattle.rdlpp_table.specs.Store.{body_of, entry_end, list_of, name_of};
+ghost use Rattle.rdlpp_table.specs.Entries.{AreWithin};
+
+// A definition's name, its formals with a comma after each, and its body lie one after another.
+#[derive(Clone, Copy, Drop)]
+pub(crate) struct Entry {
+    pub(crate) start: usize,
+    pub(crate) name_len: usize,
+    pub(crate) list_len: usize,
+    pub(crate) body_len: usize,
+    // How many formals it has, where it has a list.
+    pub(crate) arity: Option<usize>,
+}
+
+// The name of a definition.
+#[tactic(auto, unfolding(crate::specs::Store::name_of, crate::specs::Store::entry_end, crate::specs::Store::body_start, crate::specs::Store::list_start))]
+pub(crate) fn name_in<'a>(bytes: &'a [u8], entry: &Entry) -> &'a [u8]
+    requires { entry_end entry.now ≤ length bytes.now }
+    ensures { result.now ≡ name_of bytes.now entry.now }
+{
+    &bytes[entry.start..entry.start + entry.name_len]
+}
+
+// The formals of a definition, each with a comma after it.
+#[tactic(auto, unfolding(crate::specs::Store::list_of, crate::specs::Store::entry_end, crate::specs::Store::body_start, crate::specs::Store::list_start))]
+pub(crate) fn list_in<'a>(bytes: &'a [u8], entry: &Entry) -> &'a [u8]
+    requires { entry_end entry.now ≤ length bytes.now }
+    ensures { result.now ≡ list_of bytes.now entry.now }
+{
+    let start = entry.start + entry.name_len;
+    &bytes[start..start + entry.list_len]
+}
+
+// The body of a definition.
+#[tactic(auto, unfolding(crate::specs::Store::body_of, crate::specs::Store::entry_end, crate::specs::Store::body_start, crate::specs::Store::list_start))]
+pub(crate) fn body_in<'a>(bytes: &'a [u8], entry: &Entry) -> &'a [u8]
+    requires { entry_end entry.now ≤ length bytes.now }
+    ensures { result.now ≡ body_of bytes.now entry.now }
+{
+    let start = entry.start + entry.name_len + entry.list_len;
+    &bytes[start..start + entry.body_len]
+}
+
+// The place of the definition of a name.
+pub(crate) fn place_in(bytes: &[u8], entries: &[Entry], name: &[u8]) -> Option<usize>
+    requires { AreWithin (length bytes.now) entries.now }
+    ensures { result ≡ position (λ e. bytes_eq (name_of bytes.now e) name.now) entries.now }
+{
+    entries
+        .iter()
+        .position(|entry| name_in(bytes, entry) == name)
+}

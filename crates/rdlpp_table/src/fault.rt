@@ -1,0 +1,42 @@
+// Why a table can't be made, and why a definition is refused.
+use arrayvec::ArrayString;
+
+/// There was no memory for a table.
+#[derive(Clone, Copy, Debug, PartialEq, Eq)]
+pub struct NoMemory;
+
+/// Why a definition is refused; each kind with its number among all faults.
+#[derive(Clone, Copy, Debug, PartialEq, Eq)]
+pub enum DefineKind {
+    /// F1: `<%` outside comments, in the body.
+    EmbeddedPerl,
+    /// F2: a string of the body isn't closed.
+    OpenString,
+    /// F3: a block comment of the body isn't closed.
+    OpenComment,
+    /// F15: no name stands where one is asked for.
+    NameExpected,
+    /// F16: the name is that of a directive.
+    ReservedName,
+    /// F17: a name has more than 128 bytes.
+    NameTooLong,
+    /// F18: the formal list isn't one.
+    BadFormals,
+    /// F19: a formal is given twice.
+    FormalTwice,
+    /// F20: there are more than 64 formals.
+    TooManyFormals,
+    /// F21: the live definitions would have too many bytes.
+    DefinitionBytes,
+    /// F22: there would be too many live definitions.
+    TooManyDefinitions,
+}
+
+/// A definition that is refused: why, and for a reserved name that name, else no word.
+#[derive(Clone, Debug, Drop)]
+pub struct DefineFault {
+    /// Why.
+    pub kind: DefineKind,
+    /// The reserved name, or nothing.
+    pub word: ArrayString<128>,
+}

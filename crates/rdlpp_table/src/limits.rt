@@ -1,0 +1,106 @@
+// The limits of a run, their standard values and their ranges.
+ghost use Rattle.std.specs.Prelude.{◌≡◌, ◌↔◌, IsOk, MatchResult, Some, None};
+ghost use Rattle.rdlpp_table.specs.Limits.{is_within, limit_fault, AreInRange};
+
+/// How much of each thing a run may use (this project's profile).
+#[derive(Clone, Copy, Debug, PartialEq, Eq)]
+pub struct Limits {
+    /// The most macro bodies and actuals that are open at once: 1 to 1,024.
+    pub depth: usize,
+    /// The most included sources that are open at once: 0 to 64.
+    pub includes: usize,
+    /// The most bytes of a line or a logical line, with its LF: 256 to 1,048,576.
+    pub line_bytes: usize,
+    /// The most bytes of one source: 1 to 1,073,741,824.
+    pub source_bytes: usize,
+    /// The most bytes of the kept text of one call: 16 to 1,048,576.
+    pub argument_bytes: usize,
+    /// The most bytes of all live definitions together: 1,024 to 16,777,216.
+    pub definition_bytes: usize,
+    /// The most live definitions: 1 to 65,536.
+    pub definitions: usize,
+    /// The most conditionals that are open at once, over all sources: 1 to 4,096.
+    pub conditions: usize,
+}
+
+/// The limit that is out of its range.
+#[derive(Clone, Copy, Debug, PartialEq, Eq)]
+pub enum LimitFault {
+    /// `depth`.
+    Depth,
+    /// `includes`.
+    Includes,
+    /// `line_bytes`.
+    LineBytes,
+    /// `source_bytes`.
+    SourceBytes,
+    /// `argument_bytes`.
+    ArgumentBytes,
+    /// `definition_bytes`.
+    DefinitionBytes,
+    /// `definitions`.
+    Definitions,
+    /// `conditions`.
+    Conditions,
+}
+
+#[tactic(auto, unfolding(crate::specs::Limits::is_within))]
+fn is_within(least: usize, greatest: usize, n: usize) -> bool
+    ensures { result ≡ is_within least greatest n }
+{
+    least <= n && n <= greatest
+}
+
+impl Limits {
+    /// The standard limits (this project's profile).
+    pub fn standard() -> Limits
+        ensures value { result ≡ record { depth = 256; includes = 16; line_bytes = 65536; source_bytes = 1073741824; argument_bytes = 65536; definition_bytes = 1048576; definitions = 4096; conditions = 256 } }
+        ensures in_range { AreInRange result }
+    {
+        Limits {
+            depth: 256,
+            includes: 16,
+            line_bytes: 65_536,
+            source_bytes: 1_073_741_824,
+            argument_bytes: 65_536,
+            definition_bytes: 1_048_576,
+            definitions: 4_096,
+            conditions: 256,
+        }
+    }
+
+    /// Whether each limit is in its range.
+    ///
+    /// # Errors
+    /// The first limit, in the order of the fields, that is out of its range.
+    #[tactic(auto, unfolding(crate::specs::Limits::limit_fault))]
+    pub fn check(&self) -> Result<(), LimitFault>
+        ensures value { MatchResult result (λ _. limit_fault self.now ≡ None) (λ fault. limit_fault self.now ≡ Some fault) }
+    {
+        if !is_within(1, 1_024, self.depth) {
+            return Err(LimitFault::Depth);
+        }
+        if !is_within(0, 64, self.includes) {
+            return Err(LimitFault::Includes);
+        }
+        if !is_within(256, 1_048_576, self.line_bytes) {
+            return Err(LimitFault::LineBytes);
+        }
+        if !is_within(1, 1_073_741_824, self.source_bytes) {
+            return Err(LimitFault::SourceBytes);
+        }
+        if !is_within(16, 1_048_576, self.argument_bytes) {
+            return Err(LimitFault::ArgumentBytes);
+        }
+        if !is_within(1_024, 16_777_216, self.definition_bytes) {
+            return Err(LimitFault::DefinitionBytes);
+        }
+        if !is_within(1, 65_536, self.definitions) {
+            return Err(LimitFault::Definitions);
+        }
+        if !is_within(1, 4_096, self.conditions) {
+            return Err(LimitFault::Conditions);
+        }
+        Ok(())
+    }
+}
