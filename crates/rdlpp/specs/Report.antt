@@ -1,0 +1,42 @@
+-- The line that reports a fault.
+use Rattle.std.specs.Prelude.{ℕ, List, [], ◌∷◌, ◌++◌, codes, decimal, Option}
+use Rattle.std.specs.List.{concat}
+use Rattle.std.specs.Io.KnownBytes.{Appends}
+use Rattle.rdlpp_table.specs.declared.limits.LimitFault.{LimitFault}
+use Rattle.rdlpp_table.specs.declared.limits.LimitFault.TheVariants.{Depth, Includes, LineBytes, SourceBytes, ArgumentBytes, DefinitionBytes, Definitions, Conditions}
+use Rattle.rdlpp_meaning.specs.declared.fault.Fault.{Fault}
+use Rattle.rdlpp_meaning.specs.FaultNumbers.{fault_number}
+use Rattle.rdlpp.specs.declared.fault.PrepFault.{PrepFault}
+use Rattle.rdlpp.specs.declared.fault.PrepFault.TheVariants.{BadLimits, NoMemory, Run}
+
+-- the name of the limit that is out of its range (source: this project's profile)
+abbrev pub limit_name : LimitFault → List ℕ
+limit_name Depth = codes "depth"
+limit_name Includes = codes "includes"
+limit_name LineBytes = codes "line_bytes"
+limit_name SourceBytes = codes "source_bytes"
+limit_name ArgumentBytes = codes "argument_bytes"
+limit_name DefinitionBytes = codes "definition_bytes"
+limit_name Definitions = codes "definitions"
+limit_name Conditions = codes "conditions"
+
+-- the end of a line: a blank and the word that the fault is about in quotes, where there is one, and LF (source: this project's profile)
+abbrev pub line_end : List ℕ → List ℕ
+line_end [] = codes "\n"
+line_end (b ∷ bs) = concat (codes " '" ∷ (b ∷ bs) ∷ codes "'\n" ∷ [])
+
+-- the line of a fault whose kind has this text: `NAME:LINE: error FNUMBER: TEXT 'WORD'` and LF (source: this project's profile)
+abbrev pub fault_line : List ℕ → Fault → List ℕ
+fault_line text f =
+    concat (f.name.bytes ∷ codes ":" ∷ decimal f.line ∷ codes ": error F" ∷ decimal (fault_number f.kind) ∷ codes ": " ∷ text ∷ [])
+    ++ line_end f.word.bytes
+
+-- the line that reports a fault (source: this project's profile)
+abbrev pub report_line : List ℕ → PrepFault → List ℕ
+report_line text (BadLimits limit) = concat (codes "rdlpp: error: limit " ∷ limit_name limit ∷ codes " out of range\n" ∷ [])
+report_line text NoMemory = codes "rdlpp: error: out of memory\n"
+report_line text (Run run) = fault_line text run.fault
+
+-- the known bytes grew by the line that reports a fault, with some text of its kind (source: this project's profile)
+abbrev pub Reports : Option (List ℕ) → Option (List ℕ) → PrepFault → Type 0
+Reports old new fault = (text : List ℕ) × Appends old new (report_line text fault)

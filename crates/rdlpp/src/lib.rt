@@ -1,0 +1,17 @@
+//! Preprocessing as one call: options, faults, exit statuses and the line that reports a fault.
+#![tactic(auto)]
+
+mod fault;
+mod options;
+mod preprocessing;
+mod reporting;
+mod status;
+
+pub use fault::PrepFault;
+pub use options::Options;
+pub use preprocessing::preprocess;
+pub use rdlpp_expand::{Fault, FaultKind, RunFault};
+pub use rdlpp_source::{Counted, Found, Sink, SinkFault, SourceFault, Sources, Texts};
+pub use rdlpp_table::{LimitFault, Limits};
+pub use reporting::report;
+pub use status::exit_status;

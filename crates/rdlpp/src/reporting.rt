@@ -1,0 +1,116 @@
+// The line that reports a fault.
+ghost use Rattle.std.specs.Prelude.{◌≡◌, ℕ, List, OnOk, map};
+ghost use Rattle.std.specs.List.{concat};
+ghost use Rattle.std.specs.Io.KnownBytes.{Appends};
+ghost use Rattle.rdlpp.specs.Report.{Reports, limit_name, fault_line, line_end};
+
+use crate::PrepFault;
+use arrayvec::ArrayString;
+use itoa::Buffer;
+use rdlpp_expand::{Fault, FaultKind};
+use rdlpp_table::LimitFault;
+use std::fmt::Write as _;
+use std::io::{self, ErrorKind, Write};
+
+/// Writes the one line that reports a fault (this project's profile).
+///
+/// `NAME:LINE: error F` and the number, `: `, the text of the kind, ` 'WORD'` where the fault is
+/// about a word, and LF. A limit that is out of its range is `rdlpp: error: limit FIELD out of range`,
+/// want of memory `rdlpp: error: out of memory`, each with LF.
+///
+/// # Errors
+/// An error of the writer, of whatever kind, and a write that takes nothing. A part of the line may
+/// then be written.
+pub fn report<W: Write>(fault: &PrepFault, writer: &mut W) -> Result<(), io::Error>
+    ensures { OnOk result (Reports (W.contents writer.old) (W.contents writer.new) fault.now) }
+{
+    match fault {
+        PrepFault::BadLimits(limit) => {
+            let name = limit_name(*limit).as_bytes();
+            write_parts(&[b"rdlpp: error: limit ", name, b" out of range\n"], writer)
+        }
+        PrepFault::NoMemory => write_whole(b"rdlpp: error: out of memory\n", writer),
+        PrepFault::Run(run) => write_fault(&run.fault, writer),
+    }
+}
+
+// The name of the field that is out of its range.
+fn limit_name(limit: LimitFault) -> &'static str
+    ensures { result.now ≡ limit_name limit }
+{
+    match limit {
+        LimitFault::Depth => "depth",
+        LimitFault::Includes => "includes",
+        LimitFault::LineBytes => "line_bytes",
+        LimitFault::SourceBytes => "source_bytes",
+        LimitFault::ArgumentBytes => "argument_bytes",
+        LimitFault::DefinitionBytes => "definition_bytes",
+        LimitFault::Definitions => "definitions",
+        LimitFault::Conditions => "conditions",
+    }
+}
+
+// Writes the line of a fault.
+fn write_fault<W: Write>(fault: &Fault, writer: &mut W) -> io::Result<()>
+    ensures { OnOk result ((text : List ℕ) × Appends (W.contents writer.old) (W.contents writer.new)
+        (fault_line text fault.now)) }
+{
+    let text = text_of(fault.kind);
+    let mut line = Buffer::new();
+    let mut number = Buffer::new();
+    let parts = [
+        fault.name.as_bytes(),
+        b":",
+        line.format(fault.line).as_bytes(),
+        b": error F",
+        number.format(fault.kind.number()).as_bytes(),
+        b": ",
+        text.as_bytes(),
+    ];
+    write_parts(&parts, writer)?;
+    write_word(fault.word.as_bytes(), writer)
+}
+
+// The text of a kind, which has at most 64 bytes.
+fn text_of(kind: FaultKind) -> ArrayString<64> {
+    let mut text = ArrayString::new();
+    let _whole = write!(text, "{kind}");
+    text
+}
+
+// Writes the word that a fault is about, in quotes, where there is one, and the line's end.
+fn write_word<W: Write>(word: &[u8], writer: &mut W) -> io::Result<()>
+    ensures { OnOk result (Appends (W.contents writer.old) (W.contents writer.new) (line_end word.now)) }
+{
+    if word.is_empty() {
+        return write_whole(b"\n", writer);
+    }
+    write_parts(&[b" '", word, b"'\n"], writer)
+}
+
+// Writes some parts, one after another.
+fn write_parts<W: Write>(parts: &[&[u8]], writer: &mut W) -> io::Result<()>
+    ensures { OnOk result (Appends (W.contents writer.old) (W.contents writer.new)
+        (concat (map (λ part. part.now) parts.now))) }
+{
+    for part in parts {
+        write_whole(part, writer)?;
+    }
+    Ok(())
+}
+
+// Writes all of some bytes. An error of the writer, of whatever kind, and a write that takes nothing
+// end it.
+fn write_whole<W: Write>(bytes: &[u8], writer: &mut W) -> io::Result<()>
+    ensures { OnOk result (Appends (W.contents writer.old) (W.contents writer.new) bytes.now) }
+{
+    let mut rest = bytes;
+    while !rest.is_empty() {
+        let len = writer.write(rest)?;
+        if len == 0 {
+            return Err(io::Error::from(ErrorKind::WriteZero));
+        }
+        rest = &rest[len..];
+    }
+    Ok(())
+}
