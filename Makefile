@@ -1,13 +1,14 @@
 # The few commands that a reader of this repository needs. `make help` lists them.
-.PHONY: help build run test fmt
+.PHONY: help build run test fmt bench
 
 help: ## list these commands
 	@grep -E '^[a-z]+:.*##' $(MAKEFILE_LIST) | sed -E 's/^([a-z]+):.*## /  make \1\t/'
 
-build: ## prove and build the program
-	@cd crates/rdlpp && rt lib
+build: ## prove and build the program, which becomes out/rdlpp
+	@cd crates/rdlpp_cli && rt run -- - < /dev/null
+	@mkdir -p out && cp crates/rdlpp_cli/out/rdlpp_cli out/rdlpp
 
-run: ## build the program and show the worked example
+run: ## build the program and show the worked examples with their output
 	@examples/show
 
 test: ## the gate: every proof from nothing, the must-fail edits, the tests, the program's stored run
@@ -15,3 +16,7 @@ test: ## the gate: every proof from nothing, the must-fail edits, the tests, the
 
 fmt: ## lay out every file
 	@for crate in crates/*/; do (cd $$crate && rt fmt); done
+
+bench: ## build the program and compare its speed and memory with cat and cpp
+	@$(MAKE) --silent build
+	@bench/compare out/rdlpp

@@ -1,0 +1,296 @@
+// Rows: a source, and the output and the fault that it must give.
+use crate::devices::{Behind, DealtText, NarrowWriter};
+use rdlpp::{Counted, Limits, Options, PrepFault, Sources, Texts, preprocess};
+use std::process::Abort;
+use std::test::Fail;
+
+/// The standard limits, as the profile has them.
+pub const STANDARD: Limits = Limits {
+    depth: 256,
+    includes: 16,
+    line_bytes: 65_536,
+    source_bytes: 1_073_741_824,
+    argument_bytes: 65_536,
+    definition_bytes: 1_048_576,
+    definitions: 4_096,
+    conditions: 256,
+};
+
+/// A fault that is wanted: its number, line and word. The shown name is `m`.
+#[derive(Clone, Copy)]
+pub struct Wanted {
+    pub number: u32,
+    pub line: u64,
+    pub word: &'static str,
+}
+
+// A source with limits, what it must give, and the fault that it must end in, if one does.
+#[derive(Clone, Copy)]
+struct Row<'a> {
+    name: &'static str,
+    source: &'a [u8],
+    limits: Limits,
+    output: &'a [u8],
+    wanted: Option<Wanted>,
+}
+
+// A row with standard limits that goes to its end.
+fn whole<'a>(name: &'static str, source: &'a [u8], output: &'a [u8]) -> Row<'a> {
+    Row {
+        name,
+        source,
+        limits: STANDARD,
+        output,
+        wanted: None,
+    }
+}
+
+// A row with standard limits that ends in a fault, after some output.
+fn faulty<'a>(name: &'static str, source: &'a [u8], output: &'a [u8], wanted: Wanted) -> Row<'a> {
+    Row {
+        name,
+        source,
+        limits: STANDARD,
+        output,
+        wanted: Some(wanted),
+    }
+}
+
+/// A fault by its number, line and word.
+pub fn fault(number: u32, line: u64, word: &'static str) -> Wanted {
+    Wanted { number, line, word }
+}
+
+// Runs a row from memory, and then with readers of one byte a read and writers of one byte a write.
+fn run_row<R: Abort + AllocGlobal>(rt: &R, row: &Row<'_>) {
+    let files = [("m", row.source)];
+    let texts = Texts {
+        files: &files,
+        folders: &[],
+    };
+    let (outcome, writer) = run_source(rt, row.limits, texts, narrow(rt, usize::MAX, usize::MAX));
+    check(rt, row.name, &outcome, row.output.len(), row.wanted);
+    assert!(rt;
+        writer.taken.as_slice() == row.output,
+        "{}: its output",
+        row.name
+    );
+    let dealt = DealtText {
+        text: row.source,
+        behind: Behind::End,
+        step: 1,
+        failures: 0,
+    };
+    let (outcome, writer) = run_source(rt, row.limits, dealt, narrow(rt, 1, usize::MAX));
+    check(rt, row.name, &outcome, row.output.len(), row.wanted);
+    assert!(rt;
+        writer.taken.as_slice() == row.output,
+        "{}: byte by byte",
+        row.name
+    );
+}
+
+/// Preprocesses the main text `m` of some sources, without definitions and origin comments.
+pub fn run_source<R: AllocGlobal, S: Sources>(
+    rt: &R,
+    limits: Limits,
+    sources: S,
+    writer: NarrowWriter,
+) -> (Result<u64, PrepFault>, NarrowWriter) {
+    let options = Options {
+        defines: Vec::new(rt.alloc()),
+        limits,
+        origins: false,
+    };
+    let mut counted = Counted::new(writer);
+    let outcome = preprocess(rt.alloc(), &options, sources, "m", &mut counted);
+    (outcome, counted.into_writer())
+}
+
+/// A writer with so much room, which takes so many bytes of a write.
+pub fn narrow<R: AllocGlobal>(rt: &R, step: usize, room: usize) -> NarrowWriter {
+    NarrowWriter {
+        taken: Vec::new(rt.alloc()),
+        step,
+        room,
+        takes_nothing: false,
+        flush_fails: false,
+    }
+}
+
+/// Compares an outcome with a count of bytes and the fault that is wanted.
+pub fn check(
+    rt: &impl Abort,
+    name: &str,
+    outcome: &Result<u64, PrepFault>,
+    written: usize,
+    wanted: Option<Wanted>,
+) {
+    match (outcome, wanted) {
+        (Ok(count), None) => assert_eq!(rt; *count, written as u64, "{name}"),
+        (Err(PrepFault::Run(run)), Some(want)) => {
+            assert_eq!(rt; run.fault.kind.number(), want.number, "{name}");
+            assert_eq!(rt; run.fault.name.as_str(), "m", "{name}");
+            assert_eq!(rt; run.fault.line, want.line, "{name}");
+            assert_eq!(rt; run.fault.word.as_str(), want.word, "{name}");
+            assert_eq!(rt; run.written, written as u64, "{name}");
+        }
+        (_, _) => assert!(rt; false, "{name}: another outcome"),
+    }
+}
+
+#[test]
+fn gives_each_row(rt: HostRuntime) {
+    let rows = [
+        whole("an empty source", b"", b""),
+        whole(
+            "a definition and a usage",
+            b"`define W 8\nreg[`W];\n",
+            b"\nreg[8];\n",
+        ),
+        whole(
+            "line ends of two bytes",
+            b"`define A 1\r\n`A\r\n",
+            b"\n1\r\n",
+        ),
+        whole(
+            "a redefinition",
+            b"`define A 1\n`define A 22\n`A`A",
+            b"\n\n2222",
+        ),
+        whole("an empty body", b"`define A\n(`A)", b"\n()"),
+        whole(
+            "a usage before a parenthesis",
+            b"`define A 1\n`A(2)\n",
+            b"\n1(2)\n",
+        ),
+        whole(
+            "words and signs",
+            b"8'hFF \\reg [3:0] = {a, b};",
+            b"8'hFF \\reg [3:0] = {a, b};",
+        ),
+        faulty("a lone backquote", b"a ` b", b"a ", fault(6, 1, "")),
+        faulty(
+            "a macro that isn't defined",
+            b"`define W 8\n`W`W\n`Q\n",
+            b"\n88\n",
+            fault(7, 3, "Q"),
+        ),
+        faulty("no name", b"a\n`define \n", b"a\n", fault(15, 2, "")),
+        faulty(
+            "a reserved name",
+            b"`define else 1\n",
+            b"",
+            fault(16, 1, "else"),
+        ),
+        faulty(
+            "embedded Perl",
+            b"a\nb <% x %>\n",
+            b"a\nb ",
+            fault(1, 2, ""),
+        ),
+        faulty(
+            "a string isn't built",
+            b"a \"b\"\n",
+            b"a ",
+            fault(99, 1, ""),
+        ),
+        faulty(
+            "a comment isn't built",
+            b"a\nb // c\n",
+            b"a\nb ",
+            fault(99, 2, ""),
+        ),
+        faulty(
+            "a conditional isn't built",
+            b"a\n`ifdef X\n",
+            b"a\n",
+            fault(99, 2, ""),
+        ),
+        faulty(
+            "a formal list isn't built",
+            b"`define F(x) x\n",
+            b"",
+            fault(99, 1, ""),
+        ),
+    ];
+    for row in &rows {
+        run_row(&rt, row);
+    }
+}
+
+#[test]
+fn keeps_each_limit(rt: HostRuntime) {
+    let letters = [b'a'; 256];
+    let mut line = [b'a'; 257];
+    line[256] = b'\n';
+    let lines = Limits {
+        line_bytes: 256,
+        ..STANDARD
+    };
+    let sources = Limits {
+        source_bytes: 4,
+        ..STANDARD
+    };
+    let definitions = Limits {
+        definitions: 1,
+        ..STANDARD
+    };
+    let again = whole(
+        "the one definition again",
+        b"`define A 1\n`define A 2\n `A",
+        b"\n\n 2",
+    );
+    let second = faulty(
+        "a second definition",
+        b"`define A 1\n`define B 2\n",
+        b"\n",
+        fault(22, 2, ""),
+    );
+    let rows = [
+        (lines, whole("a line of 256 bytes", &line[1..], &line[1..])),
+        (lines, whole("256 bytes at the end", &letters, &letters)),
+        (
+            lines,
+            faulty("a line of 257 bytes", &line, b"", fault(4, 1, "")),
+        ),
+        (sources, whole("a source of 4 bytes", b"ab\nc", b"ab\nc")),
+        (
+            sources,
+            faulty("a source of 6 bytes", b"ab\ncd\n", b"ab\n", fault(5, 2, "")),
+        ),
+        (definitions, again),
+        (definitions, second),
+    ];
+    for (limits, row) in rows {
+        run_row(&rt, &Row { limits, ..row });
+    }
+}
+
+// A body of 1,023 bytes and its name of one fill the definitions' bytes, also once more; one byte more
+// doesn't fit.
+#[test]
+fn keeps_the_limit_on_definition_bytes(rt: HostRuntime) -> Result<(), Fail> {
+    let limits = Limits {
+        definition_bytes: 1_024,
+        ..STANDARD
+    };
+    for (len, wanted) in [(1_023, None), (1_024, Some(fault(21, 1, "")))] {
+        let mut source = Vec::new(rt.alloc());
+        for _ in 0..2 {
+            source.extend_from_slice(b"`define A ")?;
+            source.extend_from_slice(&[b'x'; 1_024][..len])?;
+            source.push(b'\n')?;
+        }
+        let output: &[u8] = if wanted.is_none() { b"\n\n" } else { b"" };
+        let row = Row {
+            name: "definition bytes",
+            source: source.as_slice(),
+            limits,
+            output,
+            wanted,
+        };
+        run_row(&rt, &row);
+    }
+    Ok(())
+}
