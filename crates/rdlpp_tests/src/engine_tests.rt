@@ -1,7 +1,7 @@
 // Tests of an engine that is pulled piece by piece.
 use crate::row_tests::{STANDARD, narrow};
 use rdlpp::{Counted, Texts};
-use rdlpp_expand::{Engine, Fault, NewFault, Piece, run};
+use rdlpp_expand::{Engine, Fault, Held, NewFault, Piece, run};
 use rdlpp_table::LimitFault;
 use std::process::Abort;
 use std::test::Fail;
@@ -50,17 +50,16 @@ fn holds_what_is_live(rt: HostRuntime) -> Result<(), Fail> {
         assert!(rt; !engine.is_fresh());
         let (_, fault) = pull(&rt, &mut engine)?;
         assert!(rt; fault.is_none());
-        let held = engine.held();
-        assert_eq!(rt; held.definitions, definitions);
-        assert_eq!(rt;
-            held.arguments
-                + held.buffers
-                + held.cursors
-                + held.bindings
-                + held.conditions
-                + held.sources,
-            0
-        );
+        let wanted = Held {
+            definitions,
+            arguments: 0,
+            buffers: 0,
+            cursors: 0,
+            bindings: 0,
+            conditions: 0,
+            sources: 0,
+        };
+        assert_eq!(rt; engine.held(), wanted);
     }
     Ok(())
 }

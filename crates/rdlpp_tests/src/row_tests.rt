@@ -275,11 +275,13 @@ fn keeps_the_limit_on_definition_bytes(rt: HostRuntime) -> Result<(), Fail> {
         definition_bytes: 1_024,
         ..STANDARD
     };
-    for (len, wanted) in [(1_023, None), (1_024, Some(fault(21, 1, "")))] {
+    let body = [b'x'; 1_024];
+    let rows: [(&[u8], Option<Wanted>); 2] = [(&body[1..], None), (&body, Some(fault(21, 1, "")))];
+    for (body, wanted) in rows {
         let mut source = Vec::new(rt.alloc());
         for _ in 0..2 {
             source.extend_from_slice(b"`define A ")?;
-            source.extend_from_slice(&[b'x'; 1_024][..len])?;
+            source.extend_from_slice(body)?;
             source.push(b'\n')?;
         }
         let output: &[u8] = if wanted.is_none() { b"\n\n" } else { b"" };
