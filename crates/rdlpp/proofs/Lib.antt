@@ -1,1 +1,2 @@
+pub mod FreshRuns
 pub mod Reports

@@ -1,2 +1,3 @@
 pub mod Status
 pub mod Report
+pub mod Preprocess

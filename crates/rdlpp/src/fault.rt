@@ -3,7 +3,7 @@ use rdlpp_expand::{NewFault, RunFault};
 use rdlpp_table::LimitFault;
 
 /// Why a text wasn't preprocessed to its end (this project's profile).
-#[derive(Clone, Copy, Debug)]
+#[derive(Debug, Drop)]
 pub enum PrepFault {
     /// The first of the limits that is out of its range. Nothing was opened or written.
     BadLimits(LimitFault),

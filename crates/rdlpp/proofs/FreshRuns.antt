@@ -1,0 +1,113 @@
+-- What the run of a fresh engine says of the output.
+use Rattle.std.proofs.Common.{◌≡◌, ℕ, Bool, true, false, ◌||◌, List, [], ◌++◌, Option, None, Some, Result, IfSome, Vec, vec_len, ◌==◌, rules, refl, sym, ap, subst, ◌∙◌}
+use Rattle.std.proofs.lemmas.List.{nil_from_length}
+use Rattle.rdlpp_source.specs.declared.sources.Sources.{Ghosts}
+use Rattle.rdlpp_source.specs.declared.sinks.Sink.{Ghosts as SinkGhosts}
+use Rattle.rdlpp_table.specs.declared.limits.Limits.{Limits}
+use Rattle.rdlpp_meaning.specs.declared.fault.FaultKind.{FaultKind}
+use Rattle.rdlpp_meaning.specs.Outcome.{Told, Outcome}
+use Rattle.rdlpp_expand.specs.Opening.{Starts, fresh_engine, staged_output, is_device_fault, is_memory_fault}
+use Rattle.rdlpp_expand.specs.Remaining.{left_of}
+use Rattle.rdlpp_expand.specs.Run.{Begins, Runs, count_of, fault_of, is_fresh}
+use Rattle.rdlpp_expand.specs.declared.writing.RunFault.{RunFault}
+use Rattle.rdlpp_expand.specs.Engine.{EngineView}
+use Rattle.rdlpp_expand.specs.Steps.{is_read_failed, is_write_failed}
+use Rattle.rdlpp.specs.Preprocess.{Follows, RunsFresh, WritesOutput, is_failure}
+
+or_left : (a b : Bool) → (a || b) ≡ false → a ≡ false
+or_left true b e = e
+or_left false b e = refl
+
+or_right : (a b : Bool) → (a || b) ≡ false → b ≡ false
+or_right true b e = cc
+or_right false b e = e
+
+is_fresh-false : (test : FaultKind → Bool) (kept fault : Option Told) → IfSome fault (λ f. test f.kind ≡ false) → is_fresh test kept fault ≡ false
+unfolding is_fresh
+is_fresh-false test (Some k) fault h = refl
+is_fresh-false test None None h = refl
+is_fresh-false test None (Some f) h = h
+
+not_read_failed : (fault : Option Told) → is_failure fault ≡ false → IfSome fault (λ f. is_read_failed f.kind ≡ false)
+unfolding is_device_fault
+not_read_failed None e = tt
+not_read_failed (Some f) e = or_left _ _ e
+
+not_write_failed : (fault : Option Told) → is_failure fault ≡ false → IfSome fault (λ f. is_write_failed f.kind ≡ false)
+not_write_failed None e = tt
+not_write_failed (Some f) e = or_right (is_memory_fault (Some f)) _ (or_right (is_device_fault (Some f)) _ e)
+
+-- a fault of the opening is the fault of the run
+device_fault-false : (opening fault : Option Told) → ((f : Told) → opening ≡ Some f → fault ≡ Some f) → is_failure fault ≡ false
+    → is_device_fault opening ≡ false
+unfolding is_device_fault
+device_fault-false None fault h e = refl
+device_fault-false (Some f) fault h e = or_left _ _ (subst (λ x. is_failure x ≡ false) (h f refl) e)
+
+memory_fault-false : (opening fault : Option Told) → ((f : Told) → opening ≡ Some f → fault ≡ Some f) → is_failure fault ≡ false
+    → is_memory_fault opening ≡ false
+unfolding is_memory_fault
+memory_fault-false None fault h e = refl
+memory_fault-false (Some f) fault h e =
+    or_left _ (is_write_failed f.kind) (or_right (is_device_fault (Some f)) _ (subst (λ x. is_failure x ≡ false) (h f refl) e))
+
+begins_empty : (bytes : List ℕ) (output : Outcome) → bytes ≡ [] → Begins bytes output
+begins_empty bytes output e = (output.bytes, ap (λ bs. bs ++ output.bytes) (sym e))
+
+-- the first bytes of what remains after the opening are those of the output
+begins_output : (bytes : List ℕ) (opening : Option Told) (left output : Outcome)
+    → ((f : Told) → opening ≡ Some f → bytes ≡ [])
+    → (opening ≡ None → left ≡ output) → Begins bytes left → Begins bytes output
+begins_output bytes None left output h k b = subst (Begins bytes) (k refl) b
+begins_output bytes (Some f) left output h k b = begins_empty bytes output (h f refl)
+
+pub writes_output : {S R W : Type 0} (g : Ghosts S R) (h : SinkGhosts W) (limits : Limits) (origins : Bool) (sources : S) (path : List ℕ)
+    (before after : W) (count : ℕ) (fault : Option Told)
+    → RunsFresh g h limits origins sources path before after count fault → g.tells sources
+    → WritesOutput (h.taken before) (h.taken after) (staged_output g (fresh_engine limits sources origins) path) count fault
+unfolding fresh_engine is_device_fault is_memory_fault
+writes_output g h limits origins sources path before after count fault r tells =
+    let again : (f : Told) → r.opening ≡ Some f → fault ≡ Some f = λ f e. (r.runs.again f (r.starts.keeps ∙ e)).0 in
+    let none : (f : Told) → r.opening ≡ Some f → r.runs.bytes ≡ [] = λ f e. (r.runs.again f (r.starts.keeps ∙ e)).1 in
+    let told : g.tells r.started.sources = r.starts.sources_tell tells in
+    let remains : is_device_fault r.opening ≡ false → is_memory_fault r.opening ≡ false → left_of g.unread r.started ≡ staged_output g (fresh_engine limits sources origins) path = λ d m. r.starts.remains_output d m tells in
+    record {
+      bytes = r.runs.bytes;
+      taken = r.runs.taken;
+      counted = r.runs.counted;
+      begins = begins_output r.runs.bytes r.opening (left_of g.unread r.started) _ none
+          (λ e. remains (ap is_device_fault e) (ap is_memory_fault e)) (r.runs.begins told);
+      exact = λ e. sym (remains (device_fault-false r.opening fault again e) (memory_fault-false r.opening fault again e))
+          ∙ r.runs.exact (is_fresh-false is_read_failed r.started.kept fault (not_read_failed fault e))
+          (is_fresh-false is_write_failed r.started.kept fault (not_write_failed fault e)) told;
+    }
+
+-- an engine that is fresh was started and run, and there are no definitions
+pub follows_run : {S R W D : Type 0} (g : Ghosts S R) (h : SinkGhosts W) (limits : Limits) (defines : List D) (origins : Bool) (sources : S)
+    (path : List ℕ) (before after : W) (fresh started ended : EngineView S R) (opening : Option Told) (answer : Result ℕ RunFault)
+    (count : ℕ) (fault : Option Told)
+    → defines ≡ [] → fresh ≡ fresh_engine limits sources origins → Starts g fresh started path opening
+    → Runs g h started ended before after (count_of answer) (fault_of answer) → count_of answer ≡ count → fault_of answer ≡ fault
+    → Follows g h limits defines origins sources path before after count fault
+follows_run g h limits defines origins sources path before after fresh started ended opening answer count fault d e s r c f =
+    subst (λ ds. Follows g h limits ds origins sources path before after count fault) (sym d)
+    record {
+      started = started;
+      ended = ended;
+      opening = opening;
+      starts = subst (λ x. Starts g x started path opening) e s;
+      runs = subst (λ n. Runs g h started ended before after n fault) c
+          (subst (λ x. Runs g h started ended before after (count_of answer) x) f r);
+    }
+
+-- without definitions, what follows tells the output
+pub follows_output : {S R W D : Type 0} (g : Ghosts S R) (h : SinkGhosts W) (limits : Limits) (defines : List D) (origins : Bool) (sources : S)
+    (path : List ℕ) (before after : W) (count : ℕ) (fault : Option Told)
+    → Follows g h limits defines origins sources path before after count fault → g.tells sources → defines ≡ []
+    → WritesOutput (h.taken before) (h.taken after) (staged_output g (fresh_engine limits sources origins) path) count fault
+follows_output g h limits defines origins sources path before after count fault r tells d =
+    writes_output g h limits origins sources path before after count fault
+    (subst (λ ds. Follows g h limits ds origins sources path before after count fault) d r) tells
+
+pub none_defined : {A Z : Type 0} (v : Vec A Z) → true ≡ (vec_len v == 0) → v.items ≡ []
+none_defined v e = nil_from_length v.items (search rules)

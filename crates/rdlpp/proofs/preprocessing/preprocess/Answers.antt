@@ -1,0 +1,31 @@
+use Rattle.std.proofs.Common.{ap}
+use Rattle.rdlpp_expand.specs.Opening.{fresh_engine}
+use Rattle.rdlpp_expand.specs.Run.{count_of, fault_of}
+use Rattle.rdlpp.proofs.FreshRuns.{follows_output, follows_run, none_defined}
+use Rattle.rdlpp.proofs.preprocessing.preprocess.Goals as goal
+
+pub start-opened-requires : goal.start-opened-requires
+unfolding fresh_engine
+start-opened-requires g c = ap (λ e. e.phase) c.in-Ok.ensures.1
+
+pub returns-in-Ok-run-clause-outcome : goal.returns-in-Ok-run-clause-outcome
+returns-in-Ok-run-clause-outcome g c = (
+  c.in-Ok.ensures.0,
+  follows_run g.S.Sources g.W.Sink _ c.args.options.now.defines.items _ _ _ _ _ c.in-Ok.engine c.start-opened.new.self c.run.new.engine _ c.run.result _ _
+      (none_defined c.args.options.now.defines c.if-not-is_empty.ensures) c.in-Ok.ensures.1 c.start-opened.ensures c.run.ensures
+      (ap count_of c.in-Ok-run.is) (ap fault_of c.in-Ok-run.is),
+)
+
+pub returns-in-Ok-run-clause-output : goal.returns-in-Ok-run-clause-output
+returns-in-Ok-run-clause-output g c = follows_output g.S.Sources g.W.Sink _ _ _ _ _ _ _ _ _ (returns-in-Ok-run-clause-outcome g c).1
+
+pub returns-clause-outcome : goal.returns-clause-outcome
+returns-clause-outcome g c = (
+  c.in-Ok.ensures.0,
+  follows_run g.S.Sources g.W.Sink _ c.args.options.now.defines.items _ _ _ _ _ c.in-Ok.engine c.start-opened.new.self c.run.new.engine _ c.run.result _ _
+      (none_defined c.args.options.now.defines c.if-not-is_empty.ensures) c.in-Ok.ensures.1 c.start-opened.ensures c.run.ensures
+      (ap count_of c.in-Err.is) (ap fault_of c.in-Err.is),
+)
+
+pub returns-clause-output : goal.returns-clause-output
+returns-clause-output g c = follows_output g.S.Sources g.W.Sink _ _ _ _ _ _ _ _ _ (returns-clause-outcome g c).1
