@@ -16,7 +16,7 @@ fn pull<R: Abort + AllocGlobal>(
         match engine.next() {
             Ok(Piece::Bytes(bytes)) => output.extend_from_slice(bytes)?,
             Ok(Piece::Done) => return Ok((output, None)),
-            Err(fault) => return Ok((output, Some(fault))),
+            Err(fault) => return Ok((output, Some(*fault))),
         }
     }
     assert!(rt; false, "the output has no end");
