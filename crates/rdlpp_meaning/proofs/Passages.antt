@@ -79,3 +79,13 @@ pub refusal-goes_on : (kind : FaultKind) (word : List ℕ) (c : Command) (s : St
     → refusal kind word c s ≡ goes_on (refusal kind word c s) next
 unfolding refusal goes_on leaves fails
 refusal-goes_on kind word c s next = refl
+
+-- what goes on from bytes
+pub goes_on-gives : (x : List ℕ) (s : State) (next : State → Passage) → goes_on (leaves (gives x) s) next ≡ behind_bytes x (next s)
+unfolding goes_on leaves gives
+goes_on-gives x s next = refl
+
+-- nothing goes on behind a fault
+pub fails-goes_on : (f : Told) (s : State) (next : State → Passage) → goes_on (leaves (fails f) s) next ≡ leaves (fails f) s
+unfolding goes_on leaves fails
+fails-goes_on f s next = refl

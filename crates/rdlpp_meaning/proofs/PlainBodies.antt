@@ -27,11 +27,11 @@ chosen true t u first second = first refl
 chosen false t u first second = second refl
 
 -- a run that begins with a byte of its class isn't empty
-run_positive : (p : ℕ → Bool) (b : ℕ) (bs : List ℕ) → p b ≡ true → 0 < prefix_len p (b ∷ bs)
+pub run_positive : (p : ℕ → Bool) (b : ℕ) (bs : List ℕ) → p b ≡ true → 0 < prefix_len p (b ∷ bs)
 run_positive p b bs e = rw e (omega arith)
 
 -- a letter is a word byte
-letter_word : (b : ℕ) → is_letter b ≡ true → is_word b ≡ true
+pub letter_word : (b : ℕ) → is_letter b ≡ true → is_word b ≡ true
 unfolding is_word
 letter_word b e = rw e refl
 
@@ -41,7 +41,7 @@ or_true true = refl
 or_true false = refl
 
 -- a digit is a word byte
-digit_word : (b : ℕ) → is_digit b ≡ true → is_word b ≡ true
+pub digit_word : (b : ℕ) → is_digit b ≡ true → is_word b ≡ true
 unfolding is_word
 digit_word b e = rw e (or_true (is_letter b))
 
@@ -117,7 +117,7 @@ pub record IsOrdinaryText (ts : List Token) (bytes : List ℕ) : Type 0 where
   pub text : flat_map (λ t. t.bytes) (spelled ts bytes) ≡ bytes
 
 -- a suffix behind a token that has a byte
-drop_behind : (n b : ℕ) (bs : List ℕ) → 0 < n → drop n (b ∷ bs) ≡ drop (n - 1) bs
+pub drop_behind : (n b : ℕ) (bs : List ℕ) → 0 < n → drop n (b ∷ bs) ≡ drop (n - 1) bs
 drop_behind zero b bs h = absurd (omega arith)
 drop_behind (suc n) b bs h = let e : suc n - 1 ≡ n = omega arith in rw e refl
 

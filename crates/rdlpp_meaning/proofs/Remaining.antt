@@ -97,7 +97,7 @@ not_directive name e =
     rw (h.1.0, h.1.1.0, h.1.1.1.0, h.1.1.1.1.0, h.1.1.1.1.1.0, h.1.1.1.1.1.1.0, h.1.1.1.1.1.1.1.0) refl
 
 -- a usage of a name that isn't reserved begins no directive
-usage_text : (name : List ℕ) (line : ℕ) → is_reserved name ≡ false → directive_of (usage_token name line) ≡ None
+pub usage_text : (name : List ℕ) (line : ℕ) → is_reserved name ≡ false → directive_of (usage_token name line) ≡ None
 unfolding directive_of
 usage_text name line e = not_directive name e
 

@@ -16,7 +16,7 @@ unfoldable pub Writes : Rules → State → SourceToken → Outcome → Type 0
 Writes rules s t o = (us : List SourceToken) → run_outcome rules s (t ∷ us) ≡ and_then o (run_outcome rules s us)
 
 -- an empty run gives nothing
-run_nil : (rules : Rules) (s : State) → run_outcome rules s [] ≡ gives []
+pub run_nil : (rules : Rules) (s : State) → run_outcome rules s [] ≡ gives []
 unfolding run_outcome walk
 run_nil rules s = expand_walk rules s rules.depth None [] []
 

@@ -9,6 +9,16 @@ pub mod Expansion
 pub mod Parts
 pub mod Meaning
 pub mod Resumed
+pub mod Opened
 pub mod Output
 pub mod Laws
 pub mod Profile
+pub mod Cursors
+pub mod Literal
+pub mod DirectiveLaws
+pub mod IncludeLaws
+pub mod ExpansionLaws
+pub mod PartBytes
+pub mod Slots
+pub mod SubjectLaws
+pub mod FurtherLaws

@@ -1,7 +1,7 @@
 -- The meaning of parts: what they write, the state behind them, and the fault that ends them.
-use Rattle.std.specs.Prelude.{ℕ, zero, suc, ◌+◌, ◌-◌, ◌*◌, Bool, true, false, not, ◌&&◌, ◌||◌, ◌==◌, nat_le, List, [], ◌∷◌, ◌++◌, length, take, drop, bytes_eq, slice_index, fold, Option, None, Some, codes, decimal, is_some, if◌then◌else◌}
+use Rattle.std.specs.Prelude.{◌≡◌, ℕ, zero, suc, ◌+◌, ◌-◌, ◌*◌, Bool, true, false, not, ◌&&◌, ◌||◌, ◌==◌, nat_le, List, [], ◌∷◌, ◌++◌, length, take, drop, bytes_eq, slice_index, fold, Option, None, Some, codes, decimal, is_some, if◌then◌else◌}
 use Rattle.std.specs.List.{prefix_len}
-use Rattle.std.specs.Str.Lossy.{utf8_valid_len}
+use Rattle.std.specs.Str.{is_utf8}
 use Rattle.rdlpp_scan.specs.declared.token.Directive.{Directive}
 use Rattle.rdlpp_scan.specs.declared.token.Directive.TheVariants.{Define, Undef, Ifndef, Else, Include, Line}
 use Rattle.rdlpp_scan.specs.Bytes.{is_blank, is_digit}
@@ -52,6 +52,10 @@ skipped_run s (t ∷ ts) = and_then (gives (line_ends_of t.bytes)) (elim t.sort 
   | Broken b ↦ fails (fault_at (breach_kind b) t.line [] s)
   | _ ↦ skipped_run s ts
 ])
+
+-- a token that is skipped comes to an outcome in front of each skipped run
+unfoldable pub SkipsAs : State → SourceToken → Outcome → Type 0
+SkipsAs s t o = (us : List SourceToken) → skipped_run s (t ∷ us) ≡ and_then o (skipped_run s us)
 
 -- the LF bytes of a skipped directive
 unfoldable pub skipped_command : Command → Outcome
@@ -131,10 +135,6 @@ includes_found rules within (Source path text) c s = includes rules within path 
 unfoldable pub unquoted : List ℕ → List ℕ
 unquoted bytes = take (length bytes - 2) (drop 1 bytes)
 
--- whether bytes are UTF-8
-unfoldable pub is_utf8 : List ℕ → Bool
-is_utf8 bytes = utf8_valid_len bytes == length bytes
-
 -- an `include` of a string (source: IEEE 1364-2001, `include`)
 unfoldable pub includes_named : Rules → Nest → List ℕ → Command → State → Passage
 includes_named rules nest name c s =
@@ -143,6 +143,11 @@ includes_named rules nest name c s =
       | None ↦ refusal TooManyIncludes [] c s
       | Some within ↦ includes_found rules within (rules.find s.path name) c s
     ]
+
+-- an `include` by the string that it is given, if it is given one (source: IEEE 1364-2001, `include`)
+unfoldable pub includes_given : Rules → Nest → Option (List ℕ) → Command → State → Passage
+includes_given rules nest None c s = refusal IncludeName [] c s
+includes_given rules nest (Some string) c s = includes_named rules nest (unquoted string) c s
 
 -- where a string ends that begins behind its quote: the place of its closing quote, if it has one; the flag says that a
 -- backslash takes the first byte along (source: IEEE 1364-2001, strings)
@@ -206,10 +211,7 @@ unfoldable pub single : Rules → Nest → Command → State → Passage
 single rules nest c s = elim c.word [
   | Define ↦ defines (rules.define s.macros (drop 7 c.text)) c s
   | Undef ↦ undefines (macro_name c) c s
-  | Include ↦ elim c.given [
-    | None ↦ refusal IncludeName [] c s
-    | Some string ↦ includes_named rules nest (unquoted string) c s
-  ]
+  | Include ↦ includes_given rules nest c.given c s
   | Line ↦ renumbers rules (renumbered (drop 5 c.text)) c s
   | _ ↦ leaves (gives []) s
 ]

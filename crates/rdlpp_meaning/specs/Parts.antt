@@ -1,5 +1,5 @@
 -- The parts of a file: runs of text, directives, and conditionals matched by balance alone.
-use Rattle.std.specs.Prelude.{ℕ, zero, suc, Bool, true, ◌&&◌, ◌||◌, List, [], ◌∷◌, ◌++◌, filter, bytes_eq, Option, None, Some, codes, if◌then◌else◌}
+use Rattle.std.specs.Prelude.{ℕ, zero, suc, Bool, true, ◌&&◌, ◌||◌, List, [], ◌∷◌, ◌++◌, filter, bytes_eq, drop, Option, None, Some, codes, if◌then◌else◌}
 use Rattle.std.specs.List.{list_any}
 use Rattle.rdlpp_scan.specs.declared.token.Kind.TheVariants.{Name, Back, Blank, Str}
 use Rattle.rdlpp_scan.specs.declared.token.Directive.{Directive}
@@ -115,6 +115,14 @@ argument_of d ts = no_argument
 unfoldable pub command_of : Directive → Bool → SourceToken → Argument → Command
 command_of d first t a =
     record { word = d; given = a.given; text = t.bytes ++ a.text; line = t.line; first = first }
+
+-- the directive that stands in front of tokens
+abbrev pub command_in_front : Directive → Bool → SourceToken → List SourceToken → Command
+command_in_front d first t ts = command_of d first t (argument_of d ts)
+
+-- the tokens behind the directive that stands in front of them
+abbrev pub behind_directive : Directive → List SourceToken → List SourceToken
+behind_directive d ts = drop (argument_of d ts).used ts
 
 -- a directive as a piece (source: IEEE 1364-2001, compiler directives)
 unfoldable pub piece_of : Command → Piece

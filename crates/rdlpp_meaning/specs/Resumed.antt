@@ -1,11 +1,12 @@
 -- The meaning of what remains of a file, from any place in it.
-use Rattle.std.specs.Prelude.{ℕ, zero, suc, Bool, true, false, List, [], ◌∷◌}
+use Rattle.std.specs.Prelude.{ℕ, zero, suc, Bool, true, false, List, [], ◌∷◌, None, Some}
+use Rattle.rdlpp_scan.specs.declared.token.Directive.{Directive}
 use Rattle.rdlpp_scan.specs.SourceTokens.{SourceToken}
 use Rattle.rdlpp_meaning.specs.declared.fault.FaultKind.TheVariants.{StrayBranch}
 use Rattle.rdlpp_meaning.specs.Outcome.{Outcome, gives}
 use Rattle.rdlpp_meaning.specs.State.{Rules, State}
 use Rattle.rdlpp_meaning.specs.Expansion.{run_outcome}
-use Rattle.rdlpp_meaning.specs.Parts.{Piece, Run, Single, Opening, Branching, Closing, pieces}
+use Rattle.rdlpp_meaning.specs.Parts.{Piece, Run, Single, Opening, Branching, Closing, only_blanks, directive_of, command_in_front, behind_directive, pieces}
 use Rattle.rdlpp_meaning.specs.Meaning.{Passage, leaves, outcome, goes_on, refusal, Nest, skipped_run, skipped_command, single, Progress, by_test, opening, in_conditional, past_conditional, begun, turn, turned, unclosed, nest_of}
 
 -- where a file stands among its conditionals: in live text in these open ones, innermost first, or in skipped text, with so
@@ -56,3 +57,23 @@ resumed rules place first tokens s =
 -- the bytes and the fault that remain of a file, as tokens, from a place and a state (source: this project's profile)
 unfoldable pub remains : Rules → Place → Bool → List SourceToken → State → Outcome
 remains rules place first tokens s = outcome (resumed rules place first tokens s)
+
+-- the tokens in front of the first directive: a run (source: this project's profile)
+unfoldable pub leading : List SourceToken → List SourceToken
+leading [] = []
+leading (t ∷ ts) = elim (directive_of t) [ None ↦ t ∷ leading ts | Some d ↦ [] ]
+
+-- the tokens from the first directive on
+unfoldable pub trailing : List SourceToken → List SourceToken
+trailing [] = []
+trailing (t ∷ ts) = elim (directive_of t) [ None ↦ trailing ts | Some d ↦ t ∷ ts ]
+
+-- what remains behind the directive that stands in front
+abbrev pub behind : Rules → Place → Directive → Bool → SourceToken → List SourceToken → State → Passage
+behind rules place d first t ts s =
+    resumed rules place (only_blanks first (command_in_front d first t ts).text) (behind_directive d ts) s
+
+-- the LF bytes of a skipped directive, and then what remains
+abbrev pub skips : Rules → Place → Directive → Bool → SourceToken → List SourceToken → State → Passage
+skips rules place d first t ts s =
+    goes_on (leaves (skipped_command (command_in_front d first t ts)) s) (λ after. behind rules place d first t ts after)

@@ -1,6 +1,11 @@
 // The laws of the definitions, each as the contract of a function that does nothing.
 
+ghost use Rattle.rdlpp_meaning.specs.DirectiveLaws.{BranchRemains, BrokenSkips, EndRemains, LiveUnclosed, OpeningRemains, OrdinarySkips, SingleRemains, SkippedBranch, SkippedEnd, SkippedInnerBranch, SkippedInnerEnd, SkippedOpening, SkippedSingle, SkippedToken, SkippedUnclosed, StrayBranchRemains, StrayEndRemains};
+ghost use Rattle.rdlpp_meaning.specs.ExpansionLaws.{BodyCovered, CursorStep, FirstSlot, LiteralSubstitution, OpensCursor, PartRemains, RefusesUsage, RunRemains, SlotHomes, SlotStep};
+ghost use Rattle.rdlpp_meaning.specs.FurtherLaws.{BadUndef, BodyStep, BrokenParts, CopiedBody, CopiedParts, LeftPasses, SkippedParts, UndefRemains};
+ghost use Rattle.rdlpp_meaning.specs.IncludeLaws.{AllAtStart, BadIncludeName, DeepInclude, IncludeOpens, IncludeReturns, LongInclude, MissingInclude, NamelessInclude, StepOfAll};
 ghost use Rattle.rdlpp_meaning.specs.Laws.{BareRemains, BrokenRemains, CopiedRemains, DefinedRemains, FoundOutput, IsGrouped, MeaningRemains, MissingOutput, NothingRemains, OverlongOutput, PlainOutput, RefusedRemains, UnbuiltRemains, UndefinedRemains, UsageRemains};
+ghost use Rattle.rdlpp_meaning.specs.SubjectLaws.{CopiedOutput, IncludedBetween, PlainTextOutput, SkippedLineEnds, TreeKeeps};
 
 /// One outcome and then another goes on in one way however three of them are grouped.
 pub fn grouping()
@@ -52,4 +57,128 @@ pub fn output()
     ensures plain { PlainOutput }
     ensures missing { MissingOutput }
     ensures overlong { OverlongOutput }
+{}
+
+/// What remains where a directive stands in front in live text (IEEE 1364-2001, compiler directives).
+pub fn directive()
+    ensures single { SingleRemains }
+    ensures opening { OpeningRemains }
+    ensures branch { BranchRemains }
+    ensures stray_branch { StrayBranchRemains }
+    ensures stray_end { StrayEndRemains }
+    ensures end { EndRemains }
+{}
+
+/// What remains in skipped text (this project's profile).
+pub fn skipped_text()
+    ensures token { SkippedToken }
+    ensures ordinary { OrdinarySkips }
+    ensures broken { BrokenSkips }
+    ensures single { SkippedSingle }
+    ensures opening { SkippedOpening }
+    ensures inner_branch { SkippedInnerBranch }
+    ensures inner_end { SkippedInnerEnd }
+    ensures branch { SkippedBranch }
+    ensures end { SkippedEnd }
+{}
+
+/// A conditional that is open at the end of its file is a fault, in live text and in skipped text (this project's profile).
+pub fn open_conditional()
+    ensures live { LiveUnclosed }
+    ensures skipped { SkippedUnclosed }
+{}
+
+/// An `include` that names no source that may be opened ends the output (IEEE 1364-2001, `include`).
+pub fn refused_include()
+    ensures nameless { NamelessInclude }
+    ensures bad_name { BadIncludeName }
+    ensures too_deep { DeepInclude }
+    ensures missing { MissingInclude }
+    ensures long_path { LongInclude }
+{}
+
+/// An `include` opens a source, whose end goes back to the one that waits; each step of the innermost source is a step of
+/// the nest (IEEE 1364-2001, `include`).
+pub fn nest_of_sources()
+    ensures start { AllAtStart }
+    ensures opens { IncludeOpens }
+    ensures returns_to { IncludeReturns }
+    ensures step { StepOfAll }
+{}
+
+/// A run comes to its expansion, and so does a part of it that ends where a usage does (this project's profile).
+pub fn run()
+    ensures whole { RunRemains }
+    ensures part { PartRemains }
+{}
+
+/// A usage in a source opens one cursor, or ends the output (this project's profile).
+pub fn call()
+    ensures opens { OpensCursor }
+    ensures refused { RefusesUsage }
+{}
+
+/// A step of the innermost cursor writes and leaves what the marked lists of the open cursors expand to (this project's
+/// profile).
+pub fn cursor_step()
+    ensures { CursorStep }
+{}
+
+/// Substitution without its marks is literal substitution: the bytes of the body, with the bytes of each actual in the
+/// place of its formal (IEEE 1364-2001, `define`).
+pub fn literal_substitution()
+    ensures substituted { LiteralSubstitution }
+    ensures covered { BodyCovered }
+{}
+
+/// A step of the machine with indices is one of the machine of cursors: it writes and leaves what remained, and each home
+/// stays a scope further out (this project's profile).
+pub fn slot_step()
+    ensures step { SlotStep }
+    ensures homes { SlotHomes }
+    ensures first { FirstSlot }
+{}
+
+/// Plain text that meets its limits is its own output, and so is any text of which all tokens are copied.
+pub fn plain_text()
+    ensures plain { PlainTextOutput }
+    ensures copied { CopiedOutput }
+{}
+
+/// What an included text means without a fault stands between what is copied before its `include` and what remains
+/// behind it (IEEE 1364-2001, `include`).
+pub fn included_text()
+    ensures { IncludedBetween }
+{}
+
+/// The tree of a file keeps each of its bytes in order, and of skipped parts the LF bytes are written in order (this
+/// project's profile).
+pub fn parts_of_a_file()
+    ensures tree { TreeKeeps }
+    ensures skipped { SkippedLineEnds }
+{}
+
+/// A usage of a macro without a list, whose body has neither a usage nor a lone backquote outside strings and comments,
+/// gives its body (IEEE 1364-2001, `define`).
+pub fn copied_body()
+    ensures { CopiedBody }
+{}
+
+/// An `undef` takes out its macro, or ends the output (IEEE 1364-2001, `undef`).
+pub fn undefinition()
+    ensures accepted { UndefRemains }
+    ensures refused { BadUndef }
+{}
+
+/// A token that is copied, broken or skipped may be read and written in parts.
+pub fn token_in_parts()
+    ensures copied { CopiedParts }
+    ensures broken { BrokenParts }
+    ensures skipped { SkippedParts }
+{}
+
+/// The tokens of a body are read one by one, and a run of a cursor's tokens that stand for themselves gives its bytes.
+pub fn body_by_tokens()
+    ensures step { BodyStep }
+    ensures passes { LeftPasses }
 {}

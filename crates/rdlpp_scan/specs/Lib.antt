@@ -1,5 +1,11 @@
 pub mod Bytes
+pub mod Names
 pub mod Tokens
+pub mod LexFaults
 pub mod Front
 pub mod SourceTokens
+pub mod Lines
+pub mod Pieces
+pub mod Resumed
+pub mod Ordinary
 pub mod Stage

@@ -1,6 +1,23 @@
 //! Tokens, lines and logical lines of a text: the scanner under the preprocessor.
 #![tactic(auto)]
 
+mod bytes;
+mod faults;
+pub mod laws;
+mod lines;
+mod names;
+mod plain;
+mod scan;
+mod stage;
 mod token;
 
+pub use faults::lex_fault;
+pub use lines::{last_line_end, line_ends_in, logical_line, rest_of_line};
+pub use names::{is_name, reserved};
+pub use plain::plain_text_len;
+pub use scan::first_token;
+pub use stage::is_unbuilt_define;
 pub use token::{Directive, Kind, LexFault, Mode, Token};
+
+#[cfg(test)]
+mod tests;

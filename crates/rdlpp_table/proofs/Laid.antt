@@ -1,5 +1,5 @@
 -- What follows from how a table lies in its lists.
-use Rattle.std.proofs.Common.{◌≡◌, ℕ, ◌<◌, ◌≤◌, List, [], length, map, get_or, bytes_eq, Option, Some, option_map, refl, ap, sym, ◌∙◌, subst, arith, Vec, vec_len, rules, Global}
+use Rattle.std.proofs.Common.{◌≡◌, ℕ, ◌<◌, ◌≤◌, List, [], length, map, get_or, bytes_eq, Option, Some, option_map, is_some, None, refl, ap, sym, ◌∙◌, subst, arith, Vec, vec_len, rules, Global}
 use Rattle.std.specs.List.{IsDistinct, position}
 use Rattle.std.proofs.lemmas.List.{length-map, get_or-map}
 use Rattle.std.proofs.lemmas.List.Quantifiers.{position-Some}
@@ -83,3 +83,17 @@ arity_at bytes entries a b view i j entry e held s h q =
     let at : i < length (macros_in bytes entries) = omega (arith, length_macros_in bytes entries) in
     ap (λ (x : Entry). x.arity) (q ∙ (ap (λ (es : List Entry). get_or es i entry) held.stored.entries_are ∙ entry_of_macro 0 (macros_in bytes entries) i entry at))
     ∙ (ap (λ (v : TableView). option_map length (macro_at v.macros i).formals) e ∙ ap (λ (k : ℕ). option_map length (macro_at view.macros k).formals) s)
+
+pub stored_slices_within : (bs : List ℕ) (es : List Entry) (bytes : List ℕ) (entries : List Entry) (ms : List Macro) → bs ≡ bytes → es ≡ entries → IsStored bytes entries ms → AreWithin (length bs) es
+stored_slices_within bs es bytes entries ms p q s = rw (p, q) (stored_within bytes entries ms s)
+
+-- the place found in slices of the lists, among the macros
+pub stored_place : (bs : List ℕ) (es : List Entry) (bytes : List ℕ) (entries : List Entry) (name : List ℕ) (r : Option ℕ) → bs ≡ bytes → es ≡ entries → r ≡ position (λ e. bytes_eq (name_of bs e) name) es → r ≡ place_named (macros_in bytes entries) name
+stored_place bs es bytes entries name r p q h = found_place bs es bytes entries 0 0 (view_of bytes entries 0 0) name r p q refl h
+
+some_map : (f : ℕ → Macro) (r : Option ℕ) → is_some r ≡ is_some (option_map f r)
+some_map f None = refl
+some_map f (Some x) = refl
+
+pub is_named : (ms : List Macro) (name : List ℕ) (r : Option ℕ) → r ≡ place_named ms name → is_some r ≡ is_some (macro_named ms name)
+is_named ms name r e = some_map (macro_at ms) r ∙ ap is_some (sym (named_at ms name r e))

@@ -59,3 +59,7 @@ entry_of_macro start (m ∷ ms) zero d h = ap (λ (n : ℕ). entry_of n m) (sym 
 entry_of_macro start (m ∷ ms) (suc i) d h =
     entry_of_macro (start + macro_size m) ms i d (omega arith)
     ∙ ap (λ (n : ℕ). entry_of n (macro_at ms i)) (omega (arith, sum_by-cons macro_size m (take i ms)))
+
+pub size_of_none : table_size [] ≡ 0
+unfolding table_size
+size_of_none = refl

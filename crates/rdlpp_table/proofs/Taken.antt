@@ -73,7 +73,7 @@ remove_at front x back n e =
     ap (λ (l : List _). l ++ drop (suc n) (front ++ x ∷ back)) (take_at front (x ∷ back) n e)
     ∙ ap (λ (l : List _). front ++ l) (ap (drop (suc n)) (sym (append_assoc front (x ∷ []) back)) ∙ drop_at (front ++ x ∷ []) back (suc n) one)
 
-list_all-append : {A : Type 0} (p : A → Bool) (xs ys : List A) → list_all p xs ≡ true → list_all p ys ≡ true → list_all p (xs ++ ys) ≡ true
+pub list_all-append : {A : Type 0} (p : A → Bool) (xs ys : List A) → list_all p xs ≡ true → list_all p ys ≡ true → list_all p (xs ++ ys) ≡ true
 list_all-append p [] ys a b = b
 list_all-append p (x ∷ xs) ys a b = let h = and_parts (p x) (list_all p xs) a in and_from _ _ h.0 (list_all-append p xs ys h.1 b)
 
@@ -109,7 +109,7 @@ pub record Taken (entries rest : List Entry) (entry : Entry) (ms : List Macro) (
   pub front : take place rest ≡ entries_of 0 (take place ms)
   pub back : drop place rest ≡ entries_of (table_size (take place ms) + macro_size (macro_at ms place)) (drop (place + 1) ms)
 
-size_of_entry : (n : ℕ) (m : Macro) → (entry_of n m).name_len + (entry_of n m).list_len + (entry_of n m).body_len ≡ macro_size m
+pub size_of_entry : (n : ℕ) (m : Macro) → (entry_of n m).name_len + (entry_of n m).list_len + (entry_of n m).body_len ≡ macro_size m
 unfolding entry_of list_size macro_size
 size_of_entry n m = omega arith
 

@@ -1,9 +1,10 @@
 -- The macros but the one of a name: what stays, and that it is the list without one place.
-use Rattle.std.proofs.Common.{◌≡◌, ℕ, zero, suc, ◌+◌, ◌<◌, ◌≤◌, Bool, true, false, cond, not, List, [], ◌∷◌, ◌++◌, length, take, drop, map, remove, bytes_eq, Option, Some, None, refl, ap, sym, ◌∙◌, subst, arith, one-add, inl, inr, ltb}
-use Rattle.std.specs.List.{IsDistinct, AllByRecursion, position, position_or_len, filter, list_all}
+use Rattle.std.proofs.Common.{◌≡◌, ℕ, zero, suc, ◌+◌, ◌<◌, ◌≤◌, Bool, true, false, cond, not, ◌||◌, List, [], ◌∷◌, ◌++◌, length, take, drop, map, remove, bytes_eq, Option, Some, None, refl, ap, sym, ◌∙◌, subst, arith, one-add, inl, inr, ltb}
+use Rattle.std.specs.List.{IsDistinct, AllByRecursion, position, position_or_len, filter, list_any}
+use Rattle.std.proofs.lemmas.List.{map-append}
 use Rattle.std.proofs.lemmas.Cmp.{nat_list_eq_equiv}
 use Rattle.std.proofs.lemmas.Bool.{cases_Bool, cases_lt, lt-ltb, le-ltb, cond-true, cond-false, false≢true, and_parts, and_from}
-use Rattle.std.proofs.lemmas.Map.Keys.{IsDistinct-head, IsDistinct-tail, IsDistinct-cons}
+use Rattle.std.proofs.lemmas.Map.Keys.{IsDistinct-head, IsDistinct-tail, IsDistinct-cons, IsDistinct-push}
 use Rattle.rdlpp_table.specs.Table.{Macro, table_size, macro_size, without}
 use Rattle.rdlpp_table.specs.View.{TableView, IsSound, place_named}
 use Rattle.rdlpp_table.proofs.Sizes.{table_size-cons}
@@ -131,3 +132,20 @@ differ_nowhere name ms e =
 
 pub without_nowhere : (name : List ℕ) (ms : List Macro) → place_named ms name ≡ None → without name ms ≡ ms
 without_nowhere name ms e = without_none name ms (differ_nowhere name ms e)
+
+-- no macro of the name is left
+none_named : (name : List ℕ) (ms : List Macro) → list_any (bytes_eq name) (names (without name ms)) ≡ false
+unfolding without
+none_named name [] = refl
+none_named name (m ∷ ms) =
+    elim (cases_Bool (bytes_eq m.name name)) [
+      | inl e ↦ ap (λ (b : Bool). list_any (bytes_eq name) (names (cond (not b) (m ∷ without name ms) (without name ms)))) e ∙ none_named name ms
+      | inr e ↦
+          ap (λ (b : Bool). list_any (bytes_eq name) (names (cond (not b) (m ∷ without name ms) (without name ms)))) e
+          ∙ (ap (λ (b : Bool). b || list_any (bytes_eq name) (names (without name ms))) (nat_list_eq_equiv.symm name m.name ∙ e) ∙ none_named name ms)
+    ]
+
+pub pushed_distinct : (m : Macro) (ms : List Macro) → IsDistinct bytes_eq (map (λ m. m.name) ms) → IsDistinct bytes_eq (map (λ m. m.name) (without m.name ms ++ m ∷ []))
+pushed_distinct m ms d =
+    let P : List (List ℕ) → Type 0 = λ l. IsDistinct bytes_eq l in
+    subst P (sym (map-append (λ (x : Macro). x.name) (without m.name ms) (m ∷ []))) (IsDistinct-push nat_list_eq_equiv (names (without m.name ms)) m.name (without_distinct m.name ms d) (none_named m.name ms))

@@ -1,18 +1,19 @@
 -- What a `define` gives: the table with the new macro, or its first fault.
-use Rattle.std.specs.Prelude.{ℕ, zero, suc, ◌+◌, ◌-◌, Bool, not, ◌&&◌, ◌||◌, ◌==◌, nat_lt, nat_le, List, [], ◌∷◌, ◌++◌, length, take, drop, bytes_eq, slice_index, Option, None, Some, is_some, unwrap_or, if◌then◌else◌}
-use Rattle.std.specs.List.{prefix_len, suffix_len, list_any, list_all}
-use Rattle.rdlpp_scan.specs.declared.token.Kind.TheVariants.{LineComment, Perl as PerlKind}
-use Rattle.rdlpp_scan.specs.declared.token.Mode.{Mode}
-use Rattle.rdlpp_scan.specs.declared.token.Mode.TheVariants.{Plain, InStr, InBlock}
+use Rattle.std.specs.Prelude.{ℕ, zero, suc, ◌+◌, ◌-◌, Bool, not, ◌&&◌, ◌||◌, ◌==◌, nat_lt, nat_le, List, [], ◌∷◌, ◌++◌, length, take, drop, bytes_eq, slice_index, Option, None, Some, Result, Ok, Err, is_some, unwrap_or, if◌then◌else◌}
+use Rattle.std.specs.List.{prefix_len, list_any, list_all}
+use Rattle.rdlpp_scan.specs.declared.token.Kind.TheVariants.{LineComment}
+use Rattle.rdlpp_scan.specs.declared.token.Mode.TheVariants.{Plain}
 use Rattle.rdlpp_scan.specs.declared.token.Token.{Token}
 use Rattle.rdlpp_scan.specs.declared.token.LexFault.{LexFault}
 use Rattle.rdlpp_scan.specs.declared.token.LexFault.TheVariants.{Perl, OpenString, OpenComment}
 use Rattle.rdlpp_scan.specs.Bytes.{is_blank, is_line_end, is_letter, is_word}
 use Rattle.rdlpp_scan.specs.Tokens.{tokens_from}
+use Rattle.rdlpp_scan.specs.LexFaults.{lex_fault_from}
 use Rattle.rdlpp_scan.specs.SourceTokens.{logical_len}
 use Rattle.rdlpp_scan.specs.Stage.{is_reserved}
 use Rattle.rdlpp_table.specs.Table.{Formal, Macro, macro_size, table_size, without}
 use Rattle.rdlpp_table.specs.declared.fault.DefineKind.{DefineKind}
+use Rattle.rdlpp_table.specs.declared.fault.DefineFault.{DefineFault}
 use Rattle.rdlpp_table.specs.declared.fault.DefineKind.TheVariants as kind
 
 -- the macros with the new one, or why there is none, and for a reserved name that name
@@ -36,9 +37,13 @@ without_continuations zero (b ∷ bs) =
     if continuation_len (b ∷ bs) == 0 then b ∷ without_continuations 0 bs
     else without_continuations (continuation_len (b ∷ bs) - 1) bs
 
+-- a logical line without the LF that ends it, where one does (this project's profile)
+unfoldable pub unended : List ℕ → List ℕ
+unended rest = elim (logical_len 0 0 rest) [ Some n ↦ take (n - 1) rest | None ↦ rest ]
+
 -- the text of a logical line: without the LF that ends it, and with LF in the place of each continuation (this project's profile)
 unfoldable pub logical_text : List ℕ → List ℕ
-logical_text rest = without_continuations 0 (elim (logical_len 0 0 rest) [ Some n ↦ take (n - 1) rest | None ↦ rest ])
+logical_text rest = without_continuations 0 (unended rest)
 
 -- white space of a header: a blank or an LF (this project's profile)
 unfoldable pub is_space : ℕ → Bool
@@ -72,24 +77,19 @@ without_remarks (t ∷ ts) text = elim t.kind [
   | _ ↦ take t.len text ++ without_remarks ts (drop t.len text)
 ]
 
--- what is wrong where a text ends in a mode: a string or a comment isn't closed
-unfoldable pub end_fault : Mode → Option LexFault
-end_fault Plain = None
-end_fault InStr = Some OpenString
-end_fault InBlock = Some OpenComment
+-- a byte in front of a text that doesn't end in blanks
+unfoldable pub onto_trimmed : ℕ → List ℕ → List ℕ
+onto_trimmed b [] = if is_blank b then [] else b ∷ []
+onto_trimmed b (c ∷ cs) = b ∷ c ∷ cs
 
--- what is wrong with tokens that begin in a mode: `<%`, or a string or a comment that isn't closed at the end (this project's profile)
-unfoldable pub token_fault : Mode → List Token → Option LexFault
-token_fault mode [] = end_fault mode
-token_fault mode (t ∷ ts) = elim t.kind [
-  | PerlKind ↦ Some Perl
-  | _ ↦ token_fault t.next_mode ts
-]
+-- a text without the blanks at its end
+unfoldable pub without_end_blanks : List ℕ → List ℕ
+without_end_blanks [] = []
+without_end_blanks (b ∷ bs) = onto_trimmed b (without_end_blanks bs)
 
 -- a text without the blanks at both ends (this project's profile)
 unfoldable pub trimmed : List ℕ → List ℕ
-trimmed bytes =
-    let rest = drop (prefix_len is_blank bytes) bytes in take (length rest - suffix_len is_blank rest) rest
+trimmed bytes = without_end_blanks (drop (prefix_len is_blank bytes) bytes)
 
 -- a fault of the tokens, as a reason to refuse a definition
 unfoldable pub lexical : LexFault → DefineKind
@@ -174,10 +174,9 @@ pub data Draft : Type 0 where
 -- a macro with a body, or the first lexical fault of the body's text (this project's profile)
 unfoldable pub with_body : List ℕ → Option (List Formal) → List ℕ → Draft
 with_body name formals text =
-    let tokens = tokens_from Plain 0 text in
-    elim (token_fault Plain tokens) [
+    elim (lex_fault_from Plain text) [
       | Some fault ↦ Rejected (lexical fault) []
-      | None ↦ Drawn (record { name = name; formals = formals; body = trimmed (without_remarks tokens text) })
+      | None ↦ Drawn (record { name = name; formals = formals; body = trimmed (without_remarks (tokens_from Plain 0 text) text) })
     ]
 
 -- the word of a refusal: a reserved name, else nothing
@@ -236,3 +235,8 @@ define_of most_bytes most_macros macros rest = stored_draft most_bytes most_macr
 -- what the setting of a name to a text gives (this project's profile)
 unfoldable pub set_of : ℕ → ℕ → List Macro → List ℕ → List ℕ → Defined
 set_of most_bytes most_macros macros name text = stored_draft most_bytes most_macros macros (macro_set name text)
+
+-- what a call tells of the definitions behind it: the macros, or why it was refused
+unfoldable pub observed : Result (Unit {0}) DefineFault → List Macro → Defined
+observed (Ok done) macros = Accepted macros
+observed (Err fault) macros = Refused fault.kind fault.word.bytes

@@ -1,7 +1,10 @@
 pub mod Table
 pub mod View
 pub mod Limits
+pub mod Words
 pub mod Define
+pub mod Bodies
 pub mod Store
 pub mod Entries
 pub mod Layout
+pub mod BodyBytes

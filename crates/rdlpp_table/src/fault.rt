@@ -1,4 +1,6 @@
 // Why a table can't be made, and why a definition is refused.
+ghost use Rattle.std.specs.Prelude.{◌≡◌, []};
+
 use arrayvec::ArrayString;
 
 /// There was no memory for a table.
@@ -39,4 +41,15 @@ pub struct DefineFault {
     pub kind: DefineKind,
     /// The reserved name, or nothing.
     pub word: ArrayString<128>,
+}
+
+// A refusal without a word.
+pub(crate) fn refusal(kind: DefineKind) -> DefineFault
+    ensures kind { result.kind ≡ kind }
+    ensures word { result.word.bytes ≡ [] }
+{
+    DefineFault {
+        kind,
+        word: ArrayString::new(),
+    }
 }

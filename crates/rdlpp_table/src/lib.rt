@@ -1,10 +1,14 @@
 //! The macro table: limits, and a counted store of definitions.
 #![tactic(auto)]
 
+mod body;
 mod entry;
 mod fault;
+mod header;
 mod limits;
+mod name;
 mod removal;
+mod storing;
 mod table;
 
 pub use fault::{DefineFault, DefineKind, NoMemory};

@@ -1,5 +1,5 @@
 // The limits of a run, their standard values and their ranges.
-ghost use Rattle.std.specs.Prelude.{◌≡◌, ◌↔◌, IsOk, MatchResult, Some, None};
+ghost use Rattle.std.specs.Prelude.{◌≡◌, IsOk, OnOk, MatchResult, Some, None};
 ghost use Rattle.rdlpp_table.specs.Limits.{is_within, limit_fault, AreInRange};
 
 /// How much of each thing a run may use (this project's profile).
@@ -69,38 +69,50 @@ impl Limits {
         }
     }
 
+    // The first limit, in the order of the fields, that is out of its range.
+    #[tactic(auto, unfolding(crate::specs::Limits::limit_fault))]
+    fn fault(&self) -> Option<LimitFault>
+        ensures { result ≡ limit_fault self.now }
+    {
+        if !is_within(1, 1_024, self.depth) {
+            return Some(LimitFault::Depth);
+        }
+        if !is_within(0, 64, self.includes) {
+            return Some(LimitFault::Includes);
+        }
+        if !is_within(256, 1_048_576, self.line_bytes) {
+            return Some(LimitFault::LineBytes);
+        }
+        if !is_within(1, 1_073_741_824, self.source_bytes) {
+            return Some(LimitFault::SourceBytes);
+        }
+        if !is_within(16, 1_048_576, self.argument_bytes) {
+            return Some(LimitFault::ArgumentBytes);
+        }
+        if !is_within(1_024, 16_777_216, self.definition_bytes) {
+            return Some(LimitFault::DefinitionBytes);
+        }
+        if !is_within(1, 65_536, self.definitions) {
+            return Some(LimitFault::Definitions);
+        }
+        if !is_within(1, 4_096, self.conditions) {
+            return Some(LimitFault::Conditions);
+        }
+        None
+    }
+
     /// Whether each limit is in its range.
     ///
     /// # Errors
     /// The first limit, in the order of the fields, that is out of its range.
-    #[tactic(auto, unfolding(crate::specs::Limits::limit_fault))]
     pub fn check(&self) -> Result<(), LimitFault>
         ensures value { MatchResult result (λ _. limit_fault self.now ≡ None) (λ fault. limit_fault self.now ≡ Some fault) }
+        ensures in_range { OnOk result (AreInRange self.now) }
+        ensures refused { AreInRange self.now → IsOk result }
     {
-        if !is_within(1, 1_024, self.depth) {
-            return Err(LimitFault::Depth);
+        match self.fault() {
+            Some(fault) => Err(fault),
+            None => Ok(()),
         }
-        if !is_within(0, 64, self.includes) {
-            return Err(LimitFault::Includes);
-        }
-        if !is_within(256, 1_048_576, self.line_bytes) {
-            return Err(LimitFault::LineBytes);
-        }
-        if !is_within(1, 1_073_741_824, self.source_bytes) {
-            return Err(LimitFault::SourceBytes);
-        }
-        if !is_within(16, 1_048_576, self.argument_bytes) {
-            return Err(LimitFault::ArgumentBytes);
-        }
-        if !is_within(1_024, 16_777_216, self.definition_bytes) {
-            return Err(LimitFault::DefinitionBytes);
-        }
-        if !is_within(1, 65_536, self.definitions) {
-            return Err(LimitFault::Definitions);
-        }
-        if !is_within(1, 4_096, self.conditions) {
-            return Err(LimitFault::Conditions);
-        }
-        Ok(())
     }
 }

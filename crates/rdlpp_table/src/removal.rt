@@ -1,10 +1,11 @@
 // A definition is taken out of a table's lists, which close up.
-ghost use Rattle.std.specs.Prelude.{◌≡◌, ◌+◌, ◌<◌, ◌≤◌, ◌++◌, drop, length, map, remove, take, vec_len, vec_capacity};
-ghost use Rattle.std.specs.List.{remove_range};
+ghost use Rattle.std.specs.Prelude.{◌≡◌, ◌+◌, ◌<◌, ◌≤◌, ◌++◌, drop, length, map, remove, take, vec_len, vec_capacity, bytes_eq, is_some};
+ghost use Rattle.rdlpp_table.specs.Table.{macro_named, without};
+ghost use Rattle.std.specs.List.{remove_range, IsDistinct};
 ghost use Rattle.rdlpp_table.specs.Entries.{moved_down, AreBehind};
 ghost use Rattle.rdlpp_table.specs.Store.{IsStored, macros_in};
 
-use crate::entry::Entry;
+use crate::entry::{Entry, place_in};
 
 // The bytes of these entries were moved so much further to the front.
 #[tactic(auto, unfolding(crate::specs::Entries::moved_down))]
@@ -37,7 +38,7 @@ fn cut(bytes: &mut Vec<u8>, from: usize, to: usize)
 }
 
 // Takes out the macro at a place.
-pub(crate) fn take_out(bytes: &mut Vec<u8>, entries: &mut Vec<Entry>, place: usize)
+fn take_out(bytes: &mut Vec<u8>, entries: &mut Vec<Entry>, place: usize)
     requires stored { IsStored bytes.old.items entries.old.items (macros_in bytes.old.items entries.old.items) }
     requires place { place < vec_len entries.old }
     ensures stored { IsStored bytes.new.items entries.new.items (remove (macros_in bytes.old.items entries.old.items) place) }
@@ -47,4 +48,21 @@ pub(crate) fn take_out(bytes: &mut Vec<u8>, entries: &mut Vec<Entry>, place: usi
     let size = entry.name_len + entry.list_len + entry.body_len;
     cut(bytes, entry.start, entry.start + size);
     move_down_from(entries, place, size);
+}
+
+// Takes out the macro of a name, and answers whether there was one.
+pub(crate) fn take_out_named(bytes: &mut Vec<u8>, entries: &mut Vec<Entry>, name: &[u8]) -> bool
+    requires stored { IsStored bytes.old.items entries.old.items (macros_in bytes.old.items entries.old.items) }
+    requires distinct { IsDistinct bytes_eq (map (λ m. m.name) (macros_in bytes.old.items entries.old.items)) }
+    ensures value { result ≡ is_some (macro_named (macros_in bytes.old.items entries.old.items) name.now) }
+    ensures stored { IsStored bytes.new.items entries.new.items (without name.now (macros_in bytes.old.items entries.old.items)) }
+    ensures capacity { (vec_capacity bytes.new ≡ vec_capacity bytes.old) × (vec_capacity entries.new ≡ vec_capacity entries.old) }
+{
+    match place_in(bytes.as_slice(), entries.as_slice(), name) {
+        Some(place) => {
+            take_out(bytes, entries, place);
+            true
+        }
+        None => false,
+    }
 }

@@ -1,12 +1,20 @@
 // The table of macros: one list of bytes and one of entries, both reserved when the table is made.
-ghost use Rattle.std.specs.Prelude.{◌≡◌, ◌<◌, ◌≤◌, ◌==◌, [], length, IfOk, IfSome, IfNone, OnOk, Some, None, option_map};
+ghost use Rattle.std.specs.Prelude.{◌≡◌, ◌<◌, ◌≤◌, ◌==◌, [], length, IfOk, IfSome, IfNone, OnOk, Some, None, is_some, option_map, OnErr, false};
 ghost use Rattle.rdlpp_table.specs.Limits.{AreInRange};
-ghost use Rattle.rdlpp_table.specs.Table.{table_bytes, macro_named};
+ghost use Rattle.rdlpp_table.specs.Table.{macro_named, table_bytes, table_size, without};
+ghost use Rattle.rdlpp_scan.specs.SourceTokens.{logical_len};
+ghost use Rattle.rdlpp_scan.specs.Stage.{is_unbuilt_in_define};
+ghost use Rattle.std.specs.List.{list_any};
+ghost use Rattle.rdlpp_table.specs.Define.{define_of, observed, stored};
 ghost use Rattle.rdlpp_table.specs.View.{TableView, IsSound, macro_at, place_named};
 
 use crate::entry::{Entry, body_in, place_in};
-use crate::fault::NoMemory;
+use crate::fault::{DefineFault, DefineKind, NoMemory, refusal};
+use crate::header::{after_space, leading_name, trimmed, unended};
 use crate::limits::Limits;
+use crate::name::check_name;
+use crate::removal::take_out_named;
+use crate::storing::{Rest, beside, replace};
 use std::alloc::Global;
 use std::marker::Model;
 
@@ -122,5 +130,60 @@ impl Table {
         ensures { result ≡ option_map length (macro_at self.now.macros id).formals }
     {
         self.entries[id.index].arity
+    }
+
+    /// Takes out the macro of a name, and answers whether there was one.
+    pub fn remove(&mut self, name: &[u8]) -> bool
+        ensures value { result ≡ is_some (macro_named self.old.macros name.now) }
+        ensures table { self.new ≡ record self.old { macros = without name.now self.old.macros } }
+    {
+        take_out_named(&mut self.bytes, &mut self.entries, name)
+    }
+
+    /// Stores the macro of a `define`; `rest` is what follows that word, up to the end of its logical line or of the text.
+    ///
+    /// # Errors
+    /// The first fault of the definition: of its name, of its formals, of its body, or of the room in the table.
+    /// The table is unchanged then.
+    pub fn read_define(&mut self, rest: &[u8]) -> Result<(), DefineFault>
+        requires line { IfSome (logical_len 0 0 rest.now) (λ n. n ≡ length rest.now) }
+        requires built { list_any is_unbuilt_in_define rest.now ≡ false }
+        ensures outcome { observed result self.new.macros ≡ define_of self.old.most_bytes self.old.most_macros self.old.macros rest.now }
+        ensures refused { OnErr result (self.new ≡ self.old) }
+        ensures limits { (self.new.most_bytes ≡ self.old.most_bytes) × (self.new.most_macros ≡ self.old.most_macros) }
+    {
+        let text = after_space(unended(rest));
+        let name = leading_name(text);
+        match check_name(name) {
+            Ok(()) => self.store(name, trimmed(&text[name.len()..])),
+            Err(fault) => Err(fault),
+        }
+    }
+
+    // What there is beside the macro of a name.
+    fn rest(&self, name: &[u8]) -> Rest
+        ensures size { result.size ≡ table_size (without name.now self.now.macros) }
+        ensures count { result.count ≡ length (without name.now self.now.macros) }
+        ensures sound { IsSound self.now }
+    {
+        beside(self.bytes.as_slice(), self.entries.as_slice(), name)
+    }
+
+    // Stores a macro without a list behind the others, in the place of one of its name.
+    fn store(&mut self, name: &[u8], body: &[u8]) -> Result<(), DefineFault>
+        requires { length name.now ≤ 128 }
+        ensures outcome { observed result self.new.macros ≡ stored self.old.most_bytes self.old.most_macros self.old.macros (record { name = name.now; formals = None; body = body.now }) }
+        ensures refused { OnErr result (self.new ≡ self.old) }
+        ensures limits { (self.new.most_bytes ≡ self.old.most_bytes) × (self.new.most_macros ≡ self.old.most_macros) }
+    {
+        let rest = self.rest(name);
+        if self.most_bytes - rest.size < name.len() + body.len() {
+            return Err(refusal(DefineKind::DefinitionBytes));
+        }
+        if self.most_macros <= rest.count {
+            return Err(refusal(DefineKind::TooManyDefinitions));
+        }
+        replace(&mut self.bytes, &mut self.entries, name, body);
+        Ok(())
     }
 }

@@ -1,0 +1,302 @@
+-- What one move of an engine over an open source does to what remains.
+use Rattle.std.proofs.Common.{◌≡◌, ℕ, ◌+◌, ◌-◌, ◌<◌, ◌≤◌, Bool, true, false, List, [], ◌∷◌, length, take, drop, All, None, Some, refl, sym, ap, ◌∙◌, subst, arith}
+use Rattle.std.specs.Prelude.{bytes_eq, codes, nat_lt, is_some}
+use Rattle.std.specs.List.{list_all, list_any, AllByRecursion}
+use Rattle.std.proofs.Math.Bool.{and-false}
+use Rattle.std.proofs.lemmas.Bool.{or_parts, ltb-false}
+use Rattle.std.proofs.lemmas.List.{drop-drop}
+use Rattle.std.proofs.lemmas.List.Elements.{All-weaker}
+use Rattle.std.proofs.lemmas.List.Sums.{list_all-from_AllPass}
+use Rattle.rdlpp_scan.specs.declared.token.Kind.{Kind}
+use Rattle.rdlpp_scan.specs.declared.token.Kind.TheVariants.{Back, BareBackquote}
+use Rattle.rdlpp_scan.specs.declared.token.Mode.TheVariants.{Plain}
+use Rattle.rdlpp_scan.specs.Front.{Breach}
+use Rattle.rdlpp_scan.specs.Tokens.{plain_len, token_of, stops_plain_text}
+use Rattle.rdlpp_scan.specs.SourceTokens.{SourceToken, Sort, Ordinary, Definition, line_ends, line_len, remaining_tokens}
+use Rattle.rdlpp_scan.specs.Lines.{EndsLine}
+use Rattle.rdlpp_scan.specs.Ordinary.{is_plain_kind, IsPlainToken}
+use Rattle.rdlpp_scan.specs.Stage.{reserved_names, is_reserved, is_unbuilt}
+use Rattle.rdlpp_scan.proofs.LogicalLines.{line_len-le}
+use Rattle.rdlpp_scan.proofs.LineLaws.{line_len-some}
+use Rattle.rdlpp_scan.proofs.Places.{first_place-le}
+use Rattle.rdlpp_scan.proofs.TokenLens.{token_of-part}
+use Rattle.rdlpp_scan.proofs.WholeLines.{EndsLine-drop}
+use Rattle.rdlpp_scan.proofs.OrdinaryLaws.{is_unbuilt-spares}
+use Rattle.rdlpp_scan.proofs.RemainingLaws.{GoesThrough, remaining-opened, remaining-ordinary, remaining-unbuilt, remaining-perl, remaining-bare, remaining-back, remaining-define}
+use Rattle.rdlpp_scan.proofs.StageLaws.{front_name, is_unbuilt-perl, is_unbuilt-bare, is_unbuilt-back}
+use Rattle.rdlpp_scan.proofs.Locality.{is_unbuilt-append}
+use Rattle.rdlpp_table.specs.Table.{Macro, macro_named}
+use Rattle.rdlpp_meaning.specs.declared.fault.FaultKind.{FaultKind}
+use Rattle.rdlpp_meaning.specs.declared.fault.FaultKind.TheVariants.{UndefinedMacro, Unbuilt}
+use Rattle.rdlpp_meaning.specs.Outcome.{gives, fails, and_then}
+use Rattle.rdlpp_meaning.specs.State.{Accepted, Refused, Rules, State, fault_at, breach_kind}
+use Rattle.rdlpp_meaning.specs.Stage.{is_unbuilt_macro}
+use Rattle.rdlpp_meaning.specs.Expansion.{is_copied, usage_token}
+use Rattle.rdlpp_meaning.specs.Parts.{only_blanks, line_ends_of}
+use Rattle.rdlpp_meaning.specs.Resumed.{Live, remains}
+use Rattle.rdlpp_meaning.proofs.Outcomes.{and_then-gives_nil}
+use Rattle.rdlpp_meaning.proofs.Usages.{built_formals}
+use Rattle.rdlpp_meaning.proofs.Remaining.{remains_copied, remains_undefined, remains_unbuilt, remains_usage, remains_bare, remains_broken, remains_defined, remains_refused, remains_end}
+use Rattle.rdlpp_expand.specs.Feed.{FeedView, held_of, rest_of, tokens_left}
+use Rattle.rdlpp_expand.specs.Supply.{only_broken}
+use Rattle.rdlpp_expand.specs.Front.{IsText, IsUsage, IsDefine, IsRefused, AtPerl, AtBare, AtUnbuilt, passed}
+use Rattle.rdlpp_expand.proofs.FrontFacts.{back_front, back_text}
+
+-- what is held behind bytes that are passed
+pub held_passed : {R : Type 0} (f : FeedView R) (n l : ℕ) → held_of (passed f n l) ≡ drop n (held_of f)
+unfolding held_of passed
+held_passed f n l = sym (drop-drop n f.at (take f.accepted f.window))
+
+-- what is behind the accepted lines stays
+pub rest_passed : {R : Type 0} (unread : R → List ℕ) (f : FeedView R) (n l : ℕ) → rest_of unread (passed f n l) ≡ rest_of unread f
+unfolding rest_of passed
+rest_passed unread f n l = refl
+
+-- what is held still ends at a line end, or at the text's end
+pub ends_passed : {R : Type 0} (unread : R → List ℕ) (f : FeedView R) (n l : ℕ) → EndsLine (held_of f) (rest_of unread f)
+    → EndsLine (held_of (passed f n l)) (rest_of unread (passed f n l))
+ends_passed unread f n l ends =
+    subst (λ (held : List ℕ). EndsLine held (rest_of unread (passed f n l))) (sym (held_passed f n l))
+    (subst (λ (rest : List ℕ). EndsLine (drop n (held_of f)) rest) (sym (rest_passed unread f n l)) (EndsLine-drop n (held_of f) (rest_of unread f) ends))
+
+-- the tokens behind bytes that are passed
+pub tokens_passed : {R : Type 0} (unread : R → List ℕ) (f : FeedView R) (n l o : ℕ)
+    → remaining_tokens is_unbuilt f.most Plain o (f.line + l) (drop n (held_of f)) f.room (rest_of unread f) ≡ tokens_left unread (passed f n l)
+unfolding tokens_left passed rest_of
+tokens_passed unread f n l o =
+    remaining-opened is_unbuilt f.most o (f.line + l) (f.line + l) (drop n (held_of f)) f.room (rest_of unread f)
+    ∙ ap (λ (held : List ℕ). remaining_tokens is_unbuilt f.most Plain (f.line + l) (f.line + l) held f.room (rest_of unread f)) (sym (held_passed f n l))
+
+-- a token of ordinary text is copied, by its kind
+copied_kind : (kind : Kind) (bytes : List ℕ) (line : ℕ) → is_plain_kind kind ≡ true → is_copied (record { sort = Ordinary kind; bytes = bytes; line = line }) ≡ true
+unfolding is_plain_kind is_copied
+copied_kind Back bytes line e = cc
+copied_kind BareBackquote bytes line e = cc
+copied_kind kind bytes line e = refl
+
+-- a token of ordinary text is copied
+copied_token : (t : SourceToken) → IsPlainToken t → is_copied t ≡ true
+copied_token t h =
+    ap (λ (sort : Sort). is_copied (record { sort = sort; bytes = t.bytes; line = t.line })) h.sort ∙ copied_kind h.kind t.bytes t.line h.plain
+
+-- tokens of ordinary text are copied
+copied_tokens : (ts : List SourceToken) → All IsPlainToken ts → list_all is_copied ts ≡ true
+copied_tokens ts h =
+    list_all-from_AllPass is_copied ts (All-weaker IsPlainToken (λ (t : SourceToken). is_copied t ≡ true) copied_token ts h)
+
+-- ordinary text goes through as it is
+text_of : {R : Type 0} (unread : R → List ℕ) (rules : Rules) (b : Bool) (s : State) (f : FeedView R)
+    → EndsLine (held_of f) (rest_of unread f)
+    → let w = take (plain_len (held_of f)) (held_of f) in
+    remains rules (Live []) b (tokens_left unread f) s
+    ≡ and_then (gives w) (remains rules (Live []) (only_blanks b w) (tokens_left unread (passed f (plain_len (held_of f)) (line_ends w))) s)
+unfolding tokens_left
+text_of unread rules b s f ends =
+    let held = held_of f in
+    let rest = rest_of unread f in
+    let n = plain_len held in
+    let w = take n held in
+    let g : GoesThrough is_unbuilt f.most f.line held w (drop n held) f.room rest =
+    remaining-ordinary is_unbuilt f.most f.line held f.room rest is_unbuilt-spares ends in
+    let behind = remaining_tokens is_unbuilt f.most Plain f.line (f.line + line_ends w) (drop n held) f.room rest in
+    ap (λ (ts : List SourceToken). remains rules (Live []) b ts s) (g.steps f.line f.line)
+    ∙ remains_copied rules [] b g.tokens behind s (copied_tokens g.tokens g.plain)
+    ∙ ap (λ (xs : List ℕ). and_then (gives xs) (remains rules (Live []) (only_blanks b xs) behind s)) g.spelled
+    ∙ ap (λ (ts : List SourceToken). and_then (gives w) (remains rules (Live []) (only_blanks b w) ts s)) (tokens_passed unread f n (line_ends w) f.line)
+
+-- ordinary text goes through as it is
+pub move_text : {R : Type 0} (unread : R → List ℕ) (rules : Rules) (b : Bool) (s : State) (f : FeedView R) (n : ℕ)
+    → EndsLine (held_of f) (rest_of unread f) → IsText (held_of f) n
+    → remains rules (Live []) b (tokens_left unread f) s
+    ≡ and_then (gives (take n (held_of f)))
+    (remains rules (Live []) (only_blanks b (take n (held_of f))) (tokens_left unread (passed f n (line_ends (take n (held_of f))))) s)
+move_text unread rules b s f n ends text =
+    let P : ℕ → Type 0 = λ k. remains rules (Live []) b (tokens_left unread f) s
+    ≡ and_then (gives (take k (held_of f)))
+    (remains rules (Live []) (only_blanks b (take k (held_of f))) (tokens_left unread (passed f k (line_ends (take k (held_of f))))) s) in
+    subst P (sym text.whole) (text_of unread rules b s f ends)
+
+-- a name that is none of some words is none of each
+none_of_words : (name : List ℕ) (words : List (List ℕ)) → list_any (bytes_eq name) words ≡ false
+    → AllByRecursion (λ word. bytes_eq name word ≡ false) words
+none_of_words name [] e = tt
+none_of_words name (w ∷ ws) e =
+    let parts = or_parts (bytes_eq name w) (list_any (bytes_eq name) ws) e in
+    (parts.0, none_of_words name ws parts.1)
+
+-- a name that isn't reserved isn't `define`
+not_define : (name : List ℕ) → is_reserved name ≡ false → bytes_eq name (codes "define") ≡ false
+unfolding is_reserved reserved_names
+not_define name e =
+    let h : AllByRecursion (λ word. bytes_eq name word ≡ false) reserved_names = none_of_words name reserved_names e in
+    h.0
+
+-- nor is it `line`
+not_line : (name : List ℕ) → is_reserved name ≡ false → bytes_eq name (codes "line") ≡ false
+unfolding is_reserved reserved_names
+not_line name e =
+    let h : AllByRecursion (λ word. bytes_eq name word ≡ false) reserved_names = none_of_words name reserved_names e in
+    h.1.1.1.1.1.1.1.1.0
+
+-- the tokens at a usage
+pub usage_tokens : {R : Type 0} (unread : R → List ℕ) (f : FeedView R) (n : ℕ)
+    → 0 < length (held_of f) → EndsLine (held_of f) (rest_of unread f) → IsUsage (held_of f) n
+    → tokens_left unread f ≡ usage_token (take (n - 1) (drop 1 (held_of f))) f.line ∷ tokens_left unread (passed f n 0)
+unfolding tokens_left
+usage_tokens unread f n some ends usage =
+    let held = held_of f in
+    let rest = rest_of unread f in
+    let len = (token_of Plain held).len in
+    let name = take (n - 1) (drop 1 held) in
+    let front : front_name held ≡ name = ap (λ (k : ℕ). take (k - 1) (drop 1 held)) (sym usage.whole) in
+    let text : take len held ≡ 96 ∷ name = back_text held (back_front held usage.kind) usage.kind ∙ ap (λ (xs : List ℕ). 96 ∷ xs) front in
+    let free : is_reserved (front_name held) ≡ false = ap is_reserved front ∙ usage.free in
+    let built : is_unbuilt held ≡ false = is_unbuilt-back held usage.kind ∙ rw free refl in
+    let other : bytes_eq (take len held) (codes "`define") ≡ false = rw text (not_define name usage.free) in
+    let also : bytes_eq (take len held) (codes "`line") ≡ false = rw text (not_line name usage.free) in
+    let line : f.line ≡ f.line + 0 = omega arith in
+    let step = remaining-back is_unbuilt f.most f.line f.line held f.room rest some ends (λ more e. is_unbuilt-append held more some e ∙ built) usage.kind other also in
+    let behind : remaining_tokens is_unbuilt f.most Plain f.line f.line (drop len held) f.room rest ≡ tokens_left unread (passed f n 0) =
+    ap (λ (k : ℕ). remaining_tokens is_unbuilt f.most Plain f.line k (drop len held) f.room rest) line
+    ∙ ap (λ (k : ℕ). remaining_tokens is_unbuilt f.most Plain f.line (f.line + 0) (drop k held) f.room rest) (sym usage.whole)
+    ∙ tokens_passed unread f n 0 f.line in
+    step
+    ∙ ap (λ (xs : List ℕ). record { sort = Ordinary Back; bytes = xs; line = f.line } ∷ remaining_tokens is_unbuilt f.most Plain f.line f.line (drop len held) f.room rest) text
+    ∙ ap (λ (ts : List SourceToken). usage_token name f.line ∷ ts) behind
+
+-- a usage of a name that isn't defined ends the output
+pub move_undefined : {R : Type 0} (unread : R → List ℕ) (rules : Rules) (b : Bool) (s : State) (f : FeedView R) (n : ℕ)
+    → 0 < length (held_of f) → EndsLine (held_of f) (rest_of unread f) → IsUsage (held_of f) n
+    → macro_named s.macros (take (n - 1) (drop 1 (held_of f))) ≡ None
+    → remains rules (Live []) b (tokens_left unread f) s ≡ fails (fault_at UndefinedMacro f.line (take (n - 1) (drop 1 (held_of f))) s)
+move_undefined unread rules b s f n some ends usage none =
+    ap (λ (ts : List SourceToken). remains rules (Live []) b ts s) (usage_tokens unread f n some ends usage)
+    ∙ remains_undefined rules [] b (take (n - 1) (drop 1 (held_of f))) f.line (tokens_left unread (passed f n 0)) s usage.free none
+
+-- a usage of a macro that isn't built ends the output
+pub move_unbuilt : {R : Type 0} (unread : R → List ℕ) (rules : Rules) (b : Bool) (s : State) (f : FeedView R) (n : ℕ) (m : Macro)
+    → 0 < length (held_of f) → EndsLine (held_of f) (rest_of unread f) → IsUsage (held_of f) n
+    → macro_named s.macros (take (n - 1) (drop 1 (held_of f))) ≡ Some m → rules.unbuilt_macro m ≡ true
+    → remains rules (Live []) b (tokens_left unread f) s ≡ fails (fault_at Unbuilt f.line [] s)
+move_unbuilt unread rules b s f n m some ends usage named unbuilt =
+    ap (λ (ts : List SourceToken). remains rules (Live []) b ts s) (usage_tokens unread f n some ends usage)
+    ∙ remains_unbuilt rules [] b (take (n - 1) (drop 1 (held_of f))) f.line (tokens_left unread (passed f n 0)) s m usage.free named unbuilt
+
+-- the body of a macro that is built is ordinary text
+built_body : (m : Macro) → is_unbuilt_macro m ≡ false → plain_len m.body ≡ length m.body
+unfolding is_unbuilt_macro plain_len
+built_body m e =
+    let within : plain_len m.body ≤ length m.body = first_place-le stops_plain_text m.body in
+    let whole : length m.body ≤ plain_len m.body =
+    ltb-false (plain_len m.body) (length m.body) (or_parts (is_some m.formals) (nat_lt (plain_len m.body) (length m.body)) e).1 in
+    omega arith
+
+-- a usage gives the body of its macro, and then what remains behind it
+pub move_usage : {R : Type 0} (unread : R → List ℕ) (rules : Rules) (b : Bool) (s : State) (f : FeedView R) (n : ℕ) (m : Macro)
+    → 0 < length (held_of f) → EndsLine (held_of f) (rest_of unread f) → IsUsage (held_of f) n
+    → macro_named s.macros (take (n - 1) (drop 1 (held_of f))) ≡ Some m
+    → rules.unbuilt_macro m ≡ is_unbuilt_macro m → is_unbuilt_macro m ≡ false → 0 < rules.depth
+    → remains rules (Live []) b (tokens_left unread f) s
+    ≡ and_then (gives m.body) (remains rules (Live []) (only_blanks b (take n (held_of f))) (tokens_left unread (passed f n 0)) s)
+move_usage unread rules b s f n m some ends usage named same built depth =
+    let held = held_of f in
+    let name = take (n - 1) (drop 1 held) in
+    let front : take (token_of Plain held).len held ≡ 96 ∷ take ((token_of Plain held).len - 1) (drop 1 held) =
+    back_text held (back_front held usage.kind) usage.kind in
+    let text : take n held ≡ 96 ∷ name = subst (λ (k : ℕ). take k held ≡ 96 ∷ take (k - 1) (drop 1 held)) (sym usage.whole) front in
+    ap (λ (ts : List SourceToken). remains rules (Live []) b ts s) (usage_tokens unread f n some ends usage)
+    ∙ remains_usage rules [] b name f.line (tokens_left unread (passed f n 0)) s m depth usage.free named (same ∙ built) (built_formals m built) (built_body m built)
+    ∙ ap (λ (xs : List ℕ). and_then (gives m.body) (remains rules (Live []) (only_blanks b xs) (tokens_left unread (passed f n 0)) s)) (sym text)
+
+-- the tokens at a `define`
+pub define_tokens : {R : Type 0} (unread : R → List ℕ) (f : FeedView R) (n : ℕ)
+    → 0 < length (held_of f) → EndsLine (held_of f) (rest_of unread f) → length (held_of f) ≤ f.most → IsDefine (held_of f) n
+    → tokens_left unread f
+    ≡ record { sort = Definition; bytes = take n (held_of f); line = f.line } ∷ tokens_left unread (passed f n (line_ends (take n (held_of f))))
+unfolding tokens_left
+define_tokens unread f n some ends fits define =
+    let held = held_of f in
+    let rest = rest_of unread f in
+    let text : take (token_of Plain held).len held ≡ 96 ∷ front_name held = back_text held (back_front held define.kind) define.kind in
+    let word : bytes_eq (front_name held) (codes "define") ≡ true = rw text at define.word in
+    let built : is_unbuilt held ≡ false = is_unbuilt-back held define.kind ∙ rw (word, define.built) (and-false (is_reserved (front_name held))) in
+    let line : line_len held ≤ f.most = omega (arith, line_len-le held) in
+    let step = remaining-define is_unbuilt f.most f.line f.line held f.room rest some ends (λ more e. is_unbuilt-append held more some e ∙ built) define.kind define.word define.built line in
+    let P : ℕ → Type 0 = λ k. remaining_tokens is_unbuilt f.most Plain f.line f.line held f.room rest
+    ≡ record { sort = Definition; bytes = take k held; line = f.line } ∷ tokens_left unread (passed f k (line_ends (take k held))) in
+    subst P (sym define.whole)
+    (step ∙ ap (λ (ts : List SourceToken). record { sort = Definition; bytes = take (line_len held) held; line = f.line } ∷ ts)
+    (tokens_passed unread f (line_len held) (line_ends (take (line_len held) held)) f.line))
+
+-- a `define` that is accepted gives its LF bytes, and then what remains behind it with its macros
+pub move_defined : {R : Type 0} (unread : R → List ℕ) (rules : Rules) (b : Bool) (s : State) (f : FeedView R) (n : ℕ) (macros : List Macro)
+    → 0 < length (held_of f) → EndsLine (held_of f) (rest_of unread f) → length (held_of f) ≤ f.most → IsDefine (held_of f) n
+    → rules.define s.macros (drop 7 (take n (held_of f))) ≡ Accepted macros
+    → remains rules (Live []) b (tokens_left unread f) s
+    ≡ and_then (gives (line_ends_of (take n (held_of f))))
+    (remains rules (Live []) (only_blanks b (take n (held_of f))) (tokens_left unread (passed f n (line_ends (take n (held_of f))))) (record s { macros = macros }))
+move_defined unread rules b s f n macros some ends fits define accepted =
+    ap (λ (ts : List SourceToken). remains rules (Live []) b ts s) (define_tokens unread f n some ends fits define)
+    ∙ remains_defined rules [] b (take n (held_of f)) f.line (tokens_left unread (passed f n (line_ends (take n (held_of f))))) s macros accepted
+
+-- a `define` that is refused ends the output
+pub move_refused_define : {R : Type 0} (unread : R → List ℕ) (rules : Rules) (b : Bool) (s : State) (f : FeedView R) (n : ℕ) (kind : FaultKind) (word : List ℕ)
+    → 0 < length (held_of f) → EndsLine (held_of f) (rest_of unread f) → length (held_of f) ≤ f.most → IsDefine (held_of f) n
+    → rules.define s.macros (drop 7 (take n (held_of f))) ≡ Refused kind word
+    → remains rules (Live []) b (tokens_left unread f) s ≡ fails (fault_at kind f.line word s)
+move_refused_define unread rules b s f n kind word some ends fits define refused =
+    ap (λ (ts : List SourceToken). remains rules (Live []) b ts s) (define_tokens unread f n some ends fits define)
+    ∙ remains_refused rules [] b (take n (held_of f)) f.line (tokens_left unread (passed f n (line_ends (take n (held_of f))))) s kind word refused
+
+-- a list that is one broken token ends the output with its fault
+pub move_broken : {R : Type 0} (unread : R → List ℕ) (rules : Rules) (b : Bool) (s : State) (f : FeedView R) (breach : Breach)
+    → tokens_left unread f ≡ only_broken breach f.line
+    → remains rules (Live []) b (tokens_left unread f) s ≡ fails (fault_at (breach_kind breach) f.line [] s)
+move_broken unread rules b s f breach e =
+    ap (λ (ts : List SourceToken). remains rules (Live []) b ts s) e
+    ∙ remains_broken rules [] b breach [] f.line [] s
+    ∙ and_then-gives_nil (fails (fault_at (breach_kind breach) f.line [] s))
+
+-- nothing remains where no token does
+pub move_end : {R : Type 0} (unread : R → List ℕ) (rules : Rules) (b : Bool) (s : State) (f : FeedView R)
+    → tokens_left unread f ≡ [] → remains rules (Live []) b (tokens_left unread f) s ≡ gives []
+move_end unread rules b s f e = ap (λ (ts : List SourceToken). remains rules (Live []) b ts s) e ∙ remains_end rules b s
+
+-- what is refused at its front ends the output
+pub move_refused : {R : Type 0} (unread : R → List ℕ) (rules : Rules) (b : Bool) (s : State) (f : FeedView R) (kind : FaultKind)
+    → 0 < length (held_of f) → EndsLine (held_of f) (rest_of unread f) → IsRefused (held_of f) kind
+    → remains rules (Live []) b (tokens_left unread f) s ≡ fails (fault_at kind f.line [] s)
+unfolding tokens_left breach_kind
+move_refused unread rules b s f kind some ends (AtPerl is) =
+    let held = held_of f in
+    let rest = rest_of unread f in
+    let built : is_unbuilt held ≡ false = is_unbuilt-perl held is in
+    move_broken unread rules b s f Breach.PerlFound
+    (remaining-perl is_unbuilt f.most f.line f.line held f.room rest some ends (λ more e. is_unbuilt-append held more some e ∙ built) is)
+move_refused unread rules b s f kind some ends (AtBare is) =
+    let held = held_of f in
+    let rest = rest_of unread f in
+    let built : is_unbuilt held ≡ false = is_unbuilt-bare held is in
+    ap (λ (ts : List SourceToken). remains rules (Live []) b ts s)
+    (remaining-bare is_unbuilt f.most f.line f.line held f.room rest some ends (λ more e. is_unbuilt-append held more some e ∙ built) is)
+    ∙ remains_bare rules [] b (take 1 held) f.line (remaining_tokens is_unbuilt f.most Plain f.line f.line (drop 1 held) f.room rest) s
+move_refused unread rules b s f kind some ends (AtUnbuilt is) =
+    let held = held_of f in
+    let rest = rest_of unread f in
+    move_broken unread rules b s f Breach.Unbuilt
+    (remaining-unbuilt is_unbuilt f.most f.line f.line held f.room rest some (λ more e. is_unbuilt-append held more some e ∙ is) ends)
+
+-- ordinary text at the front of what is held
+pub text_inside : (held : List ℕ) (n : ℕ) → IsText held n → (0 < n) × (n ≤ length held)
+unfolding plain_len
+text_inside held n text = (text.some, omega (arith, text.whole, first_place-le stops_plain_text held))
+
+-- a usage at the front of what is held
+pub usage_inside : (held : List ℕ) (n : ℕ) → 0 < length held → IsUsage held n → (0 < n) × (n ≤ length held)
+usage_inside held n some usage =
+    let part = token_of-part Plain held some in
+    (omega (arith, usage.whole, part.not_empty), omega (arith, usage.whole, part.inside))
+
+-- a `define` at the front of what is held
+pub define_inside : (held : List ℕ) (n : ℕ) → 0 < length held → IsDefine held n → (0 < n) × (n ≤ length held)
+define_inside held n some define = (omega (arith, define.whole, line_len-some held some), omega (arith, define.whole, line_len-le held))

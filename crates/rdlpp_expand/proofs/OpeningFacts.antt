@@ -1,0 +1,240 @@
+-- The opening of a main text: the name that its fault tells, and what a start comes to.
+use Rattle.std.proofs.Common.{◌≡◌, ℕ, zero, suc, ◌≤◌, ◌<◌, ◌&&◌, Bool, true, false, leb, List, [], length, get_or, take, None, Some, Err, refl, sym, ap, ◌∙◌, inl, inr, arith}
+use Rattle.std.specs.Str.{IsCharBoundary}
+use Rattle.std.proofs.lemmas.Bool.{cases_lt, cond-true, cond-false}
+use Rattle.std.proofs.lemmas.Bool.Decides.{nat_tests}
+use Rattle.std.proofs.lemmas.List.{take_all, get_or_past}
+use Rattle.rdlpp_scan.specs.SourceTokens.{whole_tokens}
+use Rattle.rdlpp_scan.specs.Stage.{is_unbuilt}
+use Rattle.rdlpp_source.specs.Counts.{Counts}
+use Rattle.rdlpp_source.specs.Sources.{Answer, Present, Finds, is_device, is_no_memory}
+use Rattle.rdlpp_source.specs.declared.sources.Found.{Found}
+use Rattle.rdlpp_source.specs.declared.sources.SourceFault.{SourceFault}
+use Rattle.rdlpp_source.specs.declared.sources.SourceFault.TheVariants as source
+use Rattle.rdlpp_source.specs.declared.sources.Sources.{Ghosts}
+use Rattle.rdlpp_table.specs.Table.{table_size}
+use Rattle.rdlpp_meaning.specs.declared.fault.FaultKind.{FaultKind}
+use Rattle.rdlpp_meaning.specs.declared.fault.FaultKind.TheVariants.{SourceNotFound, PathTooLong, ReadFailed, SourceMemory, Unbuilt}
+use Rattle.rdlpp_meaning.specs.Outcome.{fails}
+use Rattle.rdlpp_meaning.specs.Resumed.{Live, remains}
+use Rattle.rdlpp_meaning.specs.Output.{character_place, name_cut, opening_fault, start_state, output}
+use Rattle.rdlpp_meaning.proofs.Outputs.{output_plain, output_missing, output_overlong}
+use Rattle.rdlpp_expand.specs.Engine.{EngineView}
+use Rattle.rdlpp_expand.specs.Feed.{opened_feed, tokens_left, held_of, rest_of, unread_of}
+use Rattle.rdlpp_expand.specs.Remaining.{rules_of, state_of, open_left, phase_left, kept_left, left_of}
+use Rattle.rdlpp_expand.specs.Steps.{is_read_failed}
+use Rattle.rdlpp_expand.specs.Opening.{kind_of_source, lookup_of, opened_engine, unopened_engine, staged_output, is_memory_kind, is_device_fault, is_memory_fault, Starts}
+use Rattle.rdlpp_expand.proofs.Bounds.{is_bounded}
+
+-- whether the byte at a place goes on with a character
+goes_on : List ℕ → ℕ → Bool
+goes_on bytes n = leb 128 (get_or bytes n 0) && leb (get_or bytes n 0) 191
+
+-- a byte that begins a character, or the end
+begins : (b : ℕ) → (128 ≤ b → 192 ≤ b) → (leb 128 b && leb b 191) ≡ false
+begins b h = grind (arith, nat_tests)
+
+-- a byte within a character
+within : (b : ℕ) → 128 ≤ b → b < 192 → (leb 128 b && leb b 191) ≡ true
+within b h i = grind (arith, nat_tests)
+
+-- a byte behind the end goes on with nothing
+goes_on-past : (bytes : List ℕ) (n : ℕ) → length bytes ≤ n → goes_on bytes n ≡ false
+unfolding goes_on
+goes_on-past bytes n h =
+    let past : get_or bytes n 0 ≡ 0 = get_or_past bytes n 0 h in
+    ap (λ b. leb 128 b && leb b 191) past
+
+-- at a boundary no character goes on
+goes_on-boundary : (bytes : List ℕ) (n : ℕ) → n < length bytes → IsCharBoundary bytes n → goes_on bytes n ≡ false
+unfolding goes_on
+goes_on-boundary bytes n h at = begins (get_or bytes n 0) (at.1 h)
+
+-- where there is no boundary a character goes on
+goes_on-inside : (bytes : List ℕ) (n : ℕ) → n < length bytes → (IsCharBoundary bytes n → ⊥) → goes_on bytes n ≡ true
+unfolding goes_on
+goes_on-inside bytes n h out =
+    elim (cases_lt (get_or bytes n 0) 128) [
+      | inl low ↦ absurd (out (omega arith, λ i j. absurd (omega arith)))
+      | inr high ↦ elim (cases_lt (get_or bytes n 0) 192) [
+        | inl low ↦ within (get_or bytes n 0) high low
+        | inr top ↦ absurd (out (omega arith, λ i j. top))
+      ]
+    ]
+
+-- the place of a cut, one byte before
+place-here : (bytes : List ℕ) (n : ℕ) → goes_on bytes (suc n) ≡ false → character_place bytes (suc n) ≡ suc n
+unfolding character_place goes_on
+place-here bytes n e = cond-false _ _ _ e
+
+place-before : (bytes : List ℕ) (n : ℕ) → goes_on bytes (suc n) ≡ true → character_place bytes (suc n) ≡ character_place bytes n
+unfolding character_place goes_on
+place-before bytes n e = cond-true _ _ _ e
+
+-- nothing stands before the first byte
+first : (bytes : List ℕ) (r : ℕ) → r ≤ 0 → r ≡ character_place bytes zero
+unfolding character_place
+first bytes r h = omega arith
+
+-- where a text ends before a place, the greatest boundary up to that place is its end
+end_reached : (bytes : List ℕ) (r most : ℕ) → length bytes ≤ most
+    → ((i : ℕ) → r < i → i ≤ most → IsCharBoundary bytes i → ⊥) → length bytes ≤ r
+end_reached bytes r most h nearest =
+    elim (cases_lt r (length bytes)) [
+      | inl before ↦ absurd (nearest (length bytes) before h (omega arith, λ i j. absurd (omega arith)))
+      | inr past ↦ past
+    ]
+
+-- the greatest boundary up to a place is where a name is cut
+pub cut_at_boundary : (bytes : List ℕ) (most r : ℕ) → r ≤ most → IsCharBoundary bytes r
+    → ((i : ℕ) → r < i → i ≤ most → IsCharBoundary bytes i → ⊥)
+    → take r bytes ≡ take (character_place bytes most) bytes
+cut_at_boundary bytes zero r below at nearest =
+    let none : r ≡ character_place bytes zero = first bytes r below in
+    ap (λ n. take n bytes) none
+cut_at_boundary bytes (suc k) r below at nearest =
+    elim (cases_lt (suc k) (length bytes)) [
+      | inr past ↦
+          let whole : length bytes ≤ r = end_reached bytes r (suc k) past nearest in
+          take_all r bytes whole
+          ∙ sym (take_all (suc k) bytes past)
+          ∙ ap (λ n. take n bytes) (sym (place-here bytes k (goes_on-past bytes (suc k) past)))
+      | inl inside ↦ elim (cases_lt r (suc k)) [
+        | inl before ↦
+            cut_at_boundary bytes k r (omega arith) at (λ i h j. nearest i h (omega arith))
+            ∙ ap (λ n. take n bytes) (sym (place-before bytes k
+            (goes_on-inside bytes (suc k) inside (nearest (suc k) before (omega arith)))))
+        | inr here ↦
+            let same : r ≡ suc k = omega arith in
+            let boundary : IsCharBoundary bytes (suc k) = rw (← same) at in
+            ap (λ n. take n bytes) (same ∙ sym (place-here bytes k (goes_on-boundary bytes (suc k) inside boundary)))
+      ]
+    ]
+
+-- the first 1,024 bytes of a name, up to their last boundary
+pub name_cut_at : (bytes : List ℕ) (r : ℕ) → r ≤ 1024 → IsCharBoundary bytes r
+    → ((i : ℕ) → r < i → i ≤ 1024 → IsCharBoundary bytes i → ⊥) → take r bytes ≡ name_cut bytes
+unfolding name_cut
+name_cut_at bytes r below at nearest = cut_at_boundary bytes 1024 r below at nearest
+
+-- what remains of a main text that was opened
+left_opened : {S R : Type 0} (unread : R → List ℕ) (e : EngineView S R) (s : S) (found : Found R)
+    → e.feed.most ≡ e.limits.line_bytes
+    → left_of unread (opened_engine (record e { sources = s }) found)
+    ≡ remains (rules_of e.limits e.origins) (Live []) true ((rules_of e.limits e.origins).tokens (unread found.reader))
+    (start_state e.table.macros e.limits.includes e.limits.conditions found.path.bytes)
+unfolding left_of kept_left phase_left open_left state_of opened_engine opened_feed tokens_left held_of rest_of unread_of whole_tokens rules_of
+left_opened unread e s found most =
+    ap (λ (n : ℕ). remains (rules_of e.limits e.origins) (Live []) true
+    (whole_tokens is_unbuilt n e.limits.source_bytes (unread found.reader))
+    (start_state e.table.macros e.limits.includes e.limits.conditions found.path.bytes)) most
+
+-- what remains where no main text was opened
+left_unopened : {S R : Type 0} (unread : R → List ℕ) (e : EngineView S R) (s : S) (kind : FaultKind) (path : List ℕ)
+    → left_of unread (unopened_engine (record e { sources = s }) (opening_fault kind path)) ≡ fails (opening_fault kind path)
+unfolding left_of kept_left unopened_engine
+left_unopened unread e s kind path = refl
+
+-- without origin lines the output is that of the main path
+staged_plain : {S R : Type 0} (g : Ghosts S R) (e : EngineView S R) (path : List ℕ) (answer : Answer)
+    → e.origins ≡ false → (g.catalog e.sources).top path ≡ answer
+    → staged_output g e path
+    ≡ output (rules_of e.limits e.origins) e.table.macros e.limits.includes e.limits.conditions path (lookup_of answer)
+unfolding staged_output
+staged_plain g e path answer plain found =
+    cond-false _ _ _ plain
+    ∙ ap (λ (a : Answer). output (rules_of e.limits e.origins) e.table.macros e.limits.includes e.limits.conditions path (lookup_of a)) found
+
+-- the rules write origin lines where the engine does
+rules_plain : {S R : Type 0} (e : EngineView S R) → e.origins ≡ false → (rules_of e.limits e.origins).origins ≡ false
+unfolding rules_of
+rules_plain e plain = plain
+
+-- a start that finds its main text
+pub starts_open : {S R : Type 0} (g : Ghosts S R) (e : EngineView S R) (s : S) (found : Found R) (path : List ℕ)
+    → e.origins ≡ false
+    → e.feed.most ≡ e.limits.line_bytes
+    → table_size e.table.macros ≤ e.limits.definition_bytes
+    → (g.tells e.sources → (g.catalog e.sources).top path ≡ Present found.path.bytes (g.unread found.reader))
+    → g.failures s ≡ g.failures e.sources
+    → g.refusals s ≡ g.refusals e.sources
+    → (g.tells e.sources → g.tells s)
+    → g.catalog s ≡ g.catalog e.sources
+    → Starts g e (opened_engine (record e { sources = s }) found) path None
+unfolding opened_engine opened_feed is_device_fault is_memory_fault lookup_of
+starts_open g e s found path plain most fits answer failures refusals tells catalog = record {
+  limits = refl;
+  table = refl;
+  started = λ h. cc;
+  keeps = refl;
+  failures = failures;
+  refusals = refusals;
+  sources_tell = tells;
+  catalog = catalog;
+  remains_output = λ _ _ telling.
+      left_opened g.unread e s found most
+      ∙ sym (staged_plain g e path _ plain (answer telling)
+      ∙ output_plain (rules_of e.limits e.origins) e.table.macros e.limits.includes e.limits.conditions path
+      found.path.bytes (g.unread found.reader) (rules_plain e plain));
+  bounded = is_bounded _ fits (omega arith);
+}
+
+-- a start that is refused
+starts_refused : {S R : Type 0} (g : Ghosts S R) (e : EngineView S R) (s : S) (kind : FaultKind) (path : List ℕ)
+    → table_size e.table.macros ≤ e.limits.definition_bytes
+    → length e.feed.window ≤ e.limits.line_bytes
+    → Counts (is_read_failed kind) (g.failures e.sources) (g.failures s)
+    → Counts (is_memory_kind kind) (g.refusals e.sources) (g.refusals s)
+    → (g.tells e.sources → g.tells s)
+    → g.catalog s ≡ g.catalog e.sources
+    → (is_read_failed kind ≡ false → is_memory_kind kind ≡ false → g.tells e.sources
+    → fails (opening_fault kind path) ≡ staged_output g e path)
+    → Starts g e (unopened_engine (record e { sources = s }) (opening_fault kind path)) path (Some (opening_fault kind path))
+unfolding unopened_engine is_device_fault is_memory_fault opening_fault
+starts_refused g e s kind path fits window failures refusals tells catalog told = record {
+  limits = refl;
+  table = refl;
+  started = λ h. cc;
+  keeps = refl;
+  failures = failures;
+  refusals = refusals;
+  sources_tell = tells;
+  catalog = catalog;
+  remains_output = λ device memory telling. left_unopened g.unread e s kind path ∙ told device memory telling;
+  bounded = is_bounded _ fits window;
+}
+
+-- a start that the sources refuse
+pub starts_not_found : {S R : Type 0} (g : Ghosts S R) (e : EngineView S R) (s : S) (fault : SourceFault) (path : List ℕ)
+    → e.origins ≡ false
+    → table_size e.table.macros ≤ e.limits.definition_bytes
+    → length e.feed.window ≤ e.limits.line_bytes
+    → (g.tells e.sources → Finds {R = R} g.unread ((g.catalog e.sources).top path) (Err fault))
+    → Counts (is_device {A = Found R} (Err fault)) (g.failures e.sources) (g.failures s)
+    → Counts (is_no_memory {A = Found R} (Err fault)) (g.refusals e.sources) (g.refusals s)
+    → (g.tells e.sources → g.tells s)
+    → g.catalog s ≡ g.catalog e.sources
+    → Starts g e (unopened_engine (record e { sources = s }) (opening_fault (kind_of_source fault) path)) path
+    (Some (opening_fault (kind_of_source fault) path))
+unfolding kind_of_source is_read_failed is_memory_kind lookup_of
+starts_not_found g e s source.Absent path plain fits window answer failures refusals tells catalog =
+    starts_refused g e s SourceNotFound path fits window failures refusals tells catalog
+    (λ _ _ telling. sym (staged_plain g e path _ plain (answer telling) ∙ output_missing _ _ _ _ _))
+starts_not_found g e s source.PathTooLong path plain fits window answer failures refusals tells catalog =
+    starts_refused g e s PathTooLong path fits window failures refusals tells catalog
+    (λ _ _ telling. sym (staged_plain g e path _ plain (answer telling) ∙ output_overlong _ _ _ _ _))
+starts_not_found g e s source.Device path plain fits window answer failures refusals tells catalog =
+    starts_refused g e s ReadFailed path fits window failures refusals tells catalog (λ device _ _. cc)
+starts_not_found g e s source.NoMemory path plain fits window answer failures refusals tells catalog =
+    starts_refused g e s SourceMemory path fits window failures refusals tells catalog (λ _ memory _. cc)
+
+-- a start with origin lines
+pub starts_unbuilt : {S R : Type 0} (g : Ghosts S R) (e : EngineView S R) (path : List ℕ)
+    → e.origins ≡ true
+    → table_size e.table.macros ≤ e.limits.definition_bytes
+    → length e.feed.window ≤ e.limits.line_bytes
+    → Starts g e (unopened_engine e (opening_fault Unbuilt path)) path (Some (opening_fault Unbuilt path))
+unfolding is_read_failed is_memory_kind staged_output
+starts_unbuilt g e path origins fits window =
+    starts_refused g e e.sources Unbuilt path fits window refl refl (λ h. h) refl
+    (λ _ _ _. sym (cond-true _ _ _ origins))

@@ -1,0 +1,108 @@
+use Rattle.std.proofs.Common.{◌≡◌, ◌≤◌, ◌+◌, ◌-◌, length, take, drop, sym, ap, ◌∙◌, arith}
+use Rattle.std.proofs.lemmas.List.{length-take-le}
+use Rattle.rdlpp_scan.specs.SourceTokens.{line_ends}
+use Rattle.rdlpp_table.specs.Define.{define_of, Accepted, Refused, observed}
+use Rattle.rdlpp_meaning.specs.Outcome.{told}
+use Rattle.rdlpp_meaning.specs.State.{fault_at}
+use Rattle.rdlpp_expand.specs.Feed.{IsFeed, EndsHeld, held_of}
+use Rattle.rdlpp_expand.specs.Front.{passed}
+use Rattle.rdlpp_expand.specs.Pieces.{IsPlaced}
+use Rattle.rdlpp_expand.specs.Remaining.{kind_of_define, state_of}
+use Rattle.rdlpp_expand.proofs.Moves.{define_inside}
+use Rattle.rdlpp_expand.proofs.Takings.{held_room, line_ends-le, take_define, take_refused, left_refused_define, define_kind, define_rest, define_whole, defined_same}
+use Rattle.rdlpp_expand.proofs.engine.Engine.define_line.Goals as goal
+
+pub slice_bounds-line-end : goal.slice_bounds-line-end
+slice_bounds-line-end g c =
+    let held : c.held.result.now ≡ held_of c.args.self.now.feed = c.held.ensures.value ∙ ap (λ e. held_of e.feed) c.self.view_is in
+    sym (length-take-le c.args.len c.held.result.now (rw held ((define_inside _ _ c.requires.ready.bytes c.requires.define).1)))
+
+pub read_define-requires-clause-line : goal.read_define-requires-clause-line
+read_define-requires-clause-line g c =
+    let held : c.held.result.now ≡ held_of c.args.self.now.feed = c.held.ensures.value ∙ ap (λ e. held_of e.feed) c.self.view_is in
+    let wide : length (take c.args.len c.held.result.now) ≡ c.args.len =
+    length-take-le c.args.len c.held.result.now (rw held ((define_inside _ _ c.requires.ready.bytes c.requires.define).1)) in
+    let rest = define_rest (take c.args.len c.held.result.now) c.args.len c.min.result wide c.min.ensures in
+    rw (rest, held) (define_whole _ _ c.requires.define)
+
+pub pass-end-requires-clause-inside : goal.pass-end-requires-clause-inside
+pass-end-requires-clause-inside g c =
+    rw (← c.self.view_is) at (define_inside _ _ c.requires.ready.bytes c.requires.define).1
+
+pub pass-end-requires-clause-lines : goal.pass-end-requires-clause-lines
+pass-end-requires-clause-lines g c =
+    let held : c.held.result.now ≡ held_of c.args.self.now.feed = c.held.ensures.value ∙ ap (λ e. held_of e.feed) c.self.view_is in
+    let wide : length (take c.args.len c.held.result.now) ≡ c.args.len =
+    length-take-le c.args.len c.held.result.now (rw held ((define_inside _ _ c.requires.ready.bytes c.requires.define).1)) in
+    let most = line_ends-le (take c.args.len c.held.result.now) in
+    let count = c.line_ends_in-lines.ensures in
+    omega arith
+
+pub overflow_sub-result : goal.overflow_sub-result
+overflow_sub-result g c =
+    let held : c.held.result.now ≡ held_of c.args.self.now.feed = c.held.ensures.value ∙ ap (λ e. held_of e.feed) c.self.view_is in
+    let wide : length (take c.args.len c.held.result.now) ≡ c.args.len =
+    length-take-le c.args.len c.held.result.now (rw held ((define_inside _ _ c.requires.ready.bytes c.requires.define).1)) in
+    let most = line_ends-le (take c.args.len c.held.result.now) in
+    let count = c.line_ends_in-lines.ensures in
+    let end = c.pass-end.ensures.end in
+    omega arith
+
+pub returns-in-Err-clause-takes : goal.returns-in-Err-clause-takes
+unfolding observed
+returns-in-Err-clause-takes g c =
+    let is : IsFeed c.args.self.now.feed = rw (← c.self.view_is) c.self.invariant.5 in
+    let ends : EndsHeld c.args.self.now.feed = rw (← c.self.view_is) c.self.invariant.6 in
+    let room = held_room c.args.self.now.feed in
+    let fits : length (held_of c.args.self.now.feed) ≤ c.args.self.now.feed.most = omega arith in
+    let held : c.held.result.now ≡ held_of c.args.self.now.feed = c.held.ensures.value ∙ ap (λ e. held_of e.feed) c.self.view_is in
+    let wide : length (take c.args.len c.held.result.now) ≡ c.args.len =
+    length-take-le c.args.len c.held.result.now (rw held ((define_inside _ _ c.requires.ready.bytes c.requires.define).1)) in
+    let rest = define_rest (take c.args.len c.held.result.now) c.args.len c.min.result wide c.min.ensures in
+    let value = c.held.ensures.value in
+    let bytes = c.self.invariant.2 in
+    let count = c.self.invariant.3 in
+    let outcome = c.in-Err.ensures.outcome in
+    let refused : define_of c.args.self.now.limits.definition_bytes c.args.self.now.limits.definitions c.args.self.now.table.macros (drop 7 (take c.args.len (held_of c.args.self.now.feed)))
+    ≡ Refused c.in-Err.fault.kind c.in-Err.fault.word.bytes =
+    rw (← c.self.view_is) (defined_same _ _ _ _ _ _ _ _ outcome bytes count (rest ∙ ap (λ h. drop 7 (take c.args.len h)) value)) in
+    let fault_told : told c.refuse.result ≡ fault_at (kind_of_define c.in-Err.fault.kind) c.args.self.now.feed.line c.in-Err.fault.word.bytes (state_of c.args.self.now) =
+    rw (← c.self.view_is, ← c.kind_of.ensures) (rw c.in-Err.ensures.refused at c.refuse.ensures.fault) in
+    take_refused g.S.Sources c.args.self.now c.refuse.new.self c.refuse.result (kind_of_define c.in-Err.fault.kind) c.in-Err.fault.word.bytes
+    fault_told (rw (← c.self.view_is) (rw c.in-Err.ensures.refused at c.refuse.ensures.kept)) (define_kind c.in-Err.fault.kind)
+    (left_refused_define g.S.Sources.unread c.args.self.now c.args.len c.in-Err.fault.kind c.in-Err.fault.word.bytes c.requires.ready.bytes ends fits c.requires.define refused)
+
+pub returns-in-Ok-clause-place : goal.returns-in-Ok-clause-place
+unfolding IsPlaced passed
+returns-in-Ok-clause-place g c =
+    let inside : c.args.len ≤ length (held_of c.self.inside.feed) = rw (← c.self.view_is) at (define_inside _ _ c.requires.ready.bytes c.requires.define).1 in
+    let room = held_room c.self.inside.feed in
+    let is : IsFeed c.self.inside.feed = c.self.invariant.5 in
+    let end = c.pass-end.ensures.end in
+    let window = ap (λ e. e.feed.window) c.pass-end.ensures.passed in
+    (omega arith, rw window (omega arith))
+
+pub returns-in-Ok-clause-takes : goal.returns-in-Ok-clause-takes
+unfolding observed
+returns-in-Ok-clause-takes g c =
+    let is : IsFeed c.args.self.now.feed = rw (← c.self.view_is) c.self.invariant.5 in
+    let ends : EndsHeld c.args.self.now.feed = rw (← c.self.view_is) c.self.invariant.6 in
+    let room = held_room c.args.self.now.feed in
+    let fits : length (held_of c.args.self.now.feed) ≤ c.args.self.now.feed.most = omega arith in
+    let held : c.held.result.now ≡ held_of c.args.self.now.feed = c.held.ensures.value ∙ ap (λ e. held_of e.feed) c.self.view_is in
+    let wide : length (take c.args.len c.held.result.now) ≡ c.args.len =
+    length-take-le c.args.len c.held.result.now (rw held ((define_inside _ _ c.requires.ready.bytes c.requires.define).1)) in
+    let rest = define_rest (take c.args.len c.held.result.now) c.args.len c.min.result wide c.min.ensures in
+    let value = c.held.ensures.value in
+    let bytes = c.self.invariant.2 in
+    let count = c.self.invariant.3 in
+    let outcome = c.in-Ok.ensures.outcome in
+    let defined : define_of c.args.self.now.limits.definition_bytes c.args.self.now.limits.definitions c.args.self.now.table.macros (drop 7 (take c.args.len (held_of c.args.self.now.feed)))
+    ≡ Accepted c.read_define.new.self.macros =
+    rw (← c.self.view_is) (defined_same _ _ _ _ _ _ _ _ outcome bytes count (rest ∙ ap (λ h. drop 7 (take c.args.len h)) value)) in
+    let counted : c.line_ends_in-lines.result ≡ line_ends (take c.args.len (held_of c.args.self.now.feed)) =
+    c.line_ends_in-lines.ensures ∙ ap (λ h. line_ends (take c.args.len h)) held in
+    let stops : c.pass-end.result ≡ c.args.self.now.feed.at + c.args.len = rw (← c.self.view_is) c.pass-end.ensures.end in
+    take_define g.S.Sources c.args.self.now c.pass-end.new.self c.args.len c.line_ends_in-lines.result (c.pass-end.result - c.line_ends_in-lines.result) c.pass-end.result c.read_define.new.self
+    c.requires.ready ends is.used fits c.requires.define defined counted (rw (← c.self.view_is) c.pass-end.ensures.passed)
+    (ap (λ k. k - c.line_ends_in-lines.result) stops) stops

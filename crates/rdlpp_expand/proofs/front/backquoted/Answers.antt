@@ -1,0 +1,9 @@
+use Rattle.std.proofs.Common.{◌∙◌, ap}
+use Rattle.rdlpp_scan.specs.declared.token.Token.{Token}
+use Rattle.rdlpp_expand.specs.Front.{AtBare}
+use Rattle.rdlpp_expand.proofs.FrontFacts.{bare_at_front}
+use Rattle.rdlpp_expand.proofs.front.backquoted.Goals as goal
+
+pub returns-in_default : goal.returns-in_default
+returns-in_default c =
+    AtBare (bare_at_front c.args.held.now c.requires.backquote (λ e. c.in_default.not-Back (ap (λ (t : Token). t.kind) c.first_token-token.ensures.value ∙ e)))

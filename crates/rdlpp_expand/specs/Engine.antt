@@ -1,0 +1,20 @@
+-- What a contract sees of an engine.
+use Rattle.std.specs.Prelude.{ℕ, Bool, List, Option}
+use Rattle.rdlpp_table.specs.View.{TableView}
+use Rattle.rdlpp_table.specs.declared.limits.Limits.{Limits}
+use Rattle.rdlpp_meaning.specs.Outcome.{Told}
+use Rattle.rdlpp_expand.specs.Feed.{FeedView}
+use Rattle.rdlpp_expand.specs.declared.phase.Phase.{Phase}
+
+-- an engine: its limits, whether it writes origin lines, how far it is, the fault that it keeps, the shown name, whether only
+-- blanks stand before it on its line, its table, its sources, and the open source
+pub record EngineView (S R : Type 0) : Type 0 where
+  pub limits : Limits
+  pub origins : Bool
+  pub phase : Phase
+  pub kept : Option Told
+  pub name : List ℕ
+  pub blanks : Bool
+  pub table : TableView
+  pub sources : S
+  pub feed : FeedView R

@@ -1,0 +1,113 @@
+-- How an engine is made, and how its main text is opened.
+use Rattle.std.specs.Prelude.{◌≡◌, ℕ, Bool, true, false, List, [], Option, None, Some, Result, Ok, Err, if◌then◌else◌}
+use Rattle.rdlpp_source.specs.Counts.{Counts}
+use Rattle.rdlpp_source.specs.Sources.{Answer, Missing, Overlong, Present}
+use Rattle.rdlpp_source.specs.declared.sources.Found.{Found}
+use Rattle.rdlpp_source.specs.declared.sources.SourceFault.{SourceFault}
+use Rattle.rdlpp_source.specs.declared.sources.SourceFault.TheVariants as source
+use Rattle.rdlpp_source.specs.declared.sources.Sources.{Ghosts}
+use Rattle.rdlpp_table.specs.Limits.{limit_fault}
+use Rattle.rdlpp_table.specs.declared.limits.Limits.{Limits}
+use Rattle.rdlpp_meaning.specs.declared.fault.Fault.{Fault}
+use Rattle.rdlpp_meaning.specs.declared.fault.FaultKind.{FaultKind}
+use Rattle.rdlpp_meaning.specs.declared.fault.FaultKind.TheVariants.{EmbeddedPerl, SourceNotFound, PathTooLong, ReadFailed, SourceMemory, Unbuilt}
+use Rattle.rdlpp_meaning.specs.Outcome.{Told, told, Outcome, fails}
+use Rattle.rdlpp_meaning.specs.State.{Lookup, NoSource, LongPath, Source}
+use Rattle.rdlpp_meaning.specs.Output.{opening_fault, output}
+use Rattle.rdlpp_expand.specs.Engine.{EngineView}
+use Rattle.rdlpp_expand.specs.Feed.{closed_feed, opened_feed}
+use Rattle.rdlpp_expand.specs.Remaining.{rules_of, left_of}
+use Rattle.rdlpp_expand.specs.Steps.{IsBounded, IsStarted, is_read_failed}
+use Rattle.rdlpp_expand.specs.declared.engine.NewFault.{NewFault}
+use Rattle.rdlpp_expand.specs.declared.engine.NewFault.TheVariants.{BadLimits, NoMemory}
+use Rattle.rdlpp_expand.specs.declared.phase.Phase.TheVariants.{Fresh, Open, Closed}
+
+-- an engine that wasn't started: an empty table, and no open source (this project's profile)
+unfoldable pub fresh_engine : {S R : Type 0} → Limits → S → Bool → EngineView S R
+fresh_engine limits sources origins = record {
+  limits = limits;
+  origins = origins;
+  phase = Fresh;
+  kept = None;
+  name = [];
+  blanks = true;
+  table = record { macros = []; most_bytes = limits.definition_bytes; most_macros = limits.definitions };
+  sources = sources;
+  feed = closed_feed 0 limits.line_bytes;
+}
+
+-- a new engine is fresh, and a limit out of its range is told exactly where there is one (this project's profile)
+abbrev pub Makes : {S R : Type 0} → Limits → S → Bool → Result (EngineView S R) NewFault → Type 0
+Makes limits sources origins (Ok engine) = (limit_fault limits ≡ None) × (engine ≡ fresh_engine limits sources origins)
+Makes limits sources origins (Err (BadLimits fault)) = limit_fault limits ≡ Some fault
+Makes limits sources origins (Err NoMemory) = limit_fault limits ≡ None
+
+-- the kind of fault that a source's refusal is told as (this project's profile)
+unfoldable pub kind_of_source : SourceFault → FaultKind
+kind_of_source source.Absent = SourceNotFound
+kind_of_source source.PathTooLong = PathTooLong
+kind_of_source source.Device = ReadFailed
+kind_of_source source.NoMemory = SourceMemory
+
+-- what a search answers, as the meaning of a source has it
+unfoldable pub lookup_of : Answer → Lookup
+lookup_of Missing = NoSource
+lookup_of Overlong = LongPath
+lookup_of (Present path text) = Source path text
+
+-- an engine whose main text was found
+unfoldable pub opened_engine : {S R : Type 0} → EngineView S R → Found R → EngineView S R
+opened_engine e found = record e {
+  phase = Open;
+  kept = None;
+  name = found.path.bytes;
+  blanks = true;
+  feed = opened_feed found.reader e.limits.source_bytes e.feed.most;
+}
+
+-- an engine whose main text couldn't be opened
+unfoldable pub unopened_engine : {S R : Type 0} → EngineView S R → Told → EngineView S R
+unopened_engine e fault = record e { phase = Closed; kept = Some fault }
+
+-- the output of a main path, where no opening fails; origin lines aren't built yet (this project's profile)
+unfoldable pub staged_output : {S R : Type 0} → Ghosts S R → EngineView S R → List ℕ → Outcome
+staged_output g e path =
+    if e.origins then fails (opening_fault Unbuilt path)
+    else output (rules_of e.limits e.origins) e.table.macros e.limits.includes e.limits.conditions path
+    (lookup_of ((g.catalog e.sources).top path))
+
+-- the fault that a start answers
+unfoldable pub start_fault : Result (Unit {0}) Fault → Option Told
+start_fault (Ok done) = None
+start_fault (Err fault) = Some (told fault)
+
+-- whether a kind is that of memory that was refused for a source
+unfoldable pub is_memory_kind : FaultKind → Bool
+is_memory_kind EmbeddedPerl = false
+is_memory_kind SourceMemory = true
+is_memory_kind _ = false
+
+-- whether a start was refused at a device
+unfoldable pub is_device_fault : Option Told → Bool
+is_device_fault None = false
+is_device_fault (Some f) = is_read_failed f.kind
+
+-- whether a start was refused memory
+unfoldable pub is_memory_fault : Option Told → Bool
+is_memory_fault None = false
+is_memory_fault (Some f) = is_memory_kind f.kind
+
+-- what a start does: it keeps what it answers; the counts of failures; the output that remains is that of the main path
+-- (this project's profile)
+pub record Starts {S R : Type 0} (g : Ghosts S R) (old new : EngineView S R) (path : List ℕ) (answer : Option Told) : Type 0 where
+  pub limits : new.limits ≡ old.limits
+  pub table : new.table ≡ old.table
+  pub started : IsStarted new
+  pub keeps : new.kept ≡ answer
+  pub failures : Counts (is_device_fault answer) (g.failures old.sources) (g.failures new.sources)
+  pub refusals : Counts (is_memory_fault answer) (g.refusals old.sources) (g.refusals new.sources)
+  pub sources_tell : g.tells old.sources → g.tells new.sources
+  pub catalog : g.catalog new.sources ≡ g.catalog old.sources
+  pub remains_output : is_device_fault answer ≡ false → is_memory_fault answer ≡ false → g.tells old.sources
+      → left_of g.unread new ≡ staged_output g old path
+  pub bounded : IsBounded new

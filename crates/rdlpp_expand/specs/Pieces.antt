@@ -1,0 +1,52 @@
+-- Pieces, and where they stand in the held stores.
+use Rattle.std.specs.Prelude.{ℕ, ◌≤◌, ◌<◌, List, length, slice_range, Option, None, Some, Result, Ok, Err, ⊤}
+use Rattle.std.specs.Borrow.{Bor}
+use Rattle.rdlpp_table.specs.View.{macro_at}
+use Rattle.rdlpp_meaning.specs.Outcome.{Told, told}
+use Rattle.rdlpp_meaning.specs.declared.fault.Fault.{Fault}
+use Rattle.rdlpp_expand.specs.Engine.{EngineView}
+use Rattle.rdlpp_expand.specs.declared.place.Place.{Place}
+use Rattle.rdlpp_expand.specs.declared.place.Place.TheVariants.{Source, Body, End, Kept}
+use Rattle.rdlpp_expand.specs.declared.place.Piece.{Piece}
+use Rattle.rdlpp_expand.specs.declared.place.Piece.TheVariants.{Bytes, Done}
+
+-- a place lies in the held stores
+abbrev pub IsPlaced : {S R : Type 0} → EngineView S R → Place → Type 0
+IsPlaced e (Source start end) = (start ≤ end) × (end ≤ length e.feed.window)
+IsPlaced e (Body id) = id < length e.table.macros
+IsPlaced e End = ⊤
+IsPlaced e Kept = ⊤
+
+-- the bytes at a place: a part of the open source's buffer, or a live body; none at the end
+abbrev pub bytes_at : {S R : Type 0} → EngineView S R → Place → Option (List ℕ)
+bytes_at e (Source start end) = Some (slice_range e.feed.window start end)
+bytes_at e (Body id) = Some (macro_at e.table.macros id).body
+bytes_at e End = None
+bytes_at e Kept = None
+
+-- the bytes of a piece; none of the end
+abbrev pub piece_bytes : Piece → Option (List ℕ)
+piece_bytes (Bytes bytes) = Some bytes.now
+piece_bytes Done = None
+
+-- what an answer tells: bytes, the end, or a fault
+abbrev pub answer_of : Result Piece (Bor Fault) → Result (Option (List ℕ)) Told
+answer_of (Ok piece) = Ok (piece_bytes piece)
+answer_of (Err fault) = Err (told fault.now)
+
+-- what is answered of a fault, where one is kept
+abbrev pub kept_answer : Option Told → Result (Option (List ℕ)) Told
+kept_answer (Some f) = Err f
+kept_answer None = Ok None
+
+-- what is answered at a place
+abbrev pub lent_answer : {S R : Type 0} → EngineView S R → Place → Result (Option (List ℕ)) Told
+lent_answer e (Source start end) = Ok (bytes_at e (Source start end))
+lent_answer e (Body id) = Ok (bytes_at e (Body id))
+lent_answer e End = Ok None
+lent_answer e Kept = kept_answer e.kept
+
+-- the same of a place
+abbrev pub placed_answer : {S R : Type 0} → EngineView S R → Result Place Fault → Result (Option (List ℕ)) Told
+placed_answer e (Ok place) = Ok (bytes_at e place)
+placed_answer e (Err fault) = Err (told fault)

@@ -1,0 +1,78 @@
+-- What a step of an engine does.
+use Rattle.std.specs.Prelude.{◌≡◌, ℕ, ◌≤◌, ◌<◌, Bool, true, false, List, [], Option, None, Some, Result, Ok, Err, IfErr, IfOk, IsSome, length}
+use Rattle.rdlpp_source.specs.declared.sources.Sources.{Ghosts}
+use Rattle.rdlpp_meaning.specs.declared.fault.FaultKind.{FaultKind}
+use Rattle.rdlpp_meaning.specs.declared.fault.FaultKind.TheVariants.{ReadFailed, WriteFailed, EmbeddedPerl}
+use Rattle.rdlpp_meaning.specs.Outcome.{Told, Outcome, gives, fails, and_then}
+use Rattle.rdlpp_expand.specs.Calls.{SourcesRead}
+use Rattle.rdlpp_expand.specs.Engine.{EngineView}
+use Rattle.rdlpp_expand.specs.Held.{stores_of, held_bytes, bound_of}
+use Rattle.rdlpp_expand.specs.Feed.{held_of, unused_of}
+use Rattle.rdlpp_expand.specs.Remaining.{left_of, open_left, work_left}
+use Rattle.rdlpp_expand.specs.declared.phase.Phase.TheVariants.{Fresh, Open, Closed}
+
+-- whether a kind is that of a read that failed
+unfoldable pub is_read_failed : FaultKind → Bool
+is_read_failed EmbeddedPerl = false
+is_read_failed ReadFailed = true
+is_read_failed _ = false
+
+-- whether a kind is that of a write that failed
+unfoldable pub is_write_failed : FaultKind → Bool
+is_write_failed EmbeddedPerl = false
+is_write_failed WriteFailed = true
+is_write_failed _ = false
+
+-- whether an answer is a read that failed in this call
+unfoldable pub has_failed : Option Told → Result (Option (List ℕ)) Told → Bool
+has_failed (Some f) answer = false
+has_failed None (Ok lent) = false
+has_failed None (Err f) = is_read_failed f.kind
+
+-- what an answer says of what remained: bytes that were lent and then what remains now, the end, or the fault
+abbrev pub Tells : Result (Option (List ℕ)) Told → Outcome → Outcome → Type 0
+Tells (Ok (Some bytes)) old new = old ≡ and_then (gives bytes) new
+Tells (Ok None) old new = (old ≡ gives []) × (new ≡ gives [])
+Tells (Err f) old new = old ≡ fails f
+
+-- the bytes that are held are within their bound
+unfoldable pub IsBounded : {S R : Type 0} → EngineView S R → Type 0
+IsBounded e = held_bytes (stores_of e) ≤ bound_of e.limits
+
+-- an engine that was started
+abbrev pub IsStarted : {S R : Type 0} → EngineView S R → Type 0
+IsStarted e = e.phase ≡ Fresh → ⊥
+
+-- a step within the open source: what its held bytes begin with is taken, or ends the output
+pub record Takes {S R : Type 0} (g : Ghosts S R) (old new : EngineView S R) (answer : Result (Option (List ℕ)) Told) : Type 0 where
+  pub limits : new.limits ≡ old.limits
+  pub name : new.name ≡ old.name
+  pub phase : new.phase ≡ old.phase
+  pub sources : new.sources ≡ old.sources
+  pub keeps : IfErr answer (λ f. (new.kept ≡ Some f) × (is_read_failed f.kind ≡ false) × (is_write_failed f.kind ≡ false))
+  pub goes_on : IfOk answer (λ lent. (new.kept ≡ None) × IsSome lent)
+  pub tells : Tells answer (open_left g.unread old) (left_of g.unread new)
+  pub falls : IfOk answer (λ lent. unused_of new.feed < unused_of old.feed)
+
+-- an engine whose open source has bytes to take
+pub record IsReady {S R : Type 0} (e : EngineView S R) : Type 0 where
+  pub open_ : e.phase ≡ Open
+  pub free : e.kept ≡ None
+  pub bytes : 0 < length (held_of e.feed)
+
+-- a step: a kept fault is answered again and changes nothing, and so is the end; a fault is kept, one of a write that failed
+-- comes only so, and bytes leave none kept; the shown name; the counts of failures; the output that remained is what was lent and then the output that remains; the work left falls; the bound holds
+pub record Steps {S R : Type 0} (g : Ghosts S R) (old new : EngineView S R) (answer : Result (Option (List ℕ)) Told) : Type 0 where
+  pub limits : new.limits ≡ old.limits
+  pub name : new.name ≡ old.name
+  pub started : IsStarted new
+  pub kept : (f : Told) → old.kept ≡ Some f → (answer ≡ Err f) × (new ≡ old)
+  pub ended : old.kept ≡ None → old.phase ≡ Closed → (answer ≡ Ok None) × (new ≡ old)
+  pub keeps : IfErr answer (λ f. new.kept ≡ Some f)
+  pub free : IfOk answer (λ lent. new.kept ≡ None)
+  pub own : old.kept ≡ None → IfErr answer (λ f. is_write_failed f.kind ≡ false)
+  pub ends : answer ≡ Ok None → (new.kept ≡ None) × (new.phase ≡ Closed)
+  pub call : SourcesRead g (has_failed old.kept answer) old.sources new.sources
+  pub tells : has_failed old.kept answer ≡ false → g.tells old.sources → Tells answer (left_of g.unread old) (left_of g.unread new)
+  pub falls : (bytes : List ℕ) → answer ≡ Ok (Some bytes) → work_left new < work_left old
+  pub bounded : IsBounded new

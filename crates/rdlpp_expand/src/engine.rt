@@ -1,0 +1,397 @@
+// The engine: it reads a source by lines, expands usages, and lends its output piece by piece.
+ghost use Rattle.std.specs.Prelude.{◌≡◌, ◌↔◌, ℕ, ◌+◌, ◌≤◌, ◌<◌, true, false, [], length, take, drop, None, Some, IfOk, IfErr, IsTrue, IsOk, not};
+ghost use Rattle.std.specs.Borrow.{sem};
+ghost use Rattle.std.specs.Io.BufRead.{Rests};
+ghost use Rattle.rdlpp_table.specs.Limits.{limit_fault};
+ghost use Rattle.rdlpp_meaning.specs.Outcome.{told};
+ghost use Rattle.rdlpp_meaning.specs.State.{fault_at};
+ghost use Rattle.rdlpp_expand.specs.Held.{held_told};
+ghost use Rattle.rdlpp_expand.specs.Pieces.{IsPlaced, answer_of, bytes_at, lent_answer, piece_bytes, placed_answer};
+ghost use Rattle.rdlpp_expand.specs.Remaining.{kind_of_define, state_of};
+ghost use Rattle.rdlpp_expand.specs.Run.{write_fault};
+ghost use Rattle.rdlpp_expand.specs.Steps.{IsBounded, IsReady, IsStarted, Steps, Takes};
+ghost use Rattle.rdlpp_expand.specs.Feed.{EndsHeld, closed_feed, held_of};
+ghost use Rattle.rdlpp_expand.specs.Calls.{SourcesRead};
+ghost use Rattle.rdlpp_expand.specs.Supply.{Supplies, is_failed};
+ghost use Rattle.rdlpp_expand.specs.Front.{IsDefine, IsText, IsUsage, passed, usage_name};
+ghost use Rattle.rdlpp_table.specs.Table.{macro_named};
+ghost use Rattle.rdlpp_meaning.specs.Parts.{only_blanks};
+ghost use Rattle.rdlpp_meaning.specs.Stage.{is_unbuilt_macro};
+ghost use Rattle.rdlpp_table.specs.View.{macro_at};
+ghost use Rattle.rdlpp_expand.specs.contracts.engine.Engine.{the_row};
+
+mod opening;
+
+use crate::blanks::only_blanks;
+use crate::feed::{Feed, Supply, provide};
+use crate::front::{Front, front_of};
+use crate::held::Held;
+use crate::phase::Phase;
+use crate::place::{Piece, Place};
+use crate::texts::{copied, copied_fault, word_of};
+use arrayvec::ArrayString;
+use rdlpp_meaning::{Fault, FaultKind};
+use rdlpp_scan::{line_ends_in, plain_text_len};
+use rdlpp_source::Sources;
+use rdlpp_table::{DefineKind, LimitFault, Limits, MacroId, Table};
+use std::alloc::Global;
+use std::marker::Model;
+
+/// Why an engine can't be made. The sources are dropped.
+#[derive(Clone, Copy, Debug, PartialEq, Eq)]
+pub enum NewFault {
+    /// A limit is out of its range.
+    BadLimits(LimitFault),
+    /// There was no memory.
+    NoMemory,
+}
+
+/// Preprocesses one main text of its sources.
+#[derive(Drop)]
+pub struct Engine<S: Sources> {
+    limits: Limits,
+    origins: bool,
+    phase: Phase,
+    kept: Option<Fault>,
+    path: ArrayString<1024>,
+    blanks: bool,
+    table: Table,
+    sources: S,
+    feed: Feed<S::Reader>,
+}
+
+impl<S: Sources> Model for Engine<S> {
+    ghost use Rattle.std.specs.Prelude.{◌≡◌, ◌≤◌};
+    ghost use Rattle.std.specs.Option.{option_map};
+    ghost use Rattle.rdlpp_table.specs.Table.{table_size};
+    ghost use Rattle.rdlpp_table.specs.Limits.{AreInRange};
+    ghost use Rattle.rdlpp_meaning.specs.Outcome.{told};
+    ghost use Rattle.rdlpp_expand.specs.Feed.{EndsHeld, IsFeed};
+    ghost use Rattle.rdlpp_expand.specs.Engine.{EngineView};
+
+    ghost Value = { EngineView S S.Reader };
+
+    ghost view = { λ e. record {
+      limits = e.limits;
+      origins = e.origins;
+      phase = e.phase;
+      kept = option_map told e.kept;
+      name = e.path.bytes;
+      blanks = e.blanks;
+      table = e.table;
+      sources = e.sources;
+      feed = e.feed;
+    } };
+
+    ghost invariant = { λ e. AreInRange e.limits
+        × (e.feed.most ≡ e.limits.line_bytes)
+        × (e.table.most_bytes ≡ e.limits.definition_bytes)
+        × (e.table.most_macros ≡ e.limits.definitions)
+        × (table_size e.table.macros ≤ e.table.most_bytes)
+        × IsFeed e.feed
+        × EndsHeld e.feed };
+}
+
+impl<S: Sources> Engine<S> {
+    /// Whether the engine wasn't started yet.
+    pub fn is_fresh(&self) -> bool
+        ensures { IsTrue result ↔ (self.now.phase ≡ Phase.Fresh) }
+    {
+        self.phase == Phase::Fresh
+    }
+
+    /// What the engine holds.
+    #[tactic(auto, unfolding(crate::specs::Held::held_told, crate::specs::Held::stores_of, crate::specs::Held::buffers_of, crate::specs::Held::held_bytes, crate::specs::Held::bound_of, crate::specs::Steps::IsBounded))]
+    pub fn held(&self) -> Held
+        ensures value { result ≡ held_told self.now }
+        ensures bounded { IsBounded self.now }
+    {
+        let open = self.phase == Phase::Open;
+        Held {
+            definitions: self.table.bytes().len(),
+            arguments: 0,
+            buffers: if open { self.feed.len() } else { 0 },
+            cursors: 0,
+            bindings: 0,
+            conditions: 0,
+            sources: usize::from(open),
+        }
+    }
+
+    // Lends the piece at a place.
+    pub(crate) fn lend(&self, place: Place) -> Piece<'_>
+        requires { IsPlaced self.now place }
+        ensures { piece_bytes result ≡ bytes_at self.now place }
+    {
+        match place {
+            Place::Source(start, end) => Piece::Bytes(self.feed.part(start, end)),
+            Place::Body(id) => Piece::Bytes(self.table.body(id)),
+            Place::End | Place::Kept => Piece::Done,
+        }
+    }
+
+    // Lends the piece at a place, or the fault that is kept.
+    fn answer(&self, place: Place) -> Result<Piece<'_>, &Fault>
+        requires { IsPlaced self.now place }
+        ensures { answer_of result ≡ lent_answer self.now place }
+    {
+        match (place, &self.kept) {
+            (Place::Kept, Some(fault)) => Err(fault),
+            _ => Ok(self.lend(place)),
+        }
+    }
+
+    // Keeps a fault at the line of the next byte.
+    #[tactic(auto, unfolding(rdlpp_meaning::specs::Outcome::told, rdlpp_meaning::specs::State::fault_at, rdlpp_meaning::specs::State::shown_line, rdlpp_meaning::specs::State::no_shift, rdlpp_meaning::specs::Output::start_state, crate::specs::Remaining::state_of))]
+    fn refuse(&mut self, kind: FaultKind, word: ArrayString<128>) -> Fault
+        ensures fault { told result ≡ fault_at kind self.old.feed.line word.bytes (state_of self.old) }
+        ensures kept { self.new ≡ record self.old { kept = Some (told result) } }
+    {
+        let _len = word.len();
+        let fault = Fault {
+            kind,
+            name: copied(&self.path),
+            line: self.feed.line(),
+            word,
+        };
+        self.kept = Some(copied_fault(&fault));
+        fault
+    }
+
+    // Keeps that a write failed, which is told at line 0 under the shown name.
+    #[tactic(auto, unfolding(rdlpp_meaning::specs::Outcome::told, crate::specs::Run::write_fault))]
+    pub(crate) fn keep_write_failure(&mut self) -> Fault
+        ensures fault { told result ≡ write_fault self.old.name }
+        ensures kept { self.new ≡ record self.old { kept = Some (write_fault self.old.name) } }
+    {
+        let fault = Fault {
+            kind: FaultKind::WriteFailed,
+            name: copied(&self.path),
+            line: 0,
+            word: ArrayString::new(),
+        };
+        self.kept = Some(copied_fault(&fault));
+        fault
+    }
+
+    // Uses `len` held bytes, which have `lines` line ends, and answers where they end.
+    fn pass(&mut self, len: usize, lines: usize) -> usize
+        requires inside { len ≤ length (held_of self.old.feed) }
+        requires lines { lines ≤ len }
+        ensures end { result ≡ self.old.feed.at + len }
+        ensures passed { self.new ≡ record self.old {
+          blanks = only_blanks self.old.blanks (take len (held_of self.old.feed));
+          feed = passed self.old.feed len lines;
+        } }
+    {
+        self.blanks = only_blanks(self.blanks, &self.feed.held()[..len]);
+        self.feed.pass(len, lines) + len
+    }
+
+    // Lends ordinary text of `len` bytes.
+    fn pass_text(&mut self, len: usize) -> Place
+        requires ready { IsReady self.old }
+        requires text { IsText (held_of self.old.feed) len }
+        ensures place { IsPlaced self.new result }
+        ensures takes { Takes S.Sources self.old self.new (placed_answer self.new (Ok result)) }
+    {
+        let lines = line_ends_in(&self.feed.held()[..len]);
+        let end = self.pass(len, lines);
+        Place::Source(end - len, end)
+    }
+
+    // Lends the body of a macro, whose usage has `len` bytes.
+    fn lend_body(&mut self, len: usize, id: MacroId) -> Result<Place, Fault>
+        requires ready { IsReady self.old }
+        requires usage { IsUsage (held_of self.old.feed) len }
+        requires inside { id < length self.old.table.macros }
+        requires named { macro_named self.old.table.macros (usage_name (held_of self.old.feed) len) ≡ Some (macro_at self.old.table.macros id) }
+        ensures place { IfOk result (IsPlaced self.new) }
+        ensures takes { Takes S.Sources self.old self.new (placed_answer self.new result) }
+    {
+        if !is_built(&self.table, id) {
+            return Err(self.refuse(FaultKind::Unbuilt, ArrayString::new()));
+        }
+        self.pass(len, 0);
+        Ok(Place::Body(id))
+    }
+
+    // Expands the usage of `len` bytes with which the held bytes begin.
+    fn expand(&mut self, len: usize) -> Result<Place, Fault>
+        requires ready { IsReady self.old }
+        requires usage { IsUsage (held_of self.old.feed) len }
+        ensures place { IfOk result (IsPlaced self.new) }
+        ensures takes { Takes S.Sources self.old self.new (placed_answer self.new result) }
+    {
+        let name = name_of(self.feed.held(), len);
+        match self.table.find(name) {
+            None => {
+                let word = word_of(name);
+                Err(self.refuse(FaultKind::UndefinedMacro, word))
+            }
+            Some(id) => self.lend_body(len, id),
+        }
+    }
+
+    // Reads the `define` whose line has `len` bytes, and lends the LF of that line.
+    fn define_line(&mut self, len: usize) -> Result<Place, Fault>
+        requires ready { IsReady self.old }
+        requires define { IsDefine (held_of self.old.feed) len }
+        ensures place { IfOk result (IsPlaced self.new) }
+        ensures takes { Takes S.Sources self.old self.new (placed_answer self.new result) }
+    {
+        let line = &self.feed.held()[..len];
+        let lines = line_ends_in(line);
+        match self.table.read_define(&line[len.min(7)..]) {
+            Err(fault) => Err(self.refuse(kind_of(fault.kind), fault.word)),
+            Ok(()) => {
+                let _count = self.table.len();
+                let end = self.pass(len, lines);
+                Ok(Place::Source(end - lines, end))
+            }
+        }
+    }
+
+    // Takes what the held bytes begin with.
+    fn take(&mut self) -> Result<Place, Fault>
+        requires { IsReady self.old }
+        ensures place { IfOk result (IsPlaced self.new) }
+        ensures takes { Takes S.Sources self.old self.new (placed_answer self.new result) }
+    {
+        match front_of(self.feed.held()) {
+            Front::Text(len) => Ok(self.pass_text(len)),
+            Front::Usage(len) => self.expand(len),
+            Front::Define(len) => self.define_line(len),
+            Front::Refused(kind) => Err(self.refuse(kind, ArrayString::new())),
+        }
+    }
+
+    // What always holds of it.
+    fn facts(&self)
+        ensures { IsBounded self.now }
+    {
+        self.feed.facts();
+    }
+
+    // Closes the source, which has ended.
+    fn close(&mut self)
+        ensures { self.new ≡ record self.old { phase = Phase.Closed; feed = closed_feed self.old.feed.line self.old.feed.most } }
+    {
+        self.phase = Phase::Closed;
+        self.feed.close();
+    }
+
+    // Sees to it that bytes of the open source are held, or tells why there are none.
+    fn provide(&mut self) -> Supply
+        ensures feed { (self.new ≡ record self.old { feed = self.new.feed; sources = self.new.sources }) × EndsHeld self.new.feed }
+        ensures supplies { Supplies (S.tells self.old.sources) S.unread result self.old.feed self.new.feed }
+        ensures call { SourcesRead S.Sources (is_failed result) self.old.sources self.new.sources }
+    {
+        let supply = provide(&mut self.feed, &mut self.sources);
+        self.feed.facts();
+        supply
+    }
+
+    // Goes on in the open source to the next piece, and answers where it stands.
+    fn go_on(&mut self) -> Result<Place, Fault>
+        requires open { self.old.phase ≡ Phase.Open }
+        requires free { self.old.kept ≡ None }
+        ensures place { IfOk result (IsPlaced self.new) }
+        ensures steps { IsBounded self.new → Steps S.Sources self.old self.new (placed_answer self.new result) }
+    {
+        match self.provide() {
+            Supply::Held => self.take(),
+            Supply::End => {
+                self.close();
+                Ok(Place::End)
+            }
+            Supply::SourceLong => Err(self.refuse(FaultKind::SourceTooLong, ArrayString::new())),
+            Supply::LineLong => Err(self.refuse(FaultKind::LineTooLong, ArrayString::new())),
+            Supply::Failed => Err(self.refuse(FaultKind::ReadFailed, ArrayString::new())),
+        }
+    }
+
+    // Goes on to the next piece, and answers where it stands.
+    pub(crate) fn advance(&mut self) -> Result<Place, Fault>
+        requires { IsStarted self.old }
+        ensures place { IfOk result (IsPlaced self.new) }
+        ensures steps { Steps S.Sources self.old self.new (placed_answer self.new result) }
+    {
+        self.facts();
+        if let Some(fault) = &self.kept {
+            return Err(copied_fault(fault));
+        }
+        match self.phase {
+            Phase::Open => {
+                let place = self.go_on();
+                self.facts();
+                place
+            }
+            _ => Ok(Place::End),
+        }
+    }
+
+    // The same, where a fault stands in the engine.
+    fn place(&mut self) -> Place
+        requires { IsStarted self.old }
+        ensures place { IsPlaced self.new result }
+        ensures steps { Steps S.Sources self.old self.new (lent_answer self.new result) }
+    {
+        match self.advance() {
+            Ok(place) => place,
+            Err(_) => Place::Kept,
+        }
+    }
+
+    /// The next piece of the output, or its end, or the fault that ends it, which the engine keeps.
+    ///
+    /// The engine must have been started. A fault is kept: every later call answers it again and
+    /// changes nothing. After the end every later call answers the end. A piece may have no bytes.
+    pub fn next(&mut self) -> Result<Piece<'_>, &Fault>
+        requires { IsStarted self.old }
+        ensures* after { sem 𝓛 (Rests (the_row S.row S.Reader.row S.Sources) self.entry (λ new.
+            Steps S.Sources self.old new (answer_of result))) }
+    {
+        let place = self.place();
+        self.answer(place)
+    }
+}
+
+// The name in a usage of `len` bytes.
+fn name_of(held: &[u8], len: usize) -> &[u8]
+    requires some { 0 < len }
+    requires inside { len ≤ length held.now }
+    ensures { result.now ≡ usage_name held.now len }
+{
+    &held[1..len]
+}
+
+// The kind of fault that a refused definition is.
+#[tactic(auto, unfolding(crate::specs::Remaining::kind_of_define))]
+fn kind_of(kind: DefineKind) -> FaultKind
+    ensures { result ≡ kind_of_define kind }
+{
+    match kind {
+        DefineKind::EmbeddedPerl => FaultKind::EmbeddedPerl,
+        DefineKind::OpenString => FaultKind::OpenString,
+        DefineKind::OpenComment => FaultKind::OpenComment,
+        DefineKind::NameExpected => FaultKind::NameExpected,
+        DefineKind::ReservedName => FaultKind::ReservedName,
+        DefineKind::NameTooLong => FaultKind::NameTooLong,
+        DefineKind::BadFormals => FaultKind::BadFormals,
+        DefineKind::FormalTwice => FaultKind::FormalTwice,
+        DefineKind::TooManyFormals => FaultKind::TooManyFormals,
+        DefineKind::DefinitionBytes => FaultKind::DefinitionBytes,
+        DefineKind::TooManyDefinitions => FaultKind::TooManyDefinitions,
+    }
+}
+
+// Whether usages of a macro are built.
+#[tactic(auto, unfolding(rdlpp_meaning::specs::Stage::is_unbuilt_macro))]
+fn is_built(table: &Table, id: MacroId) -> bool
+    requires { id < length table.now.macros }
+    ensures { result ≡ not (is_unbuilt_macro (macro_at table.now.macros id)) }
+{
+    let body = table.body(id);
+    table.arity(id).is_none() && plain_text_len(body) == body.len()
+}

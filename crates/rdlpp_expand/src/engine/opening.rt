@@ -1,0 +1,135 @@
+// How an engine is made, and how its main text is opened.
+ghost use Rattle.std.specs.Prelude.{◌≡◌};
+ghost use Rattle.rdlpp_meaning.specs.Outcome.{told};
+ghost use Rattle.rdlpp_meaning.specs.Output.{name_cut, opening_fault};
+ghost use Rattle.rdlpp_expand.specs.Opening.{Makes, Starts, kind_of_source, opened_engine, start_fault, unopened_engine};
+
+use super::{Engine, NewFault};
+use crate::feed::Feed;
+use crate::phase::Phase;
+use crate::texts::copied_fault;
+use arrayvec::ArrayString;
+use rdlpp_meaning::{Fault, FaultKind};
+use rdlpp_source::{Found, SourceFault, Sources};
+use rdlpp_table::{Limits, Table};
+use std::alloc::Global;
+
+impl<S: Sources> Engine<S> {
+    /// A fresh engine with an empty table, which writes origin lines where `origins` says so.
+    ///
+    /// All memory that it ever uses for itself is reserved here: the table's, and one line's buffer.
+    ///
+    /// # Errors
+    /// `BadLimits` with the first limit, in the order of the fields, that is out of its range;
+    /// `NoMemory` where memory was refused. The sources are dropped then. The ranges are this
+    /// project's.
+    pub fn new(
+        alloc: Global,
+        limits: Limits,
+        sources: S,
+        origins: bool,
+    ) -> Result<Engine<S>, NewFault>
+        ensures { Makes limits sources origins result }
+    {
+        if let Err(fault) = limits.check() {
+            return Err(NewFault::BadLimits(fault));
+        }
+        let Ok(table) = Table::new(alloc, &limits) else {
+            return Err(NewFault::NoMemory);
+        };
+        let Ok(buffer) = vec![in alloc; 0u8; limits.line_bytes] else {
+            return Err(NewFault::NoMemory);
+        };
+        Ok(Engine {
+            limits,
+            origins,
+            phase: Phase::Fresh,
+            kept: None,
+            path: ArrayString::new(),
+            blanks: true,
+            table,
+            sources,
+            feed: Feed::new(buffer),
+        })
+    }
+
+    /// Opens the main text, whose path is `path`.
+    ///
+    /// The engine must be fresh. It is started afterwards in each case, with the sources' path as
+    /// the shown name.
+    ///
+    /// # Errors
+    /// With the path, cut to 1,024 bytes or fewer at a character's boundary, and line 0: F28 where
+    /// there is no such text, F31 where the path is too long, F32 where a device failed, F34 where
+    /// memory was refused; 99 where the engine writes origin lines, before anything is opened. The
+    /// fault is kept: every later call answers it. The rules are this project's.
+    pub fn start(&mut self, path: &str) -> Result<(), Fault>
+        requires { self.old.phase ≡ Phase.Fresh }
+        ensures { Starts S.Sources self.old self.new path.now (start_fault result) }
+    {
+        if self.origins {
+            return Err(self.refuse_main(FaultKind::Unbuilt, path));
+        }
+        match self.sources.top(path) {
+            Ok(found) => {
+                self.open_main(found);
+                Ok(())
+            }
+            Err(fault) => Err(self.refuse_main(source_kind(fault), path)),
+        }
+    }
+
+    // Opens the main text that was found.
+    #[tactic(auto, unfolding(crate::specs::Opening::opened_engine, crate::specs::Feed::opened_feed, crate::specs::Feed::held_of))]
+    fn open_main(&mut self, found: Found<S::Reader>)
+        ensures { self.new ≡ opened_engine self.old found }
+    {
+        let Found { path, reader } = found;
+        self.phase = Phase::Open;
+        self.kept = None;
+        self.path = path;
+        self.blanks = true;
+        let room = self.limits.source_bytes;
+        self.feed.open(reader, room);
+    }
+
+    // Keeps a fault of the opening of the main text.
+    #[tactic(auto, unfolding(crate::specs::Opening::unopened_engine, rdlpp_meaning::specs::Output::opening_fault, rdlpp_meaning::specs::Outcome::told))]
+    fn refuse_main(&mut self, kind: FaultKind, path: &str) -> Fault
+        ensures fault { told result ≡ opening_fault kind path.now }
+        ensures kept { self.new ≡ unopened_engine self.old (opening_fault kind path.now) }
+    {
+        let fault = Fault {
+            kind,
+            name: cut_name(path),
+            line: 0,
+            word: ArrayString::new(),
+        };
+        self.phase = Phase::Closed;
+        self.kept = Some(copied_fault(&fault));
+        fault
+    }
+}
+
+// The first 1,024 bytes of a name, or fewer at a character's boundary.
+fn cut_name(name: &str) -> ArrayString<1024>
+    ensures { result.bytes ≡ name_cut name.now }
+{
+    let mut cut = ArrayString::new();
+    let kept = name.floor_char_boundary(1_024);
+    cut.push_str(&name[..kept]);
+    cut
+}
+
+// The kind of fault that a source's refusal is told as.
+#[tactic(auto, unfolding(crate::specs::Opening::kind_of_source))]
+fn source_kind(fault: SourceFault) -> FaultKind
+    ensures { result ≡ kind_of_source fault }
+{
+    match fault {
+        SourceFault::Absent => FaultKind::SourceNotFound,
+        SourceFault::PathTooLong => FaultKind::PathTooLong,
+        SourceFault::Device => FaultKind::ReadFailed,
+        SourceFault::NoMemory => FaultKind::SourceMemory,
+    }
+}

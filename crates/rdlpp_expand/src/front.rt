@@ -1,0 +1,97 @@
+// What the held bytes of a source begin with.
+ghost use Rattle.std.specs.Prelude.{◌≡◌, ◌<◌, ◌≤◌, length, slice_index, Some};
+ghost use Rattle.rdlpp_scan.specs.Names.{directive_named};
+ghost use Rattle.rdlpp_scan.specs.Stage.{name_behind};
+ghost use Rattle.rdlpp_scan.specs.Tokens.{token_of};
+ghost use Rattle.rdlpp_scan.specs.declared.token.Directive.TheVariants.{Define};
+ghost use Rattle.rdlpp_scan.specs.declared.token.Kind.TheVariants.{Back};
+ghost use Rattle.rdlpp_scan.specs.declared.token.Mode.TheVariants.{Plain};
+ghost use Rattle.rdlpp_expand.specs.Front.{IsFront};
+
+use rdlpp_meaning::FaultKind;
+use rdlpp_scan::{
+    Directive, Kind, Mode, first_token, is_unbuilt_define, plain_text_len, reserved, rest_of_line,
+};
+
+/// What the held bytes of a source begin with.
+#[derive(Clone, Copy)]
+pub(crate) enum Front {
+    /// So many bytes of ordinary text.
+    Text(usize),
+    /// A backquote and a name that isn't reserved, of so many bytes together.
+    Usage(usize),
+    /// A `define` whose line has so many bytes.
+    Define(usize),
+    /// What ends the output.
+    Refused(FaultKind),
+}
+
+/// What held bytes begin with.
+pub(crate) fn front_of(held: &[u8]) -> Front
+    requires { 0 < length held.now }
+    ensures { IsFront held.now result }
+{
+    let len = plain_text_len(held);
+    if len > 0 {
+        return Front::Text(len);
+    }
+    match held[0] {
+        b'`' => backquoted(held),
+        b'<' => Front::Refused(FaultKind::EmbeddedPerl),
+        _ => Front::Refused(FaultKind::Unbuilt),
+    }
+}
+
+// What held bytes begin with that begin with a backquote.
+fn backquoted(held: &[u8]) -> Front
+    requires some { 0 < length held.now }
+    requires backquote { slice_index held.now 0 ≡ 96 }
+    ensures { IsFront held.now result }
+{
+    let token = first_token(Mode::Plain, held);
+    match token.kind {
+        Kind::Back => named(held, token.len),
+        _ => Front::Refused(FaultKind::BareBackquote),
+    }
+}
+
+// What held bytes begin with that begin with a backquote and a name, of so many bytes together.
+fn named(held: &[u8], len: usize) -> Front
+    requires some { 0 < len }
+    requires inside { len ≤ length held.now }
+    requires backquote { slice_index held.now 0 ≡ 96 }
+    requires kind { (token_of Plain held.now).kind ≡ Back }
+    requires whole { len ≡ (token_of Plain held.now).len }
+    ensures { IsFront held.now result }
+{
+    match reserved(&held[1..len]) {
+        None => Front::Usage(len),
+        Some(directive) => commanded(held, directive),
+    }
+}
+
+// What held bytes begin with that begin with the name of a directive.
+fn commanded(held: &[u8], directive: Directive) -> Front
+    requires backquote { slice_index held.now 0 ≡ 96 }
+    requires kind { (token_of Plain held.now).kind ≡ Back }
+    requires word { directive_named (name_behind held.now) ≡ Some directive }
+    ensures { IsFront held.now result }
+{
+    match directive {
+        Directive::Define => defined(held),
+        _ => Front::Refused(FaultKind::Unbuilt),
+    }
+}
+
+// What held bytes begin with that begin with a `define`.
+fn defined(held: &[u8]) -> Front
+    requires backquote { slice_index held.now 0 ≡ 96 }
+    requires kind { (token_of Plain held.now).kind ≡ Back }
+    requires word { directive_named (name_behind held.now) ≡ Some Define }
+    ensures { IsFront held.now result }
+{
+    if is_unbuilt_define(held) {
+        return Front::Refused(FaultKind::Unbuilt);
+    }
+    Front::Define(rest_of_line(held).unwrap_or(held.len()))
+}

@@ -1,0 +1,20 @@
+// What an engine holds.
+
+/// What an engine holds at one moment: three counts of bytes, then four counts of things.
+#[derive(Clone, Copy, Debug, PartialEq, Eq)]
+pub struct Held {
+    /// Bytes of the live definitions.
+    pub definitions: usize,
+    /// Bytes of the open call's kept text.
+    pub arguments: usize,
+    /// Bytes of the open sources' buffers.
+    pub buffers: usize,
+    /// Open bodies and actuals.
+    pub cursors: usize,
+    /// Bound actuals.
+    pub bindings: usize,
+    /// Open conditionals.
+    pub conditions: usize,
+    /// Open sources.
+    pub sources: usize,
+}

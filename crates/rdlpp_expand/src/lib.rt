@@ -1,0 +1,18 @@
+//! The preprocessor's engine: it reads sources by lines, expands macros, and lends its output piece by piece.
+#![tactic(auto)]
+
+mod blanks;
+mod engine;
+mod feed;
+mod front;
+mod held;
+mod phase;
+mod place;
+mod texts;
+mod writing;
+
+pub use engine::{Engine, NewFault};
+pub use held::Held;
+pub use place::Piece;
+pub use rdlpp_meaning::{Fault, FaultKind};
+pub use writing::{RunFault, run};

@@ -1,0 +1,12 @@
+// How far an engine is.
+
+/// How far an engine is.
+#[derive(Clone, Copy, Debug, PartialEq, Eq)]
+pub(crate) enum Phase {
+    /// Not started.
+    Fresh,
+    /// The main text is open.
+    Open,
+    /// The main text has ended, or couldn't be opened.
+    Closed,
+}

@@ -1,0 +1,25 @@
+// Pieces of the output, and where they stand.
+
+use rdlpp_table::MacroId;
+
+/// A piece of the output, lent by the engine.
+#[derive(Debug)]
+pub enum Piece<'a> {
+    /// The next bytes, which may be none.
+    Bytes(&'a [u8]),
+    /// The end of the output.
+    Done,
+}
+
+/// Where a piece stands in the held stores.
+#[derive(Clone, Copy)]
+pub(crate) enum Place {
+    /// From a place up to another in the buffer of the open source.
+    Source(usize, usize),
+    /// A live body.
+    Body(MacroId),
+    /// At the end.
+    End,
+    /// In the fault that is kept.
+    Kept,
+}

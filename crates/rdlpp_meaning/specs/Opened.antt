@@ -1,0 +1,49 @@
+-- What remains of a nest of open sources: of the innermost, and then of each that waits for the text that it includes.
+use Rattle.std.specs.Prelude.{ℕ, Bool, List, [], ◌∷◌, ◌++◌}
+use Rattle.rdlpp_scan.specs.declared.token.Directive.TheVariants.{Include}
+use Rattle.rdlpp_scan.specs.SourceTokens.{SourceToken}
+use Rattle.rdlpp_meaning.specs.Outcome.{Outcome, gives}
+use Rattle.rdlpp_meaning.specs.State.{Rules, shown_line, State}
+use Rattle.rdlpp_meaning.specs.Parts.{only_blanks, command_in_front, behind_directive}
+use Rattle.rdlpp_meaning.specs.Meaning.{Passage, leaves, outcome, behind_bytes, goes_on, Progress, origin_line, back_in, added_end}
+use Rattle.rdlpp_meaning.specs.Resumed.{Place, Live, resumed}
+
+-- a source that waits for the text that it includes: its open conditionals, innermost first, whether only blanks stand
+-- before what remains of it on that line, what remains of it, its state, and what is written behind the included text
+-- (source: this project's profile)
+pub record Waiting : Type 0 where
+  pub open_conditionals : List Progress
+  pub first : Bool
+  pub tokens : List SourceToken
+  pub state : State
+  pub ending : List ℕ
+
+-- what is written behind the text that an `include` has found
+abbrev pub ending_of : Rules → SourceToken → State → List ℕ → List ℕ
+ending_of rules t s text = added_end text ++ origin_line rules s.name (shown_line s.shift t.line)
+
+-- a source that waits for the text that its `include` has found
+unfoldable pub waiting : Rules → List Progress → Bool → SourceToken → List SourceToken → State → List ℕ → Waiting
+waiting rules os first t ts s text = record {
+  open_conditionals = os;
+  first = only_blanks first (command_in_front Include first t ts).text;
+  tokens = behind_directive Include ts;
+  state = s;
+  ending = ending_of rules t s text;
+}
+
+-- what remains where an included text has ended, in the sources that wait, innermost first (source: this project's profile)
+unfoldable pub unwound : Rules → List Waiting → State → Passage
+unwound rules [] s = leaves (gives []) s
+unwound rules (w ∷ ws) s =
+    behind_bytes w.ending
+    (goes_on (resumed rules (Live w.open_conditionals) w.first w.tokens (back_in w.state s)) (λ after. unwound rules ws after))
+
+-- what remains of the innermost source, and then of those that wait (source: this project's profile)
+unfoldable pub all_resumed : Rules → List Waiting → Place → Bool → List SourceToken → State → Passage
+all_resumed rules ws place first tokens s =
+    goes_on (resumed rules place first tokens s) (λ after. unwound rules ws after)
+
+-- the bytes and the fault that remain of a nest of open sources (source: this project's profile)
+unfoldable pub all_remains : Rules → List Waiting → Place → Bool → List SourceToken → State → Outcome
+all_remains rules ws place first tokens s = outcome (all_resumed rules ws place first tokens s)

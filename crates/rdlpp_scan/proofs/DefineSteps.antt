@@ -1,0 +1,184 @@
+-- A step at a `define` with its logical line, and at a `line` with its line.
+use Rattle.std.proofs.Common.{◌≡◌, ℕ, suc, ◌+◌, ◌<◌, ◌≤◌, Bool, true, false, not, ◌&&◌, cond, ltb, List, [], ◌∷◌, ◌++◌, Option, Some, None, length, take, drop, refl, sym, ap, ◌∙◌, arith}
+use Rattle.std.specs.Prelude.{codes, bytes_eq}
+use Rattle.std.specs.Option.{option_map}
+use Rattle.std.proofs.lemmas.Bool.{lt-ltb}
+use Rattle.std.proofs.lemmas.List.{append-nil, take-append-le, drop_all, length-append}
+use Rattle.std.proofs.Math.Seq.{take-length}
+use Rattle.rdlpp_scan.specs.declared.token.Kind.TheVariants.{Back}
+use Rattle.rdlpp_scan.specs.declared.token.Mode.TheVariants.{Plain}
+use Rattle.rdlpp_scan.specs.Bytes.{is_line_end}
+use Rattle.rdlpp_scan.specs.Tokens.{token_of}
+use Rattle.rdlpp_scan.specs.Front.{Breach, LineLong, SourceLong, Break}
+use Rattle.rdlpp_scan.specs.SourceTokens.{SourceToken, Course, Step, Next, Ordinary, Definition, Renumbering, Broken, broken, define_step, is_continued, line_step, line_ends, line_len, logical_len, source_step, source_tokens}
+use Rattle.rdlpp_scan.specs.Lines.{EndsLine}
+use Rattle.rdlpp_scan.proofs.LineLaws.{line_len-append, line_len-some, logical_len-append, some_suc, none_suc}
+use Rattle.rdlpp_scan.proofs.LogicalLines.{line_len-le}
+use Rattle.rdlpp_scan.proofs.SourceLaws.{source_tokens-last}
+use Rattle.rdlpp_scan.proofs.StepLaws.{back_held, next_held, define_step-some, define_step-none}
+
+-- a logical line has a byte, and lies in its text
+pub logical_len-within : (x y : ℕ) (bs : List ℕ) (n : ℕ) → logical_len x y bs ≡ Some n → (0 < n) × (n ≤ length bs)
+unfolding logical_len
+logical_len-within x y [] n h = absurd (cc)
+logical_len-within x y (b ∷ bs) n h =
+    let P : Bool → Type 0 = λ t. cond t (Some 1) (option_map suc (logical_len y b bs)) ≡ Some n → (0 < n) × (n ≤ suc (length bs)) in
+    let at_true : P true = λ e. let one : 1 ≡ n = cc in (omega arith, omega arith) in
+    let at_false : P false = λ e. let p = some_suc (logical_len y b bs) n e in let rest = logical_len-within y b bs p.0 p.1.0 in (omega (arith, p.1.1), omega (arith, p.1.1, rest.1)) in
+    elim (is_line_end b && not (is_continued x y)) as P [ true ↦ at_true | false ↦ at_false ] h
+
+-- a logical line has at least the first line
+pub logical_len-line_le : (x y : ℕ) (bs : List ℕ) (n : ℕ) → logical_len x y bs ≡ Some n → line_len bs ≤ n
+unfolding logical_len line_len
+logical_len-line_le x y [] n h = absurd (cc)
+logical_len-line_le x y (b ∷ bs) n h =
+    let L = logical_len y b bs in
+    let P : Bool → Type 0 = λ t. cond (t && not (is_continued x y)) (Some 1) (option_map suc L) ≡ Some n → 0 < n → cond t 1 (suc (line_len bs)) ≤ n in
+    let at_true : P true = λ _ some. omega arith in
+    let at_false : P false = λ e some. let p = some_suc L n e in omega (arith, p.1.1, logical_len-line_le y b bs p.0 p.1.0) in
+    elim (is_line_end b) as P [ true ↦ at_true | false ↦ at_false ] h (logical_len-within x y (b ∷ bs) n h).0
+
+-- a logical line that isn't ended in front of a text has at least the first line of that text
+pub logical_len-beyond : (x y : ℕ) (xs ys : List ℕ) (n : ℕ) → logical_len x y xs ≡ None → logical_len x y (xs ++ ys) ≡ Some n → length xs + line_len ys ≤ n
+unfolding logical_len
+logical_len-beyond x y [] ys n none h = omega (arith, logical_len-line_le x y ys n h)
+logical_len-beyond x y (b ∷ xs) ys n none h =
+    let P : Bool → Type 0 = λ t. cond t (Some 1) (option_map suc (logical_len y b xs)) ≡ None → cond t (Some 1) (option_map suc (logical_len y b (xs ++ ys))) ≡ Some n → suc (length xs) + line_len ys ≤ n in
+    let at_true : P true = λ e _. absurd (cc) in
+    let at_false : P false = λ e f. let p = some_suc (logical_len y b (xs ++ ys)) n f in omega (arith, p.1.1, logical_len-beyond y b xs ys p.0 (none_suc (logical_len y b xs) e) p.1.0) in
+    elim (is_line_end b && not (is_continued x y)) as P [ true ↦ at_true | false ↦ at_false ] none h
+
+-- where a text begins with the word `define`, and that is built
+pub record BeginsDefine (c : Course) (held more : List ℕ) : Type 0 where
+  pub some : 0 < length held
+  pub ends : EndsLine held more
+  pub built : c.unbuilt (held ++ more) ≡ false
+  pub kind : (token_of Plain held).kind ≡ Back
+  pub word : bytes_eq (take (token_of Plain held).len held) (codes "`define") ≡ true
+
+define_here : (c : Course) (o l : ℕ) (held more : List ℕ) → BeginsDefine c held more → source_step c Plain o l (held ++ more) ≡ define_step c l (held ++ more)
+define_here c o l held more d =
+    let t = token_of Plain held in
+    let other = cond (bytes_eq (take t.len held) (codes "`line")) (line_step l (held ++ more)) (Next (record { sort = Ordinary Back; bytes = take t.len held; line = l })) in
+    back_held c o l held more d.some d.ends d.built d.kind ∙ ap (λ b. cond b (define_step c l (held ++ more)) other) d.word
+
+define_long : (c : Course) (l : ℕ) (bs : List ℕ) (n : ℕ) → logical_len 0 0 bs ≡ Some n → c.most < n → define_step c l bs ≡ broken LineLong [] l
+unfolding define_step
+define_long c l bs n is long =
+    let open_text : Step = elim c.break [
+      | None ↦ cond (ltb c.most (length bs)) (broken LineLong [] l) (Next (record { sort = Definition; bytes = bs; line = l }))
+      | Some k ↦ cond (ltb c.most (length bs + k.len)) (broken LineLong [] l) (broken SourceLong [] l)
+    ] in
+    ap (λ (o : Option ℕ). elim o [
+      | Some m ↦ cond (ltb c.most m) (broken LineLong [] l) (Next (record { sort = Definition; bytes = take m bs; line = l }))
+      | None ↦ open_text
+    ]) is ∙ ap (λ t. cond t (broken LineLong [] l) (Next (record { sort = Definition; bytes = take n bs; line = l }))) (lt-ltb c.most n long)
+
+-- what a `define` gives whose logical line doesn't end in the text, by what breaks the source behind it
+at_break : Course → ℕ → List ℕ → Option Break → Step
+at_break c l bs None = cond (ltb c.most (length bs)) (broken LineLong [] l) (Next (record { sort = Definition; bytes = bs; line = l }))
+at_break c l bs (Some k) = cond (ltb c.most (length bs + k.len)) (broken LineLong [] l) (broken SourceLong [] l)
+
+define_open : (c : Course) (l : ℕ) (bs : List ℕ) → logical_len 0 0 bs ≡ None → define_step c l bs ≡ at_break c l bs c.break
+unfolding define_step at_break
+define_open c l bs is =
+    ap (λ (o : Option ℕ). elim o [
+      | Some m ↦ cond (ltb c.most m) (broken LineLong [] l) (Next (record { sort = Definition; bytes = take m bs; line = l }))
+      | None ↦ elim c.break [
+        | None ↦ cond (ltb c.most (length bs)) (broken LineLong [] l) (Next (record { sort = Definition; bytes = bs; line = l }))
+        | Some k ↦ cond (ltb c.most (length bs + k.len)) (broken LineLong [] l) (broken SourceLong [] l)
+      ]
+    ]) is
+
+broken_here : (c : Course) (o l : ℕ) (held more : List ℕ) (k : Breach) → 0 < length held → source_step c Plain o l (held ++ more) ≡ broken k [] l → source_tokens c Plain o l 0 (held ++ more) ≡ record { sort = Broken k; bytes = []; line = l } ∷ []
+unfolding broken
+broken_here c o l held more k some is = source_tokens-last c Plain o l (held ++ more) (record { sort = Broken k; bytes = []; line = l }) (omega (arith, length-append held more)) is
+
+-- a `define` whose logical line ends in what is held
+pub step-logical : (c : Course) (o l : ℕ) (held more : List ℕ) (n : ℕ) → BeginsDefine c held more → logical_len 0 0 held ≡ Some n → n ≤ c.most
+    → source_tokens c Plain o l 0 (held ++ more)
+    ≡ record { sort = Definition; bytes = take n held; line = l } ∷ source_tokens c Plain l (l + line_ends (take n held)) 0 (drop n held ++ more)
+step-logical c o l held more n d is fits =
+    let within = logical_len-within 0 0 held n is in
+    let made : List ℕ → Step = λ z. Next (record { sort = Definition; bytes = z; line = l }) in
+    next_held c o l held more (record { sort = Definition; bytes = take n held; line = l }) n within.0 within.1 refl
+    (define_here c o l held more d ∙ define_step-some c l (held ++ more) n (logical_len-append 0 0 held more n is) fits ∙ ap made (take-append-le n held more within.1))
+
+-- a `define` whose logical line is too long
+pub step-logical_long : (c : Course) (o l : ℕ) (held more : List ℕ) (n : ℕ) → BeginsDefine c held more → logical_len 0 0 held ≡ Some n → c.most < n
+    → source_tokens c Plain o l 0 (held ++ more) ≡ record { sort = Broken LineLong; bytes = []; line = l } ∷ []
+step-logical_long c o l held more n d is long =
+    broken_here c o l held more LineLong d.some (define_here c o l held more d ∙ define_long c l (held ++ more) n (logical_len-append 0 0 held more n is) long)
+
+-- a `define` whose logical line goes on, and is too long with the next line
+pub step-logical_full : (c : Course) (o l : ℕ) (held more : List ℕ) → BeginsDefine c held more → logical_len 0 0 held ≡ None → 0 < length more → c.most < length held + line_len more
+    → source_tokens c Plain o l 0 (held ++ more) ≡ record { sort = Broken LineLong; bytes = []; line = l } ∷ []
+unfolding at_break
+step-logical_full c o l held more d is some long =
+    let bs = held ++ more in
+    let size = length-append held more in
+    let line = line_len-le more in
+    let P : Option ℕ → Type 0 = λ r. logical_len 0 0 bs ≡ r → define_step c l bs ≡ broken LineLong [] l in
+    let ended : (n : ℕ) → P (Some n) = λ n e. define_long c l bs n e (omega (arith, logical_len-beyond 0 0 held more n is e)) in
+    let goes : P None = λ e. define_open c l bs e ∙ elim c.break as (λ b. at_break c l bs b ≡ broken LineLong [] l) [
+      | None ↦ ap (λ t. cond t (broken LineLong [] l) (Next (record { sort = Definition; bytes = bs; line = l }))) (lt-ltb c.most (length bs) (omega arith))
+      | Some k ↦ ap (λ t. cond t (broken LineLong [] l) (broken SourceLong [] l)) (lt-ltb c.most (length bs + k.len) (omega arith))
+    ] in
+    broken_here c o l held more LineLong d.some (define_here c o l held more d ∙ elim (logical_len 0 0 bs) as P [ Some n ↦ ended n | None ↦ goes ] refl)
+
+-- a `define` at the end of a source
+pub step-logical_last : (c : Course) (o l : ℕ) (held : List ℕ) → BeginsDefine c held [] → logical_len 0 0 held ≡ None → c.break ≡ None → length held ≤ c.most
+    → source_tokens c Plain o l 0 held ≡ record { sort = Definition; bytes = held; line = l } ∷ source_tokens c Plain l (l + line_ends held) 0 []
+step-logical_last c o l held d is last fits =
+    let tok : SourceToken = record { sort = Definition; bytes = held; line = l } in
+    let bare = append-nil held in
+    let all : take (length held) held ≡ held = take-length held in
+    let gone : drop (length held) held ++ [] ≡ [] = ap (λ z. z ++ []) (drop_all (length held) held (omega arith)) in
+    let step : source_step c Plain o l (held ++ []) ≡ Next tok =
+    define_here c o l held [] d ∙ ap (define_step c l) bare ∙ define_step-none c l held is last fits in
+    ap (source_tokens c Plain o l 0) (sym bare) ∙ next_held c o l held [] tok (length held) d.some (omega arith) (sym all) step
+    ∙ ap (λ z. tok ∷ source_tokens c Plain l (l + line_ends z) 0 (drop (length held) held ++ [])) all ∙ ap (λ z. tok ∷ source_tokens c Plain l (l + line_ends held) 0 z) gone
+
+-- a `define` at the end of a source, which is too long
+pub step-logical_last_long : (c : Course) (o l : ℕ) (held : List ℕ) → BeginsDefine c held [] → logical_len 0 0 held ≡ None → c.break ≡ None → c.most < length held
+    → source_tokens c Plain o l 0 held ≡ record { sort = Broken LineLong; bytes = []; line = l } ∷ []
+unfolding at_break
+step-logical_last_long c o l held d is last long =
+    let bare = append-nil held in
+    let tok : Step = Next (record { sort = Definition; bytes = held; line = l }) in
+    ap (source_tokens c Plain o l 0) (sym bare)
+    ∙ broken_here c o l held [] LineLong d.some
+    (define_here c o l held [] d ∙ ap (define_step c l) bare ∙ define_open c l held is ∙ ap (at_break c l held) last ∙ ap (λ t. cond t (broken LineLong [] l) tok) (lt-ltb c.most (length held) long))
+
+-- a `define` in whose logical line a source breaks
+pub step-logical_broken : (c : Course) (o l : ℕ) (held : List ℕ) (k : Break) → BeginsDefine c held [] → logical_len 0 0 held ≡ None → c.break ≡ Some k
+    → source_tokens c Plain o l 0 held ≡ record { sort = Broken (cond (ltb c.most (length held + k.len)) LineLong SourceLong); bytes = []; line = l } ∷ []
+unfolding at_break
+step-logical_broken c o l held k d is breaks =
+    let bare = append-nil held in
+    let long = ltb c.most (length held + k.len) in
+    let picked : cond long (broken LineLong [] l) (broken SourceLong [] l) ≡ broken (cond long LineLong SourceLong) [] l =
+    elim long as (λ t. cond t (broken LineLong [] l) (broken SourceLong [] l) ≡ broken (cond t LineLong SourceLong) [] l) [ true ↦ refl | false ↦ refl ] in
+    ap (source_tokens c Plain o l 0) (sym bare)
+    ∙ broken_here c o l held [] (cond long LineLong SourceLong) d.some
+    (define_here c o l held [] d ∙ ap (define_step c l) bare ∙ define_open c l held is ∙ ap (at_break c l held) breaks ∙ picked)
+
+-- a `line` with its line
+pub step-line : (c : Course) (o l : ℕ) (held more : List ℕ) → 0 < length held → EndsLine held more → c.unbuilt (held ++ more) ≡ false → (token_of Plain held).kind ≡ Back
+    → bytes_eq (take (token_of Plain held).len held) (codes "`define") ≡ false → bytes_eq (take (token_of Plain held).len held) (codes "`line") ≡ true
+    → source_tokens c Plain o l 0 (held ++ more)
+    ≡ record { sort = Renumbering; bytes = take (line_len held) held; line = l } ∷ source_tokens c Plain l (l + line_ends (take (line_len held) held)) 0 (drop (line_len held) held ++ more)
+unfolding line_step
+step-line c o l held more some ends built is other also =
+    let t = token_of Plain held in
+    let bs = held ++ more in
+    let n = line_len held in
+    let tok : SourceToken = record { sort = Renumbering; bytes = take n held; line = l } in
+    let ordinary : Step = Next (record { sort = Ordinary Back; bytes = take t.len held; line = l }) in
+    let line = bytes_eq (take t.len held) (codes "`line") in
+    let own : take (line_len bs) bs ≡ take n held = ap (λ i. take i bs) (line_len-append held more some ends) ∙ take-append-le n held more (line_len-le held) in
+    let step : source_step c Plain o l bs ≡ Next tok =
+    back_held c o l held more some ends built is
+    ∙ ap (λ b. cond b (define_step c l bs) (cond line (line_step l bs) ordinary)) other ∙ ap (λ b. cond b (line_step l bs) ordinary) also
+    ∙ ap (λ z. Next (record { sort = Renumbering; bytes = z; line = l })) own in
+    next_held c o l held more tok n (line_len-some held some) (line_len-le held) refl step

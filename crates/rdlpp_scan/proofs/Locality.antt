@@ -1,0 +1,87 @@
+-- What a text that ends at a line end tells of itself stays so with more behind it.
+use Rattle.std.proofs.Common.{◌≡◌, ℕ, ◌<◌, Bool, false, not, ◌&&◌, ◌||◌, eqb, List, [], ◌∷◌, ◌++◌, length, take, drop, refl, sym, ap, ◌∙◌, subst, inl, inr, ⊎_elim, arith}
+use Rattle.std.specs.Prelude.{codes, bytes_eq}
+use Rattle.std.specs.List.{list_any, prefix_len}
+use Rattle.std.proofs.lemmas.List.{take-append-le}
+use Rattle.std.proofs.lemmas.List.Sums.{prefix_len-le-length}
+use Rattle.rdlpp_scan.specs.declared.token.Mode.TheVariants.{Plain}
+use Rattle.rdlpp_scan.specs.declared.token.Token.{Token}
+use Rattle.rdlpp_scan.specs.Bytes.{is_word, is_letter, is_digit, begins_line_comment, begins_block_comment, begins_perl}
+use Rattle.rdlpp_scan.specs.Tokens.{token_of, stops_plain_text}
+use Rattle.rdlpp_scan.specs.SourceTokens.{line_len}
+use Rattle.rdlpp_scan.specs.Lines.{EndsLine, IsWholeLines}
+use Rattle.rdlpp_scan.specs.Pieces.{IsCut}
+use Rattle.rdlpp_scan.specs.Stage.{is_unbuilt, is_unbuilt_directive, is_reserved, name_behind, is_unbuilt_in_define}
+use Rattle.rdlpp_scan.proofs.LogicalLines.{line_len-le}
+use Rattle.rdlpp_scan.proofs.LineLaws.{line_len-append, nothing_behind}
+use Rattle.rdlpp_scan.proofs.WholeLines.{IsWholeLines-rest, IsWholeLines-one}
+use Rattle.rdlpp_scan.proofs.Seams.{Seam, Closed, BeforePerl, OpenString, OpenComment, token_of-seam, begins_perl-append, begins_line_comment-append, begins_block_comment-append, run-append, line_end-ten}
+
+-- a text that ends at a line end is cut there
+pub IsCut-from_line : (held more : List ℕ) → EndsLine held more → IsCut held more
+IsCut-from_line held more = ⊎_elim (λ whole. inr (inr whole)) (λ none. inl none)
+
+-- a place of a line stops ordinary text, or doesn't, whatever follows the line
+pub stops-append : (held more : List ℕ) → 0 < length held → IsCut held more → stops_plain_text (held ++ more) ≡ stops_plain_text held
+unfolding stops_plain_text
+stops-append [] more some cut = absurd (omega arith)
+stops-append (b ∷ w) more some cut =
+    let q = eqb b 96 || eqb b 34 in
+    ap (λ t. q || t || begins_block_comment (b ∷ w ++ more) || begins_perl (b ∷ w ++ more)) (begins_line_comment-append (b ∷ w) more some cut)
+    ∙ ap (λ t. q || begins_line_comment (b ∷ w) || t || begins_perl (b ∷ w ++ more)) (begins_block_comment-append (b ∷ w) more some cut)
+    ∙ ap (λ t. q || begins_line_comment (b ∷ w) || begins_block_comment (b ∷ w) || t) (begins_perl-append (b ∷ w) more some cut)
+
+closed_seam : (xs ys : List ℕ) (t u : Token) → t.next_mode ≡ Plain → Seam xs ys t u → u ≡ t
+closed_seam xs ys t u closed (Closed e h) = e
+closed_seam xs ys t u closed (BeforePerl e is lt perl) = e
+closed_seam xs ys t u closed (OpenString is e) = let open_mode = ap (λ (v : Token). v.next_mode) is in absurd (cc)
+closed_seam xs ys t u closed (OpenComment is e) = let open_mode = ap (λ (v : Token). v.next_mode) is in absurd (cc)
+
+-- a token that is closed is the same with more behind the line
+pub token_of-append : (held more : List ℕ) → 0 < length held → EndsLine held more → (token_of Plain held).next_mode ≡ Plain → token_of Plain (held ++ more) ≡ token_of Plain held
+token_of-append held more some ends closed =
+    closed_seam held more (token_of Plain held) (token_of Plain (held ++ more)) closed (token_of-seam Plain held more some (IsCut-from_line held more ends))
+
+word_ten : is_word 10 ≡ false
+unfolding is_word is_letter is_digit
+word_ten = refl
+
+name_behind-append : (b c : ℕ) (w more : List ℕ) → IsCut (c ∷ w) more → name_behind (b ∷ c ∷ w ++ more) ≡ name_behind (b ∷ c ∷ w)
+unfolding name_behind
+name_behind-append b c w more cut =
+    let xs = c ∷ w in
+    ap (λ n. take n (xs ++ more)) (run-append is_word word_ten xs more (omega arith) cut) ∙ take-append-le (prefix_len is_word xs) xs more (prefix_len-le-length is_word xs)
+
+-- what isn't built, by its parts
+unbuilt_parts : ℕ → Bool → Bool → List ℕ → List ℕ → Bool
+unbuilt_parts b line block name rest = eqb b 34 || line || block || (eqb b 96 && is_reserved name && (not (bytes_eq name (codes "define")) || list_any is_unbuilt_in_define (drop 7 rest)))
+
+is_unbuilt-parts : (b : ℕ) (bs : List ℕ) → is_unbuilt (b ∷ bs) ≡ unbuilt_parts b (begins_line_comment (b ∷ bs)) (begins_block_comment (b ∷ bs)) (name_behind (b ∷ bs)) (take (line_len (b ∷ bs)) (b ∷ bs))
+unfolding is_unbuilt is_unbuilt_directive unbuilt_parts
+is_unbuilt-parts b bs = refl
+
+line_end-built : (b : ℕ) (bs : List ℕ) → b ≡ 10 → is_unbuilt (b ∷ bs) ≡ false
+unfolding is_unbuilt is_unbuilt_directive begins_line_comment begins_block_comment
+line_end-built b bs ten = subst (λ (n : ℕ). is_unbuilt (n ∷ bs) ≡ false) (sym ten) refl
+
+is_unbuilt-whole : (held more : List ℕ) → 0 < length held → IsWholeLines held → is_unbuilt (held ++ more) ≡ is_unbuilt held
+is_unbuilt-whole [] more some whole = absurd (omega arith)
+is_unbuilt-whole (b ∷ []) more some whole =
+    let ten = line_end-ten b (IsWholeLines-one b whole) in
+    line_end-built b more ten ∙ sym (line_end-built b [] ten)
+is_unbuilt-whole (b ∷ c ∷ w) more some whole =
+    let xs = b ∷ c ∷ w in
+    let cut : IsCut xs more = inr (inr whole) in
+    let rest : IsCut (c ∷ w) more = inr (inr (IsWholeLines-rest b (c ∷ w) whole)) in
+    let line : take (line_len (xs ++ more)) (xs ++ more) ≡ take (line_len xs) xs =
+    ap (λ n. take n (xs ++ more)) (line_len-append xs more some (inl whole)) ∙ take-append-le (line_len xs) xs more (line_len-le xs) in
+    is_unbuilt-parts b (c ∷ w ++ more)
+    ∙ ap (λ t. unbuilt_parts b t (begins_block_comment (xs ++ more)) (name_behind (xs ++ more)) (take (line_len (xs ++ more)) (xs ++ more))) (begins_line_comment-append xs more some cut)
+    ∙ ap (λ t. unbuilt_parts b (begins_line_comment xs) t (name_behind (xs ++ more)) (take (line_len (xs ++ more)) (xs ++ more))) (begins_block_comment-append xs more some cut)
+    ∙ ap (λ n. unbuilt_parts b (begins_line_comment xs) (begins_block_comment xs) n (take (line_len (xs ++ more)) (xs ++ more))) (name_behind-append b c w more rest)
+    ∙ ap (unbuilt_parts b (begins_line_comment xs) (begins_block_comment xs) (name_behind xs)) line
+    ∙ sym (is_unbuilt-parts b (c ∷ w))
+
+-- what isn't built
+pub is_unbuilt-append : (held more : List ℕ) → 0 < length held → EndsLine held more → is_unbuilt (held ++ more) ≡ is_unbuilt held
+is_unbuilt-append held more some = ⊎_elim (λ whole. is_unbuilt-whole held more some whole) (λ none. nothing_behind is_unbuilt held more none)

@@ -1,0 +1,160 @@
+-- What remains of a source, step by step, as the engine takes it: `held` ends at a line end or at the text's end.
+use Rattle.std.proofs.Common.{◌≡◌, ◌⊎◌, ℕ, ◌+◌, ◌-◌, ◌<◌, ◌≤◌, Bool, true, false, List, [], ◌∷◌, ◌++◌, Option, None, length, take, drop, refl, sym, ap, ◌∙◌, inl, inr, ⊎_elim, arith}
+use Rattle.std.specs.Prelude.{codes, bytes_eq}
+use Rattle.std.specs.List.{flat_map, All, list_any}
+use Rattle.std.proofs.lemmas.List.{append_assoc, length-append, take-append-drop}
+use Rattle.rdlpp_scan.specs.declared.token.Kind.TheVariants.{Back, BareBackquote, Perl}
+use Rattle.rdlpp_scan.specs.declared.token.Mode.{Mode}
+use Rattle.rdlpp_scan.specs.declared.token.Mode.TheVariants.{Plain}
+use Rattle.rdlpp_scan.specs.Tokens.{plain_len, token_of}
+use Rattle.rdlpp_scan.specs.Front.{LineLong, SourceLong, PerlFound, Unbuilt, Break, Front, front, onto_front}
+use Rattle.rdlpp_scan.specs.SourceTokens.{SourceToken, Course, Ordinary, Definition, Broken, line_ends, line_len, source_end, source_tokens, remaining_tokens}
+use Rattle.rdlpp_scan.specs.Lines.{EndsLine, IsWholeLines}
+use Rattle.rdlpp_scan.specs.Ordinary.{IsOrdinary, IsPlainToken, SparesOrdinary}
+use Rattle.rdlpp_scan.specs.Stage.{is_unbuilt_in_define}
+use Rattle.rdlpp_scan.proofs.SourceLaws.{source_tokens-opened}
+use Rattle.rdlpp_scan.proofs.OrdinaryLaws.{ordinary_text}
+use Rattle.rdlpp_scan.proofs.OrdinaryFronts.{ordinary_front, plain_len-append}
+use Rattle.rdlpp_scan.proofs.FrontLaws.{front-accept, front-none, front-line_long, front-source_long}
+use Rattle.rdlpp_scan.proofs.StepLaws.{step-unbuilt, step-perl, step-bare, step-back, step-define}
+
+-- what breaks or ends a source behind the text that is held
+pub record IsBehind (held rest more : List ℕ) (break : Option Break) : Type 0 where
+  pub ends : EndsLine held more
+  pub last : IsWholeLines held ⊎ ((more ≡ []) × (break ≡ None))
+
+-- the same of every front
+pub behind : (most room : ℕ) (held rest : List ℕ) → EndsLine held rest → IsBehind held rest (front most room rest).text (front most room rest).break
+behind most room held rest =
+    ⊎_elim (λ whole. record { ends = inl whole; last = inl whole }) (λ none.
+    let f : front most room rest ≡ record { text = []; break = None } = ap (front most room) none ∙ front-none most room in
+    let text = ap (λ (g : Front). g.text) f in
+    record { ends = inr text; last = inr (text, ap (λ (g : Front). g.break) f) })
+
+-- the course of a source with this behind it
+abbrev pub course : (List ℕ → Bool) → ℕ → ℕ → List ℕ → Course
+course u most room rest = record { unbuilt = u; most = most; break = (front most room rest).break }
+
+-- of what is held, ordinary text w goes through, and what is behind it remains
+pub record GoesThrough (u : List ℕ → Bool) (most l : ℕ) (held w behind : List ℕ) (room : ℕ) (rest : List ℕ) : Type 0 where
+  pub tokens : List SourceToken
+  pub steps : (o p : ℕ) → remaining_tokens u most Plain o l held room rest ≡ tokens ++ remaining_tokens u most Plain p (l + line_ends w) behind room rest
+  pub plain : All IsPlainToken tokens
+  pub spelled : flat_map (λ t. t.bytes) tokens ≡ w
+
+-- in plain text it is of no account where something opened
+pub remaining-opened : (u : List ℕ → Bool) (most o p l : ℕ) (held : List ℕ) (room : ℕ) (rest : List ℕ) → remaining_tokens u most Plain o l held room rest ≡ remaining_tokens u most Plain p l held room rest
+unfolding remaining_tokens
+remaining-opened u most o p l held room rest = source_tokens-opened (course u most room rest) o p l 0 (held ++ (front most room rest).text)
+
+goes_through : (u : List ℕ → Bool) (most l : ℕ) (held w behind : List ℕ) (room : ℕ) (rest : List ℕ) → held ≡ w ++ behind → IsOrdinary (course u most room rest) l w (behind ++ (front most room rest).text) → GoesThrough u most l held w behind room rest
+unfolding remaining_tokens
+goes_through u most l held w behind room rest split ordinary =
+    let c = course u most room rest in
+    let more = (front most room rest).text in
+    let text : held ++ more ≡ w ++ (behind ++ more) = ap (λ z. z ++ more) split ∙ append_assoc w behind more in
+    record {
+      tokens = ordinary.tokens;
+      steps = λ o p.
+          ap (λ z. source_tokens c Plain o l 0 z) text ∙ ordinary.steps o
+          ∙ ap (λ z. ordinary.tokens ++ z) (source_tokens-opened c o p (l + line_ends w) 0 (behind ++ more));
+      plain = ordinary.plain;
+      spelled = ordinary.spelled;
+    }
+
+-- the ordinary text with which what is held begins
+pub remaining-ordinary : (u : List ℕ → Bool) (most l : ℕ) (held : List ℕ) (room : ℕ) (rest : List ℕ) → SparesOrdinary u → EndsLine held rest
+    → GoesThrough u most l held (take (plain_len held) held) (drop (plain_len held) held) room rest
+remaining-ordinary u most l held room rest spares ends =
+    let n = plain_len held in
+    goes_through u most l held (take n held) (drop n held) room rest (sym (take-append-drop n held))
+    (ordinary_front (course u most room rest) l held (front most room rest).text spares (behind most room held rest ends).ends)
+
+-- a part of that ordinary text, up to a line end
+pub remaining-ordinary_lines : (u : List ℕ → Bool) (most l : ℕ) (w held : List ℕ) (room : ℕ) (rest : List ℕ) → SparesOrdinary u → EndsLine (w ++ held) rest → IsWholeLines w → length w ≤ plain_len (w ++ held)
+    → GoesThrough u most l (w ++ held) w held room rest
+remaining-ordinary_lines u most l w held room rest spares ends whole inside =
+    let more = (front most room rest).text in
+    let longer = plain_len-append (w ++ held) more (behind most room (w ++ held) rest ends).ends in
+    goes_through u most l (w ++ held) w held room rest refl
+    (ordinary_text (course u most room rest) l w (held ++ more) spares (omega (arith, longer, ap plain_len (append_assoc w held more))) (inr (inl whole)))
+
+-- lines that are taken in
+pub remaining-accept : (u : List ℕ → Bool) (most : ℕ) (m : Mode) (o l : ℕ) (held : List ℕ) (room : ℕ) (w r : List ℕ) → EndsLine w r → length w ≤ most → length w ≤ room
+    → remaining_tokens u most m o l held room (w ++ r) ≡ remaining_tokens u most m o l (held ++ w) (room - length w) r
+unfolding remaining_tokens onto_front
+remaining-accept u most m o l held room w r ends line source =
+    let f = front most (room - length w) r in
+    let of_front : Front → List SourceToken = λ g. source_tokens (record { unbuilt = u; most = most; break = g.break }) m o l 0 (held ++ g.text) in
+    ap of_front (front-accept most room w r ends line source)
+    ∙ ap (λ z. source_tokens (record { unbuilt = u; most = most; break = f.break }) m o l 0 z) (sym (append_assoc held w f.text))
+
+-- what remains of a source whose front is known
+remaining-front : (u : List ℕ → Bool) (most o l room : ℕ) (r : List ℕ) (k : Option Break) → front most room r ≡ record { text = []; break = k } → remaining_tokens u most Plain o l [] room r ≡ source_end (record { unbuilt = u; most = most; break = k }) Plain o l
+unfolding remaining_tokens source_tokens
+remaining-front u most o l room r k is = ap (λ (g : Front). source_tokens (record { unbuilt = u; most = most; break = g.break }) Plain o l 0 g.text) is
+
+-- the end
+pub remaining-end : (u : List ℕ → Bool) (most o l room : ℕ) → remaining_tokens u most Plain o l [] room [] ≡ []
+unfolding source_end
+remaining-end u most o l room = remaining-front u most o l room [] None (front-none most room)
+
+-- a line that is too long
+pub remaining-line_long : (u : List ℕ → Bool) (most o l room : ℕ) (r : List ℕ) → most < line_len r
+    → remaining_tokens u most Plain o l [] room r ≡ record { sort = Broken LineLong; bytes = []; line = l } ∷ []
+unfolding source_end
+remaining-line_long u most o l room r long = remaining-front u most o l room r _ (front-line_long most room r long)
+
+-- a line that is too much for the source
+pub remaining-source_long : (u : List ℕ → Bool) (most o l room : ℕ) (r : List ℕ) → line_len r ≤ most → room < line_len r
+    → remaining_tokens u most Plain o l [] room r ≡ record { sort = Broken SourceLong; bytes = []; line = l } ∷ []
+unfolding source_end
+remaining-source_long u most o l room r fits long = remaining-front u most o l room r _ (front-source_long most room r fits long)
+
+-- what isn't built ends the list
+pub remaining-unbuilt : (u : List ℕ → Bool) (most o l : ℕ) (held : List ℕ) (room : ℕ) (rest : List ℕ) → 0 < length held → ((more : List ℕ) → EndsLine held more → u (held ++ more) ≡ true) → EndsLine held rest
+    → remaining_tokens u most Plain o l held room rest ≡ record { sort = Broken Unbuilt; bytes = []; line = l } ∷ []
+unfolding remaining_tokens
+remaining-unbuilt u most o l held room rest some unbuilt ends =
+    let more = (front most room rest).text in
+    step-unbuilt (course u most room rest) o l (held ++ more) (omega (arith, length-append held more)) (unbuilt more (behind most room held rest ends).ends)
+
+-- `<%` ends the list
+pub remaining-perl : (u : List ℕ → Bool) (most o l : ℕ) (held : List ℕ) (room : ℕ) (rest : List ℕ) → 0 < length held → EndsLine held rest → ((more : List ℕ) → EndsLine held more → u (held ++ more) ≡ false) → (token_of Plain held).kind ≡ Perl
+    → remaining_tokens u most Plain o l held room rest ≡ record { sort = Broken PerlFound; bytes = []; line = l } ∷ []
+unfolding remaining_tokens
+remaining-perl u most o l held room rest some ends built is =
+    let more = (front most room rest).text in
+    let b = behind most room held rest ends in
+    step-perl (course u most room rest) o l held more some b.ends (built more b.ends) is
+
+-- a backquote without a name
+pub remaining-bare : (u : List ℕ → Bool) (most o l : ℕ) (held : List ℕ) (room : ℕ) (rest : List ℕ) → 0 < length held → EndsLine held rest → ((more : List ℕ) → EndsLine held more → u (held ++ more) ≡ false) → (token_of Plain held).kind ≡ BareBackquote
+    → remaining_tokens u most Plain o l held room rest ≡ record { sort = Ordinary BareBackquote; bytes = take 1 held; line = l } ∷ remaining_tokens u most Plain l l (drop 1 held) room rest
+unfolding remaining_tokens
+remaining-bare u most o l held room rest some ends built is =
+    let more = (front most room rest).text in
+    let b = behind most room held rest ends in
+    step-bare (course u most room rest) o l held more some b.ends (built more b.ends) is
+
+-- a backquote with a name that is neither `define` nor `line`
+pub remaining-back : (u : List ℕ → Bool) (most o l : ℕ) (held : List ℕ) (room : ℕ) (rest : List ℕ) → 0 < length held → EndsLine held rest → ((more : List ℕ) → EndsLine held more → u (held ++ more) ≡ false) → (token_of Plain held).kind ≡ Back
+    → bytes_eq (take (token_of Plain held).len held) (codes "`define") ≡ false → bytes_eq (take (token_of Plain held).len held) (codes "`line") ≡ false
+    → remaining_tokens u most Plain o l held room rest
+    ≡ record { sort = Ordinary Back; bytes = take (token_of Plain held).len held; line = l } ∷ remaining_tokens u most Plain l l (drop (token_of Plain held).len held) room rest
+unfolding remaining_tokens
+remaining-back u most o l held room rest some ends built is other also =
+    let more = (front most room rest).text in
+    let b = behind most room held rest ends in
+    step-back (course u most room rest) o l held more some b.ends (built more b.ends) is other also
+
+-- a `define` whose physical line has no `\`
+pub remaining-define : (u : List ℕ → Bool) (most o l : ℕ) (held : List ℕ) (room : ℕ) (rest : List ℕ) → 0 < length held → EndsLine held rest → ((more : List ℕ) → EndsLine held more → u (held ++ more) ≡ false) → (token_of Plain held).kind ≡ Back
+    → bytes_eq (take (token_of Plain held).len held) (codes "`define") ≡ true → list_any is_unbuilt_in_define (drop 7 (take (line_len held) held)) ≡ false → line_len held ≤ most
+    → remaining_tokens u most Plain o l held room rest
+    ≡ record { sort = Definition; bytes = take (line_len held) held; line = l } ∷ remaining_tokens u most Plain l (l + line_ends (take (line_len held) held)) (drop (line_len held) held) room rest
+unfolding remaining_tokens
+remaining-define u most o l held room rest some ends built is define plain fits =
+    let more = (front most room rest).text in
+    let b = behind most room held rest ends in
+    step-define (course u most room rest) o l held more some b.last (built more b.ends) is define plain fits

@@ -1,0 +1,110 @@
+-- The definitions at worked rows.
+use Rattle.std.proofs.Common.{◌≡◌, ℕ, Bool, false, List, [], ◌∷◌, refl}
+use Rattle.std.specs.Prelude.{codes}
+use Rattle.rdlpp_scan.specs.declared.token.Kind.TheVariants.{Name, Back, Blank, LineEnd, Str, BlockComment, Opener, Closer, Other}
+use Rattle.rdlpp_scan.specs.Bytes.{is_blank, is_line_end, is_letter, is_digit, is_word, is_opener, is_closer, takes_word, begins_perl, begins_line_comment, begins_block_comment, ends_block_comment}
+use Rattle.rdlpp_scan.specs.Tokens.{token_of, plain_token, string_token, block_token, whole, string_stop, first_place}
+use Rattle.rdlpp_scan.specs.Front.{PerlFound, StringOpen, CommentOpen, LineLong, SourceLong, Unbuilt, front, front_of_lines, lines_of, onto_first, onto_front}
+use Rattle.rdlpp_scan.specs.SourceTokens.{Sort, SourceToken, Ordinary, Definition, Renumbering, Broken, whole_tokens, remaining_tokens, source_tokens, source_step, source_end, step_by, string_step, comment_step, back_step, define_step, line_step, open_end, broken, line_ends, line_after, logical_len, is_continued, line_len}
+use Rattle.rdlpp_scan.specs.Stage.{is_unbuilt, is_unbuilt_directive, is_reserved, reserved_names, name_behind, is_unbuilt_in_define}
+
+-- all is built
+built : List ℕ → Bool
+built bytes = false
+
+abbrev token : Sort → List ℕ → ℕ → SourceToken
+token sort bytes line = record { sort = sort; bytes = bytes; line = line }
+
+-- the tokens of short sources
+record Rows : Type 0 where
+  -- a `define`, and a usage of its macro
+  define_then_usage :
+      whole_tokens is_unbuilt 100 1000 (codes "`define W 8\nreg[`W];\n")
+      ≡ token Definition (codes "`define W 8\n") 1
+      ∷ token (Ordinary Name) (codes "reg") 2
+      ∷ token (Ordinary Opener) (codes "[") 2
+      ∷ token (Ordinary Back) (codes "`W") 2
+      ∷ token (Ordinary Closer) (codes "]") 2
+      ∷ token (Ordinary Other) (codes ";") 2
+      ∷ token (Ordinary LineEnd) (codes "\n") 2 ∷ []
+  -- a string over two lines
+  string_over_two_lines :
+      whole_tokens built 100 1000 (codes "\"ab\ncd\" x")
+      ≡ token (Ordinary Str) (codes "\"ab\ncd\"") 1
+      ∷ token (Ordinary Blank) (codes " ") 2
+      ∷ token (Ordinary Name) (codes "x") 2 ∷ []
+  -- a logical line over two physical lines
+  continued_define :
+      whole_tokens built 100 1000 (codes "`define A 1\\\n2\nb")
+      ≡ token Definition (codes "`define A 1\\\n2\n") 1
+      ∷ token (Ordinary Name) (codes "b") 3 ∷ []
+  -- `<%` in a string
+  perl_in_string :
+      whole_tokens built 100 1000 (codes "a \"b<% c")
+      ≡ token (Ordinary Name) (codes "a") 1
+      ∷ token (Ordinary Blank) (codes " ") 1
+      ∷ token (Broken PerlFound) (codes "\"b") 1 ∷ []
+  -- `<` that a backslash takes along
+  perl_taken_along :
+      whole_tokens built 100 1000 (codes "\"\\<%\"")
+      ≡ token (Ordinary Str) (codes "\"\\<%\"") 1 ∷ []
+  -- `<%` in comments is no Perl
+  perl_in_comment :
+      whole_tokens built 100 1000 (codes "/*<%*/")
+      ≡ token (Ordinary BlockComment) (codes "/*<%*/") 1 ∷ []
+  -- a line that is too long
+  long_line :
+      whole_tokens built 5 1000 (codes "ab\nabcdefgh\n")
+      ≡ token (Ordinary Name) (codes "ab") 1
+      ∷ token (Ordinary LineEnd) (codes "\n") 1
+      ∷ token (Broken LineLong) [] 2 ∷ []
+  -- a line that is too much for the source
+  long_source :
+      whole_tokens built 5 5 (codes "ab\nabc\n")
+      ≡ token (Ordinary Name) (codes "ab") 1
+      ∷ token (Ordinary LineEnd) (codes "\n") 1
+      ∷ token (Broken SourceLong) [] 2 ∷ []
+  -- a string that a breaking line leaves open
+  string_at_break :
+      whole_tokens built 5 1000 (codes "\"ab\nabcdefgh\n")
+      ≡ token (Broken LineLong) (codes "\"ab\n") 2 ∷ []
+  -- a string that is open at the end
+  open_string :
+      whole_tokens built 100 1000 (codes "\n\"ab")
+      ≡ token (Ordinary LineEnd) (codes "\n") 1
+      ∷ token (Broken StringOpen) (codes "\"ab") 2 ∷ []
+  -- a comment that is open at the end
+  open_comment :
+      whole_tokens built 100 1000 (codes "/* a\n")
+      ≡ token (Broken CommentOpen) (codes "/* a\n") 1 ∷ []
+  -- a `define` that a line breaks that is too long
+  define_with_long_line :
+      whole_tokens built 12 1000 (codes "`define A \\\nabcdefghijklm")
+      ≡ token (Broken LineLong) [] 1 ∷ []
+  -- a `define` that a line breaks that is too much for the source
+  define_at_source_end :
+      whole_tokens built 40 14 (codes "`define A \\\nabcd\n")
+      ≡ token (Broken SourceLong) [] 1 ∷ []
+  -- a string, at this stage of the project
+  unbuilt_string :
+      whole_tokens is_unbuilt 100 1000 (codes "a\"b\"")
+      ≡ token (Ordinary Name) (codes "a") 1
+      ∷ token (Broken Unbuilt) [] 1 ∷ []
+  -- a directive, at this stage of the project
+  unbuilt_directive :
+      whole_tokens is_unbuilt 100 1000 (codes "\n`undef A")
+      ≡ token (Ordinary LineEnd) (codes "\n") 1
+      ∷ token (Broken Unbuilt) [] 2 ∷ []
+  -- a `define` with a list, at this stage of the project
+  unbuilt_define :
+      whole_tokens is_unbuilt 100 1000 (codes "`define A(x) x\n")
+      ≡ token (Broken Unbuilt) [] 1 ∷ []
+  -- a `line` with its line
+  line_directive :
+      whole_tokens built 100 1000 (codes "`line 3 \"f\" 0\nx")
+      ≡ token Renumbering (codes "`line 3 \"f\" 0\n") 1
+      ∷ token (Ordinary Name) (codes "x") 2 ∷ []
+
+rows : Rows
+unfolding whole_tokens remaining_tokens front front_of_lines lines_of onto_first onto_front source_tokens source_step source_end step_by string_step comment_step back_step define_step line_step open_end broken line_ends line_after logical_len is_continued line_len token_of plain_token string_token block_token whole string_stop first_place is_blank is_line_end is_letter is_digit is_word is_opener is_closer takes_word begins_perl begins_line_comment begins_block_comment ends_block_comment is_unbuilt is_unbuilt_directive is_reserved reserved_names name_behind is_unbuilt_in_define built
+rows = record { define_then_usage = refl; string_over_two_lines = refl; continued_define = refl; perl_in_string = refl; perl_taken_along = refl; perl_in_comment = refl; long_line = refl; long_source = refl; string_at_break = refl; open_string = refl; open_comment = refl; define_with_long_line = refl; define_at_source_end = refl; unbuilt_string = refl; unbuilt_directive = refl; unbuilt_define = refl; line_directive = refl }

@@ -1,0 +1,162 @@
+-- What isn't built, by the first token.
+use Rattle.std.proofs.Common.{◌≡◌, ℕ, zero, suc, ◌-◌, Bool, true, false, not, ◌&&◌, ◌||◌, eqb, List, [], ◌∷◌, take, drop, get_or, refl, sym, ap, ◌∙◌, arith}
+use Rattle.std.specs.Prelude.{codes, bytes_eq}
+use Rattle.std.specs.List.{list_any, prefix_len}
+use Rattle.std.proofs.Math.Bool.{or-true}
+use Rattle.std.proofs.lemmas.Bool.{eqb-true, and_parts, false≢true}
+use Rattle.rdlpp_scan.specs.declared.token.Kind.{Kind}
+use Rattle.rdlpp_scan.specs.declared.token.Kind.TheVariants.{Str, LineComment, BlockComment, Back, BareBackquote, Perl}
+use Rattle.rdlpp_scan.specs.declared.token.Mode.TheVariants.{Plain}
+use Rattle.rdlpp_scan.specs.declared.token.Token.{Token}
+use Rattle.rdlpp_scan.specs.Bytes.{is_letter, is_word, begins_perl, begins_line_comment, begins_block_comment}
+use Rattle.rdlpp_scan.specs.Tokens.{token_of, whole, stops_plain_text}
+use Rattle.rdlpp_scan.specs.SourceTokens.{line_len}
+use Rattle.rdlpp_scan.specs.Ordinary.{is_plain_kind}
+use Rattle.rdlpp_scan.specs.Stage.{is_unbuilt, is_unbuilt_directive, is_reserved, reserved_names, name_behind, is_unbuilt_in_define}
+use Rattle.rdlpp_scan.proofs.Searches.{false_since}
+use Rattle.rdlpp_scan.proofs.StopKinds.{Row, AtPerl, AtLineComment, AtBlockComment, AtString, AtBack, AtBare, AtPlain, token_of-row}
+
+-- the name of the token at the front of a text, behind its backquote
+abbrev pub front_name : List ℕ → List ℕ
+front_name bs = take ((token_of Plain bs).len - 1) (drop 1 bs)
+
+-- a string isn't built
+pub is_unbuilt-quote : (bs : List ℕ) → eqb (get_or bs 0 0) 34 ≡ true → is_unbuilt bs ≡ true
+unfolding is_unbuilt
+is_unbuilt-quote bs h = ap (λ t. t || begins_line_comment bs || begins_block_comment bs || is_unbuilt_directive bs) h
+
+-- a line comment isn't
+pub is_unbuilt-line : (bs : List ℕ) → begins_line_comment bs ≡ true → is_unbuilt bs ≡ true
+unfolding is_unbuilt
+is_unbuilt-line bs h = ap (λ t. eqb (get_or bs 0 0) 34 || t || begins_block_comment bs || is_unbuilt_directive bs) h ∙ ap (λ t. t || begins_block_comment bs || is_unbuilt_directive bs) (or-true (eqb (get_or bs 0 0) 34))
+
+-- a block comment isn't
+pub is_unbuilt-block : (bs : List ℕ) → begins_block_comment bs ≡ true → is_unbuilt bs ≡ true
+unfolding is_unbuilt
+is_unbuilt-block bs h =
+    let q = eqb (get_or bs 0 0) 34 || begins_line_comment bs in
+    ap (λ t. q || t || is_unbuilt_directive bs) h ∙ ap (λ t. t || is_unbuilt_directive bs) (or-true q)
+
+-- what a row's byte leaves of the test
+is_unbuilt-byte : (bs : List ℕ) (n : ℕ) → get_or bs 0 0 ≡ n → eqb n 34 ≡ false → eqb n 47 ≡ false
+    → is_unbuilt bs ≡ (eqb n 96 && is_reserved (name_behind bs) && (not (bytes_eq (name_behind bs) (codes "define")) || list_any is_unbuilt_in_define (drop 7 (take (line_len bs) bs))))
+unfolding is_unbuilt is_unbuilt_directive begins_line_comment begins_block_comment
+is_unbuilt-byte bs n is quote slash =
+    let c = get_or bs 1 0 in
+    let R = is_reserved (name_behind bs) in
+    let N = not (bytes_eq (name_behind bs) (codes "define")) || list_any is_unbuilt_in_define (drop 7 (take (line_len bs) bs)) in
+    ap (λ m. eqb m 34 || (eqb m 47 && eqb c 47) || (eqb m 47 && eqb c 42) || (eqb m 96 && R && N)) is
+    ∙ ap (λ t. t || (eqb n 47 && eqb c 47) || (eqb n 47 && eqb c 42) || (eqb n 96 && R && N)) quote
+    ∙ ap (λ t. (t && eqb c 47) || (t && eqb c 42) || (eqb n 96 && R && N)) slash
+
+-- `<%` is built
+pub is_unbuilt-at_perl : (bs : List ℕ) → begins_perl bs ≡ true → is_unbuilt bs ≡ false
+unfolding begins_perl
+is_unbuilt-at_perl bs h = is_unbuilt-byte bs 60 (eqb-true (get_or bs 0 0) 60 (and_parts (eqb (get_or bs 0 0) 60) (eqb (get_or bs 1 0) 37) h).0) refl refl
+
+-- a text that doesn't begin with a letter isn't one that does
+other_word : (name ys : List ℕ) (y : ℕ) → is_letter (get_or name 0 0) ≡ false → is_letter y ≡ true → bytes_eq name (y ∷ ys) ≡ false
+other_word [] ys y none letter = refl
+other_word (x ∷ xs) ys y none letter =
+    let differs : eqb x y ≡ false = false_since (eqb x y) (λ e. false≢true (sym none ∙ ap is_letter (eqb-true x y e) ∙ letter)) in
+    ap (λ t. t && bytes_eq xs ys) differs
+
+neither : (x y : Bool) → x ≡ false → y ≡ false → (x || y) ≡ false
+neither x y h k = ap (λ t. t || y) h ∙ k
+
+-- a text that doesn't begin with a letter isn't reserved
+not_reserved : (name : List ℕ) → is_letter (get_or name 0 0) ≡ false → is_reserved name ≡ false
+unfolding is_reserved reserved_names is_letter
+not_reserved name none =
+    let other : (y : ℕ) (ys : List ℕ) → is_letter y ≡ true → bytes_eq name (y ∷ ys) ≡ false = λ y ys letter. other_word name ys y none letter in
+    neither _ _ (other 100 _ refl) (neither _ _ (other 117 _ refl) (neither _ _ (other 105 _ refl) (neither _ _ (other 105 _ refl) (neither _ _ (other 101 _ refl)
+    (neither _ _ (other 101 _ refl) (neither _ _ (other 101 _ refl) (neither _ _ (other 105 _ refl) (neither _ _ (other 108 _ refl) refl))))))))
+
+letter_none : is_letter 0 ≡ false
+unfolding is_letter
+letter_none = refl
+
+first_of_name : (n : ℕ) (xs : List ℕ) → is_letter (get_or xs 0 0) ≡ false → is_letter (get_or (take n xs) 0 0) ≡ false
+first_of_name zero xs h = letter_none
+first_of_name (suc n) [] h = letter_none
+first_of_name (suc n) (x ∷ xs) h = h
+
+second_byte : (bs : List ℕ) → get_or (drop 1 bs) 0 0 ≡ get_or bs 1 0
+second_byte [] = refl
+second_byte (b ∷ bs) = refl
+
+bare_name : (bs : List ℕ) → is_letter (get_or bs 1 0) ≡ false → is_reserved (name_behind bs) ≡ false
+unfolding name_behind
+bare_name bs h = not_reserved _ (first_of_name (prefix_len is_word (drop 1 bs)) (drop 1 bs) (ap is_letter (second_byte bs) ∙ h))
+
+-- a backquote without a name is built
+pub is_unbuilt-at_bare : (bs : List ℕ) → eqb (get_or bs 0 0) 96 ≡ true → is_letter (get_or bs 1 0) ≡ false → is_unbuilt bs ≡ false
+is_unbuilt-at_bare bs h none =
+    let N = not (bytes_eq (name_behind bs) (codes "define")) || list_any is_unbuilt_in_define (drop 7 (take (line_len bs) bs)) in
+    is_unbuilt-byte bs 96 (eqb-true (get_or bs 0 0) 96 h) refl refl ∙ ap (λ t. t && N) (bare_name bs none)
+
+-- by the kind of the first token
+module _ (bs : List ℕ) where
+  by_row : (k : Kind) (A : Type 0) (t : Token) → t.kind ≡ k → Row bs t
+      → (Perl ≡ k → begins_perl bs ≡ true → A) → (LineComment ≡ k → begins_line_comment bs ≡ true → A) → (BlockComment ≡ k → begins_block_comment bs ≡ true → A)
+      → (Str ≡ k → eqb (get_or bs 0 0) 34 ≡ true → A) → (Back ≡ k → eqb (get_or bs 0 0) 96 ≡ true → t.len ≡ suc (prefix_len is_word (drop 1 bs)) → A)
+      → (BareBackquote ≡ k → eqb (get_or bs 0 0) 96 ≡ true → is_letter (get_or bs 1 0) ≡ false → A) → (is_plain_kind k ≡ true → A) → A
+  unfolding whole
+  by_row k A t is (AtPerl h e) perl line block str back bare plain = perl (sym (ap (λ (u : Token). u.kind) e) ∙ is) h
+  by_row k A t is (AtLineComment h e) perl line block str back bare plain = line (sym e ∙ is) h
+  by_row k A t is (AtBlockComment h e) perl line block str back bare plain = block (sym e ∙ is) h
+  by_row k A t is (AtString h e) perl line block str back bare plain = str (sym e ∙ is) h
+  by_row k A t is (AtBack h e) perl line block str back bare plain = back (sym (ap (λ (u : Token). u.kind) e) ∙ is) h (ap (λ (u : Token). u.len) e)
+  by_row k A t is (AtBare h g e) perl line block str back bare plain = bare (sym (ap (λ (u : Token). u.kind) e) ∙ is) h g
+  by_row k A t is (AtPlain h q) perl line block str back bare plain = plain (sym (ap is_plain_kind is) ∙ h)
+
+  pub is_unbuilt-string : (token_of Plain bs).kind ≡ Str → is_unbuilt bs ≡ true
+  unfolding is_plain_kind
+  is_unbuilt-string is =
+      by_row Str (is_unbuilt bs ≡ true) (token_of Plain bs) is (token_of-row bs) (λ e _. absurd (cc)) (λ e _. absurd (cc)) (λ e _. absurd (cc)) (λ _ h. is_unbuilt-quote bs h) (λ e _ _. absurd (cc)) (λ e _ _. absurd (cc)) (λ e. absurd (false≢true e))
+
+  pub is_unbuilt-line_comment : (token_of Plain bs).kind ≡ LineComment → is_unbuilt bs ≡ true
+  unfolding is_plain_kind
+  is_unbuilt-line_comment is =
+      by_row LineComment (is_unbuilt bs ≡ true) (token_of Plain bs) is (token_of-row bs) (λ e _. absurd (cc)) (λ _ h. is_unbuilt-line bs h) (λ e _. absurd (cc)) (λ e _. absurd (cc)) (λ e _ _. absurd (cc)) (λ e _ _. absurd (cc)) (λ e. absurd (false≢true e))
+
+  pub is_unbuilt-block_comment : (token_of Plain bs).kind ≡ BlockComment → is_unbuilt bs ≡ true
+  unfolding is_plain_kind
+  is_unbuilt-block_comment is =
+      by_row BlockComment (is_unbuilt bs ≡ true) (token_of Plain bs) is (token_of-row bs) (λ e _. absurd (cc)) (λ e _. absurd (cc)) (λ _ h. is_unbuilt-block bs h) (λ e _. absurd (cc)) (λ e _ _. absurd (cc)) (λ e _ _. absurd (cc)) (λ e. absurd (false≢true e))
+
+  pub is_unbuilt-perl : (token_of Plain bs).kind ≡ Perl → is_unbuilt bs ≡ false
+  unfolding is_plain_kind
+  is_unbuilt-perl is =
+      by_row Perl (is_unbuilt bs ≡ false) (token_of Plain bs) is (token_of-row bs) (λ _ h. is_unbuilt-at_perl bs h) (λ e _. absurd (cc)) (λ e _. absurd (cc)) (λ e _. absurd (cc)) (λ e _ _. absurd (cc)) (λ e _ _. absurd (cc)) (λ e. absurd (false≢true e))
+
+  pub is_unbuilt-bare : (token_of Plain bs).kind ≡ BareBackquote → is_unbuilt bs ≡ false
+  unfolding is_plain_kind
+  is_unbuilt-bare is =
+      by_row BareBackquote (is_unbuilt bs ≡ false) (token_of Plain bs) is (token_of-row bs) (λ e _. absurd (cc)) (λ e _. absurd (cc)) (λ e _. absurd (cc)) (λ e _. absurd (cc)) (λ e _ _. absurd (cc)) (λ _ h g. is_unbuilt-at_bare bs h g) (λ e. absurd (false≢true e))
+
+  -- a backquote with a name: unbuilt where the name is reserved and isn't `define`, or its line has what isn't built
+  pub is_unbuilt-back : (token_of Plain bs).kind ≡ Back
+      → is_unbuilt bs ≡ (is_reserved (front_name bs) && (not (bytes_eq (front_name bs) (codes "define")) || list_any is_unbuilt_in_define (drop 7 (take (line_len bs) bs))))
+  unfolding is_plain_kind name_behind
+  is_unbuilt-back is =
+      let R : List ℕ → Bool = λ name. is_reserved name && (not (bytes_eq name (codes "define")) || list_any is_unbuilt_in_define (drop 7 (take (line_len bs) bs))) in
+      let named : (token_of Plain bs).len ≡ suc (prefix_len is_word (drop 1 bs)) → name_behind bs ≡ front_name bs = λ e.
+      let less : prefix_len is_word (drop 1 bs) ≡ (token_of Plain bs).len - 1 = omega arith in
+      ap (λ n. take n (drop 1 bs)) less in
+      by_row Back (is_unbuilt bs ≡ R (front_name bs)) (token_of Plain bs) is (token_of-row bs) (λ e _. absurd (cc)) (λ e _. absurd (cc)) (λ e _. absurd (cc)) (λ e _. absurd (cc))
+      (λ _ h len. is_unbuilt-byte bs 96 (eqb-true (get_or bs 0 0) 96 h) refl refl ∙ ap R (named len)) (λ e _ _. absurd (cc)) (λ e. absurd (false≢true e))
+
+  stop_kind : (t : Token) → Row bs t → stops_plain_text bs ≡ true → is_plain_kind t.kind ≡ false
+  unfolding is_plain_kind whole
+  stop_kind t (AtPerl h e) stop = ap (λ (u : Token). is_plain_kind u.kind) e
+  stop_kind t (AtLineComment h e) stop = ap is_plain_kind e
+  stop_kind t (AtBlockComment h e) stop = ap is_plain_kind e
+  stop_kind t (AtString h e) stop = ap is_plain_kind e
+  stop_kind t (AtBack h e) stop = ap (λ (u : Token). is_plain_kind u.kind) e
+  stop_kind t (AtBare h g e) stop = ap (λ (u : Token). is_plain_kind u.kind) e
+  stop_kind t (AtPlain h q) stop = absurd (false≢true (sym q ∙ stop))
+
+  -- where ordinary text stops, the first token isn't of a plain kind
+  pub kind-at_stop : stops_plain_text bs ≡ true → is_plain_kind (token_of Plain bs).kind ≡ false
+  kind-at_stop stop = stop_kind (token_of Plain bs) (token_of-row bs) stop

@@ -1,0 +1,356 @@
+-- One step of a source's tokens, at a text that ends at a line end.
+use Rattle.std.proofs.Common.{◌≡◌, ◌⊎◌, ℕ, zero, suc, ◌+◌, ◌<◌, ◌≤◌, Bool, true, false, not, ◌&&◌, ◌||◌, cond, eqb, ltb, List, [], ◌∷◌, ◌++◌, Option, Some, None, length, take, drop, get_or, refl, sym, ap, ◌∙◌, subst, inl, inr, ⊎_elim, arith}
+use Rattle.std.specs.Prelude.{codes, bytes_eq}
+use Rattle.std.specs.List.{list_any, prefix_len}
+use Rattle.std.specs.Option.{option_map, unwrap_or}
+use Rattle.std.proofs.Math.Seq.{take-length}
+use Rattle.std.proofs.lemmas.Slice.Eq.{bytes_eq-Decides}
+use Rattle.std.proofs.lemmas.List.Folds.{list_any-append}
+use Rattle.std.proofs.lemmas.Bool.{eqb-true, false≢true, le-ltb, or_parts}
+use Rattle.std.proofs.lemmas.List.{append-nil, take-append-le, drop-append-le, length-take-le, length-append, take-append-drop}
+use Rattle.rdlpp_scan.specs.declared.token.Kind.{Kind}
+use Rattle.rdlpp_scan.specs.declared.token.Kind.TheVariants.{Back, BareBackquote, Perl}
+use Rattle.rdlpp_scan.specs.declared.token.Mode.TheVariants.{Plain}
+use Rattle.rdlpp_scan.specs.declared.token.Token.{Token}
+use Rattle.rdlpp_scan.specs.Bytes.{is_line_end, is_word, is_letter, is_digit}
+use Rattle.rdlpp_scan.specs.Tokens.{token_of, whole}
+use Rattle.rdlpp_scan.specs.Front.{PerlFound, LineLong, SourceLong, Unbuilt, Break}
+use Rattle.rdlpp_scan.specs.SourceTokens.{SourceToken, Course, Step, Last, Next, Ordinary, Definition, Broken, broken, back_step, define_step, is_continued, line_ends, line_len, line_step, logical_len, source_step, source_tokens, step_by}
+use Rattle.rdlpp_scan.specs.Lines.{EndsLine, IsWholeLines, ended_line_len}
+use Rattle.rdlpp_scan.specs.Ordinary.{is_plain_kind}
+use Rattle.rdlpp_scan.specs.Stage.{is_unbuilt_in_define}
+use Rattle.rdlpp_scan.proofs.Searches.{false_since}
+use Rattle.rdlpp_scan.proofs.Seams.{line_end-ten}
+use Rattle.rdlpp_scan.proofs.TokenLens.{token_of-part}
+use Rattle.rdlpp_scan.proofs.SourceLaws.{line_ends-cons, source_tokens-next, source_tokens-last}
+use Rattle.rdlpp_scan.proofs.OrdinaryLaws.{source_step-built}
+use Rattle.rdlpp_scan.proofs.LineLaws.{line_len-some, logical_len-append, some_suc, none_suc}
+use Rattle.rdlpp_scan.proofs.WholeLines.{IsWholeLines-rest, IsWholeLines-one}
+use Rattle.rdlpp_scan.proofs.LogicalLines.{line_len-le, line_len-ended}
+use Rattle.rdlpp_scan.proofs.Locality.{token_of-append}
+use Rattle.rdlpp_scan.proofs.StopKinds.{Row, AtPerl, AtLineComment, AtBlockComment, AtString, AtBack, AtBare, AtPlain, token_of-row}
+
+-- what isn't built ends the list
+pub step-unbuilt : (c : Course) (o l : ℕ) (bs : List ℕ) → 0 < length bs → c.unbuilt bs ≡ true
+    → source_tokens c Plain o l 0 bs ≡ record { sort = Broken Unbuilt; bytes = []; line = l } ∷ []
+unfolding source_step broken
+step-unbuilt c o l bs some h =
+    source_tokens-last c Plain o l bs (record { sort = Broken Unbuilt; bytes = []; line = l }) some (ap (λ t. cond t (broken Unbuilt [] l) (step_by c l l (token_of Plain bs) bs)) h)
+
+-- a token of these kinds is closed
+closed_kind : (bs : List ℕ) (t : Token) → Row bs t → (t.kind ≡ Perl) ⊎ ((t.kind ≡ Back) ⊎ (t.kind ≡ BareBackquote)) → t.next_mode ≡ Plain
+unfolding whole is_plain_kind
+closed_kind bs t (AtPerl h e) k = ap (λ (u : Token). u.next_mode) e
+closed_kind bs t (AtLineComment h e) k = absurd (⊎_elim (λ i. cc) (λ r. ⊎_elim (λ i. cc) (λ i. cc) r) k)
+closed_kind bs t (AtBlockComment h e) k = absurd (⊎_elim (λ i. cc) (λ r. ⊎_elim (λ i. cc) (λ i. cc) r) k)
+closed_kind bs t (AtString h e) k = absurd (⊎_elim (λ i. cc) (λ r. ⊎_elim (λ i. cc) (λ i. cc) r) k)
+closed_kind bs t (AtBack h e) k = ap (λ (u : Token). u.next_mode) e
+closed_kind bs t (AtBare h g e) k = ap (λ (u : Token). u.next_mode) e
+closed_kind bs t (AtPlain h q) k =
+    absurd (false≢true (⊎_elim (λ i. sym (ap is_plain_kind i) ∙ h) (λ r. ⊎_elim (λ i. sym (ap is_plain_kind i) ∙ h) (λ i. sym (ap is_plain_kind i) ∙ h) r) k))
+
+bare_len : (bs : List ℕ) (t : Token) → Row bs t → t.kind ≡ BareBackquote → t.len ≡ 1
+unfolding whole is_plain_kind
+bare_len bs t (AtPerl h e) k = let i = ap (λ (u : Token). u.kind) e in absurd (cc)
+bare_len bs t (AtLineComment h e) k = absurd (cc)
+bare_len bs t (AtBlockComment h e) k = absurd (cc)
+bare_len bs t (AtString h e) k = absurd (cc)
+bare_len bs t (AtBack h e) k = let i = ap (λ (u : Token). u.kind) e in absurd (cc)
+bare_len bs t (AtBare h g e) k = ap (λ (u : Token). u.len) e
+bare_len bs t (AtPlain h q) k = absurd (false≢true (sym (ap is_plain_kind k) ∙ h))
+
+-- a step at a token by its kind
+step_by-perl : (c : Course) (o l : ℕ) (t : Token) (bs : List ℕ) → t.kind ≡ Perl → step_by c o l t bs ≡ Last (record { sort = Broken PerlFound; bytes = []; line = l })
+unfolding step_by broken
+step_by-perl c o l t bs is =
+    subst (λ (k : Kind). step_by c o l (record { kind = k; len = t.len; next_mode = t.next_mode }) bs ≡ Last (record { sort = Broken PerlFound; bytes = []; line = l })) (sym is) refl
+
+step_by-bare : (c : Course) (o l : ℕ) (t : Token) (bs : List ℕ) → t.kind ≡ BareBackquote → step_by c o l t bs ≡ Next (record { sort = Ordinary BareBackquote; bytes = take t.len bs; line = l })
+unfolding step_by
+step_by-bare c o l t bs is =
+    subst (λ (k : Kind). step_by c o l (record { kind = k; len = t.len; next_mode = t.next_mode }) bs ≡ Next (record { sort = Ordinary BareBackquote; bytes = take t.len bs; line = l })) (sym is) refl
+
+step_by-back : (c : Course) (o l : ℕ) (t : Token) (bs : List ℕ) → t.kind ≡ Back → step_by c o l t bs ≡ back_step c l (record { kind = Back; len = t.len; next_mode = t.next_mode }) bs
+unfolding step_by
+step_by-back c o l t bs is =
+    subst (λ (k : Kind). step_by c o l (record { kind = k; len = t.len; next_mode = t.next_mode }) bs ≡ back_step c l (record { kind = Back; len = t.len; next_mode = t.next_mode }) bs) (sym is) refl
+
+-- a step at a text that ends at a line end, by the token of that text
+step_held : (c : Course) (o l : ℕ) (held more : List ℕ) → 0 < length held → EndsLine held more → c.unbuilt (held ++ more) ≡ false
+    → (t : Token) → t ≡ token_of Plain held → (t.kind ≡ Perl) ⊎ ((t.kind ≡ Back) ⊎ (t.kind ≡ BareBackquote)) → source_step c Plain o l (held ++ more) ≡ step_by c l l t (held ++ more)
+step_held c o l held more some ends built t is kinds =
+    let closed = closed_kind held t (subst (Row held) (sym is) (token_of-row held)) kinds in
+    source_step-built c o l (held ++ more) built
+    ∙ ap (λ u. step_by c l l u (held ++ more)) (token_of-append held more some ends (ap (λ (u : Token). u.next_mode) (sym is) ∙ closed) ∙ sym is)
+
+-- what a step takes from the text that is held
+pub next_held : (c : Course) (o l : ℕ) (held more : List ℕ) (t : SourceToken) (n : ℕ) → 0 < n → n ≤ length held → t.bytes ≡ take n held → source_step c Plain o l (held ++ more) ≡ Next t
+    → source_tokens c Plain o l 0 (held ++ more) ≡ t ∷ source_tokens c Plain l (l + line_ends (take n held)) 0 (drop n held ++ more)
+next_held c o l held more t n some fits bytes step =
+    let size : length t.bytes ≡ n = ap length bytes ∙ length-take-le n held fits in
+    let whole_size = length-append held more in
+    source_tokens-next c Plain o l (held ++ more) t (omega arith) step (omega arith)
+    ∙ ap (λ i. t ∷ source_tokens c Plain l (l + line_ends (take i (held ++ more))) 0 (drop i (held ++ more))) size
+    ∙ ap (λ z. t ∷ source_tokens c Plain l (l + line_ends z) 0 (drop n (held ++ more))) (take-append-le n held more fits)
+    ∙ ap (λ z. t ∷ source_tokens c Plain l (l + line_ends (take n held)) 0 z) (drop-append-le n held more fits)
+
+-- `<%` ends the list
+pub step-perl : (c : Course) (o l : ℕ) (held more : List ℕ) → 0 < length held → EndsLine held more → c.unbuilt (held ++ more) ≡ false → (token_of Plain held).kind ≡ Perl
+    → source_tokens c Plain o l 0 (held ++ more) ≡ record { sort = Broken PerlFound; bytes = []; line = l } ∷ []
+step-perl c o l held more some ends built is =
+    let t = token_of Plain held in
+    let size = length-append held more in
+    source_tokens-last c Plain o l (held ++ more) (record { sort = Broken PerlFound; bytes = []; line = l }) (omega arith)
+    (step_held c o l held more some ends built t refl (inl is) ∙ step_by-perl c l l t (held ++ more) is)
+
+word-line_end : (b : ℕ) → is_word b ≡ true → is_line_end b ≡ false
+unfolding is_word is_letter is_digit
+word-line_end b h = false_since (is_line_end b) (λ e. false≢true (sym (ap is_word (line_end-ten b e)) ∙ h))
+
+abbrev one_if : Bool → ℕ
+one_if t = cond t 1 0
+
+-- a run of word bytes has no LF
+word-line_ends : (xs : List ℕ) → line_ends (take (prefix_len is_word xs) xs) ≡ 0
+unfolding line_ends
+word-line_ends [] = refl
+word-line_ends (x ∷ xs) =
+    let p = prefix_len is_word xs in
+    let P : Bool → Type 0 = λ t. is_word x ≡ t → line_ends (take (cond t (1 + p) 0) (x ∷ xs)) ≡ 0 in
+    let at_true : P true = λ h.
+    let one : 1 + p ≡ suc p = omega arith in
+    let none : one_if (is_line_end x) ≡ 0 = ap one_if (word-line_end x h) in
+    ap (λ n. line_ends (take n (x ∷ xs))) one ∙ line_ends-cons x (take p xs) ∙ omega (arith, none, word-line_ends xs) in
+    let at_false : P false = λ h. refl in
+    elim (is_word x) as P [ true ↦ at_true | false ↦ at_false ] refl
+
+-- a backquote and a name have no LF
+back-line_ends : (held : List ℕ) (n : ℕ) → eqb (get_or held 0 0) 96 ≡ true → n ≡ suc (prefix_len is_word (drop 1 held)) → line_ends (take n held) ≡ 0
+unfolding line_ends is_line_end
+back-line_ends [] n h e = ap (λ (i : ℕ). line_ends (take i [])) e
+back-line_ends (b ∷ w) n h e =
+    let none : one_if (is_line_end b) ≡ 0 = ap (λ (i : ℕ). one_if (eqb i 10)) (eqb-true b 96 h) in
+    ap (λ i. line_ends (take i (b ∷ w))) e ∙ line_ends-cons b (take (prefix_len is_word w) w) ∙ omega (arith, none, word-line_ends w)
+
+bare-line_ends : (held : List ℕ) → eqb (get_or held 0 0) 96 ≡ true → line_ends (take 1 held) ≡ 0
+unfolding line_ends is_line_end
+bare-line_ends [] h = refl
+bare-line_ends (b ∷ w) h =
+    let none : one_if (is_line_end b) ≡ 0 = ap (λ (i : ℕ). one_if (eqb i 10)) (eqb-true b 96 h) in
+    line_ends-cons b [] ∙ omega (arith, none)
+
+bare_byte : (bs : List ℕ) (t : Token) → Row bs t → t.kind ≡ BareBackquote → eqb (get_or bs 0 0) 96 ≡ true
+unfolding whole is_plain_kind
+bare_byte bs t (AtPerl h e) k = let i = ap (λ (u : Token). u.kind) e in absurd (cc)
+bare_byte bs t (AtLineComment h e) k = absurd (cc)
+bare_byte bs t (AtBlockComment h e) k = absurd (cc)
+bare_byte bs t (AtString h e) k = absurd (cc)
+bare_byte bs t (AtBack h e) k = h
+bare_byte bs t (AtBare h g e) k = h
+bare_byte bs t (AtPlain h q) k = absurd (false≢true (sym (ap is_plain_kind k) ∙ h))
+
+-- a backquote without a name
+pub step-bare : (c : Course) (o l : ℕ) (held more : List ℕ) → 0 < length held → EndsLine held more → c.unbuilt (held ++ more) ≡ false → (token_of Plain held).kind ≡ BareBackquote
+    → source_tokens c Plain o l 0 (held ++ more) ≡ record { sort = Ordinary BareBackquote; bytes = take 1 held; line = l } ∷ source_tokens c Plain l l 0 (drop 1 held ++ more)
+step-bare c o l held more some ends built is =
+    let t = token_of Plain held in
+    let row = token_of-row held in
+    let tok : SourceToken = record { sort = Ordinary BareBackquote; bytes = take 1 held; line = l } in
+    let own : take t.len (held ++ more) ≡ take 1 held = ap (λ n. take n (held ++ more)) (bare_len held t row is) ∙ take-append-le 1 held more (omega arith) in
+    let step : source_step c Plain o l (held ++ more) ≡ Next tok =
+    step_held c o l held more some ends built t refl (inr (inr is)) ∙ step_by-bare c l l t (held ++ more) is ∙ ap (λ z. Next (record { sort = Ordinary BareBackquote; bytes = z; line = l })) own in
+    let lines : l + line_ends (take 1 held) ≡ l = omega (arith, bare-line_ends held (bare_byte held t row is)) in
+    next_held c o l held more tok 1 (omega arith) (omega arith) refl step ∙ ap (λ k. tok ∷ source_tokens c Plain l k 0 (drop 1 held ++ more)) lines
+
+-- what a backquote with a name is
+record IsBack (bs : List ℕ) (t : Token) : Type 0 where
+  byte : eqb (get_or bs 0 0) 96 ≡ true
+  len : t.len ≡ suc (prefix_len is_word (drop 1 bs))
+
+back_row : (bs : List ℕ) (t : Token) → Row bs t → t.kind ≡ Back → IsBack bs t
+unfolding whole is_plain_kind
+back_row bs t (AtPerl h e) k = let i = ap (λ (u : Token). u.kind) e in absurd (cc)
+back_row bs t (AtLineComment h e) k = absurd (cc)
+back_row bs t (AtBlockComment h e) k = absurd (cc)
+back_row bs t (AtString h e) k = absurd (cc)
+back_row bs t (AtBack h e) k = record { byte = h; len = ap (λ (u : Token). u.len) e }
+back_row bs t (AtBare h g e) k = let i = ap (λ (u : Token). u.kind) e in absurd (cc)
+back_row bs t (AtPlain h q) k = absurd (false≢true (sym (ap is_plain_kind k) ∙ h))
+
+-- a step at a backquote with a name, by that name
+pub back_held : (c : Course) (o l : ℕ) (held more : List ℕ) → 0 < length held → EndsLine held more → c.unbuilt (held ++ more) ≡ false → (token_of Plain held).kind ≡ Back
+    → source_step c Plain o l (held ++ more)
+    ≡ cond (bytes_eq (take (token_of Plain held).len held) (codes "`define")) (define_step c l (held ++ more))
+    (cond (bytes_eq (take (token_of Plain held).len held) (codes "`line")) (line_step l (held ++ more)) (Next (record { sort = Ordinary Back; bytes = take (token_of Plain held).len held; line = l })))
+unfolding back_step
+back_held c o l held more some ends built is =
+    let t = token_of Plain held in
+    let bs = held ++ more in
+    let own : take t.len bs ≡ take t.len held = take-append-le t.len held more (token_of-part Plain held some).inside in
+    step_held c o l held more some ends built t refl (inr (inl is))
+    ∙ step_by-back c l l t bs is
+    ∙ ap (λ z. cond (bytes_eq z (codes "`define")) (define_step c l bs) (cond (bytes_eq z (codes "`line")) (line_step l bs) (Next (record { sort = Ordinary Back; bytes = z; line = l })))) own
+
+-- a backquote with a name that is neither `define` nor `line`
+pub step-back : (c : Course) (o l : ℕ) (held more : List ℕ) → 0 < length held → EndsLine held more → c.unbuilt (held ++ more) ≡ false → (token_of Plain held).kind ≡ Back
+    → bytes_eq (take (token_of Plain held).len held) (codes "`define") ≡ false → bytes_eq (take (token_of Plain held).len held) (codes "`line") ≡ false
+    → source_tokens c Plain o l 0 (held ++ more)
+    ≡ record { sort = Ordinary Back; bytes = take (token_of Plain held).len held; line = l } ∷ source_tokens c Plain l l 0 (drop (token_of Plain held).len held ++ more)
+step-back c o l held more some ends built is other also =
+    let t = token_of Plain held in
+    let bs = held ++ more in
+    let part = token_of-part Plain held some in
+    let row = back_row held t (token_of-row held) is in
+    let tok : SourceToken = record { sort = Ordinary Back; bytes = take t.len held; line = l } in
+    let line = bytes_eq (take t.len held) (codes "`line") in
+    let step : source_step c Plain o l bs ≡ Next tok =
+    back_held c o l held more some ends built is ∙ ap (λ b. cond b (define_step c l bs) (cond line (line_step l bs) (Next tok))) other ∙ ap (λ b. cond b (line_step l bs) (Next tok)) also in
+    let lines : l + line_ends (take t.len held) ≡ l = omega (arith, back-line_ends held t.len row.byte row.len) in
+    next_held c o l held more tok t.len part.not_empty part.inside refl step ∙ ap (λ k. tok ∷ source_tokens c Plain l k 0 (drop t.len held ++ more)) lines
+
+-- a first line with an LF and no `\` is the logical line
+logical_len-line : (x y : ℕ) (bs : List ℕ) (n : ℕ) → eqb x 92 ≡ false → eqb y 92 ≡ false → ended_line_len bs ≡ Some n → list_any (λ b. eqb b 92) (take n bs) ≡ false → logical_len x y bs ≡ Some n
+unfolding logical_len ended_line_len is_continued
+logical_len-line x y [] n hx hy ended plain = absurd (cc)
+logical_len-line x y (b ∷ bs) n hx hy ended plain =
+    let E = ended_line_len bs in
+    let L = logical_len y b bs in
+    let cont : is_continued x y ≡ false = ap (λ t. t || (eqb x 92 && eqb y 13)) hy ∙ ap (λ t. t && eqb y 13) hx in
+    let P : Bool → Type 0 = λ t. cond t (Some 1) (option_map suc E) ≡ Some n → cond (t && not (is_continued x y)) (Some 1) (option_map suc L) ≡ Some n in
+    let at_true : P true = λ h. ap (λ u. cond (not u) (Some 1) (option_map suc L)) cont ∙ h in
+    let at_false : P false = λ h.
+    let p = some_suc E n h in
+    let parts = or_parts (eqb b 92) (list_any (λ b. eqb b 92) (take p.0 bs)) (subst (λ (k : ℕ). list_any (λ b. eqb b 92) (take k (b ∷ bs)) ≡ false) p.1.1 plain) in
+    ap (option_map suc) (logical_len-line y b bs p.0 hy parts.0 p.1.0 parts.1) ∙ ap Some (sym p.1.1) in
+    elim (is_line_end b) as P [ true ↦ at_true | false ↦ at_false ] ended
+
+-- a text with no LF has no logical line
+logical_len-unended : (x y : ℕ) (bs : List ℕ) → ended_line_len bs ≡ None → logical_len x y bs ≡ None
+unfolding logical_len ended_line_len
+logical_len-unended x y [] h = refl
+logical_len-unended x y (b ∷ bs) h =
+    let L = logical_len y b bs in
+    let P : Bool → Type 0 = λ t. cond t (Some 1) (option_map suc (ended_line_len bs)) ≡ None → cond (t && not (is_continued x y)) (Some 1) (option_map suc L) ≡ None in
+    let at_true : P true = λ e. absurd (cc) in
+    let at_false : P false = λ e. ap (option_map suc) (logical_len-unended y b bs (none_suc (ended_line_len bs) e)) in
+    elim (is_line_end b) as P [ true ↦ at_true | false ↦ at_false ] h
+
+-- whole lines have an LF
+whole-ended : (bs : List ℕ) → 0 < length bs → IsWholeLines bs → ended_line_len bs ≡ None → ⊥
+unfolding ended_line_len
+whole-ended [] some whole h = absurd (omega arith)
+whole-ended (b ∷ []) some whole h =
+    let e : ended_line_len (b ∷ []) ≡ Some 1 = ap (λ t. cond t (Some 1) None) (IsWholeLines-one b whole) in
+    cc
+whole-ended (b ∷ c ∷ cs) some whole h =
+    let P : Bool → Type 0 = λ t. cond t (Some 1) (option_map suc (ended_line_len (c ∷ cs))) ≡ None → ended_line_len (c ∷ cs) ≡ None in
+    let at_true : P true = λ e. absurd (cc) in
+    let at_false : P false = λ e. none_suc (ended_line_len (c ∷ cs)) e in
+    whole-ended (c ∷ cs) (omega arith) (IsWholeLines-rest b (c ∷ cs) whole) (elim (is_line_end b) as P [ true ↦ at_true | false ↦ at_false ] h)
+
+take-swap : (m n : ℕ) (xs : List ℕ) → take m (take n xs) ≡ take n (take m xs)
+take-swap zero zero xs = refl
+take-swap zero (suc n) [] = refl
+take-swap zero (suc n) (x ∷ xs) = refl
+take-swap (suc m) zero [] = refl
+take-swap (suc m) zero (x ∷ xs) = refl
+take-swap (suc m) (suc n) [] = refl
+take-swap (suc m) (suc n) (x ∷ xs) = ap (λ z. x ∷ z) (take-swap m n xs)
+
+list_any-take : (p : ℕ → Bool) (k : ℕ) (xs : List ℕ) → list_any p xs ≡ false → list_any p (take k xs) ≡ false
+list_any-take p zero xs h = refl
+list_any-take p (suc k) [] h = refl
+list_any-take p (suc k) (x ∷ xs) h = let parts = or_parts (p x) (list_any p xs) h in ap (λ t. t || list_any p (take k xs)) parts.0 ∙ list_any-take p k xs parts.1
+
+list_any-fewer : (p q : ℕ → Bool) → ((b : ℕ) → p b ≡ false → q b ≡ false) → (xs : List ℕ) → list_any p xs ≡ false → list_any q xs ≡ false
+list_any-fewer p q less [] h = refl
+list_any-fewer p q less (x ∷ xs) h = let parts = or_parts (p x) (list_any p xs) h in ap (λ t. t || list_any q xs) (less x parts.0) ∙ list_any-fewer p q less xs parts.1
+
+backslash_unbuilt : (b : ℕ) → is_unbuilt_in_define b ≡ false → eqb b 92 ≡ false
+unfolding is_unbuilt_in_define
+backslash_unbuilt b h =
+    let e = or_parts (eqb b 34 || eqb b 92 || eqb b 47 || eqb b 60 || eqb b 40) (eqb b 96) h in
+    let f = or_parts (eqb b 34 || eqb b 92 || eqb b 47 || eqb b 60) (eqb b 40) e.0 in
+    let g = or_parts (eqb b 34 || eqb b 92 || eqb b 47) (eqb b 60) f.0 in
+    let i = or_parts (eqb b 34 || eqb b 92) (eqb b 47) g.0 in
+    (or_parts (eqb b 34) (eqb b 92) i.0).1
+
+-- a `define` that has nothing unbuilt on its line has no `\` there
+no_backslash : (held : List ℕ) (k n : ℕ) → k ≤ length held → take k held ≡ codes "`define" → list_any is_unbuilt_in_define (drop 7 (take n held)) ≡ false → list_any (λ b. eqb b 92) (take n held) ≡ false
+no_backslash held k n fits own plain =
+    let q : ℕ → Bool = λ b. eqb b 92 in
+    let L = take n held in
+    let seven : k ≡ 7 = sym (length-take-le k held fits) ∙ ap length own in
+    let front : take 7 L ≡ take n (codes "`define") = take-swap 7 n held ∙ ap (take n) (ap (λ i. take i held) (sym seven) ∙ own) in
+    let first : list_any q (take 7 L) ≡ false = ap (list_any q) front ∙ list_any-take q n (codes "`define") refl in
+    let rest : list_any q (drop 7 L) ≡ false = list_any-fewer is_unbuilt_in_define q backslash_unbuilt (drop 7 L) plain in
+    ap (list_any q) (sym (take-append-drop 7 L)) ∙ list_any-append q (take 7 L) (drop 7 L) ∙ ap (λ t. t || list_any q (drop 7 L)) first ∙ rest
+
+-- a `define` whose logical line ends
+pub define_step-some : (c : Course) (l : ℕ) (bs : List ℕ) (n : ℕ) → logical_len 0 0 bs ≡ Some n → n ≤ c.most → define_step c l bs ≡ Next (record { sort = Definition; bytes = take n bs; line = l })
+unfolding define_step
+define_step-some c l bs n is fits =
+    let tok : SourceToken = record { sort = Definition; bytes = take n bs; line = l } in
+    let open_text : Step = elim c.break [
+      | None ↦ cond (ltb c.most (length bs)) (broken LineLong [] l) (Next (record { sort = Definition; bytes = bs; line = l }))
+      | Some k ↦ cond (ltb c.most (length bs + k.len)) (broken LineLong [] l) (broken SourceLong [] l)
+    ] in
+    ap (λ (o : Option ℕ). elim o [
+      | Some m ↦ cond (ltb c.most m) (broken LineLong [] l) (Next (record { sort = Definition; bytes = take m bs; line = l }))
+      | None ↦ open_text
+    ]) is ∙ ap (λ t. cond t (broken LineLong [] l) (Next tok)) (le-ltb c.most n fits)
+
+-- a `define` whose text ends
+pub define_step-none : (c : Course) (l : ℕ) (bs : List ℕ) → logical_len 0 0 bs ≡ None → c.break ≡ None → length bs ≤ c.most → define_step c l bs ≡ Next (record { sort = Definition; bytes = bs; line = l })
+unfolding define_step
+define_step-none c l bs is last fits =
+    let tok : SourceToken = record { sort = Definition; bytes = bs; line = l } in
+    let at_end : Option Break → Step = λ k. elim k [
+      | None ↦ cond (ltb c.most (length bs)) (broken LineLong [] l) (Next tok)
+      | Some k ↦ cond (ltb c.most (length bs + k.len)) (broken LineLong [] l) (broken SourceLong [] l)
+    ] in
+    ap (λ (o : Option ℕ). elim o [
+      | Some m ↦ cond (ltb c.most m) (broken LineLong [] l) (Next (record { sort = Definition; bytes = take m bs; line = l }))
+      | None ↦ at_end c.break
+    ]) is ∙ ap at_end last ∙ ap (λ t. cond t (broken LineLong [] l) (Next tok)) (le-ltb c.most (length bs) fits)
+
+-- a `define` with nothing unbuilt on its line takes that line
+define_line : (c : Course) (l : ℕ) (held more : List ℕ) → 0 < length held → IsWholeLines held ⊎ ((more ≡ []) × (c.break ≡ None))
+    → list_any (λ b. eqb b 92) (take (line_len held) held) ≡ false → line_len held ≤ c.most → define_step c l (held ++ more) ≡ Next (record { sort = Definition; bytes = take (line_len held) held; line = l })
+define_line c l held more some ends plain fits =
+    let n = line_len held in
+    let bs = held ++ more in
+    let le = line_len-le held in
+    let made : List ℕ → Step = λ z. Next (record { sort = Definition; bytes = z; line = l }) in
+    let P : Option ℕ → Type 0 = λ o. ended_line_len held ≡ o → define_step c l bs ≡ made (take n held) in
+    let ended : (m : ℕ) → P (Some m) = λ m e.
+    let same : m ≡ n = ap (λ o. unwrap_or o (length held)) (sym e) ∙ line_len-ended held in
+    let logical : logical_len 0 0 held ≡ Some n = logical_len-line 0 0 held n refl refl (e ∙ ap Some same) plain in
+    define_step-some c l bs n (logical_len-append 0 0 held more n logical) fits ∙ ap made (take-append-le n held more le) in
+    let last : P None = λ e.
+    let all : length held ≡ n = ap (λ o. unwrap_or o (length held)) (sym e) ∙ line_len-ended held in
+    ⊎_elim (λ whole. absurd (whole-ended held some whole e)) (λ none.
+    let same : bs ≡ held = ap (λ z. held ++ z) none.0 ∙ append-nil held in
+    let size : length bs ≡ n = ap length same ∙ all in
+    let full : take n held ≡ held = ap (λ i. take i held) (sym all) ∙ take-length held in
+    define_step-none c l bs (ap (logical_len 0 0) same ∙ logical_len-unended 0 0 held e) none.1 (omega arith) ∙ ap made (same ∙ sym full)) ends in
+    elim (ended_line_len held) as P [ Some m ↦ ended m | None ↦ last ] refl
+
+-- a `define` whose physical line has no `\`: its logical line is that line
+pub step-define : (c : Course) (o l : ℕ) (held more : List ℕ) → 0 < length held → IsWholeLines held ⊎ ((more ≡ []) × (c.break ≡ None)) → c.unbuilt (held ++ more) ≡ false → (token_of Plain held).kind ≡ Back
+    → bytes_eq (take (token_of Plain held).len held) (codes "`define") ≡ true → list_any is_unbuilt_in_define (drop 7 (take (line_len held) held)) ≡ false → line_len held ≤ c.most
+    → source_tokens c Plain o l 0 (held ++ more)
+    ≡ record { sort = Definition; bytes = take (line_len held) held; line = l } ∷ source_tokens c Plain l (l + line_ends (take (line_len held) held)) 0 (drop (line_len held) held ++ more)
+step-define c o l held more some ends built is define plain fits =
+    let t = token_of Plain held in
+    let n = line_len held in
+    let bs = held ++ more in
+    let part = token_of-part Plain held some in
+    let at_line : EndsLine held more = ⊎_elim (λ whole. inl whole) (λ none. inr none.0) ends in
+    let own : take t.len held ≡ codes "`define" = (bytes_eq-Decides (take t.len held) (codes "`define")).0 define in
+    let none = no_backslash held t.len n part.inside own plain in
+    let tok : SourceToken = record { sort = Definition; bytes = take n held; line = l } in
+    let other = cond (bytes_eq (take t.len held) (codes "`line")) (line_step l bs) (Next (record { sort = Ordinary Back; bytes = take t.len held; line = l })) in
+    let step : source_step c Plain o l bs ≡ Next tok =
+    back_held c o l held more some at_line built is ∙ ap (λ b. cond b (define_step c l bs) other) define ∙ define_line c l held more some ends none fits in
+    next_held c o l held more tok n (line_len-some held some) (line_len-le held) refl step

@@ -1,0 +1,341 @@
+-- A step at a string, at a comment, and at any token that is closed.
+use Rattle.std.proofs.Common.{◌≡◌, ◌⊎◌, ℕ, suc, ◌+◌, ◌<◌, ◌≤◌, Bool, true, false, cond, eqb, ltb, List, [], ◌∷◌, ◌++◌, Some, None, length, take, drop, get_or, refl, sym, ap, ◌∙◌, subst, inl, inr, ⊎_elim, arith}
+use Rattle.std.proofs.lemmas.Bool.{eqb-true, false≢true, lt-ltb, cases_Bool, cond_both}
+use Rattle.std.proofs.lemmas.List.{take-append-le, drop-append-le, length-take-le, length-append}
+use Rattle.std.proofs.Math.Seq.{take-append-add, drop-append-add}
+use Rattle.rdlpp_scan.specs.declared.token.Kind.{Kind}
+use Rattle.rdlpp_scan.specs.declared.token.Kind.TheVariants.{Str, BlockComment, Back, Perl}
+use Rattle.rdlpp_scan.specs.declared.token.Mode.{Mode}
+use Rattle.rdlpp_scan.specs.declared.token.Mode.TheVariants.{Plain, InStr, InBlock}
+use Rattle.rdlpp_scan.specs.declared.token.Token.{Token}
+use Rattle.rdlpp_scan.specs.Bytes.{begins_perl}
+use Rattle.rdlpp_scan.specs.Tokens.{first_place, token_of, whole, string_stop, string_token, block_token}
+use Rattle.rdlpp_scan.specs.Front.{Breach, PerlFound, StringOpen, CommentOpen}
+use Rattle.rdlpp_scan.specs.SourceTokens.{SourceToken, Course, Step, Last, Next, Ordinary, Broken, broken, comment_step, line_ends, open_end, source_end, source_step, source_tokens, step_by, string_step}
+use Rattle.rdlpp_scan.specs.Pieces.{IsCut}
+use Rattle.rdlpp_scan.specs.Resumed.{line_with, with_part, onto_step, onto_tokens}
+use Rattle.rdlpp_scan.proofs.TokenLens.{token_of-part, inside_of}
+use Rattle.rdlpp_scan.proofs.SourceLaws.{line_ends-append, source_tokens-opened, source_tokens-next, source_tokens-last}
+use Rattle.rdlpp_scan.proofs.OrdinaryLaws.{source_step-built}
+use Rattle.rdlpp_scan.proofs.CutLaws.{perl_rest}
+use Rattle.rdlpp_scan.proofs.StopKinds.{string_token-kind, block_token-kind}
+use Rattle.rdlpp_scan.proofs.Seams.{Seam, Closed, BeforePerl, OpenString, OpenComment, longer, ltb-moved, token_of-seam}
+
+-- where a text stands is no place of what isn't built
+abbrev pub IsBuilt : Course → Mode → List ℕ → Type 0
+IsBuilt c m bs = m ≡ Plain → c.unbuilt bs ≡ false
+
+-- the line on which a string or a comment opened, at a token
+unfoldable pub opening : Mode → ℕ → ℕ → ℕ
+opening Plain opened line = line
+opening InStr opened line = opened
+opening InBlock opened line = opened
+
+-- a step at a text that begins with what is built
+pub source_step-by : (c : Course) (m : Mode) (o l : ℕ) (bs : List ℕ) → IsBuilt c m bs → source_step c m o l bs ≡ step_by c (opening m o l) l (token_of m bs) bs
+unfolding source_step opening
+source_step-by c Plain o l bs built = source_step-built c o l bs (built refl)
+source_step-by c InStr o l bs built = refl
+source_step-by c InBlock o l bs built = refl
+
+-- a kind whose tokens stand in the list as they are, where they are closed
+unfoldable pub is_kept_kind : Kind → Bool
+is_kept_kind Perl = false
+is_kept_kind Back = false
+is_kept_kind _ = true
+
+step_by-kept : (c : Course) (o l : ℕ) (k : Kind) (n : ℕ) (bs : List ℕ) → is_kept_kind k ≡ true → step_by c o l (record { kind = k; len = n; next_mode = Plain }) bs ≡ Next (record { sort = Ordinary k; bytes = take n bs; line = l })
+unfolding step_by string_step comment_step is_kept_kind
+step_by-kept c o l Perl n bs h = absurd (false≢true h)
+step_by-kept c o l Back n bs h = absurd (false≢true h)
+step_by-kept c o l _ n bs h = refl
+
+-- a closed token
+step_by-closed : (c : Course) (o l : ℕ) (t : Token) (bs : List ℕ) → is_kept_kind t.kind ≡ true → t.next_mode ≡ Plain → step_by c o l t bs ≡ Next (record { sort = Ordinary t.kind; bytes = take t.len bs; line = l })
+step_by-closed c o l t bs h closed =
+    subst (λ (m : Mode). step_by c o l (record { kind = t.kind; len = t.len; next_mode = m }) bs ≡ Next (record { sort = Ordinary t.kind; bytes = take t.len bs; line = l })) (sym closed) (step_by-kept c o l t.kind t.len bs h)
+
+-- the first token of the text in front of a cut is that of the whole text, where it doesn't go over the cut
+seam_same : (xs ys : List ℕ) (t u : Token) → (t.next_mode ≡ Plain) ⊎ (t.len < length xs) → Seam xs ys t u → u ≡ t
+seam_same xs ys t u h (Closed e closed) = e
+seam_same xs ys t u h (BeforePerl e is lt perl) = e
+seam_same xs ys t u h (OpenString is e) =
+    let mode = ap (λ (v : Token). v.next_mode) is in
+    let len = ap (λ (v : Token). v.len) is in
+    ⊎_elim (λ closed. absurd (cc)) (λ lt. absurd (omega (arith, len))) h
+seam_same xs ys t u h (OpenComment is e) =
+    let mode = ap (λ (v : Token). v.next_mode) is in
+    let len = ap (λ (v : Token). v.len) is in
+    ⊎_elim (λ closed. absurd (cc)) (λ lt. absurd (omega (arith, len))) h
+
+-- a token that is closed in what is held
+pub step-closed : (c : Course) (m : Mode) (o l : ℕ) (held more : List ℕ) → 0 < length held → IsCut held more → IsBuilt c m (held ++ more)
+    → is_kept_kind (token_of m held).kind ≡ true → (token_of m held).next_mode ≡ Plain
+    → source_tokens c m o l 0 (held ++ more)
+    ≡ record { sort = Ordinary (token_of m held).kind; bytes = take (token_of m held).len held; line = l }
+    ∷ source_tokens c Plain l (l + line_ends (take (token_of m held).len held)) 0 (drop (token_of m held).len held ++ more)
+step-closed c m o l held more some cut built kept closed =
+    let t = token_of m held in
+    let bs = held ++ more in
+    let part = token_of-part m held some in
+    let both = length-append held more in
+    let same = seam_same held more t (token_of m bs) (inl closed) (token_of-seam m held more some cut) in
+    let tok : SourceToken = record { sort = Ordinary t.kind; bytes = take t.len held; line = l } in
+    let step : source_step c m o l bs ≡ Next tok =
+    source_step-by c m o l bs built ∙ ap (λ u. step_by c (opening m o l) l u bs) same ∙ step_by-closed c (opening m o l) l t bs kept closed
+    ∙ ap (λ z. Next (record { sort = Ordinary t.kind; bytes = z; line = l })) (take-append-le t.len held more part.inside) in
+    let size : length (take t.len held) ≡ t.len = length-take-le t.len held part.inside in
+    source_tokens-next c m o l bs tok (omega arith) step (omega (arith, size, part.not_empty))
+    ∙ ap (λ i. tok ∷ source_tokens c Plain l (l + line_ends (take i bs)) 0 (drop i bs)) size
+    ∙ ap (λ z. tok ∷ source_tokens c Plain l (l + line_ends z) 0 (drop t.len bs)) (take-append-le t.len held more part.inside)
+    ∙ ap (λ z. tok ∷ source_tokens c Plain l (l + line_ends (take t.len held)) 0 z) (drop-append-le t.len held more part.inside)
+
+open_end-with : (c : Course) (k : Breach) (o l : ℕ) (p own : List ℕ) → open_end c k o l (p ++ own) ≡ onto_step p l (open_end c k o (l + line_ends p) own)
+unfolding open_end onto_step with_part line_with broken
+open_end-with c k o l p own =
+    let lines : l + line_ends (p ++ own) ≡ l + line_ends p + line_ends own = omega (arith, line_ends-append p own) in
+    elim c.break as (λ b. (elim b [ None ↦ broken k (p ++ own) o | Some d ↦ broken d.breach (p ++ own) (l + line_ends (p ++ own)) ])
+    ≡ onto_step p l (elim b [ None ↦ broken k own o | Some d ↦ broken d.breach own (l + line_ends p + line_ends own) ])) [
+      | None ↦ refl
+      | Some d ↦ ap (λ n. broken d.breach (p ++ own) n) lines
+    ]
+
+string_open-by : (c : Course) (o l : ℕ) (p more : List ℕ) (n : ℕ)
+    → cond (ltb (length p + n) (length (p ++ more))) (broken PerlFound (take (length p + n) (p ++ more)) (l + line_ends (take (length p + n) (p ++ more)))) (open_end c StringOpen o l (take (length p + n) (p ++ more)))
+    ≡ onto_step p l (cond (ltb n (length more)) (broken PerlFound (take n more) (l + line_ends p + line_ends (take n more))) (open_end c StringOpen o (l + line_ends p) (take n more)))
+unfolding onto_step with_part line_with broken
+string_open-by c o l p more n =
+    let own = take n more in
+    let lines : l + line_ends (p ++ own) ≡ l + line_ends p + line_ends own = omega (arith, line_ends-append p own) in
+    ap (λ b. cond b (broken PerlFound (take (length p + n) (p ++ more)) (l + line_ends (take (length p + n) (p ++ more)))) (open_end c StringOpen o l (take (length p + n) (p ++ more))))
+    (ltb-moved (length p) n (length more) (length (p ++ more)) (length-append p more))
+    ∙ ap (λ z. cond (ltb n (length more)) (broken PerlFound z (l + line_ends z)) (open_end c StringOpen o l z)) (take-append-add p more n)
+    ∙ elim (ltb n (length more)) as (λ b. cond b (broken PerlFound (p ++ own) (l + line_ends (p ++ own))) (open_end c StringOpen o l (p ++ own))
+    ≡ onto_step p l (cond b (broken PerlFound own (l + line_ends p + line_ends own)) (open_end c StringOpen o (l + line_ends p) own))) [
+      | true ↦ ap (broken PerlFound (p ++ own)) lines
+      | false ↦ open_end-with c StringOpen o l p own
+    ]
+
+-- the rest of a string, and the string with the part in front of it
+string_step-by : (c : Course) (o l : ℕ) (p more : List ℕ) (k : Kind) (n : ℕ) (m : Mode)
+    → string_step c o l (record { kind = k; len = length p + n; next_mode = m }) (p ++ more) ≡ onto_step p l (string_step c o (l + line_ends p) (record { kind = k; len = n; next_mode = m }) more)
+unfolding string_step onto_step with_part line_with broken
+string_step-by c o l p more k n Plain = ap (λ z. Next (record { sort = Ordinary k; bytes = z; line = l })) (take-append-add p more n)
+string_step-by c o l p more k n InStr = string_open-by c o l p more n
+string_step-by c o l p more k n InBlock = string_open-by c o l p more n
+
+string_step-with : (c : Course) (o l : ℕ) (p more : List ℕ) (v : Token) → string_step c o l (longer (length p) v) (p ++ more) ≡ onto_step p l (string_step c o (l + line_ends p) v more)
+string_step-with c o l p more v = string_step-by c o l p more v.kind v.len v.next_mode
+
+-- the same of a block comment
+comment_step-by : (c : Course) (o l : ℕ) (p more : List ℕ) (k : Kind) (n : ℕ) (m : Mode)
+    → comment_step c o l (record { kind = k; len = length p + n; next_mode = m }) (p ++ more) ≡ onto_step p l (comment_step c o (l + line_ends p) (record { kind = k; len = n; next_mode = m }) more)
+unfolding comment_step onto_step with_part line_with
+comment_step-by c o l p more k n Plain = ap (λ z. Next (record { sort = Ordinary k; bytes = z; line = l })) (take-append-add p more n)
+comment_step-by c o l p more k n InStr = ap (open_end c CommentOpen o l) (take-append-add p more n) ∙ open_end-with c CommentOpen o l p (take n more)
+comment_step-by c o l p more k n InBlock = ap (open_end c CommentOpen o l) (take-append-add p more n) ∙ open_end-with c CommentOpen o l p (take n more)
+
+comment_step-with : (c : Course) (o l : ℕ) (p more : List ℕ) (v : Token) → comment_step c o l (longer (length p) v) (p ++ more) ≡ onto_step p l (comment_step c o (l + line_ends p) v more)
+comment_step-with c o l p more v = comment_step-by c o l p more v.kind v.len v.next_mode
+
+step_by-string : (c : Course) (o l : ℕ) (t : Token) (bs : List ℕ) → t.kind ≡ Str → step_by c o l t bs ≡ string_step c o l t bs
+unfolding step_by
+step_by-string c o l t bs is = subst (λ (k : Kind). step_by c o l (record { kind = k; len = t.len; next_mode = t.next_mode }) bs ≡ string_step c o l (record { kind = k; len = t.len; next_mode = t.next_mode }) bs) (sym is) refl
+
+step_by-comment : (c : Course) (o l : ℕ) (t : Token) (bs : List ℕ) → t.kind ≡ BlockComment → step_by c o l t bs ≡ comment_step c o l t bs
+unfolding step_by
+step_by-comment c o l t bs is = subst (λ (k : Kind). step_by c o l (record { kind = k; len = t.len; next_mode = t.next_mode }) bs ≡ comment_step c o l (record { kind = k; len = t.len; next_mode = t.next_mode }) bs) (sym is) refl
+
+-- what a step at the rest of a string or of a comment is: the last, or one with bytes
+pub data IsStep (more : List ℕ) (s : Step) : Type 0 where
+  IsLast : (t : SourceToken) → s ≡ Last t → IsStep more s
+  IsNext : (t : SourceToken) → s ≡ Next t → 0 < length t.bytes → 0 < length more → IsStep more s
+
+-- what stands at the end of a text where a step is the last
+pub end_of : Step → List SourceToken
+end_of (Last t) = t ∷ []
+end_of (Next t) = []
+
+-- a part, and the rest of its token behind it
+module _ (c : Course) (m e : Mode) (o l : ℕ) (held more : List ℕ) (s : Step) (some : 0 < length held)
+    (step : source_step c m o l (held ++ more) ≡ onto_step held l s)
+    (rest : 0 < length more → source_step c e (opening m o l) (l + line_ends held) more ≡ s)
+    (ended : ((more ≡ []) × (source_end c e (opening m o l) (l + line_ends held) ≡ end_of s)) ⊎ (0 < length more)) where
+  resumed_last : (t : SourceToken) → s ≡ Last t → source_tokens c e (opening m o l) (l + line_ends held) 0 more ≡ t ∷ []
+  unfolding source_tokens end_of
+  resumed_last t is =
+      let from : List ℕ → List SourceToken = λ z. source_tokens c e (opening m o l) (l + line_ends held) 0 z in
+      ⊎_elim (λ none. ap from none.0 ∙ none.1 ∙ ap end_of is) (λ there. source_tokens-last c e (opening m o l) (l + line_ends held) more t there (rest there ∙ is)) ended
+
+  resumed_next : (t : SourceToken) → s ≡ Next t → 0 < length t.bytes → 0 < length more
+      → source_tokens c m o l 0 (held ++ more) ≡ with_part held l t ∷ source_tokens c Plain (l + line_ends held) (l + line_ends held + line_ends (take (length t.bytes) more)) 0 (drop (length t.bytes) more)
+  unfolding onto_step with_part
+  resumed_next t is long there =
+      let bs = held ++ more in
+      let j = length t.bytes in
+      let next = l + line_ends held in
+      let W = with_part held l t in
+      let both = length-append held more in
+      let size : length (held ++ t.bytes) ≡ length held + j = length-append held t.bytes in
+      let lines : l + line_ends (held ++ take j more) ≡ next + line_ends (take j more) = omega (arith, line_ends-append held (take j more)) in
+      source_tokens-next c m o l bs W (omega arith) (step ∙ ap (onto_step held l) is) (omega (arith, size))
+      ∙ ap (λ i. W ∷ source_tokens c Plain l (l + line_ends (take i bs)) 0 (drop i bs)) size
+      ∙ ap (λ z. W ∷ source_tokens c Plain l (l + line_ends z) 0 (drop (length held + j) bs)) (take-append-add held more j)
+      ∙ ap (λ z. W ∷ source_tokens c Plain l (l + line_ends (held ++ take j more)) 0 z) (drop-append-add held more j)
+      ∙ ap (λ k. W ∷ source_tokens c Plain l k 0 (drop j more)) lines
+      ∙ ap (λ ts. W ∷ ts) (source_tokens-opened c l next (next + line_ends (take j more)) 0 (drop j more))
+
+  -- the tokens of both, by the step at the rest
+  pub resumed : IsStep more s → source_tokens c m o l 0 (held ++ more) ≡ onto_tokens held l (source_tokens c e (opening m o l) (l + line_ends held) 0 more)
+  unfolding onto_tokens onto_step
+  resumed (IsLast t is) =
+      let both = length-append held more in
+      source_tokens-last c m o l (held ++ more) (with_part held l t) (omega arith) (step ∙ ap (onto_step held l) is) ∙ sym (ap (onto_tokens held l) (resumed_last t is))
+  resumed (IsNext t is long there) =
+      resumed_next t is long there
+      ∙ sym (ap (onto_tokens held l) (source_tokens-next c e (opening m o l) (l + line_ends held) more t there (rest there ∙ is) long))
+
+-- a step at the rest of a string, where something stands
+string_rest : (c : Course) (o l : ℕ) (more : List ℕ) → 0 < length more → source_step c InStr o l more ≡ string_step c o l (string_token 0 more) more
+unfolding source_step token_of step_by whole string_step broken line_ends
+string_rest c o l more there =
+    let v = string_token 0 more in
+    let at_perl : begins_perl more ≡ true → source_step c InStr o l more ≡ string_step c o l v more = λ h.
+    let line : l ≡ l + 0 = omega arith in
+    ap (λ b. step_by c o l (cond b (whole Perl 2) v) more) h
+    ∙ ap (λ n. broken PerlFound [] n) line
+    ∙ sym (ap (λ (u : Token). string_step c o l u more) (perl_rest more h) ∙ ap (λ b. cond b (broken PerlFound [] (l + 0)) (open_end c StringOpen o l [])) (lt-ltb 0 (length more) there)) in
+    let at_other : begins_perl more ≡ false → source_step c InStr o l more ≡ string_step c o l v more = λ h.
+    ap (λ b. step_by c o l (cond b (whole Perl 2) v) more) h ∙ step_by-string c o l v more (string_token-kind 0 more) in
+    ⊎_elim at_perl at_other (cases_Bool (begins_perl more))
+
+-- where a text ends in a string
+string_end : (c : Course) (o l : ℕ) → source_end c InStr o l ≡ end_of (string_step c o l (string_token 0 []) [])
+unfolding source_end string_step string_token string_stop open_end broken end_of line_ends
+string_end c o l = refl
+
+open_end-last : (c : Course) (k : Breach) (o l : ℕ) (own more : List ℕ) → IsStep more (open_end c k o l own)
+unfolding open_end broken
+open_end-last c k o l own more = elim c.break as (λ b. IsStep more (elim b [ None ↦ broken k own o | Some d ↦ broken d.breach own (l + line_ends own) ])) [ None ↦ IsLast _ refl | Some d ↦ IsLast _ refl ]
+
+string_open-last : (c : Course) (o l : ℕ) (k : Kind) (n : ℕ) (more : List ℕ) → IsStep more (string_step c o l (record { kind = k; len = n; next_mode = InStr }) more)
+unfolding string_step broken
+string_open-last c o l k n more =
+    let own = take n more in
+    elim (ltb n (length more)) as (λ b. IsStep more (cond b (broken PerlFound own (l + line_ends own)) (open_end c StringOpen o l own))) [ true ↦ IsLast _ refl | false ↦ open_end-last c StringOpen o l own more ]
+
+string_closed-next : (c : Course) (o l : ℕ) (k : Kind) (n : ℕ) (more : List ℕ) → 0 < n → n ≤ length more → IsStep more (string_step c o l (record { kind = k; len = n; next_mode = Plain }) more)
+unfolding string_step
+string_closed-next c o l k n more some fits = let size = length-take-le n more fits in IsNext _ refl (omega (arith, size)) (omega arith)
+
+-- a string goes on or is closed
+string_token-mode : (from : ℕ) (bs : List ℕ) → ((string_token from bs).next_mode ≡ Plain) ⊎ ((string_token from bs).next_mode ≡ InStr)
+unfolding string_token whole
+string_token-mode from bs = cond_both (eqb (get_or bs (from + string_stop false (drop from bs)) 0) 34) _ _ (λ (t : Token). (t.next_mode ≡ Plain) ⊎ (t.next_mode ≡ InStr)) (λ _. inl refl) (λ _. inr refl)
+
+closed_string-fits : (more : List ℕ) → (string_token 0 more).next_mode ≡ Plain → (0 < (string_token 0 more).len) × ((string_token 0 more).len ≤ length more)
+unfolding string_token whole
+closed_string-fits more h =
+    let stop = 0 + string_stop false (drop 0 more) in
+    let byte = get_or more stop 0 in
+    let v : Bool → Token = λ t. cond t (whole Str (suc stop)) (record { kind = Str; len = stop; next_mode = InStr }) in
+    let P : Bool → Type 0 = λ t. eqb byte 34 ≡ t → (v t).next_mode ≡ Plain → (0 < (v t).len) × ((v t).len ≤ length more) in
+    let at_true : P true = λ e _. (omega arith, omega (arith, inside_of more stop (omega (arith, eqb-true byte 34 e)))) in
+    let at_false : P false = λ _ e. absurd (cc) in
+    elim (eqb byte 34) as P [ true ↦ at_true | false ↦ at_false ] refl h
+
+-- a step at the rest of a string is one of the two
+string_is_step : (c : Course) (o l : ℕ) (more : List ℕ) → IsStep more (string_step c o l (string_token 0 more) more)
+unfolding token_of
+string_is_step c o l more =
+    let v = string_token 0 more in
+    let P : Mode → Type 0 = λ m. IsStep more (string_step c o l (record { kind = v.kind; len = v.len; next_mode = m }) more) in
+    let goes_on : v.next_mode ≡ InStr → P v.next_mode = λ h. subst P (sym h) (string_open-last c o l v.kind v.len more) in
+    let closed : v.next_mode ≡ Plain → P v.next_mode = λ h. let fits = closed_string-fits more h in subst P (sym h) (string_closed-next c o l v.kind v.len more fits.0 fits.1) in
+    ⊎_elim closed goes_on (string_token-mode 0 more)
+
+-- a string that goes over a cut
+open_seam-string : (xs ys : List ℕ) (t u : Token) → t.next_mode ≡ InStr → t.len ≡ length xs → Seam xs ys t u → u ≡ longer (length xs) (string_token 0 ys)
+open_seam-string xs ys t u mode len (Closed e closed) = absurd (cc)
+open_seam-string xs ys t u mode len (BeforePerl e is lt perl) = absurd (omega arith)
+open_seam-string xs ys t u mode len (OpenString is e) = e
+open_seam-string xs ys t u mode len (OpenComment is e) = let other = ap (λ (v : Token). v.next_mode) is in absurd (cc)
+
+-- a string that is open in what is held: what is held of it, in front of the tokens of the rest
+pub step-open_string : (c : Course) (m : Mode) (o l : ℕ) (held more : List ℕ) → 0 < length held → IsCut held more → IsBuilt c m (held ++ more)
+    → (token_of m held).next_mode ≡ InStr → (token_of m held).len ≡ length held
+    → source_tokens c m o l 0 (held ++ more) ≡ onto_tokens held l (source_tokens c InStr (opening m o l) (l + line_ends held) 0 more)
+step-open_string c m o l held more some cut built mode len =
+    let bs = held ++ more in
+    let O = opening m o l in
+    let next = l + line_ends held in
+    let v = string_token 0 more in
+    let u = open_seam-string held more (token_of m held) (token_of m bs) mode len (token_of-seam m held more some cut) in
+    let step : source_step c m o l bs ≡ onto_step held l (string_step c O next v more) =
+    source_step-by c m o l bs built ∙ ap (λ w. step_by c O l w bs) u ∙ step_by-string c O l (longer (length held) v) bs (string_token-kind 0 more) ∙ string_step-with c O l held more v in
+    let P : List ℕ → Type 0 = λ z. ((z ≡ []) × (source_end c InStr O next ≡ end_of (string_step c O next (string_token 0 z) z))) ⊎ (0 < length z) in
+    let ended : P more = elim more as P [ [] ↦ inl (refl, string_end c O next) | z ∷ zs ↦ inr (omega arith) ] in
+    resumed c m InStr o l held more (string_step c O next v more) some step (λ there. string_rest c O next more there) ended (string_is_step c O next more)
+
+-- the same of a block comment
+comment_end : (c : Course) (o l : ℕ) → source_end c InBlock o l ≡ end_of (comment_step c o l (block_token 0 []) [])
+unfolding source_end comment_step block_token first_place open_end broken end_of line_ends
+comment_end c o l = refl
+
+comment_by_mode : (c : Course) (o l : ℕ) (k : Kind) (n : ℕ) (m : Mode) (more : List ℕ) → (m ≡ Plain → (0 < n) × (n ≤ length more)) → IsStep more (comment_step c o l (record { kind = k; len = n; next_mode = m }) more)
+unfolding comment_step
+comment_by_mode c o l k n Plain more fits =
+    let p = fits refl in let size = length-take-le n more p.1 in IsNext _ refl (omega (arith, size, p.0)) (omega (arith, p.0, p.1))
+comment_by_mode c o l k n InStr more fits = open_end-last c CommentOpen o l (take n more) more
+comment_by_mode c o l k n InBlock more fits = open_end-last c CommentOpen o l (take n more) more
+
+closed_comment-fits : (more : List ℕ) → (block_token 0 more).next_mode ≡ Plain → (0 < (block_token 0 more).len) × ((block_token 0 more).len ≤ length more)
+unfolding token_of block_token first_place
+closed_comment-fits [] closed = absurd (cc)
+closed_comment-fits (z ∷ zs) closed = let part = token_of-part InBlock (z ∷ zs) (omega arith) in (part.not_empty, part.inside)
+
+comment_rest : (c : Course) (o l : ℕ) (more : List ℕ) → source_step c InBlock o l more ≡ comment_step c o l (block_token 0 more) more
+unfolding source_step token_of
+comment_rest c o l more = step_by-comment c o l (block_token 0 more) more (block_token-kind 0 more)
+
+open_seam-comment : (xs ys : List ℕ) (t u : Token) → t.next_mode ≡ InBlock → Seam xs ys t u → u ≡ longer (length xs) (block_token 0 ys)
+open_seam-comment xs ys t u mode (Closed e closed) = absurd (cc)
+open_seam-comment xs ys t u mode (BeforePerl e is lt perl) = let other = ap (λ (v : Token). v.next_mode) is in absurd (cc)
+open_seam-comment xs ys t u mode (OpenString is e) = let other = ap (λ (v : Token). v.next_mode) is in absurd (cc)
+open_seam-comment xs ys t u mode (OpenComment is e) = e
+
+-- a block comment that is open in what is held: what is held of it, in front of the tokens of the rest
+pub step-open_comment : (c : Course) (m : Mode) (o l : ℕ) (held more : List ℕ) → 0 < length held → IsCut held more → IsBuilt c m (held ++ more) → (token_of m held).next_mode ≡ InBlock
+    → source_tokens c m o l 0 (held ++ more) ≡ onto_tokens held l (source_tokens c InBlock (opening m o l) (l + line_ends held) 0 more)
+step-open_comment c m o l held more some cut built mode =
+    let bs = held ++ more in
+    let O = opening m o l in
+    let next = l + line_ends held in
+    let v = block_token 0 more in
+    let u = open_seam-comment held more (token_of m held) (token_of m bs) mode (token_of-seam m held more some cut) in
+    let step : source_step c m o l bs ≡ onto_step held l (comment_step c O next v more) =
+    source_step-by c m o l bs built ∙ ap (λ w. step_by c O l w bs) u ∙ step_by-comment c O l (longer (length held) v) bs (block_token-kind 0 more) ∙ comment_step-with c O l held more v in
+    let P : List ℕ → Type 0 = λ z. ((z ≡ []) × (source_end c InBlock O next ≡ end_of (comment_step c O next (block_token 0 z) z))) ⊎ (0 < length z) in
+    let ended : P more = elim more as P [ [] ↦ inl (refl, comment_end c O next) | z ∷ zs ↦ inr (omega arith) ] in
+    resumed c m InBlock o l held more (comment_step c O next v more) some step (λ there. comment_rest c O next more) ended
+    (comment_by_mode c O next v.kind v.len v.next_mode more (closed_comment-fits more))
+
+-- a string that `<%` cuts in what is held
+pub step-cut_string : (c : Course) (m : Mode) (o l : ℕ) (held more : List ℕ) → 0 < length held → IsCut held more → IsBuilt c m (held ++ more)
+    → (token_of m held).kind ≡ Str → (token_of m held).next_mode ≡ InStr → (token_of m held).len < length held
+    → source_tokens c m o l 0 (held ++ more)
+    ≡ record { sort = Broken PerlFound; bytes = take (token_of m held).len held; line = l + line_ends (take (token_of m held).len held) } ∷ []
+unfolding string_step broken
+step-cut_string c m o l held more some cut built kind mode lt =
+    let t = token_of m held in
+    let bs = held ++ more in
+    let O = opening m o l in
+    let both = length-append held more in
+    let own = take t.len bs in
+    let same = seam_same held more t (token_of m bs) (inr lt) (token_of-seam m held more some cut) in
+    let S : Mode → Step = λ d. string_step c O l (record { kind = t.kind; len = t.len; next_mode = d }) bs in
+    let step : source_step c m o l bs ≡ broken PerlFound own (l + line_ends own) =
+    source_step-by c m o l bs built ∙ ap (λ u. step_by c O l u bs) same ∙ step_by-string c O l t bs kind ∙ ap S mode
+    ∙ ap (λ b. cond b (broken PerlFound own (l + line_ends own)) (open_end c StringOpen O l own)) (lt-ltb t.len (length bs) (omega arith)) in
+    source_tokens-last c m o l bs _ (omega arith) step
+    ∙ ap (λ z. record { sort = Broken PerlFound; bytes = z; line = l + line_ends z } ∷ []) (take-append-le t.len held more (omega arith))

@@ -1,0 +1,44 @@
+use Rattle.std.proofs.Common.{◌≡◌, ◌-◌, ℕ, List, Bool, true, false, length, drop, take, refl, sym, ap, ◌∙◌, subst, rules, arith}
+use Rattle.std.proofs.lemmas.List.{drop-drop, length-drop}
+use Rattle.std.proofs.lemmas.Slice.{between_to_end}
+use Rattle.rdlpp_scan.specs.declared.token.Mode.{Mode}
+use Rattle.rdlpp_scan.specs.declared.token.Token.{Token}
+use Rattle.rdlpp_scan.specs.Tokens.{token_of, tokens_from}
+use Rattle.rdlpp_scan.specs.LexFaults.{lex_fault_from, fault_of_tokens, is_perl}
+use Rattle.rdlpp_scan.proofs.TokenLists.{fault-perl, fault-next, fault-end}
+use Rattle.rdlpp_scan.proofs.faults.lex_fault.Goals as goal
+
+token_here : (t : Token) (m : Mode) (bs : List ℕ) (at : ℕ) → t ≡ token_of m (take (length bs - at) (drop at bs)) → t ≡ token_of m (drop at bs)
+token_here t m bs at h = subst (λ xs. t ≡ token_of m xs) (between_to_end bs at (length bs) (omega arith)) h
+
+perl_here : (b : Bool) (t : Token) (m : Mode) (bs : List ℕ) (at : ℕ) → b ≡ is_perl t.kind → t ≡ token_of m (drop at bs) → is_perl (token_of m (drop at bs)).kind ≡ b
+perl_here b t m bs at h is = sym (h ∙ ap (λ (u : Token). is_perl u.kind) is)
+
+pub loop-at-init : goal.loop-at-init
+unfolding lex_fault_from
+loop-at-init c = (omega arith, refl)
+
+pub returns-then-is_perl : goal.returns-then-is_perl
+returns-then-is_perl c =
+    let bs = c.args.bytes.now in
+    let at = c.loop-at.at in
+    let m = c.loop-at.mode in
+    let t = c.first_token-token.result in
+    let is = token_here t m bs at c.first_token-token.ensures.value in
+    sym (c.loop-at.invariant.1 ∙ fault-perl m (drop at bs) (omega (arith, length-drop at bs)) (perl_here true t m bs at c.if-is_perl.ensures is))
+
+pub loop-at-preserved : goal.loop-at-preserved
+loop-at-preserved c =
+    let bs = c.args.bytes.now in
+    let at = c.loop-at.at in
+    let m = c.loop-at.mode in
+    let t = c.first_token-token.result in
+    let is = token_here t m bs at c.first_token-token.ensures.value in
+    let next = fault-next m (drop at bs) (omega (arith, length-drop at bs)) (perl_here false t m bs at c.if-is_perl.ensures is) in
+    let same = ap (λ (u : Token). fault_of_tokens u.next_mode (tokens_from u.next_mode 0 (drop u.len (drop at bs)))) (sym is) in
+    let dropped = ap (λ xs. fault_of_tokens t.next_mode (tokens_from t.next_mode 0 xs)) (drop-drop t.len at bs) in
+    (search rules, c.loop-at.invariant.1 ∙ next ∙ same ∙ dropped)
+
+pub returns : goal.returns
+returns c =
+    c.open_fault.ensures ∙ sym (fault-end _ c.args.bytes.now c.loop-at.at (omega arith)) ∙ sym c.loop-at.invariant.1

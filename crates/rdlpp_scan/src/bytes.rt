@@ -1,0 +1,110 @@
+// The classes of bytes, and runs of them.
+ghost use Rattle.std.specs.Prelude.{◌≡◌, ◌<◌, ◌≤◌, length, slice_index, IsTrue};
+ghost use Rattle.std.specs.List.{prefix_len};
+ghost use Rattle.rdlpp_scan.specs.Bytes.{
+  begins_block_comment,
+  begins_line_comment,
+  begins_perl,
+  is_blank,
+  is_closer,
+  is_digit,
+  is_letter,
+  is_opener,
+  is_word,
+  takes_word,
+};
+
+// The byte at a place, or 0 past the end.
+pub(crate) fn byte_at(bytes: &[u8], at: usize) -> u8
+    ensures value { result ≡ slice_index bytes.now at }
+    ensures inside { 0 < result → at < length bytes.now }
+{
+    bytes.get(at).copied().unwrap_or(0)
+}
+
+#[tactic(auto, unfolding(crate::specs::Bytes::is_blank))]
+pub(crate) fn is_blank(b: u8) -> bool
+    ensures { result ≡ is_blank b }
+{
+    b == b' ' || b == b'\t' || b == b'\r' || b == 11 || b == 12
+}
+
+#[tactic(auto, unfolding(crate::specs::Bytes::is_letter))]
+pub(crate) fn is_letter(b: u8) -> bool
+    ensures { result ≡ is_letter b }
+{
+    b'A' <= b && b <= b'Z' || b'a' <= b && b <= b'z' || b == b'_'
+}
+
+#[tactic(auto, unfolding(crate::specs::Bytes::is_digit))]
+pub(crate) fn is_digit(b: u8) -> bool
+    ensures { result ≡ is_digit b }
+{
+    b'0' <= b && b <= b'9'
+}
+
+#[tactic(auto, unfolding(crate::specs::Bytes::is_word))]
+pub(crate) fn is_word(b: u8) -> bool
+    ensures { result ≡ is_word b }
+{
+    is_letter(b) || is_digit(b)
+}
+
+#[tactic(auto, unfolding(crate::specs::Bytes::is_opener))]
+pub(crate) fn is_opener(b: u8) -> bool
+    ensures { result ≡ is_opener b }
+{
+    b == b'(' || b == b'[' || b == b'{'
+}
+
+#[tactic(auto, unfolding(crate::specs::Bytes::is_closer))]
+pub(crate) fn is_closer(b: u8) -> bool
+    ensures { result ≡ is_closer b }
+{
+    b == b')' || b == b']' || b == b'}'
+}
+
+#[tactic(auto, unfolding(crate::specs::Bytes::takes_word))]
+pub(crate) fn takes_word(b: u8) -> bool
+    ensures { result ≡ takes_word b }
+{
+    b == b'\'' || b == b'\\'
+}
+
+#[tactic(auto, unfolding(crate::specs::Bytes::begins_perl))]
+pub(crate) fn begins_perl(bytes: &[u8]) -> bool
+    ensures { result ≡ begins_perl bytes.now }
+{
+    byte_at(bytes, 0) == b'<' && byte_at(bytes, 1) == b'%'
+}
+
+#[tactic(auto, unfolding(crate::specs::Bytes::begins_line_comment))]
+pub(crate) fn begins_line_comment(bytes: &[u8]) -> bool
+    ensures { result ≡ begins_line_comment bytes.now }
+{
+    byte_at(bytes, 0) == b'/' && byte_at(bytes, 1) == b'/'
+}
+
+#[tactic(auto, unfolding(crate::specs::Bytes::begins_block_comment))]
+pub(crate) fn begins_block_comment(bytes: &[u8]) -> bool
+    ensures value { result ≡ begins_block_comment bytes.now }
+    ensures room { IsTrue result → 2 ≤ length bytes.now }
+{
+    byte_at(bytes, 0) == b'/' && byte_at(bytes, 1) == b'*'
+}
+
+// How many blanks a text begins with.
+pub(crate) fn blanks(bytes: &[u8]) -> usize
+    ensures value { result ≡ prefix_len is_blank bytes.now }
+    ensures inside { result ≤ length bytes.now }
+{
+    bytes.iter().take_while(|b| is_blank(**b)).count()
+}
+
+// How many word bytes a text begins with.
+pub(crate) fn word_bytes(bytes: &[u8]) -> usize
+    ensures value { result ≡ prefix_len is_word bytes.now }
+    ensures inside { result ≤ length bytes.now }
+{
+    bytes.iter().take_while(|b| is_word(**b)).count()
+}

@@ -1,0 +1,98 @@
+//! Laws of tokens and of lines, each the contract of a function that does nothing.
+ghost use Rattle.std.specs.Prelude.{
+  ◌≡◌,
+  ◌+◌,
+  ◌-◌,
+  ◌<◌,
+  ◌≤◌,
+  ◌++◌,
+  ◌∷◌,
+  [],
+  ℕ,
+  Bool,
+  List,
+  Some,
+  length,
+  take,
+  drop,
+};
+ghost use Rattle.std.specs.List.{concat};
+ghost use Rattle.rdlpp_scan.specs.declared.token.Mode.{Mode};
+ghost use Rattle.rdlpp_scan.specs.declared.token.Mode.TheVariants.{InBlock, InStr, Plain};
+ghost use Rattle.rdlpp_scan.specs.Front.{LineLong, SourceLong};
+ghost use Rattle.rdlpp_scan.specs.Lines.{EndsLine};
+ghost use Rattle.rdlpp_scan.specs.Ordinary.{IsEdge, IsOrdinary, SparesOrdinary};
+ghost use Rattle.rdlpp_scan.specs.Pieces.{AreCuts, joined, tokens_of_pieces};
+ghost use Rattle.rdlpp_scan.specs.Resumed.{onto_tokens};
+ghost use Rattle.rdlpp_scan.specs.SourceTokens.{
+  Broken,
+  Course,
+  line_ends,
+  line_len,
+  remaining_tokens,
+  source_tokens,
+};
+ghost use Rattle.rdlpp_scan.specs.Tokens.{plain_len, token_of, tokens_from};
+
+/// However a text is cut before or after its line ends, the tokens of the pieces, with the parts of
+/// each string and of each comment joined, are the tokens of the text.
+pub fn cut_text()
+    ensures { (from : Mode) (pieces : List (List ℕ)) → AreCuts pieces
+        → joined (tokens_of_pieces from pieces) ≡ tokens_from from 0 (concat pieces) }
+{}
+
+/// Ordinary text goes through: its tokens are plain, are all of it, and those of what is behind it
+/// follow.
+pub fn ordinary_text()
+    ensures { (c : Course) (line : ℕ) (w x : List ℕ) → SparesOrdinary c.unbuilt
+        → length w ≤ plain_len (w ++ x) → IsEdge w x → IsOrdinary c line w x }
+{}
+
+/// Bytes of a source that are passed over are dropped, with their lines counted.
+pub fn passed_text()
+    ensures { (c : Course) (mode : Mode) (opened line n : ℕ) (bytes : List ℕ)
+        → source_tokens c mode opened line n bytes
+        ≡ source_tokens c mode opened (line + line_ends (take n bytes)) 0 (drop n bytes) }
+{}
+
+/// Whole lines that the limits accept may be taken in: what remains of the source is the same.
+pub fn accepted_lines()
+    ensures { (unbuilt : List ℕ → Bool) (most : ℕ) (mode : Mode) (opened line : ℕ) (held : List ℕ)
+        (room : ℕ) (w rest : List ℕ) → EndsLine w rest → length w ≤ most → length w ≤ room
+        → remaining_tokens unbuilt most mode opened line held room (w ++ rest)
+        ≡ remaining_tokens unbuilt most mode opened line (held ++ w) (room - length w) rest }
+{}
+
+/// A first line of more than `most` bytes, or of more than `room` bytes, breaks a source.
+pub fn breaking_line()
+    ensures long { (unbuilt : List ℕ → Bool) (most opened line room : ℕ) (rest : List ℕ)
+        → most < line_len rest → remaining_tokens unbuilt most Plain opened line [] room rest
+        ≡ record { sort = Broken LineLong; bytes = []; line = line } ∷ [] }
+    ensures much { (unbuilt : List ℕ → Bool) (most opened line room : ℕ) (rest : List ℕ)
+        → line_len rest ≤ most → room < line_len rest
+        → remaining_tokens unbuilt most Plain opened line [] room rest
+        ≡ record { sort = Broken SourceLong; bytes = []; line = line } ∷ [] }
+{}
+
+/// Where nothing is left of a source, no token remains.
+pub fn whole_source()
+    ensures { (unbuilt : List ℕ → Bool) (most opened line room : ℕ)
+        → remaining_tokens unbuilt most Plain opened line [] room [] ≡ [] }
+{}
+
+/// A string or a block comment that is open in what is held, in that mode: what is held of it stands
+/// in front of the token that is the rest of it.
+pub fn open_token()
+    ensures string { (unbuilt : List ℕ → Bool) (most opened line : ℕ) (held : List ℕ) (room : ℕ)
+        (rest : List ℕ) → 0 < length held → EndsLine held rest
+        → (token_of InStr held).next_mode ≡ InStr → (token_of InStr held).len ≡ length held
+        → remaining_tokens unbuilt most InStr opened line held room rest
+        ≡ onto_tokens held line
+        (remaining_tokens unbuilt most InStr opened (line + line_ends held) [] room rest) }
+    ensures comment { (unbuilt : List ℕ → Bool) (most opened line : ℕ) (held : List ℕ) (room : ℕ)
+        (rest : List ℕ) → 0 < length held → EndsLine held rest
+        → (token_of InBlock held).next_mode ≡ InBlock
+        → remaining_tokens unbuilt most InBlock opened line held room rest
+        ≡ onto_tokens held line
+        (remaining_tokens unbuilt most InBlock opened (line + line_ends held) [] room rest) }
+{}

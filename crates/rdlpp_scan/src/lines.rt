@@ -1,0 +1,95 @@
+// Physical lines and logical lines of a text.
+ghost use Rattle.std.specs.Prelude.{◌≡◌, ◌+◌, ◌-◌, ◌<◌, ◌≤◌, ◌∷◌, not, length, slice_index};
+ghost use Rattle.std.specs.List.{prefix_len};
+ghost use Rattle.memchr.specs.Find.{places};
+ghost use Rattle.rdlpp_scan.specs.Bytes.{is_line_end};
+ghost use Rattle.rdlpp_scan.specs.SourceTokens.{is_continued, line_ends, line_len, logical_len};
+ghost use Rattle.rdlpp_scan.specs.Lines.{ended_line_len, ends_continued, whole_lines_len};
+
+use memchr::{memchr, memchr_iter, memrchr};
+
+// How many bytes stand before the first LF.
+pub(crate) fn before_line_end(bytes: &[u8]) -> usize
+    ensures value { result ≡ prefix_len (λ x. not (is_line_end x)) bytes.now }
+    ensures inside { result ≤ length bytes.now }
+{
+    memchr(b'\n', bytes).unwrap_or(bytes.len())
+}
+
+/// The length of the first line, up to and with its LF; `None` where `bytes` has no LF.
+pub fn rest_of_line(bytes: &[u8]) -> Option<usize>
+    ensures { result ≡ ended_line_len bytes.now }
+{
+    Some(memchr(b'\n', bytes)? + 1)
+}
+
+// The length of the first line, with its LF where it has one.
+pub(crate) fn line_len(bytes: &[u8]) -> usize
+    ensures value { result ≡ line_len bytes.now }
+    ensures inside { result ≤ length bytes.now }
+{
+    rest_of_line(bytes).unwrap_or(bytes.len())
+}
+
+/// The length up to and with the last LF; 0 where `bytes` has no LF.
+pub fn last_line_end(bytes: &[u8]) -> usize
+    ensures { result ≡ whole_lines_len bytes.now }
+{
+    match memrchr(b'\n', bytes) {
+        Some(at) => at + 1,
+        None => 0,
+    }
+}
+
+/// How many LF bytes `bytes` has.
+pub fn line_ends_in(bytes: &[u8]) -> usize
+    ensures { result ≡ line_ends bytes.now }
+{
+    memchr_iter(b'\n', bytes).count()
+}
+
+// The byte that stands one or two before the end, or 0 where there is none.
+fn byte_back(bytes: &[u8], back: usize) -> u8
+    requires some { 0 < back }
+    requires two { back ≤ 2 }
+    ensures { result ≡ slice_index (0 ∷ 0 ∷ bytes.now) (length bytes.now + 2 - back) }
+{
+    if back <= bytes.len() {
+        bytes[bytes.len() - back]
+    } else {
+        0
+    }
+}
+
+// Whether the LF behind these two bytes is a continuation: `\`, or `\` and CR.
+#[tactic(auto, unfolding(crate::specs::SourceTokens::is_continued))]
+fn is_continuation(before: u8, last: u8) -> bool
+    ensures { result ≡ is_continued before last }
+{
+    last == b'\\' || before == b'\\' && last == b'\r'
+}
+
+// Whether a line without its LF goes on behind that LF.
+fn is_continued(line: &[u8]) -> bool
+    ensures { result ≡ ends_continued 0 0 line.now }
+{
+    is_continuation(byte_back(line, 2), byte_back(line, 1))
+}
+
+/// The length of the first logical line, up to and with the first LF that no `\`, and no `\` and
+/// CR, stands before (IEEE 1364-2001, `define`); `None` where `bytes` has no such LF.
+///
+/// Costs time linear in that length, or in the whole length where there is no such LF.
+pub fn logical_line(bytes: &[u8]) -> Option<usize>
+    ensures { result ≡ logical_len 0 0 bytes.now }
+{
+    let mut at = 0;
+    while let Some(step) = memchr(b'\n', &bytes[at..]) {
+        let end = at + step;
+        if !is_continued(&bytes[at..end]) {
+            return Some(end + 1);
+        }
+        at = end + 1;
+    }
+    None
+}

@@ -1,0 +1,54 @@
+// Names, and those of them that are reserved for directives.
+ghost use Rattle.std.specs.Prelude.{◌≡◌, is_some};
+ghost use Rattle.std.specs.List.{list_all};
+ghost use Rattle.rdlpp_scan.specs.Bytes.{is_word};
+ghost use Rattle.rdlpp_scan.specs.Names.{directive_named, is_name};
+ghost use Rattle.rdlpp_scan.specs.Stage.{is_reserved};
+
+use crate::bytes::{byte_at, is_letter, is_word};
+use crate::token::Directive;
+
+/// Whether `bytes` is one name and nothing else: a letter or `_`, then letters, `_` and digits
+/// (IEEE 1364-2001, identifiers). No bytes are no name.
+#[tactic(auto, unfolding(crate::specs::Names::is_name))]
+pub fn is_name(bytes: &[u8]) -> bool
+    ensures { result ≡ is_name bytes.now }
+{
+    is_letter(byte_at(bytes, 0)) && all_word_bytes(bytes)
+}
+
+fn all_word_bytes(bytes: &[u8]) -> bool
+    ensures { result ≡ list_all is_word bytes.now }
+{
+    bytes.iter().all(|b| is_word(*b))
+}
+
+/// The directive of this name; `None` where the name isn't reserved (IEEE 1364-2001, clause on
+/// compiler directives).
+#[tactic(auto, unfolding(crate::specs::Names::directive_named, crate::specs::Stage::is_reserved, crate::specs::Stage::reserved_names))]
+pub fn reserved(name: &[u8]) -> Option<Directive>
+    ensures value { result ≡ directive_named name.now }
+    ensures reserved { is_some result ≡ is_reserved name.now }
+{
+    if name == b"define".as_slice() {
+        Some(Directive::Define)
+    } else if name == b"undef".as_slice() {
+        Some(Directive::Undef)
+    } else if name == b"ifdef".as_slice() {
+        Some(Directive::Ifdef)
+    } else if name == b"ifndef".as_slice() {
+        Some(Directive::Ifndef)
+    } else if name == b"elsif".as_slice() {
+        Some(Directive::Elsif)
+    } else if name == b"else".as_slice() {
+        Some(Directive::Else)
+    } else if name == b"endif".as_slice() {
+        Some(Directive::Endif)
+    } else if name == b"include".as_slice() {
+        Some(Directive::Include)
+    } else if name == b"line".as_slice() {
+        Some(Directive::Line)
+    } else {
+        None
+    }
+}

@@ -1,0 +1,9 @@
+use Rattle.std.proofs.Common.{◌≡◌, ◌≤◌, length, ℕ}
+use Rattle.rdlpp_table.specs.BodyBytes.{left}
+use Rattle.rdlpp_table.proofs.body.BodyBytes.next.Given as goal
+
+abbrev pub invariant-loop-b : goal.invariant-loop-b
+invariant-loop-b l = record { same : left l.self ≡ left l.fn.self; shorter : length l.self.rest.now ≤ length l.fn.self.rest.now }
+
+abbrev pub decreases-loop-b : goal.decreases-loop-b
+decreases-loop-b l = length l.self.rest.now

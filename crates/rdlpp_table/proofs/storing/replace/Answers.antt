@@ -1,0 +1,25 @@
+use Rattle.std.proofs.Common.{◌≡◌, ◌++◌, ◌∷◌, [], None, List, subst, sym, arith, length, ap}
+use Rattle.rdlpp_table.specs.Table.{Macro, without, table_size}
+use Rattle.rdlpp_table.specs.Store.{IsStored, macros_in}
+use Rattle.rdlpp_table.proofs.RoundTrip.{read_back}
+use Rattle.rdlpp_table.proofs.Put.{stored_again, stored_length, stored_count}
+use Rattle.rdlpp_table.proofs.Taken.{count_bytes}
+use Rattle.rdlpp_table.proofs.Laid.{count_entries}
+use Rattle.rdlpp_table.proofs.storing.replace.Goals as goal
+
+pub put-requires-clause-stored : goal.put-requires-clause-stored
+put-requires-clause-stored c = stored_again _ _ _ c.take_out_named.ensures.stored
+
+pub put-requires-clause-room : goal.put-requires-clause-room
+put-requires-clause-room c =
+    omega (arith, c.requires.room, c.take_out_named.ensures.capacity.0, stored_length _ _ _ c.take_out_named.ensures.stored, count_bytes c.take_out_named.new.bytes)
+
+pub put-requires-clause-entry_room : goal.put-requires-clause-entry_room
+put-requires-clause-entry_room c =
+    omega (arith, c.requires.entry_room, c.take_out_named.ensures.capacity.1, stored_count _ _ _ c.take_out_named.ensures.stored, count_entries c.take_out_named.new.entries)
+
+pub returns-clause-stored : goal.returns-clause-stored
+returns-clause-stored c =
+    let m : Macro = record { name = c.args.name.now; formals = None; body = c.args.body.now } in
+    let P : List Macro → Type 0 = λ ms. IsStored c.put.new.bytes.items c.put.new.entries.items (ms ++ m ∷ []) in
+    subst P (read_back _ _ _ c.take_out_named.ensures.stored) c.put.ensures.stored

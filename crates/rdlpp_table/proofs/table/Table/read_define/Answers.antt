@@ -1,0 +1,12 @@
+use Rattle.std.proofs.Common.{◌∙◌}
+use Rattle.rdlpp_table.proofs.Ordinary.{define_stores, define_refuses}
+use Rattle.rdlpp_table.proofs.table.Table.read_define.Goals as goal
+
+pub returns-in-Ok-clause-outcome : goal.returns-in-Ok-clause-outcome
+returns-in-Ok-clause-outcome c =
+    c.store.ensures.outcome
+    ∙ define_stores _ _ _ _ _ _ _ _ c.requires.built c.unended.ensures c.after_space-text.ensures c.leading_name-name.ensures.value c.in-Ok.ensures.value c.trimmed.ensures
+
+pub returns-in-Err-clause-outcome : goal.returns-in-Err-clause-outcome
+returns-in-Err-clause-outcome c =
+    define_refuses _ _ _ _ _ _ _ _ c.requires.built c.unended.ensures c.after_space-text.ensures c.leading_name-name.ensures.value c.in-Err.ensures.value.0 c.in-Err.ensures.value.1

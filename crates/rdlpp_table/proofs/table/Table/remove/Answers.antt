@@ -1,0 +1,27 @@
+use Rattle.std.proofs.Common.{◌≡◌, ◌∙◌, ap, arith, is_some, subst}
+use Rattle.rdlpp_table.specs.Table.{macro_named, without}
+use Rattle.rdlpp_table.specs.View.{TableView}
+use Rattle.rdlpp_table.specs.Layout.{view_of}
+use Rattle.rdlpp_table.proofs.Held.{table_of, held_of, view_after, sound_without}
+use Rattle.rdlpp_table.proofs.table.Table.remove.Goals as goal
+
+pub take_out_named-requires-clause-stored : goal.take_out_named-requires-clause-stored
+take_out_named-requires-clause-stored c = c.self.invariant.held.stored
+
+pub take_out_named-requires-clause-distinct : goal.take_out_named-requires-clause-distinct
+take_out_named-requires-clause-distinct c = c.self.invariant.held.sound.distinct
+
+pub invariant_of-self : goal.invariant_of-self
+invariant_of-self c = record {
+  held = held_of _ _ _ _ _ c.take_out_named.ensures.stored (sound_without c.args.name.now (view_of c.self.inside.bytes.items c.self.inside.entries.items c.self.inside.most_bytes c.self.inside.most_macros) c.self.invariant.held.sound);
+  room = omega (arith, c.take_out_named.ensures.capacity.0, c.self.invariant.room);
+  entry_room = omega (arith, c.take_out_named.ensures.capacity.1, c.self.invariant.entry_room);
+}
+
+pub returns-clause-value : goal.returns-clause-value
+returns-clause-value c = c.take_out_named.ensures.value ∙ ap (λ (v : TableView). is_some (macro_named v.macros c.args.name.now)) c.self.view_is
+
+pub returns-clause-table : goal.returns-clause-table
+returns-clause-table c =
+    view_after _ _ _ c.self.inside.most_bytes c.self.inside.most_macros c.take_out_named.ensures.stored
+    ∙ ap (λ (v : TableView). table_of (without c.args.name.now v.macros) v.most_bytes v.most_macros) c.self.view_is

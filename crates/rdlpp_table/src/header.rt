@@ -1,0 +1,113 @@
+// The header of a definition: white space, a name.
+ghost use Rattle.std.specs.Prelude.{length, IfSome, None, Some, ◌≡◌, ◌≤◌};
+ghost use Rattle.std.specs.List.{list_any, prefix_len};
+ghost use Rattle.rdlpp_scan.specs.Bytes.{is_blank, is_letter, is_line_end, is_word};
+ghost use Rattle.rdlpp_scan.specs.SourceTokens.{logical_len};
+ghost use Rattle.rdlpp_table.specs.Define.{after_space, is_space, leading_name, trimmed, unended, without_end_blanks};
+
+use rdlpp_scan::logical_line;
+
+// A space, tab, CR, VT or FF.
+#[tactic(auto, unfolding(rdlpp_scan::specs::Bytes::is_blank))]
+pub(crate) fn is_blank(b: u8) -> bool
+    ensures { result ≡ is_blank b }
+{
+    b == b' ' || b == b'\t' || b == b'\r' || b == 11 || b == 12
+}
+
+#[tactic(auto, unfolding(crate::specs::Define::is_space, rdlpp_scan::specs::Bytes::is_line_end))]
+fn is_space(b: u8) -> bool
+    ensures { result ≡ is_space b }
+{
+    is_blank(b) || b == b'\n'
+}
+
+#[tactic(auto, unfolding(rdlpp_scan::specs::Bytes::is_letter))]
+fn is_letter(b: u8) -> bool
+    ensures { result ≡ is_letter b }
+{
+    b'A' <= b && b <= b'Z' || b'a' <= b && b <= b'z' || b == b'_'
+}
+
+#[tactic(auto, unfolding(rdlpp_scan::specs::Bytes::is_word, rdlpp_scan::specs::Bytes::is_digit))]
+fn is_word(b: u8) -> bool
+    ensures { result ≡ is_word b }
+{
+    is_letter(b) || b'0' <= b && b <= b'9'
+}
+
+// How much white space a text begins with.
+fn spaces(bytes: &[u8]) -> usize
+    ensures value { result ≡ prefix_len is_space bytes.now }
+    ensures inside { result ≤ length bytes.now }
+{
+    bytes.iter().take_while(|b| is_space(**b)).count()
+}
+
+// How many blanks a text begins with.
+fn blanks(bytes: &[u8]) -> usize
+    ensures value { result ≡ prefix_len is_blank bytes.now }
+    ensures inside { result ≤ length bytes.now }
+{
+    bytes.iter().take_while(|b| is_blank(**b)).count()
+}
+
+// How many word bytes a text begins with.
+fn word_bytes(bytes: &[u8]) -> usize
+    ensures value { result ≡ prefix_len is_word bytes.now }
+    ensures inside { result ≤ length bytes.now }
+{
+    bytes.iter().take_while(|b| is_word(**b)).count()
+}
+
+// A logical line without the LF that ends it, where one does.
+#[tactic(auto, unfolding(crate::specs::Define::unended))]
+pub(crate) fn unended(rest: &[u8]) -> &[u8]
+    requires { IfSome (logical_len 0 0 rest.now) (λ n. n ≡ length rest.now) }
+    ensures { result.now ≡ unended rest.now }
+{
+    match logical_line(rest) {
+        Some(len) => &rest[..len.saturating_sub(1)],
+        None => rest,
+    }
+}
+
+// A text without the white space with which it begins.
+#[tactic(auto, using(std::proofs::lemmas::List::take_rest), unfolding(crate::specs::Define::after_space))]
+pub(crate) fn after_space(bytes: &[u8]) -> &[u8]
+    ensures { result.now ≡ after_space bytes.now }
+{
+    &bytes[spaces(bytes)..]
+}
+
+// The name with which a text begins, or nothing.
+#[tactic(auto, unfolding(crate::specs::Define::leading_name))]
+pub(crate) fn leading_name(bytes: &[u8]) -> &[u8]
+    ensures value { result.now ≡ leading_name bytes.now }
+    ensures inside { length result.now ≤ length bytes.now }
+{
+    if is_letter(bytes.first().copied().unwrap_or(0)) {
+        &bytes[..word_bytes(bytes)]
+    } else {
+        &[]
+    }
+}
+
+// A text without the blanks at its end.
+fn without_end_blanks(bytes: &[u8]) -> &[u8]
+    ensures { result.now ≡ without_end_blanks bytes.now }
+{
+    let mut end = bytes.len();
+    while end > 0 && is_blank(bytes[end - 1]) {
+        end -= 1;
+    }
+    &bytes[..end]
+}
+
+// A text without the blanks at both ends.
+#[tactic(auto, using(std::proofs::lemmas::List::take_rest), unfolding(crate::specs::Define::trimmed))]
+pub(crate) fn trimmed(bytes: &[u8]) -> &[u8]
+    ensures { result.now ≡ trimmed bytes.now }
+{
+    without_end_blanks(&bytes[blanks(bytes)..])
+}
