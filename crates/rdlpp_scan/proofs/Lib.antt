@@ -23,3 +23,4 @@ pub mod PlainSearch
 pub mod TokenSteps
 pub mod DefineSteps
 pub mod RemainingSteps
+pub mod RangeLaws

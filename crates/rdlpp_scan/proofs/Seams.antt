@@ -184,7 +184,7 @@ unfolding whole
 whole-seam xs ys k n m e = Closed (ap (whole k) e) refl
 
 -- a string that stops at a place, before a byte
-string_at : ℕ → ℕ → Token
+unfoldable pub string_at : ℕ → ℕ → Token
 string_at stop b = cond (eqb b 34) (whole Str (suc stop)) (record { kind = Str; len = stop; next_mode = InStr })
 
 string_at-seam : (xs ys : List ℕ) (stop b : ℕ) (u : Token) → stop < length xs → (eqb b 34 ≡ false → begins_perl (drop stop xs) ≡ true) → u ≡ string_at stop b → Seam xs ys (string_at stop b) u
@@ -218,7 +218,8 @@ string_at-longer n s b =
       | false ↦ refl
     ]
 
-string_token-at : (from : ℕ) (bs : List ℕ) (stop : ℕ) → from + string_stop false (drop from bs) ≡ stop → string_token from bs ≡ string_at stop (get_or bs stop 0)
+-- a string, by where it stops
+pub string_token-at : (from : ℕ) (bs : List ℕ) (stop : ℕ) → from + string_stop false (drop from bs) ≡ stop → string_token from bs ≡ string_at stop (get_or bs stop 0)
 unfolding string_token string_at
 string_token-at from bs stop e = ap (λ i. string_at i (get_or bs i 0)) e
 
@@ -268,7 +269,7 @@ string-seam from xs ys fits cut =
     ⊎_elim inside over (cases_lt k (length X))
 
 -- a block comment that stops at a place, before its end or not
-block_at : ℕ → Bool → Token
+unfoldable pub block_at : ℕ → Bool → Token
 block_at stop b = cond b (whole BlockComment (stop + 2)) (record { kind = BlockComment; len = stop; next_mode = InBlock })
 
 block_at-longer : (n s : ℕ) (b : Bool) → block_at (n + s) b ≡ longer n (block_at s b)
@@ -276,7 +277,8 @@ unfolding block_at whole
 block_at-longer n s true = let e : n + s + 2 ≡ n + (s + 2) = omega arith in ap (whole BlockComment) e
 block_at-longer n s false = refl
 
-block_token-at : (from : ℕ) (bs : List ℕ) (stop : ℕ) (b : Bool) → from + first_place ends_block_comment (drop from bs) ≡ stop → ltb stop (length bs) ≡ b → block_token from bs ≡ block_at stop b
+-- a block comment, by where it stops
+pub block_token-at : (from : ℕ) (bs : List ℕ) (stop : ℕ) (b : Bool) → from + first_place ends_block_comment (drop from bs) ≡ stop → ltb stop (length bs) ≡ b → block_token from bs ≡ block_at stop b
 unfolding block_token block_at
 block_token-at from bs stop b e f = ap (λ i. block_at i (ltb i (length bs))) e ∙ ap (block_at stop) f
 

@@ -49,3 +49,8 @@ join_all (t ∷ ts) us = join_onto t (join_all ts us)
 -- tokens with the parts of each string and of each comment joined
 unfoldable pub joined : List Token → List Token
 joined ts = join_all ts []
+
+-- how many bytes tokens have together
+unfoldable pub tokens_len : List Token → ℕ
+tokens_len [] = 0
+tokens_len (t ∷ ts) = t.len + tokens_len ts

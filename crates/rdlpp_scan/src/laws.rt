@@ -22,7 +22,14 @@ ghost use Rattle.rdlpp_scan.specs.declared.token.Mode.TheVariants.{InBlock, InSt
 ghost use Rattle.rdlpp_scan.specs.Front.{LineLong, SourceLong};
 ghost use Rattle.rdlpp_scan.specs.Lines.{EndsLine};
 ghost use Rattle.rdlpp_scan.specs.Ordinary.{IsEdge, IsOrdinary, SparesOrdinary};
-ghost use Rattle.rdlpp_scan.specs.Pieces.{AreCuts, joined, tokens_of_pieces};
+ghost use Rattle.rdlpp_scan.specs.Pieces.{
+  AreCuts,
+  joined,
+  mode_behind,
+  tokens_len,
+  tokens_of_pieces,
+};
+ghost use Rattle.rdlpp_scan.specs.declared.token.Token.{Token};
 ghost use Rattle.rdlpp_scan.specs.Resumed.{onto_tokens};
 ghost use Rattle.rdlpp_scan.specs.SourceTokens.{
   Broken,
@@ -39,6 +46,14 @@ ghost use Rattle.rdlpp_scan.specs.Tokens.{plain_len, token_of, tokens_from};
 pub fn cut_text()
     ensures { (from : Mode) (pieces : List (List ℕ)) → AreCuts pieces
         → joined (tokens_of_pieces from pieces) ≡ tokens_from from 0 (concat pieces) }
+{}
+
+/// A range of a text, cut before and behind some of its tokens, has exactly those tokens.
+pub fn token_range()
+    ensures { (mode : Mode) (bytes : List ℕ) (before tokens behind : List Token)
+        → tokens_from mode 0 bytes ≡ before ++ (tokens ++ behind)
+        → tokens_from (mode_behind mode before) 0
+        (take (tokens_len tokens) (drop (tokens_len before) bytes)) ≡ tokens }
 {}
 
 /// Ordinary text goes through: its tokens are plain, are all of it, and those of what is behind it

@@ -1,6 +1,7 @@
 -- The first byte of a text as it is read.
-use Rattle.std.proofs.Common.{◌≡◌, ℕ, zero, suc, ◌+◌, ◌-◌, ◌<◌, ◌≤◌, Bool, true, false, cond, ◌&&◌, List, [], ◌∷◌, length, drop, get_or, eqb, refl, ap, sym, ◌∙◌, subst, arith, inl, inr}
-use Rattle.std.proofs.lemmas.Bool.{cases_Bool, cond-true, cond-false, and_parts, and_from, and_left, and_right, eqb-true, false≢true}
+use Rattle.std.proofs.Common.{◌≡◌, ℕ, zero, suc, ◌+◌, ◌-◌, ◌<◌, ◌≤◌, Bool, true, false, cond, ◌&&◌, ◌⊎◌, List, [], ◌∷◌, length, take, drop, get_or, eqb, one-add, refl, ap, sym, ◌∙◌, subst, arith, inl, inr}
+use Rattle.std.specs.List.{prefix_len}
+use Rattle.std.proofs.lemmas.Bool.{cases_Bool, cond-true, cond-false, and_parts, and_from, and_left, and_right, eqb-true, false≢true, false_from_ne_true, both_ways}
 use Rattle.rdlpp_table.specs.Define.{continuation_len, without_continuations}
 use Rattle.rdlpp_table.specs.Bodies.{joined, first_len}
 use Rattle.rdlpp_table.proofs.Ordinary.{no_continuation}
@@ -9,6 +10,7 @@ use Rattle.rdlpp_table.proofs.Ordinary.{no_continuation}
 pub record BeginsWith (text : List ℕ) (n : ℕ) : Type 0 where
   pub inside : n < length text
   pub first : without_continuations 0 text ≡ get_or text n 0 ∷ without_continuations 0 (drop (n + 1) text)
+  pub joint : (n ≡ 0) ⊎ (eqb (get_or text n 0) 10 ≡ true)
 
 no_joint : (b : ℕ) (bs : List ℕ) → continuation_len (b ∷ bs) ≡ 0 → without_continuations 0 (b ∷ bs) ≡ b ∷ without_continuations 0 bs
 unfolding without_continuations
@@ -43,20 +45,20 @@ none_before b c cs f t = cond-false _ _ _ f ∙ cond-false _ _ _ t
 
 two_begin : (b c : ℕ) (cs : List ℕ) → continuation_len (b ∷ c ∷ cs) ≡ 2 → eqb (get_or cs 0 0) 10 ≡ true → BeginsWith (b ∷ c ∷ cs) 2
 two_begin b c [] e k = absurd (false≢true k)
-two_begin b c (d ∷ ds) e k = record { inside = omega arith; first = two_joint b c (d ∷ ds) e ∙ end_first d ds k }
+two_begin b c (d ∷ ds) e k = record { inside = omega arith; first = two_joint b c (d ∷ ds) e ∙ end_first d ds k; joint = inr k }
 
 pub begins_with : (text : List ℕ) → 0 < length text → BeginsWith text (continuation_len text)
 begins_with [] h = absurd (omega arith)
 begins_with (b ∷ []) h =
     let P : ℕ → Type 0 = λ n. BeginsWith (b ∷ []) n in
     let e : continuation_len (b ∷ []) ≡ 0 = alone b in
-    subst P (sym e) (record { inside = omega arith; first = no_joint b [] e })
+    subst P (sym e) (record { inside = omega arith; first = no_joint b [] e; joint = inl refl })
 begins_with (b ∷ c ∷ cs) h =
     let P : ℕ → Type 0 = λ n. BeginsWith (b ∷ c ∷ cs) n in
     elim (cases_Bool (eqb b 92 && eqb c 10)) [
       | inl t ↦
           let e : continuation_len (b ∷ c ∷ cs) ≡ 1 = one_before b c cs t in
-          subst P (sym e) (record { inside = omega arith; first = one_joint b (c ∷ cs) e ∙ end_first c cs (and_parts (eqb b 92) (eqb c 10) t).1 })
+          subst P (sym e) (record { inside = omega arith; first = one_joint b (c ∷ cs) e ∙ end_first c cs (and_parts (eqb b 92) (eqb c 10) t).1; joint = inr (and_parts (eqb b 92) (eqb c 10) t).1 })
       | inr f ↦ elim (cases_Bool (eqb b 92 && (eqb c 13 && eqb (get_or cs 0 0) 10))) [
         | inl t ↦
             let e : continuation_len (b ∷ c ∷ cs) ≡ 2 = two_before b c cs f t in
@@ -64,7 +66,7 @@ begins_with (b ∷ c ∷ cs) h =
             subst P (sym e) (two_begin b c cs e k)
         | inr g ↦
             let e : continuation_len (b ∷ c ∷ cs) ≡ 0 = none_before b c cs f g in
-            subst P (sym e) (record { inside = omega arith; first = no_joint b (c ∷ cs) e })
+            subst P (sym e) (record { inside = omega arith; first = no_joint b (c ∷ cs) e; joint = inl refl })
       ]
     ]
 
@@ -110,3 +112,52 @@ reads_plain is_logical text h e =
     let r : ReadsFirst false text 1 = reads_first false text h in
     let Q : Bool → Type 0 = λ l. ReadsFirst l text 1 in
     subst Q (sym e) r
+
+no_joint_at : (b : ℕ) (bs : List ℕ) → eqb b 92 ≡ false → joined true (b ∷ bs) ≡ b ∷ joined true bs
+unfolding joined
+no_joint_at b bs e = no_joint b bs (no_continuation b bs e)
+
+joined_none : joined true [] ≡ []
+unfolding joined without_continuations
+joined_none = refl
+
+-- a byte of a class that has neither LF nor a backslash isn't touched by a continuation
+class_stops : (test : ℕ → Bool) → test 10 ≡ false → (b : ℕ) (bs : List ℕ) → test b ≡ false → prefix_len test (joined true (b ∷ bs)) ≡ 0
+unfolding joined
+class_stops test line b bs e =
+    let w : BeginsWith (b ∷ bs) (continuation_len (b ∷ bs)) = begins_with (b ∷ bs) (omega arith) in
+    let n : ℕ = continuation_len (b ∷ bs) in
+    let out : test (get_or (b ∷ bs) n 0) ≡ false = elim w.joint [
+      | inl z ↦ ap (λ (k : ℕ). test (get_or (b ∷ bs) k 0)) z ∙ e
+      | inr t ↦ ap test (eqb-true (get_or (b ∷ bs) n 0) 10 t) ∙ line
+    ] in
+    ap (prefix_len test) w.first ∙ ap (λ (t : Bool). cond t (1 + prefix_len test (without_continuations 0 (drop (n + 1) (b ∷ bs)))) 0) out
+
+-- a run of such a class is the same where continuations are joined
+pub record SameRun (test : ℕ → Bool) (text : List ℕ) : Type 0 where
+  pub len : prefix_len test (joined true text) ≡ prefix_len test text
+  pub front : take (prefix_len test text) (joined true text) ≡ take (prefix_len test text) text
+  pub back : drop (prefix_len test text) (joined true text) ≡ joined true (drop (prefix_len test text) text)
+
+pub same_run : (test : ℕ → Bool) → test 10 ≡ false → test 92 ≡ false → (text : List ℕ) → SameRun test text
+same_run test line back [] = record { len = ap (prefix_len test) joined_none; front = refl; back = refl }
+same_run test line back (b ∷ bs) =
+    elim (cases_Bool (test b)) [
+      | inl e ↦
+          let r : SameRun test bs = same_run test line back bs in
+          let plain : eqb b 92 ≡ false = false_from_ne_true (eqb b 92) (λ h. both_ways (test 92) back (ap test (sym (eqb-true b 92 h)) ∙ e)) in
+          let at : joined true (b ∷ bs) ≡ b ∷ joined true bs = no_joint_at b bs plain in
+          let n : cond (test b) (1 + prefix_len test bs) 0 ≡ suc (prefix_len test bs) = ap (λ (t : Bool). cond t (1 + prefix_len test bs) 0) e ∙ one-add (prefix_len test bs) in
+          record {
+            len = ap (prefix_len test) at ∙ (ap (λ (k : ℕ). cond (test b) (1 + k) 0) r.len);
+            front = ap (λ (l : List ℕ). take (prefix_len test (b ∷ bs)) l) at ∙ (ap (λ (k : ℕ). take k (b ∷ joined true bs)) n ∙ (ap (λ (l : List ℕ). b ∷ l) r.front ∙ sym (ap (λ (k : ℕ). take k (b ∷ bs)) n)));
+            back = ap (λ (l : List ℕ). drop (prefix_len test (b ∷ bs)) l) at ∙ (ap (λ (k : ℕ). drop k (b ∷ joined true bs)) n ∙ (r.back ∙ sym (ap (λ (k : ℕ). joined true (drop k (b ∷ bs))) n)));
+          }
+      | inr e ↦
+          let n : prefix_len test (b ∷ bs) ≡ 0 = ap (λ (t : Bool). cond t (1 + prefix_len test bs) 0) e in
+          record {
+            len = class_stops test line b bs e ∙ sym n;
+            front = ap (λ (k : ℕ). take k (joined true (b ∷ bs))) n ∙ sym (ap (λ (k : ℕ). take k (b ∷ bs)) n);
+            back = ap (λ (k : ℕ). drop k (joined true (b ∷ bs))) n ∙ sym (ap (λ (k : ℕ). joined true (drop k (b ∷ bs))) n);
+          }
+    ]

@@ -212,14 +212,16 @@ any_text rest u text n h e f =
     let P : List ℕ → Type 0 = λ l. list_any is_unbuilt_in_define l ≡ false in
     any_drop n text (subst P (sym f) (any_drop (prefix_len is_space u) u (subst P (sym e) (any_unended rest h))))
 
-pub define_stores : (a b : ℕ) (ms : List Macro) (rest u text name body : List ℕ) → list_any is_unbuilt_in_define rest ≡ false → u ≡ unended rest → text ≡ after_space u → name ≡ leading_name text → name_fault name ≡ None → body ≡ trimmed (take (length text - length name) (drop (length name) text)) → stored a b ms (record { name = name; formals = None; body = body }) ≡ define_of a b ms rest
-unfolding define_of stored_draft
-define_stores a b ms rest u text name body h e f g ok t =
-    let draft : macro_of rest ≡ Drawn (record { name = name; formals = None; body = body }) =
+pub define_stores : (a b : ℕ) (ms : List Macro) (rest u text name behind : List ℕ) → list_any is_unbuilt_in_define rest ≡ false → u ≡ unended rest → text ≡ after_space u → name ≡ leading_name text → name_fault name ≡ None → behind ≡ take (length text - length name) (drop (length name) text) → stored_draft a b ms (with_body name None (without_continuations 0 behind)) ≡ define_of a b ms rest
+unfolding define_of with_list
+define_stores a b ms rest u text name behind h e f g ok t =
+    let at : behind ≡ drop (length name) text = t ∙ take_rest text (length name) in
+    let plain : list_any is_unbuilt_in_define (drop (length name) text) ≡ false = any_text rest u text (length name) h e f in
+    let draft : macro_of rest ≡ with_body name None (without_continuations 0 behind) =
     macro_by_name rest u text name h e f g
     ∙ (ap (named_draft name (drop (length name) text)) ok
-    ∙ (ordinary_list name (drop (length name) text) (any_text rest u text (length name) h e f)
-    ∙ ap (λ (l : List ℕ). Drawn (record { name = name; formals = None; body = l })) (ap trimmed (sym (take_rest text (length name))) ∙ sym t))) in
+    ∙ (ap (listed_draft name) (unlisted (drop (length name) text) plain)
+    ∙ ap (with_body name None) (sym (ap (without_continuations 0) at ∙ unjoined (drop (length name) text) plain)))) in
     sym (ap (stored_draft a b ms) draft)
 
 pub define_refuses : (a b : ℕ) (ms : List Macro) (rest u text name : List ℕ) (fault : DefineFault) → list_any is_unbuilt_in_define rest ≡ false → u ≡ unended rest → text ≡ after_space u → name ≡ leading_name text → name_fault name ≡ Some fault.kind → fault.word.bytes ≡ refused_word fault.kind name → observed (Err fault) ms ≡ define_of a b ms rest

@@ -1,5 +1,5 @@
 -- A macro taken out of the lists in which a table lies.
-use Rattle.std.proofs.Common.{◌≡◌, ℕ, zero, suc, ◌+◌, ◌-◌, ◌<◌, ◌≤◌, Bool, true, List, [], ◌∷◌, ◌++◌, length, take, drop, map, get_or, refl, ap, sym, ◌∙◌, subst, arith, length-append, append_assoc, add-zero, add-one, remove, zero-add, ◌^◌, Vec, Global, vec_len, rules}
+use Rattle.std.proofs.Common.{◌≡◌, ℕ, zero, suc, ◌+◌, ◌-◌, ◌<◌, ◌≤◌, Bool, true, List, [], ◌∷◌, ◌++◌, length, take, drop, map, get_or, refl, ap, sym, ◌∙◌, subst, arith, length-append, append_assoc, add-zero, add-one, remove, zero-add, ◌^◌, Vec, Global, vec_len, vec_capacity, rules}
 use Rattle.std.specs.List.{All, list_all, remove_range}
 use Rattle.std.proofs.lemmas.List.{take_at, drop_at, take-append-drop, drop_more, length-take-le}
 use Rattle.std.proofs.lemmas.Grind.{flat_map-append}
@@ -161,3 +161,6 @@ end_within bytes entries ms place entry s h q =
     let P : Entry → Type 0 = λ e. entry_end e ≤ length bytes in
     let end : entry_end entry ≤ length bytes = subst P (sym q) (stored_within bytes entries ms s place entry h) in
     omega (arith, end)
+
+pub capacity_small : (v : Vec ℕ Global) → vec_capacity v < 2 ^ 63
+capacity_small v = omega (arith, v.small)

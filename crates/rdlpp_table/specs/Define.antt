@@ -10,6 +10,7 @@ use Rattle.rdlpp_scan.specs.Bytes.{is_blank, is_line_end, is_letter, is_word}
 use Rattle.rdlpp_scan.specs.Tokens.{tokens_from}
 use Rattle.rdlpp_scan.specs.LexFaults.{lex_fault_from}
 use Rattle.rdlpp_scan.specs.SourceTokens.{logical_len}
+use Rattle.rdlpp_scan.specs.Names.{is_name}
 use Rattle.rdlpp_scan.specs.Stage.{is_reserved}
 use Rattle.rdlpp_table.specs.Table.{Formal, Macro, macro_size, table_size, without}
 use Rattle.rdlpp_table.specs.declared.fault.DefineKind.{DefineKind}
@@ -204,16 +205,16 @@ macro_from text =
 unfoldable pub macro_of : List ℕ → Draft
 macro_of rest = macro_from (after_space (logical_text rest))
 
--- a text that is one name as a whole, or nothing
-unfoldable pub whole_name : List ℕ → List ℕ
-whole_name name = if length (leading_name name) == length name then name else []
-
--- the macro without a formal list of a name and a body's text without continuations (this project's profile)
-unfoldable pub macro_set : List ℕ → List ℕ → Draft
-macro_set name text = elim (name_fault (whole_name name)) [
+-- a macro of a name without a formal list (this project's profile)
+unfoldable pub without_list : List ℕ → List ℕ → Draft
+without_list name text = elim (name_fault name) [
   | Some k ↦ Rejected k (refused_word k name)
   | None ↦ with_body name None text
 ]
+
+-- the macro without a formal list of a text that is one name, and of a body's text without continuations (this project's profile)
+unfoldable pub macro_set : List ℕ → List ℕ → Draft
+macro_set name text = if is_name name then without_list name text else Rejected kind.NameExpected []
 
 -- a macro as the newest of a table, in the place of one of its name (this project's profile)
 unfoldable pub stored : ℕ → ℕ → List Macro → Macro → Defined

@@ -6,5 +6,6 @@ pub mod Define
 pub mod Bodies
 pub mod Store
 pub mod Entries
+pub mod New
 pub mod Layout
 pub mod BodyBytes

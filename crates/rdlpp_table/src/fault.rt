@@ -1,7 +1,9 @@
 // Why a table can't be made, and why a definition is refused.
 ghost use Rattle.std.specs.Prelude.{◌≡◌, []};
+ghost use Rattle.rdlpp_table.specs.Define.{lexical};
 
 use arrayvec::ArrayString;
+use rdlpp_scan::LexFault;
 
 /// There was no memory for a table.
 #[derive(Clone, Copy, Debug, PartialEq, Eq)]
@@ -51,5 +53,17 @@ pub(crate) fn refusal(kind: DefineKind) -> DefineFault
     DefineFault {
         kind,
         word: ArrayString::new(),
+    }
+}
+
+// A fault of a body's tokens, as a reason to refuse the definition.
+#[tactic(auto, unfolding(crate::specs::Define::lexical))]
+pub(crate) fn lexical(fault: LexFault) -> DefineKind
+    ensures { result ≡ lexical fault }
+{
+    match fault {
+        LexFault::Perl => DefineKind::EmbeddedPerl,
+        LexFault::OpenString => DefineKind::OpenString,
+        LexFault::OpenComment => DefineKind::OpenComment,
     }
 }

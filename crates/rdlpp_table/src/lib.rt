@@ -10,6 +10,8 @@ mod name;
 mod removal;
 mod storing;
 mod table;
+#[cfg(test)]
+mod tests;
 
 pub use fault::{DefineFault, DefineKind, NoMemory};
 pub use limits::{LimitFault, Limits};

@@ -21,7 +21,9 @@ ghost use Rattle.std.specs.Prelude.{
 ghost use Rattle.std.specs.List.{IsDistinct};
 ghost use Rattle.rdlpp_table.specs.Store.{macros_in, IsStored};
 ghost use Rattle.rdlpp_table.specs.Table.{table_size, without};
+ghost use Rattle.rdlpp_table.specs.New.{new_macro, IsNew};
 
+use crate::body::append_body;
 use crate::entry::{Entry, place_in};
 use crate::removal::take_out_named;
 
@@ -34,23 +36,37 @@ fn append(bytes: &mut Vec<u8>, part: &[u8])
     let _ = bytes.extend_from_slice(part);
 }
 
-// Puts a macro without a list behind the others.
-pub(crate) fn put(bytes: &mut Vec<u8>, entries: &mut Vec<Entry>, name: &[u8], body: &[u8])
+// A macro that is to be stored: its body is read from a text, of a logical line or as it stands.
+#[derive(Clone, Copy, Drop)]
+pub(crate) struct New<'a> {
+    pub(crate) name: &'a [u8],
+    pub(crate) arity: Option<usize>,
+    // The formals with a comma after each.
+    pub(crate) list: &'a [u8],
+    pub(crate) is_logical: bool,
+    pub(crate) text: &'a [u8],
+    pub(crate) body_len: usize,
+}
+
+// Puts a macro behind the others.
+fn put(bytes: &mut Vec<u8>, entries: &mut Vec<Entry>, new: &New)
     requires stored { IsStored bytes.old.items entries.old.items (macros_in bytes.old.items entries.old.items) }
-    requires room { vec_len bytes.old + (length name.now + length body.now) ≤ vec_capacity bytes.old }
+    requires counted { IsNew new.now.name.now new.now.arity new.now.list.now new.now.is_logical new.now.text.now new.now.body_len }
+    requires room { vec_len bytes.old + (length new.now.name.now + (length new.now.list.now + new.now.body_len)) ≤ vec_capacity bytes.old }
     requires entry_room { vec_len entries.old < vec_capacity entries.old }
-    ensures stored { IsStored bytes.new.items entries.new.items (macros_in bytes.old.items entries.old.items ++ record { name = name.now; formals = None; body = body.now } ∷ []) }
+    ensures stored { IsStored bytes.new.items entries.new.items (macros_in bytes.old.items entries.old.items ++ new_macro new.now.name.now new.now.arity new.now.list.now new.now.is_logical new.now.text.now ∷ []) }
     ensures capacity { (vec_capacity bytes.old ≤ vec_capacity bytes.new) × (vec_capacity entries.new ≡ vec_capacity entries.old) }
 {
     let start = bytes.len();
-    append(bytes, name);
-    append(bytes, body);
+    append(bytes, new.name);
+    append(bytes, new.list);
+    append_body(bytes, new.text, new.is_logical, new.body_len);
     entries.push_reserved(Entry {
         start,
-        name_len: name.len(),
-        list_len: 0,
-        body_len: body.len(),
-        arity: None,
+        name_len: new.name.len(),
+        list_len: new.list.len(),
+        body_len: new.body_len,
+        arity: new.arity,
     });
 }
 
@@ -83,15 +99,16 @@ pub(crate) fn beside(bytes: &[u8], entries: &[Entry], name: &[u8]) -> Rest
     }
 }
 
-// Puts a macro without a list behind the others, in the place of one of its name.
-pub(crate) fn replace(bytes: &mut Vec<u8>, entries: &mut Vec<Entry>, name: &[u8], body: &[u8])
+// Puts a macro behind the others, in the place of one of its name.
+pub(crate) fn replace(bytes: &mut Vec<u8>, entries: &mut Vec<Entry>, new: &New)
     requires stored { IsStored bytes.old.items entries.old.items (macros_in bytes.old.items entries.old.items) }
     requires distinct { IsDistinct bytes_eq (map (λ m. m.name) (macros_in bytes.old.items entries.old.items)) }
-    requires room { table_size (without name.now (macros_in bytes.old.items entries.old.items)) + (length name.now + length body.now) ≤ vec_capacity bytes.old }
-    requires entry_room { length (without name.now (macros_in bytes.old.items entries.old.items)) < vec_capacity entries.old }
-    ensures stored { IsStored bytes.new.items entries.new.items (without name.now (macros_in bytes.old.items entries.old.items) ++ record { name = name.now; formals = None; body = body.now } ∷ []) }
+    requires counted { IsNew new.now.name.now new.now.arity new.now.list.now new.now.is_logical new.now.text.now new.now.body_len }
+    requires room { table_size (without new.now.name.now (macros_in bytes.old.items entries.old.items)) + (length new.now.name.now + (length new.now.list.now + new.now.body_len)) ≤ vec_capacity bytes.old }
+    requires entry_room { length (without new.now.name.now (macros_in bytes.old.items entries.old.items)) < vec_capacity entries.old }
+    ensures stored { IsStored bytes.new.items entries.new.items (without new.now.name.now (macros_in bytes.old.items entries.old.items) ++ new_macro new.now.name.now new.now.arity new.now.list.now new.now.is_logical new.now.text.now ∷ []) }
     ensures capacity { (vec_capacity bytes.old ≤ vec_capacity bytes.new) × (vec_capacity entries.new ≡ vec_capacity entries.old) }
 {
-    take_out_named(bytes, entries, name);
-    put(bytes, entries, name, body);
+    take_out_named(bytes, entries, new.name);
+    put(bytes, entries, new);
 }

@@ -1,20 +1,25 @@
 // The table of macros: one list of bytes and one of entries, both reserved when the table is made.
-ghost use Rattle.std.specs.Prelude.{◌≡◌, ◌<◌, ◌≤◌, ◌==◌, [], length, IfOk, IfSome, IfNone, OnOk, Some, None, is_some, option_map, OnErr, false};
+ghost use Rattle.std.specs.Prelude.{◌≡◌, ◌<◌, ◌≤◌, ◌==◌, [], length, IfOk, IfSome, IfNone, OnOk, Some, None, is_some, option_map, OnErr, false, ◌+◌};
+ghost use Rattle.rdlpp_table.specs.New.{new_macro, IsList, IsNew};
+ghost use Rattle.rdlpp_table.specs.Bodies.{joined};
+ghost use Rattle.rdlpp_table.specs.Store.{formals_from};
 ghost use Rattle.rdlpp_table.specs.Limits.{AreInRange};
 ghost use Rattle.rdlpp_table.specs.Table.{macro_named, table_bytes, table_size, without};
 ghost use Rattle.rdlpp_scan.specs.SourceTokens.{logical_len};
 ghost use Rattle.rdlpp_scan.specs.Stage.{is_unbuilt_in_define};
 ghost use Rattle.std.specs.List.{list_any};
-ghost use Rattle.rdlpp_table.specs.Define.{define_of, observed, stored};
+ghost use Rattle.rdlpp_table.specs.Define.{define_of, observed, set_of, stored, stored_draft, with_body};
 ghost use Rattle.rdlpp_table.specs.View.{TableView, IsSound, macro_at, place_named};
 
+use crate::body::body_len;
 use crate::entry::{Entry, body_in, place_in};
-use crate::fault::{DefineFault, DefineKind, NoMemory, refusal};
-use crate::header::{after_space, leading_name, trimmed, unended};
+use crate::fault::{DefineFault, DefineKind, NoMemory, lexical, refusal};
+use crate::header::{after_space, leading_name, unended};
 use crate::limits::Limits;
 use crate::name::check_name;
 use crate::removal::take_out_named;
-use crate::storing::{Rest, beside, replace};
+use crate::storing::{New, Rest, beside, replace};
+use rdlpp_scan::is_name;
 use std::alloc::Global;
 use std::marker::Model;
 
@@ -94,7 +99,7 @@ impl Table {
     pub fn is_full(&self) -> bool
         ensures { result ≡ (length self.now.macros == self.now.most_macros) }
     {
-        self.entries.len() == self.most_macros
+        self.len() == self.most_macros
     }
 
     /// The bytes of the macros, oldest first: of each its name, its formals with a comma after each, its body.
@@ -155,7 +160,27 @@ impl Table {
         let text = after_space(unended(rest));
         let name = leading_name(text);
         match check_name(name) {
-            Ok(()) => self.store(name, trimmed(&text[name.len()..])),
+            Ok(()) => self.store_body(name, None, &[], true, &text[name.len()..]),
+            Err(fault) => Err(fault),
+        }
+    }
+
+    /// Stores a macro without a formal list. `text` is its body, in which a continuation isn't read;
+    /// its `//` comments and the blanks at both ends go.
+    ///
+    /// # Errors
+    /// The first fault: of the name, which has to be one name as a whole, of the body, or of the room in the table.
+    /// The table is unchanged then.
+    pub fn set(&mut self, name: &[u8], text: &[u8]) -> Result<(), DefineFault>
+        ensures outcome { observed result self.new.macros ≡ set_of self.old.most_bytes self.old.most_macros self.old.macros name.now text.now }
+        ensures refused { OnErr result (self.new ≡ self.old) }
+        ensures limits { (self.new.most_bytes ≡ self.old.most_bytes) × (self.new.most_macros ≡ self.old.most_macros) }
+    {
+        if !is_name(name) {
+            return Err(refusal(DefineKind::NameExpected));
+        }
+        match check_name(name) {
+            Ok(()) => self.store_body(name, None, &[], false, text),
             Err(fault) => Err(fault),
         }
     }
@@ -169,21 +194,51 @@ impl Table {
         beside(self.bytes.as_slice(), self.entries.as_slice(), name)
     }
 
-    // Stores a macro without a list behind the others, in the place of one of its name.
-    fn store(&mut self, name: &[u8], body: &[u8]) -> Result<(), DefineFault>
-        requires { length name.now ≤ 128 }
-        ensures outcome { observed result self.new.macros ≡ stored self.old.most_bytes self.old.most_macros self.old.macros (record { name = name.now; formals = None; body = body.now }) }
+    // Stores a macro of which the name and the formals are known, with the body of a text.
+    fn store_body(
+        &mut self,
+        name: &[u8],
+        arity: Option<usize>,
+        list: &[u8],
+        is_logical: bool,
+        text: &[u8],
+    ) -> Result<(), DefineFault>
+        requires short { length name.now + length list.now ≤ 65536 }
+        requires listed { IsList name.now arity list.now }
+        ensures outcome { observed result self.new.macros ≡ stored_draft self.old.most_bytes self.old.most_macros self.old.macros (with_body name.now (option_map (λ n. formals_from [] list.now) arity) (joined is_logical text.now)) }
         ensures refused { OnErr result (self.new ≡ self.old) }
         ensures limits { (self.new.most_bytes ≡ self.old.most_bytes) × (self.new.most_macros ≡ self.old.most_macros) }
     {
-        let rest = self.rest(name);
-        if self.most_bytes - rest.size < name.len() + body.len() {
+        match body_len(text, is_logical) {
+            Ok(body_len) => self.store(&New {
+                name,
+                arity,
+                list,
+                is_logical,
+                text,
+                body_len,
+            }),
+            Err(fault) => Err(refusal(lexical(fault))),
+        }
+    }
+
+    // Stores a macro behind the others, in the place of one of its name.
+    fn store(&mut self, new: &New) -> Result<(), DefineFault>
+        requires short { length new.now.name.now + length new.now.list.now ≤ 65536 }
+        requires counted { IsNew new.now.name.now new.now.arity new.now.list.now new.now.is_logical new.now.text.now new.now.body_len }
+        ensures outcome { observed result self.new.macros ≡ stored self.old.most_bytes self.old.most_macros self.old.macros (new_macro new.now.name.now new.now.arity new.now.list.now new.now.is_logical new.now.text.now) }
+        ensures refused { OnErr result (self.new ≡ self.old) }
+        ensures limits { (self.new.most_bytes ≡ self.old.most_bytes) × (self.new.most_macros ≡ self.old.most_macros) }
+    {
+        let rest = self.rest(new.name);
+        let size = (new.name.len() + new.list.len()).saturating_add(new.body_len);
+        if self.most_bytes - rest.size < size {
             return Err(refusal(DefineKind::DefinitionBytes));
         }
         if self.most_macros <= rest.count {
             return Err(refusal(DefineKind::TooManyDefinitions));
         }
-        replace(&mut self.bytes, &mut self.entries, name, body);
+        replace(&mut self.bytes, &mut self.entries, new);
         Ok(())
     }
 }

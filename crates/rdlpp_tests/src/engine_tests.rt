@@ -13,6 +13,7 @@ fn pull<R: Abort + AllocGlobal>(
 ) -> Result<(Vec<u8>, Option<Fault>), Fail> {
     let mut output = Vec::new(rt.alloc());
     for _ in 0..1_000 {
+        assert!(rt; !engine.is_fresh());
         match engine.next() {
             Ok(Piece::Bytes(bytes)) => output.extend_from_slice(bytes)?,
             Ok(Piece::Done) => return Ok((output, None)),
@@ -46,8 +47,7 @@ fn holds_what_is_live(rt: HostRuntime) -> Result<(), Fail> {
         let files = [("m", source)];
         let mut engine = new_engine(&rt, &files)?;
         assert!(rt; engine.is_fresh());
-        assert_eq!(rt; engine.start("m").is_ok(), true);
-        assert!(rt; !engine.is_fresh());
+        assert!(rt; engine.start("m").is_ok());
         let (_, fault) = pull(&rt, &mut engine)?;
         assert!(rt; fault.is_none());
         let wanted = Held {
@@ -68,10 +68,14 @@ fn holds_what_is_live(rt: HostRuntime) -> Result<(), Fail> {
 fn defines_before_the_start(rt: HostRuntime) -> Result<(), Fail> {
     let files = [("m", b"`W".as_slice())];
     let mut engine = new_engine(&rt, &files)?;
+    assert!(rt; engine.is_fresh());
     assert!(rt; engine.define(b"W", b"8").is_ok());
+    assert!(rt; engine.is_fresh());
     assert!(rt; engine.define(b"1x", b"2").is_err());
     assert_eq!(rt; engine.held().definitions, 2);
+    assert!(rt; engine.is_fresh());
     assert!(rt; engine.start("m").is_ok());
+    assert!(rt; !engine.is_fresh());
     let mut counted = Counted::new(narrow(&rt, usize::MAX, usize::MAX));
     assert!(rt; run(&mut engine, &mut counted).is_ok_and(|count| count == 1));
     assert!(rt; counted.into_writer().taken.as_slice() == b"8".as_slice());
@@ -83,6 +87,7 @@ fn keeps_a_fault(rt: HostRuntime) -> Result<(), Fail> {
     let files = [("m", b"a`Q".as_slice())];
     for (path, number, line) in [("m", 7, 1), ("n", 28, 0)] {
         let mut engine = new_engine(&rt, &files)?;
+        assert!(rt; engine.is_fresh());
         let _opened = engine.start(path);
         for _ in 0..3 {
             let (_, fault) = pull(&rt, &mut engine)?;

@@ -1,6 +1,7 @@
-use Rattle.std.proofs.Common.{◌≡◌, ◌++◌, ◌∷◌, [], None, List, subst, sym, arith, length, ap}
-use Rattle.rdlpp_table.specs.Table.{Macro, without, table_size}
-use Rattle.rdlpp_table.specs.Store.{IsStored, macros_in}
+use Rattle.std.proofs.Common.{◌≡◌, ◌++◌, ◌∷◌, [], List, subst, arith}
+use Rattle.rdlpp_table.specs.Table.{Macro}
+use Rattle.rdlpp_table.specs.New.{new_macro}
+use Rattle.rdlpp_table.specs.Store.{IsStored}
 use Rattle.rdlpp_table.proofs.RoundTrip.{read_back}
 use Rattle.rdlpp_table.proofs.Put.{stored_again, stored_length, stored_count}
 use Rattle.rdlpp_table.proofs.Taken.{count_bytes}
@@ -20,6 +21,6 @@ put-requires-clause-entry_room c =
 
 pub returns-clause-stored : goal.returns-clause-stored
 returns-clause-stored c =
-    let m : Macro = record { name = c.args.name.now; formals = None; body = c.args.body.now } in
+    let m : Macro = new_macro c.args.new.now.name.now c.args.new.now.arity c.args.new.now.list.now c.args.new.now.is_logical c.args.new.now.text.now in
     let P : List Macro → Type 0 = λ ms. IsStored c.put.new.bytes.items c.put.new.entries.items (ms ++ m ∷ []) in
     subst P (read_back _ _ _ c.take_out_named.ensures.stored) c.put.ensures.stored
