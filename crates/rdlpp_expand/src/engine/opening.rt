@@ -1,7 +1,9 @@
 // How an engine is made, and how its main text is opened.
-ghost use Rattle.std.specs.Prelude.{◌≡◌};
+ghost use Rattle.std.specs.Prelude.{◌≡◌, OnErr};
+ghost use Rattle.rdlpp_table.specs.Define.{observed, set_of};
 ghost use Rattle.rdlpp_meaning.specs.Outcome.{told};
 ghost use Rattle.rdlpp_meaning.specs.Output.{name_cut, opening_fault};
+ghost use Rattle.rdlpp_expand.specs.Steps.{IsBounded};
 ghost use Rattle.rdlpp_expand.specs.Opening.{Makes, Starts, kind_of_source, opened_engine, start_fault, unopened_engine};
 
 use super::{Engine, NewFault};
@@ -11,7 +13,7 @@ use crate::texts::copied_fault;
 use arrayvec::ArrayString;
 use rdlpp_meaning::{Fault, FaultKind};
 use rdlpp_source::{Found, SourceFault, Sources};
-use rdlpp_table::{Limits, Table};
+use rdlpp_table::{DefineFault, Limits, Table};
 use std::alloc::Global;
 
 impl<S: Sources> Engine<S> {
@@ -51,6 +53,26 @@ impl<S: Sources> Engine<S> {
             sources,
             feed: Feed::new(buffer),
         })
+    }
+
+    /// Defines a macro without a formal list, in the place of one of its name.
+    ///
+    /// The engine must be fresh. `text` is the text of a body without continuations: an LF and a
+    /// backslash stay as they are, and comments and the blanks at both ends go.
+    ///
+    /// # Errors
+    /// As of `Table::set`: F15, F16 and F17 for the name, F1 to F3 for the text, F21 and F22 for
+    /// the room that the limits leave. The engine is unchanged then. The rules are this project's.
+    pub fn define(&mut self, name: &[u8], text: &[u8]) -> Result<(), DefineFault>
+        requires { self.old.phase ≡ Phase.Fresh }
+        ensures outcome { observed result self.new.table.macros ≡ set_of self.old.table.most_bytes self.old.table.most_macros self.old.table.macros name.now text.now }
+        ensures refused { OnErr result (self.new ≡ self.old) }
+        ensures only { self.new ≡ record self.old { table = record self.old.table { macros = self.new.table.macros } } }
+        ensures bounded { IsBounded self.new }
+    {
+        let outcome = self.table.set(name, text);
+        let _len = self.table.len();
+        outcome
     }
 
     /// Opens the main text, whose path is `path`.
