@@ -1,5 +1,5 @@
 -- Pieces, and where they stand in the held stores.
-use Rattle.std.specs.Prelude.{ℕ, ◌≤◌, ◌<◌, List, length, slice_range, Option, None, Some, Result, Ok, Err, ⊤}
+use Rattle.std.specs.Prelude.{◌≡◌, ℕ, ◌≤◌, ◌<◌, List, length, slice_range, Option, None, Some, Result, Ok, Err, ⊤}
 use Rattle.std.specs.Borrow.{Bor}
 use Rattle.rdlpp_table.specs.View.{macro_at}
 use Rattle.rdlpp_meaning.specs.Outcome.{Told, told}
@@ -45,6 +45,13 @@ lent_answer e (Source start end) = Ok (bytes_at e (Source start end))
 lent_answer e (Body id) = Ok (bytes_at e (Body id))
 lent_answer e End = Ok None
 lent_answer e Kept = kept_answer e.kept
+
+-- what is answered is what stands at a place in the held stores: a part of the open source's buffer, or a live body (source:
+-- this project's profile)
+pub record Lends {S R : Type 0} (e : EngineView S R) (answer : Result (Option (List ℕ)) Told) : Type 0 where
+  pub place : Place
+  pub placed : IsPlaced e place
+  pub lent : answer ≡ lent_answer e place
 
 -- the same of a place
 abbrev pub placed_answer : {S R : Type 0} → EngineView S R → Result Place Fault → Result (Option (List ℕ)) Told

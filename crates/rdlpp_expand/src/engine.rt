@@ -6,7 +6,7 @@ ghost use Rattle.rdlpp_table.specs.Limits.{limit_fault};
 ghost use Rattle.rdlpp_meaning.specs.Outcome.{told};
 ghost use Rattle.rdlpp_meaning.specs.State.{fault_at};
 ghost use Rattle.rdlpp_expand.specs.Held.{held_told};
-ghost use Rattle.rdlpp_expand.specs.Pieces.{IsPlaced, answer_of, bytes_at, lent_answer, piece_bytes, placed_answer};
+ghost use Rattle.rdlpp_expand.specs.Pieces.{IsPlaced, Lends, answer_of, bytes_at, lent_answer, piece_bytes, placed_answer};
 ghost use Rattle.rdlpp_expand.specs.Remaining.{kind_of_define, state_of};
 ghost use Rattle.rdlpp_expand.specs.Run.{write_fault};
 ghost use Rattle.rdlpp_expand.specs.Steps.{IsBounded, IsReady, IsStarted, Steps, Takes};
@@ -350,7 +350,7 @@ impl<S: Sources> Engine<S> {
     pub fn next(&mut self) -> Result<Piece<'_>, &Fault>
         requires { IsStarted self.old }
         ensures* after { sem 𝓛 (Rests (the_row S.row S.Reader.row S.Sources) self.entry (λ new.
-            Steps S.Sources self.old new (answer_of result))) }
+            Steps S.Sources self.old new (answer_of result) × Lends new (answer_of result))) }
     {
         let place = self.place();
         self.answer(place)

@@ -64,6 +64,22 @@ fn holds_what_is_live(rt: HostRuntime) -> Result<(), Fail> {
     Ok(())
 }
 
+// A second run of an engine that is at its end writes nothing.
+#[test]
+fn runs_to_the_end(rt: HostRuntime) -> Result<(), Fail> {
+    let files = [("m", b"`define W 8\n`W".as_slice())];
+    let mut engine = new_engine(&rt, &files)?;
+    assert!(rt; engine.is_fresh());
+    assert!(rt; engine.start("m").is_ok());
+    let mut counted = Counted::new(narrow(&rt, usize::MAX, usize::MAX));
+    for written in [2, 0] {
+        assert!(rt; !engine.is_fresh());
+        assert!(rt; run(&mut engine, &mut counted).is_ok_and(|count| count == written));
+    }
+    assert!(rt; counted.into_writer().taken.as_slice() == b"\n8".as_slice());
+    Ok(())
+}
+
 #[test]
 fn defines_before_the_start(rt: HostRuntime) -> Result<(), Fail> {
     let files = [("m", b"`W".as_slice())];
@@ -100,6 +116,8 @@ fn keeps_a_fault(rt: HostRuntime) -> Result<(), Fail> {
 
 #[test]
 fn refuses_a_limit_out_of_its_range(rt: HostRuntime) {
+    assert_eq!(rt; rdlpp::Limits::standard(), STANDARD);
+    assert_eq!(rt; STANDARD.check(), Ok(()));
     let texts = Texts {
         files: &[],
         folders: &[],

@@ -296,3 +296,53 @@ fn keeps_the_limit_on_definition_bytes(rt: HostRuntime) -> Result<(), Fail> {
     }
     Ok(())
 }
+
+// A name of 128 bytes is defined and used; one byte more is refused.
+#[test]
+fn keeps_the_limit_on_names(rt: HostRuntime) -> Result<(), Fail> {
+    let name = [b'n'; 129];
+    let rows: [(&[u8], &[u8], Option<Wanted>); 2] = [
+        (&name[1..], b"\n1", None),
+        (&name, b"", Some(fault(17, 1, ""))),
+    ];
+    for (name, output, wanted) in rows {
+        let mut source = Vec::new(rt.alloc());
+        source.extend_from_slice(b"`define ")?;
+        source.extend_from_slice(name)?;
+        source.extend_from_slice(b" 1\n`")?;
+        source.extend_from_slice(name)?;
+        let row = Row {
+            name: "a long name",
+            source: source.as_slice(),
+            limits: STANDARD,
+            output,
+            wanted,
+        };
+        run_row(&rt, &row);
+    }
+    Ok(())
+}
+
+// A text of many more bytes than the buffer holds, with a usage on each line.
+#[test]
+fn goes_through_a_long_text(rt: HostRuntime) -> Result<(), Fail> {
+    let mut source = Vec::from_slice(rt.alloc(), b"`define W 8\n")?;
+    let mut output = Vec::from_slice(rt.alloc(), b"\n")?;
+    for _ in 0..500 {
+        source.extend_from_slice(b"reg first[`W]; reg second[`W];\n")?;
+        output.extend_from_slice(b"reg first[8]; reg second[8];\n")?;
+    }
+    let limits = Limits {
+        line_bytes: 256,
+        ..STANDARD
+    };
+    let row = Row {
+        name: "a long text",
+        source: source.as_slice(),
+        limits,
+        output: output.as_slice(),
+        wanted: None,
+    };
+    run_row(&rt, &row);
+    Ok(())
+}
