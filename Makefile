@@ -17,6 +17,8 @@ test: ## the gate: every proof from nothing, the must-fail edits, the tests, the
 fmt: ## lay out every file
 	@for crate in crates/*/; do (cd $$crate && rt fmt); done
 
-bench: ## build the program and compare its speed and memory with cat and cpp
+bench: ## build the programs, compare speed and memory with cat and cpp, and the scanner with a search for LF
 	@$(MAKE) --silent build
 	@bench/compare out/rdlpp
+	@cd crates/rdlpp_bench && rt run -- lines 0 < /dev/null > /dev/null
+	@bench/scan

@@ -1,18 +1,20 @@
 -- What the run of a fresh engine says of the output.
 use Rattle.std.proofs.Common.{◌≡◌, ℕ, Bool, true, false, ◌||◌, List, [], ◌++◌, Option, None, Some, Result, IfSome, Vec, vec_len, ◌==◌, rules, refl, sym, ap, subst, ◌∙◌}
-use Rattle.std.proofs.lemmas.List.{nil_from_length}
+use Rattle.std.specs.Io.KnownBytes.{Appends}
 use Rattle.rdlpp_source.specs.declared.sources.Sources.{Ghosts}
 use Rattle.rdlpp_source.specs.declared.sinks.Sink.{Ghosts as SinkGhosts}
 use Rattle.rdlpp_table.specs.declared.limits.Limits.{Limits}
 use Rattle.rdlpp_meaning.specs.declared.fault.FaultKind.{FaultKind}
-use Rattle.rdlpp_meaning.specs.Outcome.{Told, Outcome}
+use Rattle.rdlpp_meaning.specs.Outcome.{Told, Outcome, fails}
 use Rattle.rdlpp_expand.specs.Opening.{Starts, fresh_engine, staged_output, is_device_fault, is_memory_fault}
 use Rattle.rdlpp_expand.specs.Remaining.{left_of}
 use Rattle.rdlpp_expand.specs.Run.{Begins, Runs, count_of, fault_of, is_fresh}
 use Rattle.rdlpp_expand.specs.declared.writing.RunFault.{RunFault}
+use Rattle.rdlpp_expand.proofs.RunFacts.{appends_none}
 use Rattle.rdlpp_expand.specs.Engine.{EngineView}
 use Rattle.rdlpp_expand.specs.Steps.{is_read_failed, is_write_failed}
-use Rattle.rdlpp.specs.Preprocess.{Follows, RunsFresh, WritesOutput, is_failure}
+use Rattle.rdlpp.specs.Definitions.{Pair, Given, Taken, Declined, given, given_in, with_macros}
+use Rattle.rdlpp.specs.Preprocess.{Follows, RunsFresh, WritesOutput, engine_with, is_failure, output_given}
 
 or_left : (a b : Bool) → (a || b) ≡ false → a ≡ false
 or_left true b e = e
@@ -61,16 +63,16 @@ begins_output : (bytes : List ℕ) (opening : Option Told) (left output : Outcom
 begins_output bytes None left output h k b = subst (Begins bytes) (k refl) b
 begins_output bytes (Some f) left output h k b = begins_empty bytes output (h f refl)
 
-pub writes_output : {S R W : Type 0} (g : Ghosts S R) (h : SinkGhosts W) (limits : Limits) (origins : Bool) (sources : S) (path : List ℕ)
+writes_output : {S R W : Type 0} (g : Ghosts S R) (h : SinkGhosts W) (fresh : EngineView S R) (path : List ℕ)
     (before after : W) (count : ℕ) (fault : Option Told)
-    → RunsFresh g h limits origins sources path before after count fault → g.tells sources
-    → WritesOutput (h.taken before) (h.taken after) (staged_output g (fresh_engine limits sources origins) path) count fault
-unfolding fresh_engine is_device_fault is_memory_fault
-writes_output g h limits origins sources path before after count fault r tells =
+    → RunsFresh g h fresh path before after count fault → g.tells fresh.sources
+    → WritesOutput (h.taken before) (h.taken after) (staged_output g fresh path) count fault
+unfolding is_device_fault is_memory_fault
+writes_output g h fresh path before after count fault r tells =
     let again : (f : Told) → r.opening ≡ Some f → fault ≡ Some f = λ f e. (r.runs.again f (r.starts.keeps ∙ e)).0 in
     let none : (f : Told) → r.opening ≡ Some f → r.runs.bytes ≡ [] = λ f e. (r.runs.again f (r.starts.keeps ∙ e)).1 in
     let told : g.tells r.started.sources = r.starts.sources_tell tells in
-    let remains : is_device_fault r.opening ≡ false → is_memory_fault r.opening ≡ false → left_of g.unread r.started ≡ staged_output g (fresh_engine limits sources origins) path = λ d m. r.starts.remains_output d m tells in
+    let remains : is_device_fault r.opening ≡ false → is_memory_fault r.opening ≡ false → left_of g.unread r.started ≡ staged_output g fresh path = λ d m. r.starts.remains_output d m tells in
     record {
       bytes = r.runs.bytes;
       taken = r.runs.taken;
@@ -82,32 +84,57 @@ writes_output g h limits origins sources path before after count fault r tells =
           (is_fresh-false is_write_failed r.started.kept fault (not_write_failed fault e)) told;
     }
 
--- an engine that is fresh was started and run, and there are no definitions
-pub follows_run : {S R W D : Type 0} (g : Ghosts S R) (h : SinkGhosts W) (limits : Limits) (defines : List D) (origins : Bool) (sources : S)
-    (path : List ℕ) (before after : W) (fresh started ended : EngineView S R) (opening : Option Told) (answer : Result ℕ RunFault)
+-- a refused definition writes nothing
+writes_nothing : (before after : Option (List ℕ)) (count : ℕ) (f : Told) (fault : Option Told) → fault ≡ Some f → count ≡ 0 → after ≡ before
+    → WritesOutput before after (fails f) count fault
+unfolding fails
+writes_nothing before after count f fault e c a = record {
+  bytes = [];
+  taken = subst (λ x. Appends before x []) (sym a) (appends_none before);
+  counted = c;
+  begins = ([], refl);
+  exact = λ _. ap (λ x. record { bytes = []; fault = x }) (sym e);
+}
+
+-- an engine that is fresh was given definitions, started and run
+pub follows_run : {S R W : Type 0} (g : Ghosts S R) (h : SinkGhosts W) (limits : Limits) (defines : List Pair) (origins : Bool) (sources : S)
+    (path : List ℕ) (before after : W) (fresh given_to started ended : EngineView S R) (opening : Option Told) (answer : Result ℕ RunFault)
     (count : ℕ) (fault : Option Told)
-    → defines ≡ [] → fresh ≡ fresh_engine limits sources origins → Starts g fresh started path opening
+    → fresh ≡ fresh_engine limits sources origins
+    → given_in fresh defines ≡ Taken given_to.table.macros → given_to ≡ with_macros fresh given_to.table.macros
+    → Starts g given_to started path opening
     → Runs g h started ended before after (count_of answer) (fault_of answer) → count_of answer ≡ count → fault_of answer ≡ fault
-    → Follows g h limits defines origins sources path before after count fault
-follows_run g h limits defines origins sources path before after fresh started ended opening answer count fault d e s r c f =
-    subst (λ ds. Follows g h limits ds origins sources path before after count fault) (sym d)
+    → Follows g h limits (given limits.definition_bytes limits.definitions 0 [] defines) origins sources path before after count fault
+unfolding fresh_engine
+follows_run g h limits defines origins sources path before after fresh given_to started ended opening answer count fault e d m s r c f =
+    let macros = given_to.table.macros in
+    subst (λ w. Follows g h limits w origins sources path before after count fault) (sym (ap (λ x. given_in x defines) (sym e) ∙ d))
     record {
       started = started;
       ended = ended;
       opening = opening;
-      starts = subst (λ x. Starts g x started path opening) e s;
+      starts = subst (λ x. Starts g x started path opening) (m ∙ ap (λ x. with_macros x macros) e) s;
       runs = subst (λ n. Runs g h started ended before after n fault) c
           (subst (λ x. Runs g h started ended before after (count_of answer) x) f r);
     }
 
--- without definitions, what follows tells the output
-pub follows_output : {S R W D : Type 0} (g : Ghosts S R) (h : SinkGhosts W) (limits : Limits) (defines : List D) (origins : Bool) (sources : S)
-    (path : List ℕ) (before after : W) (count : ℕ) (fault : Option Told)
-    → Follows g h limits defines origins sources path before after count fault → g.tells sources → defines ≡ []
-    → WritesOutput (h.taken before) (h.taken after) (staged_output g (fresh_engine limits sources origins) path) count fault
-follows_output g h limits defines origins sources path before after count fault r tells d =
-    writes_output g h limits origins sources path before after count fault
-    (subst (λ ds. Follows g h limits ds origins sources path before after count fault) d r) tells
+-- a definition was refused
+pub follows_refusal : {S R W : Type 0} (g : Ghosts S R) (h : SinkGhosts W) (limits : Limits) (defines : List Pair) (origins : Bool) (sources : S)
+    (path : List ℕ) (writer : W) (fresh : EngineView S R) (count : ℕ) (f : Told)
+    → fresh ≡ fresh_engine limits sources origins → given_in fresh defines ≡ Declined f → count ≡ 0
+    → Follows g h limits (given limits.definition_bytes limits.definitions 0 [] defines) origins sources path writer writer count (Some f)
+unfolding fresh_engine
+follows_refusal g h limits defines origins sources path writer fresh count f e d c =
+    subst (λ w. Follows g h limits w origins sources path writer writer count (Some f)) (sym (ap (λ x. given_in x defines) (sym e) ∙ d))
+    (refl, c, refl)
 
-pub none_defined : {A Z : Type 0} (v : Vec A Z) → true ≡ (vec_len v == 0) → v.items ≡ []
-none_defined v e = nil_from_length v.items (search rules)
+-- what follows tells the output
+pub follows_output : {S R W : Type 0} (g : Ghosts S R) (h : SinkGhosts W) (limits : Limits) (what : Given) (origins : Bool) (sources : S)
+    (path : List ℕ) (before after : W) (count : ℕ) (fault : Option Told)
+    → Follows g h limits what origins sources path before after count fault → g.tells sources
+    → WritesOutput (h.taken before) (h.taken after) (output_given g limits origins sources path what) count fault
+unfolding fresh_engine
+follows_output g h limits (Taken macros) origins sources path before after count fault r tells =
+    writes_output g h (engine_with limits origins sources macros) path before after count fault r tells
+follows_output g h limits (Declined f) origins sources path before after count fault (e, c, a) tells =
+    writes_nothing (h.taken before) (h.taken after) count f fault e c (ap h.taken a)

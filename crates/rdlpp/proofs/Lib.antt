@@ -1,2 +1,3 @@
+pub mod Givings
 pub mod FreshRuns
 pub mod Reports

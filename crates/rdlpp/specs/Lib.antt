@@ -1,3 +1,4 @@
 pub mod Status
 pub mod Report
+pub mod Definitions
 pub mod Preprocess

@@ -1,51 +1,61 @@
 -- What preprocessing a main text writes and answers.
-use Rattle.std.specs.Prelude.{◌≡◌, ℕ, ◌-◌, ◌^◌, Bool, false, ◌||◌, List, [], ◌∷◌, codes, length, min, Option, None, Some, Result, Ok, Err}
+use Rattle.std.specs.Prelude.{◌≡◌, ℕ, ◌-◌, ◌^◌, Bool, false, ◌||◌, List, [], length, min, Option, None, Some, Result, Ok, Err}
 use Rattle.std.specs.Io.KnownBytes.{Appends}
 use Rattle.rdlpp_source.specs.declared.sources.Sources.{Ghosts}
 use Rattle.rdlpp_source.specs.declared.sinks.Sink.{Ghosts as SinkGhosts}
+use Rattle.rdlpp_table.specs.Table.{Macro}
 use Rattle.rdlpp_table.specs.Limits.{limit_fault}
 use Rattle.rdlpp_table.specs.declared.limits.Limits.{Limits}
-use Rattle.rdlpp_meaning.specs.declared.fault.FaultKind.TheVariants.{Unbuilt}
-use Rattle.rdlpp_meaning.specs.Outcome.{Told, told, Outcome}
+use Rattle.rdlpp_meaning.specs.Outcome.{Told, told, Outcome, fails}
 use Rattle.rdlpp_expand.specs.Engine.{EngineView}
 use Rattle.rdlpp_expand.specs.Opening.{Starts, fresh_engine, staged_output, is_device_fault, is_memory_fault}
 use Rattle.rdlpp_expand.specs.Run.{Runs, Begins}
 use Rattle.rdlpp_expand.specs.Steps.{is_write_failed}
+use Rattle.rdlpp.specs.Definitions.{Given, Taken, Declined, given, with_macros}
 use Rattle.rdlpp.specs.declared.options.Options.{Options}
 use Rattle.rdlpp.specs.declared.fault.PrepFault.{PrepFault}
 use Rattle.rdlpp.specs.declared.fault.PrepFault.TheVariants.{BadLimits, NoMemory, Run}
 
--- the fault of options with definitions, which aren't built yet (source: this project's profile)
-abbrev pub unbuilt_define : Told
-unbuilt_define = record { kind = Unbuilt; name = codes "-D"; line = 1; word = [] }
+-- a fresh engine with macros
+abbrev pub engine_with : {S R : Type 0} → Limits → Bool → S → List Macro → EngineView S R
+engine_with limits origins sources macros = with_macros (fresh_engine limits sources origins) macros
 
--- a fresh engine without definitions was started with a path and then run: so many bytes were written, and so it ended (source: this project's profile)
-pub record RunsFresh {S R W : Type 0} (g : Ghosts S R) (h : SinkGhosts W) (limits : Limits) (origins : Bool) (sources : S) (path : List ℕ) (before after : W) (count : ℕ) (fault : Option Told) : Type 0 where
+-- an engine that wasn't started yet was started with a path and then run: so many bytes were written, and so it ended (source: this project's profile)
+pub record RunsFresh {S R W : Type 0} (g : Ghosts S R) (h : SinkGhosts W) (fresh : EngineView S R) (path : List ℕ) (before after : W) (count : ℕ) (fault : Option Told) : Type 0 where
   pub started : EngineView S R
   pub ended : EngineView S R
   pub opening : Option Told
-  pub starts : Starts g (fresh_engine limits sources origins) started path opening
+  pub starts : Starts g fresh started path opening
   pub runs : Runs g h started ended before after count fault
 
--- what comes of options whose limits are in range and of an engine that was made: with definitions their fault, with nothing opened or written, and else what the run of a fresh engine comes to (source: this project's profile)
-abbrev pub Follows : {S R W D : Type 0} → Ghosts S R → SinkGhosts W → Limits → List D → Bool → S → List ℕ → W → W → ℕ → Option Told → Type 0
-Follows g h limits [] origins sources path before after count fault = RunsFresh g h limits origins sources path before after count fault
-Follows g h limits (d ∷ ds) origins sources path before after count fault = (fault ≡ Some unbuilt_define) × (count ≡ 0) × (after ≡ before)
+-- what the definitions of options come to (source: this project's profile)
+abbrev pub given_by : Options → Given
+given_by options = given options.limits.definition_bytes options.limits.definitions 0 [] options.defines.items
+
+-- what comes of options whose limits are in range and of an engine that was made: the fault of the first definition that is refused, with nothing opened or written, and else what the run of a fresh engine with the definitions comes to (source: this project's profile)
+abbrev pub Follows : {S R W : Type 0} → Ghosts S R → SinkGhosts W → Limits → Given → Bool → S → List ℕ → W → W → ℕ → Option Told → Type 0
+Follows g h limits (Taken macros) origins sources path before after count fault = RunsFresh g h (engine_with limits origins sources macros) path before after count fault
+Follows g h limits (Declined f) origins sources path before after count fault = (fault ≡ Some f) × (count ≡ 0) × (after ≡ before)
 
 -- the answer of preprocessing: the fault of the limits exactly where one is out of its range, with nothing written; want of memory, with nothing written; and else what follows (source: this project's profile)
 abbrev pub Preprocesses : {S R W : Type 0} → Ghosts S R → SinkGhosts W → Options → S → List ℕ → W → W → Result ℕ PrepFault → Type 0
 Preprocesses g h options sources path before after (Ok count) =
     (limit_fault options.limits ≡ None)
-    × Follows g h options.limits options.defines.items options.origins sources path before after count None
+    × Follows g h options.limits (given_by options) options.origins sources path before after count None
 Preprocesses g h options sources path before after (Err (BadLimits fault)) = (limit_fault options.limits ≡ Some fault) × (after ≡ before)
 Preprocesses g h options sources path before after (Err NoMemory) = (limit_fault options.limits ≡ None) × (after ≡ before)
 Preprocesses g h options sources path before after (Err (Run f)) =
     (limit_fault options.limits ≡ None)
-    × Follows g h options.limits options.defines.items options.origins sources path before after f.written (Some (told f.fault))
+    × Follows g h options.limits (given_by options) options.origins sources path before after f.written (Some (told f.fault))
 
--- the output of a main text without definitions, where no opening fails (source: this project's profile)
+-- the output of a main text, by what the definitions come to
+abbrev pub output_given : {S R : Type 0} → Ghosts S R → Limits → Bool → S → List ℕ → Given → Outcome
+output_given g limits origins sources path (Taken macros) = staged_output g (engine_with limits origins sources macros) path
+output_given g limits origins sources path (Declined f) = fails f
+
+-- the output of a main text, where no opening fails (source: this project's profile)
 abbrev pub output_of : {S R : Type 0} → Ghosts S R → Options → S → List ℕ → Outcome
-output_of g options sources path = staged_output g (fresh_engine options.limits sources options.origins) path
+output_of g options sources path = output_given g options.limits options.origins sources path (given_by options)
 
 -- whether a fault is that of a device or of memory: F32, F33 or F34 (source: this project's profile)
 abbrev pub is_failure : Option Told → Bool
@@ -60,7 +70,7 @@ pub record WritesOutput (taken_before taken_after : Option (List ℕ)) (output :
   pub begins : Begins bytes output
   pub exact : is_failure fault ≡ false → output ≡ record { bytes = bytes; fault = fault }
 
--- the answer of preprocessing without definitions, as the output and its end; nothing is said where no engine was made (source: this project's profile)
+-- the answer of preprocessing, as the output and its end; nothing is said where no engine was made (source: this project's profile)
 abbrev pub Tells : Option (List ℕ) → Option (List ℕ) → Outcome → Result ℕ PrepFault → Type 0
 Tells before after output (Ok count) = WritesOutput before after output count None
 Tells before after output (Err (BadLimits fault)) = after ≡ before

@@ -1,6 +1,7 @@
 //! Preprocessing as one call: options, faults, exit statuses and the line that reports a fault.
 #![tactic(auto)]
 
+mod defining;
 mod fault;
 mod options;
 mod preprocessing;

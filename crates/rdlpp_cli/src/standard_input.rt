@@ -1,4 +1,11 @@
 // Standard input as a source.
+ghost use Rattle.std.specs.Prelude.{◌≡◌, Err, IfErr, Some};
+ghost use Rattle.std.specs.Io.{ReadsAtMost};
+ghost use Rattle.std.specs.Io.KnownBytes.{ReadConsumes};
+ghost use Rattle.rdlpp_source.specs.Counts.{Counts};
+ghost use Rattle.rdlpp_source.specs.Sources.{is_device};
+ghost use Rattle.rdlpp_cli.specs.Inputs.{OpensOnce};
+
 use arrayvec::ArrayString;
 use rdlpp::{Found, SourceFault, Sources};
 use std::io::Read;
@@ -14,7 +21,9 @@ pub struct StandardInput<R> {
 
 impl<R> StandardInput<R> {
     /// A source over `reader`, which wasn't opened and didn't fail yet.
-    pub fn new(reader: R) -> Self {
+    pub fn new(reader: R) -> Self
+        ensures { result ≡ record { reader = Some reader; failures = 0 } }
+    {
         StandardInput {
             reader: Some(reader),
             failures: 0,
@@ -38,7 +47,10 @@ impl<R: Read + Drop> Sources for StandardInput<R> {
 
     ghost refusals = { λ _. 0 };
 
-    fn top(&mut self, path: &str) -> Result<Found<R>, SourceFault> {
+    fn top(&mut self, path: &str) -> Result<Found<R>, SourceFault>
+        ensures opens { OpensOnce self.old.reader self.new.reader path.now result }
+        ensures failures { self.new.failures ≡ self.old.failures }
+    {
         let Ok(path) = ArrayString::from(path) else {
             return Err(SourceFault::PathTooLong);
         };
@@ -48,11 +60,20 @@ impl<R: Read + Drop> Sources for StandardInput<R> {
         }
     }
 
-    fn find(&mut self, _from: &str, _name: &str) -> Result<Found<R>, SourceFault> {
+    fn find(&mut self, _from: &str, _name: &str) -> Result<Found<R>, SourceFault>
+        ensures answer { result ≡ Err SourceFault.Absent }
+        ensures unchanged { self.new ≡ self.old }
+    {
         Err(SourceFault::Absent)
     }
 
-    fn read(&mut self, reader: &mut R, to: &mut [u8]) -> Result<usize, SourceFault> {
+    fn read(&mut self, reader: &mut R, to: &mut [u8]) -> Result<usize, SourceFault>
+        ensures bound { ReadsAtMost result to.new }
+        ensures only { IfErr result (λ fault. fault ≡ SourceFault.Device) }
+        ensures consumes { ReadConsumes (R.remaining reader.old) (R.remaining reader.new) result to.new }
+        ensures failures { Counts (is_device result) self.old.failures self.new.failures }
+        ensures unopened { self.new.reader ≡ self.old.reader }
+    {
         match reader.read(to) {
             Ok(len) => Ok(len),
             Err(_) => {

@@ -7,7 +7,7 @@ ghost use Rattle.rdlpp_meaning.specs.Outcome.{told};
 ghost use Rattle.rdlpp_meaning.specs.State.{fault_at};
 ghost use Rattle.rdlpp_expand.specs.Held.{held_told};
 ghost use Rattle.rdlpp_expand.specs.Pieces.{IsPlaced, Lends, answer_of, bytes_at, lent_answer, piece_bytes, placed_answer};
-ghost use Rattle.rdlpp_expand.specs.Remaining.{kind_of_define, state_of};
+ghost use Rattle.rdlpp_expand.specs.Remaining.{state_of};
 ghost use Rattle.rdlpp_expand.specs.Run.{write_fault};
 ghost use Rattle.rdlpp_expand.specs.Steps.{IsBounded, IsReady, IsStarted, Steps, Takes};
 ghost use Rattle.rdlpp_expand.specs.Feed.{EndsHeld, closed_feed, held_of};
@@ -26,6 +26,7 @@ use crate::blanks::only_blanks;
 use crate::feed::{Feed, Supply, provide};
 use crate::front::{Front, front_of};
 use crate::held::Held;
+use crate::kinds::fault_kind;
 use crate::phase::Phase;
 use crate::place::{Piece, Place};
 use crate::texts::{copied, copied_fault, word_of};
@@ -33,7 +34,7 @@ use arrayvec::ArrayString;
 use rdlpp_meaning::{Fault, FaultKind};
 use rdlpp_scan::{line_ends_in, plain_text_len};
 use rdlpp_source::Sources;
-use rdlpp_table::{DefineKind, LimitFault, Limits, MacroId, Table};
+use rdlpp_table::{LimitFault, Limits, MacroId, Table};
 use std::alloc::Global;
 use std::marker::Model;
 
@@ -243,7 +244,7 @@ impl<S: Sources> Engine<S> {
         let line = &self.feed.held()[..len];
         let lines = line_ends_in(line);
         match self.table.read_define(&line[len.min(7)..]) {
-            Err(fault) => Err(self.refuse(kind_of(fault.kind), fault.word)),
+            Err(fault) => Err(self.refuse(fault_kind(fault.kind), fault.word)),
             Ok(()) => {
                 let _count = self.table.len();
                 let end = self.pass(len, lines);
@@ -364,26 +365,6 @@ fn name_of(held: &[u8], len: usize) -> &[u8]
     ensures { result.now ≡ usage_name held.now len }
 {
     &held[1..len]
-}
-
-// The kind of fault that a refused definition is.
-#[tactic(auto, unfolding(crate::specs::Remaining::kind_of_define))]
-fn kind_of(kind: DefineKind) -> FaultKind
-    ensures { result ≡ kind_of_define kind }
-{
-    match kind {
-        DefineKind::EmbeddedPerl => FaultKind::EmbeddedPerl,
-        DefineKind::OpenString => FaultKind::OpenString,
-        DefineKind::OpenComment => FaultKind::OpenComment,
-        DefineKind::NameExpected => FaultKind::NameExpected,
-        DefineKind::ReservedName => FaultKind::ReservedName,
-        DefineKind::NameTooLong => FaultKind::NameTooLong,
-        DefineKind::BadFormals => FaultKind::BadFormals,
-        DefineKind::FormalTwice => FaultKind::FormalTwice,
-        DefineKind::TooManyFormals => FaultKind::TooManyFormals,
-        DefineKind::DefinitionBytes => FaultKind::DefinitionBytes,
-        DefineKind::TooManyDefinitions => FaultKind::TooManyDefinitions,
-    }
 }
 
 // Whether usages of a macro are built.

@@ -6,6 +6,7 @@ mod engine;
 mod feed;
 mod front;
 mod held;
+mod kinds;
 mod phase;
 mod place;
 mod texts;
@@ -13,6 +14,7 @@ mod writing;
 
 pub use engine::{Engine, NewFault};
 pub use held::Held;
+pub use kinds::fault_kind;
 pub use place::Piece;
 pub use rdlpp_meaning::{Fault, FaultKind};
 pub use writing::{RunFault, run};

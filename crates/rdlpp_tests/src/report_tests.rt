@@ -162,47 +162,86 @@ fn reports_what_ended_a_run(rt: HostRuntime) -> Result<(), Fail> {
     Ok(())
 }
 
-// Definitions of the options and origin comments aren't built yet.
+// What comes of definitions from the options, and of origin comments, which aren't built yet.
 #[test]
-fn refuses_options_that_are_not_built(rt: HostRuntime) -> Result<(), Fail> {
-    let mut defines = Vec::new(rt.alloc());
-    defines.push((
-        String::from_str(rt.alloc(), "W")?,
-        String::from_str(rt.alloc(), "8")?,
-    ))?;
-    let rows = [
+fn takes_definitions_from_the_options(rt: HostRuntime) -> Result<(), Fail> {
+    let long = [b'n'; 129];
+    let long = str::from_utf8(&long)?;
+    let rows: [(&[(&str, &str)], bool, &str, &str); 9] = [
+        (&[("W", "8")], false, "8", ""),
         (
-            Options {
-                defines,
-                limits: STANDARD,
-                origins: false,
-            },
-            "-D:1: error F99: not built yet\n",
+            &[("V", " 1 // one"), ("W", "2"), ("W", "3")],
+            false,
+            "3",
+            "",
         ),
         (
-            Options {
-                defines: Vec::new(rt.alloc()),
-                limits: STANDARD,
-                origins: true,
-            },
-            "m:0: error F99: not built yet\n",
+            &[("1x", "2")],
+            false,
+            "",
+            "-D:1: error F15: name expected\n",
         ),
+        (
+            &[("W", "1"), ("W(a)", "2")],
+            false,
+            "",
+            "-D:2: error F15: name expected\n",
+        ),
+        (
+            &[("W", "1"), ("line", "2")],
+            false,
+            "",
+            "-D:2: error F16: reserved name 'line'\n",
+        ),
+        (&[(long, "")], false, "", "-D:1: error F17: name too long\n"),
+        (
+            &[("V", "1"), ("V", "2"), ("W", "\"")],
+            false,
+            "",
+            "-D:3: error F2: string not closed\n",
+        ),
+        (
+            &[("W", "f(x) \"s\"")],
+            false,
+            "",
+            "m:1: error F99: not built yet\n",
+        ),
+        (&[("W", "8")], true, "", "m:0: error F99: not built yet\n"),
     ];
-    for (options, line) in rows {
+    for (defines, origins, output, line) in rows {
+        let options = Options {
+            defines: owned(&rt, defines)?,
+            limits: STANDARD,
+            origins,
+        };
         let files = [("m", b"`W".as_slice())];
         let texts = Texts {
             files: &files,
             folders: &[],
         };
         let mut counted = rdlpp::Counted::new(narrow(&rt, 9, 99));
-        let fault = preprocess(rt.alloc(), &options, texts, "m", &mut counted)
-            .err()
-            .ok_or("no fault")?;
+        let outcome = preprocess(rt.alloc(), &options, texts, "m", &mut counted);
+        let told = match &outcome {
+            Ok(_) => Vec::new(rt.alloc()),
+            Err(fault) => line_of(&rt, fault)?,
+        };
+        assert!(rt; told.as_slice() == line.as_bytes(), "{line}");
         assert!(rt;
-            line_of(&rt, &fault)?.as_slice() == line.as_bytes(),
-            "{line}"
+            counted.into_writer().taken.as_slice() == output.as_bytes(),
+            "{output}"
         );
-        assert!(rt; counted.into_writer().taken.is_empty());
     }
     Ok(())
+}
+
+// Definitions as options have them.
+fn owned<R: AllocGlobal>(rt: &R, pairs: &[(&str, &str)]) -> Result<Vec<(String, String)>, Fail> {
+    let mut defines = Vec::new(rt.alloc());
+    for (name, text) in pairs {
+        defines.push((
+            String::from_str(rt.alloc(), name)?,
+            String::from_str(rt.alloc(), text)?,
+        ))?;
+    }
+    Ok(defines)
 }

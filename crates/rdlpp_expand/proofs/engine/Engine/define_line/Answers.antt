@@ -67,7 +67,7 @@ returns-in-Err-clause-takes g c =
     ≡ Refused c.in-Err.fault.kind c.in-Err.fault.word.bytes =
     rw (← c.self.view_is) (defined_same _ _ _ _ _ _ _ _ outcome bytes count (rest ∙ ap (λ h. drop 7 (take c.args.len h)) value)) in
     let fault_told : told c.refuse.result ≡ fault_at (kind_of_define c.in-Err.fault.kind) c.args.self.now.feed.line c.in-Err.fault.word.bytes (state_of c.args.self.now) =
-    rw (← c.self.view_is, ← c.kind_of.ensures) (rw c.in-Err.ensures.refused at c.refuse.ensures.fault) in
+    rw (← c.self.view_is, ← c.fault_kind.ensures) (rw c.in-Err.ensures.refused at c.refuse.ensures.fault) in
     take_refused g.S.Sources c.args.self.now c.refuse.new.self c.refuse.result (kind_of_define c.in-Err.fault.kind) c.in-Err.fault.word.bytes
     fault_told (rw (← c.self.view_is) (rw c.in-Err.ensures.refused at c.refuse.ensures.kept)) (define_kind c.in-Err.fault.kind)
     (left_refused_define g.S.Sources.unread c.args.self.now c.args.len c.in-Err.fault.kind c.in-Err.fault.word.bytes c.requires.ready.bytes ends fits c.requires.define refused)

@@ -1,0 +1,47 @@
+// Definitions from outside.
+ghost use Rattle.std.specs.Prelude.{◌≡◌};
+ghost use Rattle.rdlpp_meaning.specs.Outcome.{told};
+ghost use Rattle.rdlpp_expand.specs.Engine.{EngineView};
+ghost use Rattle.rdlpp_expand.specs.declared.phase.Phase.TheVariants as phase;
+ghost use Rattle.rdlpp.specs.Definitions.{AreGiven, refused_definition};
+
+use arrayvec::ArrayString;
+use rdlpp_expand::{Engine, Fault, RunFault, fault_kind};
+use rdlpp_source::Sources;
+use rdlpp_table::DefineFault;
+
+/// Defines macros in a fresh engine, in order.
+///
+/// # Errors
+/// The fault of the first definition that is refused; the engine has those before it then.
+pub(crate) fn define_all<S: Sources>(
+    engine: &mut Engine<S>,
+    defines: &[(String, String)],
+) -> Result<(), RunFault>
+    requires { engine.old.phase ≡ phase.Fresh }
+    ensures { AreGiven engine.old engine.new defines.now result }
+{
+    for (index, (name, text)) in defines.iter().enumerate() {
+        if let Err(fault) = engine.define(name.as_bytes(), text.as_bytes()) {
+            return Err(refused(fault, index as u64 + 1));
+        }
+    }
+    Ok(())
+}
+
+// The fault of a refused definition, at its place.
+#[tactic(auto, unfolding(rdlpp_meaning::specs::Outcome::told, crate::specs::Definitions::refused_definition))]
+fn refused(fault: DefineFault, place: u64) -> RunFault
+    ensures fault { told result.fault ≡ refused_definition fault.kind fault.word.bytes place }
+    ensures written { result.written ≡ 0 }
+{
+    let mut name = ArrayString::new();
+    name.push_str("-D");
+    let fault = Fault {
+        kind: fault_kind(fault.kind),
+        name,
+        line: place,
+        word: fault.word,
+    };
+    RunFault { fault, written: 0 }
+}
