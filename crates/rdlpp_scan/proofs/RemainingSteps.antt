@@ -1,5 +1,5 @@
 -- What remains of a source at a string, a comment, a logical line or a `line`: `held` ends at a line end or at the text's end.
-use Rattle.std.proofs.Common.{◌≡◌, ℕ, zero, suc, ◌+◌, ◌-◌, ◌<◌, ◌≤◌, Bool, true, false, cond, ltb, List, [], ◌∷◌, ◌++◌, Some, None, length, take, drop, refl, sym, ap, ◌∙◌, inl, inr, ⊎_elim, arith}
+use Rattle.std.proofs.Common.{◌≡◌, ℕ, suc, ◌+◌, ◌-◌, ◌<◌, ◌≤◌, Bool, true, false, cond, ltb, List, [], ◌∷◌, ◌++◌, Some, None, length, take, drop, refl, sym, ap, ◌∙◌, inl, inr, ⊎_elim, arith}
 use Rattle.std.specs.Prelude.{codes, bytes_eq}
 use Rattle.std.proofs.lemmas.Bool.{lt-ltb, le-ltb, cases_lt}
 use Rattle.std.proofs.lemmas.List.{append-nil, length-take-le, take-append-drop}
@@ -10,14 +10,16 @@ use Rattle.rdlpp_scan.specs.Bytes.{is_line_end}
 use Rattle.rdlpp_scan.specs.Tokens.{token_of}
 use Rattle.rdlpp_scan.specs.Front.{Breach, LineLong, SourceLong, DefineLong, DefineCut, PerlFound, Break, Front, front, onto_front}
 use Rattle.rdlpp_scan.specs.SourceTokens.{Course, SourceToken, source_end, source_tokens, Ordinary, Definition, Renumbering, Broken, line_ends, line_len, logical_len, remaining_tokens}
-use Rattle.rdlpp_scan.specs.Lines.{EndsLine, IsWholeLines, whole_lines_len, onto_whole_lines}
+use Rattle.rdlpp_scan.specs.Lines.{EndsLine, whole_lines_len, onto_whole_lines}
+use Rattle.rdlpp_scan.specs.Defines.{HoldsDefine}
 use Rattle.rdlpp_scan.specs.Resumed.{onto_tokens}
 use Rattle.rdlpp_scan.proofs.FrontLaws.{front-accept, front-none, front-line_long, front-source_long}
 use Rattle.rdlpp_scan.proofs.LineLaws.{line_len-some}
 use Rattle.rdlpp_scan.proofs.LogicalLines.{line_len-le}
+use Rattle.rdlpp_scan.proofs.WholeLines.{whole_one}
 use Rattle.rdlpp_scan.proofs.Locality.{IsCut-from_line}
 use Rattle.rdlpp_scan.proofs.TokenSteps.{is_kept_kind, opening, step-closed, step-open_string, step-open_comment, step-cut_string}
-use Rattle.rdlpp_scan.proofs.DefineSteps.{BeginsDefine, step-line, step-logical, step-logical_long, step-logical_full, step-logical_last, step-logical_broken}
+use Rattle.rdlpp_scan.proofs.DefineSteps.{BeginsDefine, step-line, step-logical, step-logical_long, step-logical_full, step-logical_last, step-logical_last_long, step-logical_broken}
 use Rattle.rdlpp_scan.proofs.RemainingLaws.{behind, course}
 
 -- where a text stands, and whatever follows its lines, is no place of what isn't built
@@ -66,14 +68,6 @@ remaining-cut_string u most m o l held room rest some ends built kind mode lt =
     let b = behind most room held rest ends in
     step-cut_string (course u most room rest) m o l held more some (IsCut-from_line held more b.ends) (λ plain. built plain more b.ends) kind mode lt
 
--- where what is held begins with the word `define`, and that is built
-pub record HoldsDefine (u : List ℕ → Bool) (held rest : List ℕ) : Type 0 where
-  pub some : 0 < length held
-  pub ends : EndsLine held rest
-  pub built : (more : List ℕ) → EndsLine held more → u (held ++ more) ≡ false
-  pub kind : (token_of Plain held).kind ≡ Back
-  pub word : bytes_eq (take (token_of Plain held).len held) (codes "`define") ≡ true
-
 begins : (u : List ℕ → Bool) (most : ℕ) (held : List ℕ) (room : ℕ) (rest : List ℕ) → HoldsDefine u held rest → BeginsDefine (course u most room rest) held (front most room rest).text
 begins u most held room rest h =
     let b = behind most room held rest h.ends in
@@ -107,13 +101,6 @@ first_line-within (b ∷ bs) more =
     let next : cond (is_line_end b) 1 (suc later) ≡ suc later = ap (λ t. cond t 1 (suc later)) e in
     omega (arith, next, first_line-within bs more) in
     elim (is_line_end b) as P [ true ↦ at_true | false ↦ at_false ] refl
-
-whole_one : (b : ℕ) (bs : List ℕ) → IsWholeLines bs → 0 < length bs → IsWholeLines (b ∷ bs)
-unfolding whole_lines_len onto_whole_lines
-whole_one b bs h some =
-    let P : ℕ → Type 0 = λ n. n ≡ length bs → onto_whole_lines b n ≡ suc (length bs) in
-    let none : P zero = λ e. absurd (omega arith) in
-    elim (whole_lines_len bs) as P [ zero ↦ none | suc n ↦ λ e. omega arith ] h
 
 -- a first line ends at a line end or at the text's end
 first_line-ends : (bs : List ℕ) → EndsLine (take (line_len bs) bs) (drop (line_len bs) bs)
@@ -190,6 +177,16 @@ remaining-logical_last u most o l held room h is fits =
     let tok : SourceToken = record { sort = Definition; bytes = held; line = l } in
     ap (of_front u most o l held) (front-none most room) ∙ ap (source_tokens c Plain o l 0) (append-nil held)
     ∙ step-logical_last c o l held (record { some = h.some; ends = none; built = h.built [] none; kind = h.kind; word = h.word }) is refl fits
+
+-- a `define` at the end of a source, which is too long
+pub remaining-logical_last_long : (u : List ℕ → Bool) (most o l : ℕ) (held : List ℕ) (room : ℕ) → HoldsDefine u held [] → logical_len 0 0 held ≡ None → most < length held
+    → remaining_tokens u most Plain o l held room [] ≡ record { sort = Broken DefineLong; bytes = []; line = l } ∷ []
+unfolding remaining_tokens of_front
+remaining-logical_last_long u most o l held room h is long =
+    let c : Course = record { unbuilt = u; most = most; break = None } in
+    let none : EndsLine held [] = inr refl in
+    ap (of_front u most o l held) (front-none most room) ∙ ap (source_tokens c Plain o l 0) (append-nil held)
+    ∙ step-logical_last_long c o l held (record { some = h.some; ends = none; built = h.built [] none; kind = h.kind; word = h.word }) is refl long
 
 -- a `line` with its line
 pub remaining-line : (u : List ℕ → Bool) (most o l : ℕ) (held : List ℕ) (room : ℕ) (rest : List ℕ) → 0 < length held → EndsLine held rest → IsBuiltAt u Plain held → (token_of Plain held).kind ≡ Back

@@ -38,7 +38,7 @@ step-unbuilt c o l bs some h =
     source_tokens-last c Plain o l bs (record { sort = Broken Unbuilt; bytes = []; line = l }) some (ap (λ t. cond t (broken Unbuilt [] l) (step_by c l l (token_of Plain bs) bs)) h)
 
 -- a token of these kinds is closed
-closed_kind : (bs : List ℕ) (t : Token) → Row bs t → (t.kind ≡ Perl) ⊎ ((t.kind ≡ Back) ⊎ (t.kind ≡ BareBackquote)) → t.next_mode ≡ Plain
+pub closed_kind : (bs : List ℕ) (t : Token) → Row bs t → (t.kind ≡ Perl) ⊎ ((t.kind ≡ Back) ⊎ (t.kind ≡ BareBackquote)) → t.next_mode ≡ Plain
 unfolding whole is_plain_kind
 closed_kind bs t (AtPerl h e) k = ap (λ (u : Token). u.next_mode) e
 closed_kind bs t (AtLineComment h e) k = absurd (⊎_elim (λ i. cc) (λ r. ⊎_elim (λ i. cc) (λ i. cc) r) k)
