@@ -24,3 +24,4 @@ pub mod TokenSteps
 pub mod DefineSteps
 pub mod RemainingSteps
 pub mod RangeLaws
+pub mod ContinuedLines

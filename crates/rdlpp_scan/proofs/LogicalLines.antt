@@ -42,7 +42,8 @@ ends_continued-back w r p q is before last =
     let y : q ≡ get_or (0 ∷ 0 ∷ w) (suc (length w)) 0 = last ∙ ap (λ i. get_or (0 ∷ 0 ∷ w) i 0) one in
     is ∙ ap (λ n. is_continued n q) x ∙ ap (is_continued (get_or (0 ∷ 0 ∷ w) (length w) 0)) y ∙ sym (ends_continued-last 0 0 w)
 
-option_map-twice : (k : ℕ) (o : Option ℕ) → option_map suc (option_map (λ n. k + n) o) ≡ option_map (λ n. suc k + n) o
+-- one more in front
+pub option_map-twice : (k : ℕ) (o : Option ℕ) → option_map suc (option_map (λ n. k + n) o) ≡ option_map (λ n. suc k + n) o
 option_map-twice k None = refl
 option_map-twice k (Some n) = ap Some (omega arith)
 

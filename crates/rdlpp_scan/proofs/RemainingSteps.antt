@@ -1,5 +1,5 @@
 -- What remains of a source at a string, a comment, a logical line or a `line`: `held` ends at a line end or at the text's end.
-use Rattle.std.proofs.Common.{◌≡◌, ℕ, zero, suc, ◌+◌, ◌-◌, ◌<◌, ◌≤◌, Bool, true, false, cond, ltb, List, [], ◌∷◌, ◌++◌, Some, None, length, take, drop, refl, sym, ap, ◌∙◌, inl, inr, ⊎_elim, arith}
+use Rattle.std.proofs.Common.{◌≡◌, ℕ, suc, ◌+◌, ◌-◌, ◌<◌, ◌≤◌, Bool, true, false, cond, ltb, List, [], ◌∷◌, ◌++◌, Some, None, length, take, drop, refl, sym, ap, ◌∙◌, inl, inr, ⊎_elim, arith}
 use Rattle.std.specs.Prelude.{codes, bytes_eq}
 use Rattle.std.proofs.lemmas.Bool.{lt-ltb, le-ltb, cases_lt}
 use Rattle.std.proofs.lemmas.List.{append-nil, length-take-le, take-append-drop}
@@ -8,16 +8,18 @@ use Rattle.rdlpp_scan.specs.declared.token.Mode.{Mode}
 use Rattle.rdlpp_scan.specs.declared.token.Mode.TheVariants.{Plain, InStr, InBlock}
 use Rattle.rdlpp_scan.specs.Bytes.{is_line_end}
 use Rattle.rdlpp_scan.specs.Tokens.{token_of}
-use Rattle.rdlpp_scan.specs.Front.{Breach, LineLong, SourceLong, PerlFound, Break, Front, front, onto_front}
+use Rattle.rdlpp_scan.specs.Front.{Breach, LineLong, SourceLong, DefineLong, DefineCut, PerlFound, Break, Front, front, onto_front}
 use Rattle.rdlpp_scan.specs.SourceTokens.{Course, SourceToken, source_end, source_tokens, Ordinary, Definition, Renumbering, Broken, line_ends, line_len, logical_len, remaining_tokens}
-use Rattle.rdlpp_scan.specs.Lines.{EndsLine, IsWholeLines, whole_lines_len, onto_whole_lines}
+use Rattle.rdlpp_scan.specs.Lines.{EndsLine, whole_lines_len, onto_whole_lines}
+use Rattle.rdlpp_scan.specs.Defines.{HoldsDefine}
 use Rattle.rdlpp_scan.specs.Resumed.{onto_tokens}
 use Rattle.rdlpp_scan.proofs.FrontLaws.{front-accept, front-none, front-line_long, front-source_long}
 use Rattle.rdlpp_scan.proofs.LineLaws.{line_len-some}
 use Rattle.rdlpp_scan.proofs.LogicalLines.{line_len-le}
+use Rattle.rdlpp_scan.proofs.WholeLines.{whole_one}
 use Rattle.rdlpp_scan.proofs.Locality.{IsCut-from_line}
 use Rattle.rdlpp_scan.proofs.TokenSteps.{is_kept_kind, opening, step-closed, step-open_string, step-open_comment, step-cut_string}
-use Rattle.rdlpp_scan.proofs.DefineSteps.{BeginsDefine, step-line, step-logical, step-logical_long, step-logical_full, step-logical_last, step-logical_broken}
+use Rattle.rdlpp_scan.proofs.DefineSteps.{BeginsDefine, step-line, step-logical, step-logical_long, step-logical_full, step-logical_last, step-logical_last_long, step-logical_broken}
 use Rattle.rdlpp_scan.proofs.RemainingLaws.{behind, course}
 
 -- where a text stands, and whatever follows its lines, is no place of what isn't built
@@ -66,14 +68,6 @@ remaining-cut_string u most m o l held room rest some ends built kind mode lt =
     let b = behind most room held rest ends in
     step-cut_string (course u most room rest) m o l held more some (IsCut-from_line held more b.ends) (λ plain. built plain more b.ends) kind mode lt
 
--- where what is held begins with the word `define`, and that is built
-pub record HoldsDefine (u : List ℕ → Bool) (held rest : List ℕ) : Type 0 where
-  pub some : 0 < length held
-  pub ends : EndsLine held rest
-  pub built : (more : List ℕ) → EndsLine held more → u (held ++ more) ≡ false
-  pub kind : (token_of Plain held).kind ≡ Back
-  pub word : bytes_eq (take (token_of Plain held).len held) (codes "`define") ≡ true
-
 begins : (u : List ℕ → Bool) (most : ℕ) (held : List ℕ) (room : ℕ) (rest : List ℕ) → HoldsDefine u held rest → BeginsDefine (course u most room rest) held (front most room rest).text
 begins u most held room rest h =
     let b = behind most room held rest h.ends in
@@ -89,7 +83,7 @@ remaining-logical u most o l held room rest n h is fits =
 
 -- a `define` whose logical line is too long
 pub remaining-logical_long : (u : List ℕ → Bool) (most o l : ℕ) (held : List ℕ) (room : ℕ) (rest : List ℕ) (n : ℕ) → HoldsDefine u held rest → logical_len 0 0 held ≡ Some n → most < n
-    → remaining_tokens u most Plain o l held room rest ≡ record { sort = Broken LineLong; bytes = []; line = l } ∷ []
+    → remaining_tokens u most Plain o l held room rest ≡ record { sort = Broken DefineLong; bytes = []; line = l } ∷ []
 unfolding remaining_tokens
 remaining-logical_long u most o l held room rest n h is long =
     step-logical_long (course u most room rest) o l held (front most room rest).text n (begins u most held room rest h) is long
@@ -107,13 +101,6 @@ first_line-within (b ∷ bs) more =
     let next : cond (is_line_end b) 1 (suc later) ≡ suc later = ap (λ t. cond t 1 (suc later)) e in
     omega (arith, next, first_line-within bs more) in
     elim (is_line_end b) as P [ true ↦ at_true | false ↦ at_false ] refl
-
-whole_one : (b : ℕ) (bs : List ℕ) → IsWholeLines bs → 0 < length bs → IsWholeLines (b ∷ bs)
-unfolding whole_lines_len onto_whole_lines
-whole_one b bs h some =
-    let P : ℕ → Type 0 = λ n. n ≡ length bs → onto_whole_lines b n ≡ suc (length bs) in
-    let none : P zero = λ e. absurd (omega arith) in
-    elim (whole_lines_len bs) as P [ zero ↦ none | suc n ↦ λ e. omega arith ] h
 
 -- a first line ends at a line end or at the text's end
 first_line-ends : (bs : List ℕ) → EndsLine (take (line_len bs) bs) (drop (line_len bs) bs)
@@ -138,7 +125,7 @@ of_front u most o l held f = source_tokens (record { unbuilt = u; most = most; b
 
 -- a `define` in front of a broken line
 define_broken : (u : List ℕ → Bool) (most o l : ℕ) (held rest : List ℕ) (k : Break) → HoldsDefine u held rest → logical_len 0 0 held ≡ None
-    → of_front u most o l held (record { text = []; break = Some k }) ≡ record { sort = Broken (cond (ltb most (length held + k.len)) LineLong SourceLong); bytes = []; line = l } ∷ []
+    → of_front u most o l held (record { text = []; break = Some k }) ≡ record { sort = Broken (cond (ltb most (length held + k.len)) DefineLong DefineCut); bytes = []; line = l } ∷ []
 unfolding of_front
 define_broken u most o l held rest k h is =
     let c : Course = record { unbuilt = u; most = most; break = Some k } in
@@ -148,18 +135,18 @@ define_broken u most o l held rest k h is =
 
 -- a `define` whose logical line goes on, and is too long with the next physical line
 pub remaining-logical_full : (u : List ℕ → Bool) (most o l : ℕ) (held : List ℕ) (room : ℕ) (rest : List ℕ) → HoldsDefine u held rest → logical_len 0 0 held ≡ None → 0 < length rest → most < length held + line_len rest
-    → remaining_tokens u most Plain o l held room rest ≡ record { sort = Broken LineLong; bytes = []; line = l } ∷ []
+    → remaining_tokens u most Plain o l held room rest ≡ record { sort = Broken DefineLong; bytes = []; line = l } ∷ []
 unfolding remaining_tokens of_front onto_front
 remaining-logical_full u most o l held room rest h is some long =
     let n = line_len rest in
     let F = front most room rest in
     let broken_line : Breach → List SourceToken = λ k. record { sort = Broken k; bytes = []; line = l } ∷ [] in
-    let picked = ap (λ t. broken_line (cond t LineLong SourceLong)) (lt-ltb most (length held + n) long) in
-    let at_line : most < n → of_front u most o l held F ≡ broken_line LineLong = λ more.
+    let picked = ap (λ t. broken_line (cond t DefineLong DefineCut)) (lt-ltb most (length held + n) long) in
+    let at_line : most < n → of_front u most o l held F ≡ broken_line DefineLong = λ more.
     ap (of_front u most o l held) (front-line_long most room rest more) ∙ define_broken u most o l held rest (record { breach = LineLong; len = n }) h is ∙ picked in
-    let at_source : n ≤ most → room < n → of_front u most o l held F ≡ broken_line LineLong = λ fits much.
+    let at_source : n ≤ most → room < n → of_front u most o l held F ≡ broken_line DefineLong = λ fits much.
     ap (of_front u most o l held) (front-source_long most room rest fits much) ∙ define_broken u most o l held rest (record { breach = SourceLong; len = n }) h is ∙ picked in
-    let accepted : n ≤ most → n ≤ room → of_front u most o l held F ≡ broken_line LineLong = λ fits within.
+    let accepted : n ≤ most → n ≤ room → of_front u most o l held F ≡ broken_line DefineLong = λ fits within.
     let w = take n rest in
     let r = drop n rest in
     let size : length w ≡ n = length-take-le n rest (line_len-le rest) in
@@ -173,12 +160,12 @@ remaining-logical_full u most o l held room rest h is some long =
 
 -- a `define` in whose logical line a line is too much for the source
 pub remaining-logical_source : (u : List ℕ → Bool) (most o l : ℕ) (held : List ℕ) (room : ℕ) (rest : List ℕ) → HoldsDefine u held rest → logical_len 0 0 held ≡ None → length held + line_len rest ≤ most → room < line_len rest
-    → remaining_tokens u most Plain o l held room rest ≡ record { sort = Broken SourceLong; bytes = []; line = l } ∷ []
+    → remaining_tokens u most Plain o l held room rest ≡ record { sort = Broken DefineCut; bytes = []; line = l } ∷ []
 unfolding remaining_tokens of_front
 remaining-logical_source u most o l held room rest h is fits much =
     let n = line_len rest in
     ap (of_front u most o l held) (front-source_long most room rest (omega arith) much) ∙ define_broken u most o l held rest (record { breach = SourceLong; len = n }) h is
-    ∙ ap (λ t. record { sort = Broken (cond t LineLong SourceLong); bytes = []; line = l } ∷ []) (le-ltb most (length held + n) fits)
+    ∙ ap (λ t. record { sort = Broken (cond t DefineLong DefineCut); bytes = []; line = l } ∷ []) (le-ltb most (length held + n) fits)
 
 -- a `define` at the end of a source
 pub remaining-logical_last : (u : List ℕ → Bool) (most o l : ℕ) (held : List ℕ) (room : ℕ) → HoldsDefine u held [] → logical_len 0 0 held ≡ None → length held ≤ most
@@ -190,6 +177,16 @@ remaining-logical_last u most o l held room h is fits =
     let tok : SourceToken = record { sort = Definition; bytes = held; line = l } in
     ap (of_front u most o l held) (front-none most room) ∙ ap (source_tokens c Plain o l 0) (append-nil held)
     ∙ step-logical_last c o l held (record { some = h.some; ends = none; built = h.built [] none; kind = h.kind; word = h.word }) is refl fits
+
+-- a `define` at the end of a source, which is too long
+pub remaining-logical_last_long : (u : List ℕ → Bool) (most o l : ℕ) (held : List ℕ) (room : ℕ) → HoldsDefine u held [] → logical_len 0 0 held ≡ None → most < length held
+    → remaining_tokens u most Plain o l held room [] ≡ record { sort = Broken DefineLong; bytes = []; line = l } ∷ []
+unfolding remaining_tokens of_front
+remaining-logical_last_long u most o l held room h is long =
+    let c : Course = record { unbuilt = u; most = most; break = None } in
+    let none : EndsLine held [] = inr refl in
+    ap (of_front u most o l held) (front-none most room) ∙ ap (source_tokens c Plain o l 0) (append-nil held)
+    ∙ step-logical_last_long c o l held (record { some = h.some; ends = none; built = h.built [] none; kind = h.kind; word = h.word }) is refl long
 
 -- a `line` with its line
 pub remaining-line : (u : List ℕ → Bool) (most o l : ℕ) (held : List ℕ) (room : ℕ) (rest : List ℕ) → 0 < length held → EndsLine held rest → IsBuiltAt u Plain held → (token_of Plain held).kind ≡ Back

@@ -1,5 +1,5 @@
 -- Texts that end at a line end.
-use Rattle.std.proofs.Common.{◌≡◌, ℕ, zero, suc, ◌+◌, ◌≤◌, Bool, true, false, cond, List, [], ◌∷◌, ◌++◌, length, take, drop, refl, sym, ap, ◌∙◌, subst, inl, inr, ⊎_elim, arith}
+use Rattle.std.proofs.Common.{◌≡◌, ℕ, zero, suc, ◌+◌, ◌<◌, ◌≤◌, Bool, true, false, cond, List, [], ◌∷◌, ◌++◌, length, take, drop, refl, sym, ap, ◌∙◌, subst, inl, inr, ⊎_elim, arith}
 use Rattle.std.proofs.lemmas.List.{length-append, length-take-le}
 use Rattle.rdlpp_scan.specs.Bytes.{is_line_end}
 use Rattle.rdlpp_scan.specs.Lines.{whole_lines_len, onto_whole_lines, IsWholeLines, EndsLine}
@@ -75,3 +75,11 @@ EndsLine-drop n bs rest = ⊎_elim (λ h. inl (IsWholeLines-drop n bs h)) (λ h.
 -- without its first byte
 pub EndsLine-rest : (b : ℕ) (bs rest : List ℕ) → EndsLine (b ∷ bs) rest → EndsLine bs rest
 EndsLine-rest b bs rest = ⊎_elim (λ h. inl (IsWholeLines-rest b bs h)) (λ h. inr h)
+
+-- a byte in front of whole lines
+pub whole_one : (b : ℕ) (bs : List ℕ) → IsWholeLines bs → 0 < length bs → IsWholeLines (b ∷ bs)
+unfolding whole_lines_len onto_whole_lines
+whole_one b bs h some =
+    let P : ℕ → Type 0 = λ n. n ≡ length bs → onto_whole_lines b n ≡ suc (length bs) in
+    let none : P zero = λ e. absurd (omega arith) in
+    elim (whole_lines_len bs) as P [ zero ↦ none | suc n ↦ λ e. omega arith ] h

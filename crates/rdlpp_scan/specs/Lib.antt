@@ -9,3 +9,4 @@ pub mod Pieces
 pub mod Resumed
 pub mod Ordinary
 pub mod Stage
+pub mod Defines

@@ -11,16 +11,20 @@ ghost use Rattle.std.specs.Prelude.{
   ℕ,
   Bool,
   List,
+  None,
   Some,
   length,
   take,
   drop,
+  slice_index,
 };
+ghost use Rattle.std.specs.Option.{option_map};
 ghost use Rattle.std.specs.List.{concat};
 ghost use Rattle.rdlpp_scan.specs.declared.token.Mode.{Mode};
 ghost use Rattle.rdlpp_scan.specs.declared.token.Mode.TheVariants.{InBlock, InStr, Plain};
-ghost use Rattle.rdlpp_scan.specs.Front.{LineLong, SourceLong};
-ghost use Rattle.rdlpp_scan.specs.Lines.{EndsLine};
+ghost use Rattle.rdlpp_scan.specs.Defines.{HoldsDefine};
+ghost use Rattle.rdlpp_scan.specs.Front.{DefineCut, DefineLong, LineLong, SourceLong};
+ghost use Rattle.rdlpp_scan.specs.Lines.{EndsLine, IsWholeLines};
 ghost use Rattle.rdlpp_scan.specs.Ordinary.{IsEdge, IsOrdinary, SparesOrdinary};
 ghost use Rattle.rdlpp_scan.specs.Pieces.{
   AreCuts,
@@ -34,8 +38,10 @@ ghost use Rattle.rdlpp_scan.specs.Resumed.{onto_tokens};
 ghost use Rattle.rdlpp_scan.specs.SourceTokens.{
   Broken,
   Course,
+  Definition,
   line_ends,
   line_len,
+  logical_len,
   remaining_tokens,
   source_tokens,
 };
@@ -110,4 +116,68 @@ pub fn open_token()
         → remaining_tokens unbuilt most InBlock opened line held room rest
         ≡ onto_tokens held line
         (remaining_tokens unbuilt most InBlock opened (line + line_ends held) [] room rest) }
+{}
+
+/// The first logical line of a text, where more is taken in behind what is held.
+///
+/// # Rules
+///
+/// A logical line (IEEE 1364-2001, `define`) that is found has its LF, and stays so with anything
+/// behind it. Where none is found, the search goes on behind what is held with the last two bytes of
+/// that, and behind whole lines as at its beginning.
+pub fn continued_lines()
+    ensures found { (bytes : List ℕ) (n : ℕ) → logical_len 0 0 bytes ≡ Some n
+        → (0 < n) × ((n ≤ length bytes) × IsWholeLines (take n bytes)) }
+    ensures stays { (bytes more : List ℕ) (n : ℕ) → logical_len 0 0 bytes ≡ Some n
+        → logical_len 0 0 (bytes ++ more) ≡ Some n }
+    ensures goes_on { (held more : List ℕ) → logical_len 0 0 held ≡ None
+        → logical_len 0 0 (held ++ more) ≡ option_map (λ n. length held + n)
+        (logical_len (slice_index (0 ∷ 0 ∷ held) (length held))
+        (slice_index (0 ∷ 0 ∷ held) (length held + 1)) more) }
+    ensures behind_lines { (held more : List ℕ) → IsWholeLines held → logical_len 0 0 held ≡ None
+        → logical_len 0 0 (held ++ more)
+        ≡ option_map (λ n. length held + n) (logical_len 0 0 more) }
+{}
+
+/// A `define` at the front of what is held of a source.
+///
+/// # Rules
+///
+/// Its logical line (IEEE 1364-2001, `define`) gives one token with those bytes, and then come the
+/// tokens of the rest, where it ends in what is held, or where nothing is left of the source. One
+/// that has more than `most` bytes, or would with its next line, is broken as too long; else one
+/// whose next line has more than `room` bytes is broken as cut (this project's profile). Where it
+/// goes on with a line that the limits accept, that line is taken in first.
+pub fn define_token()
+    ensures ends { (unbuilt : List ℕ → Bool) (most opened line : ℕ) (held : List ℕ) (room : ℕ)
+        (rest : List ℕ) (n : ℕ) → HoldsDefine unbuilt held rest → logical_len 0 0 held ≡ Some n
+        → n ≤ most → remaining_tokens unbuilt most Plain opened line held room rest
+        ≡ record { sort = Definition; bytes = take n held; line = line }
+        ∷ remaining_tokens unbuilt most Plain line (line + line_ends (take n held))
+        (drop n held) room rest }
+    ensures long { (unbuilt : List ℕ → Bool) (most opened line : ℕ) (held : List ℕ) (room : ℕ)
+        (rest : List ℕ) (n : ℕ) → HoldsDefine unbuilt held rest → logical_len 0 0 held ≡ Some n
+        → most < n → remaining_tokens unbuilt most Plain opened line held room rest
+        ≡ record { sort = Broken DefineLong; bytes = []; line = line } ∷ [] }
+    ensures more { (unbuilt : List ℕ → Bool) (held w rest : List ℕ)
+        → HoldsDefine unbuilt held (w ++ rest) → 0 < length w → EndsLine w rest
+        → HoldsDefine unbuilt (held ++ w) rest }
+    ensures full { (unbuilt : List ℕ → Bool) (most opened line : ℕ) (held : List ℕ) (room : ℕ)
+        (rest : List ℕ) → HoldsDefine unbuilt held rest → logical_len 0 0 held ≡ None
+        → 0 < length rest → most < length held + line_len rest
+        → remaining_tokens unbuilt most Plain opened line held room rest
+        ≡ record { sort = Broken DefineLong; bytes = []; line = line } ∷ [] }
+    ensures cut { (unbuilt : List ℕ → Bool) (most opened line : ℕ) (held : List ℕ) (room : ℕ)
+        (rest : List ℕ) → HoldsDefine unbuilt held rest → logical_len 0 0 held ≡ None
+        → length held + line_len rest ≤ most → room < line_len rest
+        → remaining_tokens unbuilt most Plain opened line held room rest
+        ≡ record { sort = Broken DefineCut; bytes = []; line = line } ∷ [] }
+    ensures last { (unbuilt : List ℕ → Bool) (most opened line : ℕ) (held : List ℕ) (room : ℕ)
+        → HoldsDefine unbuilt held [] → logical_len 0 0 held ≡ None → length held ≤ most
+        → remaining_tokens unbuilt most Plain opened line held room []
+        ≡ record { sort = Definition; bytes = held; line = line } ∷ [] }
+    ensures last_long { (unbuilt : List ℕ → Bool) (most opened line : ℕ) (held : List ℕ) (room : ℕ)
+        → HoldsDefine unbuilt held [] → logical_len 0 0 held ≡ None → most < length held
+        → remaining_tokens unbuilt most Plain opened line held room []
+        ≡ record { sort = Broken DefineLong; bytes = []; line = line } ∷ [] }
 {}
