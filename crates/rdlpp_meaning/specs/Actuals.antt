@@ -1,5 +1,5 @@
 -- The actuals of a call: what stands between its parentheses, by the role that each thing has in a call.
-use Rattle.std.specs.Prelude.{ℕ, zero, suc, ◌-◌, Bool, true, false, ◌==◌, nat_le, List, [], ◌∷◌, reverse, length, drop, slice_index, Option, None, Some, if◌then◌else◌}
+use Rattle.std.specs.Prelude.{ℕ, zero, suc, ◌-◌, Bool, true, false, ◌==◌, nat_le, List, [], ◌∷◌, map, reverse, length, drop, slice_index, Option, None, Some, if◌then◌else◌}
 use Rattle.std.specs.List.{prefix_len}
 use Rattle.rdlpp_scan.specs.declared.token.Kind.{Kind}
 use Rattle.rdlpp_scan.specs.declared.token.Kind.TheVariants.{Blank, LineEnd, LineComment, BlockComment, Opener, Closer, Comma}
@@ -22,6 +22,12 @@ pub data Call (A : Type 0) : Type 0 where
   Lacking : FaultKind → Call A
   Broke : FaultKind → ℕ → Call A
   Bound : List A → List (List A) → ℕ → Call A
+
+-- a call of what things become
+unfoldable pub map_call : {A B : Type 0} → (A → B) → Call A → Call B
+map_call f (Lacking k) = Lacking k
+map_call f (Broke k line) = Broke k line
+map_call f (Bound first further used) = Bound (map f first) (map (map f) further) used
 
 -- a thing that is passed over in front of a call
 unfoldable pub passed : {A : Type 0} → Call A → Call A
