@@ -9,7 +9,7 @@ use Rattle.rdlpp_scan.specs.declared.token.Kind.TheVariants.{Back}
 use Rattle.rdlpp_scan.specs.declared.token.Mode.TheVariants.{Plain}
 use Rattle.rdlpp_scan.specs.Bytes.{is_line_end}
 use Rattle.rdlpp_scan.specs.Tokens.{token_of}
-use Rattle.rdlpp_scan.specs.Front.{Breach, LineLong, SourceLong, Break}
+use Rattle.rdlpp_scan.specs.Front.{Breach, DefineLong, DefineCut, Break}
 use Rattle.rdlpp_scan.specs.SourceTokens.{SourceToken, Course, Step, Next, Ordinary, Definition, Renumbering, Broken, broken, define_step, is_continued, line_step, line_ends, line_len, logical_len, source_step, source_tokens}
 use Rattle.rdlpp_scan.specs.Lines.{EndsLine}
 use Rattle.rdlpp_scan.proofs.LineLaws.{line_len-append, line_len-some, logical_len-append, some_suc, none_suc}
@@ -62,31 +62,31 @@ define_here c o l held more d =
     let other = cond (bytes_eq (take t.len held) (codes "`line")) (line_step l (held ++ more)) (Next (record { sort = Ordinary Back; bytes = take t.len held; line = l })) in
     back_held c o l held more d.some d.ends d.built d.kind ∙ ap (λ b. cond b (define_step c l (held ++ more)) other) d.word
 
-define_long : (c : Course) (l : ℕ) (bs : List ℕ) (n : ℕ) → logical_len 0 0 bs ≡ Some n → c.most < n → define_step c l bs ≡ broken LineLong [] l
+define_long : (c : Course) (l : ℕ) (bs : List ℕ) (n : ℕ) → logical_len 0 0 bs ≡ Some n → c.most < n → define_step c l bs ≡ broken DefineLong [] l
 unfolding define_step
 define_long c l bs n is long =
     let open_text : Step = elim c.break [
-      | None ↦ cond (ltb c.most (length bs)) (broken LineLong [] l) (Next (record { sort = Definition; bytes = bs; line = l }))
-      | Some k ↦ cond (ltb c.most (length bs + k.len)) (broken LineLong [] l) (broken SourceLong [] l)
+      | None ↦ cond (ltb c.most (length bs)) (broken DefineLong [] l) (Next (record { sort = Definition; bytes = bs; line = l }))
+      | Some k ↦ cond (ltb c.most (length bs + k.len)) (broken DefineLong [] l) (broken DefineCut [] l)
     ] in
     ap (λ (o : Option ℕ). elim o [
-      | Some m ↦ cond (ltb c.most m) (broken LineLong [] l) (Next (record { sort = Definition; bytes = take m bs; line = l }))
+      | Some m ↦ cond (ltb c.most m) (broken DefineLong [] l) (Next (record { sort = Definition; bytes = take m bs; line = l }))
       | None ↦ open_text
-    ]) is ∙ ap (λ t. cond t (broken LineLong [] l) (Next (record { sort = Definition; bytes = take n bs; line = l }))) (lt-ltb c.most n long)
+    ]) is ∙ ap (λ t. cond t (broken DefineLong [] l) (Next (record { sort = Definition; bytes = take n bs; line = l }))) (lt-ltb c.most n long)
 
 -- what a `define` gives whose logical line doesn't end in the text, by what breaks the source behind it
 at_break : Course → ℕ → List ℕ → Option Break → Step
-at_break c l bs None = cond (ltb c.most (length bs)) (broken LineLong [] l) (Next (record { sort = Definition; bytes = bs; line = l }))
-at_break c l bs (Some k) = cond (ltb c.most (length bs + k.len)) (broken LineLong [] l) (broken SourceLong [] l)
+at_break c l bs None = cond (ltb c.most (length bs)) (broken DefineLong [] l) (Next (record { sort = Definition; bytes = bs; line = l }))
+at_break c l bs (Some k) = cond (ltb c.most (length bs + k.len)) (broken DefineLong [] l) (broken DefineCut [] l)
 
 define_open : (c : Course) (l : ℕ) (bs : List ℕ) → logical_len 0 0 bs ≡ None → define_step c l bs ≡ at_break c l bs c.break
 unfolding define_step at_break
 define_open c l bs is =
     ap (λ (o : Option ℕ). elim o [
-      | Some m ↦ cond (ltb c.most m) (broken LineLong [] l) (Next (record { sort = Definition; bytes = take m bs; line = l }))
+      | Some m ↦ cond (ltb c.most m) (broken DefineLong [] l) (Next (record { sort = Definition; bytes = take m bs; line = l }))
       | None ↦ elim c.break [
-        | None ↦ cond (ltb c.most (length bs)) (broken LineLong [] l) (Next (record { sort = Definition; bytes = bs; line = l }))
-        | Some k ↦ cond (ltb c.most (length bs + k.len)) (broken LineLong [] l) (broken SourceLong [] l)
+        | None ↦ cond (ltb c.most (length bs)) (broken DefineLong [] l) (Next (record { sort = Definition; bytes = bs; line = l }))
+        | Some k ↦ cond (ltb c.most (length bs + k.len)) (broken DefineLong [] l) (broken DefineCut [] l)
       ]
     ]) is
 
@@ -106,25 +106,25 @@ step-logical c o l held more n d is fits =
 
 -- a `define` whose logical line is too long
 pub step-logical_long : (c : Course) (o l : ℕ) (held more : List ℕ) (n : ℕ) → BeginsDefine c held more → logical_len 0 0 held ≡ Some n → c.most < n
-    → source_tokens c Plain o l 0 (held ++ more) ≡ record { sort = Broken LineLong; bytes = []; line = l } ∷ []
+    → source_tokens c Plain o l 0 (held ++ more) ≡ record { sort = Broken DefineLong; bytes = []; line = l } ∷ []
 step-logical_long c o l held more n d is long =
-    broken_here c o l held more LineLong d.some (define_here c o l held more d ∙ define_long c l (held ++ more) n (logical_len-append 0 0 held more n is) long)
+    broken_here c o l held more DefineLong d.some (define_here c o l held more d ∙ define_long c l (held ++ more) n (logical_len-append 0 0 held more n is) long)
 
 -- a `define` whose logical line goes on, and is too long with the next line
 pub step-logical_full : (c : Course) (o l : ℕ) (held more : List ℕ) → BeginsDefine c held more → logical_len 0 0 held ≡ None → 0 < length more → c.most < length held + line_len more
-    → source_tokens c Plain o l 0 (held ++ more) ≡ record { sort = Broken LineLong; bytes = []; line = l } ∷ []
+    → source_tokens c Plain o l 0 (held ++ more) ≡ record { sort = Broken DefineLong; bytes = []; line = l } ∷ []
 unfolding at_break
 step-logical_full c o l held more d is some long =
     let bs = held ++ more in
     let size = length-append held more in
     let line = line_len-le more in
-    let P : Option ℕ → Type 0 = λ r. logical_len 0 0 bs ≡ r → define_step c l bs ≡ broken LineLong [] l in
+    let P : Option ℕ → Type 0 = λ r. logical_len 0 0 bs ≡ r → define_step c l bs ≡ broken DefineLong [] l in
     let ended : (n : ℕ) → P (Some n) = λ n e. define_long c l bs n e (omega (arith, logical_len-beyond 0 0 held more n is e)) in
-    let goes : P None = λ e. define_open c l bs e ∙ elim c.break as (λ b. at_break c l bs b ≡ broken LineLong [] l) [
-      | None ↦ ap (λ t. cond t (broken LineLong [] l) (Next (record { sort = Definition; bytes = bs; line = l }))) (lt-ltb c.most (length bs) (omega arith))
-      | Some k ↦ ap (λ t. cond t (broken LineLong [] l) (broken SourceLong [] l)) (lt-ltb c.most (length bs + k.len) (omega arith))
+    let goes : P None = λ e. define_open c l bs e ∙ elim c.break as (λ b. at_break c l bs b ≡ broken DefineLong [] l) [
+      | None ↦ ap (λ t. cond t (broken DefineLong [] l) (Next (record { sort = Definition; bytes = bs; line = l }))) (lt-ltb c.most (length bs) (omega arith))
+      | Some k ↦ ap (λ t. cond t (broken DefineLong [] l) (broken DefineCut [] l)) (lt-ltb c.most (length bs + k.len) (omega arith))
     ] in
-    broken_here c o l held more LineLong d.some (define_here c o l held more d ∙ elim (logical_len 0 0 bs) as P [ Some n ↦ ended n | None ↦ goes ] refl)
+    broken_here c o l held more DefineLong d.some (define_here c o l held more d ∙ elim (logical_len 0 0 bs) as P [ Some n ↦ ended n | None ↦ goes ] refl)
 
 -- a `define` at the end of a source
 pub step-logical_last : (c : Course) (o l : ℕ) (held : List ℕ) → BeginsDefine c held [] → logical_len 0 0 held ≡ None → c.break ≡ None → length held ≤ c.most
@@ -141,26 +141,26 @@ step-logical_last c o l held d is last fits =
 
 -- a `define` at the end of a source, which is too long
 pub step-logical_last_long : (c : Course) (o l : ℕ) (held : List ℕ) → BeginsDefine c held [] → logical_len 0 0 held ≡ None → c.break ≡ None → c.most < length held
-    → source_tokens c Plain o l 0 held ≡ record { sort = Broken LineLong; bytes = []; line = l } ∷ []
+    → source_tokens c Plain o l 0 held ≡ record { sort = Broken DefineLong; bytes = []; line = l } ∷ []
 unfolding at_break
 step-logical_last_long c o l held d is last long =
     let bare = append-nil held in
     let tok : Step = Next (record { sort = Definition; bytes = held; line = l }) in
     ap (source_tokens c Plain o l 0) (sym bare)
-    ∙ broken_here c o l held [] LineLong d.some
-    (define_here c o l held [] d ∙ ap (define_step c l) bare ∙ define_open c l held is ∙ ap (at_break c l held) last ∙ ap (λ t. cond t (broken LineLong [] l) tok) (lt-ltb c.most (length held) long))
+    ∙ broken_here c o l held [] DefineLong d.some
+    (define_here c o l held [] d ∙ ap (define_step c l) bare ∙ define_open c l held is ∙ ap (at_break c l held) last ∙ ap (λ t. cond t (broken DefineLong [] l) tok) (lt-ltb c.most (length held) long))
 
 -- a `define` in whose logical line a source breaks
 pub step-logical_broken : (c : Course) (o l : ℕ) (held : List ℕ) (k : Break) → BeginsDefine c held [] → logical_len 0 0 held ≡ None → c.break ≡ Some k
-    → source_tokens c Plain o l 0 held ≡ record { sort = Broken (cond (ltb c.most (length held + k.len)) LineLong SourceLong); bytes = []; line = l } ∷ []
+    → source_tokens c Plain o l 0 held ≡ record { sort = Broken (cond (ltb c.most (length held + k.len)) DefineLong DefineCut); bytes = []; line = l } ∷ []
 unfolding at_break
 step-logical_broken c o l held k d is breaks =
     let bare = append-nil held in
     let long = ltb c.most (length held + k.len) in
-    let picked : cond long (broken LineLong [] l) (broken SourceLong [] l) ≡ broken (cond long LineLong SourceLong) [] l =
-    elim long as (λ t. cond t (broken LineLong [] l) (broken SourceLong [] l) ≡ broken (cond t LineLong SourceLong) [] l) [ true ↦ refl | false ↦ refl ] in
+    let picked : cond long (broken DefineLong [] l) (broken DefineCut [] l) ≡ broken (cond long DefineLong DefineCut) [] l =
+    elim long as (λ t. cond t (broken DefineLong [] l) (broken DefineCut [] l) ≡ broken (cond t DefineLong DefineCut) [] l) [ true ↦ refl | false ↦ refl ] in
     ap (source_tokens c Plain o l 0) (sym bare)
-    ∙ broken_here c o l held [] (cond long LineLong SourceLong) d.some
+    ∙ broken_here c o l held [] (cond long DefineLong DefineCut) d.some
     (define_here c o l held [] d ∙ ap (define_step c l) bare ∙ define_open c l held is ∙ ap (at_break c l held) breaks ∙ picked)
 
 -- a `line` with its line

@@ -8,7 +8,7 @@ use Rattle.rdlpp_scan.specs.declared.token.Mode.{Mode}
 use Rattle.rdlpp_scan.specs.declared.token.Mode.TheVariants.{Plain, InStr, InBlock}
 use Rattle.rdlpp_scan.specs.Bytes.{is_line_end}
 use Rattle.rdlpp_scan.specs.Tokens.{token_of}
-use Rattle.rdlpp_scan.specs.Front.{Breach, LineLong, SourceLong, PerlFound, Break, Front, front, onto_front}
+use Rattle.rdlpp_scan.specs.Front.{Breach, LineLong, SourceLong, DefineLong, DefineCut, PerlFound, Break, Front, front, onto_front}
 use Rattle.rdlpp_scan.specs.SourceTokens.{Course, SourceToken, source_end, source_tokens, Ordinary, Definition, Renumbering, Broken, line_ends, line_len, logical_len, remaining_tokens}
 use Rattle.rdlpp_scan.specs.Lines.{EndsLine, IsWholeLines, whole_lines_len, onto_whole_lines}
 use Rattle.rdlpp_scan.specs.Resumed.{onto_tokens}
@@ -89,7 +89,7 @@ remaining-logical u most o l held room rest n h is fits =
 
 -- a `define` whose logical line is too long
 pub remaining-logical_long : (u : List ℕ → Bool) (most o l : ℕ) (held : List ℕ) (room : ℕ) (rest : List ℕ) (n : ℕ) → HoldsDefine u held rest → logical_len 0 0 held ≡ Some n → most < n
-    → remaining_tokens u most Plain o l held room rest ≡ record { sort = Broken LineLong; bytes = []; line = l } ∷ []
+    → remaining_tokens u most Plain o l held room rest ≡ record { sort = Broken DefineLong; bytes = []; line = l } ∷ []
 unfolding remaining_tokens
 remaining-logical_long u most o l held room rest n h is long =
     step-logical_long (course u most room rest) o l held (front most room rest).text n (begins u most held room rest h) is long
@@ -138,7 +138,7 @@ of_front u most o l held f = source_tokens (record { unbuilt = u; most = most; b
 
 -- a `define` in front of a broken line
 define_broken : (u : List ℕ → Bool) (most o l : ℕ) (held rest : List ℕ) (k : Break) → HoldsDefine u held rest → logical_len 0 0 held ≡ None
-    → of_front u most o l held (record { text = []; break = Some k }) ≡ record { sort = Broken (cond (ltb most (length held + k.len)) LineLong SourceLong); bytes = []; line = l } ∷ []
+    → of_front u most o l held (record { text = []; break = Some k }) ≡ record { sort = Broken (cond (ltb most (length held + k.len)) DefineLong DefineCut); bytes = []; line = l } ∷ []
 unfolding of_front
 define_broken u most o l held rest k h is =
     let c : Course = record { unbuilt = u; most = most; break = Some k } in
@@ -148,18 +148,18 @@ define_broken u most o l held rest k h is =
 
 -- a `define` whose logical line goes on, and is too long with the next physical line
 pub remaining-logical_full : (u : List ℕ → Bool) (most o l : ℕ) (held : List ℕ) (room : ℕ) (rest : List ℕ) → HoldsDefine u held rest → logical_len 0 0 held ≡ None → 0 < length rest → most < length held + line_len rest
-    → remaining_tokens u most Plain o l held room rest ≡ record { sort = Broken LineLong; bytes = []; line = l } ∷ []
+    → remaining_tokens u most Plain o l held room rest ≡ record { sort = Broken DefineLong; bytes = []; line = l } ∷ []
 unfolding remaining_tokens of_front onto_front
 remaining-logical_full u most o l held room rest h is some long =
     let n = line_len rest in
     let F = front most room rest in
     let broken_line : Breach → List SourceToken = λ k. record { sort = Broken k; bytes = []; line = l } ∷ [] in
-    let picked = ap (λ t. broken_line (cond t LineLong SourceLong)) (lt-ltb most (length held + n) long) in
-    let at_line : most < n → of_front u most o l held F ≡ broken_line LineLong = λ more.
+    let picked = ap (λ t. broken_line (cond t DefineLong DefineCut)) (lt-ltb most (length held + n) long) in
+    let at_line : most < n → of_front u most o l held F ≡ broken_line DefineLong = λ more.
     ap (of_front u most o l held) (front-line_long most room rest more) ∙ define_broken u most o l held rest (record { breach = LineLong; len = n }) h is ∙ picked in
-    let at_source : n ≤ most → room < n → of_front u most o l held F ≡ broken_line LineLong = λ fits much.
+    let at_source : n ≤ most → room < n → of_front u most o l held F ≡ broken_line DefineLong = λ fits much.
     ap (of_front u most o l held) (front-source_long most room rest fits much) ∙ define_broken u most o l held rest (record { breach = SourceLong; len = n }) h is ∙ picked in
-    let accepted : n ≤ most → n ≤ room → of_front u most o l held F ≡ broken_line LineLong = λ fits within.
+    let accepted : n ≤ most → n ≤ room → of_front u most o l held F ≡ broken_line DefineLong = λ fits within.
     let w = take n rest in
     let r = drop n rest in
     let size : length w ≡ n = length-take-le n rest (line_len-le rest) in
@@ -173,12 +173,12 @@ remaining-logical_full u most o l held room rest h is some long =
 
 -- a `define` in whose logical line a line is too much for the source
 pub remaining-logical_source : (u : List ℕ → Bool) (most o l : ℕ) (held : List ℕ) (room : ℕ) (rest : List ℕ) → HoldsDefine u held rest → logical_len 0 0 held ≡ None → length held + line_len rest ≤ most → room < line_len rest
-    → remaining_tokens u most Plain o l held room rest ≡ record { sort = Broken SourceLong; bytes = []; line = l } ∷ []
+    → remaining_tokens u most Plain o l held room rest ≡ record { sort = Broken DefineCut; bytes = []; line = l } ∷ []
 unfolding remaining_tokens of_front
 remaining-logical_source u most o l held room rest h is fits much =
     let n = line_len rest in
     ap (of_front u most o l held) (front-source_long most room rest (omega arith) much) ∙ define_broken u most o l held rest (record { breach = SourceLong; len = n }) h is
-    ∙ ap (λ t. record { sort = Broken (cond t LineLong SourceLong); bytes = []; line = l } ∷ []) (le-ltb most (length held + n) fits)
+    ∙ ap (λ t. record { sort = Broken (cond t DefineLong DefineCut); bytes = []; line = l } ∷ []) (le-ltb most (length held + n) fits)
 
 -- a `define` at the end of a source
 pub remaining-logical_last : (u : List ℕ → Bool) (most o l : ℕ) (held : List ℕ) (room : ℕ) → HoldsDefine u held [] → logical_len 0 0 held ≡ None → length held ≤ most

@@ -4,7 +4,7 @@ use Rattle.std.specs.Prelude.{codes}
 use Rattle.rdlpp_scan.specs.declared.token.Kind.TheVariants.{Name, Back, Blank, LineEnd, Str, BlockComment, Opener, Closer, Other}
 use Rattle.rdlpp_scan.specs.Bytes.{is_blank, is_line_end, is_letter, is_digit, is_word, is_opener, is_closer, takes_word, begins_perl, begins_line_comment, begins_block_comment, ends_block_comment}
 use Rattle.rdlpp_scan.specs.Tokens.{token_of, plain_token, string_token, block_token, whole, string_stop, first_place}
-use Rattle.rdlpp_scan.specs.Front.{PerlFound, StringOpen, CommentOpen, LineLong, SourceLong, Unbuilt, front, front_of_lines, lines_of, onto_first, onto_front}
+use Rattle.rdlpp_scan.specs.Front.{PerlFound, StringOpen, CommentOpen, LineLong, SourceLong, DefineLong, DefineCut, Unbuilt, front, front_of_lines, lines_of, onto_first, onto_front}
 use Rattle.rdlpp_scan.specs.SourceTokens.{Sort, SourceToken, Ordinary, Definition, Renumbering, Broken, whole_tokens, remaining_tokens, source_tokens, source_step, source_end, step_by, string_step, comment_step, back_step, define_step, line_step, open_end, broken, line_ends, line_after, logical_len, is_continued, line_len}
 use Rattle.rdlpp_scan.specs.Stage.{is_unbuilt, is_unbuilt_directive, is_reserved, reserved_names, name_behind, is_unbuilt_in_define}
 
@@ -80,11 +80,11 @@ record Rows : Type 0 where
   -- a `define` that a line breaks that is too long
   define_with_long_line :
       whole_tokens built 12 1000 (codes "`define A \\\nabcdefghijklm")
-      ≡ token (Broken LineLong) [] 1 ∷ []
+      ≡ token (Broken DefineLong) [] 1 ∷ []
   -- a `define` that a line breaks that is too much for the source
   define_at_source_end :
       whole_tokens built 40 14 (codes "`define A \\\nabcd\n")
-      ≡ token (Broken SourceLong) [] 1 ∷ []
+      ≡ token (Broken DefineCut) [] 1 ∷ []
   -- a string, at this stage of the project
   unbuilt_string :
       whole_tokens is_unbuilt 100 1000 (codes "a\"b\"")

@@ -14,7 +14,7 @@ use Rattle.rdlpp_scan.specs.declared.token.Mode.TheVariants.{Plain}
 use Rattle.rdlpp_scan.specs.declared.token.Token.{Token}
 use Rattle.rdlpp_scan.specs.Bytes.{is_line_end, is_word, is_letter, is_digit}
 use Rattle.rdlpp_scan.specs.Tokens.{token_of, whole}
-use Rattle.rdlpp_scan.specs.Front.{PerlFound, LineLong, SourceLong, Unbuilt, Break}
+use Rattle.rdlpp_scan.specs.Front.{PerlFound, DefineLong, DefineCut, Unbuilt, Break}
 use Rattle.rdlpp_scan.specs.SourceTokens.{SourceToken, Course, Step, Last, Next, Ordinary, Definition, Broken, broken, back_step, define_step, is_continued, line_ends, line_len, line_step, logical_len, source_step, source_tokens, step_by}
 use Rattle.rdlpp_scan.specs.Lines.{EndsLine, IsWholeLines, ended_line_len}
 use Rattle.rdlpp_scan.specs.Ordinary.{is_plain_kind}
@@ -292,13 +292,13 @@ unfolding define_step
 define_step-some c l bs n is fits =
     let tok : SourceToken = record { sort = Definition; bytes = take n bs; line = l } in
     let open_text : Step = elim c.break [
-      | None ↦ cond (ltb c.most (length bs)) (broken LineLong [] l) (Next (record { sort = Definition; bytes = bs; line = l }))
-      | Some k ↦ cond (ltb c.most (length bs + k.len)) (broken LineLong [] l) (broken SourceLong [] l)
+      | None ↦ cond (ltb c.most (length bs)) (broken DefineLong [] l) (Next (record { sort = Definition; bytes = bs; line = l }))
+      | Some k ↦ cond (ltb c.most (length bs + k.len)) (broken DefineLong [] l) (broken DefineCut [] l)
     ] in
     ap (λ (o : Option ℕ). elim o [
-      | Some m ↦ cond (ltb c.most m) (broken LineLong [] l) (Next (record { sort = Definition; bytes = take m bs; line = l }))
+      | Some m ↦ cond (ltb c.most m) (broken DefineLong [] l) (Next (record { sort = Definition; bytes = take m bs; line = l }))
       | None ↦ open_text
-    ]) is ∙ ap (λ t. cond t (broken LineLong [] l) (Next tok)) (le-ltb c.most n fits)
+    ]) is ∙ ap (λ t. cond t (broken DefineLong [] l) (Next tok)) (le-ltb c.most n fits)
 
 -- a `define` whose text ends
 pub define_step-none : (c : Course) (l : ℕ) (bs : List ℕ) → logical_len 0 0 bs ≡ None → c.break ≡ None → length bs ≤ c.most → define_step c l bs ≡ Next (record { sort = Definition; bytes = bs; line = l })
@@ -306,13 +306,13 @@ unfolding define_step
 define_step-none c l bs is last fits =
     let tok : SourceToken = record { sort = Definition; bytes = bs; line = l } in
     let at_end : Option Break → Step = λ k. elim k [
-      | None ↦ cond (ltb c.most (length bs)) (broken LineLong [] l) (Next tok)
-      | Some k ↦ cond (ltb c.most (length bs + k.len)) (broken LineLong [] l) (broken SourceLong [] l)
+      | None ↦ cond (ltb c.most (length bs)) (broken DefineLong [] l) (Next tok)
+      | Some k ↦ cond (ltb c.most (length bs + k.len)) (broken DefineLong [] l) (broken DefineCut [] l)
     ] in
     ap (λ (o : Option ℕ). elim o [
-      | Some m ↦ cond (ltb c.most m) (broken LineLong [] l) (Next (record { sort = Definition; bytes = take m bs; line = l }))
+      | Some m ↦ cond (ltb c.most m) (broken DefineLong [] l) (Next (record { sort = Definition; bytes = take m bs; line = l }))
       | None ↦ at_end c.break
-    ]) is ∙ ap at_end last ∙ ap (λ t. cond t (broken LineLong [] l) (Next tok)) (le-ltb c.most (length bs) fits)
+    ]) is ∙ ap at_end last ∙ ap (λ t. cond t (broken DefineLong [] l) (Next tok)) (le-ltb c.most (length bs) fits)
 
 -- a `define` with nothing unbuilt on its line takes that line
 define_line : (c : Course) (l : ℕ) (held more : List ℕ) → 0 < length held → IsWholeLines held ⊎ ((more ≡ []) × (c.break ≡ None))

@@ -7,7 +7,7 @@ use Rattle.rdlpp_scan.specs.declared.token.Mode.{Mode}
 use Rattle.rdlpp_scan.specs.declared.token.Mode.TheVariants.{Plain, InStr, InBlock}
 use Rattle.rdlpp_scan.specs.declared.token.Token.{Token}
 use Rattle.rdlpp_scan.specs.Bytes.{is_line_end}
-use Rattle.rdlpp_scan.specs.Front.{Breach, PerlFound, StringOpen, CommentOpen, LineLong, SourceLong, Unbuilt, Break, front}
+use Rattle.rdlpp_scan.specs.Front.{Breach, PerlFound, StringOpen, CommentOpen, DefineLong, DefineCut, Unbuilt, Break, front}
 use Rattle.rdlpp_scan.specs.Tokens.{token_of}
 
 -- what a token of a source is: one of the token table, a `define` with its logical line, a `line` with its line,
@@ -89,13 +89,13 @@ comment_step c opened line t bytes = let own = take t.len bytes in elim t.next_m
 -- a `define` with its logical line; broken where that is too long, or where the breaking line lies inside
 unfoldable pub define_step : Course → ℕ → List ℕ → Step
 define_step c line bytes = elim (logical_len 0 0 bytes) [
-  | Some n ↦ if nat_lt c.most n then broken LineLong [] line
+  | Some n ↦ if nat_lt c.most n then broken DefineLong [] line
       else Next (record { sort = Definition; bytes = take n bytes; line = line })
   | None ↦ elim c.break [
-    | None ↦ if nat_lt c.most (length bytes) then broken LineLong [] line
+    | None ↦ if nat_lt c.most (length bytes) then broken DefineLong [] line
         else Next (record { sort = Definition; bytes = bytes; line = line })
-    | Some k ↦ if nat_lt c.most (length bytes + k.len) then broken LineLong [] line
-        else broken SourceLong [] line
+    | Some k ↦ if nat_lt c.most (length bytes + k.len) then broken DefineLong [] line
+        else broken DefineCut [] line
   ]
 ]
 
