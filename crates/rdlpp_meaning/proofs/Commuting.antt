@@ -4,7 +4,7 @@ use Rattle.std.specs.Prelude.{nat_le}
 use Rattle.std.specs.List.{prefix_len}
 use Rattle.std.proofs.lemmas.List.{drop-map, map-append, reverse-append}
 use Rattle.rdlpp_meaning.specs.declared.fault.FaultKind.TheVariants.{ArgumentsMissing}
-use Rattle.rdlpp_meaning.specs.Actuals.{Role, Space, Dropped, Remark, Start, Up, End, Down, Cut, Text, Ends, Stops, Call, Lacking, Broke, Bound, passed, put, parted, level_behind, kept_size, heed, inside_call, call_of, is_space, behind_space, trimmed, map_call}
+use Rattle.rdlpp_meaning.specs.Actuals.{Role, Space, Dropped, Remark, Start, Up, End, Down, Cut, Halt, Text, Ends, Stops, Call, Lacking, Broke, Bound, passed, put, parted, level_behind, kept_size, heed, inside_call, call_of, is_space, behind_space, trimmed, map_call}
 
 -- a thing passed over
 passed-map : {A B : Type 0} (f : A → B) (c : Call A) → passed (map_call f c) ≡ map_call f (passed c)
@@ -33,6 +33,7 @@ heed-map : {A B : Type 0} (f : A → B) (r : Role) (k : ℕ) (fits : Bool) (x : 
 unfolding heed map_call
 heed-map f End zero fits x c = refl
 heed-map f Dropped k fits x c = passed-map f c
+heed-map f Halt k fits x c = refl
 heed-map f End (suc k) false x c = refl
 heed-map f Space k false x c = refl
 heed-map f Remark k false x c = refl

@@ -5,7 +5,7 @@ use Rattle.std.specs.List.{AllByRecursion, prefix_len}
 use Rattle.std.proofs.lemmas.List.{length-append, reverse-append}
 use Rattle.std.proofs.lemmas.Grind.{flat_map-append}
 use Rattle.rdlpp_scan.specs.SourceTokens.{SourceToken}
-use Rattle.rdlpp_meaning.specs.Actuals.{Role, Space, Dropped, Remark, Start, Up, End, Down, Cut, Text, Ends, Stops, Call, Lacking, Broke, Bound, passed, put, parted, level_behind, kept_size, heed, inside_call, call_of, is_space, behind_space, trimmed}
+use Rattle.rdlpp_meaning.specs.Actuals.{Role, Space, Dropped, Remark, Start, Up, End, Down, Cut, Halt, Text, Ends, Stops, Call, Lacking, Broke, Bound, passed, put, parted, level_behind, kept_size, heed, inside_call, call_of, is_space, behind_space, trimmed}
 use Rattle.rdlpp_meaning.specs.Expansion.{bytes_of}
 use Rattle.rdlpp_meaning.specs.CursorWork.{is_solid}
 use Rattle.rdlpp_meaning.proofs.Commuting.{call_by, call_is}
@@ -148,6 +148,7 @@ heed-within : (r : Role) (k : ℕ) (fits : Bool) (x : SourceToken) (n : ℕ) (c 
 unfolding heed CallWithin
 heed-within End zero fits x n c e h = (nil-within (length x.bytes + n), tt)
 heed-within Dropped k fits x n c e h = passed-within x n c h
+heed-within Halt k fits x n c e h = tt
 heed-within End (suc k) false x n c e h = tt
 heed-within Space k false x n c e h = tt
 heed-within Remark k false x n c e h = tt
