@@ -11,7 +11,7 @@ use Rattle.rdlpp_meaning.specs.declared.fault.FaultKind.TheVariants.{UndefinedMa
 use Rattle.rdlpp_meaning.specs.Outcome.{Outcome, fails, and_then}
 use Rattle.rdlpp_meaning.specs.State.{Rules, State, fault_at}
 use Rattle.rdlpp_meaning.specs.Items.{Item, Written, Arg}
-use Rattle.rdlpp_meaning.specs.Actuals.{Role, Space, Dropped, Remark, Start, Up, End, Down, Cut, Text, Ends, Stops, Call, Lacking, Broke, Bound, passed, put, parted, level_behind, kept_size, heed, inside_call, call_of, trimmed, item_role, item_size}
+use Rattle.rdlpp_meaning.specs.Actuals.{Role, Space, Dropped, Remark, Start, Up, End, Down, Cut, Halt, Text, Ends, Stops, Call, Lacking, Broke, Bound, passed, put, parted, level_behind, kept_size, heed, inside_call, call_of, trimmed, item_role, item_size}
 use Rattle.rdlpp_meaning.specs.Substitution.{substituted}
 use Rattle.rdlpp_meaning.specs.Expansion.{Usage, Refuses, Opens, is_count, usage_of_call, usage_of_formals, usage_of_macro, usage_of, walk, run_outcome, usage_token, bytes_of}
 use Rattle.rdlpp_meaning.specs.Parts.{only_blanks}
@@ -64,6 +64,7 @@ heed_takes : {A : Type 0} (r : Role) (k : ℕ) (fits : Bool) (x : A) (n : ℕ) (
 unfolding TakesUpTo heed
 heed_takes End zero fits x n c h = omega arith
 heed_takes Dropped k fits x n c h = passed_takes n c h
+heed_takes Halt k fits x n c h = tt
 heed_takes End (suc k) false x n c h = tt
 heed_takes Space k false x n c h = tt
 heed_takes Remark k false x n c h = tt

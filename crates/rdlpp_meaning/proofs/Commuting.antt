@@ -4,13 +4,7 @@ use Rattle.std.specs.Prelude.{nat_le}
 use Rattle.std.specs.List.{prefix_len}
 use Rattle.std.proofs.lemmas.List.{drop-map, map-append, reverse-append}
 use Rattle.rdlpp_meaning.specs.declared.fault.FaultKind.TheVariants.{ArgumentsMissing}
-use Rattle.rdlpp_meaning.specs.Actuals.{Role, Space, Dropped, Remark, Start, Up, End, Down, Cut, Text, Ends, Stops, Call, Lacking, Broke, Bound, passed, put, parted, level_behind, kept_size, heed, inside_call, call_of, is_space, behind_space, trimmed}
-
--- a call of other things
-unfoldable pub map_call : {A B : Type 0} → (A → B) → Call A → Call B
-map_call f (Lacking k) = Lacking k
-map_call f (Broke k line) = Broke k line
-map_call f (Bound first further used) = Bound (map f first) (map (map f) further) used
+use Rattle.rdlpp_meaning.specs.Actuals.{Role, Space, Dropped, Remark, Start, Up, End, Down, Cut, Halt, Text, Ends, Stops, Call, Lacking, Broke, Bound, passed, put, parted, level_behind, kept_size, heed, inside_call, call_of, is_space, behind_space, trimmed, map_call}
 
 -- a thing passed over
 passed-map : {A B : Type 0} (f : A → B) (c : Call A) → passed (map_call f c) ≡ map_call f (passed c)
@@ -39,6 +33,7 @@ heed-map : {A B : Type 0} (f : A → B) (r : Role) (k : ℕ) (fits : Bool) (x : 
 unfolding heed map_call
 heed-map f End zero fits x c = refl
 heed-map f Dropped k fits x c = passed-map f c
+heed-map f Halt k fits x c = refl
 heed-map f End (suc k) false x c = refl
 heed-map f Space k false x c = refl
 heed-map f Remark k false x c = refl
@@ -83,7 +78,7 @@ inside-map {B = B} role size role' size' f keeps k room (x ∷ xs) =
     (inside_call role size (level_behind (role x) k) (room - kept_size (role x) (size x)) xs)
 
 -- a call by the role of the first thing behind its name, with the rest of the call
-call_by : {A : Type 0} → Role → Call A → Call A → Call A
+unfoldable pub call_by : {A : Type 0} → Role → Call A → Call A → Call A
 call_by Space rest inner = passed rest
 call_by Dropped rest inner = passed rest
 call_by Remark rest inner = passed rest
@@ -92,7 +87,7 @@ call_by (Stops f line) rest inner = Broke f line
 call_by r rest inner = Lacking ArgumentsMissing
 
 -- a call is that
-call_is : {A : Type 0} (role : A → Role) (size : A → ℕ) (room : ℕ) (x : A) (xs : List A)
+pub call_is : {A : Type 0} (role : A → Role) (size : A → ℕ) (room : ℕ) (x : A) (xs : List A)
     → call_of role size room (x ∷ xs) ≡ call_by (role x) (call_of role size room xs) (inside_call role size 0 room xs)
 unfolding call_of call_by
 call_is role size room x xs = by_role (role x)

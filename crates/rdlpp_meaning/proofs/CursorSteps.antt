@@ -11,14 +11,14 @@ use Rattle.rdlpp_meaning.specs.declared.fault.FaultKind.TheVariants.{BareBackquo
 use Rattle.rdlpp_meaning.specs.Outcome.{Outcome, gives, fails, and_then}
 use Rattle.rdlpp_meaning.specs.State.{Rules, State, fault_at, breach_kind}
 use Rattle.rdlpp_meaning.specs.Items.{Item, Written, Arg, listed, packed}
-use Rattle.rdlpp_meaning.specs.Actuals.{Call, Lacking, Broke, Bound, call_of, trimmed, kind_role, token_role, item_role, item_size}
+use Rattle.rdlpp_meaning.specs.Actuals.{Call, Lacking, Broke, Bound, call_of, trimmed, kind_role, token_role, item_role, item_size, map_call}
 use Rattle.rdlpp_meaning.specs.Substitution.{body_tokens, bound_to, marked, substituted}
 use Rattle.rdlpp_meaning.specs.Expansion.{Usage, Refuses as RefusesItems, Opens as OpensItems, name_of, is_count, usage_of_call, usage_of_formals, usage_of_macro, usage_of, walk, expand}
 use Rattle.rdlpp_meaning.specs.Cursors.{Binding, Cursor, actual_of, stood_for, image, cursor_items, left, TokenUsage, Refuses, Opens, kept, not_kept, is_token_count, token_usage_of_call, token_usage_of_formals, token_usage_of_macro, token_usage_of, Move, opened, with_text, usage_move, token_move, bound_move, move, left_behind}
 use Rattle.rdlpp_meaning.proofs.Outcomes.{and_then-nil, and_then-assoc, and_then-fails, and_then-gives_nil}
 use Rattle.rdlpp_meaning.proofs.Walks.{deeper_of, expand_walk}
 use Rattle.rdlpp_meaning.proofs.Calls.{walk_skip}
-use Rattle.rdlpp_meaning.proofs.Commuting.{map_call, Keeps, call-map, trimmed-map}
+use Rattle.rdlpp_meaning.proofs.Commuting.{Keeps, call-map, trimmed-map}
 
 -- the items of a mark as a list are those that were packed
 pub listed-packed : (xs : List Item) → listed (packed xs) ≡ xs

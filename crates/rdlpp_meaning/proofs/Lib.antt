@@ -25,3 +25,7 @@ pub mod Splitting
 pub mod BodySteps
 pub mod CopiedBodies
 pub mod Undefining
+pub mod CountedTexts
+pub mod WorkFalls
+pub mod SlotWork
+pub mod CallScans

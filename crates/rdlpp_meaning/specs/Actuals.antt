@@ -1,8 +1,9 @@
 -- The actuals of a call: what stands between its parentheses, by the role that each thing has in a call.
-use Rattle.std.specs.Prelude.{ℕ, zero, suc, ◌-◌, Bool, true, false, ◌==◌, nat_le, List, [], ◌∷◌, reverse, length, drop, slice_index, Option, None, Some, if◌then◌else◌}
+use Rattle.std.specs.Prelude.{ℕ, zero, suc, ◌-◌, Bool, true, false, ◌==◌, nat_le, List, [], ◌∷◌, map, reverse, length, drop, slice_index, Option, None, Some, if◌then◌else◌}
 use Rattle.std.specs.List.{prefix_len}
 use Rattle.rdlpp_scan.specs.declared.token.Kind.{Kind}
 use Rattle.rdlpp_scan.specs.declared.token.Kind.TheVariants.{Blank, LineEnd, LineComment, BlockComment, Opener, Closer, Comma}
+use Rattle.rdlpp_scan.specs.Front.{Breach, DefineLong, DefineCut}
 use Rattle.rdlpp_scan.specs.SourceTokens.{Ordinary, Broken, SourceToken}
 use Rattle.rdlpp_meaning.specs.declared.fault.FaultKind.{FaultKind}
 use Rattle.rdlpp_meaning.specs.declared.fault.FaultKind.TheVariants.{ArgumentsMissing, ArgumentsOpen, ArgumentBytes}
@@ -10,10 +11,10 @@ use Rattle.rdlpp_meaning.specs.State.{breach_kind}
 use Rattle.rdlpp_meaning.specs.Items.{Item, Written, Arg}
 
 -- the role of a thing in a call: white space, a comment that is dropped, one that is kept, `(`, a further opener, `)`,
--- a further closer, a comma, a broken string and another broken token with fault and line, or any other text
--- (source: this project's profile)
+-- a further closer, a comma, a broken `define`, which ends the run, a broken string and another broken token with fault and
+-- line, or any other text (source: this project's profile)
 pub data Role : Type 0 where
-  Space Dropped Remark Start Up End Down Cut Text : Role
+  Space Dropped Remark Start Up End Down Cut Halt Text : Role
   Ends Stops : FaultKind → ℕ → Role
 
 -- what a call comes to: its own fault, that of a broken token at its line, or the first part between its parentheses,
@@ -22,6 +23,12 @@ pub data Call (A : Type 0) : Type 0 where
   Lacking : FaultKind → Call A
   Broke : FaultKind → ℕ → Call A
   Bound : List A → List (List A) → ℕ → Call A
+
+-- a call of what things become
+unfoldable pub map_call : {A B : Type 0} → (A → B) → Call A → Call B
+map_call f (Lacking k) = Lacking k
+map_call f (Broke k line) = Broke k line
+map_call f (Bound first further used) = Bound (map f first) (map (map f) further) used
 
 -- a thing that is passed over in front of a call
 unfoldable pub passed : {A : Type 0} → Call A → Call A
@@ -58,6 +65,7 @@ kept_size r n = n
 unfoldable pub heed : {A : Type 0} → Role → ℕ → Bool → A → Call A → Call A
 heed End zero fits x rest = Bound [] [] 1
 heed Dropped k fits x rest = passed rest
+heed Halt k fits x rest = Lacking ArgumentsOpen
 heed r k false x rest = Lacking ArgumentBytes
 heed Cut zero true x rest = parted rest
 heed (Ends f line) k true x rest = Broke f line
@@ -107,11 +115,18 @@ kind_role Closer bytes = if slice_index bytes 0 == 41 then End else Down
 kind_role Comma bytes = Cut
 kind_role k bytes = Text
 
--- the role of a token: a broken one is a string where it begins with a quote (source: this project's profile)
+-- the role of a broken token: a broken `define` ends the run, as every directive does, and a broken string begins with a
+-- quote (source: this project's profile)
+unfoldable pub broken_role : Breach → List ℕ → ℕ → Role
+broken_role DefineLong bytes line = Halt
+broken_role DefineCut bytes line = Halt
+broken_role b bytes line = if slice_index bytes 0 == 34 then Ends (breach_kind b) line else Stops (breach_kind b) line
+
+-- the role of a token (source: this project's profile)
 unfoldable pub token_role : SourceToken → Role
 token_role t = elim t.sort [
   | Ordinary k ↦ kind_role k t.bytes
-  | Broken b ↦ if slice_index t.bytes 0 == 34 then Ends (breach_kind b) t.line else Stops (breach_kind b) t.line
+  | Broken b ↦ broken_role b t.bytes t.line
   | _ ↦ Text
 ]
 

@@ -1,21 +1,44 @@
 -- The laws of expansion: of a run, of a usage, of the machine of cursors, and of literal substitution.
-use Rattle.std.specs.Prelude.{◌≡◌, ℕ, suc, ◌≤◌, Bool, false, List, [], ◌∷◌, length, map, take, drop, unwrap_or}
+use Rattle.std.specs.Prelude.{◌≡◌, ℕ, suc, ◌≤◌, Bool, false, List, [], ◌∷◌, length, map, take, drop, None, Some, unwrap_or}
 use Rattle.std.specs.List.{flat_map}
 use Rattle.rdlpp_scan.specs.SourceTokens.{SourceToken}
 use Rattle.rdlpp_scan.specs.Stage.{is_reserved}
-use Rattle.rdlpp_table.specs.Table.{Macro}
+use Rattle.rdlpp_table.specs.Table.{Formal, Macro}
 use Rattle.rdlpp_meaning.specs.Outcome.{Outcome, fails, and_then}
 use Rattle.rdlpp_meaning.specs.State.{Rules, State, fault_at}
-use Rattle.rdlpp_meaning.specs.Items.{Item}
-use Rattle.rdlpp_meaning.specs.Substitution.{body_tokens, substituted}
+use Rattle.rdlpp_meaning.specs.Items.{Item, Written}
+use Rattle.rdlpp_meaning.specs.Actuals.{map_call, call_of, trimmed, token_role, item_role, item_size}
+use Rattle.rdlpp_meaning.specs.Substitution.{body_tokens, marked, substituted}
 use Rattle.rdlpp_meaning.specs.Expansion.{usage_token, bytes_of, run_outcome}
-use Rattle.rdlpp_meaning.specs.Cursors.{Cursor, left, Refuses, Opens, kept, token_usage_of, move, left_behind, first_cursor}
+use Rattle.rdlpp_meaning.specs.Cursors.{Binding, image, Cursor, left, Refuses, Opens, kept, not_kept, token_usage_of, move, left_behind, first_cursor}
 use Rattle.rdlpp_meaning.specs.declared.fault.FaultKind.{FaultKind}
 use Rattle.rdlpp_meaning.specs.Parts.{only_blanks}
 use Rattle.rdlpp_meaning.specs.Meaning.{leaves, goes_on, Progress}
 use Rattle.rdlpp_meaning.specs.Resumed.{Live, resumed, leading, trailing}
 use Rattle.rdlpp_meaning.specs.Slots.{Slot, cursors_of, first_slot, slot_move, cursor_move, AreHomed, LeavesHomed}
 use Rattle.rdlpp_meaning.specs.Literal.{erased, literal}
+
+-- the parts of a call in a body are those of its raw tokens, substituted: a call is found before what its formals stand for is read
+abbrev pub SubstitutedCall : Type 0
+SubstitutedCall = (formals : List Formal) (actuals : List (List Item)) (o : List (List ℕ)) (line room : ℕ) (ts : List SourceToken)
+    → call_of item_role (item_size (Some line)) room (map (marked formals actuals o) ts)
+    ≡ map_call (marked formals actuals o) (call_of token_role not_kept room ts)
+
+-- so are they in a text with bindings around it
+abbrev pub BoundCall : Type 0
+BoundCall = (frame : List Binding) (line room : ℕ) (ts : List SourceToken)
+    → call_of item_role (item_size (Some line)) room (map (image frame) ts)
+    ≡ map_call (image frame) (call_of token_role not_kept room ts)
+
+-- the parts of a call in a source are those of its tokens
+abbrev pub SourceCall : Type 0
+SourceCall = (room : ℕ) (ts : List SourceToken)
+    → call_of item_role (item_size None) room (map Written ts) ≡ map_call Written (call_of token_role kept room ts)
+
+-- a part loses the same white space before its formals stand for their actuals as after
+abbrev pub TrimmedPart : Type 0
+TrimmedPart = (formals : List Formal) (actuals : List (List Item)) (o : List (List ℕ)) (ts : List SourceToken)
+    → trimmed item_role (map (marked formals actuals o) ts) ≡ map (marked formals actuals o) (trimmed token_role ts)
 
 -- a step of the innermost cursor writes and leaves what remained
 abbrev pub CursorStep : Type 0

@@ -22,3 +22,5 @@ pub mod PartBytes
 pub mod Slots
 pub mod SubjectLaws
 pub mod FurtherLaws
+pub mod CursorWork
+pub mod WorkLaws

@@ -1,6 +1,6 @@
 -- The rules of a run, the state that its meaning goes through, and where a fault is told.
 use Rattle.std.specs.Prelude.{ℕ, ◌+◌, ◌-◌, Bool, List, take}
-use Rattle.rdlpp_scan.specs.Front.{Breach, PerlFound, StringOpen, CommentOpen, LineLong, SourceLong}
+use Rattle.rdlpp_scan.specs.Front.{Breach, PerlFound, StringOpen, CommentOpen, LineLong, SourceLong, DefineLong, DefineCut}
 use Rattle.rdlpp_scan.specs.SourceTokens.{SourceToken}
 use Rattle.rdlpp_table.specs.Table.{Macro}
 use Rattle.rdlpp_meaning.specs.declared.fault.FaultKind.{FaultKind}
@@ -65,4 +65,6 @@ breach_kind StringOpen = OpenString
 breach_kind CommentOpen = OpenComment
 breach_kind LineLong = LineTooLong
 breach_kind SourceLong = SourceTooLong
+breach_kind DefineLong = LineTooLong
+breach_kind DefineCut = SourceTooLong
 breach_kind Breach.Unbuilt = Unbuilt

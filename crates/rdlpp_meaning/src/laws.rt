@@ -1,11 +1,12 @@
 // The laws of the definitions, each as the contract of a function that does nothing.
 
 ghost use Rattle.rdlpp_meaning.specs.DirectiveLaws.{BranchRemains, BrokenSkips, EndRemains, LiveUnclosed, OpeningRemains, OrdinarySkips, SingleRemains, SkippedBranch, SkippedEnd, SkippedInnerBranch, SkippedInnerEnd, SkippedOpening, SkippedSingle, SkippedToken, SkippedUnclosed, StrayBranchRemains, StrayEndRemains};
-ghost use Rattle.rdlpp_meaning.specs.ExpansionLaws.{BodyCovered, CursorStep, FirstSlot, LiteralSubstitution, OpensCursor, PartRemains, RefusesUsage, RunRemains, SlotHomes, SlotStep};
+ghost use Rattle.rdlpp_meaning.specs.ExpansionLaws.{BodyCovered, BoundCall, CursorStep, FirstSlot, LiteralSubstitution, OpensCursor, PartRemains, RefusesUsage, RunRemains, SlotHomes, SlotStep, SourceCall, SubstitutedCall, TrimmedPart};
 ghost use Rattle.rdlpp_meaning.specs.FurtherLaws.{BadUndef, BodyStep, BrokenParts, CopiedBody, CopiedParts, LeftPasses, SkippedParts, UndefRemains};
 ghost use Rattle.rdlpp_meaning.specs.IncludeLaws.{AllAtStart, BadIncludeName, DeepInclude, IncludeOpens, IncludeReturns, LongInclude, MissingInclude, NamelessInclude, StepOfAll};
 ghost use Rattle.rdlpp_meaning.specs.Laws.{BareRemains, BrokenRemains, CopiedRemains, DefinedRemains, FoundOutput, IsGrouped, MeaningRemains, MissingOutput, NothingRemains, OverlongOutput, PlainOutput, RefusedRemains, UnbuiltRemains, UndefinedRemains, UsageRemains};
 ghost use Rattle.rdlpp_meaning.specs.SubjectLaws.{CopiedOutput, IncludedBetween, PlainTextOutput, SkippedLineEnds, TreeKeeps};
+ghost use Rattle.rdlpp_meaning.specs.WorkLaws.{FirstCounted, SlotWorkBound, SlotWorkCounted, SlotWorkFalls, SlotsWithin, WorkCounted, WorkFalls};
 
 /// One outcome and then another goes on in one way however three of them are grouped.
 pub fn grouping()
@@ -118,6 +119,15 @@ pub fn call()
     ensures refused { RefusesUsage }
 {}
 
+/// The scan of a call's raw tokens commutes with substitution: the parts of a call are the same before its formals stand for
+/// their actuals as after (this project's profile).
+pub fn call_scan()
+    ensures substituted { SubstitutedCall }
+    ensures bound { BoundCall }
+    ensures source { SourceCall }
+    ensures part { TrimmedPart }
+{}
+
 /// A step of the innermost cursor writes and leaves what the marked lists of the open cursors expand to (this project's
 /// profile).
 pub fn cursor_step()
@@ -137,6 +147,18 @@ pub fn slot_step()
     ensures step { SlotStep }
     ensures homes { SlotHomes }
     ensures first { FirstSlot }
+{}
+
+/// The work left of open cursors, a number with a digit for each of them, falls at each step that goes on, and has no more
+/// digits than texts may be open (this project's profile).
+pub fn work_left()
+    ensures falls { WorkFalls }
+    ensures counted { WorkCounted }
+    ensures first { FirstCounted }
+    ensures slots_fall { SlotWorkFalls }
+    ensures slots_counted { SlotWorkCounted }
+    ensures slots_within { SlotsWithin }
+    ensures bound { SlotWorkBound }
 {}
 
 /// Plain text that meets its limits is its own output, and so is any text of which all tokens are copied.

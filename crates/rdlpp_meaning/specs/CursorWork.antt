@@ -1,0 +1,35 @@
+-- The work left of open cursors: one number with a digit for each of them, which falls at each step that goes on.
+use Rattle.std.specs.Prelude.{◌≡◌, ℕ, suc, ◌+◌, ◌*◌, ◌^◌, ◌<◌, Bool, true, List, [], ◌∷◌, length, nat_lt}
+use Rattle.std.specs.List.{AllByRecursion}
+use Rattle.rdlpp_scan.specs.SourceTokens.{Broken, SourceToken}
+use Rattle.rdlpp_table.specs.Table.{Macro}
+use Rattle.rdlpp_meaning.specs.Expansion.{bytes_of}
+use Rattle.rdlpp_meaning.specs.Cursors.{Binding, Cursor}
+
+-- the work left of open cursors, innermost first: a number in a base, in which each cursor has the digit of its bytes left and
+-- one, at the place of its room, so that the outermost stands highest (source: this project's profile)
+unfoldable pub cursors_work : ℕ → List Cursor → ℕ
+cursors_work base [] = 0
+cursors_work base (c ∷ below) = suc (length (bytes_of c.text)) * base ^ c.room + cursors_work base below
+
+-- whether a token has a byte or is broken, as each token of a source and of a body is
+unfoldable pub is_solid : SourceToken → Bool
+is_solid t = elim t.sort [ Broken b ↦ true | _ ↦ nat_lt 0 (length t.bytes) ]
+
+-- a text that a digit counts: its bytes, and one, are less than the base (source: this project's profile)
+pub record IsCounted (base : ℕ) (ts : List SourceToken) : Type 0 where
+  pub solid : AllByRecursion (λ t. is_solid t ≡ true) ts
+  pub digit : suc (length (bytes_of ts)) < base
+
+-- a macro whose body a digit counts
+abbrev pub HasCountedBody : ℕ → Macro → Type 0
+HasCountedBody base m = suc (length m.body) < base
+
+-- a binding of which a digit counts each actual
+abbrev pub HasCountedActuals : ℕ → Binding → Type 0
+HasCountedActuals base b = AllByRecursion (IsCounted base) b.actuals
+
+-- a cursor of which digits count the text and each actual that is bound around it
+pub record IsCountedCursor (base : ℕ) (c : Cursor) : Type 0 where
+  pub text : IsCounted base c.text
+  pub actuals : AllByRecursion (HasCountedActuals base) c.frame
