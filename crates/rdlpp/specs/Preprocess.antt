@@ -1,4 +1,5 @@
 -- What preprocessing a main text writes and answers.
+-- A definition that names no source is this project's own.
 use Rattle.std.specs.Prelude.{◌≡◌, ℕ, ◌-◌, ◌^◌, Bool, false, ◌||◌, List, [], length, min, Option, None, Some, Result, Ok, Err}
 use Rattle.std.specs.Io.KnownBytes.{Appends}
 use Rattle.rdlpp_source.specs.declared.sources.Sources.{Ghosts}

@@ -1,4 +1,5 @@
 -- Exit statuses.
+-- A definition that names no source is this project's own.
 use Rattle.std.specs.Prelude.{ℕ, ◌&&◌, nat_le, Result, Ok, Err, if◌then◌else◌}
 use Rattle.rdlpp_meaning.specs.FaultNumbers.{fault_number}
 use Rattle.rdlpp.specs.declared.fault.PrepFault.{PrepFault}

@@ -1,4 +1,5 @@
 -- How a reader is opened as the one main text.
+-- A definition that names no source is this project's own.
 use Rattle.std.specs.Prelude.{◌≡◌, ℕ, ◌<◌, ◌≤◌, List, length, Option, None, Some, Result, Ok, Err}
 use Rattle.rdlpp_source.specs.declared.sources.Found.{Found}
 use Rattle.rdlpp_source.specs.declared.sources.SourceFault.{SourceFault}

@@ -1,4 +1,5 @@
 -- What a call may have done to the sources.
+-- A definition that names no source is this project's own.
 use Rattle.std.specs.Prelude.{◌≡◌, Bool}
 use Rattle.rdlpp_source.specs.Counts.{Counts}
 use Rattle.rdlpp_source.specs.declared.sources.Sources.{Ghosts}

@@ -1,4 +1,5 @@
 -- What the held bytes of a source begin with.
+-- A definition that names no source is this project's own.
 use Rattle.std.specs.Prelude.{◌≡◌, ℕ, ◌+◌, ◌-◌, ◌<◌, true, false, List, take, drop, bytes_eq, codes}
 use Rattle.std.specs.List.{list_any}
 use Rattle.rdlpp_scan.specs.declared.token.Mode.TheVariants.{Plain}

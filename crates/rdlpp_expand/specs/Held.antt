@@ -1,4 +1,5 @@
 -- The held stores, and their bound.
+-- A definition that names no source is this project's own.
 use Rattle.std.specs.Prelude.{ℕ, ◌+◌, ◌*◌, List, [], ◌∷◌, length, sum_by}
 use Rattle.rdlpp_table.specs.Table.{table_bytes}
 use Rattle.rdlpp_table.specs.declared.limits.Limits.{Limits}

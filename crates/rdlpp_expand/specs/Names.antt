@@ -1,4 +1,5 @@
 -- Names as bytes.
+-- A definition that names no source is this project's own.
 use Rattle.std.specs.Prelude.{◌≡◌, ℕ, List, true}
 use Rattle.std.specs.List.{list_all}
 use Rattle.rdlpp_scan.specs.Bytes.{is_word}

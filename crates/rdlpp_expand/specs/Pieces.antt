@@ -1,4 +1,5 @@
 -- Pieces, and where they stand in the held stores.
+-- A definition that names no source is this project's own.
 use Rattle.std.specs.Prelude.{◌≡◌, ℕ, ◌≤◌, ◌<◌, List, length, slice_range, Option, None, Some, Result, Ok, Err, ⊤}
 use Rattle.std.specs.Borrow.{Bor}
 use Rattle.rdlpp_table.specs.View.{macro_at}

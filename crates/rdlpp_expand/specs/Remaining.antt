@@ -1,4 +1,5 @@
 -- What remains of an engine's output, and the work left.
+-- A definition that names no source is this project's own.
 use Rattle.std.specs.Prelude.{ℕ, Bool, List, [], ◌∷◌, Option, None, Some, ◌+◌}
 use Rattle.rdlpp_scan.specs.SourceTokens.{whole_tokens}
 use Rattle.rdlpp_scan.specs.Stage.{is_unbuilt}

@@ -1,4 +1,5 @@
 -- What a run writes, and how it ends.
+-- A definition that names no source is this project's own.
 use Rattle.std.specs.Prelude.{◌≡◌, ℕ, ◌-◌, ◌^◌, ◌⊎◌, min, Bool, true, false, List, [], ◌++◌, length, Option, None, Some, Result, Ok, Err, IsSomeAnd}
 use Rattle.std.specs.Io.KnownBytes.{Appends}
 use Rattle.rdlpp_source.specs.Counts.{Counts}

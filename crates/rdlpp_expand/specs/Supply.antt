@@ -1,4 +1,5 @@
 -- What is found before the next byte of a source: whole lines that its limits accept, the end, a line that breaks it, or a failed read.
+-- A definition that names no source is this project's own.
 use Rattle.std.specs.Prelude.{◌≡◌, ℕ, ◌+◌, ◌-◌, ◌≤◌, ◌<◌, Bool, true, false, List, [], ◌∷◌, ◌++◌, length, take, Option, None, Some, ⊤, ◌⊎◌, min}
 use Rattle.rdlpp_scan.specs.Front.{Breach, SourceLong as SourceBreach, LineLong as LineBreach}
 use Rattle.rdlpp_scan.specs.SourceTokens.{SourceToken, Broken}

@@ -1,4 +1,5 @@
 -- The work left, one whole number that falls at every piece.
+-- A definition that names no source is this project's own.
 use Rattle.std.specs.Prelude.{ℕ, ◌+◌, ◌-◌, ◌*◌, ◌^◌, List, [], ◌∷◌, ◌++◌, length, replicate}
 
 -- the number with these digits, the highest first, in base 2,147,483,648 (this project's profile)
