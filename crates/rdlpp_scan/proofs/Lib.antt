@@ -25,3 +25,5 @@ pub mod DefineSteps
 pub mod RemainingSteps
 pub mod RangeLaws
 pub mod ContinuedLines
+pub mod EndedTokens
+pub mod CommentLaws

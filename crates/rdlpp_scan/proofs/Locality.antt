@@ -31,7 +31,7 @@ stops-append (b ∷ w) more some cut =
     ∙ ap (λ t. q || begins_line_comment (b ∷ w) || t || begins_perl (b ∷ w ++ more)) (begins_block_comment-append (b ∷ w) more some cut)
     ∙ ap (λ t. q || begins_line_comment (b ∷ w) || begins_block_comment (b ∷ w) || t) (begins_perl-append (b ∷ w) more some cut)
 
-closed_seam : (xs ys : List ℕ) (t u : Token) → t.next_mode ≡ Plain → Seam xs ys t u → u ≡ t
+pub closed_seam : (xs ys : List ℕ) (t u : Token) → t.next_mode ≡ Plain → Seam xs ys t u → u ≡ t
 closed_seam xs ys t u closed (Closed e h) = e
 closed_seam xs ys t u closed (BeforePerl e is lt perl) = e
 closed_seam xs ys t u closed (OpenString is e) = let open_mode = ap (λ (v : Token). v.next_mode) is in absurd (cc)

@@ -32,7 +32,7 @@ unfolding begins_perl
 no_perl-front b [] ys h = and-false (eqb b 60)
 no_perl-front b (c ∷ xs) ys h = h
 
-perl-front : (b : ℕ) (xs ys : List ℕ) → 0 < length xs → begins_perl (b ∷ xs ++ ys) ≡ begins_perl (b ∷ xs)
+pub perl-front : (b : ℕ) (xs ys : List ℕ) → 0 < length xs → begins_perl (b ∷ xs ++ ys) ≡ begins_perl (b ∷ xs)
 unfolding begins_perl
 perl-front b [] ys some = absurd (omega arith)
 perl-front b (c ∷ xs) ys some = refl
@@ -61,7 +61,7 @@ string_stop-front false (b ∷ xs) ys le at =
     ∙ ap suc (string_stop-front (eqb b 92) xs ys (omega arith) (⊎_elim (λ end. inl (omega arith)) (λ r. ⊎_elim (λ q. inr (inl q)) (λ room. inr (inr (omega arith))) r) where_is)) in
     elim there as P [ true ↦ at_true | false ↦ at_false ] refl le at
 
-ends-front : (b c : ℕ) (xs ys : List ℕ) → ends_block_comment (b ∷ c ∷ xs ++ ys) ≡ ends_block_comment (b ∷ c ∷ xs)
+pub ends-front : (b c : ℕ) (xs ys : List ℕ) → ends_block_comment (b ∷ c ∷ xs ++ ys) ≡ ends_block_comment (b ∷ c ∷ xs)
 unfolding ends_block_comment
 ends-front b c xs ys = refl
 
@@ -260,7 +260,7 @@ rest_is : (t u : Token) (ts us : List Token) → (t ∷ ts) ≡ (u ∷ us) → t
 rest_is t u ts us e = cc
 
 -- the tokens of a text, where a list of them begins with one
-tokens_from-first : (m : Mode) (bs : List ℕ) (t : Token) (ts : List Token) → tokens_from m 0 bs ≡ t ∷ ts → (0 < length bs) × ((token_of m bs ≡ t) × (tokens_from t.next_mode 0 (drop t.len bs) ≡ ts))
+pub tokens_from-first : (m : Mode) (bs : List ℕ) (t : Token) (ts : List Token) → tokens_from m 0 bs ≡ t ∷ ts → (0 < length bs) × ((token_of m bs ≡ t) × (tokens_from t.next_mode 0 (drop t.len bs) ≡ ts))
 unfolding tokens_from
 tokens_from-first m [] t ts e = absurd (cc)
 tokens_from-first m (b ∷ bs) t ts e =

@@ -1,9 +1,11 @@
 -- The definitions at worked rows.
 use Rattle.std.proofs.Common.{◌≡◌, ℕ, Bool, false, List, [], ◌∷◌, refl}
 use Rattle.std.specs.Prelude.{codes}
-use Rattle.rdlpp_scan.specs.declared.token.Kind.TheVariants.{Name, Back, Blank, LineEnd, Str, BlockComment, Opener, Closer, Other}
+use Rattle.rdlpp_scan.specs.declared.token.Kind.TheVariants.{Name, Back, Blank, LineEnd, Str, LineComment, BlockComment, Opener, Closer, Other}
 use Rattle.rdlpp_scan.specs.Bytes.{is_blank, is_line_end, is_letter, is_digit, is_word, is_opener, is_closer, takes_word, begins_perl, begins_line_comment, begins_block_comment, ends_block_comment}
-use Rattle.rdlpp_scan.specs.Tokens.{token_of, plain_token, string_token, block_token, whole, string_stop, first_place}
+use Rattle.rdlpp_scan.specs.declared.token.Mode.TheVariants.{Plain}
+use Rattle.rdlpp_scan.specs.Comments.{is_line_comment, other_texts, without_line_comments}
+use Rattle.rdlpp_scan.specs.Tokens.{tokens_from, token_of, plain_token, string_token, block_token, whole, string_stop, first_place}
 use Rattle.rdlpp_scan.specs.Front.{PerlFound, StringOpen, CommentOpen, LineLong, SourceLong, DefineLong, DefineCut, Unbuilt, front, front_of_lines, lines_of, onto_first, onto_front}
 use Rattle.rdlpp_scan.specs.SourceTokens.{Sort, SourceToken, Ordinary, Definition, Renumbering, Broken, whole_tokens, remaining_tokens, source_tokens, source_step, source_end, step_by, string_step, comment_step, back_step, define_step, line_step, open_end, broken, line_ends, line_after, logical_len, is_continued, line_len}
 use Rattle.rdlpp_scan.specs.Stage.{is_unbuilt, is_unbuilt_directive, is_reserved, reserved_names, name_behind, is_unbuilt_in_define}
@@ -15,7 +17,7 @@ built bytes = false
 abbrev token : Sort → List ℕ → ℕ → SourceToken
 token sort bytes line = record { sort = sort; bytes = bytes; line = line }
 
--- the tokens of short sources
+-- the tokens of short sources, and a text without its comments
 record Rows : Type 0 where
   -- a `define`, and a usage of its macro
   define_then_usage :
@@ -99,6 +101,49 @@ record Rows : Type 0 where
   unbuilt_define :
       whole_tokens is_unbuilt 100 1000 (codes "`define A(x) x\n")
       ≡ token (Broken Unbuilt) [] 1 ∷ []
+  -- a macro's name in a string, as a name, and as a usage
+  usage_in_string :
+      whole_tokens built 100 1000 (codes "`define A 1\n\"`A\" A `A")
+      ≡ token Definition (codes "`define A 1\n") 1
+      ∷ token (Ordinary Str) (codes "\"`A\"") 2
+      ∷ token (Ordinary Blank) (codes " ") 2
+      ∷ token (Ordinary Name) (codes "A") 2
+      ∷ token (Ordinary Blank) (codes " ") 2
+      ∷ token (Ordinary Back) (codes "`A") 2 ∷ []
+  -- a comment at the end of a logical line over two physical lines
+  comment_in_define :
+      whole_tokens built 100 1000 (codes "`define R a \\\nb // c\n`R;\n")
+      ≡ token Definition (codes "`define R a \\\nb // c\n") 1
+      ∷ token (Ordinary Back) (codes "`R") 3
+      ∷ token (Ordinary Other) (codes ";") 3
+      ∷ token (Ordinary LineEnd) (codes "\n") 3 ∷ []
+  -- `<%` on the second line
+  perl_in_text :
+      whole_tokens built 100 1000 (codes "a\nb <% x %>\n")
+      ≡ token (Ordinary Name) (codes "a") 1
+      ∷ token (Ordinary LineEnd) (codes "\n") 1
+      ∷ token (Ordinary Name) (codes "b") 2
+      ∷ token (Ordinary Blank) (codes " ") 2
+      ∷ token (Broken PerlFound) [] 2 ∷ []
+  -- `<%` in a line comment
+  perl_in_line_comment :
+      whole_tokens built 100 1000 (codes "// <% x %>\n")
+      ≡ token (Ordinary LineComment) (codes "// <% x %>") 1
+      ∷ token (Ordinary LineEnd) (codes "\n") 1 ∷ []
+  -- a string over two lines that isn't closed
+  open_string_over_lines :
+      whole_tokens built 100 1000 (codes "x \"ab\ncd")
+      ≡ token (Ordinary Name) (codes "x") 1
+      ∷ token (Ordinary Blank) (codes " ") 1
+      ∷ token (Broken StringOpen) (codes "\"ab\ncd") 1 ∷ []
+  -- a `define` whose two physical lines together are too long
+  long_define :
+      whole_tokens built 14 1000 (codes "`define A \\\nbc\nd")
+      ≡ token (Broken DefineLong) [] 1 ∷ []
+  -- a text without its line comments
+  comments_dropped :
+      without_line_comments Plain (codes "a// \"\n/* // */b///c")
+      ≡ codes "a\n/* // */b"
   -- a `line` with its line
   line_directive :
       whole_tokens built 100 1000 (codes "`line 3 \"f\" 0\nx")
@@ -106,5 +151,5 @@ record Rows : Type 0 where
       ∷ token (Ordinary Name) (codes "x") 2 ∷ []
 
 rows : Rows
-unfolding whole_tokens remaining_tokens front front_of_lines lines_of onto_first onto_front source_tokens source_step source_end step_by string_step comment_step back_step define_step line_step open_end broken line_ends line_after logical_len is_continued line_len token_of plain_token string_token block_token whole string_stop first_place is_blank is_line_end is_letter is_digit is_word is_opener is_closer takes_word begins_perl begins_line_comment begins_block_comment ends_block_comment is_unbuilt is_unbuilt_directive is_reserved reserved_names name_behind is_unbuilt_in_define built
-rows = record { define_then_usage = refl; string_over_two_lines = refl; continued_define = refl; perl_in_string = refl; perl_taken_along = refl; perl_in_comment = refl; long_line = refl; long_source = refl; string_at_break = refl; open_string = refl; open_comment = refl; define_with_long_line = refl; define_at_source_end = refl; unbuilt_string = refl; unbuilt_directive = refl; unbuilt_define = refl; line_directive = refl }
+unfolding without_line_comments other_texts is_line_comment tokens_from whole_tokens remaining_tokens front front_of_lines lines_of onto_first onto_front source_tokens source_step source_end step_by string_step comment_step back_step define_step line_step open_end broken line_ends line_after logical_len is_continued line_len token_of plain_token string_token block_token whole string_stop first_place is_blank is_line_end is_letter is_digit is_word is_opener is_closer takes_word begins_perl begins_line_comment begins_block_comment ends_block_comment is_unbuilt is_unbuilt_directive is_reserved reserved_names name_behind is_unbuilt_in_define built
+rows = record { define_then_usage = refl; string_over_two_lines = refl; continued_define = refl; perl_in_string = refl; perl_taken_along = refl; perl_in_comment = refl; long_line = refl; long_source = refl; string_at_break = refl; open_string = refl; open_comment = refl; define_with_long_line = refl; define_at_source_end = refl; unbuilt_string = refl; unbuilt_directive = refl; unbuilt_define = refl; usage_in_string = refl; comment_in_define = refl; perl_in_text = refl; perl_in_line_comment = refl; open_string_over_lines = refl; long_define = refl; comments_dropped = refl; line_directive = refl }

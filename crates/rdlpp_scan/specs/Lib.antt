@@ -10,3 +10,4 @@ pub mod Resumed
 pub mod Ordinary
 pub mod Stage
 pub mod Defines
+pub mod Comments

@@ -22,8 +22,15 @@ ghost use Rattle.std.specs.Option.{option_map};
 ghost use Rattle.std.specs.List.{concat};
 ghost use Rattle.rdlpp_scan.specs.declared.token.Mode.{Mode};
 ghost use Rattle.rdlpp_scan.specs.declared.token.Mode.TheVariants.{InBlock, InStr, Plain};
+ghost use Rattle.rdlpp_scan.specs.Comments.{
+  other_texts,
+  other_tokens,
+  token_texts,
+  without_line_comments,
+};
 ghost use Rattle.rdlpp_scan.specs.Defines.{HoldsDefine};
 ghost use Rattle.rdlpp_scan.specs.Front.{DefineCut, DefineLong, LineLong, SourceLong};
+ghost use Rattle.rdlpp_scan.specs.LexFaults.{lex_fault_from};
 ghost use Rattle.rdlpp_scan.specs.Lines.{EndsLine, IsWholeLines};
 ghost use Rattle.rdlpp_scan.specs.Ordinary.{IsEdge, IsOrdinary, SparesOrdinary};
 ghost use Rattle.rdlpp_scan.specs.Pieces.{
@@ -52,6 +59,26 @@ ghost use Rattle.rdlpp_scan.specs.Tokens.{plain_len, token_of, tokens_from};
 pub fn cut_text()
     ensures { (from : Mode) (pieces : List (List ℕ)) → AreCuts pieces
         → joined (tokens_of_pieces from pieces) ≡ tokens_from from 0 (concat pieces) }
+{}
+
+/// A first token that ends before the end of what is there of a text stays so, whatever follows.
+pub fn ended_token()
+    ensures { (mode : Mode) (bytes more : List ℕ) → (token_of mode bytes).len < length bytes
+        → token_of mode (bytes ++ more) ≡ token_of mode bytes }
+{}
+
+/// A text without its `//` comments has the other tokens, in their order, with their kinds and their
+/// bytes, and the same fault, if any: no bytes grow together where a comment is dropped, since what
+/// follows one is an LF or the text's end (this project's profile).
+pub fn dropped_comments()
+    ensures tokens { (mode : Mode) (bytes : List ℕ)
+        → tokens_from mode 0 (without_line_comments mode bytes)
+        ≡ other_tokens (tokens_from mode 0 bytes) }
+    ensures texts { (mode : Mode) (bytes : List ℕ) → token_texts
+        (tokens_from mode 0 (without_line_comments mode bytes))
+        (without_line_comments mode bytes) ≡ other_texts (tokens_from mode 0 bytes) bytes }
+    ensures fault { (mode : Mode) (bytes : List ℕ)
+        → lex_fault_from mode (without_line_comments mode bytes) ≡ lex_fault_from mode bytes }
 {}
 
 /// A range of a text, cut before and behind some of its tokens, has exactly those tokens.
