@@ -7,12 +7,12 @@ ghost use Rattle.rdlpp_table.specs.Limits.{AreInRange};
 ghost use Rattle.rdlpp_table.specs.Table.{macro_named, table_bytes, table_size, without};
 ghost use Rattle.rdlpp_scan.specs.SourceTokens.{logical_len};
 ghost use Rattle.rdlpp_table.specs.Define.{define_of, observed, set_of, stored, stored_draft, with_body, with_list};
-ghost use Rattle.rdlpp_table.specs.View.{TableView, IsSound, macro_at, place_named};
+ghost use Rattle.rdlpp_table.specs.View.{TableView, IsSound, formal_named, formals_of, macro_at, place_named};
 
 use crate::body::body_len;
-use crate::entry::{Entry, body_in, place_in};
+use crate::entry::{Entry, body_in, list_in, place_in};
 use crate::fault::{DefineFault, DefineKind, NoMemory, lexical, refusal};
-use crate::formals::read_list;
+use crate::formals::{place_in_list, read_list};
 use crate::header::{after_space, leading_name, list_behind, unended};
 use crate::limits::Limits;
 use crate::name::check_name;
@@ -135,6 +135,19 @@ impl Table {
         ensures { result ≡ option_map length (macro_at self.now.macros id).formals }
     {
         self.entries[id.index].arity
+    }
+
+    /// The place of a formal among a macro's formals, counted from 0; `None` where the macro has no list,
+    /// or no formal of that name.
+    pub fn formal(&self, id: MacroId, name: &[u8]) -> Option<usize>
+        requires { id < length self.now.macros }
+        ensures { result ≡ formal_named (formals_of (macro_at self.now.macros id)) name.now }
+    {
+        let entry = &self.entries[id.index];
+        match entry.arity {
+            Some(_) => place_in_list(list_in(self.bytes.as_slice(), entry), name),
+            None => None,
+        }
     }
 
     /// Takes out the macro of a name, and answers whether there was one.
