@@ -113,11 +113,11 @@ reads_plain is_logical text h e =
     let Q : Bool → Type 0 = λ l. ReadsFirst l text 1 in
     subst Q (sym e) r
 
-no_joint_at : (b : ℕ) (bs : List ℕ) → eqb b 92 ≡ false → joined true (b ∷ bs) ≡ b ∷ joined true bs
+pub no_joint_at : (b : ℕ) (bs : List ℕ) → eqb b 92 ≡ false → joined true (b ∷ bs) ≡ b ∷ joined true bs
 unfolding joined
 no_joint_at b bs e = no_joint b bs (no_continuation b bs e)
 
-joined_none : joined true [] ≡ []
+pub joined_none : joined true [] ≡ []
 unfolding joined without_continuations
 joined_none = refl
 

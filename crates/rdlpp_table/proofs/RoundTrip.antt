@@ -29,7 +29,7 @@ plain_text f h =
     let parts = and_parts (not (list_any (λ b. eqb b 44) f.name)) (eqb (length f.text) 0) h in
     (not-true _ parts.0, nil_from_length f.text (eqb-true _ _ parts.1))
 
-read_list : (fs : List Formal) → list_all is_plain_formal fs ≡ true → formals_from [] (flat_map formal_bytes fs) ≡ fs
+pub read_list : (fs : List Formal) → list_all is_plain_formal fs ≡ true → formals_from [] (flat_map formal_bytes fs) ≡ fs
 unfolding formal_bytes formals_from
 read_list [] h = refl
 read_list (f ∷ fs) h =

@@ -9,3 +9,4 @@ pub mod Entries
 pub mod New
 pub mod Layout
 pub mod BodyBytes
+pub mod Formals

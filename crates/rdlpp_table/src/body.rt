@@ -82,7 +82,7 @@ fn first_len(text: &[u8], is_logical: bool) -> usize
 }
 
 // The first byte of a text as it is read, and the text behind it.
-fn split_first(text: &[u8], is_logical: bool) -> Option<(u8, &[u8])>
+pub(crate) fn split_first(text: &[u8], is_logical: bool) -> Option<(u8, &[u8])>
     ensures { MatchOption result (joined is_logical text.now ≡ []) (λ first. (joined is_logical text.now ≡ first.0 ∷ joined is_logical first.1.now) × (length first.1.now < length text.now)) }
 {
     if text.is_empty() {

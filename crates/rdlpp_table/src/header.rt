@@ -1,10 +1,12 @@
 // The header of a definition: white space, a name.
-ghost use Rattle.std.specs.Prelude.{length, IfSome, None, Some, ◌≡◌, ◌≤◌};
+ghost use Rattle.std.specs.Prelude.{length, true, IfSome, MatchOption, None, Some, ◌≡◌, ◌≤◌};
 ghost use Rattle.std.specs.List.{list_any, prefix_len};
 ghost use Rattle.rdlpp_scan.specs.Bytes.{is_blank, is_letter, is_line_end, is_word};
 ghost use Rattle.rdlpp_scan.specs.SourceTokens.{logical_len};
-ghost use Rattle.rdlpp_table.specs.Define.{after_space, is_space, leading_name, trimmed, unended, without_end_blanks};
+ghost use Rattle.rdlpp_table.specs.Bodies.{joined};
+ghost use Rattle.rdlpp_table.specs.Define.{after_space, formal_list, formals_of_list, is_space, leading_name, list_text, unended, Listed};
 
+use crate::body::split_first;
 use rdlpp_scan::logical_line;
 
 // A space, tab, CR, VT or FF.
@@ -36,22 +38,6 @@ fn is_word(b: u8) -> bool
     is_letter(b) || b'0' <= b && b <= b'9'
 }
 
-// How much white space a text begins with.
-fn spaces(bytes: &[u8]) -> usize
-    ensures value { result ≡ prefix_len is_space bytes.now }
-    ensures inside { result ≤ length bytes.now }
-{
-    bytes.iter().take_while(|b| is_space(**b)).count()
-}
-
-// How many blanks a text begins with.
-fn blanks(bytes: &[u8]) -> usize
-    ensures value { result ≡ prefix_len is_blank bytes.now }
-    ensures inside { result ≤ length bytes.now }
-{
-    bytes.iter().take_while(|b| is_blank(**b)).count()
-}
-
 // How many word bytes a text begins with.
 fn word_bytes(bytes: &[u8]) -> usize
     ensures value { result ≡ prefix_len is_word bytes.now }
@@ -72,12 +58,19 @@ pub(crate) fn unended(rest: &[u8]) -> &[u8]
     }
 }
 
-// A text without the white space with which it begins.
-#[tactic(auto, using(std::proofs::lemmas::List::take_rest), unfolding(crate::specs::Define::after_space))]
-pub(crate) fn after_space(bytes: &[u8]) -> &[u8]
-    ensures { result.now ≡ after_space bytes.now }
+// A text of a logical line without the white space with which it begins.
+pub(crate) fn after_space(text: &[u8]) -> &[u8]
+    ensures value { joined true result.now ≡ after_space (joined true text.now) }
+    ensures inside { length result.now ≤ length text.now }
 {
-    &bytes[spaces(bytes)..]
+    let mut rest = text;
+    while let Some((b, after)) = split_first(rest, true) {
+        if !is_space(b) {
+            return rest;
+        }
+        rest = after;
+    }
+    rest
 }
 
 // The name with which a text begins, or nothing.
@@ -93,21 +86,12 @@ pub(crate) fn leading_name(bytes: &[u8]) -> &[u8]
     }
 }
 
-// A text without the blanks at its end.
-fn without_end_blanks(bytes: &[u8]) -> &[u8]
-    ensures { result.now ≡ without_end_blanks bytes.now }
+// The text of a formal list, behind its `(`, where one follows the name at once.
+pub(crate) fn list_behind(after: &[u8]) -> Option<&[u8]>
+    ensures { MatchOption result (formal_list (joined true after.now) ≡ Listed None (joined true after.now)) (λ list. formal_list (joined true after.now) ≡ formals_of_list (list_text (joined true list.now))) }
 {
-    let mut end = bytes.len();
-    while end > 0 && is_blank(bytes[end - 1]) {
-        end -= 1;
+    match split_first(after, true) {
+        Some((b, list)) => { if b == b'(' { Some(list) } else { None } }
+        None => None,
     }
-    &bytes[..end]
-}
-
-// A text without the blanks at both ends.
-#[tactic(auto, using(std::proofs::lemmas::List::take_rest), unfolding(crate::specs::Define::trimmed))]
-pub(crate) fn trimmed(bytes: &[u8]) -> &[u8]
-    ensures { result.now ≡ trimmed bytes.now }
-{
-    without_end_blanks(&bytes[blanks(bytes)..])
 }

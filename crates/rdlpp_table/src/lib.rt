@@ -4,6 +4,7 @@
 mod body;
 mod entry;
 mod fault;
+mod formals;
 mod header;
 mod limits;
 mod name;

@@ -1,24 +1,24 @@
 // The table of macros: one list of bytes and one of entries, both reserved when the table is made.
-ghost use Rattle.std.specs.Prelude.{◌≡◌, ◌<◌, ◌≤◌, ◌==◌, [], length, IfOk, IfSome, IfNone, OnOk, Some, None, is_some, option_map, OnErr, false, ◌+◌};
+ghost use Rattle.std.specs.Prelude.{◌≡◌, ◌<◌, ◌≤◌, ◌==◌, [], length, IfOk, IfSome, IfNone, OnOk, Some, None, is_some, option_map, OnErr, true, ◌+◌};
 ghost use Rattle.rdlpp_table.specs.New.{new_macro, IsList, IsNew};
 ghost use Rattle.rdlpp_table.specs.Bodies.{joined};
 ghost use Rattle.rdlpp_table.specs.Store.{formals_from};
 ghost use Rattle.rdlpp_table.specs.Limits.{AreInRange};
 ghost use Rattle.rdlpp_table.specs.Table.{macro_named, table_bytes, table_size, without};
 ghost use Rattle.rdlpp_scan.specs.SourceTokens.{logical_len};
-ghost use Rattle.rdlpp_scan.specs.Stage.{is_unbuilt_in_define};
-ghost use Rattle.std.specs.List.{list_any};
-ghost use Rattle.rdlpp_table.specs.Define.{define_of, observed, set_of, stored, stored_draft, with_body};
-ghost use Rattle.rdlpp_table.specs.View.{TableView, IsSound, macro_at, place_named};
+ghost use Rattle.rdlpp_table.specs.Define.{define_of, observed, set_of, stored, stored_draft, with_body, with_list};
+ghost use Rattle.rdlpp_table.specs.View.{TableView, IsSound, formal_named, formals_of, macro_at, place_named};
 
 use crate::body::body_len;
-use crate::entry::{Entry, body_in, place_in};
+use crate::entry::{Entry, body_in, list_in, place_in};
 use crate::fault::{DefineFault, DefineKind, NoMemory, lexical, refusal};
-use crate::header::{after_space, leading_name, unended};
+use crate::formals::{place_in_list, read_list};
+use crate::header::{after_space, leading_name, list_behind, unended};
 use crate::limits::Limits;
 use crate::name::check_name;
 use crate::removal::take_out_named;
 use crate::storing::{New, Rest, beside, replace};
+use arrayvec::ArrayVec;
 use rdlpp_scan::is_name;
 use std::alloc::Global;
 use std::marker::Model;
@@ -137,6 +137,19 @@ impl Table {
         self.entries[id.index].arity
     }
 
+    /// The place of a formal among a macro's formals, counted from 0; `None` where the macro has no list,
+    /// or no formal of that name.
+    pub fn formal(&self, id: MacroId, name: &[u8]) -> Option<usize>
+        requires { id < length self.now.macros }
+        ensures { result ≡ formal_named (formals_of (macro_at self.now.macros id)) name.now }
+    {
+        let entry = &self.entries[id.index];
+        match entry.arity {
+            Some(_) => place_in_list(list_in(self.bytes.as_slice(), entry), name),
+            None => None,
+        }
+    }
+
     /// Takes out the macro of a name, and answers whether there was one.
     pub fn remove(&mut self, name: &[u8]) -> bool
         ensures value { result ≡ is_some (macro_named self.old.macros name.now) }
@@ -152,7 +165,6 @@ impl Table {
     /// The table is unchanged then.
     pub fn read_define(&mut self, rest: &[u8]) -> Result<(), DefineFault>
         requires line { IfSome (logical_len 0 0 rest.now) (λ n. n ≡ length rest.now) }
-        requires built { list_any is_unbuilt_in_define rest.now ≡ false }
         ensures outcome { observed result self.new.macros ≡ define_of self.old.most_bytes self.old.most_macros self.old.macros rest.now }
         ensures refused { OnErr result (self.new ≡ self.old) }
         ensures limits { (self.new.most_bytes ≡ self.old.most_bytes) × (self.new.most_macros ≡ self.old.most_macros) }
@@ -160,7 +172,7 @@ impl Table {
         let text = after_space(unended(rest));
         let name = leading_name(text);
         match check_name(name) {
-            Ok(()) => self.store_body(name, None, &[], true, &text[name.len()..]),
+            Ok(()) => self.store_named(name, &text[name.len()..]),
             Err(fault) => Err(fault),
         }
     }
@@ -192,6 +204,25 @@ impl Table {
         ensures sound { IsSound self.now }
     {
         beside(self.bytes.as_slice(), self.entries.as_slice(), name)
+    }
+
+    // Stores a macro of a name with what stands behind the name in a logical line.
+    fn store_named(&mut self, name: &[u8], after: &[u8]) -> Result<(), DefineFault>
+        requires { length name.now ≤ 128 }
+        ensures outcome { observed result self.new.macros ≡ stored_draft self.old.most_bytes self.old.most_macros self.old.macros (with_list name.now (joined true after.now)) }
+        ensures refused { OnErr result (self.new ≡ self.old) }
+        ensures limits { (self.new.most_bytes ≡ self.old.most_bytes) × (self.new.most_macros ≡ self.old.most_macros) }
+    {
+        let Some(text) = list_behind(after) else {
+            return self.store_body(name, None, &[], true, after);
+        };
+        let mut list = ArrayVec::new();
+        match read_list(text, &mut list) {
+            Ok(read) => {
+                self.store_body(name, Some(read.count), list.as_slice(), true, read.behind)
+            }
+            Err(kind) => Err(refusal(kind)),
+        }
     }
 
     // Stores a macro of which the name and the formals are known, with the body of a text.
