@@ -29,3 +29,4 @@ pub mod CountedTexts
 pub mod WorkFalls
 pub mod SlotWork
 pub mod CallScans
+pub mod FurtherRows
