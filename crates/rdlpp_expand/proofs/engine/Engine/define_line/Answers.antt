@@ -17,13 +17,13 @@ slice_bounds-line-end g c =
     let held : c.held.result.now ≡ held_of c.args.self.now.feed = c.held.ensures.value ∙ ap (λ e. held_of e.feed) c.self.view_is in
     sym (length-take-le c.args.len c.held.result.now (rw held ((define_inside _ _ c.requires.ready.bytes c.requires.define).1)))
 
-pub read_define-requires-clause-line : goal.read_define-requires-clause-line
-read_define-requires-clause-line g c =
+pub read_define-requires : goal.read_define-requires
+read_define-requires g c =
     let held : c.held.result.now ≡ held_of c.args.self.now.feed = c.held.ensures.value ∙ ap (λ e. held_of e.feed) c.self.view_is in
     let wide : length (take c.args.len c.held.result.now) ≡ c.args.len =
     length-take-le c.args.len c.held.result.now (rw held ((define_inside _ _ c.requires.ready.bytes c.requires.define).1)) in
     let rest = define_rest (take c.args.len c.held.result.now) c.args.len c.min.result wide c.min.ensures in
-    rw (rest, held) (define_whole _ _ c.requires.define)
+    record { line = rw (rest, held) (define_whole _ _ c.requires.define) }
 
 pub pass-end-requires-clause-inside : goal.pass-end-requires-clause-inside
 pass-end-requires-clause-inside g c =
