@@ -38,7 +38,7 @@ fn stops_plain_text(bytes: &[u8]) -> bool
 }
 
 /// How many bytes of ordinary text `bytes` begins with: those before the first backquote, `"`,
-/// `//`, `/*` or `<%`, or all of them.
+/// `//`, `/*` or `<%`, or all of them (this project's profile).
 ///
 /// Costs time linear in the place of the first backquote, `"` or comment, or else in the length.
 pub fn plain_text_len(bytes: &[u8]) -> usize
