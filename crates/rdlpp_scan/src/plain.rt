@@ -10,6 +10,7 @@ use memchr::{memchr, memchr3};
 fn perl_before(bytes: &[u8], from: usize, end: usize) -> usize
     requires low { from ≤ end }
     requires high { end ≤ length bytes.now }
+    ensures behind { from ≤ result }
     ensures inside { result ≤ end }
     ensures before { (j : ℕ) → from ≤ j → j < result → begins_perl (drop j bytes.now) ≡ false }
     ensures found { result < end → begins_perl (drop result bytes.now) ≡ true }
