@@ -16,7 +16,10 @@ pub(crate) fn before_line_end(bytes: &[u8]) -> usize
     memchr(b'\n', bytes).unwrap_or(bytes.len())
 }
 
-/// The length of the first line, up to and with its LF; `None` where `bytes` has no LF.
+/// The length in bytes of the first physical line, up to and with its LF; `None` where `bytes` has no
+/// LF (this project's profile).
+///
+/// Costs time linear in that length, or in the whole length where there is no LF.
 pub fn rest_of_line(bytes: &[u8]) -> Option<usize>
     ensures { result ≡ ended_line_len bytes.now }
 {
@@ -31,7 +34,9 @@ pub(crate) fn line_len(bytes: &[u8]) -> usize
     rest_of_line(bytes).unwrap_or(bytes.len())
 }
 
-/// The length up to and with the last LF; 0 where `bytes` has no LF.
+/// The length in bytes up to and with the last LF; 0 where `bytes` has no LF (this project's profile).
+///
+/// Costs time linear in what stands behind the last LF, or in the whole length where there is no LF.
 pub fn last_line_end(bytes: &[u8]) -> usize
     ensures { result ≡ whole_lines_len bytes.now }
 {
@@ -42,6 +47,8 @@ pub fn last_line_end(bytes: &[u8]) -> usize
 }
 
 /// How many LF bytes `bytes` has.
+///
+/// Costs time linear in the length.
 pub fn line_ends_in(bytes: &[u8]) -> usize
     ensures { result ≡ line_ends bytes.now }
 {
@@ -76,8 +83,8 @@ fn is_continued(line: &[u8]) -> bool
     is_continuation(byte_back(line, 2), byte_back(line, 1))
 }
 
-/// The length of the first logical line, up to and with the first LF that no `\`, and no `\` and
-/// CR, stands before (IEEE 1364-2001, `define`); `None` where `bytes` has no such LF.
+/// The length in bytes of the first logical line, up to and with the first LF that no `\`, and no
+/// `\` and CR, stands before (IEEE 1364-2001, `define`); `None` where `bytes` has no such LF.
 ///
 /// Costs time linear in that length, or in the whole length where there is no such LF.
 pub fn logical_line(bytes: &[u8]) -> Option<usize>

@@ -10,6 +10,8 @@ use crate::token::Directive;
 
 /// Whether `bytes` is one name and nothing else: a letter or `_`, then letters, `_` and digits
 /// (IEEE 1364-2001, identifiers). No bytes are no name.
+///
+/// Costs time linear in the length.
 #[tactic(auto, unfolding(crate::specs::Names::is_name))]
 pub fn is_name(bytes: &[u8]) -> bool
     ensures { result ≡ is_name bytes.now }
@@ -25,6 +27,8 @@ fn all_word_bytes(bytes: &[u8]) -> bool
 
 /// The directive of this name; `None` where the name isn't reserved (IEEE 1364-2001, clause on
 /// compiler directives).
+///
+/// Costs time bounded by the lengths of the nine names.
 #[tactic(auto, unfolding(crate::specs::Names::directive_named, crate::specs::Stage::is_reserved, crate::specs::Stage::reserved_names))]
 pub fn reserved(name: &[u8]) -> Option<Directive>
     ensures value { result ≡ directive_named name.now }

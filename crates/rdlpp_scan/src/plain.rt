@@ -10,6 +10,7 @@ use memchr::{memchr, memchr3};
 fn perl_before(bytes: &[u8], from: usize, end: usize) -> usize
     requires low { from ≤ end }
     requires high { end ≤ length bytes.now }
+    ensures behind { from ≤ result }
     ensures inside { result ≤ end }
     ensures before { (j : ℕ) → from ≤ j → j < result → begins_perl (drop j bytes.now) ≡ false }
     ensures found { result < end → begins_perl (drop result bytes.now) ≡ true }
@@ -38,7 +39,7 @@ fn stops_plain_text(bytes: &[u8]) -> bool
 }
 
 /// How many bytes of ordinary text `bytes` begins with: those before the first backquote, `"`,
-/// `//`, `/*` or `<%`, or all of them.
+/// `//`, `/*` or `<%`, or all of them (this project's profile).
 ///
 /// Costs time linear in the place of the first backquote, `"` or comment, or else in the length.
 pub fn plain_text_len(bytes: &[u8]) -> usize

@@ -10,7 +10,7 @@ ghost use Rattle.rdlpp_scan.specs.Tokens.{
   token_of,
   whole,
 };
-ghost use Rattle.rdlpp_scan.specs.declared.token.Mode.TheVariants.{InStr};
+ghost use Rattle.rdlpp_scan.specs.declared.token.Mode.TheVariants.{InBlock, InStr};
 
 use crate::bytes::{
     begins_block_comment, begins_line_comment, begins_perl, blanks, byte_at, is_blank, is_closer,
@@ -114,6 +114,15 @@ fn string_rest(bytes: &[u8]) -> Token
     }
 }
 
+// The first token where a block comment opened before.
+#[tactic(auto, unfolding(crate::specs::Tokens::token_of))]
+fn comment_rest(bytes: &[u8]) -> Token
+    requires { 0 < length bytes.now }
+    ensures { result ≡ token_of InBlock bytes.now }
+{
+    block_token(0, bytes)
+}
+
 // The first token in plain text.
 #[tactic(auto, unfolding(crate::specs::Tokens::plain_token, crate::specs::Bytes::is_line_end))]
 fn plain_token(bytes: &[u8]) -> Token
@@ -173,6 +182,6 @@ pub fn first_token(mode: Mode, bytes: &[u8]) -> Token
     match mode {
         Mode::Plain => plain_token(bytes),
         Mode::InStr => string_rest(bytes),
-        Mode::InBlock => block_token(0, bytes),
+        Mode::InBlock => comment_rest(bytes),
     }
 }

@@ -16,7 +16,8 @@ fn is_unbuilt_in_define(b: u8) -> bool
 /// Whether the physical line with which `bytes` begins, a backquote and `define` in front, has
 /// behind that word what isn't built yet: `"`, `\`, `/`, `<`, `(` or a backquote.
 ///
-/// Private to this stage of the project: a later stage takes it away.
+/// Costs time linear in that line's length. Private to this stage of the project: a later stage takes
+/// it away.
 pub fn is_unbuilt_define(bytes: &[u8]) -> bool
     ensures { result ≡ list_any is_unbuilt_in_define (drop 7 (take (line_len bytes.now) bytes.now)) }
 {

@@ -24,11 +24,9 @@ returns-in-InStr-clause-inside c =
     subst (λ (t : Token). t.len ≤ length c.args.bytes.now) (sym c.string_rest.ensures) (token_of-part InStr c.args.bytes.now c.requires).inside
 
 pub returns-in-InBlock-clause-not_empty : goal.returns-in-InBlock-clause-not_empty
-unfolding token_of
 returns-in-InBlock-clause-not_empty c =
-    subst (λ (t : Token). 0 < t.len) (sym c.block_token.ensures) (token_of-part InBlock c.args.bytes.now c.requires).not_empty
+    subst (λ (t : Token). 0 < t.len) (sym c.comment_rest.ensures) (token_of-part InBlock c.args.bytes.now c.requires).not_empty
 
 pub returns-in-InBlock-clause-inside : goal.returns-in-InBlock-clause-inside
-unfolding token_of
 returns-in-InBlock-clause-inside c =
-    subst (λ (t : Token). t.len ≤ length c.args.bytes.now) (sym c.block_token.ensures) (token_of-part InBlock c.args.bytes.now c.requires).inside
+    subst (λ (t : Token). t.len ≤ length c.args.bytes.now) (sym c.comment_rest.ensures) (token_of-part InBlock c.args.bytes.now c.requires).inside
