@@ -1,7 +1,7 @@
 -- A body's text read byte by byte, and by its tokens: the rows of the token table.
-use Rattle.std.proofs.Common.{◌≡◌, ℕ, zero, suc, ◌+◌, ◌-◌, ◌<◌, ◌≤◌, Bool, true, false, cond, not, ◌||◌, ◌&&◌, List, [], ◌∷◌, ◌++◌, length, take, drop, get_or, eqb, ltb, Option, Some, None, refl, ap, sym, ◌∙◌, subst, arith, one-add, inl, inr, length-drop}
+use Rattle.std.proofs.Common.{◌≡◌, ℕ, zero, suc, ◌+◌, ◌-◌, ◌<◌, ◌≤◌, Bool, true, false, cond, not, ◌&&◌, List, [], ◌∷◌, ◌++◌, length, take, drop, get_or, eqb, ltb, Option, Some, None, refl, ap, sym, ◌∙◌, subst, arith, one-add, inl, inr, length-drop}
 use Rattle.std.specs.List.{prefix_len}
-use Rattle.std.proofs.lemmas.Bool.{cases_Bool, cases_lt, cond_both, cond-true, cond-false, and_parts, and_left, and_right, both_ways, false≢true, eqb-true, ltb-true, ltb-false, false_from_ne_true}
+use Rattle.std.proofs.lemmas.Bool.{cases_lt, cond_both, cond-true, cond-false, and_parts, and_left, and_right, both_ways, false≢true, eqb-true, ltb-true, ltb-false, false_from_ne_true}
 use Rattle.rdlpp_scan.specs.declared.token.Kind.{Kind}
 use Rattle.rdlpp_scan.specs.declared.token.Kind.TheVariants.{Name, Word, Back, Blank, LineEnd, Str, LineComment, BlockComment, Opener, Closer, Comma, Other, Perl as PerlKind, BareBackquote}
 use Rattle.rdlpp_scan.specs.declared.token.Mode.{Mode}
@@ -13,10 +13,10 @@ use Rattle.rdlpp_scan.specs.Bytes.{is_blank, is_line_end, is_letter, is_digit, i
 use Rattle.rdlpp_scan.specs.Tokens.{whole, first_place, string_stop, string_token, block_token, plain_token, token_of, tokens_from}
 use Rattle.rdlpp_scan.specs.LexFaults.{is_perl, open_fault, fault_of_tokens, lex_fault_from}
 use Rattle.rdlpp_scan.proofs.TokenLists.{tokens_from-skip, fault-perl, fault-end}
-use Rattle.rdlpp_table.specs.declared.body.Inside.TheVariants.{Text, Remark, Opening, Comment, Closing, Quoted, Taken}
+use Rattle.rdlpp_table.specs.declared.body.Inside.TheVariants.{Text, Remark, Opening, Comment, Quoted}
 use Rattle.rdlpp_table.specs.Bodies.{Cleared, Sound, Unsound, onto, at_end, minds_perl, keeps_first, behind_first, cleared}
 use Rattle.rdlpp_table.specs.Define.{without_remarks}
-use Rattle.rdlpp_table.proofs.Ordinary.{IsKept, kept_whole, is_copied, first_some}
+use Rattle.rdlpp_table.proofs.Kept.{IsKept, kept_whole, is_copied, first_some}
 use Rattle.rdlpp_table.proofs.Clears.{onto_none, onto_both, IsPlain, one_plain, plain_run, clears_remark, StringRead, string_read, CommentRead, comment_read}
 
 -- a fault, or else a text

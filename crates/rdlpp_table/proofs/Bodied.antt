@@ -1,5 +1,5 @@
 -- A macro with a body, by what is left of the body's text.
-use Rattle.std.proofs.Common.{◌≡◌, ℕ, Bool, true, false, List, [], Option, Some, None, Result, Ok, Err, refl, ap, sym, ◌∙◌}
+use Rattle.std.proofs.Common.{◌≡◌, ℕ, true, false, List, [], Option, Some, None, Ok, Err, refl, ap, sym, ◌∙◌}
 use Rattle.rdlpp_scan.specs.declared.token.Mode.TheVariants.{Plain}
 use Rattle.rdlpp_scan.specs.declared.token.LexFault.{LexFault}
 use Rattle.rdlpp_scan.specs.Tokens.{tokens_from}
@@ -12,7 +12,7 @@ use Rattle.rdlpp_table.specs.declared.fault.DefineKind.TheVariants as kind
 use Rattle.rdlpp_table.specs.declared.fault.DefineFault.{DefineFault}
 use Rattle.rdlpp_table.specs.Table.{Formal, Macro}
 use Rattle.rdlpp_table.specs.Bodies.{Cleared, Sound, Unsound, body_left, body_len, cleared, joined}
-use Rattle.rdlpp_table.specs.Define.{Defined, Draft, Drawn, Rejected, lexical, observed, macro_set, name_fault, refused_word, set_of, stored, stored_draft, trimmed, with_body, without_list, without_remarks}
+use Rattle.rdlpp_table.specs.Define.{Draft, Drawn, Rejected, lexical, observed, macro_set, name_fault, refused_word, set_of, stored, stored_draft, trimmed, with_body, without_list, without_remarks}
 use Rattle.rdlpp_table.proofs.Agrees.{told, same_left}
 use Rattle.rdlpp_table.proofs.Held.{refused_is}
 

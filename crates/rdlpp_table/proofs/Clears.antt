@@ -1,22 +1,13 @@
 -- What is left of a body's text byte by byte is what its tokens leave.
-use Rattle.std.proofs.Common.{◌≡◌, ℕ, zero, suc, ◌+◌, ◌-◌, ◌<◌, ◌≤◌, Bool, true, false, cond, not, ◌||◌, ◌&&◌, List, [], ◌∷◌, ◌++◌, length, take, drop, get_or, eqb, ltb, leb, Option, Some, None, refl, ap, sym, ◌∙◌, subst, arith, append_assoc, one-add, inl, inr}
+use Rattle.std.proofs.Common.{◌≡◌, ℕ, suc, ◌+◌, ◌<◌, ◌≤◌, Bool, true, false, cond, not, ◌||◌, ◌&&◌, List, [], ◌∷◌, ◌++◌, length, take, drop, get_or, eqb, refl, ap, sym, ◌∙◌, subst, arith, append_assoc, one-add, inl, inr}
 use Rattle.std.specs.List.{prefix_len}
-use Rattle.std.proofs.lemmas.Bool.{cases_Bool, cond_both, cond-true, cond-false, and_parts, or_parts, and_left, both_ways, false≢true, eqb-true, ltb-true, ltb-false}
-use Rattle.std.proofs.lemmas.List.{take-append-drop, take_rest}
-use Rattle.rdlpp_scan.specs.declared.token.Kind.{Kind}
-use Rattle.rdlpp_scan.specs.declared.token.Kind.TheVariants.{Name, Word, Back, Blank, LineEnd, Str, LineComment, BlockComment, Opener, Closer, Comma, Other, Perl as PerlKind, BareBackquote}
-use Rattle.rdlpp_scan.specs.declared.token.Mode.{Mode}
-use Rattle.rdlpp_scan.specs.declared.token.Mode.TheVariants.{Plain, InStr, InBlock}
-use Rattle.rdlpp_scan.specs.declared.token.Token.{Token}
-use Rattle.rdlpp_scan.specs.declared.token.LexFault.{LexFault}
+use Rattle.std.proofs.lemmas.Bool.{cases_Bool, cond-true, cond-false, and_parts, and_left, both_ways, false≢true, eqb-true}
 use Rattle.rdlpp_scan.specs.declared.token.LexFault.TheVariants.{Perl, OpenString, OpenComment}
-use Rattle.rdlpp_scan.specs.Bytes.{is_blank, is_line_end, is_letter, is_digit, is_word, is_opener, is_closer, takes_word, begins_perl, begins_line_comment, begins_block_comment, ends_block_comment}
-use Rattle.rdlpp_scan.specs.Tokens.{whole, first_place, string_stop, string_token, block_token, plain_token, token_of, tokens_from}
-use Rattle.rdlpp_scan.specs.LexFaults.{is_perl, open_fault, fault_of_tokens, lex_fault_from}
+use Rattle.rdlpp_scan.specs.Bytes.{is_line_end, begins_perl, begins_line_comment, begins_block_comment, ends_block_comment}
+use Rattle.rdlpp_scan.specs.Tokens.{first_place, string_stop}
 use Rattle.rdlpp_table.specs.declared.body.Inside.{Inside}
 use Rattle.rdlpp_table.specs.declared.body.Inside.TheVariants.{Text, Remark, Opening, Comment, Closing, Quoted, Taken}
 use Rattle.rdlpp_table.specs.Bodies.{Cleared, Sound, Unsound, onto, at_end, minds_perl, keeps_first, behind_first, cleared}
-use Rattle.rdlpp_table.specs.Define.{without_remarks}
 
 pub onto_none : (c : Cleared) → onto [] c ≡ c
 unfolding onto

@@ -1,7 +1,7 @@
 -- The formals of a list as bytes: each name with a comma after it.
-use Rattle.std.proofs.Common.{◌≡◌, ℕ, zero, suc, ◌+◌, ◌-◌, ◌*◌, ◌<◌, ◌≤◌, Bool, true, false, cond, not, ◌&&◌, ◌||◌, List, [], ◌∷◌, ◌++◌, length, take, drop, get_or, eqb, ltb, leb, bytes_eq, one-add, length-append, append_assoc, Option, Some, None, option_map, is_some, refl, ap, sym, ◌∙◌, subst, arith, inl, inr}
-use Rattle.std.specs.List.{flat_map, list_any, list_all, position, position_or_len, prefix_len}
-use Rattle.std.proofs.lemmas.Bool.{cases_Bool, cases_lt, cond-true, cond-false, lt-ltb, le-ltb, eqb-true, ltb-true, ltb-false, leb-false, and_parts, or_parts, false≢true, false_from_ne_true, both_ways}
+use Rattle.std.proofs.Common.{◌≡◌, ℕ, suc, ◌+◌, ◌<◌, ◌≤◌, Bool, true, false, cond, not, ◌&&◌, ◌||◌, List, [], ◌∷◌, ◌++◌, length, take, drop, get_or, eqb, ltb, leb, bytes_eq, one-add, length-append, append_assoc, Option, Some, None, option_map, is_some, refl, ap, sym, ◌∙◌, subst, arith, inl, inr}
+use Rattle.std.specs.List.{flat_map, list_any, list_all, position, prefix_len}
+use Rattle.std.proofs.lemmas.Bool.{cases_Bool, cases_lt, cond-true, cond-false, lt-ltb, le-ltb, eqb-true, ltb-false, leb-false, false_from_ne_true, both_ways}
 use Rattle.std.proofs.lemmas.Grind.{flat_map-append}
 use Rattle.std.proofs.lemmas.List.{append-nil}
 use Rattle.std.proofs.lemmas.List.Folds.{list_all-append}
@@ -12,7 +12,6 @@ use Rattle.rdlpp_table.specs.View.{formal_named}
 use Rattle.rdlpp_table.specs.Define.{is_nothing, leading_name}
 use Rattle.rdlpp_table.specs.Store.{formals_from, is_plain_formal}
 use Rattle.rdlpp_table.specs.Formals.{AreFormals, formal_fault}
-use Rattle.rdlpp_table.specs.declared.fault.DefineKind.{DefineKind}
 use Rattle.rdlpp_table.specs.declared.fault.DefineKind.TheVariants as kind
 use Rattle.rdlpp_table.proofs.RoundTrip.{read_list}
 use Rattle.rdlpp_table.proofs.Turns.{formal_named_by, word_comma}

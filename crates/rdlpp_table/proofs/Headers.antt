@@ -1,5 +1,5 @@
 -- A `define` by its name and what stands behind it.
-use Rattle.std.proofs.Common.{◌≡◌, ℕ, ◌-◌, true, List, [], length, take, drop, Option, Some, None, Err, refl, ap, sym, ◌∙◌}
+use Rattle.std.proofs.Common.{◌≡◌, ℕ, true, List, [], length, drop, Option, Some, None, Err, refl, ap, sym, ◌∙◌}
 use Rattle.rdlpp_table.specs.Table.{Formal, Macro}
 use Rattle.rdlpp_table.specs.Bodies.{joined}
 use Rattle.rdlpp_table.specs.Define.{Draft, FormalList, Listed, Rejected, Unlisted, after_space, define_of, formal_list, leading_name, logical_text, macro_from, macro_of, name_fault, observed, refused_word, stored_draft, unended, with_body, with_list}

@@ -1,5 +1,5 @@
 -- A table after a change of its lists.
-use Rattle.std.proofs.Common.{◌≡◌, ℕ, ◌+◌, ◌<◌, ◌≤◌, [], ◌∷◌, ◌++◌, Ok, Err, List, length, map, remove, bytes_eq, Option, Some, None, refl, ap, sym, ◌∙◌, subst, arith, le_trans, length-append}
+use Rattle.std.proofs.Common.{◌≡◌, ℕ, ◌+◌, ◌<◌, ◌≤◌, [], ◌∷◌, ◌++◌, Ok, Err, List, length, map, remove, bytes_eq, Some, None, refl, ap, sym, ◌∙◌, subst, arith, le_trans, length-append}
 use Rattle.std.specs.List.{IsDistinct}
 use Rattle.rdlpp_table.specs.declared.entry.Entry.{Entry}
 use Rattle.rdlpp_table.specs.Table.{Macro, macro_size, table_size, without}

@@ -1,10 +1,13 @@
 -- The first byte of a text as it is read.
-use Rattle.std.proofs.Common.{◌≡◌, ℕ, zero, suc, ◌+◌, ◌-◌, ◌<◌, ◌≤◌, Bool, true, false, cond, ◌&&◌, ◌⊎◌, List, [], ◌∷◌, length, take, drop, get_or, eqb, one-add, refl, ap, sym, ◌∙◌, subst, arith, inl, inr}
+use Rattle.std.proofs.Common.{◌≡◌, ℕ, suc, ◌+◌, ◌-◌, ◌<◌, ◌≤◌, Bool, true, false, cond, ◌&&◌, ◌⊎◌, List, [], ◌∷◌, length, take, drop, get_or, eqb, one-add, refl, ap, sym, ◌∙◌, subst, arith, inl, inr}
 use Rattle.std.specs.List.{prefix_len}
-use Rattle.std.proofs.lemmas.Bool.{cases_Bool, cond-true, cond-false, and_parts, and_from, and_left, and_right, eqb-true, false≢true, false_from_ne_true, both_ways}
+use Rattle.std.proofs.lemmas.Bool.{cases_Bool, cond-true, cond-false, and_parts, and_left, and_right, eqb-true, false≢true, false_from_ne_true, both_ways}
 use Rattle.rdlpp_table.specs.Define.{continuation_len, without_continuations}
 use Rattle.rdlpp_table.specs.Bodies.{joined, first_len}
-use Rattle.rdlpp_table.proofs.Ordinary.{no_continuation}
+
+no_continuation : (b : ℕ) (bs : List ℕ) → eqb b 92 ≡ false → continuation_len (b ∷ bs) ≡ 0
+unfolding continuation_len
+no_continuation b bs e = cond-false _ _ _ (and_left _ _ e) ∙ cond-false _ _ _ (and_left _ _ e)
 
 -- what a text with continuations begins with
 pub record BeginsWith (text : List ℕ) (n : ℕ) : Type 0 where

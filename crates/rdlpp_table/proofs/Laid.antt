@@ -1,5 +1,5 @@
 -- What follows from how a table lies in its lists.
-use Rattle.std.proofs.Common.{◌≡◌, ℕ, ◌<◌, ◌≤◌, List, [], length, map, get_or, bytes_eq, Option, Some, option_map, is_some, unwrap_or, None, refl, ap, sym, ◌∙◌, subst, arith, Vec, vec_len, rules, Global}
+use Rattle.std.proofs.Common.{◌≡◌, ℕ, ◌<◌, ◌≤◌, List, [], length, get_or, bytes_eq, Option, Some, option_map, is_some, unwrap_or, None, refl, ap, sym, ◌∙◌, subst, arith, Vec, vec_len, rules, Global}
 use Rattle.std.specs.List.{IsDistinct, position}
 use Rattle.std.proofs.lemmas.List.{length-map, get_or-map}
 use Rattle.std.proofs.lemmas.List.Quantifiers.{position-Some}

@@ -1,9 +1,8 @@
 -- What is wrong with the name of a macro, case by case.
-use Rattle.std.proofs.Common.{◌≡◌, ℕ, ◌<◌, ◌≤◌, Bool, true, false, cond, List, [], length, eqb, bytes_eq, codes, Option, Some, None, refl, ap, sym, ◌∙◌, inl, inr}
+use Rattle.std.proofs.Common.{◌≡◌, ℕ, ◌<◌, ◌≤◌, true, false, cond, List, [], length, eqb, bytes_eq, Option, Some, None, ap, sym, ◌∙◌, inl, inr}
 use Rattle.std.specs.Option.{is_some}
 use Rattle.std.proofs.lemmas.Bool.{cases_Bool, cond-true, cond-false, lt-ltb, le-ltb}
 use Rattle.std.proofs.lemmas.Slice.Eq.{bytes_eq-Decides}
-use Rattle.std.specs.Bool.{Decides}
 use Rattle.rdlpp_scan.specs.declared.token.Directive.{Directive}
 use Rattle.rdlpp_scan.specs.declared.token.Directive.TheVariants.{Define, Undef, Ifdef, Ifndef, Elsif, Else, Endif, Include, Line}
 use Rattle.rdlpp_scan.specs.Names.{directive_named}

@@ -1,10 +1,8 @@
 -- A macro that is to be stored, in the lists of a table.
-use Rattle.std.proofs.Common.{◌≡◌, ℕ, ◌+◌, Bool, true, List, [], ◌∷◌, ◌++◌, length, Option, Result, Ok, Err, option_map, unwrap_or, sum_by, refl, ap, sym, ◌∙◌, arith, append_assoc}
-use Rattle.std.specs.List.{flat_map}
-use Rattle.rdlpp_scan.specs.declared.token.LexFault.{LexFault}
+use Rattle.std.proofs.Common.{◌≡◌, ℕ, ◌+◌, Bool, true, List, [], ◌++◌, length, Option, Ok, option_map, unwrap_or, sum_by, ap, sym, ◌∙◌, arith, append_assoc}
 use Rattle.rdlpp_table.specs.declared.entry.Entry.{Entry}
 use Rattle.rdlpp_table.specs.declared.body.Inside.TheVariants.{Text}
-use Rattle.rdlpp_table.specs.Table.{Formal, Macro, formal_bytes, formal_size, macro_bytes, macro_size}
+use Rattle.rdlpp_table.specs.Table.{Formal, formal_size, macro_bytes, macro_size}
 use Rattle.rdlpp_table.specs.Bodies.{Cleared, Sound, Unsound, body_left, body_len, cleared, joined}
 use Rattle.rdlpp_table.specs.Store.{entry_of, formals_from, is_plain_macro, list_size}
 use Rattle.rdlpp_table.specs.New.{new_macro, IsList, IsNew}

@@ -1,13 +1,8 @@
 -- The text of a formal list, by its first part and what stands behind it.
-use Rattle.std.proofs.Common.{◌≡◌, ℕ, suc, ◌+◌, ◌-◌, ◌<◌, ◌≤◌, Bool, true, false, cond, not, ◌&&◌, ◌||◌, List, [], ◌∷◌, ◌++◌, length, take, drop, get_or, eqb, ltb, leb, bytes_eq, one-add, Option, Some, None, is_some, unwrap_or, refl, ap, sym, ◌∙◌, arith, inl, inr}
-use Rattle.std.specs.List.{prefix_len, list_any, list_all}
-use Rattle.std.proofs.lemmas.Bool.{cases_Bool, cond-true, cond-false, and_from, and_left, and_right, eqb-true, or_parts, both_ways, false_from_ne_true}
-use Rattle.rdlpp_scan.specs.Bytes.{is_blank, is_line_end, is_letter, is_digit, is_word}
-use Rattle.rdlpp_table.specs.Table.{Formal}
-use Rattle.rdlpp_table.specs.Define.{ListText, FormalList, Listed, Unlisted, OneFormal, Good, Bad, after_space, formal_in, formals_in, formals_of_list, has_no_formals, is_ended, is_nothing, is_space, leading_name, list_text, onto_part}
-use Rattle.rdlpp_table.specs.Formals.{formal_fault, formals_behind}
-use Rattle.rdlpp_table.specs.declared.fault.DefineKind.{DefineKind}
-use Rattle.rdlpp_table.specs.declared.fault.DefineKind.TheVariants as kind
+use Rattle.std.proofs.Common.{◌≡◌, ℕ, suc, ◌+◌, Bool, true, false, cond, ◌||◌, List, [], ◌∷◌, take, drop, get_or, eqb, one-add, Some, None, refl, ap, sym, ◌∙◌, inl, inr}
+use Rattle.std.specs.List.{prefix_len}
+use Rattle.std.proofs.lemmas.Bool.{cases_Bool, cond-true, cond-false, eqb-true, both_ways, false_from_ne_true}
+use Rattle.rdlpp_table.specs.Define.{ListText, list_text, onto_part}
 
 -- a byte that ends a part
 abbrev pub ends_part : ℕ → Bool

@@ -1,8 +1,7 @@
 -- A formal list as it is read, one part after another.
-use Rattle.std.proofs.Common.{◌≡◌, ℕ, Bool, ◌||◌, ne_eqb, ◌+◌, ◌<◌, ◌≤◌, List, [], ◌∷◌, ◌++◌, length, eqb, Option, Some, None, option_map, unwrap_or, refl, ap, sym, ◌∙◌, arith, subst, false}
-use Rattle.std.specs.List.{flat_map, list_all}
-use Rattle.rdlpp_table.specs.Table.{Formal, formal_bytes}
-use Rattle.rdlpp_table.specs.Define.{FormalList, Listed, Unlisted, after_space, formals_of_list, list_text}
+use Rattle.std.proofs.Common.{◌≡◌, ℕ, Bool, ◌||◌, ne_eqb, ◌+◌, ◌<◌, List, [], ◌∷◌, ◌++◌, length, eqb, Some, None, refl, ap, sym, ◌∙◌, arith, subst, false}
+use Rattle.rdlpp_table.specs.Table.{Formal}
+use Rattle.rdlpp_table.specs.Define.{Listed, Unlisted, after_space, formals_of_list, list_text}
 use Rattle.rdlpp_table.specs.Store.{formals_from}
 use Rattle.rdlpp_table.specs.New.{IsList}
 use Rattle.rdlpp_table.specs.Formals.{AreFormals, IsPart, formal_fault, formals_behind}

@@ -1,10 +1,10 @@
 -- The macros of a table are read back from its lists as they are.
-use Rattle.std.proofs.Common.{◌≡◌, ℕ, zero, suc, ◌+◌, ◌-◌, ◌≤◌, Bool, true, false, cond, not, ◌&&◌, ◌||◌, List, [], ◌∷◌, ◌++◌, length, take, drop, map, eqb, Option, Some, None, option_map, unwrap_or, refl, ap, sym, ◌∙◌, subst, arith, length-append, append_assoc, sum_by, slice_range}
+use Rattle.std.proofs.Common.{◌≡◌, ℕ, ◌+◌, ◌-◌, Bool, true, false, cond, not, List, [], ◌∷◌, ◌++◌, length, take, map, eqb, Option, Some, None, option_map, unwrap_or, refl, ap, sym, ◌∙◌, arith, length-append, append_assoc, sum_by, slice_range}
 use Rattle.std.specs.List.{list_all, list_any, flat_map}
-use Rattle.std.proofs.lemmas.List.{take_at, drop_at, drop-drop, append-nil, nil_from_length}
+use Rattle.std.proofs.lemmas.List.{take_at, drop_at, append-nil, nil_from_length}
 use Rattle.std.proofs.lemmas.Bool.{and_parts, or_parts, not-true, eqb-true}
 use Rattle.rdlpp_table.specs.declared.entry.Entry.{Entry}
-use Rattle.rdlpp_table.specs.Table.{Formal, Macro, formal_bytes, formal_size, macro_bytes, macro_size, table_bytes, table_size}
+use Rattle.rdlpp_table.specs.Table.{Formal, Macro, formal_bytes, formal_size, macro_bytes, macro_size, table_bytes}
 use Rattle.rdlpp_table.specs.Store.{entry_of, entries_of, entry_end, body_start, list_start, list_size, name_of, list_of, body_of, macro_in, macros_in, formals_from, is_plain_formal, is_plain_macro, IsStored}
 use Rattle.rdlpp_table.proofs.Sizes.{length_list_bytes, length_macro_bytes}
 

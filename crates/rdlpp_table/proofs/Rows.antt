@@ -1,7 +1,6 @@
 -- Worked rows of the definitions, by computation.
-use Rattle.std.proofs.Common.{◌≡◌, ℕ, List, [], ◌∷◌, ◌++◌, None, Some, refl, codes}
-use Rattle.rdlpp_table.specs.Table.{Macro, table_bytes, macro_bytes, macro_size, table_size, formal_bytes, formal_size, without}
-use Rattle.rdlpp_table.specs.Define.{Defined, Accepted, Refused, Draft, Drawn, Rejected, macro_of, macro_set, define_of, set_of, macro_from, unended, logical_text, without_continuations, continuation_len, is_space, after_space, leading_name, name_fault, without_remarks, onto_trimmed, without_end_blanks, trimmed, lexical, onto_part, list_text, formal_in, is_ended, formals_in, has_no_formals, formals_of_list, formal_list, with_body, refused_word, with_list, stored, stored_draft}
+use Rattle.std.proofs.Common.{◌≡◌, [], ◌∷◌, None, Some, refl, codes}
+use Rattle.rdlpp_table.specs.Define.{Drawn, Rejected, macro_of, macro_from, unended, logical_text, without_continuations, continuation_len, is_space, after_space, leading_name, name_fault, without_remarks, onto_trimmed, without_end_blanks, trimmed, onto_part, list_text, formal_in, is_ended, formals_in, has_no_formals, formals_of_list, formal_list, with_body, refused_word, with_list}
 use Rattle.rdlpp_table.specs.declared.fault.DefineKind.TheVariants as kind
 use Rattle.rdlpp_scan.specs.Bytes.{is_blank, is_line_end, is_letter, is_digit, is_word, is_opener, is_closer, takes_word, begins_perl, begins_line_comment, begins_block_comment, ends_block_comment}
 use Rattle.rdlpp_scan.specs.Tokens.{first_place, string_stop, whole, string_token, block_token, plain_token, token_of, tokens_from}

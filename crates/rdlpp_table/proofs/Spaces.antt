@@ -1,11 +1,11 @@
 -- White space and names of a text with continuations.
-use Rattle.std.proofs.Common.{◌≡◌, ℕ, suc, ◌+◌, ◌-◌, ◌<◌, ◌≤◌, Bool, true, false, cond, List, [], ◌∷◌, length, take, drop, get_or, eqb, one-add, refl, ap, sym, ◌∙◌, arith, inl, inr, None}
+use Rattle.std.proofs.Common.{◌≡◌, ℕ, suc, ◌+◌, ◌-◌, Bool, true, false, cond, List, [], ◌∷◌, length, take, drop, get_or, eqb, one-add, refl, ap, sym, ◌∙◌, arith, inl, inr, None}
 use Rattle.std.specs.List.{prefix_len}
 use Rattle.std.proofs.lemmas.Bool.{cases_Bool, cond-true, cond-false, eqb-true, false_from_ne_true, both_ways}
 use Rattle.std.proofs.lemmas.List.Folds.{length-prefix_len}
-use Rattle.rdlpp_scan.specs.Bytes.{is_blank, is_line_end, is_letter, is_digit, is_word}
+use Rattle.rdlpp_scan.specs.Bytes.{is_letter, is_digit, is_word}
 use Rattle.std.proofs.lemmas.List.{take_rest}
-use Rattle.rdlpp_table.specs.Define.{Listed, after_space, continuation_len, formal_list, formals_of_list, is_space, leading_name, list_text, without_continuations}
+use Rattle.rdlpp_table.specs.Define.{Listed, after_space, continuation_len, formal_list, formals_of_list, is_space, leading_name, list_text}
 use Rattle.rdlpp_table.specs.Formals.{IsPart}
 use Rattle.rdlpp_table.specs.Bodies.{joined}
 use Rattle.rdlpp_table.proofs.Joins.{BeginsWith, begins_with, joined_none, no_joint_at, same_run, SameRun}

@@ -3,10 +3,10 @@ use Rattle.std.proofs.Common.{◌≡◌, ℕ, Bool, true, false, cond, not, ◌&
 use Rattle.std.proofs.lemmas.Bool.{cond-true, cond-false}
 use Rattle.rdlpp_table.proofs.Clears.{onto_none}
 use Rattle.rdlpp_scan.specs.declared.token.LexFault.TheVariants.{Perl}
-use Rattle.rdlpp_scan.specs.Bytes.{is_line_end, begins_perl, begins_line_comment, begins_block_comment, ends_block_comment}
+use Rattle.rdlpp_scan.specs.Bytes.{begins_perl, begins_line_comment, begins_block_comment, ends_block_comment}
 use Rattle.rdlpp_table.specs.declared.body.Inside.{Inside}
 use Rattle.rdlpp_table.specs.declared.body.Inside.TheVariants.{Text, Remark, Opening, Comment, Closing, Quoted, Taken}
-use Rattle.rdlpp_table.specs.Bodies.{Cleared, Unsound, onto, at_end, minds_perl, keeps_first, behind_first, cleared}
+use Rattle.rdlpp_table.specs.Bodies.{Unsound, onto, at_end, minds_perl, keeps_first, behind_first, cleared}
 
 perl_by_two : (b : ℕ) (bs : List ℕ) (c : ℕ) → c ≡ get_or bs 0 0 → begins_perl (b ∷ bs) ≡ begins_perl (b ∷ c ∷ [])
 unfolding begins_perl

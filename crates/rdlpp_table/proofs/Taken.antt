@@ -1,5 +1,5 @@
 -- A macro taken out of the lists in which a table lies.
-use Rattle.std.proofs.Common.{◌≡◌, ℕ, zero, suc, ◌+◌, ◌-◌, ◌<◌, ◌≤◌, Bool, true, List, [], ◌∷◌, ◌++◌, length, take, drop, map, get_or, refl, ap, sym, ◌∙◌, subst, arith, length-append, append_assoc, add-zero, add-one, remove, zero-add, ◌^◌, Vec, Global, vec_len, vec_capacity, rules}
+use Rattle.std.proofs.Common.{◌≡◌, ℕ, suc, ◌+◌, ◌<◌, ◌≤◌, Bool, true, List, [], ◌∷◌, ◌++◌, length, take, drop, map, get_or, refl, ap, sym, ◌∙◌, subst, arith, length-append, append_assoc, add-zero, add-one, remove, zero-add, ◌^◌, Vec, Global, vec_len, vec_capacity, rules}
 use Rattle.std.specs.List.{All, list_all, remove_range}
 use Rattle.std.proofs.lemmas.List.{take_at, drop_at, take-append-drop, drop_more, length-take-le}
 use Rattle.std.proofs.lemmas.Grind.{flat_map-append}
@@ -10,7 +10,7 @@ use Rattle.rdlpp_table.specs.Table.{Macro, macro_size, macro_bytes, table_size, 
 use Rattle.rdlpp_table.specs.View.{macro_at, no_macro}
 use Rattle.rdlpp_table.specs.Store.{entry_of, entries_of, entry_end, body_start, list_start, list_size, is_plain_macro, IsStored}
 use Rattle.rdlpp_table.specs.Entries.{moved_down, AreBehind}
-use Rattle.rdlpp_table.proofs.Sizes.{stored_within, length_macro_bytes, length_table_bytes, table_size-cons, table_size-append, entry_of_macro}
+use Rattle.rdlpp_table.proofs.Sizes.{stored_within, length_macro_bytes, length_table_bytes, table_size-cons, entry_of_macro}
 
 pub length_entries_of : (start : ℕ) (ms : List Macro) → length (entries_of start ms) ≡ length ms
 unfolding entries_of

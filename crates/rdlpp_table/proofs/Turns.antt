@@ -1,6 +1,6 @@
 -- One part of a formal list, and what the list gives behind it.
-use Rattle.std.proofs.Common.{◌≡◌, ℕ, suc, ◌+◌, ◌<◌, ◌≤◌, Bool, true, false, cond, not, ◌&&◌, ◌||◌, List, [], ◌∷◌, ◌++◌, length, take, drop, get_or, eqb, one-add, Option, Some, None, is_some, unwrap_or, refl, ap, sym, ◌∙◌, arith, inl, inr}
-use Rattle.std.specs.List.{prefix_len, list_any, list_all}
+use Rattle.std.proofs.Common.{◌≡◌, ℕ, suc, ◌+◌, Bool, true, false, cond, not, ◌&&◌, ◌||◌, List, [], ◌∷◌, ◌++◌, length, take, drop, get_or, eqb, one-add, Option, Some, None, is_some, unwrap_or, refl, ap, sym, ◌∙◌, arith, inl, inr}
+use Rattle.std.specs.List.{prefix_len, list_all}
 use Rattle.std.proofs.lemmas.Bool.{cases_Bool, cond-true, cond-false, and_right, eqb-true, false_from_ne_true, false≢true}
 use Rattle.std.proofs.lemmas.List.Folds.{length-prefix_len}
 use Rattle.rdlpp_scan.specs.Bytes.{is_blank, is_line_end, is_letter, is_digit, is_word}
@@ -9,7 +9,7 @@ use Rattle.rdlpp_table.specs.Define.{FormalList, ListText, Listed, Unlisted, One
 use Rattle.rdlpp_table.specs.Formals.{IsPart, formal_fault, formals_behind}
 use Rattle.rdlpp_table.specs.declared.fault.DefineKind.{DefineKind}
 use Rattle.rdlpp_table.specs.declared.fault.DefineKind.TheVariants as kind
-use Rattle.rdlpp_table.proofs.Parts.{InPart, behind_part, ends_part, first_part, glued, in_part, part_of, part_ended, part_more, part_none, behind_ended, behind_none, parts_are}
+use Rattle.rdlpp_table.proofs.Parts.{InPart, behind_part, ends_part, first_part, glued, in_part, part_of, part_ended, part_more, behind_ended, behind_none, parts_are}
 
 -- a formal of a name
 abbrev pub formal_named_by : List ℕ → Formal

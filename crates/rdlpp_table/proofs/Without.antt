@@ -1,12 +1,12 @@
 -- The macros but the one of a name: what stays, and that it is the list without one place.
-use Rattle.std.proofs.Common.{◌≡◌, ℕ, zero, suc, ◌+◌, ◌<◌, ◌≤◌, Bool, true, false, cond, not, ◌||◌, List, [], ◌∷◌, ◌++◌, length, take, drop, map, remove, bytes_eq, Option, Some, None, refl, ap, sym, ◌∙◌, subst, arith, one-add, inl, inr, ltb}
-use Rattle.std.specs.List.{IsDistinct, AllByRecursion, position, position_or_len, filter, list_any}
+use Rattle.std.proofs.Common.{◌≡◌, ℕ, ◌+◌, ◌<◌, ◌≤◌, Bool, true, false, cond, not, ◌||◌, List, [], ◌∷◌, ◌++◌, length, map, remove, bytes_eq, Option, Some, None, refl, ap, sym, ◌∙◌, subst, arith, one-add, inl, inr}
+use Rattle.std.specs.List.{IsDistinct, AllByRecursion, position_or_len, filter, list_any}
 use Rattle.std.proofs.lemmas.List.{map-append}
 use Rattle.std.proofs.lemmas.Cmp.{nat_list_eq_equiv}
-use Rattle.std.proofs.lemmas.Bool.{cases_Bool, cases_lt, lt-ltb, le-ltb, cond-true, cond-false, false≢true, and_parts, and_from}
+use Rattle.std.proofs.lemmas.Bool.{cases_Bool, cases_lt, lt-ltb, le-ltb, cond-true, cond-false}
 use Rattle.std.proofs.lemmas.Map.Keys.{IsDistinct-head, IsDistinct-tail, IsDistinct-cons, IsDistinct-push}
-use Rattle.rdlpp_table.specs.Table.{Macro, table_size, macro_size, without}
-use Rattle.rdlpp_table.specs.View.{TableView, IsSound, place_named}
+use Rattle.rdlpp_table.specs.Table.{Macro, table_size, without}
+use Rattle.rdlpp_table.specs.View.{place_named}
 use Rattle.rdlpp_table.proofs.Sizes.{table_size-cons}
 
 -- the names of macros

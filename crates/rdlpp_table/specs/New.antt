@@ -2,7 +2,7 @@
 use Rattle.std.specs.Prelude.{◌≡◌, ℕ, Bool, true, List, [], length, Option, option_map, unwrap_or, Ok}
 use Rattle.std.specs.List.{flat_map, list_all}
 use Rattle.rdlpp_table.specs.declared.body.Inside.TheVariants.{Text}
-use Rattle.rdlpp_table.specs.Table.{Formal, Macro, formal_bytes}
+use Rattle.rdlpp_table.specs.Table.{Macro, formal_bytes}
 use Rattle.rdlpp_table.specs.Bodies.{body_left, body_len, cleared, joined}
 use Rattle.rdlpp_table.specs.Store.{formals_from, is_plain_formal}
 

@@ -1,8 +1,7 @@
 -- How a table lies in its two lists: the bytes of its macros one after another, and an entry for each.
-use Rattle.std.specs.Prelude.{◌≡◌, ℕ, ◌+◌, ◌-◌, ◌≤◌, Bool, true, not, ◌&&◌, ◌==◌, List, [], ◌∷◌, ◌++◌, length, take, drop, map, slice_range, sum_by, Option, option_map, unwrap_or, vec_len, vec_capacity, if◌then◌else◌}
+use Rattle.std.specs.Prelude.{◌≡◌, ℕ, ◌+◌, Bool, true, not, ◌&&◌, ◌==◌, List, [], ◌∷◌, ◌++◌, length, map, slice_range, sum_by, option_map, unwrap_or, if◌then◌else◌}
 use Rattle.std.specs.List.{list_any, list_all}
-use Rattle.rdlpp_table.specs.Table.{Formal, Macro, macro_size, table_size, table_bytes, formal_size}
-use Rattle.rdlpp_table.specs.View.{TableView, IsSound}
+use Rattle.rdlpp_table.specs.Table.{Formal, Macro, macro_size, table_bytes, formal_size}
 use Rattle.rdlpp_table.specs.declared.entry.Entry.{Entry}
 
 -- the bytes of a macro's formals

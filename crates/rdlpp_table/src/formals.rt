@@ -9,9 +9,13 @@ ghost use Rattle.rdlpp_table.specs.View.{formal_named};
 use crate::body::split_first;
 use crate::fault::DefineKind;
 use crate::header::{after_space, leading_name};
+use crate::name::MOST_NAME_BYTES;
 use arrayvec::ArrayVec;
 
-// The most bytes of a list: 64 names of at most 128 bytes, with a comma after each.
+// The most formals of a macro (this project's profile).
+const MOST_FORMALS: usize = 64;
+
+// The most bytes of a list: each name has at most `MOST_NAME_BYTES`, and a comma after it.
 const LIST_BYTES: usize = 8_256;
 
 // The names of formals, with a comma after each.
@@ -49,13 +53,13 @@ fn formal_fault(list: &[u8], count: usize, name: &[u8]) -> Option<DefineKind>
     if name.is_empty() {
         return Some(DefineKind::BadFormals);
     }
-    if name.len() > 128 {
+    if name.len() > MOST_NAME_BYTES {
         return Some(DefineKind::NameTooLong);
     }
     if place_in_list(list, name).is_some() {
         return Some(DefineKind::FormalTwice);
     }
-    if count >= 64 {
+    if count >= MOST_FORMALS {
         return Some(DefineKind::TooManyFormals);
     }
     None

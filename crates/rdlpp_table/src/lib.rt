@@ -2,6 +2,8 @@
 #![tactic(auto)]
 
 mod body;
+#[cfg(test)]
+mod define_tests;
 mod entry;
 mod fault;
 mod formals;

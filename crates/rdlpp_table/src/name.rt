@@ -7,6 +7,9 @@ use crate::fault::{DefineFault, DefineKind, refusal};
 use arrayvec::ArrayString;
 use rdlpp_scan::{Directive, reserved};
 
+// The most bytes of a name (this project's profile).
+pub(crate) const MOST_NAME_BYTES: usize = 128;
+
 // How a directive is spelled.
 fn spelled(directive: Directive) -> &'static str
     ensures { result.now ≡ spelled directive }
@@ -48,7 +51,7 @@ pub(crate) fn check_name(name: &[u8]) -> Result<(), DefineFault>
     if let Some(directive) = reserved(name) {
         return Err(reserved_refusal(directive));
     }
-    if name.len() > 128 {
+    if name.len() > MOST_NAME_BYTES {
         return Err(refusal(DefineKind::NameTooLong));
     }
     Ok(())

@@ -5,7 +5,11 @@ use crate::table::Table;
 use std::process::Abort;
 
 // A table of the standard limits, but for the bytes and the count of definitions.
-fn table<R: Abort + AllocGlobal>(rt: &R, definition_bytes: usize, definitions: usize) -> Table {
+pub(crate) fn table<R: Abort + AllocGlobal>(
+    rt: &R,
+    definition_bytes: usize,
+    definitions: usize,
+) -> Table {
     let limits = Limits {
         definition_bytes,
         definitions,
@@ -21,7 +25,7 @@ fn table<R: Abort + AllocGlobal>(rt: &R, definition_bytes: usize, definitions: u
 }
 
 // Why a definition was refused, if it was.
-fn kind(outcome: Result<(), DefineFault>) -> Option<DefineKind> {
+pub(crate) fn kind(outcome: Result<(), DefineFault>) -> Option<DefineKind> {
     match outcome {
         Ok(()) => None,
         Err(fault) => Some(fault.kind),
@@ -134,4 +138,27 @@ fn names_and_bodies_have_their_faults(rt: HostRuntime) {
         Some(DefineKind::OpenComment)
     );
     assert_eq!(rt; table.len(), 1);
+}
+
+#[test]
+fn a_name_is_set_to_a_text(rt: HostRuntime) {
+    let mut table = table(&rt, 1_024, 4);
+    assert_eq!(rt;
+        kind(table.set(b"A".as_slice(), b"x // c".as_slice())),
+        None
+    );
+    assert_eq!(rt; table.bytes(), b"Ax".as_slice());
+    assert_eq!(rt; kind(table.set(b"W".as_slice(), b"8".as_slice())), None);
+    match table.find(b"W".as_slice()) {
+        Some(id) => {
+            assert_eq!(rt; table.body(id), b"8".as_slice());
+            assert_eq!(rt; table.formal(id, b"8".as_slice()), None);
+        }
+        None => panic!(rt; "the macro isn't found"),
+    }
+    assert_eq!(rt;
+        kind(table.set(b"A".as_slice(), b"x\\\ny".as_slice())),
+        None
+    );
+    assert_eq!(rt; table.bytes(), b"W8Ax\\\ny".as_slice());
 }

@@ -1,7 +1,5 @@
-use Rattle.std.proofs.Common.{◌≡◌, ◌-◌, ◌∙◌, sym, ap, subst, arith, refl, ℕ, List}
-use Rattle.rdlpp_table.specs.Bodies.{body_left, cleared, joined, onto, is_sound}
+use Rattle.std.proofs.Common.{◌≡◌, ◌-◌, ◌∙◌, arith, refl}
 use Rattle.rdlpp_table.specs.BodyBytes.{left}
-use Rattle.rdlpp_table.specs.declared.body.Inside.TheVariants.{Text}
 use Rattle.rdlpp_table.proofs.Measures.{copied_same, copied_start, copied_more, copied_short, found_is, found_some, found_none, sound_len, sound_behind}
 use Rattle.rdlpp_table.proofs.body.append_body.Goals as goal
 

@@ -1,4 +1,4 @@
-use Rattle.std.proofs.Common.{◌≡◌, ◌∙◌, sym, ap, arith, ℕ, length, true, false}
+use Rattle.std.proofs.Common.{◌∙◌, sym, ap, arith, ℕ, length, true, false}
 use Rattle.rdlpp_table.specs.Bodies.{unblanked}
 use Rattle.rdlpp_table.proofs.Measures.{none_len, fault_len, start_len, step_len, last_len, broken_len, found_next, none_next, fault_next, blank_found, shorter_found}
 use Rattle.rdlpp_table.proofs.body.body_len.Goals as goal

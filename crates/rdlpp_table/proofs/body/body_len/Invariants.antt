@@ -1,4 +1,4 @@
-use Rattle.std.proofs.Common.{◌≡◌, ◌≤◌, ◌+◌, length, ℕ}
+use Rattle.std.proofs.Common.{◌≡◌, ◌≤◌, ◌+◌, length}
 use Rattle.rdlpp_table.specs.Bodies.{body_len, cleared, ended_len, joined}
 use Rattle.rdlpp_table.specs.BodyBytes.{left}
 use Rattle.rdlpp_table.specs.declared.body.Inside.TheVariants.{Text}

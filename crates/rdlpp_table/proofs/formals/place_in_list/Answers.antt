@@ -1,4 +1,4 @@
-use Rattle.std.proofs.Common.{◌≡◌, ◌∙◌, ◌+◌, sym, arith, length, length-drop, ap, drop, ℕ}
+use Rattle.std.proofs.Common.{◌∙◌, ◌+◌, sym, arith, length, length-drop, ap, ℕ}
 use Rattle.std.proofs.lemmas.List.{take_rest}
 use Rattle.rdlpp_table.proofs.Gathered.{comma_inside, reached_found, reached_more, reached_none, reached_start}
 use Rattle.rdlpp_table.proofs.formals.place_in_list.Goals as goal

@@ -1,4 +1,4 @@
-use Rattle.std.proofs.Common.{◌≡◌, ◌≤◌, ◌+◌, [], length}
+use Rattle.std.proofs.Common.{◌≤◌, ◌+◌, length}
 use Rattle.rdlpp_table.proofs.Gathered.{IsReached}
 use Rattle.rdlpp_table.proofs.formals.place_in_list.Given as goal
 

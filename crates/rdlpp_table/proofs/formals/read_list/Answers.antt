@@ -1,4 +1,4 @@
-use Rattle.std.proofs.Common.{◌≡◌, [], List, ℕ, Some, subst, true}
+use Rattle.std.proofs.Common.{◌≡◌, [], Some, subst, true}
 use Rattle.std.specs.Result.{MatchResult}
 use Rattle.rdlpp_table.specs.Bodies.{joined}
 use Rattle.rdlpp_table.specs.Define.{FormalList, Listed, Unlisted}

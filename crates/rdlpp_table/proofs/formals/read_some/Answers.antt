@@ -1,5 +1,4 @@
-use Rattle.std.proofs.Common.{◌≡◌}
-use Rattle.rdlpp_table.proofs.Reading.{IsFound, counted, ends_no_part, few_before, read_closer, read_comma, read_fault, read_open, read_other, room_for, starts}
+use Rattle.rdlpp_table.proofs.Reading.{ends_no_part, read_closer, read_comma, read_fault, read_open, read_other, room_for, starts}
 use Rattle.rdlpp_table.proofs.formals.read_some.Goals as goal
 
 pub loop-kind-init : goal.loop-kind-init

@@ -10,9 +10,9 @@ pub returns-in-Some-clause-value : goal.returns-in-Some-clause-value
 returns-in-Some-clause-value c =
     let r = reserved_name c.args.name.now _ _ _ _ (sym c.is_empty.ensures ∙ c.if-is_empty.false) c.in-Some.is c.reserved.ensures.value c.reserved.ensures.reserved c.reserved_refusal.ensures.kind c.reserved_refusal.ensures.word in (r.why, r.word_is)
 
-pub returns-then-name-gt128-clause-value : goal.returns-then-name-gt128-clause-value
-returns-then-name-gt128-clause-value c =
-    let r = long_name c.args.name.now _ _ _ (sym c.is_empty.ensures ∙ c.if-is_empty.false) c.in_default.is c.reserved.ensures.reserved c.if-name-gt128.true c.refusal-then-name-gt128.ensures.kind c.refusal-then-name-gt128.ensures.word in (r.why, r.word_is)
+pub returns-then-name-gt-MOST_NAME_BYTES-clause-value : goal.returns-then-name-gt-MOST_NAME_BYTES-clause-value
+returns-then-name-gt-MOST_NAME_BYTES-clause-value c =
+    let r = long_name c.args.name.now _ _ _ (sym c.is_empty.ensures ∙ c.if-is_empty.false) c.in_default.is c.reserved.ensures.reserved c.if-name-gt-MOST_NAME_BYTES.true c.refusal-then-name-gt-MOST_NAME_BYTES.ensures.kind c.refusal-then-name-gt-MOST_NAME_BYTES.ensures.word in (r.why, r.word_is)
 
 pub returns-clause-value : goal.returns-clause-value
-returns-clause-value c = good_name c.args.name.now _ (sym c.is_empty.ensures ∙ c.if-is_empty.false) c.in_default.is c.reserved.ensures.reserved c.if-name-gt128.false
+returns-clause-value c = good_name c.args.name.now _ (sym c.is_empty.ensures ∙ c.if-is_empty.false) c.in_default.is c.reserved.ensures.reserved c.if-name-gt-MOST_NAME_BYTES.false

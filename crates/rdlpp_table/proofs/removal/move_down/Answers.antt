@@ -1,4 +1,4 @@
-use Rattle.std.proofs.Common.{◌≡◌, ◌<◌, ap, length, get_or, None, arith}
+use Rattle.std.proofs.Common.{◌<◌, length, None, arith}
 use Rattle.std.proofs.lemmas.List.{get_or_default}
 use Rattle.std.proofs.lemmas.List.Edits.{map_over_more}
 use Rattle.rdlpp_table.specs.declared.entry.Entry.{Entry}

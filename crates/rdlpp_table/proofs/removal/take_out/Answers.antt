@@ -1,4 +1,4 @@
-use Rattle.std.proofs.Common.{◌≡◌, ◌≤◌, ◌<◌, ◌+◌, length, arith, refl}
+use Rattle.std.proofs.Common.{◌<◌, length, arith}
 use Rattle.rdlpp_table.specs.Store.{macros_in}
 use Rattle.rdlpp_table.proofs.Laid.{length_macros_in, count_entries}
 use Rattle.rdlpp_table.proofs.Taken.{taken, taken_stored, taken_behind, end_within, bytes_fit, count_bytes}

@@ -1,4 +1,4 @@
-use Rattle.std.proofs.Common.{◌≡◌, ◌≤◌, ◌<◌, ◌^◌, ◌∙◌, sym, arith, refl, None, Some}
+use Rattle.std.proofs.Common.{◌≡◌, ◌∙◌, sym, arith, refl, None, Some}
 use Rattle.rdlpp_table.specs.declared.entry.Entry.{Entry}
 use Rattle.rdlpp_table.specs.View.{place_named}
 use Rattle.rdlpp_table.specs.Store.{macros_in}

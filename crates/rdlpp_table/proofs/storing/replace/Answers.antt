@@ -1,4 +1,4 @@
-use Rattle.std.proofs.Common.{◌≡◌, ◌++◌, ◌∷◌, [], List, subst, arith}
+use Rattle.std.proofs.Common.{◌++◌, ◌∷◌, [], List, subst, arith}
 use Rattle.rdlpp_table.specs.Table.{Macro}
 use Rattle.rdlpp_table.specs.New.{new_macro}
 use Rattle.rdlpp_table.specs.Store.{IsStored}

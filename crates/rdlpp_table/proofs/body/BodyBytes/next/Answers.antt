@@ -1,7 +1,5 @@
-use Rattle.std.proofs.Common.{◌≡◌, ◌∙◌, sym, ap, subst, arith, Option, Result, ℕ}
-use Rattle.rdlpp_scan.specs.declared.token.LexFault.{LexFault}
-use Rattle.rdlpp_table.specs.Bodies.{Cleared, IsNext, at_end}
-use Rattle.rdlpp_table.specs.BodyBytes.{left}
+use Rattle.std.proofs.Common.{◌∙◌, sym, arith}
+use Rattle.rdlpp_table.specs.Bodies.{IsNext}
 use Rattle.rdlpp_table.proofs.Steps.{step_cut, kept_on, dropped_on, end_left}
 use Rattle.rdlpp_table.proofs.body.BodyBytes.next.Goals as goal
 

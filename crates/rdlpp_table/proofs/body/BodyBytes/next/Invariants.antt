@@ -1,4 +1,4 @@
-use Rattle.std.proofs.Common.{◌≡◌, ◌≤◌, length, ℕ}
+use Rattle.std.proofs.Common.{◌≡◌, ◌≤◌, length}
 use Rattle.rdlpp_table.specs.BodyBytes.{left}
 use Rattle.rdlpp_table.proofs.body.BodyBytes.next.Given as goal
 

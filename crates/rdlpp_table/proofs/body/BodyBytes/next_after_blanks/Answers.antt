@@ -1,4 +1,4 @@
-use Rattle.std.proofs.Common.{◌≡◌, ◌∙◌, sym, arith}
+use Rattle.std.proofs.Common.{◌∙◌, sym, arith}
 use Rattle.rdlpp_table.proofs.Measures.{skip_blank, stop_blank, none_blank, fault_blank, found_next, none_next, fault_next, next_found, next_none, next_fault, shorter_found}
 use Rattle.rdlpp_table.proofs.body.BodyBytes.next_after_blanks.Goals as goal
 

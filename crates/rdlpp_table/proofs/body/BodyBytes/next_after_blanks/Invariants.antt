@@ -1,4 +1,4 @@
-use Rattle.std.proofs.Common.{◌≡◌, ◌≤◌, length, ℕ}
+use Rattle.std.proofs.Common.{◌≡◌, ◌≤◌, length}
 use Rattle.rdlpp_table.specs.Bodies.{unblanked}
 use Rattle.rdlpp_table.specs.BodyBytes.{left}
 use Rattle.rdlpp_table.proofs.body.BodyBytes.next_after_blanks.Given as goal

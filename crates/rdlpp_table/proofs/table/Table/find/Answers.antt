@@ -1,5 +1,4 @@
-use Rattle.std.proofs.Common.{◌≡◌, ◌∙◌, sym, Some, None}
-use Rattle.rdlpp_table.specs.View.{place_named}
+use Rattle.std.proofs.Common.{◌∙◌, sym, Some}
 use Rattle.rdlpp_table.proofs.Laid.{slices_within, found_place, named_at, inside_by_place}
 use Rattle.rdlpp_table.proofs.table.Table.find.Goals as goal
 

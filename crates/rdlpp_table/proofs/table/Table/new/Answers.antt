@@ -1,4 +1,3 @@
-use Rattle.std.proofs.Common.{arith}
 use Rattle.rdlpp_table.proofs.Laid.{held_when_empty, empty_view}
 use Rattle.rdlpp_table.proofs.table.Table.new.Goals as goal
 

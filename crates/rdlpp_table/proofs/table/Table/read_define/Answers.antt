@@ -1,4 +1,4 @@
-use Rattle.std.proofs.Common.{◌∙◌, refl, length}
+use Rattle.std.proofs.Common.{◌∙◌, length}
 use Rattle.std.proofs.lemmas.List.{take_rest}
 use Rattle.rdlpp_table.proofs.Headers.{define_stores, define_refuses}
 use Rattle.rdlpp_table.proofs.table.Table.read_define.Goals as goal

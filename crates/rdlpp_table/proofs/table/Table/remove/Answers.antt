@@ -1,4 +1,4 @@
-use Rattle.std.proofs.Common.{◌≡◌, ◌∙◌, ap, arith, is_some, subst}
+use Rattle.std.proofs.Common.{◌∙◌, ap, arith, is_some}
 use Rattle.rdlpp_table.specs.Table.{macro_named, without}
 use Rattle.rdlpp_table.specs.View.{TableView}
 use Rattle.rdlpp_table.specs.Layout.{view_of}

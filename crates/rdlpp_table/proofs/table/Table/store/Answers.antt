@@ -1,13 +1,13 @@
-use Rattle.std.proofs.Common.{◌≡◌, ◌≤◌, ◌<◌, ◌+◌, ◌^◌, ◌∷◌, ◌++◌, [], ℕ, ap, sym, ◌∙◌, arith, length, List, vec_capacity}
+use Rattle.std.proofs.Common.{◌≡◌, ◌≤◌, ◌+◌, ◌∷◌, ◌++◌, [], ap, sym, ◌∙◌, arith, length}
 use Rattle.rdlpp_table.specs.Table.{Macro, without, table_size, macro_size}
-use Rattle.rdlpp_table.specs.View.{TableView, IsSound}
+use Rattle.rdlpp_table.specs.View.{TableView}
 use Rattle.rdlpp_table.specs.Define.{Accepted}
 use Rattle.rdlpp_table.specs.New.{new_macro}
 use Rattle.rdlpp_table.specs.Store.{macros_in}
 use Rattle.rdlpp_table.specs.Layout.{view_of}
 use Rattle.rdlpp_table.proofs.RoundTrip.{read_back}
 use Rattle.rdlpp_table.proofs.News.{new_size}
-use Rattle.rdlpp_table.proofs.Held.{table_of, held_of, sound_with, too_large, too_many, fits, refused_is, accepted_is}
+use Rattle.rdlpp_table.proofs.Held.{held_of, sound_with, too_large, too_many, fits, refused_is, accepted_is}
 use Rattle.rdlpp_table.proofs.Without.{without_size}
 use Rattle.rdlpp_table.proofs.Taken.{capacity_small}
 use Rattle.rdlpp_table.proofs.table.Table.store.Goals as goal

@@ -1,4 +1,4 @@
-use Rattle.std.proofs.Common.{◌∙◌, sym}
+use Rattle.std.proofs.Common.{◌∙◌}
 use Rattle.rdlpp_table.proofs.Bodied.{body_stores, body_refuses}
 use Rattle.rdlpp_table.proofs.table.Table.store_body.Goals as goal
 

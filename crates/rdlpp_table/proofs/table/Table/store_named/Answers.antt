@@ -1,4 +1,4 @@
-use Rattle.std.proofs.Common.{◌≡◌, ◌∙◌, sym, ap, [], List, ℕ, Some, true}
+use Rattle.std.proofs.Common.{◌∙◌, sym, ap, [], List, ℕ, Some, true}
 use Rattle.rdlpp_table.specs.Bodies.{joined}
 use Rattle.rdlpp_table.specs.Define.{Listed}
 use Rattle.rdlpp_table.specs.Store.{formals_from}
