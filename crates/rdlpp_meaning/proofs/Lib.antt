@@ -34,3 +34,4 @@ pub mod LargerCalls
 pub mod LargerRuns
 pub mod LargerFiles
 pub mod LargerOutputs
+pub mod OddRows
