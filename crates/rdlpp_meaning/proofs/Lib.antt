@@ -30,3 +30,8 @@ pub mod WorkFalls
 pub mod SlotWork
 pub mod CallScans
 pub mod FurtherRows
+pub mod LargerCalls
+pub mod LargerRuns
+pub mod LargerFiles
+pub mod LargerOutputs
+pub mod OddRows

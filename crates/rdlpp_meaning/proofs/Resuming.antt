@@ -1,5 +1,6 @@
 -- What remains of a file from any place, read off the tree of its parts: resuming is that, and at the start it is the meaning.
 use Rattle.std.proofs.Common.{◌≡◌, ℕ, zero, suc, true, false, List, [], ◌∷◌, refl, sym, ap, ◌∙◌, Option, None, Some}
+use Rattle.rdlpp_scan.specs.SourceTokens.{SourceToken}
 use Rattle.rdlpp_meaning.specs.Outcome.{Told, gives, fails, and_then}
 use Rattle.rdlpp_meaning.specs.State.{Rules, State}
 use Rattle.rdlpp_meaning.specs.Parts.{Command, Piece, Run, Single, Opening, Branching, Closing, Parts, Nothing, More, Part, Text, Alone, Conditional, Branch, Level, Last, Upto, Ended, in_front, front_parts, further_branches, behind_end, opened_before, level_of, appended, level_parts, pieces, parts_of}
@@ -252,3 +253,9 @@ pub resumed_start : (rules : Rules) (s : State) (text : List ℕ)
 unfolding text_meaning parts_of resumed rest rest_live
 resumed_start rules s text =
     sym (resume_rest rules (nest_of rules s.sources_left) (pieces true 0 (rules.tokens text)) (Live []) s)
+
+-- what the parts of tokens mean is what resumes at their start
+pub mean_resumes : (rules : Rules) (nest : Nest) (tokens : List SourceToken) (s : State)
+    → mean rules nest (parts_of tokens) s ≡ resume rules nest (Live []) (pieces true 0 tokens) s
+unfolding parts_of rest rest_live
+mean_resumes rules nest tokens s = sym (resume_rest rules nest (pieces true 0 tokens) (Live []) s)

@@ -24,3 +24,4 @@ pub mod SubjectLaws
 pub mod FurtherLaws
 pub mod CursorWork
 pub mod WorkLaws
+pub mod LimitLaws
