@@ -7,7 +7,7 @@ use Rattle.rdlpp_scan.specs.declared.token.Mode.{Mode}
 use Rattle.rdlpp_scan.specs.declared.token.Token.{Token}
 use Rattle.rdlpp_scan.specs.Tokens.{tokens_from}
 
--- whether a kind is that of a `//` comment
+-- whether a kind is that of a `//` comment (this project's profile)
 unfoldable pub is_line_comment : Kind → Bool
 is_line_comment LineComment = true
 is_line_comment _ = false
@@ -16,12 +16,12 @@ is_line_comment _ = false
 unfoldable pub other_tokens : List Token → List Token
 other_tokens ts = filter (λ t. not (is_line_comment t.kind)) ts
 
--- the bytes of each token of a text
+-- the bytes of each token of a text (this project's profile)
 unfoldable pub token_texts : List Token → List ℕ → List (List ℕ)
 token_texts [] text = []
 token_texts (t ∷ ts) text = take t.len text ∷ token_texts ts (drop t.len text)
 
--- the bytes of each token of a text that isn't a `//` comment
+-- the bytes of each token of a text that isn't a `//` comment (this project's profile)
 unfoldable pub other_texts : List Token → List ℕ → List (List ℕ)
 other_texts [] text = []
 other_texts (t ∷ ts) text =

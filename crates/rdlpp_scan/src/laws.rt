@@ -70,7 +70,7 @@ pub fn ended_token()
 /// A text without its `//` comments has the other tokens, in their order, with their kinds and their
 /// bytes, and the same fault, if any: no bytes grow together where a comment is dropped, since what
 /// follows one is an LF or the text's end (this project's profile).
-pub fn dropped_comments()
+pub fn text_without_comments()
     ensures tokens { (mode : Mode) (bytes : List ℕ)
         → tokens_from mode 0 (without_line_comments mode bytes)
         ≡ other_tokens (tokens_from mode 0 bytes) }
@@ -152,7 +152,7 @@ pub fn open_token()
 /// A logical line (IEEE 1364-2001, `define`) that is found has its LF, and stays so with anything
 /// behind it. Where none is found, the search goes on behind what is held with the last two bytes of
 /// that, and behind whole lines as at its beginning.
-pub fn continued_lines()
+pub fn logical_line()
     ensures found { (bytes : List ℕ) (n : ℕ) → logical_len 0 0 bytes ≡ Some n
         → (0 < n) × ((n ≤ length bytes) × IsWholeLines (take n bytes)) }
     ensures stays { (bytes more : List ℕ) (n : ℕ) → logical_len 0 0 bytes ≡ Some n

@@ -27,63 +27,88 @@ fn expect_tokens<R: Abort>(rt: &R, text: &[u8], tokens: &[(Kind, usize, usize)])
     assert!(rt; rest.is_empty(), "{} bytes are left", rest.len());
 }
 
+fn token(kind: Kind, len: usize, next_mode: Mode) -> Token {
+    Token {
+        kind,
+        len,
+        next_mode,
+    }
+}
+
+// Checks the first token of a text.
+fn expect_first<R: Abort>(rt: &R, mode: Mode, text: &[u8], first: Token) {
+    assert!(rt; !text.is_empty());
+    assert_eq!(rt; first_token(mode, text), first, "of {} bytes", text.len());
+}
+
 #[test]
-fn gives_the_first_token(rt: HostRuntime) {
-    let rows: [(Mode, &[u8], Kind, usize, Mode); 24] = [
-        (Mode::Plain, b"\"ab\n", Kind::Str, 4, Mode::InStr),
-        (Mode::InStr, b"cd\" x", Kind::Str, 3, Mode::Plain),
-        (Mode::Plain, b"\"a<%", Kind::Str, 2, Mode::InStr),
-        (Mode::InStr, b"<% x", Kind::Perl, 2, Mode::Plain),
-        (Mode::Plain, b"8'hFF", Kind::Word, 1, Mode::Plain),
-        (Mode::Plain, b"'hFF", Kind::Word, 4, Mode::Plain),
-        (Mode::Plain, b"\\esc ", Kind::Word, 4, Mode::Plain),
-        (Mode::Plain, b"\"\\\"<\\<%\"x", Kind::Str, 8, Mode::Plain),
-        (Mode::Plain, b"reg_1[", Kind::Name, 5, Mode::Plain),
-        (Mode::Plain, b"`W]", Kind::Back, 2, Mode::Plain),
-        (Mode::Plain, b"`9", Kind::BareBackquote, 1, Mode::Plain),
-        (Mode::Plain, b" \t\r\x0b\x0c\n", Kind::Blank, 5, Mode::Plain),
-        (Mode::Plain, b"\n\n", Kind::LineEnd, 1, Mode::Plain),
+fn gives_strings_and_comments(rt: HostRuntime) {
+    let rows: [(Mode, &[u8], Token); 12] = [
+        (Mode::Plain, b"\"ab\n", token(Kind::Str, 4, Mode::InStr)),
+        (Mode::InStr, b"cd\" x", token(Kind::Str, 3, Mode::Plain)),
+        (Mode::Plain, b"\"a<%", token(Kind::Str, 2, Mode::InStr)),
+        (Mode::InStr, b"<% x", token(Kind::Perl, 2, Mode::Plain)),
+        (
+            Mode::Plain,
+            b"\"\\\"<\\<%\"x",
+            token(Kind::Str, 8, Mode::Plain),
+        ),
+        (Mode::InStr, b"b\n", token(Kind::Str, 2, Mode::InStr)),
         (
             Mode::Plain,
             b"// <% a\nb",
-            Kind::LineComment,
-            7,
-            Mode::Plain,
+            token(Kind::LineComment, 7, Mode::Plain),
         ),
         (
             Mode::Plain,
             b"/*/ a */b",
-            Kind::BlockComment,
-            8,
-            Mode::Plain,
+            token(Kind::BlockComment, 8, Mode::Plain),
         ),
-        (Mode::Plain, b"/* a\n", Kind::BlockComment, 5, Mode::InBlock),
+        (
+            Mode::Plain,
+            b"/* a\n",
+            token(Kind::BlockComment, 5, Mode::InBlock),
+        ),
         (
             Mode::InBlock,
             b"<% b */ c",
-            Kind::BlockComment,
-            7,
-            Mode::Plain,
+            token(Kind::BlockComment, 7, Mode::Plain),
         ),
-        (Mode::InBlock, b"b\n", Kind::BlockComment, 2, Mode::InBlock),
-        (Mode::InStr, b"b\n", Kind::Str, 2, Mode::InStr),
-        (Mode::Plain, b"<%", Kind::Perl, 2, Mode::Plain),
-        (Mode::Plain, b"{", Kind::Opener, 1, Mode::Plain),
-        (Mode::Plain, b")", Kind::Closer, 1, Mode::Plain),
-        (Mode::Plain, b",,", Kind::Comma, 1, Mode::Plain),
-        (Mode::Plain, b"/a", Kind::Other, 1, Mode::Plain),
+        (
+            Mode::InBlock,
+            b"b\n",
+            token(Kind::BlockComment, 2, Mode::InBlock),
+        ),
+        (
+            Mode::InBlock,
+            b"/*/ a */",
+            token(Kind::BlockComment, 3, Mode::Plain),
+        ),
     ];
-    for (mode, text, kind, len, next_mode) in rows {
-        assert!(rt; !text.is_empty());
-        assert_eq!(rt;
-            first_token(mode, text),
-            Token {
-                kind,
-                len,
-                next_mode
-            },
-            "at length {len}"
-        );
+    for (mode, text, first) in rows {
+        expect_first(&rt, mode, text, first);
+    }
+}
+
+#[test]
+fn gives_words_and_marks(rt: HostRuntime) {
+    let rows: [(&[u8], Kind, usize); 13] = [
+        (b"8'hFF", Kind::Word, 1),
+        (b"'hFF", Kind::Word, 4),
+        (b"\\esc ", Kind::Word, 4),
+        (b"reg_1[", Kind::Name, 5),
+        (b"`W]", Kind::Back, 2),
+        (b"`9", Kind::BareBackquote, 1),
+        (b" \t\r\x0b\x0c\n", Kind::Blank, 5),
+        (b"\n\n", Kind::LineEnd, 1),
+        (b"<%", Kind::Perl, 2),
+        (b"{", Kind::Opener, 1),
+        (b")", Kind::Closer, 1),
+        (b",,", Kind::Comma, 1),
+        (b"/a", Kind::Other, 1),
+    ];
+    for (text, kind, len) in rows {
+        expect_first(&rt, Mode::Plain, text, token(kind, len, Mode::Plain));
     }
 }
 
@@ -124,81 +149,41 @@ fn finds_lines_names_and_faults(rt: HostRuntime) {
     assert!(rt; is_unbuilt_define(b"`define A(x) x\n") && !is_unbuilt_define(b"`define A 1\n\""));
 }
 
+// A text, its kind in plain text, its token in a string, and the mode behind it in a comment.
+type Sample = (&'static [u8], Kind, Token, Mode);
+
 #[test]
 fn gives_each_kind_in_each_mode(rt: HostRuntime) {
-    let open = (Kind::Str, 1, Mode::InStr);
-    let samples: [(&[u8], Kind, (Kind, usize, Mode), Mode); 14] = [
-        (
-            b"ab",
-            Kind::Name,
-            (Kind::Str, 2, Mode::InStr),
-            Mode::InBlock,
-        ),
-        (
-            b"12",
-            Kind::Word,
-            (Kind::Str, 2, Mode::InStr),
-            Mode::InBlock,
-        ),
-        (
-            b"`a",
-            Kind::Back,
-            (Kind::Str, 2, Mode::InStr),
-            Mode::InBlock,
-        ),
-        (
-            b" \t",
-            Kind::Blank,
-            (Kind::Str, 2, Mode::InStr),
-            Mode::InBlock,
-        ),
-        (b"\n", Kind::LineEnd, open, Mode::InBlock),
-        (
-            b"\"a\"",
-            Kind::Str,
-            (Kind::Str, 1, Mode::Plain),
-            Mode::InBlock,
-        ),
-        (
-            b"// a",
-            Kind::LineComment,
-            (Kind::Str, 4, Mode::InStr),
-            Mode::InBlock,
-        ),
-        (
-            b"/*a*/",
-            Kind::BlockComment,
-            (Kind::Str, 5, Mode::InStr),
-            Mode::Plain,
-        ),
-        (b"[", Kind::Opener, open, Mode::InBlock),
-        (b"}", Kind::Closer, open, Mode::InBlock),
-        (b",", Kind::Comma, open, Mode::InBlock),
-        (b"\\", Kind::Other, open, Mode::InBlock),
-        (
-            b"<%",
-            Kind::Perl,
-            (Kind::Perl, 2, Mode::Plain),
-            Mode::InBlock,
-        ),
-        (b"`", Kind::BareBackquote, open, Mode::InBlock),
+    let one = token(Kind::Str, 1, Mode::InStr);
+    let two = token(Kind::Str, 2, Mode::InStr);
+    let four = token(Kind::Str, 4, Mode::InStr);
+    let five = token(Kind::Str, 5, Mode::InStr);
+    let closed = token(Kind::Str, 1, Mode::Plain);
+    let perl = token(Kind::Perl, 2, Mode::Plain);
+    let samples: [Sample; 14] = [
+        (b"ab", Kind::Name, two, Mode::InBlock),
+        (b"12", Kind::Word, two, Mode::InBlock),
+        (b"`a", Kind::Back, two, Mode::InBlock),
+        (b" \t", Kind::Blank, two, Mode::InBlock),
+        (b"\n", Kind::LineEnd, one, Mode::InBlock),
+        (b"\"a\"", Kind::Str, closed, Mode::InBlock),
+        (b"// a", Kind::LineComment, four, Mode::InBlock),
+        (b"/*a*/", Kind::BlockComment, five, Mode::Plain),
+        (b"[", Kind::Opener, one, Mode::InBlock),
+        (b"}", Kind::Closer, one, Mode::InBlock),
+        (b",", Kind::Comma, one, Mode::InBlock),
+        (b"\\", Kind::Other, one, Mode::InBlock),
+        (b"<%", Kind::Perl, perl, Mode::InBlock),
+        (b"`", Kind::BareBackquote, one, Mode::InBlock),
     ];
-    for (text, kind, (string_kind, string_len, string_mode), block_mode) in samples {
-        assert!(rt; !text.is_empty());
+    for (text, kind, in_string, behind_comment) in samples {
         let len = text.len();
-        let expected = [
-            (Mode::Plain, kind, len, Mode::Plain),
-            (Mode::InStr, string_kind, string_len, string_mode),
-            (Mode::InBlock, Kind::BlockComment, len, block_mode),
-        ];
-        for (mode, kind, len, next_mode) in expected {
-            let token = Token {
-                kind,
-                len,
-                next_mode,
-            };
-            assert_eq!(rt; first_token(mode, text), token, "of {kind:?} in {mode:?}");
-        }
+        assert!(rt; len > 0);
+        let plain = token(kind, len, Mode::Plain);
+        let in_comment = token(Kind::BlockComment, len, behind_comment);
+        assert_eq!(rt; first_token(Mode::Plain, text), plain);
+        assert_eq!(rt; first_token(Mode::InStr, text), in_string, "of {kind:?}");
+        assert_eq!(rt; first_token(Mode::InBlock, text), in_comment, "of {kind:?}");
     }
 }
 

@@ -4,7 +4,7 @@ use Rattle.rdlpp_scan.specs.SourceTokens.{logical_len}
 use Rattle.rdlpp_scan.proofs.LineLaws.{logical_len-append}
 use Rattle.rdlpp_scan.proofs.DefineSteps.{logical_len-within}
 use Rattle.rdlpp_scan.proofs.ContinuedLines.{logical_len-behind_lines, logical_len-goes_behind, logical_len-whole}
-use Rattle.rdlpp_scan.proofs.laws.continued_lines.Goals as goal
+use Rattle.rdlpp_scan.proofs.laws.logical_line.Goals as goal
 
 pub returns-clause-found : goal.returns-clause-found
 returns-clause-found c = λ bytes n is. let within = logical_len-within 0 0 bytes n is in (within.0, (within.1, logical_len-whole 0 0 bytes n is))

@@ -1,5 +1,5 @@
 use Rattle.rdlpp_scan.proofs.CommentLaws.{without-fault, without-texts, without-tokens}
-use Rattle.rdlpp_scan.proofs.laws.dropped_comments.Goals as goal
+use Rattle.rdlpp_scan.proofs.laws.text_without_comments.Goals as goal
 
 pub returns-clause-tokens : goal.returns-clause-tokens
 returns-clause-tokens c = without-tokens
