@@ -1,11 +1,10 @@
 -- One definition after another is given to a table.
-use Rattle.std.proofs.Common.{◌≡◌, ℕ, ◌+◌, ◌<◌, ◌≤◌, length, List, [], ◌∷◌, drop, Result, Ok, Err, String, slice_index_or, refl, sym, ap, subst, ◌∙◌}
+use Rattle.std.proofs.Common.{◌≡◌, ℕ, ◌+◌, ◌<◌, ◌≤◌, length, List, ◌∷◌, drop, Result, Ok, Err, slice_index_or, sym, ap, ◌∙◌}
 use Rattle.std.specs.String.{string_bytes}
 use Rattle.std.proofs.lemmas.List.{drop_more, drop_all}
 use Rattle.rdlpp_table.specs.Table.{Macro}
 use Rattle.rdlpp_table.specs.Define.{Accepted, Defined, Refused, observed, set_of}
 use Rattle.rdlpp_table.specs.declared.fault.DefineFault.{DefineFault}
-use Rattle.rdlpp_meaning.specs.Outcome.{Told, told}
 use Rattle.rdlpp_expand.specs.Engine.{EngineView}
 use Rattle.rdlpp.specs.Definitions.{Pair, Given, Taken, Declined, given, given_in, refused_definition, with_macros}
 

@@ -1,4 +1,4 @@
-use Rattle.std.proofs.Common.{◌∙◌, ap, sym, subst}
+use Rattle.std.proofs.Common.{◌∙◌, ap, sym}
 use Rattle.rdlpp.specs.Definitions.{given_in}
 use Rattle.rdlpp_expand.specs.Opening.{fresh_engine}
 use Rattle.rdlpp_expand.specs.Run.{count_of, fault_of}
