@@ -6,9 +6,9 @@ ghost use Rattle.rdlpp_table.specs.Formals.{formal_fault, formals_behind, AreFor
 ghost use Rattle.rdlpp_table.specs.Store.{formals_from};
 ghost use Rattle.rdlpp_table.specs.View.{formal_named};
 
-use crate::body::split_first;
 use crate::fault::DefineKind;
 use crate::header::{after_space, leading_name};
+use crate::logical::split_first;
 use crate::name::MOST_NAME_BYTES;
 use arrayvec::ArrayVec;
 
@@ -16,10 +16,10 @@ use arrayvec::ArrayVec;
 const MOST_FORMALS: usize = 64;
 
 // The most bytes of a list: each name has at most `MOST_NAME_BYTES`, and a comma after it.
-const LIST_BYTES: usize = 8_256;
+const LIST_BYTES: usize = MOST_FORMALS * (MOST_NAME_BYTES + 1);
 
 // The names of formals, with a comma after each.
-pub(crate) type List = ArrayVec<u8, LIST_BYTES>;
+pub(crate) type FormalBytes = ArrayVec<u8, LIST_BYTES>;
 
 // The place of the first comma.
 fn comma_in(bytes: &[u8]) -> Option<usize>
@@ -66,8 +66,8 @@ fn formal_fault(list: &[u8], count: usize, name: &[u8]) -> Option<DefineKind>
 }
 
 // Appends a formal.
-fn append_formal(list: &mut List, name: &[u8])
-    requires { length list.old.items + length name.now < 8256 }
+fn append_formal(list: &mut FormalBytes, name: &[u8])
+    requires { length list.old.items + length name.now < LIST_BYTES }
     ensures { list.new.items ≡ (list.old.items ++ name.now) ++ 44 ∷ [] }
 {
     let _ = list.try_extend_from_slice(name);
@@ -102,7 +102,7 @@ pub(crate) struct ReadList<'a> {
 }
 
 // Reads the formals of a list that has some.
-fn read_some<'a>(text: &'a [u8], list: &mut List) -> Result<ReadList<'a>, DefineKind>
+fn read_some<'a>(text: &'a [u8], list: &mut FormalBytes) -> Result<ReadList<'a>, DefineKind>
     requires { list.old.items ≡ [] }
     ensures formals { MatchResult result (λ read. formals_behind [] (joined true text.now) ≡ Listed (Some (formals_from [] list.new.items)) (joined true read.behind.now)) (λ kind. formals_behind [] (joined true text.now) ≡ Unlisted kind) }
     ensures listed { IfOk result (λ read. AreFormals list.new.items read.count) }
@@ -130,7 +130,10 @@ fn read_some<'a>(text: &'a [u8], list: &mut List) -> Result<ReadList<'a>, Define
 }
 
 // Reads a formal list, behind its `(`.
-pub(crate) fn read_list<'a>(text: &'a [u8], list: &mut List) -> Result<ReadList<'a>, DefineKind>
+pub(crate) fn read_list<'a>(
+    text: &'a [u8],
+    list: &mut FormalBytes,
+) -> Result<ReadList<'a>, DefineKind>
     requires { list.old.items ≡ [] }
     ensures formals { MatchResult result (λ read. formals_of_list (list_text (joined true text.now)) ≡ Listed (Some (formals_from [] list.new.items)) (joined true read.behind.now)) (λ kind. formals_of_list (list_text (joined true text.now)) ≡ Unlisted kind) }
     ensures listed { IfOk result (λ read. AreFormals list.new.items read.count) }

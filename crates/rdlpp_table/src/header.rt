@@ -1,4 +1,4 @@
-// The header of a definition: white space, a name.
+// The header of a definition: white space, a name, and whether a formal list follows.
 ghost use Rattle.std.specs.Prelude.{length, true, IfSome, MatchOption, None, Some, ◌≡◌, ◌≤◌};
 ghost use Rattle.std.specs.List.{list_any, prefix_len};
 ghost use Rattle.rdlpp_scan.specs.Bytes.{is_blank, is_letter, is_line_end, is_word};
@@ -6,7 +6,7 @@ ghost use Rattle.rdlpp_scan.specs.SourceTokens.{logical_len};
 ghost use Rattle.rdlpp_table.specs.Bodies.{joined};
 ghost use Rattle.rdlpp_table.specs.Define.{after_space, formal_list, formals_of_list, is_space, leading_name, list_text, unended, Listed};
 
-use crate::body::split_first;
+use crate::logical::split_first;
 use rdlpp_scan::logical_line;
 
 // A space, tab, CR, VT or FF.

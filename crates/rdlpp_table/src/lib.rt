@@ -9,6 +9,7 @@ mod fault;
 mod formals;
 mod header;
 mod limits;
+mod logical;
 mod name;
 mod removal;
 mod storing;

@@ -158,11 +158,18 @@ impl Table {
         take_out_named(&mut self.bytes, &mut self.entries, name)
     }
 
-    /// Stores the macro of a `define`; `rest` is what follows that word, up to the end of its logical line or of the text.
+    /// Stores the macro of a `define` in the place of one of its name (IEEE 1364-2001, `define`); `rest` is what
+    /// follows that word, up to the end of its logical line or of the text.
+    ///
+    /// `\` LF and `\` CR LF are read as LF. A formal list is read where `(` follows the name at once. The body loses
+    /// its `//` comments, and then the blanks at both ends.
     ///
     /// # Errors
-    /// The first fault of the definition: of its name, of its formals, of its body, or of the room in the table.
-    /// The table is unchanged then.
+    /// The first fault of the definition, and the table is unchanged then: of its name (`NameExpected`,
+    /// `ReservedName` with that name, `NameTooLong` past 128 bytes); of its formals from left to right (`BadFormals`,
+    /// `NameTooLong`, `FormalTwice`, `TooManyFormals` past 64, which are this project's bounds); of its body
+    /// (`EmbeddedPerl`, `OpenString`, `OpenComment`); of the room in the table without the old macro of that name
+    /// (`DefinitionBytes`, `TooManyDefinitions`).
     pub fn read_define(&mut self, rest: &[u8]) -> Result<(), DefineFault>
         requires line { IfSome (logical_len 0 0 rest.now) (λ n. n ≡ length rest.now) }
         ensures outcome { observed result self.new.macros ≡ define_of self.old.most_bytes self.old.most_macros self.old.macros rest.now }

@@ -1,5 +1,5 @@
 use Rattle.rdlpp_table.proofs.Joins.{reads_logical, reads_plain}
-use Rattle.rdlpp_table.proofs.body.first_len.Goals as goal
+use Rattle.rdlpp_table.proofs.logical.first_len.Goals as goal
 
 pub returns-then-is_logical-clause-inside : goal.returns-then-is_logical-clause-inside
 returns-then-is_logical-clause-inside c = (reads_logical _ _ _ c.requires c.if-is_logical.true c.continuation_len.ensures.value).inside
