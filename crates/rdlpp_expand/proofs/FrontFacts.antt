@@ -1,7 +1,7 @@
 -- What the bytes at the front of a text tell of its first token.
 use Rattle.std.proofs.Common.{◌≡◌, ◌≢◌, ℕ, suc, ◌+◌, ◌-◌, ◌<◌, Bool, true, false, not, cond, ◌&&◌, ◌||◌, ◌==◌, List, [], ◌∷◌, length, take, drop, slice_index, Option, Some, None, refl, sym, ap, ◌∙◌, arith, inl, inr}
 use Rattle.std.specs.Prelude.{bytes_eq, codes, nat_lt}
-use Rattle.std.specs.List.{prefix_len, list_any}
+use Rattle.std.specs.List.{prefix_len}
 use Rattle.std.proofs.lemmas.Bool.Decides.{eqb_tells}
 use Rattle.rdlpp_scan.specs.declared.token.Kind.TheVariants.{Back, Str, BlockComment, Perl, BareBackquote}
 use Rattle.rdlpp_scan.specs.declared.token.Mode.TheVariants.{Plain, InStr, InBlock}
@@ -11,8 +11,8 @@ use Rattle.rdlpp_scan.specs.declared.token.Directive.TheVariants.{Define, Undef,
 use Rattle.rdlpp_scan.specs.Bytes.{is_blank, is_line_end, is_letter, is_digit, is_word, is_opener, is_closer, takes_word, begins_perl, begins_line_comment, begins_block_comment, ends_block_comment}
 use Rattle.rdlpp_scan.specs.Tokens.{whole, string_stop, string_token, block_token, plain_token, token_of, first_place, plain_len, stops_plain_text}
 use Rattle.rdlpp_scan.specs.Names.{directive_named}
-use Rattle.rdlpp_scan.specs.SourceTokens.{line_len}
-use Rattle.rdlpp_scan.specs.Stage.{name_behind, reserved_names, is_reserved, is_unbuilt, is_unbuilt_directive, is_unbuilt_in_define}
+use Rattle.rdlpp_scan.specs.Lines.{line_continues}
+use Rattle.rdlpp_scan.specs.Stage.{name_behind, reserved_names, is_reserved, is_unbuilt, is_unbuilt_directive}
 
 -- a text without ordinary text at its front stops there
 pub stops_at_front : (bs : List ℕ) → 0 < length bs → plain_len bs ≡ 0 → stops_plain_text bs ≡ true
@@ -221,7 +221,7 @@ other_name name o e ne =
 
 -- a directive that isn't built
 pub unbuilt_directive : (bs : List ℕ) → slice_index bs 0 ≡ 96 → is_reserved (name_behind bs) ≡ true
-    → (not (bytes_eq (name_behind bs) (codes "define")) || list_any is_unbuilt_in_define (drop 7 (take (line_len bs) bs))) ≡ true
+    → (not (bytes_eq (name_behind bs) (codes "define")) || line_continues 0 0 bs) ≡ true
     → is_unbuilt bs ≡ true
 unfolding is_unbuilt is_unbuilt_directive begins_line_comment begins_block_comment
 unbuilt_directive bs e r h = rw (e, r, h) refl
@@ -232,9 +232,9 @@ unbuilt_other bs o e word ne =
     let other = other_name (name_behind bs) o word ne in
     unbuilt_directive bs e (directive_name (name_behind bs) o word) (rw other refl)
 
--- nor is a `define` whose line has what isn't built
+-- nor is a `define` whose line is continued
 pub unbuilt_define : (bs : List ℕ) → slice_index bs 0 ≡ 96 → directive_named (name_behind bs) ≡ Some Define
-    → list_any is_unbuilt_in_define (drop 7 (take (line_len bs) bs)) ≡ true → is_unbuilt bs ≡ true
+    → line_continues 0 0 bs ≡ true → is_unbuilt bs ≡ true
 unbuilt_define bs e word h =
     unbuilt_directive bs e (directive_name (name_behind bs) Define word) (rw (define_name (name_behind bs) word, h) refl)
 

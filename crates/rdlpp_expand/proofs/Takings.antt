@@ -309,8 +309,8 @@ define_rest line len m wide least =
     take_rest line m ∙ drop_min line m 7 (least ∙ ap (λ n. min n 7) (sym wide))
 
 -- it is a logical line
-pub define_whole : (held : List ℕ) (n : ℕ) → IsDefine held n → IfSome (logical_len 0 0 (drop 7 (take n held))) (λ k. k ≡ length (drop 7 (take n held)))
-define_whole held n define = elim (define_logical held n define) [
+pub define_whole : (held : List ℕ) (n : ℕ) → 0 < length held → IsDefine held n → IfSome (logical_len 0 0 (drop 7 (take n held))) (λ k. k ≡ length (drop 7 (take n held)))
+define_whole held n some define = elim (define_logical held n some define) [
   | inl e ↦ rw e tt
   | inr e ↦ rw e refl
 ]

@@ -20,7 +20,7 @@ pub(crate) enum Front {
     Text(usize),
     /// A backquote and a name that isn't reserved, of so many bytes together.
     Usage(usize),
-    /// A `define` whose line has so many bytes.
+    /// A `define` whose line, which isn't continued, has so many bytes.
     Define(usize),
     /// What ends the output.
     Refused(FaultKind),
