@@ -2,7 +2,7 @@
 -- A definition that names no source is this project's own.
 use Rattle.std.specs.Prelude.{◌≡◌, ℕ, ◌+◌, ◌-◌, ◌<◌, true, false, List, take, drop, bytes_eq, codes}
 use Rattle.rdlpp_scan.specs.declared.token.Mode.TheVariants.{Plain}
-use Rattle.rdlpp_scan.specs.declared.token.Kind.TheVariants.{Back, BareBackquote, Perl}
+use Rattle.rdlpp_scan.specs.declared.token.Kind.TheVariants.{Back, BareBackquote, LineComment, Perl}
 use Rattle.rdlpp_scan.specs.Tokens.{token_of, plain_len}
 use Rattle.rdlpp_scan.specs.SourceTokens.{line_len}
 use Rattle.rdlpp_scan.specs.Lines.{line_continues}
@@ -13,10 +13,10 @@ use Rattle.rdlpp_expand.specs.Feed.{FeedView}
 use Rattle.rdlpp_expand.specs.declared.front.Front.{Front}
 use Rattle.rdlpp_expand.specs.declared.front.Front.TheVariants.{Text, Usage, Define, Refused}
 
--- ordinary text
-pub record IsText (held : List ℕ) (len : ℕ) : Type 0 where
-  pub some : 0 < len
-  pub whole : len ≡ plain_len held
+-- text that is copied: ordinary text, or a `//` comment
+pub data IsText (held : List ℕ) (len : ℕ) : Type 0 where
+  AtOrdinary : 0 < len → len ≡ plain_len held → IsText held len
+  AtRemark : (token_of Plain held).kind ≡ LineComment → len ≡ (token_of Plain held).len → IsText held len
 
 -- a backquote and a name that isn't reserved
 pub record IsUsage (held : List ℕ) (len : ℕ) : Type 0 where

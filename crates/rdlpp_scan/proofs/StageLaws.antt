@@ -23,31 +23,35 @@ front_name bs = take ((token_of Plain bs).len - 1) (drop 1 bs)
 -- a string isn't built
 pub is_unbuilt-quote : (bs : List ℕ) → eqb (get_or bs 0 0) 34 ≡ true → is_unbuilt bs ≡ true
 unfolding is_unbuilt
-is_unbuilt-quote bs h = ap (λ t. t || begins_line_comment bs || begins_block_comment bs || is_unbuilt_directive bs) h
-
--- a line comment isn't
-pub is_unbuilt-line : (bs : List ℕ) → begins_line_comment bs ≡ true → is_unbuilt bs ≡ true
-unfolding is_unbuilt
-is_unbuilt-line bs h = ap (λ t. eqb (get_or bs 0 0) 34 || t || begins_block_comment bs || is_unbuilt_directive bs) h ∙ ap (λ t. t || begins_block_comment bs || is_unbuilt_directive bs) (or-true (eqb (get_or bs 0 0) 34))
+is_unbuilt-quote bs h = ap (λ t. t || begins_block_comment bs || is_unbuilt_directive bs) h
 
 -- a block comment isn't
 pub is_unbuilt-block : (bs : List ℕ) → begins_block_comment bs ≡ true → is_unbuilt bs ≡ true
 unfolding is_unbuilt
 is_unbuilt-block bs h =
-    let q = eqb (get_or bs 0 0) 34 || begins_line_comment bs in
+    let q = eqb (get_or bs 0 0) 34 in
     ap (λ t. q || t || is_unbuilt_directive bs) h ∙ ap (λ t. t || is_unbuilt_directive bs) (or-true q)
+
+-- a line comment is built
+pub is_unbuilt-line : (bs : List ℕ) → begins_line_comment bs ≡ true → is_unbuilt bs ≡ false
+unfolding is_unbuilt is_unbuilt_directive begins_line_comment begins_block_comment
+is_unbuilt-line bs h =
+    let parts = and_parts (eqb (get_or bs 0 0) 47) (eqb (get_or bs 1 0) 47) h in
+    let first = eqb-true (get_or bs 0 0) 47 parts.0 in
+    let second = eqb-true (get_or bs 1 0) 47 parts.1 in
+    rw (first, second) refl
 
 -- what a row's byte leaves of the test
 is_unbuilt-byte : (bs : List ℕ) (n : ℕ) → get_or bs 0 0 ≡ n → eqb n 34 ≡ false → eqb n 47 ≡ false
     → is_unbuilt bs ≡ (eqb n 96 && is_reserved (name_behind bs) && (not (bytes_eq (name_behind bs) (codes "define")) || line_continues 0 0 bs))
-unfolding is_unbuilt is_unbuilt_directive begins_line_comment begins_block_comment
+unfolding is_unbuilt is_unbuilt_directive begins_block_comment
 is_unbuilt-byte bs n is quote slash =
     let c = get_or bs 1 0 in
     let R = is_reserved (name_behind bs) in
     let N = not (bytes_eq (name_behind bs) (codes "define")) || line_continues 0 0 bs in
-    ap (λ m. eqb m 34 || (eqb m 47 && eqb c 47) || (eqb m 47 && eqb c 42) || (eqb m 96 && R && N)) is
-    ∙ ap (λ t. t || (eqb n 47 && eqb c 47) || (eqb n 47 && eqb c 42) || (eqb n 96 && R && N)) quote
-    ∙ ap (λ t. (t && eqb c 47) || (t && eqb c 42) || (eqb n 96 && R && N)) slash
+    ap (λ m. eqb m 34 || (eqb m 47 && eqb c 42) || (eqb m 96 && R && N)) is
+    ∙ ap (λ t. t || (eqb n 47 && eqb c 42) || (eqb n 96 && R && N)) quote
+    ∙ ap (λ t. (t && eqb c 42) || (eqb n 96 && R && N)) slash
 
 -- `<%` is built
 pub is_unbuilt-at_perl : (bs : List ℕ) → begins_perl bs ≡ true → is_unbuilt bs ≡ false
@@ -115,10 +119,10 @@ module _ (bs : List ℕ) where
   is_unbuilt-string is =
       by_row Str (is_unbuilt bs ≡ true) (token_of Plain bs) is (token_of-row bs) (λ e _. absurd (cc)) (λ e _. absurd (cc)) (λ e _. absurd (cc)) (λ _ h. is_unbuilt-quote bs h) (λ e _ _. absurd (cc)) (λ e _ _. absurd (cc)) (λ e. absurd (false≢true e))
 
-  pub is_unbuilt-line_comment : (token_of Plain bs).kind ≡ LineComment → is_unbuilt bs ≡ true
+  pub is_unbuilt-line_comment : (token_of Plain bs).kind ≡ LineComment → is_unbuilt bs ≡ false
   unfolding is_plain_kind
   is_unbuilt-line_comment is =
-      by_row LineComment (is_unbuilt bs ≡ true) (token_of Plain bs) is (token_of-row bs) (λ e _. absurd (cc)) (λ _ h. is_unbuilt-line bs h) (λ e _. absurd (cc)) (λ e _. absurd (cc)) (λ e _ _. absurd (cc)) (λ e _ _. absurd (cc)) (λ e. absurd (false≢true e))
+      by_row LineComment (is_unbuilt bs ≡ false) (token_of Plain bs) is (token_of-row bs) (λ e _. absurd (cc)) (λ _ h. is_unbuilt-line bs h) (λ e _. absurd (cc)) (λ e _. absurd (cc)) (λ e _ _. absurd (cc)) (λ e _ _. absurd (cc)) (λ e. absurd (false≢true e))
 
   pub is_unbuilt-block_comment : (token_of Plain bs).kind ≡ BlockComment → is_unbuilt bs ≡ true
   unfolding is_plain_kind

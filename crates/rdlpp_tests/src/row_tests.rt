@@ -196,8 +196,8 @@ fn gives_each_row(rt: HostRuntime) {
             fault(99, 1, ""),
         ),
         faulty(
-            "a comment isn't built",
-            b"a\nb // c\n",
+            "a block comment isn't built",
+            b"a\nb /* c */\n",
             b"a\nb ",
             fault(99, 2, ""),
         ),
@@ -227,6 +227,21 @@ fn gives_each_row_of_definitions(rt: HostRuntime) {
             b"\n\n1",
         ),
         whole("a comment behind a body", b"`define A 1 // 2\n`A", b"\n1"),
+        whole(
+            "a body of a string and a comment",
+            b"`define A \"a\\\" `B //\" /* `C ` */ 1 // 2\n[`A]\n",
+            b"\n[\"a\\\" `B //\" /* `C ` */ 1]\n",
+        ),
+        whole(
+            "comments up to the line's end and the text's end",
+            b"a // `B <% \"\r\n/// /*\nb //",
+            b"a // `B <% \"\r\n/// /*\nb //",
+        ),
+        whole(
+            "a comment between usages",
+            b"`define A 1\n`A// `A\n`A//`A",
+            b"\n1// `A\n1//`A",
+        ),
         whole("a backslash at the end", b"`define A 1\\", b""),
         whole(
             "a backslash and CR at the end",
@@ -284,6 +299,12 @@ fn gives_each_row_of_definitions(rt: HostRuntime) {
         faulty(
             "a usage in a body isn't built",
             b"`define A `B\n `A",
+            b"\n ",
+            fault(99, 2, ""),
+        ),
+        faulty(
+            "a lone backquote in a body isn't built",
+            b"`define A /**/ `\n `A",
             b"\n ",
             fault(99, 2, ""),
         ),
