@@ -1,13 +1,18 @@
--- The line of a `define` that is built: its one LF is its last byte, and no backslash stands in it behind the word.
-use Rattle.std.proofs.Common.{◌≡◌, ℕ, zero, suc, ◌+◌, ◌-◌, ◌≤◌, ◌==◌, Bool, true, false, not, cond, ◌&&◌, ◌||◌, List, [], ◌∷◌, length, take, drop, Option, None, Some, ◌⊎◌, inl, inr, refl, sym, ap, ◌∙◌, subst, arith}
-use Rattle.std.specs.Option.{option_map}
-use Rattle.std.specs.List.{list_any}
-use Rattle.std.proofs.lemmas.Bool.{or_parts}
-use Rattle.std.proofs.lemmas.List.{length-take}
+-- The line of a `define`: its one LF is its last byte, and what stands behind the word is the rest of its logical line.
+use Rattle.std.proofs.Common.{◌≡◌, ℕ, suc, ◌+◌, ◌-◌, ◌<◌, ◌≤◌, ◌==◌, Bool, true, false, cond, List, [], ◌∷◌, ◌++◌, length, take, drop, Option, None, Some, ◌⊎◌, inl, inr, refl, sym, ap, ◌∙◌, subst, arith}
+use Rattle.std.specs.Option.{unwrap_or}
+use Rattle.std.specs.Prelude.{codes}
+use Rattle.std.proofs.lemmas.List.{length-take, length-take-le, take-append-drop}
+use Rattle.std.proofs.lemmas.Slice.Eq.{bytes_eq-Decides}
 use Rattle.std.proofs.lemmas.List.Sums.{count_by-le-length}
 use Rattle.rdlpp_scan.specs.Bytes.{is_line_end}
 use Rattle.rdlpp_scan.specs.SourceTokens.{is_continued, line_ends, line_len, logical_len}
-use Rattle.rdlpp_scan.specs.Stage.{is_unbuilt_in_define}
+use Rattle.rdlpp_scan.specs.Lines.{ended_line_len, line_continues}
+use Rattle.rdlpp_scan.specs.Tokens.{token_of}
+use Rattle.rdlpp_scan.specs.declared.token.Mode.TheVariants.{Plain}
+use Rattle.rdlpp_scan.proofs.LineLaws.{line_continues-logical}
+use Rattle.rdlpp_scan.proofs.LogicalLines.{line_len-ended}
+use Rattle.rdlpp_scan.proofs.TokenLens.{token_of-part}
 use Rattle.rdlpp_scan.proofs.SourceLaws.{line_ends-cons}
 use Rattle.rdlpp_meaning.specs.Parts.{line_ends_of}
 use Rattle.rdlpp_expand.specs.Front.{IsDefine}
@@ -62,55 +67,46 @@ line_whole (b ∷ bs) =
     let at_false : P false = λ e. rw e (ap suc (line_whole bs)) in
     elim (is_line_end b) as P [ true ↦ at_true | false ↦ at_false ] refl
 
--- and so is what stands in it behind some bytes
-line_behind : (k : ℕ) (bs : List ℕ) → line_len bs ≡ length bs → line_len (drop k bs) ≡ length (drop k bs)
-unfolding line_len
-line_behind zero bs h = h
-line_behind (suc k) [] h = refl
-line_behind (suc k) (b ∷ []) h = line_behind k [] refl
-line_behind (suc k) (b ∷ c ∷ cs) h =
-    let Q : Bool → Type 0 = λ t. cond t 1 (suc (line_len (c ∷ cs))) ≡ suc (suc (length cs)) → line_len (c ∷ cs) ≡ length (c ∷ cs) in
-    let at_true : Q true = λ e. absurd (omega arith) in
-    let at_false : Q false = λ e. omega arith in
-    line_behind k (c ∷ cs) (elim (is_line_end b) as Q [ true ↦ at_true | false ↦ at_false ] h)
+-- whether a line is continued is told by itself
+line_continues_line : (x y : ℕ) (bs : List ℕ) → line_continues x y (take (line_len bs) bs) ≡ line_continues x y bs
+unfolding line_continues line_len
+line_continues_line x y [] = refl
+line_continues_line x y (b ∷ bs) =
+    let n = line_len bs in
+    let P : Bool → Type 0 = λ t. is_line_end b ≡ t
+    → line_continues x y (take (cond t 1 (suc n)) (b ∷ bs)) ≡ cond t (is_continued x y) (line_continues y b bs) in
+    let at_true : P true = λ e. rw e refl in
+    let at_false : P false = λ e. rw e (line_continues_line y b bs) in
+    elim (is_line_end b) as P [ true ↦ at_true | false ↦ at_false ] refl
 
--- the second of some tests that all fail
-second_false : (p q r s t u : Bool) → (p || q || r || s || t || u) ≡ false → q ≡ false
-second_false true q r s t u e = cc
-second_false false false r s t u e = refl
-second_false false true r s t u e = cc
+-- it isn't continued by the bytes of a word in front of it
+line_continues_behind : (x y : ℕ) (bs : List ℕ) → (x == 92) ≡ false → (y == 92) ≡ false → line_continues x y bs ≡ line_continues 0 0 bs
+unfolding line_continues is_continued
+line_continues_behind x y [] p q = refl
+line_continues_behind x y (b ∷ []) p q = rw (p, q) refl
+line_continues_behind x y (b ∷ c ∷ cs) p q = rw (p, q) refl
 
--- a byte that is built in a `define` is no backslash
-no_backslash : (b : ℕ) → is_unbuilt_in_define b ≡ false → (b == 92) ≡ false
-unfolding is_unbuilt_in_define
-no_backslash b e = second_false (b == 34) (b == 92) (b == 47) (b == 60) (b == 40) (b == 96) e
+-- a line that isn't continued ends as a logical line, or not at all
+line_logical : (bs : List ℕ) → line_continues 0 0 bs ≡ false → line_len bs ≡ length bs
+    → (logical_len 0 0 bs ≡ None) ⊎ (logical_len 0 0 bs ≡ Some (length bs))
+line_logical bs goes whole =
+    let same : logical_len 0 0 bs ≡ ended_line_len bs = line_continues-logical 0 0 bs goes in
+    let P : Option ℕ → Type 0 = λ o. ended_line_len bs ≡ o → (logical_len 0 0 bs ≡ None) ⊎ (logical_len 0 0 bs ≡ Some (length bs)) in
+    let ended : (n : ℕ) → P (Some n) = λ n e.
+    let size : n ≡ length bs = ap (λ o. unwrap_or o (length bs)) (sym e) ∙ line_len-ended bs ∙ whole in
+    inr (same ∙ e ∙ ap Some size) in
+    let open_ : P None = λ e. inl (same ∙ e) in
+    elim (ended_line_len bs) as P [ Some n ↦ ended n | None ↦ open_ ] refl
 
--- behind bytes of which none is a backslash no LF is a continuation
-not_continued : (x y : ℕ) → (x == 92) ≡ false → (y == 92) ≡ false → is_continued x y ≡ false
-unfolding is_continued
-not_continued x y a b = rw (b, a) refl
+-- the rest of the line of a `define` is the line of its rest
+rest_line : (rest : List ℕ) → drop 7 (take (line_len (codes "`define" ++ rest)) (codes "`define" ++ rest)) ≡ take (line_len rest) rest
+unfolding line_len is_line_end
+rest_line rest = refl
 
--- one more byte
-one_more : (o : Option ℕ) (n : ℕ) → (o ≡ None) ⊎ (o ≡ Some n) → (option_map suc o ≡ None) ⊎ (option_map suc o ≡ Some (suc n))
-one_more o n (inl e) = inl (ap (option_map suc) e)
-one_more o n (inr e) = inr (ap (option_map suc) e)
-
--- a line without a backslash goes on to its end as a logical line
-line_logical : (x y : ℕ) (bs : List ℕ) → (x == 92) ≡ false → (y == 92) ≡ false
-    → list_any is_unbuilt_in_define bs ≡ false → line_len bs ≡ length bs
-    → (logical_len x y bs ≡ None) ⊎ (logical_len x y bs ≡ Some (length bs))
-unfolding logical_len line_len
-line_logical x y [] p q built whole = inl refl
-line_logical x y (b ∷ bs) p q built whole =
-    let parts = or_parts (is_unbuilt_in_define b) (list_any is_unbuilt_in_define bs) built in
-    let goes : is_continued x y ≡ false = not_continued x y p q in
-    let P : Bool → Type 0 = λ t. cond t 1 (suc (line_len bs)) ≡ suc (length bs)
-    → (cond (t && not (is_continued x y)) (Some 1) (option_map suc (logical_len y b bs)) ≡ None)
-    ⊎ (cond (t && not (is_continued x y)) (Some 1) (option_map suc (logical_len y b bs)) ≡ Some (suc (length bs))) in
-    let at_true : P true = λ e. let last : 0 ≡ length bs = omega arith in rw goes (inr (ap (λ (n : ℕ). Some (suc n)) last)) in
-    let at_false : P false = λ e.
-    one_more (logical_len y b bs) (length bs) (line_logical y b bs q (no_backslash b parts.0) parts.1 (omega arith)) in
-    elim (is_line_end b) as P [ true ↦ at_true | false ↦ at_false ] whole
+-- it is continued where that is
+rest_continues : (rest : List ℕ) → line_continues 0 0 (codes "`define" ++ rest) ≡ line_continues 0 0 rest
+unfolding line_continues is_line_end
+rest_continues rest = line_continues_behind 110 101 rest refl refl
 
 -- the LF bytes of a `define` are those at the end of its line
 pub define_line_ends : (held : List ℕ) (n : ℕ) → IsDefine held n → line_ends_of (take n held) ≡ drop (n - line_ends (take n held)) (take n held)
@@ -121,10 +117,23 @@ define_line_ends held n define =
 pub define_one_line : (held : List ℕ) (n : ℕ) → IsDefine held n → line_ends (take n held) ≤ 1
 define_one_line held n define = subst (λ (k : ℕ). line_ends (take k held) ≤ 1) (sym define.whole) (line_ends_one held)
 
+-- a `define` begins with that word
+define_begins : (held : List ℕ) (n : ℕ) → 0 < length held → IsDefine held n → held ≡ codes "`define" ++ drop 7 held
+define_begins held n some define =
+    let k = (token_of Plain held).len in
+    let own : take k held ≡ codes "`define" = (bytes_eq-Decides (take k held) (codes "`define")).0 define.word in
+    let seven : k ≡ 7 = sym (length-take-le k held (token_of-part Plain held some).inside) ∙ ap length own in
+    sym (take-append-drop 7 held) ∙ ap (λ (xs : List ℕ). xs ++ drop 7 held) (ap (λ (i : ℕ). take i held) (sym seven) ∙ own)
+
 -- what stands behind the word of a `define` is the rest of its logical line
-pub define_logical : (held : List ℕ) (n : ℕ) → IsDefine held n
+pub define_logical : (held : List ℕ) (n : ℕ) → 0 < length held → IsDefine held n
     → (logical_len 0 0 (drop 7 (take n held)) ≡ None) ⊎ (logical_len 0 0 (drop 7 (take n held)) ≡ Some (length (drop 7 (take n held))))
-define_logical held n define =
-    let Goal : ℕ → Type 0 = λ k. (logical_len 0 0 (drop 7 (take k held)) ≡ None) ⊎ (logical_len 0 0 (drop 7 (take k held)) ≡ Some (length (drop 7 (take k held)))) in
-    let line = take (line_len held) held in
-    subst Goal (sym define.whole) (line_logical 0 0 (drop 7 line) refl refl define.built (line_behind 7 line (line_whole held)))
+define_logical held n some define =
+    let rest = drop 7 held in
+    let begins = define_begins held n some define in
+    let Goal : List ℕ → Type 0 = λ xs. (logical_len 0 0 xs ≡ None) ⊎ (logical_len 0 0 xs ≡ Some (length xs)) in
+    let goes : line_continues 0 0 rest ≡ false = sym (rest_continues rest) ∙ ap (line_continues 0 0) (sym begins) ∙ define.built in
+    let line = take (line_len rest) rest in
+    let same : drop 7 (take n held) ≡ line =
+    ap (λ (k : ℕ). drop 7 (take k held)) define.whole ∙ ap (λ (xs : List ℕ). drop 7 (take (line_len xs) xs)) begins ∙ rest_line rest in
+    subst Goal (sym same) (line_logical line (line_continues_line 0 0 rest ∙ goes) (line_whole rest))

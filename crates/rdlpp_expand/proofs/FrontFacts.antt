@@ -1,18 +1,20 @@
 -- What the bytes at the front of a text tell of its first token.
 use Rattle.std.proofs.Common.{◌≡◌, ◌≢◌, ℕ, suc, ◌+◌, ◌-◌, ◌<◌, Bool, true, false, not, cond, ◌&&◌, ◌||◌, ◌==◌, List, [], ◌∷◌, length, take, drop, slice_index, Option, Some, None, refl, sym, ap, ◌∙◌, arith, inl, inr}
 use Rattle.std.specs.Prelude.{bytes_eq, codes, nat_lt}
-use Rattle.std.specs.List.{prefix_len, list_any}
+use Rattle.std.specs.List.{prefix_len}
 use Rattle.std.proofs.lemmas.Bool.Decides.{eqb_tells}
-use Rattle.rdlpp_scan.specs.declared.token.Kind.TheVariants.{Back, Str, BlockComment, Perl, BareBackquote}
+use Rattle.rdlpp_scan.specs.declared.token.Kind.TheVariants.{Back, Str, LineComment, BlockComment, Perl, BareBackquote}
 use Rattle.rdlpp_scan.specs.declared.token.Mode.TheVariants.{Plain, InStr, InBlock}
 use Rattle.rdlpp_scan.specs.declared.token.Token.{Token}
 use Rattle.rdlpp_scan.specs.declared.token.Directive.{Directive}
 use Rattle.rdlpp_scan.specs.declared.token.Directive.TheVariants.{Define, Undef, Ifdef, Ifndef, Elsif, Else, Endif, Include, Line}
 use Rattle.rdlpp_scan.specs.Bytes.{is_blank, is_line_end, is_letter, is_digit, is_word, is_opener, is_closer, takes_word, begins_perl, begins_line_comment, begins_block_comment, ends_block_comment}
+use Rattle.rdlpp_scan.proofs.StageLaws.{is_unbuilt-block, is_unbuilt-quote}
+use Rattle.rdlpp_scan.proofs.StopKinds.{Row, AtPerl, AtLineComment, AtBlockComment, AtString, AtBack, AtBare, AtPlain, token_of-row}
 use Rattle.rdlpp_scan.specs.Tokens.{whole, string_stop, string_token, block_token, plain_token, token_of, first_place, plain_len, stops_plain_text}
 use Rattle.rdlpp_scan.specs.Names.{directive_named}
-use Rattle.rdlpp_scan.specs.SourceTokens.{line_len}
-use Rattle.rdlpp_scan.specs.Stage.{name_behind, reserved_names, is_reserved, is_unbuilt, is_unbuilt_directive, is_unbuilt_in_define}
+use Rattle.rdlpp_scan.specs.Lines.{line_continues}
+use Rattle.rdlpp_scan.specs.Stage.{name_behind, reserved_names, is_reserved, is_unbuilt, is_unbuilt_directive}
 
 -- a text without ordinary text at its front stops there
 pub stops_at_front : (bs : List ℕ) → 0 < length bs → plain_len bs ≡ 0 → stops_plain_text bs ≡ true
@@ -43,26 +45,31 @@ perl_at_front bs some none e = ap (λ (t : Token). t.kind) (perl_token bs (perl_
 other_byte : (a b : ℕ) → a ≢ b → (a == b) ≡ false
 other_byte a b ne = elim (eqb_tells a b) [ inl h ↦ absurd (ne h.1) | inr h ↦ h.0 ]
 
--- one of some tests, where the first and the last fail
-between : (a q l c p d : Bool) → a ≡ false → p ≡ false → (a || q || l || c || p) ≡ true → (q || l || c || d) ≡ true
-between false true l c p d x y h = refl
-between false false true c p d x y h = refl
-between false false false true p d x y h = refl
-between false false false false false d x y h = cc
-between false false false false true d x y h = cc
-between true q l c p d x y h = cc
+-- the first of two tests that pass
+first_passes : (a b : Bool) → (a && b) ≡ true → a ≡ true
+first_passes true b e = refl
+first_passes false b e = cc
 
--- no `<%` begins with another byte
-no_perl : (bs : List ℕ) → slice_index bs 0 ≢ 60 → begins_perl bs ≡ false
+-- a byte that passes the test for a byte
+same_byte : (a b : ℕ) → (a == b) ≡ true → a ≡ b
+same_byte a b e = elim (eqb_tells a b) [ inl h ↦ h.1 | inr h ↦ absurd (cc) ]
+
+-- what begins where ordinary text stops, at neither a backquote nor `<`, and isn't a `//` comment, isn't built
+unbuilt_by_row : (bs : List ℕ) (t : Token) → Row bs t → stops_plain_text bs ≡ true → slice_index bs 0 ≢ 96 → slice_index bs 0 ≢ 60
+    → (t.kind ≡ LineComment → ⊥) → is_unbuilt bs ≡ true
 unfolding begins_perl
-no_perl bs ne = rw (other_byte (slice_index bs 0) 60 ne) refl
+unbuilt_by_row bs t (AtPerl h e) stop back perl other = absurd (perl (same_byte (slice_index bs 0) 60 (first_passes (slice_index bs 0 == 60) (slice_index bs 1 == 37) h)))
+unbuilt_by_row bs t (AtLineComment h e) stop back perl other = absurd (other e)
+unbuilt_by_row bs t (AtBlockComment h e) stop back perl other = is_unbuilt-block bs h
+unbuilt_by_row bs t (AtString h e) stop back perl other = is_unbuilt-quote bs h
+unbuilt_by_row bs t (AtBack h e) stop back perl other = absurd (back (same_byte (slice_index bs 0) 96 h))
+unbuilt_by_row bs t (AtBare h g e) stop back perl other = absurd (back (same_byte (slice_index bs 0) 96 h))
+unbuilt_by_row bs t (AtPlain h q) stop back perl other = absurd (let no : false ≡ true = sym q ∙ stop in cc)
 
--- where ordinary text stops, at neither a backquote nor `<`, what begins isn't built
-pub unbuilt_at_front : (bs : List ℕ) → 0 < length bs → plain_len bs ≡ 0 → slice_index bs 0 ≢ 96 → slice_index bs 0 ≢ 60 → is_unbuilt bs ≡ true
-unfolding is_unbuilt stops_plain_text
-unbuilt_at_front bs some none back perl =
-    between (slice_index bs 0 == 96) (slice_index bs 0 == 34) (begins_line_comment bs) (begins_block_comment bs) (begins_perl bs) (is_unbuilt_directive bs)
-    (other_byte (slice_index bs 0) 96 back) (no_perl bs perl) (stops_at_front bs some none)
+-- the same of the first token
+pub unbuilt_at_front : (bs : List ℕ) → stops_plain_text bs ≡ true → slice_index bs 0 ≢ 96 → slice_index bs 0 ≢ 60
+    → ((token_of Plain bs).kind ≡ LineComment → ⊥) → is_unbuilt bs ≡ true
+unbuilt_at_front bs stop back perl other = unbuilt_by_row bs (token_of Plain bs) (token_of-row bs) stop back perl other
 
 -- the token at a backquote
 abbrev pub back_token : List ℕ → Token
@@ -122,15 +129,6 @@ back_text bs e h =
 by_test : (t : Bool) (x y : Token) (G : Type 0) → (t ≡ true → x.kind ≡ Back → G) → (y.kind ≡ Back → G) → (cond t x y).kind ≡ Back → G
 by_test true x y G first second h = first refl h
 by_test false x y G first second h = second h
-
--- the first of two tests that pass
-first_passes : (a b : Bool) → (a && b) ≡ true → a ≡ true
-first_passes true b e = refl
-first_passes false b e = cc
-
--- a byte that passes the test for a byte
-same_byte : (a b : ℕ) → (a == b) ≡ true → a ≡ b
-same_byte a b e = elim (eqb_tells a b) [ inl h ↦ h.1 | inr h ↦ absurd (cc) ]
 
 -- a string isn't a backquote and its name
 not_string : (n : ℕ) (bs : List ℕ) → (string_token n bs).kind ≡ Str
@@ -221,7 +219,7 @@ other_name name o e ne =
 
 -- a directive that isn't built
 pub unbuilt_directive : (bs : List ℕ) → slice_index bs 0 ≡ 96 → is_reserved (name_behind bs) ≡ true
-    → (not (bytes_eq (name_behind bs) (codes "define")) || list_any is_unbuilt_in_define (drop 7 (take (line_len bs) bs))) ≡ true
+    → (not (bytes_eq (name_behind bs) (codes "define")) || line_continues 0 0 bs) ≡ true
     → is_unbuilt bs ≡ true
 unfolding is_unbuilt is_unbuilt_directive begins_line_comment begins_block_comment
 unbuilt_directive bs e r h = rw (e, r, h) refl
@@ -232,9 +230,9 @@ unbuilt_other bs o e word ne =
     let other = other_name (name_behind bs) o word ne in
     unbuilt_directive bs e (directive_name (name_behind bs) o word) (rw other refl)
 
--- nor is a `define` whose line has what isn't built
+-- nor is a `define` whose line is continued
 pub unbuilt_define : (bs : List ℕ) → slice_index bs 0 ≡ 96 → directive_named (name_behind bs) ≡ Some Define
-    → list_any is_unbuilt_in_define (drop 7 (take (line_len bs) bs)) ≡ true → is_unbuilt bs ≡ true
+    → line_continues 0 0 bs ≡ true → is_unbuilt bs ≡ true
 unbuilt_define bs e word h =
     unbuilt_directive bs e (directive_name (name_behind bs) Define word) (rw (define_name (name_behind bs) word, h) refl)
 

@@ -16,3 +16,4 @@ pub mod Takings
 pub mod WorkFacts
 pub mod Stepping
 pub mod RunFacts
+pub mod BodyTokens

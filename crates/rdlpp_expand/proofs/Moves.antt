@@ -1,14 +1,14 @@
 -- What one move of an engine over an open source does to what remains.
 use Rattle.std.proofs.Common.{◌≡◌, ℕ, ◌+◌, ◌-◌, ◌<◌, ◌≤◌, Bool, true, false, List, [], ◌∷◌, length, take, drop, All, None, Some, refl, sym, ap, ◌∙◌, subst, arith}
-use Rattle.std.specs.Prelude.{bytes_eq, codes, nat_lt, is_some}
+use Rattle.std.specs.Prelude.{bytes_eq, codes}
 use Rattle.std.specs.List.{list_all, list_any, AllByRecursion}
 use Rattle.std.proofs.Math.Bool.{and-false}
-use Rattle.std.proofs.lemmas.Bool.{or_parts, ltb-false}
-use Rattle.std.proofs.lemmas.List.{drop-drop}
+use Rattle.std.proofs.lemmas.Bool.{or_parts}
+use Rattle.std.proofs.lemmas.List.{append-nil, drop-drop}
 use Rattle.std.proofs.lemmas.List.Elements.{All-weaker}
 use Rattle.std.proofs.lemmas.List.Sums.{list_all-from_AllPass}
 use Rattle.rdlpp_scan.specs.declared.token.Kind.{Kind}
-use Rattle.rdlpp_scan.specs.declared.token.Kind.TheVariants.{Back, BareBackquote}
+use Rattle.rdlpp_scan.specs.declared.token.Kind.TheVariants.{Back, BareBackquote, LineComment}
 use Rattle.rdlpp_scan.specs.declared.token.Mode.TheVariants.{Plain}
 use Rattle.rdlpp_scan.specs.Front.{Breach}
 use Rattle.rdlpp_scan.specs.Tokens.{plain_len, token_of, stops_plain_text}
@@ -23,7 +23,11 @@ use Rattle.rdlpp_scan.proofs.TokenLens.{token_of-part}
 use Rattle.rdlpp_scan.proofs.WholeLines.{EndsLine-drop}
 use Rattle.rdlpp_scan.proofs.OrdinaryLaws.{is_unbuilt-spares}
 use Rattle.rdlpp_scan.proofs.RemainingLaws.{GoesThrough, remaining-opened, remaining-ordinary, remaining-unbuilt, remaining-perl, remaining-bare, remaining-back, remaining-define}
-use Rattle.rdlpp_scan.proofs.StageLaws.{front_name, is_unbuilt-perl, is_unbuilt-bare, is_unbuilt-back}
+use Rattle.rdlpp_scan.proofs.RemainingSteps.{remaining-closed}
+use Rattle.rdlpp_scan.proofs.TokenSteps.{is_kept_kind}
+use Rattle.rdlpp_scan.proofs.CommentLaws.{comment-mode}
+use Rattle.rdlpp_scan.specs.Comments.{is_line_comment}
+use Rattle.rdlpp_scan.proofs.StageLaws.{front_name, is_unbuilt-line_comment, is_unbuilt-perl, is_unbuilt-bare, is_unbuilt-back}
 use Rattle.rdlpp_scan.proofs.Locality.{is_unbuilt-append}
 use Rattle.rdlpp_table.specs.Table.{Macro, macro_named}
 use Rattle.rdlpp_meaning.specs.declared.fault.FaultKind.{FaultKind}
@@ -35,11 +39,12 @@ use Rattle.rdlpp_meaning.specs.Expansion.{is_copied, usage_token}
 use Rattle.rdlpp_meaning.specs.Parts.{only_blanks, line_ends_of}
 use Rattle.rdlpp_meaning.specs.Resumed.{Live, remains}
 use Rattle.rdlpp_meaning.proofs.Outcomes.{and_then-gives_nil}
-use Rattle.rdlpp_meaning.proofs.Usages.{built_formals}
-use Rattle.rdlpp_meaning.proofs.Remaining.{remains_copied, remains_undefined, remains_unbuilt, remains_usage, remains_bare, remains_broken, remains_defined, remains_refused, remains_end}
+use Rattle.rdlpp_meaning.proofs.Usages.{built_body, built_formals}
+use Rattle.rdlpp_meaning.proofs.CopiedBodies.{remains_copied_body}
+use Rattle.rdlpp_meaning.proofs.Remaining.{remains_copied, remains_undefined, remains_unbuilt, remains_bare, remains_broken, remains_defined, remains_refused, remains_end}
 use Rattle.rdlpp_expand.specs.Feed.{FeedView, held_of, rest_of, tokens_left}
 use Rattle.rdlpp_expand.specs.Supply.{only_broken}
-use Rattle.rdlpp_expand.specs.Front.{IsText, IsUsage, IsDefine, IsRefused, AtPerl, AtBare, AtUnbuilt, passed}
+use Rattle.rdlpp_expand.specs.Front.{IsText, AtOrdinary, AtRemark, IsUsage, IsDefine, IsRefused, AtPerl, AtBare, AtUnbuilt, passed}
 use Rattle.rdlpp_expand.proofs.FrontFacts.{back_front, back_text}
 
 -- what is held behind bytes that are passed
@@ -104,17 +109,49 @@ text_of unread rules b s f ends =
     ∙ ap (λ (xs : List ℕ). and_then (gives xs) (remains rules (Live []) (only_blanks b xs) behind s)) g.spelled
     ∙ ap (λ (ts : List SourceToken). and_then (gives w) (remains rules (Live []) (only_blanks b w) ts s)) (tokens_passed unread f n (line_ends w) f.line)
 
--- ordinary text goes through as it is
+-- a `//` comment is copied
+copied_remark : (bytes : List ℕ) (line : ℕ) → list_all is_copied (record { sort = Ordinary LineComment; bytes = bytes; line = line } ∷ []) ≡ true
+unfolding is_copied
+copied_remark bytes line = refl
+
+-- a `//` comment goes through as it is
+remark_of : {R : Type 0} (unread : R → List ℕ) (rules : Rules) (b : Bool) (s : State) (f : FeedView R)
+    → 0 < length (held_of f) → EndsLine (held_of f) (rest_of unread f) → (token_of Plain (held_of f)).kind ≡ LineComment
+    → let w = take (token_of Plain (held_of f)).len (held_of f) in
+    remains rules (Live []) b (tokens_left unread f) s
+    ≡ and_then (gives w) (remains rules (Live []) (only_blanks b w) (tokens_left unread (passed f (token_of Plain (held_of f)).len (line_ends w))) s)
+unfolding tokens_left is_kept_kind is_line_comment
+remark_of unread rules b s f some ends is =
+    let held = held_of f in
+    let rest = rest_of unread f in
+    let n = (token_of Plain held).len in
+    let w = take n held in
+    let own : SourceToken = record { sort = Ordinary LineComment; bytes = w; line = f.line } in
+    let behind = remaining_tokens is_unbuilt f.most Plain f.line (f.line + line_ends w) (drop n held) f.room rest in
+    let kept : is_kept_kind (token_of Plain held).kind ≡ true = ap is_kept_kind is in
+    let closed : (token_of Plain held).next_mode ≡ Plain = sym (comment-mode Plain held (ap is_line_comment is)) in
+    let built : is_unbuilt held ≡ false = is_unbuilt-line_comment held is in
+    let step = remaining-closed is_unbuilt f.most Plain f.line f.line held f.room rest some ends (λ _ more e. is_unbuilt-append held more some e ∙ built) kept closed in
+    ap (λ (ts : List SourceToken). remains rules (Live []) b ts s)
+    (step ∙ ap (λ (k : Kind). record { sort = Ordinary k; bytes = w; line = f.line } ∷ behind) is)
+    ∙ remains_copied rules [] b (own ∷ []) behind s (copied_remark w f.line)
+    ∙ ap (λ (xs : List ℕ). and_then (gives xs) (remains rules (Live []) (only_blanks b xs) behind s)) (append-nil w)
+    ∙ ap (λ (ts : List SourceToken). and_then (gives w) (remains rules (Live []) (only_blanks b w) ts s)) (tokens_passed unread f n (line_ends w) f.line)
+
+-- text that is copied goes through as it is
 pub move_text : {R : Type 0} (unread : R → List ℕ) (rules : Rules) (b : Bool) (s : State) (f : FeedView R) (n : ℕ)
-    → EndsLine (held_of f) (rest_of unread f) → IsText (held_of f) n
+    → 0 < length (held_of f) → EndsLine (held_of f) (rest_of unread f) → IsText (held_of f) n
     → remains rules (Live []) b (tokens_left unread f) s
     ≡ and_then (gives (take n (held_of f)))
     (remains rules (Live []) (only_blanks b (take n (held_of f))) (tokens_left unread (passed f n (line_ends (take n (held_of f))))) s)
-move_text unread rules b s f n ends text =
+move_text unread rules b s f n some ends text =
     let P : ℕ → Type 0 = λ k. remains rules (Live []) b (tokens_left unread f) s
     ≡ and_then (gives (take k (held_of f)))
     (remains rules (Live []) (only_blanks b (take k (held_of f))) (tokens_left unread (passed f k (line_ends (take k (held_of f))))) s) in
-    subst P (sym text.whole) (text_of unread rules b s f ends)
+    elim text [
+      | AtOrdinary has whole ↦ subst P (sym whole) (text_of unread rules b s f ends)
+      | AtRemark is whole ↦ subst P (sym whole) (remark_of unread rules b s f some ends is)
+    ]
 
 -- a name that is none of some words is none of each
 none_of_words : (name : List ℕ) (words : List (List ℕ)) → list_any (bytes_eq name) words ≡ false
@@ -182,15 +219,6 @@ move_unbuilt unread rules b s f n m some ends usage named unbuilt =
     ap (λ (ts : List SourceToken). remains rules (Live []) b ts s) (usage_tokens unread f n some ends usage)
     ∙ remains_unbuilt rules [] b (take (n - 1) (drop 1 (held_of f))) f.line (tokens_left unread (passed f n 0)) s m usage.free named unbuilt
 
--- the body of a macro that is built is ordinary text
-built_body : (m : Macro) → is_unbuilt_macro m ≡ false → plain_len m.body ≡ length m.body
-unfolding is_unbuilt_macro plain_len
-built_body m e =
-    let within : plain_len m.body ≤ length m.body = first_place-le stops_plain_text m.body in
-    let whole : length m.body ≤ plain_len m.body =
-    ltb-false (plain_len m.body) (length m.body) (or_parts (is_some m.formals) (nat_lt (plain_len m.body) (length m.body)) e).1 in
-    omega arith
-
 -- a usage gives the body of its macro, and then what remains behind it
 pub move_usage : {R : Type 0} (unread : R → List ℕ) (rules : Rules) (b : Bool) (s : State) (f : FeedView R) (n : ℕ) (m : Macro)
     → 0 < length (held_of f) → EndsLine (held_of f) (rest_of unread f) → IsUsage (held_of f) n
@@ -205,7 +233,7 @@ move_usage unread rules b s f n m some ends usage named same built depth =
     back_text held (back_front held usage.kind) usage.kind in
     let text : take n held ≡ 96 ∷ name = subst (λ (k : ℕ). take k held ≡ 96 ∷ take (k - 1) (drop 1 held)) (sym usage.whole) front in
     ap (λ (ts : List SourceToken). remains rules (Live []) b ts s) (usage_tokens unread f n some ends usage)
-    ∙ remains_usage rules [] b name f.line (tokens_left unread (passed f n 0)) s m depth usage.free named (same ∙ built) (built_formals m built) (built_body m built)
+    ∙ remains_copied_body rules [] b name f.line (tokens_left unread (passed f n 0)) s m depth usage.free named (same ∙ built) (built_formals m built) (built_body m built)
     ∙ ap (λ (xs : List ℕ). and_then (gives m.body) (remains rules (Live []) (only_blanks b xs) (tokens_left unread (passed f n 0)) s)) (sym text)
 
 -- the tokens at a `define`
@@ -286,10 +314,13 @@ move_refused unread rules b s f kind some ends (AtUnbuilt is) =
     move_broken unread rules b s f Breach.Unbuilt
     (remaining-unbuilt is_unbuilt f.most f.line f.line held f.room rest some (λ more e. is_unbuilt-append held more some e ∙ is) ends)
 
--- ordinary text at the front of what is held
-pub text_inside : (held : List ℕ) (n : ℕ) → IsText held n → (0 < n) × (n ≤ length held)
+-- text that is copied at the front of what is held
+pub text_inside : (held : List ℕ) (n : ℕ) → 0 < length held → IsText held n → (0 < n) × (n ≤ length held)
 unfolding plain_len
-text_inside held n text = (text.some, omega (arith, text.whole, first_place-le stops_plain_text held))
+text_inside held n some (AtOrdinary has whole) = (has, omega (arith, whole, first_place-le stops_plain_text held))
+text_inside held n some (AtRemark is whole) =
+    let part = token_of-part Plain held some in
+    (omega (arith, whole, part.not_empty), omega (arith, whole, part.inside))
 
 -- a usage at the front of what is held
 pub usage_inside : (held : List ℕ) (n : ℕ) → 0 < length held → IsUsage held n → (0 < n) × (n ≤ length held)

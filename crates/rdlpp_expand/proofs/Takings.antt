@@ -153,13 +153,13 @@ pub take_text : {S R : Type 0} (g : Ghosts S R) (old new : EngineView S R) (n li
     from ≡ old.feed.at → to ≡ old.feed.at + n → Takes g old new (placed_answer new (Ok (Source from to)))
 unfolding placed_answer bytes_at open_left state_of passed
 take_text g old new n lines from to ready ends used text counted becomes begins stops =
-    let inside = (text_inside (held_of old.feed) n text).1 in
+    let inside = (text_inside (held_of old.feed) n ready.bytes text).1 in
     let w = take n (held_of old.feed) in
     let after = record old { blanks = only_blanks old.blanks w; feed = passed old.feed n (line_ends w) } in
     let part : slice_range after.feed.window from to ≡ w = rw (begins, stops) (held_part old.feed n used inside) in
     rw (becomes, counted, part) (takes_bytes g old after w refl refl refl refl ready.free ready.open_
-    (move_text g.unread (rules_of old.limits old.origins) old.blanks (state_of old) old.feed n (ends_line g.unread old.feed ends) text)
-    (passed_unused old.feed n (line_ends w) text.some inside))
+    (move_text g.unread (rules_of old.limits old.origins) old.blanks (state_of old) old.feed n ready.bytes (ends_line g.unread old.feed ends) text)
+    (passed_unused old.feed n (line_ends w) (text_inside (held_of old.feed) n ready.bytes text).0 inside))
 
 -- a body is lent
 pub take_usage : {S R : Type 0} (g : Ghosts S R) (old new : EngineView S R) (n id : ℕ) →
@@ -309,8 +309,8 @@ define_rest line len m wide least =
     take_rest line m ∙ drop_min line m 7 (least ∙ ap (λ n. min n 7) (sym wide))
 
 -- it is a logical line
-pub define_whole : (held : List ℕ) (n : ℕ) → IsDefine held n → IfSome (logical_len 0 0 (drop 7 (take n held))) (λ k. k ≡ length (drop 7 (take n held)))
-define_whole held n define = elim (define_logical held n define) [
+pub define_whole : (held : List ℕ) (n : ℕ) → 0 < length held → IsDefine held n → IfSome (logical_len 0 0 (drop 7 (take n held))) (λ k. k ≡ length (drop 7 (take n held)))
+define_whole held n some define = elim (define_logical held n some define) [
   | inl e ↦ rw e tt
   | inr e ↦ rw e refl
 ]

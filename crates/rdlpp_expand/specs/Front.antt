@@ -1,22 +1,22 @@
 -- What the held bytes of a source begin with.
 -- A definition that names no source is this project's own.
 use Rattle.std.specs.Prelude.{◌≡◌, ℕ, ◌+◌, ◌-◌, ◌<◌, true, false, List, take, drop, bytes_eq, codes}
-use Rattle.std.specs.List.{list_any}
 use Rattle.rdlpp_scan.specs.declared.token.Mode.TheVariants.{Plain}
-use Rattle.rdlpp_scan.specs.declared.token.Kind.TheVariants.{Back, BareBackquote, Perl}
+use Rattle.rdlpp_scan.specs.declared.token.Kind.TheVariants.{Back, BareBackquote, LineComment, Perl}
 use Rattle.rdlpp_scan.specs.Tokens.{token_of, plain_len}
 use Rattle.rdlpp_scan.specs.SourceTokens.{line_len}
-use Rattle.rdlpp_scan.specs.Stage.{is_reserved, is_unbuilt, is_unbuilt_in_define}
+use Rattle.rdlpp_scan.specs.Lines.{line_continues}
+use Rattle.rdlpp_scan.specs.Stage.{is_reserved, is_unbuilt}
 use Rattle.rdlpp_meaning.specs.declared.fault.FaultKind.{FaultKind}
 use Rattle.rdlpp_meaning.specs.declared.fault.FaultKind.TheVariants as fault
 use Rattle.rdlpp_expand.specs.Feed.{FeedView}
 use Rattle.rdlpp_expand.specs.declared.front.Front.{Front}
 use Rattle.rdlpp_expand.specs.declared.front.Front.TheVariants.{Text, Usage, Define, Refused}
 
--- ordinary text
-pub record IsText (held : List ℕ) (len : ℕ) : Type 0 where
-  pub some : 0 < len
-  pub whole : len ≡ plain_len held
+-- text that is copied: ordinary text, or a `//` comment
+pub data IsText (held : List ℕ) (len : ℕ) : Type 0 where
+  AtOrdinary : 0 < len → len ≡ plain_len held → IsText held len
+  AtRemark : (token_of Plain held).kind ≡ LineComment → len ≡ (token_of Plain held).len → IsText held len
 
 -- a backquote and a name that isn't reserved
 pub record IsUsage (held : List ℕ) (len : ℕ) : Type 0 where
@@ -24,11 +24,11 @@ pub record IsUsage (held : List ℕ) (len : ℕ) : Type 0 where
   pub whole : len ≡ (token_of Plain held).len
   pub free : is_reserved (take (len - 1) (drop 1 held)) ≡ false
 
--- a `define` that is built, with its line
+-- a `define` with its line, which isn't continued
 pub record IsDefine (held : List ℕ) (len : ℕ) : Type 0 where
   pub kind : (token_of Plain held).kind ≡ Back
   pub word : bytes_eq (take (token_of Plain held).len held) (codes "`define") ≡ true
-  pub built : list_any is_unbuilt_in_define (drop 7 (take (line_len held) held)) ≡ false
+  pub built : line_continues 0 0 held ≡ false
   pub whole : len ≡ line_len held
 
 -- what ends the output

@@ -23,6 +23,7 @@ ghost use Rattle.rdlpp_expand.specs.contracts.engine.Engine.{the_row};
 mod opening;
 
 use crate::blanks::only_blanks;
+use crate::bodies::is_copied_body;
 use crate::feed::{Feed, Supply, provide};
 use crate::front::{Front, front_of};
 use crate::held::Held;
@@ -32,7 +33,7 @@ use crate::place::{Piece, Place};
 use crate::texts::{copied, copied_fault, word_of};
 use arrayvec::ArrayString;
 use rdlpp_meaning::{Fault, FaultKind};
-use rdlpp_scan::{line_ends_in, plain_text_len};
+use rdlpp_scan::line_ends_in;
 use rdlpp_source::Sources;
 use rdlpp_table::{LimitFault, Limits, MacroId, Table};
 use std::alloc::Global;
@@ -373,6 +374,5 @@ fn is_built(table: &Table, id: MacroId) -> bool
     requires { id < length table.now.macros }
     ensures { result ≡ not (is_unbuilt_macro (macro_at table.now.macros id)) }
 {
-    let body = table.body(id);
-    table.arity(id).is_none() && plain_text_len(body) == body.len()
+    table.arity(id).is_none() && is_copied_body(table.body(id))
 }

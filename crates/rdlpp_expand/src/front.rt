@@ -1,8 +1,8 @@
 // What the held bytes of a source begin with.
-ghost use Rattle.std.specs.Prelude.{◌≡◌, ◌<◌, ◌≤◌, length, slice_index, Some};
+ghost use Rattle.std.specs.Prelude.{◌≡◌, ◌≢◌, ◌<◌, ◌≤◌, length, slice_index, true, Some};
 ghost use Rattle.rdlpp_scan.specs.Names.{directive_named};
 ghost use Rattle.rdlpp_scan.specs.Stage.{name_behind};
-ghost use Rattle.rdlpp_scan.specs.Tokens.{token_of};
+ghost use Rattle.rdlpp_scan.specs.Tokens.{stops_plain_text, token_of};
 ghost use Rattle.rdlpp_scan.specs.declared.token.Directive.TheVariants.{Define};
 ghost use Rattle.rdlpp_scan.specs.declared.token.Kind.TheVariants.{Back};
 ghost use Rattle.rdlpp_scan.specs.declared.token.Mode.TheVariants.{Plain};
@@ -16,11 +16,11 @@ use rdlpp_scan::{
 /// What the held bytes of a source begin with.
 #[derive(Clone, Copy)]
 pub(crate) enum Front {
-    /// So many bytes of ordinary text.
+    /// So many bytes of ordinary text, or a `//` comment of so many bytes.
     Text(usize),
     /// A backquote and a name that isn't reserved, of so many bytes together.
     Usage(usize),
-    /// A `define` whose line has so many bytes.
+    /// A `define` whose line, which isn't continued, has so many bytes.
     Define(usize),
     /// What ends the output.
     Refused(FaultKind),
@@ -38,6 +38,20 @@ pub(crate) fn front_of(held: &[u8]) -> Front
     match held[0] {
         b'`' => backquoted(held),
         b'<' => Front::Refused(FaultKind::EmbeddedPerl),
+        _ => remarked(held),
+    }
+}
+
+// What held bytes begin with that begin with a comment or a string.
+fn remarked(held: &[u8]) -> Front
+    requires some { 0 < length held.now }
+    requires stops { stops_plain_text held.now ≡ true }
+    requires other { (slice_index held.now 0 ≢ 96) × (slice_index held.now 0 ≢ 60) }
+    ensures { IsFront held.now result }
+{
+    let token = first_token(Mode::Plain, held);
+    match token.kind {
+        Kind::LineComment => Front::Text(token.len),
         _ => Front::Refused(FaultKind::Unbuilt),
     }
 }

@@ -2,6 +2,7 @@
 #![tactic(auto)]
 
 mod blanks;
+mod bodies;
 mod engine;
 mod feed;
 mod front;

@@ -1,6 +1,7 @@
 -- Laws of usages: of a name that isn't defined, of what isn't built, and of a macro without a list and with ordinary text.
-use Rattle.std.proofs.Common.{◌≡◌, ℕ, Bool, true, false, List, [], ◌∷◌, length, map, refl, ap, ◌∙◌, Option, None, Some}
-use Rattle.std.specs.Prelude.{if◌then◌else◌, nat_lt, is_some, unwrap_or}
+use Rattle.std.proofs.Common.{◌≡◌, ℕ, Bool, true, false, not, List, [], ◌∷◌, length, map, refl, ap, ◌∙◌, Option, None, Some}
+use Rattle.std.specs.Prelude.{if◌then◌else◌, is_some, unwrap_or}
+use Rattle.std.specs.List.{list_all}
 use Rattle.std.proofs.lemmas.Bool.{or_parts}
 use Rattle.rdlpp_scan.specs.declared.token.Kind.TheVariants.{Name}
 use Rattle.rdlpp_scan.specs.Tokens.{plain_len}
@@ -14,7 +15,7 @@ use Rattle.rdlpp_meaning.specs.State.{Rules, State, fault_at}
 use Rattle.rdlpp_meaning.specs.Stage.{is_unbuilt_macro}
 use Rattle.rdlpp_meaning.specs.Items.{Item, Written}
 use Rattle.rdlpp_meaning.specs.Substitution.{body_tokens, bound_to, marked, substituted}
-use Rattle.rdlpp_meaning.specs.Expansion.{Usage, Refuses, Opens, name_of, usage_of, usage_of_macro, usage_of_formals, walk, expand, run_outcome, usage_token}
+use Rattle.rdlpp_meaning.specs.Expansion.{Usage, Refuses, Opens, name_of, usage_of, usage_of_macro, usage_of_formals, walk, expand, is_copied, run_outcome, usage_token}
 use Rattle.rdlpp_meaning.proofs.Walks.{deeper_of, expand_walk, expand_all_copied}
 use Rattle.rdlpp_meaning.proofs.PlainBodies.{body_ordinary}
 
@@ -26,7 +27,19 @@ none_of (Some x) e = cc
 -- a macro that is built has no list
 pub built_formals : (m : Macro) → is_unbuilt_macro m ≡ false → m.formals ≡ None
 unfolding is_unbuilt_macro
-built_formals m e = none_of m.formals (or_parts (is_some m.formals) (nat_lt (plain_len m.body) (length m.body)) e).0
+built_formals m e = none_of m.formals (or_parts (is_some m.formals) (not (list_all is_copied (body_tokens m.body))) e).0
+
+-- a test whose opposite fails
+not_false : (b : Bool) → not b ≡ false → b ≡ true
+not_false true e = refl
+not_false false e = cc
+
+-- the body of a macro that is built is copied
+pub built_body : (m : Macro) → is_unbuilt_macro m ≡ false → list_all is_copied (body_tokens m.body) ≡ true
+unfolding is_unbuilt_macro
+built_body m e =
+    let copied = list_all is_copied (body_tokens m.body) in
+    not_false copied (or_parts (is_some m.formals) (not copied) e).1
 
 -- with no formals each token stays as it is
 marked_none : (actuals : List (List Item)) (o : List (List ℕ)) (sort : Sort) (bytes : List ℕ) (line : ℕ)

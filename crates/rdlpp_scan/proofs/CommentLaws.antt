@@ -184,7 +184,7 @@ kept_at m bs some (r ∷ rs) e =
     elim (is_line_comment u.kind) as P [ true ↦ at_comment | false ↦ at_other ] refl
 
 -- a `//` comment leaves the mode as it was
-comment-mode : (m : Mode) (bs : List ℕ) → is_line_comment (token_of m bs).kind ≡ true → m ≡ (token_of m bs).next_mode
+pub comment-mode : (m : Mode) (bs : List ℕ) → is_line_comment (token_of m bs).kind ≡ true → m ≡ (token_of m bs).next_mode
 unfolding whole
 comment-mode m bs is = let at = comment_at m bs is in at.mode ∙ sym (ap (λ (t : Token). t.next_mode) at.token)
 

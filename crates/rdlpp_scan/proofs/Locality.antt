@@ -1,19 +1,17 @@
 -- What a text that ends at a line end tells of itself stays so with more behind it.
-use Rattle.std.proofs.Common.{◌≡◌, ℕ, ◌<◌, Bool, false, not, ◌&&◌, ◌||◌, eqb, List, [], ◌∷◌, ◌++◌, length, take, drop, refl, sym, ap, ◌∙◌, subst, inl, inr, ⊎_elim, arith}
+use Rattle.std.proofs.Common.{◌≡◌, ℕ, ◌<◌, Bool, false, not, ◌&&◌, ◌||◌, eqb, List, [], ◌∷◌, ◌++◌, length, take, refl, sym, ap, ◌∙◌, subst, inl, inr, ⊎_elim, arith}
 use Rattle.std.specs.Prelude.{codes, bytes_eq}
-use Rattle.std.specs.List.{list_any, prefix_len}
+use Rattle.std.specs.List.{prefix_len}
 use Rattle.std.proofs.lemmas.List.{take-append-le}
 use Rattle.std.proofs.lemmas.List.Sums.{prefix_len-le-length}
 use Rattle.rdlpp_scan.specs.declared.token.Mode.TheVariants.{Plain}
 use Rattle.rdlpp_scan.specs.declared.token.Token.{Token}
 use Rattle.rdlpp_scan.specs.Bytes.{is_word, is_letter, is_digit, begins_line_comment, begins_block_comment, begins_perl}
 use Rattle.rdlpp_scan.specs.Tokens.{token_of, stops_plain_text}
-use Rattle.rdlpp_scan.specs.SourceTokens.{line_len}
-use Rattle.rdlpp_scan.specs.Lines.{EndsLine, IsWholeLines}
+use Rattle.rdlpp_scan.specs.Lines.{EndsLine, IsWholeLines, line_continues}
 use Rattle.rdlpp_scan.specs.Pieces.{IsCut}
-use Rattle.rdlpp_scan.specs.Stage.{is_unbuilt, is_unbuilt_directive, is_reserved, name_behind, is_unbuilt_in_define}
-use Rattle.rdlpp_scan.proofs.LogicalLines.{line_len-le}
-use Rattle.rdlpp_scan.proofs.LineLaws.{line_len-append, nothing_behind}
+use Rattle.rdlpp_scan.specs.Stage.{is_unbuilt, is_unbuilt_directive, is_reserved, name_behind}
+use Rattle.rdlpp_scan.proofs.LineLaws.{line_continues-whole, nothing_behind}
 use Rattle.rdlpp_scan.proofs.WholeLines.{IsWholeLines-rest, IsWholeLines-one}
 use Rattle.rdlpp_scan.proofs.Seams.{Seam, Closed, BeforePerl, OpenString, OpenComment, token_of-seam, begins_perl-append, begins_line_comment-append, begins_block_comment-append, run-append, line_end-ten}
 
@@ -53,15 +51,15 @@ name_behind-append b c w more cut =
     ap (λ n. take n (xs ++ more)) (run-append is_word word_ten xs more (omega arith) cut) ∙ take-append-le (prefix_len is_word xs) xs more (prefix_len-le-length is_word xs)
 
 -- what isn't built, by its parts
-unbuilt_parts : ℕ → Bool → Bool → List ℕ → List ℕ → Bool
-unbuilt_parts b line block name rest = eqb b 34 || line || block || (eqb b 96 && is_reserved name && (not (bytes_eq name (codes "define")) || list_any is_unbuilt_in_define (drop 7 rest)))
+unbuilt_parts : ℕ → Bool → List ℕ → Bool → Bool
+unbuilt_parts b block name continues = eqb b 34 || block || (eqb b 96 && is_reserved name && (not (bytes_eq name (codes "define")) || continues))
 
-is_unbuilt-parts : (b : ℕ) (bs : List ℕ) → is_unbuilt (b ∷ bs) ≡ unbuilt_parts b (begins_line_comment (b ∷ bs)) (begins_block_comment (b ∷ bs)) (name_behind (b ∷ bs)) (take (line_len (b ∷ bs)) (b ∷ bs))
+is_unbuilt-parts : (b : ℕ) (bs : List ℕ) → is_unbuilt (b ∷ bs) ≡ unbuilt_parts b (begins_block_comment (b ∷ bs)) (name_behind (b ∷ bs)) (line_continues 0 0 (b ∷ bs))
 unfolding is_unbuilt is_unbuilt_directive unbuilt_parts
 is_unbuilt-parts b bs = refl
 
 line_end-built : (b : ℕ) (bs : List ℕ) → b ≡ 10 → is_unbuilt (b ∷ bs) ≡ false
-unfolding is_unbuilt is_unbuilt_directive begins_line_comment begins_block_comment
+unfolding is_unbuilt is_unbuilt_directive begins_block_comment
 line_end-built b bs ten = subst (λ (n : ℕ). is_unbuilt (n ∷ bs) ≡ false) (sym ten) refl
 
 is_unbuilt-whole : (held more : List ℕ) → 0 < length held → IsWholeLines held → is_unbuilt (held ++ more) ≡ is_unbuilt held
@@ -73,13 +71,11 @@ is_unbuilt-whole (b ∷ c ∷ w) more some whole =
     let xs = b ∷ c ∷ w in
     let cut : IsCut xs more = inr (inr whole) in
     let rest : IsCut (c ∷ w) more = inr (inr (IsWholeLines-rest b (c ∷ w) whole)) in
-    let line : take (line_len (xs ++ more)) (xs ++ more) ≡ take (line_len xs) xs =
-    ap (λ n. take n (xs ++ more)) (line_len-append xs more some (inl whole)) ∙ take-append-le (line_len xs) xs more (line_len-le xs) in
+    let line : line_continues 0 0 (xs ++ more) ≡ line_continues 0 0 xs = line_continues-whole 0 0 xs more some whole in
     is_unbuilt-parts b (c ∷ w ++ more)
-    ∙ ap (λ t. unbuilt_parts b t (begins_block_comment (xs ++ more)) (name_behind (xs ++ more)) (take (line_len (xs ++ more)) (xs ++ more))) (begins_line_comment-append xs more some cut)
-    ∙ ap (λ t. unbuilt_parts b (begins_line_comment xs) t (name_behind (xs ++ more)) (take (line_len (xs ++ more)) (xs ++ more))) (begins_block_comment-append xs more some cut)
-    ∙ ap (λ n. unbuilt_parts b (begins_line_comment xs) (begins_block_comment xs) n (take (line_len (xs ++ more)) (xs ++ more))) (name_behind-append b c w more rest)
-    ∙ ap (unbuilt_parts b (begins_line_comment xs) (begins_block_comment xs) (name_behind xs)) line
+    ∙ ap (λ t. unbuilt_parts b t (name_behind (xs ++ more)) (line_continues 0 0 (xs ++ more))) (begins_block_comment-append xs more some cut)
+    ∙ ap (λ n. unbuilt_parts b (begins_block_comment xs) n (line_continues 0 0 (xs ++ more))) (name_behind-append b c w more rest)
+    ∙ ap (unbuilt_parts b (begins_block_comment xs) (name_behind xs)) line
     ∙ sym (is_unbuilt-parts b (c ∷ w))
 
 -- what isn't built

@@ -27,7 +27,7 @@ pub is_unbuilt-spares : SparesOrdinary is_unbuilt
 unfolding is_unbuilt is_unbuilt_directive
 is_unbuilt-spares bs h =
     let g = goes_on bs h in
-    neither _ _ (neither _ _ (neither _ _ g.no_quote g.no_line_comment) g.no_block_comment) (and_left _ _ (and_left _ _ g.no_backquote))
+    neither _ _ (neither _ _ g.no_quote g.no_block_comment) (and_left _ _ (and_left _ _ g.no_backquote))
 
 step_by-kind : (c : Course) (o l : ℕ) (k : Kind) (n : ℕ) (m : Mode) (bs : List ℕ) → is_plain_kind k ≡ true → step_by c o l (record { kind = k; len = n; next_mode = m }) bs ≡ Next (record { sort = Ordinary k; bytes = take n bs; line = l })
 unfolding step_by is_plain_kind

@@ -1,7 +1,7 @@
 -- What remains of a source, step by step, as the engine takes it: `held` ends at a line end or at the text's end.
 use Rattle.std.proofs.Common.{◌≡◌, ◌⊎◌, ℕ, ◌+◌, ◌-◌, ◌<◌, ◌≤◌, Bool, true, false, List, [], ◌∷◌, ◌++◌, Option, None, length, take, drop, refl, sym, ap, ◌∙◌, inl, inr, ⊎_elim, arith}
 use Rattle.std.specs.Prelude.{codes, bytes_eq}
-use Rattle.std.specs.List.{flat_map, All, list_any}
+use Rattle.std.specs.List.{flat_map, All}
 use Rattle.std.proofs.lemmas.List.{append_assoc, length-append, take-append-drop}
 use Rattle.rdlpp_scan.specs.declared.token.Kind.TheVariants.{Back, BareBackquote, Perl}
 use Rattle.rdlpp_scan.specs.declared.token.Mode.{Mode}
@@ -9,9 +9,8 @@ use Rattle.rdlpp_scan.specs.declared.token.Mode.TheVariants.{Plain}
 use Rattle.rdlpp_scan.specs.Tokens.{plain_len, token_of}
 use Rattle.rdlpp_scan.specs.Front.{LineLong, SourceLong, PerlFound, Unbuilt, Break, Front, front, onto_front}
 use Rattle.rdlpp_scan.specs.SourceTokens.{SourceToken, Course, Ordinary, Definition, Broken, line_ends, line_len, source_end, source_tokens, remaining_tokens}
-use Rattle.rdlpp_scan.specs.Lines.{EndsLine, IsWholeLines}
+use Rattle.rdlpp_scan.specs.Lines.{EndsLine, IsWholeLines, line_continues}
 use Rattle.rdlpp_scan.specs.Ordinary.{IsOrdinary, IsPlainToken, SparesOrdinary}
-use Rattle.rdlpp_scan.specs.Stage.{is_unbuilt_in_define}
 use Rattle.rdlpp_scan.proofs.SourceLaws.{source_tokens-opened}
 use Rattle.rdlpp_scan.proofs.OrdinaryLaws.{ordinary_text}
 use Rattle.rdlpp_scan.proofs.OrdinaryFronts.{ordinary_front, plain_len-append}
@@ -148,9 +147,9 @@ remaining-back u most o l held room rest some ends built is other also =
     let b = behind most room held rest ends in
     step-back (course u most room rest) o l held more some b.ends (built more b.ends) is other also
 
--- a `define` whose physical line has no `\`
+-- a `define` whose physical line isn't continued
 pub remaining-define : (u : List ℕ → Bool) (most o l : ℕ) (held : List ℕ) (room : ℕ) (rest : List ℕ) → 0 < length held → EndsLine held rest → ((more : List ℕ) → EndsLine held more → u (held ++ more) ≡ false) → (token_of Plain held).kind ≡ Back
-    → bytes_eq (take (token_of Plain held).len held) (codes "`define") ≡ true → list_any is_unbuilt_in_define (drop 7 (take (line_len held) held)) ≡ false → line_len held ≤ most
+    → bytes_eq (take (token_of Plain held).len held) (codes "`define") ≡ true → line_continues 0 0 held ≡ false → line_len held ≤ most
     → remaining_tokens u most Plain o l held room rest
     ≡ record { sort = Definition; bytes = take (line_len held) held; line = l } ∷ remaining_tokens u most Plain l (l + line_ends (take (line_len held) held)) (drop (line_len held) held) room rest
 unfolding remaining_tokens

@@ -1,7 +1,7 @@
 -- What isn't built, by the first token.
 use Rattle.std.proofs.Common.{◌≡◌, ℕ, zero, suc, ◌-◌, Bool, true, false, not, ◌&&◌, ◌||◌, eqb, List, [], ◌∷◌, take, drop, get_or, refl, sym, ap, ◌∙◌, arith}
 use Rattle.std.specs.Prelude.{codes, bytes_eq}
-use Rattle.std.specs.List.{list_any, prefix_len}
+use Rattle.std.specs.List.{prefix_len}
 use Rattle.std.proofs.Math.Bool.{or-true}
 use Rattle.std.proofs.lemmas.Bool.{eqb-true, and_parts, false≢true}
 use Rattle.rdlpp_scan.specs.declared.token.Kind.{Kind}
@@ -10,9 +10,9 @@ use Rattle.rdlpp_scan.specs.declared.token.Mode.TheVariants.{Plain}
 use Rattle.rdlpp_scan.specs.declared.token.Token.{Token}
 use Rattle.rdlpp_scan.specs.Bytes.{is_letter, is_word, begins_perl, begins_line_comment, begins_block_comment}
 use Rattle.rdlpp_scan.specs.Tokens.{token_of, whole, stops_plain_text}
-use Rattle.rdlpp_scan.specs.SourceTokens.{line_len}
+use Rattle.rdlpp_scan.specs.Lines.{line_continues}
 use Rattle.rdlpp_scan.specs.Ordinary.{is_plain_kind}
-use Rattle.rdlpp_scan.specs.Stage.{is_unbuilt, is_unbuilt_directive, is_reserved, reserved_names, name_behind, is_unbuilt_in_define}
+use Rattle.rdlpp_scan.specs.Stage.{is_unbuilt, is_unbuilt_directive, is_reserved, reserved_names, name_behind}
 use Rattle.rdlpp_scan.proofs.Searches.{false_since}
 use Rattle.rdlpp_scan.proofs.StopKinds.{Row, AtPerl, AtLineComment, AtBlockComment, AtString, AtBack, AtBare, AtPlain, token_of-row}
 
@@ -23,31 +23,35 @@ front_name bs = take ((token_of Plain bs).len - 1) (drop 1 bs)
 -- a string isn't built
 pub is_unbuilt-quote : (bs : List ℕ) → eqb (get_or bs 0 0) 34 ≡ true → is_unbuilt bs ≡ true
 unfolding is_unbuilt
-is_unbuilt-quote bs h = ap (λ t. t || begins_line_comment bs || begins_block_comment bs || is_unbuilt_directive bs) h
-
--- a line comment isn't
-pub is_unbuilt-line : (bs : List ℕ) → begins_line_comment bs ≡ true → is_unbuilt bs ≡ true
-unfolding is_unbuilt
-is_unbuilt-line bs h = ap (λ t. eqb (get_or bs 0 0) 34 || t || begins_block_comment bs || is_unbuilt_directive bs) h ∙ ap (λ t. t || begins_block_comment bs || is_unbuilt_directive bs) (or-true (eqb (get_or bs 0 0) 34))
+is_unbuilt-quote bs h = ap (λ t. t || begins_block_comment bs || is_unbuilt_directive bs) h
 
 -- a block comment isn't
 pub is_unbuilt-block : (bs : List ℕ) → begins_block_comment bs ≡ true → is_unbuilt bs ≡ true
 unfolding is_unbuilt
 is_unbuilt-block bs h =
-    let q = eqb (get_or bs 0 0) 34 || begins_line_comment bs in
+    let q = eqb (get_or bs 0 0) 34 in
     ap (λ t. q || t || is_unbuilt_directive bs) h ∙ ap (λ t. t || is_unbuilt_directive bs) (or-true q)
+
+-- a line comment is built
+pub is_unbuilt-line : (bs : List ℕ) → begins_line_comment bs ≡ true → is_unbuilt bs ≡ false
+unfolding is_unbuilt is_unbuilt_directive begins_line_comment begins_block_comment
+is_unbuilt-line bs h =
+    let parts = and_parts (eqb (get_or bs 0 0) 47) (eqb (get_or bs 1 0) 47) h in
+    let first = eqb-true (get_or bs 0 0) 47 parts.0 in
+    let second = eqb-true (get_or bs 1 0) 47 parts.1 in
+    rw (first, second) refl
 
 -- what a row's byte leaves of the test
 is_unbuilt-byte : (bs : List ℕ) (n : ℕ) → get_or bs 0 0 ≡ n → eqb n 34 ≡ false → eqb n 47 ≡ false
-    → is_unbuilt bs ≡ (eqb n 96 && is_reserved (name_behind bs) && (not (bytes_eq (name_behind bs) (codes "define")) || list_any is_unbuilt_in_define (drop 7 (take (line_len bs) bs))))
-unfolding is_unbuilt is_unbuilt_directive begins_line_comment begins_block_comment
+    → is_unbuilt bs ≡ (eqb n 96 && is_reserved (name_behind bs) && (not (bytes_eq (name_behind bs) (codes "define")) || line_continues 0 0 bs))
+unfolding is_unbuilt is_unbuilt_directive begins_block_comment
 is_unbuilt-byte bs n is quote slash =
     let c = get_or bs 1 0 in
     let R = is_reserved (name_behind bs) in
-    let N = not (bytes_eq (name_behind bs) (codes "define")) || list_any is_unbuilt_in_define (drop 7 (take (line_len bs) bs)) in
-    ap (λ m. eqb m 34 || (eqb m 47 && eqb c 47) || (eqb m 47 && eqb c 42) || (eqb m 96 && R && N)) is
-    ∙ ap (λ t. t || (eqb n 47 && eqb c 47) || (eqb n 47 && eqb c 42) || (eqb n 96 && R && N)) quote
-    ∙ ap (λ t. (t && eqb c 47) || (t && eqb c 42) || (eqb n 96 && R && N)) slash
+    let N = not (bytes_eq (name_behind bs) (codes "define")) || line_continues 0 0 bs in
+    ap (λ m. eqb m 34 || (eqb m 47 && eqb c 42) || (eqb m 96 && R && N)) is
+    ∙ ap (λ t. t || (eqb n 47 && eqb c 42) || (eqb n 96 && R && N)) quote
+    ∙ ap (λ t. (t && eqb c 42) || (eqb n 96 && R && N)) slash
 
 -- `<%` is built
 pub is_unbuilt-at_perl : (bs : List ℕ) → begins_perl bs ≡ true → is_unbuilt bs ≡ false
@@ -92,7 +96,7 @@ bare_name bs h = not_reserved _ (first_of_name (prefix_len is_word (drop 1 bs)) 
 -- a backquote without a name is built
 pub is_unbuilt-at_bare : (bs : List ℕ) → eqb (get_or bs 0 0) 96 ≡ true → is_letter (get_or bs 1 0) ≡ false → is_unbuilt bs ≡ false
 is_unbuilt-at_bare bs h none =
-    let N = not (bytes_eq (name_behind bs) (codes "define")) || list_any is_unbuilt_in_define (drop 7 (take (line_len bs) bs)) in
+    let N = not (bytes_eq (name_behind bs) (codes "define")) || line_continues 0 0 bs in
     is_unbuilt-byte bs 96 (eqb-true (get_or bs 0 0) 96 h) refl refl ∙ ap (λ t. t && N) (bare_name bs none)
 
 -- by the kind of the first token
@@ -115,10 +119,10 @@ module _ (bs : List ℕ) where
   is_unbuilt-string is =
       by_row Str (is_unbuilt bs ≡ true) (token_of Plain bs) is (token_of-row bs) (λ e _. absurd (cc)) (λ e _. absurd (cc)) (λ e _. absurd (cc)) (λ _ h. is_unbuilt-quote bs h) (λ e _ _. absurd (cc)) (λ e _ _. absurd (cc)) (λ e. absurd (false≢true e))
 
-  pub is_unbuilt-line_comment : (token_of Plain bs).kind ≡ LineComment → is_unbuilt bs ≡ true
+  pub is_unbuilt-line_comment : (token_of Plain bs).kind ≡ LineComment → is_unbuilt bs ≡ false
   unfolding is_plain_kind
   is_unbuilt-line_comment is =
-      by_row LineComment (is_unbuilt bs ≡ true) (token_of Plain bs) is (token_of-row bs) (λ e _. absurd (cc)) (λ _ h. is_unbuilt-line bs h) (λ e _. absurd (cc)) (λ e _. absurd (cc)) (λ e _ _. absurd (cc)) (λ e _ _. absurd (cc)) (λ e. absurd (false≢true e))
+      by_row LineComment (is_unbuilt bs ≡ false) (token_of Plain bs) is (token_of-row bs) (λ e _. absurd (cc)) (λ _ h. is_unbuilt-line bs h) (λ e _. absurd (cc)) (λ e _. absurd (cc)) (λ e _ _. absurd (cc)) (λ e _ _. absurd (cc)) (λ e. absurd (false≢true e))
 
   pub is_unbuilt-block_comment : (token_of Plain bs).kind ≡ BlockComment → is_unbuilt bs ≡ true
   unfolding is_plain_kind
@@ -135,12 +139,12 @@ module _ (bs : List ℕ) where
   is_unbuilt-bare is =
       by_row BareBackquote (is_unbuilt bs ≡ false) (token_of Plain bs) is (token_of-row bs) (λ e _. absurd (cc)) (λ e _. absurd (cc)) (λ e _. absurd (cc)) (λ e _. absurd (cc)) (λ e _ _. absurd (cc)) (λ _ h g. is_unbuilt-at_bare bs h g) (λ e. absurd (false≢true e))
 
-  -- a backquote with a name: unbuilt where the name is reserved and isn't `define`, or its line has what isn't built
+  -- a backquote with a name: unbuilt where the name is reserved and isn't `define`, or its line ends in a continuation
   pub is_unbuilt-back : (token_of Plain bs).kind ≡ Back
-      → is_unbuilt bs ≡ (is_reserved (front_name bs) && (not (bytes_eq (front_name bs) (codes "define")) || list_any is_unbuilt_in_define (drop 7 (take (line_len bs) bs))))
+      → is_unbuilt bs ≡ (is_reserved (front_name bs) && (not (bytes_eq (front_name bs) (codes "define")) || line_continues 0 0 bs))
   unfolding is_plain_kind name_behind
   is_unbuilt-back is =
-      let R : List ℕ → Bool = λ name. is_reserved name && (not (bytes_eq name (codes "define")) || list_any is_unbuilt_in_define (drop 7 (take (line_len bs) bs))) in
+      let R : List ℕ → Bool = λ name. is_reserved name && (not (bytes_eq name (codes "define")) || line_continues 0 0 bs) in
       let named : (token_of Plain bs).len ≡ suc (prefix_len is_word (drop 1 bs)) → name_behind bs ≡ front_name bs = λ e.
       let less : prefix_len is_word (drop 1 bs) ≡ (token_of Plain bs).len - 1 = omega arith in
       ap (λ n. take n (drop 1 bs)) less in

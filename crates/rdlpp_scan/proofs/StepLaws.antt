@@ -1,13 +1,11 @@
 -- One step of a source's tokens, at a text that ends at a line end.
-use Rattle.std.proofs.Common.{◌≡◌, ◌⊎◌, ℕ, zero, suc, ◌+◌, ◌<◌, ◌≤◌, Bool, true, false, not, ◌&&◌, ◌||◌, cond, eqb, ltb, List, [], ◌∷◌, ◌++◌, Option, Some, None, length, take, drop, get_or, refl, sym, ap, ◌∙◌, subst, inl, inr, ⊎_elim, arith}
+use Rattle.std.proofs.Common.{◌≡◌, ◌⊎◌, ℕ, suc, ◌+◌, ◌<◌, ◌≤◌, Bool, true, false, cond, eqb, ltb, List, [], ◌∷◌, ◌++◌, Option, Some, None, length, take, drop, get_or, refl, sym, ap, ◌∙◌, subst, inl, inr, ⊎_elim, arith}
 use Rattle.std.specs.Prelude.{codes, bytes_eq}
-use Rattle.std.specs.List.{list_any, prefix_len}
+use Rattle.std.specs.List.{prefix_len}
 use Rattle.std.specs.Option.{option_map, unwrap_or}
 use Rattle.std.proofs.Math.Seq.{take-length}
-use Rattle.std.proofs.lemmas.Slice.Eq.{bytes_eq-Decides}
-use Rattle.std.proofs.lemmas.List.Folds.{list_any-append}
-use Rattle.std.proofs.lemmas.Bool.{eqb-true, false≢true, le-ltb, or_parts}
-use Rattle.std.proofs.lemmas.List.{append-nil, take-append-le, drop-append-le, length-take-le, length-append, take-append-drop}
+use Rattle.std.proofs.lemmas.Bool.{eqb-true, false≢true, le-ltb}
+use Rattle.std.proofs.lemmas.List.{append-nil, take-append-le, drop-append-le, length-take-le, length-append}
 use Rattle.rdlpp_scan.specs.declared.token.Kind.{Kind}
 use Rattle.rdlpp_scan.specs.declared.token.Kind.TheVariants.{Back, BareBackquote, Perl}
 use Rattle.rdlpp_scan.specs.declared.token.Mode.TheVariants.{Plain}
@@ -15,16 +13,15 @@ use Rattle.rdlpp_scan.specs.declared.token.Token.{Token}
 use Rattle.rdlpp_scan.specs.Bytes.{is_line_end, is_word, is_letter, is_digit}
 use Rattle.rdlpp_scan.specs.Tokens.{token_of, whole}
 use Rattle.rdlpp_scan.specs.Front.{PerlFound, DefineLong, DefineCut, Unbuilt, Break}
-use Rattle.rdlpp_scan.specs.SourceTokens.{SourceToken, Course, Step, Last, Next, Ordinary, Definition, Broken, broken, back_step, define_step, is_continued, line_ends, line_len, line_step, logical_len, source_step, source_tokens, step_by}
-use Rattle.rdlpp_scan.specs.Lines.{EndsLine, IsWholeLines, ended_line_len}
+use Rattle.rdlpp_scan.specs.SourceTokens.{SourceToken, Course, Step, Last, Next, Ordinary, Definition, Broken, broken, back_step, define_step, line_ends, line_len, line_step, logical_len, source_step, source_tokens, step_by}
+use Rattle.rdlpp_scan.specs.Lines.{EndsLine, IsWholeLines, ended_line_len, line_continues}
 use Rattle.rdlpp_scan.specs.Ordinary.{is_plain_kind}
-use Rattle.rdlpp_scan.specs.Stage.{is_unbuilt_in_define}
 use Rattle.rdlpp_scan.proofs.Searches.{false_since}
 use Rattle.rdlpp_scan.proofs.Seams.{line_end-ten}
 use Rattle.rdlpp_scan.proofs.TokenLens.{token_of-part}
 use Rattle.rdlpp_scan.proofs.SourceLaws.{line_ends-cons, source_tokens-next, source_tokens-last}
 use Rattle.rdlpp_scan.proofs.OrdinaryLaws.{source_step-built}
-use Rattle.rdlpp_scan.proofs.LineLaws.{line_len-some, logical_len-append, some_suc, none_suc}
+use Rattle.rdlpp_scan.proofs.LineLaws.{line_len-some, line_continues-logical, logical_len-append, none_suc}
 use Rattle.rdlpp_scan.proofs.WholeLines.{IsWholeLines-rest, IsWholeLines-one}
 use Rattle.rdlpp_scan.proofs.LogicalLines.{line_len-le, line_len-ended}
 use Rattle.rdlpp_scan.proofs.Locality.{token_of-append}
@@ -208,33 +205,6 @@ step-back c o l held more some ends built is other also =
     let lines : l + line_ends (take t.len held) ≡ l = omega (arith, back-line_ends held t.len row.byte row.len) in
     next_held c o l held more tok t.len part.not_empty part.inside refl step ∙ ap (λ k. tok ∷ source_tokens c Plain l k 0 (drop t.len held ++ more)) lines
 
--- a first line with an LF and no `\` is the logical line
-logical_len-line : (x y : ℕ) (bs : List ℕ) (n : ℕ) → eqb x 92 ≡ false → eqb y 92 ≡ false → ended_line_len bs ≡ Some n → list_any (λ b. eqb b 92) (take n bs) ≡ false → logical_len x y bs ≡ Some n
-unfolding logical_len ended_line_len is_continued
-logical_len-line x y [] n hx hy ended plain = absurd (cc)
-logical_len-line x y (b ∷ bs) n hx hy ended plain =
-    let E = ended_line_len bs in
-    let L = logical_len y b bs in
-    let cont : is_continued x y ≡ false = ap (λ t. t || (eqb x 92 && eqb y 13)) hy ∙ ap (λ t. t && eqb y 13) hx in
-    let P : Bool → Type 0 = λ t. cond t (Some 1) (option_map suc E) ≡ Some n → cond (t && not (is_continued x y)) (Some 1) (option_map suc L) ≡ Some n in
-    let at_true : P true = λ h. ap (λ u. cond (not u) (Some 1) (option_map suc L)) cont ∙ h in
-    let at_false : P false = λ h.
-    let p = some_suc E n h in
-    let parts = or_parts (eqb b 92) (list_any (λ b. eqb b 92) (take p.0 bs)) (subst (λ (k : ℕ). list_any (λ b. eqb b 92) (take k (b ∷ bs)) ≡ false) p.1.1 plain) in
-    ap (option_map suc) (logical_len-line y b bs p.0 hy parts.0 p.1.0 parts.1) ∙ ap Some (sym p.1.1) in
-    elim (is_line_end b) as P [ true ↦ at_true | false ↦ at_false ] ended
-
--- a text with no LF has no logical line
-logical_len-unended : (x y : ℕ) (bs : List ℕ) → ended_line_len bs ≡ None → logical_len x y bs ≡ None
-unfolding logical_len ended_line_len
-logical_len-unended x y [] h = refl
-logical_len-unended x y (b ∷ bs) h =
-    let L = logical_len y b bs in
-    let P : Bool → Type 0 = λ t. cond t (Some 1) (option_map suc (ended_line_len bs)) ≡ None → cond (t && not (is_continued x y)) (Some 1) (option_map suc L) ≡ None in
-    let at_true : P true = λ e. absurd (cc) in
-    let at_false : P false = λ e. ap (option_map suc) (logical_len-unended y b bs (none_suc (ended_line_len bs) e)) in
-    elim (is_line_end b) as P [ true ↦ at_true | false ↦ at_false ] h
-
 -- whole lines have an LF
 whole-ended : (bs : List ℕ) → 0 < length bs → IsWholeLines bs → ended_line_len bs ≡ None → ⊥
 unfolding ended_line_len
@@ -247,44 +217,6 @@ whole-ended (b ∷ c ∷ cs) some whole h =
     let at_true : P true = λ e. absurd (cc) in
     let at_false : P false = λ e. none_suc (ended_line_len (c ∷ cs)) e in
     whole-ended (c ∷ cs) (omega arith) (IsWholeLines-rest b (c ∷ cs) whole) (elim (is_line_end b) as P [ true ↦ at_true | false ↦ at_false ] h)
-
-take-swap : (m n : ℕ) (xs : List ℕ) → take m (take n xs) ≡ take n (take m xs)
-take-swap zero zero xs = refl
-take-swap zero (suc n) [] = refl
-take-swap zero (suc n) (x ∷ xs) = refl
-take-swap (suc m) zero [] = refl
-take-swap (suc m) zero (x ∷ xs) = refl
-take-swap (suc m) (suc n) [] = refl
-take-swap (suc m) (suc n) (x ∷ xs) = ap (λ z. x ∷ z) (take-swap m n xs)
-
-list_any-take : (p : ℕ → Bool) (k : ℕ) (xs : List ℕ) → list_any p xs ≡ false → list_any p (take k xs) ≡ false
-list_any-take p zero xs h = refl
-list_any-take p (suc k) [] h = refl
-list_any-take p (suc k) (x ∷ xs) h = let parts = or_parts (p x) (list_any p xs) h in ap (λ t. t || list_any p (take k xs)) parts.0 ∙ list_any-take p k xs parts.1
-
-list_any-fewer : (p q : ℕ → Bool) → ((b : ℕ) → p b ≡ false → q b ≡ false) → (xs : List ℕ) → list_any p xs ≡ false → list_any q xs ≡ false
-list_any-fewer p q less [] h = refl
-list_any-fewer p q less (x ∷ xs) h = let parts = or_parts (p x) (list_any p xs) h in ap (λ t. t || list_any q xs) (less x parts.0) ∙ list_any-fewer p q less xs parts.1
-
-backslash_unbuilt : (b : ℕ) → is_unbuilt_in_define b ≡ false → eqb b 92 ≡ false
-unfolding is_unbuilt_in_define
-backslash_unbuilt b h =
-    let e = or_parts (eqb b 34 || eqb b 92 || eqb b 47 || eqb b 60 || eqb b 40) (eqb b 96) h in
-    let f = or_parts (eqb b 34 || eqb b 92 || eqb b 47 || eqb b 60) (eqb b 40) e.0 in
-    let g = or_parts (eqb b 34 || eqb b 92 || eqb b 47) (eqb b 60) f.0 in
-    let i = or_parts (eqb b 34 || eqb b 92) (eqb b 47) g.0 in
-    (or_parts (eqb b 34) (eqb b 92) i.0).1
-
--- a `define` that has nothing unbuilt on its line has no `\` there
-no_backslash : (held : List ℕ) (k n : ℕ) → k ≤ length held → take k held ≡ codes "`define" → list_any is_unbuilt_in_define (drop 7 (take n held)) ≡ false → list_any (λ b. eqb b 92) (take n held) ≡ false
-no_backslash held k n fits own plain =
-    let q : ℕ → Bool = λ b. eqb b 92 in
-    let L = take n held in
-    let seven : k ≡ 7 = sym (length-take-le k held fits) ∙ ap length own in
-    let front : take 7 L ≡ take n (codes "`define") = take-swap 7 n held ∙ ap (take n) (ap (λ i. take i held) (sym seven) ∙ own) in
-    let first : list_any q (take 7 L) ≡ false = ap (list_any q) front ∙ list_any-take q n (codes "`define") refl in
-    let rest : list_any q (drop 7 L) ≡ false = list_any-fewer is_unbuilt_in_define q backslash_unbuilt (drop 7 L) plain in
-    ap (list_any q) (sym (take-append-drop 7 L)) ∙ list_any-append q (take 7 L) (drop 7 L) ∙ ap (λ t. t || list_any q (drop 7 L)) first ∙ rest
 
 -- a `define` whose logical line ends
 pub define_step-some : (c : Course) (l : ℕ) (bs : List ℕ) (n : ℕ) → logical_len 0 0 bs ≡ Some n → n ≤ c.most → define_step c l bs ≡ Next (record { sort = Definition; bytes = take n bs; line = l })
@@ -314,9 +246,9 @@ define_step-none c l bs is last fits =
       | None ↦ at_end c.break
     ]) is ∙ ap at_end last ∙ ap (λ t. cond t (broken DefineLong [] l) (Next tok)) (le-ltb c.most (length bs) fits)
 
--- a `define` with nothing unbuilt on its line takes that line
+-- a `define` whose physical line isn't continued takes that line
 define_line : (c : Course) (l : ℕ) (held more : List ℕ) → 0 < length held → IsWholeLines held ⊎ ((more ≡ []) × (c.break ≡ None))
-    → list_any (λ b. eqb b 92) (take (line_len held) held) ≡ false → line_len held ≤ c.most → define_step c l (held ++ more) ≡ Next (record { sort = Definition; bytes = take (line_len held) held; line = l })
+    → line_continues 0 0 held ≡ false → line_len held ≤ c.most → define_step c l (held ++ more) ≡ Next (record { sort = Definition; bytes = take (line_len held) held; line = l })
 define_line c l held more some ends plain fits =
     let n = line_len held in
     let bs = held ++ more in
@@ -325,7 +257,7 @@ define_line c l held more some ends plain fits =
     let P : Option ℕ → Type 0 = λ o. ended_line_len held ≡ o → define_step c l bs ≡ made (take n held) in
     let ended : (m : ℕ) → P (Some m) = λ m e.
     let same : m ≡ n = ap (λ o. unwrap_or o (length held)) (sym e) ∙ line_len-ended held in
-    let logical : logical_len 0 0 held ≡ Some n = logical_len-line 0 0 held n refl refl (e ∙ ap Some same) plain in
+    let logical : logical_len 0 0 held ≡ Some n = line_continues-logical 0 0 held plain ∙ e ∙ ap Some same in
     define_step-some c l bs n (logical_len-append 0 0 held more n logical) fits ∙ ap made (take-append-le n held more le) in
     let last : P None = λ e.
     let all : length held ≡ n = ap (λ o. unwrap_or o (length held)) (sym e) ∙ line_len-ended held in
@@ -333,24 +265,21 @@ define_line c l held more some ends plain fits =
     let same : bs ≡ held = ap (λ z. held ++ z) none.0 ∙ append-nil held in
     let size : length bs ≡ n = ap length same ∙ all in
     let full : take n held ≡ held = ap (λ i. take i held) (sym all) ∙ take-length held in
-    define_step-none c l bs (ap (logical_len 0 0) same ∙ logical_len-unended 0 0 held e) none.1 (omega arith) ∙ ap made (same ∙ sym full)) ends in
+    define_step-none c l bs (ap (logical_len 0 0) same ∙ line_continues-logical 0 0 held plain ∙ e) none.1 (omega arith) ∙ ap made (same ∙ sym full)) ends in
     elim (ended_line_len held) as P [ Some m ↦ ended m | None ↦ last ] refl
 
--- a `define` whose physical line has no `\`: its logical line is that line
+-- a `define` whose physical line isn't continued: its logical line is that line
 pub step-define : (c : Course) (o l : ℕ) (held more : List ℕ) → 0 < length held → IsWholeLines held ⊎ ((more ≡ []) × (c.break ≡ None)) → c.unbuilt (held ++ more) ≡ false → (token_of Plain held).kind ≡ Back
-    → bytes_eq (take (token_of Plain held).len held) (codes "`define") ≡ true → list_any is_unbuilt_in_define (drop 7 (take (line_len held) held)) ≡ false → line_len held ≤ c.most
+    → bytes_eq (take (token_of Plain held).len held) (codes "`define") ≡ true → line_continues 0 0 held ≡ false → line_len held ≤ c.most
     → source_tokens c Plain o l 0 (held ++ more)
     ≡ record { sort = Definition; bytes = take (line_len held) held; line = l } ∷ source_tokens c Plain l (l + line_ends (take (line_len held) held)) 0 (drop (line_len held) held ++ more)
 step-define c o l held more some ends built is define plain fits =
     let t = token_of Plain held in
     let n = line_len held in
     let bs = held ++ more in
-    let part = token_of-part Plain held some in
     let at_line : EndsLine held more = ⊎_elim (λ whole. inl whole) (λ none. inr none.0) ends in
-    let own : take t.len held ≡ codes "`define" = (bytes_eq-Decides (take t.len held) (codes "`define")).0 define in
-    let none = no_backslash held t.len n part.inside own plain in
     let tok : SourceToken = record { sort = Definition; bytes = take n held; line = l } in
     let other = cond (bytes_eq (take t.len held) (codes "`line")) (line_step l bs) (Next (record { sort = Ordinary Back; bytes = take t.len held; line = l })) in
     let step : source_step c Plain o l bs ≡ Next tok =
-    back_held c o l held more some at_line built is ∙ ap (λ b. cond b (define_step c l bs) other) define ∙ define_line c l held more some ends none fits in
+    back_held c o l held more some at_line built is ∙ ap (λ b. cond b (define_step c l bs) other) define ∙ define_line c l held more some ends plain fits in
     next_held c o l held more tok n (line_len-some held some) (line_len-le held) refl step

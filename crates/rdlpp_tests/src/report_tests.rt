@@ -167,7 +167,7 @@ fn reports_what_ended_a_run(rt: HostRuntime) -> Result<(), Fail> {
 fn takes_definitions_from_the_options(rt: HostRuntime) -> Result<(), Fail> {
     let long = [b'n'; 129];
     let long = str::from_utf8(&long)?;
-    let rows: [(&[(&str, &str)], bool, &str, &str); 9] = [
+    let rows: [(&[(&str, &str)], bool, &str, &str); 10] = [
         (&[("W", "8")], false, "8", ""),
         (
             &[("V", " 1 // one"), ("W", "2"), ("W", "3")],
@@ -200,12 +200,8 @@ fn takes_definitions_from_the_options(rt: HostRuntime) -> Result<(), Fail> {
             "",
             "-D:3: error F2: string not closed\n",
         ),
-        (
-            &[("W", "f(x) \"s\"")],
-            false,
-            "",
-            "m:1: error F99: not built yet\n",
-        ),
+        (&[("W", "f(x) \"s\" // c")], false, "f(x) \"s\"", ""),
+        (&[("W", "`Q")], false, "", "m:1: error F99: not built yet\n"),
         (&[("W", "8")], true, "", "m:0: error F99: not built yet\n"),
     ];
     for (defines, origins, output, line) in rows {

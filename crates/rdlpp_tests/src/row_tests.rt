@@ -196,8 +196,8 @@ fn gives_each_row(rt: HostRuntime) {
             fault(99, 1, ""),
         ),
         faulty(
-            "a comment isn't built",
-            b"a\nb // c\n",
+            "a block comment isn't built",
+            b"a\nb /* c */\n",
             b"a\nb ",
             fault(99, 2, ""),
         ),
@@ -207,9 +207,116 @@ fn gives_each_row(rt: HostRuntime) {
             b"a\n",
             fault(99, 2, ""),
         ),
+    ];
+    for row in &rows {
+        run_row(&rt, row);
+    }
+}
+
+#[test]
+fn gives_each_row_of_definitions(rt: HostRuntime) {
+    let rows = [
+        whole(
+            "a definition with a list, a string and a comment",
+            b"`define F(x, y) \"x\" /* y */ // `F\nb\n",
+            b"\nb\n",
+        ),
+        whole(
+            "a definition with backquotes",
+            b"`define A `B `\n`define A 1\n`A",
+            b"\n\n1",
+        ),
+        whole("a comment behind a body", b"`define A 1 // 2\n`A", b"\n1"),
+        whole(
+            "a body of a string and a comment",
+            b"`define A \"a\\\" `B //\" /* `C ` */ 1 // 2\n[`A]\n",
+            b"\n[\"a\\\" `B //\" /* `C ` */ 1]\n",
+        ),
+        whole(
+            "comments up to the line's end and the text's end",
+            b"a // `B <% \"\r\n/// /*\nb //",
+            b"a // `B <% \"\r\n/// /*\nb //",
+        ),
+        whole(
+            "a comment between usages",
+            b"`define A 1\n`A// `A\n`A//`A",
+            b"\n1// `A\n1//`A",
+        ),
+        whole("a backslash at the end", b"`define A 1\\", b""),
+        whole(
+            "a backslash and CR at the end",
+            b"a\n`define A \\\r",
+            b"a\n",
+        ),
         faulty(
-            "a formal list isn't built",
-            b"`define F(x) x\n",
+            "no name but a string",
+            b"`define \"A\" 1\n",
+            b"",
+            fault(15, 1, ""),
+        ),
+        faulty(
+            "a number as a formal",
+            b"a\n`define F(1) x\n",
+            b"a\n",
+            fault(18, 2, ""),
+        ),
+        faulty(
+            "a formal list that isn't closed",
+            b"`define F(a\n",
+            b"",
+            fault(18, 1, ""),
+        ),
+        faulty(
+            "a formal twice",
+            b"`define F(a, a) x\n",
+            b"",
+            fault(19, 1, ""),
+        ),
+        faulty(
+            "an open string in a body",
+            b"a\n`define A \"x\n\"",
+            b"a\n",
+            fault(2, 2, ""),
+        ),
+        faulty(
+            "an open comment in a body",
+            b"`define A /* x\n*/",
+            b"",
+            fault(3, 1, ""),
+        ),
+        faulty(
+            "embedded Perl in a body",
+            b"\n`define A <% x %>\n",
+            b"\n",
+            fault(1, 2, ""),
+        ),
+        faulty(
+            "a usage of a macro with a list isn't built",
+            b"`define F() x\n\n`F()\n",
+            b"\n\n",
+            fault(99, 3, ""),
+        ),
+        faulty(
+            "a usage in a body isn't built",
+            b"`define A `B\n `A",
+            b"\n ",
+            fault(99, 2, ""),
+        ),
+        faulty(
+            "a lone backquote in a body isn't built",
+            b"`define A /**/ `\n `A",
+            b"\n ",
+            fault(99, 2, ""),
+        ),
+        faulty(
+            "a definition over two lines isn't built",
+            b"a\n`define A 1\\\n2\n",
+            b"a\n",
+            fault(99, 2, ""),
+        ),
+        faulty(
+            "a definition over two lines of CR and LF isn't built",
+            b"`define A 1\\\r\n2\n",
             b"",
             fault(99, 1, ""),
         ),

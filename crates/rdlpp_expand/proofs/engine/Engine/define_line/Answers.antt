@@ -23,7 +23,7 @@ read_define-requires g c =
     let wide : length (take c.args.len c.held.result.now) ≡ c.args.len =
     length-take-le c.args.len c.held.result.now (rw held ((define_inside _ _ c.requires.ready.bytes c.requires.define).1)) in
     let rest = define_rest (take c.args.len c.held.result.now) c.args.len c.min.result wide c.min.ensures in
-    record { line = rw (rest, held) (define_whole _ _ c.requires.define) }
+    record { line = rw (rest, held) (define_whole _ _ c.requires.ready.bytes c.requires.define) }
 
 pub pass-end-requires-clause-inside : goal.pass-end-requires-clause-inside
 pass-end-requires-clause-inside g c =

@@ -10,15 +10,15 @@ use Rattle.rdlpp_expand.proofs.engine.Engine.pass_text.Goals as goal
 
 pub slice_bounds-line_ends_in-end : goal.slice_bounds-line_ends_in-end
 slice_bounds-line_ends_in-end g c =
-    let inside = rw (← c.self.view_is) at (text_inside _ _ c.requires.text).1 in
+    let inside = rw (← c.self.view_is) at (text_inside _ _ c.requires.ready.bytes c.requires.text).1 in
     sym (length-take-le c.args.len c.held.result.now (rw c.held.ensures.value inside))
 
 pub pass-end-requires-clause-inside : goal.pass-end-requires-clause-inside
-pass-end-requires-clause-inside g c = (text_inside _ _ c.requires.text).1
+pass-end-requires-clause-inside g c = (text_inside _ _ c.requires.ready.bytes c.requires.text).1
 
 pub pass-end-requires-clause-lines : goal.pass-end-requires-clause-lines
 pass-end-requires-clause-lines g c =
-    let inside = rw (← c.self.view_is) at (text_inside _ _ c.requires.text).1 in
+    let inside = rw (← c.self.view_is) at (text_inside _ _ c.requires.ready.bytes c.requires.text).1 in
     let few : length (take c.args.len c.held.result.now) ≡ c.args.len = length-take-le c.args.len c.held.result.now (rw c.held.ensures.value inside) in
     let most = line_ends-le (take c.args.len c.held.result.now) in
     let count = c.line_ends_in-lines.ensures in
@@ -28,7 +28,7 @@ pub returns-clause-place : goal.returns-clause-place
 unfolding IsPlaced passed
 returns-clause-place g c =
     let is : IsFeed c.args.self.now.feed = rw (← c.self.view_is) c.self.invariant.5 in
-    let inside = (text_inside _ _ c.requires.text).1 in
+    let inside = (text_inside _ _ c.requires.ready.bytes c.requires.text).1 in
     let room = held_room c.args.self.now.feed in
     let end = c.pass-end.ensures.end in
     let window = ap (λ e. e.feed.window) c.pass-end.ensures.passed in
