@@ -24,12 +24,12 @@ is_limit TooManyConditionals = true
 is_limit TooManyIncludes = true
 is_limit kind = false
 
--- no limit is named where a text ends
+-- no limit is named where a text ends (source: this project's profile)
 abbrev pub NamesNoLimit : Option Told → Type 0
 NamesNoLimit None = Unit
 NamesNoLimit (Some f) = is_limit f.kind ≡ false
 
--- limits that are as large or larger
+-- limits that are as large or larger (source: this project's profile)
 pub record IsLarger (small large : Limits) : Type 0 where
   pub depth : small.depth ≤ large.depth
   pub includes : small.includes ≤ large.includes
@@ -41,6 +41,7 @@ pub record IsLarger (small large : Limits) : Type 0 where
   pub conditions : small.conditions ≤ large.conditions
 
 -- what isn't built is told by lines: a text that ends at a line's end begins with it where it does with more behind it
+-- (source: the stage)
 abbrev pub IsByLines : (List ℕ → Bool) → Type 0
 IsByLines unbuilt = (held more : List ℕ) → 0 < length held → EndsLine held more → unbuilt (held ++ more) ≡ unbuilt held
 
