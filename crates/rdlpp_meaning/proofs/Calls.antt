@@ -33,27 +33,27 @@ walk_skip rules s deeper source o (suc k) (Written t ∷ xs) = walk_skip rules s
 walk_skip rules s deeper source o (suc k) (Arg p g ∷ xs) = walk_skip rules s deeper source o k xs
 
 -- a call takes at most so many things
-TakesUpTo : {A : Type 0} → ℕ → Call A → Type 0
+unfoldable pub TakesUpTo : {A : Type 0} → ℕ → Call A → Type 0
 TakesUpTo n (Lacking f) = Unit
 TakesUpTo n (Broke f line) = Unit
 TakesUpTo n (Bound first further used) = used ≤ n
 
 -- a thing that is passed over is one more
-passed_takes : {A : Type 0} (n : ℕ) (c : Call A) → TakesUpTo n c → TakesUpTo (suc n) (passed c)
+pub passed_takes : {A : Type 0} (n : ℕ) (c : Call A) → TakesUpTo n c → TakesUpTo (suc n) (passed c)
 unfolding TakesUpTo passed
 passed_takes n (Lacking f) h = tt
 passed_takes n (Broke f line) h = tt
 passed_takes n (Bound first further used) h = omega arith
 
 -- a thing that is put in front is one more
-put_takes : {A : Type 0} (n : ℕ) (x : A) (c : Call A) → TakesUpTo n c → TakesUpTo (suc n) (put x c)
+pub put_takes : {A : Type 0} (n : ℕ) (x : A) (c : Call A) → TakesUpTo n c → TakesUpTo (suc n) (put x c)
 unfolding TakesUpTo put
 put_takes n x (Lacking f) h = tt
 put_takes n x (Broke f line) h = tt
 put_takes n x (Bound first further used) h = omega arith
 
 -- a comma is one more
-parted_takes : {A : Type 0} (n : ℕ) (c : Call A) → TakesUpTo n c → TakesUpTo (suc n) (parted c)
+pub parted_takes : {A : Type 0} (n : ℕ) (c : Call A) → TakesUpTo n c → TakesUpTo (suc n) (parted c)
 unfolding TakesUpTo parted
 parted_takes n (Lacking f) h = tt
 parted_takes n (Broke f line) h = tt

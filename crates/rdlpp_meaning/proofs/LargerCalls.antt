@@ -3,6 +3,7 @@ use Rattle.std.proofs.Common.{◌≡◌, ℕ, zero, suc, ◌+◌, ◌-◌, ◌�
 use Rattle.std.specs.Prelude.{if◌then◌else◌, nat_le, bytes_eq}
 use Rattle.std.specs.List.{list_any}
 use Rattle.std.proofs.lemmas.Bool.{le-leb, leb-true}
+use Rattle.rdlpp_scan.specs.SourceTokens.{SourceToken}
 use Rattle.rdlpp_scan.specs.Stage.{is_reserved}
 use Rattle.rdlpp_table.specs.Table.{Formal, Macro, macro_named}
 use Rattle.rdlpp_meaning.specs.declared.fault.FaultKind.TheVariants.{UndefinedMacro, RecursiveMacro, DirectiveInText, ArgumentBytes, Unbuilt}
@@ -14,8 +15,8 @@ use Rattle.rdlpp_meaning.specs.LimitLaws.{is_limit}
 use Rattle.rdlpp_meaning.proofs.Commuting.{call_by, call_is}
 
 -- rules with other limits
-abbrev pub wider : Rules → ℕ → ℕ → (List Macro → List ℕ → Defined) → Rules
-wider rules depth most define = record rules { depth = depth; argument_bytes = most; define = define }
+abbrev pub wider : Rules → ℕ → ℕ → (List Macro → List ℕ → Defined) → (List ℕ → List SourceToken) → Rules
+wider rules depth most define tokens = record rules { depth = depth; argument_bytes = most; define = define; tokens = tokens }
 
 -- a state with room for any count of sources, and for so many more conditionals
 abbrev pub roomier : ℕ → ℕ → State → State
@@ -87,7 +88,7 @@ heed-agrees r k true more x c d imp h =
 heed-agrees r k false more x c d imp h = unfitting-agrees r k more x c d h
 
 -- what fits in less room fits in more
-fits-more : (n room most : ℕ) → room ≤ most → nat_le n room ≡ true → nat_le n most ≡ true
+pub fits-more : (n room most : ℕ) → room ≤ most → nat_le n room ≡ true → nat_le n most ≡ true
 fits-more n room most h e = le-leb n most (le_trans (leb-true n room e) h)
 
 -- what stands in a call
@@ -158,49 +159,49 @@ call-usage m formals line name c d (inl e) =
 call-usage m formals line name c d (inr e) = λ h. ap (usage_of_call m formals line name) e
 
 -- a usage by its macro's formals
-formals-usage : (rules : Rules) (depth most : ℕ) (define : List Macro → List ℕ → Defined) (source : Option ℕ) (line : ℕ) (name : List ℕ) (items : List Item) (m : Macro) (formals : Option (List Formal))
+formals-usage : (rules : Rules) (depth most : ℕ) (define : List Macro → List ℕ → Defined) (tokens : List ℕ → List SourceToken) (source : Option ℕ) (line : ℕ) (name : List ℕ) (items : List Item) (m : Macro) (formals : Option (List Formal))
     → rules.argument_bytes ≤ most
-    → UsageAgrees (usage_of_formals rules source line name items m formals) (usage_of_formals (wider rules depth most define) source line name items m formals)
+    → UsageAgrees (usage_of_formals rules source line name items m formals) (usage_of_formals (wider rules depth most define tokens) source line name items m formals)
 unfolding usage_of_formals
-formals-usage rules depth most define source line name items m None h = same-agrees (Opens m [] 0)
-formals-usage rules depth most define source line name items m (Some formals) h =
+formals-usage rules depth most define tokens source line name items m None h = same-agrees (Opens m [] 0)
+formals-usage rules depth most define tokens source line name items m (Some formals) h =
     call-usage m formals line name (call_of item_role (item_size source) rules.argument_bytes items) (call_of item_role (item_size source) most items)
     (call-agrees item_role (item_size source) rules.argument_bytes most items h)
 
 -- a usage of a macro
-macro-usage : (rules : Rules) (depth most : ℕ) (define : List Macro → List ℕ → Defined) (source : Option ℕ) (line : ℕ) (o : List (List ℕ)) (name : List ℕ) (items : List Item) (m : Macro)
+macro-usage : (rules : Rules) (depth most : ℕ) (define : List Macro → List ℕ → Defined) (tokens : List ℕ → List SourceToken) (source : Option ℕ) (line : ℕ) (o : List (List ℕ)) (name : List ℕ) (items : List Item) (m : Macro)
     → rules.argument_bytes ≤ most
-    → UsageAgrees (usage_of_macro rules source line o name items m) (usage_of_macro (wider rules depth most define) source line o name items m)
+    → UsageAgrees (usage_of_macro rules source line o name items m) (usage_of_macro (wider rules depth most define tokens) source line o name items m)
 unfolding usage_of_macro
-macro-usage rules depth most define source line o name items m h =
+macro-usage rules depth most define tokens source line o name items m h =
     let u = usage_of_formals rules source line name items m m.formals in
-    let v = usage_of_formals (wider rules depth most define) source line name items m m.formals in
+    let v = usage_of_formals (wider rules depth most define tokens) source line name items m m.formals in
     let recursive : Usage = Refuses RecursiveMacro name line in
     choice-agrees (rules.unbuilt_macro m) (Refuses Unbuilt [] line) (Refuses Unbuilt [] line)
     (if list_any (bytes_eq name) o then recursive else u) (if list_any (bytes_eq name) o then recursive else v)
     (same-agrees (Refuses Unbuilt [] line))
     (choice-agrees (list_any (bytes_eq name) o) recursive recursive u v (same-agrees recursive)
-    (formals-usage rules depth most define source line name items m m.formals h))
+    (formals-usage rules depth most define tokens source line name items m m.formals h))
 
 -- a usage by what its name is
-named-usage : (rules : Rules) (depth most : ℕ) (define : List Macro → List ℕ → Defined) (source : Option ℕ) (line : ℕ) (o : List (List ℕ)) (name : List ℕ) (items : List Item) (found : Option Macro)
+named-usage : (rules : Rules) (depth most : ℕ) (define : List Macro → List ℕ → Defined) (tokens : List ℕ → List SourceToken) (source : Option ℕ) (line : ℕ) (o : List (List ℕ)) (name : List ℕ) (items : List Item) (found : Option Macro)
     → rules.argument_bytes ≤ most
     → UsageAgrees (elim found [ None ↦ Refuses UndefinedMacro name line | Some m ↦ usage_of_macro rules source line o name items m ])
-    (elim found [ None ↦ Refuses UndefinedMacro name line | Some m ↦ usage_of_macro (wider rules depth most define) source line o name items m ])
-named-usage rules depth most define source line o name items None h = same-agrees (Refuses UndefinedMacro name line)
-named-usage rules depth most define source line o name items (Some m) h = macro-usage rules depth most define source line o name items m h
+    (elim found [ None ↦ Refuses UndefinedMacro name line | Some m ↦ usage_of_macro (wider rules depth most define tokens) source line o name items m ])
+named-usage rules depth most define tokens source line o name items None h = same-agrees (Refuses UndefinedMacro name line)
+named-usage rules depth most define tokens source line o name items (Some m) h = macro-usage rules depth most define tokens source line o name items m h
 
 -- a usage with wider rules, in a state with more room
-pub usage-agrees : (rules : Rules) (depth most : ℕ) (define : List Macro → List ℕ → Defined) (s : State) (sources more : ℕ)
+pub usage-agrees : (rules : Rules) (depth most : ℕ) (define : List Macro → List ℕ → Defined) (tokens : List ℕ → List SourceToken) (s : State) (sources more : ℕ)
     (source : Option ℕ) (line : ℕ) (o : List (List ℕ)) (name : List ℕ) (items : List Item)
     → rules.argument_bytes ≤ most
     → UsageAgrees (usage_of rules s source line o name items)
-    (usage_of (wider rules depth most define) (roomier sources more s) source line o name items)
+    (usage_of (wider rules depth most define tokens) (roomier sources more s) source line o name items)
 unfolding usage_of
-usage-agrees rules depth most define s sources more source line o name items h =
+usage-agrees rules depth most define tokens s sources more source line o name items h =
     let reserved : Usage = Refuses DirectiveInText name line in
     choice-agrees (is_reserved name) reserved reserved
     (elim (macro_named s.macros name) [ None ↦ Refuses UndefinedMacro name line | Some m ↦ usage_of_macro rules source line o name items m ])
-    (elim (macro_named s.macros name) [ None ↦ Refuses UndefinedMacro name line | Some m ↦ usage_of_macro (wider rules depth most define) source line o name items m ])
+    (elim (macro_named s.macros name) [ None ↦ Refuses UndefinedMacro name line | Some m ↦ usage_of_macro (wider rules depth most define tokens) source line o name items m ])
     (same-agrees reserved)
-    (named-usage rules depth most define source line o name items (macro_named s.macros name) h)
+    (named-usage rules depth most define tokens source line o name items (macro_named s.macros name) h)

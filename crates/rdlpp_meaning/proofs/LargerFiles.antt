@@ -108,12 +108,12 @@ NestAgrees more (Some within) (Some within') =
     (sources : ℕ) (s : State) (text : List ℕ) → PassageAgrees more (within s text) (within' (roomier sources more s) text)
 
 -- an included text with its origin lines
-includes-agree : (rules : Rules) (depth most : ℕ) (define : List Macro → List ℕ → Defined) (sources more : ℕ) (within within' : State → List ℕ → Passage)
+includes-agree : (rules : Rules) (depth most : ℕ) (define : List Macro → List ℕ → Defined) (tokens : List ℕ → List SourceToken) (sources more : ℕ) (within within' : State → List ℕ → Passage)
     (path text : List ℕ) (c : Command) (s : State)
     → ((y : ℕ) (t : State) (bytes : List ℕ) → PassageAgrees more (within t bytes) (within' (roomier y more t) bytes))
-    → PassageAgrees more (includes rules within path text c s) (includes (wider rules depth most define) within' path text c (roomier sources more s))
+    → PassageAgrees more (includes rules within path text c s) (includes (wider rules depth most define tokens) within' path text c (roomier sources more s))
 unfolding includes origin_line at_start_of back_in leaves gives
-includes-agree rules depth most define sources more within within' path text c s h =
+includes-agree rules depth most define tokens sources more within within' path text c s h =
     bytes-agree more (origin_line rules path 1)
     (goes_on (within (at_start_of path s) text) (λ after.
     leaves (gives (added_end text ++ origin_line rules s.name (shown_line s.shift c.line))) (back_in s after)))
@@ -127,55 +127,55 @@ includes-agree rules depth most define sources more within within' path text c s
     (leaves (gives (added_end text ++ origin_line rules s.name (shown_line s.shift c.line))) (back_in s t))))
 
 -- an `include` of what was found
-found-agrees : (rules : Rules) (depth most : ℕ) (define : List Macro → List ℕ → Defined) (sources more : ℕ) (within within' : State → List ℕ → Passage)
+found-agrees : (rules : Rules) (depth most : ℕ) (define : List Macro → List ℕ → Defined) (tokens : List ℕ → List SourceToken) (sources more : ℕ) (within within' : State → List ℕ → Passage)
     (found : Lookup) (c : Command) (s : State)
     → ((y : ℕ) (t : State) (bytes : List ℕ) → PassageAgrees more (within t bytes) (within' (roomier y more t) bytes))
-    → PassageAgrees more (includes_found rules within found c s) (includes_found (wider rules depth most define) within' found c (roomier sources more s))
+    → PassageAgrees more (includes_found rules within found c s) (includes_found (wider rules depth most define tokens) within' found c (roomier sources more s))
 unfolding includes_found
-found-agrees rules depth most define sources more within within' NoSource c s h = refusal-agrees sources more SourceNotFound [] c s
-found-agrees rules depth most define sources more within within' LongPath c s h = refusal-agrees sources more PathTooLong [] c s
-found-agrees rules depth most define sources more within within' (Source path text) c s h =
-    includes-agree rules depth most define sources more within within' path text c s h
+found-agrees rules depth most define tokens sources more within within' NoSource c s h = refusal-agrees sources more SourceNotFound [] c s
+found-agrees rules depth most define tokens sources more within within' LongPath c s h = refusal-agrees sources more PathTooLong [] c s
+found-agrees rules depth most define tokens sources more within within' (Source path text) c s h =
+    includes-agree rules depth most define tokens sources more within within' path text c s h
 
 -- an `include` of a name, by what may be opened
-nested-agrees : (rules : Rules) (depth most : ℕ) (define : List Macro → List ℕ → Defined) (sources more : ℕ) (nest nest' : Nest) (name : List ℕ) (c : Command) (s : State)
+nested-agrees : (rules : Rules) (depth most : ℕ) (define : List Macro → List ℕ → Defined) (tokens : List ℕ → List SourceToken) (sources more : ℕ) (nest nest' : Nest) (name : List ℕ) (c : Command) (s : State)
     → NestAgrees more nest nest'
     → PassageAgrees more
     (elim nest [ None ↦ refusal TooManyIncludes [] c s | Some within ↦ includes_found rules within (rules.find s.path name) c s ])
     (elim nest' [
       | None ↦ refusal TooManyIncludes [] c (roomier sources more s)
-      | Some within ↦ includes_found (wider rules depth most define) within (rules.find s.path name) c (roomier sources more s)
+      | Some within ↦ includes_found (wider rules depth most define tokens) within (rules.find s.path name) c (roomier sources more s)
     ])
 unfolding NestAgrees is_limit
-nested-agrees rules depth most define sources more None None name c s h = limit-passage more TooManyIncludes [] c s _ refl
-nested-agrees rules depth most define sources more None (Some within') name c s h = limit-passage more TooManyIncludes [] c s _ refl
-nested-agrees rules depth most define sources more (Some within) None name c s h = absurd h
-nested-agrees rules depth most define sources more (Some within) (Some within') name c s h =
-    found-agrees rules depth most define sources more within within' (rules.find s.path name) c s h
+nested-agrees rules depth most define tokens sources more None None name c s h = limit-passage more TooManyIncludes [] c s _ refl
+nested-agrees rules depth most define tokens sources more None (Some within') name c s h = limit-passage more TooManyIncludes [] c s _ refl
+nested-agrees rules depth most define tokens sources more (Some within) None name c s h = absurd h
+nested-agrees rules depth most define tokens sources more (Some within) (Some within') name c s h =
+    found-agrees rules depth most define tokens sources more within within' (rules.find s.path name) c s h
 
 -- an `include` of what it is given
-given-agrees : (rules : Rules) (depth most : ℕ) (define : List Macro → List ℕ → Defined) (sources more : ℕ) (nest nest' : Nest) (given : Option (List ℕ)) (c : Command) (s : State)
+given-agrees : (rules : Rules) (depth most : ℕ) (define : List Macro → List ℕ → Defined) (tokens : List ℕ → List SourceToken) (sources more : ℕ) (nest nest' : Nest) (given : Option (List ℕ)) (c : Command) (s : State)
     → NestAgrees more nest nest'
-    → PassageAgrees more (includes_given rules nest given c s) (includes_given (wider rules depth most define) nest' given c (roomier sources more s))
+    → PassageAgrees more (includes_given rules nest given c s) (includes_given (wider rules depth most define tokens) nest' given c (roomier sources more s))
 unfolding includes_given includes_named
-given-agrees rules depth most define sources more nest nest' None c s h = refusal-agrees sources more IncludeName [] c s
-given-agrees rules depth most define sources more nest nest' (Some string) c s h =
+given-agrees rules depth most define tokens sources more nest nest' None c s h = refusal-agrees sources more IncludeName [] c s
+given-agrees rules depth most define tokens sources more nest nest' (Some string) c s h =
     let name = unquoted string in
     choice-passage more (length name == 0 || not (is_utf8 name)) (refusal IncludeName [] c s) (refusal IncludeName [] c (roomier sources more s))
     (elim nest [ None ↦ refusal TooManyIncludes [] c s | Some within ↦ includes_found rules within (rules.find s.path name) c s ])
     (elim nest' [
       | None ↦ refusal TooManyIncludes [] c (roomier sources more s)
-      | Some within ↦ includes_found (wider rules depth most define) within (rules.find s.path name) c (roomier sources more s)
+      | Some within ↦ includes_found (wider rules depth most define tokens) within (rules.find s.path name) c (roomier sources more s)
     ])
     (refusal-agrees sources more IncludeName [] c s)
-    (nested-agrees rules depth most define sources more nest nest' name c s h)
+    (nested-agrees rules depth most define tokens sources more nest nest' name c s h)
 
 -- a `line`
-line-agrees : (rules : Rules) (depth most : ℕ) (define : List Macro → List ℕ → Defined) (sources more : ℕ) (r : Option Renumbered) (c : Command) (s : State)
-    → PassageAgrees more (renumbers rules r c s) (renumbers (wider rules depth most define) r c (roomier sources more s))
+line-agrees : (rules : Rules) (depth most : ℕ) (define : List Macro → List ℕ → Defined) (tokens : List ℕ → List SourceToken) (sources more : ℕ) (r : Option Renumbered) (c : Command) (s : State)
+    → PassageAgrees more (renumbers rules r c s) (renumbers (wider rules depth most define tokens) r c (roomier sources more s))
 unfolding renumbers origin_line leaves gives refusal fails fault_at
-line-agrees rules depth most define sources more None c s = lifted-agrees sources more (refusal BadLine [] c s)
-line-agrees rules depth most define sources more (Some r) c s =
+line-agrees rules depth most define tokens sources more None c s = lifted-agrees sources more (refusal BadLine [] c s)
+line-agrees rules depth most define tokens sources more (Some r) c s =
     choice-passage more c.first
     (leaves (gives (line_ends_of c.text ++ origin_line rules r.name r.number)) (record s { name = r.name; shift = record { from = suc c.line; number = r.number } }))
     (leaves (gives (line_ends_of c.text ++ origin_line rules r.name r.number))
@@ -190,30 +190,30 @@ unfoldable pub AllDefined : Rules → (List Macro → List ℕ → Defined) → 
 AllDefined rules define = (macros : List Macro) (rest : List ℕ) → DefinedAgrees (rules.define macros rest) (define macros rest)
 
 -- a directive by itself, by its word
-word-agrees : (rules : Rules) (depth most : ℕ) (define : List Macro → List ℕ → Defined) (sources more : ℕ) (nest nest' : Nest)
+word-agrees : (rules : Rules) (depth most : ℕ) (define : List Macro → List ℕ → Defined) (tokens : List ℕ → List SourceToken) (sources more : ℕ) (nest nest' : Nest)
     (word : Directive) (given : Option (List ℕ)) (text : List ℕ) (line : ℕ) (first : Bool) (s : State)
     → AllDefined rules define → NestAgrees more nest nest'
     → PassageAgrees more (single rules nest (record { word = word; given = given; text = text; line = line; first = first }) s)
-    (single (wider rules depth most define) nest' (record { word = word; given = given; text = text; line = line; first = first }) (roomier sources more s))
+    (single (wider rules depth most define tokens) nest' (record { word = word; given = given; text = text; line = line; first = first }) (roomier sources more s))
 unfolding single AllDefined leaves gives
-word-agrees rules depth most define sources more nest nest' Define given text line first s d h =
+word-agrees rules depth most define tokens sources more nest nest' Define given text line first s d h =
     define-agrees sources more (record { word = Define; given = given; text = text; line = line; first = first }) s
     (rules.define s.macros (drop 7 text)) (define s.macros (drop 7 text)) (d s.macros (drop 7 text))
-word-agrees rules depth most define sources more nest nest' Undef given text line first s d h =
+word-agrees rules depth most define tokens sources more nest nest' Undef given text line first s d h =
     let c : Command = record { word = Undef; given = given; text = text; line = line; first = first } in
     undef-agrees sources more c s (macro_name c)
-word-agrees rules depth most define sources more nest nest' Include given text line first s d h =
-    given-agrees rules depth most define sources more nest nest' given (record { word = Include; given = given; text = text; line = line; first = first }) s h
-word-agrees rules depth most define sources more nest nest' Line given text line first s d h =
-    line-agrees rules depth most define sources more (renumbered (drop 5 text)) (record { word = Line; given = given; text = text; line = line; first = first }) s
-word-agrees rules depth most define sources more nest nest' word given text line first s d h = lifted-agrees sources more (leaves (gives []) s)
+word-agrees rules depth most define tokens sources more nest nest' Include given text line first s d h =
+    given-agrees rules depth most define tokens sources more nest nest' given (record { word = Include; given = given; text = text; line = line; first = first }) s h
+word-agrees rules depth most define tokens sources more nest nest' Line given text line first s d h =
+    line-agrees rules depth most define tokens sources more (renumbered (drop 5 text)) (record { word = Line; given = given; text = text; line = line; first = first }) s
+word-agrees rules depth most define tokens sources more nest nest' word given text line first s d h = lifted-agrees sources more (leaves (gives []) s)
 
 -- a directive by itself
-pub single-agrees : (rules : Rules) (depth most : ℕ) (define : List Macro → List ℕ → Defined) (sources more : ℕ) (nest nest' : Nest) (c : Command) (s : State)
+pub single-agrees : (rules : Rules) (depth most : ℕ) (define : List Macro → List ℕ → Defined) (tokens : List ℕ → List SourceToken) (sources more : ℕ) (nest nest' : Nest) (c : Command) (s : State)
     → AllDefined rules define → NestAgrees more nest nest'
-    → PassageAgrees more (single rules nest c s) (single (wider rules depth most define) nest' c (roomier sources more s))
-single-agrees rules depth most define sources more nest nest' c s d h =
-    word-agrees rules depth most define sources more nest nest' c.word c.given c.text c.line c.first s d h
+    → PassageAgrees more (single rules nest c s) (single (wider rules depth most define tokens) nest' c (roomier sources more s))
+single-agrees rules depth most define tokens sources more nest nest' c s d h =
+    word-agrees rules depth most define tokens sources more nest nest' c.word c.given c.text c.line c.first s d h
 
 -- the test of a name is the same in a state with more room
 name-room : (sources more : ℕ) (defined : Bool) (name : Checked) (s : State) → name_test defined name (roomier sources more s) ≡ name_test defined name s

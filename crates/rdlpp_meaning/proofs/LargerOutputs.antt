@@ -1,8 +1,8 @@
--- The law of larger limits of expansion.
-use Rattle.std.proofs.Common.{◌≡◌, ℕ, zero, suc, ◌+◌, ◌-◌, ◌≤◌, Bool, true, false, true≢false, List, [], ◌∷◌, ◌++◌, refl, sym, ap, subst, ◌∙◌, arith, le_trans}
+-- The law of larger limits.
+use Rattle.std.proofs.Common.{◌≡◌, ℕ, zero, suc, ◌+◌, ◌-◌, ◌≤◌, inl, inr, Bool, true, false, true≢false, List, [], ◌∷◌, ◌++◌, refl, sym, ap, subst, ◌∙◌, arith, Option, None, Some}
 use Rattle.std.specs.Prelude.{if◌then◌else◌, nat_lt, length}
-use Rattle.std.proofs.lemmas.Bool.{ltb-false, le-ltb}
-use Rattle.rdlpp_scan.specs.SourceTokens.{whole_tokens}
+use Rattle.rdlpp_scan.specs.Front.{Breach}
+use Rattle.rdlpp_scan.specs.SourceTokens.{Broken, SourceToken, whole_tokens}
 use Rattle.rdlpp_table.specs.declared.limits.Limits.{Limits}
 use Rattle.rdlpp_table.specs.Table.{Macro, macro_size, table_size, without}
 use Rattle.rdlpp_table.specs.declared.fault.DefineKind.TheVariants as kind
@@ -10,174 +10,302 @@ use Rattle.rdlpp_table.specs.Define.{Defined as TableDefined, Accepted as TableA
 use Rattle.rdlpp_meaning.specs.declared.fault.FaultKind.{FaultKind}
 use Rattle.rdlpp_meaning.specs.declared.fault.FaultKind.TheVariants.{StrayBranch}
 use Rattle.rdlpp_meaning.specs.declared.fault.FaultKind.TheVariants as fault
-use Rattle.rdlpp_meaning.specs.Outcome.{gives, fails}
-use Rattle.rdlpp_meaning.specs.State.{Defined, Accepted, Refused, Lookup, NoSource, LongPath, Source, Rules, State}
-use Rattle.rdlpp_meaning.specs.Expansion.{run_outcome}
+use Rattle.rdlpp_meaning.specs.Outcome.{Told, Outcome, gives, fails, and_then}
+use Rattle.rdlpp_meaning.specs.State.{Defined, Accepted, Refused, Lookup, NoSource, LongPath, Source, Rules, State, fault_at, breach_kind}
+use Rattle.rdlpp_meaning.specs.Expansion.{walk, run_outcome}
 use Rattle.rdlpp_meaning.specs.Parts.{Command, Piece, Run, Single, Opening, Branching, Closing, pieces, parts_of}
 use Rattle.rdlpp_meaning.specs.Meaning.{Passage, leaves, outcome, behind_bytes, goes_on, Nest, skipped_run, skipped_command, origin_line, single, Progress, in_conditional, past_conditional, begun, turned, unclosed, mean, nest_of, text_meaning}
 use Rattle.rdlpp_meaning.specs.Resumed.{Place, Live, Skipped, resume}
 use Rattle.rdlpp_meaning.specs.Output.{start_state, output}
 use Rattle.rdlpp_meaning.specs.Profile.{define_fault, with_fault, rules_of}
-use Rattle.rdlpp_meaning.specs.LimitLaws.{is_limit, NamesNoLimit, IsLarger}
+use Rattle.rdlpp_meaning.specs.LimitLaws.{is_limit, NamesNoLimit, IsLarger, IsByLines}
+use Rattle.rdlpp_meaning.specs.Items.{Written}
+use Rattle.rdlpp_meaning.specs.Actuals.{token_role}
+use Rattle.rdlpp_meaning.proofs.Walks.{expand_walk}
+use Rattle.rdlpp_meaning.proofs.TornCalls.{TornBy}
+use Rattle.rdlpp_meaning.proofs.TornRuns.{IsFault, TornAgrees, run-torn, skip-torn}
+use Rattle.rdlpp_meaning.proofs.TornPieces.{TokensTorn, run_front, EndsTorn, PiecesTorn, FirstUnbroken, pieces-torn}
+use Rattle.rdlpp_meaning.proofs.TornDefines.{unpassed}
+use Rattle.rdlpp_meaning.proofs.TornSources.{sources-torn}
 use Rattle.rdlpp_meaning.proofs.Resuming.{mean_resumes}
 use Rattle.rdlpp_meaning.proofs.LargerCalls.{wider, roomier}
-use Rattle.rdlpp_meaning.proofs.LargerRuns.{run-agrees}
+use Rattle.rdlpp_meaning.proofs.LargerRuns.{Agrees, run-agrees}
 use Rattle.rdlpp_meaning.proofs.LargerFiles.{PassageAgrees, lifted-agrees, leaves-agrees, leaves-same, on-agrees, bytes-agree, refusal-agrees, DefinedAgrees, NestAgrees, AllDefined, single-agrees, turn-agrees, opening-agrees, in-room, past-room, skipped-agrees}
 
+-- no list is one with an element
+nothing-more : {A : Type 0} (x : A) (xs : List A) → [] ≡ x ∷ xs → ⊥
+nothing-more x xs e = cc
+
 -- what is larger of some rules
-record Widens (rules : Rules) (depth most : ℕ) (define : List Macro → List ℕ → Defined) : Type 0 where
+record Widens (rules : Rules) (depth most : ℕ) (define : List Macro → List ℕ → Defined) (tokens : List ℕ → List SourceToken) : Type 0 where
   depths : rules.depth ≤ depth
   bytes : rules.argument_bytes ≤ most
   defines : AllDefined rules define
+  texts : (text : List ℕ) → TokensTorn true (rules.tokens text) (tokens text)
 
 -- what resumes agrees from each place and state
-unfoldable Resumes : Rules → ℕ → ℕ → (List Macro → List ℕ → Defined) → ℕ → Nest → Nest → List Piece → Type 0
-Resumes rules depth most define more nest nest' ps = (place : Place) (sources : ℕ) (s : State)
-    → PassageAgrees more (resume rules nest place ps s) (resume (wider rules depth most define) nest' place ps (roomier sources more s))
+unfoldable Resumes : Rules → ℕ → ℕ → (List Macro → List ℕ → Defined) → (List ℕ → List SourceToken) → ℕ → Nest → Nest → List Piece → List Piece → Type 0
+Resumes rules depth most define tokens more nest nest' ps qs = (place : Place) (sources : ℕ) (s : State)
+    → PassageAgrees more (resume rules nest place ps s) (resume (wider rules depth most define tokens) nest' place qs (roomier sources more s))
 
 -- what resumes behind a conditional that is opened
-conditional-agrees : (rules : Rules) (depth most : ℕ) (define : List Macro → List ℕ → Defined) (sources more : ℕ) (nest nest' : Nest) (ps : List Piece)
-    (place : Place) (s : State) (m : ℕ) → Resumes rules depth most define more nest nest' ps → s.conditions_left ≡ suc m
+conditional-agrees : (rules : Rules) (depth most : ℕ) (define : List Macro → List ℕ → Defined) (tokens : List ℕ → List SourceToken) (sources more : ℕ) (nest nest' : Nest) (ps qs : List Piece)
+    (place : Place) (s : State) (m : ℕ) → Resumes rules depth most define tokens more nest nest' ps qs → s.conditions_left ≡ suc m
     → PassageAgrees more (resume rules nest place ps (in_conditional s))
-    (resume (wider rules depth most define) nest' place ps (in_conditional (roomier sources more s)))
+    (resume (wider rules depth most define tokens) nest' place qs (in_conditional (roomier sources more s)))
 unfolding Resumes
-conditional-agrees rules depth most define sources more nest nest' ps place s m r e =
-    subst (λ (t : State). PassageAgrees more (resume rules nest place ps (in_conditional s)) (resume (wider rules depth most define) nest' place ps t))
+conditional-agrees rules depth most define tokens sources more nest nest' ps qs place s m r e =
+    subst (λ (t : State). PassageAgrees more (resume rules nest place ps (in_conditional s)) (resume (wider rules depth most define tokens) nest' place qs t))
     (sym (in-room sources more s m e)) (r place sources (in_conditional s))
 
 -- what resumes behind the end of a conditional
-end-agrees : (rules : Rules) (depth most : ℕ) (define : List Macro → List ℕ → Defined) (sources more : ℕ) (nest nest' : Nest) (ps : List Piece)
-    (place : Place) (s : State) → Resumes rules depth most define more nest nest' ps
+end-agrees : (rules : Rules) (depth most : ℕ) (define : List Macro → List ℕ → Defined) (tokens : List ℕ → List SourceToken) (sources more : ℕ) (nest nest' : Nest) (ps qs : List Piece)
+    (place : Place) (s : State) → Resumes rules depth most define tokens more nest nest' ps qs
     → PassageAgrees more (resume rules nest place ps (past_conditional s))
-    (resume (wider rules depth most define) nest' place ps (past_conditional (roomier sources more s)))
+    (resume (wider rules depth most define tokens) nest' place qs (past_conditional (roomier sources more s)))
 unfolding Resumes
-end-agrees rules depth most define sources more nest nest' ps place s r =
-    subst (λ (t : State). PassageAgrees more (resume rules nest place ps (past_conditional s)) (resume (wider rules depth most define) nest' place ps t))
+end-agrees rules depth most define tokens sources more nest nest' ps qs place s r =
+    subst (λ (t : State). PassageAgrees more (resume rules nest place ps (past_conditional s)) (resume (wider rules depth most define tokens) nest' place qs t))
     (sym (past-room sources more s)) (r place sources (past_conditional s))
 
 -- what resumes behind a passage
-behind-agrees : (rules : Rules) (depth most : ℕ) (define : List Macro → List ℕ → Defined) (more : ℕ) (nest nest' : Nest) (ps : List Piece)
-    (place : Place) (p q : Passage) → Resumes rules depth most define more nest nest' ps → PassageAgrees more p q
+behind-agrees : (rules : Rules) (depth most : ℕ) (define : List Macro → List ℕ → Defined) (tokens : List ℕ → List SourceToken) (more : ℕ) (nest nest' : Nest) (ps qs : List Piece)
+    (place : Place) (p q : Passage) → Resumes rules depth most define tokens more nest nest' ps qs → PassageAgrees more p q
     → PassageAgrees more (goes_on p (λ after. resume rules nest place ps after))
-    (goes_on q (λ after. resume (wider rules depth most define) nest' place ps after))
+    (goes_on q (λ after. resume (wider rules depth most define tokens) nest' place qs after))
 unfolding Resumes
-behind-agrees rules depth most define more nest nest' ps place p q r h =
-    on-agrees more p q (λ after. resume rules nest place ps after) (λ after. resume (wider rules depth most define) nest' place ps after)
+behind-agrees rules depth most define tokens more nest nest' ps qs place p q r h =
+    on-agrees more p q (λ after. resume rules nest place ps after) (λ after. resume (wider rules depth most define tokens) nest' place qs after)
     h (λ sources t. r place sources t)
 
 -- at the end of a file
-ends-agree : (rules : Rules) (depth most : ℕ) (define : List Macro → List ℕ → Defined) (more : ℕ) (nest nest' : Nest) (place : Place) (sources : ℕ) (s : State)
-    → PassageAgrees more (resume rules nest place [] s) (resume (wider rules depth most define) nest' place [] (roomier sources more s))
+ends-agree : (rules : Rules) (depth most : ℕ) (define : List Macro → List ℕ → Defined) (tokens : List ℕ → List SourceToken) (more : ℕ) (nest nest' : Nest) (place : Place) (sources : ℕ) (s : State)
+    → PassageAgrees more (resume rules nest place [] s) (resume (wider rules depth most define tokens) nest' place [] (roomier sources more s))
 unfolding resume unclosed leaves gives fails
-ends-agree rules depth most define more nest nest' (Live []) sources s = lifted-agrees sources more (leaves (gives []) s)
-ends-agree rules depth most define more nest nest' (Live (o ∷ os)) sources s = lifted-agrees sources more (unclosed o s)
-ends-agree rules depth most define more nest nest' (Skipped n o os) sources s = lifted-agrees sources more (unclosed o s)
+ends-agree rules depth most define tokens more nest nest' (Live []) sources s = lifted-agrees sources more (leaves (gives []) s)
+ends-agree rules depth most define tokens more nest nest' (Live (o ∷ os)) sources s = lifted-agrees sources more (unclosed o s)
+ends-agree rules depth most define tokens more nest nest' (Skipped n o os) sources s = lifted-agrees sources more (unclosed o s)
 
 -- a directive that opens a conditional in live text
-opened-agrees : (rules : Rules) (depth most : ℕ) (define : List Macro → List ℕ → Defined) (more : ℕ) (nest nest' : Nest) (c : Command) (ps : List Piece)
-    → Resumes rules depth most define more nest nest' ps → (os : List Progress) (sources : ℕ) (s : State)
+opened-agrees : (rules : Rules) (depth most : ℕ) (define : List Macro → List ℕ → Defined) (tokens : List ℕ → List SourceToken) (more : ℕ) (nest nest' : Nest) (c : Command) (ps qs : List Piece)
+    → Resumes rules depth most define tokens more nest nest' ps qs → (os : List Progress) (sources : ℕ) (s : State)
     → PassageAgrees more (resume rules nest (Live os) (Opening c ∷ ps) s)
-    (resume (wider rules depth most define) nest' (Live os) (Opening c ∷ ps) (roomier sources more s))
+    (resume (wider rules depth most define tokens) nest' (Live os) (Opening c ∷ qs) (roomier sources more s))
 unfolding resume begun
-opened-agrees rules depth most define more nest nest' c ps r os sources s =
+opened-agrees rules depth most define tokens more nest nest' c ps qs r os sources s =
     opening-agrees sources more c s
     (λ t. resume rules nest (Live (begun c t true ∷ os)) ps (in_conditional t))
     (λ t. resume rules nest (Skipped 0 (begun c t false) os) ps (in_conditional t))
-    (λ t. resume (wider rules depth most define) nest' (Live (begun c t true ∷ os)) ps (in_conditional t))
-    (λ t. resume (wider rules depth most define) nest' (Skipped 0 (begun c t false) os) ps (in_conditional t))
-    (λ m e. conditional-agrees rules depth most define sources more nest nest' ps (Live (begun c s true ∷ os)) s m r e)
-    (λ m e. conditional-agrees rules depth most define sources more nest nest' ps (Skipped 0 (begun c s false) os) s m r e)
+    (λ t. resume (wider rules depth most define tokens) nest' (Live (begun c t true ∷ os)) qs (in_conditional t))
+    (λ t. resume (wider rules depth most define tokens) nest' (Skipped 0 (begun c t false) os) qs (in_conditional t))
+    (λ m e. conditional-agrees rules depth most define tokens sources more nest nest' ps qs (Live (begun c s true ∷ os)) s m r e)
+    (λ m e. conditional-agrees rules depth most define tokens sources more nest nest' ps qs (Skipped 0 (begun c s false) os) s m r e)
 
 -- a branch of an open conditional
-branched-agrees : (rules : Rules) (depth most : ℕ) (define : List Macro → List ℕ → Defined) (more : ℕ) (nest nest' : Nest) (c : Command) (ps : List Piece)
-    → Resumes rules depth most define more nest nest' ps → (o : Progress) (os : List Progress) (sources : ℕ) (s : State)
+branched-agrees : (rules : Rules) (depth most : ℕ) (define : List Macro → List ℕ → Defined) (tokens : List ℕ → List SourceToken) (more : ℕ) (nest nest' : Nest) (c : Command) (ps qs : List Piece)
+    → Resumes rules depth most define tokens more nest nest' ps qs → (o : Progress) (os : List Progress) (sources : ℕ) (s : State)
     → PassageAgrees more (resume rules nest (Live (o ∷ os)) (Branching c ∷ ps) s)
-    (resume (wider rules depth most define) nest' (Live (o ∷ os)) (Branching c ∷ ps) (roomier sources more s))
+    (resume (wider rules depth most define tokens) nest' (Live (o ∷ os)) (Branching c ∷ qs) (roomier sources more s))
 unfolding resume Resumes
-branched-agrees rules depth most define more nest nest' c ps r o os sources s =
+branched-agrees rules depth most define tokens more nest nest' c ps qs r o os sources s =
     turn-agrees sources more o c s
     (λ t. resume rules nest (Live (turned o c true ∷ os)) ps t)
     (λ t. resume rules nest (Skipped 0 (turned o c false) os) ps t)
-    (λ t. resume (wider rules depth most define) nest' (Live (turned o c true ∷ os)) ps t)
-    (λ t. resume (wider rules depth most define) nest' (Skipped 0 (turned o c false) os) ps t)
+    (λ t. resume (wider rules depth most define tokens) nest' (Live (turned o c true ∷ os)) qs t)
+    (λ t. resume (wider rules depth most define tokens) nest' (Skipped 0 (turned o c false) os) qs t)
     (r (Live (turned o c true ∷ os)) sources s) (r (Skipped 0 (turned o c false) os) sources s)
 
 -- a piece in front
-piece-agrees : (rules : Rules) (depth most : ℕ) (define : List Macro → List ℕ → Defined) (more : ℕ) (nest nest' : Nest)
-    → Widens rules depth most define → NestAgrees more nest nest' → (p : Piece) (ps : List Piece)
-    → Resumes rules depth most define more nest nest' ps → (place : Place) (sources : ℕ) (s : State)
-    → PassageAgrees more (resume rules nest place (p ∷ ps) s) (resume (wider rules depth most define) nest' place (p ∷ ps) (roomier sources more s))
+piece-agrees : (rules : Rules) (depth most : ℕ) (define : List Macro → List ℕ → Defined) (tokens : List ℕ → List SourceToken) (more : ℕ) (nest nest' : Nest)
+    → Widens rules depth most define tokens → NestAgrees more nest nest' → (p : Piece) (ps qs : List Piece)
+    → Resumes rules depth most define tokens more nest nest' ps qs → (place : Place) (sources : ℕ) (s : State)
+    → PassageAgrees more (resume rules nest place (p ∷ ps) s) (resume (wider rules depth most define tokens) nest' place (p ∷ qs) (roomier sources more s))
 unfolding resume skipped_command
-piece-agrees rules depth most define more nest nest' w h (Run ts) ps r (Live os) sources s =
-    behind-agrees rules depth most define more nest nest' ps (Live os) (leaves (run_outcome rules s ts) s)
-    (leaves (run_outcome (wider rules depth most define) (roomier sources more s) ts) (roomier sources more s)) r
-    (leaves-agrees sources more s (run_outcome rules s ts) (run_outcome (wider rules depth most define) (roomier sources more s) ts)
-    (run-agrees rules depth most define s sources more ts w.bytes w.depths))
-piece-agrees rules depth most define more nest nest' w h (Single c) ps r (Live os) sources s =
-    behind-agrees rules depth most define more nest nest' ps (Live os) (single rules nest c s)
-    (single (wider rules depth most define) nest' c (roomier sources more s)) r
-    (single-agrees rules depth most define sources more nest nest' c s w.defines h)
-piece-agrees rules depth most define more nest nest' w h (Opening c) ps r (Live os) sources s =
-    opened-agrees rules depth most define more nest nest' c ps r os sources s
-piece-agrees rules depth most define more nest nest' w h (Branching c) ps r (Live []) sources s = refusal-agrees sources more StrayBranch [] c s
-piece-agrees rules depth most define more nest nest' w h (Branching c) ps r (Live (o ∷ os)) sources s =
-    branched-agrees rules depth most define more nest nest' c ps r o os sources s
-piece-agrees rules depth most define more nest nest' w h (Closing c) ps r (Live []) sources s = refusal-agrees sources more StrayBranch [] c s
-piece-agrees rules depth most define more nest nest' w h (Closing c) ps r (Live (o ∷ os)) sources s =
-    end-agrees rules depth most define sources more nest nest' ps (Live os) s r
-piece-agrees rules depth most define more nest nest' w h (Run ts) ps r (Skipped n o os) sources s =
-    behind-agrees rules depth most define more nest nest' ps (Skipped n o os) (leaves (skipped_run s ts) s)
+piece-agrees rules depth most define tokens more nest nest' w h (Run ts) ps qs r (Live os) sources s =
+    behind-agrees rules depth most define tokens more nest nest' ps qs (Live os) (leaves (run_outcome rules s ts) s)
+    (leaves (run_outcome (wider rules depth most define tokens) (roomier sources more s) ts) (roomier sources more s)) r
+    (leaves-agrees sources more s (run_outcome rules s ts) (run_outcome (wider rules depth most define tokens) (roomier sources more s) ts)
+    (run-agrees rules depth most define tokens s sources more ts w.bytes w.depths))
+piece-agrees rules depth most define tokens more nest nest' w h (Single c) ps qs r (Live os) sources s =
+    behind-agrees rules depth most define tokens more nest nest' ps qs (Live os) (single rules nest c s)
+    (single (wider rules depth most define tokens) nest' c (roomier sources more s)) r
+    (single-agrees rules depth most define tokens sources more nest nest' c s w.defines h)
+piece-agrees rules depth most define tokens more nest nest' w h (Opening c) ps qs r (Live os) sources s =
+    opened-agrees rules depth most define tokens more nest nest' c ps qs r os sources s
+piece-agrees rules depth most define tokens more nest nest' w h (Branching c) ps qs r (Live []) sources s = refusal-agrees sources more StrayBranch [] c s
+piece-agrees rules depth most define tokens more nest nest' w h (Branching c) ps qs r (Live (o ∷ os)) sources s =
+    branched-agrees rules depth most define tokens more nest nest' c ps qs r o os sources s
+piece-agrees rules depth most define tokens more nest nest' w h (Closing c) ps qs r (Live []) sources s = refusal-agrees sources more StrayBranch [] c s
+piece-agrees rules depth most define tokens more nest nest' w h (Closing c) ps qs r (Live (o ∷ os)) sources s =
+    end-agrees rules depth most define tokens sources more nest nest' ps qs (Live os) s r
+piece-agrees rules depth most define tokens more nest nest' w h (Run ts) ps qs r (Skipped n o os) sources s =
+    behind-agrees rules depth most define tokens more nest nest' ps qs (Skipped n o os) (leaves (skipped_run s ts) s)
     (leaves (skipped_run (roomier sources more s) ts) (roomier sources more s)) r (skipped-agrees sources more s ts)
-piece-agrees rules depth most define more nest nest' w h (Single c) ps r (Skipped n o os) sources s =
-    behind-agrees rules depth most define more nest nest' ps (Skipped n o os) (leaves (skipped_command c) s)
+piece-agrees rules depth most define tokens more nest nest' w h (Single c) ps qs r (Skipped n o os) sources s =
+    behind-agrees rules depth most define tokens more nest nest' ps qs (Skipped n o os) (leaves (skipped_command c) s)
     (leaves (skipped_command c) (roomier sources more s)) r (leaves-same sources more s (skipped_command c))
-piece-agrees rules depth most define more nest nest' w h (Opening c) ps r (Skipped n o os) sources s =
-    behind-agrees rules depth most define more nest nest' ps (Skipped (suc n) o os) (leaves (skipped_command c) s)
+piece-agrees rules depth most define tokens more nest nest' w h (Opening c) ps qs r (Skipped n o os) sources s =
+    behind-agrees rules depth most define tokens more nest nest' ps qs (Skipped (suc n) o os) (leaves (skipped_command c) s)
     (leaves (skipped_command c) (roomier sources more s)) r (leaves-same sources more s (skipped_command c))
-piece-agrees rules depth most define more nest nest' w h (Branching c) ps r (Skipped (suc n) o os) sources s =
-    behind-agrees rules depth most define more nest nest' ps (Skipped (suc n) o os) (leaves (skipped_command c) s)
+piece-agrees rules depth most define tokens more nest nest' w h (Branching c) ps qs r (Skipped (suc n) o os) sources s =
+    behind-agrees rules depth most define tokens more nest nest' ps qs (Skipped (suc n) o os) (leaves (skipped_command c) s)
     (leaves (skipped_command c) (roomier sources more s)) r (leaves-same sources more s (skipped_command c))
-piece-agrees rules depth most define more nest nest' w h (Branching c) ps r (Skipped zero o os) sources s =
-    branched-agrees rules depth most define more nest nest' c ps r o os sources s
-piece-agrees rules depth most define more nest nest' w h (Closing c) ps r (Skipped (suc n) o os) sources s =
-    behind-agrees rules depth most define more nest nest' ps (Skipped n o os) (leaves (skipped_command c) s)
+piece-agrees rules depth most define tokens more nest nest' w h (Branching c) ps qs r (Skipped zero o os) sources s =
+    branched-agrees rules depth most define tokens more nest nest' c ps qs r o os sources s
+piece-agrees rules depth most define tokens more nest nest' w h (Closing c) ps qs r (Skipped (suc n) o os) sources s =
+    behind-agrees rules depth most define tokens more nest nest' ps qs (Skipped n o os) (leaves (skipped_command c) s)
     (leaves (skipped_command c) (roomier sources more s)) r (leaves-same sources more s (skipped_command c))
-piece-agrees rules depth most define more nest nest' w h (Closing c) ps r (Skipped zero o os) sources s =
-    end-agrees rules depth most define sources more nest nest' ps (Live os) s r
+piece-agrees rules depth most define tokens more nest nest' w h (Closing c) ps qs r (Skipped zero o os) sources s =
+    end-agrees rules depth most define tokens sources more nest nest' ps qs (Live os) s r
+
+-- what goes on behind a fault of a limit agrees with all, by the outcome's fault
+limited-by : (more : ℕ) (x : List ℕ) (o f : Option Told) (s : State) (next : State → Passage) (q : Passage) → o ≡ f → IsFault f
+    → (NamesNoLimit f → ⊥) → PassageAgrees more (goes_on (leaves (record { bytes = x; fault = o }) s) next) q
+unfolding PassageAgrees goes_on leaves IsFault behind_bytes
+limited-by more x None f s next q e h limit = absurd (subst (λ (z : Option Told). IsFault z) (sym e) h)
+limited-by more x (Some g) f s next q e h limit = λ n. absurd (limit (subst (λ (z : Option Told). NamesNoLimit z) e n))
+
+-- what goes on behind outcomes that end in a fault agrees where they do, by the first one's fault
+faulty-by : (sources more : ℕ) (x : List ℕ) (f : Option Told) (b : Outcome) (s : State) (next next' : State → Passage)
+    → IsFault f → Agrees (record { bytes = x; fault = f }) b
+    → PassageAgrees more (goes_on (leaves (record { bytes = x; fault = f }) s) next) (goes_on (leaves b (roomier sources more s)) next')
+unfolding PassageAgrees goes_on leaves IsFault Agrees
+faulty-by sources more x None b s next next' h k = absurd h
+faulty-by sources more x (Some g) b s next next' h k =
+    λ n. (sources, ap (λ (o : Outcome). goes_on (leaves o (roomier sources more s)) next') (k n))
+
+-- what goes on behind torn outcomes agrees
+faulty-agrees : (sources more : ℕ) (a b : Outcome) (s : State) (next next' : State → Passage) → TornAgrees a b
+    → PassageAgrees more (goes_on (leaves a s) next) (goes_on (leaves b (roomier sources more s)) next')
+faulty-agrees sources more a b s next next' h = faulty-by sources more a.bytes a.fault b s next next' h.faulty h.agrees
+
+-- a torn token alone ends in its fault
+tear-fault : (rules : Rules) (s : State) (b : Breach) (bytes : List ℕ) (line : ℕ)
+    → (run_outcome rules s (record { sort = Broken b; bytes = bytes; line = line } ∷ [])).fault ≡ Some (fault_at (breach_kind b) line [] s)
+unfolding run_outcome walk and_then gives fails
+tear-fault rules s b bytes line =
+    ap (λ (o : Outcome). o.fault)
+    (expand_walk rules s rules.depth None [] (Written (record { sort = Broken b; bytes = bytes; line = line }) ∷ []))
+
+-- and so does one that is skipped
+tear-skips : (s : State) (b : Breach) (bytes : List ℕ) (line : ℕ)
+    → (skipped_run s (record { sort = Broken b; bytes = bytes; line = line } ∷ [])).fault ≡ Some (fault_at (breach_kind b) line [] s)
+unfolding skipped_run and_then gives fails
+tear-skips s b bytes line = refl
+
+-- a fault of a limit
+named-limit : (b : Breach) (line : ℕ) (s : State) → is_limit (breach_kind b) ≡ true → NamesNoLimit (Some (fault_at (breach_kind b) line [] s)) → ⊥
+unfolding fault_at
+named-limit b line s limit n = true≢false (sym limit ∙ n)
+
+-- a run that is torn at its first token, from each place
+first-torn : (rules : Rules) (nest : Nest) (more : ℕ) (place : Place) (b : Breach) (bytes : List ℕ) (line : ℕ) (s : State) (q : Passage)
+    → is_limit (breach_kind b) ≡ true
+    → PassageAgrees more (resume rules nest place (Run (record { sort = Broken b; bytes = bytes; line = line } ∷ []) ∷ []) s) q
+unfolding resume IsFault
+first-torn rules nest more (Live os) b bytes line s q limit =
+    let t : SourceToken = record { sort = Broken b; bytes = bytes; line = line } in
+    let o = run_outcome rules s (t ∷ []) in
+    limited-by more o.bytes o.fault (Some (fault_at (breach_kind b) line [] s)) s (λ after. resume rules nest (Live os) [] after) q
+    (tear-fault rules s b bytes line) tt (named-limit b line s limit)
+first-torn rules nest more (Skipped n o os) b bytes line s q limit =
+    let t : SourceToken = record { sort = Broken b; bytes = bytes; line = line } in
+    let out = skipped_run s (t ∷ []) in
+    limited-by more out.bytes out.fault (Some (fault_at (breach_kind b) line [] s)) s (λ after. resume rules nest (Skipped n o os) [] after) q
+    (tear-skips s b bytes line) tt (named-limit b line s limit)
+
+-- a run that is torn behind its first token, from each place
+later-torn : (rules : Rules) (depth most : ℕ) (define : List Macro → List ℕ → Defined) (tokens : List ℕ → List SourceToken) (more : ℕ) (nest nest' : Nest)
+    → Widens rules depth most define tokens → (xs : List SourceToken) (b : Breach) (bytes : List ℕ) (line : ℕ) (us : List SourceToken) (qs : List Piece)
+    → is_limit (breach_kind b) ≡ true → TornBy token_role (token_role (record { sort = Broken b; bytes = bytes; line = line })) us
+    → (place : Place) (sources : ℕ) (s : State)
+    → PassageAgrees more (resume rules nest place (Run (xs ++ record { sort = Broken b; bytes = bytes; line = line } ∷ []) ∷ []) s)
+    (resume (wider rules depth most define tokens) nest' place (Run (xs ++ us) ∷ qs) (roomier sources more s))
+unfolding resume
+later-torn rules depth most define tokens more nest nest' w xs b bytes line us qs limit torn (Live os) sources s =
+    let t : SourceToken = record { sort = Broken b; bytes = bytes; line = line } in
+    faulty-agrees sources more (run_outcome rules s (xs ++ t ∷ [])) (run_outcome (wider rules depth most define tokens) (roomier sources more s) (xs ++ us)) s
+    (λ after. resume rules nest (Live os) [] after) (λ after. resume (wider rules depth most define tokens) nest' (Live os) qs after)
+    (run-torn rules depth most define tokens s sources more xs b bytes line us w.bytes w.depths limit torn)
+later-torn rules depth most define tokens more nest nest' w xs b bytes line us qs limit torn (Skipped n o os) sources s =
+    let t : SourceToken = record { sort = Broken b; bytes = bytes; line = line } in
+    faulty-agrees sources more (skipped_run s (xs ++ t ∷ [])) (skipped_run (roomier sources more s) (xs ++ us)) s
+    (λ after. resume rules nest (Skipped n o os) [] after) (λ after. resume (wider rules depth most define tokens) nest' (Skipped n o os) qs after)
+    (skip-torn sources more s xs b bytes line us limit)
+
+-- a run that is torn, by the tokens before and by the pieces of larger limits
+torn-by : (rules : Rules) (depth most : ℕ) (define : List Macro → List ℕ → Defined) (tokens : List ℕ → List SourceToken) (more : ℕ) (nest nest' : Nest)
+    → Widens rules depth most define tokens → (xs : List SourceToken) (b : Breach) (bytes : List ℕ) (line : ℕ) (us : List SourceToken) (qs : List Piece)
+    → run_front qs ≡ xs ++ us
+    → is_limit (breach_kind b) ≡ true → TornBy token_role (token_role (record { sort = Broken b; bytes = bytes; line = line })) us
+    → (place : Place) (sources : ℕ) (s : State)
+    → PassageAgrees more (resume rules nest place (Run (xs ++ record { sort = Broken b; bytes = bytes; line = line } ∷ []) ∷ []) s)
+    (resume (wider rules depth most define tokens) nest' place qs (roomier sources more s))
+unfolding run_front
+torn-by rules depth most define tokens more nest nest' w [] b bytes line us qs e limit torn place sources s =
+    first-torn rules nest more place b bytes line s (resume (wider rules depth most define tokens) nest' place qs (roomier sources more s)) limit
+torn-by rules depth most define tokens more nest nest' w (x ∷ xs) b bytes line us (Run vs ∷ qs) e limit torn place sources s =
+    subst (λ (ts : List SourceToken). PassageAgrees more (resume rules nest place (Run (x ∷ (xs ++ record { sort = Broken b; bytes = bytes; line = line } ∷ [])) ∷ []) s)
+    (resume (wider rules depth most define tokens) nest' place (Run ts ∷ qs) (roomier sources more s))) (sym e)
+    (later-torn rules depth most define tokens more nest nest' w (x ∷ xs) b bytes line us qs limit torn place sources s)
+torn-by rules depth most define tokens more nest nest' w (x ∷ xs) b bytes line us [] e limit torn place sources s = absurd (nothing-more x (xs ++ us) e)
+torn-by rules depth most define tokens more nest nest' w (x ∷ xs) b bytes line us (Single c ∷ qs) e limit torn place sources s = absurd (nothing-more x (xs ++ us) e)
+torn-by rules depth most define tokens more nest nest' w (x ∷ xs) b bytes line us (Opening c ∷ qs) e limit torn place sources s = absurd (nothing-more x (xs ++ us) e)
+torn-by rules depth most define tokens more nest nest' w (x ∷ xs) b bytes line us (Branching c ∷ qs) e limit torn place sources s = absurd (nothing-more x (xs ++ us) e)
+torn-by rules depth most define tokens more nest nest' w (x ∷ xs) b bytes line us (Closing c ∷ qs) e limit torn place sources s = absurd (nothing-more x (xs ++ us) e)
+
+-- a run that is torn
+run-ends : (rules : Rules) (depth most : ℕ) (define : List Macro → List ℕ → Defined) (tokens : List ℕ → List SourceToken) (more : ℕ) (nest nest' : Nest)
+    → Widens rules depth most define tokens → (p : Piece) (ps qs : List Piece) → EndsTorn p ps qs
+    → Resumes rules depth most define tokens more nest nest' (p ∷ ps) qs
+unfolding Resumes
+run-ends rules depth most define tokens more nest nest' w p ps qs e = λ place sources s.
+    let t : SourceToken = record { sort = Broken e.breach; bytes = e.bytes; line = e.line } in
+    let large = resume (wider rules depth most define tokens) nest' place qs (roomier sources more s) in
+    subst (λ (x : Piece). PassageAgrees more (resume rules nest place (x ∷ ps) s) large) (sym e.piece)
+    (subst (λ (xs : List Piece). PassageAgrees more (resume rules nest place (Run (e.before ++ t ∷ []) ∷ xs) s) large) (sym e.last)
+    (torn-by rules depth most define tokens more nest nest' w e.before e.breach e.bytes e.line e.behind qs e.front e.limit e.torn place sources s))
 
 -- what resumes agrees
-resume-agrees : (rules : Rules) (depth most : ℕ) (define : List Macro → List ℕ → Defined) (more : ℕ) (nest nest' : Nest)
-    → Widens rules depth most define → NestAgrees more nest nest' → (ps : List Piece)
-    → Resumes rules depth most define more nest nest' ps
-unfolding Resumes
-resume-agrees rules depth most define more nest nest' w h [] =
-    λ place sources s. ends-agree rules depth most define more nest nest' place sources s
-resume-agrees rules depth most define more nest nest' w h (p ∷ ps) = λ place sources s.
-    piece-agrees rules depth most define more nest nest' w h p ps (resume-agrees rules depth most define more nest nest' w h ps) place sources s
+resume-agrees : (rules : Rules) (depth most : ℕ) (define : List Macro → List ℕ → Defined) (tokens : List ℕ → List SourceToken) (more : ℕ) (nest nest' : Nest)
+    → Widens rules depth most define tokens → NestAgrees more nest nest' → (ps qs : List Piece) → PiecesTorn ps qs
+    → Resumes rules depth most define tokens more nest nest' ps qs
+unfolding Resumes PiecesTorn
+resume-agrees rules depth most define tokens more nest nest' w h [] qs r = λ place sources s.
+    subst (λ (xs : List Piece). PassageAgrees more (resume rules nest place [] s) (resume (wider rules depth most define tokens) nest' place xs (roomier sources more s)))
+    (sym r) (ends-agree rules depth most define tokens more nest nest' place sources s)
+resume-agrees rules depth most define tokens more nest nest' w h (p ∷ ps) qs (inl e) = run-ends rules depth most define tokens more nest nest' w p ps qs e
+resume-agrees rules depth most define tokens more nest nest' w h (p ∷ ps) qs (inr (rest, e, r)) = λ place sources s.
+    subst (λ (xs : List Piece). PassageAgrees more (resume rules nest place (p ∷ ps) s) (resume (wider rules depth most define tokens) nest' place xs (roomier sources more s)))
+    (sym e)
+    (piece-agrees rules depth most define tokens more nest nest' w h p ps rest
+    (resume-agrees rules depth most define tokens more nest nest' w h ps rest r) place sources s)
 
 -- what a text means agrees
-mean-agrees : (rules : Rules) (depth most : ℕ) (define : List Macro → List ℕ → Defined) (sources more : ℕ) (nest nest' : Nest) (text : List ℕ) (s : State)
-    → Widens rules depth most define → NestAgrees more nest nest'
+mean-agrees : (rules : Rules) (depth most : ℕ) (define : List Macro → List ℕ → Defined) (tokens : List ℕ → List SourceToken) (sources more : ℕ) (nest nest' : Nest) (text : List ℕ) (s : State)
+    → Widens rules depth most define tokens → NestAgrees more nest nest'
     → PassageAgrees more (mean rules nest (parts_of (rules.tokens text)) s)
-    (mean (wider rules depth most define) nest' (parts_of (rules.tokens text)) (roomier sources more s))
-unfolding Resumes
-mean-agrees rules depth most define sources more nest nest' text s w h =
+    (mean (wider rules depth most define tokens) nest' (parts_of (tokens text)) (roomier sources more s))
+unfolding Resumes FirstUnbroken
+mean-agrees rules depth most define tokens sources more nest nest' text s w h =
     let ts = rules.tokens text in
-    subst (λ (p : Passage). PassageAgrees more p (mean (wider rules depth most define) nest' (parts_of ts) (roomier sources more s)))
+    let us = tokens text in
+    subst (λ (p : Passage). PassageAgrees more p (mean (wider rules depth most define tokens) nest' (parts_of us) (roomier sources more s)))
     (sym (mean_resumes rules nest ts s))
     (subst (λ (q : Passage). PassageAgrees more (resume rules nest (Live []) (pieces true 0 ts) s) q)
-    (sym (mean_resumes (wider rules depth most define) nest' ts (roomier sources more s)))
-    (resume-agrees rules depth most define more nest nest' w h (pieces true 0 ts) (Live []) sources s))
+    (sym (mean_resumes (wider rules depth most define tokens) nest' us (roomier sources more s)))
+    (resume-agrees rules depth most define tokens more nest nest' w h (pieces true 0 ts) (pieces true 0 us)
+    (pieces-torn true ts us (w.texts text) true 0 tt) (Live []) sources s))
 
 -- included texts agree where more sources may be opened
-nest-agrees : (rules : Rules) (depth most : ℕ) (define : List Macro → List ℕ → Defined) (more n m : ℕ) → Widens rules depth most define → n ≤ m
-    → NestAgrees more (nest_of rules n) (nest_of (wider rules depth most define) m)
+nest-agrees : (rules : Rules) (depth most : ℕ) (define : List Macro → List ℕ → Defined) (tokens : List ℕ → List SourceToken) (more n m : ℕ) → Widens rules depth most define tokens → n ≤ m
+    → NestAgrees more (nest_of rules n) (nest_of (wider rules depth most define tokens) m)
 unfolding nest_of NestAgrees
-nest-agrees rules depth most define more zero m w h = tt
-nest-agrees rules depth most define more (suc n) zero w h = absurd (omega (arith, h))
-nest-agrees rules depth most define more (suc n) (suc m) w h = λ sources s text.
-    mean-agrees rules depth most define sources more (nest_of rules n) (nest_of (wider rules depth most define) m) text s w
-    (nest-agrees rules depth most define more n m w (omega (arith, h)))
+nest-agrees rules depth most define tokens more zero m w h = tt
+nest-agrees rules depth most define tokens more (suc n) zero w h = absurd (omega (arith, h))
+nest-agrees rules depth most define tokens more (suc n) (suc m) w h = λ sources s text.
+    mean-agrees rules depth most define tokens sources more (nest_of rules n) (nest_of (wider rules depth most define tokens) m) text s w
+    (nest-agrees rules depth most define tokens more n m w (omega (arith, h)))
 
 -- the bytes and the fault of passages that agree
 outcome-agrees : (more : ℕ) (p q : Passage) → PassageAgrees more p q → NamesNoLimit (outcome p).fault → outcome q ≡ outcome p
@@ -185,26 +313,22 @@ unfolding PassageAgrees outcome
 outcome-agrees more p q h n = let r = h n in ap outcome r.1
 
 -- outputs agree, from states that differ in the room that they have
-output-agrees : (rules : Rules) (depth most : ℕ) (define : List Macro → List ℕ → Defined) (macros : List Macro) (sources room conditions more : ℕ) (path : List ℕ) (found : Lookup)
-    → Widens rules depth most define → sources ≤ room
+output-agrees : (rules : Rules) (depth most : ℕ) (define : List Macro → List ℕ → Defined) (tokens : List ℕ → List SourceToken) (macros : List Macro) (sources room conditions more : ℕ) (path : List ℕ) (found : Lookup)
+    → Widens rules depth most define tokens → sources ≤ room
     → NamesNoLimit (output rules macros sources conditions path found).fault
-    → output (wider rules depth most define) macros room (more + conditions) path found ≡ output rules macros sources conditions path found
+    → output (wider rules depth most define tokens) macros room (more + conditions) path found ≡ output rules macros sources conditions path found
 unfolding output text_meaning origin_line start_state
-output-agrees rules depth most define macros sources room conditions more path NoSource w h n = refl
-output-agrees rules depth most define macros sources room conditions more path LongPath w h n = refl
-output-agrees rules depth most define macros sources room conditions more path (Source found text) w h n =
+output-agrees rules depth most define tokens macros sources room conditions more path NoSource w h n = refl
+output-agrees rules depth most define tokens macros sources room conditions more path LongPath w h n = refl
+output-agrees rules depth most define tokens macros sources room conditions more path (Source found text) w h n =
     let s = start_state macros sources conditions found in
     outcome-agrees more
     (behind_bytes (origin_line rules found 1) (mean rules (nest_of rules sources) (parts_of (rules.tokens text)) s))
-    (behind_bytes (origin_line rules found 1) (mean (wider rules depth most define) (nest_of (wider rules depth most define) room) (parts_of (rules.tokens text)) (roomier room more s)))
+    (behind_bytes (origin_line rules found 1) (mean (wider rules depth most define tokens) (nest_of (wider rules depth most define tokens) room) (parts_of (tokens text)) (roomier room more s)))
     (bytes-agree more (origin_line rules found 1) (mean rules (nest_of rules sources) (parts_of (rules.tokens text)) s)
-    (mean (wider rules depth most define) (nest_of (wider rules depth most define) room) (parts_of (rules.tokens text)) (roomier room more s))
-    (mean-agrees rules depth most define room more (nest_of rules sources) (nest_of (wider rules depth most define) room) text s w
-    (nest-agrees rules depth most define more sources room w h))) n
-
--- what doesn't pass a smaller limit doesn't pass a larger one
-unpassed : (small large n : ℕ) → small ≤ large → nat_lt small n ≡ false → nat_lt large n ≡ false
-unpassed small large n h e = le-ltb large n (le_trans (ltb-false small n e) h)
+    (mean (wider rules depth most define tokens) (nest_of (wider rules depth most define tokens) room) (parts_of (tokens text)) (roomier room more s))
+    (mean-agrees rules depth most define tokens room more (nest_of rules sources) (nest_of (wider rules depth most define tokens) room) text s w
+    (nest-agrees rules depth most define tokens more sources room w h))) n
 
 -- a choice of what a `define` comes to, where a first fault is of a limit
 limited-agrees : (kind : FaultKind) (word : List ℕ) (small large : Bool) (u v : Defined) → is_limit kind ≡ true
@@ -275,44 +399,34 @@ all-defined bytes count bytes' count' h k macros rest = draft-agrees bytes count
 
 -- the rules of larger limits are wider rules of smaller ones
 rules-wider : (small large : Limits) (unbuilt : List ℕ → Bool) (unbuilt_macro : Macro → Bool) (find : List ℕ → List ℕ → Lookup) (origins : Bool)
-    → IsLarger small large
     → rules_of large unbuilt unbuilt_macro find origins
     ≡ wider (rules_of small unbuilt unbuilt_macro find origins) large.depth large.argument_bytes
     (λ macros rest. with_fault (define_of large.definition_bytes large.definitions macros rest))
+    (λ text. whole_tokens unbuilt large.line_bytes large.source_bytes text)
 unfolding rules_of
-rules-wider small large unbuilt unbuilt_macro find origins l =
-    ap (λ (n : ℕ). with_tokens n large.source_bytes) l.line_bytes ∙ ap (λ (n : ℕ). with_tokens small.line_bytes n) l.source_bytes
-  where
-    with_tokens : ℕ → ℕ → Rules
-    with_tokens line source = record {
-      depth = large.depth;
-      argument_bytes = large.argument_bytes;
-      unbuilt_macro = unbuilt_macro;
-      define = λ macros rest. with_fault (define_of large.definition_bytes large.definitions macros rest);
-      tokens = λ text. whole_tokens unbuilt line source text;
-      find = find;
-      origins = origins;
-    }
+rules-wider small large unbuilt unbuilt_macro find origins = refl
 
--- an output that no fault of a limit of expansion ends is the same with larger limits of expansion
+-- an output that no fault of a limit ends is the same with larger limits
 pub larger_limits_law : (small large : Limits) (unbuilt : List ℕ → Bool) (unbuilt_macro : Macro → Bool) (find : List ℕ → List ℕ → Lookup) (origins : Bool)
-    (macros : List Macro) (path : List ℕ) (found : Lookup) → IsLarger small large
+    (macros : List Macro) (path : List ℕ) (found : Lookup) → IsLarger small large → IsByLines unbuilt
     → NamesNoLimit (output (rules_of small unbuilt unbuilt_macro find origins) macros small.includes small.conditions path found).fault
     → output (rules_of large unbuilt unbuilt_macro find origins) macros large.includes large.conditions path found
     ≡ output (rules_of small unbuilt unbuilt_macro find origins) macros small.includes small.conditions path found
 unfolding rules_of AllDefined
-larger_limits_law small large unbuilt unbuilt_macro find origins macros path found l n =
+larger_limits_law small large unbuilt unbuilt_macro find origins macros path found l stable n =
     let rules = rules_of small unbuilt unbuilt_macro find origins in
     let define : List Macro → List ℕ → Defined = λ ms rest. with_fault (define_of large.definition_bytes large.definitions ms rest) in
+    let tokens : List ℕ → List SourceToken = λ text. whole_tokens unbuilt large.line_bytes large.source_bytes text in
     let more = large.conditions - small.conditions in
-    ap (λ (r : Rules). output r macros large.includes large.conditions path found) (rules-wider small large unbuilt unbuilt_macro find origins l)
-    ∙ ap (λ (k : ℕ). output (wider rules large.depth large.argument_bytes define) macros large.includes k path found)
+    ap (λ (r : Rules). output r macros large.includes large.conditions path found) (rules-wider small large unbuilt unbuilt_macro find origins)
+    ∙ ap (λ (k : ℕ). output (wider rules large.depth large.argument_bytes define tokens) macros large.includes k path found)
     (difference small.conditions large.conditions l.conditions)
-    ∙ output-agrees rules large.depth large.argument_bytes define macros small.includes large.includes small.conditions more path found
+    ∙ output-agrees rules large.depth large.argument_bytes define tokens macros small.includes large.includes small.conditions more path found
     (record {
       depths = l.depth;
       bytes = l.argument_bytes;
       defines = all-defined small.definition_bytes small.definitions large.definition_bytes large.definitions l.definition_bytes l.definitions;
+      texts = λ text. sources-torn unbuilt small.line_bytes large.line_bytes small.source_bytes large.source_bytes text stable l.line_bytes l.source_bytes;
     }) l.includes n
   where
     difference : (a b : ℕ) → a ≤ b → b ≡ (b - a) + a

@@ -35,3 +35,10 @@ pub mod LargerRuns
 pub mod LargerFiles
 pub mod LargerOutputs
 pub mod OddRows
+pub mod TornCalls
+pub mod TornRuns
+pub mod TornPieces
+pub mod TornDefines
+pub mod TornSteps
+pub mod TornOpen
+pub mod TornSources

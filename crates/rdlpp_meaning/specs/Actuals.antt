@@ -24,7 +24,7 @@ pub data Call (A : Type 0) : Type 0 where
   Broke : FaultKind → ℕ → Call A
   Bound : List A → List (List A) → ℕ → Call A
 
--- a call of what things become
+-- a call of what things become (source: this project's profile)
 unfoldable pub map_call : {A B : Type 0} → (A → B) → Call A → Call B
 map_call f (Lacking k) = Lacking k
 map_call f (Broke k line) = Broke k line

@@ -12,7 +12,7 @@ unfoldable pub cursors_work : ℕ → List Cursor → ℕ
 cursors_work base [] = 0
 cursors_work base (c ∷ below) = suc (length (bytes_of c.text)) * base ^ c.room + cursors_work base below
 
--- whether a token has a byte or is broken, as each token of a source and of a body is
+-- whether a token has a byte or is broken, as each token of a source and of a body is (source: this project's profile)
 unfoldable pub is_solid : SourceToken → Bool
 is_solid t = elim t.sort [ Broken b ↦ true | _ ↦ nat_lt 0 (length t.bytes) ]
 
@@ -21,15 +21,15 @@ pub record IsCounted (base : ℕ) (ts : List SourceToken) : Type 0 where
   pub solid : AllByRecursion (λ t. is_solid t ≡ true) ts
   pub digit : suc (length (bytes_of ts)) < base
 
--- a macro whose body a digit counts
+-- a macro whose body a digit counts (source: this project's profile)
 abbrev pub HasCountedBody : ℕ → Macro → Type 0
 HasCountedBody base m = suc (length m.body) < base
 
--- a binding of which a digit counts each actual
+-- a binding of which a digit counts each actual (source: this project's profile)
 abbrev pub HasCountedActuals : ℕ → Binding → Type 0
 HasCountedActuals base b = AllByRecursion (IsCounted base) b.actuals
 
--- a cursor of which digits count the text and each actual that is bound around it
+-- a cursor of which digits count the text and each actual that is bound around it (source: this project's profile)
 pub record IsCountedCursor (base : ℕ) (c : Cursor) : Type 0 where
   pub text : IsCounted base c.text
   pub actuals : AllByRecursion (HasCountedActuals base) c.frame

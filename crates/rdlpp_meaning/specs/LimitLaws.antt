@@ -1,17 +1,21 @@
--- The law of larger limits of expansion: where no fault of such a limit ends an output, larger limits give the same one.
-use Rattle.std.specs.Prelude.{◌≡◌, ℕ, ◌≤◌, Bool, true, false, List, Option, None, Some}
+-- The law of larger limits: where no fault of a limit ends an output, larger limits give the same one.
+use Rattle.std.specs.Prelude.{◌≡◌, ℕ, ◌<◌, ◌≤◌, Bool, true, false, List, ◌++◌, length, Option, None, Some}
+use Rattle.rdlpp_scan.specs.Lines.{EndsLine}
+use Rattle.rdlpp_scan.specs.Stage.{is_unbuilt}
 use Rattle.rdlpp_table.specs.declared.limits.Limits.{Limits}
 use Rattle.rdlpp_table.specs.Table.{Macro}
 use Rattle.rdlpp_meaning.specs.declared.fault.FaultKind.{FaultKind}
-use Rattle.rdlpp_meaning.specs.declared.fault.FaultKind.TheVariants.{ArgumentBytes, DepthPassed, DefinitionBytes, TooManyDefinitions, TooManyConditionals, TooManyIncludes}
+use Rattle.rdlpp_meaning.specs.declared.fault.FaultKind.TheVariants.{LineTooLong, SourceTooLong, ArgumentBytes, DepthPassed, DefinitionBytes, TooManyDefinitions, TooManyConditionals, TooManyIncludes}
 use Rattle.rdlpp_meaning.specs.Outcome.{Told}
 use Rattle.rdlpp_meaning.specs.State.{Lookup}
 use Rattle.rdlpp_meaning.specs.Output.{output}
 use Rattle.rdlpp_meaning.specs.Profile.{rules_of}
 
--- whether a fault says that a limit of expansion is passed: on an actual's bytes, open bodies, definitions, open conditionals
--- or open sources (source: this project's profile)
+-- whether a fault says that a limit is passed: of a line, a source, an actual's bytes, open bodies, definitions, open
+-- conditionals or open sources (source: this project's profile)
 unfoldable pub is_limit : FaultKind → Bool
+is_limit LineTooLong = true
+is_limit SourceTooLong = true
 is_limit ArgumentBytes = true
 is_limit DepthPassed = true
 is_limit DefinitionBytes = true
@@ -20,26 +24,39 @@ is_limit TooManyConditionals = true
 is_limit TooManyIncludes = true
 is_limit kind = false
 
--- no limit of expansion is named where a text ends
+-- no limit is named where a text ends (source: this project's profile)
 abbrev pub NamesNoLimit : Option Told → Type 0
 NamesNoLimit None = Unit
 NamesNoLimit (Some f) = is_limit f.kind ≡ false
 
--- limits of which those of expansion are as large or larger, and those of lines and sources the same
+-- limits that are as large or larger (source: this project's profile)
 pub record IsLarger (small large : Limits) : Type 0 where
   pub depth : small.depth ≤ large.depth
   pub includes : small.includes ≤ large.includes
-  pub line_bytes : large.line_bytes ≡ small.line_bytes
-  pub source_bytes : large.source_bytes ≡ small.source_bytes
+  pub line_bytes : small.line_bytes ≤ large.line_bytes
+  pub source_bytes : small.source_bytes ≤ large.source_bytes
   pub argument_bytes : small.argument_bytes ≤ large.argument_bytes
   pub definition_bytes : small.definition_bytes ≤ large.definition_bytes
   pub definitions : small.definitions ≤ large.definitions
   pub conditions : small.conditions ≤ large.conditions
 
--- an output that no fault of a limit of expansion ends is the same with larger limits of expansion
+-- what isn't built is told by lines: a text that ends at a line's end begins with it where it does with more behind it
+-- (source: the stage)
+abbrev pub IsByLines : (List ℕ → Bool) → Type 0
+IsByLines unbuilt = (held more : List ℕ) → 0 < length held → EndsLine held more → unbuilt (held ++ more) ≡ unbuilt held
+
+-- an output that no fault of a limit ends is the same with larger limits
 abbrev pub LargerLimits : Type 0
 LargerLimits = (small large : Limits) (unbuilt : List ℕ → Bool) (unbuilt_macro : Macro → Bool) (find : List ℕ → List ℕ → Lookup) (origins : Bool)
-    (macros : List Macro) (path : List ℕ) (found : Lookup) → IsLarger small large
+    (macros : List Macro) (path : List ℕ) (found : Lookup) → IsLarger small large → IsByLines unbuilt
     → NamesNoLimit (output (rules_of small unbuilt unbuilt_macro find origins) macros small.includes small.conditions path found).fault
     → output (rules_of large unbuilt unbuilt_macro find origins) macros large.includes large.conditions path found
     ≡ output (rules_of small unbuilt unbuilt_macro find origins) macros small.includes small.conditions path found
+
+-- what isn't built yet is told by lines
+abbrev pub StageByLines : Type 0
+StageByLines = IsByLines is_unbuilt
+
+-- and where all is built there is nothing to tell
+abbrev pub BuiltByLines : Type 0
+BuiltByLines = IsByLines (λ text. false)

@@ -5,7 +5,7 @@ ghost use Rattle.rdlpp_meaning.specs.ExpansionLaws.{BodyCovered, BoundCall, Curs
 ghost use Rattle.rdlpp_meaning.specs.FurtherLaws.{BadUndef, BodyStep, BrokenParts, CopiedBody, CopiedParts, LeftPasses, SkippedParts, UndefRemains};
 ghost use Rattle.rdlpp_meaning.specs.IncludeLaws.{AllAtStart, BadIncludeName, DeepInclude, IncludeOpens, IncludeReturns, LongInclude, MissingInclude, NamelessInclude, StepOfAll};
 ghost use Rattle.rdlpp_meaning.specs.Laws.{BareRemains, BrokenRemains, CopiedRemains, DefinedRemains, FoundOutput, IsGrouped, MeaningRemains, MissingOutput, NothingRemains, OverlongOutput, PlainOutput, RefusedRemains, UnbuiltRemains, UndefinedRemains, UsageRemains};
-ghost use Rattle.rdlpp_meaning.specs.LimitLaws.{LargerLimits};
+ghost use Rattle.rdlpp_meaning.specs.LimitLaws.{BuiltByLines, LargerLimits, StageByLines};
 ghost use Rattle.rdlpp_meaning.specs.SubjectLaws.{CopiedOutput, IncludedBetween, PlainTextOutput, SkippedLineEnds, TreeKeeps};
 ghost use Rattle.rdlpp_meaning.specs.WorkLaws.{FirstCounted, SlotWorkBound, SlotWorkCounted, SlotWorkFalls, SlotsWithin, WorkCounted, WorkFalls};
 
@@ -162,10 +162,12 @@ pub fn work_left()
     ensures bound { SlotWorkBound }
 {}
 
-/// An output that no fault of a limit of expansion ends is the same with larger limits of expansion: of an actual's bytes,
-/// of open bodies, of definitions, of open conditionals and of open sources (this project's profile).
+/// An output that no fault of a limit ends is the same with larger limits: of lines and sources, of an actual's bytes, of
+/// open bodies, of definitions, of open conditionals and of open sources (this project's profile).
 pub fn larger_limits()
-    ensures { LargerLimits }
+    ensures larger { LargerLimits }
+    ensures stage { StageByLines }
+    ensures built { BuiltByLines }
 {}
 
 /// Plain text that meets its limits is its own output, and so is any text of which all tokens are copied.

@@ -1,6 +1,14 @@
--- The law that the function ensures.
+-- The laws that the function ensures.
+use Rattle.std.proofs.Common.{refl}
+use Rattle.rdlpp_scan.proofs.Locality.{is_unbuilt-append}
 use Rattle.rdlpp_meaning.proofs.LargerOutputs.{larger_limits_law}
 use Rattle.rdlpp_meaning.proofs.laws.larger_limits.Goals as goal
 
-pub returns : goal.returns
-returns c = larger_limits_law
+pub returns-clause-larger : goal.returns-clause-larger
+returns-clause-larger c = larger_limits_law
+
+pub returns-clause-stage : goal.returns-clause-stage
+returns-clause-stage c = is_unbuilt-append
+
+pub returns-clause-built : goal.returns-clause-built
+returns-clause-built c = λ held more some ends. refl

@@ -1,0 +1,537 @@
+-- The tokens of a text with smaller and with larger limits of lines and sources: the same, or torn by the smaller ones.
+use Rattle.std.proofs.Common.{◌≡◌, ℕ, zero, suc, ◌+◌, ◌-◌, ◌<◌, ◌≤◌, ◌⊎◌, inl, inr, Bool, true, false, true≢false, List, [], ◌∷◌, ◌++◌, length, take, drop, refl, sym, ap, subst, ◌∙◌, arith, append-nil, append_assoc, Option, None, Some}
+use Rattle.std.specs.Prelude.{if◌then◌else◌, ◌==◌, nat_lt, slice_index}
+use Rattle.std.specs.List.{list_any}
+use Rattle.std.proofs.Math.Seq.{take-length, take-append-add}
+use Rattle.std.proofs.lemmas.Bool.{eqb-true, and_parts, le-ltb, lt-ltb, false≢true}
+use Rattle.std.proofs.lemmas.List.{take-append-le, length-append, length-drop}
+use Rattle.rdlpp_scan.specs.declared.token.Kind.{Kind}
+use Rattle.rdlpp_scan.specs.declared.token.Kind.TheVariants.{Str, BlockComment}
+use Rattle.rdlpp_scan.specs.declared.token.Mode.{Mode}
+use Rattle.rdlpp_scan.specs.declared.token.Mode.TheVariants.{Plain, InStr, InBlock}
+use Rattle.rdlpp_scan.specs.declared.token.Token.{Token}
+use Rattle.rdlpp_scan.specs.Bytes.{is_line_end, begins_block_comment}
+use Rattle.rdlpp_scan.specs.Tokens.{whole, string_token, block_token, token_of}
+use Rattle.rdlpp_scan.specs.Ordinary.{is_plain_kind}
+use Rattle.rdlpp_scan.specs.Front.{Breach, PerlFound, StringOpen, CommentOpen, LineLong, SourceLong, Unbuilt, Break, Front, onto_first, lines_of, onto_front, front_of_lines, front}
+use Rattle.rdlpp_scan.specs.Lines.{whole_lines_len, onto_whole_lines, IsWholeLines}
+use Rattle.rdlpp_scan.specs.SourceTokens.{Broken, SourceToken, Course, Step, Last, Next, line_ends, line_after, broken, open_end, string_step, comment_step, step_by, source_step, source_end, source_tokens, remaining_tokens, whole_tokens}
+use Rattle.rdlpp_scan.proofs.WholeLines.{IsWholeLines-drop, IsWholeLines-append}
+use Rattle.rdlpp_scan.proofs.SourceLaws.{source_tokens-last}
+use Rattle.rdlpp_scan.proofs.StepLaws.{next_held}
+use Rattle.rdlpp_scan.proofs.TokenLens.{token_of-part}
+use Rattle.rdlpp_scan.proofs.StopKinds.{Row, AtPerl, AtLineComment, AtBlockComment, AtString, AtBack, AtBare, AtPlain, token_of-row}
+use Rattle.rdlpp_scan.proofs.Seams.{Seam, Closed, BeforePerl, OpenString, OpenComment, longer, token_of-seam}
+use Rattle.rdlpp_scan.proofs.Locality.{IsCut-from_line}
+use Rattle.rdlpp_meaning.specs.State.{breach_kind}
+use Rattle.rdlpp_meaning.specs.Actuals.{token_role, broken_role}
+use Rattle.rdlpp_meaning.specs.LimitLaws.{is_limit, IsByLines}
+use Rattle.rdlpp_meaning.proofs.TornCalls.{TornBy}
+use Rattle.rdlpp_meaning.proofs.TornPieces.{ends_line, TokensTorn}
+use Rattle.rdlpp_meaning.proofs.TornDefines.{step_head, StepTorn, Goes, Stays, Tears, IsBreakOfLimit, Ends, unpassed, ends-line}
+use Rattle.rdlpp_meaning.proofs.TornSteps.{IsShort, plain-short, closed-torn}
+use Rattle.rdlpp_meaning.proofs.TornOpen.{IsOwnBreak, has_line_end, string-head, comment-head, tears-string, tears-comment}
+
+-- a string begins with a quote
+row-string : (bs : List ℕ) (t : Token) → Row bs t → t.kind ≡ Str → (slice_index bs 0 == 34) ≡ true
+unfolding whole is_plain_kind
+row-string bs t (AtPerl h e) k = let i = ap (λ (u : Token). u.kind) e in absurd (cc)
+row-string bs t (AtLineComment h e) k = absurd (cc)
+row-string bs t (AtBlockComment h e) k = absurd (cc)
+row-string bs t (AtString h e) k = h
+row-string bs t (AtBack h e) k = let i = ap (λ (u : Token). u.kind) e in absurd (cc)
+row-string bs t (AtBare h g e) k = let i = ap (λ (u : Token). u.kind) e in absurd (cc)
+row-string bs t (AtPlain h q) k = absurd (false≢true (sym (ap is_plain_kind k) ∙ h))
+
+-- a block comment begins as one
+row-comment : (bs : List ℕ) (t : Token) → Row bs t → t.kind ≡ BlockComment → begins_block_comment bs ≡ true
+unfolding whole is_plain_kind
+row-comment bs t (AtPerl h e) k = let i = ap (λ (u : Token). u.kind) e in absurd (cc)
+row-comment bs t (AtLineComment h e) k = absurd (cc)
+row-comment bs t (AtBlockComment h e) k = h
+row-comment bs t (AtString h e) k = absurd (cc)
+row-comment bs t (AtBack h e) k = let i = ap (λ (u : Token). u.kind) e in absurd (cc)
+row-comment bs t (AtBare h g e) k = let i = ap (λ (u : Token). u.kind) e in absurd (cc)
+row-comment bs t (AtPlain h q) k = absurd (false≢true (sym (ap is_plain_kind k) ∙ h))
+
+-- a block comment begins with no quote
+comment-quote : (bs : List ℕ) → begins_block_comment bs ≡ true → (slice_index bs 0 == 34) ≡ false
+unfolding begins_block_comment
+comment-quote bs h =
+    let first = and_parts (slice_index bs 0 == 47) (slice_index bs 1 == 42) h in
+    ap (λ (n : ℕ). n == 34) (eqb-true (slice_index bs 0) 47 first.0)
+
+-- a string's token is one of a string
+string-kind : (from : ℕ) (bs : List ℕ) → (string_token from bs).kind ≡ Str
+unfolding string_token whole
+string-kind from bs = by_test (slice_index bs _ == 34) _
+  where
+    by_test : (x : Bool) (stop : ℕ) → (if x then whole Str (suc stop) else record { kind = Str; len = stop; next_mode = InStr }).kind ≡ Str
+    by_test true stop = refl
+    by_test false stop = refl
+
+-- a comment's token is one of a comment
+block-kind : (from : ℕ) (bs : List ℕ) → (block_token from bs).kind ≡ BlockComment
+unfolding block_token whole
+block-kind from bs = by_test (nat_lt _ (length bs)) _
+  where
+    by_test : (x : Bool) (stop : ℕ) → (if x then whole BlockComment (stop + 2) else record { kind = BlockComment; len = stop; next_mode = InBlock }).kind ≡ BlockComment
+    by_test true stop = refl
+    by_test false stop = refl
+
+-- a string that ends before `<%`
+perl-torn : (c c' : Course) (line n : ℕ) (held more : List ℕ) → n < length held
+    → StepTorn held (string_step c line line (record { kind = Str; len = n; next_mode = InStr }) held)
+    (string_step c' line line (record { kind = Str; len = n; next_mode = InStr }) (held ++ more))
+unfolding string_step broken
+perl-torn c c' line n held more lt =
+    let own = take n held in
+    let size = length-append held more in
+    Stays (record { sort = Broken PerlFound; bytes = own; line = line + line_ends own })
+    (ap (λ (x : Bool). if x then broken PerlFound own (line + line_ends own) else open_end c StringOpen line line own) (lt-ltb n (length held) lt))
+    (ap (λ (x : Bool). if x then broken PerlFound (take n (held ++ more)) (line + line_ends (take n (held ++ more))) else open_end c' StringOpen line line (take n (held ++ more)))
+    (lt-ltb n (length (held ++ more)) (omega (arith, lt, size)))
+    ∙ ap (λ (bs : List ℕ). broken PerlFound bs (line + line_ends bs)) (take-append-le n held more (omega (arith, lt))))
+
+-- a string that is open where the text ends, and is no longer than that
+string-end : (u : List ℕ → Bool) (most most' line : ℕ) (held : List ℕ)
+    → StepTorn held (string_step (record { unbuilt = u; most = most; break = None }) line line (record { kind = Str; len = length held; next_mode = InStr }) held)
+    (string_step (record { unbuilt = u; most = most'; break = None }) line line (record { kind = Str; len = length held; next_mode = InStr }) held)
+unfolding string_step open_end broken
+string-end u most most' line held =
+    let own = take (length held) held in
+    let e : nat_lt (length held) (length held) ≡ false = le-ltb (length held) (length held) (omega arith) in
+    let t : SourceToken = record { sort = Broken StringOpen; bytes = own; line = line } in
+    let is = ap (λ (x : Bool). if x then broken PerlFound own (line + line_ends own) else Last t) e in
+    Stays t is is
+
+-- a comment that is open where the text ends
+comment-end : (u : List ℕ → Bool) (most most' line : ℕ) (held : List ℕ)
+    → StepTorn held (comment_step (record { unbuilt = u; most = most; break = None }) line line (record { kind = BlockComment; len = length held; next_mode = InBlock }) held)
+    (comment_step (record { unbuilt = u; most = most'; break = None }) line line (record { kind = BlockComment; len = length held; next_mode = InBlock }) held)
+unfolding comment_step open_end broken
+comment-end u most most' line held = Stays (record { sort = Broken CommentOpen; bytes = take (length held) held; line = line }) refl refl
+
+-- a string that is open where a limit ends the text
+string-small : (u : List ℕ → Bool) (most : ℕ) (j : Break) (line : ℕ) (held : List ℕ)
+    → string_step (record { unbuilt = u; most = most; break = Some j }) line line (record { kind = Str; len = length held; next_mode = InStr }) held
+    ≡ broken j.breach (take (length held) held) (line + line_ends (take (length held) held))
+unfolding string_step open_end
+string-small u most j line held =
+    let own = take (length held) held in
+    ap (λ (x : Bool). if x then broken PerlFound own (line + line_ends own) else broken j.breach own (line + line_ends own))
+    (le-ltb (length held) (length held) (omega arith))
+
+-- a comment that is open where a limit ends the text
+comment-small : (u : List ℕ → Bool) (most : ℕ) (j : Break) (line : ℕ) (held : List ℕ)
+    → comment_step (record { unbuilt = u; most = most; break = Some j }) line line (record { kind = BlockComment; len = length held; next_mode = InBlock }) held
+    ≡ broken j.breach (take (length held) held) (line + line_ends (take (length held) held))
+unfolding comment_step open_end
+comment-small u most j line held = refl
+
+-- a string that a limit tears
+string-torn : (u : List ℕ → Bool) (most most' : ℕ) (j : Break) (k' : Option Break) (line n : ℕ) (mode : Mode) (b : ℕ) (bs more : List ℕ)
+    → (j.breach ≡ LineLong) ⊎ (j.breach ≡ SourceLong) → IsOwnBreak k' → IsWholeLines (b ∷ bs) → (b == 34) ≡ true
+    → StepTorn (b ∷ bs) (string_step (record { unbuilt = u; most = most; break = Some j }) line line (record { kind = Str; len = length (b ∷ bs); next_mode = InStr }) (b ∷ bs))
+    (string_step (record { unbuilt = u; most = most'; break = k' }) line line (record { kind = Str; len = length (b ∷ bs) + n; next_mode = mode }) ((b ∷ bs) ++ more))
+string-torn u most most' j k' line n mode b bs more limit own whole_lines q =
+    let held = b ∷ bs in
+    let text = take (length held) held in
+    let c' : Course = record { unbuilt = u; most = most'; break = k' } in
+    let grown = take-append-add held more n in
+    tears-string held j.breach text (line + line_ends text) _ _ limit (ap (λ (xs : List ℕ). slice_index xs 0 == 34) (take-length held) ∙ q)
+    (string-small u most j line held)
+    (string-head c' line line (length held + n) mode (held ++ more) own
+    (ap (λ (xs : List ℕ). slice_index xs 0 == 34) grown ∙ q)
+    (ap (λ (xs : List ℕ). list_any is_line_end xs) grown ∙ has_line_end b bs (take n more) whole_lines))
+
+-- a comment that a limit tears
+comment-torn : (u : List ℕ → Bool) (most most' : ℕ) (j : Break) (k' : Option Break) (line n : ℕ) (mode : Mode) (held more : List ℕ)
+    → (j.breach ≡ LineLong) ⊎ (j.breach ≡ SourceLong) → (slice_index held 0 == 34) ≡ false
+    → StepTorn held (comment_step (record { unbuilt = u; most = most; break = Some j }) line line (record { kind = BlockComment; len = length held; next_mode = InBlock }) held)
+    (comment_step (record { unbuilt = u; most = most'; break = k' }) line line (record { kind = BlockComment; len = n; next_mode = mode }) (held ++ more))
+comment-torn u most most' j k' line n mode held more limit q =
+    let text = take (length held) held in
+    let c' : Course = record { unbuilt = u; most = most'; break = k' } in
+    tears-comment held j.breach text (line + line_ends text) _ _ limit (ap (λ (xs : List ℕ). slice_index xs 0 == 34) (take-length held) ∙ q)
+    (comment-small u most j line held) (comment-head c' line line n mode (held ++ more))
+
+-- a string that is open where the text ends, by what is behind it
+open-string-torn : (u : List ℕ → Bool) (most most' : ℕ) (k k' : Option Break) (line : ℕ) (b : ℕ) (bs more : List ℕ)
+    → Ends (b ∷ bs) more k k' → IsOwnBreak k'
+    → token_of Plain (b ∷ bs) ≡ record { kind = Str; len = length (b ∷ bs); next_mode = InStr }
+    → token_of Plain ((b ∷ bs) ++ more) ≡ longer (length (b ∷ bs)) (string_token 0 more)
+    → StepTorn (b ∷ bs) (step_by (record { unbuilt = u; most = most; break = k }) line line (record { kind = Str; len = length (b ∷ bs); next_mode = InStr }) (b ∷ bs))
+    (step_by (record { unbuilt = u; most = most'; break = k' }) line line (token_of Plain ((b ∷ bs) ++ more)) ((b ∷ bs) ++ more))
+unfolding step_by IsBreakOfLimit
+open-string-torn u most most' k k' line b bs more (inl h) own is e =
+    let held = b ∷ bs in
+    let same : held ++ more ≡ held = ap (λ (m : List ℕ). held ++ m) h.0 ∙ append-nil held in
+    let small : Option Break → Step = λ x. step_by (record { unbuilt = u; most = most; break = x }) line line (record { kind = Str; len = length held; next_mode = InStr }) held in
+    subst (λ (x : Option Break). StepTorn held (small x) (step_by (record { unbuilt = u; most = most'; break = k' }) line line (token_of Plain (held ++ more)) (held ++ more))) (sym h.1)
+    (subst (λ (x : Option Break). StepTorn held (small None) (step_by (record { unbuilt = u; most = most'; break = x }) line line (token_of Plain (held ++ more)) (held ++ more))) (sym h.2)
+    (subst (λ (xs : List ℕ). StepTorn held (small None) (step_by (record { unbuilt = u; most = most'; break = None }) line line (token_of Plain xs) xs)) (sym same)
+    (subst (λ (t : Token). StepTorn held (small None) (step_by (record { unbuilt = u; most = most'; break = None }) line line t held)) (sym is)
+    (string-end u most most' line held))))
+open-string-torn u most most' None k' line b bs more (inr h) own is e = absurd h.1
+open-string-torn u most most' (Some j) k' line b bs more (inr h) own is e =
+    let held = b ∷ bs in
+    let v = string_token 0 more in
+    let c' : Course = record { unbuilt = u; most = most'; break = k' } in
+    let small = step_by (record { unbuilt = u; most = most; break = Some j }) line line (record { kind = Str; len = length held; next_mode = InStr }) held in
+    subst (λ (t : Token). StepTorn held small (step_by c' line line t (held ++ more))) (sym e)
+    (subst (λ (x : Kind). StepTorn held small (step_by c' line line (record { kind = x; len = length held + v.len; next_mode = v.next_mode }) (held ++ more))) (sym (string-kind 0 more))
+    (string-torn u most most' j k' line v.len v.next_mode b bs more h.1 own h.0
+    (row-string held (token_of Plain held) (token_of-row held) (ap (λ (t : Token). t.kind) is))))
+
+-- a comment that is open where the text ends, by what is behind it
+open-comment-torn : (u : List ℕ → Bool) (most most' : ℕ) (k k' : Option Break) (line : ℕ) (held more : List ℕ)
+    → Ends held more k k' → IsOwnBreak k'
+    → token_of Plain held ≡ record { kind = BlockComment; len = length held; next_mode = InBlock }
+    → token_of Plain (held ++ more) ≡ longer (length held) (block_token 0 more)
+    → StepTorn held (step_by (record { unbuilt = u; most = most; break = k }) line line (record { kind = BlockComment; len = length held; next_mode = InBlock }) held)
+    (step_by (record { unbuilt = u; most = most'; break = k' }) line line (token_of Plain (held ++ more)) (held ++ more))
+unfolding step_by IsBreakOfLimit
+open-comment-torn u most most' k k' line held more (inl h) own is e =
+    let same : held ++ more ≡ held = ap (λ (m : List ℕ). held ++ m) h.0 ∙ append-nil held in
+    let small : Option Break → Step = λ x. step_by (record { unbuilt = u; most = most; break = x }) line line (record { kind = BlockComment; len = length held; next_mode = InBlock }) held in
+    subst (λ (x : Option Break). StepTorn held (small x) (step_by (record { unbuilt = u; most = most'; break = k' }) line line (token_of Plain (held ++ more)) (held ++ more))) (sym h.1)
+    (subst (λ (x : Option Break). StepTorn held (small None) (step_by (record { unbuilt = u; most = most'; break = x }) line line (token_of Plain (held ++ more)) (held ++ more))) (sym h.2)
+    (subst (λ (xs : List ℕ). StepTorn held (small None) (step_by (record { unbuilt = u; most = most'; break = None }) line line (token_of Plain xs) xs)) (sym same)
+    (subst (λ (t : Token). StepTorn held (small None) (step_by (record { unbuilt = u; most = most'; break = None }) line line t held)) (sym is)
+    (comment-end u most most' line held))))
+open-comment-torn u most most' None k' line held more (inr h) own is e = absurd h.1
+open-comment-torn u most most' (Some j) k' line held more (inr h) own is e =
+    let v = block_token 0 more in
+    let c' : Course = record { unbuilt = u; most = most'; break = k' } in
+    let small = step_by (record { unbuilt = u; most = most; break = Some j }) line line (record { kind = BlockComment; len = length held; next_mode = InBlock }) held in
+    subst (λ (t : Token). StepTorn held small (step_by c' line line t (held ++ more))) (sym e)
+    (subst (λ (x : Kind). StepTorn held small (step_by c' line line (record { kind = x; len = length held + v.len; next_mode = v.next_mode }) (held ++ more))) (sym (block-kind 0 more))
+    (comment-torn u most most' j k' line (length held + v.len) v.next_mode held more h.1
+    (comment-quote held (row-comment held (token_of Plain held) (token_of-row held) (ap (λ (t : Token). t.kind) is)))))
+
+-- a token that closes is one that is closed
+closed-is : (t : Token) → t.next_mode ≡ Plain → t ≡ record { kind = t.kind; len = t.len; next_mode = Plain }
+closed-is t e = ap (λ (m : Mode). record { kind = t.kind; len = t.len; next_mode = m }) e
+
+-- a string before `<%`, by its token
+perl-seam : (u : List ℕ → Bool) (most most' : ℕ) (k k' : Option Break) (line : ℕ) (t v : Token) (held more : List ℕ)
+    → v ≡ t → t ≡ record { kind = Str; len = t.len; next_mode = InStr } → t.len < length held
+    → StepTorn held (step_by (record { unbuilt = u; most = most; break = k }) line line t held)
+    (step_by (record { unbuilt = u; most = most'; break = k' }) line line v (held ++ more))
+unfolding step_by
+perl-seam u most most' k k' line t v held more e is lt =
+    let c : Course = record { unbuilt = u; most = most; break = k } in
+    let c' : Course = record { unbuilt = u; most = most'; break = k' } in
+    subst (λ (x : Token). StepTorn held (step_by c line line t held) (step_by c' line line x (held ++ more))) (sym e)
+    (subst (λ (x : Token). StepTorn held (step_by c line line x held) (step_by c' line line x (held ++ more))) (sym is)
+    (perl-torn c c' line t.len held more lt))
+
+-- a step at a token, by how it stands in the text with more behind it
+seam-torn : (u : List ℕ → Bool) (most most' : ℕ) (k k' : Option Break) (line : ℕ) (b : ℕ) (bs more : List ℕ)
+    → most ≤ most' → Ends (b ∷ bs) more k k' → IsOwnBreak k'
+    → Seam (b ∷ bs) more (token_of Plain (b ∷ bs)) (token_of Plain ((b ∷ bs) ++ more))
+    → StepTorn (b ∷ bs) (step_by (record { unbuilt = u; most = most; break = k }) line line (token_of Plain (b ∷ bs)) (b ∷ bs))
+    (step_by (record { unbuilt = u; most = most'; break = k' }) line line (token_of Plain ((b ∷ bs) ++ more)) ((b ∷ bs) ++ more))
+unfolding token_of IsShort
+seam-torn u most most' k k' line b bs more le ends own (Closed e closed) =
+    let held = b ∷ bs in
+    let t = token_of Plain held in
+    let c : Course = record { unbuilt = u; most = most; break = k } in
+    let c' : Course = record { unbuilt = u; most = most'; break = k' } in
+    let part = token_of-part Plain held (omega arith) in
+    let whole_is = closed-is t closed in
+    subst (λ (v : Token). StepTorn held (step_by c line line t held) (step_by c' line line v (held ++ more))) (sym e)
+    (subst (λ (v : Token). StepTorn held (step_by c line line v held) (step_by c' line line v (held ++ more))) (sym whole_is)
+    (closed-torn u most most' k k' line t.kind t.len held more part.not_empty part.inside (plain-short b bs) le ends))
+seam-torn u most most' k k' line b bs more le ends own (BeforePerl e is lt perl) =
+    perl-seam u most most' k k' line (token_of Plain (b ∷ bs)) (token_of Plain ((b ∷ bs) ++ more)) (b ∷ bs) more e is lt
+seam-torn u most most' k k' line b bs more le ends own (OpenString is e) =
+    let held = b ∷ bs in
+    subst (λ (v : Token). StepTorn held (step_by (record { unbuilt = u; most = most; break = k }) line line v held)
+    (step_by (record { unbuilt = u; most = most'; break = k' }) line line (token_of Plain (held ++ more)) (held ++ more))) (sym is)
+    (open-string-torn u most most' k k' line b bs more ends own is e)
+seam-torn u most most' k k' line b bs more le ends own (OpenComment is e) =
+    let held = b ∷ bs in
+    subst (λ (v : Token). StepTorn held (step_by (record { unbuilt = u; most = most; break = k }) line line v held)
+    (step_by (record { unbuilt = u; most = most'; break = k' }) line line (token_of Plain (held ++ more)) (held ++ more))) (sym is)
+    (open-comment-torn u most most' k k' line held more ends own is e)
+
+-- a step of a text, by whether it is built
+built-torn : (u : List ℕ → Bool) (most most' : ℕ) (k k' : Option Break) (line : ℕ) (b : ℕ) (bs more : List ℕ) (x : Bool)
+    → most ≤ most' → Ends (b ∷ bs) more k k' → IsOwnBreak k'
+    → StepTorn (b ∷ bs) (if x then broken Unbuilt [] line else step_by (record { unbuilt = u; most = most; break = k }) line line (token_of Plain (b ∷ bs)) (b ∷ bs))
+    (if x then broken Unbuilt [] line else step_by (record { unbuilt = u; most = most'; break = k' }) line line (token_of Plain ((b ∷ bs) ++ more)) ((b ∷ bs) ++ more))
+unfolding broken
+built-torn u most most' k k' line b bs more true le ends own = Stays (record { sort = Broken Unbuilt; bytes = []; line = line }) refl refl
+built-torn u most most' k k' line b bs more false le ends own =
+    seam-torn u most most' k k' line b bs more le ends own
+    (token_of-seam Plain (b ∷ bs) more (omega arith) (IsCut-from_line (b ∷ bs) more (ends-line (b ∷ bs) more k k' ends)))
+
+-- a step of a text
+step-torn : (u : List ℕ → Bool) (most most' : ℕ) (k k' : Option Break) (o line : ℕ) (b : ℕ) (bs more : List ℕ)
+    → IsByLines u → most ≤ most' → Ends (b ∷ bs) more k k' → IsOwnBreak k'
+    → StepTorn (b ∷ bs) (source_step (record { unbuilt = u; most = most; break = k }) Plain o line (b ∷ bs))
+    (source_step (record { unbuilt = u; most = most'; break = k' }) Plain o line ((b ∷ bs) ++ more))
+unfolding source_step
+step-torn u most most' k k' o line b bs more stable le ends own =
+    let held = b ∷ bs in
+    let c : Course = record { unbuilt = u; most = most; break = k } in
+    let c' : Course = record { unbuilt = u; most = most'; break = k' } in
+    subst (λ (x : Bool). StepTorn held (if u held then broken Unbuilt [] line else step_by c line line (token_of Plain held) held)
+    (if x then broken Unbuilt [] line else step_by c' line line (token_of Plain (held ++ more)) (held ++ more)))
+    (sym (stable held more (omega arith) (ends-line held more k k' ends)))
+    (built-torn u most most' k k' line b bs more (u held) le ends own)
+
+-- the first token of a text is that of its step
+first-is : (c : Course) (o l b : ℕ) (bs : List ℕ)
+    → (rest : List SourceToken) × (source_tokens c Plain o l 0 (b ∷ bs) ≡ step_head (source_step c Plain o l (b ∷ bs)) ∷ rest)
+unfolding source_tokens step_head
+first-is c o l b bs = by_step (source_step c Plain o l (b ∷ bs))
+  where
+    by_step : (s : Step) → (rest : List SourceToken)
+        × ((elim s [ Last t ↦ t ∷ [] | Next t ↦ t ∷ source_tokens c Plain l (line_after b l) (length t.bytes - 1) bs ]) ≡ step_head s ∷ rest)
+    by_step (Last t) = ([], refl)
+    by_step (Next t) = (source_tokens c Plain l (line_after b l) (length t.bytes - 1) bs, refl)
+
+-- what is behind the first token of a text
+small-next : (c : Course) (o l : ℕ) (held : List ℕ) (t : SourceToken) (n : ℕ) → 0 < n → n ≤ length held → t.bytes ≡ take n held
+    → source_step c Plain o l held ≡ Next t
+    → source_tokens c Plain o l 0 held ≡ t ∷ source_tokens c Plain l (l + line_ends (take n held)) 0 (drop n held)
+small-next c o l held t n some inside bytes step =
+    ap (λ (xs : List ℕ). source_tokens c Plain o l 0 xs) (sym (append-nil held))
+    ∙ next_held c o l held [] t n some inside bytes (ap (λ (xs : List ℕ). source_step c Plain o l xs) (append-nil held) ∙ step)
+    ∙ ap (λ (xs : List ℕ). t ∷ source_tokens c Plain l (l + line_ends (take n held)) 0 xs) (append-nil (drop n held))
+
+-- the end of a text, by its break
+end-torn : (u : List ℕ → Bool) (most most' : ℕ) (k k' : Option Break) (ended : Bool) (o l : ℕ) (more : List ℕ) → Ends [] more k k'
+    → (ended ≡ false → IsBreakOfLimit k → ⊥)
+    → TokensTorn ended (source_tokens (record { unbuilt = u; most = most; break = k }) Plain o l 0 [])
+    (source_tokens (record { unbuilt = u; most = most'; break = k' }) Plain o l 0 more)
+unfolding source_tokens source_end TokensTorn IsBreakOfLimit TornBy token_role broken_role breach_kind is_limit
+end-torn u most most' k k' ended o l more (inl h) not_here =
+    subst (λ (x : Option Break). TokensTorn ended (source_tokens (record { unbuilt = u; most = most; break = x }) Plain o l 0 [])
+    (source_tokens (record { unbuilt = u; most = most'; break = k' }) Plain o l 0 more)) (sym h.1)
+    (subst (λ (x : Option Break). TokensTorn ended (source_tokens (record { unbuilt = u; most = most; break = None }) Plain o l 0 [])
+    (source_tokens (record { unbuilt = u; most = most'; break = x }) Plain o l 0 more)) (sym h.2)
+    (subst (λ (xs : List ℕ). TokensTorn ended (source_tokens (record { unbuilt = u; most = most; break = None }) Plain o l 0 [])
+    (source_tokens (record { unbuilt = u; most = most'; break = None }) Plain o l 0 xs)) (sym h.0) refl))
+end-torn u most most' None k' ended o l more (inr h) not_here = absurd h.1
+end-torn u most most' (Some j) k' ended o l more (inr (w, inl e)) not_here =
+    let us = source_tokens (record { unbuilt = u; most = most'; break = k' }) Plain o l 0 more in
+    subst (λ (x : Breach). TokensTorn ended (record { sort = Broken x; bytes = []; line = l } ∷ []) us) (sym e)
+    (inl (record { breach = LineLong; broken = refl; last = refl; limit = refl; torn = refl; nothing = λ f. absurd (not_here f (inl e)) }))
+end-torn u most most' (Some j) k' ended o l more (inr (w, inr e)) not_here =
+    let us = source_tokens (record { unbuilt = u; most = most'; break = k' }) Plain o l 0 more in
+    subst (λ (x : Breach). TokensTorn ended (record { sort = Broken x; bytes = []; line = l } ∷ []) us) (sym e)
+    (inl (record { breach = SourceLong; broken = refl; last = refl; limit = refl; torn = refl; nothing = λ f. absurd (not_here f (inr e)) }))
+
+-- a flag that a line ends holds where a limit breaks off at once
+abbrev Flagged : Bool → List ℕ → Option Break → Type 0
+Flagged ended held k = ended ≡ false → IsBreakOfLimit k → 0 < length held
+
+-- the tokens of a text, by the step of its first
+step-tokens : (u : List ℕ → Bool) (most most' : ℕ) (k k' : Option Break) (ended : Bool) (o l b : ℕ) (bs more : List ℕ)
+    → Ends (b ∷ bs) more k k'
+    → ((n : ℕ) (t : SourceToken) → 0 < n → n ≤ length (b ∷ bs) → Flagged (ends_line t.sort) (drop n (b ∷ bs)) k
+    → TokensTorn (ends_line t.sort) (source_tokens (record { unbuilt = u; most = most; break = k }) Plain l (l + line_ends (take n (b ∷ bs))) 0 (drop n (b ∷ bs)))
+    (source_tokens (record { unbuilt = u; most = most'; break = k' }) Plain l (l + line_ends (take n (b ∷ bs))) 0 (drop n (b ∷ bs) ++ more)))
+    → StepTorn (b ∷ bs) (source_step (record { unbuilt = u; most = most; break = k }) Plain o l (b ∷ bs))
+    (source_step (record { unbuilt = u; most = most'; break = k' }) Plain o l ((b ∷ bs) ++ more))
+    → TokensTorn ended (source_tokens (record { unbuilt = u; most = most; break = k }) Plain o l 0 (b ∷ bs))
+    (source_tokens (record { unbuilt = u; most = most'; break = k' }) Plain o l 0 ((b ∷ bs) ++ more))
+unfolding TokensTorn IsBreakOfLimit
+step-tokens u most most' k k' ended o l b bs more ends inner (Goes t n e f some inside bytes short) =
+    let held = b ∷ bs in
+    let c : Course = record { unbuilt = u; most = most; break = k } in
+    let c' : Course = record { unbuilt = u; most = most'; break = k' } in
+    subst (λ (ts : List SourceToken). TokensTorn ended ts (source_tokens c' Plain o l 0 (held ++ more)))
+    (sym (small-next c o l held t n some inside bytes e))
+    (inr (
+      source_tokens c' Plain l (l + line_ends (take n held)) 0 (drop n held ++ more),
+      next_held c' o l held more t n some inside bytes f,
+      inner n t some inside (flag ends),
+    ))
+  where
+    flag : Ends (b ∷ bs) more k k' → Flagged (ends_line t.sort) (drop n (b ∷ bs)) k
+    flag (inl h) = λ x limit. absurd (subst (λ (y : Option Break). IsBreakOfLimit y) h.1 limit)
+    flag (inr h) = λ x limit. let lt = short x h.0 in let size = length-drop n (b ∷ bs) in omega (arith, lt, size)
+step-tokens u most most' k k' ended o l b bs more ends inner (Stays t e f) =
+    let held = b ∷ bs in
+    let c : Course = record { unbuilt = u; most = most; break = k } in
+    let c' : Course = record { unbuilt = u; most = most'; break = k' } in
+    subst (λ (ts : List SourceToken). TokensTorn ended ts (source_tokens c' Plain o l 0 (held ++ more)))
+    (sym (source_tokens-last c Plain o l held t (omega arith) e))
+    (inr ([], source_tokens-last c' Plain o l (held ++ more) t (omega arith) f, refl))
+step-tokens u most most' k k' ended o l b bs more ends inner (Tears t breach e is limit suits) =
+    let held = b ∷ bs in
+    let c : Course = record { unbuilt = u; most = most; break = k } in
+    let c' : Course = record { unbuilt = u; most = most'; break = k' } in
+    let first = first-is c' o l b (bs ++ more) in
+    subst (λ (ts : List SourceToken). TokensTorn ended ts (source_tokens c' Plain o l 0 (held ++ more)))
+    (sym (source_tokens-last c Plain o l held t (omega arith) e))
+    (subst (λ (us : List SourceToken). TokensTorn ended (t ∷ []) us) (sym first.1)
+    (inl (record { breach = breach; broken = is; last = refl; limit = limit; torn = suits.torn first.0; nothing = λ x. suits.nothing first.0 })))
+
+-- the tokens of a text of at most so many bytes
+text-torn : (u : List ℕ → Bool) (most most' : ℕ) (k k' : Option Break) (more : List ℕ) → IsByLines u → most ≤ most' → IsOwnBreak k'
+    → (fuel : ℕ) (ended : Bool) (o l : ℕ) (held : List ℕ) → length held ≤ fuel → Ends held more k k' → Flagged ended held k
+    → TokensTorn ended (source_tokens (record { unbuilt = u; most = most; break = k }) Plain o l 0 held)
+    (source_tokens (record { unbuilt = u; most = most'; break = k' }) Plain o l 0 (held ++ more))
+text-torn u most most' k k' more stable le own fuel ended o l [] fits ends flag =
+    end-torn u most most' k k' ended o l more ends (λ f limit. absurd (omega (arith, flag f limit)))
+text-torn u most most' k k' more stable le own zero ended o l (b ∷ bs) fits ends flag = absurd (omega (arith, fits))
+text-torn u most most' k k' more stable le own (suc fuel) ended o l (b ∷ bs) fits ends flag =
+    step-tokens u most most' k k' ended o l b bs more ends
+    (λ n t some inside f. text-torn u most most' k k' more stable le own fuel (ends_line t.sort) l (l + line_ends (take n (b ∷ bs))) (drop n (b ∷ bs))
+    (shorter n some) (dropped n ends) f)
+    (step-torn u most most' k k' o l b bs more stable le ends own)
+  where
+    shorter : (n : ℕ) → 0 < n → length (drop n (b ∷ bs)) ≤ fuel
+    shorter n some = let size = length-drop n (b ∷ bs) in omega (arith, size, fits)
+
+    dropped : (n : ℕ) → Ends (b ∷ bs) more k k' → Ends (drop n (b ∷ bs)) more k k'
+    dropped n (inl h) = inl h
+    dropped n (inr h) = inr (IsWholeLines-drop n (b ∷ bs) h.0, h.1)
+
+-- lines of which each but the last ends in LF
+unfoldable AreLines : List (List ℕ) → Type 0
+AreLines [] = Unit
+AreLines (l ∷ []) = 0 < length l
+AreLines (l ∷ m ∷ ls) = (0 < length l) × IsWholeLines l × AreLines (m ∷ ls)
+
+-- a byte in front of whole lines
+whole-cons : (b : ℕ) (l : List ℕ) → 0 < length l → IsWholeLines l → IsWholeLines (b ∷ l)
+unfolding whole_lines_len onto_whole_lines
+whole-cons b l some h = onto (whole_lines_len l) (length l) some h
+  where
+    onto : (n m : ℕ) → 0 < m → n ≡ m → onto_whole_lines b n ≡ suc m
+    onto zero m some e = absurd (omega (arith, some, e))
+    onto (suc n) m some e = ap suc e
+
+-- an LF in front of lines
+lines-end : (b : ℕ) (ls : List (List ℕ)) → (b == 10) ≡ true → AreLines ls → AreLines ((b ∷ []) ∷ ls)
+unfolding AreLines whole_lines_len onto_whole_lines is_line_end
+lines-end b [] e h = omega arith
+lines-end b (l ∷ ls) e h = (omega arith, ap (λ (x : Bool). if x then 1 else 0) e, h)
+
+-- another byte in front of lines
+lines-cons : (b : ℕ) (ls : List (List ℕ)) → AreLines ls → AreLines (onto_first b ls)
+unfolding AreLines onto_first
+lines-cons b [] h = omega arith
+lines-cons b (l ∷ []) h = omega arith
+lines-cons b (l ∷ m ∷ ls) h = (omega arith, whole-cons b l h.0 h.1, h.2)
+
+-- a byte in front of lines, by whether it is an LF
+lines-by : (b : ℕ) (x : Bool) (ls : List (List ℕ)) → (b == 10) ≡ x → AreLines ls → AreLines (if x then (b ∷ []) ∷ ls else onto_first b ls)
+lines-by b true ls e h = lines-end b ls e h
+lines-by b false ls e h = lines-cons b ls h
+
+-- the lines of a text are lines
+lines-are : (bs : List ℕ) → AreLines (lines_of bs)
+unfolding AreLines lines_of
+lines-are [] = tt
+lines-are (b ∷ bs) = lines-by b (b == 10) (lines_of bs) refl (lines-are bs)
+
+-- the front of a text with smaller limits, and that with larger ones
+record FrontTorn (f g : Front) : Type 0 where
+  more : List ℕ
+  text : g.text ≡ f.text ++ more
+  own : IsOwnBreak g.break
+  ends : Ends f.text more f.break g.break
+
+-- each front has a break of its own limits, by whether lines pass them
+own-choice : (x y : Bool) (n : ℕ) (f : Front) → IsOwnBreak f.break
+    → IsOwnBreak (if x then record { text = []; break = Some (record { breach = LineLong; len = n }) }
+    else (if y then record { text = []; break = Some (record { breach = SourceLong; len = n }) } else f)).break
+unfolding IsOwnBreak
+own-choice true y n f h = inl refl
+own-choice false true n f h = inr refl
+own-choice false false n f h = h
+
+-- each front has a break of its own limits
+front-own : (most room : ℕ) (ls : List (List ℕ)) → IsOwnBreak (front_of_lines most room ls).break
+unfolding front_of_lines IsOwnBreak onto_front
+front-own most room [] = tt
+front-own most room (l ∷ ls) =
+    own-choice (nat_lt most (length l)) (nat_lt room (length l)) (length l) (onto_front l (front_of_lines most (room - length l) ls))
+    (front-own most (room - length l) ls)
+
+-- a front that a limit ends at once
+front-broken : (g : Front) (n : ℕ) (b : Breach) → (b ≡ LineLong) ⊎ (b ≡ SourceLong) → IsOwnBreak g.break
+    → FrontTorn (record { text = []; break = Some (record { breach = b; len = n }) }) g
+unfolding IsBreakOfLimit whole_lines_len
+front-broken g n b is own = record { more = g.text; text = refl; own = own; ends = inr (refl, is) }
+
+-- a line in front of fronts
+front-line : (l : List ℕ) (f g : Front) → FrontTorn f g → (IsBreakOfLimit f.break → IsWholeLines l) → FrontTorn (onto_front l f) (onto_front l g)
+unfolding onto_front
+front-line l f g h line = record {
+  more = h.more;
+  text = ap (λ (bs : List ℕ). l ++ bs) h.text ∙ sym (append_assoc l f.text h.more);
+  own = h.own;
+  ends = by_ends h.ends;
+}
+  where
+    by_ends : Ends f.text h.more f.break g.break → Ends (l ++ f.text) h.more f.break g.break
+    by_ends (inl e) = inl e
+    by_ends (inr e) = inr (IsWholeLines-append l f.text (line e.1) e.0, e.1)
+
+-- a first line, by whether it passes the smaller limits and the larger ones
+line-choice : (x y x' y' : Bool) (l : List ℕ) (f g : Front) → (x ≡ false → x' ≡ false) → (y ≡ false → y' ≡ false)
+    → FrontTorn f g → (IsBreakOfLimit f.break → IsWholeLines l) → IsOwnBreak g.break
+    → FrontTorn
+    (if x then record { text = []; break = Some (record { breach = LineLong; len = length l }) }
+    else (if y then record { text = []; break = Some (record { breach = SourceLong; len = length l }) } else onto_front l f))
+    (if x' then record { text = []; break = Some (record { breach = LineLong; len = length l }) }
+    else (if y' then record { text = []; break = Some (record { breach = SourceLong; len = length l }) } else onto_front l g))
+unfolding onto_front
+line-choice true y x' y' l f g i j h line own = front-broken _ (length l) LineLong (inl refl) (own-choice x' y' (length l) (onto_front l g) own)
+line-choice false true x' y' l f g i j h line own = front-broken _ (length l) SourceLong (inr refl) (own-choice x' y' (length l) (onto_front l g) own)
+line-choice false false x' y' l f g i j h line own =
+    let large : Bool → Bool → Front = λ p q. if p then record { text = []; break = Some (record { breach = LineLong; len = length l }) }
+    else (if q then record { text = []; break = Some (record { breach = SourceLong; len = length l }) } else onto_front l g) in
+    subst (λ (p : Bool). FrontTorn (onto_front l f) (large p y')) (sym (i refl))
+    (subst (λ (q : Bool). FrontTorn (onto_front l f) (large false q)) (sym (j refl)) (front-line l f g h line))
+
+-- no line breaks the front of none
+nothing-breaks : (most room : ℕ) → IsBreakOfLimit (front_of_lines most room []).break → ⊥
+unfolding IsBreakOfLimit front_of_lines
+nothing-breaks most room h = h
+
+-- the fronts of lines
+fronts-torn : (most most' : ℕ) → most ≤ most' → (ls : List (List ℕ)) → AreLines ls → (room room' : ℕ) → room ≤ room'
+    → FrontTorn (front_of_lines most room ls) (front_of_lines most' room' ls)
+unfolding front_of_lines AreLines IsOwnBreak
+fronts-torn most most' le [] h room room' rooms = record { more = []; text = refl; own = tt; ends = inl (refl, refl, refl) }
+fronts-torn most most' le (l ∷ []) h room room' rooms =
+    line-choice (nat_lt most (length l)) (nat_lt room (length l)) (nat_lt most' (length l)) (nat_lt room' (length l)) l
+    (front_of_lines most (room - length l) []) (front_of_lines most' (room' - length l) [])
+    (unpassed most most' (length l) le) (unpassed room room' (length l) rooms)
+    (fronts-torn most most' le [] tt (room - length l) (room' - length l) (less room room' (length l) rooms))
+    (λ limit. absurd (nothing-breaks most (room - length l) limit)) (front-own most' (room' - length l) [])
+  where
+    less : (a b n : ℕ) → a ≤ b → a - n ≤ b - n
+    less a b n e = omega (arith, e)
+fronts-torn most most' le (l ∷ m ∷ ls) h room room' rooms =
+    line-choice (nat_lt most (length l)) (nat_lt room (length l)) (nat_lt most' (length l)) (nat_lt room' (length l)) l
+    (front_of_lines most (room - length l) (m ∷ ls)) (front_of_lines most' (room' - length l) (m ∷ ls))
+    (unpassed most most' (length l) le) (unpassed room room' (length l) rooms)
+    (fronts-torn most most' le (m ∷ ls) h.2 (room - length l) (room' - length l) (less room room' (length l) rooms))
+    (λ limit. h.1) (front-own most' (room' - length l) (m ∷ ls))
+  where
+    less : (a b n : ℕ) → a ≤ b → a - n ≤ b - n
+    less a b n e = omega (arith, e)
+
+-- the tokens of a whole source with larger limits
+pub sources-torn : (u : List ℕ → Bool) (most most' room room' : ℕ) (bytes : List ℕ) → IsByLines u → most ≤ most' → room ≤ room'
+    → TokensTorn true (whole_tokens u most room bytes) (whole_tokens u most' room' bytes)
+unfolding whole_tokens remaining_tokens front
+sources-torn u most most' room room' bytes stable le rooms =
+    let f = front_of_lines most room (lines_of bytes) in
+    let g = front_of_lines most' room' (lines_of bytes) in
+    let h : FrontTorn f g = fronts-torn most most' le (lines_of bytes) (lines-are bytes) room room' rooms in
+    subst (λ (bs : List ℕ). TokensTorn true (source_tokens (record { unbuilt = u; most = most; break = f.break }) Plain 1 1 0 f.text)
+    (source_tokens (record { unbuilt = u; most = most'; break = g.break }) Plain 1 1 0 bs)) (sym h.text)
+    (text-torn u most most' f.break g.break h.more stable le h.own (length f.text) true 1 1 f.text (omega arith) h.ends
+    (λ x limit. absurd (true≢false x)))
