@@ -3,18 +3,19 @@ use Rattle.std.proofs.Common.{◌≡◌, ◌≢◌, ℕ, suc, ◌+◌, ◌-◌, 
 use Rattle.std.specs.Prelude.{bytes_eq, codes, nat_lt}
 use Rattle.std.specs.List.{prefix_len}
 use Rattle.std.proofs.lemmas.Bool.Decides.{eqb_tells}
-use Rattle.rdlpp_scan.specs.declared.token.Kind.TheVariants.{Back, Str, LineComment, BlockComment, Perl, BareBackquote}
+use Rattle.rdlpp_scan.specs.declared.token.Kind.TheVariants.{Back, Str, BlockComment, Perl, BareBackquote}
 use Rattle.rdlpp_scan.specs.declared.token.Mode.TheVariants.{Plain, InStr, InBlock}
 use Rattle.rdlpp_scan.specs.declared.token.Token.{Token}
 use Rattle.rdlpp_scan.specs.declared.token.Directive.{Directive}
 use Rattle.rdlpp_scan.specs.declared.token.Directive.TheVariants.{Define, Undef, Ifdef, Ifndef, Elsif, Else, Endif, Include, Line}
 use Rattle.rdlpp_scan.specs.Bytes.{is_blank, is_line_end, is_letter, is_digit, is_word, is_opener, is_closer, takes_word, begins_perl, begins_line_comment, begins_block_comment, ends_block_comment}
-use Rattle.rdlpp_scan.proofs.StageLaws.{is_unbuilt-block, is_unbuilt-quote}
+use Rattle.rdlpp_expand.specs.Front.{is_text_kind}
+use Rattle.rdlpp_scan.specs.declared.token.Mode.{Mode}
 use Rattle.rdlpp_scan.proofs.StopKinds.{Row, AtPerl, AtLineComment, AtBlockComment, AtString, AtBack, AtBare, AtPlain, token_of-row}
 use Rattle.rdlpp_scan.specs.Tokens.{whole, string_stop, string_token, block_token, plain_token, token_of, first_place, plain_len, stops_plain_text}
 use Rattle.rdlpp_scan.specs.Names.{directive_named}
 use Rattle.rdlpp_scan.specs.Lines.{line_continues}
-use Rattle.rdlpp_scan.specs.Stage.{name_behind, reserved_names, is_reserved, is_unbuilt, is_unbuilt_directive}
+use Rattle.rdlpp_scan.specs.Stage.{name_behind, reserved_names, is_reserved, is_unbuilt}
 
 -- a text without ordinary text at its front stops there
 pub stops_at_front : (bs : List ℕ) → 0 < length bs → plain_len bs ≡ 0 → stops_plain_text bs ≡ true
@@ -25,21 +26,6 @@ stops_at_front (b ∷ bs) some none =
     let at_true : P true = λ e. refl in
     let at_false : P false = λ e. absurd (omega arith) in
     elim (stops_plain_text (b ∷ bs)) as P [ true ↦ at_true | false ↦ at_false ] none
-
--- `<` where ordinary text stops is that of `<%`
-perl_begins : (bs : List ℕ) → slice_index bs 0 ≡ 60 → stops_plain_text bs ≡ true → begins_perl bs ≡ true
-unfolding stops_plain_text begins_perl begins_line_comment begins_block_comment
-perl_begins bs e h = rw e (rw e at h)
-
--- what begins with `<%`
-perl_token : (bs : List ℕ) → begins_perl bs ≡ true → token_of Plain bs ≡ whole Perl 2
-unfolding token_of plain_token
-perl_token bs e = rw e refl
-
--- `<` where ordinary text stops begins embedded Perl
-pub perl_at_front : (bs : List ℕ) → 0 < length bs → plain_len bs ≡ 0 → slice_index bs 0 ≡ 60 → (token_of Plain bs).kind ≡ Perl
-unfolding whole
-perl_at_front bs some none e = ap (λ (t : Token). t.kind) (perl_token bs (perl_begins bs e (stops_at_front bs some none)))
 
 -- a test of a byte that fails
 other_byte : (a b : ℕ) → a ≢ b → (a == b) ≡ false
@@ -54,22 +40,50 @@ first_passes false b e = cc
 same_byte : (a b : ℕ) → (a == b) ≡ true → a ≡ b
 same_byte a b e = elim (eqb_tells a b) [ inl h ↦ h.1 | inr h ↦ absurd (cc) ]
 
--- what begins where ordinary text stops, at neither a backquote nor `<`, and isn't a `//` comment, isn't built
-unbuilt_by_row : (bs : List ℕ) (t : Token) → Row bs t → stops_plain_text bs ≡ true → slice_index bs 0 ≢ 96 → slice_index bs 0 ≢ 60
-    → (t.kind ≡ LineComment → ⊥) → is_unbuilt bs ≡ true
-unfolding begins_perl
-unbuilt_by_row bs t (AtPerl h e) stop back perl other = absurd (perl (same_byte (slice_index bs 0) 60 (first_passes (slice_index bs 0 == 60) (slice_index bs 1 == 37) h)))
-unbuilt_by_row bs t (AtLineComment h e) stop back perl other = absurd (other e)
-unbuilt_by_row bs t (AtBlockComment h e) stop back perl other = is_unbuilt-block bs h
-unbuilt_by_row bs t (AtString h e) stop back perl other = is_unbuilt-quote bs h
-unbuilt_by_row bs t (AtBack h e) stop back perl other = absurd (back (same_byte (slice_index bs 0) 96 h))
-unbuilt_by_row bs t (AtBare h g e) stop back perl other = absurd (back (same_byte (slice_index bs 0) 96 h))
-unbuilt_by_row bs t (AtPlain h q) stop back perl other = absurd (let no : false ≡ true = sym q ∙ stop in cc)
+-- a string is a string
+not_string : (n : ℕ) (bs : List ℕ) → (string_token n bs).kind ≡ Str
+unfolding string_token whole
+not_string n bs = elim (slice_index bs (n + string_stop false (drop n bs)) == 34) as
+    (λ t. (cond t (whole Str (suc (n + string_stop false (drop n bs)))) (record { kind = Str; len = n + string_stop false (drop n bs); next_mode = InStr })).kind ≡ Str) [ true ↦ refl | false ↦ refl ]
 
--- the same of the first token
-pub unbuilt_at_front : (bs : List ℕ) → stops_plain_text bs ≡ true → slice_index bs 0 ≢ 96 → slice_index bs 0 ≢ 60
-    → ((token_of Plain bs).kind ≡ LineComment → ⊥) → is_unbuilt bs ≡ true
-unbuilt_at_front bs stop back perl other = unbuilt_by_row bs (token_of Plain bs) (token_of-row bs) stop back perl other
+-- a block comment is a block comment
+not_block : (n : ℕ) (bs : List ℕ) → (block_token n bs).kind ≡ BlockComment
+unfolding block_token whole
+not_block n bs = elim (nat_lt (n + first_place ends_block_comment (drop n bs)) (length bs)) as
+    (λ t. (cond t (whole BlockComment (n + first_place ends_block_comment (drop n bs) + 2)) (record { kind = BlockComment; len = n + first_place ends_block_comment (drop n bs); next_mode = InBlock })).kind ≡ BlockComment) [ true ↦ refl | false ↦ refl ]
+
+-- what begins where ordinary text stops, at no backquote, is `<%`, or a string or a comment
+text_by_row : (bs : List ℕ) (t : Token) → Row bs t → stops_plain_text bs ≡ true → slice_index bs 0 ≢ 96
+    → (t.kind ≡ Perl → ⊥) → is_text_kind t.kind ≡ true
+unfolding is_text_kind whole
+text_by_row bs t (AtPerl h e) stop back other = absurd (other (ap (λ (u : Token). u.kind) e))
+text_by_row bs t (AtLineComment h e) stop back other = ap is_text_kind e
+text_by_row bs t (AtBlockComment h e) stop back other = ap is_text_kind e
+text_by_row bs t (AtString h e) stop back other = ap is_text_kind e
+text_by_row bs t (AtBack h e) stop back other = absurd (back (same_byte (slice_index bs 0) 96 h))
+text_by_row bs t (AtBare h g e) stop back other = absurd (back (same_byte (slice_index bs 0) 96 h))
+text_by_row bs t (AtPlain h q) stop back other = absurd (let no : false ≡ true = sym q ∙ stop in cc)
+
+-- the rest of a string
+string_text : (bs : List ℕ) → ((token_of InStr bs).kind ≡ Perl → ⊥) → is_text_kind (token_of InStr bs).kind ≡ true
+unfolding token_of is_text_kind whole
+string_text bs other =
+    let P : Bool → Type 0 = λ t. ((cond t (whole Perl 2) (string_token 0 bs)).kind ≡ Perl → ⊥) → is_text_kind (cond t (whole Perl 2) (string_token 0 bs)).kind ≡ true in
+    let at_true : P true = λ h. absurd (h refl) in
+    let at_false : P false = λ h. ap is_text_kind (not_string 0 bs) in
+    elim (begins_perl bs) as P [ true ↦ at_true | false ↦ at_false ] other
+
+-- the rest of a block comment
+comment_text : (bs : List ℕ) → is_text_kind (token_of InBlock bs).kind ≡ true
+unfolding token_of is_text_kind
+comment_text bs = ap is_text_kind (not_block 0 bs)
+
+-- what begins with a string or a comment, or with the rest of one
+pub text_at_front : (m : Mode) (bs : List ℕ) → (m ≡ Plain → (stops_plain_text bs ≡ true) × (slice_index bs 0 ≢ 96))
+    → ((token_of m bs).kind ≡ Perl → ⊥) → is_text_kind (token_of m bs).kind ≡ true
+text_at_front Plain bs stops other = let h = stops refl in text_by_row bs (token_of Plain bs) (token_of-row bs) h.0 h.1 other
+text_at_front InStr bs stops other = string_text bs other
+text_at_front InBlock bs stops other = comment_text bs
 
 -- the token at a backquote
 abbrev pub back_token : List ℕ → Token
@@ -129,18 +143,6 @@ back_text bs e h =
 by_test : (t : Bool) (x y : Token) (G : Type 0) → (t ≡ true → x.kind ≡ Back → G) → (y.kind ≡ Back → G) → (cond t x y).kind ≡ Back → G
 by_test true x y G first second h = first refl h
 by_test false x y G first second h = second h
-
--- a string isn't a backquote and its name
-not_string : (n : ℕ) (bs : List ℕ) → (string_token n bs).kind ≡ Str
-unfolding string_token whole
-not_string n bs = elim (slice_index bs (n + string_stop false (drop n bs)) == 34) as
-    (λ t. (cond t (whole Str (suc (n + string_stop false (drop n bs)))) (record { kind = Str; len = n + string_stop false (drop n bs); next_mode = InStr })).kind ≡ Str) [ true ↦ refl | false ↦ refl ]
-
--- nor is a block comment
-not_block : (n : ℕ) (bs : List ℕ) → (block_token n bs).kind ≡ BlockComment
-unfolding block_token whole
-not_block n bs = elim (nat_lt (n + first_place ends_block_comment (drop n bs)) (length bs)) as
-    (λ t. (cond t (whole BlockComment (n + first_place ends_block_comment (drop n bs) + 2)) (record { kind = BlockComment; len = n + first_place ends_block_comment (drop n bs); next_mode = InBlock })).kind ≡ BlockComment) [ true ↦ refl | false ↦ refl ]
 
 -- a token with a backquote's name begins with the backquote
 pub back_front : (bs : List ℕ) → (token_of Plain bs).kind ≡ Back → slice_index bs 0 ≡ 96
@@ -221,7 +223,7 @@ other_name name o e ne =
 pub unbuilt_directive : (bs : List ℕ) → slice_index bs 0 ≡ 96 → is_reserved (name_behind bs) ≡ true
     → (not (bytes_eq (name_behind bs) (codes "define")) || line_continues 0 0 bs) ≡ true
     → is_unbuilt bs ≡ true
-unfolding is_unbuilt is_unbuilt_directive begins_line_comment begins_block_comment
+unfolding is_unbuilt
 unbuilt_directive bs e r h = rw (e, r, h) refl
 
 -- a directive other than `define` isn't built

@@ -17,3 +17,5 @@ pub mod WorkFacts
 pub mod Stepping
 pub mod RunFacts
 pub mod BodyTokens
+pub mod TextMoves
+pub mod Endings

@@ -4,11 +4,12 @@ use Rattle.std.proofs.lemmas.List.{append_assoc, drop_all, length-append, length
 use Rattle.std.proofs.Math.Seq.{take-append_seam}
 use Rattle.std.specs.Option.{IsSome}
 use Rattle.rdlpp_scan.specs.Front.{Break, SourceLong as SourceBreach, LineLong as LineBreach, front}
+use Rattle.rdlpp_scan.specs.SourceTokens.{SourceToken}
 use Rattle.rdlpp_scan.specs.Lines.{whole_lines_len}
 use Rattle.rdlpp_source.specs.declared.sources.Sources.{Ghosts}
 use Rattle.rdlpp_expand.specs.Calls.{SourcesRead}
 use Rattle.rdlpp_expand.specs.Feed.{FeedView, IsFresh, held_of, unread_of, rest_of, tokens_left, unused_of}
-use Rattle.rdlpp_expand.specs.Supply.{Accepts, Finds, ReadsOn, Seeks, Searches, Stops, Supplies, IsTooLong, only_broken, turns_left}
+use Rattle.rdlpp_expand.specs.Supply.{Accepts, Finds, ReadsOn, Seeks, Searches, Stops, Supplies, IsTooLong, TellsTokens, ended_tokens, only_broken, turns_left}
 use Rattle.rdlpp_expand.specs.declared.feed.supply.Supply.{Supply}
 use Rattle.rdlpp_expand.specs.declared.feed.supply.Supply.TheVariants.{Held, End, SourceLong, LineLong, Failed}
 use Rattle.rdlpp_expand.proofs.Fronts.{long-front, line-front}
@@ -18,7 +19,7 @@ use Rattle.rdlpp_expand.proofs.FeedTokens.{accept-tokens, break-tokens, end-toke
 pub search-starts : {S R : Type 0} (g : Ghosts S R) (sources : S) (f : FeedView R) → IsFresh f → Searches g sources sources f f 0
 unfolding whole_lines_len
 search-starts g sources f fresh = record {
-  seeks = record { fresh = fresh; room = refl; line = refl; most = refl; text = λ t. refl };
+  seeks = record { fresh = fresh; room = refl; line = refl; most = refl; mode = refl; opened = refl; text = λ t. refl };
   place = omega arith;
   none = refl;
   call = record { failures = refl; refusals = refl; tells = λ t. t; catalog = refl };
@@ -47,11 +48,15 @@ seeks-on tells told unread old mid new seeks tell reads =
     let room = seeks.room in
     let line = seeks.line in
     let most = seeks.most in
+    let mode = seeks.mode in
+    let opened = seeks.opened in
     record {
       fresh = reads-fresh told unread mid new seeks.fresh reads;
       room = cc;
       line = cc;
       most = cc;
+      mode = cc;
+      opened = cc;
       text = λ t. seeks.text t ∙ reads-text told unread mid new seeks.fresh reads (tell t);
     }
 
@@ -109,6 +114,8 @@ accepts-supplies tells unread old mid new fresh seeks within accepts =
     record {
       line = ap (λ f. f.line) becomes ∙ seeks.line;
       most = ap (λ f. f.most) becomes ∙ seeks.most;
+      mode = ap (λ f. f.mode) becomes ∙ seeks.mode;
+      opened = ap (λ f. f.opened) becomes ∙ seeks.opened;
       bytes = rw (at, accepted, window) (let some = accepts.some in omega (arith, length-take-le accepts.len mid.window accepts.inside));
       unused = omega arith;
       tokens = λ t. accept-tokens unread mid new seeks.fresh within accepts ∙ seeks-tokens tells unread old mid fresh seeks t;
@@ -121,9 +128,11 @@ unfolding unused_of
 end-supplies tells unread old mid new fresh seeks same empty ended = record {
   line = ap (λ f. f.line) same ∙ seeks.line;
   most = ap (λ f. f.most) same ∙ seeks.most;
+  mode = ap (λ f. f.mode) same ∙ seeks.mode;
+  opened = ap (λ f. f.opened) same ∙ seeks.opened;
   bytes = tt;
   unused = rw (same, seeks.fresh.at, seeks.fresh.accepted, fresh.at, fresh.accepted, seeks.room) refl;
-  tokens = λ t. sym (seeks-tokens tells unread old mid fresh seeks t) ∙ end-tokens unread mid seeks.fresh empty ended;
+  tokens = λ t. sym (seeks-tokens tells unread old mid fresh seeks t) ∙ end-tokens unread mid seeks.fresh empty ended ∙ ap (λ m. ended_tokens m mid.opened) seeks.mode ∙ ap (ended_tokens old.mode) seeks.opened;
 }
 
 -- the source is too long
@@ -142,6 +151,8 @@ unfolding unused_of
 long-supplies tells unread old mid new fresh seeks within same long = record {
   line = ap (λ f. f.line) same ∙ seeks.line;
   most = ap (λ f. f.most) same ∙ seeks.most;
+  mode = ap (λ f. f.mode) same ∙ seeks.mode;
+  opened = ap (λ f. f.opened) same ∙ seeks.opened;
   bytes = tt;
   unused = rw (same, seeks.fresh.at, seeks.fresh.accepted, fresh.at, fresh.accepted, seeks.room) refl;
   tokens = λ t. sym (seeks-tokens tells unread old mid fresh seeks t) ∙ (long-tokens unread mid seeks.fresh within long ∙ ap (only_broken SourceBreach) seeks.line);
@@ -180,6 +191,8 @@ stops-supplies tells told unread SourceLong old mid new fresh seeks tell none st
 stops-supplies tells told unread LineLong old mid new fresh seeks tell none stops = record {
   line = ap (λ f. f.line) stops.becomes ∙ seeks.line;
   most = ap (λ f. f.most) stops.becomes ∙ seeks.most;
+  mode = ap (λ f. f.mode) stops.becomes ∙ seeks.mode;
+  opened = ap (λ f. f.opened) stops.becomes ∙ seeks.opened;
   bytes = tt;
   unused = stop-unused tells told unread LineLong old mid new fresh seeks stops;
   tokens = λ t. sym (seeks-tokens tells unread old mid fresh seeks t) ∙ (line-tokens unread mid seeks.fresh none (stops.full refl) (stops.goes_on refl (tell t)) ∙ ap (only_broken LineBreach) seeks.line);
@@ -187,6 +200,8 @@ stops-supplies tells told unread LineLong old mid new fresh seeks tell none stop
 stops-supplies tells told unread Failed old mid new fresh seeks tell none stops = record {
   line = ap (λ f. f.line) stops.becomes ∙ seeks.line;
   most = ap (λ f. f.most) stops.becomes ∙ seeks.most;
+  mode = ap (λ f. f.mode) stops.becomes ∙ seeks.mode;
+  opened = ap (λ f. f.opened) stops.becomes ∙ seeks.opened;
   bytes = tt;
   unused = stop-unused tells told unread Failed old mid new fresh seeks stops;
   tokens = λ t. tt;
@@ -198,6 +213,8 @@ unfolding held_of
 held-supplies tells unread f some inside = record {
   line = refl;
   most = refl;
+  mode = refl;
+  opened = refl;
   bytes = omega (arith, length-drop f.at (take f.accepted f.window), length-take-le f.accepted f.window inside);
   unused = refl;
   tokens = λ t. refl;
@@ -211,6 +228,15 @@ shifted-tokens unread old used =
     let none : drop old.at (take old.accepted old.window) ≡ [] = drop_all old.at (take old.accepted old.window) (omega (arith, length-take old.accepted old.window)) in
     rw (none, used) refl
 
+-- what is told goes by the tokens, the line and the mode
+told_same : {R : Type 0} (supply : Supply) (mid old : FeedView R) (xs ys new : List SourceToken) → xs ≡ ys → mid.line ≡ old.line → mid.mode ≡ old.mode → mid.opened ≡ old.opened →
+    TellsTokens supply mid xs new → TellsTokens supply old ys new
+told_same Held mid old xs ys new same line mode opened h = h ∙ same
+told_same End mid old xs ys new same line mode opened h = sym same ∙ h ∙ ap (λ m. ended_tokens m mid.opened) mode ∙ ap (ended_tokens old.mode) opened
+told_same SourceLong mid old xs ys new same line mode opened h = sym same ∙ h ∙ ap (only_broken SourceBreach) line
+told_same LineLong mid old xs ys new same line mode opened h = sym same ∙ h ∙ ap (only_broken LineBreach) line
+told_same Failed mid old xs ys new same line mode opened h = tt
+
 -- what isn't used was moved to the front
 pub shifted-supplies : {R : Type 0} (tells : Type 0) (unread : R → List ℕ) (supply : Supply) (old mid new : FeedView R) → old.at ≡ old.accepted →
     mid ≡ record old { window = drop old.at old.window; at = 0; accepted = 0 } → Supplies tells unread supply mid new → Supplies tells unread supply old new
@@ -218,10 +244,14 @@ unfolding unused_of
 shifted-supplies tells unread supply old mid new used becomes supplies =
     let tokens : tokens_left unread mid ≡ tokens_left unread old = ap (tokens_left unread) becomes ∙ shifted-tokens unread old used in
     let line : mid.line ≡ old.line = ap (λ f. f.line) becomes in
+    let mode : mid.mode ≡ old.mode = ap (λ f. f.mode) becomes in
+    let opened : mid.opened ≡ old.opened = ap (λ f. f.opened) becomes in
     record {
       line = supplies.line ∙ line;
       most = supplies.most ∙ ap (λ f. f.most) becomes;
+      mode = supplies.mode ∙ mode;
+      opened = supplies.opened ∙ opened;
       bytes = supplies.bytes;
       unused = supplies.unused ∙ rw (becomes, used) (omega arith);
-      tokens = λ t. rw (tokens, line) at (supplies.tokens t);
+      tokens = λ t. told_same supply mid old (tokens_left unread mid) (tokens_left unread old) (tokens_left unread new) tokens line mode opened (supplies.tokens t);
     }

@@ -13,8 +13,9 @@ use Rattle.rdlpp_expand.specs.Calls.{SourcesRead}
 use Rattle.rdlpp_expand.specs.Engine.{EngineView}
 use Rattle.rdlpp_expand.specs.Feed.{FeedView, unused_of, tokens_left}
 use Rattle.rdlpp_expand.specs.Remaining.{left_of, open_left, kept_left, phase_left, rules_of, state_of}
-use Rattle.rdlpp_expand.specs.Steps.{Steps, Takes, Tells, IsBounded, IsStarted, has_failed, is_read_failed, is_write_failed}
-use Rattle.rdlpp_expand.specs.Supply.{Supplies, only_broken}
+use Rattle.rdlpp_expand.specs.Steps.{Steps, StopsOpen, Takes, Tells, IsBounded, IsStarted, has_failed, is_read_failed, is_write_failed}
+use Rattle.rdlpp_scan.specs.declared.token.Mode.TheVariants.{Plain}
+use Rattle.rdlpp_expand.specs.Supply.{Supplies, ended_tokens, only_broken}
 use Rattle.rdlpp_expand.specs.declared.feed.supply.Supply.TheVariants.{Held, End}
 use Rattle.rdlpp_expand.specs.declared.phase.Phase.{Phase}
 use Rattle.rdlpp_expand.specs.declared.phase.Phase.TheVariants.{Fresh, Open, Closed}
@@ -137,11 +138,12 @@ steps_taken g old new sources feed answer free open_ bounded supplies call takes
 
 -- the text has ended
 pub steps_end : {S R : Type 0} (g : Ghosts S R) (old new : EngineView S R) (sources : S) (feed last : FeedView R) →
-    old.kept ≡ None → old.phase ≡ Open → IsBounded new →
+    old.kept ≡ None → old.phase ≡ Open → IsBounded new → feed.mode ≡ Plain →
     Supplies (g.tells old.sources) g.unread End old.feed feed → SourcesRead g false old.sources sources →
     new ≡ record old { phase = Closed; sources = sources; feed = last } → Steps g old new (Ok None)
 unfolding has_failed left_of kept_left phase_left open_left state_of
-steps_end g old new sources feed last free open_ bounded supplies call becomes =
+steps_end g old new sources feed last free open_ bounded mode supplies call becomes =
+    let plain : old.feed.mode ≡ Plain = sym supplies.mode ∙ mode in
     let closed : new.phase ≡ Closed = ap (λ e. e.phase) becomes in
     let still : new.kept ≡ None = ap (λ e. e.kept) becomes ∙ free in
     record {
@@ -155,19 +157,19 @@ steps_end g old new sources feed last free open_ bounded supplies call becomes =
       own = λ none. tt;
       ends = λ e. (still, closed);
       call = rw (free, becomes) call;
-      tells = λ _ t. (rw (free, open_) (move_end g.unread (rules_of old.limits old.origins) old.blanks (state_of old) old.feed (supplies.tokens t)), rw (still, closed) refl);
+      tells = λ _ t. (rw (free, open_) (move_end g.unread (rules_of old.limits old.origins) old.blanks (state_of old) old.feed (supplies.tokens t ∙ ap (λ m. ended_tokens m old.feed.opened) plain)), rw (still, closed) refl);
       falls = λ bytes e. absurd (cc);
       bounded = bounded;
     }
 
 -- a line breaks the text
-pub steps_broken : {S R : Type 0} (g : Ghosts S R) (old new : EngineView S R) (sources : S) (feed : FeedView R) (f : Fault) (breach : Breach) →
+pub steps_broken : {S R : Type 0} (g : Ghosts S R) (old new : EngineView S R) (sources : S) (feed : FeedView R) (f : Fault) (breach : Breach) (line : ℕ) →
     old.kept ≡ None → old.phase ≡ Open → IsBounded new → IsOwn (breach_kind breach) →
-    feed.line ≡ old.feed.line → (g.tells old.sources → tokens_left g.unread old.feed ≡ only_broken breach old.feed.line) → SourcesRead g false old.sources sources →
-    told f ≡ fault_at (breach_kind breach) feed.line [] (state_of (record old { feed = feed; sources = sources })) →
+    (g.tells old.sources → tokens_left g.unread old.feed ≡ only_broken breach line) → SourcesRead g false old.sources sources →
+    told f ≡ fault_at (breach_kind breach) line [] (state_of (record old { feed = feed; sources = sources })) →
     new ≡ record old { feed = feed; sources = sources; kept = Some (told f) } → Steps g old new (Err (told f))
 unfolding has_failed left_of kept_left phase_left open_left state_of start_state fault_at
-steps_broken g old new sources feed f breach free open_ bounded own line tokens call is becomes =
+steps_broken g old new sources feed f breach line free open_ bounded own tokens call is becomes =
     let still : new.phase ≡ Open = ap (λ e. e.phase) becomes ∙ open_ in
     let kind : is_read_failed (told f).kind ≡ false = ap (λ t. is_read_failed t.kind) is ∙ own.0 in
     let write : is_write_failed (told f).kind ≡ false = ap (λ t. is_write_failed t.kind) is ∙ own.1 in
@@ -182,7 +184,7 @@ steps_broken g old new sources feed f breach free open_ bounded own line tokens 
       own = λ none. write;
       ends = λ e. absurd (cc);
       call = rw (free, kind, becomes) call;
-      tells = λ _ t. rw (free, open_) (move_broken g.unread (rules_of old.limits old.origins) old.blanks (state_of old) old.feed breach (tokens t) ∙ ap fails (sym (is ∙ rw line refl)));
+      tells = λ _ t. rw (free, open_) (move_broken g.unread (rules_of old.limits old.origins) old.blanks (state_of old) old.feed breach line (tokens t) ∙ ap fails (sym is));
       falls = λ bytes e. absurd (cc);
       bounded = bounded;
     }
@@ -251,3 +253,26 @@ pub told_becomes : {S R : Type 0} (old mid : EngineView S R) (sources : S) (feed
     mid ≡ record old { feed = feed; sources = sources } → f ≡ fault_at kind line [] (state_of mid) →
     f ≡ fault_at kind line [] (state_of (record old { feed = feed; sources = sources }))
 told_becomes {S} {R} old mid sources feed f kind line a b = b ∙ ap (λ (m : EngineView S R). fault_at kind line [] (state_of m)) a
+
+-- a text that ended in a string or in a comment
+pub steps_open : {S R : Type 0} (g : Ghosts S R) (old mid new : EngineView S R) (sources : S) (feed : FeedView R) (f : Fault) →
+    old.kept ≡ None → old.phase ≡ Open → IsBounded new →
+    Supplies (g.tells old.sources) g.unread End old.feed feed → SourcesRead g false old.sources sources →
+    mid ≡ record old { feed = feed; sources = sources } → StopsOpen mid new (told f) → Steps g old new (Err (told f))
+steps_open g old mid new sources feed f free open_ bounded supplies call a stops =
+    let mode : mid.feed.mode ≡ old.feed.mode = ap (λ e. e.feed.mode) a ∙ supplies.mode in
+    let opened : mid.feed.opened ≡ old.feed.opened = ap (λ e. e.feed.opened) a ∙ supplies.opened in
+    let tokens : ended_tokens old.feed.mode old.feed.opened ≡ only_broken stops.breach mid.feed.opened =
+    ap (λ m. ended_tokens m old.feed.opened) (sym mode) ∙ ap (ended_tokens mid.feed.mode) (sym opened) ∙ stops.tokens in
+    steps_broken g old new sources feed f stops.breach mid.feed.opened free open_ bounded stops.own
+    (λ t. supplies.tokens t ∙ tokens) call
+    (told_becomes old mid sources feed (told f) (breach_kind stops.breach) mid.feed.opened a stops.fault)
+    (kept_becomes old mid new sources feed (told f) a stops.kept)
+
+-- where a fault is told at the line of the next byte
+pub told_here : {S R : Type 0} (old mid : EngineView S R) (sources : S) (feed : FeedView R) (f : Told) (kind : FaultKind) →
+    mid ≡ record old { feed = feed; sources = sources } → feed.line ≡ old.feed.line → f ≡ fault_at kind mid.feed.line [] (state_of mid) →
+    f ≡ fault_at kind old.feed.line [] (state_of (record old { feed = feed; sources = sources }))
+told_here {S} {R} old mid sources feed f kind a line b =
+    told_becomes old mid sources feed f kind mid.feed.line a b
+    ∙ ap (λ (n : ℕ). fault_at kind n [] (state_of (record old { feed = feed; sources = sources }))) (ap (λ (m : EngineView S R). m.feed.line) a ∙ line)

@@ -26,7 +26,9 @@ use Rattle.rdlpp_meaning.specs.Parts.{only_blanks, line_ends_of}
 use Rattle.rdlpp_meaning.specs.Stage.{is_unbuilt_macro}
 use Rattle.rdlpp_meaning.specs.State.{State, fault_at}
 use Rattle.rdlpp_expand.specs.Engine.{EngineView}
-use Rattle.rdlpp_expand.specs.Feed.{FeedView, IsFeed, EndsHeld, held_of, unused_of}
+use Rattle.rdlpp_expand.specs.Feed.{FeedView, IsFeed, EndsHeld, entered, held_of, unused_of}
+use Rattle.rdlpp_scan.specs.declared.token.Mode.{Mode}
+use Rattle.rdlpp_scan.specs.declared.token.Mode.TheVariants.{Plain}
 use Rattle.rdlpp_expand.specs.Front.{passed, IsText, IsUsage, IsDefine, usage_name, IsRefused, AtPerl, AtBare, AtUnbuilt}
 use Rattle.rdlpp_expand.specs.Pieces.{placed_answer, bytes_at}
 use Rattle.rdlpp_expand.specs.Remaining.{left_of, open_left, kept_left, phase_left, rules_of, state_of, defined_by, kind_of_define}
@@ -146,37 +148,63 @@ usage_word held n usage =
     let same : n - 1 ≡ prefix_len is_word (drop 1 held) = omega arith in
     rw same (list_all-prefix is_word (drop 1 held))
 
--- ordinary text is lent
-pub take_text : {S R : Type 0} (g : Ghosts S R) (old new : EngineView S R) (n lines from to : ℕ) →
-    IsReady old → EndsHeld old.feed → old.feed.at ≤ old.feed.accepted → IsText (held_of old.feed) n → lines ≡ line_ends (take n (held_of old.feed)) →
-    new ≡ record old { blanks = only_blanks old.blanks (take n (held_of old.feed)); feed = passed old.feed n lines } →
+-- a source stays a source in each mode
+pub entered_feed : {R : Type 0} (f : FeedView R) (next : Mode) → IsFeed f → IsFeed (entered f next)
+unfolding entered
+entered_feed f next is = record { used = is.used; lines = is.lines; within = is.within; counts = is.counts }
+
+-- what is held still ends at a line end, or where the text ends
+pub entered_ends : {R : Type 0} (f : FeedView R) (next : Mode) → EndsHeld f → EndsHeld (entered f next)
+unfolding entered held_of
+entered_ends f next (inl e) = inl e
+entered_ends f next (inr e) = inr e
+
+-- a mode that is entered, and bytes that are used
+pub entered_passed : {S R : Type 0} (old mid new : EngineView S R) (n lines : ℕ) (next : Mode) →
+    mid ≡ record old { feed = entered old.feed next } →
+    new ≡ record mid { blanks = only_blanks mid.blanks (take n (held_of mid.feed)); feed = passed mid.feed n lines } →
+    new ≡ record old { blanks = only_blanks old.blanks (take n (held_of old.feed)); feed = passed (entered old.feed next) n lines }
+unfolding held_of entered
+entered_passed {S} {R} old mid new n lines next a b =
+    b ∙ ap (λ (m : EngineView S R). record m { blanks = only_blanks m.blanks (take n (held_of m.feed)); feed = passed m.feed n lines }) a
+
+-- fewer bytes aren't used, in each mode
+entered_unused : {R : Type 0} (f : FeedView R) (next : Mode) (len lines : ℕ) → 0 < len → len ≤ length (held_of f) → unused_of (passed (entered f next) len lines) < unused_of f
+unfolding passed unused_of entered
+entered_unused f next len lines some inside = let room = held_room f in omega arith
+
+-- text that is copied is lent
+pub take_text : {S R : Type 0} (g : Ghosts S R) (old new : EngineView S R) (n lines from to : ℕ) (next : Mode) →
+    IsReady old → EndsHeld old.feed → old.feed.at ≤ old.feed.accepted → IsText old.feed.mode (held_of old.feed) n next → lines ≡ line_ends (take n (held_of old.feed)) →
+    new ≡ record old { blanks = only_blanks old.blanks (take n (held_of old.feed)); feed = passed (entered old.feed next) n lines } →
     from ≡ old.feed.at → to ≡ old.feed.at + n → Takes g old new (placed_answer new (Ok (Source from to)))
-unfolding placed_answer bytes_at open_left state_of passed
-take_text g old new n lines from to ready ends used text counted becomes begins stops =
-    let inside = (text_inside (held_of old.feed) n ready.bytes text).1 in
+unfolding open_left state_of passed entered
+take_text g old new n lines from to next ready ends used text counted becomes begins stops =
+    let within = text_inside old.feed.mode (held_of old.feed) n next ready.bytes text in
+    let inside = within.1 in
     let w = take n (held_of old.feed) in
-    let after = record old { blanks = only_blanks old.blanks w; feed = passed old.feed n (line_ends w) } in
+    let after = record old { blanks = only_blanks old.blanks w; feed = passed (entered old.feed next) n (line_ends w) } in
     let part : slice_range after.feed.window from to ≡ w = rw (begins, stops) (held_part old.feed n used inside) in
     rw (becomes, counted, part) (takes_bytes g old after w refl refl refl refl ready.free ready.open_
-    (move_text g.unread (rules_of old.limits old.origins) old.blanks (state_of old) old.feed n ready.bytes (ends_line g.unread old.feed ends) text)
-    (passed_unused old.feed n (line_ends w) (text_inside (held_of old.feed) n ready.bytes text).0 inside))
+    (move_text g.unread (rules_of old.limits old.origins) old.blanks (state_of old) old.feed n next ready.bytes (ends_line g.unread old.feed ends) text)
+    (entered_unused old.feed next n (line_ends w) within.0 inside))
 
 -- a body is lent
 pub take_usage : {S R : Type 0} (g : Ghosts S R) (old new : EngineView S R) (n id : ℕ) →
-    IsReady old → EndsHeld old.feed → IsUsage (held_of old.feed) n →
+    IsReady old → old.feed.mode ≡ Plain → EndsHeld old.feed → IsUsage (held_of old.feed) n →
     macro_named old.table.macros (take (n - 1) (drop 1 (held_of old.feed))) ≡ Some (macro_at old.table.macros id) →
     is_unbuilt_macro (macro_at old.table.macros id) ≡ false → 0 < old.limits.depth →
     new ≡ record old { blanks = only_blanks old.blanks (take n (held_of old.feed)); feed = passed old.feed n 0 } →
     Takes g old new (placed_answer new (Ok (Body id)))
 unfolding placed_answer bytes_at open_left state_of start_state rules_of passed
-take_usage g old new n id ready ends usage named built depth becomes =
+take_usage g old new n id ready mode ends usage named built depth becomes =
     let held = usage_inside (held_of old.feed) n ready.bytes usage in
     let inside = held.1 in
     let some = held.0 in
     let after = record old { blanks = only_blanks old.blanks (take n (held_of old.feed)); feed = passed old.feed n 0 } in
     rw becomes (takes_bytes g old after (macro_at old.table.macros id).body refl refl refl refl ready.free ready.open_
     (move_usage g.unread (rules_of old.limits old.origins) old.blanks (state_of old) old.feed n (macro_at old.table.macros id)
-    ready.bytes (ends_line g.unread old.feed ends) usage named refl built depth)
+    mode ready.bytes (ends_line g.unread old.feed ends) usage named refl built depth)
     (passed_unused old.feed n 0 some inside))
 
 -- the end of a part
@@ -191,13 +219,13 @@ tail_part at n k xs h =
 
 -- a `define` is read, and the LF of its line is lent
 pub take_define : {S R : Type 0} (g : Ghosts S R) (old new : EngineView S R) (n lines from to : ℕ) (table : TableView) →
-    IsReady old → EndsHeld old.feed → old.feed.at ≤ old.feed.accepted → length (held_of old.feed) ≤ old.feed.most → IsDefine (held_of old.feed) n →
+    IsReady old → old.feed.mode ≡ Plain → EndsHeld old.feed → old.feed.at ≤ old.feed.accepted → length (held_of old.feed) ≤ old.feed.most → IsDefine (held_of old.feed) n →
     define_of old.limits.definition_bytes old.limits.definitions old.table.macros (drop 7 (take n (held_of old.feed))) ≡ table_define.Accepted table.macros →
     lines ≡ line_ends (take n (held_of old.feed)) →
     new ≡ record old { blanks = only_blanks old.blanks (take n (held_of old.feed)); feed = passed old.feed n lines; table = table } →
     from ≡ old.feed.at + n - lines → to ≡ old.feed.at + n → Takes g old new (placed_answer new (Ok (Source from to)))
 unfolding placed_answer bytes_at open_left state_of start_state rules_of defined_by passed
-take_define g old new n lines from to table ready ends used fits define defined counted becomes begins stops =
+take_define g old new n lines from to table ready mode ends used fits define defined counted becomes begins stops =
     let held = define_inside (held_of old.feed) n ready.bytes define in
     let w = take n (held_of old.feed) in
     let one : line_ends w ≤ 1 = define_one_line (held_of old.feed) n define in
@@ -210,7 +238,7 @@ take_define g old new n lines from to table ready ends used fits define defined 
     rw (begins, stops, counted) (tail_part old.feed.at n (line_ends w) old.feed.window few ∙ (ap (drop (n - line_ends w)) same ∙ sym (define_line_ends (held_of old.feed) n define))) in
     rw (becomes, counted, part) (takes_bytes g old after (line_ends_of w) refl refl refl refl ready.free ready.open_
     (move_defined g.unread (rules_of old.limits old.origins) old.blanks (state_of old) old.feed n table.macros
-    ready.bytes (ends_line g.unread old.feed ends) fits define (ap defined_by defined))
+    mode ready.bytes (ends_line g.unread old.feed ends) fits define (ap defined_by defined))
     (passed_unused old.feed n (line_ends w) held.0 held.1))
 
 -- the kind of a fault that is told
@@ -227,11 +255,11 @@ take_refused g old new f kind word is becomes own ends =
     takes_fault g old new (told f) becomes (let own_told = fault_kind kind old.feed.line word (state_of old) own in (ap (λ t. is_read_failed t.kind) is ∙ own_told.0, ap (λ t. is_write_failed t.kind) is ∙ own_told.1)) (ends ∙ ap fails (sym is))
 
 -- what isn't built, refused or read isn't a failed read
-pub refused_kind : (held : List ℕ) (kind : FaultKind) → IsRefused held kind → IsOwn kind
+pub refused_kind : (mode : Mode) (held : List ℕ) (kind : FaultKind) → IsRefused mode held kind → IsOwn kind
 unfolding is_read_failed is_write_failed
-refused_kind held kind (AtPerl h) = (refl, refl)
-refused_kind held kind (AtBare h) = (refl, refl)
-refused_kind held kind (AtUnbuilt h) = (refl, refl)
+refused_kind mode held kind (AtPerl h) = (refl, refl)
+refused_kind mode held kind (AtBare plain h) = (refl, refl)
+refused_kind mode held kind (AtUnbuilt plain h) = (refl, refl)
 
 -- nor is a refused definition
 pub define_kind : (kind : DefineKind) → IsOwn (kind_of_define kind)
@@ -258,37 +286,37 @@ unfolding is_read_failed is_write_failed
 unbuilt_kind = (refl, refl)
 
 -- what remains is refused
-pub left_refused : {S R : Type 0} (unread : R → List ℕ) (e : EngineView S R) (kind : FaultKind) → 0 < length (held_of e.feed) → EndsHeld e.feed → IsRefused (held_of e.feed) kind →
+pub left_refused : {S R : Type 0} (unread : R → List ℕ) (e : EngineView S R) (kind : FaultKind) → 0 < length (held_of e.feed) → EndsHeld e.feed → IsRefused e.feed.mode (held_of e.feed) kind →
     open_left unread e ≡ fails (fault_at kind e.feed.line [] (state_of e))
 unfolding open_left
 left_refused unread e kind some ends refused =
     move_refused unread (rules_of e.limits e.origins) e.blanks (state_of e) e.feed kind some (ends_line unread e.feed ends) refused
 
 -- a usage of what isn't defined
-pub left_undefined : {S R : Type 0} (unread : R → List ℕ) (e : EngineView S R) (n : ℕ) → 0 < length (held_of e.feed) → EndsHeld e.feed → IsUsage (held_of e.feed) n →
+pub left_undefined : {S R : Type 0} (unread : R → List ℕ) (e : EngineView S R) (n : ℕ) → e.feed.mode ≡ Plain → 0 < length (held_of e.feed) → EndsHeld e.feed → IsUsage (held_of e.feed) n →
     macro_named e.table.macros (usage_name (held_of e.feed) n) ≡ None →
     open_left unread e ≡ fails (fault_at fault.UndefinedMacro e.feed.line (usage_name (held_of e.feed) n) (state_of e))
 unfolding open_left state_of start_state
-left_undefined unread e n some ends usage none =
-    move_undefined unread (rules_of e.limits e.origins) e.blanks (state_of e) e.feed n some (ends_line unread e.feed ends) usage none
+left_undefined unread e n mode some ends usage none =
+    move_undefined unread (rules_of e.limits e.origins) e.blanks (state_of e) e.feed n mode some (ends_line unread e.feed ends) usage none
 
 -- a usage of what isn't built
-pub left_unbuilt : {S R : Type 0} (unread : R → List ℕ) (e : EngineView S R) (n : ℕ) (m : Macro) → 0 < length (held_of e.feed) → EndsHeld e.feed → IsUsage (held_of e.feed) n →
+pub left_unbuilt : {S R : Type 0} (unread : R → List ℕ) (e : EngineView S R) (n : ℕ) (m : Macro) → e.feed.mode ≡ Plain → 0 < length (held_of e.feed) → EndsHeld e.feed → IsUsage (held_of e.feed) n →
     macro_named e.table.macros (usage_name (held_of e.feed) n) ≡ Some m → is_unbuilt_macro m ≡ true →
     open_left unread e ≡ fails (fault_at fault.Unbuilt e.feed.line [] (state_of e))
 unfolding open_left state_of start_state rules_of
-left_unbuilt unread e n m some ends usage named unbuilt =
-    move_unbuilt unread (rules_of e.limits e.origins) e.blanks (state_of e) e.feed n m some (ends_line unread e.feed ends) usage named unbuilt
+left_unbuilt unread e n m mode some ends usage named unbuilt =
+    move_unbuilt unread (rules_of e.limits e.origins) e.blanks (state_of e) e.feed n m mode some (ends_line unread e.feed ends) usage named unbuilt
 
 -- a `define` that is refused
 pub left_refused_define : {S R : Type 0} (unread : R → List ℕ) (e : EngineView S R) (n : ℕ) (kind : DefineKind) (word : List ℕ) →
-    0 < length (held_of e.feed) → EndsHeld e.feed → length (held_of e.feed) ≤ e.feed.most → IsDefine (held_of e.feed) n →
+    e.feed.mode ≡ Plain → 0 < length (held_of e.feed) → EndsHeld e.feed → length (held_of e.feed) ≤ e.feed.most → IsDefine (held_of e.feed) n →
     define_of e.limits.definition_bytes e.limits.definitions e.table.macros (drop 7 (take n (held_of e.feed))) ≡ table_define.Refused kind word →
     open_left unread e ≡ fails (fault_at (kind_of_define kind) e.feed.line word (state_of e))
 unfolding open_left state_of start_state rules_of defined_by
-left_refused_define unread e n kind word some ends fits define refused =
+left_refused_define unread e n kind word mode some ends fits define refused =
     move_refused_define unread (rules_of e.limits e.origins) e.blanks (state_of e) e.feed n (kind_of_define kind) word
-    some (ends_line unread e.feed ends) fits define (ap defined_by refused)
+    mode some (ends_line unread e.feed ends) fits define (ap defined_by refused)
 
 -- a fault's word is cut once
 pub cut_once : (kind : FaultKind) (line : ℕ) (word : List ℕ) (s : State) → fault_at kind line (take 128 word) s ≡ fault_at kind line word s

@@ -1,14 +1,16 @@
 -- What is held of an open source, and what remains of it.
 -- A definition that names no source is this project's own.
 use Rattle.std.specs.Prelude.{◌≡◌, ℕ, ◌+◌, ◌-◌, ◌^◌, ◌≤◌, List, [], ◌++◌, length, take, drop, Option, None, Some, ◌⊎◌}
+use Rattle.rdlpp_scan.specs.declared.token.Mode.{Mode}
 use Rattle.rdlpp_scan.specs.declared.token.Mode.TheVariants.{Plain}
+use Rattle.rdlpp_scan.specs.Resumed.{opening}
 use Rattle.rdlpp_scan.specs.SourceTokens.{SourceToken, remaining_tokens}
 use Rattle.rdlpp_scan.specs.Stage.{is_unbuilt}
 use Rattle.rdlpp_scan.specs.Lines.{whole_lines_len}
 
 -- an open source: the part of its text that is held, how much of that is used, where in it the lines end that the limits
 -- accept, what reads on where the text hasn't ended, the bytes that may still be accepted, the physical line that comes next,
--- and the most bytes of a line
+-- the most bytes of a line, whether the next byte stands in a string or in a block comment, and on which line that opened
 pub record FeedView (R : Type 0) : Type 0 where
   pub window : List ℕ
   pub at : ℕ
@@ -17,6 +19,8 @@ pub record FeedView (R : Type 0) : Type 0 where
   pub room : ℕ
   pub line : ℕ
   pub most : ℕ
+  pub mode : Mode
+  pub opened : ℕ
 
 -- the held bytes that aren't used, of accepted lines
 unfoldable pub held_of : {R : Type 0} → FeedView R → List ℕ
@@ -34,7 +38,7 @@ rest_of unread f = drop f.accepted f.window ++ unread_of unread f.reader
 -- the tokens that remain of the source
 unfoldable pub tokens_left : {R : Type 0} → (R → List ℕ) → FeedView R → List SourceToken
 tokens_left unread f =
-    remaining_tokens is_unbuilt f.most Plain f.line f.line (held_of f) f.room (rest_of unread f)
+    remaining_tokens is_unbuilt f.most f.mode f.opened f.line (held_of f) f.room (rest_of unread f)
 
 -- the bytes that the source may still give and that aren't used
 unfoldable pub unused_of : {R : Type 0} → FeedView R → ℕ
@@ -50,12 +54,16 @@ pub record IsFeed {R : Type 0} (f : FeedView R) : Type 0 where
 -- a source that isn't open
 unfoldable pub closed_feed : {R : Type 0} → ℕ → ℕ → FeedView R
 closed_feed line most =
-    record { window = []; at = 0; accepted = 0; reader = None; room = 0; line = line; most = most }
+    record { window = []; at = 0; accepted = 0; reader = None; room = 0; line = line; most = most; mode = Plain; opened = 0 }
 
 -- a source that was opened: nothing of it is read yet
 unfoldable pub opened_feed : {R : Type 0} → R → ℕ → ℕ → FeedView R
 opened_feed reader room most =
-    record { window = []; at = 0; accepted = 0; reader = Some reader; room = room; line = 1; most = most }
+    record { window = []; at = 0; accepted = 0; reader = Some reader; room = room; line = 1; most = most; mode = Plain; opened = 1 }
+
+-- an open source whose next byte stands in a mode
+unfoldable pub entered : {R : Type 0} → FeedView R → Mode → FeedView R
+entered f next = record f { mode = next; opened = opening f.mode f.opened f.line }
 
 -- nothing of what is held is used or accepted
 pub record IsFresh {R : Type 0} (f : FeedView R) : Type 0 where

@@ -1,8 +1,10 @@
 -- What the held bytes of a source begin with.
 -- A definition that names no source is this project's own.
-use Rattle.std.specs.Prelude.{◌≡◌, ℕ, ◌+◌, ◌-◌, ◌<◌, true, false, List, take, drop, bytes_eq, codes}
+use Rattle.std.specs.Prelude.{◌≡◌, ℕ, ◌+◌, ◌-◌, ◌<◌, Bool, true, false, List, take, drop, bytes_eq, codes}
+use Rattle.rdlpp_scan.specs.declared.token.Mode.{Mode}
 use Rattle.rdlpp_scan.specs.declared.token.Mode.TheVariants.{Plain}
-use Rattle.rdlpp_scan.specs.declared.token.Kind.TheVariants.{Back, BareBackquote, LineComment, Perl}
+use Rattle.rdlpp_scan.specs.declared.token.Kind.{Kind}
+use Rattle.rdlpp_scan.specs.declared.token.Kind.TheVariants.{Back, BareBackquote, BlockComment, LineComment, Perl, Str}
 use Rattle.rdlpp_scan.specs.Tokens.{token_of, plain_len}
 use Rattle.rdlpp_scan.specs.SourceTokens.{line_len}
 use Rattle.rdlpp_scan.specs.Lines.{line_continues}
@@ -13,10 +15,17 @@ use Rattle.rdlpp_expand.specs.Feed.{FeedView}
 use Rattle.rdlpp_expand.specs.declared.front.Front.{Front}
 use Rattle.rdlpp_expand.specs.declared.front.Front.TheVariants.{Text, Usage, Define, Refused}
 
--- text that is copied: ordinary text, or a `//` comment
-pub data IsText (held : List ℕ) (len : ℕ) : Type 0 where
-  AtOrdinary : 0 < len → len ≡ plain_len held → IsText held len
-  AtRemark : (token_of Plain held).kind ≡ LineComment → len ≡ (token_of Plain held).len → IsText held len
+-- a kind of tokens that are copied, and may be copied in parts: strings and comments
+unfoldable pub is_text_kind : Kind → Bool
+is_text_kind Str = true
+is_text_kind LineComment = true
+is_text_kind BlockComment = true
+is_text_kind _ = false
+
+-- text that is copied, and the mode behind it: ordinary text, or a string or a comment, or the part of one that is held
+pub data IsText (mode : Mode) (held : List ℕ) (len : ℕ) (next : Mode) : Type 0 where
+  AtOrdinary : mode ≡ Plain → next ≡ Plain → 0 < len → len ≡ plain_len held → IsText mode held len next
+  AtToken : is_text_kind (token_of mode held).kind ≡ true → next ≡ (token_of mode held).next_mode → len ≡ (token_of mode held).len → IsText mode held len next
 
 -- a backquote and a name that isn't reserved
 pub record IsUsage (held : List ℕ) (len : ℕ) : Type 0 where
@@ -32,17 +41,17 @@ pub record IsDefine (held : List ℕ) (len : ℕ) : Type 0 where
   pub whole : len ≡ line_len held
 
 -- what ends the output
-pub data IsRefused (held : List ℕ) : FaultKind → Type 0 where
-  AtPerl : (token_of Plain held).kind ≡ Perl → IsRefused held fault.EmbeddedPerl
-  AtBare : (token_of Plain held).kind ≡ BareBackquote → IsRefused held fault.BareBackquote
-  AtUnbuilt : is_unbuilt held ≡ true → IsRefused held fault.Unbuilt
+pub data IsRefused (mode : Mode) (held : List ℕ) : FaultKind → Type 0 where
+  AtPerl : (token_of mode held).kind ≡ Perl → IsRefused mode held fault.EmbeddedPerl
+  AtBare : mode ≡ Plain → (token_of Plain held).kind ≡ BareBackquote → IsRefused mode held fault.BareBackquote
+  AtUnbuilt : mode ≡ Plain → is_unbuilt held ≡ true → IsRefused mode held fault.Unbuilt
 
--- what held bytes begin with
-abbrev pub IsFront : List ℕ → Front → Type 0
-IsFront held (Text len) = IsText held len
-IsFront held (Usage len) = IsUsage held len
-IsFront held (Define len) = IsDefine held len
-IsFront held (Refused kind) = IsRefused held kind
+-- what held bytes begin with, in a mode
+abbrev pub IsFront : Mode → List ℕ → Front → Type 0
+IsFront mode held (Text len next) = IsText mode held len next
+IsFront mode held (Usage len) = (mode ≡ Plain) × IsUsage held len
+IsFront mode held (Define len) = (mode ≡ Plain) × IsDefine held len
+IsFront mode held (Refused kind) = IsRefused mode held kind
 
 -- an open source of which so many more bytes are used, with so many line ends
 unfoldable pub passed : {R : Type 0} → FeedView R → ℕ → ℕ → FeedView R

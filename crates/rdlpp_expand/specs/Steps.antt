@@ -4,12 +4,19 @@ use Rattle.std.specs.Prelude.{◌≡◌, ℕ, ◌≤◌, ◌<◌, Bool, true, fa
 use Rattle.rdlpp_source.specs.declared.sources.Sources.{Ghosts}
 use Rattle.rdlpp_meaning.specs.declared.fault.FaultKind.{FaultKind}
 use Rattle.rdlpp_meaning.specs.declared.fault.FaultKind.TheVariants.{ReadFailed, WriteFailed, EmbeddedPerl}
-use Rattle.rdlpp_meaning.specs.Outcome.{Told, Outcome, gives, fails, and_then}
+use Rattle.rdlpp_scan.specs.Front.{Breach}
+use Rattle.rdlpp_scan.specs.declared.token.Mode.TheVariants.{Plain}
+use Rattle.rdlpp_meaning.specs.declared.fault.Fault.{Fault}
+use Rattle.rdlpp_meaning.specs.State.{breach_kind, fault_at}
+use Rattle.rdlpp_meaning.specs.Outcome.{Told, told, Outcome, gives, fails, and_then}
 use Rattle.rdlpp_expand.specs.Calls.{SourcesRead}
 use Rattle.rdlpp_expand.specs.Engine.{EngineView}
 use Rattle.rdlpp_expand.specs.Held.{stores_of, held_bytes, bound_of}
-use Rattle.rdlpp_expand.specs.Feed.{held_of, unused_of}
-use Rattle.rdlpp_expand.specs.Remaining.{left_of, open_left, work_left}
+use Rattle.rdlpp_expand.specs.Feed.{closed_feed, held_of, unused_of}
+use Rattle.rdlpp_expand.specs.Supply.{ended_tokens, only_broken}
+use Rattle.rdlpp_expand.specs.declared.place.Place.{Place}
+use Rattle.rdlpp_expand.specs.declared.place.Place.TheVariants.{End}
+use Rattle.rdlpp_expand.specs.Remaining.{left_of, open_left, state_of, work_left}
 use Rattle.rdlpp_expand.specs.declared.phase.Phase.TheVariants.{Fresh, Open, Closed}
 
 -- whether a kind is that of a read that failed
@@ -60,6 +67,19 @@ pub record IsReady {S R : Type 0} (e : EngineView S R) : Type 0 where
   pub open_ : e.phase ≡ Open
   pub free : e.kept ≡ None
   pub bytes : 0 < length (held_of e.feed)
+
+-- an engine whose source ended in a string or in a block comment: its fault, at the line where that opened
+pub record StopsOpen {S R : Type 0} (old new : EngineView S R) (f : Told) : Type 0 where
+  pub breach : Breach
+  pub tokens : ended_tokens old.feed.mode old.feed.opened ≡ only_broken breach old.feed.opened
+  pub own : (is_read_failed (breach_kind breach) ≡ false) × (is_write_failed (breach_kind breach) ≡ false)
+  pub fault : f ≡ fault_at (breach_kind breach) old.feed.opened [] (state_of old)
+  pub kept : new ≡ record old { kept = Some f }
+
+-- what the end of the open source comes to
+abbrev pub Ends : {S R : Type 0} → EngineView S R → EngineView S R → Result Place Fault → Type 0
+Ends old new (Ok place) = (place ≡ End) × (old.feed.mode ≡ Plain) × (new ≡ record old { phase = Closed; feed = closed_feed old.feed.line old.feed.most })
+Ends old new (Err fault) = StopsOpen old new (told fault)
 
 -- a step: a kept fault is answered again and changes nothing, and so is the end; a fault is kept, one of a write that failed
 -- comes only so, and bytes leave none kept; the shown name; the counts of failures; the output that remained is what was lent and then the output that remains; the work left falls; the bound holds

@@ -1,7 +1,9 @@
 -- What is found before the next byte of a source: whole lines that its limits accept, the end, a line that breaks it, or a failed read.
 -- A definition that names no source is this project's own.
 use Rattle.std.specs.Prelude.{◌≡◌, ℕ, ◌+◌, ◌-◌, ◌≤◌, ◌<◌, Bool, true, false, List, [], ◌∷◌, ◌++◌, length, take, Option, None, Some, ⊤, ◌⊎◌, min}
-use Rattle.rdlpp_scan.specs.Front.{Breach, SourceLong as SourceBreach, LineLong as LineBreach}
+use Rattle.rdlpp_scan.specs.declared.token.Mode.{Mode}
+use Rattle.rdlpp_scan.specs.declared.token.Mode.TheVariants.{Plain, InStr, InBlock}
+use Rattle.rdlpp_scan.specs.Front.{Breach, StringOpen, CommentOpen, SourceLong as SourceBreach, LineLong as LineBreach}
 use Rattle.rdlpp_scan.specs.SourceTokens.{SourceToken, Broken}
 use Rattle.rdlpp_scan.specs.Lines.{whole_lines_len}
 use Rattle.rdlpp_source.specs.declared.sources.Sources.{Ghosts}
@@ -45,13 +47,19 @@ is_failed Failed = true
 abbrev pub only_broken : Breach → ℕ → List SourceToken
 only_broken breach line = record { sort = Broken breach; bytes = []; line = line } ∷ []
 
+-- what remains where a text has ended: nothing, or a string or a block comment that isn't closed
+abbrev pub ended_tokens : Mode → ℕ → List SourceToken
+ended_tokens Plain opened = []
+ended_tokens InStr opened = only_broken StringOpen opened
+ended_tokens InBlock opened = only_broken CommentOpen opened
+
 -- what the answer says of the tokens that remained, and of those that remain now
-abbrev pub TellsTokens : Supply → ℕ → List SourceToken → List SourceToken → Type 0
-TellsTokens Held line old new = new ≡ old
-TellsTokens End line old new = old ≡ []
-TellsTokens SourceLong line old new = old ≡ only_broken SourceBreach line
-TellsTokens LineLong line old new = old ≡ only_broken LineBreach line
-TellsTokens Failed line old new = ⊤
+abbrev pub TellsTokens : {R : Type 0} → Supply → FeedView R → List SourceToken → List SourceToken → Type 0
+TellsTokens Held f old new = new ≡ old
+TellsTokens End f old new = old ≡ ended_tokens f.mode f.opened
+TellsTokens SourceLong f old new = old ≡ only_broken SourceBreach f.line
+TellsTokens LineLong f old new = old ≡ only_broken LineBreach f.line
+TellsTokens Failed f old new = ⊤
 
 -- bytes are held, where the answer says so
 abbrev pub HasBytes : {R : Type 0} → Supply → FeedView R → Type 0
@@ -93,6 +101,8 @@ pub record Seeks {R : Type 0} (tells : Type 0) (unread : R → List ℕ) (old ne
   pub room : new.room ≡ old.room
   pub line : new.line ≡ old.line
   pub most : new.most ≡ old.most
+  pub mode : new.mode ≡ old.mode
+  pub opened : new.opened ≡ old.opened
   pub text : tells → rest_of unread old ≡ rest_of unread new
 
 -- how many turns of reading may still come
@@ -103,9 +113,11 @@ turns_left f = (f.most - length f.window) + elim f.reader [ None ↦ 0 | Some re
 pub record Supplies {R : Type 0} (tells : Type 0) (unread : R → List ℕ) (supply : Supply) (old new : FeedView R) : Type 0 where
   pub line : new.line ≡ old.line
   pub most : new.most ≡ old.most
+  pub mode : new.mode ≡ old.mode
+  pub opened : new.opened ≡ old.opened
   pub bytes : HasBytes supply new
   pub unused : unused_of new ≡ unused_of old
-  pub tokens : tells → TellsTokens supply old.line (tokens_left unread old) (tokens_left unread new)
+  pub tokens : tells → TellsTokens supply old (tokens_left unread old) (tokens_left unread new)
 
 -- what the turns of reading have done so far: the text that remains is the same, and the first `seen` bytes have no line end
 pub record Searches {S R : Type 0} (g : Ghosts S R) (sources new_sources : S) (old new : FeedView R) (seen : ℕ) : Type 0 where

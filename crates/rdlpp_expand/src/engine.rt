@@ -9,8 +9,8 @@ ghost use Rattle.rdlpp_expand.specs.Held.{held_told};
 ghost use Rattle.rdlpp_expand.specs.Pieces.{IsPlaced, Lends, answer_of, bytes_at, lent_answer, piece_bytes, placed_answer};
 ghost use Rattle.rdlpp_expand.specs.Remaining.{state_of};
 ghost use Rattle.rdlpp_expand.specs.Run.{write_fault};
-ghost use Rattle.rdlpp_expand.specs.Steps.{IsBounded, IsReady, IsStarted, Steps, Takes};
-ghost use Rattle.rdlpp_expand.specs.Feed.{EndsHeld, closed_feed, held_of};
+ghost use Rattle.rdlpp_expand.specs.Steps.{Ends, IsBounded, IsReady, IsStarted, Steps, Takes};
+ghost use Rattle.rdlpp_expand.specs.Feed.{EndsHeld, closed_feed, entered, held_of};
 ghost use Rattle.rdlpp_expand.specs.Calls.{SourcesRead};
 ghost use Rattle.rdlpp_expand.specs.Supply.{Supplies, is_failed};
 ghost use Rattle.rdlpp_expand.specs.Front.{IsDefine, IsText, IsUsage, passed, usage_name};
@@ -33,7 +33,7 @@ use crate::place::{Piece, Place};
 use crate::texts::{copied, copied_fault, word_of};
 use arrayvec::ArrayString;
 use rdlpp_meaning::{Fault, FaultKind};
-use rdlpp_scan::line_ends_in;
+use rdlpp_scan::{Mode, line_ends_in};
 use rdlpp_source::Sources;
 use rdlpp_table::{LimitFault, Limits, MacroId, Table};
 use std::alloc::Global;
@@ -143,21 +143,30 @@ impl<S: Sources> Engine<S> {
         }
     }
 
-    // Keeps a fault at the line of the next byte.
+    // Keeps a fault at a line.
     #[tactic(auto, unfolding(rdlpp_meaning::specs::Outcome::told, rdlpp_meaning::specs::State::fault_at, rdlpp_meaning::specs::State::shown_line, rdlpp_meaning::specs::State::no_shift, rdlpp_meaning::specs::Output::start_state, crate::specs::Remaining::state_of))]
-    fn refuse(&mut self, kind: FaultKind, word: ArrayString<128>) -> Fault
-        ensures fault { told result ≡ fault_at kind self.old.feed.line word.bytes (state_of self.old) }
+    fn refuse_at(&mut self, kind: FaultKind, line: u64, word: ArrayString<128>) -> Fault
+        ensures fault { told result ≡ fault_at kind line word.bytes (state_of self.old) }
         ensures kept { self.new ≡ record self.old { kept = Some (told result) } }
     {
         let _len = word.len();
         let fault = Fault {
             kind,
             name: copied(&self.path),
-            line: self.feed.line(),
+            line,
             word,
         };
         self.kept = Some(copied_fault(&fault));
         fault
+    }
+
+    // Keeps a fault at the line of the next byte.
+    fn refuse(&mut self, kind: FaultKind, word: ArrayString<128>) -> Fault
+        ensures fault { told result ≡ fault_at kind self.old.feed.line word.bytes (state_of self.old) }
+        ensures kept { self.new ≡ record self.old { kept = Some (told result) } }
+    {
+        let line = self.feed.line();
+        self.refuse_at(kind, line, word)
     }
 
     // Keeps that a write failed, which is told at line 0 under the shown name.
@@ -190,14 +199,22 @@ impl<S: Sources> Engine<S> {
         self.feed.pass(len, lines) + len
     }
 
-    // Lends ordinary text of `len` bytes.
-    fn pass_text(&mut self, len: usize) -> Place
+    // Changes whether the next byte stands in a string or in a comment.
+    fn enter(&mut self, next: Mode)
+        ensures { self.new ≡ record self.old { feed = entered self.old.feed next } }
+    {
+        self.feed.enter(next);
+    }
+
+    // Lends `len` bytes of text that are copied, behind which the text stands in a mode.
+    fn pass_text(&mut self, len: usize, next: Mode) -> Place
         requires ready { IsReady self.old }
-        requires text { IsText (held_of self.old.feed) len }
+        requires text { IsText self.old.feed.mode (held_of self.old.feed) len next }
         ensures place { IsPlaced self.new result }
         ensures takes { Takes S.Sources self.old self.new (placed_answer self.new (Ok result)) }
     {
         let lines = line_ends_in(&self.feed.held()[..len]);
+        self.enter(next);
         let end = self.pass(len, lines);
         Place::Source(end - len, end)
     }
@@ -205,6 +222,7 @@ impl<S: Sources> Engine<S> {
     // Lends the body of a macro, whose usage has `len` bytes.
     fn lend_body(&mut self, len: usize, id: MacroId) -> Result<Place, Fault>
         requires ready { IsReady self.old }
+        requires mode { self.old.feed.mode ≡ Mode.Plain }
         requires usage { IsUsage (held_of self.old.feed) len }
         requires inside { id < length self.old.table.macros }
         requires named { macro_named self.old.table.macros (usage_name (held_of self.old.feed) len) ≡ Some (macro_at self.old.table.macros id) }
@@ -221,6 +239,7 @@ impl<S: Sources> Engine<S> {
     // Expands the usage of `len` bytes with which the held bytes begin.
     fn expand(&mut self, len: usize) -> Result<Place, Fault>
         requires ready { IsReady self.old }
+        requires mode { self.old.feed.mode ≡ Mode.Plain }
         requires usage { IsUsage (held_of self.old.feed) len }
         ensures place { IfOk result (IsPlaced self.new) }
         ensures takes { Takes S.Sources self.old self.new (placed_answer self.new result) }
@@ -238,6 +257,7 @@ impl<S: Sources> Engine<S> {
     // Reads the `define` whose line has `len` bytes, and lends the LF of that line.
     fn define_line(&mut self, len: usize) -> Result<Place, Fault>
         requires ready { IsReady self.old }
+        requires mode { self.old.feed.mode ≡ Mode.Plain }
         requires define { IsDefine (held_of self.old.feed) len }
         ensures place { IfOk result (IsPlaced self.new) }
         ensures takes { Takes S.Sources self.old self.new (placed_answer self.new result) }
@@ -260,8 +280,8 @@ impl<S: Sources> Engine<S> {
         ensures place { IfOk result (IsPlaced self.new) }
         ensures takes { Takes S.Sources self.old self.new (placed_answer self.new result) }
     {
-        match front_of(self.feed.held()) {
-            Front::Text(len) => Ok(self.pass_text(len)),
+        match front_of(self.feed.mode(), self.feed.held()) {
+            Front::Text(len, next) => Ok(self.pass_text(len, next)),
             Front::Usage(len) => self.expand(len),
             Front::Define(len) => self.define_line(len),
             Front::Refused(kind) => Err(self.refuse(kind, ArrayString::new())),
@@ -281,6 +301,25 @@ impl<S: Sources> Engine<S> {
     {
         self.phase = Phase::Closed;
         self.feed.close();
+    }
+
+    // Ends the source, which has no more bytes; a string or a comment that is open is a fault.
+    fn end(&mut self) -> Result<Place, Fault>
+        ensures { Ends self.old self.new result }
+    {
+        let opened = self.feed.opened();
+        match self.feed.mode() {
+            Mode::Plain => {
+                self.close();
+                Ok(Place::End)
+            }
+            Mode::InStr => {
+                Err(self.refuse_at(FaultKind::OpenString, opened, ArrayString::new()))
+            }
+            Mode::InBlock => {
+                Err(self.refuse_at(FaultKind::OpenComment, opened, ArrayString::new()))
+            }
+        }
     }
 
     // Sees to it that bytes of the open source are held, or tells why there are none.
@@ -303,10 +342,7 @@ impl<S: Sources> Engine<S> {
     {
         match self.provide() {
             Supply::Held => self.take(),
-            Supply::End => {
-                self.close();
-                Ok(Place::End)
-            }
+            Supply::End => self.end(),
             Supply::SourceLong => Err(self.refuse(FaultKind::SourceTooLong, ArrayString::new())),
             Supply::LineLong => Err(self.refuse(FaultKind::LineTooLong, ArrayString::new())),
             Supply::Failed => Err(self.refuse(FaultKind::ReadFailed, ArrayString::new())),

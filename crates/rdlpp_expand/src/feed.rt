@@ -1,9 +1,10 @@
 // One open source: the part of its text that is held, by lines.
 ghost use Rattle.std.specs.Prelude.{◌≡◌, ℕ, ◌+◌, ◌-◌, ◌^◌, ◌≤◌, ◌<◌, [], length, take, drop, slice_range, Option, None, vec_len};
-ghost use Rattle.rdlpp_expand.specs.Feed.{IsFeed, held_of};
+ghost use Rattle.rdlpp_expand.specs.Feed.{IsFeed, entered, held_of};
 
 mod supply;
 
+use rdlpp_scan::Mode;
 use std::marker::Model;
 pub(crate) use supply::{Supply, provide};
 
@@ -18,6 +19,9 @@ pub(crate) struct Feed<R> {
     reader: Option<R>,
     room: usize,
     line: u64,
+    // whether the next byte stands in a string or in a block comment, and the line on which that opened
+    mode: Mode,
+    opened: u64,
 }
 
 impl<R> Model for Feed<R> {
@@ -34,6 +38,8 @@ impl<R> Model for Feed<R> {
       room = f.room;
       line = f.line;
       most = vec_len f.buffer;
+      mode = f.mode;
+      opened = f.opened;
     } };
 
     ghost invariant = { λ f. (f.at ≤ f.accepted) × (f.accepted ≤ f.filled) × (f.filled ≤ vec_len f.buffer)
@@ -43,7 +49,7 @@ impl<R> Model for Feed<R> {
 impl<R: Drop> Feed<R> {
     /// A source that isn't open, with room for lines of as many bytes as `buffer` has.
     pub(crate) fn new(buffer: Vec<u8>) -> Self
-        ensures { result ≡ record { window = []; at = 0; accepted = 0; reader = None; room = 0; line = 0; most = vec_len buffer } }
+        ensures { result ≡ record { window = []; at = 0; accepted = 0; reader = None; room = 0; line = 0; most = vec_len buffer; mode = Mode.Plain; opened = 0 } }
     {
         Feed {
             buffer,
@@ -53,13 +59,15 @@ impl<R: Drop> Feed<R> {
             reader: None,
             room: 0,
             line: 0,
+            mode: Mode::Plain,
+            opened: 0,
         }
     }
 
     /// Opens a source of at most `room` bytes, at its first line.
     pub(crate) fn open(&mut self, reader: R, room: usize)
         requires { room < 2 ^ 31 }
-        ensures { self.new ≡ record { window = []; at = 0; accepted = 0; reader = Option.Some reader; room = room; line = 1; most = self.old.most } }
+        ensures { self.new ≡ record { window = []; at = 0; accepted = 0; reader = Option.Some reader; room = room; line = 1; most = self.old.most; mode = Mode.Plain; opened = 1 } }
     {
         self.at = 0;
         self.accepted = 0;
@@ -67,17 +75,21 @@ impl<R: Drop> Feed<R> {
         self.reader = Some(reader);
         self.room = room;
         self.line = 1;
+        self.mode = Mode::Plain;
+        self.opened = 1;
     }
 
     /// Closes the source.
     pub(crate) fn close(&mut self)
-        ensures { self.new ≡ record { window = []; at = 0; accepted = 0; reader = None; room = 0; line = self.old.line; most = self.old.most } }
+        ensures { self.new ≡ record { window = []; at = 0; accepted = 0; reader = None; room = 0; line = self.old.line; most = self.old.most; mode = Mode.Plain; opened = 0 } }
     {
         self.at = 0;
         self.accepted = 0;
         self.filled = 0;
         self.reader = None;
         self.room = 0;
+        self.mode = Mode::Plain;
+        self.opened = 0;
     }
 
     /// The physical line of the next byte.
@@ -85,6 +97,31 @@ impl<R: Drop> Feed<R> {
         ensures { result ≡ self.now.line }
     {
         self.line
+    }
+
+    /// Whether the next byte stands in a string or in a block comment.
+    pub(crate) fn mode(&self) -> Mode
+        ensures { result ≡ self.now.mode }
+    {
+        self.mode
+    }
+
+    /// The physical line on which the string or the comment opened in which the next byte stands.
+    pub(crate) fn opened(&self) -> u64
+        ensures { result ≡ self.now.opened }
+    {
+        self.opened
+    }
+
+    /// Changes whether the next byte stands in a string or in a comment, at a token on its line.
+    #[tactic(auto, unfolding(crate::specs::Feed::entered, rdlpp_scan::specs::Resumed::opening))]
+    pub(crate) fn enter(&mut self, next: Mode)
+        ensures { self.new ≡ entered self.old next }
+    {
+        if self.mode == Mode::Plain {
+            self.opened = self.line;
+        }
+        self.mode = next;
     }
 
     /// The bytes of accepted lines that aren't used.

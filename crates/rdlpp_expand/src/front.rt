@@ -16,8 +16,9 @@ use rdlpp_scan::{
 /// What the held bytes of a source begin with.
 #[derive(Clone, Copy)]
 pub(crate) enum Front {
-    /// So many bytes of ordinary text, or a `//` comment of so many bytes.
-    Text(usize),
+    /// So many bytes that are copied, and the mode behind them: ordinary text, or a string or a
+    /// comment, or the part of one that is held.
+    Text(usize, Mode),
     /// A backquote and a name that isn't reserved, of so many bytes together.
     Usage(usize),
     /// A `define` whose line, which isn't continued, has so many bytes.
@@ -26,33 +27,42 @@ pub(crate) enum Front {
     Refused(FaultKind),
 }
 
-/// What held bytes begin with.
-pub(crate) fn front_of(held: &[u8]) -> Front
+/// What held bytes begin with, which stand in a mode.
+pub(crate) fn front_of(mode: Mode, held: &[u8]) -> Front
     requires { 0 < length held.now }
-    ensures { IsFront held.now result }
+    ensures { IsFront mode held.now result }
 {
-    let len = plain_text_len(held);
-    if len > 0 {
-        return Front::Text(len);
-    }
-    match held[0] {
-        b'`' => backquoted(held),
-        b'<' => Front::Refused(FaultKind::EmbeddedPerl),
-        _ => remarked(held),
+    match mode {
+        Mode::Plain => plain_front(held),
+        _ => token_front(mode, held),
     }
 }
 
-// What held bytes begin with that begin with a comment or a string.
-fn remarked(held: &[u8]) -> Front
-    requires some { 0 < length held.now }
-    requires stops { stops_plain_text held.now ≡ true }
-    requires other { (slice_index held.now 0 ≢ 96) × (slice_index held.now 0 ≢ 60) }
-    ensures { IsFront held.now result }
+// What held bytes in plain text begin with.
+fn plain_front(held: &[u8]) -> Front
+    requires { 0 < length held.now }
+    ensures { IsFront Plain held.now result }
 {
-    let token = first_token(Mode::Plain, held);
+    let len = plain_text_len(held);
+    if len > 0 {
+        return Front::Text(len, Mode::Plain);
+    }
+    match held[0] {
+        b'`' => backquoted(held),
+        _ => token_front(Mode::Plain, held),
+    }
+}
+
+// What held bytes begin with that begin with a string, a comment or `<%`.
+fn token_front(mode: Mode, held: &[u8]) -> Front
+    requires some { 0 < length held.now }
+    requires stops { mode ≡ Plain → (stops_plain_text held.now ≡ true) × (slice_index held.now 0 ≢ 96) }
+    ensures { IsFront mode held.now result }
+{
+    let token = first_token(mode, held);
     match token.kind {
-        Kind::LineComment => Front::Text(token.len),
-        _ => Front::Refused(FaultKind::Unbuilt),
+        Kind::Perl => Front::Refused(FaultKind::EmbeddedPerl),
+        _ => Front::Text(token.len, token.next_mode),
     }
 }
 
@@ -60,7 +70,7 @@ fn remarked(held: &[u8]) -> Front
 fn backquoted(held: &[u8]) -> Front
     requires some { 0 < length held.now }
     requires backquote { slice_index held.now 0 ≡ 96 }
-    ensures { IsFront held.now result }
+    ensures { IsFront Plain held.now result }
 {
     let token = first_token(Mode::Plain, held);
     match token.kind {
@@ -76,7 +86,7 @@ fn named(held: &[u8], len: usize) -> Front
     requires backquote { slice_index held.now 0 ≡ 96 }
     requires kind { (token_of Plain held.now).kind ≡ Back }
     requires whole { len ≡ (token_of Plain held.now).len }
-    ensures { IsFront held.now result }
+    ensures { IsFront Plain held.now result }
 {
     match reserved(&held[1..len]) {
         None => Front::Usage(len),
@@ -89,7 +99,7 @@ fn commanded(held: &[u8], directive: Directive) -> Front
     requires backquote { slice_index held.now 0 ≡ 96 }
     requires kind { (token_of Plain held.now).kind ≡ Back }
     requires word { directive_named (name_behind held.now) ≡ Some directive }
-    ensures { IsFront held.now result }
+    ensures { IsFront Plain held.now result }
 {
     match directive {
         Directive::Define => defined(held),
@@ -102,7 +112,7 @@ fn defined(held: &[u8]) -> Front
     requires backquote { slice_index held.now 0 ≡ 96 }
     requires kind { (token_of Plain held.now).kind ≡ Back }
     requires word { directive_named (name_behind held.now) ≡ Some Define }
-    ensures { IsFront held.now result }
+    ensures { IsFront Plain held.now result }
 {
     if is_unbuilt_define(held) {
         return Front::Refused(FaultKind::Unbuilt);

@@ -27,3 +27,4 @@ pub mod RangeLaws
 pub mod ContinuedLines
 pub mod EndedTokens
 pub mod CommentLaws
+pub mod ResumedTokens

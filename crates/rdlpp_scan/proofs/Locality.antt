@@ -10,7 +10,7 @@ use Rattle.rdlpp_scan.specs.Bytes.{is_word, is_letter, is_digit, begins_line_com
 use Rattle.rdlpp_scan.specs.Tokens.{token_of, stops_plain_text}
 use Rattle.rdlpp_scan.specs.Lines.{EndsLine, IsWholeLines, line_continues}
 use Rattle.rdlpp_scan.specs.Pieces.{IsCut}
-use Rattle.rdlpp_scan.specs.Stage.{is_unbuilt, is_unbuilt_directive, is_reserved, name_behind}
+use Rattle.rdlpp_scan.specs.Stage.{is_unbuilt, is_reserved, name_behind}
 use Rattle.rdlpp_scan.proofs.LineLaws.{line_continues-whole, nothing_behind}
 use Rattle.rdlpp_scan.proofs.WholeLines.{IsWholeLines-rest, IsWholeLines-one}
 use Rattle.rdlpp_scan.proofs.Seams.{Seam, Closed, BeforePerl, OpenString, OpenComment, token_of-seam, begins_perl-append, begins_line_comment-append, begins_block_comment-append, run-append, line_end-ten}
@@ -51,15 +51,15 @@ name_behind-append b c w more cut =
     ap (λ n. take n (xs ++ more)) (run-append is_word word_ten xs more (omega arith) cut) ∙ take-append-le (prefix_len is_word xs) xs more (prefix_len-le-length is_word xs)
 
 -- what isn't built, by its parts
-unbuilt_parts : ℕ → Bool → List ℕ → Bool → Bool
-unbuilt_parts b block name continues = eqb b 34 || block || (eqb b 96 && is_reserved name && (not (bytes_eq name (codes "define")) || continues))
+unbuilt_parts : ℕ → List ℕ → Bool → Bool
+unbuilt_parts b name continues = eqb b 96 && is_reserved name && (not (bytes_eq name (codes "define")) || continues)
 
-is_unbuilt-parts : (b : ℕ) (bs : List ℕ) → is_unbuilt (b ∷ bs) ≡ unbuilt_parts b (begins_block_comment (b ∷ bs)) (name_behind (b ∷ bs)) (line_continues 0 0 (b ∷ bs))
-unfolding is_unbuilt is_unbuilt_directive unbuilt_parts
+is_unbuilt-parts : (b : ℕ) (bs : List ℕ) → is_unbuilt (b ∷ bs) ≡ unbuilt_parts b (name_behind (b ∷ bs)) (line_continues 0 0 (b ∷ bs))
+unfolding is_unbuilt unbuilt_parts
 is_unbuilt-parts b bs = refl
 
 line_end-built : (b : ℕ) (bs : List ℕ) → b ≡ 10 → is_unbuilt (b ∷ bs) ≡ false
-unfolding is_unbuilt is_unbuilt_directive begins_block_comment
+unfolding is_unbuilt
 line_end-built b bs ten = subst (λ (n : ℕ). is_unbuilt (n ∷ bs) ≡ false) (sym ten) refl
 
 is_unbuilt-whole : (held more : List ℕ) → 0 < length held → IsWholeLines held → is_unbuilt (held ++ more) ≡ is_unbuilt held
@@ -69,13 +69,11 @@ is_unbuilt-whole (b ∷ []) more some whole =
     line_end-built b more ten ∙ sym (line_end-built b [] ten)
 is_unbuilt-whole (b ∷ c ∷ w) more some whole =
     let xs = b ∷ c ∷ w in
-    let cut : IsCut xs more = inr (inr whole) in
     let rest : IsCut (c ∷ w) more = inr (inr (IsWholeLines-rest b (c ∷ w) whole)) in
     let line : line_continues 0 0 (xs ++ more) ≡ line_continues 0 0 xs = line_continues-whole 0 0 xs more some whole in
     is_unbuilt-parts b (c ∷ w ++ more)
-    ∙ ap (λ t. unbuilt_parts b t (name_behind (xs ++ more)) (line_continues 0 0 (xs ++ more))) (begins_block_comment-append xs more some cut)
-    ∙ ap (λ n. unbuilt_parts b (begins_block_comment xs) n (line_continues 0 0 (xs ++ more))) (name_behind-append b c w more rest)
-    ∙ ap (unbuilt_parts b (begins_block_comment xs) (name_behind xs)) line
+    ∙ ap (λ n. unbuilt_parts b n (line_continues 0 0 (xs ++ more))) (name_behind-append b c w more rest)
+    ∙ ap (unbuilt_parts b (name_behind xs)) line
     ∙ sym (is_unbuilt-parts b (c ∷ w))
 
 -- what isn't built

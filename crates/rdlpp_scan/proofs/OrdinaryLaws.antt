@@ -12,7 +12,7 @@ use Rattle.rdlpp_scan.specs.Tokens.{plain_len, stops_plain_text, token_of}
 use Rattle.rdlpp_scan.specs.Front.{Unbuilt}
 use Rattle.rdlpp_scan.specs.SourceTokens.{SourceToken, Ordinary, Course, Next, line_ends, source_tokens, source_step, step_by, broken}
 use Rattle.rdlpp_scan.specs.Ordinary.{is_plain_kind, IsEdge, IsOrdinary, IsPlainToken, SparesOrdinary}
-use Rattle.rdlpp_scan.specs.Stage.{is_unbuilt, is_unbuilt_directive}
+use Rattle.rdlpp_scan.specs.Stage.{is_unbuilt}
 use Rattle.rdlpp_scan.proofs.Places.{first_place-before}
 use Rattle.rdlpp_scan.proofs.TokenLens.{token_of-part}
 use Rattle.rdlpp_scan.proofs.WholeLines.{IsWholeLines-drop}
@@ -24,10 +24,10 @@ neither x y h k = ap (λ t. t || y) h ∙ k
 
 -- nothing at this stage of the project is unbuilt in ordinary text
 pub is_unbuilt-spares : SparesOrdinary is_unbuilt
-unfolding is_unbuilt is_unbuilt_directive
+unfolding is_unbuilt
 is_unbuilt-spares bs h =
     let g = goes_on bs h in
-    neither _ _ (neither _ _ g.no_quote g.no_block_comment) (and_left _ _ (and_left _ _ g.no_backquote))
+    and_left _ _ (and_left _ _ g.no_backquote)
 
 step_by-kind : (c : Course) (o l : ℕ) (k : Kind) (n : ℕ) (m : Mode) (bs : List ℕ) → is_plain_kind k ≡ true → step_by c o l (record { kind = k; len = n; next_mode = m }) bs ≡ Next (record { sort = Ordinary k; bytes = take n bs; line = l })
 unfolding step_by is_plain_kind

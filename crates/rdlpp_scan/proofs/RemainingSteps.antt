@@ -12,13 +12,13 @@ use Rattle.rdlpp_scan.specs.Front.{Breach, LineLong, SourceLong, DefineLong, Def
 use Rattle.rdlpp_scan.specs.SourceTokens.{Course, SourceToken, source_end, source_tokens, Ordinary, Definition, Renumbering, Broken, line_ends, line_len, logical_len, remaining_tokens}
 use Rattle.rdlpp_scan.specs.Lines.{EndsLine, whole_lines_len, onto_whole_lines}
 use Rattle.rdlpp_scan.specs.Defines.{HoldsDefine}
-use Rattle.rdlpp_scan.specs.Resumed.{onto_tokens}
+use Rattle.rdlpp_scan.specs.Resumed.{opening, onto_tokens}
 use Rattle.rdlpp_scan.proofs.FrontLaws.{front-accept, front-none, front-line_long, front-source_long}
 use Rattle.rdlpp_scan.proofs.LineLaws.{line_len-some}
 use Rattle.rdlpp_scan.proofs.LogicalLines.{line_len-le}
 use Rattle.rdlpp_scan.proofs.WholeLines.{whole_one}
 use Rattle.rdlpp_scan.proofs.Locality.{IsCut-from_line}
-use Rattle.rdlpp_scan.proofs.TokenSteps.{is_kept_kind, opening, step-closed, step-open_string, step-open_comment, step-cut_string}
+use Rattle.rdlpp_scan.proofs.TokenSteps.{is_kept_kind, step-closed, step-open_string, step-open_comment, step-cut_string}
 use Rattle.rdlpp_scan.proofs.DefineSteps.{BeginsDefine, step-line, step-logical, step-logical_long, step-logical_full, step-logical_last, step-logical_last_long, step-logical_broken}
 use Rattle.rdlpp_scan.proofs.RemainingLaws.{behind, course}
 

@@ -2,7 +2,6 @@
 use Rattle.std.proofs.Common.{◌≡◌, ℕ, zero, suc, ◌-◌, Bool, true, false, not, ◌&&◌, ◌||◌, eqb, List, [], ◌∷◌, take, drop, get_or, refl, sym, ap, ◌∙◌, arith}
 use Rattle.std.specs.Prelude.{codes, bytes_eq}
 use Rattle.std.specs.List.{prefix_len}
-use Rattle.std.proofs.Math.Bool.{or-true}
 use Rattle.std.proofs.lemmas.Bool.{eqb-true, and_parts, false≢true}
 use Rattle.rdlpp_scan.specs.declared.token.Kind.{Kind}
 use Rattle.rdlpp_scan.specs.declared.token.Kind.TheVariants.{Str, LineComment, BlockComment, Back, BareBackquote, Perl}
@@ -12,7 +11,7 @@ use Rattle.rdlpp_scan.specs.Bytes.{is_letter, is_word, begins_perl, begins_line_
 use Rattle.rdlpp_scan.specs.Tokens.{token_of, whole, stops_plain_text}
 use Rattle.rdlpp_scan.specs.Lines.{line_continues}
 use Rattle.rdlpp_scan.specs.Ordinary.{is_plain_kind}
-use Rattle.rdlpp_scan.specs.Stage.{is_unbuilt, is_unbuilt_directive, is_reserved, reserved_names, name_behind}
+use Rattle.rdlpp_scan.specs.Stage.{is_unbuilt, is_reserved, reserved_names, name_behind}
 use Rattle.rdlpp_scan.proofs.Searches.{false_since}
 use Rattle.rdlpp_scan.proofs.StopKinds.{Row, AtPerl, AtLineComment, AtBlockComment, AtString, AtBack, AtBare, AtPlain, token_of-row}
 
@@ -20,43 +19,36 @@ use Rattle.rdlpp_scan.proofs.StopKinds.{Row, AtPerl, AtLineComment, AtBlockComme
 abbrev pub front_name : List ℕ → List ℕ
 front_name bs = take ((token_of Plain bs).len - 1) (drop 1 bs)
 
--- a string isn't built
-pub is_unbuilt-quote : (bs : List ℕ) → eqb (get_or bs 0 0) 34 ≡ true → is_unbuilt bs ≡ true
-unfolding is_unbuilt
-is_unbuilt-quote bs h = ap (λ t. t || begins_block_comment bs || is_unbuilt_directive bs) h
-
--- a block comment isn't
-pub is_unbuilt-block : (bs : List ℕ) → begins_block_comment bs ≡ true → is_unbuilt bs ≡ true
-unfolding is_unbuilt
-is_unbuilt-block bs h =
-    let q = eqb (get_or bs 0 0) 34 in
-    ap (λ t. q || t || is_unbuilt_directive bs) h ∙ ap (λ t. t || is_unbuilt_directive bs) (or-true q)
-
--- a line comment is built
-pub is_unbuilt-line : (bs : List ℕ) → begins_line_comment bs ≡ true → is_unbuilt bs ≡ false
-unfolding is_unbuilt is_unbuilt_directive begins_line_comment begins_block_comment
-is_unbuilt-line bs h =
-    let parts = and_parts (eqb (get_or bs 0 0) 47) (eqb (get_or bs 1 0) 47) h in
-    let first = eqb-true (get_or bs 0 0) 47 parts.0 in
-    let second = eqb-true (get_or bs 1 0) 47 parts.1 in
-    rw (first, second) refl
-
--- what a row's byte leaves of the test
-is_unbuilt-byte : (bs : List ℕ) (n : ℕ) → get_or bs 0 0 ≡ n → eqb n 34 ≡ false → eqb n 47 ≡ false
+-- what the first byte leaves of the test
+is_unbuilt-byte : (bs : List ℕ) (n : ℕ) → get_or bs 0 0 ≡ n
     → is_unbuilt bs ≡ (eqb n 96 && is_reserved (name_behind bs) && (not (bytes_eq (name_behind bs) (codes "define")) || line_continues 0 0 bs))
-unfolding is_unbuilt is_unbuilt_directive begins_block_comment
-is_unbuilt-byte bs n is quote slash =
-    let c = get_or bs 1 0 in
+unfolding is_unbuilt
+is_unbuilt-byte bs n is =
     let R = is_reserved (name_behind bs) in
     let N = not (bytes_eq (name_behind bs) (codes "define")) || line_continues 0 0 bs in
-    ap (λ m. eqb m 34 || (eqb m 47 && eqb c 42) || (eqb m 96 && R && N)) is
-    ∙ ap (λ t. t || (eqb n 47 && eqb c 42) || (eqb n 96 && R && N)) quote
-    ∙ ap (λ t. (t && eqb c 42) || (eqb n 96 && R && N)) slash
+    ap (λ m. eqb m 96 && R && N) is
 
--- `<%` is built
-pub is_unbuilt-at_perl : (bs : List ℕ) → begins_perl bs ≡ true → is_unbuilt bs ≡ false
+-- what begins with no backquote is built
+is_unbuilt-first : (bs : List ℕ) (n : ℕ) → eqb (get_or bs 0 0) n ≡ true → eqb n 96 ≡ false → is_unbuilt bs ≡ false
+is_unbuilt-first bs n first other =
+    let R = is_reserved (name_behind bs) in
+    let N = not (bytes_eq (name_behind bs) (codes "define")) || line_continues 0 0 bs in
+    is_unbuilt-byte bs n (eqb-true (get_or bs 0 0) n first) ∙ ap (λ t. t && R && N) other
+
+-- `<%` is
+is_unbuilt-at_perl : (bs : List ℕ) → begins_perl bs ≡ true → is_unbuilt bs ≡ false
 unfolding begins_perl
-is_unbuilt-at_perl bs h = is_unbuilt-byte bs 60 (eqb-true (get_or bs 0 0) 60 (and_parts (eqb (get_or bs 0 0) 60) (eqb (get_or bs 1 0) 37) h).0) refl refl
+is_unbuilt-at_perl bs h = is_unbuilt-first bs 60 (and_parts (eqb (get_or bs 0 0) 60) (eqb (get_or bs 1 0) 37) h).0 refl
+
+-- a `//` comment is
+is_unbuilt-at_line : (bs : List ℕ) → begins_line_comment bs ≡ true → is_unbuilt bs ≡ false
+unfolding begins_line_comment
+is_unbuilt-at_line bs h = is_unbuilt-first bs 47 (and_parts (eqb (get_or bs 0 0) 47) (eqb (get_or bs 1 0) 47) h).0 refl
+
+-- a block comment is
+is_unbuilt-at_block : (bs : List ℕ) → begins_block_comment bs ≡ true → is_unbuilt bs ≡ false
+unfolding begins_block_comment
+is_unbuilt-at_block bs h = is_unbuilt-first bs 47 (and_parts (eqb (get_or bs 0 0) 47) (eqb (get_or bs 1 0) 42) h).0 refl
 
 -- a text that doesn't begin with a letter isn't one that does
 other_word : (name ys : List ℕ) (y : ℕ) → is_letter (get_or name 0 0) ≡ false → is_letter y ≡ true → bytes_eq name (y ∷ ys) ≡ false
@@ -97,7 +89,7 @@ bare_name bs h = not_reserved _ (first_of_name (prefix_len is_word (drop 1 bs)) 
 pub is_unbuilt-at_bare : (bs : List ℕ) → eqb (get_or bs 0 0) 96 ≡ true → is_letter (get_or bs 1 0) ≡ false → is_unbuilt bs ≡ false
 is_unbuilt-at_bare bs h none =
     let N = not (bytes_eq (name_behind bs) (codes "define")) || line_continues 0 0 bs in
-    is_unbuilt-byte bs 96 (eqb-true (get_or bs 0 0) 96 h) refl refl ∙ ap (λ t. t && N) (bare_name bs none)
+    is_unbuilt-byte bs 96 (eqb-true (get_or bs 0 0) 96 h) ∙ ap (λ t. t && N) (bare_name bs none)
 
 -- by the kind of the first token
 module _ (bs : List ℕ) where
@@ -114,20 +106,20 @@ module _ (bs : List ℕ) where
   by_row k A t is (AtBare h g e) perl line block str back bare plain = bare (sym (ap (λ (u : Token). u.kind) e) ∙ is) h g
   by_row k A t is (AtPlain h q) perl line block str back bare plain = plain (sym (ap is_plain_kind is) ∙ h)
 
-  pub is_unbuilt-string : (token_of Plain bs).kind ≡ Str → is_unbuilt bs ≡ true
+  pub is_unbuilt-string : (token_of Plain bs).kind ≡ Str → is_unbuilt bs ≡ false
   unfolding is_plain_kind
   is_unbuilt-string is =
-      by_row Str (is_unbuilt bs ≡ true) (token_of Plain bs) is (token_of-row bs) (λ e _. absurd (cc)) (λ e _. absurd (cc)) (λ e _. absurd (cc)) (λ _ h. is_unbuilt-quote bs h) (λ e _ _. absurd (cc)) (λ e _ _. absurd (cc)) (λ e. absurd (false≢true e))
+      by_row Str (is_unbuilt bs ≡ false) (token_of Plain bs) is (token_of-row bs) (λ e _. absurd (cc)) (λ e _. absurd (cc)) (λ e _. absurd (cc)) (λ _ h. is_unbuilt-first bs 34 h refl) (λ e _ _. absurd (cc)) (λ e _ _. absurd (cc)) (λ e. absurd (false≢true e))
 
   pub is_unbuilt-line_comment : (token_of Plain bs).kind ≡ LineComment → is_unbuilt bs ≡ false
   unfolding is_plain_kind
   is_unbuilt-line_comment is =
-      by_row LineComment (is_unbuilt bs ≡ false) (token_of Plain bs) is (token_of-row bs) (λ e _. absurd (cc)) (λ _ h. is_unbuilt-line bs h) (λ e _. absurd (cc)) (λ e _. absurd (cc)) (λ e _ _. absurd (cc)) (λ e _ _. absurd (cc)) (λ e. absurd (false≢true e))
+      by_row LineComment (is_unbuilt bs ≡ false) (token_of Plain bs) is (token_of-row bs) (λ e _. absurd (cc)) (λ _ h. is_unbuilt-at_line bs h) (λ e _. absurd (cc)) (λ e _. absurd (cc)) (λ e _ _. absurd (cc)) (λ e _ _. absurd (cc)) (λ e. absurd (false≢true e))
 
-  pub is_unbuilt-block_comment : (token_of Plain bs).kind ≡ BlockComment → is_unbuilt bs ≡ true
+  pub is_unbuilt-block_comment : (token_of Plain bs).kind ≡ BlockComment → is_unbuilt bs ≡ false
   unfolding is_plain_kind
   is_unbuilt-block_comment is =
-      by_row BlockComment (is_unbuilt bs ≡ true) (token_of Plain bs) is (token_of-row bs) (λ e _. absurd (cc)) (λ e _. absurd (cc)) (λ _ h. is_unbuilt-block bs h) (λ e _. absurd (cc)) (λ e _ _. absurd (cc)) (λ e _ _. absurd (cc)) (λ e. absurd (false≢true e))
+      by_row BlockComment (is_unbuilt bs ≡ false) (token_of Plain bs) is (token_of-row bs) (λ e _. absurd (cc)) (λ e _. absurd (cc)) (λ _ h. is_unbuilt-at_block bs h) (λ e _. absurd (cc)) (λ e _ _. absurd (cc)) (λ e _ _. absurd (cc)) (λ e. absurd (false≢true e))
 
   pub is_unbuilt-perl : (token_of Plain bs).kind ≡ Perl → is_unbuilt bs ≡ false
   unfolding is_plain_kind
@@ -149,7 +141,7 @@ module _ (bs : List ℕ) where
       let less : prefix_len is_word (drop 1 bs) ≡ (token_of Plain bs).len - 1 = omega arith in
       ap (λ n. take n (drop 1 bs)) less in
       by_row Back (is_unbuilt bs ≡ R (front_name bs)) (token_of Plain bs) is (token_of-row bs) (λ e _. absurd (cc)) (λ e _. absurd (cc)) (λ e _. absurd (cc)) (λ e _. absurd (cc))
-      (λ _ h len. is_unbuilt-byte bs 96 (eqb-true (get_or bs 0 0) 96 h) refl refl ∙ ap R (named len)) (λ e _ _. absurd (cc)) (λ e. absurd (false≢true e))
+      (λ _ h len. is_unbuilt-byte bs 96 (eqb-true (get_or bs 0 0) 96 h) ∙ ap R (named len)) (λ e _ _. absurd (cc)) (λ e. absurd (false≢true e))
 
   stop_kind : (t : Token) → Row bs t → stops_plain_text bs ≡ true → is_plain_kind t.kind ≡ false
   unfolding is_plain_kind whole

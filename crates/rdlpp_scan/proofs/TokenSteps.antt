@@ -13,7 +13,7 @@ use Rattle.rdlpp_scan.specs.Tokens.{first_place, token_of, whole, string_stop, s
 use Rattle.rdlpp_scan.specs.Front.{Breach, PerlFound, StringOpen, CommentOpen}
 use Rattle.rdlpp_scan.specs.SourceTokens.{SourceToken, Course, Step, Last, Next, Ordinary, Broken, broken, comment_step, line_ends, open_end, source_end, source_step, source_tokens, step_by, string_step}
 use Rattle.rdlpp_scan.specs.Pieces.{IsCut}
-use Rattle.rdlpp_scan.specs.Resumed.{line_with, with_part, onto_step, onto_tokens}
+use Rattle.rdlpp_scan.specs.Resumed.{opening, line_with, with_part, onto_step, onto_tokens}
 use Rattle.rdlpp_scan.proofs.TokenLens.{token_of-part, inside_of}
 use Rattle.rdlpp_scan.proofs.SourceLaws.{line_ends-append, source_tokens-opened, source_tokens-next, source_tokens-last}
 use Rattle.rdlpp_scan.proofs.OrdinaryLaws.{source_step-built}
@@ -24,12 +24,6 @@ use Rattle.rdlpp_scan.proofs.Seams.{Seam, Closed, BeforePerl, OpenString, OpenCo
 -- where a text stands is no place of what isn't built
 abbrev pub IsBuilt : Course → Mode → List ℕ → Type 0
 IsBuilt c m bs = m ≡ Plain → c.unbuilt bs ≡ false
-
--- the line on which a string or a comment opened, at a token
-unfoldable pub opening : Mode → ℕ → ℕ → ℕ
-opening Plain opened line = line
-opening InStr opened line = opened
-opening InBlock opened line = opened
 
 -- a step at a text that begins with what is built
 pub source_step-by : (c : Course) (m : Mode) (o l : ℕ) (bs : List ℕ) → IsBuilt c m bs → source_step c m o l bs ≡ step_by c (opening m o l) l (token_of m bs) bs
@@ -196,7 +190,7 @@ module _ (c : Course) (m e : Mode) (o l : ℕ) (held more : List ℕ) (s : Step)
       ∙ sym (ap (onto_tokens held l) (source_tokens-next c e (opening m o l) (l + line_ends held) more t there (rest there ∙ is) long))
 
 -- a step at the rest of a string, where something stands
-string_rest : (c : Course) (o l : ℕ) (more : List ℕ) → 0 < length more → source_step c InStr o l more ≡ string_step c o l (string_token 0 more) more
+pub string_rest : (c : Course) (o l : ℕ) (more : List ℕ) → 0 < length more → source_step c InStr o l more ≡ string_step c o l (string_token 0 more) more
 unfolding source_step token_of step_by whole string_step broken line_ends
 string_rest c o l more there =
     let v = string_token 0 more in
@@ -294,7 +288,7 @@ unfolding token_of block_token first_place
 closed_comment-fits [] closed = absurd (cc)
 closed_comment-fits (z ∷ zs) closed = let part = token_of-part InBlock (z ∷ zs) (omega arith) in (part.not_empty, part.inside)
 
-comment_rest : (c : Course) (o l : ℕ) (more : List ℕ) → source_step c InBlock o l more ≡ comment_step c o l (block_token 0 more) more
+pub comment_rest : (c : Course) (o l : ℕ) (more : List ℕ) → source_step c InBlock o l more ≡ comment_step c o l (block_token 0 more) more
 unfolding source_step token_of
 comment_rest c o l more = step_by-comment c o l (block_token 0 more) more (block_token-kind 0 more)
 

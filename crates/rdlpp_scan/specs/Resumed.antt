@@ -1,6 +1,14 @@
 -- Strings and block comments that are taken in parts.
 use Rattle.std.specs.Prelude.{ℕ, List, [], ◌∷◌, ◌++◌}
+use Rattle.rdlpp_scan.specs.declared.token.Mode.{Mode}
+use Rattle.rdlpp_scan.specs.declared.token.Mode.TheVariants.{Plain, InStr, InBlock}
 use Rattle.rdlpp_scan.specs.SourceTokens.{Broken, SourceToken, Step, Last, Next}
+
+-- the line on which a string or a comment opened, at a token on a line
+unfoldable pub opening : Mode → ℕ → ℕ → ℕ
+opening Plain opened line = line
+opening InStr opened line = opened
+opening InBlock opened line = opened
 
 -- the line of a token with a part in front that begins on a line: that line, or for a broken one its own
 unfoldable pub line_with : ℕ → SourceToken → ℕ

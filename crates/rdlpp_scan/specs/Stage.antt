@@ -2,7 +2,7 @@
 -- at the first token that a later stage brings.
 use Rattle.std.specs.Prelude.{ℕ, Bool, not, ◌&&◌, ◌||◌, ◌==◌, List, [], ◌∷◌, take, drop, bytes_eq, slice_index, codes}
 use Rattle.std.specs.List.{prefix_len, list_any}
-use Rattle.rdlpp_scan.specs.Bytes.{is_word, begins_block_comment}
+use Rattle.rdlpp_scan.specs.Bytes.{is_word}
 use Rattle.rdlpp_scan.specs.Lines.{line_continues}
 
 -- the names that directives have (IEEE 1364-2001, clause on compiler directives)
@@ -19,14 +19,9 @@ is_reserved name = list_any (bytes_eq name) reserved_names
 unfoldable pub name_behind : List ℕ → List ℕ
 name_behind bytes = take (prefix_len is_word (drop 1 bytes)) (drop 1 bytes)
 
--- a directive that isn't built: any but `define`, and a `define` whose physical line ends in a continuation
-unfoldable pub is_unbuilt_directive : List ℕ → Bool
-is_unbuilt_directive bytes =
+-- a text that begins with what isn't built: any directive but `define`, and a `define` whose physical line ends in a continuation
+unfoldable pub is_unbuilt : List ℕ → Bool
+is_unbuilt bytes =
     let name = name_behind bytes in
     slice_index bytes 0 == 96 && is_reserved name
     && (not (bytes_eq name (codes "define")) || line_continues 0 0 bytes)
-
--- a text that begins with what isn't built: a string, a block comment or such a directive
-unfoldable pub is_unbuilt : List ℕ → Bool
-is_unbuilt bytes =
-    slice_index bytes 0 == 34 || begins_block_comment bytes || is_unbuilt_directive bytes

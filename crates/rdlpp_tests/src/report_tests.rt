@@ -138,7 +138,12 @@ fn reports_what_ended_a_run(rt: HostRuntime) -> Result<(), Fail> {
     };
     let rows: [(&[u8], Limits, &str, u8); 3] = [
         (b"`Q", STANDARD, "m:1: error F7: undefined macro 'Q'\n", 1),
-        (b"a \"b\"\n", STANDARD, "m:1: error F99: not built yet\n", 1),
+        (
+            b"a `undef b\n",
+            STANDARD,
+            "m:1: error F99: not built yet\n",
+            1,
+        ),
         (b"", no_depth, "rdlpp: error: limit depth out of range\n", 2),
     ];
     for (source, limits, line, status) in rows {

@@ -190,18 +190,6 @@ fn gives_each_row(rt: HostRuntime) {
             fault(1, 2, ""),
         ),
         faulty(
-            "a string isn't built",
-            b"a \"b\"\n",
-            b"a ",
-            fault(99, 1, ""),
-        ),
-        faulty(
-            "a block comment isn't built",
-            b"a\nb /* c */\n",
-            b"a\nb ",
-            fault(99, 2, ""),
-        ),
-        faulty(
             "a conditional isn't built",
             b"a\n`ifdef X\n",
             b"a\n",
@@ -327,10 +315,78 @@ fn gives_each_row_of_definitions(rt: HostRuntime) {
 }
 
 #[test]
+fn copies_strings_and_comments(rt: HostRuntime) {
+    let rows = [
+        whole(
+            "usages in strings and comments",
+            b"`define A 1\n\"`A\n\\\"`A\" /* `A\n<% \" */ `A\n",
+            b"\n\"`A\n\\\"`A\" /* `A\n<% \" */ 1\n",
+        ),
+        whole(
+            "directives in strings and comments",
+            b"\"`ifdef X\"\n/* `define A \n */ // `line\n",
+            b"\"`ifdef X\"\n/* `define A \n */ // `line\n",
+        ),
+        whole(
+            "strings in comments and comments in strings",
+            b"// \"\n/* // \" */\"/*//\"/**/\n",
+            b"// \"\n/* // \" */\"/*//\"/**/\n",
+        ),
+        whole(
+            "bytes that a backslash takes along",
+            b"\"\\<% \\\n\\\\\" \"\\\r\n\"",
+            b"\"\\<% \\\n\\\\\" \"\\\r\n\"",
+        ),
+        faulty(
+            "an open string",
+            b"a\n\"b\n\\\"`c\n",
+            b"a\n\"b\n\\\"`c\n",
+            fault(2, 2, ""),
+        ),
+        faulty(
+            "an open string of one byte",
+            b"\n\"",
+            b"\n\"",
+            fault(2, 2, ""),
+        ),
+        faulty(
+            "an open comment",
+            b"a\n/*/ b\n\n",
+            b"a\n/*/ b\n\n",
+            fault(3, 2, ""),
+        ),
+        faulty(
+            "embedded Perl in a string",
+            b"\n\"a\nb<% c %>\"",
+            b"\n\"a\nb",
+            fault(1, 3, ""),
+        ),
+        faulty(
+            "embedded Perl at a string's first byte",
+            b"\"<%\"",
+            b"\"",
+            fault(1, 1, ""),
+        ),
+        faulty(
+            "embedded Perl at a line's first byte in a string",
+            b"\"\n<%\"",
+            b"\"\n",
+            fault(1, 2, ""),
+        ),
+    ];
+    for row in &rows {
+        run_row(&rt, row);
+    }
+}
+
+#[test]
 fn keeps_each_limit(rt: HostRuntime) {
     let letters = [b'a'; 256];
     let mut line = [b'a'; 257];
     line[256] = b'\n';
+    let mut string = [b'a'; 260];
+    string[0] = b'"';
+    string[1] = b'\n';
     let lines = Limits {
         line_bytes: 256,
         ..STANDARD
@@ -365,6 +421,24 @@ fn keeps_each_limit(rt: HostRuntime) {
         (
             sources,
             faulty("a source of 6 bytes", b"ab\ncd\n", b"ab\n", fault(5, 2, "")),
+        ),
+        (
+            sources,
+            faulty(
+                "a source of 6 bytes in a comment",
+                b"/*\n*/\n",
+                b"/*\n",
+                fault(5, 2, ""),
+            ),
+        ),
+        (
+            lines,
+            faulty(
+                "a line of 258 bytes in a string",
+                &string,
+                b"\"\n",
+                fault(4, 2, ""),
+            ),
         ),
         (definitions, again),
         (definitions, second),
@@ -438,6 +512,10 @@ fn goes_through_a_long_text(rt: HostRuntime) -> Result<(), Fail> {
     for _ in 0..500 {
         source.extend_from_slice(b"reg first[`W]; reg second[`W];\n")?;
         output.extend_from_slice(b"reg first[8]; reg second[8];\n")?;
+    }
+    for _ in 0..500 {
+        source.extend_from_slice(b"/* `W \n *//* \n\"*/\" `W\n\\\"\n\"\n")?;
+        output.extend_from_slice(b"/* `W \n *//* \n\"*/\" `W\n\\\"\n\"\n")?;
     }
     let limits = Limits {
         line_bytes: 256,

@@ -1,4 +1,4 @@
-use Rattle.std.proofs.Common.{◌∙◌, ap}
+use Rattle.std.proofs.Common.{◌∙◌, ap, refl}
 use Rattle.rdlpp_scan.specs.declared.token.Token.{Token}
 use Rattle.rdlpp_expand.specs.Front.{AtBare}
 use Rattle.rdlpp_expand.proofs.FrontFacts.{bare_at_front}
@@ -6,4 +6,4 @@ use Rattle.rdlpp_expand.proofs.front.backquoted.Goals as goal
 
 pub returns-in_default : goal.returns-in_default
 returns-in_default c =
-    AtBare (bare_at_front c.args.held.now c.requires.backquote (λ e. c.in_default.not-Back (ap (λ (t : Token). t.kind) c.first_token-token.ensures.value ∙ e)))
+    AtBare refl (bare_at_front c.args.held.now c.requires.backquote (λ e. c.in_default.not-Back (ap (λ (t : Token). t.kind) c.first_token-token.ensures.value ∙ e)))

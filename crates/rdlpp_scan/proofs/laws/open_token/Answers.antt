@@ -1,5 +1,5 @@
 use Rattle.rdlpp_scan.specs.declared.token.Mode.TheVariants.{InStr, InBlock}
-use Rattle.rdlpp_scan.proofs.TokenSteps.{opening}
+use Rattle.rdlpp_scan.specs.Resumed.{opening}
 use Rattle.rdlpp_scan.proofs.RemainingSteps.{remaining-open_string, remaining-open_comment}
 use Rattle.rdlpp_scan.proofs.laws.open_token.Goals as goal
 

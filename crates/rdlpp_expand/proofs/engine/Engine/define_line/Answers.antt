@@ -70,7 +70,7 @@ returns-in-Err-clause-takes g c =
     rw (← c.self.view_is, ← c.fault_kind.ensures) (rw c.in-Err.ensures.refused at c.refuse.ensures.fault) in
     take_refused g.S.Sources c.args.self.now c.refuse.new.self c.refuse.result (kind_of_define c.in-Err.fault.kind) c.in-Err.fault.word.bytes
     fault_told (rw (← c.self.view_is) (rw c.in-Err.ensures.refused at c.refuse.ensures.kept)) (define_kind c.in-Err.fault.kind)
-    (left_refused_define g.S.Sources.unread c.args.self.now c.args.len c.in-Err.fault.kind c.in-Err.fault.word.bytes c.requires.ready.bytes ends fits c.requires.define refused)
+    (left_refused_define g.S.Sources.unread c.args.self.now c.args.len c.in-Err.fault.kind c.in-Err.fault.word.bytes c.requires.mode c.requires.ready.bytes ends fits c.requires.define refused)
 
 pub returns-in-Ok-clause-place : goal.returns-in-Ok-clause-place
 unfolding IsPlaced passed
@@ -104,5 +104,5 @@ returns-in-Ok-clause-takes g c =
     c.line_ends_in-lines.ensures ∙ ap (λ h. line_ends (take c.args.len h)) held in
     let stops : c.pass-end.result ≡ c.args.self.now.feed.at + c.args.len = rw (← c.self.view_is) c.pass-end.ensures.end in
     take_define g.S.Sources c.args.self.now c.pass-end.new.self c.args.len c.line_ends_in-lines.result (c.pass-end.result - c.line_ends_in-lines.result) c.pass-end.result c.read_define.new.self
-    c.requires.ready ends is.used fits c.requires.define defined counted (rw (← c.self.view_is) c.pass-end.ensures.passed)
+    c.requires.ready c.requires.mode ends is.used fits c.requires.define defined counted (rw (← c.self.view_is) c.pass-end.ensures.passed)
     (ap (λ k. k - c.line_ends_in-lines.result) stops) stops

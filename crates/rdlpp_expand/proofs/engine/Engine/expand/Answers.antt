@@ -37,4 +37,4 @@ returns-in-None-clause-takes g c =
     c.refuse.ensures.fault ∙ (ap (λ w. fault_at fault.UndefinedMacro c.args.self.now.feed.line w (state_of c.args.self.now)) word ∙ cut_once _ _ _ _) in
     take_refused g.S.Sources c.args.self.now c.refuse.new.self c.refuse.result fault.UndefinedMacro (usage_name (held_of c.args.self.now.feed) c.args.len)
     fault_told c.refuse.ensures.kept undefined_kind
-    (left_undefined g.S.Sources.unread c.args.self.now c.args.len c.requires.ready.bytes ends c.requires.usage none)
+    (left_undefined g.S.Sources.unread c.args.self.now c.args.len c.requires.mode c.requires.ready.bytes ends c.requires.usage none)

@@ -20,7 +20,7 @@ returns-then-not-is_built-clause-takes g c =
     rw (← c.self.view_is) (turned _ false (sym c.is_built.ensures ∙ c.if-not-is_built.true)) in
     let told = rw c.new.ensures at c.refuse.ensures.fault in
     take_refused g.S.Sources c.args.self.now c.refuse.new.self c.refuse.result fault.Unbuilt [] told c.refuse.ensures.kept unbuilt_kind
-    (left_unbuilt g.S.Sources.unread c.args.self.now c.args.len (macro_at c.args.self.now.table.macros c.args.id) c.requires.ready.bytes ends c.requires.usage c.requires.named unbuilt)
+    (left_unbuilt g.S.Sources.unread c.args.self.now c.args.len (macro_at c.args.self.now.table.macros c.args.id) c.requires.mode c.requires.ready.bytes ends c.requires.usage c.requires.named unbuilt)
 
 pub pass-requires-clause-inside : goal.pass-requires-clause-inside
 pass-requires-clause-inside g c = (usage_inside _ _ c.requires.ready.bytes c.requires.usage).1
@@ -38,4 +38,4 @@ returns-clause-takes g c =
     let built : is_unbuilt_macro (macro_at c.args.self.now.table.macros c.args.id) ≡ false =
     rw (← c.self.view_is) (turned _ true (sym c.is_built.ensures ∙ c.if-not-is_built.false)) in
     let depth : 0 < c.args.self.now.limits.depth = rw (← c.self.view_is) (omega (arith, c.self.invariant.0.depth.0)) in
-    take_usage g.S.Sources c.args.self.now c.pass.new.self c.args.len c.args.id c.requires.ready ends c.requires.usage c.requires.named built depth c.pass.ensures.passed
+    take_usage g.S.Sources c.args.self.now c.pass.new.self c.args.len c.args.id c.requires.ready c.requires.mode ends c.requires.usage c.requires.named built depth c.pass.ensures.passed

@@ -4,13 +4,12 @@ use Rattle.rdlpp_meaning.specs.Outcome.{told}
 use Rattle.rdlpp_meaning.specs.State.{fault_at, shown_line, no_shift}
 use Rattle.rdlpp_meaning.specs.Output.{start_state}
 use Rattle.rdlpp_expand.specs.Remaining.{state_of}
-use Rattle.rdlpp_expand.proofs.engine.Engine.refuse.Goals as goal
+use Rattle.rdlpp_expand.proofs.engine.Engine.refuse_at.Goals as goal
 
 pub returns-clause-fault : goal.returns-clause-fault
 unfolding told fault_at shown_line no_shift start_state state_of
 returns-clause-fault g c =
     let short : take 128 c.args.word.bytes ≡ c.args.word.bytes = take_all 128 c.args.word.bytes (omega arith) in
-    let shown : 0 + (c.line.result - 0) ≡ c.line.result = omega arith in
+    let shown : 0 + (c.args.line - 0) ≡ c.args.line = omega arith in
     let name = c.copied.ensures in
-    let line = c.line.ensures in
     rw (← c.self.view_is, short) (cc)
