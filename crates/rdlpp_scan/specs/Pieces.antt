@@ -54,3 +54,8 @@ joined ts = join_all ts []
 unfoldable pub tokens_len : List Token → ℕ
 tokens_len [] = 0
 tokens_len (t ∷ ts) = t.len + tokens_len ts
+
+-- the theorem on cuts: however a text is cut at its line ends, the tokens of its pieces, joined, are those of the text (this project's profile)
+abbrev pub CutTokens : Type 0
+CutTokens = (from : Mode) (pieces : List (List ℕ)) → AreCuts pieces
+    → joined (tokens_of_pieces from pieces) ≡ tokens_from from 0 (concat pieces)

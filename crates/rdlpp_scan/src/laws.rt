@@ -19,7 +19,6 @@ ghost use Rattle.std.specs.Prelude.{
   slice_index,
 };
 ghost use Rattle.std.specs.Option.{option_map};
-ghost use Rattle.std.specs.List.{concat};
 ghost use Rattle.rdlpp_scan.specs.declared.token.Mode.{Mode};
 ghost use Rattle.rdlpp_scan.specs.declared.token.Mode.TheVariants.{InBlock, InStr, Plain};
 ghost use Rattle.rdlpp_scan.specs.Comments.{
@@ -33,13 +32,7 @@ ghost use Rattle.rdlpp_scan.specs.Front.{DefineCut, DefineLong, LineLong, Source
 ghost use Rattle.rdlpp_scan.specs.LexFaults.{lex_fault_from};
 ghost use Rattle.rdlpp_scan.specs.Lines.{EndsLine, IsWholeLines};
 ghost use Rattle.rdlpp_scan.specs.Ordinary.{IsEdge, IsOrdinary, SparesOrdinary};
-ghost use Rattle.rdlpp_scan.specs.Pieces.{
-  AreCuts,
-  joined,
-  mode_behind,
-  tokens_len,
-  tokens_of_pieces,
-};
+ghost use Rattle.rdlpp_scan.specs.Pieces.{CutTokens, mode_behind, tokens_len};
 ghost use Rattle.rdlpp_scan.specs.declared.token.Token.{Token};
 ghost use Rattle.rdlpp_scan.specs.Resumed.{onto_tokens};
 ghost use Rattle.rdlpp_scan.specs.SourceTokens.{
@@ -57,8 +50,7 @@ ghost use Rattle.rdlpp_scan.specs.Tokens.{plain_len, token_of, tokens_from};
 /// However a text is cut before or after its line ends, the tokens of the pieces, with the parts of
 /// each string and of each comment joined, are the tokens of the text.
 pub fn cut_text()
-    ensures { (from : Mode) (pieces : List (List ℕ)) → AreCuts pieces
-        → joined (tokens_of_pieces from pieces) ≡ tokens_from from 0 (concat pieces) }
+    ensures { CutTokens }
 {}
 
 /// A first token that ends before the end of what is there of a text stays so, whatever follows.

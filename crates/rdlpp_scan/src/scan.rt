@@ -1,6 +1,7 @@
 // The first token of a text, by the rows of the token table.
 ghost use Rattle.std.specs.Prelude.{◌≡◌, ◌+◌, ◌≤◌, ◌<◌, ◌||◌, ◌==◌, length, slice_index, drop, false};
 ghost use Rattle.rdlpp_scan.specs.Bytes.{begins_perl, ends_block_comment};
+ghost use Rattle.rdlpp_scan.specs.Pieces.{CutTokens};
 ghost use Rattle.rdlpp_scan.specs.Tokens.{
   block_token,
   first_place,
@@ -171,6 +172,9 @@ fn plain_token(bytes: &[u8]) -> Token
 /// The token table of this project's profile: strings and names are those of IEEE 1364-2001, and
 /// `<%` is the beginning of embedded Perl of SystemRDL 2.0. Lengths are bytes.
 ///
+/// However a text is cut before or after its line ends, the tokens of the pieces, with the parts of
+/// each string and of each block comment joined, are the tokens of the text (`pieces`).
+///
 /// Costs time linear in the token's length.
 #[tactic(auto, unfolding(crate::specs::Tokens::token_of))]
 pub fn first_token(mode: Mode, bytes: &[u8]) -> Token
@@ -178,6 +182,7 @@ pub fn first_token(mode: Mode, bytes: &[u8]) -> Token
     ensures value { result ≡ token_of mode bytes.now }
     ensures not_empty { 0 < result.len }
     ensures inside { result.len ≤ length bytes.now }
+    ensures pieces { CutTokens }
 {
     match mode {
         Mode::Plain => plain_token(bytes),
