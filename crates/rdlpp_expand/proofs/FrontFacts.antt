@@ -1,7 +1,8 @@
 -- What the bytes at the front of a text tell of its first token.
-use Rattle.std.proofs.Common.{◌≡◌, ◌≢◌, ℕ, suc, ◌+◌, ◌-◌, ◌<◌, Bool, true, false, not, cond, ◌&&◌, ◌||◌, ◌==◌, List, [], ◌∷◌, length, take, drop, slice_index, Option, Some, None, refl, sym, ap, ◌∙◌, arith, inl, inr}
+use Rattle.std.proofs.Common.{◌≡◌, ◌≢◌, ℕ, suc, ◌+◌, ◌-◌, ◌<◌, Bool, true, false, cond, ◌&&◌, ◌||◌, ◌==◌, List, [], ◌∷◌, length, take, drop, slice_index, Option, Some, None, refl, sym, ap, ◌∙◌, arith, inl, inr}
 use Rattle.std.specs.Prelude.{bytes_eq, codes, nat_lt}
 use Rattle.std.specs.List.{prefix_len}
+use Rattle.std.proofs.lemmas.Slice.Eq.{bytes_eq-Decides}
 use Rattle.std.proofs.lemmas.Bool.Decides.{eqb_tells}
 use Rattle.rdlpp_scan.specs.declared.token.Kind.TheVariants.{Back, Str, BlockComment, Perl, BareBackquote}
 use Rattle.rdlpp_scan.specs.declared.token.Mode.TheVariants.{Plain, InStr, InBlock}
@@ -15,7 +16,7 @@ use Rattle.rdlpp_scan.proofs.StopKinds.{Row, AtPerl, AtLineComment, AtBlockComme
 use Rattle.rdlpp_scan.specs.Tokens.{whole, string_stop, string_token, block_token, plain_token, token_of, first_place, plain_len, stops_plain_text}
 use Rattle.rdlpp_scan.specs.Names.{directive_named}
 use Rattle.rdlpp_scan.specs.Lines.{line_continues}
-use Rattle.rdlpp_scan.specs.Stage.{name_behind, reserved_names, is_reserved, is_unbuilt}
+use Rattle.rdlpp_scan.specs.Stage.{name_behind, reserved_names, is_reserved, is_unbuilt, unbuilt_name}
 
 -- a text without ordinary text at its front stops there
 pub stops_at_front : (bs : List ℕ) → 0 < length bs → plain_len bs ≡ 0 → stops_plain_text bs ≡ true
@@ -219,24 +220,50 @@ other_name name o e ne =
     let at_false : P false = λ t. refl in
     elim (bytes_eq name (codes "define")) as P [ true ↦ at_true | false ↦ at_false ] refl
 
+-- what `undef` names
+named_undef : directive_named (codes "undef") ≡ Some Undef
+unfolding directive_named
+named_undef = refl
+
+-- the first test fails where another name is `undef`
+not_undef : (name : List ℕ) (o : Directive) → directive_named name ≡ Some o → (o ≡ Undef → ⊥) → bytes_eq name (codes "undef") ≡ false
+not_undef name o e ne =
+    let P : Bool → Type 0 = λ t. bytes_eq name (codes "undef") ≡ t → t ≡ false in
+    let at_true : P true = λ t.
+    let same : name ≡ codes "undef" = (bytes_eq-Decides name (codes "undef")).0 t in
+    absurd (let d : directive_named name ≡ Some Undef = ap directive_named same ∙ named_undef in let both : Some o ≡ Some Undef = sym e ∙ d in let eq : o ≡ Undef = cc in ne eq) in
+    let at_false : P false = λ t. refl in
+    elim (bytes_eq name (codes "undef")) as P [ true ↦ at_true | false ↦ at_false ] refl
+
 -- a directive that isn't built
-pub unbuilt_directive : (bs : List ℕ) → slice_index bs 0 ≡ 96 → is_reserved (name_behind bs) ≡ true
-    → (not (bytes_eq (name_behind bs) (codes "define")) || line_continues 0 0 bs) ≡ true
+unbuilt_directive : (bs : List ℕ) → slice_index bs 0 ≡ 96 → is_reserved (name_behind bs) ≡ true
+    → unbuilt_name (name_behind bs) (line_continues 0 0 bs) ≡ true
     → is_unbuilt bs ≡ true
 unfolding is_unbuilt
 unbuilt_directive bs e r h = rw (e, r, h) refl
 
--- a directive other than `define` isn't built
-pub unbuilt_other : (bs : List ℕ) (o : Directive) → slice_index bs 0 ≡ 96 → directive_named (name_behind bs) ≡ Some o → (o ≡ Define → ⊥) → is_unbuilt bs ≡ true
-unbuilt_other bs o e word ne =
-    let other = other_name (name_behind bs) o word ne in
-    unbuilt_directive bs e (directive_name (name_behind bs) o word) (rw other refl)
+-- a directive other than `define` and `undef`
+unbuilt_word : (name : List ℕ) (continued : Bool) → bytes_eq name (codes "define") ≡ false → bytes_eq name (codes "undef") ≡ false → unbuilt_name name continued ≡ true
+unfolding unbuilt_name
+unbuilt_word name continued a b = rw (a, b) refl
+
+-- it isn't built
+pub unbuilt_other : (bs : List ℕ) (o : Directive) → slice_index bs 0 ≡ 96 → directive_named (name_behind bs) ≡ Some o → (o ≡ Define → ⊥) → (o ≡ Undef → ⊥) → is_unbuilt bs ≡ true
+unbuilt_other bs o e word ne nu =
+    let name = name_behind bs in
+    unbuilt_directive bs e (directive_name name o word) (unbuilt_word name (line_continues 0 0 bs) (other_name name o word ne) (not_undef name o word nu))
+
+-- a `define`, by whether its line is continued
+define_word : (name : List ℕ) (continued : Bool) → bytes_eq name (codes "define") ≡ true → continued ≡ true → unbuilt_name name continued ≡ true
+unfolding unbuilt_name
+define_word name continued a b = rw (a, b) refl
 
 -- nor is a `define` whose line is continued
 pub unbuilt_define : (bs : List ℕ) → slice_index bs 0 ≡ 96 → directive_named (name_behind bs) ≡ Some Define
     → line_continues 0 0 bs ≡ true → is_unbuilt bs ≡ true
 unbuilt_define bs e word h =
-    unbuilt_directive bs e (directive_name (name_behind bs) Define word) (rw (define_name (name_behind bs) word, h) refl)
+    let name = name_behind bs in
+    unbuilt_directive bs e (directive_name name Define word) (define_word name (line_continues 0 0 bs) (define_name name word) h)
 
 -- the text of a `define`
 pub define_text : (bs : List ℕ) → slice_index bs 0 ≡ 96 → (token_of Plain bs).kind ≡ Back → directive_named (name_behind bs) ≡ Some Define
@@ -244,3 +271,30 @@ pub define_text : (bs : List ℕ) → slice_index bs 0 ≡ 96 → (token_of Plai
 define_text bs e h word =
     let text : take (token_of Plain bs).len bs ≡ 96 ∷ name_behind bs = back_text bs e h ∙ ap (λ (xs : List ℕ). 96 ∷ xs) (back_name bs e h) in
     rw text (define_name (name_behind bs) word)
+
+-- the second test passes where `undef` is chosen
+chosen_undef : (a b c d e f g h i : Bool) → chosen a b c d e f g h i ≡ Some Undef → b ≡ true
+chosen_undef true b c d e f g h i x = cc
+chosen_undef false true c d e f g h i x = refl
+chosen_undef false false true d e f g h i x = cc
+chosen_undef false false false true e f g h i x = cc
+chosen_undef false false false false true f g h i x = cc
+chosen_undef false false false false false true g h i x = cc
+chosen_undef false false false false false false true h i x = cc
+chosen_undef false false false false false false false true i x = cc
+chosen_undef false false false false false false false false true x = cc
+chosen_undef false false false false false false false false false x = cc
+
+-- the name of `undef`
+undef_word : (name : List ℕ) → directive_named name ≡ Some Undef → bytes_eq name (codes "undef") ≡ true
+unfolding directive_named
+undef_word name e =
+    chosen_undef (bytes_eq name (codes "define")) (bytes_eq name (codes "undef")) (bytes_eq name (codes "ifdef")) (bytes_eq name (codes "ifndef"))
+    (bytes_eq name (codes "elsif")) (bytes_eq name (codes "else")) (bytes_eq name (codes "endif")) (bytes_eq name (codes "include")) (bytes_eq name (codes "line")) e
+
+-- the text of an `undef`
+pub undef_text : (bs : List ℕ) → slice_index bs 0 ≡ 96 → (token_of Plain bs).kind ≡ Back → directive_named (name_behind bs) ≡ Some Undef
+    → bytes_eq (take (token_of Plain bs).len bs) (codes "`undef") ≡ true
+undef_text bs e h word =
+    let text : take (token_of Plain bs).len bs ≡ 96 ∷ name_behind bs = back_text bs e h ∙ ap (λ (xs : List ℕ). 96 ∷ xs) (back_name bs e h) in
+    rw text (undef_word (name_behind bs) word)

@@ -19,3 +19,4 @@ pub mod RunFacts
 pub mod BodyTokens
 pub mod TextMoves
 pub mod Endings
+pub mod UndefMoves

@@ -1,5 +1,5 @@
 -- What one move of an engine over an open source does to what remains.
-use Rattle.std.proofs.Common.{◌≡◌, ℕ, ◌+◌, ◌-◌, ◌<◌, ◌≤◌, Bool, true, false, cond, List, [], ◌∷◌, length, take, drop, All, None, Some, refl, sym, ap, ◌∙◌, subst, arith}
+use Rattle.std.proofs.Common.{◌≡◌, ℕ, ◌+◌, ◌-◌, ◌<◌, ◌≤◌, Bool, true, false, cond, ◌&&◌, List, [], ◌∷◌, length, take, drop, All, None, Some, refl, sym, ap, ◌∙◌, subst, arith}
 use Rattle.std.specs.Prelude.{bytes_eq, codes}
 use Rattle.std.specs.List.{list_all, list_any, AllByRecursion}
 use Rattle.std.proofs.Math.Bool.{and-false}
@@ -18,9 +18,9 @@ use Rattle.rdlpp_scan.proofs.ResumedTokens.{remaining-perl_in_string}
 use Rattle.rdlpp_scan.specs.Front.{Breach}
 use Rattle.rdlpp_scan.specs.Tokens.{plain_len, token_of, stops_plain_text, string_token, whole}
 use Rattle.rdlpp_scan.specs.SourceTokens.{SourceToken, Sort, Ordinary, Definition, line_ends, line_len, remaining_tokens}
-use Rattle.rdlpp_scan.specs.Lines.{EndsLine}
+use Rattle.rdlpp_scan.specs.Lines.{EndsLine, line_continues}
 use Rattle.rdlpp_scan.specs.Ordinary.{is_plain_kind, IsPlainToken}
-use Rattle.rdlpp_scan.specs.Stage.{reserved_names, is_reserved, is_unbuilt}
+use Rattle.rdlpp_scan.specs.Stage.{reserved_names, is_reserved, is_unbuilt, unbuilt_name}
 use Rattle.rdlpp_scan.proofs.LogicalLines.{line_len-le}
 use Rattle.rdlpp_scan.proofs.LineLaws.{line_len-some}
 use Rattle.rdlpp_scan.proofs.Places.{first_place-le}
@@ -257,6 +257,11 @@ move_usage unread rules b s f n m mode some ends usage named same built depth =
     ∙ remains_copied_body rules [] b name f.line (tokens_left unread (passed f n 0)) s m depth usage.free named (same ∙ built) (built_formals m built) (built_body m built)
     ∙ ap (λ (xs : List ℕ). and_then (gives m.body) (remains rules (Live []) (only_blanks b xs) (tokens_left unread (passed f n 0)) s)) (sym text)
 
+-- a `define` that isn't continued is built
+define_built : (name : List ℕ) (continued : Bool) → bytes_eq name (codes "define") ≡ true → continued ≡ false → (is_reserved name && unbuilt_name name continued) ≡ false
+unfolding unbuilt_name
+define_built name continued a b = rw (a, b) (and-false (is_reserved name))
+
 -- the tokens at a `define`
 pub define_tokens : {R : Type 0} (unread : R → List ℕ) (f : FeedView R) (n : ℕ)
     → f.mode ≡ Plain → 0 < length (held_of f) → EndsLine (held_of f) (rest_of unread f) → length (held_of f) ≤ f.most → IsDefine (held_of f) n
@@ -267,7 +272,7 @@ define_tokens unread f n mode some ends fits define =
     let rest = rest_of unread f in
     let text : take (token_of Plain held).len held ≡ 96 ∷ front_name held = back_text held (back_front held define.kind) define.kind in
     let word : bytes_eq (front_name held) (codes "define") ≡ true = rw text at define.word in
-    let built : is_unbuilt held ≡ false = is_unbuilt-back held define.kind ∙ rw (word, define.built) (and-false (is_reserved (front_name held))) in
+    let built : is_unbuilt held ≡ false = is_unbuilt-back held define.kind ∙ define_built (front_name held) (line_continues 0 0 held) word define.built in
     let line : line_len held ≤ f.most = omega (arith, line_len-le held) in
     let step = remaining-define is_unbuilt f.most f.line f.line held f.room rest some ends (λ more e. is_unbuilt-append held more some e ∙ built) define.kind define.word define.built line in
     let P : ℕ → Type 0 = λ k. tokens_left unread f

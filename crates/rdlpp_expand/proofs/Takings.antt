@@ -11,7 +11,12 @@ use Rattle.rdlpp_scan.specs.Lines.{whole_lines_len}
 use Rattle.rdlpp_scan.specs.SourceTokens.{line_ends, logical_len}
 use Rattle.rdlpp_scan.proofs.SourceLaws.{line_ends-cons}
 use Rattle.rdlpp_scan.proofs.WholeLines.{IsWholeLines-drop}
-use Rattle.rdlpp_table.specs.Table.{Macro, macro_named}
+use Rattle.rdlpp_table.specs.Table.{Macro, macro_named, without}
+use Rattle.rdlpp_scan.specs.Stage.{is_reserved}
+use Rattle.rdlpp_scan.specs.declared.token.Kind.TheVariants.{Name}
+use Rattle.rdlpp_scan.proofs.FirstTokens.{plain_token-run}
+use Rattle.rdlpp_meaning.proofs.Outcomes.{and_then-gives_nil}
+use Rattle.rdlpp_expand.proofs.UndefMoves.{move_nameless, move_reserved, move_undef, undef_inside}
 use Rattle.rdlpp_table.specs.View.{TableView, macro_at}
 use Rattle.rdlpp_table.specs.Define.{define_of}
 use Rattle.rdlpp_table.specs.Define as table_define
@@ -29,7 +34,7 @@ use Rattle.rdlpp_expand.specs.Engine.{EngineView}
 use Rattle.rdlpp_expand.specs.Feed.{FeedView, IsFeed, EndsHeld, entered, held_of, unused_of}
 use Rattle.rdlpp_scan.specs.declared.token.Mode.{Mode}
 use Rattle.rdlpp_scan.specs.declared.token.Mode.TheVariants.{Plain}
-use Rattle.rdlpp_expand.specs.Front.{passed, IsText, IsUsage, IsDefine, usage_name, IsRefused, AtPerl, AtBare, AtUnbuilt}
+use Rattle.rdlpp_expand.specs.Front.{passed, IsLead, Leads, Lacks, IsText, IsUndef, undef_name, IsUsage, IsDefine, usage_name, IsRefused, AtPerl, AtBare, AtUnbuilt}
 use Rattle.rdlpp_expand.specs.Pieces.{placed_answer, bytes_at}
 use Rattle.rdlpp_expand.specs.Remaining.{left_of, open_left, kept_left, phase_left, rules_of, state_of, defined_by, kind_of_define}
 use Rattle.rdlpp_expand.specs.Steps.{Takes, IsReady, is_read_failed, is_write_failed}
@@ -347,3 +352,62 @@ define_whole held n some define = elim (define_logical held n some define) [
 pub defined_same : (b1 b2 n1 n2 : ℕ) (macros : List Macro) (r1 r2 : List ℕ) (o : table_define.Defined) →
     o ≡ define_of b1 n1 macros r1 → b1 ≡ b2 → n1 ≡ n2 → r1 ≡ r2 → define_of b2 n2 macros r2 ≡ o
 defined_same b1 b2 n1 n2 macros r1 r2 o e b n r = rw (← b, ← n, ← r) (sym e)
+
+-- the name of an `undef` is a word
+word_lead : (bytes : List ℕ) (n : ℕ) → IsLead Name bytes n → IsWordBytes (take n bytes)
+word_lead bytes n (Leads some is len) =
+    let run : n ≡ prefix_len is_word bytes = len ∙ ((plain_token-run bytes).name is).0 in
+    rw run (list_all-prefix is_word bytes)
+word_lead bytes n (Lacks other zero_is) = rw zero_is refl
+
+pub undef_word : (held : List ℕ) (start stop : ℕ) → IsUndef held start stop → IsWordBytes (undef_name held start stop)
+undef_word held start stop undef =
+    let stops = undef.stops in
+    let same : stop - start ≡ undef.len = omega arith in
+    rw same (word_lead (drop start held) undef.len undef.name)
+
+-- the faults of an `undef`
+pub nameless_kind : IsOwn fault.NameExpected
+unfolding is_read_failed is_write_failed
+nameless_kind = (refl, refl)
+
+pub reserved_kind : IsOwn fault.ReservedName
+unfolding is_read_failed is_write_failed
+reserved_kind = (refl, refl)
+
+-- an `undef` without a name
+pub left_nameless : {S R : Type 0} (unread : R → List ℕ) (e : EngineView S R) (start stop : ℕ) → e.feed.mode ≡ Plain → 0 < length (held_of e.feed) → EndsHeld e.feed → IsUndef (held_of e.feed) start stop →
+    start ≡ stop → open_left unread e ≡ fails (fault_at fault.NameExpected e.feed.line [] (state_of e))
+unfolding open_left
+left_nameless unread e start stop mode some ends undef none =
+    move_nameless unread (rules_of e.limits e.origins) e.blanks (state_of e) e.feed start stop mode some (ends_line unread e.feed ends) undef none
+
+-- an `undef` of a reserved name
+pub left_reserved : {S R : Type 0} (unread : R → List ℕ) (e : EngineView S R) (start stop : ℕ) → e.feed.mode ≡ Plain → 0 < length (held_of e.feed) → EndsHeld e.feed → IsUndef (held_of e.feed) start stop →
+    start < stop → is_reserved (undef_name (held_of e.feed) start stop) ≡ true → open_left unread e ≡ fails (fault_at fault.ReservedName e.feed.line (undef_name (held_of e.feed) start stop) (state_of e))
+unfolding open_left
+left_reserved unread e start stop mode some ends undef has taken =
+    move_reserved unread (rules_of e.limits e.origins) e.blanks (state_of e) e.feed start stop mode some (ends_line unread e.feed ends) undef has taken
+
+-- no bytes stand from a place up to itself
+no_part : (at : ℕ) (xs : List ℕ) → slice_range xs at at ≡ []
+no_part at xs = let none : at - at ≡ 0 = omega arith in ap (λ n. take n (drop at xs)) none
+
+-- a macro is taken out
+pub take_undef : {S R : Type 0} (g : Ghosts S R) (old new : EngineView S R) (start stop end : ℕ) (table : TableView) →
+    IsReady old → old.feed.mode ≡ Plain → EndsHeld old.feed → IsUndef (held_of old.feed) start stop → start < stop →
+    is_reserved (undef_name (held_of old.feed) start stop) ≡ false →
+    table ≡ record old.table { macros = without (undef_name (held_of old.feed) start stop) old.table.macros } →
+    new ≡ record old { blanks = only_blanks old.blanks (take stop (held_of old.feed)); feed = passed old.feed stop 0; table = table } →
+    Takes g old new (placed_answer new (Ok (Source end end)))
+unfolding open_left state_of start_state passed
+take_undef g old new start stop end table ready mode ends undef has free removed becomes =
+    let inside = undef_inside (held_of old.feed) start stop ready.bytes undef in
+    let w = take stop (held_of old.feed) in
+    let after = record old { blanks = only_blanks old.blanks w; feed = passed old.feed stop 0; table = record old.table { macros = without (undef_name (held_of old.feed) start stop) old.table.macros } } in
+    let same : new ≡ after = becomes ∙ ap (λ t. record old { blanks = only_blanks old.blanks w; feed = passed old.feed stop 0; table = t }) removed in
+    let part : slice_range after.feed.window end end ≡ [] = no_part end after.feed.window in
+    rw (same, part) (takes_bytes g old after [] refl refl refl refl ready.free ready.open_
+    (move_undef g.unread (rules_of old.limits old.origins) old.blanks (state_of old) old.feed start stop mode ready.bytes (ends_line g.unread old.feed ends) undef has free
+    ∙ sym (and_then-gives_nil (open_left g.unread after)))
+    (passed_unused old.feed stop 0 (omega (arith, inside.0, inside.1)) inside.2))

@@ -1,10 +1,10 @@
 -- What the held bytes of a source begin with.
 -- A definition that names no source is this project's own.
-use Rattle.std.specs.Prelude.{◌≡◌, ℕ, ◌+◌, ◌-◌, ◌<◌, Bool, true, false, List, take, drop, bytes_eq, codes}
+use Rattle.std.specs.Prelude.{◌≡◌, ℕ, ◌+◌, ◌-◌, ◌<◌, Bool, true, false, List, length, take, drop, bytes_eq, codes}
 use Rattle.rdlpp_scan.specs.declared.token.Mode.{Mode}
 use Rattle.rdlpp_scan.specs.declared.token.Mode.TheVariants.{Plain}
 use Rattle.rdlpp_scan.specs.declared.token.Kind.{Kind}
-use Rattle.rdlpp_scan.specs.declared.token.Kind.TheVariants.{Back, BareBackquote, BlockComment, LineComment, Perl, Str}
+use Rattle.rdlpp_scan.specs.declared.token.Kind.TheVariants.{Back, BareBackquote, Blank, BlockComment, LineComment, Name, Perl, Str}
 use Rattle.rdlpp_scan.specs.Tokens.{token_of, plain_len}
 use Rattle.rdlpp_scan.specs.SourceTokens.{line_len}
 use Rattle.rdlpp_scan.specs.Lines.{line_continues}
@@ -13,7 +13,7 @@ use Rattle.rdlpp_meaning.specs.declared.fault.FaultKind.{FaultKind}
 use Rattle.rdlpp_meaning.specs.declared.fault.FaultKind.TheVariants as fault
 use Rattle.rdlpp_expand.specs.Feed.{FeedView}
 use Rattle.rdlpp_expand.specs.declared.front.Front.{Front}
-use Rattle.rdlpp_expand.specs.declared.front.Front.TheVariants.{Text, Usage, Define, Refused}
+use Rattle.rdlpp_expand.specs.declared.front.Front.TheVariants.{Text, Usage, Define, Undef, Refused}
 
 -- a kind of tokens that are copied, and may be copied in parts: strings and comments
 unfoldable pub is_text_kind : Kind → Bool
@@ -40,6 +40,26 @@ pub record IsDefine (held : List ℕ) (len : ℕ) : Type 0 where
   pub built : line_continues 0 0 held ≡ false
   pub whole : len ≡ line_len held
 
+-- the first token of a text, where it is of a kind: how long it is; 0 where it isn't
+pub data IsLead (kind : Kind) (bytes : List ℕ) (len : ℕ) : Type 0 where
+  Leads : 0 < length bytes → (token_of Plain bytes).kind ≡ kind → len ≡ (token_of Plain bytes).len → IsLead kind bytes len
+  Lacks : (0 < length bytes → (token_of Plain bytes).kind ≡ kind → ⊥) → len ≡ 0 → IsLead kind bytes len
+
+-- an `undef`, behind which blanks stand up to a place, and a name up to another
+pub record IsUndef (held : List ℕ) (start stop : ℕ) : Type 0 where
+  pub kind : (token_of Plain held).kind ≡ Back
+  pub word : bytes_eq (take (token_of Plain held).len held) (codes "`undef") ≡ true
+  pub blanks : ℕ
+  pub space : IsLead Blank (drop 6 held) blanks
+  pub starts : start ≡ 6 + blanks
+  pub len : ℕ
+  pub name : IsLead Name (drop start held) len
+  pub stops : stop ≡ start + len
+
+-- the name that an `undef` is given
+abbrev pub undef_name : List ℕ → ℕ → ℕ → List ℕ
+undef_name held start stop = take (stop - start) (drop start held)
+
 -- what ends the output
 pub data IsRefused (mode : Mode) (held : List ℕ) : FaultKind → Type 0 where
   AtPerl : (token_of mode held).kind ≡ Perl → IsRefused mode held fault.EmbeddedPerl
@@ -51,6 +71,7 @@ abbrev pub IsFront : Mode → List ℕ → Front → Type 0
 IsFront mode held (Text len next) = IsText mode held len next
 IsFront mode held (Usage len) = (mode ≡ Plain) × IsUsage held len
 IsFront mode held (Define len) = (mode ≡ Plain) × IsDefine held len
+IsFront mode held (Undef start stop) = (mode ≡ Plain) × IsUndef held start stop
 IsFront mode held (Refused kind) = IsRefused mode held kind
 
 -- an open source of which so many more bytes are used, with so many line ends

@@ -13,7 +13,7 @@ ghost use Rattle.rdlpp_expand.specs.Steps.{Ends, IsBounded, IsReady, IsStarted, 
 ghost use Rattle.rdlpp_expand.specs.Feed.{EndsHeld, closed_feed, entered, held_of};
 ghost use Rattle.rdlpp_expand.specs.Calls.{SourcesRead};
 ghost use Rattle.rdlpp_expand.specs.Supply.{Supplies, is_failed};
-ghost use Rattle.rdlpp_expand.specs.Front.{IsDefine, IsText, IsUsage, passed, usage_name};
+ghost use Rattle.rdlpp_expand.specs.Front.{IsDefine, IsText, IsUndef, IsUsage, passed, undef_name, usage_name};
 ghost use Rattle.rdlpp_table.specs.Table.{macro_named};
 ghost use Rattle.rdlpp_meaning.specs.Parts.{only_blanks};
 ghost use Rattle.rdlpp_meaning.specs.Stage.{is_unbuilt_macro};
@@ -33,7 +33,7 @@ use crate::place::{Piece, Place};
 use crate::texts::{copied, copied_fault, word_of};
 use arrayvec::ArrayString;
 use rdlpp_meaning::{Fault, FaultKind};
-use rdlpp_scan::{Mode, line_ends_in};
+use rdlpp_scan::{Mode, line_ends_in, reserved};
 use rdlpp_source::Sources;
 use rdlpp_table::{LimitFault, Limits, MacroId, Table};
 use std::alloc::Global;
@@ -274,6 +274,28 @@ impl<S: Sources> Engine<S> {
         }
     }
 
+    // Takes out the macro of an `undef`, whose name stands from a place up to another.
+    fn undefine(&mut self, start: usize, stop: usize) -> Result<Place, Fault>
+        requires ready { IsReady self.old }
+        requires mode { self.old.feed.mode ≡ Mode.Plain }
+        requires undef { IsUndef (held_of self.old.feed) start stop }
+        ensures place { IfOk result (IsPlaced self.new) }
+        ensures takes { Takes S.Sources self.old self.new (placed_answer self.new result) }
+    {
+        let name = given_name(self.feed.held(), start, stop);
+        if stop == start {
+            return Err(self.refuse(FaultKind::NameExpected, ArrayString::new()));
+        }
+        if reserved(name).is_some() {
+            let word = word_of(name);
+            return Err(self.refuse(FaultKind::ReservedName, word));
+        }
+        let _found = self.table.remove(name);
+        let _count = self.table.len();
+        let end = self.pass(stop, 0);
+        Ok(Place::Source(end, end))
+    }
+
     // Takes what the held bytes begin with.
     fn take(&mut self) -> Result<Place, Fault>
         requires { IsReady self.old }
@@ -284,6 +306,7 @@ impl<S: Sources> Engine<S> {
             Front::Text(len, next) => Ok(self.pass_text(len, next)),
             Front::Usage(len) => self.expand(len),
             Front::Define(len) => self.define_line(len),
+            Front::Undef(start, stop) => self.undefine(start, stop),
             Front::Refused(kind) => Err(self.refuse(kind, ArrayString::new())),
         }
     }
@@ -402,6 +425,15 @@ fn name_of(held: &[u8], len: usize) -> &[u8]
     ensures { result.now ≡ usage_name held.now len }
 {
     &held[1..len]
+}
+
+// The name of an `undef`, from a place up to another.
+fn given_name(held: &[u8], start: usize, stop: usize) -> &[u8]
+    requires ordered { start ≤ stop }
+    requires inside { stop ≤ length held.now }
+    ensures { result.now ≡ undef_name held.now start stop }
+{
+    &held[start..stop]
 }
 
 // Whether usages of a macro are built.

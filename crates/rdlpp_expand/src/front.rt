@@ -1,12 +1,12 @@
 // What the held bytes of a source begin with.
-ghost use Rattle.std.specs.Prelude.{◌≡◌, ◌≢◌, ◌<◌, ◌≤◌, length, slice_index, true, Some};
+ghost use Rattle.std.specs.Prelude.{◌≡◌, ◌≢◌, ◌<◌, ◌≤◌, length, drop, slice_index, true, Some};
 ghost use Rattle.rdlpp_scan.specs.Names.{directive_named};
 ghost use Rattle.rdlpp_scan.specs.Stage.{name_behind};
 ghost use Rattle.rdlpp_scan.specs.Tokens.{stops_plain_text, token_of};
-ghost use Rattle.rdlpp_scan.specs.declared.token.Directive.TheVariants.{Define};
+ghost use Rattle.rdlpp_scan.specs.declared.token.Directive.TheVariants.{Define, Undef};
 ghost use Rattle.rdlpp_scan.specs.declared.token.Kind.TheVariants.{Back};
 ghost use Rattle.rdlpp_scan.specs.declared.token.Mode.TheVariants.{Plain};
-ghost use Rattle.rdlpp_expand.specs.Front.{IsFront};
+ghost use Rattle.rdlpp_expand.specs.Front.{IsFront, IsLead};
 
 use rdlpp_meaning::FaultKind;
 use rdlpp_scan::{
@@ -23,6 +23,8 @@ pub(crate) enum Front {
     Usage(usize),
     /// A `define` whose line, which isn't continued, has so many bytes.
     Define(usize),
+    /// An `undef`, behind which blanks stand up to a place, and a name up to another.
+    Undef(usize, usize),
     /// What ends the output.
     Refused(FaultKind),
 }
@@ -103,6 +105,7 @@ fn commanded(held: &[u8], directive: Directive) -> Front
 {
     match directive {
         Directive::Define => defined(held),
+        Directive::Undef => undefined(held),
         _ => Front::Refused(FaultKind::Unbuilt),
     }
 }
@@ -118,4 +121,35 @@ fn defined(held: &[u8]) -> Front
         return Front::Refused(FaultKind::Unbuilt);
     }
     Front::Define(rest_of_line(held).unwrap_or(held.len()))
+}
+
+// What held bytes begin with that begin with an `undef`.
+fn undefined(held: &[u8]) -> Front
+    requires backquote { slice_index held.now 0 ≡ 96 }
+    requires kind { (token_of Plain held.now).kind ≡ Back }
+    requires word { directive_named (name_behind held.now) ≡ Some Undef }
+    ensures { IsFront Plain held.now result }
+{
+    let start = 6 + lead_of(Kind::Blank, behind(held, 6));
+    let stop = start + lead_of(Kind::Name, behind(held, start));
+    Front::Undef(start, stop)
+}
+
+// What stands behind so many bytes.
+fn behind(bytes: &[u8], at: usize) -> &[u8]
+    ensures { result.now ≡ drop at bytes.now }
+{
+    &bytes[bytes.len().min(at)..]
+}
+
+// How long the first token is, where it is of a kind; 0 where it isn't.
+fn lead_of(kind: Kind, bytes: &[u8]) -> usize
+    ensures lead { IsLead kind bytes.now result }
+    ensures inside { result ≤ length bytes.now }
+{
+    if bytes.is_empty() {
+        return 0;
+    }
+    let token = first_token(Mode::Plain, bytes);
+    if token.kind == kind { token.len } else { 0 }
 }

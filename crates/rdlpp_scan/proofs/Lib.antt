@@ -28,3 +28,4 @@ pub mod ContinuedLines
 pub mod EndedTokens
 pub mod CommentLaws
 pub mod ResumedTokens
+pub mod FirstTokens

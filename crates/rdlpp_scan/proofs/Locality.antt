@@ -1,6 +1,5 @@
 -- What a text that ends at a line end tells of itself stays so with more behind it.
-use Rattle.std.proofs.Common.{◌≡◌, ℕ, ◌<◌, Bool, false, not, ◌&&◌, ◌||◌, eqb, List, [], ◌∷◌, ◌++◌, length, take, refl, sym, ap, ◌∙◌, subst, inl, inr, ⊎_elim, arith}
-use Rattle.std.specs.Prelude.{codes, bytes_eq}
+use Rattle.std.proofs.Common.{◌≡◌, ℕ, ◌<◌, Bool, false, ◌&&◌, ◌||◌, eqb, List, [], ◌∷◌, ◌++◌, length, take, refl, sym, ap, ◌∙◌, subst, inl, inr, ⊎_elim, arith}
 use Rattle.std.specs.List.{prefix_len}
 use Rattle.std.proofs.lemmas.List.{take-append-le}
 use Rattle.std.proofs.lemmas.List.Sums.{prefix_len-le-length}
@@ -10,7 +9,7 @@ use Rattle.rdlpp_scan.specs.Bytes.{is_word, is_letter, is_digit, begins_line_com
 use Rattle.rdlpp_scan.specs.Tokens.{token_of, stops_plain_text}
 use Rattle.rdlpp_scan.specs.Lines.{EndsLine, IsWholeLines, line_continues}
 use Rattle.rdlpp_scan.specs.Pieces.{IsCut}
-use Rattle.rdlpp_scan.specs.Stage.{is_unbuilt, is_reserved, name_behind}
+use Rattle.rdlpp_scan.specs.Stage.{is_unbuilt, unbuilt_name, is_reserved, name_behind}
 use Rattle.rdlpp_scan.proofs.LineLaws.{line_continues-whole, nothing_behind}
 use Rattle.rdlpp_scan.proofs.WholeLines.{IsWholeLines-rest, IsWholeLines-one}
 use Rattle.rdlpp_scan.proofs.Seams.{Seam, Closed, BeforePerl, OpenString, OpenComment, token_of-seam, begins_perl-append, begins_line_comment-append, begins_block_comment-append, run-append, line_end-ten}
@@ -52,7 +51,7 @@ name_behind-append b c w more cut =
 
 -- what isn't built, by its parts
 unbuilt_parts : ℕ → List ℕ → Bool → Bool
-unbuilt_parts b name continues = eqb b 96 && is_reserved name && (not (bytes_eq name (codes "define")) || continues)
+unbuilt_parts b name continues = eqb b 96 && is_reserved name && unbuilt_name name continues
 
 is_unbuilt-parts : (b : ℕ) (bs : List ℕ) → is_unbuilt (b ∷ bs) ≡ unbuilt_parts b (name_behind (b ∷ bs)) (line_continues 0 0 (b ∷ bs))
 unfolding is_unbuilt unbuilt_parts

@@ -64,11 +64,11 @@ comment_by_mode c o l k n InStr bs is = open_end-breaks c CommentOpen o l (take 
 comment_by_mode c o l k n InBlock bs is = open_end-breaks c CommentOpen o l (take n bs)
 
 -- the tokens behind a step
-after_step : (c : Course) (l b : ℕ) (bs : List ℕ) → Step → List SourceToken
+unfoldable pub after_step : (c : Course) (l b : ℕ) (bs : List ℕ) → Step → List SourceToken
 after_step c l b bs (Last t) = t ∷ []
 after_step c l b bs (Next t) = t ∷ source_tokens c Plain l (line_after b l) (length t.bytes - 1) bs
 
-tokens_step : (c : Course) (m : Mode) (o l b : ℕ) (bs : List ℕ) → source_tokens c m o l 0 (b ∷ bs) ≡ after_step c l b bs (source_step c m o l (b ∷ bs))
+pub tokens_step : (c : Course) (m : Mode) (o l b : ℕ) (bs : List ℕ) → source_tokens c m o l 0 (b ∷ bs) ≡ after_step c l b bs (source_step c m o l (b ∷ bs))
 unfolding source_tokens after_step
 tokens_step c m o l b bs =
     elim (source_step c m o l (b ∷ bs)) as (λ s. (elim s [ Last t ↦ t ∷ [] | Next t ↦ t ∷ source_tokens c Plain l (line_after b l) (length t.bytes - 1) bs ]) ≡ after_step c l b bs s) [

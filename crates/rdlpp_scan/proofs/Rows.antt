@@ -9,7 +9,7 @@ use Rattle.rdlpp_scan.specs.Tokens.{tokens_from, token_of, plain_token, string_t
 use Rattle.rdlpp_scan.specs.Front.{PerlFound, StringOpen, CommentOpen, LineLong, SourceLong, DefineLong, DefineCut, Unbuilt, front, front_of_lines, lines_of, onto_first, onto_front}
 use Rattle.rdlpp_scan.specs.SourceTokens.{Sort, SourceToken, Ordinary, Definition, Renumbering, Broken, whole_tokens, remaining_tokens, source_tokens, source_step, source_end, step_by, string_step, comment_step, back_step, define_step, line_step, open_end, broken, line_ends, line_after, logical_len, is_continued, line_len}
 use Rattle.rdlpp_scan.specs.Lines.{line_continues}
-use Rattle.rdlpp_scan.specs.Stage.{is_unbuilt, is_reserved, reserved_names, name_behind}
+use Rattle.rdlpp_scan.specs.Stage.{is_unbuilt, unbuilt_name, is_reserved, reserved_names, name_behind}
 
 -- all is built
 built : List ℕ → Bool
@@ -97,7 +97,7 @@ record Rows : Type 0 where
       ∷ token (Ordinary LineEnd) (codes "\n") 2 ∷ []
   -- a directive, at this stage of the project
   unbuilt_directive :
-      whole_tokens is_unbuilt 100 1000 (codes "\n`undef A")
+      whole_tokens is_unbuilt 100 1000 (codes "\n`ifdef A")
       ≡ token (Ordinary LineEnd) (codes "\n") 1
       ∷ token (Broken Unbuilt) [] 2 ∷ []
   -- a `define` over two lines, at this stage of the project
@@ -158,5 +158,5 @@ record Rows : Type 0 where
       ∷ token (Ordinary Name) (codes "x") 2 ∷ []
 
 rows : Rows
-unfolding without_line_comments other_texts is_line_comment tokens_from whole_tokens remaining_tokens front front_of_lines lines_of onto_first onto_front source_tokens source_step source_end step_by string_step comment_step back_step define_step line_step open_end broken line_ends line_after logical_len is_continued line_len token_of plain_token string_token block_token whole string_stop first_place is_blank is_line_end is_letter is_digit is_word is_opener is_closer takes_word begins_perl begins_line_comment begins_block_comment ends_block_comment is_unbuilt is_reserved reserved_names name_behind line_continues built
+unfolding without_line_comments other_texts is_line_comment tokens_from whole_tokens remaining_tokens front front_of_lines lines_of onto_first onto_front source_tokens source_step source_end step_by string_step comment_step back_step define_step line_step open_end broken line_ends line_after logical_len is_continued line_len token_of plain_token string_token block_token whole string_stop first_place is_blank is_line_end is_letter is_digit is_word is_opener is_closer takes_word begins_perl begins_line_comment begins_block_comment ends_block_comment is_unbuilt unbuilt_name is_reserved reserved_names name_behind line_continues built
 rows = record { define_then_usage = refl; string_over_two_lines = refl; continued_define = refl; perl_in_string = refl; perl_taken_along = refl; perl_in_comment = refl; long_line = refl; long_source = refl; string_at_break = refl; open_string = refl; open_comment = refl; define_with_long_line = refl; define_at_source_end = refl; string_in_text = refl; unbuilt_directive = refl; unbuilt_define = refl; define_with_list = refl; usage_in_string = refl; comment_in_define = refl; perl_in_text = refl; perl_in_line_comment = refl; open_string_over_lines = refl; long_define = refl; comments_dropped = refl; line_directive = refl }

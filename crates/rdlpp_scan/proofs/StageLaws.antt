@@ -1,6 +1,6 @@
 -- What isn't built, by the first token.
-use Rattle.std.proofs.Common.{◌≡◌, ℕ, zero, suc, ◌-◌, Bool, true, false, not, ◌&&◌, ◌||◌, eqb, List, [], ◌∷◌, take, drop, get_or, refl, sym, ap, ◌∙◌, arith}
-use Rattle.std.specs.Prelude.{codes, bytes_eq}
+use Rattle.std.proofs.Common.{◌≡◌, ℕ, zero, suc, ◌-◌, Bool, true, false, ◌&&◌, ◌||◌, eqb, List, [], ◌∷◌, take, drop, get_or, refl, sym, ap, ◌∙◌, arith}
+use Rattle.std.specs.Prelude.{bytes_eq}
 use Rattle.std.specs.List.{prefix_len}
 use Rattle.std.proofs.lemmas.Bool.{eqb-true, and_parts, false≢true}
 use Rattle.rdlpp_scan.specs.declared.token.Kind.{Kind}
@@ -11,7 +11,7 @@ use Rattle.rdlpp_scan.specs.Bytes.{is_letter, is_word, begins_perl, begins_line_
 use Rattle.rdlpp_scan.specs.Tokens.{token_of, whole, stops_plain_text}
 use Rattle.rdlpp_scan.specs.Lines.{line_continues}
 use Rattle.rdlpp_scan.specs.Ordinary.{is_plain_kind}
-use Rattle.rdlpp_scan.specs.Stage.{is_unbuilt, is_reserved, reserved_names, name_behind}
+use Rattle.rdlpp_scan.specs.Stage.{is_unbuilt, unbuilt_name, is_reserved, reserved_names, name_behind}
 use Rattle.rdlpp_scan.proofs.Searches.{false_since}
 use Rattle.rdlpp_scan.proofs.StopKinds.{Row, AtPerl, AtLineComment, AtBlockComment, AtString, AtBack, AtBare, AtPlain, token_of-row}
 
@@ -21,18 +21,18 @@ front_name bs = take ((token_of Plain bs).len - 1) (drop 1 bs)
 
 -- what the first byte leaves of the test
 is_unbuilt-byte : (bs : List ℕ) (n : ℕ) → get_or bs 0 0 ≡ n
-    → is_unbuilt bs ≡ (eqb n 96 && is_reserved (name_behind bs) && (not (bytes_eq (name_behind bs) (codes "define")) || line_continues 0 0 bs))
+    → is_unbuilt bs ≡ (eqb n 96 && is_reserved (name_behind bs) && unbuilt_name (name_behind bs) (line_continues 0 0 bs))
 unfolding is_unbuilt
 is_unbuilt-byte bs n is =
     let R = is_reserved (name_behind bs) in
-    let N = not (bytes_eq (name_behind bs) (codes "define")) || line_continues 0 0 bs in
+    let N = unbuilt_name (name_behind bs) (line_continues 0 0 bs) in
     ap (λ m. eqb m 96 && R && N) is
 
 -- what begins with no backquote is built
 is_unbuilt-first : (bs : List ℕ) (n : ℕ) → eqb (get_or bs 0 0) n ≡ true → eqb n 96 ≡ false → is_unbuilt bs ≡ false
 is_unbuilt-first bs n first other =
     let R = is_reserved (name_behind bs) in
-    let N = not (bytes_eq (name_behind bs) (codes "define")) || line_continues 0 0 bs in
+    let N = unbuilt_name (name_behind bs) (line_continues 0 0 bs) in
     is_unbuilt-byte bs n (eqb-true (get_or bs 0 0) n first) ∙ ap (λ t. t && R && N) other
 
 -- `<%` is
@@ -88,7 +88,7 @@ bare_name bs h = not_reserved _ (first_of_name (prefix_len is_word (drop 1 bs)) 
 -- a backquote without a name is built
 pub is_unbuilt-at_bare : (bs : List ℕ) → eqb (get_or bs 0 0) 96 ≡ true → is_letter (get_or bs 1 0) ≡ false → is_unbuilt bs ≡ false
 is_unbuilt-at_bare bs h none =
-    let N = not (bytes_eq (name_behind bs) (codes "define")) || line_continues 0 0 bs in
+    let N = unbuilt_name (name_behind bs) (line_continues 0 0 bs) in
     is_unbuilt-byte bs 96 (eqb-true (get_or bs 0 0) 96 h) ∙ ap (λ t. t && N) (bare_name bs none)
 
 -- by the kind of the first token
@@ -131,12 +131,12 @@ module _ (bs : List ℕ) where
   is_unbuilt-bare is =
       by_row BareBackquote (is_unbuilt bs ≡ false) (token_of Plain bs) is (token_of-row bs) (λ e _. absurd (cc)) (λ e _. absurd (cc)) (λ e _. absurd (cc)) (λ e _. absurd (cc)) (λ e _ _. absurd (cc)) (λ _ h g. is_unbuilt-at_bare bs h g) (λ e. absurd (false≢true e))
 
-  -- a backquote with a name: unbuilt where the name is reserved and isn't `define`, or its line ends in a continuation
+  -- a backquote with a name: unbuilt by that name, where it is reserved
   pub is_unbuilt-back : (token_of Plain bs).kind ≡ Back
-      → is_unbuilt bs ≡ (is_reserved (front_name bs) && (not (bytes_eq (front_name bs) (codes "define")) || line_continues 0 0 bs))
+      → is_unbuilt bs ≡ (is_reserved (front_name bs) && unbuilt_name (front_name bs) (line_continues 0 0 bs))
   unfolding is_plain_kind name_behind
   is_unbuilt-back is =
-      let R : List ℕ → Bool = λ name. is_reserved name && (not (bytes_eq name (codes "define")) || line_continues 0 0 bs) in
+      let R : List ℕ → Bool = λ name. is_reserved name && unbuilt_name name (line_continues 0 0 bs) in
       let named : (token_of Plain bs).len ≡ suc (prefix_len is_word (drop 1 bs)) → name_behind bs ≡ front_name bs = λ e.
       let less : prefix_len is_word (drop 1 bs) ≡ (token_of Plain bs).len - 1 = omega arith in
       ap (λ n. take n (drop 1 bs)) less in

@@ -1,6 +1,6 @@
 -- What isn't built yet, in the one place where it is said: a source's list of tokens ends, with a broken token without bytes,
 -- at the first token that a later stage brings.
-use Rattle.std.specs.Prelude.{ℕ, Bool, not, ◌&&◌, ◌||◌, ◌==◌, List, [], ◌∷◌, take, drop, bytes_eq, slice_index, codes}
+use Rattle.std.specs.Prelude.{ℕ, Bool, not, ◌&&◌, ◌==◌, List, [], ◌∷◌, take, drop, bytes_eq, slice_index, codes, if◌then◌else◌}
 use Rattle.std.specs.List.{prefix_len, list_any}
 use Rattle.rdlpp_scan.specs.Bytes.{is_word}
 use Rattle.rdlpp_scan.specs.Lines.{line_continues}
@@ -19,9 +19,14 @@ is_reserved name = list_any (bytes_eq name) reserved_names
 unfoldable pub name_behind : List ℕ → List ℕ
 name_behind bytes = take (prefix_len is_word (drop 1 bytes)) (drop 1 bytes)
 
--- a text that begins with what isn't built: any directive but `define`, and a `define` whose physical line ends in a continuation
+-- whether a directive isn't built yet, by its name and whether its physical line ends in a continuation: a `define` with one,
+-- and any other directive but `undef`
+unfoldable pub unbuilt_name : List ℕ → Bool → Bool
+unbuilt_name name continued =
+    if bytes_eq name (codes "define") then continued else not (bytes_eq name (codes "undef"))
+
+-- a text that begins with what isn't built: such a directive
 unfoldable pub is_unbuilt : List ℕ → Bool
 is_unbuilt bytes =
     let name = name_behind bytes in
-    slice_index bytes 0 == 96 && is_reserved name
-    && (not (bytes_eq name (codes "define")) || line_continues 0 0 bytes)
+    slice_index bytes 0 == 96 && is_reserved name && unbuilt_name name (line_continues 0 0 bytes)

@@ -139,7 +139,7 @@ fn reports_what_ended_a_run(rt: HostRuntime) -> Result<(), Fail> {
     let rows: [(&[u8], Limits, &str, u8); 3] = [
         (b"`Q", STANDARD, "m:1: error F7: undefined macro 'Q'\n", 1),
         (
-            b"a `undef b\n",
+            b"a `ifdef b\n",
             STANDARD,
             "m:1: error F99: not built yet\n",
             1,

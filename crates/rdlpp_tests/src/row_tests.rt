@@ -315,6 +315,69 @@ fn gives_each_row_of_definitions(rt: HostRuntime) {
 }
 
 #[test]
+fn takes_out_macros(rt: HostRuntime) {
+    let rows = [
+        faulty(
+            "a usage behind an undef",
+            b"`define A 1\n`A`undef A`A\n",
+            b"\n1",
+            fault(7, 2, "A"),
+        ),
+        whole(
+            "another macro behind an undef",
+            b"`define A 1\n`define AB 2\n`undef\t A\n`AB`undef A;\n",
+            b"\n\n\n2;\n",
+        ),
+        whole(
+            "a definition behind an undef",
+            b"`define A 1\n`undef A\n`define A 2\n`A",
+            b"\n\n\n2",
+        ),
+        whole(
+            "an undef of what isn't defined",
+            b"a`undef B c\n`undef B",
+            b"a c\n",
+        ),
+        faulty("no name at the end", b"a`undef", b"a", fault(15, 1, "")),
+        faulty(
+            "only blanks at the end",
+            b"\n`undef \t",
+            b"\n",
+            fault(15, 2, ""),
+        ),
+        faulty(
+            "a line end for a name",
+            b"`undef \nA",
+            b"",
+            fault(15, 1, ""),
+        ),
+        faulty(
+            "a comment for a name",
+            b"`undef /**/A",
+            b"",
+            fault(15, 1, ""),
+        ),
+        faulty("a usage for a name", b"`undef `A", b"", fault(15, 1, "")),
+        faulty(
+            "an open string for a name",
+            b"`undef \"",
+            b"",
+            fault(15, 1, ""),
+        ),
+        faulty("Perl for a name", b"\n`undef <%", b"\n", fault(15, 2, "")),
+        faulty(
+            "an undef of a reserved name",
+            b"\n`undef define\n",
+            b"\n",
+            fault(16, 2, "define"),
+        ),
+    ];
+    for row in &rows {
+        run_row(&rt, row);
+    }
+}
+
+#[test]
 fn copies_strings_and_comments(rt: HostRuntime) {
     let rows = [
         whole(
