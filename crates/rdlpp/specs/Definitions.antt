@@ -8,7 +8,7 @@ use Rattle.rdlpp_table.specs.Define.{Accepted, Refused, set_of}
 use Rattle.rdlpp_table.specs.declared.fault.DefineKind.{DefineKind}
 use Rattle.rdlpp_meaning.specs.Outcome.{Told, told}
 use Rattle.rdlpp_expand.specs.Engine.{EngineView}
-use Rattle.rdlpp_expand.specs.Remaining.{kind_of_define}
+use Rattle.rdlpp_meaning.specs.Profile.{define_fault}
 use Rattle.rdlpp_expand.specs.declared.writing.RunFault.{RunFault}
 
 -- a definition from outside: its name and its text
@@ -22,7 +22,7 @@ pub data Given : Type 0 where
 
 -- the fault of a refused definition: its place from 1 as the line, under the name `-D` (source: this project's profile)
 unfoldable pub refused_definition : DefineKind → List ℕ → ℕ → Told
-refused_definition kind word place = record { kind = kind_of_define kind; name = codes "-D"; line = place; word = word }
+refused_definition kind word place = record { kind = define_fault kind; name = codes "-D"; line = place; word = word }
 
 -- the macros of definitions, each a name and a text, in order behind others, where so many definitions stand before them;
 -- they may have so many bytes and be so many (source: this project's profile)

@@ -21,7 +21,8 @@ use Rattle.rdlpp_meaning.specs.Output.{character_place, name_cut, opening_fault,
 use Rattle.rdlpp_meaning.proofs.Outputs.{output_plain, output_missing, output_overlong}
 use Rattle.rdlpp_expand.specs.Engine.{EngineView}
 use Rattle.rdlpp_expand.specs.Feed.{opened_feed, tokens_left, held_of, rest_of, unread_of}
-use Rattle.rdlpp_expand.specs.Remaining.{rules_of, state_of, open_left, phase_left, kept_left, left_of}
+use Rattle.rdlpp_expand.specs.Remaining.{staged_rules, state_of, open_left, phase_left, kept_left, left_of}
+use Rattle.rdlpp_meaning.specs.Profile.{rules_of}
 use Rattle.rdlpp_expand.specs.Steps.{is_read_failed}
 use Rattle.rdlpp_expand.specs.Opening.{kind_of_source, lookup_of, opened_engine, unopened_engine, staged_output, is_memory_kind, is_device_fault, is_memory_fault, Starts}
 use Rattle.rdlpp_expand.proofs.Bounds.{is_bounded}
@@ -121,11 +122,11 @@ name_cut_at bytes r below at nearest = cut_at_boundary bytes 1024 r below at nea
 left_opened : {S R : Type 0} (unread : R → List ℕ) (e : EngineView S R) (s : S) (found : Found R)
     → e.feed.most ≡ e.limits.line_bytes
     → left_of unread (opened_engine (record e { sources = s }) found)
-    ≡ remains (rules_of e.limits e.origins) (Live []) true ((rules_of e.limits e.origins).tokens (unread found.reader))
+    ≡ remains (staged_rules e.limits e.origins) (Live []) true ((staged_rules e.limits e.origins).tokens (unread found.reader))
     (start_state e.table.macros e.limits.includes e.limits.conditions found.path.bytes)
-unfolding left_of kept_left phase_left open_left state_of opened_engine opened_feed tokens_left held_of rest_of unread_of whole_tokens rules_of
+unfolding left_of kept_left phase_left open_left state_of opened_engine opened_feed tokens_left held_of rest_of unread_of whole_tokens staged_rules rules_of
 left_opened unread e s found most =
-    ap (λ (n : ℕ). remains (rules_of e.limits e.origins) (Live []) true
+    ap (λ (n : ℕ). remains (staged_rules e.limits e.origins) (Live []) true
     (whole_tokens is_unbuilt n e.limits.source_bytes (unread found.reader))
     (start_state e.table.macros e.limits.includes e.limits.conditions found.path.bytes)) most
 
@@ -139,15 +140,15 @@ left_unopened unread e s kind path = refl
 staged_plain : {S R : Type 0} (g : Ghosts S R) (e : EngineView S R) (path : List ℕ) (answer : Answer)
     → e.origins ≡ false → (g.catalog e.sources).top path ≡ answer
     → staged_output g e path
-    ≡ output (rules_of e.limits e.origins) e.table.macros e.limits.includes e.limits.conditions path (lookup_of answer)
+    ≡ output (staged_rules e.limits e.origins) e.table.macros e.limits.includes e.limits.conditions path (lookup_of answer)
 unfolding staged_output
 staged_plain g e path answer plain found =
     cond-false _ _ _ plain
-    ∙ ap (λ (a : Answer). output (rules_of e.limits e.origins) e.table.macros e.limits.includes e.limits.conditions path (lookup_of a)) found
+    ∙ ap (λ (a : Answer). output (staged_rules e.limits e.origins) e.table.macros e.limits.includes e.limits.conditions path (lookup_of a)) found
 
 -- the rules write origin lines where the engine does
-rules_plain : {S R : Type 0} (e : EngineView S R) → e.origins ≡ false → (rules_of e.limits e.origins).origins ≡ false
-unfolding rules_of
+rules_plain : {S R : Type 0} (e : EngineView S R) → e.origins ≡ false → (staged_rules e.limits e.origins).origins ≡ false
+unfolding staged_rules rules_of
 rules_plain e plain = plain
 
 -- a start that finds its main text
@@ -174,7 +175,7 @@ starts_open g e s found path plain most fits answer failures refusals tells cata
   remains_output = λ _ _ telling.
       left_opened g.unread e s found most
       ∙ sym (staged_plain g e path _ plain (answer telling)
-      ∙ output_plain (rules_of e.limits e.origins) e.table.macros e.limits.includes e.limits.conditions path
+      ∙ output_plain (staged_rules e.limits e.origins) e.table.macros e.limits.includes e.limits.conditions path
       found.path.bytes (g.unread found.reader) (rules_plain e plain));
   bounded = is_bounded _ fits (omega arith);
 }

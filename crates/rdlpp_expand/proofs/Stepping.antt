@@ -12,7 +12,7 @@ use Rattle.rdlpp_meaning.specs.State.{State, fault_at, breach_kind}
 use Rattle.rdlpp_expand.specs.Calls.{SourcesRead}
 use Rattle.rdlpp_expand.specs.Engine.{EngineView}
 use Rattle.rdlpp_expand.specs.Feed.{FeedView, unused_of, tokens_left}
-use Rattle.rdlpp_expand.specs.Remaining.{left_of, open_left, kept_left, phase_left, rules_of, state_of}
+use Rattle.rdlpp_expand.specs.Remaining.{left_of, open_left, kept_left, phase_left, staged_rules, state_of}
 use Rattle.rdlpp_expand.specs.Steps.{Steps, StopsOpen, Takes, Tells, IsBounded, IsStarted, has_failed, is_read_failed, is_write_failed}
 use Rattle.rdlpp_scan.specs.declared.token.Mode.TheVariants.{Plain}
 use Rattle.rdlpp_expand.specs.Supply.{Supplies, ended_tokens, only_broken}
@@ -157,7 +157,7 @@ steps_end g old new sources feed last free open_ bounded mode supplies call beco
       own = λ none. tt;
       ends = λ e. (still, closed);
       call = rw (free, becomes) call;
-      tells = λ _ t. (rw (free, open_) (move_end g.unread (rules_of old.limits old.origins) old.blanks (state_of old) old.feed (supplies.tokens t ∙ ap (λ m. ended_tokens m old.feed.opened) plain)), rw (still, closed) refl);
+      tells = λ _ t. (rw (free, open_) (move_end g.unread (staged_rules old.limits old.origins) old.blanks (state_of old) old.feed (supplies.tokens t ∙ ap (λ m. ended_tokens m old.feed.opened) plain)), rw (still, closed) refl);
       falls = λ bytes e. absurd (cc);
       bounded = bounded;
     }
@@ -184,7 +184,7 @@ steps_broken g old new sources feed f breach line free open_ bounded own tokens 
       own = λ none. write;
       ends = λ e. absurd (cc);
       call = rw (free, kind, becomes) call;
-      tells = λ _ t. rw (free, open_) (move_broken g.unread (rules_of old.limits old.origins) old.blanks (state_of old) old.feed breach line (tokens t) ∙ ap fails (sym is));
+      tells = λ _ t. rw (free, open_) (move_broken g.unread (staged_rules old.limits old.origins) old.blanks (state_of old) old.feed breach line (tokens t) ∙ ap fails (sym is));
       falls = λ bytes e. absurd (cc);
       bounded = bounded;
     }

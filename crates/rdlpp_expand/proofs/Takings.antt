@@ -36,7 +36,8 @@ use Rattle.rdlpp_scan.specs.declared.token.Mode.{Mode}
 use Rattle.rdlpp_scan.specs.declared.token.Mode.TheVariants.{Plain}
 use Rattle.rdlpp_expand.specs.Front.{passed, IsLead, Leads, Lacks, IsText, IsUndef, undef_name, IsUsage, IsDefine, usage_name, IsRefused, AtPerl, AtBare, AtUnbuilt}
 use Rattle.rdlpp_expand.specs.Pieces.{placed_answer, bytes_at}
-use Rattle.rdlpp_expand.specs.Remaining.{left_of, open_left, kept_left, phase_left, rules_of, state_of, defined_by, kind_of_define}
+use Rattle.rdlpp_expand.specs.Remaining.{left_of, open_left, kept_left, phase_left, staged_rules, state_of}
+use Rattle.rdlpp_meaning.specs.Profile.{define_fault, rules_of, with_fault}
 use Rattle.rdlpp_expand.specs.Steps.{Takes, IsReady, is_read_failed, is_write_failed}
 use Rattle.rdlpp_expand.specs.declared.phase.Phase.TheVariants.{Open}
 use Rattle.rdlpp_expand.specs.declared.place.Place.TheVariants.{Source, Body}
@@ -191,7 +192,7 @@ take_text g old new n lines from to next ready ends used text counted becomes be
     let after = record old { blanks = only_blanks old.blanks w; feed = passed (entered old.feed next) n (line_ends w) } in
     let part : slice_range after.feed.window from to ≡ w = rw (begins, stops) (held_part old.feed n used inside) in
     rw (becomes, counted, part) (takes_bytes g old after w refl refl refl refl ready.free ready.open_
-    (move_text g.unread (rules_of old.limits old.origins) old.blanks (state_of old) old.feed n next ready.bytes (ends_line g.unread old.feed ends) text)
+    (move_text g.unread (staged_rules old.limits old.origins) old.blanks (state_of old) old.feed n next ready.bytes (ends_line g.unread old.feed ends) text)
     (entered_unused old.feed next n (line_ends w) within.0 inside))
 
 -- a body is lent
@@ -201,14 +202,14 @@ pub take_usage : {S R : Type 0} (g : Ghosts S R) (old new : EngineView S R) (n i
     is_unbuilt_macro (macro_at old.table.macros id) ≡ false → 0 < old.limits.depth →
     new ≡ record old { blanks = only_blanks old.blanks (take n (held_of old.feed)); feed = passed old.feed n 0 } →
     Takes g old new (placed_answer new (Ok (Body id)))
-unfolding placed_answer bytes_at open_left state_of start_state rules_of passed
+unfolding placed_answer bytes_at open_left state_of start_state staged_rules rules_of passed
 take_usage g old new n id ready mode ends usage named built depth becomes =
     let held = usage_inside (held_of old.feed) n ready.bytes usage in
     let inside = held.1 in
     let some = held.0 in
     let after = record old { blanks = only_blanks old.blanks (take n (held_of old.feed)); feed = passed old.feed n 0 } in
     rw becomes (takes_bytes g old after (macro_at old.table.macros id).body refl refl refl refl ready.free ready.open_
-    (move_usage g.unread (rules_of old.limits old.origins) old.blanks (state_of old) old.feed n (macro_at old.table.macros id)
+    (move_usage g.unread (staged_rules old.limits old.origins) old.blanks (state_of old) old.feed n (macro_at old.table.macros id)
     mode ready.bytes (ends_line g.unread old.feed ends) usage named refl built depth)
     (passed_unused old.feed n 0 some inside))
 
@@ -229,7 +230,7 @@ pub take_define : {S R : Type 0} (g : Ghosts S R) (old new : EngineView S R) (n 
     lines ≡ line_ends (take n (held_of old.feed)) →
     new ≡ record old { blanks = only_blanks old.blanks (take n (held_of old.feed)); feed = passed old.feed n lines; table = table } →
     from ≡ old.feed.at + n - lines → to ≡ old.feed.at + n → Takes g old new (placed_answer new (Ok (Source from to)))
-unfolding placed_answer bytes_at open_left state_of start_state rules_of defined_by passed
+unfolding placed_answer bytes_at open_left state_of start_state staged_rules rules_of with_fault passed
 take_define g old new n lines from to table ready mode ends used fits define defined counted becomes begins stops =
     let held = define_inside (held_of old.feed) n ready.bytes define in
     let w = take n (held_of old.feed) in
@@ -242,8 +243,8 @@ take_define g old new n lines from to table ready mode ends used fits define def
     let part : slice_range after.feed.window from to ≡ line_ends_of w =
     rw (begins, stops, counted) (tail_part old.feed.at n (line_ends w) old.feed.window few ∙ (ap (drop (n - line_ends w)) same ∙ sym (define_line_ends (held_of old.feed) n define))) in
     rw (becomes, counted, part) (takes_bytes g old after (line_ends_of w) refl refl refl refl ready.free ready.open_
-    (move_defined g.unread (rules_of old.limits old.origins) old.blanks (state_of old) old.feed n table.macros
-    mode ready.bytes (ends_line g.unread old.feed ends) fits define (ap defined_by defined))
+    (move_defined g.unread (staged_rules old.limits old.origins) old.blanks (state_of old) old.feed n table.macros
+    mode ready.bytes (ends_line g.unread old.feed ends) fits define (ap with_fault defined))
     (passed_unused old.feed n (line_ends w) held.0 held.1))
 
 -- the kind of a fault that is told
@@ -267,8 +268,8 @@ refused_kind mode held kind (AtBare plain h) = (refl, refl)
 refused_kind mode held kind (AtUnbuilt plain h) = (refl, refl)
 
 -- nor is a refused definition
-pub define_kind : (kind : DefineKind) → IsOwn (kind_of_define kind)
-unfolding is_read_failed is_write_failed kind_of_define
+pub define_kind : (kind : DefineKind) → IsOwn (define_fault kind)
+unfolding is_read_failed is_write_failed define_fault
 define_kind define.EmbeddedPerl = (refl, refl)
 define_kind define.OpenString = (refl, refl)
 define_kind define.OpenComment = (refl, refl)
@@ -295,7 +296,7 @@ pub left_refused : {S R : Type 0} (unread : R → List ℕ) (e : EngineView S R)
     open_left unread e ≡ fails (fault_at kind e.feed.line [] (state_of e))
 unfolding open_left
 left_refused unread e kind some ends refused =
-    move_refused unread (rules_of e.limits e.origins) e.blanks (state_of e) e.feed kind some (ends_line unread e.feed ends) refused
+    move_refused unread (staged_rules e.limits e.origins) e.blanks (state_of e) e.feed kind some (ends_line unread e.feed ends) refused
 
 -- a usage of what isn't defined
 pub left_undefined : {S R : Type 0} (unread : R → List ℕ) (e : EngineView S R) (n : ℕ) → e.feed.mode ≡ Plain → 0 < length (held_of e.feed) → EndsHeld e.feed → IsUsage (held_of e.feed) n →
@@ -303,25 +304,25 @@ pub left_undefined : {S R : Type 0} (unread : R → List ℕ) (e : EngineView S 
     open_left unread e ≡ fails (fault_at fault.UndefinedMacro e.feed.line (usage_name (held_of e.feed) n) (state_of e))
 unfolding open_left state_of start_state
 left_undefined unread e n mode some ends usage none =
-    move_undefined unread (rules_of e.limits e.origins) e.blanks (state_of e) e.feed n mode some (ends_line unread e.feed ends) usage none
+    move_undefined unread (staged_rules e.limits e.origins) e.blanks (state_of e) e.feed n mode some (ends_line unread e.feed ends) usage none
 
 -- a usage of what isn't built
 pub left_unbuilt : {S R : Type 0} (unread : R → List ℕ) (e : EngineView S R) (n : ℕ) (m : Macro) → e.feed.mode ≡ Plain → 0 < length (held_of e.feed) → EndsHeld e.feed → IsUsage (held_of e.feed) n →
     macro_named e.table.macros (usage_name (held_of e.feed) n) ≡ Some m → is_unbuilt_macro m ≡ true →
     open_left unread e ≡ fails (fault_at fault.Unbuilt e.feed.line [] (state_of e))
-unfolding open_left state_of start_state rules_of
+unfolding open_left state_of start_state staged_rules rules_of
 left_unbuilt unread e n m mode some ends usage named unbuilt =
-    move_unbuilt unread (rules_of e.limits e.origins) e.blanks (state_of e) e.feed n m mode some (ends_line unread e.feed ends) usage named unbuilt
+    move_unbuilt unread (staged_rules e.limits e.origins) e.blanks (state_of e) e.feed n m mode some (ends_line unread e.feed ends) usage named unbuilt
 
 -- a `define` that is refused
 pub left_refused_define : {S R : Type 0} (unread : R → List ℕ) (e : EngineView S R) (n : ℕ) (kind : DefineKind) (word : List ℕ) →
     e.feed.mode ≡ Plain → 0 < length (held_of e.feed) → EndsHeld e.feed → length (held_of e.feed) ≤ e.feed.most → IsDefine (held_of e.feed) n →
     define_of e.limits.definition_bytes e.limits.definitions e.table.macros (drop 7 (take n (held_of e.feed))) ≡ table_define.Refused kind word →
-    open_left unread e ≡ fails (fault_at (kind_of_define kind) e.feed.line word (state_of e))
-unfolding open_left state_of start_state rules_of defined_by
+    open_left unread e ≡ fails (fault_at (define_fault kind) e.feed.line word (state_of e))
+unfolding open_left state_of start_state staged_rules rules_of with_fault
 left_refused_define unread e n kind word mode some ends fits define refused =
-    move_refused_define unread (rules_of e.limits e.origins) e.blanks (state_of e) e.feed n (kind_of_define kind) word
-    mode some (ends_line unread e.feed ends) fits define (ap defined_by refused)
+    move_refused_define unread (staged_rules e.limits e.origins) e.blanks (state_of e) e.feed n (define_fault kind) word
+    mode some (ends_line unread e.feed ends) fits define (ap with_fault refused)
 
 -- a fault's word is cut once
 pub cut_once : (kind : FaultKind) (line : ℕ) (word : List ℕ) (s : State) → fault_at kind line (take 128 word) s ≡ fault_at kind line word s
@@ -380,14 +381,14 @@ pub left_nameless : {S R : Type 0} (unread : R → List ℕ) (e : EngineView S R
     start ≡ stop → open_left unread e ≡ fails (fault_at fault.NameExpected e.feed.line [] (state_of e))
 unfolding open_left
 left_nameless unread e start stop mode some ends undef none =
-    move_nameless unread (rules_of e.limits e.origins) e.blanks (state_of e) e.feed start stop mode some (ends_line unread e.feed ends) undef none
+    move_nameless unread (staged_rules e.limits e.origins) e.blanks (state_of e) e.feed start stop mode some (ends_line unread e.feed ends) undef none
 
 -- an `undef` of a reserved name
 pub left_reserved : {S R : Type 0} (unread : R → List ℕ) (e : EngineView S R) (start stop : ℕ) → e.feed.mode ≡ Plain → 0 < length (held_of e.feed) → EndsHeld e.feed → IsUndef (held_of e.feed) start stop →
     start < stop → is_reserved (undef_name (held_of e.feed) start stop) ≡ true → open_left unread e ≡ fails (fault_at fault.ReservedName e.feed.line (undef_name (held_of e.feed) start stop) (state_of e))
 unfolding open_left
 left_reserved unread e start stop mode some ends undef has taken =
-    move_reserved unread (rules_of e.limits e.origins) e.blanks (state_of e) e.feed start stop mode some (ends_line unread e.feed ends) undef has taken
+    move_reserved unread (staged_rules e.limits e.origins) e.blanks (state_of e) e.feed start stop mode some (ends_line unread e.feed ends) undef has taken
 
 -- no bytes stand from a place up to itself
 no_part : (at : ℕ) (xs : List ℕ) → slice_range xs at at ≡ []
@@ -408,6 +409,6 @@ take_undef g old new start stop end table ready mode ends undef has free removed
     let same : new ≡ after = becomes ∙ ap (λ t. record old { blanks = only_blanks old.blanks w; feed = passed old.feed stop 0; table = t }) removed in
     let part : slice_range after.feed.window end end ≡ [] = no_part end after.feed.window in
     rw (same, part) (takes_bytes g old after [] refl refl refl refl ready.free ready.open_
-    (move_undef g.unread (rules_of old.limits old.origins) old.blanks (state_of old) old.feed start stop mode ready.bytes (ends_line g.unread old.feed ends) undef has free
+    (move_undef g.unread (staged_rules old.limits old.origins) old.blanks (state_of old) old.feed start stop mode ready.bytes (ends_line g.unread old.feed ends) undef has free
     ∙ sym (and_then-gives_nil (open_left g.unread after)))
     (passed_unused old.feed stop 0 (omega (arith, inside.0, inside.1)) inside.2))

@@ -17,7 +17,7 @@ use Rattle.rdlpp_meaning.specs.State.{Lookup, NoSource, LongPath, Source}
 use Rattle.rdlpp_meaning.specs.Output.{opening_fault, output}
 use Rattle.rdlpp_expand.specs.Engine.{EngineView}
 use Rattle.rdlpp_expand.specs.Feed.{closed_feed, opened_feed}
-use Rattle.rdlpp_expand.specs.Remaining.{rules_of, left_of}
+use Rattle.rdlpp_expand.specs.Remaining.{staged_rules, left_of}
 use Rattle.rdlpp_expand.specs.Steps.{IsBounded, IsStarted, is_read_failed}
 use Rattle.rdlpp_expand.specs.declared.engine.NewFault.{NewFault}
 use Rattle.rdlpp_expand.specs.declared.engine.NewFault.TheVariants.{BadLimits, NoMemory}
@@ -74,7 +74,7 @@ unopened_engine e fault = record e { phase = Closed; kept = Some fault }
 unfoldable pub staged_output : {S R : Type 0} → Ghosts S R → EngineView S R → List ℕ → Outcome
 staged_output g e path =
     if e.origins then fails (opening_fault Unbuilt path)
-    else output (rules_of e.limits e.origins) e.table.macros e.limits.includes e.limits.conditions path
+    else output (staged_rules e.limits e.origins) e.table.macros e.limits.includes e.limits.conditions path
     (lookup_of ((g.catalog e.sources).top path))
 
 -- the fault that a start answers

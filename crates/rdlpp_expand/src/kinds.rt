@@ -1,14 +1,14 @@
 // Kinds of faults.
 ghost use Rattle.std.specs.Prelude.{◌≡◌};
-ghost use Rattle.rdlpp_expand.specs.Remaining.{kind_of_define};
+ghost use Rattle.rdlpp_meaning.specs.Profile.{define_fault};
 
 use rdlpp_meaning::FaultKind;
 use rdlpp_table::DefineKind;
 
 /// The kind of fault that a refused definition is: the one of the same name (this project's profile).
-#[tactic(auto, unfolding(crate::specs::Remaining::kind_of_define))]
+#[tactic(auto, unfolding(rdlpp_meaning::specs::Profile::define_fault))]
 pub fn fault_kind(kind: DefineKind) -> FaultKind
-    ensures { result ≡ kind_of_define kind }
+    ensures { result ≡ define_fault kind }
 {
     match kind {
         DefineKind::EmbeddedPerl => FaultKind::EmbeddedPerl,
