@@ -201,6 +201,38 @@ fn gives_each_row(rt: HostRuntime) {
     }
 }
 
+// The worked rows of strings, comments and `undef`.
+#[test]
+fn gives_each_worked_row_of_text(rt: HostRuntime) {
+    let rows = [
+        whole(
+            "a usage in a string and behind it",
+            b"`define A 1\n\"`A\" A `A",
+            b"\n\"`A\" A 1",
+        ),
+        whole(
+            "embedded Perl in a comment",
+            b"// <% x %>\n",
+            b"// <% x %>\n",
+        ),
+        faulty(
+            "a redefinition and an undef",
+            b"`define A 1\n`define A 2\n`A`undef A\n`A",
+            b"\n\n2\n",
+            fault(7, 4, "A"),
+        ),
+        faulty(
+            "a string over two lines that isn't closed",
+            b"x \"ab\ncd",
+            b"x \"ab\ncd",
+            fault(2, 1, ""),
+        ),
+    ];
+    for row in &rows {
+        run_row(&rt, row);
+    }
+}
+
 #[test]
 fn gives_each_row_of_definitions(rt: HostRuntime) {
     let rows = [
