@@ -1,5 +1,5 @@
 # The few commands that a reader of this repository needs. `make help` lists them.
-.PHONY: help build run test fmt bench
+.PHONY: help build run test fmt bench definitions
 
 help: ## list these commands
 	@grep -E '^[a-z]+:.*##' $(MAKEFILE_LIST) | sed -E 's/^([a-z]+):.*## /  make \1\t/'
@@ -22,3 +22,6 @@ bench: ## build the programs, compare speed and memory with cat and cpp, and the
 	@bench/compare out/rdlpp
 	@cd crates/rdlpp_bench && rt run -- lines 0 < /dev/null > /dev/null
 	@bench/scan
+
+definitions: ## write the list of all definitions in docs/DEFINITIONS.md anew
+	@docs/list_definitions

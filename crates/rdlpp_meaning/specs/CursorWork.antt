@@ -1,4 +1,5 @@
 -- The work left of open cursors: one number with a digit for each of them, which falls at each step that goes on.
+-- A definition that names no source is this project's own.
 use Rattle.std.specs.Prelude.{◌≡◌, ℕ, suc, ◌+◌, ◌*◌, ◌^◌, ◌<◌, Bool, true, List, [], ◌∷◌, length, nat_lt}
 use Rattle.std.specs.List.{AllByRecursion}
 use Rattle.rdlpp_scan.specs.SourceTokens.{Broken, SourceToken}

@@ -1,4 +1,5 @@
 -- The machine of cursors: texts that are open, each with what its formals stand for, and one step of it.
+-- A definition that names no source is this project's own.
 use Rattle.std.specs.Prelude.{ℕ, zero, suc, Bool, true, false, ◌&&◌, ◌==◌, List, [], ◌∷◌, map, length, drop, bytes_eq, Option, None, Some, unwrap_or, if◌then◌else◌}
 use Rattle.std.specs.List.{list_any}
 use Rattle.rdlpp_scan.specs.declared.token.Kind.TheVariants.{Name, Back, BareBackquote}

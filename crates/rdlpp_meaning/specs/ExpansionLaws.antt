@@ -1,4 +1,5 @@
 -- The laws of expansion: of a run, of a usage, of the machine of cursors, and of literal substitution.
+-- A definition that names no source is this project's own.
 use Rattle.std.specs.Prelude.{◌≡◌, ℕ, suc, ◌≤◌, Bool, false, List, [], ◌∷◌, length, map, take, drop, None, Some, unwrap_or}
 use Rattle.std.specs.List.{flat_map}
 use Rattle.rdlpp_scan.specs.SourceTokens.{SourceToken}

@@ -1,4 +1,5 @@
 -- The number of each kind of fault.
+-- A definition that names no source is this project's own.
 use Rattle.std.specs.Prelude.{ℕ}
 use Rattle.rdlpp_meaning.specs.declared.fault.FaultKind.{FaultKind}
 use Rattle.rdlpp_meaning.specs.declared.fault.FaultKind.TheVariants.{EmbeddedPerl, OpenString, OpenComment, LineTooLong, SourceTooLong, BareBackquote, UndefinedMacro, RecursiveMacro, DirectiveInText, ArgumentsMissing, ArgumentsOpen, ArgumentBytes, ArgumentCount, DepthPassed, NameExpected, ReservedName, NameTooLong, BadFormals, FormalTwice, TooManyFormals, DefinitionBytes, TooManyDefinitions, StrayBranch, BranchAfterElse, OpenConditional, TooManyConditionals, IncludeName, SourceNotFound, TooManyIncludes, BadLine, PathTooLong, ReadFailed, WriteFailed, SourceMemory, Unbuilt}

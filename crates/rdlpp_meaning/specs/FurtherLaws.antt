@@ -1,4 +1,5 @@
 -- Further laws: of bodies that are copied, of `undef`, of tokens that are written in parts, and of a body read token by token.
+-- A definition that names no source is this project's own.
 use Rattle.std.specs.Prelude.{◌≡◌, ℕ, ◌<◌, Bool, true, false, List, ◌∷◌, ◌++◌, take, drop, None, Some}
 use Rattle.std.specs.List.{list_all}
 use Rattle.rdlpp_scan.specs.SourceTokens.{SourceToken, Ordinary, Broken}

@@ -1,4 +1,5 @@
 -- The laws of an include and of a nest of open sources.
+-- A definition that names no source is this project's own.
 use Rattle.std.specs.Prelude.{◌≡◌, ℕ, suc, Bool, true, false, ◌||◌, List, [], ◌∷◌, length, None, Some, not, ◌==◌}
 use Rattle.std.specs.Str.{is_utf8}
 use Rattle.rdlpp_scan.specs.declared.token.Directive.TheVariants.{Include}

@@ -1,4 +1,5 @@
 -- Items: tokens, and marks that stand for actuals.
+-- A definition that names no source is this project's own.
 use Rattle.std.specs.Prelude.{ℕ, List, [], ◌∷◌}
 use Rattle.rdlpp_scan.specs.SourceTokens.{SourceToken}
 
@@ -9,6 +10,7 @@ mutual
     Written : SourceToken → Item
     Arg : List (List ℕ) → Items → Item
 
+  -- the items of a mark
   pub data Items : Type 0 where
     Nothing : Items
     More : Item → Items → Items

@@ -1,4 +1,5 @@
 -- The laws of what remains of a file, in live text, for each kind of token in front of it.
+-- A definition that names no source is this project's own.
 use Rattle.std.specs.Prelude.{◌≡◌, ℕ, ◌<◌, Bool, true, false, List, [], ◌∷◌, ◌++◌, length, drop, None, Some}
 use Rattle.std.specs.List.{list_all}
 use Rattle.rdlpp_scan.specs.declared.token.Kind.TheVariants.{BareBackquote}

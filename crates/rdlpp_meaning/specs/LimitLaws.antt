@@ -1,4 +1,5 @@
 -- The law of larger limits: where no fault of a limit ends an output, larger limits give the same one.
+-- A definition that names no source is this project's own.
 use Rattle.std.specs.Prelude.{◌≡◌, ℕ, ◌<◌, ◌≤◌, Bool, true, false, List, ◌++◌, length, Option, None, Some}
 use Rattle.rdlpp_scan.specs.Lines.{EndsLine}
 use Rattle.rdlpp_scan.specs.Stage.{is_unbuilt}

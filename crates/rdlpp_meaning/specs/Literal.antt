@@ -1,4 +1,5 @@
 -- Literal substitution: the bytes of a body with the bytes of each actual in the place of its formal.
+-- A definition that names no source is this project's own.
 use Rattle.std.specs.Prelude.{ℕ, List, [], ◌∷◌, ◌++◌, bytes_eq, Option, None, Some, if◌then◌else◌}
 use Rattle.std.specs.List.{flat_map}
 use Rattle.rdlpp_scan.specs.declared.token.Kind.TheVariants.{Name}
@@ -12,6 +13,7 @@ unfoldable mutual
   erased (Written t) = t.bytes
   erased (Arg o items) = all_erased items
 
+  -- the bytes of a mark's items
   pub all_erased : Items → List ℕ
   all_erased Nothing = []
   all_erased (More x xs) = erased x ++ all_erased xs

@@ -1,4 +1,5 @@
 -- The meaning of parts: what they write, the state behind them, and the fault that ends them.
+-- A definition that names no source is this project's own.
 use Rattle.std.specs.Prelude.{◌≡◌, ℕ, zero, suc, ◌+◌, ◌-◌, ◌*◌, Bool, true, false, not, ◌&&◌, ◌||◌, ◌==◌, nat_le, List, [], ◌∷◌, ◌++◌, length, take, drop, bytes_eq, slice_index, fold, Option, None, Some, codes, decimal, is_some, if◌then◌else◌}
 use Rattle.std.specs.List.{prefix_len}
 use Rattle.std.specs.Str.{is_utf8}
@@ -67,12 +68,14 @@ unfoldable mutual
   skip s Nothing = gives []
   skip s (More p ps) = and_then (skip_part s p) (skip s ps)
 
+  -- what a skipped part writes
   pub skip_part : State → Part → Outcome
   skip_part s (Text ts) = skipped_run s ts
   skip_part s (Alone c) = skipped_command c
   skip_part s (Stray c) = skipped_command c
   skip_part s (Conditional c ps bs) = and_then (skipped_command c) (and_then (skip s ps) (skip_branches s bs))
 
+  -- what skipped further branches write
   pub skip_branches : State → Branches → Outcome
   skip_branches s Unclosed = gives []
   skip_branches s (Closed c) = skipped_command c
@@ -295,6 +298,7 @@ unfoldable mutual
   mean rules nest Nothing s = leaves (gives []) s
   mean rules nest (More p ps) s = goes_on (mean_part rules nest p s) (λ after. mean rules nest ps after)
 
+  -- what a part comes to
   pub mean_part : Rules → Nest → Part → State → Passage
   mean_part rules nest (Text ts) s = leaves (run_outcome rules s ts) s
   mean_part rules nest (Alone c) s = single rules nest c s
@@ -303,6 +307,7 @@ unfoldable mutual
       (λ t. goes_on (mean rules nest ps (in_conditional t)) (λ after. mean_branches rules nest bs (begun c t true) after))
       (λ t. goes_on (leaves (skip (in_conditional t) ps) (in_conditional t)) (λ after. mean_branches rules nest bs (begun c t false) after))
 
+  -- what the further branches of an open conditional come to
   pub mean_branches : Rules → Nest → Branches → Progress → State → Passage
   mean_branches rules nest Unclosed o s = unclosed o s
   mean_branches rules nest (Closed c) o s = leaves (gives []) (past_conditional s)

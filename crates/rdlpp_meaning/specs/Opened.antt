@@ -1,4 +1,5 @@
 -- What remains of a nest of open sources: of the innermost, and then of each that waits for the text that it includes.
+-- A definition that names no source is this project's own.
 use Rattle.std.specs.Prelude.{ℕ, Bool, List, [], ◌∷◌, ◌++◌}
 use Rattle.rdlpp_scan.specs.declared.token.Directive.TheVariants.{Include}
 use Rattle.rdlpp_scan.specs.SourceTokens.{SourceToken}

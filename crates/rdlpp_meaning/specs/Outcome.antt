@@ -1,4 +1,5 @@
 -- What a text comes to: bytes, and the fault that ends it, if one does.
+-- A definition that names no source is this project's own.
 use Rattle.std.specs.Prelude.{ℕ, List, [], ◌++◌, Option, None, Some}
 use Rattle.rdlpp_meaning.specs.declared.fault.FaultKind.{FaultKind}
 use Rattle.rdlpp_meaning.specs.declared.fault.Fault.{Fault}

@@ -1,4 +1,5 @@
 -- The output of a main text.
+-- A definition that names no source is this project's own.
 use Rattle.std.specs.Prelude.{ℕ, zero, suc, ◌&&◌, nat_le, List, [], take, slice_index, if◌then◌else◌}
 use Rattle.rdlpp_table.specs.Table.{Macro}
 use Rattle.rdlpp_meaning.specs.declared.fault.FaultKind.{FaultKind}

@@ -1,4 +1,5 @@
 -- The bytes of pieces, of levels and of parts, in order.
+-- A definition that names no source is this project's own.
 use Rattle.std.specs.Prelude.{ℕ, Bool, true, false, ◌&&◌, List, [], ◌∷◌, ◌++◌}
 use Rattle.std.specs.List.{list_all}
 use Rattle.rdlpp_scan.specs.SourceTokens.{Broken, SourceToken}
@@ -24,12 +25,14 @@ unfoldable mutual
   parts_bytes Nothing = []
   parts_bytes (More p ps) = part_bytes p ++ parts_bytes ps
 
+  -- the bytes of a part
   pub part_bytes : Part → List ℕ
   part_bytes (Text ts) = bytes_of ts
   part_bytes (Alone c) = c.text
   part_bytes (Stray c) = c.text
   part_bytes (Conditional c ps bs) = c.text ++ (parts_bytes ps ++ branches_bytes bs)
 
+  -- the bytes of further branches
   pub branches_bytes : Branches → List ℕ
   branches_bytes Unclosed = []
   branches_bytes (Closed c) = c.text
@@ -51,12 +54,14 @@ unfoldable mutual
   are_unbroken Nothing = true
   are_unbroken (More p ps) = part_unbroken p && are_unbroken ps
 
+  -- whether no token of a part is broken
   pub part_unbroken : Part → Bool
   part_unbroken (Text ts) = list_all is_unbroken ts
   part_unbroken (Alone c) = true
   part_unbroken (Stray c) = true
   part_unbroken (Conditional c ps bs) = are_unbroken ps && branches_unbroken bs
 
+  -- whether no token of further branches is broken
   pub branches_unbroken : Branches → Bool
   branches_unbroken Unclosed = true
   branches_unbroken (Closed c) = true

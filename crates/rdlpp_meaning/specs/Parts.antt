@@ -1,4 +1,5 @@
 -- The parts of a file: runs of text, directives, and conditionals matched by balance alone.
+-- A definition that names no source is this project's own.
 use Rattle.std.specs.Prelude.{ℕ, zero, suc, Bool, true, ◌&&◌, ◌||◌, List, [], ◌∷◌, ◌++◌, filter, bytes_eq, drop, Option, None, Some, codes, if◌then◌else◌}
 use Rattle.std.specs.List.{list_any}
 use Rattle.rdlpp_scan.specs.declared.token.Kind.TheVariants.{Name, Back, Blank, Str}
@@ -158,12 +159,14 @@ mutual
     Nothing : Parts
     More : Part → Parts → Parts
 
+  -- a part: a run of text, a directive by itself, a branch or an end that nothing here opened, or a conditional
   pub data Part : Type 0 where
     Text : List SourceToken → Part
     Alone : Command → Part
     Stray : Command → Part
     Conditional : Command → Parts → Branches → Part
 
+  -- the further branches of a conditional, and whether it is closed
   pub data Branches : Type 0 where
     Unclosed : Branches
     Closed : Command → Branches

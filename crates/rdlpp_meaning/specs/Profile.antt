@@ -1,4 +1,5 @@
 -- The rules of this project's profile, from the limits and what a search finds.
+-- A definition that names no source is this project's own.
 use Rattle.std.specs.Prelude.{ℕ, Bool, List}
 use Rattle.rdlpp_scan.specs.SourceTokens.{whole_tokens}
 use Rattle.rdlpp_table.specs.declared.limits.Limits.{Limits}

@@ -1,4 +1,5 @@
 -- The meaning of what remains of a file, from any place in it.
+-- A definition that names no source is this project's own.
 use Rattle.std.specs.Prelude.{ℕ, zero, suc, Bool, true, false, List, [], ◌∷◌, None, Some}
 use Rattle.rdlpp_scan.specs.declared.token.Directive.{Directive}
 use Rattle.rdlpp_scan.specs.SourceTokens.{SourceToken}

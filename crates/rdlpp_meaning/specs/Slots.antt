@@ -1,5 +1,6 @@
 -- The machine of cursors with indices: each open text says by a number in whose scope it is written, and nothing stores
 -- bindings of bindings or sets of macros.
+-- A definition that names no source is this project's own.
 use Rattle.std.specs.Prelude.{ℕ, suc, ◌-◌, ◌≤◌, ◌==◌, nat_lt, List, [], ◌∷◌, length, drop, Option, None, Some, unwrap_or, if◌then◌else◌}
 use Rattle.rdlpp_scan.specs.declared.token.Kind.TheVariants.{Back, BareBackquote}
 use Rattle.rdlpp_scan.specs.SourceTokens.{Ordinary, Broken, SourceToken}

@@ -1,4 +1,5 @@
 -- What isn't built yet of macros, in the one place where it is said.
+-- A definition that names no source is this project's own.
 use Rattle.std.specs.Prelude.{Bool, ◌||◌, not, is_some}
 use Rattle.std.specs.List.{list_all}
 use Rattle.rdlpp_table.specs.Table.{Macro}

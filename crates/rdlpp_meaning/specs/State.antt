@@ -1,4 +1,5 @@
 -- The rules of a run, the state that its meaning goes through, and where a fault is told.
+-- A definition that names no source is this project's own.
 use Rattle.std.specs.Prelude.{ℕ, ◌+◌, ◌-◌, Bool, List, take}
 use Rattle.rdlpp_scan.specs.Front.{Breach, PerlFound, StringOpen, CommentOpen, LineLong, SourceLong, DefineLong, DefineCut}
 use Rattle.rdlpp_scan.specs.SourceTokens.{SourceToken}

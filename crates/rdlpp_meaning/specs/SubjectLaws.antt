@@ -1,4 +1,5 @@
 -- Laws in the words of the subject: of plain text, of included text, of the parts of a file and of skipped text.
+-- A definition that names no source is this project's own.
 use Rattle.std.specs.Prelude.{◌≡◌, ℕ, suc, Bool, true, false, ◌||◌, List, ◌∷◌, ◌++◌, length, None, Some, ◌==◌, not}
 use Rattle.std.specs.Str.{is_utf8}
 use Rattle.std.specs.List.{list_all}

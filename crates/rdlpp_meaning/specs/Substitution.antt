@@ -1,4 +1,5 @@
 -- Substitution: the body of a macro with each formal marked as its actual.
+-- A definition that names no source is this project's own.
 use Rattle.std.specs.Prelude.{ℕ, List, [], ◌∷◌, map, take, drop, bytes_eq, Option, None, Some, unwrap_or, if◌then◌else◌}
 use Rattle.rdlpp_scan.specs.declared.token.Kind.TheVariants.{Name}
 use Rattle.rdlpp_scan.specs.declared.token.Mode.TheVariants.{Plain}

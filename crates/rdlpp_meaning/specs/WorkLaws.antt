@@ -1,4 +1,5 @@
 -- The laws of the work left of open cursors.
+-- A definition that names no source is this project's own.
 use Rattle.std.specs.Prelude.{◌≡◌, ℕ, ◌^◌, ◌<◌, ◌≤◌, List, ◌∷◌, length}
 use Rattle.std.specs.List.{AllByRecursion}
 use Rattle.rdlpp_scan.specs.SourceTokens.{SourceToken}

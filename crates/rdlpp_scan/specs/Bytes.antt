@@ -1,4 +1,5 @@
 -- The classes of bytes.
+-- A definition that names no source is this project's own.
 use Rattle.std.specs.Prelude.{ℕ, Bool, ◌&&◌, ◌||◌, ◌==◌, nat_le, List, slice_index}
 
 -- a space, tab, CR, VT or FF (this project's profile)

@@ -1,4 +1,5 @@
 -- Texts without their `//` comments.
+-- A definition that names no source is this project's own.
 use Rattle.std.specs.Prelude.{Bool, true, false, not, ℕ, List, [], ◌∷◌, take, drop, if◌then◌else◌}
 use Rattle.std.specs.List.{concat, filter}
 use Rattle.rdlpp_scan.specs.declared.token.Kind.{Kind}

@@ -1,4 +1,5 @@
 -- The front of a text: all before the first physical line that breaks it.
+-- A definition that names no source is this project's own.
 use Rattle.std.specs.Prelude.{ℕ, ◌-◌, ◌==◌, nat_lt, List, [], ◌∷◌, ◌++◌, length, Option, None, Some, if◌then◌else◌}
 
 -- what ends a list of tokens early: embedded Perl, an open string or comment, a line or a source that is too long,

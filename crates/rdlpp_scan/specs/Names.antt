@@ -1,4 +1,5 @@
 -- Names, and the directives that some of them name.
+-- A definition that names no source is this project's own.
 use Rattle.std.specs.Prelude.{ℕ, Bool, ◌&&◌, List, Option, None, Some, bytes_eq, slice_index, codes, if◌then◌else◌}
 use Rattle.std.specs.List.{list_all}
 use Rattle.rdlpp_scan.specs.declared.token.Directive.{Directive}

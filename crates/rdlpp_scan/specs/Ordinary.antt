@@ -1,4 +1,5 @@
 -- Ordinary text: the tokens that go through as they are.
+-- A definition that names no source is this project's own.
 use Rattle.std.specs.Prelude.{◌≡◌, ◌⊎◌, ℕ, ◌+◌, Bool, true, false, List, [], ◌++◌, All, flat_map}
 use Rattle.rdlpp_scan.specs.declared.token.Kind.{Kind}
 use Rattle.rdlpp_scan.specs.declared.token.Kind.TheVariants.{Back, Str, LineComment, BlockComment, Perl, BareBackquote}

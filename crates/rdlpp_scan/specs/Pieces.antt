@@ -1,4 +1,5 @@
 -- Texts that are cut at line ends, and their tokens.
+-- A definition that names no source is this project's own.
 use Rattle.std.specs.Prelude.{◌≡◌, ◌⊎◌, ℕ, ◌+◌, Bool, true, false, not, ◌&&◌, List, [], ◌∷◌, ◌++◌, slice_index, if◌then◌else◌}
 use Rattle.std.specs.List.{concat}
 use Rattle.rdlpp_scan.specs.declared.token.Mode.{Mode}

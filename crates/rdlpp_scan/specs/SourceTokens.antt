@@ -1,4 +1,5 @@
 -- The tokens of a source: those of its front, with lines, `define` and `line` whole, and at most one broken token at the end.
+-- A definition that names no source is this project's own.
 use Rattle.std.specs.Prelude.{ℕ, zero, suc, ◌+◌, ◌-◌, Bool, not, ◌&&◌, ◌||◌, ◌==◌, nat_lt, List, [], ◌∷◌, ◌++◌, length, take, bytes_eq, count_by, Option, None, Some, codes, if◌then◌else◌}
 use Rattle.std.specs.Option.{option_map}
 use Rattle.rdlpp_scan.specs.declared.token.Kind.{Kind}

@@ -1,5 +1,6 @@
 -- What isn't built yet, in the one place where it is said: a source's list of tokens ends, with a broken token without bytes,
 -- at the first token that a later stage brings.
+-- A definition that names no source is this project's own.
 use Rattle.std.specs.Prelude.{ℕ, Bool, not, ◌&&◌, ◌==◌, List, [], ◌∷◌, take, drop, bytes_eq, slice_index, codes, if◌then◌else◌}
 use Rattle.std.specs.List.{prefix_len, list_any}
 use Rattle.rdlpp_scan.specs.Bytes.{is_word}

@@ -1,4 +1,5 @@
 -- The token table: the first token of a text in each mode, and the tokens of a text.
+-- A definition that names no source is this project's own.
 use Rattle.std.specs.Prelude.{ℕ, zero, suc, ◌+◌, ◌-◌, Bool, true, false, not, ◌&&◌, ◌||◌, ◌==◌, nat_lt, List, [], ◌∷◌, length, drop, slice_index, if◌then◌else◌}
 use Rattle.std.specs.List.{prefix_len}
 use Rattle.rdlpp_scan.specs.declared.token.Kind.{Kind}

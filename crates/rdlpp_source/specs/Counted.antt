@@ -1,4 +1,5 @@
 -- What a sink over a writer shows.
+-- A definition that names no source is this project's own.
 use Rattle.std.specs.Prelude.{ℕ}
 use Rattle.rdlpp_source.specs.declared.counted.Counted.{Counted}
 

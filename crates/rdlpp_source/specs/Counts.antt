@@ -1,4 +1,5 @@
 -- Counts of failures, which stop at the largest `u64`.
+-- A definition that names no source is this project's own.
 use Rattle.std.specs.Prelude.{◌≡◌, ℕ, ◌+◌, ◌-◌, ◌^◌, min, Bool, true, false}
 
 -- the count went from old to new: one more where it rose, up to `u64::MAX`, and else the same (source: this project's profile)

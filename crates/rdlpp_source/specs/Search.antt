@@ -1,4 +1,5 @@
 -- Which source a search finds: the candidates of a name, and the first of them that exists.
+-- A definition that names no source is this project's own.
 use Rattle.std.specs.Prelude.{ℕ, ◌==◌, ◌||◌, List, [], ◌∷◌, ◌++◌, length, map, Option, None, Some, nat_lt, slice_index, ◌-◌, if◌then◌else◌}
 use Rattle.std.specs.List.{list_any}
 use Rattle.rdlpp_source.specs.Sources.{Answer, Missing, Overlong, Present}

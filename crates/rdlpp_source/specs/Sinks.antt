@@ -1,4 +1,5 @@
 -- What a sink counts as a failure.
+-- A definition that names no source is this project's own.
 use Rattle.std.specs.Prelude.{ℕ, ◌==◌, ◌&&◌, not, Bool, true, List, length, Result, Ok, Err}
 
 -- whether a write of these bytes failed: an error, or none taken of some (source: this project's profile)

@@ -1,4 +1,5 @@
 -- What sources in memory tell.
+-- A definition that names no source is this project's own.
 use Rattle.std.specs.Prelude.{ℕ, List, Option, nat_eq, find, map}
 use Rattle.std.specs.Option.{option_map}
 use Rattle.std.specs.Cmp.Lexicographic.{pointwise}

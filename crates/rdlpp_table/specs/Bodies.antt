@@ -1,4 +1,5 @@
 -- How the text of a body is read byte by byte: what is left of it without its `//` comments, or what is wrong with it.
+-- A definition that names no source is this project's own.
 use Rattle.std.specs.Prelude.{◌≡◌, ℕ, ◌+◌, Bool, true, false, not, ◌&&◌, ◌==◌, List, [], ◌∷◌, ◌++◌, length, drop, slice_index, Option, Some, None, Result, Ok, Err, if◌then◌else◌}
 use Rattle.rdlpp_table.specs.Define.{continuation_len, trimmed, without_continuations}
 use Rattle.rdlpp_scan.specs.declared.token.LexFault.{LexFault}

@@ -1,4 +1,5 @@
 -- What a reader of a body has left.
+-- A definition that names no source is this project's own.
 use Rattle.rdlpp_table.specs.declared.body.BodyBytes.{BodyBytes}
 use Rattle.rdlpp_table.specs.Bodies.{Cleared, cleared, joined}
 

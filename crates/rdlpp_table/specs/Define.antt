@@ -1,4 +1,5 @@
 -- What a `define` gives: the table with the new macro, or its first fault.
+-- A definition that names no source is this project's own.
 use Rattle.std.specs.Prelude.{ℕ, zero, suc, ◌+◌, ◌-◌, Bool, not, ◌&&◌, ◌||◌, ◌==◌, nat_lt, nat_le, List, [], ◌∷◌, ◌++◌, length, take, drop, bytes_eq, slice_index, Option, None, Some, Result, Ok, Err, is_some, unwrap_or, if◌then◌else◌}
 use Rattle.std.specs.List.{prefix_len, list_any, list_all}
 use Rattle.rdlpp_scan.specs.declared.token.Kind.TheVariants.{LineComment}

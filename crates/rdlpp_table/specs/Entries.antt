@@ -1,4 +1,5 @@
 -- What holds of entries and the bytes that they point into.
+-- A definition that names no source is this project's own.
 use Rattle.std.specs.Prelude.{ℕ, ◌-◌, ◌≤◌, List, All}
 use Rattle.rdlpp_table.specs.declared.entry.Entry.{Entry}
 use Rattle.rdlpp_table.specs.Store.{entry_end}

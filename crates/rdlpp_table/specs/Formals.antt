@@ -1,4 +1,5 @@
 -- The formals of a list, one part after another, and their bytes as they are gathered.
+-- A definition that names no source is this project's own.
 use Rattle.std.specs.Prelude.{◌≡◌, ℕ, ◌*◌, ◌≤◌, true, nat_lt, nat_le, List, [], length, drop, bytes_eq, Option, None, Some, if◌then◌else◌}
 use Rattle.std.specs.List.{flat_map, list_any, list_all}
 use Rattle.rdlpp_table.specs.Table.{Formal, formal_bytes}

@@ -1,4 +1,5 @@
 -- The fields of a table, and the table that they stand for.
+-- A definition that names no source is this project's own.
 use Rattle.std.specs.Prelude.{ℕ, ◌≤◌, List, vec_capacity}
 use Rattle.rdlpp_table.specs.View.{TableView, IsSound}
 use Rattle.rdlpp_table.specs.Store.{IsStored, macros_in}

@@ -1,4 +1,5 @@
 -- The ranges of the limits.
+-- A definition that names no source is this project's own.
 use Rattle.std.specs.Prelude.{ℕ, ◌≤◌, Bool, ◌&&◌, nat_le, Option, None, Some, if◌then◌else◌}
 use Rattle.rdlpp_table.specs.declared.limits.Limits.{Limits}
 use Rattle.rdlpp_table.specs.declared.limits.LimitFault.{LimitFault}

@@ -1,4 +1,5 @@
 -- A macro that is to be stored: its name, its formals as their bytes, its body as the text that it is read from.
+-- A definition that names no source is this project's own.
 use Rattle.std.specs.Prelude.{◌≡◌, ℕ, Bool, true, List, [], length, Option, option_map, unwrap_or, Ok}
 use Rattle.std.specs.List.{flat_map, list_all}
 use Rattle.rdlpp_table.specs.declared.body.Inside.TheVariants.{Text}

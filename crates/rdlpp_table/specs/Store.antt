@@ -1,4 +1,5 @@
 -- How a table lies in its two lists: the bytes of its macros one after another, and an entry for each.
+-- A definition that names no source is this project's own.
 use Rattle.std.specs.Prelude.{◌≡◌, ℕ, ◌+◌, Bool, true, not, ◌&&◌, ◌==◌, List, [], ◌∷◌, ◌++◌, length, map, slice_range, sum_by, option_map, unwrap_or, if◌then◌else◌}
 use Rattle.std.specs.List.{list_any, list_all}
 use Rattle.rdlpp_table.specs.Table.{Formal, Macro, macro_size, table_bytes, formal_size}
@@ -27,9 +28,11 @@ formals_from name (b ∷ bs) =
 unfoldable pub list_start : Entry → ℕ
 list_start e = e.start + e.name_len
 
+-- where the body of an entry's macro begins
 unfoldable pub body_start : Entry → ℕ
 body_start e = list_start e + e.list_len
 
+-- where the bytes of an entry's macro end
 unfoldable pub entry_end : Entry → ℕ
 entry_end e = body_start e + e.body_len
 
@@ -37,9 +40,11 @@ entry_end e = body_start e + e.body_len
 unfoldable pub name_of : List ℕ → Entry → List ℕ
 name_of bytes e = slice_range bytes e.start (list_start e)
 
+-- the bytes of the formals of an entry in a table's bytes
 unfoldable pub list_of : List ℕ → Entry → List ℕ
 list_of bytes e = slice_range bytes (list_start e) (body_start e)
 
+-- the body of an entry in a table's bytes
 unfoldable pub body_of : List ℕ → Entry → List ℕ
 body_of bytes e = slice_range bytes (body_start e) (entry_end e)
 
@@ -55,6 +60,7 @@ macros_in bytes entries = map (macro_in bytes) entries
 unfoldable pub is_plain_formal : Formal → Bool
 is_plain_formal f = not (list_any (λ b. b == 44) f.name) && (length f.text == 0)
 
+-- whether all formals of a macro can be told from their bytes
 unfoldable pub is_plain_macro : Macro → Bool
 is_plain_macro m = list_all is_plain_formal (unwrap_or m.formals [])
 

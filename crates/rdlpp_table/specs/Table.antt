@@ -1,4 +1,5 @@
 -- Macros, the table of them, its size and its encoding.
+-- A definition that names no source is this project's own.
 use Rattle.std.specs.Prelude.{ℕ, ◌+◌, List, [], ◌∷◌, ◌++◌, length, bytes_eq, sum_by, filter, find, not, Option, unwrap_or}
 use Rattle.std.specs.List.{flat_map}
 

@@ -1,4 +1,5 @@
 -- What a contract sees of a table.
+-- A definition that names no source is this project's own.
 use Rattle.std.specs.Prelude.{ℕ, ◌≤◌, List, [], length, map, bytes_eq, slice_index_or, Option, None, unwrap_or, position}
 use Rattle.std.specs.List.{IsDistinct}
 use Rattle.rdlpp_table.specs.Table.{Formal, Macro, table_size}

@@ -1,4 +1,5 @@
 -- How directives are spelled.
+-- A definition that names no source is this project's own.
 use Rattle.std.specs.Prelude.{ℕ, List, codes}
 use Rattle.rdlpp_scan.specs.declared.token.Directive.{Directive}
 use Rattle.rdlpp_scan.specs.declared.token.Directive.TheVariants.{Define, Undef, Ifdef, Ifndef, Elsif, Else, Endif, Include, Line}
