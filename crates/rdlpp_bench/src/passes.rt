@@ -1,5 +1,7 @@
 // What a pass over a text counts.
-ghost use Rattle.std.specs.Prelude.{◌≤◌, length};
+ghost use Rattle.std.specs.Prelude.{◌≡◌, length};
+ghost use Rattle.rdlpp_scan.specs.Tokens.{tokens_from};
+ghost use Rattle.rdlpp_bench.specs.Passed.{counted, stops_from};
 
 use rdlpp_scan::{Mode, first_token, line_ends_in, plain_text_len};
 
@@ -14,8 +16,11 @@ pub enum Pass {
     Tokens,
 }
 
-/// What a pass over `text` counts.
-pub fn count(pass: Pass, text: &[u8]) -> usize {
+/// What a pass over `text` counts. Costs time linear in the text.
+#[tactic(auto, unfolding(crate::specs::Passed::counted))]
+pub fn count(pass: Pass, text: &[u8]) -> usize
+    ensures { result ≡ counted pass text.now }
+{
     match pass {
         Pass::Lines => line_ends_in(text),
         Pass::Stops => stops_in(text),
@@ -25,15 +30,15 @@ pub fn count(pass: Pass, text: &[u8]) -> usize {
 
 // How many bytes stand behind runs of ordinary text.
 fn stops_in(text: &[u8]) -> usize
-    ensures { result ≤ length text.now }
+    ensures { result ≡ stops_from 0 text.now }
 {
     let mut rest = text;
     let mut stops = 0;
     while !rest.is_empty() {
         let len = plain_text_len(rest);
-        if len < rest.len() {
+        if len == 0 {
             stops += 1;
-            rest = &rest[len + 1..];
+            rest = &rest[1..];
         } else {
             rest = &rest[len..];
         }
@@ -43,7 +48,7 @@ fn stops_in(text: &[u8]) -> usize
 
 // How many tokens a text has.
 fn tokens_in(text: &[u8]) -> usize
-    ensures { result ≤ length text.now }
+    ensures { result ≡ length (tokens_from Mode.Plain 0 text.now) }
 {
     let mut rest = text;
     let mut mode = Mode::Plain;

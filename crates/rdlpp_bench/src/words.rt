@@ -1,4 +1,7 @@
 // The words of the command line.
+ghost use Rattle.std.specs.Prelude.{◌≡◌};
+ghost use Rattle.rdlpp_bench.specs.Passed.{pass_named};
+
 use crate::passes::Pass;
 use std::env;
 use std::rt::Env;
@@ -12,7 +15,8 @@ pub struct Task {
     pub times: u32,
 }
 
-/// Reads the words, after the program's name; `None` where they ask for nothing that there is.
+/// Reads the words, after the program's name; `None` where they ask for nothing that there is. What the words are stands
+/// in no contract.
 pub fn read_words(rt: &(impl Env + Alloc)) -> Option<Task> {
     let mut words = env::args(rt).ok()?;
     let _program = words.next();
@@ -21,12 +25,18 @@ pub fn read_words(rt: &(impl Env + Alloc)) -> Option<Task> {
     Some(Task { pass, times })
 }
 
-// The pass of a word.
-fn pass_of(word: &str) -> Option<Pass> {
-    match word {
-        "lines" => Some(Pass::Lines),
-        "stops" => Some(Pass::Stops),
-        "tokens" => Some(Pass::Tokens),
-        _ => None,
+/// The pass that a word names; `None` where it names none.
+#[tactic(auto, unfolding(crate::specs::Passed::pass_named))]
+pub fn pass_of(word: &str) -> Option<Pass>
+    ensures { result ≡ pass_named word.now }
+{
+    if word == "lines" {
+        Some(Pass::Lines)
+    } else if word == "stops" {
+        Some(Pass::Stops)
+    } else if word == "tokens" {
+        Some(Pass::Tokens)
+    } else {
+        None
     }
 }

@@ -1,6 +1,8 @@
--- How a reader is opened as the one main text.
+-- How a reader is opened as the one main text, and what the words of the command line ask for.
 -- A definition that names no source is this project's own.
-use Rattle.std.specs.Prelude.{◌≡◌, ℕ, ◌<◌, ◌≤◌, List, length, Option, None, Some, Result, Ok, Err}
+use Rattle.std.specs.Prelude.{◌≡◌, ℕ, ◌<◌, ◌≤◌, Bool, not, ◌&&◌, List, length, bytes_eq, codes, Option, None, Some, Result, Ok, Err, if◌then◌else◌}
+use Rattle.rdlpp_cli.specs.declared.words.Words.{Words}
+use Rattle.rdlpp_cli.specs.declared.words.Words.TheVariants.{StandardInput, Other}
 use Rattle.rdlpp_source.specs.declared.sources.Found.{Found}
 use Rattle.rdlpp_source.specs.declared.sources.SourceFault.{SourceFault}
 use Rattle.rdlpp_source.specs.declared.sources.SourceFault.TheVariants.{Absent, PathTooLong, Device, NoMemory}
@@ -13,3 +15,7 @@ OpensOnce old new path (Err Absent) = (old ≡ None) × (new ≡ None) × (lengt
 OpensOnce old new path (Err PathTooLong) = (1024 < length path) × (new ≡ old)
 OpensOnce old new path (Err Device) = ⊥
 OpensOnce old new path (Err NoMemory) = ⊥
+
+-- what a first word asks for, by whether more words follow it: standard input where it is `-` alone
+unfoldable pub asked : List ℕ → Bool → Words
+asked word more = if bytes_eq word (codes "-") && not more then StandardInput else Other
