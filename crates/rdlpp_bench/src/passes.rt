@@ -16,7 +16,7 @@ pub enum Pass {
     Tokens,
 }
 
-/// What a pass over `text` counts. Costs time linear in the text.
+/// What a pass over `text` counts.
 #[tactic(auto, unfolding(crate::specs::Passed::counted))]
 pub fn count(pass: Pass, text: &[u8]) -> usize
     ensures { result ≡ counted pass text.now }
