@@ -4,7 +4,7 @@ use Rattle.std.specs.Prelude.{ℕ, List, [], ◌∷◌, ◌++◌, codes, decimal
 use Rattle.std.specs.List.{concat}
 use Rattle.std.specs.Io.KnownBytes.{Appends}
 use Rattle.rdlpp_table.specs.declared.limits.LimitFault.{LimitFault}
-use Rattle.rdlpp_table.specs.declared.limits.LimitFault.TheVariants.{Depth, Includes, LineBytes, SourceBytes, ArgumentBytes, DefinitionBytes, Definitions, Conditions}
+use Rattle.rdlpp_table.specs.declared.limits.LimitFault.TheVariants.{Depth, Includes, LineBytes, SourceBytes, ArgumentBytes, DefinitionBytes, Definitions, Conditions, OutputBytes}
 use Rattle.rdlpp_meaning.specs.declared.fault.Fault.{Fault}
 use Rattle.rdlpp_meaning.specs.FaultNumbers.{fault_number}
 use Rattle.rdlpp.specs.declared.fault.PrepFault.{PrepFault}
@@ -20,6 +20,7 @@ limit_name ArgumentBytes = codes "argument_bytes"
 limit_name DefinitionBytes = codes "definition_bytes"
 limit_name Definitions = codes "definitions"
 limit_name Conditions = codes "conditions"
+limit_name OutputBytes = codes "output_bytes"
 
 -- the end of a line: a blank and the word that the fault is about in quotes, where there is one, and LF (source: this project's profile)
 abbrev pub line_end : List ℕ → List ℕ

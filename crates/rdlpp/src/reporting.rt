@@ -47,6 +47,7 @@ fn limit_name(limit: LimitFault) -> &'static str
         LimitFault::DefinitionBytes => "definition_bytes",
         LimitFault::Definitions => "definitions",
         LimitFault::Conditions => "conditions",
+        LimitFault::OutputBytes => "output_bytes",
     }
 }
 

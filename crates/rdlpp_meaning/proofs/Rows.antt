@@ -37,7 +37,7 @@ found_in (f ∷ fs) path = if bytes_eq f.path path then Source path f.text else 
 
 -- the standard limits
 abbrev pub standard : Limits
-standard = record { depth = 256; includes = 16; line_bytes = 65536; source_bytes = 1073741824; argument_bytes = 65536; definition_bytes = 1048576; definitions = 4096; conditions = 256 }
+standard = record { depth = 256; includes = 16; line_bytes = 65536; source_bytes = 1073741824; argument_bytes = 65536; definition_bytes = 1048576; definitions = 4096; conditions = 256; output_bytes = 18446744073709551615 }
 
 -- the output of a row, where names of sources are paths
 unfoldable pub row : Limits → Bool → List File → Outcome

@@ -111,13 +111,16 @@ pub enum FaultKind {
     /// F34: no memory for a source.
     #[error("no memory for a source")]
     SourceMemory,
+    /// F35: output that passes the limit on its bytes.
+    #[error("output bytes passed")]
+    OutputBytes,
     /// 99: what isn't built yet.
     #[error("not built yet")]
     Unbuilt,
 }
 
 impl FaultKind {
-    /// The number by which a fault is told: 1 to 34, or 99 (this project's profile).
+    /// The number by which a fault is told: 1 to 35, or 99 (this project's profile).
     pub fn number(&self) -> u32
         ensures { result ≡ fault_number self.now }
     {
@@ -156,6 +159,7 @@ impl FaultKind {
             FaultKind::ReadFailed => 32,
             FaultKind::WriteFailed => 33,
             FaultKind::SourceMemory => 34,
+            FaultKind::OutputBytes => 35,
             FaultKind::Unbuilt => 99,
         }
     }

@@ -29,6 +29,7 @@ in_range l e =
     let t6 = one_test _ _ _ t5.1 in
     let t7 = one_test _ _ _ t6.1 in
     let t8 = one_test _ _ _ t7.1 in
+    let t9 = one_test _ _ _ t8.1 in
     record {
       depth = within_true _ _ _ t1.0;
       includes = within_true _ _ _ t2.0;
@@ -38,6 +39,7 @@ in_range l e =
       definition_bytes = within_true _ _ _ t6.0;
       definitions = within_true _ _ _ t7.0;
       conditions = within_true _ _ _ t8.0;
+      output_bytes = within_true _ _ _ t9.0;
     }
 
 pub no_fault : (l : Limits) → AreInRange l → limit_fault l ≡ None
@@ -50,7 +52,8 @@ no_fault l r =
     ∙ (cond-true _ _ _ (true_within _ _ _ r.argument_bytes)
     ∙ (cond-true _ _ _ (true_within _ _ _ r.definition_bytes)
     ∙ (cond-true _ _ _ (true_within _ _ _ r.definitions)
-    ∙ cond-true _ _ _ (true_within _ _ _ r.conditions)))))))
+    ∙ (cond-true _ _ _ (true_within _ _ _ r.conditions)
+    ∙ cond-true _ _ _ (true_within _ _ _ r.output_bytes))))))))
 
 pub fault_out_of_range : (l : Limits) (f : LimitFault) (r : Option LimitFault) → r ≡ limit_fault l → r ≡ Some f → AreInRange l → ⊥
 fault_out_of_range l f r e g h =

@@ -3,7 +3,7 @@
 use Rattle.std.specs.Prelude.{ℕ, ◌≤◌, Bool, ◌&&◌, nat_le, Option, None, Some, if◌then◌else◌}
 use Rattle.rdlpp_table.specs.declared.limits.Limits.{Limits}
 use Rattle.rdlpp_table.specs.declared.limits.LimitFault.{LimitFault}
-use Rattle.rdlpp_table.specs.declared.limits.LimitFault.TheVariants.{Depth, Includes, LineBytes, SourceBytes, ArgumentBytes, DefinitionBytes, Definitions, Conditions}
+use Rattle.rdlpp_table.specs.declared.limits.LimitFault.TheVariants.{Depth, Includes, LineBytes, SourceBytes, ArgumentBytes, DefinitionBytes, Definitions, Conditions, OutputBytes}
 
 -- from the least up to the greatest
 abbrev pub IsWithin : ℕ → ℕ → ℕ → Type 0
@@ -19,6 +19,7 @@ pub record AreInRange (limits : Limits) : Type 0 where
   pub definition_bytes : IsWithin 1024 16777216 limits.definition_bytes
   pub definitions : IsWithin 1 65536 limits.definitions
   pub conditions : IsWithin 1 4096 limits.conditions
+  pub output_bytes : IsWithin 0 18446744073709551615 limits.output_bytes
 
 -- the same as a test
 unfoldable pub is_within : ℕ → ℕ → ℕ → Bool
@@ -34,7 +35,9 @@ limit_fault limits =
     if is_within 16 1048576 limits.argument_bytes then (
     if is_within 1024 16777216 limits.definition_bytes then (
     if is_within 1 65536 limits.definitions then (
-    if is_within 1 4096 limits.conditions then None
+    if is_within 1 4096 limits.conditions then (
+    if is_within 0 18446744073709551615 limits.output_bytes then None
+    else Some OutputBytes)
     else Some Conditions)
     else Some Definitions)
     else Some DefinitionBytes)

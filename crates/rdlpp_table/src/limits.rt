@@ -21,6 +21,8 @@ pub struct Limits {
     pub definitions: usize,
     /// The most conditionals that are open at once, over all sources: 1 to 4,096.
     pub conditions: usize,
+    /// The most bytes of the output: any number.
+    pub output_bytes: u64,
 }
 
 /// The limit that is out of its range.
@@ -42,6 +44,8 @@ pub enum LimitFault {
     Definitions,
     /// `conditions`.
     Conditions,
+    /// `output_bytes`, which no number puts out of its range.
+    OutputBytes,
 }
 
 #[tactic(auto, unfolding(crate::specs::Limits::is_within))]
@@ -51,10 +55,18 @@ fn is_within(least: usize, greatest: usize, n: usize) -> bool
     least <= n && n <= greatest
 }
 
+// Whether a limit on the output is in its range, which has every number.
+#[tactic(auto, unfolding(crate::specs::Limits::is_within))]
+fn is_output_limit(n: u64) -> bool
+    ensures { result ≡ is_within 0 18446744073709551615 n }
+{
+    n <= u64::MAX
+}
+
 impl Limits {
     /// The standard limits (this project's profile).
     pub fn standard() -> Limits
-        ensures value { result ≡ record { depth = 256; includes = 16; line_bytes = 65536; source_bytes = 1073741824; argument_bytes = 65536; definition_bytes = 1048576; definitions = 4096; conditions = 256 } }
+        ensures value { result ≡ record { depth = 256; includes = 16; line_bytes = 65536; source_bytes = 1073741824; argument_bytes = 65536; definition_bytes = 1048576; definitions = 4096; conditions = 256; output_bytes = 18446744073709551615 } }
         ensures in_range { AreInRange result }
     {
         Limits {
@@ -66,6 +78,7 @@ impl Limits {
             definition_bytes: 1_048_576,
             definitions: 4_096,
             conditions: 256,
+            output_bytes: u64::MAX,
         }
     }
 
@@ -97,6 +110,9 @@ impl Limits {
         }
         if !is_within(1, 4_096, self.conditions) {
             return Some(LimitFault::Conditions);
+        }
+        if !is_output_limit(self.output_bytes) {
+            return Some(LimitFault::OutputBytes);
         }
         None
     }

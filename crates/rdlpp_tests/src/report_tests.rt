@@ -113,6 +113,10 @@ fn reports_each_kind(rt: HostRuntime) -> Result<(), Fail> {
             FaultKind::SourceMemory,
             "m:5: error F34: no memory for a source\n",
         ),
+        (
+            FaultKind::OutputBytes,
+            "m:5: error F35: output bytes passed\n",
+        ),
         (FaultKind::Unbuilt, "m:5: error F99: not built yet\n"),
     ];
     let name = ArrayString::from("m").map_err(|_| "a name")?;

@@ -14,6 +14,7 @@ pub const STANDARD: Limits = Limits {
     definition_bytes: 1_048_576,
     definitions: 4_096,
     conditions: 256,
+    output_bytes: u64::MAX,
 };
 
 /// A fault that is wanted: its number, line and word. The shown name is `m`.
