@@ -35,6 +35,7 @@ pub mod LargerRuns
 pub mod LargerFiles
 pub mod LargerOutputs
 pub mod OddRows
+pub mod BorderRows
 pub mod TornCalls
 pub mod TornRuns
 pub mod TornPieces
