@@ -12,7 +12,7 @@ use Rattle.rdlpp_expand.specs.Supply.{Supplies}
 use Rattle.rdlpp_expand.specs.declared.feed.supply.Supply.TheVariants.{End as Ended}
 use Rattle.rdlpp_expand.specs.declared.phase.Phase.TheVariants.{Open}
 use Rattle.rdlpp_expand.specs.declared.place.Place.{Place}
-use Rattle.rdlpp_expand.proofs.Stepping.{steps_end, steps_open, end_becomes}
+use Rattle.rdlpp_expand.proofs.EngineSteps.{steps_end, steps_open, end_becomes}
 
 -- the end is a place
 pub ended_placed : {S R : Type 0} (mid new : EngineView S R) (answer : Result Place Fault) → Ends mid new answer → IfOk answer (IsPlaced new)

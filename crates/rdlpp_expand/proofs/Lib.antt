@@ -11,12 +11,12 @@ pub mod OpeningFacts
 pub mod FrontFacts
 pub mod BlankFacts
 pub mod DefineLines
-pub mod Moves
-pub mod Takings
+pub mod FrontRemains
+pub mod FrontSteps
 pub mod WorkFacts
-pub mod Stepping
+pub mod EngineSteps
 pub mod RunFacts
 pub mod BodyTokens
-pub mod TextMoves
+pub mod TextRemains
 pub mod Endings
-pub mod UndefMoves
+pub mod UndefRemains

@@ -120,94 +120,84 @@ impl<S: Sources> Engine<S> {
         }
     }
 
-    // Lends the piece at a place.
-    pub(crate) fn lend(&self, place: Place) -> Piece<'_>
-        requires { IsPlaced self.now place }
-        ensures { piece_bytes result ≡ bytes_at self.now place }
+    /// The next piece of the output, or its end, or the fault that ends it, which the engine keeps.
+    ///
+    /// The engine must have been started. A fault is kept: every later call answers it again and
+    /// changes nothing. After the end every later call answers the end. A piece may have no bytes.
+    pub fn next(&mut self) -> Result<Piece<'_>, &Fault>
+        requires { IsStarted self.old }
+        ensures* after { sem 𝓛 (Rests (the_row S.row S.Reader.row S.Sources) self.entry (λ new.
+            Steps S.Sources self.old new (answer_of result) × Lends new (answer_of result))) }
     {
-        match place {
-            Place::Source(start, end) => Piece::Bytes(self.feed.part(start, end)),
-            Place::Body(id) => Piece::Bytes(self.table.body(id)),
-            Place::End | Place::Kept => Piece::Done,
+        let place = self.place();
+        self.answer(place)
+    }
+
+    // The same, where a fault stands in the engine.
+    fn place(&mut self) -> Place
+        requires { IsStarted self.old }
+        ensures place { IsPlaced self.new result }
+        ensures steps { Steps S.Sources self.old self.new (lent_answer self.new result) }
+    {
+        match self.advance() {
+            Ok(place) => place,
+            Err(_) => Place::Kept,
         }
     }
 
-    // Lends the piece at a place, or the fault that is kept.
-    fn answer(&self, place: Place) -> Result<Piece<'_>, &Fault>
-        requires { IsPlaced self.now place }
-        ensures { answer_of result ≡ lent_answer self.now place }
+    // Goes on to the next piece, and answers where it stands.
+    pub(crate) fn advance(&mut self) -> Result<Place, Fault>
+        requires { IsStarted self.old }
+        ensures place { IfOk result (IsPlaced self.new) }
+        ensures steps { Steps S.Sources self.old self.new (placed_answer self.new result) }
     {
-        match (place, &self.kept) {
-            (Place::Kept, Some(fault)) => Err(fault),
-            _ => Ok(self.lend(place)),
+        self.facts();
+        if let Some(fault) = &self.kept {
+            return Err(copied_fault(fault));
+        }
+        match self.phase {
+            Phase::Open => {
+                let place = self.advance_open();
+                self.facts();
+                place
+            }
+            _ => Ok(Place::End),
         }
     }
 
-    // Keeps a fault at a line.
-    #[tactic(auto, unfolding(rdlpp_meaning::specs::Outcome::told, rdlpp_meaning::specs::State::fault_at, rdlpp_meaning::specs::State::shown_line, rdlpp_meaning::specs::State::no_shift, rdlpp_meaning::specs::Output::start_state, crate::specs::Remaining::state_of))]
-    fn refuse_at(&mut self, kind: FaultKind, line: u64, word: ArrayString<128>) -> Fault
-        ensures fault { told result ≡ fault_at kind line word.bytes (state_of self.old) }
-        ensures kept { self.new ≡ record self.old { kept = Some (told result) } }
+    // Goes on in the open source to the next piece, and answers where it stands.
+    fn advance_open(&mut self) -> Result<Place, Fault>
+        requires open { self.old.phase ≡ Phase.Open }
+        requires free { self.old.kept ≡ None }
+        ensures place { IfOk result (IsPlaced self.new) }
+        ensures steps { IsBounded self.new → Steps S.Sources self.old self.new (placed_answer self.new result) }
     {
-        let _len = word.len();
-        let fault = Fault {
-            kind,
-            name: copied(&self.path),
-            line,
-            word,
-        };
-        self.kept = Some(copied_fault(&fault));
-        fault
+        match self.fill() {
+            Supply::Held => self.take_front(),
+            Supply::End => self.end(),
+            Supply::SourceLong => Err(self.refuse(FaultKind::SourceTooLong, ArrayString::new())),
+            Supply::LineLong => Err(self.refuse(FaultKind::LineTooLong, ArrayString::new())),
+            Supply::Failed => Err(self.refuse(FaultKind::ReadFailed, ArrayString::new())),
+        }
     }
 
-    // Keeps a fault at the line of the next byte.
-    fn refuse(&mut self, kind: FaultKind, word: ArrayString<128>) -> Fault
-        ensures fault { told result ≡ fault_at kind self.old.feed.line word.bytes (state_of self.old) }
-        ensures kept { self.new ≡ record self.old { kept = Some (told result) } }
+    // Takes what the held bytes begin with.
+    fn take_front(&mut self) -> Result<Place, Fault>
+        requires { IsReady self.old }
+        ensures place { IfOk result (IsPlaced self.new) }
+        ensures takes { Takes S.Sources self.old self.new (placed_answer self.new result) }
     {
-        let line = self.feed.line();
-        self.refuse_at(kind, line, word)
-    }
-
-    // Keeps that a write failed, which is told at line 0 under the shown name.
-    #[tactic(auto, unfolding(rdlpp_meaning::specs::Outcome::told, crate::specs::Run::write_fault))]
-    pub(crate) fn keep_write_failure(&mut self) -> Fault
-        ensures fault { told result ≡ write_fault self.old.name }
-        ensures kept { self.new ≡ record self.old { kept = Some (write_fault self.old.name) } }
-    {
-        let fault = Fault {
-            kind: FaultKind::WriteFailed,
-            name: copied(&self.path),
-            line: 0,
-            word: ArrayString::new(),
-        };
-        self.kept = Some(copied_fault(&fault));
-        fault
-    }
-
-    // Uses `len` held bytes, which have `lines` line ends, and answers where they end.
-    fn pass(&mut self, len: usize, lines: usize) -> usize
-        requires inside { len ≤ length (held_of self.old.feed) }
-        requires lines { lines ≤ len }
-        ensures end { result ≡ self.old.feed.at + len }
-        ensures passed { self.new ≡ record self.old {
-          blanks = only_blanks self.old.blanks (take len (held_of self.old.feed));
-          feed = passed self.old.feed len lines;
-        } }
-    {
-        self.blanks = only_blanks(self.blanks, &self.feed.held()[..len]);
-        self.feed.pass(len, lines) + len
-    }
-
-    // Changes whether the next byte stands in a string or in a comment.
-    fn enter(&mut self, next: Mode)
-        ensures { self.new ≡ record self.old { feed = entered self.old.feed next } }
-    {
-        self.feed.enter(next);
+        match front_of(self.feed.mode(), self.feed.held()) {
+            Front::Text(len, next) => Ok(self.lend_text(len, next)),
+            Front::Usage(len) => self.expand(len),
+            Front::Define(len) => self.define_line(len),
+            Front::Undef(start, stop) => self.undefine(start, stop),
+            Front::Refused(kind) => Err(self.refuse(kind, ArrayString::new())),
+        }
     }
 
     // Lends `len` bytes of text that are copied, behind which the text stands in a mode.
-    fn pass_text(&mut self, len: usize, next: Mode) -> Place
+    fn lend_text(&mut self, len: usize, next: Mode) -> Place
         requires ready { IsReady self.old }
         requires text { IsText self.old.feed.mode (held_of self.old.feed) len next }
         ensures place { IsPlaced self.new result }
@@ -215,25 +205,8 @@ impl<S: Sources> Engine<S> {
     {
         let lines = line_ends_in(&self.feed.held()[..len]);
         self.enter(next);
-        let end = self.pass(len, lines);
+        let end = self.consume(len, lines);
         Place::Source(end - len, end)
-    }
-
-    // Lends the body of a macro, whose usage has `len` bytes.
-    fn lend_body(&mut self, len: usize, id: MacroId) -> Result<Place, Fault>
-        requires ready { IsReady self.old }
-        requires mode { self.old.feed.mode ≡ Mode.Plain }
-        requires usage { IsUsage (held_of self.old.feed) len }
-        requires inside { id < length self.old.table.macros }
-        requires named { macro_named self.old.table.macros (usage_name (held_of self.old.feed) len) ≡ Some (macro_at self.old.table.macros id) }
-        ensures place { IfOk result (IsPlaced self.new) }
-        ensures takes { Takes S.Sources self.old self.new (placed_answer self.new result) }
-    {
-        if !is_built(&self.table, id) {
-            return Err(self.refuse(FaultKind::Unbuilt, ArrayString::new()));
-        }
-        self.pass(len, 0);
-        Ok(Place::Body(id))
     }
 
     // Expands the usage of `len` bytes with which the held bytes begin.
@@ -254,6 +227,23 @@ impl<S: Sources> Engine<S> {
         }
     }
 
+    // Lends the body of a macro, whose usage has `len` bytes.
+    fn lend_body(&mut self, len: usize, id: MacroId) -> Result<Place, Fault>
+        requires ready { IsReady self.old }
+        requires mode { self.old.feed.mode ≡ Mode.Plain }
+        requires usage { IsUsage (held_of self.old.feed) len }
+        requires inside { id < length self.old.table.macros }
+        requires named { macro_named self.old.table.macros (usage_name (held_of self.old.feed) len) ≡ Some (macro_at self.old.table.macros id) }
+        ensures place { IfOk result (IsPlaced self.new) }
+        ensures takes { Takes S.Sources self.old self.new (placed_answer self.new result) }
+    {
+        if !is_built(&self.table, id) {
+            return Err(self.refuse(FaultKind::Unbuilt, ArrayString::new()));
+        }
+        self.consume(len, 0);
+        Ok(Place::Body(id))
+    }
+
     // Reads the `define` whose line has `len` bytes, and lends the LF of that line.
     fn define_line(&mut self, len: usize) -> Result<Place, Fault>
         requires ready { IsReady self.old }
@@ -268,7 +258,7 @@ impl<S: Sources> Engine<S> {
             Err(fault) => Err(self.refuse(fault_kind(fault.kind), fault.word)),
             Ok(()) => {
                 let _count = self.table.len();
-                let end = self.pass(len, lines);
+                let end = self.consume(len, lines);
                 Ok(Place::Source(end - lines, end))
             }
         }
@@ -292,38 +282,8 @@ impl<S: Sources> Engine<S> {
         }
         let _found = self.table.remove(name);
         let _count = self.table.len();
-        let end = self.pass(stop, 0);
+        let end = self.consume(stop, 0);
         Ok(Place::Source(end, end))
-    }
-
-    // Takes what the held bytes begin with.
-    fn take(&mut self) -> Result<Place, Fault>
-        requires { IsReady self.old }
-        ensures place { IfOk result (IsPlaced self.new) }
-        ensures takes { Takes S.Sources self.old self.new (placed_answer self.new result) }
-    {
-        match front_of(self.feed.mode(), self.feed.held()) {
-            Front::Text(len, next) => Ok(self.pass_text(len, next)),
-            Front::Usage(len) => self.expand(len),
-            Front::Define(len) => self.define_line(len),
-            Front::Undef(start, stop) => self.undefine(start, stop),
-            Front::Refused(kind) => Err(self.refuse(kind, ArrayString::new())),
-        }
-    }
-
-    // What always holds of it.
-    fn facts(&self)
-        ensures { IsBounded self.now }
-    {
-        self.feed.facts();
-    }
-
-    // Closes the source, which has ended.
-    fn close(&mut self)
-        ensures { self.new ≡ record self.old { phase = Phase.Closed; feed = closed_feed self.old.feed.line self.old.feed.most } }
-    {
-        self.phase = Phase::Closed;
-        self.feed.close();
     }
 
     // Ends the source, which has no more bytes; a string or a comment that is open is a fault.
@@ -345,8 +305,16 @@ impl<S: Sources> Engine<S> {
         }
     }
 
+    // Closes the source, which has ended.
+    fn close(&mut self)
+        ensures { self.new ≡ record self.old { phase = Phase.Closed; feed = closed_feed self.old.feed.line self.old.feed.most } }
+    {
+        self.phase = Phase::Closed;
+        self.feed.close();
+    }
+
     // Sees to it that bytes of the open source are held, or tells why there are none.
-    fn provide(&mut self) -> Supply
+    fn fill(&mut self) -> Supply
         ensures feed { (self.new ≡ record self.old { feed = self.new.feed; sources = self.new.sources }) × EndsHeld self.new.feed }
         ensures supplies { Supplies (S.tells self.old.sources) S.unread result self.old.feed self.new.feed }
         ensures call { SourcesRead S.Sources (is_failed result) self.old.sources self.new.sources }
@@ -356,65 +324,97 @@ impl<S: Sources> Engine<S> {
         supply
     }
 
-    // Goes on in the open source to the next piece, and answers where it stands.
-    fn go_on(&mut self) -> Result<Place, Fault>
-        requires open { self.old.phase ≡ Phase.Open }
-        requires free { self.old.kept ≡ None }
-        ensures place { IfOk result (IsPlaced self.new) }
-        ensures steps { IsBounded self.new → Steps S.Sources self.old self.new (placed_answer self.new result) }
+    // Uses `len` held bytes, which have `lines` line ends, and answers where they end.
+    fn consume(&mut self, len: usize, lines: usize) -> usize
+        requires inside { len ≤ length (held_of self.old.feed) }
+        requires lines { lines ≤ len }
+        ensures end { result ≡ self.old.feed.at + len }
+        ensures passed { self.new ≡ record self.old {
+          blanks = only_blanks self.old.blanks (take len (held_of self.old.feed));
+          feed = passed self.old.feed len lines;
+        } }
     {
-        match self.provide() {
-            Supply::Held => self.take(),
-            Supply::End => self.end(),
-            Supply::SourceLong => Err(self.refuse(FaultKind::SourceTooLong, ArrayString::new())),
-            Supply::LineLong => Err(self.refuse(FaultKind::LineTooLong, ArrayString::new())),
-            Supply::Failed => Err(self.refuse(FaultKind::ReadFailed, ArrayString::new())),
+        self.blanks = only_blanks(self.blanks, &self.feed.held()[..len]);
+        self.feed.pass(len, lines) + len
+    }
+
+    // Changes whether the next byte stands in a string or in a comment.
+    fn enter(&mut self, next: Mode)
+        ensures { self.new ≡ record self.old { feed = entered self.old.feed next } }
+    {
+        self.feed.enter(next);
+    }
+
+    // Keeps a fault at the line of the next byte.
+    fn refuse(&mut self, kind: FaultKind, word: ArrayString<128>) -> Fault
+        ensures fault { told result ≡ fault_at kind self.old.feed.line word.bytes (state_of self.old) }
+        ensures kept { self.new ≡ record self.old { kept = Some (told result) } }
+    {
+        let line = self.feed.line();
+        self.refuse_at(kind, line, word)
+    }
+
+    // Keeps a fault at a line.
+    #[tactic(auto, unfolding(rdlpp_meaning::specs::Outcome::told, rdlpp_meaning::specs::State::fault_at, rdlpp_meaning::specs::State::shown_line, rdlpp_meaning::specs::State::no_shift, rdlpp_meaning::specs::Output::start_state, crate::specs::Remaining::state_of))]
+    fn refuse_at(&mut self, kind: FaultKind, line: u64, word: ArrayString<128>) -> Fault
+        ensures fault { told result ≡ fault_at kind line word.bytes (state_of self.old) }
+        ensures kept { self.new ≡ record self.old { kept = Some (told result) } }
+    {
+        let _len = word.len();
+        let fault = Fault {
+            kind,
+            name: copied(&self.path),
+            line,
+            word,
+        };
+        self.kept = Some(copied_fault(&fault));
+        fault
+    }
+
+    // Keeps that a write failed, which is told at line 0 under the shown name.
+    #[tactic(auto, unfolding(rdlpp_meaning::specs::Outcome::told, crate::specs::Run::write_fault))]
+    pub(crate) fn keep_write_failure(&mut self) -> Fault
+        ensures fault { told result ≡ write_fault self.old.name }
+        ensures kept { self.new ≡ record self.old { kept = Some (write_fault self.old.name) } }
+    {
+        let fault = Fault {
+            kind: FaultKind::WriteFailed,
+            name: copied(&self.path),
+            line: 0,
+            word: ArrayString::new(),
+        };
+        self.kept = Some(copied_fault(&fault));
+        fault
+    }
+
+    // Lends the piece at a place, or the fault that is kept.
+    fn answer(&self, place: Place) -> Result<Piece<'_>, &Fault>
+        requires { IsPlaced self.now place }
+        ensures { answer_of result ≡ lent_answer self.now place }
+    {
+        match (place, &self.kept) {
+            (Place::Kept, Some(fault)) => Err(fault),
+            _ => Ok(self.lend(place)),
         }
     }
 
-    // Goes on to the next piece, and answers where it stands.
-    pub(crate) fn advance(&mut self) -> Result<Place, Fault>
-        requires { IsStarted self.old }
-        ensures place { IfOk result (IsPlaced self.new) }
-        ensures steps { Steps S.Sources self.old self.new (placed_answer self.new result) }
+    // Lends the piece at a place.
+    pub(crate) fn lend(&self, place: Place) -> Piece<'_>
+        requires { IsPlaced self.now place }
+        ensures { piece_bytes result ≡ bytes_at self.now place }
     {
-        self.facts();
-        if let Some(fault) = &self.kept {
-            return Err(copied_fault(fault));
-        }
-        match self.phase {
-            Phase::Open => {
-                let place = self.go_on();
-                self.facts();
-                place
-            }
-            _ => Ok(Place::End),
+        match place {
+            Place::Source(start, end) => Piece::Bytes(self.feed.part(start, end)),
+            Place::Body(id) => Piece::Bytes(self.table.body(id)),
+            Place::End | Place::Kept => Piece::Done,
         }
     }
 
-    // The same, where a fault stands in the engine.
-    fn place(&mut self) -> Place
-        requires { IsStarted self.old }
-        ensures place { IsPlaced self.new result }
-        ensures steps { Steps S.Sources self.old self.new (lent_answer self.new result) }
+    // What always holds of it.
+    fn facts(&self)
+        ensures { IsBounded self.now }
     {
-        match self.advance() {
-            Ok(place) => place,
-            Err(_) => Place::Kept,
-        }
-    }
-
-    /// The next piece of the output, or its end, or the fault that ends it, which the engine keeps.
-    ///
-    /// The engine must have been started. A fault is kept: every later call answers it again and
-    /// changes nothing. After the end every later call answers the end. A piece may have no bytes.
-    pub fn next(&mut self) -> Result<Piece<'_>, &Fault>
-        requires { IsStarted self.old }
-        ensures* after { sem 𝓛 (Rests (the_row S.row S.Reader.row S.Sources) self.entry (λ new.
-            Steps S.Sources self.old new (answer_of result) × Lends new (answer_of result))) }
-    {
-        let place = self.place();
-        self.answer(place)
+        self.feed.facts();
     }
 }
 

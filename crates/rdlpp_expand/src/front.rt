@@ -50,7 +50,7 @@ fn plain_front(held: &[u8]) -> Front
         return Front::Text(len, Mode::Plain);
     }
     match held[0] {
-        b'`' => backquoted(held),
+        b'`' => backquote_front(held),
         _ => token_front(Mode::Plain, held),
     }
 }
@@ -69,20 +69,20 @@ fn token_front(mode: Mode, held: &[u8]) -> Front
 }
 
 // What held bytes begin with that begin with a backquote.
-fn backquoted(held: &[u8]) -> Front
+fn backquote_front(held: &[u8]) -> Front
     requires some { 0 < length held.now }
     requires backquote { slice_index held.now 0 ≡ 96 }
     ensures { IsFront Plain held.now result }
 {
     let token = first_token(Mode::Plain, held);
     match token.kind {
-        Kind::Back => named(held, token.len),
+        Kind::Back => name_front(held, token.len),
         _ => Front::Refused(FaultKind::BareBackquote),
     }
 }
 
 // What held bytes begin with that begin with a backquote and a name, of so many bytes together.
-fn named(held: &[u8], len: usize) -> Front
+fn name_front(held: &[u8], len: usize) -> Front
     requires some { 0 < len }
     requires inside { len ≤ length held.now }
     requires backquote { slice_index held.now 0 ≡ 96 }
@@ -92,26 +92,26 @@ fn named(held: &[u8], len: usize) -> Front
 {
     match reserved(&held[1..len]) {
         None => Front::Usage(len),
-        Some(directive) => commanded(held, directive),
+        Some(directive) => directive_front(held, directive),
     }
 }
 
 // What held bytes begin with that begin with the name of a directive.
-fn commanded(held: &[u8], directive: Directive) -> Front
+fn directive_front(held: &[u8], directive: Directive) -> Front
     requires backquote { slice_index held.now 0 ≡ 96 }
     requires kind { (token_of Plain held.now).kind ≡ Back }
     requires word { directive_named (name_behind held.now) ≡ Some directive }
     ensures { IsFront Plain held.now result }
 {
     match directive {
-        Directive::Define => defined(held),
-        Directive::Undef => undefined(held),
+        Directive::Define => define_front(held),
+        Directive::Undef => undef_front(held),
         _ => Front::Refused(FaultKind::Unbuilt),
     }
 }
 
 // What held bytes begin with that begin with a `define`.
-fn defined(held: &[u8]) -> Front
+fn define_front(held: &[u8]) -> Front
     requires backquote { slice_index held.now 0 ≡ 96 }
     requires kind { (token_of Plain held.now).kind ≡ Back }
     requires word { directive_named (name_behind held.now) ≡ Some Define }
@@ -124,19 +124,19 @@ fn defined(held: &[u8]) -> Front
 }
 
 // What held bytes begin with that begin with an `undef`.
-fn undefined(held: &[u8]) -> Front
+fn undef_front(held: &[u8]) -> Front
     requires backquote { slice_index held.now 0 ≡ 96 }
     requires kind { (token_of Plain held.now).kind ≡ Back }
     requires word { directive_named (name_behind held.now) ≡ Some Undef }
     ensures { IsFront Plain held.now result }
 {
-    let start = 6 + lead_of(Kind::Blank, behind(held, 6));
-    let stop = start + lead_of(Kind::Name, behind(held, start));
+    let start = 6 + lead_of(Kind::Blank, text_after(held, 6));
+    let stop = start + lead_of(Kind::Name, text_after(held, start));
     Front::Undef(start, stop)
 }
 
 // What stands behind so many bytes.
-fn behind(bytes: &[u8], at: usize) -> &[u8]
+fn text_after(bytes: &[u8], at: usize) -> &[u8]
     ensures { result.now ≡ drop at bytes.now }
 {
     &bytes[bytes.len().min(at)..]

@@ -19,6 +19,41 @@ pub struct RunFault {
     pub written: u64,
 }
 
+/// Writes the output of an engine to its end, or up to the fault that ends it, and then flushes the
+/// writer once, unless that fault is a write that failed.
+///
+/// The engine must have been started. The answer is how many bytes the writer took in this call,
+/// `u64::MAX` where they are more. A write or a flush that fails, and a write of some bytes that
+/// takes none, is F33 with the main text's name and line 0; a flush that fails after another fault
+/// leaves that fault. The engine keeps the fault that is answered: a later run answers it again
+/// and writes nothing. What the writer took is the output, or its first bytes.
+pub fn run<S: Sources, W: Sink>(engine: &mut Engine<S>, writer: &mut W) -> Result<u64, RunFault>
+    requires { IsStarted engine.old }
+    ensures { Runs S.Sources W.Sink engine.old engine.new writer.old writer.new (count_of result) (fault_of result) }
+{
+    let Output { written, ending } = write_output(engine, writer);
+    match ending {
+        Ending::Finished => {
+            if is_flushed(writer) {
+                return Ok(written);
+            }
+            let fault = engine.keep_write_failure();
+            Err(RunFault { fault, written })
+        }
+        Ending::Stopped(fault) => {
+            if is_write_failure(fault.kind) {
+                return Err(RunFault { fault, written });
+            }
+            let _flushed = is_flushed(writer);
+            Err(RunFault { fault, written })
+        }
+        Ending::Unwritten => {
+            let fault = engine.keep_write_failure();
+            Err(RunFault { fault, written })
+        }
+    }
+}
+
 // How the output ended.
 #[derive(Drop)]
 enum Ending {
@@ -133,41 +168,6 @@ fn write_output<S: Sources, W: Sink>(engine: &mut Engine<S>, writer: &mut W) -> 
         written = written.saturating_add(pulled.len as u64);
         if let Some(ending) = pulled.ending {
             return Output { written, ending };
-        }
-    }
-}
-
-/// Writes the output of an engine to its end, or up to the fault that ends it, and then flushes the
-/// writer once, unless that fault is a write that failed.
-///
-/// The engine must have been started. The answer is how many bytes the writer took in this call,
-/// `u64::MAX` where they are more. A write or a flush that fails, and a write of some bytes that
-/// takes none, is F33 with the main text's name and line 0; a flush that fails after another fault
-/// leaves that fault. The engine keeps the fault that is answered: a later run answers it again
-/// and writes nothing. What the writer took is the output, or its first bytes.
-pub fn run<S: Sources, W: Sink>(engine: &mut Engine<S>, writer: &mut W) -> Result<u64, RunFault>
-    requires { IsStarted engine.old }
-    ensures { Runs S.Sources W.Sink engine.old engine.new writer.old writer.new (count_of result) (fault_of result) }
-{
-    let Output { written, ending } = write_output(engine, writer);
-    match ending {
-        Ending::Finished => {
-            if is_flushed(writer) {
-                return Ok(written);
-            }
-            let fault = engine.keep_write_failure();
-            Err(RunFault { fault, written })
-        }
-        Ending::Stopped(fault) => {
-            if is_write_failure(fault.kind) {
-                return Err(RunFault { fault, written });
-            }
-            let _flushed = is_flushed(writer);
-            Err(RunFault { fault, written })
-        }
-        Ending::Unwritten => {
-            let fault = engine.keep_write_failure();
-            Err(RunFault { fault, written })
         }
     }
 }

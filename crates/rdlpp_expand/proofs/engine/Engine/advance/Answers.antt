@@ -3,7 +3,7 @@ use Rattle.std.specs.Option.{option_map}
 use Rattle.rdlpp_meaning.specs.Outcome.{told}
 use Rattle.rdlpp_expand.specs.Pieces.{IsPlaced, placed_answer, bytes_at}
 use Rattle.rdlpp_expand.specs.declared.phase.Phase.TheVariants.{Closed}
-use Rattle.rdlpp_expand.proofs.Stepping.{steps_kept, steps_ended, is_closed}
+use Rattle.rdlpp_expand.proofs.EngineSteps.{steps_kept, steps_ended, is_closed}
 use Rattle.rdlpp_expand.proofs.engine.Engine.advance.Goals as goal
 
 pub returns-in-Some-clause-steps : goal.returns-in-Some-clause-steps

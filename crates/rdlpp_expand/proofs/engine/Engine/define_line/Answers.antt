@@ -9,8 +9,8 @@ use Rattle.rdlpp_expand.specs.Front.{passed}
 use Rattle.rdlpp_expand.specs.Pieces.{IsPlaced}
 use Rattle.rdlpp_expand.specs.Remaining.{state_of}
 use Rattle.rdlpp_meaning.specs.Profile.{define_fault}
-use Rattle.rdlpp_expand.proofs.Moves.{define_inside}
-use Rattle.rdlpp_expand.proofs.Takings.{held_room, line_ends-le, take_define, take_refused, left_refused_define, define_kind, define_rest, define_whole, defined_same}
+use Rattle.rdlpp_expand.proofs.FrontRemains.{define_inside}
+use Rattle.rdlpp_expand.proofs.FrontSteps.{held_room, line_ends-le, take_define, take_refused, left_refused_define, define_kind, define_rest, define_whole, defined_same}
 use Rattle.rdlpp_expand.proofs.engine.Engine.define_line.Goals as goal
 
 pub slice_bounds-line-end : goal.slice_bounds-line-end
@@ -26,12 +26,12 @@ read_define-requires g c =
     let rest = define_rest (take c.args.len c.held.result.now) c.args.len c.min.result wide c.min.ensures in
     record { line = rw (rest, held) (define_whole _ _ c.requires.ready.bytes c.requires.define) }
 
-pub pass-end-requires-clause-inside : goal.pass-end-requires-clause-inside
-pass-end-requires-clause-inside g c =
+pub consume-end-requires-clause-inside : goal.consume-end-requires-clause-inside
+consume-end-requires-clause-inside g c =
     rw (← c.self.view_is) at (define_inside _ _ c.requires.ready.bytes c.requires.define).1
 
-pub pass-end-requires-clause-lines : goal.pass-end-requires-clause-lines
-pass-end-requires-clause-lines g c =
+pub consume-end-requires-clause-lines : goal.consume-end-requires-clause-lines
+consume-end-requires-clause-lines g c =
     let held : c.held.result.now ≡ held_of c.args.self.now.feed = c.held.ensures.value ∙ ap (λ e. held_of e.feed) c.self.view_is in
     let wide : length (take c.args.len c.held.result.now) ≡ c.args.len =
     length-take-le c.args.len c.held.result.now (rw held ((define_inside _ _ c.requires.ready.bytes c.requires.define).1)) in
@@ -46,7 +46,7 @@ overflow_sub-result g c =
     length-take-le c.args.len c.held.result.now (rw held ((define_inside _ _ c.requires.ready.bytes c.requires.define).1)) in
     let most = line_ends-le (take c.args.len c.held.result.now) in
     let count = c.line_ends_in-lines.ensures in
-    let end = c.pass-end.ensures.end in
+    let end = c.consume-end.ensures.end in
     omega arith
 
 pub returns-in-Err-clause-takes : goal.returns-in-Err-clause-takes
@@ -79,8 +79,8 @@ returns-in-Ok-clause-place g c =
     let inside : c.args.len ≤ length (held_of c.self.inside.feed) = rw (← c.self.view_is) at (define_inside _ _ c.requires.ready.bytes c.requires.define).1 in
     let room = held_room c.self.inside.feed in
     let is : IsFeed c.self.inside.feed = c.self.invariant.5 in
-    let end = c.pass-end.ensures.end in
-    let window = ap (λ e. e.feed.window) c.pass-end.ensures.passed in
+    let end = c.consume-end.ensures.end in
+    let window = ap (λ e. e.feed.window) c.consume-end.ensures.passed in
     (omega arith, rw window (omega arith))
 
 pub returns-in-Ok-clause-takes : goal.returns-in-Ok-clause-takes
@@ -103,7 +103,7 @@ returns-in-Ok-clause-takes g c =
     rw (← c.self.view_is) (defined_same _ _ _ _ _ _ _ _ outcome bytes count (rest ∙ ap (λ h. drop 7 (take c.args.len h)) value)) in
     let counted : c.line_ends_in-lines.result ≡ line_ends (take c.args.len (held_of c.args.self.now.feed)) =
     c.line_ends_in-lines.ensures ∙ ap (λ h. line_ends (take c.args.len h)) held in
-    let stops : c.pass-end.result ≡ c.args.self.now.feed.at + c.args.len = rw (← c.self.view_is) c.pass-end.ensures.end in
-    take_define g.S.Sources c.args.self.now c.pass-end.new.self c.args.len c.line_ends_in-lines.result (c.pass-end.result - c.line_ends_in-lines.result) c.pass-end.result c.read_define.new.self
-    c.requires.ready c.requires.mode ends is.used fits c.requires.define defined counted (rw (← c.self.view_is) c.pass-end.ensures.passed)
+    let stops : c.consume-end.result ≡ c.args.self.now.feed.at + c.args.len = rw (← c.self.view_is) c.consume-end.ensures.end in
+    take_define g.S.Sources c.args.self.now c.consume-end.new.self c.args.len c.line_ends_in-lines.result (c.consume-end.result - c.line_ends_in-lines.result) c.consume-end.result c.read_define.new.self
+    c.requires.ready c.requires.mode ends is.used fits c.requires.define defined counted (rw (← c.self.view_is) c.consume-end.ensures.passed)
     (ap (λ k. k - c.line_ends_in-lines.result) stops) stops

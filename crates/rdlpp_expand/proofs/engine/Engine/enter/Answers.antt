@@ -1,6 +1,6 @@
 use Rattle.std.proofs.Common.{◌≡◌, ap, ◌∙◌}
 use Rattle.rdlpp_expand.specs.Feed.{entered}
-use Rattle.rdlpp_expand.proofs.Takings.{entered_feed, entered_ends}
+use Rattle.rdlpp_expand.proofs.FrontSteps.{entered_feed, entered_ends}
 use Rattle.rdlpp_expand.proofs.engine.Engine.enter.Goals as goal
 
 pub invariant_of-self : goal.invariant_of-self

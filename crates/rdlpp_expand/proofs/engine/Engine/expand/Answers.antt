@@ -6,8 +6,8 @@ use Rattle.rdlpp_meaning.specs.State.{fault_at}
 use Rattle.rdlpp_expand.specs.Feed.{EndsHeld, held_of}
 use Rattle.rdlpp_expand.specs.Front.{usage_name}
 use Rattle.rdlpp_expand.specs.Remaining.{state_of}
-use Rattle.rdlpp_expand.proofs.Moves.{usage_inside}
-use Rattle.rdlpp_expand.proofs.Takings.{left_undefined, undefined_kind, take_refused, usage_word, cut_once}
+use Rattle.rdlpp_expand.proofs.FrontRemains.{usage_inside}
+use Rattle.rdlpp_expand.proofs.FrontSteps.{left_undefined, undefined_kind, take_refused, usage_word, cut_once}
 use Rattle.rdlpp_expand.proofs.engine.Engine.expand.Goals as goal
 
 pub name_of-name-requires-clause-some : goal.name_of-name-requires-clause-some

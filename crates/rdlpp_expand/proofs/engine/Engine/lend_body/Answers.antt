@@ -4,8 +4,8 @@ use Rattle.rdlpp_meaning.specs.declared.fault.FaultKind.TheVariants as fault
 use Rattle.rdlpp_meaning.specs.Stage.{is_unbuilt_macro}
 use Rattle.rdlpp_expand.specs.Feed.{EndsHeld}
 use Rattle.rdlpp_expand.specs.Pieces.{IsPlaced}
-use Rattle.rdlpp_expand.proofs.Moves.{usage_inside}
-use Rattle.rdlpp_expand.proofs.Takings.{left_unbuilt, unbuilt_kind, take_refused, take_usage}
+use Rattle.rdlpp_expand.proofs.FrontRemains.{usage_inside}
+use Rattle.rdlpp_expand.proofs.FrontSteps.{left_unbuilt, unbuilt_kind, take_refused, take_usage}
 use Rattle.rdlpp_expand.proofs.engine.Engine.lend_body.Goals as goal
 
 -- a test that is turned
@@ -22,13 +22,13 @@ returns-then-not-is_built-clause-takes g c =
     take_refused g.S.Sources c.args.self.now c.refuse.new.self c.refuse.result fault.Unbuilt [] told c.refuse.ensures.kept unbuilt_kind
     (left_unbuilt g.S.Sources.unread c.args.self.now c.args.len (macro_at c.args.self.now.table.macros c.args.id) c.requires.mode c.requires.ready.bytes ends c.requires.usage c.requires.named unbuilt)
 
-pub pass-requires-clause-inside : goal.pass-requires-clause-inside
-pass-requires-clause-inside g c = (usage_inside _ _ c.requires.ready.bytes c.requires.usage).1
+pub consume-requires-clause-inside : goal.consume-requires-clause-inside
+consume-requires-clause-inside g c = (usage_inside _ _ c.requires.ready.bytes c.requires.usage).1
 
 pub returns-clause-place : goal.returns-clause-place
 unfolding IsPlaced
 returns-clause-place g c =
-    let same = ap (λ e. length e.table.macros) c.pass.ensures.passed in
+    let same = ap (λ e. length e.table.macros) c.consume.ensures.passed in
     let inside = c.requires.inside in
     omega arith
 
@@ -38,4 +38,4 @@ returns-clause-takes g c =
     let built : is_unbuilt_macro (macro_at c.args.self.now.table.macros c.args.id) ≡ false =
     rw (← c.self.view_is) (turned _ true (sym c.is_built.ensures ∙ c.if-not-is_built.false)) in
     let depth : 0 < c.args.self.now.limits.depth = rw (← c.self.view_is) (omega (arith, c.self.invariant.0.depth.0)) in
-    take_usage g.S.Sources c.args.self.now c.pass.new.self c.args.len c.args.id c.requires.ready c.requires.mode ends c.requires.usage c.requires.named built depth c.pass.ensures.passed
+    take_usage g.S.Sources c.args.self.now c.consume.new.self c.args.len c.args.id c.requires.ready c.requires.mode ends c.requires.usage c.requires.named built depth c.consume.ensures.passed

@@ -7,8 +7,8 @@ use Rattle.rdlpp_meaning.specs.State.{fault_at}
 use Rattle.rdlpp_expand.specs.Feed.{IsFeed, EndsHeld, held_of}
 use Rattle.rdlpp_expand.specs.Front.{passed, undef_name}
 use Rattle.rdlpp_expand.specs.Remaining.{state_of}
-use Rattle.rdlpp_expand.proofs.Takings.{cut_once, held_room, left_nameless, left_reserved, nameless_kind, reserved_kind, take_refused, take_undef, undef_word}
-use Rattle.rdlpp_expand.proofs.UndefMoves.{undef_inside}
+use Rattle.rdlpp_expand.proofs.FrontSteps.{cut_once, held_room, left_nameless, left_reserved, nameless_kind, reserved_kind, take_refused, take_undef, undef_word}
+use Rattle.rdlpp_expand.proofs.UndefRemains.{undef_inside}
 use Rattle.rdlpp_expand.proofs.engine.Engine.undefine.Goals as goal
 
 pub returns-then-stop-start-clause-takes : goal.returns-then-stop-start-clause-takes
@@ -50,8 +50,8 @@ returns-then-is_some-clause-takes g c =
     fault_told c.refuse-then-is_some.ensures.kept reserved_kind
     (left_reserved g.S.Sources.unread c.args.self.now c.args.start c.args.stop c.requires.mode c.requires.ready.bytes ends c.requires.undef has taken)
 
-pub pass-end-requires-clause-inside : goal.pass-end-requires-clause-inside
-pass-end-requires-clause-inside g c =
+pub consume-end-requires-clause-inside : goal.consume-end-requires-clause-inside
+consume-end-requires-clause-inside g c =
     rw (← c.self.view_is) at (undef_inside _ _ _ c.requires.ready.bytes c.requires.undef).2
 
 pub returns-clause-place : goal.returns-clause-place
@@ -60,8 +60,8 @@ returns-clause-place g c =
     let inside : c.args.stop ≤ length (held_of c.self.inside.feed) = rw (← c.self.view_is) at (undef_inside _ _ _ c.requires.ready.bytes c.requires.undef).2 in
     let room = held_room c.self.inside.feed in
     let is : IsFeed c.self.inside.feed = c.self.invariant.5 in
-    let end = c.pass-end.ensures.end in
-    let window = ap (λ e. e.feed.window) c.pass-end.ensures.passed in
+    let end = c.consume-end.ensures.end in
+    let window = ap (λ e. e.feed.window) c.consume-end.ensures.passed in
     (omega arith, rw window (omega arith))
 
 pub returns-clause-takes : goal.returns-clause-takes
@@ -76,5 +76,5 @@ returns-clause-takes g c =
     let has : c.args.start < c.args.stop = omega arith in
     let table : c.remove-found.new.self ≡ record c.args.self.now.table { macros = without (undef_name (held_of c.args.self.now.feed) c.args.start c.args.stop) c.args.self.now.table.macros } =
     rw (← name, ← c.self.view_is) c.remove-found.ensures.table in
-    take_undef g.S.Sources c.args.self.now c.pass-end.new.self c.args.start c.args.stop c.pass-end.result c.remove-found.new.self
-    c.requires.ready c.requires.mode ends c.requires.undef has free table (rw (← c.self.view_is) c.pass-end.ensures.passed)
+    take_undef g.S.Sources c.args.self.now c.consume-end.new.self c.args.start c.args.stop c.consume-end.result c.remove-found.new.self
+    c.requires.ready c.requires.mode ends c.requires.undef has free table (rw (← c.self.view_is) c.consume-end.ensures.passed)

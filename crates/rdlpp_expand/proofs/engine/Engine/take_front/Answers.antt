@@ -1,8 +1,8 @@
 use Rattle.std.proofs.Common.{◌≡◌, [], ap, ◌∙◌}
 use Rattle.rdlpp_expand.specs.Feed.{EndsHeld, held_of}
 use Rattle.rdlpp_expand.specs.Front.{IsRefused}
-use Rattle.rdlpp_expand.proofs.Takings.{left_refused, refused_kind, take_refused}
-use Rattle.rdlpp_expand.proofs.engine.Engine.take.Goals as goal
+use Rattle.rdlpp_expand.proofs.FrontSteps.{left_refused, refused_kind, take_refused}
+use Rattle.rdlpp_expand.proofs.engine.Engine.take_front.Goals as goal
 
 pub returns-in-Refused-clause-takes : goal.returns-in-Refused-clause-takes
 unfolding held_of

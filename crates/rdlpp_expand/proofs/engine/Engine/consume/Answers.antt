@@ -1,7 +1,7 @@
 use Rattle.std.proofs.Common.{◌≡◌, ap, ◌∙◌}
 use Rattle.rdlpp_expand.specs.Front.{passed}
-use Rattle.rdlpp_expand.proofs.Takings.{passed_feed, passed_ends}
-use Rattle.rdlpp_expand.proofs.engine.Engine.pass.Goals as goal
+use Rattle.rdlpp_expand.proofs.FrontSteps.{passed_feed, passed_ends}
+use Rattle.rdlpp_expand.proofs.engine.Engine.consume.Goals as goal
 
 pub invariant_of-self : goal.invariant_of-self
 unfolding passed

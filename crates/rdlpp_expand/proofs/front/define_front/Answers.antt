@@ -3,7 +3,7 @@ use Rattle.std.specs.Option.{unwrap_or}
 use Rattle.rdlpp_scan.proofs.LogicalLines.{line_len-ended}
 use Rattle.rdlpp_expand.specs.Front.{AtUnbuilt}
 use Rattle.rdlpp_expand.proofs.FrontFacts.{unbuilt_define, define_text}
-use Rattle.rdlpp_expand.proofs.front.defined.Goals as goal
+use Rattle.rdlpp_expand.proofs.front.define_front.Goals as goal
 
 pub returns : goal.returns
 returns c =

@@ -28,7 +28,7 @@ use Rattle.rdlpp_meaning.specs.Parts.{Argument, no_argument, argument_of, behind
 use Rattle.rdlpp_meaning.proofs.Undefining.{blank_token, name_token, takes_name_at_once, takes_name_behind_blanks, wants_name}
 use Rattle.rdlpp_expand.specs.Front.{IsLead, Leads, Lacks, IsUndef, passed, undef_name}
 use Rattle.rdlpp_expand.specs.Feed.{FeedView, held_of, rest_of, tokens_left}
-use Rattle.rdlpp_expand.proofs.Moves.{tokens_plain, tokens_passed}
+use Rattle.rdlpp_expand.proofs.FrontRemains.{tokens_plain, tokens_passed}
 use Rattle.rdlpp_meaning.specs.declared.fault.FaultKind.{FaultKind}
 use Rattle.rdlpp_meaning.specs.declared.fault.FaultKind.TheVariants.{NameExpected, ReservedName}
 use Rattle.rdlpp_meaning.specs.Outcome.{fails}

@@ -19,8 +19,8 @@ use Rattle.rdlpp_expand.specs.Supply.{Supplies, ended_tokens, only_broken}
 use Rattle.rdlpp_expand.specs.declared.feed.supply.Supply.TheVariants.{Held, End}
 use Rattle.rdlpp_expand.specs.declared.phase.Phase.{Phase}
 use Rattle.rdlpp_expand.specs.declared.phase.Phase.TheVariants.{Fresh, Open, Closed}
-use Rattle.rdlpp_expand.proofs.Moves.{move_broken, move_end}
-use Rattle.rdlpp_expand.proofs.Takings.{IsOwn, left_open}
+use Rattle.rdlpp_expand.proofs.FrontRemains.{move_broken, move_end}
+use Rattle.rdlpp_expand.proofs.FrontSteps.{IsOwn, left_open}
 use Rattle.rdlpp_expand.proofs.WorkFacts.{work_falls}
 
 -- nothing was asked of the sources

@@ -1,5 +1,5 @@
 use Rattle.std.proofs.Common.{◌∙◌}
-use Rattle.rdlpp_expand.proofs.engine.Engine.provide.Goals as goal
+use Rattle.rdlpp_expand.proofs.engine.Engine.fill.Goals as goal
 
 pub invariant_of-self : goal.invariant_of-self
 invariant_of-self g c = (

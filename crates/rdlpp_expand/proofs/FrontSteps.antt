@@ -16,7 +16,7 @@ use Rattle.rdlpp_scan.specs.Stage.{is_reserved}
 use Rattle.rdlpp_scan.specs.declared.token.Kind.TheVariants.{Name}
 use Rattle.rdlpp_scan.proofs.FirstTokens.{plain_token-run}
 use Rattle.rdlpp_meaning.proofs.Outcomes.{and_then-gives_nil}
-use Rattle.rdlpp_expand.proofs.UndefMoves.{move_nameless, move_reserved, move_undef, undef_inside}
+use Rattle.rdlpp_expand.proofs.UndefRemains.{move_nameless, move_reserved, move_undef, undef_inside}
 use Rattle.rdlpp_table.specs.View.{TableView, macro_at}
 use Rattle.rdlpp_table.specs.Define.{define_of}
 use Rattle.rdlpp_table.specs.Define as table_define
@@ -43,7 +43,7 @@ use Rattle.rdlpp_expand.specs.declared.phase.Phase.TheVariants.{Open}
 use Rattle.rdlpp_expand.specs.declared.place.Place.TheVariants.{Source, Body}
 use Rattle.rdlpp_expand.proofs.EndsFacts.{ends_line}
 use Rattle.rdlpp_expand.proofs.Slices.{part_slice}
-use Rattle.rdlpp_expand.proofs.Moves.{held_passed, move_text, move_usage, move_undefined, move_unbuilt, move_defined, move_refused_define, move_refused, text_inside, usage_inside, define_inside}
+use Rattle.rdlpp_expand.proofs.FrontRemains.{held_passed, move_text, move_usage, move_undefined, move_unbuilt, move_defined, move_refused_define, move_refused, text_inside, usage_inside, define_inside}
 use Rattle.rdlpp_expand.proofs.FrontFacts.{back_front, back_len}
 use Rattle.rdlpp_expand.proofs.DefineLines.{define_line_ends, define_one_line, define_logical}
 

@@ -44,7 +44,7 @@ use Rattle.rdlpp_meaning.proofs.Usages.{built_body, built_formals}
 use Rattle.rdlpp_meaning.proofs.CopiedBodies.{remains_copied_body}
 use Rattle.rdlpp_meaning.proofs.Remaining.{remains_copied, remains_undefined, remains_unbuilt, remains_bare, remains_broken, remains_defined, remains_refused, remains_end}
 use Rattle.rdlpp_expand.specs.Feed.{FeedView, entered, held_of, rest_of, tokens_left}
-use Rattle.rdlpp_expand.proofs.TextMoves.{TextHeld, move_token}
+use Rattle.rdlpp_expand.proofs.TextRemains.{TextHeld, move_token}
 use Rattle.rdlpp_expand.specs.Supply.{only_broken}
 use Rattle.rdlpp_expand.specs.Front.{IsText, AtOrdinary, AtToken, IsUsage, IsDefine, IsRefused, AtPerl, AtBare, AtUnbuilt, passed}
 use Rattle.rdlpp_expand.proofs.FrontFacts.{back_front, back_text}
