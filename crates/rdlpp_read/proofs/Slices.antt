@@ -1,0 +1,37 @@
+-- Parts of a buffer of which the first bytes are held.
+use Rattle.std.proofs.Common.{◌≡◌, ℕ, ◌+◌, ◌-◌, ◌≤◌, List, length, take, drop, sym, ap, ◌∙◌, arith}
+use Rattle.std.proofs.lemmas.List.{take-take, drop-take, take-append-le, length-take, length-drop}
+use Rattle.std.specs.List.{copy_within}
+
+-- from s up to e, of the whole and of the first bytes
+pub part_slice : (s e n : ℕ) (xs : List ℕ) → s ≤ e → e ≤ n → take (e - s) (drop s xs) ≡ take (e - s) (drop s (take n xs))
+part_slice s e n xs h k =
+    let m = e - s in
+    let f : e ≡ s + m = omega arith in
+    let first : drop s (take (s + m) xs) ≡ take m (drop s xs) = drop-take s m xs in
+    let second : drop s (take (s + m) (take n xs)) ≡ take m (drop s (take n xs)) = drop-take s m (take n xs) in
+    let le : s + m ≤ n = omega arith in
+    let same : take (s + m) (take n xs) ≡ take (s + m) xs = take-take (s + m) n xs le in
+    sym first ∙ (ap (drop s) (sym same) ∙ second)
+
+-- what is held up to a place
+pub held_slice : (s a n : ℕ) (xs : List ℕ) → s ≤ a → a ≤ n → take (a - s) (drop s xs) ≡ drop s (take a (take n xs))
+held_slice s a n xs h k =
+    let m = a - s in
+    let f : s + m ≡ a = omega arith in
+    let first : drop s (take (s + m) xs) ≡ take m (drop s xs) = drop-take s m xs in
+    sym first ∙ (ap (λ j. drop s (take j xs)) f ∙ ap (drop s) (sym (take-take a n xs k)))
+
+-- what isn't used, moved to the front
+pub shifted : (s n : ℕ) (xs : List ℕ) → s ≤ n → n ≤ length xs → take (n - s) (copy_within xs s n 0) ≡ drop s (take n xs)
+shifted s n xs h k =
+    let m = n - s in
+    let f : s + m ≡ n = omega arith in
+    let first : drop s (take (s + m) xs) ≡ take m (drop s xs) = drop-take s m xs in
+    let whole : take m (copy_within xs s n 0) ≡ take m (drop s xs) =
+    take-append-le m (take m (drop s xs)) (drop (0 + m) xs) (omega (arith, length-take m (drop s xs), length-drop s xs)) ∙ take-take m m (drop s xs) (omega arith) in
+    whole ∙ (sym first ∙ ap (λ j. drop s (take j xs)) f)
+
+-- no more is held than the places say
+pub held_le : (s a n : ℕ) (xs : List ℕ) → length (drop s (take a (take n xs))) ≤ a - s
+held_le s a n xs = omega (arith, length-drop s (take a (take n xs)), length-take a (take n xs))

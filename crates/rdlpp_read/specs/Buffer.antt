@@ -1,0 +1,75 @@
+-- What is held of an open source, and what remains of it.
+-- A definition that names no source is this project's own.
+use Rattle.std.specs.Prelude.{◌≡◌, ℕ, ◌+◌, ◌-◌, ◌^◌, ◌≤◌, List, [], ◌++◌, length, take, drop, Option, None, Some, ◌⊎◌}
+use Rattle.rdlpp_scan.specs.declared.token.Mode.{Mode}
+use Rattle.rdlpp_scan.specs.declared.token.Mode.TheVariants.{Plain}
+use Rattle.rdlpp_scan.specs.Resumed.{opening}
+use Rattle.rdlpp_scan.specs.SourceTokens.{SourceToken, remaining_tokens}
+use Rattle.rdlpp_scan.specs.Stage.{is_unbuilt}
+use Rattle.rdlpp_scan.specs.Lines.{whole_lines_len}
+
+-- an open source: the part of its text that is held, how much of that is used, where in it the lines end that the limits
+-- accept, what reads on where the text hasn't ended, the bytes that may still be accepted, the physical line that comes next,
+-- the most bytes of a line, whether the next byte stands in a string or in a block comment, and on which line that opened
+pub record BufferView (R : Type 0) : Type 0 where
+  pub window : List ℕ
+  pub at : ℕ
+  pub accepted : ℕ
+  pub reader : Option R
+  pub bytes_left : ℕ
+  pub line : ℕ
+  pub line_bytes : ℕ
+  pub mode : Mode
+  pub open_token_line : ℕ
+
+-- the held bytes that aren't used, of accepted lines
+unfoldable pub held_of : {R : Type 0} → BufferView R → List ℕ
+held_of f = drop f.at (take f.accepted f.window)
+
+-- what a reader still has; nothing where the text has ended
+unfoldable pub unread_of : {R : Type 0} → (R → List ℕ) → Option R → List ℕ
+unread_of unread None = []
+unread_of unread (Some reader) = unread reader
+
+-- the bytes behind the accepted lines
+unfoldable pub rest_of : {R : Type 0} → (R → List ℕ) → BufferView R → List ℕ
+rest_of unread f = drop f.accepted f.window ++ unread_of unread f.reader
+
+-- the tokens that remain of the source
+unfoldable pub tokens_left : {R : Type 0} → (R → List ℕ) → BufferView R → List SourceToken
+tokens_left unread f =
+    remaining_tokens is_unbuilt f.line_bytes f.mode f.open_token_line f.line (held_of f) f.bytes_left (rest_of unread f)
+
+-- the bytes that the source may still give and that aren't used
+unfoldable pub unused_of : {R : Type 0} → BufferView R → ℕ
+unused_of f = f.bytes_left + (f.accepted - f.at)
+
+-- the places in what is held are in order, and the line can still be counted
+pub record IsBuffer {R : Type 0} (f : BufferView R) : Type 0 where
+  pub used : f.at ≤ f.accepted
+  pub lines : f.accepted ≤ length f.window
+  pub within : length f.window ≤ f.line_bytes
+  pub counts : f.line + (f.bytes_left + (f.accepted - f.at)) ≤ 2 ^ 31
+
+-- a source that isn't open
+unfoldable pub closed_buffer : {R : Type 0} → ℕ → ℕ → BufferView R
+closed_buffer line line_bytes =
+    record { window = []; at = 0; accepted = 0; reader = None; bytes_left = 0; line = line; line_bytes = line_bytes; mode = Plain; open_token_line = 0 }
+
+-- a source that was opened: nothing of it is read yet
+unfoldable pub opened_buffer : {R : Type 0} → R → ℕ → ℕ → BufferView R
+opened_buffer reader bytes_left line_bytes =
+    record { window = []; at = 0; accepted = 0; reader = Some reader; bytes_left = bytes_left; line = 1; line_bytes = line_bytes; mode = Plain; open_token_line = 1 }
+
+-- an open source whose next byte stands in a mode
+unfoldable pub entered_mode : {R : Type 0} → BufferView R → Mode → BufferView R
+entered_mode f next = record f { mode = next; open_token_line = opening f.mode f.open_token_line f.line }
+
+-- nothing of what is held is used or accepted
+pub record IsFresh {R : Type 0} (f : BufferView R) : Type 0 where
+  pub at : f.at ≡ 0
+  pub accepted : f.accepted ≡ 0
+
+-- what is held ends at a line end, or where the text ends
+abbrev pub EndsHeld : {R : Type 0} → BufferView R → Type 0
+EndsHeld f = (whole_lines_len (held_of f) ≡ length (held_of f)) ⊎ ((f.reader ≡ None) × (f.accepted ≡ length f.window))
