@@ -1,10 +1,10 @@
 -- The scan of a call commutes with substitution.
-use Rattle.std.proofs.Common.{◌≡◌, ℕ, List, map, refl, Option, None, Some}
+use Rattle.std.proofs.Common.{◌≡◌, ℕ, List, map, refl, None, Some}
 use Rattle.rdlpp_scan.specs.declared.token.Kind.TheVariants.{Name}
 use Rattle.rdlpp_scan.specs.SourceTokens.{Sort, Ordinary, Definition, Renumbering, Broken, SourceToken}
 use Rattle.rdlpp_table.specs.Table.{Formal}
-use Rattle.rdlpp_meaning.specs.Items.{Item, Written, Arg, packed}
-use Rattle.rdlpp_meaning.specs.Actuals.{map_call, call_of, trimmed, kind_role, token_role, item_role, item_size}
+use Rattle.rdlpp_meaning.specs.Items.{Item, Written}
+use Rattle.rdlpp_meaning.specs.Actuals.{map_call, call_of, trimmed, token_role, item_role, item_size}
 use Rattle.rdlpp_meaning.specs.Substitution.{bound_to, mark_or, marked}
 use Rattle.rdlpp_meaning.specs.Cursors.{Binding, image, kept, not_kept}
 use Rattle.rdlpp_meaning.proofs.Commuting.{Keeps, call-map, trimmed-map}

@@ -6,7 +6,7 @@ use Rattle.std.specs.Option.{option_map}
 use Rattle.rdlpp_scan.specs.declared.token.Kind.TheVariants.{Name}
 use Rattle.rdlpp_scan.specs.SourceTokens.{Sort, Ordinary, Definition, Renumbering, Broken, SourceToken}
 use Rattle.rdlpp_table.specs.Table.{Formal, Macro}
-use Rattle.rdlpp_meaning.specs.Items.{Item, Written, Arg, packed}
+use Rattle.rdlpp_meaning.specs.Items.{Item, Written, packed}
 use Rattle.rdlpp_meaning.specs.Substitution.{body_tokens, Standing, Given, Defaulted, standing_of, bound_to, mark_of, mark_or, marked, substituted}
 use Rattle.rdlpp_meaning.specs.Expansion.{bytes_of}
 use Rattle.rdlpp_meaning.specs.Literal.{erased, all_erased, standing_bytes, formals_bytes, bytes_for, in_place, literal}
