@@ -1,6 +1,8 @@
 -- The tokens of a body as they are read one by one, and runs of a cursor's tokens that stand for themselves.
 use Rattle.std.proofs.Common.{◌≡◌, ℕ, zero, suc, ◌-◌, Bool, true, false, ◌&&◌, List, [], ◌∷◌, ◌++◌, map, take, drop, refl, sym, ap, ◌∙◌, Option, None, Some}
+use Rattle.std.specs.Prelude.{is_some, not}
 use Rattle.std.specs.List.{list_all}
+use Rattle.std.specs.Option.{option_map}
 use Rattle.rdlpp_scan.specs.declared.token.Mode.{Mode}
 use Rattle.rdlpp_scan.specs.declared.token.Mode.TheVariants.{Plain}
 use Rattle.rdlpp_scan.specs.declared.token.Token.{Token}
@@ -9,14 +11,14 @@ use Rattle.rdlpp_scan.specs.SourceTokens.{Ordinary, SourceToken}
 use Rattle.rdlpp_meaning.specs.Outcome.{Outcome, gives, and_then}
 use Rattle.rdlpp_meaning.specs.State.{Rules, State}
 use Rattle.rdlpp_meaning.specs.Items.{Item, Written}
-use Rattle.rdlpp_meaning.specs.Substitution.{spelled, body_tokens}
+use Rattle.rdlpp_meaning.specs.Substitution.{spelled, body_tokens, Standing, mark_or}
 use Rattle.rdlpp_meaning.specs.Expansion.{walk, is_copied, bytes_of}
-use Rattle.rdlpp_meaning.specs.Cursors.{Binding, Cursor, stands_alone, passes, stood_for, image, left}
+use Rattle.rdlpp_meaning.specs.Cursors.{Binding, Cursor, closure_of, closure_at, stands_alone, passes, stood_for, map_standing, image, left}
 use Rattle.rdlpp_meaning.proofs.Outcomes.{and_then-assoc, and_then-gives_gives, and_then-gives_nil}
 use Rattle.rdlpp_meaning.proofs.Walks.{deeper_of, walk_copied}
 use Rattle.rdlpp_meaning.proofs.PlainBodies.{drop_behind}
 use Rattle.rdlpp_meaning.proofs.Cover.{HasByte, token_has}
-use Rattle.rdlpp_meaning.proofs.CursorSteps.{left_cursor, stand_or, stand_is}
+use Rattle.rdlpp_meaning.proofs.CursorSteps.{left_cursor}
 
 -- tokens that are passed over are those of the suffix
 skip_is : (mode : Mode) (k : ℕ) (bs : List ℕ) → tokens_from mode k bs ≡ tokens_from mode 0 (drop k bs)
@@ -45,17 +47,18 @@ unfolding body_tokens tokens_from spelled HasByte
 body_end = refl
 
 -- by what it stands for
-alone_by : (b : Binding) (frame : List Binding) (t : SourceToken) (actual : Option (List SourceToken))
-    → (elim actual [ Some a ↦ false | None ↦ true ]) ≡ true → stand_or b.writer frame t actual ≡ Written t
-unfolding stand_or
+alone_by : (b : Binding) (frame : List Binding) (t : SourceToken) (standing : Option (Standing SourceToken))
+    → not (is_some (option_map (closure_of b frame) standing)) ≡ true
+    → mark_or b.name b.writer t (option_map (map_standing (image frame)) standing) ≡ Written t
+unfolding mark_or
 alone_by b frame t None e = refl
-alone_by b frame t (Some a) e = cc
+alone_by b frame t (Some standing) e = cc
 
 -- a token that stands for itself is itself
 alone_image : (frame : List Binding) (t : SourceToken) → stands_alone frame t ≡ true → image frame t ≡ Written t
-unfolding image stands_alone
+unfolding image stands_alone closure_at
 alone_image [] t e = refl
-alone_image (b ∷ frame) t e = sym (stand_is b.writer frame t (stood_for b t)) ∙ alone_by b frame t (stood_for b t) e
+alone_image (b ∷ frame) t e = alone_by b frame t (stood_for b t) e
 
 -- the first of two tests that hold
 first_holds : (a b : Bool) → (a && b) ≡ true → a ≡ true

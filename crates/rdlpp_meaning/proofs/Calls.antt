@@ -187,11 +187,11 @@ usage_within rules s source line o name xs m actuals used e =
 run_usage : (rules : Rules) (s : State) (name : List ℕ) (line : ℕ) (us : List SourceToken) (m : Macro) (actuals : List (List Item)) (used : ℕ)
     → usage_of rules s None line [] name (map Written us) ≡ Opens m actuals used
     → run_outcome rules s (usage_token name line ∷ us)
-    ≡ and_then (deeper_of rules s rules.depth line (name ∷ []) (substituted m actuals [])) (run_outcome rules s (drop used us))
+    ≡ and_then (deeper_of rules s rules.depth line (m.name ∷ []) (substituted m actuals [])) (run_outcome rules s (drop used us))
 unfolding run_outcome after_usage
 run_usage rules s name line us m actuals used e =
     let deeper = deeper_of rules s rules.depth in
-    let opened = deeper line (name ∷ []) (substituted m actuals []) in
+    let opened = deeper line (m.name ∷ []) (substituted m actuals []) in
     expand_walk rules s rules.depth None [] (map Written (usage_token name line ∷ us))
     ∙ walk_usage rules s deeper name line (map Written us) (Opens m actuals used) e
     ∙ ap (λ (x : Outcome). and_then opened x)
@@ -205,13 +205,13 @@ pub resumed_usage : (rules : Rules) (os : List Progress) (first : Bool) (name : 
     → is_reserved name ≡ false
     → usage_of rules s None line [] name (map Written (leading ts)) ≡ Opens m actuals used
     → resumed rules (Live os) first (usage_token name line ∷ ts) s
-    ≡ goes_on (leaves (deeper_of rules s rules.depth line (name ∷ []) (substituted m actuals [])) s)
+    ≡ goes_on (leaves (deeper_of rules s rules.depth line (m.name ∷ []) (substituted m actuals [])) s)
     (λ after. resumed rules (Live os) (only_blanks first (bytes_of (take (suc used) (usage_token name line ∷ ts)))) (drop used ts) after)
 resumed_usage rules os first name line ts s m actuals used r e =
     let t = usage_token name line in
     let l = leading_text t ts (usage_text name line r) in
     let h : used ≤ length (map Written (leading ts)) = usage_within rules s None line [] name (map Written (leading ts)) m actuals used e in
-    resumed_part rules os first (suc used) (t ∷ ts) s (deeper_of rules s rules.depth line (name ∷ []) (substituted m actuals []))
+    resumed_part rules os first (suc used) (t ∷ ts) s (deeper_of rules s rules.depth line (m.name ∷ []) (substituted m actuals []))
     (omega (arith, ap length l, length-map (leading ts) (λ (u : SourceToken). Written u)))
     (rw l (run_usage rules s name line (leading ts) m actuals used e))
 

@@ -2,6 +2,7 @@
 use Rattle.std.proofs.Common.{◌≡◌, ℕ, zero, suc, Bool, true, false, List, [], ◌∷◌, length, map, drop, refl, sym, ap, subst, ◌∙◌, Option, None, Some}
 use Rattle.std.specs.Prelude.{if◌then◌else◌, ◌==◌, bytes_eq, unwrap_or}
 use Rattle.std.specs.List.{list_any}
+use Rattle.std.specs.Option.{option_map}
 use Rattle.std.proofs.lemmas.List.{drop-map, length-map}
 use Rattle.rdlpp_scan.specs.declared.token.Kind.TheVariants.{Name, Back, BareBackquote}
 use Rattle.rdlpp_scan.specs.SourceTokens.{Sort, Ordinary, Definition, Renumbering, Broken, SourceToken}
@@ -11,10 +12,10 @@ use Rattle.rdlpp_meaning.specs.declared.fault.FaultKind.TheVariants.{BareBackquo
 use Rattle.rdlpp_meaning.specs.Outcome.{Outcome, gives, fails, and_then}
 use Rattle.rdlpp_meaning.specs.State.{Rules, State, fault_at, breach_kind}
 use Rattle.rdlpp_meaning.specs.Items.{Item, Written, Arg, listed, packed}
-use Rattle.rdlpp_meaning.specs.Actuals.{Call, Lacking, Broke, Bound, call_of, trimmed, kind_role, token_role, item_role, item_size, map_call}
-use Rattle.rdlpp_meaning.specs.Substitution.{body_tokens, bound_to, marked, substituted}
+use Rattle.rdlpp_meaning.specs.Actuals.{Text, Call, Lacking, Broke, Bound, call_of, trimmed, kind_role, token_role, item_role, item_size, map_call}
+use Rattle.rdlpp_meaning.specs.Substitution.{body_tokens, Standing, Given, Defaulted, standing_of, bound_to, mark_of, mark_or, marked, substituted}
 use Rattle.rdlpp_meaning.specs.Expansion.{Usage, Refuses as RefusesItems, Opens as OpensItems, name_of, is_count, usage_of_call, usage_of_formals, usage_of_macro, usage_of, walk, expand}
-use Rattle.rdlpp_meaning.specs.Cursors.{Binding, Cursor, actual_of, stood_for, image, cursor_items, left, TokenUsage, Refuses, Opens, kept, not_kept, is_token_count, token_usage_of_call, token_usage_of_formals, token_usage_of_macro, token_usage_of, Move, opened, with_text, usage_move, token_move, bound_move, move, left_behind}
+use Rattle.rdlpp_meaning.specs.Cursors.{Binding, Cursor, stood_for, map_standing, image, Closure, closure_of, closure_at, cursor_items, left, TokenUsage, Refuses, Opens, kept, not_kept, is_token_count, token_usage_of_call, token_usage_of_formals, token_usage_of_macro, token_usage_of, Move, opened, with_text, usage_move, token_move, standing_move, move, left_behind}
 use Rattle.rdlpp_meaning.proofs.Outcomes.{and_then-nil, and_then-assoc, and_then-fails, and_then-gives_nil}
 use Rattle.rdlpp_meaning.proofs.Walks.{deeper_of, expand_walk}
 use Rattle.rdlpp_meaning.proofs.Calls.{walk_skip}
@@ -26,22 +27,27 @@ unfolding listed packed
 listed-packed [] = refl
 listed-packed (x ∷ xs) = ap (λ (ys : List Item). x ∷ ys) (listed-packed xs)
 
--- a formal's name has the role of text as what it stands for
-name_role : (b : Binding) (frame : List Binding) (bytes : List ℕ) (line : ℕ) (actual : Option (List SourceToken))
-    → item_role (elim actual [
-      | Some a ↦ Arg b.writer (packed (map (image frame) a))
-      | None ↦ Written (record { sort = Ordinary Name; bytes = bytes; line = line })
-    ]) ≡ token_role (record { sort = Ordinary Name; bytes = bytes; line = line })
-unfolding item_role token_role kind_role
-name_role b frame bytes line (Some a) = refl
-name_role b frame bytes line None = refl
+-- the mark of what a formal stands for has the role of text
+mark_role : (macro : List ℕ) (o : List (List ℕ)) (standing : Standing Item) → item_role (mark_of macro o standing) ≡ Text
+unfolding item_role mark_of
+mark_role macro o (Given actual) = refl
+mark_role macro o (Defaulted text) = refl
+
+-- a formal's name has that role too, whether it is marked or not
+pub name_role : (macro : List ℕ) (o : List (List ℕ)) (bytes : List ℕ) (line : ℕ) (standing : Option (Standing Item))
+    → item_role (mark_or macro o (record { sort = Ordinary Name; bytes = bytes; line = line }) standing)
+    ≡ token_role (record { sort = Ordinary Name; bytes = bytes; line = line })
+unfolding item_role mark_or token_role kind_role
+name_role macro o bytes line None = refl
+name_role macro o bytes line (Some standing) = mark_role macro o standing
 
 -- a token and what it stands for have one role, by what it is
 image_role_by : (b : Binding) (frame : List Binding) (sort : Sort) (bytes : List ℕ) (line : ℕ)
     → item_role (image (b ∷ frame) (record { sort = sort; bytes = bytes; line = line }))
     ≡ token_role (record { sort = sort; bytes = bytes; line = line })
-unfolding image stood_for item_role
-image_role_by b frame (Ordinary Name) bytes line = name_role b frame bytes line (actual_of b.formals b.actuals bytes)
+unfolding image stood_for item_role mark_or
+image_role_by b frame (Ordinary Name) bytes line =
+    name_role b.name b.writer bytes line (option_map (map_standing (image frame)) (bound_to b.formals b.actuals bytes))
 image_role_by b frame (Ordinary k) bytes line = refl
 image_role_by b frame Definition bytes line = refl
 image_role_by b frame Renumbering bytes line = refl
@@ -155,97 +161,68 @@ usage_commutes size rules s source line o name frame keeps ts =
     ∙ choice-image frame (is_reserved name) (Refuses DirectiveInText name line)
     (elim (macro_named s.macros name) [ None ↦ Refuses UndefinedMacro name line | Some m ↦ token_usage_of_macro size rules line o name ts m ])
 
--- an actual as items, if there is one
-unfoldable image_actual : List Binding → Option (List SourceToken) → Option (List Item)
-image_actual frame None = None
-image_actual frame (Some a) = Some (map (image frame) a)
+-- what a formal stands for by its actual, as items
+standing_image : (f : SourceToken → Item) (formal : Formal) (actual : List SourceToken)
+    → standing_of formal (map f actual) ≡ map_standing f (standing_of formal actual)
+unfolding standing_of map_standing
+standing_image f formal [] = empty (length formal.text == 0)
+  where
+    empty : (none : Bool)
+        → (if none then Given [] else Defaulted formal.text) ≡ map_standing f (if none then Given [] else Defaulted formal.text)
+    empty true = refl
+    empty false = refl
+standing_image f formal (t ∷ ts) = refl
 
--- a choice of actuals as items
-choice_actual : (frame : List Binding) (same : Bool) (a : List SourceToken) (rest : Option (List SourceToken)) (items : Option (List Item))
-    → items ≡ image_actual frame rest
-    → (if same then Some (map (image frame) a) else items) ≡ image_actual frame (if same then Some a else rest)
-unfolding image_actual
-choice_actual frame true a rest items h = refl
-choice_actual frame false a rest items h = h
+-- a choice of what a formal stands for, as items
+choice_standing : (f : SourceToken → Item) (same : Bool) (x : Standing SourceToken) (y : Standing Item) (rest : Option (Standing SourceToken)) (items : Option (Standing Item))
+    → y ≡ map_standing f x → items ≡ option_map (map_standing f) rest
+    → (if same then Some y else items) ≡ option_map (map_standing f) (if same then Some x else rest)
+choice_standing f true x y rest items e h = ap (λ (z : Standing Item). Some z) e
+choice_standing f false x y rest items e h = h
 
--- the actual of a formal as items
-bound_image : (formals : List Formal) (actuals : List (List SourceToken)) (frame : List Binding) (name : List ℕ)
-    → bound_to formals (map (map (image frame)) actuals) name ≡ image_actual frame (actual_of formals actuals name)
-unfolding bound_to actual_of image_actual
-bound_image [] actuals frame name = refl
-bound_image (f ∷ fs) [] frame name = refl
-bound_image (f ∷ fs) (a ∷ actuals) frame name =
-    choice_actual frame (bytes_eq f.name name) a (actual_of fs actuals name) (bound_to fs (map (map (image frame)) actuals) name)
-    (bound_image fs actuals frame name)
-
--- a token as the mark of an actual, if there is one
-mark_or : List (List ℕ) → SourceToken → Option (List Item) → Item
-mark_or o t (Some a) = Arg o (packed a)
-mark_or o t None = Written t
-
--- a token as what it stands for, if it stands for anything
-unfoldable pub stand_or : List (List ℕ) → List Binding → SourceToken → Option (List SourceToken) → Item
-stand_or o frame t (Some a) = Arg o (packed (map (image frame) a))
-stand_or o frame t None = Written t
-
--- these are one
-mark_stands : (o : List (List ℕ)) (frame : List Binding) (t : SourceToken) (actual : Option (List SourceToken))
-    → mark_or o t (image_actual frame actual) ≡ stand_or o frame t actual
-unfolding mark_or stand_or image_actual
-mark_stands o frame t (Some a) = refl
-mark_stands o frame t None = refl
-
--- the definitions choose so: a mark
-mark_is : (o : List (List ℕ)) (t : SourceToken) (a : Option (List Item))
-    → mark_or o t a ≡ elim a [ Some x ↦ Arg o (packed x) | None ↦ Written t ]
-unfolding mark_or
-mark_is o t (Some x) = refl
-mark_is o t None = refl
-
--- and what a token stands for
-pub stand_is : (o : List (List ℕ)) (frame : List Binding) (t : SourceToken) (a : Option (List SourceToken))
-    → stand_or o frame t a ≡ elim a [ Some x ↦ Arg o (packed (map (image frame) x)) | None ↦ Written t ]
-unfolding stand_or
-stand_is o frame t (Some x) = refl
-stand_is o frame t None = refl
+-- what a name stands for, as items
+bound_image : (f : SourceToken → Item) (formals : List Formal) (actuals : List (List SourceToken)) (name : List ℕ)
+    → bound_to formals (map (map f) actuals) name ≡ option_map (map_standing f) (bound_to formals actuals name)
+unfolding bound_to
+bound_image f [] actuals name = refl
+bound_image f (g ∷ gs) [] name = refl
+bound_image f (g ∷ gs) (a ∷ actuals) name =
+    choice_standing f (bytes_eq g.name name) (standing_of g a) (standing_of g (map f a)) (bound_to gs actuals name) (bound_to gs (map (map f) actuals) name)
+    (standing_image f g a) (bound_image f gs actuals name)
 
 -- a token of a body as an item, by what it is
-marked_image_by : (formals : List Formal) (actuals : List (List SourceToken)) (frame : List Binding) (o : List (List ℕ))
+marked_image_by : (macro : List ℕ) (formals : List Formal) (actuals : List (List SourceToken)) (frame : List Binding) (o : List (List ℕ))
     (sort : Sort) (bytes : List ℕ) (line : ℕ)
-    → marked formals (map (map (image frame)) actuals) o (record { sort = sort; bytes = bytes; line = line })
-    ≡ image (record { formals = formals; actuals = actuals; writer = o } ∷ frame) (record { sort = sort; bytes = bytes; line = line })
-unfolding marked image stood_for
-marked_image_by formals actuals frame o (Ordinary Name) bytes line =
-    let t : SourceToken = record { sort = Ordinary Name; bytes = bytes; line = line } in
-    sym (mark_is o t (bound_to formals (map (map (image frame)) actuals) bytes))
-    ∙ ap (mark_or o t) (bound_image formals actuals frame bytes)
-    ∙ mark_stands o frame t (actual_of formals actuals bytes)
-    ∙ stand_is o frame t (actual_of formals actuals bytes)
-marked_image_by formals actuals frame o (Ordinary k) bytes line = refl
-marked_image_by formals actuals frame o Definition bytes line = refl
-marked_image_by formals actuals frame o Renumbering bytes line = refl
-marked_image_by formals actuals frame o (Broken b) bytes line = refl
+    → marked macro formals (map (map (image frame)) actuals) o (record { sort = sort; bytes = bytes; line = line })
+    ≡ image (record { name = macro; formals = formals; actuals = actuals; writer = o } ∷ frame) (record { sort = sort; bytes = bytes; line = line })
+unfolding marked image stood_for mark_or
+marked_image_by macro formals actuals frame o (Ordinary Name) bytes line =
+    ap (mark_or macro o (record { sort = Ordinary Name; bytes = bytes; line = line })) (bound_image (image frame) formals actuals bytes)
+marked_image_by macro formals actuals frame o (Ordinary k) bytes line = refl
+marked_image_by macro formals actuals frame o Definition bytes line = refl
+marked_image_by macro formals actuals frame o Renumbering bytes line = refl
+marked_image_by macro formals actuals frame o (Broken b) bytes line = refl
 
 -- tokens of a body as items
-all_marked_image : (formals : List Formal) (actuals : List (List SourceToken)) (frame : List Binding) (o : List (List ℕ)) (ts : List SourceToken)
-    → map (marked formals (map (map (image frame)) actuals) o) ts
-    ≡ map (image (record { formals = formals; actuals = actuals; writer = o } ∷ frame)) ts
-all_marked_image formals actuals frame o [] = refl
-all_marked_image formals actuals frame o (t ∷ ts) =
-    let b : Binding = record { formals = formals; actuals = actuals; writer = o } in
-    ap (λ (x : Item). x ∷ map (marked formals (map (map (image frame)) actuals) o) ts)
-    (marked_image_by formals actuals frame o t.sort t.bytes t.line)
-    ∙ ap (λ (xs : List Item). image (b ∷ frame) t ∷ xs) (all_marked_image formals actuals frame o ts)
+all_marked_image : (macro : List ℕ) (formals : List Formal) (actuals : List (List SourceToken)) (frame : List Binding) (o : List (List ℕ)) (ts : List SourceToken)
+    → map (marked macro formals (map (map (image frame)) actuals) o) ts
+    ≡ map (image (record { name = macro; formals = formals; actuals = actuals; writer = o } ∷ frame)) ts
+all_marked_image macro formals actuals frame o [] = refl
+all_marked_image macro formals actuals frame o (t ∷ ts) =
+    let b : Binding = record { name = macro; formals = formals; actuals = actuals; writer = o } in
+    ap (λ (x : Item). x ∷ map (marked macro formals (map (map (image frame)) actuals) o) ts)
+    (marked_image_by macro formals actuals frame o t.sort t.bytes t.line)
+    ∙ ap (λ (xs : List Item). image (b ∷ frame) t ∷ xs) (all_marked_image macro formals actuals frame o ts)
 
 -- the bindings around the body of a macro that a call opens
 abbrev pub body_frame : Macro → List (List SourceToken) → List (List ℕ) → List Binding → List Binding
-body_frame m actuals o frame = record { formals = unwrap_or m.formals []; actuals = actuals; writer = o } ∷ frame
+body_frame m actuals o frame = record { name = m.name; formals = unwrap_or m.formals []; actuals = actuals; writer = o } ∷ frame
 
 -- substitution is the image of the body's tokens with one more binding
 pub substituted_image : (m : Macro) (actuals : List (List SourceToken)) (o : List (List ℕ)) (frame : List Binding)
     → substituted m (map (map (image frame)) actuals) o ≡ map (image (body_frame m actuals o frame)) (body_tokens m.body)
 unfolding substituted
-substituted_image m actuals o frame = all_marked_image (unwrap_or m.formals []) actuals frame o (body_tokens m.body)
+substituted_image m actuals o frame = all_marked_image m.name (unwrap_or m.formals []) actuals frame o (body_tokens m.body)
 
 -- what a cursor's items expand to is what remains of it
 pub left_cursor : (rules : Rules) (s : State) (line : ℕ) (text : List SourceToken) (frame : List Binding) (writer : List (List ℕ)) (room : ℕ) (below : List Cursor)
@@ -270,42 +247,42 @@ Leaves rules s line c x ts below m =
     ≡ left_behind rules s line m
 
 -- what a usage writes in front of further items, by what it comes to
-unfoldable inner_usage : Rules → State → (ℕ → List (List ℕ) → List Item → Outcome) → ℕ → List (List ℕ) → List ℕ → List Item → Usage → Outcome
-inner_usage rules s deeper line o name xs (RefusesItems f word at) = fails (fault_at f at word s)
-inner_usage rules s deeper line o name xs (OpensItems m actuals used) =
-    and_then (deeper line (name ∷ o) (substituted m actuals o)) (walk rules s deeper (Some line) o used xs)
+unfoldable inner_usage : Rules → State → (ℕ → List (List ℕ) → List Item → Outcome) → ℕ → List (List ℕ) → List Item → Usage → Outcome
+inner_usage rules s deeper line o xs (RefusesItems f word at) = fails (fault_at f at word s)
+inner_usage rules s deeper line o xs (OpensItems m actuals used) =
+    and_then (deeper line (m.name ∷ o) (substituted m actuals o)) (walk rules s deeper (Some line) o used xs)
 
 -- a usage in a body or an actual writes that
 walk_inner : (rules : Rules) (s : State) (deeper : ℕ → List (List ℕ) → List Item → Outcome) (line : ℕ) (o : List (List ℕ)) (bytes : List ℕ) (own : ℕ) (xs : List Item) (u : Usage)
     → usage_of rules s (Some line) line o (drop 1 bytes) xs ≡ u
     → walk rules s deeper (Some line) o 0 (Written (record { sort = Ordinary Back; bytes = bytes; line = own }) ∷ xs)
-    ≡ inner_usage rules s deeper line o (drop 1 bytes) xs u
+    ≡ inner_usage rules s deeper line o xs u
 unfolding walk inner_usage name_of
 walk_inner rules s deeper line o bytes own xs (RefusesItems f word at) e = rw (e, walk) refl
 walk_inner rules s deeper line o bytes own xs (OpensItems m actuals used) e = rw (e, walk) refl
 
 -- what a usage writes leaves what its step does, by what it comes to
-inner_leaves : (rules : Rules) (s : State) (line : ℕ) (c : Cursor) (t : SourceToken) (ts : List SourceToken) (below : List Cursor) (u : TokenUsage)
-    → and_then (inner_usage rules s (deeper_of rules s c.room) line c.writer (name_of t) (map (image c.frame) ts) (image_usage c.frame u)) (left rules s line below)
-    ≡ left_behind rules s line (usage_move s line c t ts below u)
+inner_leaves : (rules : Rules) (s : State) (line : ℕ) (c : Cursor) (ts : List SourceToken) (below : List Cursor) (u : TokenUsage)
+    → and_then (inner_usage rules s (deeper_of rules s c.room) line c.writer (map (image c.frame) ts) (image_usage c.frame u)) (left rules s line below)
+    ≡ left_behind rules s line (usage_move s line c ts below u)
 unfolding inner_usage image_usage usage_move left_behind with_text
-inner_leaves rules s line c t ts below (Refuses f word at) =
+inner_leaves rules s line c ts below (Refuses f word at) =
     let e = fault_at f at word s in
     and_then-fails e (left rules s line below) ∙ sym (and_then-gives_nil (fails e))
-inner_leaves rules s line c t ts below (Opens m actuals used) =
+inner_leaves rules s line c ts below (Opens m actuals used) =
     let deeper = deeper_of rules s c.room in
-    let name = name_of t in
+    let o : List (List ℕ) = m.name ∷ c.writer in
     let rest = left rules s line below in
     let behind : Cursor = record { text = drop used ts; frame = c.frame; writer = c.writer; room = c.room } in
-    let body = deeper line (name ∷ c.writer) (substituted m (map (map (image c.frame)) actuals) c.writer) in
+    let body = deeper line o (substituted m (map (map (image c.frame)) actuals) c.writer) in
     and_then-assoc body (walk rules s deeper (Some line) c.writer used (map (image c.frame) ts)) rest
     ∙ ap (λ (x : Outcome). and_then body (and_then x rest))
     (walk_skip rules s deeper (Some line) c.writer used (map (image c.frame) ts)
     ∙ ap (λ (xs : List Item). walk rules s deeper (Some line) c.writer 0 xs) (drop-map (image c.frame) used ts))
     ∙ ap (λ (x : Outcome). and_then body x) (sym (left_cursor rules s line (drop used ts) c.frame c.writer c.room below))
-    ∙ ap (λ (xs : List Item). and_then (deeper line (name ∷ c.writer) xs) (left rules s line (behind ∷ below)))
+    ∙ ap (λ (xs : List Item). and_then (deeper line o xs) (left rules s line (behind ∷ below)))
     (substituted_image m actuals c.writer c.frame)
-    ∙ opened_left rules s line c.room (body_tokens m.body) (body_frame m actuals c.writer c.frame) (name ∷ c.writer) (behind ∷ below)
+    ∙ opened_left rules s line c.room (body_tokens m.body) (body_frame m actuals c.writer c.frame) o (behind ∷ below)
 
 -- a token that stands for itself leaves what its step does, by what it is
 token_leaves_by : (rules : Rules) (s : State) (line : ℕ) (c : Cursor) (sort : Sort) (bytes : List ℕ) (own : ℕ) (ts : List SourceToken) (below : List Cursor)
@@ -317,7 +294,7 @@ token_leaves_by rules s line c (Ordinary Back) bytes own ts below =
     ap (λ (x : Outcome). and_then x (left rules s line below))
     (walk_inner rules s (deeper_of rules s c.room) line c.writer bytes own (map (image c.frame) ts) (image_usage c.frame u)
     (usage_commutes not_kept rules s (Some line) line c.writer (drop 1 bytes) c.frame (image_keeps c.frame line) ts))
-    ∙ inner_leaves rules s line c (record { sort = Ordinary Back; bytes = bytes; line = own }) ts below u
+    ∙ inner_leaves rules s line c ts below u
 token_leaves_by rules s line c (Ordinary BareBackquote) bytes own ts below =
     let e = fault_at NoName line [] s in
     and_then-fails e (left rules s line below) ∙ sym (and_then-gives_nil (fails e))
@@ -335,51 +312,48 @@ token_leaves : (rules : Rules) (s : State) (line : ℕ) (c : Cursor) (t : Source
     → Leaves rules s line c (Written t) ts below (token_move rules s line c t ts below)
 token_leaves rules s line c t ts below = token_leaves_by rules s line c t.sort t.bytes t.line ts below
 
--- a step at a token by what it stands for
-unfoldable actual_move : Rules → State → ℕ → Cursor → SourceToken → List SourceToken → List Cursor → List (List ℕ) → List Binding → Option (List SourceToken) → Move
-actual_move rules s line c t ts below o frame (Some a) = opened s line c.room a frame o (with_text c ts ∷ below)
-actual_move rules s line c t ts below o frame None = token_move rules s line c t ts below
-
--- a token leaves what its step does, by what it stands for
-actual_leaves : (rules : Rules) (s : State) (line : ℕ) (c : Cursor) (t : SourceToken) (ts : List SourceToken) (below : List Cursor)
-    (o : List (List ℕ)) (frame : List Binding) (actual : Option (List SourceToken))
-    → Leaves rules s line c (stand_or o frame t actual) ts below (actual_move rules s line c t ts below o frame actual)
-unfolding Leaves stand_or actual_move walk with_text
-actual_leaves rules s line c t ts below o frame None = token_leaves rules s line c t ts below
-actual_leaves rules s line c t ts below o frame (Some a) =
+-- a text that a token stands for leaves what opening it does
+closure_leaves : (rules : Rules) (s : State) (line : ℕ) (c : Cursor) (ts : List SourceToken) (below : List Cursor) (x : Closure)
+    → Leaves rules s line c (Arg x.writer (packed (map (image x.frame) x.text))) ts below
+    (opened s line c.room x.text x.frame x.writer (with_text c ts ∷ below))
+unfolding Leaves walk with_text
+closure_leaves rules s line c ts below x =
     let deeper = deeper_of rules s c.room in
     let rest = walk rules s deeper (Some line) c.writer 0 (map (image c.frame) ts) in
     let behind : Cursor = record { text = ts; frame = c.frame; writer = c.writer; room = c.room } in
-    and_then-assoc (deeper line o (listed (packed (map (image frame) a)))) rest (left rules s line below)
-    ∙ ap (λ (xs : List Item). and_then (deeper line o xs) (and_then rest (left rules s line below))) (listed-packed (map (image frame) a))
-    ∙ ap (λ (x : Outcome). and_then (deeper line o (map (image frame) a)) x)
+    and_then-assoc (deeper line x.writer (listed (packed (map (image x.frame) x.text)))) rest (left rules s line below)
+    ∙ ap (λ (xs : List Item). and_then (deeper line x.writer xs) (and_then rest (left rules s line below)))
+    (listed-packed (map (image x.frame) x.text))
+    ∙ ap (λ (o : Outcome). and_then (deeper line x.writer (map (image x.frame) x.text)) o)
     (sym (left_cursor rules s line ts c.frame c.writer c.room below))
-    ∙ opened_left rules s line c.room a frame o (behind ∷ below)
+    ∙ opened_left rules s line c.room x.text x.frame x.writer (behind ∷ below)
 
--- the definition chooses so
-actual_move_is : (rules : Rules) (s : State) (line : ℕ) (c : Cursor) (t : SourceToken) (ts : List SourceToken) (below : List Cursor)
-    (o : List (List ℕ)) (frame : List Binding) (actual : Option (List SourceToken))
-    → actual_move rules s line c t ts below o frame actual
-    ≡ elim actual [ Some a ↦ opened s line c.room a frame o (with_text c ts ∷ below) | None ↦ token_move rules s line c t ts below ]
-unfolding actual_move
-actual_move_is rules s line c t ts below o frame (Some a) = refl
-actual_move_is rules s line c t ts below o frame None = refl
+-- the mark of what a formal stands for is that of its text
+closure_mark : (b : Binding) (frame : List Binding) (standing : Standing SourceToken)
+    → mark_of b.name b.writer (map_standing (image frame) standing)
+    ≡ Arg (closure_of b frame standing).writer (packed (map (image (closure_of b frame standing).frame) (closure_of b frame standing).text))
+unfolding mark_of map_standing closure_of image
+closure_mark b frame (Given actual) = refl
+closure_mark b frame (Defaulted text) = refl
+
+-- a token leaves what its step does, by what it stands for
+standing_leaves : (rules : Rules) (s : State) (line : ℕ) (c : Cursor) (t : SourceToken) (ts : List SourceToken) (below : List Cursor)
+    (b : Binding) (frame : List Binding) (standing : Option (Standing SourceToken))
+    → Leaves rules s line c (mark_or b.name b.writer t (option_map (map_standing (image frame)) standing)) ts below
+    (standing_move rules s line c t ts below (option_map (closure_of b frame) standing))
+unfolding mark_or standing_move
+standing_leaves rules s line c t ts below b frame None = token_leaves rules s line c t ts below
+standing_leaves rules s line c t ts below b frame (Some standing) =
+    let x = closure_of b frame standing in
+    subst (λ (i : Item). Leaves rules s line c i ts below (opened s line c.room x.text x.frame x.writer (with_text c ts ∷ below)))
+    (sym (closure_mark b frame standing)) (closure_leaves rules s line c ts below x)
 
 -- a token leaves what its step does, by the bindings around it
-bound_leaves : (rules : Rules) (s : State) (line : ℕ) (writer : List (List ℕ)) (room : ℕ) (text : List SourceToken) (t : SourceToken) (ts : List SourceToken) (below : List Cursor) (frame : List Binding)
-    → Leaves rules s line (record { text = text; frame = frame; writer = writer; room = room }) (image frame t) ts below
-    (bound_move rules s line (record { text = text; frame = frame; writer = writer; room = room }) t ts below frame)
-unfolding image bound_move
-bound_leaves rules s line writer room text t ts below [] =
-    token_leaves rules s line (record { text = text; frame = []; writer = writer; room = room }) t ts below
-bound_leaves rules s line writer room text t ts below (b ∷ frame) =
-    let c : Cursor = record { text = text; frame = b ∷ frame; writer = writer; room = room } in
-    subst (λ (x : Item). Leaves rules s line c x ts below
-    (elim (stood_for b t) [ Some a ↦ opened s line c.room a frame b.writer (with_text c ts ∷ below) | None ↦ token_move rules s line c t ts below ]))
-    (stand_is b.writer frame t (stood_for b t))
-    (subst (λ (m : Move). Leaves rules s line c (stand_or b.writer frame t (stood_for b t)) ts below m)
-    (actual_move_is rules s line c t ts below b.writer frame (stood_for b t))
-    (actual_leaves rules s line c t ts below b.writer frame (stood_for b t)))
+bound_leaves : (rules : Rules) (s : State) (line : ℕ) (c : Cursor) (t : SourceToken) (ts : List SourceToken) (below : List Cursor) (frame : List Binding)
+    → Leaves rules s line c (image frame t) ts below (standing_move rules s line c t ts below (closure_at frame t))
+unfolding image closure_at standing_move
+bound_leaves rules s line c t ts below [] = token_leaves rules s line c t ts below
+bound_leaves rules s line c t ts below (b ∷ frame) = standing_leaves rules s line c t ts below b frame (stood_for b t)
 
 -- a step of the innermost cursor leaves what remained, by its text
 step_by : (rules : Rules) (s : State) (line : ℕ) (text : List SourceToken) (frame : List Binding) (writer : List (List ℕ)) (room : ℕ) (below : List Cursor)
@@ -389,7 +363,7 @@ unfolding move left_behind walk Leaves
 step_by rules s line [] frame writer room below = left_cursor rules s line [] frame writer room below
 step_by rules s line (t ∷ ts) frame writer room below =
     left_cursor rules s line (t ∷ ts) frame writer room below
-    ∙ bound_leaves rules s line writer room (t ∷ ts) t ts below frame
+    ∙ bound_leaves rules s line (record { text = t ∷ ts; frame = frame; writer = writer; room = room }) t ts below frame
 
 -- a step of the innermost cursor writes and leaves what remained
 pub cursor_step : (rules : Rules) (s : State) (line : ℕ) (c : Cursor) (below : List Cursor)

@@ -53,7 +53,7 @@ Opening deeper deeper' = (line : ℕ) (p : List (List ℕ)) (g : List Item) → 
 unfoldable pub usage_walk : Rules → State → (ℕ → List (List ℕ) → List Item → Outcome) → Option ℕ → List (List ℕ) → ℕ → List ℕ → List Item → Usage → Outcome
 usage_walk rules s deeper source o line name xs (Refuses f word at) = fails (fault_at f at word s)
 usage_walk rules s deeper source o line name xs (Opens m actuals used) =
-    and_then (deeper line (name ∷ o) (substituted m actuals o)) (walk rules s deeper source o used xs)
+    and_then (deeper line (m.name ∷ o) (substituted m actuals o)) (walk rules s deeper source o used xs)
 
 -- a usage writes that
 pub usage_walks : (rules : Rules) (s : State) (deeper : ℕ → List (List ℕ) → List Item → Outcome) (source : Option ℕ) (o : List (List ℕ)) (bytes : List ℕ) (line : ℕ) (xs : List Item) (u : Usage)
@@ -80,9 +80,9 @@ usage-walk-agrees rules depth most define tokens s sources more deeper deeper' s
     λ n. ap (λ (u : Usage). usage_walk (wider rules depth most define tokens) (roomier sources more s) deeper' source o line name xs u) (h n)
 usage-walk-agrees rules depth most define tokens s sources more deeper deeper' source o line name xs (Opens m actuals used) v inner rest h =
     λ n. ap (λ (u : Usage). usage_walk (wider rules depth most define tokens) (roomier sources more s) deeper' source o line name xs u) (h tt)
-    ∙ then-agrees (deeper line (name ∷ o) (substituted m actuals o)) (deeper' line (name ∷ o) (substituted m actuals o))
+    ∙ then-agrees (deeper line (m.name ∷ o) (substituted m actuals o)) (deeper' line (m.name ∷ o) (substituted m actuals o))
     (walk rules s deeper source o used xs) (walk (wider rules depth most define tokens) (roomier sources more s) deeper' source o used xs)
-    (inner line (name ∷ o) (substituted m actuals o)) (rest used) n
+    (inner line (m.name ∷ o) (substituted m actuals o)) (rest used) n
 
 -- a token agrees, by what it is
 token-agrees : (rules : Rules) (depth most : ℕ) (define : List Macro → List ℕ → Defined) (tokens : List ℕ → List SourceToken) (s : State) (sources more : ℕ)

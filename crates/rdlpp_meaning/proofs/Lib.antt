@@ -36,6 +36,7 @@ pub mod LargerFiles
 pub mod LargerOutputs
 pub mod OddRows
 pub mod BorderRows
+pub mod DefaultRows
 pub mod TornCalls
 pub mod TornRuns
 pub mod TornPieces

@@ -147,7 +147,7 @@ plain_writes rules s name line m h r e u f plain us =
     ∙ walk_usage rules s deeper name line (map Written us) (Opens m [] 0)
     (usage_some rules s None line [] name (map Written us) m r e ∙ usage_plain rules None line name (map Written us) m u f)
     ∙ ap (λ (x : Outcome). and_then x (walk rules s deeper None [] 0 (map Written us)))
-    (deeper_body rules s rules.depth line (name ∷ []) m h f plain)
+    (deeper_body rules s rules.depth line (m.name ∷ []) m h f plain)
     ∙ ap (λ (x : Outcome). and_then (gives m.body) x) (sym (expand_walk rules s rules.depth None [] (map Written us)))
 
 -- a usage of a macro without a list and with ordinary text gives its body, and then what remains behind it

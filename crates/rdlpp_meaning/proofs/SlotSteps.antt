@@ -1,16 +1,17 @@
 -- The law of the machine with indices: a step of it is a step of the machine of cursors.
 use Rattle.std.proofs.Common.{◌≡◌, ℕ, suc, ◌-◌, ◌<◌, ◌≤◌, Bool, true, false, List, [], ◌∷◌, length, drop, refl, sym, ap, subst, ◌∙◌, arith, eq-eqb, Option, None, Some}
 use Rattle.std.specs.Prelude.{if◌then◌else◌, ◌==◌, nat_lt, unwrap_or}
+use Rattle.std.specs.Option.{option_map}
 use Rattle.std.proofs.lemmas.Bool.{eqb-true, ltb-true, ltb-false}
 use Rattle.rdlpp_scan.specs.declared.token.Kind.TheVariants.{Back, BareBackquote}
 use Rattle.rdlpp_scan.specs.SourceTokens.{Sort, Ordinary, Definition, Renumbering, Broken, SourceToken}
 use Rattle.rdlpp_table.specs.Table.{Macro}
 use Rattle.rdlpp_meaning.specs.declared.fault.FaultKind.TheVariants.{DepthPassed}
 use Rattle.rdlpp_meaning.specs.State.{Rules, State, fault_at}
-use Rattle.rdlpp_meaning.specs.Substitution.{body_tokens}
+use Rattle.rdlpp_meaning.specs.Substitution.{body_tokens, Standing, Given, Defaulted}
 use Rattle.rdlpp_meaning.specs.Expansion.{name_of}
-use Rattle.rdlpp_meaning.specs.Cursors.{Binding, Cursor, first_cursor, stood_for, left, TokenUsage, Refuses, Opens, not_kept, token_usage_of, Move, opened, with_text, usage_move, token_move, bound_move, move, left_behind}
-use Rattle.rdlpp_meaning.specs.Slots.{CallOf, Slot, scope_of, own_writer, writer_at, own_frame, frame_at, cursors_of, slot_cursor, first_slot, Standing, standing_in, own_standing, standing_at, SlotWrites, SlotStops, slot_opened, with_left, slot_usage, slot_token, slot_standing, slot_move, cursor_move, AreHomed, LeavesHomed}
+use Rattle.rdlpp_meaning.specs.Cursors.{Binding, first_cursor, stood_for, Closure, closure_of, closure_at, left, TokenUsage, Refuses, Opens, not_kept, token_usage_of, opened, with_text, usage_move, token_move, standing_move, move, left_behind}
+use Rattle.rdlpp_meaning.specs.Slots.{CallOf, SlotKind, Body, Actual, Default, Slot, scope_of, own_writer, writer_at, own_frame, frame_at, cursors_of, slot_cursor, body_slot, first_slot, standing_slot, own_standing, standing_at, SlotWrites, SlotStops, slot_opened, with_left, slot_usage, slot_token, slot_standing, slot_move, cursor_move, AreHomed, LeavesHomed}
 use Rattle.rdlpp_meaning.proofs.CursorSteps.{cursor_step}
 
 -- a test of two numbers that aren't equal fails
@@ -37,116 +38,137 @@ unfolding frame_at
 frame_around slot below k h = rw (not_next k (length below) h) refl
 
 -- the macros of a body's own scope
-writer_own : (slot : Slot) (below : List Slot) → writer_at (slot ∷ below) (suc (length below)) ≡ own_writer slot.call (writer_at below slot.home)
+writer_own : (slot : Slot) (below : List Slot) → writer_at (slot ∷ below) (suc (length below)) ≡ own_writer slot.kind (writer_at below slot.home)
 unfolding writer_at
 writer_own slot below = rw (next_is (suc (length below))) refl
 
 -- the bindings of a body's own scope
 frame_own : (slot : Slot) (below : List Slot)
-    → frame_at (slot ∷ below) (suc (length below)) ≡ own_frame slot.call (writer_at below slot.home) (frame_at below slot.home)
+    → frame_at (slot ∷ below) (suc (length below)) ≡ own_frame slot.kind (writer_at below slot.home) (frame_at below slot.home)
 unfolding frame_at
 frame_own slot below = rw (next_is (suc (length below))) refl
 
--- a formal as a token of the innermost scope
-unfoldable lookup : List Binding → SourceToken → Option (List SourceToken)
-lookup [] t = None
-lookup (b ∷ frame) t = stood_for b t
+-- what is no body
+IsNoBody : SlotKind → Type 0
+IsNoBody (Body c) = ⊥
+IsNoBody Actual = Unit
+IsNoBody Default = Unit
 
--- the bindings around the innermost one
-unfoldable around : List Binding → List Binding
-around [] = []
-around (b ∷ frame) = frame
+-- the macros of an open text that is no body are those of its home: of an actual, since it is no scope, and of a default
+text_writer : (text : List SourceToken) (home : ℕ) (kind : SlotKind) (below : List Slot) → IsNoBody kind → home ≤ length below
+    → writer_at (record { text = text; home = home; kind = kind } ∷ below) (scope_of (record { text = text; home = home; kind = kind }) below)
+    ≡ writer_at below home
+unfolding scope_of own_writer IsNoBody
+text_writer text home (Body c) below n h = absurd n
+text_writer text home Actual below n h = writer_around (record { text = text; home = home; kind = Actual }) below home h
+text_writer text home Default below n h = writer_own (record { text = text; home = home; kind = Default }) below
 
--- the macros in whose text the call of the innermost binding is written
-unfoldable caller : List Binding → List (List ℕ)
-caller [] = []
-caller (b ∷ frame) = b.writer
+-- the bindings of an open text that is no body: of an actual those of its home, and of a default none
+unfoldable text_frame : SlotKind → List Binding → List Binding
+text_frame Default frame = []
+text_frame kind frame = frame
 
--- what a step of cursors does at a token, by what it stands for
-unfoldable cursor_standing : Rules → State → ℕ → Cursor → SourceToken → List SourceToken → List Cursor → List Binding → Option (List SourceToken) → Move
-cursor_standing rules s line c t ts below frame None = token_move rules s line c t ts below
-cursor_standing rules s line c t ts below frame (Some a) = opened s line c.room a (around frame) (caller frame) (with_text c ts ∷ below)
+-- they are
+text_frame_is : (text : List SourceToken) (home : ℕ) (kind : SlotKind) (below : List Slot) → IsNoBody kind → home ≤ length below
+    → frame_at (record { text = text; home = home; kind = kind } ∷ below) (scope_of (record { text = text; home = home; kind = kind }) below)
+    ≡ text_frame kind (frame_at below home)
+unfolding scope_of own_frame text_frame IsNoBody
+text_frame_is text home (Body c) below n h = absurd n
+text_frame_is text home Actual below n h = frame_around (record { text = text; home = home; kind = Actual }) below home h
+text_frame_is text home Default below n h = frame_own (record { text = text; home = home; kind = Default }) below
 
--- the machine of cursors chooses so, by the actual
-standing_is : (rules : Rules) (s : State) (line : ℕ) (c : Cursor) (t : SourceToken) (ts : List SourceToken) (below : List Cursor) (b : Binding) (frame : List Binding) (actual : Option (List SourceToken))
-    → (cursor_standing rules s line c t ts below (b ∷ frame) actual)
-    ≡ elim actual [ Some a ↦ opened s line c.room a frame b.writer (with_text c ts ∷ below) | None ↦ token_move rules s line c t ts below ]
-unfolding cursor_standing around caller
-standing_is rules s line c t ts below b frame None = refl
-standing_is rules s line c t ts below b frame (Some a) = refl
+-- the text that a token stands for, with what is bound around it, as an open text in front of others says it
+slot_closure : List Slot → Slot → Closure
+slot_closure slots new = record {
+  text = new.text;
+  frame = text_frame new.kind (frame_at slots new.home);
+  writer = writer_at slots new.home;
+}
 
--- the machine of cursors chooses so
-bound_is : (rules : Rules) (s : State) (line : ℕ) (c : Cursor) (t : SourceToken) (ts : List SourceToken) (below : List Cursor) (frame : List Binding)
-    → bound_move rules s line c t ts below frame ≡ cursor_standing rules s line c t ts below frame (lookup frame t)
-unfolding bound_move cursor_standing lookup
-bound_is rules s line c t ts below [] = refl
-bound_is rules s line c t ts below (b ∷ frame) = sym (standing_is rules s line c t ts below b frame (stood_for b t))
+-- a token of a scope stands for that text, as its bindings have it
+record StandsFor (slots : List Slot) (k : ℕ) (t : SourceToken) (new : Slot) : Type 0 where
+  found : closure_at (frame_at slots k) t ≡ Some (slot_closure slots new)
+  body : IsNoBody new.kind
+  inside : new.home ≤ length slots
+
+-- a token of a scope stands for that, or for nothing
+Matches : List Slot → ℕ → SourceToken → Option Slot → Type 0
+Matches slots k t None = closure_at (frame_at slots k) t ≡ None
+Matches slots k t (Some new) = StandsFor slots k t new
+
+-- the bindings of the scope of a body
+body_binding : CallOf → List Slot → ℕ → Binding
+body_binding c below home = record { name = c.name; formals = c.formals; actuals = c.actuals; writer = writer_at below home }
+
+-- the text of a formal of a body, by what it stands for
+own_found : (text : List SourceToken) (home : ℕ) (c : CallOf) (below : List Slot) (t : SourceToken) (standing : Option (Standing SourceToken))
+    → home ≤ length below
+    → stood_for (body_binding c below home) t ≡ standing
+    → Matches (record { text = text; home = home; kind = Body c } ∷ below) (suc (length below)) t
+    (option_map (standing_slot (suc (length below)) home) standing)
+unfolding Matches own_frame own_writer closure_at standing_slot closure_of slot_closure text_frame IsNoBody body_binding
+own_found text home c below t None h e =
+    let slot : Slot = record { text = text; home = home; kind = Body c } in
+    let b = body_binding c below home in
+    ap (λ (frame : List Binding). closure_at frame t) (frame_own slot below)
+    ∙ ap (λ (x : Option (Standing SourceToken)). option_map (closure_of b (frame_at below home)) x) e
+own_found text home c below t (Some (Given actual)) h e =
+    let slot : Slot = record { text = text; home = home; kind = Body c } in
+    let b = body_binding c below home in
+    record {
+      found = ap (λ (frame : List Binding). closure_at frame t) (frame_own slot below)
+          ∙ ap (λ (x : Option (Standing SourceToken)). option_map (closure_of b (frame_at below home)) x) e
+          ∙ ap (λ (frame : List Binding). Some (record { text = actual; frame = frame; writer = writer_at below home })) (sym (frame_around slot below home h))
+          ∙ ap (λ (w : List (List ℕ)). Some (record { text = actual; frame = frame_at (slot ∷ below) home; writer = w })) (sym (writer_around slot below home h));
+      body = tt;
+      inside = omega arith;
+    }
+own_found text home c below t (Some (Defaulted default)) h e =
+    let slot : Slot = record { text = text; home = home; kind = Body c } in
+    let b = body_binding c below home in
+    record {
+      found = ap (λ (frame : List Binding). closure_at frame t) (frame_own slot below)
+          ∙ ap (λ (x : Option (Standing SourceToken)). option_map (closure_of b (frame_at below home)) x) e
+          ∙ ap (λ (w : List (List ℕ)). Some (record { text = body_tokens default; frame = []; writer = w })) (sym (writer_own slot below));
+      body = tt;
+      inside = omega arith;
+    }
 
 -- a token stands for the same whoever wrote the call, by what it is
 stood_by : (b : Binding) (sort : Sort) (bytes : List ℕ) (line : ℕ)
     → stood_for b (record { sort = sort; bytes = bytes; line = line })
-    ≡ stood_for (record { formals = b.formals; actuals = b.actuals; writer = [] }) (record { sort = sort; bytes = bytes; line = line })
+    ≡ stood_for (record { name = b.name; formals = b.formals; actuals = b.actuals; writer = [] }) (record { sort = sort; bytes = bytes; line = line })
 unfolding stood_for
 stood_by b (Ordinary k) bytes line = refl
 stood_by b Definition bytes line = refl
 stood_by b Renumbering bytes line = refl
 stood_by b (Broken e) bytes line = refl
 
--- what a token of a scope stands for, as its bindings have it
-record StandsFor (slots : List Slot) (k : ℕ) (t : SourceToken) (standing : Standing) : Type 0 where
-  found : lookup (frame_at slots k) t ≡ Some standing.actual
-  outer : around (frame_at slots k) ≡ frame_at slots standing.home
-  writer : caller (frame_at slots k) ≡ writer_at slots standing.home
-  inside : standing.home ≤ length slots
-
--- a token of a scope stands for that, or for nothing
-Matches : List Slot → ℕ → SourceToken → Option Standing → Type 0
-Matches slots k t None = lookup (frame_at slots k) t ≡ None
-Matches slots k t (Some standing) = StandsFor slots k t standing
-
--- an actual of a body's own call
-own_found : (slot : Slot) (below : List Slot) (t : SourceToken) (c : CallOf) (actual : Option (List SourceToken))
-    → slot.home ≤ length below → slot.call ≡ Some c
-    → stood_for (record { formals = c.formals; actuals = c.actuals; writer = writer_at below slot.home }) t ≡ actual
-    → Matches (slot ∷ below) (suc (length below)) t (standing_in slot.home actual)
-unfolding Matches standing_in lookup around caller own_frame
-own_found slot below t c None h called e =
-    let f : frame_at (slot ∷ below) (suc (length below))
-    ≡ record { formals = c.formals; actuals = c.actuals; writer = writer_at below slot.home } ∷ frame_at below slot.home =
-    frame_own slot below ∙ ap (λ (x : Option CallOf). own_frame x (writer_at below slot.home) (frame_at below slot.home)) called in
-    ap (λ (frame : List Binding). lookup frame t) f ∙ e
-own_found slot below t c (Some a) h called e =
-    let f : frame_at (slot ∷ below) (suc (length below))
-    ≡ record { formals = c.formals; actuals = c.actuals; writer = writer_at below slot.home } ∷ frame_at below slot.home =
-    frame_own slot below ∙ ap (λ (x : Option CallOf). own_frame x (writer_at below slot.home) (frame_at below slot.home)) called in
-    record {
-      found = ap (λ (frame : List Binding). lookup frame t) f ∙ e;
-      outer = ap around f ∙ sym (frame_around slot below slot.home h);
-      writer = ap caller f ∙ sym (writer_around slot below slot.home h);
-      inside = omega arith;
-    }
-
--- a token of a body's own scope
-own_matches : (slot : Slot) (below : List Slot) (t : SourceToken) (call : Option CallOf) → slot.home ≤ length below → slot.call ≡ call
-    → Matches (slot ∷ below) (suc (length below)) t (own_standing call slot.home t)
-unfolding Matches own_standing lookup own_frame
-own_matches slot below t None h called =
-    ap (λ (frame : List Binding). lookup frame t)
-    (frame_own slot below ∙ ap (λ (x : Option CallOf). own_frame x (writer_at below slot.home) (frame_at below slot.home)) called)
-own_matches slot below t (Some c) h called =
-    own_found slot below t c (stood_for (record { formals = c.formals; actuals = c.actuals; writer = [] }) t) h called
-    (stood_by (record { formals = c.formals; actuals = c.actuals; writer = writer_at below slot.home }) t.sort t.bytes t.line)
+-- a token of an open text's own scope
+own_matches : (text : List SourceToken) (home : ℕ) (kind : SlotKind) (below : List Slot) (t : SourceToken) → home ≤ length below
+    → Matches (record { text = text; home = home; kind = kind } ∷ below) (suc (length below)) t (own_standing kind (suc (length below)) home t)
+unfolding Matches own_standing closure_at own_frame body_binding
+own_matches text home (Body c) below t h =
+    own_found text home c below t (stood_for (record { name = c.name; formals = c.formals; actuals = c.actuals; writer = [] }) t) h
+    (stood_by (body_binding c below home) t.sort t.bytes t.line)
+own_matches text home Actual below t h =
+    ap (λ (frame : List Binding). closure_at frame t) (frame_own (record { text = text; home = home; kind = Actual }) below)
+own_matches text home Default below t h =
+    ap (λ (frame : List Binding). closure_at frame t) (frame_own (record { text = text; home = home; kind = Default }) below)
 
 -- what holds in a scope still holds with one more open text
-matches_around : (slot : Slot) (below : List Slot) (k : ℕ) (t : SourceToken) (standing : Option Standing)
+matches_around : (slot : Slot) (below : List Slot) (k : ℕ) (t : SourceToken) (standing : Option Slot)
     → frame_at (slot ∷ below) k ≡ frame_at below k → Matches below k t standing → Matches (slot ∷ below) k t standing
-unfolding Matches
-matches_around slot below k t None e m = ap (λ (frame : List Binding). lookup frame t) e ∙ m
-matches_around slot below k t (Some standing) e m = record {
-  found = ap (λ (frame : List Binding). lookup frame t) e ∙ m.found;
-  outer = ap around e ∙ m.outer ∙ sym (frame_around slot below standing.home m.inside);
-  writer = ap caller e ∙ m.writer ∙ sym (writer_around slot below standing.home m.inside);
-  inside = let h : standing.home ≤ length below = m.inside in omega arith;
+unfolding Matches slot_closure
+matches_around slot below k t None e m = ap (λ (frame : List Binding). closure_at frame t) e ∙ m
+matches_around slot below k t (Some new) e m = record {
+  found = ap (λ (frame : List Binding). closure_at frame t) e ∙ m.found
+      ∙ ap (λ (frame : List Binding). Some (record { text = new.text; frame = text_frame new.kind frame; writer = writer_at below new.home }))
+      (sym (frame_around slot below new.home m.inside))
+      ∙ ap (λ (w : List (List ℕ)). Some (record { text = new.text; frame = text_frame new.kind (frame_at (slot ∷ below) new.home); writer = w }))
+      (sym (writer_around slot below new.home m.inside));
+  body = m.body;
+  inside = let h : new.home ≤ length below = m.inside in omega arith;
 }
 
 -- by whether the scope is that of the innermost open text
@@ -156,22 +178,22 @@ matches_by : (slot : Slot) (below : List Slot) (k : ℕ) (t : SourceToken) (x : 
 unfolding standing_at frame_at
 matches_by slot below k t true e h rest =
     let k_is : suc (length below) ≡ k = sym (eqb-true k (suc (length below)) e) in
-    let s_is : standing_at (slot ∷ below) k t ≡ own_standing slot.call slot.home t =
-    ap (λ (b : Bool). if b then own_standing slot.call slot.home t else standing_at below k t) e in
-    subst (λ (o : Option Standing). Matches (slot ∷ below) k t o) (sym s_is)
-    (subst (λ (n : ℕ). Matches (slot ∷ below) n t (own_standing slot.call slot.home t)) k_is
-    (own_matches slot below t slot.call h refl))
+    let s_is : standing_at (slot ∷ below) k t ≡ own_standing slot.kind k slot.home t =
+    ap (λ (b : Bool). if b then own_standing slot.kind k slot.home t else standing_at below k t) e in
+    subst (λ (o : Option Slot). Matches (slot ∷ below) k t o) (sym s_is)
+    (subst (λ (n : ℕ). Matches (slot ∷ below) n t (own_standing slot.kind n slot.home t)) k_is
+    (own_matches slot.text slot.home slot.kind below t h))
 matches_by slot below k t false e h rest =
     let f_is : frame_at (slot ∷ below) k ≡ frame_at below k =
-    ap (λ (b : Bool). if b then own_frame slot.call (writer_at below slot.home) (frame_at below slot.home) else frame_at below k) e in
+    ap (λ (b : Bool). if b then own_frame slot.kind (writer_at below slot.home) (frame_at below slot.home) else frame_at below k) e in
     let s_is : standing_at (slot ∷ below) k t ≡ standing_at below k t =
-    ap (λ (b : Bool). if b then own_standing slot.call slot.home t else standing_at below k t) e in
-    subst (λ (o : Option Standing). Matches (slot ∷ below) k t o) (sym s_is)
+    ap (λ (b : Bool). if b then own_standing slot.kind k slot.home t else standing_at below k t) e in
+    subst (λ (o : Option Slot). Matches (slot ∷ below) k t o) (sym s_is)
     (matches_around slot below k t (standing_at below k t) f_is rest)
 
 -- a token of a scope stands for what its bindings have
 matches : (slots : List Slot) (k : ℕ) (t : SourceToken) → AreHomed slots → Matches slots k t (standing_at slots k t)
-unfolding Matches standing_at frame_at lookup
+unfolding Matches standing_at frame_at closure_at
 matches [] k t h = refl
 matches (slot ∷ below) k t h = matches_by slot below k t (k == suc (length below)) refl h.0 (matches below k t h.1)
 
@@ -197,20 +219,16 @@ unfolding slot_opened
 opened_slot s line depth new slots = opened_by s line depth new slots (nat_lt (length slots) depth) refl
 
 -- a step at a usage, by what it comes to
-usage_slots : (s : State) (line depth : ℕ) (slot : Slot) (t : SourceToken) (ts : List SourceToken) (below : List Slot) (u : TokenUsage)
-    → usage_move s line (slot_cursor depth slot below) t ts (cursors_of depth below) u
-    ≡ cursor_move depth (slot_usage s line depth slot t ts below u)
-unfolding usage_move slot_usage cursor_move slot_cursor cursors_of with_text with_left frame_at writer_at scope_of own_writer own_frame
-usage_slots s line depth slot t ts below (Refuses f word at) = refl
-usage_slots s line depth slot t ts below (Opens m actuals used) =
+usage_slots : (s : State) (line depth : ℕ) (slot : Slot) (ts : List SourceToken) (below : List Slot) (u : TokenUsage)
+    → usage_move s line (slot_cursor depth slot below) ts (cursors_of depth below) u
+    ≡ cursor_move depth (slot_usage s line depth slot ts below u)
+unfolding usage_move slot_usage cursor_move slot_cursor cursors_of with_text with_left frame_at writer_at scope_of own_writer own_frame body_slot
+usage_slots s line depth slot ts below (Refuses f word at) = refl
+usage_slots s line depth slot ts below (Opens m actuals used) =
     let slots : List Slot = with_left slot (drop used ts) ∷ below in
-    let new : Slot = record {
-      text = body_tokens m.body;
-      home = scope_of slot below;
-      call = Some (record { name = name_of t; formals = unwrap_or m.formals []; actuals = actuals });
-    } in
+    let new : Slot = body_slot m actuals (scope_of slot below) in
     ap (λ (frame : List Binding). opened s line (depth - length slots) (body_tokens m.body) frame
-    (name_of t ∷ writer_at slots (scope_of slot below)) (cursors_of depth slots)) (sym (frame_own new slots))
+    (m.name ∷ writer_at slots (scope_of slot below)) (cursors_of depth slots)) (sym (frame_own new slots))
     ∙ ap (λ (writer : List (List ℕ)). opened s line (depth - length slots) (body_tokens m.body) (frame_at (new ∷ slots) (suc (length slots)))
     writer (cursors_of depth slots)) (sym (writer_own new slots))
     ∙ opened_slot s line depth new slots
@@ -221,7 +239,7 @@ token_slots_by : (rules : Rules) (s : State) (line depth : ℕ) (slot : Slot) (s
     ≡ cursor_move depth (slot_token rules s line depth slot (record { sort = sort; bytes = bytes; line = own }) ts below)
 unfolding token_move slot_token cursor_move slot_cursor cursors_of with_text with_left frame_at writer_at scope_of
 token_slots_by rules s line depth slot (Ordinary Back) bytes own ts below =
-    usage_slots s line depth slot (record { sort = Ordinary Back; bytes = bytes; line = own }) ts below
+    usage_slots s line depth slot ts below
     (token_usage_of not_kept rules s line (writer_at (slot ∷ below) (scope_of slot below)) (name_of (record { sort = Ordinary Back; bytes = bytes; line = own })) ts)
 token_slots_by rules s line depth slot (Ordinary BareBackquote) bytes own ts below = refl
 token_slots_by rules s line depth slot (Ordinary k) bytes own ts below = refl
@@ -229,48 +247,43 @@ token_slots_by rules s line depth slot Definition bytes own ts below = refl
 token_slots_by rules s line depth slot Renumbering bytes own ts below = refl
 token_slots_by rules s line depth slot (Broken b) bytes own ts below = refl
 
--- a step at a token by what it stands for
-standing_slots : (rules : Rules) (s : State) (line depth : ℕ) (slot : Slot) (t : SourceToken) (ts : List SourceToken) (below : List Slot) (o : Option Standing)
+-- a step at a token, by the text that it stands for
+standing_slots : (rules : Rules) (s : State) (line depth : ℕ) (slot : Slot) (t : SourceToken) (ts : List SourceToken) (below : List Slot) (o : Option Slot)
     → Matches (slot ∷ below) (scope_of slot below) t o
-    → cursor_standing rules s line (slot_cursor depth slot below) t ts (cursors_of depth below)
-    (frame_at (slot ∷ below) (scope_of slot below)) (lookup (frame_at (slot ∷ below) (scope_of slot below)) t)
+    → standing_move rules s line (slot_cursor depth slot below) t ts (cursors_of depth below)
+    (closure_at (frame_at (slot ∷ below) (scope_of slot below)) t)
     ≡ cursor_move depth (slot_standing rules s line depth slot t ts below o)
-unfolding Matches cursor_standing slot_standing slot_cursor cursors_of with_text with_left frame_at writer_at scope_of
+unfolding Matches standing_move slot_standing slot_cursor slot_closure cursors_of with_text with_left frame_at writer_at scope_of
 standing_slots rules s line depth slot t ts below None m =
-    let c = slot_cursor depth slot below in
-    let frame = frame_at (slot ∷ below) (scope_of slot below) in
-    ap (λ (o : Option (List SourceToken)). cursor_standing rules s line c t ts (cursors_of depth below) frame o) m
+    ap (λ (o : Option Closure). standing_move rules s line (slot_cursor depth slot below) t ts (cursors_of depth below) o) m
     ∙ token_slots_by rules s line depth slot t.sort t.bytes t.line ts below
-standing_slots rules s line depth slot t ts below (Some st) m =
+standing_slots rules s line depth slot t ts below (Some new) m =
     let c = slot_cursor depth slot below in
-    let frame = frame_at (slot ∷ below) (scope_of slot below) in
-    let new : Slot = record { text = st.actual; home = st.home; call = None } in
     let slots : List Slot = with_left slot ts ∷ below in
-    let inside : st.home ≤ length slots = m.inside in
-    ap (λ (o : Option (List SourceToken)). cursor_standing rules s line c t ts (cursors_of depth below) frame o) m.found
-    ∙ ap (λ (f : List Binding). opened s line c.room st.actual f (caller frame) (with_text c ts ∷ cursors_of depth below))
-    (m.outer ∙ sym (frame_around new slots st.home inside))
-    ∙ ap (λ (w : List (List ℕ)). opened s line c.room st.actual (frame_at (new ∷ slots) st.home) w (with_text c ts ∷ cursors_of depth below))
-    (m.writer ∙ sym (writer_around new slots st.home inside))
+    let inside : new.home ≤ length slots = m.inside in
+    ap (λ (o : Option Closure). standing_move rules s line c t ts (cursors_of depth below) o) m.found
+    ∙ ap (λ (f : List Binding). opened s line c.room new.text f (writer_at slots new.home) (with_text c ts ∷ cursors_of depth below))
+    (sym (text_frame_is new.text new.home new.kind slots m.body inside))
+    ∙ ap (λ (w : List (List ℕ)). opened s line c.room new.text (frame_at (new ∷ slots) (scope_of new slots)) w (with_text c ts ∷ cursors_of depth below))
+    (sym (text_writer new.text new.home new.kind slots m.body inside))
     ∙ opened_slot s line depth new slots
 
 -- a step with indices is a step of cursors, by the text that is left
-slots_by : (rules : Rules) (s : State) (line depth : ℕ) (text : List SourceToken) (home : ℕ) (call : Option CallOf) (below : List Slot)
-    → AreHomed (record { text = text; home = home; call = call } ∷ below)
-    → move rules s line (slot_cursor depth (record { text = text; home = home; call = call }) below) (cursors_of depth below)
-    ≡ cursor_move depth (slot_move rules s line depth (record { text = text; home = home; call = call }) below)
+slots_by : (rules : Rules) (s : State) (line depth : ℕ) (text : List SourceToken) (home : ℕ) (kind : SlotKind) (below : List Slot)
+    → AreHomed (record { text = text; home = home; kind = kind } ∷ below)
+    → move rules s line (slot_cursor depth (record { text = text; home = home; kind = kind }) below) (cursors_of depth below)
+    ≡ cursor_move depth (slot_move rules s line depth (record { text = text; home = home; kind = kind }) below)
 unfolding move slot_move slot_cursor cursor_move
-slots_by rules s line depth [] home call below h = refl
-slots_by rules s line depth (t ∷ ts) home call below h =
-    let slot : Slot = record { text = t ∷ ts; home = home; call = call } in
-    bound_is rules s line (slot_cursor depth slot below) t ts (cursors_of depth below) (frame_at (slot ∷ below) (scope_of slot below))
-    ∙ standing_slots rules s line depth slot t ts below (standing_at (slot ∷ below) (scope_of slot below) t)
+slots_by rules s line depth [] home kind below h = refl
+slots_by rules s line depth (t ∷ ts) home kind below h =
+    let slot : Slot = record { text = t ∷ ts; home = home; kind = kind } in
+    standing_slots rules s line depth slot t ts below (standing_at (slot ∷ below) (scope_of slot below) t)
     (matches (slot ∷ below) (scope_of slot below) t h)
 
 -- a step with indices is a step of cursors
 pub slot_step_is : (rules : Rules) (s : State) (line depth : ℕ) (slot : Slot) (below : List Slot) → AreHomed (slot ∷ below)
     → move rules s line (slot_cursor depth slot below) (cursors_of depth below) ≡ cursor_move depth (slot_move rules s line depth slot below)
-slot_step_is rules s line depth slot below h = slots_by rules s line depth slot.text slot.home slot.call below h
+slot_step_is rules s line depth slot below h = slots_by rules s line depth slot.text slot.home slot.kind below h
 
 -- a step with indices writes and leaves what remained
 pub slot_step : (rules : Rules) (s : State) (line depth : ℕ) (slot : Slot) (below : List Slot) → AreHomed (slot ∷ below)
@@ -292,31 +305,27 @@ opened_homed s line depth new slots h k = by_room (nat_lt (length slots) depth)
     by_room false = tt
 
 -- a scope is an open text or one further out
-scope_inside : (slot : Slot) (below : List Slot) (call : Option CallOf) → slot.home ≤ length below
-    → (elim call [ None ↦ slot.home | Some c ↦ suc (length below) ]) ≤ suc (length below)
-scope_inside slot below None h = omega arith
-scope_inside slot below (Some c) h = omega arith
+scope_inside : (slot : Slot) (below : List Slot) (kind : SlotKind) → slot.home ≤ length below
+    → (elim kind [ Actual ↦ slot.home | _ ↦ suc (length below) ]) ≤ suc (length below)
+scope_inside slot below (Body c) h = omega arith
+scope_inside slot below Actual h = omega arith
+scope_inside slot below Default h = omega arith
 
 -- a usage leaves homes further out
-usage_homed : (s : State) (line depth : ℕ) (slot : Slot) (t : SourceToken) (ts : List SourceToken) (below : List Slot) (u : TokenUsage)
-    → AreHomed (slot ∷ below) → LeavesHomed (slot_usage s line depth slot t ts below u)
-unfolding slot_usage with_left scope_of
-usage_homed s line depth slot t ts below (Refuses f word at) h = tt
-usage_homed s line depth slot t ts below (Opens m actuals used) h =
-    opened_homed s line depth
-    (record {
-      text = body_tokens m.body;
-      home = scope_of slot below;
-      call = Some (record { name = name_of t; formals = unwrap_or m.formals []; actuals = actuals });
-    })
-    (with_left slot (drop used ts) ∷ below) (scope_inside slot below slot.call h.0) h
+usage_homed : (s : State) (line depth : ℕ) (slot : Slot) (ts : List SourceToken) (below : List Slot) (u : TokenUsage)
+    → AreHomed (slot ∷ below) → LeavesHomed (slot_usage s line depth slot ts below u)
+unfolding slot_usage with_left scope_of body_slot
+usage_homed s line depth slot ts below (Refuses f word at) h = tt
+usage_homed s line depth slot ts below (Opens m actuals used) h =
+    opened_homed s line depth (body_slot m actuals (scope_of slot below)) (with_left slot (drop used ts) ∷ below)
+    (scope_inside slot below slot.kind h.0) h
 
 -- a token that stands for itself leaves homes further out, by what it is
 token_homed_by : (rules : Rules) (s : State) (line depth : ℕ) (slot : Slot) (sort : Sort) (bytes : List ℕ) (own : ℕ) (ts : List SourceToken) (below : List Slot)
     → AreHomed (slot ∷ below) → LeavesHomed (slot_token rules s line depth slot (record { sort = sort; bytes = bytes; line = own }) ts below)
 unfolding slot_token with_left
 token_homed_by rules s line depth slot (Ordinary Back) bytes own ts below h =
-    usage_homed s line depth slot (record { sort = Ordinary Back; bytes = bytes; line = own }) ts below
+    usage_homed s line depth slot ts below
     (token_usage_of not_kept rules s line (writer_at (slot ∷ below) (scope_of slot below)) (name_of (record { sort = Ordinary Back; bytes = bytes; line = own })) ts) h
 token_homed_by rules s line depth slot (Ordinary BareBackquote) bytes own ts below h = tt
 token_homed_by rules s line depth slot (Ordinary k) bytes own ts below h = h
@@ -325,39 +334,38 @@ token_homed_by rules s line depth slot Renumbering bytes own ts below h = h
 token_homed_by rules s line depth slot (Broken b) bytes own ts below h = tt
 
 -- a token leaves homes further out, by what it stands for
-standing_homed : (rules : Rules) (s : State) (line depth : ℕ) (slot : Slot) (t : SourceToken) (ts : List SourceToken) (below : List Slot) (o : Option Standing)
+standing_homed : (rules : Rules) (s : State) (line depth : ℕ) (slot : Slot) (t : SourceToken) (ts : List SourceToken) (below : List Slot) (o : Option Slot)
     → Matches (slot ∷ below) (scope_of slot below) t o → AreHomed (slot ∷ below)
     → LeavesHomed (slot_standing rules s line depth slot t ts below o)
 unfolding slot_standing Matches with_left
 standing_homed rules s line depth slot t ts below None m h = token_homed_by rules s line depth slot t.sort t.bytes t.line ts below h
-standing_homed rules s line depth slot t ts below (Some st) m h =
-    opened_homed s line depth (record { text = st.actual; home = st.home; call = None }) (with_left slot ts ∷ below) m.inside h
+standing_homed rules s line depth slot t ts below (Some new) m h = opened_homed s line depth new (with_left slot ts ∷ below) m.inside h
 
 -- a step leaves homes further out, by the text that is left
-homed_by : (rules : Rules) (s : State) (line depth : ℕ) (text : List SourceToken) (home : ℕ) (call : Option CallOf) (below : List Slot)
-    → AreHomed (record { text = text; home = home; call = call } ∷ below)
-    → LeavesHomed (slot_move rules s line depth (record { text = text; home = home; call = call }) below)
+homed_by : (rules : Rules) (s : State) (line depth : ℕ) (text : List SourceToken) (home : ℕ) (kind : SlotKind) (below : List Slot)
+    → AreHomed (record { text = text; home = home; kind = kind } ∷ below)
+    → LeavesHomed (slot_move rules s line depth (record { text = text; home = home; kind = kind }) below)
 unfolding slot_move
-homed_by rules s line depth [] home call below h = h.1
-homed_by rules s line depth (t ∷ ts) home call below h =
-    let slot : Slot = record { text = t ∷ ts; home = home; call = call } in
+homed_by rules s line depth [] home kind below h = h.1
+homed_by rules s line depth (t ∷ ts) home kind below h =
+    let slot : Slot = record { text = t ∷ ts; home = home; kind = kind } in
     standing_homed rules s line depth slot t ts below (standing_at (slot ∷ below) (scope_of slot below) t)
     (matches (slot ∷ below) (scope_of slot below) t h) h
 
 -- a step leaves homes further out
 pub slot_step_homed : (rules : Rules) (s : State) (line depth : ℕ) (slot : Slot) (below : List Slot) → AreHomed (slot ∷ below)
     → LeavesHomed (slot_move rules s line depth slot below)
-slot_step_homed rules s line depth slot below h = homed_by rules s line depth slot.text slot.home slot.call below h
+slot_step_homed rules s line depth slot below h = homed_by rules s line depth slot.text slot.home slot.kind below h
 
 -- the first cursor of a usage in a source is the first open text
-pub first_slot_is : (m : Macro) (actuals : List (List SourceToken)) (name : List ℕ) (d : ℕ)
-    → cursors_of (suc d) (first_slot m actuals name ∷ []) ≡ first_cursor m actuals name d ∷ []
-unfolding cursors_of frame_at writer_at scope_of own_frame own_writer first_cursor first_slot
-first_slot_is m actuals name d =
+pub first_slot_is : (m : Macro) (actuals : List (List SourceToken)) (d : ℕ)
+    → cursors_of (suc d) (first_slot m actuals ∷ []) ≡ first_cursor m actuals d ∷ []
+unfolding cursors_of frame_at writer_at scope_of own_frame own_writer first_cursor first_slot body_slot
+first_slot_is m actuals d =
     let e : suc d - 1 ≡ d = omega arith in
     ap (λ (n : ℕ). record {
       text = body_tokens m.body;
-      frame = record { formals = unwrap_or m.formals []; actuals = actuals; writer = [] } ∷ [];
-      writer = name ∷ [];
+      frame = record { name = m.name; formals = unwrap_or m.formals []; actuals = actuals; writer = [] } ∷ [];
+      writer = m.name ∷ [];
       room = n;
     } ∷ []) e

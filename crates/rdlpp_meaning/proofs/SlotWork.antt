@@ -1,17 +1,16 @@
 -- The work left of open texts with indices falls at each step that goes on, and has no more digits than texts may be open.
 use Rattle.std.proofs.Common.{◌≡◌, ℕ, suc, ◌+◌, ◌-◌, ◌*◌, ◌^◌, ◌<◌, ◌≤◌, Bool, true, false, List, [], ◌∷◌, length, drop, refl, sym, ap, subst, ◌∙◌, arith, mul-le-mul_right, pow-suc, mul_comm, Option, None, Some}
-use Rattle.std.specs.Prelude.{if◌then◌else◌, nat_lt, unwrap_or}
+use Rattle.std.specs.Prelude.{if◌then◌else◌, nat_lt}
 use Rattle.std.specs.List.{AllByRecursion}
 use Rattle.std.proofs.lemmas.Bool.{ltb-true}
 use Rattle.rdlpp_scan.specs.declared.token.Kind.TheVariants.{Back, BareBackquote}
 use Rattle.rdlpp_scan.specs.SourceTokens.{Sort, Ordinary, Definition, Renumbering, Broken, SourceToken}
 use Rattle.rdlpp_meaning.specs.declared.fault.FaultKind.TheVariants.{DepthPassed}
 use Rattle.rdlpp_meaning.specs.State.{Rules, State, fault_at}
-use Rattle.rdlpp_meaning.specs.Substitution.{body_tokens}
 use Rattle.rdlpp_meaning.specs.Expansion.{name_of, bytes_of}
 use Rattle.rdlpp_meaning.specs.Cursors.{TokenUsage, Refuses, Opens, not_kept, token_usage_of, Writes, move}
-use Rattle.rdlpp_meaning.specs.Slots.{CallOf, Slot, scope_of, writer_at, cursors_of, slot_cursor, Standing, standing_at, SlotMove, SlotWrites, SlotStops, slot_opened, with_left, slot_usage, slot_token, slot_standing, slot_move, cursor_move, AreHomed}
-use Rattle.rdlpp_meaning.specs.CursorWork.{cursors_work, HasCountedBody, IsCountedCursor}
+use Rattle.rdlpp_meaning.specs.Slots.{SlotKind, Slot, scope_of, writer_at, cursors_of, slot_cursor, body_slot, standing_at, SlotMove, SlotWrites, SlotStops, slot_opened, with_left, slot_usage, slot_token, slot_standing, slot_move, cursor_move, AreHomed}
+use Rattle.rdlpp_meaning.specs.CursorWork.{cursors_work, IsCountedMacro, IsCountedCursor}
 use Rattle.rdlpp_meaning.proofs.SlotSteps.{slot_step_is}
 use Rattle.rdlpp_meaning.proofs.WorkFalls.{power-positive, work-falls}
 
@@ -25,7 +24,7 @@ goes-on rules s line depth slot below bytes slots h e =
 
 -- a step with indices that goes on leaves less work, in open texts that digits count
 pub slot-work-falls : (base : ℕ) (rules : Rules) (s : State) (line depth : ℕ) (slot : Slot) (below : List Slot) (bytes : List ℕ) (slots : List Slot)
-    → AllByRecursion (HasCountedBody base) s.macros → AllByRecursion (IsCountedCursor base) (cursors_of depth (slot ∷ below))
+    → AllByRecursion (IsCountedMacro base) s.macros → AllByRecursion (IsCountedCursor base) (cursors_of depth (slot ∷ below))
     → AreHomed (slot ∷ below) → slot_move rules s line depth slot below ≡ SlotWrites bytes slots
     → (cursors_work base (cursors_of depth slots) < cursors_work base (cursors_of depth (slot ∷ below)))
     × AllByRecursion (IsCountedCursor base) (cursors_of depth slots)
@@ -52,18 +51,12 @@ unfolding slot_opened
 opened-within s line depth new slots = room-within s line depth new slots (nat_lt (length slots) depth) refl
 
 -- a usage
-usage-within : (s : State) (line depth : ℕ) (slot : Slot) (t : SourceToken) (ts : List SourceToken) (below : List Slot) (u : TokenUsage)
-    → LeavesWithin depth (slot_usage s line depth slot t ts below u)
+usage-within : (s : State) (line depth : ℕ) (slot : Slot) (ts : List SourceToken) (below : List Slot) (u : TokenUsage)
+    → LeavesWithin depth (slot_usage s line depth slot ts below u)
 unfolding slot_usage LeavesWithin
-usage-within s line depth slot t ts below (Refuses f word at) = tt
-usage-within s line depth slot t ts below (Opens m actuals used) =
-    opened-within s line depth
-    (record {
-      text = body_tokens m.body;
-      home = scope_of slot below;
-      call = Some (record { name = name_of t; formals = unwrap_or m.formals []; actuals = actuals });
-    })
-    (with_left slot (drop used ts) ∷ below)
+usage-within s line depth slot ts below (Refuses f word at) = tt
+usage-within s line depth slot ts below (Opens m actuals used) =
+    opened-within s line depth (body_slot m actuals (scope_of slot below)) (with_left slot (drop used ts) ∷ below)
 
 -- a token that stands for itself, by what it is
 token-within : (rules : Rules) (s : State) (line depth : ℕ) (slot : Slot) (sort : Sort) (bytes : List ℕ) (own : ℕ) (ts : List SourceToken) (below : List Slot)
@@ -71,7 +64,7 @@ token-within : (rules : Rules) (s : State) (line depth : ℕ) (slot : Slot) (sor
     → LeavesWithin depth (slot_token rules s line depth slot (record { sort = sort; bytes = bytes; line = own }) ts below)
 unfolding slot_token LeavesWithin
 token-within rules s line depth slot (Ordinary Back) bytes own ts below h =
-    usage-within s line depth slot (record { sort = Ordinary Back; bytes = bytes; line = own }) ts below
+    usage-within s line depth slot ts below
     (token_usage_of not_kept rules s line (writer_at (slot ∷ below) (scope_of slot below)) (name_of (record { sort = Ordinary Back; bytes = bytes; line = own })) ts)
 token-within rules s line depth slot (Ordinary BareBackquote) bytes own ts below h = tt
 token-within rules s line depth slot (Ordinary k) bytes own ts below h = h
@@ -80,20 +73,19 @@ token-within rules s line depth slot Renumbering bytes own ts below h = h
 token-within rules s line depth slot (Broken b) bytes own ts below h = tt
 
 -- a token, by what it stands for
-standing-within : (rules : Rules) (s : State) (line depth : ℕ) (slot : Slot) (t : SourceToken) (ts : List SourceToken) (below : List Slot) (standing : Option Standing)
+standing-within : (rules : Rules) (s : State) (line depth : ℕ) (slot : Slot) (t : SourceToken) (ts : List SourceToken) (below : List Slot) (standing : Option Slot)
     → suc (length below) ≤ depth → LeavesWithin depth (slot_standing rules s line depth slot t ts below standing)
 unfolding slot_standing
 standing-within rules s line depth slot t ts below None h = token-within rules s line depth slot t.sort t.bytes t.line ts below h
-standing-within rules s line depth slot t ts below (Some st) h =
-    opened-within s line depth (record { text = st.actual; home = st.home; call = None }) (with_left slot ts ∷ below)
+standing-within rules s line depth slot t ts below (Some new) h = opened-within s line depth new (with_left slot ts ∷ below)
 
 -- a step, by the text that is left
-text-within : (rules : Rules) (s : State) (line depth : ℕ) (text : List SourceToken) (home : ℕ) (call : Option CallOf) (below : List Slot)
-    → suc (length below) ≤ depth → LeavesWithin depth (slot_move rules s line depth (record { text = text; home = home; call = call }) below)
+text-within : (rules : Rules) (s : State) (line depth : ℕ) (text : List SourceToken) (home : ℕ) (kind : SlotKind) (below : List Slot)
+    → suc (length below) ≤ depth → LeavesWithin depth (slot_move rules s line depth (record { text = text; home = home; kind = kind }) below)
 unfolding slot_move LeavesWithin
-text-within rules s line depth [] home call below h = omega (arith, h)
-text-within rules s line depth (t ∷ ts) home call below h =
-    let slot : Slot = record { text = t ∷ ts; home = home; call = call } in
+text-within rules s line depth [] home kind below h = omega (arith, h)
+text-within rules s line depth (t ∷ ts) home kind below h =
+    let slot : Slot = record { text = t ∷ ts; home = home; kind = kind } in
     standing-within rules s line depth slot t ts below (standing_at (slot ∷ below) (scope_of slot below) t) h
 
 -- a step with indices leaves no more open texts than there may be
@@ -102,7 +94,7 @@ pub slots-within : (rules : Rules) (s : State) (line depth : ℕ) (slot : Slot) 
     → length slots ≤ depth
 unfolding LeavesWithin
 slots-within rules s line depth slot below bytes slots h e =
-    subst (λ (m : SlotMove). LeavesWithin depth m) e (text-within rules s line depth slot.text slot.home slot.call below h)
+    subst (λ (m : SlotMove). LeavesWithin depth m) e (text-within rules s line depth slot.text slot.home slot.kind below h)
 
 -- one more digit leaves less room for the number
 digit-room : (base r d w total : ℕ) → d < base → w + base ^ suc r ≤ total → d * base ^ r + w + base ^ r ≤ total

@@ -22,7 +22,7 @@ pub resumed_opens : (rules : Rules) (os : List Progress) (first : Bool) (name : 
     → is_reserved name ≡ false → rules.depth ≡ suc d
     → token_usage_of kept rules s line [] name (leading ts) ≡ Opens m actuals used
     → resumed rules (Live os) first (usage_token name line ∷ ts) s
-    ≡ goes_on (leaves (left rules s line (first_cursor m actuals name d ∷ [])) s)
+    ≡ goes_on (leaves (left rules s line (first_cursor m actuals d ∷ [])) s)
     (λ after. resumed rules (Live os) (only_blanks first (bytes_of (take (suc used) (usage_token name line ∷ ts)))) (drop used ts) after)
 unfolding first_cursor image_usage
 resumed_opens rules os first name line ts s d m actuals used r depth e =
@@ -31,8 +31,8 @@ resumed_opens rules os first name line ts s d m actuals used r depth e =
     λ after. resumed rules (Live os) (only_blanks first (bytes_of (take (suc used) (usage_token name line ∷ ts)))) (drop used ts) after in
     resumed_usage rules os first name line ts s m items used r
     (source_usage rules s line name (leading ts) ∙ ap (image_usage []) e)
-    ∙ ap (λ (n : ℕ). goes_on (leaves (deeper_of rules s n line (name ∷ []) (substituted m items [])) s) further) depth
-    ∙ ap (λ (x : Outcome). goes_on (leaves x s) further) (source_opened rules s d line (name ∷ []) m actuals)
+    ∙ ap (λ (n : ℕ). goes_on (leaves (deeper_of rules s n line (m.name ∷ []) (substituted m items [])) s) further) depth
+    ∙ ap (λ (x : Outcome). goes_on (leaves x s) further) (source_opened rules s d line (m.name ∷ []) m actuals)
 
 -- in live text, a usage that is refused ends the output
 pub resumed_refuses : (rules : Rules) (os : List Progress) (first : Bool) (name : List ℕ) (line : ℕ) (ts : List SourceToken) (s : State)

@@ -69,13 +69,13 @@ usage-walk-torn rules depth most define tokens s sources more deeper deeper' sou
       agrees = λ n. ap (λ (u : Usage). usage_walk (wider rules depth most define tokens) (roomier sources more s) deeper' source o line name (ys ++ us) u) h.0;
     }
 usage-walk-torn rules depth most define tokens s sources more deeper deeper' source o line name ys t us (Opens m actuals used) v inner rest (inr h) =
-    let small = and_then (deeper line (name ∷ o) (substituted m actuals o)) (walk rules s deeper source o used (ys ++ t ∷ [])) in
+    let small = and_then (deeper line (m.name ∷ o) (substituted m actuals o)) (walk rules s deeper source o used (ys ++ t ∷ [])) in
     let large = usage_walk (wider rules depth most define tokens) (roomier sources more s) deeper' source o line name (ys ++ us) in
     torn-along small small (large v) (large (Opens m actuals used)) refl (ap large h.0)
-    (then-torn (deeper line (name ∷ o) (substituted m actuals o)) (deeper' line (name ∷ o) (substituted m actuals o))
+    (then-torn (deeper line (m.name ∷ o) (substituted m actuals o)) (deeper' line (m.name ∷ o) (substituted m actuals o))
     (walk rules s deeper source o used (ys ++ t ∷ []))
     (walk (wider rules depth most define tokens) (roomier sources more s) deeper' source o used (ys ++ us))
-    (inner line (name ∷ o) (substituted m actuals o)) (rest used h.1))
+    (inner line (m.name ∷ o) (substituted m actuals o)) (rest used h.1))
 
 -- a token in front of a torn item, by what it is
 token-torn : (rules : Rules) (depth most : ℕ) (define : List Macro → List ℕ → Defined) (tokens : List ℕ → List SourceToken) (s : State) (sources more : ℕ)

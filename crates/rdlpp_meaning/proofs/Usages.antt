@@ -14,7 +14,7 @@ use Rattle.rdlpp_meaning.specs.Outcome.{Outcome, gives, fails, and_then}
 use Rattle.rdlpp_meaning.specs.State.{Rules, State, fault_at}
 use Rattle.rdlpp_meaning.specs.Stage.{is_unbuilt_macro}
 use Rattle.rdlpp_meaning.specs.Items.{Item, Written}
-use Rattle.rdlpp_meaning.specs.Substitution.{body_tokens, bound_to, marked, substituted}
+use Rattle.rdlpp_meaning.specs.Substitution.{body_tokens, bound_to, mark_or, marked, substituted}
 use Rattle.rdlpp_meaning.specs.Expansion.{Usage, Refuses, Opens, name_of, usage_of, usage_of_macro, usage_of_formals, walk, expand, is_copied, run_outcome, usage_token}
 use Rattle.rdlpp_meaning.proofs.Walks.{deeper_of, expand_walk, expand_all_copied}
 use Rattle.rdlpp_meaning.proofs.PlainBodies.{body_ordinary}
@@ -42,30 +42,30 @@ built_body m e =
     not_false copied (or_parts (is_some m.formals) (not copied) e).1
 
 -- with no formals each token stays as it is
-marked_none : (actuals : List (List Item)) (o : List (List ℕ)) (sort : Sort) (bytes : List ℕ) (line : ℕ)
-    → marked [] actuals o (record { sort = sort; bytes = bytes; line = line }) ≡ Written (record { sort = sort; bytes = bytes; line = line })
-unfolding marked bound_to
-marked_none actuals o (Ordinary Name) bytes line = refl
-marked_none actuals o (Ordinary k) bytes line = refl
-marked_none actuals o Definition bytes line = refl
-marked_none actuals o Renumbering bytes line = refl
-marked_none actuals o (Broken b) bytes line = refl
+marked_none : (macro : List ℕ) (actuals : List (List Item)) (o : List (List ℕ)) (sort : Sort) (bytes : List ℕ) (line : ℕ)
+    → marked macro [] actuals o (record { sort = sort; bytes = bytes; line = line }) ≡ Written (record { sort = sort; bytes = bytes; line = line })
+unfolding marked bound_to mark_or
+marked_none macro actuals o (Ordinary Name) bytes line = refl
+marked_none macro actuals o (Ordinary k) bytes line = refl
+marked_none macro actuals o Definition bytes line = refl
+marked_none macro actuals o Renumbering bytes line = refl
+marked_none macro actuals o (Broken b) bytes line = refl
 
 -- with no formals all tokens stay as they are
-all_marked_none : (actuals : List (List Item)) (o : List (List ℕ)) (ts : List SourceToken)
-    → map (marked [] actuals o) ts ≡ map Written ts
-all_marked_none actuals o [] = refl
-all_marked_none actuals o (t ∷ ts) =
-    ap (λ (x : Item). x ∷ map (marked [] actuals o) ts) (marked_none actuals o t.sort t.bytes t.line)
-    ∙ ap (λ (xs : List Item). Written t ∷ xs) (all_marked_none actuals o ts)
+all_marked_none : (macro : List ℕ) (actuals : List (List Item)) (o : List (List ℕ)) (ts : List SourceToken)
+    → map (marked macro [] actuals o) ts ≡ map Written ts
+all_marked_none macro actuals o [] = refl
+all_marked_none macro actuals o (t ∷ ts) =
+    ap (λ (x : Item). x ∷ map (marked macro [] actuals o) ts) (marked_none macro actuals o t.sort t.bytes t.line)
+    ∙ ap (λ (xs : List Item). Written t ∷ xs) (all_marked_none macro actuals o ts)
 
 -- the body of a macro without a list is substituted as it is
 pub substituted_none : (m : Macro) (o : List (List ℕ)) → m.formals ≡ None
     → substituted m [] o ≡ map Written (body_tokens m.body)
 unfolding substituted
 substituted_none m o e =
-    ap (λ (fs : Option (List Formal)). map (marked (unwrap_or fs []) [] o) (body_tokens m.body)) e
-    ∙ all_marked_none [] o (body_tokens m.body)
+    ap (λ (fs : Option (List Formal)). map (marked m.name (unwrap_or fs []) [] o) (body_tokens m.body)) e
+    ∙ all_marked_none m.name [] o (body_tokens m.body)
 
 -- the body of ordinary text of a macro without a list gives its bytes at any depth
 pub expand_body : (rules : Rules) (s : State) (d : ℕ) (source : Option ℕ) (o p : List (List ℕ)) (m : Macro)
@@ -109,15 +109,15 @@ usage_plain rules source line name xs m e f =
     ∙ ap (usage_of_formals rules source line name xs m) f
 
 -- what a usage writes in front of further items, by what it comes to
-unfoldable pub after_usage : Rules → State → (ℕ → List (List ℕ) → List Item → Outcome) → List ℕ → ℕ → List Item → Usage → Outcome
-after_usage rules s deeper name line xs (Refuses f word at) = fails (fault_at f at word s)
-after_usage rules s deeper name line xs (Opens m actuals used) =
-    and_then (deeper line (name ∷ []) (substituted m actuals [])) (walk rules s deeper None [] used xs)
+unfoldable pub after_usage : Rules → State → (ℕ → List (List ℕ) → List Item → Outcome) → ℕ → List Item → Usage → Outcome
+after_usage rules s deeper line xs (Refuses f word at) = fails (fault_at f at word s)
+after_usage rules s deeper line xs (Opens m actuals used) =
+    and_then (deeper line (m.name ∷ []) (substituted m actuals [])) (walk rules s deeper None [] used xs)
 
 -- a usage in a source writes that
 pub walk_usage : (rules : Rules) (s : State) (deeper : ℕ → List (List ℕ) → List Item → Outcome) (name : List ℕ) (line : ℕ) (xs : List Item) (u : Usage)
     → usage_of rules s None line [] name xs ≡ u
-    → walk rules s deeper None [] 0 (Written (usage_token name line) ∷ xs) ≡ after_usage rules s deeper name line xs u
+    → walk rules s deeper None [] 0 (Written (usage_token name line) ∷ xs) ≡ after_usage rules s deeper line xs u
 unfolding walk after_usage name_of
 walk_usage rules s deeper name line xs (Refuses f word at) e = rw (e, walk) refl
 walk_usage rules s deeper name line xs (Opens m actuals used) e = rw (e, walk) refl

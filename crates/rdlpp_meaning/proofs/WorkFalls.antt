@@ -1,7 +1,8 @@
 -- The work left of open cursors falls at each step that goes on.
 use Rattle.std.proofs.Common.{◌≡◌, ℕ, zero, suc, ◌+◌, ◌-◌, ◌*◌, ◌^◌, ◌<◌, ◌≤◌, Bool, true, false, cond, List, [], ◌∷◌, map, length, take, drop, refl, sym, subst, ◌∙◌, arith, mul-lt-mul_of_pos_right, mul-le-mul_right, mul-pos, pow-suc, mul_comm, find, Option, None, Some}
-use Rattle.std.specs.Prelude.{if◌then◌else◌, nat_lt, bytes_eq, unwrap_or}
+use Rattle.std.specs.Prelude.{if◌then◌else◌, ◌==◌, nat_lt, bytes_eq, unwrap_or}
 use Rattle.std.specs.List.{AllByRecursion, list_any}
+use Rattle.std.specs.Option.{option_map}
 use Rattle.std.proofs.Math.Nat.{pow-zero}
 use Rattle.std.proofs.lemmas.Bool.{ltb-true, lt-ltb}
 use Rattle.rdlpp_scan.specs.declared.token.Kind.TheVariants.{Name, Back, BareBackquote}
@@ -14,10 +15,10 @@ use Rattle.rdlpp_table.specs.Table.{Formal, Macro, macro_named}
 use Rattle.rdlpp_meaning.specs.declared.fault.FaultKind.TheVariants.{UndefinedMacro, RecursiveMacro, DirectiveInText, ArgumentCount, Unbuilt}
 use Rattle.rdlpp_meaning.specs.State.{Rules, State}
 use Rattle.rdlpp_meaning.specs.Actuals.{Call, Lacking, Broke, Bound, call_of, trimmed, token_role}
-use Rattle.rdlpp_meaning.specs.Substitution.{spelled, body_tokens}
+use Rattle.rdlpp_meaning.specs.Substitution.{spelled, body_tokens, Standing, Given, Defaulted, standing_of, bound_to}
 use Rattle.rdlpp_meaning.specs.Expansion.{name_of, bytes_of}
-use Rattle.rdlpp_meaning.specs.Cursors.{Binding, Cursor, actual_of, stood_for, TokenUsage, Refuses, Opens, not_kept, is_token_count, token_usage_of_call, token_usage_of_formals, token_usage_of_macro, token_usage_of, Move, Writes, Stops, opened, with_text, usage_move, token_move, bound_move, move, first_cursor}
-use Rattle.rdlpp_meaning.specs.CursorWork.{cursors_work, is_solid, IsCounted, HasCountedBody, HasCountedActuals, IsCountedCursor}
+use Rattle.rdlpp_meaning.specs.Cursors.{Binding, Cursor, stood_for, Closure, closure_of, closure_at, TokenUsage, Refuses, Opens, not_kept, is_token_count, token_usage_of_call, token_usage_of_formals, token_usage_of_macro, token_usage_of, Move, Writes, Stops, opened, with_text, usage_move, token_move, standing_move, move, first_cursor}
+use Rattle.rdlpp_meaning.specs.CursorWork.{cursors_work, is_solid, IsCounted, HasCountedDefault, IsCountedMacro, IsCountedBinding, IsCountedCursor}
 use Rattle.rdlpp_meaning.proofs.Cover.{HasByte, token_has, body_covered}
 use Rattle.rdlpp_meaning.proofs.PlainBodies.{drop_behind}
 use Rattle.rdlpp_meaning.proofs.CountedTexts.{all-drop, all-map, weight-cons, weight-drop, IsWithin, trimmed-within, CallWithin, call-within}
@@ -25,7 +26,7 @@ use Rattle.rdlpp_meaning.proofs.CountedTexts.{all-drop, all-map, weight-cons, we
 -- a usage opens what digits count
 OpensCounted : ℕ → TokenUsage → Type 0
 OpensCounted base (Refuses f word at) = Unit
-OpensCounted base (Opens m actuals used) = HasCountedBody base m × AllByRecursion (IsCounted base) actuals
+OpensCounted base (Opens m actuals used) = IsCountedMacro base m × AllByRecursion (IsCounted base) actuals
 
 -- a part that is within bytes that a digit counts
 counted-within : (base n : ℕ) → suc n < base → (ts : List SourceToken) → IsWithin n ts → IsCounted base ts
@@ -40,7 +41,7 @@ choice-counted base false u v h k = k
 
 -- a usage by its call
 call-counted : (base n : ℕ) (m : Macro) (formals : List Formal) (line : ℕ) (name : List ℕ) (c : Call SourceToken)
-    → suc n < base → HasCountedBody base m → CallWithin n c → OpensCounted base (token_usage_of_call m formals line name c)
+    → suc n < base → IsCountedMacro base m → CallWithin n c → OpensCounted base (token_usage_of_call m formals line name c)
 unfolding token_usage_of_call OpensCounted CallWithin
 call-counted base n m formals line name (Lacking f) small body h = tt
 call-counted base n m formals line name (Broke f own) small body h = tt
@@ -54,7 +55,7 @@ call-counted base n m formals line name (Bound first further used) small body h 
 
 -- a usage by its macro's formals
 formals-counted : (base : ℕ) (size : SourceToken → ℕ) (rules : Rules) (line : ℕ) (name : List ℕ) (ts : List SourceToken) (m : Macro) (formals : Option (List Formal))
-    → IsCounted base ts → HasCountedBody base m → OpensCounted base (token_usage_of_formals size rules line name ts m formals)
+    → IsCounted base ts → IsCountedMacro base m → OpensCounted base (token_usage_of_formals size rules line name ts m formals)
 unfolding token_usage_of_formals OpensCounted
 formals-counted base size rules line name ts m None h body = (body, tt)
 formals-counted base size rules line name ts m (Some formals) h body =
@@ -63,7 +64,7 @@ formals-counted base size rules line name ts m (Some formals) h body =
 
 -- a usage of a macro
 macro-counted : (base : ℕ) (size : SourceToken → ℕ) (rules : Rules) (line : ℕ) (o : List (List ℕ)) (name : List ℕ) (ts : List SourceToken) (m : Macro)
-    → IsCounted base ts → HasCountedBody base m → OpensCounted base (token_usage_of_macro size rules line o name ts m)
+    → IsCounted base ts → IsCountedMacro base m → OpensCounted base (token_usage_of_macro size rules line o name ts m)
 unfolding token_usage_of_macro OpensCounted
 macro-counted base size rules line o name ts m h body =
     let u = token_usage_of_formals size rules line name ts m m.formals in
@@ -75,17 +76,17 @@ macro-counted base size rules line o name ts m h body =
 -- the body of a macro that is found
 FoundCounted : ℕ → Option Macro → Type 0
 FoundCounted base None = Unit
-FoundCounted base (Some m) = HasCountedBody base m
+FoundCounted base (Some m) = IsCountedMacro base m
 
 -- the first of some that passes a test, by whether it is the first of all
-choice-found : (base : ℕ) (test : Bool) (m : Macro) (rest : Option Macro) → HasCountedBody base m → FoundCounted base rest
+choice-found : (base : ℕ) (test : Bool) (m : Macro) (rest : Option Macro) → IsCountedMacro base m → FoundCounted base rest
     → FoundCounted base (cond test (Some m) rest)
 unfolding FoundCounted
 choice-found base true m rest h k = h
 choice-found base false m rest h k = k
 
 -- the first that passes a test
-found-counted : (base : ℕ) (test : Macro → Bool) (ms : List Macro) → AllByRecursion (HasCountedBody base) ms → FoundCounted base (find test ms)
+found-counted : (base : ℕ) (test : Macro → Bool) (ms : List Macro) → AllByRecursion (IsCountedMacro base) ms → FoundCounted base (find test ms)
 unfolding FoundCounted
 found-counted base test [] h = tt
 found-counted base test (m ∷ ms) h = choice-found base (test m) m (find test ms) h.0 (found-counted base test ms h.1)
@@ -100,7 +101,7 @@ named-counted base size rules line o name ts (Some m) h k = macro-counted base s
 
 -- a usage opens what digits count
 usage-counted : (base : ℕ) (size : SourceToken → ℕ) (rules : Rules) (s : State) (line : ℕ) (o : List (List ℕ)) (name : List ℕ) (ts : List SourceToken)
-    → AllByRecursion (HasCountedBody base) s.macros → IsCounted base ts → OpensCounted base (token_usage_of size rules s line o name ts)
+    → AllByRecursion (IsCountedMacro base) s.macros → IsCounted base ts → OpensCounted base (token_usage_of size rules s line o name ts)
 unfolding token_usage_of macro_named OpensCounted
 usage-counted base size rules s line o name ts bodies h =
     choice-counted base (is_reserved name) (Refuses DirectiveInText name line)
@@ -127,12 +128,12 @@ spelled-solid mode zero (b ∷ bs) =
           (sym (drop_behind t.len b bs (token_has mode b bs))) (spelled-solid t.next_mode (t.len - 1) bs),
     )
 
--- a digit counts the tokens of a body that it counts
-body-counted : (base : ℕ) (m : Macro) → HasCountedBody base m → IsCounted base (body_tokens m.body)
+-- a digit counts the tokens of a body or a default that it counts
+text-counted : (base : ℕ) (text : List ℕ) → suc (length text) < base → IsCounted base (body_tokens text)
 unfolding body_tokens
-body-counted base m h = record {
-  solid = spelled-solid Plain 0 m.body;
-  digit = subst (λ (bs : List ℕ). suc (length bs) < base) (sym (body_covered m.body)) h;
+text-counted base text h = record {
+  solid = spelled-solid Plain 0 text;
+  digit = subst (λ (bs : List ℕ). suc (length bs) < base) (sym (body_covered text)) h;
 }
 
 -- a digit counts the tokens behind some
@@ -181,7 +182,7 @@ places-fall base r k a b w h less =
 
 -- a text that is opened behind a token that has a byte
 opened-falls : (base : ℕ) (s : State) (line room : ℕ) (text : List SourceToken) (frame : List Binding) (writer : List (List ℕ)) (c : Cursor) (ts : List SourceToken) (below : List Cursor) (b : ℕ)
-    → IsCounted base text → AllByRecursion (HasCountedActuals base) frame
+    → IsCounted base text → AllByRecursion (IsCountedBinding base) frame
     → AllByRecursion (IsCountedCursor base) (with_text c ts ∷ below)
     → c.room ≡ room → suc (length (bytes_of ts)) < b
     → Falls base (b * base ^ c.room + cursors_work base below) (opened s line room text frame writer (with_text c ts ∷ below))
@@ -191,7 +192,7 @@ opened-falls base s line (suc room) text frame writer c ts below b h k rest e le
   subst (λ (r : ℕ). suc (length (bytes_of text)) * base ^ room + (suc (length (bytes_of ts)) * base ^ r + cursors_work base below)
       < b * base ^ r + cursors_work base below) (sym e)
       (places-fall base room (suc (length (bytes_of text))) (suc (length (bytes_of ts))) b (cursors_work base below) h.digit less),
-  (record { text = h; actuals = k }, rest),
+  (record { text = h; frame = k }, rest),
 )
 
 -- what a text leaves behind a token that has a byte
@@ -207,35 +208,35 @@ base-positive : (base : ℕ) (ts : List SourceToken) → IsCounted base ts → 0
 base-positive base ts h = let digit : suc (length (bytes_of ts)) < base = h.digit in omega (arith, digit)
 
 -- digits count a cursor with other text left, where one counts that
-behind-counted : (base : ℕ) (c : Cursor) (ts : List SourceToken) → IsCounted base ts → AllByRecursion (HasCountedActuals base) c.frame
+behind-counted : (base : ℕ) (c : Cursor) (ts : List SourceToken) → IsCounted base ts → AllByRecursion (IsCountedBinding base) c.frame
     → IsCountedCursor base (with_text c ts)
 unfolding with_text
-behind-counted base c ts h frame = record { text = h; actuals = frame }
+behind-counted base c ts h frame = record { text = h; frame = frame }
 
 -- a step at a usage, by what it comes to
-usage-falls : (base : ℕ) (s : State) (line : ℕ) (c : Cursor) (t : SourceToken) (ts : List SourceToken) (below : List Cursor) (b : ℕ) (u : TokenUsage)
-    → OpensCounted base u → IsCounted base ts → AllByRecursion (HasCountedActuals base) c.frame → AllByRecursion (IsCountedCursor base) below
+usage-falls : (base : ℕ) (s : State) (line : ℕ) (c : Cursor) (ts : List SourceToken) (below : List Cursor) (b : ℕ) (u : TokenUsage)
+    → OpensCounted base u → IsCounted base ts → AllByRecursion (IsCountedBinding base) c.frame → AllByRecursion (IsCountedCursor base) below
     → suc (length (bytes_of ts)) < b
-    → Falls base (b * base ^ c.room + cursors_work base below) (usage_move s line c t ts below u)
+    → Falls base (b * base ^ c.room + cursors_work base below) (usage_move s line c ts below u)
 unfolding usage_move OpensCounted Falls
-usage-falls base s line c t ts below b (Refuses f word at) opens h frame rest less = tt
-usage-falls base s line c t ts below b (Opens m actuals used) opens h frame rest less =
+usage-falls base s line c ts below b (Refuses f word at) opens h frame rest less = tt
+usage-falls base s line c ts below b (Opens m actuals used) opens h frame rest less =
     let light = weight-drop used ts in
-    opened-falls base s line c.room (body_tokens m.body)
-    (record { formals = unwrap_or m.formals []; actuals = actuals; writer = c.writer } ∷ c.frame) (name_of t ∷ c.writer)
-    c (drop used ts) below b (body-counted base m opens.0) (opens.1, frame)
+    let bound : Binding = record { name = m.name; formals = unwrap_or m.formals []; actuals = actuals; writer = c.writer } in
+    opened-falls base s line c.room (body_tokens m.body) (bound ∷ c.frame) (m.name ∷ c.writer)
+    c (drop used ts) below b (text-counted base m.body (opens.0).body) (record { actuals = opens.1; defaults = (opens.0).defaults }, frame)
     (behind-counted base c (drop used ts) (drop-counted base used ts h) frame, rest) refl (omega (arith, light, less))
 
 -- a step that writes a token that has a byte
 writes-falls : (base : ℕ) (c : Cursor) (bytes : List ℕ) (ts : List SourceToken) (below : List Cursor) (b : ℕ)
-    → IsCounted base ts → AllByRecursion (HasCountedActuals base) c.frame → AllByRecursion (IsCountedCursor base) below
+    → IsCounted base ts → AllByRecursion (IsCountedBinding base) c.frame → AllByRecursion (IsCountedCursor base) below
     → suc (length (bytes_of ts)) < b
     → Falls base (b * base ^ c.room + cursors_work base below) (Writes bytes (with_text c ts ∷ below))
 unfolding Falls with_text cursors_work
 writes-falls base c bytes ts below b h frame rest less = (
   digit-falls (base ^ c.room) (suc (length (bytes_of ts))) b (cursors_work base below)
       (power-positive base c.room (base-positive base ts h)) less,
-  (record { text = h; actuals = frame }, rest),
+  (record { text = h; frame = frame }, rest),
 )
 
 -- the work left where a token stands in front of a cursor's text
@@ -244,14 +245,14 @@ token_work base c bytes ts below = suc (length bytes + length (bytes_of ts)) * b
 
 -- a step at a token that stands for itself, by what it is
 token-falls : (base : ℕ) (rules : Rules) (s : State) (line : ℕ) (c : Cursor) (sort : Sort) (bytes : List ℕ) (own : ℕ) (ts : List SourceToken) (below : List Cursor)
-    → AllByRecursion (HasCountedBody base) s.macros → is_solid (record { sort = sort; bytes = bytes; line = own }) ≡ true
-    → IsCounted base ts → AllByRecursion (HasCountedActuals base) c.frame → AllByRecursion (IsCountedCursor base) below
+    → AllByRecursion (IsCountedMacro base) s.macros → is_solid (record { sort = sort; bytes = bytes; line = own }) ≡ true
+    → IsCounted base ts → AllByRecursion (IsCountedBinding base) c.frame → AllByRecursion (IsCountedCursor base) below
     → Falls base (token_work base c bytes ts below)
     (token_move rules s line c (record { sort = sort; bytes = bytes; line = own }) ts below)
 unfolding token_move is_solid Falls
 token-falls base rules s line c (Ordinary Back) bytes own ts below bodies e h frame rest =
     let t : SourceToken = record { sort = Ordinary Back; bytes = bytes; line = own } in
-    usage-falls base s line c t ts below (suc (length bytes + length (bytes_of ts)))
+    usage-falls base s line c ts below (suc (length bytes + length (bytes_of ts)))
     (token_usage_of not_kept rules s line c.writer (name_of t) ts)
     (usage-counted base not_kept rules s line c.writer (name_of t) ts bodies h) h frame rest
     (behind-solid bytes (length (bytes_of ts)) (length (bytes_of ts)) e (omega arith))
@@ -267,81 +268,127 @@ token-falls base rules s line c Renumbering bytes own ts below bodies e h frame 
     (behind-solid bytes (length (bytes_of ts)) (length (bytes_of ts)) e (omega arith))
 token-falls base rules s line c (Broken b) bytes own ts below bodies e h frame rest = tt
 
--- a digit counts an actual, if there is one
-ActualCounted : ℕ → Option (List SourceToken) → Type 0
-ActualCounted base None = Unit
-ActualCounted base (Some a) = IsCounted base a
+-- digits count what a formal stands for
+StandingCounted : ℕ → Standing SourceToken → Type 0
+StandingCounted base (Given actual) = IsCounted base actual
+StandingCounted base (Defaulted text) = suc (length text) < base
 
--- a choice of actuals
-actual-choice : (base : ℕ) (test : Bool) (a : List SourceToken) (rest : Option (List SourceToken)) → IsCounted base a → ActualCounted base rest
-    → ActualCounted base (if test then Some a else rest)
-unfolding ActualCounted
-actual-choice base true a rest h k = h
-actual-choice base false a rest h k = k
+-- digits count that, if there is any
+FoundStanding : ℕ → Option (Standing SourceToken) → Type 0
+FoundStanding base None = Unit
+FoundStanding base (Some standing) = StandingCounted base standing
 
--- the actual of a formal
-actual-counted : (base : ℕ) (formals : List Formal) (actuals : List (List SourceToken)) (name : List ℕ) → AllByRecursion (IsCounted base) actuals
-    → ActualCounted base (actual_of formals actuals name)
-unfolding actual_of ActualCounted
-actual-counted base [] actuals name h = tt
-actual-counted base (f ∷ fs) [] name h = tt
-actual-counted base (f ∷ fs) (a ∷ actuals) name h =
-    actual-choice base (bytes_eq f.name name) a (actual_of fs actuals name) h.0 (actual-counted base fs actuals name h.1)
+-- by the actual
+standing-counted : (base : ℕ) (f : Formal) (actual : List SourceToken) → IsCounted base actual → HasCountedDefault base f
+    → StandingCounted base (standing_of f actual)
+unfolding standing_of StandingCounted
+standing-counted base f [] h k = empty (length f.text == 0)
+  where
+    empty : (none : Bool) → StandingCounted base (if none then Given [] else Defaulted f.text)
+    empty true = h
+    empty false = k
+standing-counted base f (t ∷ ts) h k = h
 
--- a step at a formal's name, by its actual
-named-falls : (base : ℕ) (rules : Rules) (s : State) (line : ℕ) (c : Cursor) (bytes : List ℕ) (own : ℕ) (ts : List SourceToken) (below : List Cursor)
-    (writer : List (List ℕ)) (frame : List Binding) (actual : Option (List SourceToken))
-    → AllByRecursion (HasCountedBody base) s.macros → nat_lt 0 (length bytes) ≡ true → IsCounted base ts
-    → AllByRecursion (HasCountedActuals base) c.frame → AllByRecursion (HasCountedActuals base) frame → AllByRecursion (IsCountedCursor base) below
-    → ActualCounted base actual
-    → Falls base (token_work base c bytes ts below) (elim actual [
-      | Some a ↦ opened s line c.room a frame writer (with_text c ts ∷ below)
-      | None ↦ token_move rules s line c (record { sort = Ordinary Name; bytes = bytes; line = own }) ts below
-    ])
-unfolding ActualCounted is_solid
-named-falls base rules s line c bytes own ts below writer frame None bodies e h k outer rest a =
-    token-falls base rules s line c (Ordinary Name) bytes own ts below bodies e h k rest
-named-falls base rules s line c bytes own ts below writer frame (Some actual) bodies e h k outer rest a =
-    opened-falls base s line c.room actual frame writer c ts below (suc (length bytes + length (bytes_of ts))) a outer
-    (behind-counted base c ts h k, rest) refl
-    (behind-solid bytes (length (bytes_of ts)) (length (bytes_of ts)) e (omega arith))
+-- by whether a formal has the name
+choice-standing : (base : ℕ) (test : Bool) (standing : Standing SourceToken) (rest : Option (Standing SourceToken))
+    → StandingCounted base standing → FoundStanding base rest → FoundStanding base (if test then Some standing else rest)
+unfolding FoundStanding
+choice-standing base true standing rest h k = h
+choice-standing base false standing rest h k = k
 
--- a step at a token by the innermost binding, by what it is
-stood-falls : (base : ℕ) (rules : Rules) (s : State) (line : ℕ) (c : Cursor) (sort : Sort) (bytes : List ℕ) (own : ℕ) (ts : List SourceToken) (below : List Cursor)
-    (b : Binding) (frame : List Binding)
-    → AllByRecursion (HasCountedBody base) s.macros → is_solid (record { sort = sort; bytes = bytes; line = own }) ≡ true → IsCounted base ts
-    → AllByRecursion (HasCountedActuals base) c.frame → AllByRecursion (HasCountedActuals base) (b ∷ frame) → AllByRecursion (IsCountedCursor base) below
-    → Falls base (token_work base c bytes ts below)
-    (bound_move rules s line c (record { sort = sort; bytes = bytes; line = own }) ts below (b ∷ frame))
-unfolding bound_move stood_for is_solid
-stood-falls base rules s line c (Ordinary Name) bytes own ts below b frame bodies e h k outer rest =
-    named-falls base rules s line c bytes own ts below b.writer frame (actual_of b.formals b.actuals bytes) bodies e h k outer.1 rest
-    (actual-counted base b.formals b.actuals bytes outer.0)
-stood-falls base rules s line c (Ordinary kind) bytes own ts below b frame bodies e h k outer rest =
-    token-falls base rules s line c (Ordinary kind) bytes own ts below bodies e h k rest
-stood-falls base rules s line c Definition bytes own ts below b frame bodies e h k outer rest =
-    token-falls base rules s line c Definition bytes own ts below bodies e h k rest
-stood-falls base rules s line c Renumbering bytes own ts below b frame bodies e h k outer rest =
-    token-falls base rules s line c Renumbering bytes own ts below bodies e h k rest
-stood-falls base rules s line c (Broken x) bytes own ts below b frame bodies e h k outer rest =
-    token-falls base rules s line c (Broken x) bytes own ts below bodies e h k rest
+-- what a name stands for
+bound-counted : (base : ℕ) (formals : List Formal) (actuals : List (List SourceToken)) (name : List ℕ)
+    → AllByRecursion (IsCounted base) actuals → AllByRecursion (HasCountedDefault base) formals
+    → FoundStanding base (bound_to formals actuals name)
+unfolding bound_to FoundStanding
+bound-counted base [] actuals name h k = tt
+bound-counted base (f ∷ fs) [] name h k = tt
+bound-counted base (f ∷ fs) (a ∷ actuals) name h k =
+    choice-standing base (bytes_eq f.name name) (standing_of f a) (bound_to fs actuals name)
+    (standing-counted base f a h.0 k.0) (bound-counted base fs actuals name h.1 k.1)
 
--- a step at a token, by the bindings around it
-bound-falls : (base : ℕ) (rules : Rules) (s : State) (line : ℕ) (c : Cursor) (sort : Sort) (bytes : List ℕ) (own : ℕ) (ts : List SourceToken) (below : List Cursor)
-    (frame : List Binding)
-    → AllByRecursion (HasCountedBody base) s.macros → is_solid (record { sort = sort; bytes = bytes; line = own }) ≡ true → IsCounted base ts
-    → AllByRecursion (HasCountedActuals base) c.frame → AllByRecursion (HasCountedActuals base) frame → AllByRecursion (IsCountedCursor base) below
-    → Falls base (token_work base c bytes ts below)
-    (bound_move rules s line c (record { sort = sort; bytes = bytes; line = own }) ts below frame)
-unfolding bound_move
-bound-falls base rules s line c sort bytes own ts below [] bodies e h k outer rest =
-    token-falls base rules s line c sort bytes own ts below bodies e h k rest
-bound-falls base rules s line c sort bytes own ts below (b ∷ frame) bodies e h k outer rest =
-    stood-falls base rules s line c sort bytes own ts below b frame bodies e h k outer rest
+-- what a token stands for, by what it is
+stood-counted : (base : ℕ) (b : Binding) (sort : Sort) (bytes : List ℕ) (line : ℕ) → IsCountedBinding base b
+    → FoundStanding base (stood_for b (record { sort = sort; bytes = bytes; line = line }))
+unfolding stood_for FoundStanding
+stood-counted base b (Ordinary Name) bytes line h = bound-counted base b.formals b.actuals bytes h.actuals h.defaults
+stood-counted base b (Ordinary k) bytes line h = tt
+stood-counted base b Definition bytes line h = tt
+stood-counted base b Renumbering bytes line h = tt
+stood-counted base b (Broken e) bytes line h = tt
+
+-- digits count a text that a token stands for, and what is bound around it
+record IsCountedClosure (base : ℕ) (x : Closure) : Type 0 where
+  text : IsCounted base x.text
+  frame : AllByRecursion (IsCountedBinding base) x.frame
+
+-- digits count that, if there is any
+FoundClosure : ℕ → Option Closure → Type 0
+FoundClosure base None = Unit
+FoundClosure base (Some x) = IsCountedClosure base x
+
+-- by what a formal stands for
+standing-closure : (base : ℕ) (b : Binding) (frame : List Binding) (standing : Option (Standing SourceToken))
+    → AllByRecursion (IsCountedBinding base) frame → FoundStanding base standing
+    → FoundClosure base (option_map (closure_of b frame) standing)
+unfolding FoundStanding FoundClosure StandingCounted closure_of
+standing-closure base b frame None h k = tt
+standing-closure base b frame (Some (Given actual)) h k = record { text = k; frame = h }
+standing-closure base b frame (Some (Defaulted text)) h k = record { text = text-counted base text k; frame = tt }
+
+-- a text that a token stands for
+closure-counted : (base : ℕ) (frame : List Binding) (t : SourceToken) → AllByRecursion (IsCountedBinding base) frame
+    → FoundClosure base (closure_at frame t)
+unfolding closure_at FoundClosure
+closure-counted base [] t h = tt
+closure-counted base (b ∷ frame) t h =
+    standing-closure base b frame (stood_for b t) h.1 (stood-counted base b t.sort t.bytes t.line h.0)
+
+-- a token that stands for something has a byte
+NotBroken : Option Closure → SourceToken → Type 0
+NotBroken None t = Unit
+NotBroken (Some x) t = nat_lt 0 (length t.bytes) ≡ true
+
+-- since it is a name
+name-has : (b : Binding) (frame : List Binding) (sort : Sort) (bytes : List ℕ) (line : ℕ)
+    → is_solid (record { sort = sort; bytes = bytes; line = line }) ≡ true
+    → NotBroken (option_map (closure_of b frame) (stood_for b (record { sort = sort; bytes = bytes; line = line })))
+    (record { sort = sort; bytes = bytes; line = line })
+unfolding stood_for NotBroken is_solid
+name-has b frame (Ordinary Name) bytes line e = by (option_map (closure_of b frame) (bound_to b.formals b.actuals bytes))
+  where
+    by : (x : Option Closure) → NotBroken x (record { sort = Ordinary Name; bytes = bytes; line = line })
+    by None = tt
+    by (Some x) = e
+name-has b frame (Ordinary k) bytes line e = tt
+name-has b frame Definition bytes line e = tt
+name-has b frame Renumbering bytes line e = tt
+name-has b frame (Broken x) bytes line e = tt
+
+-- with any bindings around it
+stands-has : (frame : List Binding) (t : SourceToken) → is_solid t ≡ true → NotBroken (closure_at frame t) t
+unfolding closure_at NotBroken
+stands-has [] t e = tt
+stands-has (b ∷ frame) t e = name-has b frame t.sort t.bytes t.line e
+
+-- a step at a token, by the text that it stands for
+standing-falls : (base : ℕ) (rules : Rules) (s : State) (line : ℕ) (c : Cursor) (t : SourceToken) (ts : List SourceToken) (below : List Cursor)
+    (found : Option Closure)
+    → AllByRecursion (IsCountedMacro base) s.macros → is_solid t ≡ true → IsCounted base ts
+    → AllByRecursion (IsCountedBinding base) c.frame → AllByRecursion (IsCountedCursor base) below
+    → FoundClosure base found → NotBroken found t
+    → Falls base (token_work base c t.bytes ts below) (standing_move rules s line c t ts below found)
+unfolding standing_move FoundClosure NotBroken
+standing-falls base rules s line c t ts below None bodies e h frame rest k n =
+    token-falls base rules s line c t.sort t.bytes t.line ts below bodies e h frame rest
+standing-falls base rules s line c t ts below (Some x) bodies e h frame rest k n =
+    opened-falls base s line c.room x.text x.frame x.writer c ts below (suc (length t.bytes + length (bytes_of ts))) k.text k.frame
+    (behind-counted base c ts h frame, rest) refl
+    (behind-solid t.bytes (length (bytes_of ts)) (length (bytes_of ts)) n (omega arith))
 
 -- a step of the innermost cursor, by its text
 text-falls : (base : ℕ) (rules : Rules) (s : State) (line : ℕ) (text : List SourceToken) (frame : List Binding) (writer : List (List ℕ)) (room : ℕ) (below : List Cursor)
-    → AllByRecursion (HasCountedBody base) s.macros → IsCounted base text → AllByRecursion (HasCountedActuals base) frame
+    → AllByRecursion (IsCountedMacro base) s.macros → IsCounted base text → AllByRecursion (IsCountedBinding base) frame
     → AllByRecursion (IsCountedCursor base) below
     → Falls base (cursors_work base (record { text = text; frame = frame; writer = writer; room = room } ∷ below))
     (move rules s line (record { text = text; frame = frame; writer = writer; room = room }) below)
@@ -354,20 +401,21 @@ text-falls base rules s line [] frame writer room below bodies h k rest =
     at_end p w e = omega (arith, e)
 text-falls base rules s line (t ∷ ts) frame writer room below bodies h k rest =
     let c : Cursor = record { text = t ∷ ts; frame = frame; writer = writer; room = room } in
-    subst (λ (n : ℕ). Falls base (suc n * base ^ room + cursors_work base below) (bound_move rules s line c t ts below frame))
+    subst (λ (n : ℕ). Falls base (suc n * base ^ room + cursors_work base below) (standing_move rules s line c t ts below (closure_at frame t)))
     (sym (weight-cons t ts))
-    (bound-falls base rules s line c t.sort t.bytes t.line ts below frame bodies (h.solid).0 (tail-counted base t ts h) k k rest)
+    (standing-falls base rules s line c t ts below (closure_at frame t) bodies (h.solid).0 (tail-counted base t ts h) k rest
+    (closure-counted base frame t k) (stands-has frame t (h.solid).0))
 
 -- a step of the innermost cursor leaves less work, in cursors that digits count
 step-falls : (base : ℕ) (rules : Rules) (s : State) (line : ℕ) (c : Cursor) (below : List Cursor)
-    → AllByRecursion (HasCountedBody base) s.macros → AllByRecursion (IsCountedCursor base) (c ∷ below)
+    → AllByRecursion (IsCountedMacro base) s.macros → AllByRecursion (IsCountedCursor base) (c ∷ below)
     → Falls base (cursors_work base (c ∷ below)) (move rules s line c below)
 step-falls base rules s line c below bodies h =
-    text-falls base rules s line c.text c.frame c.writer c.room below bodies (h.0).text (h.0).actuals h.1
+    text-falls base rules s line c.text c.frame c.writer c.room below bodies (h.0).text (h.0).frame h.1
 
 -- a step that goes on leaves less work, in cursors that digits count
 pub work-falls : (base : ℕ) (rules : Rules) (s : State) (line : ℕ) (c : Cursor) (below : List Cursor) (bytes : List ℕ) (cursors : List Cursor)
-    → AllByRecursion (HasCountedBody base) s.macros → AllByRecursion (IsCountedCursor base) (c ∷ below)
+    → AllByRecursion (IsCountedMacro base) s.macros → AllByRecursion (IsCountedCursor base) (c ∷ below)
     → move rules s line c below ≡ Writes bytes cursors
     → (cursors_work base cursors < cursors_work base (c ∷ below)) × AllByRecursion (IsCountedCursor base) cursors
 unfolding Falls
@@ -377,11 +425,14 @@ work-falls base rules s line c below bytes cursors bodies h e =
 -- a usage of which a digit counts the tokens behind it opens a cursor that digits count
 pub first-counted : (base : ℕ) (size : SourceToken → ℕ) (rules : Rules) (s : State) (line : ℕ) (o : List (List ℕ)) (name : List ℕ) (ts : List SourceToken)
     (m : Macro) (actuals : List (List SourceToken)) (used d : ℕ)
-    → AllByRecursion (HasCountedBody base) s.macros → IsCounted base ts
+    → AllByRecursion (IsCountedMacro base) s.macros → IsCounted base ts
     → token_usage_of size rules s line o name ts ≡ Opens m actuals used
-    → IsCountedCursor base (first_cursor m actuals name d)
+    → IsCountedCursor base (first_cursor m actuals d)
 unfolding first_cursor OpensCounted
 first-counted base size rules s line o name ts m actuals used d bodies h e =
     let opens : OpensCounted base (Opens m actuals used) =
     subst (λ (u : TokenUsage). OpensCounted base u) e (usage-counted base size rules s line o name ts bodies h) in
-    record { text = body-counted base m opens.0; actuals = (opens.1, tt) }
+    record {
+      text = text-counted base m.body (opens.0).body;
+      frame = (record { actuals = opens.1; defaults = (opens.0).defaults }, tt);
+    }

@@ -1,7 +1,8 @@
 -- The machine of cursors: texts that are open, each with what its formals stand for, and one step of it.
 -- A definition that names no source is this project's own.
-use Rattle.std.specs.Prelude.{ℕ, zero, suc, Bool, true, false, ◌&&◌, ◌==◌, List, [], ◌∷◌, map, length, drop, bytes_eq, Option, None, Some, unwrap_or, if◌then◌else◌}
+use Rattle.std.specs.Prelude.{ℕ, zero, suc, Bool, ◌&&◌, ◌==◌, not, List, [], ◌∷◌, map, length, drop, bytes_eq, Option, None, Some, is_some, unwrap_or, if◌then◌else◌}
 use Rattle.std.specs.List.{list_any}
+use Rattle.std.specs.Option.{option_map}
 use Rattle.rdlpp_scan.specs.declared.token.Kind.TheVariants.{Name, Back, BareBackquote}
 use Rattle.rdlpp_scan.specs.SourceTokens.{Ordinary, Broken, SourceToken}
 use Rattle.rdlpp_scan.specs.Stage.{is_reserved}
@@ -10,13 +11,15 @@ use Rattle.rdlpp_meaning.specs.declared.fault.FaultKind.{FaultKind}
 use Rattle.rdlpp_meaning.specs.declared.fault.FaultKind.TheVariants.{BareBackquote as NoName, UndefinedMacro, RecursiveMacro, DirectiveInText, ArgumentCount, DepthPassed, Unbuilt}
 use Rattle.rdlpp_meaning.specs.Outcome.{Told, Outcome, gives, fails, and_then}
 use Rattle.rdlpp_meaning.specs.State.{Rules, State, fault_at, breach_kind}
-use Rattle.rdlpp_meaning.specs.Items.{Item, Written, Arg, packed}
+use Rattle.rdlpp_meaning.specs.Items.{Item, Written}
 use Rattle.rdlpp_meaning.specs.Actuals.{Call, Lacking, Broke, Bound, call_of, trimmed, token_role}
-use Rattle.rdlpp_meaning.specs.Substitution.{body_tokens}
+use Rattle.rdlpp_meaning.specs.Substitution.{body_tokens, Standing, Given, Defaulted, bound_to, mark_or}
 use Rattle.rdlpp_meaning.specs.Expansion.{expand, is_copied, name_of}
 
--- what a call binds: the formals of its macro, their actuals as tokens, and the macros in whose text the call is written
+-- what a call binds: the name of its macro, the formals, their actuals as tokens, and the macros in whose text the call is
+-- written
 pub record Binding : Type 0 where
+  pub name : List ℕ
   pub formals : List Formal
   pub actuals : List (List SourceToken)
   pub writer : List (List ℕ)
@@ -29,31 +32,43 @@ pub record Cursor : Type 0 where
   pub writer : List (List ℕ)
   pub room : ℕ
 
--- the actual of a formal's name, as tokens, if it is one
-unfoldable pub actual_of : List Formal → List (List SourceToken) → List ℕ → Option (List SourceToken)
-actual_of [] actuals name = None
-actual_of (f ∷ fs) [] name = None
-actual_of (f ∷ fs) (a ∷ actuals) name = if bytes_eq f.name name then Some a else actual_of fs actuals name
-
--- the actual that a token stands for by a binding, if it is a formal's name
-unfoldable pub stood_for : Binding → SourceToken → Option (List SourceToken)
+-- what a token stands for by a binding, if it is a formal's name
+unfoldable pub stood_for : Binding → SourceToken → Option (Standing SourceToken)
 stood_for b t = elim t.sort [
-  | Ordinary k ↦ elim k [ Name ↦ actual_of b.formals b.actuals t.bytes | _ ↦ None ]
+  | Ordinary k ↦ elim k [ Name ↦ bound_to b.formals b.actuals t.bytes | _ ↦ None ]
   | _ ↦ None
 ]
+
+-- what a formal stands for, with its actual as what its tokens become
+unfoldable pub map_standing : {A B : Type 0} → (A → B) → Standing A → Standing B
+map_standing f (Given actual) = Given (map f actual)
+map_standing f (Defaulted text) = Defaulted text
 
 -- the item that a token of a text with these bindings is
 unfoldable pub image : List Binding → SourceToken → Item
 image [] t = Written t
-image (b ∷ frame) t = elim (stood_for b t) [
-  | Some actual ↦ Arg b.writer (packed (map (image frame) actual))
-  | None ↦ Written t
-]
+image (b ∷ frame) t = mark_or b.name b.writer t (option_map (map_standing (image frame)) (stood_for b t))
+
+-- a text that a token stands for, the bindings around it, and the macros in whose text it is written
+pub record Closure : Type 0 where
+  pub text : List SourceToken
+  pub frame : List Binding
+  pub writer : List (List ℕ)
+
+-- the text of what a formal of a binding stands for: an actual is written where the call is, and a default in the text of the
+-- macro, where no formal stands for anything (source: this project's profile)
+unfoldable pub closure_of : Binding → List Binding → Standing SourceToken → Closure
+closure_of b frame (Given actual) = record { text = actual; frame = frame; writer = b.writer }
+closure_of b frame (Defaulted text) = record { text = body_tokens text; frame = []; writer = b.name ∷ b.writer }
+
+-- the text that a token stands for with these bindings, if it is a formal's name
+unfoldable pub closure_at : List Binding → SourceToken → Option Closure
+closure_at [] t = None
+closure_at (b ∷ frame) t = option_map (closure_of b frame) (stood_for b t)
 
 -- whether a token stands for itself with these bindings
 unfoldable pub stands_alone : List Binding → SourceToken → Bool
-stands_alone [] t = true
-stands_alone (b ∷ frame) t = elim (stood_for b t) [ Some a ↦ false | None ↦ true ]
+stands_alone frame t = not (is_some (closure_at frame t))
 
 -- whether a token is copied and stands for itself
 unfoldable pub passes : List Binding → SourceToken → Bool
@@ -133,18 +148,18 @@ unfoldable pub with_text : Cursor → List SourceToken → Cursor
 with_text c text = record { text = text; frame = c.frame; writer = c.writer; room = c.room }
 
 -- a step at a usage, by what it comes to
-unfoldable pub usage_move : State → ℕ → Cursor → SourceToken → List SourceToken → List Cursor → TokenUsage → Move
-usage_move s line c t ts below (Refuses f word at) = Stops [] (fault_at f at word s)
-usage_move s line c t ts below (Opens m actuals used) =
+unfoldable pub usage_move : State → ℕ → Cursor → List SourceToken → List Cursor → TokenUsage → Move
+usage_move s line c ts below (Refuses f word at) = Stops [] (fault_at f at word s)
+usage_move s line c ts below (Opens m actuals used) =
     opened s line c.room (body_tokens m.body)
-    (record { formals = unwrap_or m.formals []; actuals = actuals; writer = c.writer } ∷ c.frame) (name_of t ∷ c.writer)
+    (record { name = m.name; formals = unwrap_or m.formals []; actuals = actuals; writer = c.writer } ∷ c.frame) (m.name ∷ c.writer)
     (with_text c (drop used ts) ∷ below)
 
 -- a step at a token that stands for itself
 unfoldable pub token_move : Rules → State → ℕ → Cursor → SourceToken → List SourceToken → List Cursor → Move
 token_move rules s line c t ts below = elim t.sort [
   | Ordinary k ↦ elim k [
-    | Back ↦ usage_move s line c t ts below (token_usage_of not_kept rules s line c.writer (name_of t) ts)
+    | Back ↦ usage_move s line c ts below (token_usage_of not_kept rules s line c.writer (name_of t) ts)
     | BareBackquote ↦ Stops [] (fault_at NoName line [] s)
     | _ ↦ Writes t.bytes (with_text c ts ∷ below)
   ]
@@ -152,19 +167,16 @@ token_move rules s line c t ts below = elim t.sort [
   | _ ↦ Writes t.bytes (with_text c ts ∷ below)
 ]
 
--- a step at a token, by the bindings around it
-unfoldable pub bound_move : Rules → State → ℕ → Cursor → SourceToken → List SourceToken → List Cursor → List Binding → Move
-bound_move rules s line c t ts below [] = token_move rules s line c t ts below
-bound_move rules s line c t ts below (b ∷ frame) = elim (stood_for b t) [
-  | Some actual ↦ opened s line c.room actual frame b.writer (with_text c ts ∷ below)
-  | None ↦ token_move rules s line c t ts below
-]
+-- a step at a token, by the text that it stands for
+unfoldable pub standing_move : Rules → State → ℕ → Cursor → SourceToken → List SourceToken → List Cursor → Option Closure → Move
+standing_move rules s line c t ts below None = token_move rules s line c t ts below
+standing_move rules s line c t ts below (Some x) = opened s line c.room x.text x.frame x.writer (with_text c ts ∷ below)
 
 -- a step of the innermost cursor, in front of those below it
 unfoldable pub move : Rules → State → ℕ → Cursor → List Cursor → Move
 move rules s line c below = elim c.text [
   | [] ↦ Writes [] below
-  | t ∷ ts ↦ bound_move rules s line c t ts below c.frame
+  | t ∷ ts ↦ standing_move rules s line c t ts below (closure_at c.frame t)
 ]
 
 -- what remains behind a step
@@ -173,10 +185,10 @@ left_behind rules s line (Writes bytes cursors) = and_then (gives bytes) (left r
 left_behind rules s line (Stops bytes f) = and_then (gives bytes) (fails f)
 
 -- the cursor that a usage in a source opens, where so many further texts may be open in it
-unfoldable pub first_cursor : Macro → List (List SourceToken) → List ℕ → ℕ → Cursor
-first_cursor m actuals name room = record {
+unfoldable pub first_cursor : Macro → List (List SourceToken) → ℕ → Cursor
+first_cursor m actuals room = record {
   text = body_tokens m.body;
-  frame = record { formals = unwrap_or m.formals []; actuals = actuals; writer = [] } ∷ [];
-  writer = name ∷ [];
+  frame = record { name = m.name; formals = unwrap_or m.formals []; actuals = actuals; writer = [] } ∷ [];
+  writer = m.name ∷ [];
   room = room;
 }

@@ -73,7 +73,7 @@ walk rules s deeper source o zero (Written t ∷ xs) = elim t.sort [
     | Back ↦ elim (usage_of rules s source (unwrap_or source t.line) o (name_of t) xs) [
       | Refuses f word line ↦ fails (fault_at f line word s)
       | Opens m actuals used ↦ and_then
-          (deeper (unwrap_or source t.line) (name_of t ∷ o) (substituted m actuals o))
+          (deeper (unwrap_or source t.line) (m.name ∷ o) (substituted m actuals o))
           (walk rules s deeper source o used xs)
     ]
     | BareBackquote ↦ fails (fault_at NoName (unwrap_or source t.line) [] s)

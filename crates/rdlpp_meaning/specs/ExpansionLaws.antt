@@ -17,13 +17,13 @@ use Rattle.rdlpp_meaning.specs.Parts.{only_blanks}
 use Rattle.rdlpp_meaning.specs.Meaning.{leaves, goes_on, Progress}
 use Rattle.rdlpp_meaning.specs.Resumed.{Live, resumed, leading, trailing}
 use Rattle.rdlpp_meaning.specs.Slots.{Slot, cursors_of, first_slot, slot_move, cursor_move, AreHomed, LeavesHomed}
-use Rattle.rdlpp_meaning.specs.Literal.{erased, literal}
+use Rattle.rdlpp_meaning.specs.Literal.{erased, formals_bytes, literal}
 
 -- the parts of a call in a body are those of its raw tokens, substituted: a call is found before what its formals stand for is read
 abbrev pub SubstitutedCall : Type 0
-SubstitutedCall = (formals : List Formal) (actuals : List (List Item)) (o : List (List ℕ)) (line room : ℕ) (ts : List SourceToken)
-    → call_of item_role (item_size (Some line)) room (map (marked formals actuals o) ts)
-    ≡ map_call (marked formals actuals o) (call_of token_role not_kept room ts)
+SubstitutedCall = (macro : List ℕ) (formals : List Formal) (actuals : List (List Item)) (o : List (List ℕ)) (line room : ℕ) (ts : List SourceToken)
+    → call_of item_role (item_size (Some line)) room (map (marked macro formals actuals o) ts)
+    ≡ map_call (marked macro formals actuals o) (call_of token_role not_kept room ts)
 
 -- so are they in a text with bindings around it
 abbrev pub BoundCall : Type 0
@@ -38,8 +38,8 @@ SourceCall = (room : ℕ) (ts : List SourceToken)
 
 -- a part loses the same white space before its formals stand for their actuals as after
 abbrev pub TrimmedPart : Type 0
-TrimmedPart = (formals : List Formal) (actuals : List (List Item)) (o : List (List ℕ)) (ts : List SourceToken)
-    → trimmed item_role (map (marked formals actuals o) ts) ≡ map (marked formals actuals o) (trimmed token_role ts)
+TrimmedPart = (macro : List ℕ) (formals : List Formal) (actuals : List (List Item)) (o : List (List ℕ)) (ts : List SourceToken)
+    → trimmed item_role (map (marked macro formals actuals o) ts) ≡ map (marked macro formals actuals o) (trimmed token_role ts)
 
 -- a step of the innermost cursor writes and leaves what remained
 abbrev pub CursorStep : Type 0
@@ -53,7 +53,7 @@ OpensCursor = (rules : Rules) (os : List Progress) (first : Bool) (name : List �
     → is_reserved name ≡ false → rules.depth ≡ suc d
     → token_usage_of kept rules s line [] name (leading ts) ≡ Opens m actuals used
     → resumed rules (Live os) first (usage_token name line ∷ ts) s
-    ≡ goes_on (leaves (left rules s line (first_cursor m actuals name d ∷ [])) s)
+    ≡ goes_on (leaves (left rules s line (first_cursor m actuals d ∷ [])) s)
     (λ after. resumed rules (Live os) (only_blanks first (bytes_of (take (suc used) (usage_token name line ∷ ts)))) (drop used ts) after)
 
 -- in live text, a usage that is refused ends the output
@@ -77,8 +77,8 @@ SlotHomes = (rules : Rules) (s : State) (line depth : ℕ) (slot : Slot) (below 
 
 -- the first cursor of a usage in a source is the first open text
 abbrev pub FirstSlot : Type 0
-FirstSlot = (m : Macro) (actuals : List (List SourceToken)) (name : List ℕ) (d : ℕ)
-    → cursors_of (suc d) (first_slot m actuals name ∷ []) ≡ first_cursor m actuals name d ∷ []
+FirstSlot = (m : Macro) (actuals : List (List SourceToken)) (d : ℕ)
+    → cursors_of (suc d) (first_slot m actuals ∷ []) ≡ first_cursor m actuals d ∷ []
 
 -- in live text, a run comes to its expansion, and then what remains behind it
 abbrev pub RunRemains : Type 0
@@ -103,4 +103,4 @@ BodyCovered = (body : List ℕ) → bytes_of (body_tokens body) ≡ body
 abbrev pub LiteralSubstitution : Type 0
 LiteralSubstitution = (m : Macro) (actuals : List (List Item)) (o : List (List ℕ))
     → flat_map erased (substituted m actuals o)
-    ≡ literal (unwrap_or m.formals []) (map (flat_map erased) actuals) (body_tokens m.body)
+    ≡ literal (unwrap_or m.formals []) (formals_bytes (unwrap_or m.formals []) actuals) (body_tokens m.body)
