@@ -17,5 +17,5 @@ pub use engine::{Engine, NewFault};
 pub use held::Held;
 pub use kinds::fault_kind;
 pub use place::Piece;
-pub use rdlpp_meaning::{Fault, FaultKind};
+pub use rdlpp_meaning::{Fault, FaultKind, laws};
 pub use writing::{RunFault, run};

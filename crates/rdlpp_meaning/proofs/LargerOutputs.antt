@@ -1,6 +1,7 @@
 -- The law of larger limits.
-use Rattle.std.proofs.Common.{◌≡◌, ℕ, zero, suc, ◌+◌, ◌-◌, ◌≤◌, inl, inr, Bool, true, false, true≢false, List, [], ◌∷◌, ◌++◌, refl, sym, ap, subst, ◌∙◌, arith, Option, None, Some}
-use Rattle.std.specs.Prelude.{if◌then◌else◌, nat_lt, length}
+use Rattle.std.proofs.Common.{◌≡◌, ℕ, zero, suc, ◌+◌, ◌-◌, ◌≤◌, inl, inr, Bool, true, false, true≢false, List, [], ◌∷◌, ◌++◌, refl, sym, ap, subst, ◌∙◌, arith, le_trans, Option, None, Some}
+use Rattle.std.specs.Prelude.{if◌then◌else◌, nat_le, nat_lt, length}
+use Rattle.std.proofs.lemmas.Bool.{leb-true, leb-false}
 use Rattle.rdlpp_scan.specs.Front.{Breach}
 use Rattle.rdlpp_scan.specs.SourceTokens.{Broken, SourceToken, whole_tokens}
 use Rattle.rdlpp_table.specs.declared.limits.Limits.{Limits}
@@ -8,7 +9,7 @@ use Rattle.rdlpp_table.specs.Table.{Macro, macro_size, table_size, without}
 use Rattle.rdlpp_table.specs.declared.fault.DefineKind.TheVariants as kind
 use Rattle.rdlpp_table.specs.Define.{Defined as TableDefined, Accepted as TableAccepted, Refused as TableRefused, Draft, Drawn, Rejected, macro_of, stored, stored_draft, define_of}
 use Rattle.rdlpp_meaning.specs.declared.fault.FaultKind.{FaultKind}
-use Rattle.rdlpp_meaning.specs.declared.fault.FaultKind.TheVariants.{StrayBranch}
+use Rattle.rdlpp_meaning.specs.declared.fault.FaultKind.TheVariants.{StrayBranch, OutputBytes}
 use Rattle.rdlpp_meaning.specs.declared.fault.FaultKind.TheVariants as fault
 use Rattle.rdlpp_meaning.specs.Outcome.{Told, Outcome, gives, fails, and_then}
 use Rattle.rdlpp_meaning.specs.State.{Defined, Accepted, Refused, Lookup, NoSource, LongPath, Source, Rules, State, fault_at, breach_kind}
@@ -16,11 +17,13 @@ use Rattle.rdlpp_meaning.specs.Expansion.{walk, run_outcome}
 use Rattle.rdlpp_meaning.specs.Parts.{Command, Piece, Run, Single, Opening, Branching, Closing, pieces, parts_of}
 use Rattle.rdlpp_meaning.specs.Meaning.{Passage, leaves, outcome, behind_bytes, goes_on, Nest, skipped_run, skipped_command, origin_line, single, Progress, in_conditional, past_conditional, begun, turned, unclosed, mean, nest_of, text_meaning}
 use Rattle.rdlpp_meaning.specs.Resumed.{Place, Live, Skipped, resume}
-use Rattle.rdlpp_meaning.specs.Output.{start_state, output}
+use Rattle.rdlpp_meaning.specs.Output.{opening_fault, start_state, output}
 use Rattle.rdlpp_meaning.specs.Profile.{define_fault, with_fault, rules_of}
+use Rattle.rdlpp_meaning.specs.OutputLimit.{Searches, limited, unlimited_output, limited_output}
 use Rattle.rdlpp_meaning.specs.LimitLaws.{is_limit, NamesNoLimit, IsLarger, IsByLines}
 use Rattle.rdlpp_meaning.specs.Items.{Written}
 use Rattle.rdlpp_meaning.specs.Actuals.{token_role}
+use Rattle.rdlpp_meaning.proofs.OutputLimits.{limited-within, limited-over}
 use Rattle.rdlpp_meaning.proofs.Walks.{expand_walk}
 use Rattle.rdlpp_meaning.proofs.TornCalls.{TornBy}
 use Rattle.rdlpp_meaning.proofs.TornRuns.{IsFault, TornAgrees, run-torn, skip-torn}
@@ -407,13 +410,13 @@ unfolding rules_of
 rules-wider small large unbuilt unbuilt_macro find origins = refl
 
 -- an output that no fault of a limit ends is the same with larger limits
-pub larger_limits_law : (small large : Limits) (unbuilt : List ℕ → Bool) (unbuilt_macro : Macro → Bool) (find : List ℕ → List ℕ → Lookup) (origins : Bool)
+pub larger_staged : (small large : Limits) (unbuilt : List ℕ → Bool) (unbuilt_macro : Macro → Bool) (find : List ℕ → List ℕ → Lookup) (origins : Bool)
     (macros : List Macro) (path : List ℕ) (found : Lookup) → IsLarger small large → IsByLines unbuilt
     → NamesNoLimit (output (rules_of small unbuilt unbuilt_macro find origins) macros small.includes small.conditions path found).fault
     → output (rules_of large unbuilt unbuilt_macro find origins) macros large.includes large.conditions path found
     ≡ output (rules_of small unbuilt unbuilt_macro find origins) macros small.includes small.conditions path found
 unfolding rules_of AllDefined
-larger_limits_law small large unbuilt unbuilt_macro find origins macros path found l stable n =
+larger_staged small large unbuilt unbuilt_macro find origins macros path found l stable n =
     let rules = rules_of small unbuilt unbuilt_macro find origins in
     let define : List Macro → List ℕ → Defined = λ ms rest. with_fault (define_of large.definition_bytes large.definitions ms rest) in
     let tokens : List ℕ → List SourceToken = λ text. whole_tokens unbuilt large.line_bytes large.source_bytes text in
@@ -431,3 +434,33 @@ larger_limits_law small large unbuilt unbuilt_macro find origins macros path fou
   where
     difference : (a b : ℕ) → a ≤ b → b ≡ (b - a) + a
     difference a b h = omega (arith, h)
+
+-- what is limited and names no limit has no more bytes than that, by whether it has
+within-by : (over : Told) (quota : ℕ) (o : Outcome) (b : Bool) → is_limit over.kind ≡ true → nat_le (length o.bytes) quota ≡ b
+    → NamesNoLimit (limited over quota o).fault → length o.bytes ≤ quota
+within-by over quota o true l e n = leb-true (length o.bytes) quota e
+within-by over quota o false l e n =
+    let none : is_limit over.kind ≡ false =
+    subst (λ (x : Outcome). NamesNoLimit x.fault) (limited-over over quota o (leb-false (length o.bytes) quota e)) n in
+    absurd (true≢false (sym l ∙ none))
+
+-- outcomes that agree where no limit is named agree where both are limited and the one names none
+limited-agree : (over : Told) (quota more : ℕ) (o p : Outcome) → is_limit over.kind ≡ true → quota ≤ more
+    → (NamesNoLimit o.fault → p ≡ o) → NamesNoLimit (limited over quota o).fault → limited over more p ≡ limited over quota o
+limited-agree over quota more o p l h same n =
+    let within : length o.bytes ≤ quota = within-by over quota o (nat_le (length o.bytes) quota) l refl n in
+    let stays : limited over quota o ≡ o = limited-within over quota o within in
+    ap (limited over more) (same (subst (λ (x : Outcome). NamesNoLimit x.fault) stays n))
+    ∙ limited-within over more o (le_trans within h)
+    ∙ sym stays
+
+-- an output that no fault of a limit ends is the same with larger limits, among them that on the output
+pub larger_limits : (small large : Limits) (searches : Searches) (origins : Bool) (macros : List Macro) (path : List ℕ)
+    → IsLarger small large → NamesNoLimit (limited_output small searches origins macros path).fault
+    → limited_output large searches origins macros path ≡ limited_output small searches origins macros path
+unfolding limited_output unlimited_output opening_fault is_limit
+larger_limits small large searches origins macros path l n =
+    limited-agree (opening_fault OutputBytes path) small.output_bytes large.output_bytes
+    (unlimited_output small searches origins macros path) (unlimited_output large searches origins macros path) refl l.output_bytes
+    (larger_staged small large (λ text. false) (λ m. false) searches.included origins macros path (searches.main path) l
+    (λ held more some ends. refl)) n

@@ -34,9 +34,11 @@ pub mod LargerCalls
 pub mod LargerRuns
 pub mod LargerFiles
 pub mod LargerOutputs
+pub mod OutputLimits
 pub mod OddRows
 pub mod BorderRows
 pub mod DefaultRows
+pub mod OutputLimitRows
 pub mod TornCalls
 pub mod TornRuns
 pub mod TornPieces

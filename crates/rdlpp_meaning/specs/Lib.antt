@@ -13,6 +13,7 @@ pub mod Opened
 pub mod Output
 pub mod Laws
 pub mod Profile
+pub mod OutputLimit
 pub mod Cursors
 pub mod Literal
 pub mod DirectiveLaws
@@ -24,4 +25,5 @@ pub mod SubjectLaws
 pub mod FurtherLaws
 pub mod CursorWork
 pub mod WorkLaws
+pub mod OutputLaws
 pub mod LimitLaws

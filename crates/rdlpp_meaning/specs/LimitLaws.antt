@@ -6,14 +6,15 @@ use Rattle.rdlpp_scan.specs.Stage.{is_unbuilt}
 use Rattle.rdlpp_table.specs.declared.limits.Limits.{Limits}
 use Rattle.rdlpp_table.specs.Table.{Macro}
 use Rattle.rdlpp_meaning.specs.declared.fault.FaultKind.{FaultKind}
-use Rattle.rdlpp_meaning.specs.declared.fault.FaultKind.TheVariants.{LineTooLong, SourceTooLong, ArgumentBytes, DepthPassed, DefinitionBytes, TooManyDefinitions, TooManyConditionals, TooManyIncludes}
+use Rattle.rdlpp_meaning.specs.declared.fault.FaultKind.TheVariants.{LineTooLong, SourceTooLong, ArgumentBytes, DepthPassed, DefinitionBytes, TooManyDefinitions, TooManyConditionals, TooManyIncludes, OutputBytes}
 use Rattle.rdlpp_meaning.specs.Outcome.{Told}
 use Rattle.rdlpp_meaning.specs.State.{Lookup}
 use Rattle.rdlpp_meaning.specs.Output.{output}
 use Rattle.rdlpp_meaning.specs.Profile.{rules_of}
+use Rattle.rdlpp_meaning.specs.OutputLimit.{Searches, limited_output}
 
 -- whether a fault says that a limit is passed: of a line, a source, an actual's bytes, open bodies, definitions, open
--- conditionals or open sources (source: this project's profile)
+-- conditionals, open sources or the output (source: this project's profile)
 unfoldable pub is_limit : FaultKind → Bool
 is_limit LineTooLong = true
 is_limit SourceTooLong = true
@@ -23,6 +24,7 @@ is_limit DefinitionBytes = true
 is_limit TooManyDefinitions = true
 is_limit TooManyConditionals = true
 is_limit TooManyIncludes = true
+is_limit OutputBytes = true
 is_limit kind = false
 
 -- no limit is named where a text ends (source: this project's profile)
@@ -40,6 +42,7 @@ pub record IsLarger (small large : Limits) : Type 0 where
   pub definition_bytes : small.definition_bytes ≤ large.definition_bytes
   pub definitions : small.definitions ≤ large.definitions
   pub conditions : small.conditions ≤ large.conditions
+  pub output_bytes : small.output_bytes ≤ large.output_bytes
 
 -- what isn't built is told by lines: a text that ends at a line's end begins with it where it does with more behind it
 -- (source: the stage)
@@ -48,7 +51,13 @@ IsByLines unbuilt = (held more : List ℕ) → 0 < length held → EndsLine held
 
 -- an output that no fault of a limit ends is the same with larger limits
 abbrev pub LargerLimits : Type 0
-LargerLimits = (small large : Limits) (unbuilt : List ℕ → Bool) (unbuilt_macro : Macro → Bool) (find : List ℕ → List ℕ → Lookup) (origins : Bool)
+LargerLimits = (small large : Limits) (searches : Searches) (origins : Bool) (macros : List Macro) (path : List ℕ)
+    → IsLarger small large → NamesNoLimit (limited_output small searches origins macros path).fault
+    → limited_output large searches origins macros path ≡ limited_output small searches origins macros path
+
+-- so it is without the limit on the output, and also while not all is built
+abbrev pub LargerStaged : Type 0
+LargerStaged = (small large : Limits) (unbuilt : List ℕ → Bool) (unbuilt_macro : Macro → Bool) (find : List ℕ → List ℕ → Lookup) (origins : Bool)
     (macros : List Macro) (path : List ℕ) (found : Lookup) → IsLarger small large → IsByLines unbuilt
     → NamesNoLimit (output (rules_of small unbuilt unbuilt_macro find origins) macros small.includes small.conditions path found).fault
     → output (rules_of large unbuilt unbuilt_macro find origins) macros large.includes large.conditions path found

@@ -5,7 +5,8 @@ ghost use Rattle.rdlpp_meaning.specs.ExpansionLaws.{BodyCovered, BoundCall, Curs
 ghost use Rattle.rdlpp_meaning.specs.FurtherLaws.{BadUndef, BodyStep, BrokenParts, CopiedBody, CopiedParts, LeftPasses, SkippedParts, UndefRemains};
 ghost use Rattle.rdlpp_meaning.specs.IncludeLaws.{AllAtStart, BadIncludeName, DeepInclude, IncludeOpens, IncludeReturns, LongInclude, MissingInclude, NamelessInclude, StepOfAll};
 ghost use Rattle.rdlpp_meaning.specs.Laws.{BareRemains, BrokenRemains, CopiedRemains, DefinedRemains, FoundOutput, IsGrouped, MeaningRemains, MissingOutput, NothingRemains, OverlongOutput, PlainOutput, RefusedRemains, UnbuiltRemains, UndefinedRemains, UsageRemains};
-ghost use Rattle.rdlpp_meaning.specs.LimitLaws.{BuiltByLines, LargerLimits, StageByLines};
+ghost use Rattle.rdlpp_meaning.specs.LimitLaws.{BuiltByLines, LargerLimits, LargerStaged, StageByLines};
+ghost use Rattle.rdlpp_meaning.specs.OutputLaws.{CutInside, CutOver, LimitedBehind, StaysWithin};
 ghost use Rattle.rdlpp_meaning.specs.SubjectLaws.{CopiedOutput, IncludedBetween, PlainTextOutput, SkippedLineEnds, TreeKeeps};
 ghost use Rattle.rdlpp_meaning.specs.WorkLaws.{FirstCounted, SlotWorkBound, SlotWorkCounted, SlotWorkFalls, SlotsWithin, WorkCounted, WorkFalls};
 
@@ -162,10 +163,20 @@ pub fn work_left()
     ensures bound { SlotWorkBound }
 {}
 
+/// An outcome of at most so many bytes: one of no more stays, also where a fault ends it, and one of more is cut and then
+/// ends with the limit's fault, found from its front piece by piece (this project's profile).
+pub fn output_limit()
+    ensures within { StaysWithin }
+    ensures over { CutOver }
+    ensures rest { LimitedBehind }
+    ensures inside { CutInside }
+{}
+
 /// An output that no fault of a limit ends is the same with larger limits: of lines and sources, of an actual's bytes, of
-/// open bodies, of definitions, of open conditionals and of open sources (this project's profile).
+/// open bodies, of definitions, of open conditionals, of open sources and of the output (this project's profile).
 pub fn larger_limits()
     ensures larger { LargerLimits }
+    ensures staged { LargerStaged }
     ensures stage { StageByLines }
     ensures built { BuiltByLines }
 {}
