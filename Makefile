@@ -23,5 +23,5 @@ bench: ## build the programs, compare speed and memory with cat and cpp, and the
 	@cd crates/rdlpp_bench && rt run -- lines 0 < /dev/null > /dev/null
 	@bench/scan
 
-definitions: ## write the list of all definitions in docs/DEFINITIONS.md anew
+definitions: ## write the list of all definitions to out/definitions.md
 	@docs/list_definitions
