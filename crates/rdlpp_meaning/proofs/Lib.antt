@@ -44,3 +44,4 @@ pub mod TornDefines
 pub mod TornSteps
 pub mod TornOpen
 pub mod TornSources
+pub mod LeftScan

@@ -25,3 +25,4 @@ pub mod FurtherLaws
 pub mod CursorWork
 pub mod WorkLaws
 pub mod LimitLaws
+pub mod CallScan
