@@ -45,3 +45,4 @@ pub mod TornSteps
 pub mod TornOpen
 pub mod TornSources
 pub mod LeftScan
+pub mod SourceScans

@@ -1,10 +1,9 @@
 -- The scan of a call from the left, a thing at a turn, and the parts of what it keeps.
 -- A definition that names no source is this project's own.
-use Rattle.std.specs.Prelude.{ℕ, zero, suc, ◌-◌, Bool, true, false, nat_le, List, [], ◌∷◌, ◌++◌, map, drop, None, Some}
-use Rattle.rdlpp_scan.specs.SourceTokens.{Broken, SourceToken}
+use Rattle.std.specs.Prelude.{◌≡◌, ℕ, zero, suc, ◌+◌, ◌-◌, Bool, true, false, nat_le, List, [], ◌∷◌, ◌++◌, length, filter, All, None, Some}
+use Rattle.rdlpp_scan.specs.SourceTokens.{SourceToken}
 use Rattle.rdlpp_meaning.specs.declared.fault.FaultKind.{FaultKind}
 use Rattle.rdlpp_meaning.specs.declared.fault.FaultKind.TheVariants.{ArgumentsMissing, ArgumentsOpen, ArgumentBytes}
-use Rattle.rdlpp_meaning.specs.State.{breach_kind}
 use Rattle.rdlpp_meaning.specs.Actuals.{Role, Space, Dropped, Remark, Start, End, Cut, Halt, Ends, Stops, Call, Lacking, Broke, Bound, level_behind, kept_size, token_role}
 use Rattle.rdlpp_meaning.specs.Parts.{directive_of}
 
@@ -132,3 +131,34 @@ call_of_scan role k (Closed kept used) = Bound (split role k kept).first (split 
 -- the role of a token of a source: a directive ends the run, as a broken `define` does (source: this project's profile)
 unfoldable pub source_role : SourceToken → Role
 source_role t = elim (directive_of t) [ None ↦ token_role t | Some d ↦ Halt ]
+
+-- whether a thing of a role isn't dropped
+unfoldable pub is_kept : Role → Bool
+is_kept Dropped = false
+is_kept r = true
+
+-- whether a thing of a role may stand between the parentheses of a call: it neither halts the scan nor is broken
+unfoldable pub is_call_text : Role → Bool
+is_call_text Halt = false
+is_call_text (Ends f line) = false
+is_call_text (Stops f line) = false
+is_call_text r = true
+
+-- the level of openers behind things
+unfoldable pub level_of_things : {A : Type 0} → (A → Role) → ℕ → List A → ℕ
+level_of_things role k [] = k
+level_of_things role k (x ∷ xs) = level_of_things role (level_behind (role x) k) xs
+
+-- how a scan that closes lies in its things: so many pass, the `(`, what stands between the parentheses, the `)`, and the rest
+pub record IsClosed {A : Type 0} (role : A → Role) (xs kept : List A) (used : ℕ) : Type 0 where
+  pub lead : List A
+  pub opener : A
+  pub inner : List A
+  pub closer : A
+  pub behind : List A
+  pub whole : xs ≡ lead ++ opener ∷ (inner ++ closer ∷ behind)
+  pub opens : role opener ≡ Start
+  pub closes : role closer ≡ End
+  pub text : All (λ x. is_call_text (role x) ≡ true) inner
+  pub keeps : kept ≡ filter (λ x. is_kept (role x)) inner
+  pub takes : used ≡ length lead + (length inner + 2)
