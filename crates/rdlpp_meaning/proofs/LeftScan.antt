@@ -4,6 +4,7 @@ use Rattle.std.specs.Prelude.{nat_le}
 use Rattle.rdlpp_meaning.specs.Actuals.{Role, Space, Dropped, Remark, Start, Up, End, Down, Cut, Halt, Text, Ends, Stops, Call, Lacking, Broke, Bound, passed, put, parted, level_behind, kept_size, heed, inside_call, call_of}
 use Rattle.rdlpp_meaning.specs.CallScan.{Stand, Before, Inside, Turn, Passes, Keeps, Closes, Refuses, Breaks, turn_before, turn_fitting, turn_inside, turn, stand_behind_lead, stand_behind, room_behind, fault_at_end, Scanned, Refused, Stopped, Closed, scan_passing, scan_keeping, scanned, scan, Split, split_by, split, call_of_scan}
 use Rattle.rdlpp_meaning.proofs.Commuting.{call_by, call_is}
+use Rattle.rdlpp_meaning.proofs.Turns.{passes_level}
 
 -- a thing that is kept in front of a call: a comma outside further openers cuts
 unfoldable keeping : {A : Type 0} → Role → ℕ → A → Call A → Call A
@@ -45,35 +46,6 @@ heed_is Start k true x c = refl
 heed_is Up k true x c = refl
 heed_is Down k true x c = refl
 heed_is Text k true x c = refl
-
--- a thing that is passed behind the `(` leaves the level as it is
-fitting_kept : (fits : Bool) (r : Role) (k : ℕ) → turn_fitting fits Keeps ≡ Passes → level_behind r k ≡ k
-unfolding turn_fitting
-fitting_kept true r k e = absurd (cc)
-fitting_kept false r k e = absurd (cc)
-
--- a broken token is never passed
-fitting_broken : (fits : Bool) (t : Turn) (r : Role) (k : ℕ) → turn_fitting fits t ≡ Passes → (t ≡ Passes → level_behind r k ≡ k) → level_behind r k ≡ k
-unfolding turn_fitting
-fitting_broken true t r k e h = h e
-fitting_broken false t r k e h = absurd (cc)
-
--- a thing that is passed leaves the level as it is, by its role
-passes_level : (r : Role) (k : ℕ) (fits : Bool) → turn_inside r k fits ≡ Passes → level_behind r k ≡ k
-unfolding turn_inside level_behind
-passes_level Dropped k fits e = refl
-passes_level End zero fits e = absurd (cc)
-passes_level Halt k fits e = absurd (cc)
-passes_level (Ends f line) k fits e = fitting_broken fits (Breaks f line) (Ends f line) k e (λ h. absurd (cc))
-passes_level (Stops f line) k fits e = fitting_broken fits (Breaks f line) (Stops f line) k e (λ h. absurd (cc))
-passes_level End (suc k) fits e = fitting_kept fits End (suc k) e
-passes_level Space k fits e = refl
-passes_level Remark k fits e = refl
-passes_level Start k fits e = fitting_kept fits Start k e
-passes_level Up k fits e = fitting_kept fits Up k e
-passes_level Down k fits e = fitting_kept fits Down k e
-passes_level Cut k fits e = refl
-passes_level Text k fits e = refl
 
 -- a thing in front of the parts of what a scan kept
 split_front : {A : Type 0} (r : Role) (k : ℕ) (x : A) (p : Split A) (used : ℕ)

@@ -44,5 +44,7 @@ pub mod TornDefines
 pub mod TornSteps
 pub mod TornOpen
 pub mod TornSources
+pub mod Turns
 pub mod LeftScan
 pub mod SourceScans
+pub mod ClosedScans

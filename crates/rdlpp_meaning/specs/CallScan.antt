@@ -159,6 +159,7 @@ pub record IsClosed {A : Type 0} (role : A → Role) (xs kept : List A) (used : 
   pub whole : xs ≡ lead ++ opener ∷ (inner ++ closer ∷ behind)
   pub opens : role opener ≡ Start
   pub closes : role closer ≡ End
+  pub level : level_of_things role 0 inner ≡ 0
   pub text : All (λ x. is_call_text (role x) ≡ true) inner
   pub keeps : kept ≡ filter (λ x. is_kept (role x)) inner
   pub takes : used ≡ length lead + (length inner + 2)
