@@ -48,3 +48,4 @@ pub mod Turns
 pub mod LeftScan
 pub mod SourceScans
 pub mod ClosedScans
+pub mod CallReadings

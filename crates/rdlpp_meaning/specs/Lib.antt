@@ -26,3 +26,4 @@ pub mod CursorWork
 pub mod WorkLaws
 pub mod LimitLaws
 pub mod CallScan
+pub mod CallReading
