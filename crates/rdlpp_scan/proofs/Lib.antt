@@ -29,3 +29,4 @@ pub mod EndedTokens
 pub mod CommentLaws
 pub mod ResumedTokens
 pub mod FirstTokens
+pub mod ClosedKinds
