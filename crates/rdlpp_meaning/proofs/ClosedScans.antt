@@ -62,10 +62,10 @@ lead_scan role size Start room xs = refl
 lead_scan role size r room xs = refl
 
 -- a scan that closes with a thing in front that it passes before the `(`
-led : {A : Type 0} (role : A → Role) (x : A) (xs kept : List A) (used : ℕ) (before : Scanned A)
+led : {A : Type 0} (role : A → Role) (x : A) (xs kept : List A) (used : ℕ) (before : Scanned A) → is_call_text (role x) ≡ true
     → ((ks : List A) (n : ℕ) → before ≡ Closed ks n → IsClosed role xs ks n)
     → scan_passing before ≡ Closed kept used → IsClosed role (x ∷ xs) kept used
-led role x xs kept used before rest e =
+led role x xs kept used before text rest e =
     let p = passing_closed before kept used e in
     let c = rest kept p.0 p.1.0 in
     record {
@@ -78,6 +78,7 @@ led role x xs kept used before rest e =
       opens = c.opens;
       closes = c.closes;
       level = c.level;
+      leads = All-cons (λ y. is_call_text (role y) ≡ true) x c.lead text c.leads;
       text = c.text;
       keeps = c.keeps;
       takes = omega (arith, p.1.1, c.takes);
@@ -149,10 +150,10 @@ before_by : {A : Type 0} (role : A → Role) (r : Role) (x : A) (xs kept : List 
     → ((ks : List A) (n : ℕ) → before ≡ Closed ks n → IsClosed role xs ks n)
     → ((ks : List A) (n : ℕ) → inside ≡ Closed ks n → IsClosedInside role 0 xs ks n)
     → scanned (turn_before r) x (behind_lead r before inside) ≡ Closed kept used → IsClosed role (x ∷ xs) kept used
-unfolding scanned turn_before behind_lead
-before_by role Space x xs kept used before inside is rest opened e = led role x xs kept used before rest e
-before_by role Dropped x xs kept used before inside is rest opened e = led role x xs kept used before rest e
-before_by role Remark x xs kept used before inside is rest opened e = led role x xs kept used before rest e
+unfolding scanned turn_before behind_lead is_call_text
+before_by role Space x xs kept used before inside is rest opened e = led role x xs kept used before (ap is_call_text is) rest e
+before_by role Dropped x xs kept used before inside is rest opened e = led role x xs kept used before (ap is_call_text is) rest e
+before_by role Remark x xs kept used before inside is rest opened e = led role x xs kept used before (ap is_call_text is) rest e
 before_by role Start x xs kept used before inside is rest opened e =
     let p = passing_closed inside kept used e in
     let c = opened kept p.0 p.1.0 in
@@ -166,6 +167,7 @@ before_by role Start x xs kept used before inside is rest opened e =
       opens = is;
       closes = c.closes;
       level = c.level;
+      leads = All-nil (λ y. is_call_text (role y) ≡ true);
       text = c.text;
       keeps = c.keeps;
       takes = omega (arith, p.1.1, c.takes);

@@ -49,3 +49,6 @@ pub mod LeftScan
 pub mod SourceScans
 pub mod ClosedScans
 pub mod CallReadings
+pub mod TextRanges
+pub mod SourceRows
+pub mod UnlinedTokens

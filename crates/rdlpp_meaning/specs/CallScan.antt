@@ -160,6 +160,7 @@ pub record IsClosed {A : Type 0} (role : A → Role) (xs kept : List A) (used : 
   pub opens : role opener ≡ Start
   pub closes : role closer ≡ End
   pub level : level_of_things role 0 inner ≡ 0
+  pub leads : All (λ x. is_call_text (role x) ≡ true) lead
   pub text : All (λ x. is_call_text (role x) ≡ true) inner
   pub keeps : kept ≡ filter (λ x. is_kept (role x)) inner
   pub takes : used ≡ length lead + (length inner + 2)

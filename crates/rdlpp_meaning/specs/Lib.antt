@@ -27,3 +27,4 @@ pub mod WorkLaws
 pub mod LimitLaws
 pub mod CallScan
 pub mod CallReading
+pub mod TextTokens

@@ -30,3 +30,4 @@ pub mod CommentLaws
 pub mod ResumedTokens
 pub mod FirstTokens
 pub mod ClosedKinds
+pub mod OrdinaryTokens

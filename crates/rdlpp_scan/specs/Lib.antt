@@ -11,4 +11,4 @@ pub mod Ordinary
 pub mod Stage
 pub mod Defines
 pub mod Comments
-pub mod Openings
+pub mod TokenKinds
