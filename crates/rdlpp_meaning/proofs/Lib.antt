@@ -52,3 +52,5 @@ pub mod CallReadings
 pub mod TextRanges
 pub mod SourceRows
 pub mod UnlinedTokens
+pub mod KeptTexts
+pub mod ReadCalls
