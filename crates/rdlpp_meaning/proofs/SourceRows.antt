@@ -86,7 +86,7 @@ unlined_is : (m : Mode) (bs : List ℕ) (u : SourceToken) → IsTokenOf (token_o
 unfolding first_spelled unlined broken_line
 unlined_is m bs u f =
     let whole : (sort : Sort) (bytes : List ℕ) (line : ℕ) → sort ≡ Ordinary (token_of m bs).kind → bytes ≡ take (token_of m bs).len bs
-        → first_spelled m bs ≡ unlined (record { sort = sort; bytes = bytes; line = line }) = λ sort bytes line e h. rw (e, h) refl in
+    → first_spelled m bs ≡ unlined (record { sort = sort; bytes = bytes; line = line }) = λ sort bytes line e h. rw (e, h) refl in
     whole u.sort u.bytes u.line f.sort f.bytes
 
 -- it has its bytes

@@ -99,6 +99,7 @@ spelled_cut (u ∷ us) vs (t ∷ ts) bs e =
   where
     heads : (x y : SourceToken) (xs ys : List SourceToken) → x ∷ xs ≡ y ∷ ys → x ≡ y
     heads x y xs ys h = cc
+
     tails : (x y : SourceToken) (xs ys : List SourceToken) → x ∷ xs ≡ y ∷ ys → xs ≡ ys
     tails x y xs ys h = cc
 
