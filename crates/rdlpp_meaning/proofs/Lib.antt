@@ -46,3 +46,13 @@ pub mod TornDefines
 pub mod TornSteps
 pub mod TornOpen
 pub mod TornSources
+pub mod Turns
+pub mod LeftScan
+pub mod SourceScans
+pub mod ClosedScans
+pub mod CallReadings
+pub mod TextRanges
+pub mod SourceRows
+pub mod UnlinedTokens
+pub mod KeptTexts
+pub mod ReadCalls

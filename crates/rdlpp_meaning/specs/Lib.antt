@@ -27,3 +27,6 @@ pub mod CursorWork
 pub mod WorkLaws
 pub mod OutputLaws
 pub mod LimitLaws
+pub mod CallScan
+pub mod CallReading
+pub mod TextTokens

@@ -29,3 +29,5 @@ pub mod EndedTokens
 pub mod CommentLaws
 pub mod ResumedTokens
 pub mod FirstTokens
+pub mod ClosedKinds
+pub mod OrdinaryTokens

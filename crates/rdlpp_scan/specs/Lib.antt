@@ -11,3 +11,4 @@ pub mod Ordinary
 pub mod Stage
 pub mod Defines
 pub mod Comments
+pub mod TokenKinds

@@ -1,0 +1,138 @@
+-- A text that is cut at a boundary of its tokens has the tokens before the cut in front of it and the others behind it.
+use Rattle.std.proofs.Common.{◌≡◌, ◌≤◌, ◌<◌, ℕ, zero, suc, ◌+◌, ◌-◌, Bool, true, false, List, [], ◌∷◌, ◌++◌, length, take, drop, refl, sym, ap, ◌∙◌, subst, arith}
+use Rattle.std.proofs.lemmas.List.{length-drop, length-take, take-take, drop-take, drop-drop}
+use Rattle.std.proofs.Math.Seq.{take-add}
+use Rattle.rdlpp_scan.specs.declared.token.Kind.{Kind}
+use Rattle.rdlpp_scan.specs.declared.token.Mode.{Mode}
+use Rattle.rdlpp_scan.specs.declared.token.Mode.TheVariants.{Plain}
+use Rattle.rdlpp_scan.specs.declared.token.Token.{Token}
+use Rattle.rdlpp_scan.specs.TokenKinds.{opens_mode}
+use Rattle.rdlpp_scan.specs.Pieces.{mode_behind, tokens_len}
+use Rattle.rdlpp_scan.specs.SourceTokens.{Ordinary, SourceToken}
+use Rattle.rdlpp_scan.specs.Tokens.{token_of, tokens_from}
+use Rattle.rdlpp_scan.proofs.ClosedKinds.{closed_kind_plain}
+use Rattle.rdlpp_scan.proofs.RangeLaws.{tokens_from-first, tokens_from-front, tokens_from-behind_some}
+use Rattle.rdlpp_scan.proofs.TokenLens.{token_of-part}
+use Rattle.rdlpp_scan.proofs.TokenLists.{tokens_from-step}
+use Rattle.rdlpp_meaning.specs.Expansion.{bytes_of}
+use Rattle.rdlpp_meaning.specs.Substitution.{spelled, body_tokens}
+use Rattle.rdlpp_meaning.specs.TextTokens.{text_tokens}
+
+-- the tokens of a body are those of its text from plain text on
+pub body_text : (bs : List ℕ) → body_tokens bs ≡ text_tokens Plain bs
+unfolding body_tokens text_tokens
+body_text bs = refl
+
+-- the token that stands in front of a text, with its bytes
+unfoldable pub first_spelled : Mode → List ℕ → SourceToken
+first_spelled m bs = record { sort = Ordinary (token_of m bs).kind; bytes = take (token_of m bs).len bs; line = 0 }
+
+-- the tokens of a text that isn't empty: its first token, and those of the rest
+pub text_step : (m : Mode) (bs : List ℕ) → 0 < length bs
+    → text_tokens m bs ≡ first_spelled m bs ∷ text_tokens (token_of m bs).next_mode (drop (token_of m bs).len bs)
+unfolding text_tokens spelled first_spelled
+text_step m bs some = ap (λ (ts : List Token). spelled ts bs) (tokens_from-step m bs some (token_of-part m bs some).not_empty)
+
+-- an empty text has no tokens
+pub text_nil : (m : Mode) → text_tokens m [] ≡ []
+unfolding text_tokens tokens_from spelled
+text_nil m = refl
+
+-- how many bytes the first token has
+pub first_size : (m : Mode) (bs : List ℕ) → 0 < length bs → length (first_spelled m bs).bytes ≡ (token_of m bs).len
+unfolding first_spelled
+first_size m bs some = let n = length-take (token_of m bs).len bs in let part = token_of-part m bs some in omega (arith, part.inside)
+
+-- the bytes of tokens of a text
+spelled_bytes : (ts : List Token) (bs : List ℕ) → bytes_of (spelled ts bs) ≡ take (tokens_len ts) bs
+unfolding spelled tokens_len
+spelled_bytes [] bs = refl
+spelled_bytes (t ∷ ts) bs =
+    ap (λ (x : List ℕ). take t.len bs ++ x) (spelled_bytes ts (drop t.len bs)) ∙ sym (take-add t.len (tokens_len ts) bs)
+
+-- tokens have the same bytes in the front of a text that they fill
+spelled_front : (ts : List Token) (bs : List ℕ) → spelled ts (take (tokens_len ts) bs) ≡ spelled ts bs
+unfolding spelled tokens_len
+spelled_front [] bs = refl
+spelled_front (t ∷ ts) bs =
+    let n = tokens_len ts in
+    let first : take t.len (take (t.len + n) bs) ≡ take t.len bs = take-take t.len (t.len + n) bs (omega arith) in
+    ap (λ (x : List ℕ). record { sort = Ordinary t.kind; bytes = x; line = 0 } ∷ spelled ts (drop t.len (take (t.len + n) bs))) first
+    ∙ ap (λ (x : List ℕ). record { sort = Ordinary t.kind; bytes = take t.len bs; line = 0 } ∷ spelled ts x) (drop-take t.len n bs)
+    ∙ ap (λ (us : List SourceToken). record { sort = Ordinary t.kind; bytes = take t.len bs; line = 0 } ∷ us) (spelled_front ts (drop t.len bs))
+
+-- tokens of a text fit in it
+tokens_fit : (ts us : List Token) (m : Mode) (bs : List ℕ) → tokens_from m 0 bs ≡ ts ++ us → tokens_len ts ≤ length bs
+unfolding tokens_len
+tokens_fit [] us m bs e = omega arith
+tokens_fit (t ∷ ts) us m bs e =
+    let p = tokens_from-first m bs t (ts ++ us) e in
+    let inside : t.len ≤ length bs = subst (λ (v : Token). v.len ≤ length bs) p.1.0 (token_of-part m bs p.0).inside in
+    let rest = tokens_fit ts us t.next_mode (drop t.len bs) p.1.1 in
+    let size = length-drop t.len bs in
+    omega arith
+
+-- how tokens of a text are cut: those before the cut, and the others
+record IsSpelledCut (ts : List Token) (bs : List ℕ) (us vs : List SourceToken) : Type 0 where
+  before : List Token
+  behind : List Token
+  whole : ts ≡ before ++ behind
+  front : spelled before bs ≡ us
+  back : spelled behind (drop (tokens_len before) bs) ≡ vs
+
+-- tokens with their bytes are cut where the tokens are
+spelled_cut : (us vs : List SourceToken) (ts : List Token) (bs : List ℕ) → spelled ts bs ≡ us ++ vs → IsSpelledCut ts bs us vs
+unfolding spelled tokens_len
+spelled_cut [] vs ts bs e = record { before = []; behind = ts; whole = refl; front = refl; back = e }
+spelled_cut (u ∷ us) vs [] bs e = absurd (cc)
+spelled_cut (u ∷ us) vs (t ∷ ts) bs e =
+    let own : SourceToken = record { sort = Ordinary t.kind; bytes = take t.len bs; line = 0 } in
+    let h : spelled ts (drop t.len bs) ≡ us ++ vs = tails own u (spelled ts (drop t.len bs)) (us ++ vs) e in
+    let c = spelled_cut us vs ts (drop t.len bs) h in
+    record {
+      before = t ∷ c.before;
+      behind = c.behind;
+      whole = ap (λ (xs : List Token). t ∷ xs) c.whole;
+      front = ap (λ (xs : List SourceToken). own ∷ xs) c.front ∙ ap (λ (x : SourceToken). x ∷ us) (heads own u (spelled ts (drop t.len bs)) (us ++ vs) e);
+      back = ap (λ (x : List ℕ). spelled c.behind x) (sym (drop-drop (tokens_len c.before) t.len bs)) ∙ c.back;
+    }
+  where
+    heads : (x y : SourceToken) (xs ys : List SourceToken) → x ∷ xs ≡ y ∷ ys → x ≡ y
+    heads x y xs ys h = cc
+
+    tails : (x y : SourceToken) (xs ys : List SourceToken) → x ∷ xs ≡ y ∷ ys → xs ≡ ys
+    tails x y xs ys h = cc
+
+-- how a text is cut at a boundary of its tokens: the bytes before the cut, the tokens that they have, and those of what is
+-- behind it, from some mode on
+pub record IsTextCut (m : Mode) (bs : List ℕ) (us vs : List SourceToken) : Type 0 where
+  pub bytes : bytes_of us ≡ take (length (bytes_of us)) bs
+  pub inside : length (bytes_of us) ≤ length bs
+  pub front : text_tokens m (bytes_of us) ≡ us
+  pub mode : Mode
+  pub back : text_tokens mode (drop (length (bytes_of us)) bs) ≡ vs
+
+-- a text is cut so between any of its tokens
+pub text_cut : (m : Mode) (bs : List ℕ) (us vs : List SourceToken) → text_tokens m bs ≡ us ++ vs → IsTextCut m bs us vs
+unfolding text_tokens
+text_cut m bs us vs e =
+    let c = spelled_cut us vs (tokens_from m 0 bs) bs e in
+    let k = tokens_len c.before in
+    let fits = tokens_fit c.before c.behind m bs c.whole in
+    let own : bytes_of us ≡ take k bs = sym (ap (λ (xs : List SourceToken). bytes_of xs) c.front) ∙ spelled_bytes c.before bs in
+    let size : length (bytes_of us) ≡ k = let n = length-take k bs in let l = ap length own in omega arith in
+    let behind = tokens_from-behind_some c.before c.behind m bs c.whole in
+    record {
+      bytes = own ∙ ap (λ (n : ℕ). take n bs) (sym size);
+      inside = omega (arith, size, fits);
+      front =
+          ap (λ (x : List ℕ). spelled (tokens_from m 0 x) x) own
+          ∙ ap (λ (ts : List Token). spelled ts (take k bs)) (tokens_from-front c.before c.behind m bs c.whole)
+          ∙ spelled_front c.before bs
+          ∙ c.front;
+      mode = mode_behind m c.before;
+      back =
+          ap (λ (n : ℕ). spelled (tokens_from (mode_behind m c.before) 0 (drop n bs)) (drop n bs)) size
+          ∙ ap (λ (ts : List Token). spelled ts (drop k bs)) behind
+          ∙ c.back;
+    }

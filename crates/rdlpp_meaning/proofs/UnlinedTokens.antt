@@ -1,0 +1,104 @@
+-- The lines of tokens that aren't broken count for nothing in a call: not for roles, parts, trimming or bytes.
+use Rattle.std.proofs.Common.{◌≡◌, ℕ, zero, suc, Bool, true, false, cond, List, [], ◌∷◌, ◌++◌, map, filter, length, refl, sym, ap, ◌∙◌, Option, None, Some}
+use Rattle.std.proofs.lemmas.Bool.{cond_both}
+use Rattle.rdlpp_scan.specs.declared.token.Directive.{Directive}
+use Rattle.rdlpp_scan.specs.declared.token.Kind.{Kind}
+use Rattle.rdlpp_scan.specs.declared.token.Kind.TheVariants.{Back}
+use Rattle.rdlpp_scan.specs.SourceTokens.{Sort, Ordinary, Definition, Renumbering, Broken, SourceToken}
+use Rattle.rdlpp_scan.specs.TokenKinds.{is_ordinary}
+use Rattle.rdlpp_meaning.specs.Actuals.{Role, Dropped, Cut, Halt, Text, map_call, Call, level_behind, kind_role, broken_role, token_role, trimmed}
+use Rattle.rdlpp_meaning.specs.CallScan.{Scanned, Refused, Stopped, Closed, Split, split_by, split, all_parts, call_of_scan, source_role, is_kept, is_call_text}
+use Rattle.rdlpp_meaning.specs.Expansion.{bytes_of}
+use Rattle.rdlpp_meaning.specs.Parts.{directive_named, directive_of}
+use Rattle.rdlpp_meaning.specs.TextTokens.{broken_line, unlined}
+use Rattle.rdlpp_meaning.proofs.Commuting.{trimmed-map}
+
+-- a token without its line has its role, by its sort
+role_by : (sort : Sort) (bytes : List ℕ) (line : ℕ)
+    → token_role (record { sort = sort; bytes = bytes; line = broken_line sort line }) ≡ token_role (record { sort = sort; bytes = bytes; line = line })
+unfolding token_role broken_line
+role_by (Ordinary k) bytes line = refl
+role_by Definition bytes line = refl
+role_by Renumbering bytes line = refl
+role_by (Broken b) bytes line = refl
+
+-- a token without its line has its role
+pub unlined_role : (t : SourceToken) → token_role (unlined t) ≡ token_role t
+unfolding unlined
+unlined_role t = role_by t.sort t.bytes t.line
+
+-- tokens without their lines have their bytes
+pub unlined_bytes : (ts : List SourceToken) → bytes_of (map unlined ts) ≡ bytes_of ts
+unfolding unlined
+unlined_bytes [] = refl
+unlined_bytes (t ∷ ts) = ap (λ (x : List ℕ). t.bytes ++ x) (unlined_bytes ts)
+
+-- a thing in front of parts, of things and of what they become
+split_by-map : {A B : Type 0} (f : A → B) (r : Role) (k : ℕ) (x : A) (s : Split A)
+    → split_by r k (f x) (record { first = map f s.first; further = map (map f) s.further })
+    ≡ record { first = map f (split_by r k x s).first; further = map (map f) (split_by r k x s).further }
+unfolding split_by
+split_by-map f Cut zero x s = refl
+split_by-map f Cut (suc k) x s = refl
+split_by-map f r k x s = refl
+
+-- the parts commute with what keeps roles
+pub split-map : {A B : Type 0} (role : A → Role) (role' : B → Role) (f : A → B) → ((x : A) → role' (f x) ≡ role x) → (k : ℕ) (xs : List A)
+    → split role' k (map f xs) ≡ record { first = map f (split role k xs).first; further = map (map f) (split role k xs).further }
+unfolding split
+split-map role role' f keeps k [] = refl
+split-map {B = B} role role' f keeps k (x ∷ xs) =
+    ap (λ (r : Role). split_by r k (f x) (split role' (level_behind r k) (map f xs))) (keeps x)
+    ∙ ap (λ (s : Split B). split_by (role x) k (f x) s) (split-map role role' f keeps (level_behind (role x) k) xs)
+    ∙ split_by-map f (role x) k x (split role (level_behind (role x) k) xs)
+
+-- a call of a scan commutes with what keeps roles
+pub closed_call-map : {A B : Type 0} (role : A → Role) (role' : B → Role) (f : A → B) → ((x : A) → role' (f x) ≡ role x) → (k : ℕ) (kept : List A) (used : ℕ)
+    → call_of_scan role' k (Closed (map f kept) used) ≡ map_call f (call_of_scan role k (Closed kept used))
+unfolding call_of_scan map_call
+closed_call-map role role' f keeps k kept used = rw (split-map role role' f keeps k kept) refl
+
+-- the parts of tokens without their lines
+pub unlined_split : (k : ℕ) (ts : List SourceToken)
+    → all_parts (split token_role k (map unlined ts)) ≡ map (map unlined) (all_parts (split token_role k ts))
+unfolding all_parts
+unlined_split k ts = ap all_parts (split-map token_role token_role unlined unlined_role k ts)
+
+-- trimmed tokens without their lines
+pub unlined_trimmed : (ts : List SourceToken) → trimmed token_role (map unlined ts) ≡ map unlined (trimmed token_role ts)
+unlined_trimmed ts = trimmed-map token_role token_role unlined unlined_role ts
+
+-- what is kept commutes with what keeps roles
+pub kept-map : {A B : Type 0} (role : A → Role) (role' : B → Role) (f : A → B) → ((x : A) → role' (f x) ≡ role x) → (xs : List A)
+    → filter (λ y. is_kept (role' y)) (map f xs) ≡ map f (filter (λ x. is_kept (role x)) xs)
+kept-map role role' f keeps [] = refl
+kept-map {A = A} {B = B} role role' f keeps (x ∷ xs) =
+    let kept = filter (λ y. is_kept (role' y)) (map f xs) in
+    let same : kept ≡ map f (filter (λ y. is_kept (role y)) xs) = kept-map role role' f keeps xs in
+    ap (λ (r : Role). cond (is_kept r) (f x ∷ kept) kept) (keeps x)
+    ∙ ap (λ (ys : List B). cond (is_kept (role x)) (f x ∷ ys) ys) same
+    ∙ pushed (is_kept (role x)) x (filter (λ y. is_kept (role y)) xs)
+  where
+    pushed : (b : Bool) (y : A) (ys : List A) → cond b (f y ∷ map f ys) (map f ys) ≡ map f (cond b (y ∷ ys) ys)
+    pushed true y ys = refl
+    pushed false y ys = refl
+
+-- a backquote with a name is kept, whether it is a directive or not
+named_kept : (d : Option Directive) (r : Role) → is_kept r ≡ true → (let q : Role = elim d [ None ↦ r | Some x ↦ Halt ] in is_kept q) ≡ is_kept r
+unfolding is_kept
+named_kept None r h = refl
+named_kept (Some d) r h = sym h
+
+-- which tokens a source keeps doesn't hang on directives, by the sort
+source_kept_by : (sort : Sort) (bytes : List ℕ) (line : ℕ)
+    → is_kept (source_role (record { sort = sort; bytes = bytes; line = line })) ≡ is_kept (token_role (record { sort = sort; bytes = bytes; line = line }))
+unfolding source_role directive_of token_role kind_role is_kept
+source_kept_by (Ordinary Back) bytes line = named_kept (directive_named bytes) Text refl
+source_kept_by (Ordinary k) bytes line = refl
+source_kept_by Definition bytes line = refl
+source_kept_by Renumbering bytes line = refl
+source_kept_by (Broken b) bytes line = refl
+
+-- which tokens a source keeps doesn't hang on directives
+pub source_kept : (t : SourceToken) → is_kept (source_role t) ≡ is_kept (token_role t)
+source_kept t = source_kept_by t.sort t.bytes t.line
