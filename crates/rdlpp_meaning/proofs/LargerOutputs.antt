@@ -19,7 +19,7 @@ use Rattle.rdlpp_meaning.specs.Meaning.{Passage, leaves, outcome, behind_bytes, 
 use Rattle.rdlpp_meaning.specs.Resumed.{Place, Live, Skipped, resume}
 use Rattle.rdlpp_meaning.specs.Output.{opening_fault, start_state, output}
 use Rattle.rdlpp_meaning.specs.Profile.{define_fault, with_fault, rules_of}
-use Rattle.rdlpp_meaning.specs.OutputLimit.{Searches, limited, unlimited_output, limited_output}
+use Rattle.rdlpp_meaning.specs.OutputLimit.{Searches, limited, built_rules, unlimited_output, limited_output}
 use Rattle.rdlpp_meaning.specs.LimitLaws.{is_limit, NamesNoLimit, IsLarger, IsByLines}
 use Rattle.rdlpp_meaning.specs.Items.{Written}
 use Rattle.rdlpp_meaning.specs.Actuals.{token_role}
@@ -458,7 +458,7 @@ limited-agree over quota more o p l h same n =
 pub larger_limits : (small large : Limits) (searches : Searches) (origins : Bool) (macros : List Macro) (path : List ℕ)
     → IsLarger small large → NamesNoLimit (limited_output small searches origins macros path).fault
     → limited_output large searches origins macros path ≡ limited_output small searches origins macros path
-unfolding limited_output unlimited_output opening_fault is_limit
+unfolding limited_output unlimited_output built_rules opening_fault is_limit
 larger_limits small large searches origins macros path l n =
     limited-agree (opening_fault OutputBytes path) small.output_bytes large.output_bytes
     (unlimited_output small searches origins macros path) (unlimited_output large searches origins macros path) refl l.output_bytes

@@ -20,6 +20,7 @@ pub mod LiteralSubstitution
 pub mod Cover
 pub mod OwnWords
 pub mod Trees
+pub mod SlotScopes
 pub mod SlotSteps
 pub mod Splitting
 pub mod BodySteps
@@ -35,6 +36,7 @@ pub mod LargerRuns
 pub mod LargerFiles
 pub mod LargerOutputs
 pub mod OutputLimits
+pub mod MainOutputs
 pub mod OddRows
 pub mod BorderRows
 pub mod DefaultRows

@@ -1,5 +1,5 @@
 -- The law of the machine with indices: a step of it is a step of the machine of cursors.
-use Rattle.std.proofs.Common.{◌≡◌, ℕ, suc, ◌-◌, ◌<◌, ◌≤◌, Bool, true, false, List, [], ◌∷◌, length, drop, refl, sym, ap, subst, ◌∙◌, arith, eq-eqb, Option, None, Some}
+use Rattle.std.proofs.Common.{◌≡◌, ℕ, suc, ◌-◌, ◌<◌, ◌≤◌, Bool, true, false, List, [], ◌∷◌, length, drop, refl, sym, ap, subst, ◌∙◌, arith, Option, None, Some}
 use Rattle.std.specs.Prelude.{if◌then◌else◌, ◌==◌, nat_lt, unwrap_or}
 use Rattle.std.specs.Option.{option_map}
 use Rattle.std.proofs.lemmas.Bool.{eqb-true, ltb-true, ltb-false}
@@ -13,69 +13,7 @@ use Rattle.rdlpp_meaning.specs.Expansion.{name_of}
 use Rattle.rdlpp_meaning.specs.Cursors.{Binding, first_cursor, stood_for, Closure, closure_of, closure_at, left, TokenUsage, Refuses, Opens, not_kept, token_usage_of, opened, with_text, usage_move, token_move, standing_move, move, left_behind}
 use Rattle.rdlpp_meaning.specs.Slots.{CallOf, SlotKind, Body, Actual, Default, Slot, scope_of, own_writer, writer_at, own_frame, frame_at, cursors_of, slot_cursor, body_slot, first_slot, standing_slot, own_standing, standing_at, SlotWrites, SlotStops, slot_opened, with_left, slot_usage, slot_token, slot_standing, slot_move, cursor_move, AreHomed, LeavesHomed}
 use Rattle.rdlpp_meaning.proofs.CursorSteps.{cursor_step}
-
--- a test of two numbers that aren't equal fails
-unequal : (a b : ℕ) (x : Bool) → (a == b) ≡ x → (a ≡ b → ⊥) → x ≡ false
-unequal a b true e h = absurd (h (eqb-true a b e))
-unequal a b false e h = refl
-
--- a scope further out isn't the next one
-not_next : (k n : ℕ) → k ≤ n → (k == suc n) ≡ false
-not_next k n h = unequal k (suc n) (k == suc n) refl (λ e. omega arith)
-
--- the next one is
-next_is : (n : ℕ) → (n == n) ≡ true
-next_is n = eq-eqb n n refl
-
--- one more open text changes nothing of the scopes around it: the macros
-writer_around : (slot : Slot) (below : List Slot) (k : ℕ) → k ≤ length below → writer_at (slot ∷ below) k ≡ writer_at below k
-unfolding writer_at
-writer_around slot below k h = rw (not_next k (length below) h) refl
-
--- nor of the bindings
-frame_around : (slot : Slot) (below : List Slot) (k : ℕ) → k ≤ length below → frame_at (slot ∷ below) k ≡ frame_at below k
-unfolding frame_at
-frame_around slot below k h = rw (not_next k (length below) h) refl
-
--- the macros of a body's own scope
-writer_own : (slot : Slot) (below : List Slot) → writer_at (slot ∷ below) (suc (length below)) ≡ own_writer slot.kind (writer_at below slot.home)
-unfolding writer_at
-writer_own slot below = rw (next_is (suc (length below))) refl
-
--- the bindings of a body's own scope
-frame_own : (slot : Slot) (below : List Slot)
-    → frame_at (slot ∷ below) (suc (length below)) ≡ own_frame slot.kind (writer_at below slot.home) (frame_at below slot.home)
-unfolding frame_at
-frame_own slot below = rw (next_is (suc (length below))) refl
-
--- what is no body
-IsNoBody : SlotKind → Type 0
-IsNoBody (Body c) = ⊥
-IsNoBody Actual = Unit
-IsNoBody Default = Unit
-
--- the macros of an open text that is no body are those of its home: of an actual, since it is no scope, and of a default
-text_writer : (text : List SourceToken) (home : ℕ) (kind : SlotKind) (below : List Slot) → IsNoBody kind → home ≤ length below
-    → writer_at (record { text = text; home = home; kind = kind } ∷ below) (scope_of (record { text = text; home = home; kind = kind }) below)
-    ≡ writer_at below home
-unfolding scope_of own_writer IsNoBody
-text_writer text home (Body c) below n h = absurd n
-text_writer text home Actual below n h = writer_around (record { text = text; home = home; kind = Actual }) below home h
-text_writer text home Default below n h = writer_own (record { text = text; home = home; kind = Default }) below
-
--- the bindings of an open text that is no body: of an actual those of its home, and of a default none
-unfoldable text_frame : SlotKind → List Binding → List Binding
-text_frame Default frame = []
-text_frame kind frame = frame
-
--- they are
-text_frame_is : (text : List SourceToken) (home : ℕ) (kind : SlotKind) (below : List Slot) → IsNoBody kind → home ≤ length below
-    → frame_at (record { text = text; home = home; kind = kind } ∷ below) (scope_of (record { text = text; home = home; kind = kind }) below)
-    ≡ text_frame kind (frame_at below home)
-unfolding scope_of own_frame text_frame IsNoBody
-text_frame_is text home (Body c) below n h = absurd n
-text_frame_is text home Actual below n h = frame_around (record { text = text; home = home; kind = Actual }) below home h
-text_frame_is text home Default below n h = frame_own (record { text = text; home = home; kind = Default }) below
+use Rattle.rdlpp_meaning.proofs.SlotScopes.{writer_around, frame_around, writer_own, frame_own, IsNoBody, text_writer, text_frame, text_frame_is}
 
 -- the text that a token stands for, with what is bound around it, as an open text in front of others says it
 slot_closure : List Slot → Slot → Closure

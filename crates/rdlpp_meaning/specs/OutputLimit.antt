@@ -5,7 +5,7 @@ use Rattle.rdlpp_table.specs.declared.limits.Limits.{Limits}
 use Rattle.rdlpp_table.specs.Table.{Macro}
 use Rattle.rdlpp_meaning.specs.declared.fault.FaultKind.TheVariants.{OutputBytes}
 use Rattle.rdlpp_meaning.specs.Outcome.{Told, Outcome}
-use Rattle.rdlpp_meaning.specs.State.{Lookup}
+use Rattle.rdlpp_meaning.specs.State.{Lookup, Rules}
 use Rattle.rdlpp_meaning.specs.Output.{opening_fault, output}
 use Rattle.rdlpp_meaning.specs.Profile.{rules_of}
 
@@ -20,11 +20,14 @@ unfoldable pub limited : Told → ℕ → Outcome → Outcome
 limited over quota o =
     if nat_le (length o.bytes) quota then o else record { bytes = take quota o.bytes; fault = Some over }
 
+-- the rules of the whole language, from which nothing is left to build (source: this project's profile)
+unfoldable pub built_rules : Limits → Searches → Bool → Rules
+built_rules limits searches origins = rules_of limits (λ text. false) (λ m. false) searches.included origins
+
 -- the output of a main path from macros, without the limit on its bytes (source: this project's profile)
 unfoldable pub unlimited_output : Limits → Searches → Bool → List Macro → List ℕ → Outcome
 unlimited_output limits searches origins macros path =
-    output (rules_of limits (λ text. false) (λ m. false) searches.included origins) macros limits.includes limits.conditions path
-    (searches.main path)
+    output (built_rules limits searches origins) macros limits.includes limits.conditions path (searches.main path)
 
 -- the output of a main path from macros, with and without origin lines (source: this project's profile)
 unfoldable pub limited_output : Limits → Searches → Bool → List Macro → List ℕ → Outcome

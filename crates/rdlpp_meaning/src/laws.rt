@@ -6,7 +6,7 @@ ghost use Rattle.rdlpp_meaning.specs.FurtherLaws.{BadUndef, BodyStep, BrokenPart
 ghost use Rattle.rdlpp_meaning.specs.IncludeLaws.{AllAtStart, BadIncludeName, DeepInclude, IncludeOpens, IncludeReturns, LongInclude, MissingInclude, NamelessInclude, StepOfAll};
 ghost use Rattle.rdlpp_meaning.specs.Laws.{BareRemains, BrokenRemains, CopiedRemains, DefinedRemains, FoundOutput, IsGrouped, MeaningRemains, MissingOutput, NothingRemains, OverlongOutput, PlainOutput, RefusedRemains, UnbuiltRemains, UndefinedRemains, UsageRemains};
 ghost use Rattle.rdlpp_meaning.specs.LimitLaws.{BuiltByLines, LargerLimits, LargerStaged, StageByLines};
-ghost use Rattle.rdlpp_meaning.specs.OutputLaws.{CutInside, CutOver, LimitedBehind, StaysWithin};
+ghost use Rattle.rdlpp_meaning.specs.OutputLaws.{CutInside, CutOver, FoundMain, LimitedBehind, MissingMain, OverlongMain, StaysWithin};
 ghost use Rattle.rdlpp_meaning.specs.SubjectLaws.{CopiedOutput, IncludedBetween, PlainTextOutput, SkippedLineEnds, TreeKeeps};
 ghost use Rattle.rdlpp_meaning.specs.WorkLaws.{FirstCounted, SlotWorkBound, SlotWorkCounted, SlotWorkFalls, SlotsWithin, WorkCounted, WorkFalls};
 
@@ -161,6 +161,14 @@ pub fn work_left()
     ensures slots_counted { SlotWorkCounted }
     ensures slots_within { SlotsWithin }
     ensures bound { SlotWorkBound }
+{}
+
+/// The output of a main path is the origin line, where asked for, and what remains at the start of the text that is found,
+/// or the fault of its opening, which no limit on the output cuts (this project's profile).
+pub fn main_output()
+    ensures found { FoundMain }
+    ensures missing { MissingMain }
+    ensures overlong { OverlongMain }
 {}
 
 /// An outcome of at most so many bytes: one of no more stays, also where a fault ends it, and one of more is cut and then
