@@ -6,6 +6,7 @@ pub mod Define
 pub mod Bodies
 pub mod Store
 pub mod Entries
+pub mod Index
 pub mod New
 pub mod Layout
 pub mod BodyBytes

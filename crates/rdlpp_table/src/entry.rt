@@ -1,7 +1,6 @@
 // Where the parts of one definition lie in a table's bytes.
-ghost use Rattle.std.specs.Prelude.{◌≡◌, ◌≤◌, ◌<◌, length, bytes_eq, position};
+ghost use Rattle.std.specs.Prelude.{◌≡◌, ◌≤◌, length};
 ghost use Rattle.rdlpp_table.specs.Store.{body_of, entry_end, list_of, name_of};
-ghost use Rattle.rdlpp_table.specs.Entries.{AreWithin};
 
 // A definition's name, its formals with a comma after each, and its body lie one after another.
 #[derive(Clone, Copy, Drop)]
@@ -41,14 +40,4 @@ pub(crate) fn body_in<'a>(bytes: &'a [u8], entry: &Entry) -> &'a [u8]
 {
     let start = entry.start + entry.name_len + entry.list_len;
     &bytes[start..start + entry.body_len]
-}
-
-// The place of the definition of a name.
-pub(crate) fn place_in(bytes: &[u8], entries: &[Entry], name: &[u8]) -> Option<usize>
-    requires { AreWithin (length bytes.now) entries.now }
-    ensures { result ≡ position (λ e. bytes_eq (name_of bytes.now e) name.now) entries.now }
-{
-    entries
-        .iter()
-        .position(|entry| name_in(bytes, entry) == name)
 }

@@ -8,10 +8,12 @@ mod entry;
 mod fault;
 mod formals;
 mod header;
+mod index;
 mod limits;
 mod logical;
 mod name;
 mod removal;
+mod sought;
 mod storing;
 mod table;
 #[cfg(test)]
@@ -19,4 +21,5 @@ mod tests;
 
 pub use fault::{DefineFault, DefineKind, NoMemory};
 pub use limits::{LimitFault, Limits};
+pub use sought::Steps;
 pub use table::{MacroId, Table};
