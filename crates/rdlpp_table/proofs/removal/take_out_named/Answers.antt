@@ -1,7 +1,4 @@
-use Rattle.std.proofs.Common.{◌≡◌, ◌∙◌, ℕ, Some, None, ap, arith, refl, sym}
-use Rattle.rdlpp_table.specs.Index.{IsPlace, names_of}
-use Rattle.rdlpp_table.specs.Store.{macros_in}
-use Rattle.rdlpp_table.specs.View.{place_named}
+use Rattle.std.proofs.Common.{◌∙◌, Some, None, ap, arith, sym}
 use Rattle.rdlpp_table.proofs.Laid.{count_entries, is_named, stored_slices_within}
 use Rattle.rdlpp_table.proofs.Held.{stored_without, stored_nowhere}
 use Rattle.rdlpp_table.proofs.Keyed.{entry_inside, gapped, left_nowhere, left_without, placed}
