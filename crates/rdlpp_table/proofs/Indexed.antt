@@ -103,25 +103,25 @@ left_index names order at taken x h e =
     record {
       long = omega (arith, length-remove order at h, length-remove names taken t, x.long);
       inside = λ j l.
-        let f = stood order at j h (omega arith) in
-        let c = closes names taken (get_or order f.0 0) t (x.inside f.0 f.1.inside) (stays names order at f.0 taken x h f.1.inside f.1.other e) in
-        omega (arith, closed_at order at taken j f.0 (omega arith) f.1, c.inside);
+          let f = stood order at j h (omega arith) in
+          let c = closes names taken (get_or order f.0 0) t (x.inside f.0 f.1.inside) (stays names order at f.0 taken x h f.1.inside f.1.other e) in
+          omega (arith, closed_at order at taken j f.0 (omega arith) f.1, c.inside);
       whole = λ i l.
-        let o = opened taken i in
-        let w = x.whole o.0 (omega (arith, o.1.near, length-remove names taken t)) in
-        let apart : w.0 ≢ at = λ s. o.1.other (sym w.1.1 ∙ (ap (λ (n : ℕ). get_or order n 0) s ∙ sym e)) in
-        let r = reached order at w.0 h w.1.0 apart in
-        (r.0, (omega (arith, r.1.0), get_or-map (closed taken) (remove order at) r.0 0 0 r.1.0 ∙ (ap (closed taken) (r.1.1 ∙ w.1.1) ∙ o.1.back)));
+          let o = opened taken i in
+          let w = x.whole o.0 (omega (arith, o.1.near, length-remove names taken t)) in
+          let apart : w.0 ≢ at = λ s. o.1.other (sym w.1.1 ∙ (ap (λ (n : ℕ). get_or order n 0) s ∙ sym e)) in
+          let r = reached order at w.0 h w.1.0 apart in
+          (r.0, (omega (arith, r.1.0), get_or-map (closed taken) (remove order at) r.0 0 0 r.1.0 ∙ (ap (closed taken) (r.1.1 ∙ w.1.1) ∙ o.1.back)));
       sorted = λ j k g l.
-        let f = stood order at j h (omega arith) in
-        let b = stood order at k h (omega arith) in
-        let c = closes names taken (get_or order f.0 0) t (x.inside f.0 f.1.inside) (stays names order at f.0 taken x h f.1.inside f.1.other e) in
-        let d = closes names taken (get_or order b.0 0) t (x.inside b.0 b.1.inside) (stays names order at b.0 taken x h b.1.inside b.1.other e) in
-        let one : key_at (remove names taken) (map (closed taken) (remove order at)) j ≡ key_at names order f.0 = ap (name_at (remove names taken)) (closed_at order at taken j f.0 (omega arith) f.1) ∙ c.same in
-        let two : key_at (remove names taken) (map (closed taken) (remove order at)) k ≡ key_at names order b.0 = ap (name_at (remove names taken)) (closed_at order at taken k b.0 (omega arith) b.1) ∙ d.same in
-        ap (λ (n : List ℕ). name_order n (key_at (remove names taken) (map (closed taken) (remove order at)) k)) one
-        ∙ (ap (λ (n : List ℕ). name_order (key_at names order f.0) n) two
-        ∙ x.sorted f.0 b.0 (from_sorted at j k f.0 b.0 g f.1.shift b.1.shift) b.1.inside);
+          let f = stood order at j h (omega arith) in
+          let b = stood order at k h (omega arith) in
+          let c = closes names taken (get_or order f.0 0) t (x.inside f.0 f.1.inside) (stays names order at f.0 taken x h f.1.inside f.1.other e) in
+          let d = closes names taken (get_or order b.0 0) t (x.inside b.0 b.1.inside) (stays names order at b.0 taken x h b.1.inside b.1.other e) in
+          let one : key_at (remove names taken) (map (closed taken) (remove order at)) j ≡ key_at names order f.0 = ap (name_at (remove names taken)) (closed_at order at taken j f.0 (omega arith) f.1) ∙ c.same in
+          let two : key_at (remove names taken) (map (closed taken) (remove order at)) k ≡ key_at names order b.0 = ap (name_at (remove names taken)) (closed_at order at taken k b.0 (omega arith) b.1) ∙ d.same in
+          ap (λ (n : List ℕ). name_order n (key_at (remove names taken) (map (closed taken) (remove order at)) k)) one
+          ∙ (ap (λ (n : List ℕ). name_order (key_at names order f.0) n) two
+          ∙ x.sorted f.0 b.0 (from_sorted at j k f.0 b.0 g f.1.shift b.1.shift) b.1.inside);
     }
 
 pub names_left : (ms : List Macro) (place : ℕ) → names_of (remove ms place) ≡ remove (names_of ms) place

@@ -74,18 +74,18 @@ indexed_place ms order name at x p =
     (omega (arith, x.inside at p.inside, count_names ms))
     (sym (name_of_macro ms (get_or order at 0)) ∙ p.same)
     (λ k h e.
-      let w = x.whole k (omega (arith, count_names ms)) in
-      let key : key_at (names_of ms) order w.0 ≡ key_at (names_of ms) order at = ap (name_at (names_of ms)) w.1.1 ∙ (name_of_macro ms k ∙ (e ∙ sym p.same)) in
-      sym w.1.1 ∙ ap (λ (j : ℕ). get_or order j 0) (one_place (names_of ms) order w.0 at x w.1.0 p.inside key))
+    let w = x.whole k (omega (arith, count_names ms)) in
+    let key : key_at (names_of ms) order w.0 ≡ key_at (names_of ms) order at = ap (name_at (names_of ms)) w.1.1 ∙ (name_of_macro ms k ∙ (e ∙ sym p.same)) in
+    sym w.1.1 ∙ ap (λ (j : ℕ). get_or order j 0) (one_place (names_of ms) order w.0 at x w.1.0 p.inside key))
 
 pub indexed_gap : (ms : List Macro) (order name : List ℕ) (gap : ℕ) → IsIndex (names_of ms) order → IsGap (names_of ms) order name gap → place_named ms name ≡ None
 indexed_gap ms order name gap x g =
     position_none (λ m. bytes_eq m.name name) ms no_macro
     (λ k h.
-      let w = x.whole k (omega (arith, count_names ms)) in
-      let key : key_at (names_of ms) order w.0 ≡ (macro_at ms k).name = ap (name_at (names_of ms)) w.1.1 ∙ name_of_macro ms k in
-      ap (λ (n : List ℕ). bytes_eq n name) (sym key)
-      ∙ elim (cases_lt w.0 gap) [
-        | inl b ↦ differ _ name Less (g.below w.0 b) refl
-        | inr b ↦ differ _ name Greater (g.above w.0 b w.1.0) refl
-      ])
+    let w = x.whole k (omega (arith, count_names ms)) in
+    let key : key_at (names_of ms) order w.0 ≡ (macro_at ms k).name = ap (name_at (names_of ms)) w.1.1 ∙ name_of_macro ms k in
+    ap (λ (n : List ℕ). bytes_eq n name) (sym key)
+    ∙ elim (cases_lt w.0 gap) [
+      | inl b ↦ differ _ name Less (g.below w.0 b) refl
+      | inr b ↦ differ _ name Greater (g.above w.0 b w.1.0) refl
+    ])

@@ -3,7 +3,7 @@ use Rattle.std.proofs.Common.{◌≡◌, ℕ, zero, suc, ◌+◌, ◌-◌, ◌/�
 use Rattle.std.specs.declared.cmp.Ordering.TheVariants.{Less, Equal, Greater}
 use Rattle.std.proofs.Math.Nat.{pow-suc}
 use Rattle.std.proofs.lemmas.Bool.{cases_lt}
-use Rattle.rdlpp_table.specs.Index.{IsCounted, IsGap, IsIndex, IsPlace, key_at, name_order}
+use Rattle.rdlpp_table.specs.Index.{IsCounted, IsGap, IsIndex, IsMiddle, IsPlace, key_at, name_order}
 use Rattle.rdlpp_table.proofs.Orders.{less_more, same_name, turned, turned_back}
 
 -- where a search stands that began at so many steps: the name isn't before `low`, nor from `high` on, and the steps that are left halve what is between them
@@ -44,12 +44,12 @@ start_seeking names order name first high e h =
       counted = record { more = omega arith; few = omega arith };
     }
 
-pub seek_up : (names : List (List ℕ)) (order name : List ℕ) (low high first now middle next : ℕ) → IsIndex names order → IsSeeking names order name low high first now → low < high → middle ≡ low + (high - low) / 2 → name_order (key_at names order middle) name ≡ Less → next ≡ now + 1 → IsSeeking names order name (middle + 1) high first next
+pub seek_up : (names : List (List ℕ)) (order name : List ℕ) (low high first now middle next : ℕ) → IsIndex names order → IsSeeking names order name low high first now → low < high → IsMiddle low high middle → name_order (key_at names order middle) name ≡ Less → next ≡ now + 1 → IsSeeking names order name (middle + 1) high first next
 seek_up names order name low high first now middle next x s h m less e =
-    let inside : middle < high = omega arith in
-    let r = stepped first now next (high - low) (high - (middle + 1)) s.counted (omega arith) s.budget (omega arith) e in
+    let inside : middle < high = m.to in
+    let r = stepped first now next (high - low) (high - (middle + 1)) s.counted (omega arith) s.budget (omega (arith, m.behind)) e in
     record {
-      ordered = omega arith;
+      ordered = omega (arith, m.to);
       fits = s.fits;
       below = λ k g. elim (cases_lt k middle) [
         | inl b ↦ less_more _ (key_at names order middle) name (x.sorted k middle b (omega (arith, s.fits))) less
@@ -60,12 +60,12 @@ seek_up names order name low high first now middle next x s h m less e =
       counted = r.1;
     }
 
-pub seek_down : (names : List (List ℕ)) (order name : List ℕ) (low high first now middle next : ℕ) → IsIndex names order → IsSeeking names order name low high first now → low < high → middle ≡ low + (high - low) / 2 → name_order (key_at names order middle) name ≡ Greater → next ≡ now + 1 → IsSeeking names order name low middle first next
+pub seek_down : (names : List (List ℕ)) (order name : List ℕ) (low high first now middle next : ℕ) → IsIndex names order → IsSeeking names order name low high first now → low < high → IsMiddle low high middle → name_order (key_at names order middle) name ≡ Greater → next ≡ now + 1 → IsSeeking names order name low middle first next
 seek_down names order name low high first now middle next x s h m greater e =
-    let inside : middle < high = omega arith in
-    let r = stepped first now next (high - low) (middle - low) s.counted (omega arith) s.budget (omega arith) e in
+    let inside : middle < high = m.to in
+    let r = stepped first now next (high - low) (middle - low) s.counted (omega arith) s.budget (omega (arith, m.before)) e in
     record {
-      ordered = omega arith;
+      ordered = m.from;
       fits = omega (arith, s.fits);
       below = s.below;
       above = λ k g l. elim (cases_lt middle k) [
@@ -80,9 +80,9 @@ pub seek_counted : (names : List (List ℕ)) (order name : List ℕ) (low high f
 seek_counted names order name low high first now next s h e =
     (stepped first now next (high - low) 0 s.counted (omega arith) s.budget (omega arith) e).1
 
-pub seek_found : (names : List (List ℕ)) (order name : List ℕ) (low high first now middle : ℕ) → IsSeeking names order name low high first now → low < high → middle ≡ low + (high - low) / 2 → name_order (key_at names order middle) name ≡ Equal → IsPlace names order name middle
+pub seek_found : (names : List (List ℕ)) (order name : List ℕ) (low high first now middle : ℕ) → IsSeeking names order name low high first now → low < high → IsMiddle low high middle → name_order (key_at names order middle) name ≡ Equal → IsPlace names order name middle
 seek_found names order name low high first now middle s h m e =
-    record { inside = omega (arith, s.fits); same = same_name _ name e }
+    record { inside = omega (arith, s.fits, m.to); same = same_name _ name e }
 
 pub seek_ended : (names : List (List ℕ)) (order name : List ℕ) (low high first now : ℕ) → IsSeeking names order name low high first now → high ≤ low → IsGap names order name low
 seek_ended names order name low high first now s h =

@@ -1,6 +1,6 @@
 -- The index of a table: the places of its macros, sorted by name.
 -- A definition that names no source is this project's own.
-use Rattle.std.specs.Prelude.{◌≡◌, ℕ, ◌+◌, ◌-◌, ◌<◌, ◌≤◌, List, [], length, map, slice_index, slice_index_or, nat_lt, if◌then◌else◌}
+use Rattle.std.specs.Prelude.{◌≡◌, ℕ, ◌+◌, ◌-◌, ◌*◌, ◌<◌, ◌≤◌, List, [], length, map, slice_index, slice_index_or, nat_lt, if◌then◌else◌}
 use Rattle.std.specs.declared.cmp.Ordering.{Ordering}
 use Rattle.std.specs.declared.cmp.Ordering.TheVariants.{Less, Greater}
 use Rattle.std.specs.Cmp.Lexicographic.{slice_cmp}
@@ -44,6 +44,13 @@ pub record IsGap (names : List (List ℕ)) (order name : List ℕ) (gap : ℕ) :
 -- where a place lies once another one was taken out
 unfoldable pub closed : ℕ → ℕ → ℕ
 closed taken place = if nat_lt taken place then place - 1 else place
+
+-- a place between two others, with at most half of what is between them on either side
+pub record IsMiddle (low high middle : ℕ) : Type 0 where
+  pub from : low ≤ middle
+  pub to : middle < high
+  pub before : 2 * (middle - low) ≤ high - low
+  pub behind : 2 * (high - (middle + 1)) ≤ high - low
 
 -- how many comparisons a search adds
 pub record IsCounted (old new : ℕ) : Type 0 where

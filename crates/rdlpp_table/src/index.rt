@@ -1,13 +1,21 @@
 // The index of a table: the places of its entries, sorted by name.
 ghost use Rattle.std.specs.Prelude.{◌≡◌, ◌+◌, ◌<◌, ◌≤◌, ◌^◌, MatchResult, None, insert, length, map, remove, slice_index, vec_capacity, vec_len};
 ghost use Rattle.rdlpp_table.specs.Entries.{AreWithin};
-ghost use Rattle.rdlpp_table.specs.Index.{closed, names_of, IsCounted, IsGap, IsIndex, IsPlace};
+ghost use Rattle.rdlpp_table.specs.Index.{closed, names_of, IsCounted, IsGap, IsIndex, IsMiddle, IsPlace};
 ghost use Rattle.rdlpp_table.specs.Store.{macros_in};
 ghost use Rattle.rdlpp_table.specs.View.{place_named};
 
 use crate::entry::{Entry, name_in};
 use crate::sought::{Sought, Steps};
 use std::cmp::Ordering;
+
+// A place between two others, with at most half of what is between them on either side.
+fn middle_of(low: usize, high: usize) -> usize
+    requires { low < high }
+    ensures { IsMiddle low high result }
+{
+    low + (high - low) / 2
+}
 
 // The place in the index of the entry of a name, or the place where it would stand, by halving.
 pub(crate) fn seek(
@@ -26,7 +34,7 @@ pub(crate) fn seek(
     let mut low = 0;
     let mut high = order.len();
     while low < high {
-        let middle = low + (high - low) / 2;
+        let middle = middle_of(low, high);
         let name = name_in(bytes, &entries[order[middle] as usize]);
         match sought.compare(name, steps) {
             Ordering::Less => low = middle + 1,

@@ -9,6 +9,8 @@ mod fault;
 mod formals;
 mod header;
 mod index;
+#[cfg(test)]
+mod index_tests;
 mod limits;
 mod logical;
 mod name;

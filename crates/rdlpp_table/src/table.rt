@@ -139,13 +139,7 @@ impl Table {
         ensures sound { IsSound self.now }
         ensures steps { IsCounted steps.old steps.new }
     {
-        let index = place_in(
-            self.bytes.as_slice(),
-            self.entries.as_slice(),
-            self.order.as_slice(),
-            name,
-            steps,
-        )?;
+        let index = place_in(&self.bytes, &self.entries, &self.order, name, steps)?;
         Some(MacroId { index })
     }
 
@@ -183,12 +177,7 @@ impl Table {
         ensures value { result ≡ is_some (macro_named self.old.macros name.now) }
         ensures table { self.new ≡ record self.old { macros = without name.now self.old.macros } }
     {
-        take_out_named(
-            &mut self.bytes,
-            &mut self.entries,
-            &mut self.order,
-            name,
-        )
+        take_out_named(&mut self.bytes, &mut self.entries, &mut self.order, name)
     }
 
     /// Stores the macro of a `define` in the place of one of its name (IEEE 1364-2001, `define`); `rest` is what
@@ -243,12 +232,7 @@ impl Table {
         ensures count { result.count ≡ length (without name.now self.now.macros) }
         ensures sound { IsSound self.now }
     {
-        beside(
-            self.bytes.as_slice(),
-            self.entries.as_slice(),
-            self.order.as_slice(),
-            name,
-        )
+        beside(&self.bytes, &self.entries, &self.order, name)
     }
 
     // Stores a macro of a name with what stands behind the name in a logical line.
@@ -314,12 +298,7 @@ impl Table {
         if self.most_macros <= rest.count {
             return Err(refusal(DefineKind::TooManyDefinitions));
         }
-        replace(
-            &mut self.bytes,
-            &mut self.entries,
-            &mut self.order,
-            new,
-        );
+        replace(&mut self.bytes, &mut self.entries, &mut self.order, new);
         Ok(())
     }
 }
