@@ -1,5 +1,6 @@
 pub mod Table
 pub mod View
+pub mod Stops
 pub mod Limits
 pub mod Words
 pub mod Define

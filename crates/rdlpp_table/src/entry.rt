@@ -1,6 +1,7 @@
 // Where the parts of one definition lie in a table's bytes.
-ghost use Rattle.std.specs.Prelude.{◌≡◌, ◌≤◌, length};
-ghost use Rattle.rdlpp_table.specs.Store.{body_of, entry_end, list_of, name_of};
+ghost use Rattle.std.specs.Prelude.{◌≡◌, ◌≤◌, [], length};
+ghost use Rattle.rdlpp_table.specs.Store.{body_of, entry_end, formals_from, list_of, macro_in, name_of};
+ghost use Rattle.rdlpp_table.specs.View.{formals_of};
 
 // A definition's name, its formals with a comma after each, and its body lie one after another.
 #[derive(Clone, Copy, Drop)]
@@ -11,6 +12,8 @@ pub(crate) struct Entry {
     pub(crate) body_len: usize,
     // How many formals it has, where it has a list.
     pub(crate) arity: Option<usize>,
+    // Whether its body is copied as it stands.
+    pub(crate) is_copied: bool,
 }
 
 // The name of a definition.
@@ -30,6 +33,18 @@ pub(crate) fn list_in<'a>(bytes: &'a [u8], entry: &Entry) -> &'a [u8]
 {
     let start = entry.start + entry.name_len;
     &bytes[start..start + entry.list_len]
+}
+
+// The formals of a definition, each with a comma after it; nothing where it has no list.
+#[tactic(auto, unfolding(crate::specs::Store::formals_from, crate::specs::Store::macro_in))]
+pub(crate) fn formals_in<'a>(bytes: &'a [u8], entry: &Entry) -> &'a [u8]
+    requires { entry_end entry.now ≤ length bytes.now }
+    ensures { formals_from [] result.now ≡ formals_of (macro_in bytes.now entry.now) }
+{
+    match entry.arity {
+        Some(_) => list_in(bytes, entry),
+        None => &[],
+    }
 }
 
 // The body of a definition.

@@ -16,6 +16,9 @@ mod logical;
 mod name;
 mod removal;
 mod sought;
+mod stop;
+#[cfg(test)]
+mod stop_tests;
 mod storing;
 mod table;
 #[cfg(test)]
@@ -24,4 +27,5 @@ mod tests;
 pub use fault::{DefineFault, DefineKind, NoMemory};
 pub use limits::{LimitFault, Limits};
 pub use sought::Steps;
+pub use stop::Stop;
 pub use table::{MacroId, Table};

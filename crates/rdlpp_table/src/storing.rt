@@ -29,6 +29,7 @@ use crate::entry::Entry;
 use crate::index::{enter, gap_in, place_in};
 use crate::removal::take_out_named;
 use crate::sought::Steps;
+use crate::stop::is_copied;
 
 // Appends bytes for which there is room.
 fn append(bytes: &mut Vec<u8>, part: &[u8])
@@ -63,13 +64,16 @@ fn put(bytes: &mut Vec<u8>, entries: &mut Vec<Entry>, new: &New)
     let start = bytes.len();
     append(bytes, new.name);
     append(bytes, new.list);
+    let body = bytes.len();
     append_body(bytes, new.text, new.is_logical, new.body_len);
+    let is_copied = is_copied(new.list, &bytes[body..]);
     entries.push_reserved(Entry {
         start,
         name_len: new.name.len(),
         list_len: new.list.len(),
         body_len: new.body_len,
         arity: new.arity,
+        is_copied,
     });
 }
 

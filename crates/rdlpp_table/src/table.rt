@@ -5,13 +5,14 @@ ghost use Rattle.rdlpp_table.specs.Bodies.{joined};
 ghost use Rattle.rdlpp_table.specs.Store.{formals_from};
 ghost use Rattle.rdlpp_table.specs.Index.{IsCounted};
 ghost use Rattle.rdlpp_table.specs.Limits.{AreInRange};
+ghost use Rattle.rdlpp_table.specs.Stops.{is_copied, stop_in};
 ghost use Rattle.rdlpp_table.specs.Table.{macro_named, table_bytes, table_size, without};
 ghost use Rattle.rdlpp_scan.specs.SourceTokens.{logical_len};
 ghost use Rattle.rdlpp_table.specs.Define.{define_of, observed, set_of, stored, stored_draft, with_body, with_list};
 ghost use Rattle.rdlpp_table.specs.View.{TableView, IsSound, formal_named, formals_of, macro_at, place_named};
 
 use crate::body::body_len;
-use crate::entry::{Entry, body_in, list_in};
+use crate::entry::{Entry, body_in, formals_in, list_in};
 use crate::fault::{DefineFault, DefineKind, NoMemory, lexical, refusal};
 use crate::formals::{place_in_list, read_list};
 use crate::header::{after_space, leading_name, list_behind, unended};
@@ -20,6 +21,7 @@ use crate::limits::Limits;
 use crate::name::check_name;
 use crate::removal::take_out_named;
 use crate::sought::Steps;
+use crate::stop::{Stop, first_stop};
 use crate::storing::{New, Rest, beside, replace};
 use arrayvec::ArrayVec;
 use rdlpp_scan::is_name;
@@ -157,6 +159,36 @@ impl Table {
         ensures { result ≡ option_map length (macro_at self.now.macros id).formals }
     {
         self.entries[id.index].arity
+    }
+
+    /// Whether the body of a macro is copied as it stands: no usage, no lone backquote and no formal of the macro
+    /// stands in it as a token. Takes the same time however long the body is.
+    pub fn is_copied(&self, id: MacroId) -> bool
+        requires { id < length self.now.macros }
+        ensures { result ≡ is_copied (macro_at self.now.macros id) }
+    {
+        self.entries[id.index].is_copied
+    }
+
+    /// The first place, from `from` on and before `to`, of the body of a macro that isn't copied as it stands:
+    /// a usage, a lone backquote or a formal of the macro. The bytes of the range are read as a text of their own,
+    /// from plain text on. `from` and `to` are counted in bytes from the front of the body.
+    ///
+    /// Takes time linear in the distance to that place, and none where the whole of a body is asked for that
+    /// is copied as it stands.
+    pub fn stop(&self, id: MacroId, from: usize, to: usize) -> Stop
+        requires id { id < length self.now.macros }
+        requires order { from ≤ to }
+        requires inside { to ≤ length (macro_at self.now.macros id).body }
+        ensures { result ≡ stop_in (macro_at self.now.macros id) from to }
+    {
+        let entry = &self.entries[id.index];
+        let body = body_in(self.bytes.as_slice(), entry);
+        if entry.is_copied && to - from == body.len() {
+            return Stop::None;
+        }
+        let list = formals_in(self.bytes.as_slice(), entry);
+        first_stop(list, &body[from..to], from)
     }
 
     /// The place of a formal among a macro's formals, counted from 0; `None` where the macro has no list,

@@ -1,4 +1,4 @@
-use Rattle.std.proofs.Common.{◌<◌, length, None, arith, refl}
+use Rattle.std.proofs.Common.{◌<◌, length, None, false, arith, refl}
 use Rattle.rdlpp_table.specs.declared.entry.Entry.{Entry}
 use Rattle.rdlpp_table.proofs.Keyed.{compared_key, end_of_entry, entry_inside, index_length}
 use Rattle.rdlpp_table.proofs.Seeking.{start_seeking, seek_down, seek_found, seek_up}
@@ -14,7 +14,7 @@ bounds-entries-order c =
 
 pub name_in-name-requires : goal.name_in-name-requires
 name_in-name-requires c =
-    let blank : Entry = record { start = 0; name_len = 0; list_len = 0; body_len = 0; arity = None } in
+    let blank : Entry = record { start = 0; name_len = 0; list_len = 0; body_len = 0; arity = None; is_copied = false } in
     let h : c.middle_of-middle.result < length c.args.order.now = omega (arith, c.loop-low.invariant.fits, c.middle_of-middle.ensures.to) in
     end_of_entry _ _ _ _ blank c.requires.within c.requires.indexed h
 
