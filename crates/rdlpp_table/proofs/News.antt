@@ -1,5 +1,7 @@
 -- A macro that is to be stored, in the lists of a table.
-use Rattle.std.proofs.Common.{◌≡◌, ℕ, ◌+◌, Bool, true, List, [], ◌++◌, length, Option, Ok, option_map, unwrap_or, sum_by, ap, sym, ◌∙◌, arith, append_assoc}
+use Rattle.std.proofs.Common.{◌≡◌, ℕ, ◌+◌, Bool, true, List, [], ◌++◌, length, drop, Option, Some, None, Ok, option_map, unwrap_or, sum_by, refl, ap, sym, ◌∙◌, arith, append_assoc}
+use Rattle.std.proofs.lemmas.List.{drop_at}
+use Rattle.rdlpp_table.specs.Stops.{is_copied, is_none, stop_of}
 use Rattle.rdlpp_table.specs.declared.entry.Entry.{Entry}
 use Rattle.rdlpp_table.specs.declared.body.Inside.TheVariants.{Text}
 use Rattle.rdlpp_table.specs.Table.{Formal, formal_size, macro_bytes, macro_size}
@@ -35,13 +37,29 @@ new_bytes bytes named listed done name arity list is_logical text len n e f g =
     ∙ (append_assoc bytes name (list ++ body)
     ∙ ap (λ (l : List ℕ). bytes ++ (name ++ (l ++ body))) (sym n.listed.list_is))))
 
-pub new_entry : (start : ℕ) (name : List ℕ) (arity : Option ℕ) (list : List ℕ) (is_logical : Bool) (text : List ℕ) (len : ℕ) → IsNew name arity list is_logical text len → (let e : Entry = record { start = start; name_len = length name; list_len = length list; body_len = len; arity = arity } in e) ≡ entry_of start (new_macro name arity list is_logical text)
+-- the formals of a macro that is to be stored are those of its list
+listed_formals : (name : List ℕ) (arity : Option ℕ) (list : List ℕ) → IsList name arity list → formals_from [] list ≡ unwrap_or (formals_new arity list) []
+unfolding formals_from
+listed_formals name None list l = ap (formals_from []) (sym l.list_is)
+listed_formals name (Some n) list l = refl
+
+-- whether its body is copied is told by its list and its body
+pub new_copied : (name : List ℕ) (arity : Option ℕ) (list : List ℕ) (is_logical : Bool) (text : List ℕ) (front bytes body : List ℕ) (copied : Bool) → IsList name arity list → bytes ≡ front ++ body_left (cleared Text (joined is_logical text)) → body ≡ drop (length front) bytes → copied ≡ is_none (stop_of (formals_from [] list) 0 body) → copied ≡ is_copied (new_macro name arity list is_logical text)
+unfolding is_copied
+new_copied name arity list is_logical text front bytes body copied l e f h =
+    h
+    ∙ (ap (λ (b : List ℕ). is_none (stop_of (formals_from [] list) 0 b)) (f ∙ (ap (drop (length front)) e ∙ drop_at front (body_left (cleared Text (joined is_logical text))) (length front) refl))
+    ∙ ap (λ (fs : List Formal). is_none (stop_of fs 0 (body_left (cleared Text (joined is_logical text))))) (listed_formals name arity list l))
+
+pub new_entry : (start : ℕ) (name : List ℕ) (arity : Option ℕ) (list : List ℕ) (is_logical : Bool) (text : List ℕ) (len : ℕ) (copied : Bool) → IsNew name arity list is_logical text len → copied ≡ is_copied (new_macro name arity list is_logical text) → (let e : Entry = record { start = start; name_len = length name; list_len = length list; body_len = len; arity = arity; is_copied = copied } in e) ≡ entry_of start (new_macro name arity list is_logical text)
 unfolding entry_of list_size
-new_entry start name arity list is_logical text len n =
+new_entry start name arity list is_logical text len copied n h =
     let body : ℕ = length (body_left (cleared Text (joined is_logical text))) in
-    ap (λ (k : ℕ). let e : Entry = record { start = start; name_len = length name; list_len = k; body_len = len; arity = arity } in e) (sym (list_len name arity list n.listed))
-    ∙ (ap (λ (k : ℕ). let e : Entry = record { start = start; name_len = length name; list_len = sum_by formal_size (unwrap_or (formals_new arity list) []); body_len = k; arity = arity } in e) (sym (left_len (cleared Text (joined is_logical text)) len n.body_is))
-    ∙ ap (λ (a : Option ℕ). let e : Entry = record { start = start; name_len = length name; list_len = sum_by formal_size (unwrap_or (formals_new arity list) []); body_len = body; arity = a } in e) (sym n.listed.arity_is))
+    let size : ℕ = sum_by formal_size (unwrap_or (formals_new arity list) []) in
+    ap (λ (k : ℕ). let e : Entry = record { start = start; name_len = length name; list_len = k; body_len = len; arity = arity; is_copied = copied } in e) (sym (list_len name arity list n.listed))
+    ∙ (ap (λ (k : ℕ). let e : Entry = record { start = start; name_len = length name; list_len = size; body_len = k; arity = arity; is_copied = copied } in e) (sym (left_len (cleared Text (joined is_logical text)) len n.body_is))
+    ∙ (ap (λ (a : Option ℕ). let e : Entry = record { start = start; name_len = length name; list_len = size; body_len = body; arity = a; is_copied = copied } in e) (sym n.listed.arity_is)
+    ∙ ap (λ (b : Bool). let e : Entry = record { start = start; name_len = length name; list_len = size; body_len = body; arity = option_map length (formals_new arity list); is_copied = b } in e) h))
 
 pub new_plain : (name : List ℕ) (arity : Option ℕ) (list : List ℕ) (is_logical : Bool) (text : List ℕ) → IsList name arity list → is_plain_macro (new_macro name arity list is_logical text) ≡ true
 unfolding is_plain_macro

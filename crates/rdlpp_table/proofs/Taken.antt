@@ -35,7 +35,7 @@ table_bytes-cons m ys = refl
 
 moved_entry : (n size : ℕ) (m : Macro) → moved_down size (entry_of (n + size) m) ≡ entry_of n m
 unfolding moved_down entry_of
-moved_entry n size m = ap (λ (k : ℕ). let e : Entry = record { start = k; name_len = _; list_len = _; body_len = _; arity = _ } in e) (omega arith)
+moved_entry n size m = ap (λ (k : ℕ). let e : Entry = record { start = k; name_len = _; list_len = _; body_len = _; arity = _; is_copied = _ } in e) (omega arith)
 
 moved_entries : (n size : ℕ) (ys : List Macro) → map (moved_down size) (entries_of (n + size) ys) ≡ entries_of n ys
 unfolding entries_of

@@ -1,11 +1,13 @@
 pub mod Table
 pub mod View
+pub mod Stops
 pub mod Limits
 pub mod Words
 pub mod Define
 pub mod Bodies
 pub mod Store
 pub mod Entries
+pub mod Index
 pub mod New
 pub mod Layout
 pub mod BodyBytes

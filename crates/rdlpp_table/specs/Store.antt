@@ -3,6 +3,7 @@
 use Rattle.std.specs.Prelude.{◌≡◌, ℕ, ◌+◌, Bool, true, not, ◌&&◌, ◌==◌, List, [], ◌∷◌, ◌++◌, length, map, slice_range, sum_by, option_map, unwrap_or, if◌then◌else◌}
 use Rattle.std.specs.List.{list_any, list_all}
 use Rattle.rdlpp_table.specs.Table.{Formal, Macro, macro_size, table_bytes, formal_size}
+use Rattle.rdlpp_table.specs.Stops.{is_copied}
 use Rattle.rdlpp_table.specs.declared.entry.Entry.{Entry}
 
 -- the bytes of a macro's formals
@@ -11,7 +12,7 @@ list_size m = sum_by formal_size (unwrap_or m.formals [])
 
 -- the entry of a macro whose bytes begin at a place
 unfoldable pub entry_of : ℕ → Macro → Entry
-entry_of start m = record { start = start; name_len = length m.name; list_len = list_size m; body_len = length m.body; arity = option_map length m.formals }
+entry_of start m = record { start = start; name_len = length m.name; list_len = list_size m; body_len = length m.body; arity = option_map length m.formals; is_copied = is_copied m }
 
 -- the entries of macros whose bytes begin at a place
 unfoldable pub entries_of : ℕ → List Macro → List Entry

@@ -1,7 +1,7 @@
 // Where the parts of one definition lie in a table's bytes.
-ghost use Rattle.std.specs.Prelude.{◌≡◌, ◌≤◌, ◌<◌, length, bytes_eq, position};
-ghost use Rattle.rdlpp_table.specs.Store.{body_of, entry_end, list_of, name_of};
-ghost use Rattle.rdlpp_table.specs.Entries.{AreWithin};
+ghost use Rattle.std.specs.Prelude.{◌≡◌, ◌≤◌, [], length};
+ghost use Rattle.rdlpp_table.specs.Store.{body_of, entry_end, formals_from, list_of, macro_in, name_of};
+ghost use Rattle.rdlpp_table.specs.View.{formals_of};
 
 // A definition's name, its formals with a comma after each, and its body lie one after another.
 #[derive(Clone, Copy, Drop)]
@@ -12,6 +12,8 @@ pub(crate) struct Entry {
     pub(crate) body_len: usize,
     // How many formals it has, where it has a list.
     pub(crate) arity: Option<usize>,
+    // Whether its body is copied as it stands.
+    pub(crate) is_copied: bool,
 }
 
 // The name of a definition.
@@ -33,6 +35,18 @@ pub(crate) fn list_in<'a>(bytes: &'a [u8], entry: &Entry) -> &'a [u8]
     &bytes[start..start + entry.list_len]
 }
 
+// The formals of a definition, each with a comma after it; nothing where it has no list.
+#[tactic(auto, unfolding(crate::specs::Store::formals_from, crate::specs::Store::macro_in))]
+pub(crate) fn formals_in<'a>(bytes: &'a [u8], entry: &Entry) -> &'a [u8]
+    requires { entry_end entry.now ≤ length bytes.now }
+    ensures { formals_from [] result.now ≡ formals_of (macro_in bytes.now entry.now) }
+{
+    match entry.arity {
+        Some(_) => list_in(bytes, entry),
+        None => &[],
+    }
+}
+
 // The body of a definition.
 #[tactic(auto, unfolding(crate::specs::Store::body_of, crate::specs::Store::entry_end, crate::specs::Store::body_start, crate::specs::Store::list_start))]
 pub(crate) fn body_in<'a>(bytes: &'a [u8], entry: &Entry) -> &'a [u8]
@@ -41,14 +55,4 @@ pub(crate) fn body_in<'a>(bytes: &'a [u8], entry: &Entry) -> &'a [u8]
 {
     let start = entry.start + entry.name_len + entry.list_len;
     &bytes[start..start + entry.body_len]
-}
-
-// The place of the definition of a name.
-pub(crate) fn place_in(bytes: &[u8], entries: &[Entry], name: &[u8]) -> Option<usize>
-    requires { AreWithin (length bytes.now) entries.now }
-    ensures { result ≡ position (λ e. bytes_eq (name_of bytes.now e) name.now) entries.now }
-{
-    entries
-        .iter()
-        .position(|entry| name_in(bytes, entry) == name)
 }

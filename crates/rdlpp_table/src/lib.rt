@@ -8,10 +8,17 @@ mod entry;
 mod fault;
 mod formals;
 mod header;
+mod index;
+#[cfg(test)]
+mod index_tests;
 mod limits;
 mod logical;
 mod name;
 mod removal;
+mod sought;
+mod stop;
+#[cfg(test)]
+mod stop_tests;
 mod storing;
 mod table;
 #[cfg(test)]
@@ -19,4 +26,6 @@ mod tests;
 
 pub use fault::{DefineFault, DefineKind, NoMemory};
 pub use limits::{LimitFault, Limits};
+pub use sought::Steps;
+pub use stop::Stop;
 pub use table::{MacroId, Table};

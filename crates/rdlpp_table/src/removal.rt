@@ -3,9 +3,12 @@ ghost use Rattle.std.specs.Prelude.{◌≡◌, ◌+◌, ◌<◌, ◌≤◌, ◌+
 ghost use Rattle.rdlpp_table.specs.Table.{macro_named, without};
 ghost use Rattle.std.specs.List.{remove_range, IsDistinct};
 ghost use Rattle.rdlpp_table.specs.Entries.{moved_down, AreBehind};
+ghost use Rattle.rdlpp_table.specs.Index.{names_of, IsIndex};
 ghost use Rattle.rdlpp_table.specs.Store.{IsStored, macros_in};
 
-use crate::entry::{Entry, place_in};
+use crate::entry::Entry;
+use crate::index::{leave, seek};
+use crate::sought::{Sought, Steps};
 
 // The bytes of these entries were moved so much further to the front.
 #[tactic(auto, unfolding(crate::specs::Entries::moved_down))]
@@ -51,18 +54,27 @@ fn take_out(bytes: &mut Vec<u8>, entries: &mut Vec<Entry>, place: usize)
 }
 
 // Takes out the macro of a name, and answers whether there was one.
-pub(crate) fn take_out_named(bytes: &mut Vec<u8>, entries: &mut Vec<Entry>, name: &[u8]) -> bool
+pub(crate) fn take_out_named(
+    bytes: &mut Vec<u8>,
+    entries: &mut Vec<Entry>,
+    order: &mut Vec<u32>,
+    name: &[u8],
+) -> bool
     requires stored { IsStored bytes.old.items entries.old.items (macros_in bytes.old.items entries.old.items) }
     requires distinct { IsDistinct bytes_eq (map (λ m. m.name) (macros_in bytes.old.items entries.old.items)) }
+    requires indexed { IsIndex (names_of (macros_in bytes.old.items entries.old.items)) order.old.items }
+    requires few { vec_len entries.old ≤ 65536 }
     ensures value { result ≡ is_some (macro_named (macros_in bytes.old.items entries.old.items) name.now) }
     ensures stored { IsStored bytes.new.items entries.new.items (without name.now (macros_in bytes.old.items entries.old.items)) }
-    ensures capacity { (vec_capacity bytes.new ≡ vec_capacity bytes.old) × (vec_capacity entries.new ≡ vec_capacity entries.old) }
+    ensures indexed { IsIndex (names_of (without name.now (macros_in bytes.old.items entries.old.items))) order.new.items }
+    ensures capacity { (vec_capacity bytes.new ≡ vec_capacity bytes.old) × (vec_capacity entries.new ≡ vec_capacity entries.old) × (vec_capacity order.new ≡ vec_capacity order.old) }
 {
-    match place_in(bytes.as_slice(), entries.as_slice(), name) {
-        Some(place) => {
+    match seek(bytes, entries, order, &Sought::new(name), &mut Steps::new()) {
+        Ok(at) => {
+            let place = leave(order, at);
             take_out(bytes, entries, place);
             true
         }
-        None => false,
+        Err(_) => false,
     }
 }

@@ -19,13 +19,17 @@ ghost use Rattle.std.specs.Prelude.{
   ◌∷◌,
 };
 ghost use Rattle.std.specs.List.{IsDistinct};
+ghost use Rattle.rdlpp_table.specs.Index.{names_of, IsIndex};
 ghost use Rattle.rdlpp_table.specs.Store.{macros_in, IsStored};
 ghost use Rattle.rdlpp_table.specs.Table.{table_size, without};
 ghost use Rattle.rdlpp_table.specs.New.{new_macro, IsNew};
 
 use crate::body::append_body;
-use crate::entry::{Entry, place_in};
+use crate::entry::Entry;
+use crate::index::{enter, gap_in, place_in};
 use crate::removal::take_out_named;
+use crate::sought::Steps;
+use crate::stop::is_copied;
 
 // Appends bytes for which there is room.
 fn append(bytes: &mut Vec<u8>, part: &[u8])
@@ -60,13 +64,16 @@ fn put(bytes: &mut Vec<u8>, entries: &mut Vec<Entry>, new: &New)
     let start = bytes.len();
     append(bytes, new.name);
     append(bytes, new.list);
+    let body = bytes.len();
     append_body(bytes, new.text, new.is_logical, new.body_len);
+    let is_copied = is_copied(new.list, &bytes[body..]);
     entries.push_reserved(Entry {
         start,
         name_len: new.name.len(),
         list_len: new.list.len(),
         body_len: new.body_len,
         arity: new.arity,
+        is_copied,
     });
 }
 
@@ -78,13 +85,15 @@ pub(crate) struct Rest {
 }
 
 // What there is beside the definition of a name.
-pub(crate) fn beside(bytes: &[u8], entries: &[Entry], name: &[u8]) -> Rest
+pub(crate) fn beside(bytes: &[u8], entries: &[Entry], order: &[u32], name: &[u8]) -> Rest
     requires stored { IsStored bytes.now entries.now (macros_in bytes.now entries.now) }
     requires distinct { IsDistinct bytes_eq (map (λ m. m.name) (macros_in bytes.now entries.now)) }
+    requires indexed { IsIndex (names_of (macros_in bytes.now entries.now)) order.now }
+    requires few { length entries.now ≤ 65536 }
     ensures size { result.size ≡ table_size (without name.now (macros_in bytes.now entries.now)) }
     ensures count { result.count ≡ length (without name.now (macros_in bytes.now entries.now)) }
 {
-    match place_in(bytes, entries, name) {
+    match place_in(bytes, entries, order, name, &mut Steps::new()) {
         Some(place) => {
             let entry = entries[place];
             Rest {
@@ -100,15 +109,26 @@ pub(crate) fn beside(bytes: &[u8], entries: &[Entry], name: &[u8]) -> Rest
 }
 
 // Puts a macro behind the others, in the place of one of its name.
-pub(crate) fn replace(bytes: &mut Vec<u8>, entries: &mut Vec<Entry>, new: &New)
+pub(crate) fn replace(
+    bytes: &mut Vec<u8>,
+    entries: &mut Vec<Entry>,
+    order: &mut Vec<u32>,
+    new: &New,
+)
     requires stored { IsStored bytes.old.items entries.old.items (macros_in bytes.old.items entries.old.items) }
     requires distinct { IsDistinct bytes_eq (map (λ m. m.name) (macros_in bytes.old.items entries.old.items)) }
+    requires indexed { IsIndex (names_of (macros_in bytes.old.items entries.old.items)) order.old.items }
+    requires few { vec_len entries.old ≤ 65536 }
     requires counted { IsNew new.now.name.now new.now.arity new.now.list.now new.now.is_logical new.now.text.now new.now.body_len }
     requires room { table_size (without new.now.name.now (macros_in bytes.old.items entries.old.items)) + (length new.now.name.now + (length new.now.list.now + new.now.body_len)) ≤ vec_capacity bytes.old }
     requires entry_room { length (without new.now.name.now (macros_in bytes.old.items entries.old.items)) < vec_capacity entries.old }
+    requires index_room { length (without new.now.name.now (macros_in bytes.old.items entries.old.items)) < vec_capacity order.old }
     ensures stored { IsStored bytes.new.items entries.new.items (without new.now.name.now (macros_in bytes.old.items entries.old.items) ++ new_macro new.now.name.now new.now.arity new.now.list.now new.now.is_logical new.now.text.now ∷ []) }
-    ensures capacity { (vec_capacity bytes.old ≤ vec_capacity bytes.new) × (vec_capacity entries.new ≡ vec_capacity entries.old) }
+    ensures indexed { IsIndex (names_of (without new.now.name.now (macros_in bytes.old.items entries.old.items) ++ new_macro new.now.name.now new.now.arity new.now.list.now new.now.is_logical new.now.text.now ∷ [])) order.new.items }
+    ensures capacity { (vec_capacity bytes.old ≤ vec_capacity bytes.new) × (vec_capacity entries.new ≡ vec_capacity entries.old) × (vec_capacity order.new ≡ vec_capacity order.old) }
 {
-    take_out_named(bytes, entries, new.name);
+    take_out_named(bytes, entries, order, new.name);
+    let gap = gap_in(bytes, entries, order, new.name);
+    enter(order, gap, entries.len());
     put(bytes, entries, new);
 }

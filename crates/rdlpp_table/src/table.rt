@@ -1,22 +1,27 @@
-// The table of macros: one list of bytes and one of entries, both reserved when the table is made.
+// The table of macros: a list of bytes, one of entries and an index by name, all reserved when the table is made.
 ghost use Rattle.std.specs.Prelude.{◌≡◌, ◌<◌, ◌≤◌, ◌==◌, [], length, IfOk, IfSome, IfNone, OnOk, Some, None, is_some, option_map, OnErr, true, ◌+◌};
 ghost use Rattle.rdlpp_table.specs.New.{new_macro, IsList, IsNew};
 ghost use Rattle.rdlpp_table.specs.Bodies.{joined};
 ghost use Rattle.rdlpp_table.specs.Store.{formals_from};
+ghost use Rattle.rdlpp_table.specs.Index.{IsCounted};
 ghost use Rattle.rdlpp_table.specs.Limits.{AreInRange};
+ghost use Rattle.rdlpp_table.specs.Stops.{is_copied, stop_in};
 ghost use Rattle.rdlpp_table.specs.Table.{macro_named, table_bytes, table_size, without};
 ghost use Rattle.rdlpp_scan.specs.SourceTokens.{logical_len};
 ghost use Rattle.rdlpp_table.specs.Define.{define_of, observed, set_of, stored, stored_draft, with_body, with_list};
 ghost use Rattle.rdlpp_table.specs.View.{TableView, IsSound, formal_named, formals_of, macro_at, place_named};
 
 use crate::body::body_len;
-use crate::entry::{Entry, body_in, list_in, place_in};
+use crate::entry::{Entry, body_in, formals_in, list_in};
 use crate::fault::{DefineFault, DefineKind, NoMemory, lexical, refusal};
 use crate::formals::{place_in_list, read_list};
 use crate::header::{after_space, leading_name, list_behind, unended};
+use crate::index::place_in;
 use crate::limits::Limits;
 use crate::name::check_name;
 use crate::removal::take_out_named;
+use crate::sought::Steps;
+use crate::stop::{Stop, first_stop};
 use crate::storing::{New, Rest, beside, replace};
 use arrayvec::ArrayVec;
 use rdlpp_scan::is_name;
@@ -30,6 +35,8 @@ use std::marker::Model;
 pub struct Table {
     bytes: Vec<u8>,
     entries: Vec<Entry>,
+    // The places of the entries, sorted by name.
+    order: Vec<u32>,
     most_bytes: usize,
     most_macros: usize,
 }
@@ -66,7 +73,7 @@ impl Table {
     /// An empty table that takes `definition_bytes` bytes and `definitions` macros.
     ///
     /// # Errors
-    /// `NoMemory` where there was no memory for as many bytes, or for as many entries.
+    /// `NoMemory` where there was no memory for as many bytes, for as many entries, or for an index of them.
     pub fn new(alloc: Global, limits: &Limits) -> Result<Table, NoMemory>
         requires { AreInRange limits.now }
         ensures { IfOk result (λ table. table ≡ record { macros = []; most_bytes = limits.now.definition_bytes; most_macros = limits.now.definitions }) }
@@ -79,9 +86,14 @@ impl Table {
             Ok(entries) => entries,
             Err(_) => return Err(NoMemory),
         };
+        let order = match Vec::with_capacity(alloc, limits.definitions) {
+            Ok(order) => order,
+            Err(_) => return Err(NoMemory),
+        };
         Ok(Table {
             bytes,
             entries,
+            order,
             most_bytes: limits.definition_bytes,
             most_macros: limits.definitions,
         })
@@ -117,7 +129,19 @@ impl Table {
         ensures named { macro_named self.now.macros name.now ≡ option_map (macro_at self.now.macros) result }
         ensures sound { IsSound self.now }
     {
-        let index = place_in(self.bytes.as_slice(), self.entries.as_slice(), name)?;
+        self.search(name, &mut Steps::new())
+    }
+
+    /// The macro of a name; `None` where there is none. Each comparison of `name` with the name of a macro
+    /// is counted in `steps`, and a search makes at most 17 of them.
+    pub fn search(&self, name: &[u8], steps: &mut Steps) -> Option<MacroId>
+        ensures value { result ≡ place_named self.now.macros name.now }
+        ensures inside { IfSome result (λ id. id < length self.now.macros) }
+        ensures named { macro_named self.now.macros name.now ≡ option_map (macro_at self.now.macros) result }
+        ensures sound { IsSound self.now }
+        ensures steps { IsCounted steps.old steps.new }
+    {
+        let index = place_in(&self.bytes, &self.entries, &self.order, name, steps)?;
         Some(MacroId { index })
     }
 
@@ -135,6 +159,36 @@ impl Table {
         ensures { result ≡ option_map length (macro_at self.now.macros id).formals }
     {
         self.entries[id.index].arity
+    }
+
+    /// Whether the body of a macro is copied as it stands: no usage, no lone backquote and no formal of the macro
+    /// stands in it as a token. Takes the same time however long the body is.
+    pub fn is_copied(&self, id: MacroId) -> bool
+        requires { id < length self.now.macros }
+        ensures { result ≡ is_copied (macro_at self.now.macros id) }
+    {
+        self.entries[id.index].is_copied
+    }
+
+    /// The first place, from `from` on and before `to`, of the body of a macro that isn't copied as it stands:
+    /// a usage, a lone backquote or a formal of the macro. The bytes of the range are read as a text of their own,
+    /// from plain text on. `from` and `to` are counted in bytes from the front of the body.
+    ///
+    /// Takes time linear in the distance to that place, and none where the whole of a body is asked for that
+    /// is copied as it stands.
+    pub fn stop(&self, id: MacroId, from: usize, to: usize) -> Stop
+        requires id { id < length self.now.macros }
+        requires order { from ≤ to }
+        requires inside { to ≤ length (macro_at self.now.macros id).body }
+        ensures { result ≡ stop_in (macro_at self.now.macros id) from to }
+    {
+        let entry = &self.entries[id.index];
+        let body = body_in(self.bytes.as_slice(), entry);
+        if entry.is_copied && to - from == body.len() {
+            return Stop::None;
+        }
+        let list = formals_in(self.bytes.as_slice(), entry);
+        first_stop(list, &body[from..to], from)
     }
 
     /// The place of a formal among a macro's formals, counted from 0; `None` where the macro has no list,
@@ -155,7 +209,7 @@ impl Table {
         ensures value { result ≡ is_some (macro_named self.old.macros name.now) }
         ensures table { self.new ≡ record self.old { macros = without name.now self.old.macros } }
     {
-        take_out_named(&mut self.bytes, &mut self.entries, name)
+        take_out_named(&mut self.bytes, &mut self.entries, &mut self.order, name)
     }
 
     /// Stores the macro of a `define` in the place of one of its name (IEEE 1364-2001, `define`); `rest` is what
@@ -210,7 +264,7 @@ impl Table {
         ensures count { result.count ≡ length (without name.now self.now.macros) }
         ensures sound { IsSound self.now }
     {
-        beside(self.bytes.as_slice(), self.entries.as_slice(), name)
+        beside(&self.bytes, &self.entries, &self.order, name)
     }
 
     // Stores a macro of a name with what stands behind the name in a logical line.
@@ -276,7 +330,7 @@ impl Table {
         if self.most_macros <= rest.count {
             return Err(refusal(DefineKind::TooManyDefinitions));
         }
-        replace(&mut self.bytes, &mut self.entries, new);
+        replace(&mut self.bytes, &mut self.entries, &mut self.order, new);
         Ok(())
     }
 }

@@ -1,6 +1,6 @@
 use Rattle.std.proofs.Common.{◌∙◌, sym, arith}
 use Rattle.rdlpp_table.specs.Bodies.{IsNext}
-use Rattle.rdlpp_table.proofs.Steps.{step_cut, kept_on, dropped_on, end_left}
+use Rattle.rdlpp_table.proofs.BodySteps.{step_cut, kept_on, dropped_on, end_left}
 use Rattle.rdlpp_table.proofs.body.BodyBytes.next.Goals as goal
 
 pub returns-then-cuts-clause-next : goal.returns-then-cuts-clause-next

@@ -2,7 +2,9 @@ use Rattle.std.proofs.Common.{◌∙◌, ap, arith, is_some}
 use Rattle.rdlpp_table.specs.Table.{macro_named, without}
 use Rattle.rdlpp_table.specs.View.{TableView}
 use Rattle.rdlpp_table.specs.Layout.{view_of}
+use Rattle.rdlpp_table.proofs.Laid.{count_entries}
 use Rattle.rdlpp_table.proofs.Held.{table_of, held_of, view_after, sound_without}
+use Rattle.rdlpp_table.proofs.Keyed.{few_entries, indexed_after}
 use Rattle.rdlpp_table.proofs.table.Table.remove.Goals as goal
 
 pub take_out_named-requires-clause-stored : goal.take_out_named-requires-clause-stored
@@ -11,11 +13,18 @@ take_out_named-requires-clause-stored c = c.self.invariant.held.stored
 pub take_out_named-requires-clause-distinct : goal.take_out_named-requires-clause-distinct
 take_out_named-requires-clause-distinct c = c.self.invariant.held.sound.distinct
 
+pub take_out_named-requires-clause-few : goal.take_out_named-requires-clause-few
+take_out_named-requires-clause-few c =
+    omega (arith, few_entries _ _ _ _ c.self.invariant.held, c.self.invariant.few, count_entries c.self.inside.entries)
+
 pub invariant_of-self : goal.invariant_of-self
 invariant_of-self c = record {
   held = held_of _ _ _ _ _ c.take_out_named.ensures.stored (sound_without c.args.name.now (view_of c.self.inside.bytes.items c.self.inside.entries.items c.self.inside.most_bytes c.self.inside.most_macros) c.self.invariant.held.sound);
   room = omega (arith, c.take_out_named.ensures.capacity.0, c.self.invariant.room);
   entry_room = omega (arith, c.take_out_named.ensures.capacity.1, c.self.invariant.entry_room);
+  indexed = indexed_after _ _ _ _ c.take_out_named.ensures.stored c.take_out_named.ensures.indexed;
+  index_room = omega (arith, c.take_out_named.ensures.capacity.2, c.self.invariant.index_room);
+  few = c.self.invariant.few;
 }
 
 pub returns-clause-value : goal.returns-clause-value

@@ -10,6 +10,8 @@ use Rattle.rdlpp_table.proofs.News.{new_size}
 use Rattle.rdlpp_table.proofs.Held.{held_of, sound_with, too_large, too_many, fits, refused_is, accepted_is}
 use Rattle.rdlpp_table.proofs.Without.{without_size}
 use Rattle.rdlpp_table.proofs.Taken.{capacity_small}
+use Rattle.rdlpp_table.proofs.Laid.{count_entries}
+use Rattle.rdlpp_table.proofs.Keyed.{few_entries, indexed_after}
 use Rattle.rdlpp_table.proofs.table.Table.store.Goals as goal
 
 pub overflow_sub-self-inside : goal.overflow_sub-self-inside
@@ -33,6 +35,10 @@ returns-then-self-rest-2-clause-outcome c =
     (omega (arith, c.rest-rest.ensures.size, c.saturating_add-size.ensures, c.self.invariant.room, capacity_small c.self.inside.bytes, ap (λ (v : TableView). v.most_bytes) c.self.view_is))
     (omega (arith, c.rest-rest.ensures.count, ap (λ (v : TableView). v.most_macros) c.self.view_is)))
 
+pub replace-requires-clause-few : goal.replace-requires-clause-few
+replace-requires-clause-few c =
+    omega (arith, few_entries _ _ _ _ c.self.invariant.held, c.self.invariant.few, count_entries c.self.inside.entries)
+
 pub replace-requires-clause-room : goal.replace-requires-clause-room
 replace-requires-clause-room c =
     let same : table_size (without c.args.new.now.name.now (macros_in c.self.inside.bytes.items c.self.inside.entries.items)) ≡ table_size (without c.args.new.now.name.now c.args.self.now.macros) = ap (λ (v : TableView). table_size (without c.args.new.now.name.now v.macros)) c.self.view_is in
@@ -53,6 +59,9 @@ invariant_of-self c =
       held = held_of _ _ _ _ _ c.replace.ensures.stored (sound_with view m c.self.invariant.held.sound h k);
       room = omega (arith, c.replace.ensures.capacity.0, c.self.invariant.room);
       entry_room = omega (arith, c.replace.ensures.capacity.1, c.self.invariant.entry_room);
+      indexed = indexed_after _ _ _ _ c.replace.ensures.stored c.replace.ensures.indexed;
+      index_room = omega (arith, c.replace.ensures.capacity.2, c.self.invariant.index_room);
+      few = c.self.invariant.few;
     }
 
 pub returns-clause-outcome : goal.returns-clause-outcome

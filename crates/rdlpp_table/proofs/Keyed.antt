@@ -1,0 +1,117 @@
+-- The index of a table's entries: the names to which it leads, and the index of the lists that a change makes.
+use Rattle.std.proofs.Common.{◌≡◌, ℕ, zero, suc, ◌<◌, ◌≤◌, Bool, true, false, cond, not, List, [], ◌∷◌, ◌++◌, length, map, get_or, insert, remove, bytes_eq, refl, ap, sym, ◌∙◌, subst, arith, Option, Some, None}
+use Rattle.std.specs.List.{IsDistinct}
+use Rattle.std.specs.declared.cmp.Ordering.{Ordering}
+use Rattle.std.proofs.lemmas.List.{get_or-map, map-append}
+use Rattle.rdlpp_table.specs.declared.entry.Entry.{Entry}
+use Rattle.rdlpp_table.specs.Entries.{AreWithin}
+use Rattle.rdlpp_table.specs.Table.{Macro, without}
+use Rattle.rdlpp_table.specs.View.{TableView, macro_at, no_macro, place_named}
+use Rattle.rdlpp_table.specs.Store.{IsStored, entry_end, macro_in, macros_in, name_of}
+use Rattle.rdlpp_table.specs.Layout.{IsHeld, view_of}
+use Rattle.rdlpp_table.specs.Index.{IsGap, IsIndex, IsPlace, closed, key_at, name_order, names_of}
+use Rattle.rdlpp_table.proofs.Laid.{length_macros_in, macros_of_none}
+use Rattle.rdlpp_table.proofs.RoundTrip.{read_back}
+use Rattle.rdlpp_table.proofs.Put.{stored_count}
+use Rattle.rdlpp_table.proofs.Without.{without_at, without_length, without_nowhere}
+use Rattle.rdlpp_table.proofs.Orders.{count_names, name_of_macro, indexed_place, position_none}
+use Rattle.rdlpp_table.proofs.Indexed.{entered_index, left_index, names_left}
+
+-- an index of entries has as many places, each that of an entry
+pub entry_inside : (bytes : List ℕ) (entries : List Entry) (order : List ℕ) (k : ℕ) → IsIndex (names_of (macros_in bytes entries)) order → k < length order → get_or order k 0 < length entries
+entry_inside bytes entries order k x h = omega (arith, x.inside k h, count_names (macros_in bytes entries), length_macros_in bytes entries)
+
+pub index_length : (bytes : List ℕ) (entries : List Entry) (order : List ℕ) → IsIndex (names_of (macros_in bytes entries)) order → length order ≡ length entries
+index_length bytes entries order x = x.long ∙ (count_names (macros_in bytes entries) ∙ length_macros_in bytes entries)
+
+key_of_entry : (bytes : List ℕ) (entries : List Entry) (order : List ℕ) (k : ℕ) (d : Entry) → get_or order k 0 < length entries → key_at (names_of (macros_in bytes entries)) order k ≡ name_of bytes (get_or entries (get_or order k 0) d)
+unfolding macros_in macro_in
+key_of_entry bytes entries order k d h =
+    name_of_macro (macros_in bytes entries) (get_or order k 0) ∙ ap (λ m. m.name) (get_or-map (macro_in bytes) entries (get_or order k 0) d no_macro h)
+
+pub compared_key : (bytes : List ℕ) (entries : List Entry) (order : List ℕ) (k : ℕ) (d : Entry) (other name : List ℕ) (o : Ordering) → IsIndex (names_of (macros_in bytes entries)) order → k < length order → other ≡ name_of bytes (get_or entries (get_or order k 0) d) → o ≡ name_order other name → name_order (key_at (names_of (macros_in bytes entries)) order k) name ≡ o
+compared_key bytes entries order k d other name o x h e f =
+    ap (λ (n : List ℕ). name_order n name) (key_of_entry bytes entries order k d (entry_inside bytes entries order k x h) ∙ sym e) ∙ sym f
+
+pub end_of_entry : (bytes : List ℕ) (entries : List Entry) (order : List ℕ) (k : ℕ) (d : Entry) → AreWithin (length bytes) entries → IsIndex (names_of (macros_in bytes entries)) order → k < length order → entry_end (get_or entries (get_or order k 0) d) ≤ length bytes
+end_of_entry bytes entries order k d w x h = w (get_or order k 0) d (entry_inside bytes entries order k x h)
+
+-- what a search through slices of the lists found, of the lists themselves
+pub placed : (bs : List ℕ) (es : List Entry) (os : List ℕ) (bytes : List ℕ) (entries : List Entry) (order sought name : List ℕ) (at : ℕ) → bs ≡ bytes → es ≡ entries → os ≡ order → sought ≡ name → IsPlace (names_of (macros_in bs es)) os sought at → IsPlace (names_of (macros_in bytes entries)) order name at
+placed bs es os bytes entries order sought name at p q r s h = rw (p, q, r, s) at h
+
+pub gapped : (bs : List ℕ) (es : List Entry) (os : List ℕ) (bytes : List ℕ) (entries : List Entry) (order sought name : List ℕ) (gap : ℕ) → bs ≡ bytes → es ≡ entries → os ≡ order → sought ≡ name → IsGap (names_of (macros_in bs es)) os sought gap → IsGap (names_of (macros_in bytes entries)) order name gap
+gapped bs es os bytes entries order sought name gap p q r s h = rw (p, q, r, s) at h
+
+pub indexed_slices : (bs : List ℕ) (es : List Entry) (os : List ℕ) (bytes : List ℕ) (entries : List Entry) (order : List ℕ) (ms : List Macro) → bs ≡ bytes → es ≡ entries → os ≡ order → IsStored bytes entries ms → IsIndex (names_of ms) order → IsIndex (names_of (macros_in bs es)) os
+indexed_slices bs es os bytes entries order ms p q r s x =
+    let P : List Macro → Type 0 = λ l. IsIndex (names_of l) order in
+    rw (p, q, r) (subst P (sym (read_back bytes entries ms s)) x)
+
+-- no macro of a name is left without it
+stays_none : (b : Bool) (m : Macro) (rest : List Macro) (name : List ℕ) → bytes_eq m.name name ≡ b → ((k : ℕ) → k < length rest → bytes_eq (macro_at rest k).name name ≡ false) → (k : ℕ) → k < length (cond (not b) (m ∷ rest) rest) → bytes_eq (macro_at (cond (not b) (m ∷ rest) rest) k).name name ≡ false
+stays_none true m rest name e h k l = h k l
+stays_none false m rest name e h zero l = e
+stays_none false m rest name e h (suc k) l = h k (omega arith)
+
+none_stays : (name : List ℕ) (ms : List Macro) (k : ℕ) → k < length (without name ms) → bytes_eq (macro_at (without name ms) k).name name ≡ false
+unfolding without
+none_stays name [] k l = absurd (omega arith)
+none_stays name (m ∷ ms) k l = stays_none (bytes_eq m.name name) m (without name ms) name refl (none_stays name ms) k l
+
+pub nowhere_without : (name : List ℕ) (ms : List Macro) → place_named (without name ms) name ≡ None
+nowhere_without name ms = position_none (λ m. bytes_eq m.name name) (without name ms) no_macro (none_stays name ms)
+
+pub nowhere_stored : (bs : List ℕ) (es : List Entry) (bytes : List ℕ) (entries : List Entry) (name : List ℕ) (ms : List Macro) → bs ≡ bytes → es ≡ entries → IsStored bytes entries (without name ms) → place_named (macros_in bs es) name ≡ None
+nowhere_stored bs es bytes entries name ms p q s =
+    ap (λ (l : List ℕ). place_named (macros_in l es) name) p
+    ∙ (ap (λ (l : List Entry). place_named (macros_in bytes l) name) q
+    ∙ (ap (λ (l : List Macro). place_named l name) (read_back bytes entries (without name ms) s)
+    ∙ nowhere_without name ms))
+
+pub few_left : (bytes : List ℕ) (entries old_entries : List Entry) (old : List ℕ) (name : List ℕ) → IsStored bytes entries (without name (macros_in old old_entries)) → length old_entries ≤ 65536 → length entries ≤ 65536
+few_left bytes entries old_entries old name s h =
+    omega (arith, stored_count bytes entries _ s, without_length name (macros_in old old_entries), length_macros_in old old_entries)
+
+pub left_without : (ms : List Macro) (order name : List ℕ) (at taken : ℕ) (new : List ℕ) → IsDistinct bytes_eq (map (λ m. m.name) ms) → IsIndex (names_of ms) order → IsPlace (names_of ms) order name at → taken ≡ get_or order at 0 → new ≡ map (closed taken) (remove order at) → IsIndex (names_of (without name ms)) new
+left_without ms order name at taken new d x p e f =
+    let named : place_named ms name ≡ Some taken = indexed_place ms order name at x p ∙ ap Some (sym e) in
+    let names : remove (names_of ms) taken ≡ names_of (without name ms) = sym (ap names_of (without_at name ms taken d named) ∙ names_left ms taken) in
+    let P : List (List ℕ) → Type 0 = λ n. IsIndex n (map (closed taken) (remove order at)) in
+    let Q : List ℕ → Type 0 = λ o. IsIndex (names_of (without name ms)) o in
+    subst Q (sym f) (subst P names (left_index (names_of ms) order at taken x p.inside e))
+
+pub left_nowhere : (ms : List Macro) (order name : List ℕ) → place_named ms name ≡ None → IsIndex (names_of ms) order → IsIndex (names_of (without name ms)) order
+left_nowhere ms order name at x =
+    let P : List Macro → Type 0 = λ l. IsIndex (names_of l) order in
+    subst P (sym (without_nowhere name ms at)) x
+
+pub entered_with : (bs : List ℕ) (es : List Entry) (os : List ℕ) (bytes : List ℕ) (entries : List Entry) (order : List ℕ) (ms : List Macro) (m : Macro) (gap n : ℕ) (new : List ℕ) → bs ≡ bytes → es ≡ entries → os ≡ order → IsStored bytes entries ms → IsIndex (names_of ms) order → IsGap (names_of (macros_in bs es)) os m.name gap → n ≡ length entries → new ≡ insert order gap n → IsIndex (names_of (ms ++ m ∷ [])) new
+entered_with bs es os bytes entries order ms m gap n new p q r s x g e f =
+    let back : macros_in bytes entries ≡ ms = read_back bytes entries ms s in
+    let P : List Macro → Type 0 = λ l. IsGap (names_of l) order m.name gap in
+    let here : IsGap (names_of ms) order m.name gap = subst P back (gapped bs es os bytes entries order m.name m.name gap p q r refl g) in
+    let count : n ≡ length (names_of ms) = e ∙ (stored_count bytes entries ms s ∙ sym (count_names ms)) in
+    let Q : List (List ℕ) → Type 0 = λ l. IsIndex l (insert order gap n) in
+    let R : List ℕ → Type 0 = λ o. IsIndex (names_of (ms ++ m ∷ [])) o in
+    subst R (sym f) (subst Q (sym (map-append (λ (x : Macro). x.name) ms (m ∷ []))) (entered_index (names_of ms) order m.name gap n x here count))
+
+pub index_of_nothing : (bytes : List ℕ) (entries : List Entry) (order : List ℕ) → entries ≡ [] → order ≡ [] → IsIndex (names_of (macros_in bytes entries)) order
+index_of_nothing bytes entries order e f =
+    let nothing : List ℕ = [] in
+    let none : IsIndex (names_of []) nothing = record { long = refl; inside = λ k h. absurd (omega arith); whole = λ i h. absurd (omega arith); sorted = λ j k h l. absurd (omega arith) } in
+    let P : List ℕ → Type 0 = λ o. IsIndex (names_of []) o in
+    let Q : List Macro → Type 0 = λ l. IsIndex (names_of l) order in
+    subst Q (sym (macros_of_none bytes entries e)) (subst P (sym f) none)
+
+-- the place of a name among the macros of a table
+pub viewed_place : (bs : List ℕ) (es : List Entry) (bytes : List ℕ) (entries : List Entry) (a b : ℕ) (view : TableView) (name : List ℕ) (r : Option ℕ) → bs ≡ bytes → es ≡ entries → view_of bytes entries a b ≡ view → r ≡ place_named (macros_in bs es) name → r ≡ place_named view.macros name
+viewed_place bs es bytes entries a b view name r p q e h =
+    h ∙ (ap (λ (l : List ℕ). place_named (macros_in l es) name) p ∙ (ap (λ (l : List Entry). place_named (macros_in bytes l) name) q ∙ ap (λ (v : TableView). place_named v.macros name) e))
+
+pub indexed_after : (bytes : List ℕ) (entries : List Entry) (order : List ℕ) (ms : List Macro) → IsStored bytes entries ms → IsIndex (names_of ms) order → IsIndex (names_of (macros_in bytes entries)) order
+indexed_after bytes entries order ms s x = indexed_slices bytes entries order bytes entries order ms refl refl refl s x
+
+-- a table has no more entries than it takes
+pub few_entries : (bytes : List ℕ) (entries : List Entry) (a b : ℕ) → IsHeld bytes entries a b → length entries ≤ b
+few_entries bytes entries a b held = omega (arith, held.sound.macros_fit, length_macros_in bytes entries)

@@ -1,0 +1,82 @@
+-- The first stop of a text, token by token.
+use Rattle.std.proofs.Common.{◌≡◌, ℕ, ◌+◌, ◌<◌, ◌≤◌, true, false, List, length, take, drop, Option, Some, None, refl, ap, sym, ◌∙◌, arith}
+use Rattle.std.proofs.lemmas.List.{length-drop, nil_from_length}
+use Rattle.rdlpp_scan.specs.declared.token.Kind.{Kind}
+use Rattle.rdlpp_scan.specs.declared.token.Kind.TheVariants.{Name}
+use Rattle.rdlpp_scan.specs.declared.token.Mode.{Mode}
+use Rattle.rdlpp_scan.specs.declared.token.Mode.TheVariants.{Plain}
+use Rattle.rdlpp_scan.specs.declared.token.Token.{Token}
+use Rattle.rdlpp_scan.specs.Tokens.{token_of, tokens_from}
+use Rattle.rdlpp_scan.proofs.TokenLists.{tokens_from-step}
+use Rattle.rdlpp_table.specs.declared.stop.Stop.{Stop}
+use Rattle.rdlpp_table.specs.declared.stop.Stop.TheVariants as stop
+use Rattle.rdlpp_table.specs.Table.{Formal}
+use Rattle.rdlpp_table.specs.Stops.{first_stop, is_none, or_stop, stop_at, stop_name, stop_of}
+use Rattle.rdlpp_table.specs.View.{formal_named}
+
+-- the first stop of a text is that of what is left of it
+pub record IsStopping (formals : List Formal) (from : ℕ) (text : List ℕ) (mode : Mode) (at : ℕ) (rest : List ℕ) : Type 0 where
+  pub same : first_stop formals at (tokens_from mode 0 rest) rest ≡ stop_of formals from text
+  pub place : at + length rest ≡ from + length text
+
+or_none : (s other : Stop) → is_none s ≡ true → or_stop s other ≡ other
+unfolding is_none or_stop
+or_none stop.None other h = refl
+or_none (stop.Formal at len place) other h = absurd (cc)
+or_none (stop.Usage at len) other h = absurd (cc)
+or_none (stop.Bare at) other h = absurd (cc)
+
+or_some : (s other : Stop) → is_none s ≡ false → or_stop s other ≡ s
+unfolding is_none or_stop
+or_some stop.None other h = absurd (cc)
+or_some (stop.Formal at len place) other h = refl
+or_some (stop.Usage at len) other h = refl
+or_some (stop.Bare at) other h = refl
+
+one_token : (formals : List Formal) (at : ℕ) (mode : Mode) (rest : List ℕ) → 0 < length rest → 0 < (token_of mode rest).len → first_stop formals at (tokens_from mode 0 rest) rest ≡ or_stop (stop_at formals at (token_of mode rest) (take (token_of mode rest).len rest)) (first_stop formals (at + (token_of mode rest).len) (tokens_from (token_of mode rest).next_mode 0 (drop (token_of mode rest).len rest)) (drop (token_of mode rest).len rest))
+unfolding first_stop
+one_token formals at mode rest h l = ap (λ (ts : List Token). first_stop formals at ts rest) (tokens_from-step mode rest h l)
+
+-- the same by a token that was read
+token_first : (formals : List Formal) (at : ℕ) (mode : Mode) (rest : List ℕ) (t : Token) → 0 < length rest → t ≡ token_of mode rest → 0 < t.len → first_stop formals at (tokens_from mode 0 rest) rest ≡ or_stop (stop_at formals at t (take t.len rest)) (first_stop formals (at + t.len) (tokens_from t.next_mode 0 (drop t.len rest)) (drop t.len rest))
+token_first formals at mode rest t h e l =
+    one_token formals at mode rest h (omega (arith, ap (λ (u : Token). u.len) e))
+    ∙ ap (λ (u : Token). or_stop (stop_at formals at u (take u.len rest)) (first_stop formals (at + u.len) (tokens_from u.next_mode 0 (drop u.len rest)) (drop u.len rest))) (sym e)
+
+pub stopping_start : (formals : List Formal) (from : ℕ) (text : List ℕ) → IsStopping formals from text Plain from text
+unfolding stop_of
+stopping_start formals from text = record { same = refl; place = refl }
+
+pub stopping_more : (formals : List Formal) (from : ℕ) (text : List ℕ) (mode : Mode) (at : ℕ) (rest : List ℕ) (t : Token) (here after : List ℕ) (s : Stop) → IsStopping formals from text mode at rest → 0 < length rest → t ≡ token_of mode rest → 0 < t.len → t.len ≤ length rest → here ≡ take t.len rest → after ≡ drop t.len rest → s ≡ stop_at formals at t here → is_none s ≡ true → IsStopping formals from text t.next_mode (at + t.len) after
+stopping_more formals from text mode at rest t here after s i h e l le p q f n =
+    let here_is : stop_at formals at t (take t.len rest) ≡ s = ap (stop_at formals at t) (sym p) ∙ sym f in
+    let others : Stop = first_stop formals (at + t.len) (tokens_from t.next_mode 0 (drop t.len rest)) (drop t.len rest) in
+    record {
+      same = ap (λ (r : List ℕ). first_stop formals (at + t.len) (tokens_from t.next_mode 0 r) r) q ∙ (sym (token_first formals at mode rest t h e l ∙ (ap (λ (x : Stop). or_stop x others) here_is ∙ or_none s others n)) ∙ i.same);
+      place = omega (arith, ap length q, length-drop t.len rest, i.place);
+    }
+
+pub stopping_found : (formals : List Formal) (from : ℕ) (text : List ℕ) (mode : Mode) (at : ℕ) (rest : List ℕ) (t : Token) (here : List ℕ) (s : Stop) → IsStopping formals from text mode at rest → 0 < length rest → t ≡ token_of mode rest → 0 < t.len → here ≡ take t.len rest → s ≡ stop_at formals at t here → is_none s ≡ false → s ≡ stop_of formals from text
+stopping_found formals from text mode at rest t here s i h e l p f n =
+    let here_is : stop_at formals at t (take t.len rest) ≡ s = ap (stop_at formals at t) (sym p) ∙ sym f in
+    let others : Stop = first_stop formals (at + t.len) (tokens_from t.next_mode 0 (drop t.len rest)) (drop t.len rest) in
+    sym (token_first formals at mode rest t h e l ∙ (ap (λ (x : Stop). or_stop x others) here_is ∙ or_some s others n)) ∙ i.same
+
+pub stopping_ended : (formals : List Formal) (from : ℕ) (text : List ℕ) (mode : Mode) (at : ℕ) (rest : List ℕ) → IsStopping formals from text mode at rest → length rest ≡ 0 → stop.None ≡ stop_of formals from text
+unfolding first_stop tokens_from
+stopping_ended formals from text mode at rest i h =
+    sym (ap (λ (r : List ℕ). first_stop formals at (tokens_from mode 0 r) r) (nil_from_length rest h)) ∙ i.same
+
+pub name_stop : (formals : List Formal) (at : ℕ) (t : Token) (bytes : List ℕ) (o : Option ℕ) → t.kind ≡ Name → o ≡ formal_named formals bytes → stop_name at t.len o ≡ stop_at formals at t bytes
+unfolding stop_at
+name_stop formals at t bytes o e f =
+    ap (stop_name at t.len) f
+    ∙ sym (ap (λ (k : Kind). let u : Token = record { kind = k; len = t.len; next_mode = t.next_mode } in stop_at formals at u bytes) e)
+
+pub some_stop : (at len place : ℕ) → stop_name at len (Some place) ≡ stop.Formal at len place
+unfolding stop_name
+some_stop at len place = refl
+
+pub none_stop : (at len : ℕ) → stop_name at len None ≡ stop.None
+unfolding stop_name
+none_stop at len = refl

@@ -1,0 +1,11 @@
+use Rattle.std.proofs.Common.{◌<◌, length, arith}
+use Rattle.rdlpp_table.proofs.Laid.{copied_at, count_entries, len_of_view}
+use Rattle.rdlpp_table.proofs.table.Table.is_copied.Goals as goal
+
+pub index-requires : goal.index-requires
+index-requires c = omega (arith, c.requires, len_of_view _ _ _ _ _ c.self.view_is, count_entries c.self.inside.entries, c.id.view_is)
+
+pub returns : goal.returns
+returns c =
+    let h : c.id.inside.index < length c.self.inside.entries.items = omega (arith, c.requires, len_of_view _ _ _ _ _ c.self.view_is, c.id.view_is) in
+    copied_at _ _ _ _ _ _ _ _ c.self.view_is c.self.invariant.held c.id.view_is h c.index.ensures

@@ -1,0 +1,119 @@
+// The index of a table: the places of its entries, sorted by name.
+ghost use Rattle.std.specs.Prelude.{◌≡◌, ◌+◌, ◌<◌, ◌≤◌, ◌^◌, MatchResult, None, insert, length, map, remove, slice_index, vec_capacity, vec_len};
+ghost use Rattle.rdlpp_table.specs.Entries.{AreWithin};
+ghost use Rattle.rdlpp_table.specs.Index.{closed, names_of, IsCounted, IsGap, IsIndex, IsMiddle, IsPlace};
+ghost use Rattle.rdlpp_table.specs.Store.{macros_in};
+ghost use Rattle.rdlpp_table.specs.View.{place_named};
+
+use crate::entry::{Entry, name_in};
+use crate::sought::{Sought, Steps};
+use std::cmp::Ordering;
+
+// A place between two others, with at most half of what is between them on either side.
+fn middle_of(low: usize, high: usize) -> usize
+    requires { low < high }
+    ensures { IsMiddle low high result }
+{
+    low + (high - low) / 2
+}
+
+// The place in the index of the entry of a name, or the place where it would stand, by halving.
+pub(crate) fn seek(
+    bytes: &[u8],
+    entries: &[Entry],
+    order: &[u32],
+    sought: &Sought,
+    steps: &mut Steps,
+) -> Result<usize, usize>
+    requires within { AreWithin (length bytes.now) entries.now }
+    requires indexed { IsIndex (names_of (macros_in bytes.now entries.now)) order.now }
+    requires few { length entries.now ≤ 65536 }
+    ensures found { MatchResult result (λ at. IsPlace (names_of (macros_in bytes.now entries.now)) order.now sought.now.name.now at) (λ gap. IsGap (names_of (macros_in bytes.now entries.now)) order.now sought.now.name.now gap) }
+    ensures steps { IsCounted steps.old steps.new }
+{
+    let mut low = 0;
+    let mut high = order.len();
+    while low < high {
+        let middle = middle_of(low, high);
+        let name = name_in(bytes, &entries[order[middle] as usize]);
+        match sought.compare(name, steps) {
+            Ordering::Less => low = middle + 1,
+            Ordering::Greater => high = middle,
+            Ordering::Equal => return Ok(middle),
+        }
+    }
+    Err(low)
+}
+
+// The place of the entry of a name.
+pub(crate) fn place_in(
+    bytes: &[u8],
+    entries: &[Entry],
+    order: &[u32],
+    name: &[u8],
+    steps: &mut Steps,
+) -> Option<usize>
+    requires within { AreWithin (length bytes.now) entries.now }
+    requires indexed { IsIndex (names_of (macros_in bytes.now entries.now)) order.now }
+    requires few { length entries.now ≤ 65536 }
+    ensures value { result ≡ place_named (macros_in bytes.now entries.now) name.now }
+    ensures steps { IsCounted steps.old steps.new }
+{
+    match seek(bytes, entries, order, &Sought::new(name), steps) {
+        Ok(at) => Some(order[at] as usize),
+        Err(_) => None,
+    }
+}
+
+// The place in the index at which a name that isn't there would stand.
+pub(crate) fn gap_in(bytes: &[u8], entries: &[Entry], order: &[u32], name: &[u8]) -> usize
+    requires within { AreWithin (length bytes.now) entries.now }
+    requires indexed { IsIndex (names_of (macros_in bytes.now entries.now)) order.now }
+    requires few { length entries.now ≤ 65536 }
+    requires absent { place_named (macros_in bytes.now entries.now) name.now ≡ None }
+    ensures { IsGap (names_of (macros_in bytes.now entries.now)) order.now name.now result }
+{
+    match seek(bytes, entries, order, &Sought::new(name), &mut Steps::new()) {
+        Ok(at) | Err(at) => at,
+    }
+}
+
+// Where a place lies once another one was taken out.
+#[tactic(auto, unfolding(crate::specs::Index::closed))]
+fn closed(taken: u32, place: u32) -> u32
+    ensures { result ≡ closed taken place }
+{
+    if taken < place { place - 1 } else { place }
+}
+
+// The places lie closer, once one was taken out.
+fn close_up(order: &mut [u32], taken: u32)
+    ensures { order.new ≡ map (closed taken) order.old }
+{
+    for place in order.iter_mut() {
+        *place = closed(taken, *place);
+    }
+}
+
+// Takes a place out of the index, and answers it.
+pub(crate) fn leave(order: &mut Vec<u32>, at: usize) -> usize
+    requires { at < vec_len order.old }
+    ensures value { result ≡ slice_index order.old.items at }
+    ensures items { order.new.items ≡ map (closed result) (remove order.old.items at) }
+    ensures capacity { vec_capacity order.new ≡ vec_capacity order.old }
+{
+    let taken = order.remove(at);
+    close_up(order.as_mut_slice(), taken);
+    taken as usize
+}
+
+// Puts a place into the index.
+pub(crate) fn enter(order: &mut Vec<u32>, gap: usize, place: usize)
+    requires gap { gap ≤ vec_len order.old }
+    requires room { vec_len order.old < vec_capacity order.old }
+    requires place { place < 2 ^ 32 }
+    ensures items { order.new.items ≡ insert order.old.items gap place }
+    ensures capacity { vec_capacity order.new ≡ vec_capacity order.old }
+{
+    let _ = order.insert(gap, place as u32);
+}

@@ -1,0 +1,67 @@
+// A name that is looked up, and the count of its comparisons.
+ghost use Rattle.std.specs.Prelude.{◌≡◌, ◌+◌, ℕ, ◌∷◌, length};
+ghost use Rattle.rdlpp_table.specs.Index.{name_order};
+
+use boxcar::tag::{Names, Tag};
+use std::cmp::Ordering;
+use std::marker::Model;
+
+/// How many names were compared in searches. Contracts see it as a number without an upper end;
+/// at run time it has no bytes and nothing is counted.
+#[derive(Drop)]
+pub struct Steps {
+    tag: Tag,
+}
+
+impl Model for Steps {
+    ghost Value = { ℕ };
+
+    ghost view = { λ s. length s.tag.numbers };
+}
+
+// One number more than a tag has.
+struct OneMore;
+
+impl Names<Tag> for OneMore {
+    ghost numbers = { λ t. 0 ∷ t.numbers };
+}
+
+impl Steps {
+    /// No comparison yet. Takes no memory.
+    pub fn new() -> Steps
+        ensures { result ≡ 0 }
+    {
+        Steps { tag: Tag::empty() }
+    }
+
+    // One comparison more.
+    fn tick(&mut self)
+        ensures { self.new ≡ self.old + 1 }
+    {
+        let next = Tag::of::<Tag, OneMore>(&self.tag);
+        self.tag = next;
+    }
+}
+
+// A name that is looked up. Only `compare` reads it, so that each comparison is a step.
+#[derive(Clone, Copy, Drop)]
+pub(crate) struct Sought<'a> {
+    name: &'a [u8],
+}
+
+impl<'a> Sought<'a> {
+    pub(crate) fn new(name: &'a [u8]) -> Sought<'a>
+        ensures { result.name.now ≡ name.now }
+    {
+        Sought { name }
+    }
+
+    // How another name stands to the one that is looked up, byte by byte.
+    pub(crate) fn compare(&self, other: &[u8], steps: &mut Steps) -> Ordering
+        ensures order { result ≡ name_order other.now self.now.name.now }
+        ensures step { steps.new ≡ steps.old + 1 }
+    {
+        steps.tick();
+        other.cmp(self.name)
+    }
+}

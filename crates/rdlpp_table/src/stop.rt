@@ -1,0 +1,95 @@
+// Where the text of a body isn't copied as it stands.
+ghost use Rattle.std.specs.Prelude.{[], length, slice_index, ◌+◌, ◌<◌, ◌≡◌, ◌^◌};
+ghost use Rattle.rdlpp_table.specs.Stops.{is_none, stop_at, stop_of};
+ghost use Rattle.rdlpp_table.specs.Store.{formals_from};
+
+use crate::formals::place_in_list;
+use rdlpp_scan::{Kind, Mode, Token, first_token};
+
+/// The first place of a range of a body that isn't copied as it stands.
+///
+/// Places and lengths are bytes, and places are counted from the front of the body.
+#[derive(Clone, Copy, Debug, PartialEq, Eq)]
+pub enum Stop {
+    /// There is none: the range is copied.
+    None,
+    /// A name that is a formal of the macro.
+    Formal {
+        /// Where the name begins.
+        at: usize,
+        /// How long it is.
+        len: usize,
+        /// Which formal it is, counted from 0.
+        place: usize,
+    },
+    /// A backquote and a name.
+    Usage {
+        /// Where the backquote stands.
+        at: usize,
+        /// How long the backquote and the name are.
+        len: usize,
+    },
+    /// A backquote without a name.
+    Bare {
+        /// Where it stands.
+        at: usize,
+    },
+}
+
+// Whether there is no stop.
+#[tactic(auto, unfolding(crate::specs::Stops::is_none))]
+fn is_none(stop: Stop) -> bool
+    ensures { result ≡ is_none stop }
+{
+    matches!(stop, Stop::None)
+}
+
+// What a token at a place is, among formals with a comma after each.
+#[tactic(auto, unfolding(crate::specs::Stops::stop_at))]
+fn stop_at(list: &[u8], at: usize, token: Token, text: &[u8]) -> Stop
+    ensures { result ≡ stop_at (formals_from [] list.now) at token text.now }
+{
+    match token.kind {
+        Kind::Back => Stop::Usage { at, len: token.len },
+        Kind::BareBackquote => Stop::Bare { at },
+        Kind::Name => match place_in_list(list, text) {
+            Some(place) => Stop::Formal {
+                at,
+                len: token.len,
+                place,
+            },
+            None => Stop::None,
+        },
+        _ => Stop::None,
+    }
+}
+
+// The first stop of a text whose first byte stands at a place, among formals with a comma after each.
+pub(crate) fn first_stop(list: &[u8], text: &[u8], from: usize) -> Stop
+    requires { from + length text.now < 2 ^ 64 }
+    ensures { result ≡ stop_of (formals_from [] list.now) from text.now }
+{
+    let mut mode = Mode::Plain;
+    let mut rest = text;
+    let mut at = from;
+    while !rest.is_empty() {
+        let token = first_token(mode, rest);
+        let (here, after) = rest.split_at(token.len);
+        let stop = stop_at(list, at, token, here);
+        if !is_none(stop) {
+            return stop;
+        }
+        mode = token.next_mode;
+        at += token.len;
+        rest = after;
+    }
+    Stop::None
+}
+
+// Whether a body is copied as it stands, where its formals have a comma after each.
+pub(crate) fn is_copied(list: &[u8], body: &[u8]) -> bool
+    requires { length body.now < 2 ^ 64 }
+    ensures { result ≡ is_none (stop_of (formals_from [] list.now) 0 body.now) }
+{
+    is_none(first_stop(list, body, 0))
+}
