@@ -41,6 +41,7 @@ pub mod OddRows
 pub mod BorderRows
 pub mod DefaultRows
 pub mod OutputLimitRows
+pub mod LiveText
 pub mod TornCalls
 pub mod TornRuns
 pub mod TornPieces
