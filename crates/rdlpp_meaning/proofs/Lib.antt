@@ -42,6 +42,7 @@ pub mod BorderRows
 pub mod DefaultRows
 pub mod OutputLimitRows
 pub mod LiveText
+pub mod NestMoves
 pub mod TornCalls
 pub mod TornRuns
 pub mod TornPieces
