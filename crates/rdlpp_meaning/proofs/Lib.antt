@@ -43,6 +43,7 @@ pub mod DefaultRows
 pub mod OutputLimitRows
 pub mod LiveText
 pub mod NestMoves
+pub mod ConditionalMoves
 pub mod TornCalls
 pub mod TornRuns
 pub mod TornPieces
