@@ -44,6 +44,7 @@ pub mod OutputLimitRows
 pub mod LiveText
 pub mod NestMoves
 pub mod ConditionalMoves
+pub mod SkippedText
 pub mod TornCalls
 pub mod TornRuns
 pub mod TornPieces
