@@ -45,6 +45,7 @@ pub mod LiveText
 pub mod NestMoves
 pub mod ConditionalMoves
 pub mod SkippedText
+pub mod SkippedStretches
 pub mod TornCalls
 pub mod TornRuns
 pub mod TornPieces

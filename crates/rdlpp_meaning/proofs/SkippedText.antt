@@ -1,30 +1,25 @@
 -- Skipped text, token by token and in stretches, where any sources wait: of a token its LF bytes are written, and only the words of
 -- conditionals count. What a directive would take there is skipped as text like any other.
-use Rattle.std.proofs.Common.{◌≡◌, ℕ, suc, Bool, true, false, not, ◌&&◌, List, [], ◌∷◌, ◌++◌, take, drop, refl, sym, ap, ◌∙◌, Option, None, Some, append_assoc}
+use Rattle.std.proofs.Common.{◌≡◌, ℕ, Bool, true, false, ◌&&◌, List, [], ◌∷◌, ◌++◌, take, drop, refl, sym, ap, ◌∙◌, Option, None, Some}
 use Rattle.std.specs.Prelude.{if◌then◌else◌}
 use Rattle.std.specs.List.{list_all, list_any}
 use Rattle.std.proofs.lemmas.List.{take-append-drop}
-use Rattle.rdlpp_scan.specs.declared.token.Kind.{Kind}
 use Rattle.rdlpp_scan.specs.declared.token.Kind.TheVariants.{Name, Blank, Str}
 use Rattle.rdlpp_scan.specs.declared.token.Directive.{Directive}
-use Rattle.rdlpp_scan.specs.declared.token.Directive.TheVariants.{Define, Undef, Ifdef, Ifndef, Elsif, Else, Endif, Include, Line}
+use Rattle.rdlpp_scan.specs.declared.token.Directive.TheVariants.{Undef, Ifdef, Ifndef, Elsif, Include}
 use Rattle.rdlpp_scan.specs.Bytes.{is_line_end}
-use Rattle.rdlpp_scan.specs.Front.{Breach}
 use Rattle.rdlpp_scan.specs.SourceTokens.{Sort, Ordinary, Definition, Renumbering, Broken, SourceToken}
-use Rattle.rdlpp_meaning.specs.Outcome.{Outcome, gives, fails, and_then}
-use Rattle.rdlpp_meaning.specs.State.{Rules, State, fault_at, breach_kind}
+use Rattle.rdlpp_meaning.specs.Outcome.{gives}
+use Rattle.rdlpp_meaning.specs.State.{Rules, State}
 use Rattle.rdlpp_meaning.specs.Expansion.{bytes_of}
-use Rattle.rdlpp_meaning.specs.Parts.{Argument, no_argument, one_argument, behind_blanks, name_in_front, string_in_front, past_blanks, argument_of, command_of, command_in_front, behind_directive, piece_of, only_blanks, line_ends_of, directive_of}
-use Rattle.rdlpp_meaning.specs.Meaning.{Passage, leaves, behind_bytes, goes_on, skipped_command, Progress}
+use Rattle.rdlpp_meaning.specs.Parts.{Argument, no_argument, one_argument, behind_blanks, name_in_front, string_in_front, past_blanks, argument_of, command_of, behind_directive, only_blanks, line_ends_of, directive_of}
+use Rattle.rdlpp_meaning.specs.Meaning.{Passage, behind_bytes, skipped_command, Progress}
 use Rattle.rdlpp_meaning.specs.Resumed.{Skipped, resumed, behind, skips}
-use Rattle.rdlpp_meaning.specs.Opened.{Waiting, all_remains}
-use Rattle.rdlpp_meaning.proofs.Passages.{goes_on-gives, behind_bytes-nil, behind_bytes-twice, gives_fails-goes_on}
+use Rattle.rdlpp_meaning.proofs.Passages.{goes_on-gives, behind_bytes-nil, behind_bytes-twice}
 use Rattle.rdlpp_meaning.proofs.Remaining.{only_blanks-append}
 use Rattle.rdlpp_meaning.proofs.Trees.{line_ends_of-append}
-use Rattle.rdlpp_meaning.proofs.Directives.{argument_takes, skipped_single, skipped_opening, skipped_inner_branch, skipped_inner_end}
-use Rattle.rdlpp_meaning.proofs.Skipping.{skipped_token, ordinary_skips, broken_skips}
-use Rattle.rdlpp_meaning.proofs.ConditionalMoves.{opens_conditional, branches_conditional, opening_piece, branching_piece, closing_piece}
-use Rattle.rdlpp_meaning.proofs.NestMoves.{all_remains_behind, all_remains_behind_fails}
+use Rattle.rdlpp_meaning.proofs.Directives.{argument_takes}
+use Rattle.rdlpp_meaning.proofs.Skipping.{skipped_token, ordinary_skips}
 
 -- whether a token is ordinary and begins no directive
 unfoldable pub is_text : SourceToken → Bool
@@ -70,12 +65,12 @@ second_holds true b e = e
 second_holds false b e = cc
 
 -- where one token is skipped and then others are, all are
-IsPassed : Rules → ℕ → Progress → List Progress → List SourceToken → List SourceToken → State → Type 0
+unfoldable pub IsPassed : Rules → ℕ → Progress → List Progress → List SourceToken → List SourceToken → State → Type 0
 IsPassed rules n p os ts more s = (first : Bool) → resumed rules (Skipped n p os) first (ts ++ more) s
     ≡ behind_bytes (line_ends_of (bytes_of ts)) (resumed rules (Skipped n p os) (only_blanks first (bytes_of ts)) more s)
 
 -- by one token
-passed_one : (rules : Rules) (n : ℕ) (p : Progress) (os : List Progress) (t : SourceToken) (ts more : List SourceToken) (s : State)
+pub passed_one : (rules : Rules) (n : ℕ) (p : Progress) (os : List Progress) (t : SourceToken) (ts more : List SourceToken) (s : State)
     → ((first : Bool) → resumed rules (Skipped n p os) first (t ∷ (ts ++ more)) s
     ≡ behind_bytes (line_ends_of t.bytes) (resumed rules (Skipped n p os) (only_blanks first t.bytes) (ts ++ more) s))
     → IsPassed rules n p os ts more s → IsPassed rules n p os (t ∷ ts) more s
@@ -90,7 +85,7 @@ passed_one rules n p os t ts more s one rest first =
     ∙ ap (λ (f : Bool). behind_bytes (line_ends_of (x ++ y)) (resumed rules (Skipped n p os) f more s)) (sym (only_blanks-append first x y))
 
 -- no tokens are passed
-passed_none : (rules : Rules) (n : ℕ) (p : Progress) (os : List Progress) (more : List SourceToken) (s : State) → IsPassed rules n p os [] more s
+pub passed_none : (rules : Rules) (n : ℕ) (p : Progress) (os : List Progress) (more : List SourceToken) (s : State) → IsPassed rules n p os [] more s
 unfolding IsPassed only_blanks line_ends_of
 passed_none rules n p os more s first = sym (behind_bytes-nil (resumed rules (Skipped n p os) first more s))
 
