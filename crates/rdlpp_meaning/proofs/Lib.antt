@@ -46,6 +46,8 @@ pub mod NestMoves
 pub mod ConditionalMoves
 pub mod SkippedText
 pub mod SkippedStretches
+pub mod LineDirective
+pub mod AddedEnds
 pub mod TornCalls
 pub mod TornRuns
 pub mod TornPieces
