@@ -45,6 +45,7 @@ pub mod LiveText
 pub mod NestMoves
 pub mod ConditionalMoves
 pub mod SkippedText
+pub mod DirectiveWords
 pub mod SkippedStretches
 pub mod LineDirective
 pub mod AddedEnds

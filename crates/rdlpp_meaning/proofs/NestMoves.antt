@@ -1,6 +1,6 @@
 -- Moves in a nest of open sources: what the innermost one writes or changes, where any others wait for it.
-use Rattle.std.proofs.Common.{◌≡◌, ℕ, suc, ◌<◌, Bool, true, false, ◌||◌, List, [], ◌∷◌, ◌++◌, length, ap, ◌∙◌, None, Some}
-use Rattle.std.specs.Prelude.{drop, not, ◌==◌}
+use Rattle.std.proofs.Common.{◌≡◌, ℕ, suc, ◌<◌, ◌≤◌, Bool, true, false, ◌||◌, List, [], ◌∷◌, ◌++◌, length, ap, ◌∙◌, None, Some}
+use Rattle.std.specs.Prelude.{take, drop, not, ◌==◌}
 use Rattle.std.specs.List.{list_all}
 use Rattle.std.specs.Str.{is_utf8}
 use Rattle.rdlpp_scan.specs.declared.token.Kind.{Kind}
@@ -15,16 +15,17 @@ use Rattle.rdlpp_meaning.specs.declared.fault.FaultKind.TheVariants.{BareBackquo
 use Rattle.rdlpp_meaning.specs.Outcome.{Told, Outcome, gives, fails, and_then}
 use Rattle.rdlpp_meaning.specs.State.{Accepted, Refused, NoSource, LongPath, Rules, State, fault_at, breach_kind}
 use Rattle.rdlpp_meaning.specs.Substitution.{body_tokens}
-use Rattle.rdlpp_meaning.specs.Expansion.{is_copied, usage_token, bytes_of}
+use Rattle.rdlpp_meaning.specs.Expansion.{is_copied, run_outcome, usage_token, bytes_of}
 use Rattle.rdlpp_meaning.specs.Parts.{Command, only_blanks, line_ends_of, directive_of, argument_of, command_of, command_in_front, behind_directive}
 use Rattle.rdlpp_meaning.specs.Meaning.{Passage, leaves, outcome, behind_bytes, goes_on, refusal, Fine, Faulty, macro_name, unquoted, Progress}
-use Rattle.rdlpp_meaning.specs.Resumed.{Place, Live, resumed, remains}
+use Rattle.rdlpp_meaning.specs.Resumed.{Place, Live, resumed, remains, leading, trailing}
 use Rattle.rdlpp_meaning.specs.Opened.{Waiting, unwound, all_resumed, all_remains}
 use Rattle.rdlpp_meaning.proofs.Passages.{outcome-leaves, fails-goes_on}
 use Rattle.rdlpp_meaning.proofs.Outputs.{outcome-behind_bytes}
 use Rattle.rdlpp_meaning.proofs.Undefining.{resumed_undef, resumed_bad_undef}
-use Rattle.rdlpp_meaning.proofs.Includes.{behind_bytes-goes_on, all_resumed_alone, all_resumed_move, include_nameless, include_bad_name, include_too_deep, include_not_found, include_long_path}
+use Rattle.rdlpp_meaning.proofs.Includes.{behind_bytes-goes_on, all_resumed_alone, all_remains_step, all_resumed_move, include_nameless, include_bad_name, include_too_deep, include_not_found, include_long_path}
 use Rattle.rdlpp_meaning.proofs.Remaining.{remains_end}
+use Rattle.rdlpp_meaning.proofs.Leading.{resumed_run, resumed_part}
 use Rattle.rdlpp_meaning.proofs.LiveText.{resumed_copied, resumed_undefined, resumed_unbuilt, resumed_copied_body, resumed_bare, resumed_broken, resumed_copied_parts, resumed_broken_parts, resumed_defined, resumed_refused}
 
 -- what the innermost source writes first, the nest writes first
@@ -95,6 +96,24 @@ pub all_remains_nothing : (rules : Rules) (first : Bool) (s : State) → all_rem
 unfolding all_remains remains
 all_remains_nothing rules first s =
     ap outcome (all_resumed_alone rules (Live []) first [] s) ∙ remains_end rules first s
+
+-- a run comes to its expansion, and then what remains behind it
+pub all_remains_run : (rules : Rules) (ws : List Waiting) (os : List Progress) (first : Bool) (ts : List SourceToken) (s : State)
+    → all_remains rules ws (Live os) first ts s
+    ≡ and_then (run_outcome rules s (leading ts)) (all_remains rules ws (Live os) (only_blanks first (bytes_of (leading ts))) (trailing ts) s)
+all_remains_run rules ws os first ts s =
+    all_remains_step rules ws (Live os) (Live os) first (only_blanks first (bytes_of (leading ts))) ts (trailing ts) s s
+    (run_outcome rules s (leading ts)) (resumed_run rules os first ts s)
+
+-- where a run comes to an outcome and then the run behind its first tokens, as behind a usage with its call, so does what remains
+pub all_remains_part : (rules : Rules) (ws : List Waiting) (os : List Progress) (first : Bool) (k : ℕ) (ts : List SourceToken) (s : State) (o : Outcome)
+    → k ≤ length (leading ts)
+    → run_outcome rules s (leading ts) ≡ and_then o (run_outcome rules s (drop k (leading ts)))
+    → all_remains rules ws (Live os) first ts s
+    ≡ and_then o (all_remains rules ws (Live os) (only_blanks first (bytes_of (take k ts))) (drop k ts) s)
+all_remains_part rules ws os first k ts s o h e =
+    all_remains_step rules ws (Live os) (Live os) first (only_blanks first (bytes_of (take k ts))) ts (drop k ts) s s o
+    (resumed_part rules os first k ts s o h e)
 
 -- tokens that are copied give their bytes
 pub all_remains_copied : (rules : Rules) (ws : List Waiting) (os : List Progress) (first : Bool) (ts more : List SourceToken) (s : State)
