@@ -1,6 +1,6 @@
 -- Conditionals in a nest of open sources: what the words `ifdef`, `ifndef`, `elsif`, `else` and `endif` do in live text and in
 -- skipped text that they end, and the end of a source in an open conditional, where any sources wait.
-use Rattle.std.proofs.Common.{◌≡◌, ℕ, Bool, true, false, List, [], ◌∷◌, ◌++◌, refl, sym, ap, ◌∙◌, Option, Some, append-nil}
+use Rattle.std.proofs.Common.{◌≡◌, ℕ, Bool, true, false, List, [], ◌∷◌, refl, ap, ◌∙◌, Some, append-nil}
 use Rattle.rdlpp_scan.specs.declared.token.Directive.{Directive}
 use Rattle.rdlpp_scan.specs.declared.token.Directive.TheVariants.{Ifdef, Ifndef, Elsif, Else, Endif}
 use Rattle.rdlpp_scan.specs.SourceTokens.{SourceToken}

@@ -1,6 +1,6 @@
 -- Laws of live text, in any open conditionals: what remains of a source where a token stands in front that begins no directive,
 -- or a `define`. Nothing is lost of the state, so they hold in a nest of open sources too (`NestMoves`).
-use Rattle.std.proofs.Common.{◌≡◌, ℕ, ◌<◌, Bool, true, false, ◌&&◌, List, [], ◌∷◌, ◌++◌, length, map, refl, sym, ap, ◌∙◌, None, Some, append_assoc}
+use Rattle.std.proofs.Common.{◌≡◌, ℕ, ◌<◌, Bool, true, false, ◌&&◌, List, [], ◌∷◌, ◌++◌, length, map, refl, sym, ap, ◌∙◌, None, Some}
 use Rattle.std.specs.Prelude.{drop}
 use Rattle.std.specs.List.{list_all}
 use Rattle.rdlpp_scan.specs.declared.token.Kind.{Kind}
@@ -12,7 +12,7 @@ use Rattle.rdlpp_scan.specs.Stage.{is_reserved}
 use Rattle.rdlpp_table.specs.Table.{Macro, macro_named}
 use Rattle.rdlpp_meaning.specs.declared.fault.FaultKind.{FaultKind}
 use Rattle.rdlpp_meaning.specs.declared.fault.FaultKind.TheVariants.{BareBackquote as NoName, UndefinedMacro, Unbuilt}
-use Rattle.rdlpp_meaning.specs.Outcome.{Told, Outcome, gives, fails, and_then}
+use Rattle.rdlpp_meaning.specs.Outcome.{Told, gives, fails, and_then}
 use Rattle.rdlpp_meaning.specs.State.{Defined, Accepted, Refused, Rules, State, fault_at, breach_kind}
 use Rattle.rdlpp_meaning.specs.Items.{Written}
 use Rattle.rdlpp_meaning.specs.Substitution.{body_tokens}

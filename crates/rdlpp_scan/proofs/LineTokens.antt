@@ -1,5 +1,5 @@
 -- The token of `line`: that word with the rest of its physical line, at the front of what is held of a source.
-use Rattle.std.proofs.Common.{◌≡◌, ℕ, zero, suc, ◌+◌, ◌<◌, Bool, true, false, List, [], ◌∷◌, ◌++◌, length, take, drop, refl, sym, ap, ◌∙◌}
+use Rattle.std.proofs.Common.{◌≡◌, ℕ, zero, suc, ◌+◌, ◌<◌, Bool, true, List, [], ◌∷◌, ◌++◌, length, take, drop, refl, ap, ◌∙◌}
 use Rattle.std.specs.Prelude.{codes, bytes_eq}
 use Rattle.std.proofs.lemmas.Slice.Eq.{bytes_eq-Decides}
 use Rattle.rdlpp_scan.specs.declared.token.Kind.TheVariants.{Back}
@@ -9,7 +9,6 @@ use Rattle.rdlpp_scan.specs.Tokens.{token_of}
 use Rattle.rdlpp_scan.specs.SourceTokens.{SourceToken, Renumbering, line_ends, line_len, remaining_tokens}
 use Rattle.rdlpp_scan.specs.Lines.{EndsLine}
 use Rattle.rdlpp_scan.proofs.RemainingSteps.{IsBuiltAt, remaining-line}
-use Rattle.rdlpp_scan.proofs.SourceLaws.{line_ends-append}
 
 -- what is held of a source ends at a line end or at the text's end, and begins with a `line`, which is built there
 pub record HoldsLine (unbuilt : List ℕ → Bool) (held rest : List ℕ) : Type 0 where
