@@ -36,7 +36,7 @@ deeper_copied rules s zero line o m h e copied = absurd (omega arith)
 deeper_copied rules s (suc d) line o m h e copied = expand_copied_body rules s d (Some line) o [] m e copied
 
 -- a usage of such a macro writes its body
-body_writes : (rules : Rules) (s : State) (name : List ℕ) (line : ℕ) (m : Macro) → 0 < rules.depth
+pub body_writes : (rules : Rules) (s : State) (name : List ℕ) (line : ℕ) (m : Macro) → 0 < rules.depth
     → is_reserved name ≡ false → macro_named s.macros name ≡ Some m → rules.unbuilt_macro m ≡ false
     → m.formals ≡ None → list_all is_copied (body_tokens m.body) ≡ true
     → Writes rules s (usage_token name line) (gives m.body)

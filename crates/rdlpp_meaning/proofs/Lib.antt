@@ -41,6 +41,14 @@ pub mod OddRows
 pub mod BorderRows
 pub mod DefaultRows
 pub mod OutputLimitRows
+pub mod LiveText
+pub mod NestMoves
+pub mod ConditionalMoves
+pub mod SkippedText
+pub mod DirectiveWords
+pub mod SkippedStretches
+pub mod LineDirective
+pub mod AddedEnds
 pub mod TornCalls
 pub mod TornRuns
 pub mod TornPieces

@@ -1,5 +1,5 @@
 -- Laws of passages: one and then what goes on from its state.
-use Rattle.std.proofs.Common.{◌≡◌, ℕ, List, [], refl, ap, append_assoc, Option, None, Some}
+use Rattle.std.proofs.Common.{◌≡◌, ℕ, List, [], ◌++◌, refl, sym, ap, append_assoc, Option, None, Some}
 use Rattle.rdlpp_meaning.specs.declared.fault.FaultKind.{FaultKind}
 use Rattle.rdlpp_meaning.specs.Outcome.{Told, Outcome, gives, fails, and_then}
 use Rattle.rdlpp_meaning.specs.State.{State}
@@ -89,3 +89,20 @@ goes_on-gives x s next = refl
 pub fails-goes_on : (f : Told) (s : State) (next : State → Passage) → goes_on (leaves (fails f) s) next ≡ leaves (fails f) s
 unfolding goes_on leaves fails
 fails-goes_on f s next = refl
+
+-- no bytes in front of a passage are nothing
+pub behind_bytes-nil : (p : Passage) → behind_bytes [] p ≡ p
+unfolding behind_bytes
+behind_bytes-nil p = refl
+
+-- bytes in front of bytes in front of a passage
+pub behind_bytes-twice : (x y : List ℕ) (p : Passage) → behind_bytes x (behind_bytes y p) ≡ behind_bytes (x ++ y) p
+unfolding behind_bytes
+behind_bytes-twice x y p =
+    ap (λ (z : List ℕ). record { bytes = z; fault = p.fault; after = p.after }) (sym (append_assoc x y p.bytes))
+
+-- bytes and a fault behind which nothing goes on
+pub gives_fails-goes_on : (x : List ℕ) (f : Told) (s : State) (next : State → Passage)
+    → goes_on (leaves (and_then (gives x) (fails f)) s) next ≡ behind_bytes x (leaves (fails f) s)
+unfolding goes_on leaves and_then gives fails behind_bytes
+gives_fails-goes_on x f s next = refl

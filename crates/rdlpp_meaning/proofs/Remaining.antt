@@ -38,11 +38,11 @@ copied_text_by Renumbering bytes line e = cc
 copied_text_by (Broken b) bytes line e = refl
 
 -- a token that is copied begins no directive
-copied_text : (t : SourceToken) → is_copied t ≡ true → directive_of t ≡ None
+pub copied_text : (t : SourceToken) → is_copied t ≡ true → directive_of t ≡ None
 copied_text t e = copied_text_by t.sort t.bytes t.line e
 
 -- a token that is copied writes its bytes
-copied_writes : (rules : Rules) (s : State) (t : SourceToken) → is_copied t ≡ true → Writes rules s t (gives t.bytes)
+pub copied_writes : (rules : Rules) (s : State) (t : SourceToken) → is_copied t ≡ true → Writes rules s t (gives t.bytes)
 unfolding Writes run_outcome
 copied_writes rules s t e us =
     expand_walk rules s rules.depth None [] (Written t ∷ map Written us)
@@ -136,7 +136,7 @@ deeper_body rules s zero line o m h e plain = absurd (omega arith)
 deeper_body rules s (suc d) line o m h e plain = expand_body rules s d (Some line) o [] m e plain
 
 -- a usage of such a macro writes its body
-plain_writes : (rules : Rules) (s : State) (name : List ℕ) (line : ℕ) (m : Macro) → 0 < rules.depth
+pub plain_writes : (rules : Rules) (s : State) (name : List ℕ) (line : ℕ) (m : Macro) → 0 < rules.depth
     → is_reserved name ≡ false → macro_named s.macros name ≡ Some m → rules.unbuilt_macro m ≡ false
     → m.formals ≡ None → plain_len m.body ≡ length m.body
     → Writes rules s (usage_token name line) (gives m.body)
@@ -162,7 +162,7 @@ remains_usage rules os first name line more s m h r e u f plain =
     (plain_writes rules s name line m h r e u f plain)
 
 -- a lone backquote writes its fault
-bare_writes : (rules : Rules) (s : State) (bytes : List ℕ) (line : ℕ)
+pub bare_writes : (rules : Rules) (s : State) (bytes : List ℕ) (line : ℕ)
     → Writes rules s (record { sort = Ordinary BareBackquote; bytes = bytes; line = line }) (fails (fault_at NoName line [] s))
 unfolding Writes run_outcome walk and_then fails
 bare_writes rules s bytes line us =
@@ -179,7 +179,7 @@ remains_bare rules os first bytes line more s =
     ∙ and_then-fails (fault_at NoName line [] s) (remains rules (Live os) (only_blanks first bytes) more s)
 
 -- a broken token writes its bytes and its fault
-broken_writes : (rules : Rules) (s : State) (b : Breach) (bytes : List ℕ) (line : ℕ)
+pub broken_writes : (rules : Rules) (s : State) (b : Breach) (bytes : List ℕ) (line : ℕ)
     → Writes rules s (record { sort = Broken b; bytes = bytes; line = line })
     (and_then (gives bytes) (fails (fault_at (breach_kind b) line [] s)))
 unfolding Writes run_outcome walk and_then gives fails
@@ -204,7 +204,7 @@ abbrev pub define_command : Bool → List ℕ → ℕ → Command
 define_command first bytes line = record { word = Define; given = None; text = bytes; line = line; first = first }
 
 -- a `define` in front of tokens is a piece
-define_piece : (first : Bool) (bytes : List ℕ) (line : ℕ) (more : List SourceToken)
+pub define_piece : (first : Bool) (bytes : List ℕ) (line : ℕ) (more : List SourceToken)
     → pieces first 0 (record { sort = Definition; bytes = bytes; line = line } ∷ more)
     ≡ Single (define_command first bytes line) ∷ pieces (only_blanks first bytes) 0 more
 unfolding pieces directive_of argument_of no_argument command_of piece_of

@@ -31,3 +31,4 @@ pub mod ResumedTokens
 pub mod FirstTokens
 pub mod ClosedKinds
 pub mod OrdinaryTokens
+pub mod LineTokens
