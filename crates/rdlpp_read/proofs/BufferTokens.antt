@@ -1,97 +1,215 @@
 -- The tokens that remain of an open source, as lines are read, accepted and used.
-use Rattle.std.proofs.Common.{◌≡◌, ℕ, ◌-◌, ◌≤◌, Bool, List, [], ◌++◌, length, take, drop, None, Some, refl, sym, ap, ◌∙◌, arith, ◌⊎◌, inl, inr}
-use Rattle.std.proofs.lemmas.List.{append-nil, append_assoc, length-take-le, take-append-drop, drop_all}
+use Rattle.std.proofs.Common.{◌≡◌, ℕ, ◌+◌, ◌-◌, ◌≤◌, ◌<◌, Bool, List, [], ◌++◌, length, take, drop, None, Some, refl, sym, ap, subst, ◌∙◌, arith, ◌⊎◌, inl, inr}
+use Rattle.std.proofs.lemmas.List.{append-nil, append_assoc, drop-drop, drop-take, length-append, length-drop, length-take, length-take-le}
 use Rattle.rdlpp_scan.specs.declared.token.Mode.{Mode}
 use Rattle.rdlpp_scan.specs.declared.token.Mode.TheVariants.{Plain, InStr, InBlock}
-use Rattle.rdlpp_scan.specs.Front.{front, onto_front, Break, lines_of, front_of_lines}
-use Rattle.rdlpp_scan.specs.SourceTokens.{remaining_tokens, source_tokens, source_end, open_end, broken, line_ends}
-use Rattle.rdlpp_scan.specs.Stage.{is_unbuilt}
-use Rattle.rdlpp_scan.specs.Lines.{whole_lines_len}
-use Rattle.rdlpp_read.proofs.Fronts.{accept-front}
-use Rattle.rdlpp_read.specs.Buffer.{BufferView, IsFresh, held_of, unread_of, rest_of, tokens_left}
-use Rattle.rdlpp_read.specs.Filling.{Accepts, Seeks, ended_tokens, only_broken}
+use Rattle.rdlpp_scan.specs.Front.{front, Break, LineLong as LineBreach, SourceLong as SourceBreach}
+use Rattle.rdlpp_scan.specs.SourceTokens.{SourceToken, remaining_tokens, source_tokens, source_end, open_end, broken, line_ends, line_len}
+use Rattle.std.proofs.Math.Seq.{drop-nil}
+use Rattle.rdlpp_scan.specs.Lines.{EndsLine, IsWholeLines, whole_lines_len}
+use Rattle.rdlpp_scan.proofs.WholeLines.{IsWholeLines-drop}
+use Rattle.rdlpp_scan.proofs.FrontLaws.{front-none, front-line_long, front-source_long}
+use Rattle.rdlpp_scan.proofs.RemainingLaws.{remaining-accept}
+use Rattle.rdlpp_read.specs.Buffer.{BufferView, EndsHeld, ahead_of, held_of, unread_of, rest_of, tokens_left, unused_of}
+use Rattle.rdlpp_read.specs.Filling.{Fills, Grows, GrowsBy, HasBytes, Lengthens, Stays, TellsTokens, ended_tokens, only_broken}
+use Rattle.rdlpp_read.specs.declared.buffer.filling.Fill.{Fill}
+use Rattle.rdlpp_read.specs.declared.buffer.filling.Fill.TheVariants.{Held, End, SourceLong, LineLong, Failed}
 
--- nothing is held where nothing is accepted
-pub held-fresh : {R : Type 0} (f : BufferView R) → IsFresh f → held_of f ≡ []
-unfolding held_of
-held-fresh f fresh = rw (fresh.at, fresh.accepted) refl
-
--- all that is in the window is still to be accepted
-pub rest-fresh : {R : Type 0} (unread : R → List ℕ) (f : BufferView R) → IsFresh f → rest_of unread f ≡ f.window ++ unread_of unread f.reader
-unfolding rest_of
-rest-fresh unread f fresh = rw fresh.accepted refl
-
--- reading on changes no token
-pub seeks-tokens : {R : Type 0} (tells : Type 0) (unread : R → List ℕ) (old new : BufferView R) → IsFresh old → Seeks tells unread old new → tells → tokens_left unread new ≡ tokens_left unread old
+-- the tokens that remain go by what is held, by what stands behind it, and by the numbers and the mode
+pub tokens-same : {R : Type 0} (u : List ℕ → Bool) (unread : R → List ℕ) (old new : BufferView R) → new.line ≡ old.line → new.line_bytes ≡ old.line_bytes → new.mode ≡ old.mode →
+    new.open_token_line ≡ old.open_token_line → new.bytes_left ≡ old.bytes_left → held_of new ≡ held_of old → rest_of unread new ≡ rest_of unread old → tokens_left u unread new ≡ tokens_left u unread old
 unfolding tokens_left
-seeks-tokens tells unread old new fresh seeks t =
-    let line_bytes = seeks.line_bytes in
-    let line = seeks.line in
-    let bytes_left = seeks.bytes_left in
-    let mode = seeks.mode in
-    let open_token_line = seeks.open_token_line in
-    let rest = seeks.text t in
-    let held = held-fresh old fresh in
-    let now = held-fresh new seeks.fresh in
+tokens-same u unread old new line line_bytes mode open_token_line bytes_left held rest = cc
+
+-- lines that come behind what is held change no token
+pub lengthens-tokens : {R : Type 0} (tells : Type 0) (u : List ℕ → Bool) (unread : R → List ℕ) (old new : BufferView R) → new.line ≡ old.line → new.line_bytes ≡ old.line_bytes → new.mode ≡ old.mode →
+    new.open_token_line ≡ old.open_token_line → Lengthens tells unread old new → tells → tokens_left u unread new ≡ tokens_left u unread old
+unfolding tokens_left
+lengthens-tokens tells u unread old new line line_bytes mode open_token_line l t =
+    let size : length (held_of new) ≡ length (held_of old) + length l.lines = ap length l.held ∙ length-append (held_of old) l.lines in
+    let short = l.short in
+    let law = remaining-accept u old.line_bytes old.mode old.open_token_line old.line (held_of old) old.bytes_left l.lines (rest_of unread new) l.ends (omega arith) l.fits in
+    let held = l.held in
+    let left = l.bytes_left in
+    let rest = l.rest t in
     cc
 
--- lines that are accepted change no token, over the parts
-accept-remaining : (line_bytes : ℕ) (m : Mode) (open_token_line line bytes_left : ℕ) (w r : List ℕ) → (whole_lines_len w ≡ length w) ⊎ (r ≡ []) → length w ≤ line_bytes → length w ≤ bytes_left →
-    remaining_tokens is_unbuilt line_bytes m open_token_line line w (bytes_left - length w) r ≡ remaining_tokens is_unbuilt line_bytes m open_token_line line [] bytes_left (w ++ r)
-unfolding remaining_tokens onto_front
-accept-remaining line_bytes m open_token_line line bytes_left w r lines short fits =
-    let law = accept-front line_bytes bytes_left w r lines short fits in
-    rw law refl
-
--- what stands behind the accepted lines is nothing, where all is accepted and the text has ended
-all-accepted : {R : Type 0} (unread : R → List ℕ) (f : BufferView R) (n : ℕ) → f.reader ≡ None → n ≡ length f.window → drop n f.window ++ unread_of unread f.reader ≡ []
-unfolding unread_of
-all-accepted unread f n ended whole = rw (ended, append-nil) (drop_all n f.window (omega arith))
-
--- what an acceptance leaves of the tokens
-pub accept-tokens : {R : Type 0} (unread : R → List ℕ) (old new : BufferView R) → IsFresh old → length old.window ≤ old.line_bytes → Accepts old new → tokens_left unread new ≡ tokens_left unread old
-unfolding tokens_left held_of rest_of
-accept-tokens unread old new fresh short accepts =
-    let n = accepts.len in
-    let w = take n old.window in
-    let r = drop n old.window ++ unread_of unread old.reader in
-    let becomes = accepts.becomes in
-    let at = fresh.at in
-    let wide : length w ≡ n = length-take-le n old.window accepts.inside in
-    let lines : (whole_lines_len w ≡ length w) ⊎ (r ≡ []) = elim accepts.lines [
-      | inl e ↦ inl (e ∙ sym wide)
-      | inr e ↦ inr (all-accepted unread old n e.0 e.1)
-    ] in
-    let parts : w ++ r ≡ old.window ++ unread_of unread old.reader =
-    sym (append_assoc w (drop n old.window) (unread_of unread old.reader)) ∙ ap (λ t. t ++ unread_of unread old.reader) (take-append-drop n old.window) in
-    let whole : w ++ r ≡ rest_of unread old = parts ∙ sym (rest-fresh unread old fresh) in
-    let narrow : length w ≤ old.line_bytes = omega arith in
-    let fits : length w ≤ old.bytes_left = omega arith in
-    let law = accept-remaining old.line_bytes old.mode old.open_token_line old.line old.bytes_left w r lines narrow fits in
-    let held = held-fresh old fresh in
-    rw (becomes, held, ← whole, at) (rw wide at law)
-
 -- what stands at the end of a text that isn't broken
-ended_by : (u : List ℕ → Bool) (line_bytes : ℕ) (m : Mode) (open_token_line line : ℕ) → source_end (record { unbuilt = u; most = line_bytes; break = None }) m open_token_line line ≡ ended_tokens m open_token_line
+ended_by : (u : List ℕ → Bool) (most : ℕ) (m : Mode) (opened line : ℕ) → source_end (record { unbuilt = u; most = most; break = None }) m opened line ≡ ended_tokens m opened
 unfolding source_end open_end broken
-ended_by u line_bytes Plain open_token_line line = refl
-ended_by u line_bytes InStr open_token_line line = refl
-ended_by u line_bytes InBlock open_token_line line = refl
+ended_by u most Plain opened line = refl
+ended_by u most InStr opened line = refl
+ended_by u most InBlock opened line = refl
 
 -- what remains where the text has ended
-pub end-tokens : {R : Type 0} (unread : R → List ℕ) (f : BufferView R) → IsFresh f → f.window ≡ [] → f.reader ≡ None → tokens_left unread f ≡ ended_tokens f.mode f.open_token_line
-unfolding tokens_left remaining_tokens front lines_of front_of_lines source_tokens unread_of
-end-tokens unread f fresh empty ended = rw (held-fresh f fresh, rest-fresh unread f fresh, empty, ended) (ended_by is_unbuilt f.line_bytes f.mode f.open_token_line f.line)
+end-tokens : {R : Type 0} (u : List ℕ → Bool) (unread : R → List ℕ) (f : BufferView R) → held_of f ≡ [] → rest_of unread f ≡ [] → tokens_left u unread f ≡ ended_tokens f.mode f.open_token_line
+unfolding tokens_left remaining_tokens source_tokens
+end-tokens u unread f none ended = rw (none, ended, front-none) (ended_by u f.line_bytes f.mode f.open_token_line f.line)
 
 -- what stands before a line that breaks a text
-broken_by : (u : List ℕ → Bool) (line_bytes : ℕ) (k : Break) (m : Mode) (open_token_line line : ℕ) → source_end (record { unbuilt = u; most = line_bytes; break = Some k }) m open_token_line line ≡ only_broken k.breach line
+broken_by : (u : List ℕ → Bool) (most : ℕ) (k : Break) (m : Mode) (opened line : ℕ) → source_end (record { unbuilt = u; most = most; break = Some k }) m opened line ≡ only_broken k.breach line
 unfolding source_end open_end broken line_ends
-broken_by u line_bytes k Plain open_token_line line = refl
-broken_by u line_bytes k InStr open_token_line line = ap (only_broken k.breach) (omega arith)
-broken_by u line_bytes k InBlock open_token_line line = ap (only_broken k.breach) (omega arith)
+broken_by u most k Plain opened line = refl
+broken_by u most k InStr opened line = ap (only_broken k.breach) (omega arith)
+broken_by u most k InBlock opened line = ap (only_broken k.breach) (omega arith)
 
--- a line that is too long is all that remains
-pub break-tokens : {R : Type 0} (unread : R → List ℕ) (f : BufferView R) (k : Break) → IsFresh f →
-    front f.line_bytes f.bytes_left (rest_of unread f) ≡ record { text = []; break = Some k } → tokens_left unread f ≡ only_broken k.breach f.line
+-- a line that breaks the text is all that remains
+break-tokens : {R : Type 0} (u : List ℕ → Bool) (unread : R → List ℕ) (f : BufferView R) (k : Break) → held_of f ≡ [] →
+    front f.line_bytes f.bytes_left (rest_of unread f) ≡ record { text = []; break = Some k } → tokens_left u unread f ≡ only_broken k.breach f.line
 unfolding tokens_left remaining_tokens source_tokens
-break-tokens unread f k fresh broken = rw (held-fresh f fresh, broken) (broken_by is_unbuilt f.line_bytes k f.mode f.open_token_line f.line)
+break-tokens u unread f k none broken = rw (none, broken) (broken_by u f.line_bytes k f.mode f.open_token_line f.line)
+
+-- what was found says what the tokens are, where nothing was held
+grows-tokens : {R : Type 0} (tells : Type 0) (unread : R → List ℕ) (fill : Fill) (old new : BufferView R) → held_of old ≡ [] → Grows tells unread fill old new →
+    (u : List ℕ → Bool) → tells → TellsTokens fill old (tokens_left u unread old) (tokens_left u unread new)
+grows-tokens tells unread Held old new none g u t = lengthens-tokens tells u unread old new g.line g.line_bytes g.mode g.open_token_line g.by t
+grows-tokens tells unread End old new none g u t = end-tokens u unread old none (g.by.1 t)
+grows-tokens tells unread SourceLong old new none g u t =
+    let short = g.by.1 t in
+    break-tokens u unread old _ none (front-source_long old.line_bytes old.bytes_left (rest_of unread old) (omega arith) (g.by.2 t))
+grows-tokens tells unread LineLong old new none g u t =
+    let long = g.by.1 t in
+    let size : length (held_of old) ≡ 0 = ap length none in
+    break-tokens u unread old _ none (front-line_long old.line_bytes old.bytes_left (rest_of unread old) (omega arith))
+grows-tokens tells unread Failed old new none g u t =
+    tokens-same u unread old new g.line g.line_bytes g.mode g.open_token_line g.by.0.bytes_left g.by.0.held (g.by.1 t)
+
+-- bytes came, where nothing was held
+grows-bytes : {R : Type 0} (tells : Type 0) (unread : R → List ℕ) (fill : Fill) (old new : BufferView R) → held_of old ≡ [] → GrowsBy tells unread fill old new → HasBytes fill new
+grows-bytes tells unread Held old new none by =
+    let size : length (held_of new) ≡ length (held_of old) + length by.lines = ap length by.held ∙ length-append (held_of old) by.lines in
+    let some = by.some in
+    omega arith
+grows-bytes tells unread End old new none by = by.0.held ∙ none
+grows-bytes tells unread SourceLong old new none by = by.0.held ∙ none
+grows-bytes tells unread LineLong old new none by = by.0.held ∙ none
+grows-bytes tells unread Failed old new none by = by.0.held ∙ none
+
+-- what a source was before what isn't used of it moved to the front
+pub record Compacts {R : Type 0} (old new : BufferView R) : Type 0 where
+  pub line : new.line ≡ old.line
+  pub line_bytes : new.line_bytes ≡ old.line_bytes
+  pub mode : new.mode ≡ old.mode
+  pub open_token_line : new.open_token_line ≡ old.open_token_line
+  pub bytes_left : new.bytes_left ≡ old.bytes_left
+  pub unused : unused_of new ≡ unused_of old
+  pub reader : new.reader ≡ old.reader
+  pub held : held_of new ≡ held_of old
+  pub ahead : ahead_of new ≡ ahead_of old
+
+-- what isn't used was moved to the front
+pub compacts : {R : Type 0} (old new : BufferView R) → old.at ≤ old.accepted → new ≡ record old { window = drop old.at old.window; at = 0; accepted = old.accepted - old.at } → Compacts old new
+unfolding unused_of held_of ahead_of
+compacts old new order becomes =
+    let n = old.accepted - old.at in
+    let whole : old.at + n ≡ old.accepted = omega arith in
+    record {
+      line = ap (λ f. f.line) becomes;
+      line_bytes = ap (λ f. f.line_bytes) becomes;
+      mode = ap (λ f. f.mode) becomes;
+      open_token_line = ap (λ f. f.open_token_line) becomes;
+      bytes_left = ap (λ f. f.bytes_left) becomes;
+      unused = ap unused_of becomes ∙ omega arith;
+      reader = ap (λ f. f.reader) becomes;
+      held = ap held_of becomes ∙ (sym (drop-take old.at n old.window) ∙ ap (λ k. drop old.at (take k old.window)) whole);
+      ahead = ap ahead_of becomes ∙ (drop-drop n old.at old.window ∙ ap (λ k. drop k old.window) whole);
+    }
+
+-- the text behind what is held stays
+pub compacts-rest : {R : Type 0} (unread : R → List ℕ) (old new : BufferView R) → Compacts old new → rest_of unread new ≡ rest_of unread old
+unfolding rest_of
+compacts-rest unread old new c = let ahead = c.ahead in let reader = c.reader in cc
+
+-- what is held still ends at a line end, or where the text ends
+pub compacts-ends : {R : Type 0} (old new : BufferView R) → Compacts old new → EndsHeld old → EndsHeld new
+compacts-ends old new c ends = elim ends [
+  | inl whole ↦ inl (subst IsWholeLines (sym c.held) whole)
+  | inr none ↦ inr (c.reader ∙ none.0, c.ahead ∙ none.1)
+]
+
+-- what stays behind a move
+stays-from : {R : Type 0} (old mid new : BufferView R) → Compacts old mid → Stays mid new → Stays old new
+stays-from old mid new c s = record { held = s.held ∙ c.held; bytes_left = s.bytes_left ∙ c.bytes_left }
+
+-- what was found behind a move
+compacts-by : {R : Type 0} (tells : Type 0) (unread : R → List ℕ) (fill : Fill) (old mid new : BufferView R) → Compacts old mid → GrowsBy tells unread fill mid new → GrowsBy tells unread fill old new
+compacts-by tells unread Held old mid new c by =
+    let left = c.bytes_left in
+    let most = c.line_bytes in
+    let fits = by.fits in
+    let short = by.short in
+    let left_now = by.bytes_left in
+    record {
+      lines = by.lines;
+      some = by.some;
+      before = subst IsWholeLines c.held by.before;
+      held = by.held ∙ ap (λ h. h ++ by.lines) c.held;
+      short = omega arith;
+      fits = omega arith;
+      bytes_left = omega arith;
+      ends = by.ends;
+      rest = λ t. sym (compacts-rest unread old mid c) ∙ by.rest t;
+    }
+compacts-by tells unread End old mid new c by = (stays-from old mid new c by.0, λ t. sym (compacts-rest unread old mid c) ∙ by.1 t, by.2)
+compacts-by tells unread SourceLong old mid new c by =
+    let rest : line_len (rest_of unread mid) ≡ line_len (rest_of unread old) = ap line_len (compacts-rest unread old mid c) in
+    let held : length (held_of mid) ≡ length (held_of old) = ap length c.held in
+    let left = c.bytes_left in
+    let most = c.line_bytes in
+    (stays-from old mid new c by.0, λ t. (let h = by.1 t in omega arith), λ t. (let h = by.2 t in omega arith), λ t. by.3 t ∙ compacts-rest unread old mid c)
+compacts-by tells unread LineLong old mid new c by =
+    let rest : line_len (rest_of unread mid) ≡ line_len (rest_of unread old) = ap line_len (compacts-rest unread old mid c) in
+    let size : length (rest_of unread mid) ≡ length (rest_of unread old) = ap length (compacts-rest unread old mid c) in
+    let held : length (held_of mid) ≡ length (held_of old) = ap length c.held in
+    let most = c.line_bytes in
+    (stays-from old mid new c by.0, λ t. (let h = by.1 t in omega arith), λ t. (let h = by.2 t in omega arith))
+compacts-by tells unread Failed old mid new c by = (stays-from old mid new c by.0, λ t. by.1 t ∙ compacts-rest unread old mid c)
+
+-- the same with all that goes with it
+pub compacts-grows : {R : Type 0} (tells : Type 0) (unread : R → List ℕ) (fill : Fill) (old mid new : BufferView R) → Compacts old mid → Grows tells unread fill mid new → Grows tells unread fill old new
+compacts-grows tells unread fill old mid new c g = record {
+  line = g.line ∙ c.line;
+  line_bytes = g.line_bytes ∙ c.line_bytes;
+  mode = g.mode ∙ c.mode;
+  open_token_line = g.open_token_line ∙ c.open_token_line;
+  unused = g.unused ∙ c.unused;
+  by = compacts-by tells unread fill old mid new c g.by;
+}
+
+-- what was found is what the source has, where nothing was held
+pub grows-fills : {R : Type 0} (tells : Type 0) (unread : R → List ℕ) (fill : Fill) (old new : BufferView R) → held_of old ≡ [] → Grows tells unread fill old new → Fills tells unread fill old new
+grows-fills tells unread fill old new none g = record {
+  line = g.line;
+  line_bytes = g.line_bytes;
+  mode = g.mode;
+  open_token_line = g.open_token_line;
+  bytes = grows-bytes tells unread fill old new none g.by;
+  unused = g.unused;
+  tokens = grows-tokens tells unread fill old new none g;
+}
+
+-- bytes of accepted lines are held
+pub held-fills : {R : Type 0} (tells : Type 0) (unread : R → List ℕ) (f : BufferView R) → f.at < f.accepted → f.accepted ≤ length f.window → Fills tells unread Held f f
+unfolding held_of
+held-fills tells unread f some inside = record {
+  line = refl;
+  line_bytes = refl;
+  mode = refl;
+  open_token_line = refl;
+  bytes = omega (arith, length-drop f.at (take f.accepted f.window), length-take-le f.accepted f.window inside);
+  unused = refl;
+  tokens = λ u t. refl;
+}
+
+-- where no line is accepted, nothing is held
+pub none_ends : {R : Type 0} (f : BufferView R) → f.accepted ≡ 0 → EndsHeld f
+unfolding held_of whole_lines_len
+none_ends f accepted = inl (rw accepted (rw drop-nil refl))
+
+-- what is held still ends so where some of it is used
+pub consumed_ends : {R : Type 0} (old new : BufferView R) (len line : ℕ) → new ≡ record old { at = old.at + len; line = line } → EndsHeld old → EndsHeld new
+unfolding held_of ahead_of
+consumed_ends old new len line becomes ends = elim ends [
+  | inl whole ↦ inl (rw (becomes, ← drop-drop len old.at (take old.accepted old.window)) (IsWholeLines-drop len (drop old.at (take old.accepted old.window)) whole))
+  | inr none ↦ inr (rw becomes none.0, rw becomes none.1)
+]

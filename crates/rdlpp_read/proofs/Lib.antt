@@ -1,7 +1,7 @@
 pub mod Slices
 pub mod WholeLines
+pub mod FirstLines
 pub mod ReadFacts
-pub mod Fronts
+pub mod Growing
 pub mod BufferTokens
-pub mod LineSearch
-pub mod LineEnds
+pub mod Extending

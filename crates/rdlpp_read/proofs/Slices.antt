@@ -1,7 +1,10 @@
 -- Parts of a buffer of which the first bytes are held.
 use Rattle.std.proofs.Common.{◌≡◌, ℕ, ◌+◌, ◌-◌, ◌≤◌, List, length, take, drop, sym, ap, ◌∙◌, arith}
 use Rattle.std.proofs.lemmas.List.{take-take, drop-take, take-append-le, length-take, length-drop}
+use Rattle.std.proofs.lemmas.List.Sums.{count_by-le-length}
 use Rattle.std.specs.List.{copy_within}
+use Rattle.rdlpp_scan.specs.Bytes.{is_line_end}
+use Rattle.rdlpp_scan.specs.SourceTokens.{line_ends}
 
 -- from s up to e, of the whole and of the first bytes
 pub part_slice : (s e n : ℕ) (xs : List ℕ) → s ≤ e → e ≤ n → take (e - s) (drop s xs) ≡ take (e - s) (drop s (take n xs))
@@ -35,3 +38,15 @@ shifted s n xs h k =
 -- no more is held than the places say
 pub held_le : (s a n : ℕ) (xs : List ℕ) → length (drop s (take a (take n xs))) ≤ a - s
 held_le s a n xs = omega (arith, length-drop s (take a (take n xs)), length-take a (take n xs))
+
+-- what stands behind a place, of the first bytes
+pub ahead_slice : (s n : ℕ) (xs : List ℕ) → s ≤ n → take (n - s) (drop s xs) ≡ drop s (take n xs)
+ahead_slice s n xs h =
+    let m = n - s in
+    let f : s + m ≡ n = omega arith in
+    sym (drop-take s m xs) ∙ ap (λ j. drop s (take j xs)) f
+
+-- a text has no more line ends than bytes
+pub line_ends_le : (bytes : List ℕ) → line_ends bytes ≤ length bytes
+unfolding line_ends
+line_ends_le bytes = count_by-le-length is_line_end bytes

@@ -1,12 +1,11 @@
 -- What is held of an open source, and what remains of it.
 -- A definition that names no source is this project's own.
-use Rattle.std.specs.Prelude.{◌≡◌, ℕ, ◌+◌, ◌-◌, ◌^◌, ◌≤◌, List, [], ◌++◌, length, take, drop, Option, None, Some, ◌⊎◌}
+use Rattle.std.specs.Prelude.{◌≡◌, ℕ, ◌+◌, ◌-◌, ◌^◌, ◌≤◌, Bool, List, [], ◌++◌, length, take, drop, Option, None, Some, ◌⊎◌}
 use Rattle.rdlpp_scan.specs.declared.token.Mode.{Mode}
 use Rattle.rdlpp_scan.specs.declared.token.Mode.TheVariants.{Plain}
 use Rattle.rdlpp_scan.specs.Resumed.{opening}
-use Rattle.rdlpp_scan.specs.SourceTokens.{SourceToken, remaining_tokens}
-use Rattle.rdlpp_scan.specs.Stage.{is_unbuilt}
-use Rattle.rdlpp_scan.specs.Lines.{whole_lines_len}
+use Rattle.rdlpp_scan.specs.SourceTokens.{SourceToken, line_ends, remaining_tokens}
+use Rattle.rdlpp_scan.specs.Lines.{IsWholeLines}
 
 -- an open source: the part of its text that is held, how much of that is used, where in it the lines end that the limits
 -- accept, what reads on where the text hasn't ended, the bytes that may still be accepted, the physical line that comes next,
@@ -31,14 +30,18 @@ unfoldable pub unread_of : {R : Type 0} → (R → List ℕ) → Option R → Li
 unread_of unread None = []
 unread_of unread (Some reader) = unread reader
 
--- the bytes behind the accepted lines
-unfoldable pub rest_of : {R : Type 0} → (R → List ℕ) → BufferView R → List ℕ
-rest_of unread f = drop f.accepted f.window ++ unread_of unread f.reader
+-- the bytes in the window behind the accepted lines
+unfoldable pub ahead_of : {R : Type 0} → BufferView R → List ℕ
+ahead_of f = drop f.accepted f.window
 
--- the tokens that remain of the source
-unfoldable pub tokens_left : {R : Type 0} → (R → List ℕ) → BufferView R → List SourceToken
-tokens_left unread f =
-    remaining_tokens is_unbuilt f.line_bytes f.mode f.open_token_line f.line (held_of f) f.bytes_left (rest_of unread f)
+-- the text behind the accepted lines
+unfoldable pub rest_of : {R : Type 0} → (R → List ℕ) → BufferView R → List ℕ
+rest_of unread f = ahead_of f ++ unread_of unread f.reader
+
+-- the tokens that remain of the source, where a test says what isn't built yet
+unfoldable pub tokens_left : {R : Type 0} → (List ℕ → Bool) → (R → List ℕ) → BufferView R → List SourceToken
+tokens_left unbuilt unread f =
+    remaining_tokens unbuilt f.line_bytes f.mode f.open_token_line f.line (held_of f) f.bytes_left (rest_of unread f)
 
 -- the bytes that the source may still give and that aren't used
 unfoldable pub unused_of : {R : Type 0} → BufferView R → ℕ
@@ -65,11 +68,14 @@ opened_buffer reader bytes_left line_bytes =
 unfoldable pub entered_mode : {R : Type 0} → BufferView R → Mode → BufferView R
 entered_mode f next = record f { mode = next; open_token_line = opening f.mode f.open_token_line f.line }
 
--- nothing of what is held is used or accepted
-pub record IsFresh {R : Type 0} (f : BufferView R) : Type 0 where
-  pub at : f.at ≡ 0
-  pub accepted : f.accepted ≡ 0
-
 -- what is held ends at a line end, or where the text ends
 abbrev pub EndsHeld : {R : Type 0} → BufferView R → Type 0
-EndsHeld f = (whole_lines_len (held_of f) ≡ length (held_of f)) ⊎ ((f.reader ≡ None) × (f.accepted ≡ length f.window))
+EndsHeld f = IsWholeLines (held_of f) ⊎ ((f.reader ≡ None) × (ahead_of f ≡ []))
+
+-- the physical line of the first byte behind the accepted lines, which is the one that is read
+unfoldable pub reading_line_of : {R : Type 0} → BufferView R → ℕ
+reading_line_of f = f.line + line_ends (held_of f)
+
+-- an open source of which the first `len` held bytes are used
+unfoldable pub consumed : {R : Type 0} → BufferView R → ℕ → BufferView R
+consumed f len = record f { at = f.at + len; line = f.line + line_ends (take len (held_of f)) }

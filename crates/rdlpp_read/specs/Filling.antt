@@ -1,37 +1,30 @@
 -- What is found before the next byte of a source: whole lines that its limits accept, the end, a line that breaks it, or a failed read.
 -- A definition that names no source is this project's own.
-use Rattle.std.specs.Prelude.{◌≡◌, ℕ, ◌+◌, ◌-◌, ◌≤◌, ◌<◌, Bool, true, false, List, [], ◌∷◌, ◌++◌, length, take, Option, None, Some, ⊤, ◌⊎◌, min}
+use Rattle.std.specs.Prelude.{◌≡◌, ℕ, ◌+◌, ◌-◌, ◌≤◌, ◌<◌, Bool, true, false, List, [], ◌∷◌, ◌++◌, length, take, Option, None, Some, ⊤, ◌⊎◌}
+use Rattle.std.specs.Option.{is_none}
 use Rattle.rdlpp_scan.specs.declared.token.Mode.{Mode}
 use Rattle.rdlpp_scan.specs.declared.token.Mode.TheVariants.{Plain, InStr, InBlock}
 use Rattle.rdlpp_scan.specs.Front.{Breach, StringOpen, CommentOpen, SourceLong as SourceBreach, LineLong as LineBreach}
-use Rattle.rdlpp_scan.specs.SourceTokens.{SourceToken, Broken}
-use Rattle.rdlpp_scan.specs.Lines.{whole_lines_len}
+use Rattle.rdlpp_scan.specs.SourceTokens.{SourceToken, Broken, line_len}
+use Rattle.rdlpp_scan.specs.Lines.{EndsLine, IsWholeLines, whole_lines_len}
 use Rattle.rdlpp_source.specs.declared.sources.Sources.{Ghosts}
+use Rattle.rdlpp_read.specs.Ahead.{AreLines, IsPast}
 use Rattle.rdlpp_read.specs.Calls.{SourcesRead}
-use Rattle.rdlpp_read.specs.Buffer.{BufferView, IsFresh, held_of, unread_of, rest_of, tokens_left, unused_of}
+use Rattle.rdlpp_read.specs.Buffer.{BufferView, EndsHeld, ahead_of, held_of, unread_of, rest_of, tokens_left, unused_of}
 use Rattle.rdlpp_read.specs.declared.buffer.filling.Fill.{Fill}
 use Rattle.rdlpp_read.specs.declared.buffer.filling.Fill.TheVariants.{Held, End, SourceLong, LineLong, Failed}
 
--- n bytes of whole lines were accepted
+-- lines were accepted behind those that are held
 pub record Accepts {R : Type 0} (old new : BufferView R) : Type 0 where
   pub len : ℕ
-  pub some : 0 < len
-  pub inside : len ≤ length old.window
-  pub fits : len ≤ old.bytes_left
-  pub lines : (whole_lines_len (take len old.window) ≡ len) ⊎ ((old.reader ≡ None) × (len ≡ length old.window))
-  pub becomes : new ≡ record old { accepted = len; bytes_left = old.bytes_left - len }
-
--- the first line has more bytes than the source may still give
-abbrev pub IsTooLong : {R : Type 0} → BufferView R → Type 0
-IsTooLong f =
-    ((whole_lines_len (take (min f.bytes_left (length f.window)) f.window) ≡ 0) × (0 < whole_lines_len f.window))
-    ⊎ ((f.reader ≡ None) × (whole_lines_len f.window ≡ 0) × (f.bytes_left < length f.window))
+  pub lines : AreLines len (ahead_of old) old.bytes_left (is_none old.reader)
+  pub becomes : new ≡ record old { accepted = old.accepted + len; bytes_left = old.bytes_left - len }
 
 -- what was found in the window, where the search came to an end
 abbrev pub Finds : {R : Type 0} → Fill → BufferView R → BufferView R → Type 0
 Finds Held old new = Accepts old new
-Finds End old new = (new ≡ old) × (old.window ≡ []) × (old.reader ≡ None)
-Finds SourceLong old new = (new ≡ old) × IsTooLong old
+Finds End old new = (new ≡ old) × (ahead_of old ≡ []) × (old.reader ≡ None)
+Finds SourceLong old new = (new ≡ old) × IsPast (ahead_of old) old.bytes_left (is_none old.reader)
 Finds LineLong old new = ⊥
 Finds Failed old new = ⊥
 
@@ -42,32 +35,6 @@ is_failed End = false
 is_failed SourceLong = false
 is_failed LineLong = false
 is_failed Failed = true
-
--- a list that is one broken token without bytes
-abbrev pub only_broken : Breach → ℕ → List SourceToken
-only_broken breach line = record { sort = Broken breach; bytes = []; line = line } ∷ []
-
--- what remains where a text has ended: nothing, or a string or a block comment that isn't closed
-abbrev pub ended_tokens : Mode → ℕ → List SourceToken
-ended_tokens Plain open_token_line = []
-ended_tokens InStr open_token_line = only_broken StringOpen open_token_line
-ended_tokens InBlock open_token_line = only_broken CommentOpen open_token_line
-
--- what the answer says of the tokens that remained, and of those that remain now
-abbrev pub TellsTokens : {R : Type 0} → Fill → BufferView R → List SourceToken → List SourceToken → Type 0
-TellsTokens Held f old new = new ≡ old
-TellsTokens End f old new = old ≡ ended_tokens f.mode f.open_token_line
-TellsTokens SourceLong f old new = old ≡ only_broken SourceBreach f.line
-TellsTokens LineLong f old new = old ≡ only_broken LineBreach f.line
-TellsTokens Failed f old new = ⊤
-
--- bytes are held, where the answer says so
-abbrev pub HasBytes : {R : Type 0} → Fill → BufferView R → Type 0
-HasBytes Held f = 0 < length (held_of f)
-HasBytes End f = ⊤
-HasBytes SourceLong f = ⊤
-HasBytes LineLong f = ⊤
-HasBytes Failed f = ⊤
 
 -- bytes came into the window, or the end of the text was met
 pub record ReadsOn {R : Type 0} (tells : Type 0) (unread : R → List ℕ) (old new : BufferView R) : Type 0 where
@@ -95,19 +62,94 @@ abbrev pub is_failed_turn : Option Fill → Bool
 is_failed_turn None = false
 is_failed_turn (Some fill) = is_failed fill
 
--- the search has read on so far: the text that remains is the same
+-- nothing but the window and the reader changed, and what is held and the text that remains are the same
 pub record Seeks {R : Type 0} (tells : Type 0) (unread : R → List ℕ) (old new : BufferView R) : Type 0 where
-  pub fresh : IsFresh new
+  pub at : new.at ≡ old.at
+  pub accepted : new.accepted ≡ old.accepted
+  pub inside : new.accepted ≤ length new.window
   pub bytes_left : new.bytes_left ≡ old.bytes_left
   pub line : new.line ≡ old.line
   pub line_bytes : new.line_bytes ≡ old.line_bytes
   pub mode : new.mode ≡ old.mode
   pub open_token_line : new.open_token_line ≡ old.open_token_line
+  pub held : held_of new ≡ held_of old
   pub text : tells → rest_of unread old ≡ rest_of unread new
 
 -- how many turns of reading may still come
 unfoldable pub turns_left : {R : Type 0} → BufferView R → ℕ
 turns_left f = (f.line_bytes - length f.window) + elim f.reader [ None ↦ 0 | Some reader ↦ 1 ]
+
+-- what the turns of reading have done so far: the first `seen` bytes behind the accepted lines have no line end
+pub record Searches {S R : Type 0} (g : Ghosts S R) (sources new_sources : S) (old new : BufferView R) (seen : ℕ) : Type 0 where
+  pub seeks : Seeks (g.tells sources) g.unread old new
+  pub place : seen ≤ length (ahead_of new)
+  pub none : whole_lines_len (take seen (ahead_of new)) ≡ 0
+  pub ends : EndsHeld new
+  pub call : SourcesRead g false sources new_sources
+
+-- whole lines came behind those that are held, or the last line of the text
+pub record Lengthens {R : Type 0} (tells : Type 0) (unread : R → List ℕ) (old new : BufferView R) : Type 0 where
+  pub lines : List ℕ
+  pub some : 0 < length lines
+  pub before : IsWholeLines (held_of old)
+  pub held : held_of new ≡ held_of old ++ lines
+  pub short : length (held_of new) ≤ old.line_bytes
+  pub fits : length lines ≤ old.bytes_left
+  pub bytes_left : new.bytes_left ≡ old.bytes_left - length lines
+  pub ends : EndsLine lines (rest_of unread new)
+  pub rest : tells → rest_of unread old ≡ lines ++ rest_of unread new
+
+-- nothing came behind what is held
+pub record Stays {R : Type 0} (old new : BufferView R) : Type 0 where
+  pub held : held_of new ≡ held_of old
+  pub bytes_left : new.bytes_left ≡ old.bytes_left
+
+-- what stood behind the lines that are held: more lines; the end of the text; a line with which the source is too long, and
+-- which fits behind what is held; a line that doesn't fit behind it; or it isn't known, since a read failed
+abbrev pub GrowsBy : {R : Type 0} → Type 0 → (R → List ℕ) → Fill → BufferView R → BufferView R → Type 0
+GrowsBy tells unread Held old new = Lengthens tells unread old new
+GrowsBy tells unread End old new = Stays old new × (tells → rest_of unread old ≡ []) × (rest_of unread new ≡ [])
+GrowsBy tells unread SourceLong old new =
+    Stays old new × (tells → length (held_of old) + line_len (rest_of unread old) ≤ old.line_bytes)
+    × (tells → old.bytes_left < line_len (rest_of unread old)) × (tells → rest_of unread new ≡ rest_of unread old)
+GrowsBy tells unread LineLong old new =
+    Stays old new × (tells → old.line_bytes < length (held_of old) + line_len (rest_of unread old)) × (tells → 0 < length (rest_of unread old))
+GrowsBy tells unread Failed old new = Stays old new × (tells → rest_of unread new ≡ rest_of unread old)
+
+-- what is held of a source grew, by what stood behind it
+pub record Grows {R : Type 0} (tells : Type 0) (unread : R → List ℕ) (fill : Fill) (old new : BufferView R) : Type 0 where
+  pub line : new.line ≡ old.line
+  pub line_bytes : new.line_bytes ≡ old.line_bytes
+  pub mode : new.mode ≡ old.mode
+  pub open_token_line : new.open_token_line ≡ old.open_token_line
+  pub unused : unused_of new ≡ unused_of old
+  pub by : GrowsBy tells unread fill old new
+
+-- a list that is one broken token without bytes
+abbrev pub only_broken : Breach → ℕ → List SourceToken
+only_broken breach line = record { sort = Broken breach; bytes = []; line = line } ∷ []
+
+-- what remains where a text has ended: nothing, or a string or a block comment that isn't closed (this project's profile)
+abbrev pub ended_tokens : Mode → ℕ → List SourceToken
+ended_tokens Plain open_token_line = []
+ended_tokens InStr open_token_line = only_broken StringOpen open_token_line
+ended_tokens InBlock open_token_line = only_broken CommentOpen open_token_line
+
+-- what the answer says of the tokens that remained, and of those that remain now (this project's profile)
+abbrev pub TellsTokens : {R : Type 0} → Fill → BufferView R → List SourceToken → List SourceToken → Type 0
+TellsTokens Held f old new = new ≡ old
+TellsTokens End f old new = old ≡ ended_tokens f.mode f.open_token_line
+TellsTokens SourceLong f old new = old ≡ only_broken SourceBreach f.line
+TellsTokens LineLong f old new = old ≡ only_broken LineBreach f.line
+TellsTokens Failed f old new = new ≡ old
+
+-- bytes are held, or none
+abbrev pub HasBytes : {R : Type 0} → Fill → BufferView R → Type 0
+HasBytes Held f = 0 < length (held_of f)
+HasBytes End f = held_of f ≡ []
+HasBytes SourceLong f = held_of f ≡ []
+HasBytes LineLong f = held_of f ≡ []
+HasBytes Failed f = held_of f ≡ []
 
 -- what a source has before its next byte: its tokens stay the same, or are told
 pub record Fills {R : Type 0} (tells : Type 0) (unread : R → List ℕ) (fill : Fill) (old new : BufferView R) : Type 0 where
@@ -117,11 +159,4 @@ pub record Fills {R : Type 0} (tells : Type 0) (unread : R → List ℕ) (fill :
   pub open_token_line : new.open_token_line ≡ old.open_token_line
   pub bytes : HasBytes fill new
   pub unused : unused_of new ≡ unused_of old
-  pub tokens : tells → TellsTokens fill old (tokens_left unread old) (tokens_left unread new)
-
--- what the turns of reading have done so far: the text that remains is the same, and the first `seen` bytes have no line end
-pub record Searches {S R : Type 0} (g : Ghosts S R) (sources new_sources : S) (old new : BufferView R) (seen : ℕ) : Type 0 where
-  pub seeks : Seeks (g.tells sources) g.unread old new
-  pub place : seen ≤ length new.window
-  pub none : whole_lines_len (take seen new.window) ≡ 0
-  pub call : SourcesRead g false sources new_sources
+  pub tokens : (unbuilt : List ℕ → Bool) → tells → TellsTokens fill old (tokens_left unbuilt unread old) (tokens_left unbuilt unread new)

@@ -1,3 +1,5 @@
 pub mod Calls
 pub mod Buffer
+pub mod Ahead
 pub mod Filling
+pub mod LogicalLines

@@ -1,11 +1,15 @@
 // One open source: the part of its text that is held, by lines.
 ghost use Rattle.std.specs.Prelude.{◌≡◌, ℕ, ◌+◌, ◌-◌, ◌^◌, ◌≤◌, ◌<◌, [], length, take, drop, slice_range, Option, None, vec_len};
-ghost use Rattle.rdlpp_read.specs.Buffer.{IsBuffer, entered_mode, held_of};
+ghost use Rattle.std.specs.Option.{is_none};
+ghost use Rattle.rdlpp_read.specs.Buffer.{EndsHeld, IsBuffer, ahead_of, entered_mode, held_of, reading_line_of};
 
+mod ahead;
+mod extending;
 mod filling;
 
+pub use extending::{LogicalLine, hold_logical_line};
 pub use filling::{Fill, fill_buffer};
-use rdlpp_scan::Mode;
+use rdlpp_scan::{Mode, line_ends_in};
 use std::marker::Model;
 
 /// One open source.
@@ -67,7 +71,8 @@ impl<R: Drop> SourceBuffer<R> {
     /// Opens a source of at most `bytes_left` bytes, at its first line.
     pub fn open(&mut self, reader: R, bytes_left: usize)
         requires { bytes_left < 2 ^ 31 }
-        ensures { self.new ≡ record { window = []; at = 0; accepted = 0; reader = Option.Some reader; bytes_left = bytes_left; line = 1; line_bytes = self.old.line_bytes; mode = Mode.Plain; open_token_line = 1 } }
+        ensures opened { self.new ≡ record { window = []; at = 0; accepted = 0; reader = Option.Some reader; bytes_left = bytes_left; line = 1; line_bytes = self.old.line_bytes; mode = Mode.Plain; open_token_line = 1 } }
+        ensures ends { EndsHeld self.new }
     {
         self.at = 0;
         self.accepted = 0;
@@ -81,7 +86,8 @@ impl<R: Drop> SourceBuffer<R> {
 
     /// Closes the source.
     pub fn close(&mut self)
-        ensures { self.new ≡ record { window = []; at = 0; accepted = 0; reader = None; bytes_left = 0; line = self.old.line; line_bytes = self.old.line_bytes; mode = Mode.Plain; open_token_line = 0 } }
+        ensures closed { self.new ≡ record { window = []; at = 0; accepted = 0; reader = None; bytes_left = 0; line = self.old.line; line_bytes = self.old.line_bytes; mode = Mode.Plain; open_token_line = 0 } }
+        ensures ends { EndsHeld self.new }
     {
         self.at = 0;
         self.accepted = 0;
@@ -161,6 +167,7 @@ impl<R: Drop> SourceBuffer<R> {
         requires lines { lines ≤ len }
         ensures start { result ≡ self.old.at }
         ensures passed { self.new ≡ record self.old { at = self.old.at + len; line = self.old.line + lines } }
+        ensures ends { EndsHeld self.old → EndsHeld self.new }
     {
         let start = self.at;
         self.at = start + len;
@@ -168,15 +175,40 @@ impl<R: Drop> SourceBuffer<R> {
         start
     }
 
+    /// The physical line of the first byte that isn't held yet, which is the one that a read is in.
+    ///
+    /// Costs time linear in what is held.
+    pub fn reading_line(&self) -> u64
+        ensures { result ≡ reading_line_of self.now }
+    {
+        self.line + line_ends_in(self.held()) as u64
+    }
+
+    // The bytes in the window behind the accepted lines.
+    fn ahead(&self) -> &[u8]
+        ensures { result.now ≡ ahead_of self.now }
+    {
+        &self.bytes[self.accepted..self.filled]
+    }
+
+    // Whether the text ends with the window.
+    fn is_ended(&self) -> bool
+        ensures { result ≡ is_none self.now.reader }
+    {
+        self.reader.is_none()
+    }
+
     // Moves what isn't used to the front.
     fn compact(&mut self)
-        requires { self.old.at ≡ self.old.accepted }
-        ensures { self.new ≡ record self.old { window = drop self.old.at self.old.window; at = 0; accepted = 0 } }
+        ensures sound { IsBuffer self.new }
+        ensures becomes { self.new ≡ record self.old { window = drop self.old.at self.old.window; at = 0; accepted = self.old.accepted - self.old.at } }
     {
         let (at, filled) = (self.at, self.filled);
-        self.bytes.copy_within(at..filled, 0);
-        self.filled = filled - at;
-        self.at = 0;
-        self.accepted = 0;
+        if at > 0 {
+            self.bytes.copy_within(at..filled, 0);
+            self.filled = filled - at;
+            self.accepted -= at;
+            self.at = 0;
+        }
     }
 }

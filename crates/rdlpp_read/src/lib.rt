@@ -2,5 +2,7 @@
 #![tactic(auto)]
 
 mod buffer;
+#[cfg(test)]
+mod tests;
 
-pub use buffer::{Fill, SourceBuffer, fill_buffer};
+pub use buffer::{Fill, LogicalLine, SourceBuffer, fill_buffer, hold_logical_line};

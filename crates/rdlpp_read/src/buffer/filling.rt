@@ -4,15 +4,17 @@ ghost use Rattle.rdlpp_source.specs.Sources.{Reads, is_device};
 ghost use Rattle.rdlpp_source.specs.Counts.{Counts};
 ghost use Rattle.rdlpp_scan.specs.Lines.{whole_lines_len};
 ghost use Rattle.rdlpp_read.specs.Calls.{SourcesRead};
-ghost use Rattle.rdlpp_read.specs.Buffer.{EndsHeld, IsFresh};
-ghost use Rattle.rdlpp_read.specs.Filling.{Finds, Fills, Turns, is_failed, is_failed_turn};
+ghost use Rattle.std.specs.Option.{is_none};
+ghost use Rattle.rdlpp_read.specs.Ahead.{AreLines};
+ghost use Rattle.rdlpp_read.specs.Buffer.{EndsHeld, IsBuffer, ahead_of};
+ghost use Rattle.rdlpp_read.specs.Filling.{Fills, Finds, Grows, Turns, is_failed, is_failed_turn};
 
 use super::SourceBuffer;
-use rdlpp_scan::last_line_end;
+use super::ahead::{Ahead, look_ahead};
 use rdlpp_source::{SourceFault, Sources};
 
 /// What stands before the next byte of a source.
-#[derive(Clone, Copy)]
+#[derive(Clone, Copy, Debug, PartialEq, Eq)]
 pub enum Fill {
     /// At least one byte of a line that the limits accept.
     Held,
@@ -27,66 +29,31 @@ pub enum Fill {
 }
 
 impl<R: Drop> SourceBuffer<R> {
-    // Accepts the first `len` bytes, which are whole lines.
-    fn take_in(&mut self, len: usize) -> Fill
-        requires fresh { IsFresh self.old }
-        requires inside { len ≤ length self.old.window }
-        requires fits { len ≤ self.old.bytes_left }
-        ensures held { result ≡ Fill.Held }
-        ensures becomes { self.new ≡ record self.old { accepted = len; bytes_left = self.old.bytes_left - len } }
+    // Accepts the first `len` bytes behind the accepted lines.
+    fn accept_lines(&mut self, len: usize) -> Fill
+        requires { AreLines len (ahead_of self.old) self.old.bytes_left (is_none self.old.reader) }
+        ensures { Finds result self.old self.new }
     {
-        self.accepted = len;
+        self.accepted += len;
         self.bytes_left -= len;
         Fill::Held
     }
 
-    // Accepts the whole lines that fit.
-    fn accept_lines(&mut self) -> Fill
-        requires fresh { IsFresh self.old }
-        requires some { 0 < whole_lines_len self.old.window }
-        ensures { Finds result self.old self.new }
-    {
-        let bytes_left = self.bytes_left.min(self.filled);
-        let len = last_line_end(&self.bytes[..bytes_left]);
-        if len == 0 {
-            return Fill::SourceLong;
-        }
-        self.take_in(len)
-    }
-
-    // Accepts the last line, which has no LF.
-    fn accept_last(&mut self) -> Fill
-        requires fresh { IsFresh self.old }
-        requires none { whole_lines_len self.old.window ≡ 0 }
-        requires ended { self.old.reader ≡ None }
-        ensures { Finds result self.old self.new }
-    {
-        if self.filled == 0 {
-            return Fill::End;
-        }
-        if self.filled > self.bytes_left {
-            return Fill::SourceLong;
-        }
-        let len = self.filled;
-        self.take_in(len)
-    }
-
-    // Accepts what can be, where the first `seen` bytes have no LF.
+    // Accepts what can be, where the first `seen` bytes behind the accepted lines have no LF.
     fn accept(&mut self, seen: usize) -> Option<Fill>
-        requires fresh { IsFresh self.old }
-        requires inside { seen ≤ length self.old.window }
-        requires none { whole_lines_len (take seen self.old.window) ≡ 0 }
+        requires inside { seen ≤ length (ahead_of self.old) }
+        requires none { whole_lines_len (take seen (ahead_of self.old)) ≡ 0 }
         ensures found { IfSome result (λ fill. Finds fill self.old self.new) }
-        ensures more { IfNone result ((self.new ≡ self.old) × (whole_lines_len self.old.window ≡ 0) × IsSome self.old.reader) }
-        ensures within { length self.old.window ≤ self.old.line_bytes }
+        ensures more { IfNone result ((self.new ≡ self.old) × (whole_lines_len (ahead_of self.old) ≡ 0) × IsSome self.old.reader) }
+        ensures buffer { IsBuffer self.old }
     {
-        if last_line_end(&self.bytes[seen..self.filled]) > 0 {
-            return Some(self.accept_lines());
+        let (bytes_left, ended) = (self.bytes_left, self.is_ended());
+        match look_ahead(self.ahead(), seen, bytes_left, ended) {
+            Ahead::Unended => None,
+            Ahead::Lines(len) => Some(self.accept_lines(len)),
+            Ahead::Nothing => Some(Fill::End),
+            Ahead::TooLong => Some(Fill::SourceLong),
         }
-        if self.reader.is_some() {
-            return None;
-        }
-        Some(self.accept_last())
     }
 }
 
@@ -168,11 +135,13 @@ fn read_more<S: Sources>(buffer: &mut SourceBuffer<S::Reader>, sources: &mut S) 
     }
 }
 
-// Reads on until lines can be accepted, or the text ends, breaks or fails.
-fn fill_to_line<S: Sources>(buffer: &mut SourceBuffer<S::Reader>, sources: &mut S) -> Fill
-    requires { IsFresh buffer.old }
+// Accepts lines behind those that are held, and reads on until there are some, or tells why there are none.
+pub(super) fn take_lines<S: Sources>(buffer: &mut SourceBuffer<S::Reader>, sources: &mut S) -> Fill
+    requires compact { buffer.old.at ≡ 0 }
+    requires sound { IsBuffer buffer.old }
+    requires ends { EndsHeld buffer.old }
     ensures ends { EndsHeld buffer.new }
-    ensures fills { Fills (S.tells sources.old) S.unread result buffer.old buffer.new }
+    ensures grows { Grows (S.tells sources.old) S.unread result buffer.old buffer.new }
     ensures call { SourcesRead S.Sources (is_failed result) sources.old sources.new }
 {
     let mut seen = 0;
@@ -180,14 +149,21 @@ fn fill_to_line<S: Sources>(buffer: &mut SourceBuffer<S::Reader>, sources: &mut 
         if let Some(fill) = buffer.accept(seen) {
             return fill;
         }
-        seen = buffer.filled;
+        seen = buffer.ahead().len();
         if let Some(fill) = read_more(buffer, sources) {
             return fill;
         }
     }
 }
 
-/// Sees to it that bytes of accepted lines are held, or tells why there are none.
+/// Fills the buffer with at least one whole line within the limits, where no byte is held, or tells
+/// why there is none: the end of the text, a line that breaks it, or a read that failed, after which
+/// nothing is lost. Reads only where no byte is held.
+///
+/// # Rules
+///
+/// A line has at most as many bytes as the buffer, with its LF, and all lines of a source together at
+/// most as many as it was opened with; the last line needs no LF (this project's profile).
 pub fn fill_buffer<S: Sources>(buffer: &mut SourceBuffer<S::Reader>, sources: &mut S) -> Fill
     requires { EndsHeld buffer.old }
     ensures ends { EndsHeld buffer.new }
@@ -198,5 +174,5 @@ pub fn fill_buffer<S: Sources>(buffer: &mut SourceBuffer<S::Reader>, sources: &m
         return Fill::Held;
     }
     buffer.compact();
-    fill_to_line(buffer, sources)
+    take_lines(buffer, sources)
 }

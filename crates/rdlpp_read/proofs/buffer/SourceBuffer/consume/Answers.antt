@@ -1,5 +1,6 @@
-use Rattle.std.proofs.Common.{◌-◌, ◌≤◌, arith}
+use Rattle.std.proofs.Common.{◌-◌, ◌≤◌, arith, refl}
 use Rattle.rdlpp_read.specs.Buffer.{held_of}
+use Rattle.rdlpp_read.proofs.BufferTokens.{consumed_ends}
 use Rattle.rdlpp_read.proofs.Slices.{held_le}
 use Rattle.rdlpp_read.proofs.buffer.SourceBuffer.consume.Goals as goal
 
@@ -22,3 +23,6 @@ invariant_of-self g c =
     let some : c.args.len ≤ c.self.inside.accepted - c.self.inside.at =
     omega (arith, inside, held_le c.self.inside.at c.self.inside.accepted c.self.inside.filled c.self.inside.bytes.items) in
     (omega arith, c.self.invariant.1, c.self.invariant.2, omega arith)
+
+pub returns-clause-ends : goal.returns-clause-ends
+returns-clause-ends g c = rw (← c.self.view_is) (consumed_ends _ _ c.args.len _ refl)

@@ -1,0 +1,218 @@
+-- How a logical line is taken in over several lines, and what its tokens are.
+use Rattle.std.proofs.Common.{◌≡◌, ℕ, ◌+◌, ◌-◌, ◌≤◌, ◌<◌, Bool, true, false, List, [], ◌∷◌, ◌++◌, length, take, drop, Option, None, Some, refl, sym, ap, subst, ◌∙◌, arith, ◌⊎◌, inl, inr}
+use Rattle.std.proofs.lemmas.List.{append-nil, append_assoc, drop_all, drop-drop, length-append, length-drop, length-take, length-take-le, take-append-drop}
+use Rattle.std.proofs.Math.Seq.{take-append_seam, take-length, drop-length}
+use Rattle.std.specs.Option.{option_map}
+use Rattle.rdlpp_scan.specs.declared.token.Mode.TheVariants.{Plain}
+use Rattle.rdlpp_scan.specs.Defines.{HoldsDefine}
+use Rattle.rdlpp_scan.specs.Front.{DefineCut, DefineLong}
+use Rattle.rdlpp_scan.specs.SourceTokens.{SourceToken, Definition, line_ends, line_len, logical_len, remaining_tokens}
+use Rattle.rdlpp_scan.specs.Lines.{IsWholeLines, whole_lines_len}
+use Rattle.rdlpp_scan.proofs.ContinuedLines.{HoldsDefine-more, logical_len-behind_lines}
+use Rattle.rdlpp_scan.proofs.DefineSteps.{logical_len-within}
+use Rattle.rdlpp_scan.proofs.RemainingLaws.{remaining-end, remaining-opened}
+use Rattle.rdlpp_scan.proofs.RemainingSteps.{remaining-logical, remaining-logical_full, remaining-logical_last, remaining-logical_source}
+use Rattle.rdlpp_source.specs.declared.sources.Sources.{Ghosts}
+use Rattle.rdlpp_read.specs.Calls.{SourcesRead}
+use Rattle.rdlpp_read.specs.Buffer.{BufferView, EndsHeld, IsBuffer, ahead_of, consumed, held_of, rest_of, tokens_left, unused_of}
+use Rattle.rdlpp_read.specs.Filling.{Grows, Lengthens, Stays, only_broken}
+use Rattle.rdlpp_read.specs.LogicalLines.{Continues, Extends, HoldsLine, SameTokens}
+use Rattle.rdlpp_read.specs.declared.buffer.filling.Fill.{Fill}
+use Rattle.rdlpp_read.specs.declared.buffer.filling.Fill.TheVariants.{Held, End, SourceLong, LineLong, Failed}
+use Rattle.rdlpp_read.specs.declared.buffer.extending.LogicalLine.TheVariants.{Whole, TooLong, SourceLong as LineCut, Failed as LineFailed}
+use Rattle.rdlpp_read.proofs.BufferTokens.{lengthens-tokens, tokens-same}
+use Rattle.rdlpp_read.proofs.Growing.{calls-on, held-le}
+
+-- before the first line is taken in
+pub continues-starts : {S R : Type 0} (g : Ghosts S R) (sources : S) (f : BufferView R) → EndsHeld f → Continues g sources sources f f 0
+unfolding whole_lines_len logical_len
+continues-starts g sources f ends = record {
+  extends = record { line = refl; line_bytes = refl; mode = refl; open_token_line = refl; unused = refl; more = []; held = sym (append-nil (held_of f)) };
+  tokens = λ u t. refl;
+  define = λ u t h. h;
+  place = omega arith;
+  whole = refl;
+  none = refl;
+  ends = ends;
+  call = record { failures = refl; refusals = refl; tells = λ t. t; catalog = refl };
+}
+
+-- the search goes on behind the first bytes, which are whole lines
+logical-from : (h : List ℕ) (seen : ℕ) → seen ≤ length h → IsWholeLines (take seen h) → logical_len 0 0 (take seen h) ≡ None →
+    logical_len 0 0 h ≡ option_map (λ n. seen + n) (logical_len 0 0 (take (length h - seen) (drop seen h)))
+logical-from h seen inside whole none =
+    let law = logical_len-behind_lines (take seen h) (drop seen h) whole none in
+    let tail : take (length h - seen) (drop seen h) ≡ drop seen h = rw (← length-drop seen h) (take-length (drop seen h)) in
+    let size : length (take seen h) ≡ seen = length-take-le seen h inside in
+    ap (logical_len 0 0) (sym (take-append-drop seen h)) ∙ (law ∙ rw (size, tail) refl)
+
+-- the end of the logical line was found behind the first bytes
+found-at : (h : List ℕ) (seen len : ℕ) → seen ≤ length h → IsWholeLines (take seen h) → logical_len 0 0 (take seen h) ≡ None →
+    logical_len 0 0 (take (length h - seen) (drop seen h)) ≡ Some len → logical_len 0 0 h ≡ Some (seen + len)
+found-at h seen len inside whole none found = logical-from h seen inside whole none ∙ ap (option_map (λ n. seen + n)) found
+
+-- no end was found behind them
+pub none-at : (h : List ℕ) (seen : ℕ) → seen ≤ length h → IsWholeLines (take seen h) → logical_len 0 0 (take seen h) ≡ None →
+    logical_len 0 0 (take (length h - seen) (drop seen h)) ≡ None → logical_len 0 0 h ≡ None
+none-at h seen inside whole none found = logical-from h seen inside whole none ∙ ap (option_map (λ n. seen + n)) found
+
+-- what isn't used behind what is consumed
+consumed-held : {R : Type 0} (f : BufferView R) (n : ℕ) → held_of (consumed f n) ≡ drop n (held_of f)
+unfolding held_of consumed
+consumed-held f n = sym (drop-drop n f.at (take f.accepted f.window))
+
+-- the tokens behind what is consumed of plain text
+consumed-tokens : {R : Type 0} (u : List ℕ → Bool) (unread : R → List ℕ) (f : BufferView R) (n : ℕ) → f.mode ≡ Plain →
+    tokens_left u unread (consumed f n) ≡ remaining_tokens u f.line_bytes Plain f.line (f.line + line_ends (take n (held_of f))) (drop n (held_of f)) f.bytes_left (rest_of unread f)
+unfolding tokens_left consumed rest_of held_of ahead_of
+consumed-tokens u unread f n plain =
+    rw (consumed-held f n, plain) (remaining-opened u f.line_bytes f.open_token_line f.line (f.line + line_ends (take n (held_of f))) (drop n (held_of f)) f.bytes_left (rest_of unread f))
+
+-- the tokens of a `define` whose logical line is held
+define-whole : {R : Type 0} (u : List ℕ → Bool) (unread : R → List ℕ) (f : BufferView R) (n : ℕ) → f.mode ≡ Plain → HoldsDefine u (held_of f) (rest_of unread f) → logical_len 0 0 (held_of f) ≡ Some n →
+    length (held_of f) ≤ f.line_bytes → tokens_left u unread f ≡ record { sort = Definition; bytes = take n (held_of f); line = f.line } ∷ tokens_left u unread (consumed f n)
+unfolding tokens_left held_of rest_of ahead_of
+define-whole u unread f n plain holds found short =
+    let within = logical_len-within 0 0 (held_of f) n found in
+    rw (consumed-tokens u unread f n plain, plain)
+    (remaining-logical u f.line_bytes f.open_token_line f.line (held_of f) f.bytes_left (rest_of unread f) n holds found (omega arith))
+
+-- the tokens of a `define` that goes on up to the end of the text
+define-last : {R : Type 0} (u : List ℕ → Bool) (unread : R → List ℕ) (f : BufferView R) → f.mode ≡ Plain → HoldsDefine u (held_of f) (rest_of unread f) → logical_len 0 0 (held_of f) ≡ None →
+    rest_of unread f ≡ [] → length (held_of f) ≤ f.line_bytes →
+    tokens_left u unread f ≡ record { sort = Definition; bytes = take (length (held_of f)) (held_of f); line = f.line } ∷ tokens_left u unread (consumed f (length (held_of f)))
+unfolding tokens_left remaining_tokens held_of line_ends rest_of ahead_of
+define-last u unread f plain holds none ended short =
+    let law = remaining-logical_last u f.line_bytes f.open_token_line f.line (held_of f) f.bytes_left (rw ended at holds) none short in
+    rw (consumed-tokens u unread f (length (held_of f)) plain, plain, ended, take-length, drop-length, remaining-end) law
+
+-- no more is held than a line may have
+held-short : {R : Type 0} (f : BufferView R) → IsBuffer f → length (held_of f) ≤ f.line_bytes
+held-short f sound = let within = sound.within in omega (arith, held-le f)
+
+-- the logical line was found
+pub found-line : {S R : Type 0} (g : Ghosts S R) (first now : S) (old mid : BufferView R) (seen len : ℕ) → Continues g first now old mid seen → IsBuffer mid →
+    logical_len 0 0 (take (length (held_of mid) - seen) (drop seen (held_of mid))) ≡ Some len → HoldsLine (g.tells first) g.unread (Whole (seen + len)) old mid
+found-line g first now old mid seen len c sound some =
+    let found = found-at (held_of mid) seen len c.place c.whole c.none some in
+    let within = logical_len-within 0 0 (held_of mid) (seen + len) found in
+    let line = c.extends.line in
+    record {
+      extends = c.extends;
+      has = (within.1, inl found, c.tokens);
+      define = λ u t plain holds. sym (c.tokens u t)
+          ∙ (define-whole u g.unread mid (seen + len) (c.extends.mode ∙ plain) (c.define u t holds) found (held-short mid sound)
+          ∙ ap (λ l. record { sort = Definition; bytes = take (seen + len) (held_of mid); line = l } ∷ tokens_left u g.unread (consumed mid (seen + len))) line);
+    }
+
+-- nothing came
+extends-stays : {R : Type 0} (tells : Type 0) (unread : R → List ℕ) (fill : Fill) (old mid new : BufferView R) → Extends old mid → Grows tells unread fill mid new → Stays mid new → Extends old new
+extends-stays tells unread fill old mid new e grows stays = record {
+  line = grows.line ∙ e.line;
+  line_bytes = grows.line_bytes ∙ e.line_bytes;
+  mode = grows.mode ∙ e.mode;
+  open_token_line = grows.open_token_line ∙ e.open_token_line;
+  unused = grows.unused ∙ e.unused;
+  more = e.more;
+  held = stays.held ∙ e.held;
+}
+
+-- the tokens stay where nothing came and nothing was lost
+stays-tokens : {S R : Type 0} (g : Ghosts S R) (first now : S) (fill : Fill) (old mid new : BufferView R) (seen : ℕ) → Continues g first now old mid seen → Grows (g.tells now) g.unread fill mid new → Stays mid new →
+    (g.tells now → rest_of g.unread new ≡ rest_of g.unread mid) → SameTokens (g.tells first) g.unread old new
+stays-tokens g first now fill old mid new seen c grows stays rest u t =
+    tokens-same u g.unread mid new grows.line grows.line_bytes grows.mode grows.open_token_line stays.bytes_left stays.held (rest (c.call.tells t)) ∙ c.tokens u t
+
+-- the logical line goes on up to the end of the text
+pub last-line : {S R : Type 0} (g : Ghosts S R) (first now : S) (old mid new : BufferView R) (seen len : ℕ) → Continues g first now old mid seen → IsBuffer mid → logical_len 0 0 (held_of mid) ≡ None → len ≡ length (held_of mid) →
+    Grows (g.tells now) g.unread End mid new → HoldsLine (g.tells first) g.unread (Whole len) old new
+last-line g first now old mid new seen len c sound none all grows =
+    let stays = grows.by.0 in
+    let held = stays.held in
+    let none_now : logical_len 0 0 (held_of new) ≡ None = ap (logical_len 0 0) held ∙ none in
+    let size : len ≡ length (held_of new) = all ∙ ap length (sym held) in
+    let tokens = stays-tokens g first now End old mid new seen c grows stays (λ t. grows.by.2 ∙ sym (grows.by.1 t)) in
+    let e = extends-stays (g.tells now) g.unread End old mid new c.extends grows stays in
+    let short : length (held_of new) ≤ new.line_bytes = (let s = held-short mid sound in let most = grows.line_bytes in omega arith) in
+    record {
+      extends = e;
+      has = (omega arith, inr (none_now, size, λ t. grows.by.2), tokens);
+      define = λ u t plain holds.
+          let here : HoldsDefine u (held_of new) (rest_of g.unread new) = rw (held, grows.by.2) (rw (grows.by.1 (c.call.tells t)) at (c.define u t holds)) in
+          sym (tokens u t) ∙ (define-last u g.unread new (e.mode ∙ plain) here none_now grows.by.2 short
+          ∙ rw (size, e.line) refl);
+    }
+
+-- with its next line the logical line is too long
+pub long-line : {S R : Type 0} (g : Ghosts S R) (first now : S) (old mid new : BufferView R) (seen : ℕ) → Continues g first now old mid seen → logical_len 0 0 (held_of mid) ≡ None →
+    Grows (g.tells now) g.unread LineLong mid new → HoldsLine (g.tells first) g.unread TooLong old new
+unfolding tokens_left
+long-line g first now old mid new seen c none grows = record {
+  extends = extends-stays (g.tells now) g.unread LineLong old mid new c.extends grows grows.by.0;
+  has = tt;
+  define = λ u t plain holds.
+      sym (c.tokens u t) ∙ (ap (λ m. remaining_tokens u mid.line_bytes m mid.open_token_line mid.line (held_of mid) mid.bytes_left (rest_of g.unread mid)) (c.extends.mode ∙ plain)
+      ∙ (remaining-logical_full u mid.line_bytes mid.open_token_line mid.line (held_of mid) mid.bytes_left (rest_of g.unread mid) (c.define u t holds) none (grows.by.2 (c.call.tells t)) (grows.by.1 (c.call.tells t))
+      ∙ ap (only_broken DefineLong) c.extends.line));
+}
+
+-- the next line is beyond what the source may still have
+pub cut-line : {S R : Type 0} (g : Ghosts S R) (first now : S) (old mid new : BufferView R) (seen : ℕ) → Continues g first now old mid seen → logical_len 0 0 (held_of mid) ≡ None →
+    Grows (g.tells now) g.unread SourceLong mid new → HoldsLine (g.tells first) g.unread LineCut old new
+unfolding tokens_left
+cut-line g first now old mid new seen c none grows = record {
+  extends = extends-stays (g.tells now) g.unread SourceLong old mid new c.extends grows grows.by.0;
+  has = stays-tokens g first now SourceLong old mid new seen c grows grows.by.0 grows.by.3;
+  define = λ u t plain holds.
+      sym (c.tokens u t) ∙ (ap (λ m. remaining_tokens u mid.line_bytes m mid.open_token_line mid.line (held_of mid) mid.bytes_left (rest_of g.unread mid)) (c.extends.mode ∙ plain)
+      ∙ (remaining-logical_source u mid.line_bytes mid.open_token_line mid.line (held_of mid) mid.bytes_left (rest_of g.unread mid) (c.define u t holds) none (grows.by.1 (c.call.tells t)) (grows.by.2 (c.call.tells t))
+      ∙ ap (only_broken DefineCut) c.extends.line));
+}
+
+-- a read failed
+pub failed-line : {S R : Type 0} (g : Ghosts S R) (first now : S) (old mid new : BufferView R) (seen : ℕ) → Continues g first now old mid seen →
+    Grows (g.tells now) g.unread Failed mid new → HoldsLine (g.tells first) g.unread LineFailed old new
+failed-line g first now old mid new seen c grows = record {
+  extends = extends-stays (g.tells now) g.unread Failed old mid new c.extends grows grows.by.0;
+  has = stays-tokens g first now Failed old mid new seen c grows grows.by.0 grows.by.1;
+  define = λ u t plain holds. tt;
+}
+
+-- more lines came
+pub continues-on : {S R : Type 0} (g : Ghosts S R) (first now after : S) (old mid new : BufferView R) (seen len : ℕ) → Continues g first now old mid seen → logical_len 0 0 (held_of mid) ≡ None → len ≡ length (held_of mid) →
+    EndsHeld new → Grows (g.tells now) g.unread Held mid new → SourcesRead g false now after → Continues g first after old new len
+continues-on g first now after old mid new seen len c none all ends grows call =
+    let l = grows.by in
+    let e = c.extends in
+    let size : length (held_of new) ≡ length (held_of mid) + length l.lines = ap length l.held ∙ length-append (held_of mid) l.lines in
+    let front_part : take len (held_of new) ≡ held_of mid = rw (all, l.held) (take-append_seam (held_of mid) l.lines) in
+    record {
+      extends = record {
+        line = grows.line ∙ e.line;
+        line_bytes = grows.line_bytes ∙ e.line_bytes;
+        mode = grows.mode ∙ e.mode;
+        open_token_line = grows.open_token_line ∙ e.open_token_line;
+        unused = grows.unused ∙ e.unused;
+        more = e.more ++ l.lines;
+        held = l.held ∙ (ap (λ h. h ++ l.lines) e.held ∙ append_assoc (held_of old) e.more l.lines);
+      };
+      tokens = λ u t. lengthens-tokens (g.tells now) u g.unread mid new grows.line grows.line_bytes grows.mode grows.open_token_line l (c.call.tells t) ∙ c.tokens u t;
+      define = λ u t holds.
+          let here : HoldsDefine u (held_of mid) (l.lines ++ rest_of g.unread new) = rw (l.rest (c.call.tells t)) at (c.define u t holds) in
+          rw l.held (HoldsDefine-more u (held_of mid) l.lines (rest_of g.unread new) here l.some l.ends);
+      place = omega arith;
+      whole = subst IsWholeLines (sym front_part) l.before;
+      none = ap (logical_len 0 0) front_part ∙ none;
+      ends = ends;
+      call = calls-on g false first now after c.call call;
+    }
+
+-- more is held
+pub fewer-lines : {R : Type 0} (tells : Type 0) (unread : R → List ℕ) (mid new : BufferView R) → Grows tells unread Held mid new → new.line_bytes - length (held_of new) < mid.line_bytes - length (held_of mid)
+fewer-lines tells unread mid new grows =
+    let l = grows.by in
+    let size : length (held_of new) ≡ length (held_of mid) + length l.lines = ap length l.held ∙ length-append (held_of mid) l.lines in
+    let most = grows.line_bytes in
+    let short = l.short in
+    let some = l.some in
+    omega arith

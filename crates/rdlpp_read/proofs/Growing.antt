@@ -1,0 +1,373 @@
+-- How what is held of a source grows by reading on, and what then stands behind it.
+use Rattle.std.proofs.Common.{◌≡◌, ℕ, ◌+◌, ◌-◌, ◌≤◌, ◌<◌, Bool, true, List, [], ◌++◌, length, take, drop, false, Option, None, Some, refl, sym, ap, subst, ◌∙◌, arith, ◌⊎◌, inl, inr}
+use Rattle.std.proofs.lemmas.List.{append-nil, append_assoc, drop_all, drop-drop, drop-take, drop-append-le, length-append, length-drop, length-take, length-take-le, take-append-drop, take-append-le}
+use Rattle.std.proofs.Math.Seq.{take-add, take-append_seam}
+use Rattle.std.specs.Option.{IsSome, is_none}
+use Rattle.rdlpp_scan.specs.SourceTokens.{line_len}
+use Rattle.rdlpp_scan.specs.Lines.{EndsLine, IsWholeLines, whole_lines_len}
+use Rattle.rdlpp_scan.proofs.WholeLines.{IsWholeLines-append}
+use Rattle.rdlpp_source.specs.declared.sources.Sources.{Ghosts}
+use Rattle.rdlpp_read.specs.Ahead.{IsPast}
+use Rattle.rdlpp_read.specs.Calls.{SourcesRead}
+use Rattle.rdlpp_read.specs.Buffer.{BufferView, EndsHeld, IsBuffer, ahead_of, held_of, unread_of, rest_of, unused_of}
+use Rattle.rdlpp_read.specs.Filling.{Accepts, Finds, Grows, GrowsBy, Lengthens, ReadsOn, Seeks, Searches, Stays, Stops, turns_left}
+use Rattle.rdlpp_read.specs.declared.buffer.filling.Fill.{Fill}
+use Rattle.rdlpp_read.specs.declared.buffer.filling.Fill.TheVariants.{Held, End, SourceLong, LineLong, Failed}
+use Rattle.rdlpp_read.proofs.FirstLines.{line-longer}
+
+-- before the first turn
+pub search-starts : {S R : Type 0} (g : Ghosts S R) (sources : S) (f : BufferView R) → f.accepted ≤ length f.window → EndsHeld f → Searches g sources sources f f 0
+unfolding whole_lines_len
+search-starts g sources f inside ends = record {
+  seeks = record { at = refl; accepted = refl; inside = inside; bytes_left = refl; line = refl; line_bytes = refl; mode = refl; open_token_line = refl; held = refl; text = λ t. refl };
+  place = omega arith;
+  none = refl;
+  ends = ends;
+  call = record { failures = refl; refusals = refl; tells = λ t. t; catalog = refl };
+}
+
+-- what a turn adds stands behind what was ahead
+reads-ahead : {R : Type 0} (told : Type 0) (unread : R → List ℕ) (mid new : BufferView R) → mid.accepted ≤ length mid.window → (reads : ReadsOn told unread mid new) →
+    ahead_of new ≡ ahead_of mid ++ reads.gained
+unfolding ahead_of
+reads-ahead told unread mid new inside reads = ap ahead_of reads.becomes ∙ drop-append-le mid.accepted mid.window reads.gained inside
+
+-- what a turn adds changes nothing of what is held
+reads-held : {R : Type 0} (told : Type 0) (unread : R → List ℕ) (mid new : BufferView R) → mid.accepted ≤ length mid.window → ReadsOn told unread mid new → held_of new ≡ held_of mid
+unfolding held_of
+reads-held told unread mid new inside reads = ap held_of reads.becomes ∙ ap (drop mid.at) (take-append-le mid.accepted mid.window reads.gained inside)
+
+-- what a turn adds was unread
+reads-text : {R : Type 0} (told : Type 0) (unread : R → List ℕ) (mid new : BufferView R) → mid.accepted ≤ length mid.window → ReadsOn told unread mid new → told → rest_of unread mid ≡ rest_of unread new
+unfolding rest_of
+reads-text told unread mid new inside reads t =
+    let more = unread_of unread new.reader in
+    ap (λ u. ahead_of mid ++ u) (reads.text t) ∙ (sym (append_assoc (ahead_of mid) reads.gained more) ∙ ap (λ w. w ++ more) (sym (reads-ahead told unread mid new inside reads)))
+
+-- a turn that reads on keeps the text that remains
+seeks-on : {R : Type 0} (tells told : Type 0) (unread : R → List ℕ) (old mid new : BufferView R) → Seeks tells unread old mid → (tells → told) → ReadsOn told unread mid new → Seeks tells unread old new
+seeks-on tells told unread old mid new seeks tell reads =
+    let window : new.window ≡ mid.window ++ reads.gained = ap (λ f. f.window) reads.becomes in
+    let accepted : new.accepted ≡ mid.accepted = ap (λ f. f.accepted) reads.becomes in
+    let size : length new.window ≡ length mid.window + length reads.gained = ap length window ∙ length-append mid.window reads.gained in
+    let inside = seeks.inside in
+    record {
+      at = ap (λ f. f.at) reads.becomes ∙ seeks.at;
+      accepted = accepted ∙ seeks.accepted;
+      inside = omega arith;
+      bytes_left = ap (λ f. f.bytes_left) reads.becomes ∙ seeks.bytes_left;
+      line = ap (λ f. f.line) reads.becomes ∙ seeks.line;
+      line_bytes = ap (λ f. f.line_bytes) reads.becomes ∙ seeks.line_bytes;
+      mode = ap (λ f. f.mode) reads.becomes ∙ seeks.mode;
+      open_token_line = ap (λ f. f.open_token_line) reads.becomes ∙ seeks.open_token_line;
+      held = reads-held told unread mid new inside reads ∙ seeks.held;
+      text = λ t. seeks.text t ∙ reads-text told unread mid new inside reads (tell t);
+    }
+
+-- two calls that read without a fault are one
+pub calls-on : {S R : Type 0} (g : Ghosts S R) (failed : Bool) (first before after : S) → SourcesRead g false first before → SourcesRead g failed before after → SourcesRead g failed first after
+calls-on g true first before after one two = record {
+  failures = rw (← one.failures) two.failures;
+  refusals = two.refusals ∙ one.refusals;
+  tells = λ t. two.tells (one.tells t);
+  catalog = two.catalog ∙ one.catalog;
+}
+calls-on g false first before after one two = record {
+  failures = two.failures ∙ one.failures;
+  refusals = two.refusals ∙ one.refusals;
+  tells = λ t. two.tells (one.tells t);
+  catalog = two.catalog ∙ one.catalog;
+}
+
+-- what a text that is read on ends with
+reads-ends : {R : Type 0} (told : Type 0) (unread : R → List ℕ) (mid new : BufferView R) → mid.accepted ≤ length mid.window → IsSome mid.reader → EndsHeld mid → ReadsOn told unread mid new → EndsHeld new
+reads-ends told unread mid new inside some ends reads = elim ends [
+  | inl whole ↦ inl (subst IsWholeLines (sym (reads-held told unread mid new inside reads)) whole)
+  | inr none ↦ absurd (let no = none.0 in cc)
+]
+
+-- a turn that reads on goes on with the search
+pub search-goes-on : {S R : Type 0} (g : Ghosts S R) (first before after : S) (old mid new : BufferView R) (seen len : ℕ) →
+    Searches g first before old mid seen → whole_lines_len (ahead_of mid) ≡ 0 → IsSome mid.reader → ReadsOn (g.tells before) g.unread mid new → SourcesRead g false before after →
+    len ≡ length (ahead_of mid) → Searches g first after old new len
+search-goes-on g first before after old mid new seen len searches none some reads call whole =
+    let inside = searches.seeks.inside in
+    let ahead = reads-ahead (g.tells before) g.unread mid new inside reads in
+    let size : length (ahead_of new) ≡ length (ahead_of mid) + length reads.gained = ap length ahead ∙ length-append (ahead_of mid) reads.gained in
+    let front_part : take len (ahead_of new) ≡ ahead_of mid = rw (whole, ahead) (take-append_seam (ahead_of mid) reads.gained) in
+    record {
+      seeks = seeks-on (g.tells first) (g.tells before) g.unread old mid new searches.seeks searches.call.tells reads;
+      place = omega arith;
+      none = ap whole_lines_len front_part ∙ none;
+      ends = reads-ends (g.tells before) g.unread mid new inside some searches.ends reads;
+      call = calls-on g false first before after searches.call call;
+    }
+
+-- fewer turns remain, over the parts
+fewer : {R : Type 0} (most len gained : ℕ) (r s : Option R) → IsSome r → len + gained ≤ most → (s ≡ None) ⊎ (0 < gained) →
+    most - (len + gained) + elim s [ None ↦ 0 | Some reader ↦ 1 ] < most - len + elim r [ None ↦ 0 | Some reader ↦ 1 ]
+fewer most len gained None s some within moves = absurd (cc)
+fewer most len gained (Some r) None some within moves = omega arith
+fewer most len gained (Some r) (Some s) some within (inl ended) = absurd (cc)
+fewer most len gained (Some r) (Some s) some within (inr more) = omega arith
+
+-- fewer turns remain
+pub fewer-turns : {R : Type 0} (tells : Type 0) (unread : R → List ℕ) (old new : BufferView R) → ReadsOn tells unread old new → IsSome old.reader → turns_left new < turns_left old
+unfolding turns_left
+fewer-turns tells unread old new reads some =
+    let len : length new.window ≡ length old.window + length reads.gained = ap (λ f. length f.window) reads.becomes ∙ length-append old.window reads.gained in
+    let most : new.line_bytes ≡ old.line_bytes = ap (λ f. f.line_bytes) reads.becomes in
+    let within = reads.within in
+    rw (len, most) (fewer old.line_bytes (length old.window) (length reads.gained) old.reader new.reader some (omega arith) reads.moves)
+
+-- nothing is unread behind the end of a text
+unread-ended : {R : Type 0} (unread : R → List ℕ) (r : Option R) → is_none r ≡ true → unread_of unread r ≡ []
+unfolding unread_of
+unread-ended unread None h = refl
+unread-ended unread (Some reader) h = absurd (cc)
+
+-- a reader that isn't there
+none-reader : {R : Type 0} (r : Option R) → is_none r ≡ true → r ≡ None
+none-reader None h = refl
+none-reader (Some reader) h = absurd (cc)
+
+-- what is held and what is ahead are the window
+window-parts : {R : Type 0} (f : BufferView R) → f.at ≡ 0 → f.accepted ≤ length f.window → length (held_of f) + length (ahead_of f) ≡ length f.window
+unfolding held_of ahead_of
+window-parts f at inside = rw at (omega (arith, length-take-le f.accepted f.window inside, length-drop f.accepted f.window))
+
+-- what was accepted stands behind what is held
+accepts-held : {R : Type 0} (mid new : BufferView R) → mid.at ≡ 0 → (a : Accepts mid new) → held_of new ≡ held_of mid ++ take a.len (ahead_of mid)
+unfolding held_of ahead_of
+accepts-held mid new at a = ap held_of a.becomes ∙ rw at (take-add mid.accepted a.len mid.window)
+
+-- what is ahead of what was accepted
+accepts-ahead : {R : Type 0} (mid new : BufferView R) → (a : Accepts mid new) → ahead_of new ≡ drop a.len (ahead_of mid)
+unfolding ahead_of
+accepts-ahead mid new a = ap ahead_of a.becomes ∙ sym (drop-drop a.len mid.accepted mid.window)
+
+-- the text behind what was accepted
+accepts-rest : {R : Type 0} (unread : R → List ℕ) (mid new : BufferView R) → (a : Accepts mid new) → rest_of unread mid ≡ take a.len (ahead_of mid) ++ rest_of unread new
+unfolding rest_of
+accepts-rest unread mid new a =
+    let u = unread_of unread mid.reader in
+    let same : drop a.len (ahead_of mid) ++ u ≡ rest_of unread new =
+    ap (λ w. w ++ u) (sym (accepts-ahead mid new a)) ∙ ap (λ r. ahead_of new ++ unread_of unread r) (sym (ap (λ f. f.reader) a.becomes)) in
+    ap (λ w. w ++ u) (sym (take-append-drop a.len (ahead_of mid)))
+    ∙ (append_assoc (take a.len (ahead_of mid)) (drop a.len (ahead_of mid)) u ∙ ap (λ r. take a.len (ahead_of mid) ++ r) same)
+
+-- what was accepted ends at a line end, or nothing follows
+accepts-line : {R : Type 0} (unread : R → List ℕ) (mid new : BufferView R) → (a : Accepts mid new) → EndsLine (take a.len (ahead_of mid)) (rest_of unread new)
+unfolding rest_of
+accepts-line unread mid new a = elim a.lines.ends [
+  | inl whole ↦ inl whole
+  | inr last ↦ inr (let none : ahead_of new ≡ [] = accepts-ahead mid new a ∙ drop_all a.len (ahead_of mid) (omega (arith, last.1)) in
+      let ended : unread_of unread new.reader ≡ [] = ap (unread_of unread) (ap (λ f. f.reader) a.becomes) ∙ unread-ended unread mid.reader last.0 in
+      rw (none, ended) refl)
+]
+
+-- where lines were accepted, what was held before them are whole lines
+accepts-before : {R : Type 0} (mid new : BufferView R) → EndsHeld mid → Accepts mid new → IsWholeLines (held_of mid)
+accepts-before mid new ends a = elim ends [
+  | inl whole ↦ whole
+  | inr none ↦ absurd (let some = a.lines.some in let inside = a.lines.inside in let size : length (ahead_of mid) ≡ 0 = ap length none.1 in omega arith)
+]
+
+-- no more is held than the window has
+pub held-le : {R : Type 0} (f : BufferView R) → length (held_of f) ≤ length f.window
+unfolding held_of
+held-le f = omega (arith, length-drop f.at (take f.accepted f.window), length-take f.accepted f.window)
+
+-- lines were accepted
+accepts-grows : {R : Type 0} (tells : Type 0) (unread : R → List ℕ) (old mid new : BufferView R) → old.at ≡ 0 → Seeks tells unread old mid → EndsHeld mid → length mid.window ≤ mid.line_bytes →
+    Accepts mid new → Lengthens tells unread old new
+accepts-grows tells unread old mid new at seeks ends within a =
+    let lines = take a.len (ahead_of mid) in
+    let wide : length lines ≡ a.len = length-take-le a.len (ahead_of mid) a.lines.inside in
+    let some = a.lines.some in
+    let fits = a.lines.fits in
+    let window : new.window ≡ mid.window = ap (λ f. f.window) a.becomes in
+    let size : length new.window ≡ length mid.window = ap length window in
+    let most = seeks.line_bytes in
+    let left = seeks.bytes_left in
+    let left_now : new.bytes_left ≡ mid.bytes_left - a.len = ap (λ f. f.bytes_left) a.becomes in
+    record {
+      lines = lines;
+      some = omega arith;
+      before = subst IsWholeLines seeks.held (accepts-before mid new ends a);
+      held = accepts-held mid new (seeks.at ∙ at) a ∙ ap (λ h. h ++ lines) seeks.held;
+      short = omega (arith, held-le new);
+      fits = omega arith;
+      bytes_left = omega arith;
+      ends = accepts-line unread mid new a;
+      rest = λ t. seeks.text t ∙ accepts-rest unread mid new a;
+    }
+
+-- what stays where nothing was accepted
+seeks-stays : {R : Type 0} (tells : Type 0) (unread : R → List ℕ) (old mid new : BufferView R) → Seeks tells unread old mid → held_of new ≡ held_of mid → new.bytes_left ≡ mid.bytes_left → Stays old new
+seeks-stays tells unread old mid new seeks held left = record { held = held ∙ seeks.held; bytes_left = left ∙ seeks.bytes_left }
+
+-- nothing was accepted: the text has ended
+end-grows : {R : Type 0} (tells : Type 0) (unread : R → List ℕ) (old mid new : BufferView R) → Seeks tells unread old mid → new ≡ mid → ahead_of mid ≡ [] → mid.reader ≡ None → GrowsBy tells unread End old new
+unfolding rest_of unread_of
+end-grows tells unread old mid new seeks same none ended =
+    let nothing : rest_of unread mid ≡ [] = rw (none, ended) refl in
+    (seeks-stays tells unread old mid new seeks (ap held_of same) (ap (λ f. f.bytes_left) same), λ t. seeks.text t ∙ nothing, ap (rest_of unread) same ∙ nothing)
+
+-- nothing was accepted: the source is too long
+source-grows : {R : Type 0} (tells : Type 0) (unread : R → List ℕ) (old mid new : BufferView R) → old.at ≡ 0 → Seeks tells unread old mid → length mid.window ≤ mid.line_bytes → new ≡ mid →
+    IsPast (ahead_of mid) mid.bytes_left (is_none mid.reader) → GrowsBy tells unread SourceLong old new
+unfolding rest_of
+source-grows tells unread old mid new at seeks within same past =
+    let more = unread_of unread mid.reader in
+    let ended : is_none mid.reader ≡ true → more ≡ [] = unread-ended unread mid.reader in
+    let inside = past.within more ended in
+    let passes = past.passes more ended in
+    let most = seeks.line_bytes in
+    let left = seeks.bytes_left in
+    let parts = window-parts mid (seeks.at ∙ at) seeks.inside in
+    let held : length (held_of mid) ≡ length (held_of old) = ap length seeks.held in (
+      seeks-stays tells unread old mid new seeks (ap held_of same) (ap (λ f. f.bytes_left) same),
+      λ t. (let text : line_len (rest_of unread old) ≡ line_len (ahead_of mid ++ more) = ap line_len (seeks.text t) in omega arith),
+      λ t. (let text : line_len (rest_of unread old) ≡ line_len (ahead_of mid ++ more) = ap line_len (seeks.text t) in omega arith),
+      λ t. ap (rest_of unread) same ∙ sym (seeks.text t),
+    )
+
+-- what was found in the window
+found-by : {R : Type 0} (tells : Type 0) (unread : R → List ℕ) (fill : Fill) (old mid new : BufferView R) → old.at ≡ 0 → Seeks tells unread old mid → EndsHeld mid → length mid.window ≤ mid.line_bytes →
+    Finds fill mid new → GrowsBy tells unread fill old new
+found-by tells unread Held old mid new at seeks ends within f = accepts-grows tells unread old mid new at seeks ends within f
+found-by tells unread End old mid new at seeks ends within f = end-grows tells unread old mid new seeks f.0 f.1 f.2
+found-by tells unread SourceLong old mid new at seeks ends within f = source-grows tells unread old mid new at seeks within f.0 f.1
+found-by tells unread LineLong old mid new at seeks ends within f = absurd f
+found-by tells unread Failed old mid new at seeks ends within f = absurd f
+
+-- what isn't used, before the search and where it has come
+seeks-unused : {R : Type 0} (tells : Type 0) (unread : R → List ℕ) (old mid : BufferView R) → Seeks tells unread old mid → unused_of mid ≡ unused_of old
+unfolding unused_of
+seeks-unused tells unread old mid seeks = rw (seeks.bytes_left, seeks.accepted, seeks.at) refl
+
+-- what is found leaves all unused
+finds-unused : {R : Type 0} (fill : Fill) (mid new : BufferView R) → mid.at ≤ mid.accepted → Finds fill mid new → unused_of new ≡ unused_of mid
+unfolding unused_of
+finds-unused Held mid new order f =
+    let fits = f.lines.fits in
+    ap unused_of f.becomes ∙ omega arith
+finds-unused End mid new order f = ap unused_of f.0
+finds-unused SourceLong mid new order f = ap unused_of f.0
+finds-unused LineLong mid new order f = absurd f
+finds-unused Failed mid new order f = absurd f
+
+-- what is found changes nothing else
+record SameScalars {R : Type 0} (mid new : BufferView R) : Type 0 where
+  pub line : new.line ≡ mid.line
+  pub line_bytes : new.line_bytes ≡ mid.line_bytes
+  pub mode : new.mode ≡ mid.mode
+  pub open_token_line : new.open_token_line ≡ mid.open_token_line
+
+-- nothing changed at all
+same-scalars : {R : Type 0} (mid new : BufferView R) → new ≡ mid → SameScalars mid new
+same-scalars mid new same = record {
+  line = ap (λ f. f.line) same;
+  line_bytes = ap (λ f. f.line_bytes) same;
+  mode = ap (λ f. f.mode) same;
+  open_token_line = ap (λ f. f.open_token_line) same;
+}
+
+-- what is found changes nothing else
+finds-scalars : {R : Type 0} (fill : Fill) (mid new : BufferView R) → Finds fill mid new → SameScalars mid new
+finds-scalars Held mid new f = record {
+  line = ap (λ f. f.line) f.becomes;
+  line_bytes = ap (λ f. f.line_bytes) f.becomes;
+  mode = ap (λ f. f.mode) f.becomes;
+  open_token_line = ap (λ f. f.open_token_line) f.becomes;
+}
+finds-scalars End mid new f = same-scalars mid new f.0
+finds-scalars SourceLong mid new f = same-scalars mid new f.0
+finds-scalars LineLong mid new f = absurd f
+finds-scalars Failed mid new f = absurd f
+
+-- the search came to an end in the window
+pub found-grows : {R : Type 0} (tells : Type 0) (unread : R → List ℕ) (fill : Fill) (old mid new : BufferView R) → old.at ≡ 0 → Seeks tells unread old mid → EndsHeld mid → IsBuffer mid →
+    Finds fill mid new → Grows tells unread fill old new
+found-grows tells unread fill old mid new at seeks ends sound f =
+    let same = finds-scalars fill mid new f in
+    record {
+      line = same.line ∙ seeks.line;
+      line_bytes = same.line_bytes ∙ seeks.line_bytes;
+      mode = same.mode ∙ seeks.mode;
+      open_token_line = same.open_token_line ∙ seeks.open_token_line;
+      unused = finds-unused fill mid new sound.used f ∙ seeks-unused tells unread old mid seeks;
+      by = found-by tells unread fill old mid new at seeks ends sound.within f;
+    }
+
+-- what stops a reading leaves the window
+stops-held : {R : Type 0} (told : Type 0) (unread : R → List ℕ) (fill : Fill) (mid new : BufferView R) → Stops told unread fill mid new → held_of new ≡ held_of mid
+unfolding held_of
+stops-held told unread fill mid new stops = ap held_of stops.becomes
+
+-- a full window without a line end goes on
+line-grows : {R : Type 0} (tells told : Type 0) (unread : R → List ℕ) (old mid new : BufferView R) → old.at ≡ 0 → Seeks tells unread old mid → (tells → told) →
+    whole_lines_len (ahead_of mid) ≡ 0 → Stops told unread LineLong mid new → GrowsBy tells unread LineLong old new
+unfolding rest_of
+line-grows tells told unread old mid new at seeks tell none stops =
+    let more = unread_of unread mid.reader in
+    let most = seeks.line_bytes in
+    let full = stops.full refl in
+    let parts = window-parts mid (seeks.at ∙ at) seeks.inside in
+    let held : length (held_of mid) ≡ length (held_of old) = ap length seeks.held in (
+      seeks-stays tells unread old mid new seeks (stops-held told unread LineLong mid new stops) (ap (λ f. f.bytes_left) stops.becomes),
+      λ t. (let text : line_len (rest_of unread old) ≡ line_len (ahead_of mid ++ more) = ap line_len (seeks.text t) in
+          let longer = line-longer (ahead_of mid) more none (stops.goes_on refl (tell t)) in omega arith),
+      λ t. (let text : length (rest_of unread old) ≡ length (ahead_of mid ++ more) = ap length (seeks.text t) in
+          let some = stops.goes_on refl (tell t) in omega (arith, length-append (ahead_of mid) more)),
+    )
+
+-- a read failed
+failed-grows : {R : Type 0} (tells told : Type 0) (unread : R → List ℕ) (old mid new : BufferView R) → Seeks tells unread old mid → (tells → told) →
+    Stops told unread Failed mid new → GrowsBy tells unread Failed old new
+unfolding rest_of ahead_of
+failed-grows tells told unread old mid new seeks tell stops = (
+  seeks-stays tells unread old mid new seeks (stops-held told unread Failed mid new stops) (ap (λ f. f.bytes_left) stops.becomes),
+  λ t. ap (λ f. drop f.accepted f.window ++ unread_of unread new.reader) stops.becomes ∙ (ap (λ u. drop mid.accepted mid.window ++ u) (stops.failed refl (tell t)) ∙ sym (seeks.text t)),
+)
+
+-- what stopped a reading
+stops-by : {R : Type 0} (tells told : Type 0) (unread : R → List ℕ) (fill : Fill) (old mid new : BufferView R) → old.at ≡ 0 → Seeks tells unread old mid → (tells → told) →
+    whole_lines_len (ahead_of mid) ≡ 0 → Stops told unread fill mid new → GrowsBy tells unread fill old new
+stops-by tells told unread Held old mid new at seeks tell none stops = absurd (elim stops.kind [ inl e ↦ cc | inr e ↦ cc ])
+stops-by tells told unread End old mid new at seeks tell none stops = absurd (elim stops.kind [ inl e ↦ cc | inr e ↦ cc ])
+stops-by tells told unread SourceLong old mid new at seeks tell none stops = absurd (elim stops.kind [ inl e ↦ cc | inr e ↦ cc ])
+stops-by tells told unread LineLong old mid new at seeks tell none stops = line-grows tells told unread old mid new at seeks tell none stops
+stops-by tells told unread Failed old mid new at seeks tell none stops = failed-grows tells told unread old mid new seeks tell stops
+
+-- reading came to an end
+pub stops-grows : {R : Type 0} (tells told : Type 0) (unread : R → List ℕ) (fill : Fill) (old mid new : BufferView R) → old.at ≡ 0 → Seeks tells unread old mid → (tells → told) →
+    whole_lines_len (ahead_of mid) ≡ 0 → Stops told unread fill mid new → Grows tells unread fill old new
+unfolding unused_of
+stops-grows tells told unread fill old mid new at seeks tell none stops = record {
+  line = ap (λ f. f.line) stops.becomes ∙ seeks.line;
+  line_bytes = ap (λ f. f.line_bytes) stops.becomes ∙ seeks.line_bytes;
+  mode = ap (λ f. f.mode) stops.becomes ∙ seeks.mode;
+  open_token_line = ap (λ f. f.open_token_line) stops.becomes ∙ seeks.open_token_line;
+  unused = ap unused_of stops.becomes ∙ seeks-unused tells unread old mid seeks;
+  by = stops-by tells told unread fill old mid new at seeks tell none stops;
+}
+
+-- where the search came to an end in the window, what is held ends at a line end or where the text ends
+pub finds-ends : {R : Type 0} (fill : Fill) (mid new : BufferView R) → mid.at ≡ 0 → EndsHeld mid → Finds fill mid new → EndsHeld new
+finds-ends Held mid new at ends f = elim f.lines.ends [
+  | inl whole ↦ inl (subst IsWholeLines (sym (accepts-held mid new at f)) (IsWholeLines-append (held_of mid) (take f.len (ahead_of mid)) (accepts-before mid new ends f) whole))
+  | inr last ↦ inr (ap (λ f. f.reader) f.becomes ∙ none-reader mid.reader last.0, accepts-ahead mid new f ∙ drop_all f.len (ahead_of mid) (omega (arith, last.1)))
+]
+finds-ends End mid new at ends f = subst EndsHeld (sym f.0) ends
+finds-ends SourceLong mid new at ends f = subst EndsHeld (sym f.0) ends
+finds-ends LineLong mid new at ends f = absurd f
+finds-ends Failed mid new at ends f = absurd f
+
+-- the same where reading came to an end
+pub stops-ends : {R : Type 0} (told : Type 0) (unread : R → List ℕ) (fill : Fill) (mid new : BufferView R) → IsSome mid.reader → EndsHeld mid → Stops told unread fill mid new → EndsHeld new
+stops-ends told unread fill mid new some ends stops = elim ends [
+  | inl whole ↦ inl (subst IsWholeLines (sym (stops-held told unread fill mid new stops)) whole)
+  | inr none ↦ absurd (let no = none.0 in cc)
+]

@@ -1,0 +1,14 @@
+use Rattle.std.proofs.Common.{◌≡◌, ◌<◌, ◌-◌, length, take, drop, sym, ◌∙◌, arith}
+use Rattle.rdlpp_scan.specs.Lines.{whole_lines_len}
+use Rattle.rdlpp_read.proofs.WholeLines.{found_behind, none_behind}
+use Rattle.rdlpp_read.proofs.buffer.ahead.look_ahead.Goals as goal
+
+pub whole_lines-requires : goal.whole_lines-requires
+whole_lines-requires c = found_behind c.args.seen c.args.bytes.now (let count = c.last_line_end.ensures in omega arith)
+
+pub returns-then-not-ended : goal.returns-then-not-ended
+returns-then-not-ended c =
+    (none_behind c.args.seen c.args.bytes.now c.requires.none (let count = c.last_line_end.ensures in omega arith), c.if-not-ended.true)
+
+pub last_line-requires : goal.last_line-requires
+last_line-requires c = none_behind c.args.seen c.args.bytes.now c.requires.none (let count = c.last_line_end.ensures in omega arith)

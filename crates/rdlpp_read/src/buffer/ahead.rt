@@ -1,0 +1,62 @@
+// What the bytes behind the accepted lines of a source allow, over slices.
+ghost use Rattle.std.specs.Prelude.{◌≡◌, ◌≤◌, ◌<◌, Bool, true, length, take};
+ghost use Rattle.rdlpp_scan.specs.Lines.{whole_lines_len};
+ghost use Rattle.rdlpp_read.specs.Ahead.{Allows};
+
+use rdlpp_scan::last_line_end;
+
+// What the bytes behind the accepted lines allow.
+#[derive(Clone, Copy)]
+pub(crate) enum Ahead {
+    // No line end yet, and more may follow.
+    Unended,
+    // So many bytes of whole lines, or of the last line of the text.
+    Lines(usize),
+    // Nothing, and the text has ended.
+    Nothing,
+    // A line with which the text has more bytes than a source may have.
+    TooLong,
+}
+
+/// What `bytes` allow, of which the first `seen` have no LF, where `bytes_left` more may be accepted;
+/// `ended` says that the text ends behind them.
+pub(crate) fn look_ahead(bytes: &[u8], seen: usize, bytes_left: usize, ended: bool) -> Ahead
+    requires inside { seen ≤ length bytes.now }
+    requires none { whole_lines_len (take seen bytes.now) ≡ 0 }
+    ensures { Allows result bytes.now bytes_left ended }
+{
+    if last_line_end(&bytes[seen..]) > 0 {
+        return whole_lines(bytes, bytes_left);
+    }
+    if !ended {
+        return Ahead::Unended;
+    }
+    last_line(bytes, bytes_left)
+}
+
+// The whole lines that fit, where there is an LF.
+fn whole_lines(bytes: &[u8], bytes_left: usize) -> Ahead
+    requires { 0 < whole_lines_len bytes.now }
+    ensures { (ended : Bool) → Allows result bytes.now bytes_left ended }
+{
+    let len = last_line_end(&bytes[..bytes_left.min(bytes.len())]);
+    if len == 0 {
+        Ahead::TooLong
+    } else {
+        Ahead::Lines(len)
+    }
+}
+
+// The last line of a text, which has no LF.
+fn last_line(bytes: &[u8], bytes_left: usize) -> Ahead
+    requires { whole_lines_len bytes.now ≡ 0 }
+    ensures { Allows result bytes.now bytes_left true }
+{
+    if bytes.is_empty() {
+        Ahead::Nothing
+    } else if bytes.len() > bytes_left {
+        Ahead::TooLong
+    } else {
+        Ahead::Lines(bytes.len())
+    }
+}

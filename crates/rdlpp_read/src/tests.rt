@@ -1,0 +1,2 @@
+mod buffer_tests;
+mod devices;
