@@ -15,7 +15,7 @@ use Rattle.rdlpp_source.specs.declared.sources.Sources.{Ghosts}
 use Rattle.rdlpp_table.specs.Table.{table_size}
 use Rattle.rdlpp_meaning.specs.declared.fault.FaultKind.{FaultKind}
 use Rattle.rdlpp_meaning.specs.declared.fault.FaultKind.TheVariants.{SourceNotFound, PathTooLong, ReadFailed, SourceMemory, Unbuilt}
-use Rattle.rdlpp_meaning.specs.Outcome.{fails}
+use Rattle.rdlpp_meaning.specs.Outcome.{Told, fails}
 use Rattle.rdlpp_meaning.specs.Resumed.{Live, remains}
 use Rattle.rdlpp_meaning.specs.Output.{character_place, name_cut, opening_fault, start_state, output}
 use Rattle.rdlpp_meaning.proofs.Outputs.{output_plain, output_missing, output_overlong}
@@ -168,6 +168,8 @@ starts_open g e s found path plain most fits answer failures refusals tells cata
   table = refl;
   started = λ h. cc;
   keeps = refl;
+  opens = λ _. record { found = found; becomes = refl; text = answer };
+  refused = λ f is. absurd (cc is);
   call = record { failures = failures; refusals = refusals; tells = tells; catalog = catalog };
   remains_output = λ _ _ telling.
       left_opened g.unread e s found most
@@ -194,6 +196,10 @@ starts_refused g e s kind path fits window failures refusals tells catalog told 
   table = refl;
   started = λ h. cc;
   keeps = refl;
+  opens = λ is. absurd (cc is);
+  refused = λ f is.
+      let same : opening_fault kind path ≡ f = cc is in
+      (sym same ∙ ap (λ (t : Told). opening_fault t.kind path) same, ap (unopened_engine (record e { sources = s })) same);
   call = record { failures = failures; refusals = refusals; tells = tells; catalog = catalog };
   remains_output = λ device memory telling. left_unopened g.unread e s kind path ∙ told device memory telling;
   bounded = is_bounded _ fits window;

@@ -92,13 +92,22 @@ unfoldable pub is_memory_fault : Option Told → Bool
 is_memory_fault None = false
 is_memory_fault (Some f) = is_memory_kind f.kind
 
--- what a start does: it keeps what it answers; the counts of failures; the output that remains is that of the main path
--- (this project's profile)
+-- a start that found its main text: the engine is as it was, with that text open under the path of the sources, which is the
+-- shown name (this project's profile)
+pub record Opens {S R : Type 0} (g : Ghosts S R) (old new : EngineView S R) (path : List ℕ) : Type 0 where
+  pub found : Found R
+  pub becomes : new ≡ opened_engine (record old { sources = new.sources }) found
+  pub text : g.tells old.sources → (g.catalog old.sources).top path ≡ Present found.path.bytes (g.unread found.reader)
+
+-- what a start does: it keeps what it answers; the counts of failures; the text that was opened, or the fault of the opening
+-- for that path, where nothing else changed; the output that remains is that of the main path (this project's profile)
 pub record Starts {S R : Type 0} (g : Ghosts S R) (old new : EngineView S R) (path : List ℕ) (answer : Option Told) : Type 0 where
   pub limits : new.limits ≡ old.limits
   pub table : new.table ≡ old.table
   pub started : IsStarted new
   pub keeps : new.kept ≡ answer
+  pub opens : answer ≡ None → Opens g old new path
+  pub refused : (f : Told) → answer ≡ Some f → (f ≡ opening_fault f.kind path) × (new ≡ unopened_engine (record old { sources = new.sources }) f)
   pub call : SourcesCalled g (is_device_fault answer) (is_memory_fault answer) old.sources new.sources
   pub remains_output : is_device_fault answer ≡ false → is_memory_fault answer ≡ false → g.tells old.sources
       → left_of g.unread new ≡ staged_output g old path

@@ -136,7 +136,11 @@ fn pull<S: Sources, W: Sink>(engine: &mut Engine<S>, writer: &mut W) -> Pulled
             let written = write_part(writer, part);
             Pulled {
                 len: written.len,
-                ending: if written.failed { Some(Ending::Unwritten) } else { None },
+                ending: if written.failed {
+                    Some(Ending::Unwritten)
+                } else {
+                    None
+                },
             }
         }
         Ok(Piece::Done) => Pulled {
