@@ -71,7 +71,7 @@ unfolding is_device_fault is_memory_fault
 writes_output g h fresh path before after count fault r tells =
     let again : (f : Told) → r.opening ≡ Some f → fault ≡ Some f = λ f e. (r.runs.again f (r.starts.keeps ∙ e)).0 in
     let none : (f : Told) → r.opening ≡ Some f → r.runs.bytes ≡ [] = λ f e. (r.runs.again f (r.starts.keeps ∙ e)).1 in
-    let told : g.tells r.started.sources = r.starts.sources_tell tells in
+    let told : g.tells r.started.sources = r.starts.call.tells tells in
     let remains : is_device_fault r.opening ≡ false → is_memory_fault r.opening ≡ false → left_of g.unread r.started ≡ staged_output g fresh path = λ d m. r.starts.remains_output d m tells in
     record {
       bytes = r.runs.bytes;

@@ -1,5 +1,5 @@
 -- What is taken of an open source, as steps of the engine.
-use Rattle.std.proofs.Common.{◌≡◌, ℕ, zero, suc, ◌+◌, ◌-◌, ◌≤◌, ◌<◌, Bool, true, false, cond, one-add, List, [], ◌∷◌, length, take, drop, None, Some, Ok, Err, refl, sym, ap, ◌∙◌, subst, arith, inl, inr}
+use Rattle.std.proofs.Common.{◌≡◌, ℕ, zero, suc, ◌+◌, ◌-◌, ◌≤◌, ◌<◌, Bool, true, false, cond, one-add, List, [], ◌∷◌, length, take, drop, Option, None, Some, Result, Ok, Err, refl, sym, ap, ◌∙◌, subst, arith, inl, inr}
 use Rattle.std.specs.List.{slice_range, list_all, prefix_len}
 use Rattle.rdlpp_scan.specs.Bytes.{is_line_end, is_word}
 use Rattle.rdlpp_expand.specs.Names.{IsWordBytes}
@@ -22,10 +22,9 @@ use Rattle.rdlpp_table.specs.Define.{define_of}
 use Rattle.rdlpp_table.specs.Define as table_define
 use Rattle.rdlpp_table.specs.declared.fault.DefineKind.{DefineKind}
 use Rattle.rdlpp_table.specs.declared.fault.DefineKind.TheVariants as define
-use Rattle.rdlpp_meaning.specs.declared.fault.Fault.{Fault}
 use Rattle.rdlpp_meaning.specs.declared.fault.FaultKind.{FaultKind}
 use Rattle.rdlpp_meaning.specs.declared.fault.FaultKind.TheVariants as fault
-use Rattle.rdlpp_meaning.specs.Outcome.{Told, told, gives, fails, and_then}
+use Rattle.rdlpp_meaning.specs.Outcome.{Told, gives, fails, and_then}
 use Rattle.rdlpp_meaning.specs.Output.{start_state}
 use Rattle.rdlpp_meaning.specs.Parts.{only_blanks, line_ends_of}
 use Rattle.rdlpp_meaning.specs.Stage.{is_unbuilt_macro}
@@ -35,12 +34,13 @@ use Rattle.rdlpp_expand.specs.Feed.{FeedView, IsFeed, EndsHeld, entered, held_of
 use Rattle.rdlpp_scan.specs.declared.token.Mode.{Mode}
 use Rattle.rdlpp_scan.specs.declared.token.Mode.TheVariants.{Plain}
 use Rattle.rdlpp_expand.specs.Front.{passed, IsLead, Leads, Lacks, IsText, IsUndef, undef_name, IsUsage, IsDefine, usage_name, IsRefused, AtPerl, AtBare, AtUnbuilt}
-use Rattle.rdlpp_expand.specs.Pieces.{placed_answer, bytes_at}
+use Rattle.rdlpp_expand.specs.Pieces.{kept_answer, lent_answer, step_answer}
 use Rattle.rdlpp_expand.specs.Remaining.{left_of, open_left, kept_left, phase_left, staged_rules, state_of}
 use Rattle.rdlpp_meaning.specs.Profile.{define_fault, rules_of, with_fault}
-use Rattle.rdlpp_expand.specs.Steps.{Takes, IsReady, is_read_failed, is_write_failed}
+use Rattle.rdlpp_expand.specs.Steps.{Takes, IsReady, IsOwn, is_memory_kind, is_read_failed, is_write_failed}
 use Rattle.rdlpp_expand.specs.declared.phase.Phase.TheVariants.{Open}
-use Rattle.rdlpp_expand.specs.declared.place.Place.TheVariants.{Source, Body}
+use Rattle.rdlpp_expand.specs.declared.place.Place.{Place}
+use Rattle.rdlpp_expand.specs.declared.place.Place.TheVariants.{Source, Body, Kept}
 use Rattle.rdlpp_expand.proofs.EndsFacts.{ends_line}
 use Rattle.rdlpp_expand.proofs.Slices.{part_slice}
 use Rattle.rdlpp_expand.proofs.FrontRemains.{held_passed, move_text, move_usage, move_undefined, move_unbuilt, move_defined, move_refused_define, move_refused, text_inside, usage_inside, define_inside}
@@ -103,10 +103,6 @@ takes_bytes g old new bytes limits name phase sources free open_ moves falls = r
   falls = falls;
 }
 
--- a kind of fault that is a text's own: neither a read nor a write that failed
-abbrev pub IsOwn : FaultKind → Type 0
-IsOwn kind = (is_read_failed kind ≡ false) × (is_write_failed kind ≡ false)
-
 -- the output ended
 pub takes_fault : {S R : Type 0} (g : Ghosts S R) (old new : EngineView S R) (f : Told) →
     new ≡ record old { kept = Some f } → IsOwn f.kind → open_left g.unread old ≡ fails f → Takes g old new (Err f)
@@ -115,7 +111,7 @@ takes_fault g old new f becomes own ends = record {
   name = ap (λ e. e.name) becomes;
   phase = ap (λ e. e.phase) becomes;
   sources = ap (λ e. e.sources) becomes;
-  keeps = (ap (λ e. e.kept) becomes, own.0, own.1);
+  keeps = (ap (λ e. e.kept) becomes, own);
   goes_on = tt;
   tells = ends;
   falls = tt;
@@ -183,7 +179,7 @@ entered_unused f next len lines some inside = let room = held_room f in omega ar
 pub take_text : {S R : Type 0} (g : Ghosts S R) (old new : EngineView S R) (n lines from to : ℕ) (next : Mode) →
     IsReady old → EndsHeld old.feed → old.feed.at ≤ old.feed.accepted → IsText old.feed.mode (held_of old.feed) n next → lines ≡ line_ends (take n (held_of old.feed)) →
     new ≡ record old { blanks = only_blanks old.blanks (take n (held_of old.feed)); feed = passed (entered old.feed next) n lines } →
-    from ≡ old.feed.at → to ≡ old.feed.at + n → Takes g old new (placed_answer new (Ok (Source from to)))
+    from ≡ old.feed.at → to ≡ old.feed.at + n → Takes g old new (lent_answer new (Source from to))
 unfolding open_left state_of passed entered
 take_text g old new n lines from to next ready ends used text counted becomes begins stops =
     let within = text_inside old.feed.mode (held_of old.feed) n next ready.bytes text in
@@ -201,8 +197,8 @@ pub take_usage : {S R : Type 0} (g : Ghosts S R) (old new : EngineView S R) (n i
     macro_named old.table.macros (take (n - 1) (drop 1 (held_of old.feed))) ≡ Some (macro_at old.table.macros id) →
     is_unbuilt_macro (macro_at old.table.macros id) ≡ false → 0 < old.limits.depth →
     new ≡ record old { blanks = only_blanks old.blanks (take n (held_of old.feed)); feed = passed old.feed n 0 } →
-    Takes g old new (placed_answer new (Ok (Body id)))
-unfolding placed_answer bytes_at open_left state_of start_state staged_rules rules_of passed
+    Takes g old new (lent_answer new (Body id))
+unfolding open_left state_of start_state staged_rules rules_of passed
 take_usage g old new n id ready mode ends usage named built depth becomes =
     let held = usage_inside (held_of old.feed) n ready.bytes usage in
     let inside = held.1 in
@@ -229,8 +225,8 @@ pub take_define : {S R : Type 0} (g : Ghosts S R) (old new : EngineView S R) (n 
     define_of old.limits.definition_bytes old.limits.definitions old.table.macros (drop 7 (take n (held_of old.feed))) ≡ table_define.Accepted table.macros →
     lines ≡ line_ends (take n (held_of old.feed)) →
     new ≡ record old { blanks = only_blanks old.blanks (take n (held_of old.feed)); feed = passed old.feed n lines; table = table } →
-    from ≡ old.feed.at + n - lines → to ≡ old.feed.at + n → Takes g old new (placed_answer new (Ok (Source from to)))
-unfolding placed_answer bytes_at open_left state_of start_state staged_rules rules_of with_fault passed
+    from ≡ old.feed.at + n - lines → to ≡ old.feed.at + n → Takes g old new (lent_answer new (Source from to))
+unfolding open_left state_of start_state staged_rules rules_of with_fault passed
 take_define g old new n lines from to table ready mode ends used fits define defined counted becomes begins stops =
     let held = define_inside (held_of old.feed) n ready.bytes define in
     let w = take n (held_of old.feed) in
@@ -252,44 +248,62 @@ pub fault_kind : (kind : FaultKind) (line : ℕ) (word : List ℕ) (s : State) �
 unfolding fault_at
 fault_kind kind line word s own = own
 
+-- a fault's word is cut once
+pub cut_once : (kind : FaultKind) (line : ℕ) (word : List ℕ) (s : State) → fault_at kind line (take 128 word) s ≡ fault_at kind line word s
+unfolding fault_at
+cut_once kind line word s = rw (take-take 128 128 word (omega arith)) refl
+
+-- a fault that is kept is what is answered
+pub kept_lent : {S R : Type 0} (e : EngineView S R) (place : Place) (f : Told) → place ≡ Kept → e.kept ≡ Some f → lent_answer e place ≡ Err f
+kept_lent e place f is kept = ap (lent_answer e) is ∙ ap kept_answer kept
+
+-- a fault that is kept about a name that was cut
+pub kept_cut : {S R : Type 0} (old new : EngineView S R) (kind : FaultKind) (line : ℕ) (word name : List ℕ) (s : State) →
+    new ≡ record old { kept = Some (fault_at kind line word s) } → word ≡ take 128 name →
+    new ≡ record old { kept = Some (fault_at kind line name s) }
+kept_cut {S} {R} old new kind line word name s becomes cut =
+    let keeps : Told → EngineView S R = λ f. record old { kept = Some f } in
+    becomes ∙ ap keeps (ap (λ w. fault_at kind line w s) cut ∙ cut_once kind line name s)
+
 -- a fault ends the output
-pub take_refused : {S R : Type 0} (g : Ghosts S R) (old new : EngineView S R) (f : Fault) (kind : FaultKind) (word : List ℕ) →
-    told f ≡ fault_at kind old.feed.line word (state_of old) → new ≡ record old { kept = Some (told f) } → IsOwn kind →
-    open_left g.unread old ≡ fails (fault_at kind old.feed.line word (state_of old)) → Takes g old new (placed_answer new (Err f))
-unfolding placed_answer
-take_refused g old new f kind word is becomes own ends =
-    takes_fault g old new (told f) becomes (let own_told = fault_kind kind old.feed.line word (state_of old) own in (ap (λ t. is_read_failed t.kind) is ∙ own_told.0, ap (λ t. is_write_failed t.kind) is ∙ own_told.1)) (ends ∙ ap fails (sym is))
+pub take_refused : {S R : Type 0} (g : Ghosts S R) (old new : EngineView S R) (place : Place) (kind : FaultKind) (word : List ℕ) →
+    place ≡ Kept → new ≡ record old { kept = Some (fault_at kind old.feed.line word (state_of old)) } → IsOwn kind →
+    open_left g.unread old ≡ fails (fault_at kind old.feed.line word (state_of old)) → Takes g old new (lent_answer new place)
+take_refused g old new place kind word is becomes own ends =
+    let f = fault_at kind old.feed.line word (state_of old) in
+    subst (λ (a : Result (Option (List ℕ)) Told). Takes g old new a) (sym (kept_lent new place f is (ap (λ e. e.kept) becomes)))
+    (takes_fault g old new f becomes (fault_kind kind old.feed.line word (state_of old) own) ends)
 
 -- what isn't built, refused or read isn't a failed read
 pub refused_kind : (mode : Mode) (held : List ℕ) (kind : FaultKind) → IsRefused mode held kind → IsOwn kind
-unfolding is_read_failed is_write_failed
-refused_kind mode held kind (AtPerl h) = (refl, refl)
-refused_kind mode held kind (AtBare plain h) = (refl, refl)
-refused_kind mode held kind (AtUnbuilt plain h) = (refl, refl)
+unfolding is_read_failed is_write_failed is_memory_kind
+refused_kind mode held kind (AtPerl h) = record { read = refl; write = refl; memory = refl }
+refused_kind mode held kind (AtBare plain h) = record { read = refl; write = refl; memory = refl }
+refused_kind mode held kind (AtUnbuilt plain h) = record { read = refl; write = refl; memory = refl }
 
 -- nor is a refused definition
 pub define_kind : (kind : DefineKind) → IsOwn (define_fault kind)
-unfolding is_read_failed is_write_failed define_fault
-define_kind define.EmbeddedPerl = (refl, refl)
-define_kind define.OpenString = (refl, refl)
-define_kind define.OpenComment = (refl, refl)
-define_kind define.NameExpected = (refl, refl)
-define_kind define.ReservedName = (refl, refl)
-define_kind define.NameTooLong = (refl, refl)
-define_kind define.BadFormals = (refl, refl)
-define_kind define.FormalTwice = (refl, refl)
-define_kind define.TooManyFormals = (refl, refl)
-define_kind define.DefinitionBytes = (refl, refl)
-define_kind define.TooManyDefinitions = (refl, refl)
+unfolding is_read_failed is_write_failed is_memory_kind define_fault
+define_kind define.EmbeddedPerl = record { read = refl; write = refl; memory = refl }
+define_kind define.OpenString = record { read = refl; write = refl; memory = refl }
+define_kind define.OpenComment = record { read = refl; write = refl; memory = refl }
+define_kind define.NameExpected = record { read = refl; write = refl; memory = refl }
+define_kind define.ReservedName = record { read = refl; write = refl; memory = refl }
+define_kind define.NameTooLong = record { read = refl; write = refl; memory = refl }
+define_kind define.BadFormals = record { read = refl; write = refl; memory = refl }
+define_kind define.FormalTwice = record { read = refl; write = refl; memory = refl }
+define_kind define.TooManyFormals = record { read = refl; write = refl; memory = refl }
+define_kind define.DefinitionBytes = record { read = refl; write = refl; memory = refl }
+define_kind define.TooManyDefinitions = record { read = refl; write = refl; memory = refl }
 
 -- nor is an undefined macro, or one that isn't built
 pub undefined_kind : IsOwn fault.UndefinedMacro
-unfolding is_read_failed is_write_failed
-undefined_kind = (refl, refl)
+unfolding is_read_failed is_write_failed is_memory_kind
+undefined_kind = record { read = refl; write = refl; memory = refl }
 
 pub unbuilt_kind : IsOwn fault.Unbuilt
-unfolding is_read_failed is_write_failed
-unbuilt_kind = (refl, refl)
+unfolding is_read_failed is_write_failed is_memory_kind
+unbuilt_kind = record { read = refl; write = refl; memory = refl }
 
 -- what remains is refused
 pub left_refused : {S R : Type 0} (unread : R → List ℕ) (e : EngineView S R) (kind : FaultKind) → 0 < length (held_of e.feed) → EndsHeld e.feed → IsRefused e.feed.mode (held_of e.feed) kind →
@@ -323,11 +337,6 @@ unfolding open_left state_of start_state staged_rules rules_of with_fault
 left_refused_define unread e n kind word mode some ends fits define refused =
     move_refused_define unread (staged_rules e.limits e.origins) e.blanks (state_of e) e.feed n (define_fault kind) word
     mode some (ends_line unread e.feed ends) fits define (ap with_fault refused)
-
--- a fault's word is cut once
-pub cut_once : (kind : FaultKind) (line : ℕ) (word : List ℕ) (s : State) → fault_at kind line (take 128 word) s ≡ fault_at kind line word s
-unfolding fault_at
-cut_once kind line word s = rw (take-take 128 128 word (omega arith)) refl
 
 -- what is dropped of a short text
 pub drop_min : (xs : List ℕ) (m k : ℕ) → m ≡ min (length xs) k → drop m xs ≡ drop k xs
@@ -369,12 +378,12 @@ undef_word held start stop undef =
 
 -- the faults of an `undef`
 pub nameless_kind : IsOwn fault.NameExpected
-unfolding is_read_failed is_write_failed
-nameless_kind = (refl, refl)
+unfolding is_read_failed is_write_failed is_memory_kind
+nameless_kind = record { read = refl; write = refl; memory = refl }
 
 pub reserved_kind : IsOwn fault.ReservedName
-unfolding is_read_failed is_write_failed
-reserved_kind = (refl, refl)
+unfolding is_read_failed is_write_failed is_memory_kind
+reserved_kind = record { read = refl; write = refl; memory = refl }
 
 -- an `undef` without a name
 pub left_nameless : {S R : Type 0} (unread : R → List ℕ) (e : EngineView S R) (start stop : ℕ) → e.feed.mode ≡ Plain → 0 < length (held_of e.feed) → EndsHeld e.feed → IsUndef (held_of e.feed) start stop →
@@ -390,25 +399,20 @@ unfolding open_left
 left_reserved unread e start stop mode some ends undef has taken =
     move_reserved unread (staged_rules e.limits e.origins) e.blanks (state_of e) e.feed start stop mode some (ends_line unread e.feed ends) undef has taken
 
--- no bytes stand from a place up to itself
-no_part : (at : ℕ) (xs : List ℕ) → slice_range xs at at ≡ []
-no_part at xs = let none : at - at ≡ 0 = omega arith in ap (λ n. take n (drop at xs)) none
-
 -- a macro is taken out
-pub take_undef : {S R : Type 0} (g : Ghosts S R) (old new : EngineView S R) (start stop end : ℕ) (table : TableView) →
+pub take_undef : {S R : Type 0} (g : Ghosts S R) (old new : EngineView S R) (start stop : ℕ) (table : TableView) →
     IsReady old → old.feed.mode ≡ Plain → EndsHeld old.feed → IsUndef (held_of old.feed) start stop → start < stop →
     is_reserved (undef_name (held_of old.feed) start stop) ≡ false →
     table ≡ record old.table { macros = without (undef_name (held_of old.feed) start stop) old.table.macros } →
     new ≡ record old { blanks = only_blanks old.blanks (take stop (held_of old.feed)); feed = passed old.feed stop 0; table = table } →
-    Takes g old new (placed_answer new (Ok (Source end end)))
+    Takes g old new (step_answer new None)
 unfolding open_left state_of start_state passed
-take_undef g old new start stop end table ready mode ends undef has free removed becomes =
+take_undef g old new start stop table ready mode ends undef has free removed becomes =
     let inside = undef_inside (held_of old.feed) start stop ready.bytes undef in
     let w = take stop (held_of old.feed) in
     let after = record old { blanks = only_blanks old.blanks w; feed = passed old.feed stop 0; table = record old.table { macros = without (undef_name (held_of old.feed) start stop) old.table.macros } } in
     let same : new ≡ after = becomes ∙ ap (λ t. record old { blanks = only_blanks old.blanks w; feed = passed old.feed stop 0; table = t }) removed in
-    let part : slice_range after.feed.window end end ≡ [] = no_part end after.feed.window in
-    rw (same, part) (takes_bytes g old after [] refl refl refl refl ready.free ready.open_
+    rw same (takes_bytes g old after [] refl refl refl refl ready.free ready.open_
     (move_undef g.unread (staged_rules old.limits old.origins) old.blanks (state_of old) old.feed start stop mode ready.bytes (ends_line g.unread old.feed ends) undef has free
     ∙ sym (and_then-gives_nil (open_left g.unread after)))
     (passed_unused old.feed stop 0 (omega (arith, inside.0, inside.1)) inside.2))

@@ -15,7 +15,7 @@ use Rattle.rdlpp_source.specs.declared.sources.Sources.{Ghosts}
 use Rattle.rdlpp_table.specs.Table.{table_size}
 use Rattle.rdlpp_meaning.specs.declared.fault.FaultKind.{FaultKind}
 use Rattle.rdlpp_meaning.specs.declared.fault.FaultKind.TheVariants.{SourceNotFound, PathTooLong, ReadFailed, SourceMemory, Unbuilt}
-use Rattle.rdlpp_meaning.specs.Outcome.{fails}
+use Rattle.rdlpp_meaning.specs.Outcome.{Told, fails}
 use Rattle.rdlpp_meaning.specs.Resumed.{Live, remains}
 use Rattle.rdlpp_meaning.specs.Output.{character_place, name_cut, opening_fault, start_state, output}
 use Rattle.rdlpp_meaning.proofs.Outputs.{output_plain, output_missing, output_overlong}
@@ -23,8 +23,8 @@ use Rattle.rdlpp_expand.specs.Engine.{EngineView}
 use Rattle.rdlpp_expand.specs.Feed.{opened_feed, tokens_left, held_of, rest_of, unread_of}
 use Rattle.rdlpp_expand.specs.Remaining.{staged_rules, state_of, open_left, phase_left, kept_left, left_of}
 use Rattle.rdlpp_meaning.specs.Profile.{rules_of}
-use Rattle.rdlpp_expand.specs.Steps.{is_read_failed}
-use Rattle.rdlpp_expand.specs.Opening.{kind_of_source, lookup_of, opened_engine, unopened_engine, staged_output, is_memory_kind, is_device_fault, is_memory_fault, Starts}
+use Rattle.rdlpp_expand.specs.Steps.{is_memory_kind, is_read_failed}
+use Rattle.rdlpp_expand.specs.Opening.{kind_of_source, lookup_of, opened_engine, unopened_engine, staged_output, is_device_fault, is_memory_fault, Starts}
 use Rattle.rdlpp_expand.proofs.Bounds.{is_bounded}
 
 -- whether the byte at a place goes on with a character
@@ -168,10 +168,9 @@ starts_open g e s found path plain most fits answer failures refusals tells cata
   table = refl;
   started = λ h. cc;
   keeps = refl;
-  failures = failures;
-  refusals = refusals;
-  sources_tell = tells;
-  catalog = catalog;
+  opens = λ _. record { found = found; becomes = refl; text = answer };
+  refused = λ f is. absurd (cc is);
+  call = record { failures = failures; refusals = refusals; tells = tells; catalog = catalog };
   remains_output = λ _ _ telling.
       left_opened g.unread e s found most
       ∙ sym (staged_plain g e path _ plain (answer telling)
@@ -197,10 +196,11 @@ starts_refused g e s kind path fits window failures refusals tells catalog told 
   table = refl;
   started = λ h. cc;
   keeps = refl;
-  failures = failures;
-  refusals = refusals;
-  sources_tell = tells;
-  catalog = catalog;
+  opens = λ is. absurd (cc is);
+  refused = λ f is.
+      let same : opening_fault kind path ≡ f = cc is in
+      (sym same ∙ ap (λ (t : Told). opening_fault t.kind path) same, ap (unopened_engine (record e { sources = s })) same);
+  call = record { failures = failures; refusals = refusals; tells = tells; catalog = catalog };
   remains_output = λ device memory telling. left_unopened g.unread e s kind path ∙ told device memory telling;
   bounded = is_bounded _ fits window;
 }

@@ -1,20 +1,22 @@
 -- Pulls in a row, and the run that they are.
-use Rattle.std.proofs.Common.{◌≡◌, ◌≢◌, ℕ, ◌+◌, ◌-◌, ◌^◌, ◌≤◌, ◌<◌, ◌==◌, min, Bool, true, false, ◌&&◌, not, List, [], ◌++◌, length, take, drop, Option, None, Some, Ok, Err, refl, sym, ap, subst, ◌∙◌, append_assoc, append-nil, length-append, ne_eqb, arith, inl, inr}
+use Rattle.std.proofs.Common.{◌≡◌, ◌≢◌, ℕ, ◌+◌, ◌-◌, ◌^◌, ◌≤◌, ◌<◌, ◌==◌, min, Bool, true, false, ◌&&◌, ◌||◌, not, List, [], ◌++◌, length, take, drop, Option, None, Some, Result, Ok, Err, refl, sym, ap, subst, ◌∙◌, append_assoc, append-nil, length-append, ne_eqb, arith, inl, inr}
 use Rattle.std.proofs.lemmas.List.{take_all, length-take-le, take-append-drop}
 use Rattle.std.specs.Io.KnownBytes.{Appends, Keeps}
 use Rattle.rdlpp_source.specs.Counts.{Counts}
 use Rattle.rdlpp_source.specs.declared.sources.Sources.{Ghosts}
 use Rattle.rdlpp_source.specs.declared.sinks.Sink.{Ghosts as SinkGhosts}
 use Rattle.rdlpp_meaning.specs.declared.fault.FaultKind.{FaultKind}
-use Rattle.rdlpp_meaning.specs.declared.fault.Fault.{Fault}
-use Rattle.rdlpp_meaning.specs.Outcome.{Told, told, Outcome, gives, fails, and_then}
+use Rattle.rdlpp_meaning.specs.declared.fault.FaultKind.TheVariants.{ReadFailed}
+use Rattle.rdlpp_meaning.specs.State.{fault_at}
+use Rattle.rdlpp_meaning.specs.Outcome.{Told, Outcome, gives, fails, and_then}
 use Rattle.rdlpp_meaning.proofs.Outcomes.{and_then-gives_nil, and_then-gives, and_then-gives_gives, bytes-and_then_gives}
-use Rattle.rdlpp_expand.specs.Calls.{SourcesRead}
+use Rattle.rdlpp_expand.specs.Calls.{SourcesCalled}
 use Rattle.rdlpp_expand.specs.Engine.{EngineView}
 use Rattle.rdlpp_expand.specs.Held.{stores_of}
-use Rattle.rdlpp_expand.specs.Remaining.{left_of, work_left}
-use Rattle.rdlpp_expand.specs.Run.{Pulls, Wrote, WroteEnds, Going, Finishes, Stops, Breaks, Runs, Begins, answered, is_fresh, is_unwritten, write_fault}
-use Rattle.rdlpp_expand.specs.Steps.{Steps, Tells, IsBounded, IsStarted, has_failed, is_read_failed, is_write_failed}
+use Rattle.rdlpp_expand.specs.Remaining.{left_of, state_of, work_left}
+use Rattle.rdlpp_expand.specs.Run.{Pulls, Wrote, WroteEnds, Going, Finishes, Stops, StopsAt, Breaks, Runs, Begins, Flushes, Unflushed, answered, is_fresh, is_kept, is_unwritten, write_fault}
+use Rattle.rdlpp_expand.specs.Steps.{Steps, Tells, IsBounded, IsStarted, has_met, is_memory_kind, is_read_failed, is_write_failed}
+use Rattle.rdlpp_expand.proofs.EngineSteps.{called_after, free_before, not_called, ok_not_met}
 use Rattle.rdlpp_expand.specs.declared.writing.Ending.{Ending}
 use Rattle.rdlpp_expand.specs.declared.writing.Ending.TheVariants.{Finished, Stopped, Unwritten}
 
@@ -46,30 +48,19 @@ counts_taken n part old new h k =
 pub counts_after : (b : Bool) (old mid new : ℕ) → mid ≡ old → Counts b mid new → Counts b old new
 counts_after b old mid new e c = let P : ℕ → Type 0 = λ n. Counts b n new in subst P e c
 
--- a call behind one in which no device failed
-pub reads_after : {S R : Type 0} (g : Ghosts S R) (failed : Bool) (old mid new : S) → SourcesRead g false old mid → SourcesRead g failed mid new → SourcesRead g failed old new
-reads_after g failed old mid new a b = record {
-  failures = counts_after failed _ _ _ a.failures b.failures;
-  refusals = b.refusals ∙ a.refusals;
-  tells = λ t. b.tells (a.tells t);
-  catalog = b.catalog ∙ a.catalog;
-}
+-- a sink that wasn't asked to flush, and again wasn't
+unflushed_more : {W : Type 0} (h : SinkGhosts W) (old mid new : W) → Unflushed h old mid → Unflushed h mid new → Unflushed h old new
+unflushed_more h old mid new a b = record { failed_flushes = b.failed_flushes ∙ a.failed_flushes; flushes = b.flushes ∙ a.flushes }
 
 -- counts up to the largest `u64` in a row
 pub counted_more : (n a k b m : ℕ) → n ≡ min a (2 ^ 64 - 1) → k ≡ b → m ≡ a + b → min (n + k) (2 ^ 64 - 1) ≡ min m (2 ^ 64 - 1)
 counted_more n a k b m p q r = grind arith
 
--- an answer with no fault is no read that failed
-pub ok_not_failed : (kept : Option Told) (lent : Option (List ℕ)) → has_failed kept (Ok lent) ≡ false
-unfolding has_failed
-ok_not_failed None lent = refl
-ok_not_failed (Some f) lent = refl
-
--- whether an answer is a read that failed, in both words
-pub err_failed : (kept : Option Told) (f : Told) → has_failed kept (Err f) ≡ is_fresh is_read_failed kept (Some f)
-unfolding has_failed is_fresh
-err_failed None f = refl
-err_failed (Some k) f = refl
+-- whether a fault was met in a call, in both words
+pub err_met : (test : FaultKind → Bool) (kept : Option Told) (f : Told) → has_met test kept (Err f) ≡ is_fresh test kept (Some f)
+unfolding has_met is_fresh
+err_met test None f = refl
+err_met test (Some k) f = refl
 
 -- no fault is no fresh fault
 pub none_fresh : (test : FaultKind → Bool) (kept : Option Told) → is_fresh test kept None ≡ false
@@ -77,24 +68,18 @@ unfolding is_fresh
 none_fresh test None = refl
 none_fresh test (Some k) = refl
 
--- what a step did to the fault that is kept, where bytes came: none was kept
-pub free_of : {S R : Type 0} (g : Ghosts S R) (old new : EngineView S R) (kept : Option Told) (lent : Option (List ℕ)) → old.kept ≡ kept → Steps g old new (Ok lent) → kept ≡ None
-free_of g old new None lent e s = refl
-free_of g old new (Some f) lent e s = cc ((s.kept f e).0)
-
--- a step that answers no fault is a call in which no device failed
-pub ok_reads : {S R : Type 0} (g : Ghosts S R) (old new : EngineView S R) (lent : Option (List ℕ)) → Steps g old new (Ok lent) → SourcesRead g false old.sources new.sources
-ok_reads g old new lent s =
-    let P : Bool → Type 0 = λ b. SourcesRead g b old.sources new.sources in subst P (ok_not_failed old.kept lent) s.call
+-- a step that answers no fault is a call in which no device failed and no memory was refused
+pub ok_reads : {S R : Type 0} (g : Ghosts S R) (old new : EngineView S R) (lent : Option (List ℕ)) → Steps g old new (Ok lent) → SourcesCalled g false false old.sources new.sources
+ok_reads g old new lent s = rw (ok_not_met is_read_failed old.kept lent, ok_not_met is_memory_kind old.kept lent) at s.call
 
 -- a step's call, by the fault that it answers
-pub err_reads : {S R : Type 0} (g : Ghosts S R) (old new : EngineView S R) (f : Told) → Steps g old new (Err f) → SourcesRead g (is_fresh is_read_failed old.kept (Some f)) old.sources new.sources
-err_reads g old new f s =
-    let P : Bool → Type 0 = λ b. SourcesRead g b old.sources new.sources in subst P (err_failed old.kept f) s.call
+pub err_reads : {S R : Type 0} (g : Ghosts S R) (old new : EngineView S R) (f : Told) → Steps g old new (Err f)
+    → SourcesCalled g (is_fresh is_read_failed old.kept (Some f)) (is_fresh is_memory_kind old.kept (Some f)) old.sources new.sources
+err_reads g old new f s = rw (err_met is_read_failed old.kept f, err_met is_memory_kind old.kept f) at s.call
 
 -- what a step that answers no fault tells
 pub ok_tells : {S R : Type 0} (g : Ghosts S R) (old new : EngineView S R) (lent : Option (List ℕ)) → Steps g old new (Ok lent) → g.tells old.sources → Tells (Ok lent) (left_of g.unread old) (left_of g.unread new)
-ok_tells g old new lent s told = s.tells (ok_not_failed old.kept lent) told
+ok_tells g old new lent s told = s.tells (ok_not_met is_read_failed old.kept lent) told
 
 -- a fault that wasn't kept isn't that of a write
 pub own_of : {S R : Type 0} (g : Ghosts S R) (old new : EngineView S R) (f : Told) (kept : Option Told) → old.kept ≡ kept → Steps g old new (Err f) → is_fresh is_write_failed kept (Some f) ≡ false
@@ -110,6 +95,16 @@ begins_behind xs o = (o.bytes, bytes-and_then_gives xs o)
 pub begins_of : (xs : List ℕ) (o p : Outcome) → p ≡ and_then (gives xs) o → Begins xs p
 begins_of xs o p e = let P : Outcome → Type 0 = λ q. Begins xs q in subst P (sym e) (begins_behind xs o)
 
+-- a call in which nothing failed, where no fault was answered
+pub none_reads : {S R : Type 0} (g : Ghosts S R) (kept : Option Told) (old new : S) → SourcesCalled g false false old new
+    → SourcesCalled g (is_fresh is_read_failed kept None) (is_fresh is_memory_kind kept None) old new
+none_reads g kept old new r = rw (none_fresh is_read_failed kept, none_fresh is_memory_kind kept) r
+
+-- so far nothing failed
+pub going_reads : {S R : Type 0} (g : Ghosts S R) (kept : Option Told) (old new : S)
+    → SourcesCalled g (is_fresh is_read_failed kept None) (is_fresh is_memory_kind kept None) old new → SourcesCalled g false false old new
+going_reads g kept old new r = rw (none_fresh is_read_failed kept, none_fresh is_memory_kind kept) at r
+
 -- nothing was written yet
 pub wrote_none : {S R W : Type 0} (g : Ghosts S R) (h : SinkGhosts W) (e : EngineView S R) (w : W) → IsStarted e → Wrote g h e e w w 0 None
 wrote_none g h e w started = record {
@@ -117,35 +112,26 @@ wrote_none g h e w started = record {
   taken = appends_none (h.taken w);
   counted = refl;
   writes = refl;
-  reads = (let P : Bool → Type 0 = λ b. SourcesRead g b e.sources e.sources in
-      subst P (sym (none_fresh is_read_failed e.kept)) (record { failures = refl; refusals = refl; tells = λ t. t; catalog = refl }));
+  quiet = record { failed_flushes = refl; flushes = refl };
+  reads = none_reads g e.kept e.sources e.sources (not_called g e.sources);
   limits = refl;
   name = refl;
   started = started;
   ends = record { kept = refl; tells = λ t. sym (and_then-gives_nil (left_of g.unread e)); again = λ f k. (refl, refl) };
 }
 
--- a call in which no device failed, where no fault was answered
-pub none_reads : {S R : Type 0} (g : Ghosts S R) (kept : Option Told) (old new : S) → SourcesRead g false old new → SourcesRead g (is_fresh is_read_failed kept None) old new
-none_reads g kept old new r =
-    let P : Bool → Type 0 = λ b. SourcesRead g b old new in subst P (sym (none_fresh is_read_failed kept)) r
-
--- so far no device failed
-pub going_reads : {S R : Type 0} (g : Ghosts S R) (kept : Option Told) (old new : S) → SourcesRead g (is_fresh is_read_failed kept None) old new → SourcesRead g false old new
-going_reads g kept old new r =
-    let P : Bool → Type 0 = λ b. SourcesRead g b old new in subst P (none_fresh is_read_failed kept) r
-
 -- one pull more, where what it did to the engine is known
 pub wrote_with : {S R W : Type 0} (g : Ghosts S R) (h : SinkGhosts W) (old mid new : EngineView S R) (before between after : W) (n len : ℕ) (ending : Option Ending)
     (w : Wrote g h old mid before between n None) (p : Pulls g h mid new between after len ending)
-    → SourcesRead g (is_fresh is_read_failed old.kept (answered ending)) old.sources new.sources
+    → SourcesCalled g (is_fresh is_read_failed old.kept (answered ending new.kept)) (is_fresh is_memory_kind old.kept (answered ending new.kept)) old.sources new.sources
     → new.limits ≡ mid.limits → new.name ≡ mid.name → IsStarted new → WroteEnds g old new (w.bytes ++ p.bytes) ending
     → Wrote g h old new before after (min (n + len) (2 ^ 64 - 1)) ending
 wrote_with g h old mid new before between after n len ending w p reads limits name started ends = record {
   bytes = w.bytes ++ p.bytes;
   taken = appends_more _ _ _ w.bytes p.bytes _ w.taken p.taken refl;
   counted = counted_more n (length w.bytes) len (length p.bytes) _ w.counted p.count (length-append w.bytes p.bytes);
-  writes = counts_after (is_unwritten ending) _ _ _ w.writes p.failures;
+  writes = counts_after (is_unwritten ending) _ _ _ w.writes p.writes;
+  quiet = unflushed_more h _ _ _ w.quiet p.quiet;
   reads = reads;
   limits = limits ∙ w.limits;
   name = name ∙ w.name;
@@ -156,7 +142,7 @@ wrote_with g h old mid new before between after n len ending w p reads limits na
 -- a piece was written whole
 pub goes_on : {S R : Type 0} (g : Ghosts S R) (old mid new : EngineView S R) (xs ys : List ℕ) → (g.tells old.sources → g.tells mid.sources) → Going g old mid xs → Steps g mid new (Ok (Some ys)) → Going g old new (xs ++ ys)
 goes_on g old mid new xs ys told w s =
-    let free : old.kept ≡ None = sym w.kept ∙ free_of g mid new mid.kept (Some ys) refl s in
+    let free : old.kept ≡ None = sym w.kept ∙ free_before g mid new mid.kept (Some ys) refl s in
     record {
       kept = s.free ∙ sym free;
       tells = λ t. w.tells t ∙ ap (and_then (gives xs)) (ok_tells g mid new (Some ys) s (told t)) ∙ and_then-gives_gives xs ys (left_of g.unread new);
@@ -166,7 +152,7 @@ goes_on g old mid new xs ys told w s =
 -- nothing was left
 pub finishes : {S R : Type 0} (g : Ghosts S R) (old mid new : EngineView S R) (xs ys : List ℕ) → (g.tells old.sources → g.tells mid.sources) → Going g old mid xs → Steps g mid new (Ok None) → ys ≡ [] → Finishes g old new (xs ++ ys)
 finishes g old mid new xs ys told w s none =
-    let free : old.kept ≡ None = sym w.kept ∙ free_of g mid new mid.kept None refl s in
+    let free : old.kept ≡ None = sym w.kept ∙ free_before g mid new mid.kept None refl s in
     record {
       free = free;
       kept = (s.ends refl).0;
@@ -176,15 +162,21 @@ finishes g old mid new xs ys told w s none =
     }
 
 -- a fault was answered
-pub stops : {S R : Type 0} (g : Ghosts S R) (old mid new : EngineView S R) (xs ys : List ℕ) (f : Told) → (g.tells old.sources → g.tells mid.sources) → Going g old mid xs → Steps g mid new (Err f) → ys ≡ [] → Stops g old new (xs ++ ys) f
-stops g old mid new xs ys f told w s none =
-    let same : xs ≡ xs ++ ys = sym (ap (λ (zs : List ℕ). xs ++ zs) none ∙ append-nil xs) in
+pub stops : {S R : Type 0} (g : Ghosts S R) (old mid new : EngineView S R) (xs ys : List ℕ) → (g.tells old.sources → g.tells mid.sources) → Going g old mid xs → StopsAt g mid new ys → Stops g old new (xs ++ ys)
+stops g old mid new xs ys told w stop =
+    let s = stop.steps in
+    let f = stop.fault in
+    let same : xs ≡ xs ++ ys = sym (ap (λ (zs : List ℕ). xs ++ zs) stop.none ∙ append-nil xs) in
     let own : is_fresh is_write_failed mid.kept (Some f) ≡ false = own_of g mid new f mid.kept refl s in
+    let met : (test : FaultKind → Bool) → has_met test mid.kept (Err f) ≡ is_fresh test old.kept (Some f) =
+    λ test. err_met test mid.kept f ∙ ap (λ (k : Option Told). is_fresh test k (Some f)) w.kept in
     record {
+      fault = f;
       kept = s.keeps;
       own = ap (λ (k : Option Told). is_fresh is_write_failed k (Some f)) (sym w.kept) ∙ own;
+      failed = λ fresh. (let same_fault : Err f ≡ Err (fault_at ReadFailed new.feed.line [] (state_of new)) = s.failed (met is_read_failed ∙ fresh) in cc);
       begins = λ t. begins_of (xs ++ ys) (left_of g.unread mid) (left_of g.unread old) (w.tells t ∙ ap (λ (zs : List ℕ). and_then (gives zs) (left_of g.unread mid)) same);
-      tells = λ fresh t. w.tells t ∙ ap (and_then (gives xs)) (s.tells (err_failed mid.kept f ∙ ap (λ (k : Option Told). is_fresh is_read_failed k (Some f)) w.kept ∙ fresh) (told t)) ∙ ap (λ (zs : List ℕ). and_then (gives zs) (fails f)) same;
+      tells = λ fresh t. w.tells t ∙ ap (and_then (gives xs)) (s.tells (met is_read_failed ∙ fresh) (told t)) ∙ ap (λ (zs : List ℕ). and_then (gives zs) (fails f)) same;
       again = λ k e. (let was = w.again k e in let now = s.kept k (w.kept ∙ e) in (cc (now.0), sym same ∙ was.0, now.1 ∙ was.1));
       bounded = s.bounded;
     }
@@ -193,7 +185,7 @@ stops g old mid new xs ys f told w s none =
 pub breaks : {S R : Type 0} (g : Ghosts S R) (old mid new : EngineView S R) (xs ys rest : List ℕ) → (g.tells old.sources → g.tells mid.sources) → Going g old mid xs → Steps g mid new (Ok (Some (ys ++ rest))) → Breaks g old new (xs ++ ys)
 breaks g old mid new xs ys rest told w s =
     let left = left_of g.unread new in
-    let free : old.kept ≡ None = sym w.kept ∙ free_of g mid new mid.kept (Some (ys ++ rest)) refl s in
+    let free : old.kept ≡ None = sym w.kept ∙ free_before g mid new mid.kept (Some (ys ++ rest)) refl s in
     record {
       free = free;
       kept = s.free;
@@ -209,26 +201,28 @@ wrote_more g h old mid new before between after n len None w p =
     let s : Steps g mid new (Ok (Some p.bytes)) = p.ends in
     let was = going_reads g old.kept _ _ w.reads in
     wrote_with g h old mid new before between after n len None w p
-    (none_reads g old.kept _ _ (reads_after g false _ _ _ was (ok_reads g mid new (Some p.bytes) s)))
+    (none_reads g old.kept _ _ (called_after g false false false false _ _ _ refl refl was (ok_reads g mid new (Some p.bytes) s)))
     s.limits s.name s.started (goes_on g old mid new w.bytes p.bytes was.tells w.ends s)
 wrote_more g h old mid new before between after n len (Some Finished) w p =
     let s : Steps g mid new (Ok None) = p.ends.0 in
     let was = going_reads g old.kept _ _ w.reads in
     wrote_with g h old mid new before between after n len (Some Finished) w p
-    (none_reads g old.kept _ _ (reads_after g false _ _ _ was (ok_reads g mid new None s)))
+    (none_reads g old.kept _ _ (called_after g false false false false _ _ _ refl refl was (ok_reads g mid new None s)))
     s.limits s.name s.started (finishes g old mid new w.bytes p.bytes was.tells w.ends s p.ends.1)
-wrote_more g h old mid new before between after n len (Some (Stopped f)) w p =
-    let s : Steps g mid new (Err (told f)) = p.ends.0 in
+wrote_more g h old mid new before between after n len (Some Stopped) w p =
+    let stop : StopsAt g mid new p.bytes = p.ends in
+    let s = stop.steps in
     let was = going_reads g old.kept _ _ w.reads in
-    let P : Option Told → Type 0 = λ k. SourcesRead g (is_fresh is_read_failed k (Some (told f))) mid.sources new.sources in
-    wrote_with g h old mid new before between after n len (Some (Stopped f)) w p
-    (reads_after g _ _ _ _ was (subst P w.ends.kept (err_reads g mid new (told f) s)))
-    s.limits s.name s.started (stops g old mid new w.bytes p.bytes (told f) was.tells w.ends s p.ends.1)
+    let P : Option Told → Option Told → Type 0 = λ k f. SourcesCalled g (is_fresh is_read_failed k f) (is_fresh is_memory_kind k f) mid.sources new.sources in
+    let reads : P old.kept new.kept = subst (λ (f : Option Told). P old.kept f) (sym s.keeps) (subst (λ (k : Option Told). P k (Some stop.fault)) w.ends.kept (err_reads g mid new stop.fault s)) in
+    wrote_with g h old mid new before between after n len (Some Stopped) w p
+    (called_after g false _ false _ _ _ _ refl refl was reads)
+    s.limits s.name s.started (stops g old mid new w.bytes p.bytes was.tells w.ends stop)
 wrote_more g h old mid new before between after n len (Some Unwritten) w p =
     let s : Steps g mid new (Ok (Some (p.bytes ++ p.ends.0))) = p.ends.1 in
     let was = going_reads g old.kept _ _ w.reads in
     wrote_with g h old mid new before between after n len (Some Unwritten) w p
-    (none_reads g old.kept _ _ (reads_after g false _ _ _ was (ok_reads g mid new (Some (p.bytes ++ p.ends.0)) s)))
+    (none_reads g old.kept _ _ (called_after g false false false false _ _ _ refl refl was (ok_reads g mid new (Some (p.bytes ++ p.ends.0)) s)))
     s.limits s.name s.started (breaks g old mid new w.bytes p.bytes p.ends.0 was.tells w.ends s)
 
 -- a piece that was written whole is work done
@@ -236,35 +230,58 @@ pub pull_falls : {S R W : Type 0} (g : Ghosts S R) (h : SinkGhosts W) (old new :
 pull_falls g h old new before after len None p e = (let s : Steps g old new (Ok (Some p.bytes)) = p.ends in s.falls p.bytes refl)
 pull_falls g h old new before after len (Some x) p e = (let bad : ⊥ = cc e in absurd bad)
 
+-- a sink that wasn't asked to flush, and what a write leaves of that
+pub quiet_more : {W : Type 0} (h : SinkGhosts W) (old mid new : W) → Unflushed h old mid → h.failed_flushes new ≡ h.failed_flushes mid → h.flushes new ≡ h.flushes mid → Unflushed h old new
+quiet_more h old mid new a failed asked = unflushed_more h old mid new a (record { failed_flushes = failed; flushes = asked })
+
+-- a flush, by what its test came to
+pub flushes_as : {W : Type 0} (h : SinkGhosts W) (b c : Bool) (before after : W) → b ≡ c → Flushes h b before after → Flushes h c before after
+flushes_as h b c before after e f = subst (λ (x : Bool). Flushes h x before after) e f
+
 -- a pull of a piece that was written whole
 pub pulled_whole : {S R W : Type 0} (g : Ghosts S R) (h : SinkGhosts W) (old new : EngineView S R) (before after : W) (piece : List ℕ) (len : ℕ)
-    → Steps g old new (Ok (Some piece)) → len ≡ length piece → Appends (h.taken before) (h.taken after) (take len piece) → Counts false (h.failures before) (h.failures after) → Pulls g h old new before after len None
-pulled_whole g h old new before after piece len s whole taken failures = record {
+    → Steps g old new (Ok (Some piece)) → len ≡ length piece → Appends (h.taken before) (h.taken after) (take len piece) → Counts false (h.failed_writes before) (h.failed_writes after)
+    → Unflushed h before after → Pulls g h old new before after len None
+pulled_whole g h old new before after piece len s whole taken writes quiet = record {
   bytes = piece;
   taken = (let P : List ℕ → Type 0 = λ xs. Appends (h.taken before) (h.taken after) xs in subst P (take_all len piece (omega arith)) taken);
   count = whole;
-  failures = failures;
+  writes = writes;
+  quiet = quiet;
   ends = s;
 }
 
 -- a pull of a piece that was written in part
 pub pulled_part : {S R W : Type 0} (g : Ghosts S R) (h : SinkGhosts W) (old new : EngineView S R) (before after : W) (piece : List ℕ) (len : ℕ)
-    → Steps g old new (Ok (Some piece)) → len ≤ length piece → Appends (h.taken before) (h.taken after) (take len piece) → Counts true (h.failures before) (h.failures after) → Pulls g h old new before after len (Some Unwritten)
-pulled_part g h old new before after piece len s inside taken failures = record {
+    → Steps g old new (Ok (Some piece)) → len ≤ length piece → Appends (h.taken before) (h.taken after) (take len piece) → Counts true (h.failed_writes before) (h.failed_writes after)
+    → Unflushed h before after → Pulls g h old new before after len (Some Unwritten)
+pulled_part g h old new before after piece len s inside taken writes quiet = record {
   bytes = take len piece;
   taken = taken;
   count = sym (length-take-le len piece inside);
-  failures = failures;
+  writes = writes;
+  quiet = quiet;
   ends = (drop len piece, let P : List ℕ → Type 0 = λ xs. Steps g old new (Ok (Some xs)) in subst P (sym (take-append-drop len piece)) s);
 }
 
+-- a sink of which nothing was asked
+quiet_same : {W : Type 0} (h : SinkGhosts W) (w : W) → Unflushed h w w
+quiet_same h w = record { failed_flushes = refl; flushes = refl }
+
 -- a pull that came to an end without a piece
 pub pulled_none : {S R W : Type 0} (g : Ghosts S R) (h : SinkGhosts W) (old new : EngineView S R) (w : W) → Steps g old new (Ok None) → Pulls g h old new w w 0 (Some Finished)
-pulled_none g h old new w s = record { bytes = []; taken = appends_none (h.taken w); count = refl; failures = refl; ends = (s, refl) }
+pulled_none g h old new w s = record { bytes = []; taken = appends_none (h.taken w); count = refl; writes = refl; quiet = quiet_same h w; ends = (s, refl) }
 
 -- a pull that came to a fault
-pub pulled_fault : {S R W : Type 0} (g : Ghosts S R) (h : SinkGhosts W) (old new : EngineView S R) (w : W) (f : Fault) → Steps g old new (Err (told f)) → Pulls g h old new w w 0 (Some (Stopped f))
-pulled_fault g h old new w f s = record { bytes = []; taken = appends_none (h.taken w); count = refl; failures = refl; ends = (s, refl) }
+pub pulled_fault : {S R W : Type 0} (g : Ghosts S R) (h : SinkGhosts W) (old new : EngineView S R) (w : W) (f : Told) → Steps g old new (Err f) → Pulls g h old new w w 0 (Some Stopped)
+pulled_fault g h old new w f s = record {
+  bytes = [];
+  taken = appends_none (h.taken w);
+  count = refl;
+  writes = refl;
+  quiet = quiet_same h w;
+  ends = record { fault = f; steps = s; none = refl };
+}
 
 -- the same of an equal count and an equal ending
 pub wrote_at : {S R W : Type 0} (g : Ghosts S R) (h : SinkGhosts W) (old new : EngineView S R) (before after : W) (n m : ℕ) (e f : Option Ending)
@@ -274,9 +291,9 @@ wrote_at g h old new before after n m e f w p q =
     let Q : Option Ending → Type 0 = λ k. Wrote g h old new before after m k in
     subst Q (sym q) (subst P (sym p) w)
 
--- a step that answers what stands at a place, by the piece that was lent
-pub lent_step : {S R : Type 0} (g : Ghosts S R) (old new : EngineView S R) (lent piece : Option (List ℕ)) → Steps g old new (Ok lent) → piece ≡ lent → Steps g old new (Ok piece)
-lent_step g old new lent piece s e = let P : Option (List ℕ) → Type 0 = λ x. Steps g old new (Ok x) in subst P (sym e) s
+-- a step, by an answer that is the same
+pub answer_step : {S R : Type 0} (g : Ghosts S R) (old new : EngineView S R) (a b : Result (Option (List ℕ)) Told) → Steps g old new a → b ≡ a → Steps g old new b
+answer_step g old new a b s e = subst (λ (x : Result (Option (List ℕ)) Told). Steps g old new x) (sym e) s
 
 -- a count, by what its test came to
 pub counts_as : (b c : Bool) (old new : ℕ) → b ≡ c → Counts b old new → Counts c old new
@@ -309,28 +326,58 @@ unfolding is_fresh write_fault is_read_failed
 write_no_read None name f p = ap (λ (x : Told). is_read_failed x.kind) p
 write_no_read (Some k) name f p = refl
 
+-- nor is it memory that was refused
+pub write_no_memory : (kept : Option Told) (name : List ℕ) (f : Told) → f ≡ write_fault name → is_fresh is_memory_kind kept (Some f) ≡ false
+unfolding is_fresh write_fault is_memory_kind
+write_no_memory None name f p = ap (λ (x : Told). is_memory_kind x.kind) p
+write_no_memory (Some k) name f p = refl
+
+-- or with nothing behind it
+or_false : (b : Bool) → (b || false) ≡ b
+or_false true = refl
+or_false false = refl
+
 -- the bound doesn't speak of the fault that is kept
 pub bounded_kept : {S R : Type 0} (e : EngineView S R) (kept : Option Told) → IsBounded e → IsBounded (record e { kept = kept })
 unfolding IsBounded stores_of
 bounded_kept e kept b = b
 
+-- the kept fault is no write that failed, where none is kept
+none_kept : (test : FaultKind → Bool) (kept : Option Told) → kept ≡ None → is_kept test kept ≡ false
+unfolding is_kept
+none_kept test None e = refl
+none_kept test (Some f) e = cc e
+
+-- a fault that came now isn't that of a write, and the one that was kept is: then it was kept
+kept_before : (test : FaultKind → Bool) (kept : Option Told) (f : Told) (b : Bool) → is_fresh test kept (Some f) ≡ false → ((k : Told) → kept ≡ Some k → k ≡ f) → test f.kind ≡ b → is_kept test kept ≡ b
+unfolding is_kept is_fresh
+kept_before test None f b fresh same is = sym fresh ∙ is
+kept_before test (Some k) f b fresh same is = ap (λ (t : Told). test t.kind) (same k refl) ∙ is
+
 -- the output was written whole, and so was the flush
 pub runs_whole : {S R W : Type 0} (g : Ghosts S R) (h : SinkGhosts W) (old new : EngineView S R) (before between after : W) (n : ℕ)
-    → Wrote g h old new before between n (Some Finished) → Keeps (h.taken between) (h.taken after) → Counts false (h.failures between) (h.failures after)
-    → Runs g h old new before after n None
-runs_whole g h old new before between after n w keeps counts =
+    → Wrote g h old new before between n (Some Finished) → Flushes h false between after → Runs g h old new before after n None
+runs_whole g h old new before between after n w flush =
     let free : old.kept ≡ None = w.ends.free in
     record {
       bytes = w.bytes;
-      failed = false;
-      taken = appends_kept _ _ _ w.bytes w.taken keeps;
+      unwritten = false;
+      unflushed = false;
+      asked = true;
+      taken = appends_kept _ _ _ w.bytes w.taken flush.bytes;
       counted = w.counted;
       begins = λ t. begins_all w.bytes _ (w.ends.tells t);
       exact = λ r f t. gives_whole w.bytes _ (w.ends.tells t);
       reads = w.reads;
-      writes = counts_after false _ _ _ w.writes counts;
+      read_failed = λ e. (let bad : ⊥ = cc (e, none_fresh is_read_failed old.kept) in absurd bad);
+      writes = flush.writes ∙ w.writes;
+      failed_flushes = flush.failures ∙ w.quiet.failed_flushes;
+      flushes = counts_after true _ _ _ w.quiet.flushes flush.asked;
+      asks = rw (none_kept is_write_failed old.kept free) refl;
+      unflushed_asked = λ e. refl;
       write_failed = λ e. (let bad : ⊥ = cc (e, none_fresh is_write_failed old.kept) in absurd bad);
-      failure_told = λ e. (let bad : ⊥ = cc e in absurd bad);
+      unwritten_told = λ e. (let bad : ⊥ = cc e in absurd bad);
+      unflushed_told = λ e. (let bad : ⊥ = cc e in absurd bad);
       again = λ f k. (let bad : ⊥ = cc (k, free) in absurd bad);
       kept = w.ends.kept;
       closed = λ e. w.ends.closed;
@@ -340,59 +387,96 @@ runs_whole g h old new before between after n w keeps counts =
       bounded = w.ends.bounded;
     }
 
--- a fault came before the flush
-pub runs_stopped : {S R W : Type 0} (g : Ghosts S R) (h : SinkGhosts W) (old new : EngineView S R) (before between after : W) (n : ℕ) (f : Fault) (failed : Bool)
-    → Wrote g h old new before between n (Some (Stopped f)) → Keeps (h.taken between) (h.taken after) → Counts failed (h.failures between) (h.failures after)
-    → (failed ≡ true → is_write_failed f.kind ≡ false) → Runs g h old new before after n (Some (told f))
-unfolding told
-runs_stopped g h old new before between after n f failed w keeps counts other =
-    let own : is_fresh is_write_failed old.kept (Some (told f)) ≡ false = w.ends.own in
-    record {
-      bytes = w.bytes;
-      failed = failed;
-      taken = appends_kept _ _ _ w.bytes w.taken keeps;
-      counted = w.counted;
-      begins = w.ends.begins;
-      exact = λ r x t. fails_whole w.bytes (told f) _ (w.ends.tells r t);
-      reads = w.reads;
-      writes = counts_after failed _ _ _ w.writes counts;
-      write_failed = λ e. (let bad : ⊥ = cc (e, own) in absurd bad);
-      failure_told = λ e. inr (other e);
-      again = λ k e. (let a = w.ends.again k e in (ap Some (sym a.0), a.1, a.2));
-      kept = w.ends.kept;
-      closed = λ e. (let bad : ⊥ = cc e in absurd bad);
-      limits = w.limits;
-      name = w.name;
-      started = w.started;
-      bounded = w.ends.bounded;
-    }
+-- the fault of the engine was answered, and perhaps a flush was asked for
+module _ {S R W : Type 0} (g : Ghosts S R) (h : SinkGhosts W) (old new : EngineView S R) (before between after : W) (n : ℕ) (w : Wrote g h old new before between n (Some Stopped)) where
+  -- the calls of the sources, by the fault
+  stopped_reads : SourcesCalled g (is_fresh is_read_failed old.kept new.kept) (is_fresh is_memory_kind old.kept new.kept) old.sources new.sources
+  stopped_reads = w.reads
+
+  -- a fault of the engine, and what was asked of the sink behind it
+  runs_ended : (asked unflushed : Bool) (fault : Option Told) → fault ≡ new.kept → Keeps (h.taken between) (h.taken after) → h.failed_writes after ≡ h.failed_writes between
+      → Counts unflushed (h.failed_flushes between) (h.failed_flushes after) → Counts asked (h.flushes between) (h.flushes after)
+      → (unflushed ≡ true → asked ≡ true) → asked ≡ not (is_kept is_write_failed old.kept) → (unflushed ≡ true → is_write_failed w.ends.fault.kind ≡ false)
+      → Runs g h old new before after n fault
+  runs_ended asked unflushed fault is keeps writes failed flushes first asks other =
+      let f = w.ends.fault in
+      let told : fault ≡ Some f = is ∙ w.ends.kept in
+      let own : is_fresh is_write_failed old.kept (Some f) ≡ false = w.ends.own in
+      let same : (test : FaultKind → Bool) → is_fresh test old.kept fault ≡ is_fresh test old.kept (Some f) = λ test. ap (is_fresh test old.kept) told in
+      record {
+        bytes = w.bytes;
+        unwritten = false;
+        unflushed = unflushed;
+        asked = asked;
+        taken = appends_kept _ _ _ w.bytes w.taken keeps;
+        counted = w.counted;
+        begins = w.ends.begins;
+        exact = λ r x t. fails_whole w.bytes f _ (w.ends.tells (sym (same is_read_failed) ∙ r) t) ∙ ap (λ (k : Option Told). record { bytes = w.bytes; fault = k }) (sym told);
+        reads = rw is stopped_reads;
+        read_failed = λ e. told ∙ ap Some (w.ends.failed (sym (same is_read_failed) ∙ e));
+        writes = writes ∙ w.writes;
+        failed_flushes = counts_after unflushed _ _ _ w.quiet.failed_flushes failed;
+        flushes = counts_after asked _ _ _ w.quiet.flushes flushes;
+        asks = asks;
+        unflushed_asked = first;
+        write_failed = λ e. (let bad : ⊥ = cc (e, same is_write_failed, own) in absurd bad);
+        unwritten_told = λ e. (let bad : ⊥ = cc e in absurd bad);
+        unflushed_told = λ e. inr (rw told (other e));
+        again = λ k e. (let a = w.ends.again k e in (told ∙ ap Some (sym a.0), a.1, a.2));
+        kept = sym is;
+        closed = λ e. (let bad : ⊥ = cc (e, told) in absurd bad);
+        limits = w.limits;
+        name = w.name;
+        started = w.started;
+        bounded = w.ends.bounded;
+      }
+
+  -- a fault came before the flush
+  pub runs_stopped : (failed : Bool) (fault : Option Told) (test : Bool) → fault ≡ new.kept → Flushes h failed between after
+      → ((f : Told) → new.kept ≡ Some f → test ≡ is_write_failed f.kind) → test ≡ false → Runs g h old new before after n fault
+  runs_stopped failed fault test is flush tests is_not =
+      let other : is_write_failed w.ends.fault.kind ≡ false = sym (tests w.ends.fault w.ends.kept) ∙ is_not in
+      runs_ended true failed fault is flush.bytes flush.writes flush.failures flush.asked (λ e. refl)
+      (ap not (sym (kept_before is_write_failed old.kept w.ends.fault false w.ends.own (λ k e. (w.ends.again k e).0) other))) (λ e. other)
 
 -- a write or the flush failed, and no fault came before
-pub runs_unwritten : {S R W : Type 0} (g : Ghosts S R) (h : SinkGhosts W) (old mid new : EngineView S R) (before between after : W) (n : ℕ) (f : Told) (ending : Option Ending)
-    (w : Wrote g h old mid before between n ending) → answered ending ≡ None → old.kept ≡ None → (g.tells old.sources → Begins w.bytes (left_of g.unread old)) → IsBounded mid
-    → Keeps (h.taken between) (h.taken after) → Counts true (h.failures before) (h.failures after)
-    → f ≡ write_fault mid.name → new ≡ record mid { kept = Some (write_fault mid.name) } → Runs g h old new before after n (Some f)
-runs_unwritten g h old mid new before between after n f ending w quiet free begins bounded keeps counts is becomes =
-    let fresh : is_fresh is_write_failed old.kept (Some f) ≡ true = write_fresh old.kept mid.name f free is in
-    let P : Option Told → Type 0 = λ k. SourcesRead g (is_fresh is_read_failed old.kept k) old.sources mid.sources in
-    let reads : SourcesRead g false old.sources mid.sources = going_reads g old.kept _ _ (subst P quiet w.reads) in
-    let Q : Bool → Type 0 = λ b. SourcesRead g b old.sources mid.sources in
-    let now : SourcesRead g (is_fresh is_read_failed old.kept (Some f)) old.sources mid.sources = subst Q (sym (write_no_read old.kept mid.name f is)) reads in
-    let N : _ → Type 0 = λ s. SourcesRead g (is_fresh is_read_failed old.kept (Some f)) old.sources s in
+pub runs_unwritten : {S R W : Type 0} (g : Ghosts S R) (h : SinkGhosts W) (old mid new : EngineView S R) (before between after : W) (n : ℕ) (fault : Option Told) (ending : Option Ending)
+    (unwritten unflushed asked : Bool) (w : Wrote g h old mid before between n ending) → answered ending mid.kept ≡ None → old.kept ≡ None → (g.tells old.sources → Begins w.bytes (left_of g.unread old)) → IsBounded mid
+    → Keeps (h.taken between) (h.taken after) → Counts unwritten (h.failed_writes before) (h.failed_writes after)
+    → Counts unflushed (h.failed_flushes between) (h.failed_flushes after) → Counts asked (h.flushes between) (h.flushes after)
+    → (unwritten || unflushed) ≡ true → asked ≡ not unwritten → (unflushed ≡ true → asked ≡ true)
+    → new ≡ record mid { kept = Some (write_fault mid.name) } → fault ≡ new.kept → Runs g h old new before after n fault
+runs_unwritten {S} {R} g h old mid new before between after n fault ending unwritten unflushed asked w quiet free begins bounded keeps writes failed flushes some asks first becomes is =
+    let f = write_fault mid.name in
+    let told : fault ≡ Some f = is ∙ ap (λ e. e.kept) becomes in
+    let fresh : is_fresh is_write_failed old.kept fault ≡ true = ap (is_fresh is_write_failed old.kept) told ∙ write_fresh old.kept mid.name f free refl in
+    let P : Option Told → Type 0 = λ k. SourcesCalled g (is_fresh is_read_failed old.kept k) (is_fresh is_memory_kind old.kept k) old.sources mid.sources in
+    let reads : SourcesCalled g false false old.sources mid.sources = going_reads g old.kept _ _ (subst P quiet w.reads) in
+    let no_read : is_fresh is_read_failed old.kept fault ≡ false = ap (is_fresh is_read_failed old.kept) told ∙ write_no_read old.kept mid.name f refl in
+    let no_memory : is_fresh is_memory_kind old.kept fault ≡ false = ap (is_fresh is_memory_kind old.kept) told ∙ write_no_memory old.kept mid.name f refl in
+    let sources : new.sources ≡ mid.sources = ap (λ e. e.sources) becomes in
     record {
       bytes = w.bytes;
-      failed = true;
+      unwritten = unwritten;
+      unflushed = unflushed;
+      asked = asked;
       taken = appends_kept _ _ _ w.bytes w.taken keeps;
       counted = w.counted;
       begins = begins;
       exact = λ r x t. (let bad : ⊥ = cc (x, fresh) in absurd bad);
-      reads = subst N (sym (ap (λ e. e.sources) becomes)) now;
-      writes = counts;
-      write_failed = λ e. (refl, ap Some (is ∙ ap write_fault w.name));
-      failure_told = λ e. inl fresh;
+      reads = rw (no_read, no_memory, sources) reads;
+      read_failed = λ e. (let bad : ⊥ = cc (e, no_read) in absurd bad);
+      writes = writes;
+      failed_flushes = counts_after unflushed _ _ _ w.quiet.failed_flushes failed;
+      flushes = counts_after asked _ _ _ w.quiet.flushes flushes;
+      asks = asks ∙ ap not (sym (or_false unwritten) ∙ ap (λ (b : Bool). unwritten || b) (sym (none_kept is_write_failed old.kept free)));
+      unflushed_asked = first;
+      write_failed = λ e. (some, told ∙ ap Some (ap write_fault w.name));
+      unwritten_told = λ e. fresh;
+      unflushed_told = λ e. inl fresh;
       again = λ k e. (let bad : ⊥ = cc (e, free) in absurd bad);
-      kept = ap (λ e. e.kept) becomes ∙ ap Some (sym is);
-      closed = λ e. (let bad : ⊥ = cc e in absurd bad);
+      kept = sym is;
+      closed = λ e. (let bad : ⊥ = cc (e, told) in absurd bad);
       limits = ap (λ e. e.limits) becomes ∙ w.limits;
       name = ap (λ e. e.name) becomes ∙ w.name;
       started = λ e. w.started (sym (ap (λ e. e.phase) becomes) ∙ e);
@@ -405,23 +489,26 @@ keeps_same None = tt
 keeps_same (Some xs) = refl
 
 -- the flush failed behind the whole output
-pub runs_unflushed : {S R W : Type 0} (g : Ghosts S R) (h : SinkGhosts W) (old mid new : EngineView S R) (before between after : W) (n : ℕ) (f : Told)
-    → Wrote g h old mid before between n (Some Finished) → Keeps (h.taken between) (h.taken after) → Counts true (h.failures between) (h.failures after)
-    → f ≡ write_fault mid.name → new ≡ record mid { kept = Some (write_fault mid.name) } → Runs g h old new before after n (Some f)
-runs_unflushed g h old mid new before between after n f w keeps counts is becomes =
-    runs_unwritten g h old mid new before between after n f (Some Finished) w refl w.ends.free
-    (λ t. begins_all w.bytes _ (w.ends.tells t)) w.ends.bounded keeps (counts_after true _ _ _ w.writes counts) is becomes
+pub runs_unflushed : {S R W : Type 0} (g : Ghosts S R) (h : SinkGhosts W) (old mid new : EngineView S R) (before between after : W) (n : ℕ) (fault : Option Told)
+    → Wrote g h old mid before between n (Some Finished) → Flushes h true between after
+    → new ≡ record mid { kept = Some (write_fault mid.name) } → fault ≡ new.kept → Runs g h old new before after n fault
+runs_unflushed g h old mid new before between after n fault w flush becomes is =
+    runs_unwritten g h old mid new before between after n fault (Some Finished) false true true w refl w.ends.free
+    (λ t. begins_all w.bytes _ (w.ends.tells t)) w.ends.bounded flush.bytes (flush.writes ∙ w.writes) flush.failures flush.asked refl refl (λ e. refl) becomes is
 
 -- a write failed
-pub runs_broken : {S R W : Type 0} (g : Ghosts S R) (h : SinkGhosts W) (old mid new : EngineView S R) (before after : W) (n : ℕ) (f : Told)
+pub runs_broken : {S R W : Type 0} (g : Ghosts S R) (h : SinkGhosts W) (old mid new : EngineView S R) (before after : W) (n : ℕ) (fault : Option Told)
     → Wrote g h old mid before after n (Some Unwritten)
-    → f ≡ write_fault mid.name → new ≡ record mid { kept = Some (write_fault mid.name) } → Runs g h old new before after n (Some f)
-runs_broken g h old mid new before after n f w is becomes =
-    runs_unwritten g h old mid new before after after n f (Some Unwritten) w refl w.ends.free
-    w.ends.begins w.ends.bounded (keeps_same (h.taken after)) w.writes is becomes
+    → new ≡ record mid { kept = Some (write_fault mid.name) } → fault ≡ new.kept → Runs g h old new before after n fault
+runs_broken g h old mid new before after n fault w becomes is =
+    runs_unwritten g h old mid new before after after n fault (Some Unwritten) true false false w refl w.ends.free
+    w.ends.begins w.ends.bounded (keeps_same (h.taken after)) w.writes refl refl refl refl (λ e. (let bad : ⊥ = cc e in absurd bad)) becomes is
 
 -- the fault of a write was kept, and nothing was flushed
-pub runs_unchanged : {S R W : Type 0} (g : Ghosts S R) (h : SinkGhosts W) (old new : EngineView S R) (before after : W) (n : ℕ) (f : Fault)
-    → Wrote g h old new before after n (Some (Stopped f)) → Runs g h old new before after n (Some (told f))
-runs_unchanged g h old new before after n f w =
-    runs_stopped g h old new before after after n f false w (keeps_same (h.taken after)) refl (λ e. (let bad : ⊥ = cc e in absurd bad))
+pub runs_unchanged : {S R W : Type 0} (g : Ghosts S R) (h : SinkGhosts W) (old new : EngineView S R) (before after : W) (n : ℕ) (fault : Option Told)
+    (test : Bool) (w : Wrote g h old new before after n (Some Stopped)) → fault ≡ new.kept
+    → ((f : Told) → new.kept ≡ Some f → test ≡ is_write_failed f.kind) → test ≡ true → Runs g h old new before after n fault
+runs_unchanged g h old new before after n fault test w is tests is_so =
+    let other : is_write_failed w.ends.fault.kind ≡ true = sym (tests w.ends.fault w.ends.kept) ∙ is_so in
+    runs_ended g h old new before after after n w false false fault is (keeps_same (h.taken after)) refl refl refl (λ e. (let bad : ⊥ = cc e in absurd bad))
+    (ap not (sym (kept_before is_write_failed old.kept w.ends.fault true w.ends.own (λ k e. (w.ends.again k e).0) other))) (λ e. (let bad : ⊥ = cc e in absurd bad))

@@ -10,3 +10,11 @@ pub record SourcesRead {S R : Type 0} (g : Ghosts S R) (failed : Bool) (old new 
   pub refusals : g.refusals new ≡ g.refusals old
   pub tells : g.tells old → g.tells new
   pub catalog : g.catalog new ≡ g.catalog old
+
+-- a call of an engine: the counts of device failures and of refused memory rose where a device failed or memory was refused,
+-- and nothing else changed
+pub record SourcesCalled {S R : Type 0} (g : Ghosts S R) (failed refused : Bool) (old new : S) : Type 0 where
+  pub failures : Counts failed (g.failures old) (g.failures new)
+  pub refusals : Counts refused (g.refusals old) (g.refusals new)
+  pub tells : g.tells old → g.tells new
+  pub catalog : g.catalog new ≡ g.catalog old

@@ -1,7 +1,7 @@
 -- How an engine is made, and how its main text is opened.
 -- A definition that names no source is this project's own.
 use Rattle.std.specs.Prelude.{◌≡◌, ℕ, Bool, true, false, List, [], Option, None, Some, Result, Ok, Err, if◌then◌else◌}
-use Rattle.rdlpp_source.specs.Counts.{Counts}
+use Rattle.rdlpp_expand.specs.Calls.{SourcesCalled}
 use Rattle.rdlpp_source.specs.Sources.{Answer, Missing, Overlong, Present}
 use Rattle.rdlpp_source.specs.declared.sources.Found.{Found}
 use Rattle.rdlpp_source.specs.declared.sources.SourceFault.{SourceFault}
@@ -18,7 +18,7 @@ use Rattle.rdlpp_meaning.specs.Output.{opening_fault, output}
 use Rattle.rdlpp_expand.specs.Engine.{EngineView}
 use Rattle.rdlpp_expand.specs.Feed.{closed_feed, opened_feed}
 use Rattle.rdlpp_expand.specs.Remaining.{staged_rules, left_of}
-use Rattle.rdlpp_expand.specs.Steps.{IsBounded, IsStarted, is_read_failed}
+use Rattle.rdlpp_expand.specs.Steps.{IsBounded, IsStarted, is_memory_kind, is_read_failed}
 use Rattle.rdlpp_expand.specs.declared.engine.NewFault.{NewFault}
 use Rattle.rdlpp_expand.specs.declared.engine.NewFault.TheVariants.{BadLimits, NoMemory}
 use Rattle.rdlpp_expand.specs.declared.phase.Phase.TheVariants.{Fresh, Open, Closed}
@@ -82,12 +82,6 @@ unfoldable pub start_fault : Result (Unit {0}) Fault → Option Told
 start_fault (Ok done) = None
 start_fault (Err fault) = Some (told fault)
 
--- whether a kind is that of memory that was refused for a source
-unfoldable pub is_memory_kind : FaultKind → Bool
-is_memory_kind EmbeddedPerl = false
-is_memory_kind SourceMemory = true
-is_memory_kind _ = false
-
 -- whether a start was refused at a device
 unfoldable pub is_device_fault : Option Told → Bool
 is_device_fault None = false
@@ -98,17 +92,23 @@ unfoldable pub is_memory_fault : Option Told → Bool
 is_memory_fault None = false
 is_memory_fault (Some f) = is_memory_kind f.kind
 
--- what a start does: it keeps what it answers; the counts of failures; the output that remains is that of the main path
--- (this project's profile)
+-- a start that found its main text: the engine is as it was, with that text open under the path of the sources, which is the
+-- shown name (this project's profile)
+pub record Opens {S R : Type 0} (g : Ghosts S R) (old new : EngineView S R) (path : List ℕ) : Type 0 where
+  pub found : Found R
+  pub becomes : new ≡ opened_engine (record old { sources = new.sources }) found
+  pub text : g.tells old.sources → (g.catalog old.sources).top path ≡ Present found.path.bytes (g.unread found.reader)
+
+-- what a start does: it keeps what it answers; the counts of failures; the text that was opened, or the fault of the opening
+-- for that path, where nothing else changed; the output that remains is that of the main path (this project's profile)
 pub record Starts {S R : Type 0} (g : Ghosts S R) (old new : EngineView S R) (path : List ℕ) (answer : Option Told) : Type 0 where
   pub limits : new.limits ≡ old.limits
   pub table : new.table ≡ old.table
   pub started : IsStarted new
   pub keeps : new.kept ≡ answer
-  pub failures : Counts (is_device_fault answer) (g.failures old.sources) (g.failures new.sources)
-  pub refusals : Counts (is_memory_fault answer) (g.refusals old.sources) (g.refusals new.sources)
-  pub sources_tell : g.tells old.sources → g.tells new.sources
-  pub catalog : g.catalog new.sources ≡ g.catalog old.sources
+  pub opens : answer ≡ None → Opens g old new path
+  pub refused : (f : Told) → answer ≡ Some f → (f ≡ opening_fault f.kind path) × (new ≡ unopened_engine (record old { sources = new.sources }) f)
+  pub call : SourcesCalled g (is_device_fault answer) (is_memory_fault answer) old.sources new.sources
   pub remains_output : is_device_fault answer ≡ false → is_memory_fault answer ≡ false → g.tells old.sources
       → left_of g.unread new ≡ staged_output g old path
   pub bounded : IsBounded new

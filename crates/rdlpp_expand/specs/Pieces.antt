@@ -1,6 +1,6 @@
 -- Pieces, and where they stand in the held stores.
 -- A definition that names no source is this project's own.
-use Rattle.std.specs.Prelude.{◌≡◌, ℕ, ◌≤◌, ◌<◌, List, length, slice_range, Option, None, Some, Result, Ok, Err, ⊤}
+use Rattle.std.specs.Prelude.{◌≡◌, ℕ, ◌≤◌, ◌<◌, List, [], length, slice_range, Option, None, Some, Result, Ok, Err, ⊤}
 use Rattle.std.specs.Borrow.{Bor}
 use Rattle.rdlpp_table.specs.View.{macro_at}
 use Rattle.rdlpp_meaning.specs.Outcome.{Told, told}
@@ -54,7 +54,7 @@ pub record Lends {S R : Type 0} (e : EngineView S R) (answer : Result (Option (L
   pub placed : IsPlaced e place
   pub lent : answer ≡ lent_answer e place
 
--- the same of a place
-abbrev pub placed_answer : {S R : Type 0} → EngineView S R → Result Place Fault → Result (Option (List ℕ)) Told
-placed_answer e (Ok place) = Ok (bytes_at e place)
-placed_answer e (Err fault) = Err (told fault)
+-- what is answered by a step: what stands at a place, or no bytes, where nothing is lent
+abbrev pub step_answer : {S R : Type 0} → EngineView S R → Option Place → Result (Option (List ℕ)) Told
+step_answer e None = Ok (Some [])
+step_answer e (Some place) = lent_answer e place

@@ -1,17 +1,18 @@
 -- What a run writes, and how it ends.
 -- A definition that names no source is this project's own.
-use Rattle.std.specs.Prelude.{◌≡◌, ℕ, ◌-◌, ◌^◌, ◌⊎◌, min, Bool, true, false, List, [], ◌++◌, length, Option, None, Some, Result, Ok, Err, IsSomeAnd}
-use Rattle.std.specs.Io.KnownBytes.{Appends}
+use Rattle.std.specs.Prelude.{◌≡◌, ℕ, ◌-◌, ◌^◌, ◌⊎◌, min, Bool, true, false, not, ◌||◌, List, [], ◌++◌, length, Option, None, Some, Result, Ok, Err, IsSomeAnd}
+use Rattle.std.specs.Io.KnownBytes.{Appends, Keeps}
 use Rattle.rdlpp_source.specs.Counts.{Counts}
 use Rattle.rdlpp_source.specs.declared.sources.Sources.{Ghosts}
 use Rattle.rdlpp_source.specs.declared.sinks.Sink.{Ghosts as SinkGhosts}
 use Rattle.rdlpp_meaning.specs.declared.fault.FaultKind.{FaultKind}
-use Rattle.rdlpp_meaning.specs.declared.fault.FaultKind.TheVariants.{WriteFailed}
+use Rattle.rdlpp_meaning.specs.declared.fault.FaultKind.TheVariants.{ReadFailed, WriteFailed}
 use Rattle.rdlpp_meaning.specs.Outcome.{Told, told, Outcome, gives, fails, and_then}
-use Rattle.rdlpp_expand.specs.Calls.{SourcesRead}
+use Rattle.rdlpp_expand.specs.Calls.{SourcesCalled}
 use Rattle.rdlpp_expand.specs.Engine.{EngineView}
-use Rattle.rdlpp_expand.specs.Remaining.{left_of}
-use Rattle.rdlpp_expand.specs.Steps.{Steps, IsBounded, IsStarted, is_read_failed, is_write_failed}
+use Rattle.rdlpp_meaning.specs.State.{fault_at}
+use Rattle.rdlpp_expand.specs.Remaining.{left_of, state_of}
+use Rattle.rdlpp_expand.specs.Steps.{Steps, IsBounded, IsStarted, is_memory_kind, is_read_failed, is_write_failed}
 use Rattle.rdlpp_expand.specs.declared.phase.Phase.TheVariants.{Closed}
 use Rattle.rdlpp_expand.specs.declared.writing.Ending.{Ending}
 use Rattle.rdlpp_expand.specs.declared.writing.Ending.TheVariants.{Finished, Stopped, Unwritten}
@@ -31,35 +32,59 @@ is_fresh test None (Some f) = test f.kind
 abbrev pub Begins : List ℕ → Outcome → Type 0
 Begins bytes outcome = (rest : List ℕ) × (outcome.bytes ≡ bytes ++ rest)
 
+-- whether a fault of such a kind is kept (source: this project's profile)
+unfoldable pub is_kept : (FaultKind → Bool) → Option Told → Bool
+is_kept test None = false
+is_kept test (Some f) = test f.kind
+
 -- whether a write failed (source: this project's profile)
 abbrev pub is_unwritten : Option Ending → Bool
 is_unwritten None = false
 is_unwritten (Some Finished) = false
-is_unwritten (Some (Stopped f)) = false
+is_unwritten (Some Stopped) = false
 is_unwritten (Some Unwritten) = true
 
--- the fault that the engine answered, if it did (source: this project's profile)
-abbrev pub answered : Option Ending → Option Told
-answered None = None
-answered (Some Finished) = None
-answered (Some (Stopped f)) = Some (told f)
-answered (Some Unwritten) = None
+-- the fault that the engine answered, if it did: the one that it keeps (source: this project's profile)
+abbrev pub answered : Option Ending → Option Told → Option Told
+answered None kept = None
+answered (Some Finished) kept = None
+answered (Some Stopped) kept = kept
+answered (Some Unwritten) kept = None
+
+-- a sink wasn't asked to flush (source: this project's profile)
+pub record Unflushed {W : Type 0} (h : SinkGhosts W) (before after : W) : Type 0 where
+  pub failed_flushes : h.failed_flushes after ≡ h.failed_flushes before
+  pub flushes : h.flushes after ≡ h.flushes before
+
+-- what a flush did to a sink: it was asked for, and failed or not (source: this project's profile)
+pub record Flushes {W : Type 0} (h : SinkGhosts W) (failed : Bool) (before after : W) : Type 0 where
+  pub bytes : Keeps (h.taken before) (h.taken after)
+  pub asked : Counts true (h.flushes before) (h.flushes after)
+  pub failures : Counts failed (h.failed_flushes before) (h.failed_flushes after)
+  pub writes : h.failed_writes after ≡ h.failed_writes before
+
+-- a step that came to a fault (source: this project's profile)
+pub record StopsAt {S R : Type 0} (g : Ghosts S R) (old new : EngineView S R) (bytes : List ℕ) : Type 0 where
+  pub fault : Told
+  pub steps : Steps g old new (Err fault)
+  pub none : bytes ≡ []
 
 -- the step of a pull, by how it ended: a whole piece was written, there was none, a fault came, or a piece was written in
 -- part (source: this project's profile)
 abbrev pub PullEnds : {S R : Type 0} → Ghosts S R → EngineView S R → EngineView S R → List ℕ → Option Ending → Type 0
 PullEnds g old new bytes None = Steps g old new (Ok (Some bytes))
 PullEnds g old new bytes (Some Finished) = Steps g old new (Ok None) × (bytes ≡ [])
-PullEnds g old new bytes (Some (Stopped f)) = Steps g old new (Err (told f)) × (bytes ≡ [])
+PullEnds g old new bytes (Some Stopped) = StopsAt g old new bytes
 PullEnds g old new bytes (Some Unwritten) = (rest : List ℕ) × Steps g old new (Ok (Some (bytes ++ rest)))
 
--- a pull: what the sink took of a piece, and how many bytes; the sink's count of failures; the engine's step (source: this
--- project's profile)
+-- a pull: what the sink took of a piece, and how many bytes; the sink's counts; the engine's step (source: this project's
+-- profile)
 pub record Pulls {S R W : Type 0} (g : Ghosts S R) (h : SinkGhosts W) (old new : EngineView S R) (before after : W) (len : ℕ) (ending : Option Ending) : Type 0 where
   pub bytes : List ℕ
   pub taken : Appends (h.taken before) (h.taken after) bytes
   pub count : len ≡ length bytes
-  pub failures : Counts (is_unwritten ending) (h.failures before) (h.failures after)
+  pub writes : Counts (is_unwritten ending) (h.failed_writes before) (h.failed_writes after)
+  pub quiet : Unflushed h before after
   pub ends : PullEnds g old new bytes ending
 
 -- pieces were written, and the output goes on: a fault is kept only where one was kept at first, and then nothing was
@@ -78,12 +103,14 @@ pub record Finishes {S R : Type 0} (g : Ghosts S R) (old new : EngineView S R) (
   pub bounded : IsBounded new
 
 -- the output was written up to a fault (source: this project's profile)
-pub record Stops {S R : Type 0} (g : Ghosts S R) (old new : EngineView S R) (bytes : List ℕ) (f : Told) : Type 0 where
-  pub kept : new.kept ≡ Some f
-  pub own : is_fresh is_write_failed old.kept (Some f) ≡ false
+pub record Stops {S R : Type 0} (g : Ghosts S R) (old new : EngineView S R) (bytes : List ℕ) : Type 0 where
+  pub fault : Told
+  pub kept : new.kept ≡ Some fault
+  pub own : is_fresh is_write_failed old.kept (Some fault) ≡ false
+  pub failed : is_fresh is_read_failed old.kept (Some fault) ≡ true → fault ≡ fault_at ReadFailed new.feed.line [] (state_of new)
   pub begins : g.tells old.sources → Begins bytes (left_of g.unread old)
-  pub tells : is_fresh is_read_failed old.kept (Some f) ≡ false → g.tells old.sources → left_of g.unread old ≡ and_then (gives bytes) (fails f)
-  pub again : (k : Told) → old.kept ≡ Some k → (k ≡ f) × (bytes ≡ []) × (new ≡ old)
+  pub tells : is_fresh is_read_failed old.kept (Some fault) ≡ false → g.tells old.sources → left_of g.unread old ≡ and_then (gives bytes) (fails fault)
+  pub again : (k : Told) → old.kept ≡ Some k → (k ≡ fault) × (bytes ≡ []) × (new ≡ old)
   pub bounded : IsBounded new
 
 -- the output was written up to a write that failed (source: this project's profile)
@@ -97,17 +124,17 @@ pub record Breaks {S R : Type 0} (g : Ghosts S R) (old new : EngineView S R) (by
 abbrev pub WroteEnds : {S R : Type 0} → Ghosts S R → EngineView S R → EngineView S R → List ℕ → Option Ending → Type 0
 WroteEnds g old new bytes None = Going g old new bytes
 WroteEnds g old new bytes (Some Finished) = Finishes g old new bytes
-WroteEnds g old new bytes (Some (Stopped f)) = Stops g old new bytes (told f)
+WroteEnds g old new bytes (Some Stopped) = Stops g old new bytes
 WroteEnds g old new bytes (Some Unwritten) = Breaks g old new bytes
 
--- pulls in a row: what the sink took, and how many bytes, up to `u64::MAX`; the counts of failures; and how far the output
--- was written (source: this project's profile)
+-- pulls in a row: what the sink took, and how many bytes, up to `u64::MAX`; the counts; and how far the output was written (source: this project's profile)
 pub record Wrote {S R W : Type 0} (g : Ghosts S R) (h : SinkGhosts W) (old new : EngineView S R) (before after : W) (count : ℕ) (ending : Option Ending) : Type 0 where
   pub bytes : List ℕ
   pub taken : Appends (h.taken before) (h.taken after) bytes
   pub counted : count ≡ min (length bytes) (2 ^ 64 - 1)
-  pub writes : Counts (is_unwritten ending) (h.failures before) (h.failures after)
-  pub reads : SourcesRead g (is_fresh is_read_failed old.kept (answered ending)) old.sources new.sources
+  pub writes : Counts (is_unwritten ending) (h.failed_writes before) (h.failed_writes after)
+  pub quiet : Unflushed h before after
+  pub reads : SourcesCalled g (is_fresh is_read_failed old.kept (answered ending new.kept)) (is_fresh is_memory_kind old.kept (answered ending new.kept)) old.sources new.sources
   pub limits : new.limits ≡ old.limits
   pub name : new.name ≡ old.name
   pub started : IsStarted new
@@ -123,24 +150,34 @@ abbrev pub fault_of : Result ℕ RunFault → Option Told
 fault_of (Ok n) = None
 fault_of (Err f) = Some (told f.fault)
 
--- a run: the bytes that the writer took in this call and their count, up to `u64::MAX`; and whether a write or the flush
--- failed. Where the sources tell their texts the bytes are the output that remained, or its first bytes; and where no device
--- failed they are that output whole, and its end is the answer. A fault of a read that failed comes, unless it was kept,
--- where the count of the sources' failures rose, and always there; one of a write that failed, where the writer's count
--- rose; and where that rose, the answer is such a fault, or the one that came before the flush. A kept fault is answered
--- again, and then nothing is written and the engine stays as it is. The fault that is answered is kept, and after the end
--- none is (source: this project's profile)
+-- a run: the bytes that the writer took in this call and their count, up to `u64::MAX`; and whether a write failed, a flush
+-- failed, and a flush was asked for. Where the sources tell their texts the bytes are the output that remained, or its first
+-- bytes; and where no device failed they are that output whole, and its end is the answer. A fault of a read that failed
+-- comes, unless it was kept, where the count of the sources' failures rose, and always there, and it tells the line that was
+-- read, under the shown name; so it is with memory that was refused, by its own count. A fault of a write that failed comes
+-- where the writer's count of failed writes or of failed flushes rose; and always where that of failed writes rose; and
+-- where that of failed flushes rose, the answer is such a fault, or the one that came before the flush. A flush is asked for
+-- once, unless a write failed, now or before. A kept fault is answered again, and then nothing is written and the engine
+-- stays as it is. The fault that is answered is kept, and after the end none is (source: this project's profile)
 pub record Runs {S R W : Type 0} (g : Ghosts S R) (h : SinkGhosts W) (old new : EngineView S R) (before after : W) (count : ℕ) (fault : Option Told) : Type 0 where
   pub bytes : List ℕ
-  pub failed : Bool
+  pub unwritten : Bool
+  pub unflushed : Bool
+  pub asked : Bool
   pub taken : Appends (h.taken before) (h.taken after) bytes
   pub counted : count ≡ min (length bytes) (2 ^ 64 - 1)
   pub begins : g.tells old.sources → Begins bytes (left_of g.unread old)
   pub exact : is_fresh is_read_failed old.kept fault ≡ false → is_fresh is_write_failed old.kept fault ≡ false → g.tells old.sources → left_of g.unread old ≡ record { bytes = bytes; fault = fault }
-  pub reads : SourcesRead g (is_fresh is_read_failed old.kept fault) old.sources new.sources
-  pub writes : Counts failed (h.failures before) (h.failures after)
-  pub write_failed : is_fresh is_write_failed old.kept fault ≡ true → (failed ≡ true) × (fault ≡ Some (write_fault old.name))
-  pub failure_told : failed ≡ true → (is_fresh is_write_failed old.kept fault ≡ true) ⊎ IsSomeAnd fault (λ f. is_write_failed f.kind ≡ false)
+  pub reads : SourcesCalled g (is_fresh is_read_failed old.kept fault) (is_fresh is_memory_kind old.kept fault) old.sources new.sources
+  pub read_failed : is_fresh is_read_failed old.kept fault ≡ true → fault ≡ Some (fault_at ReadFailed new.feed.line [] (state_of new))
+  pub writes : Counts unwritten (h.failed_writes before) (h.failed_writes after)
+  pub failed_flushes : Counts unflushed (h.failed_flushes before) (h.failed_flushes after)
+  pub flushes : Counts asked (h.flushes before) (h.flushes after)
+  pub asks : asked ≡ not (unwritten || is_kept is_write_failed old.kept)
+  pub unflushed_asked : unflushed ≡ true → asked ≡ true
+  pub write_failed : is_fresh is_write_failed old.kept fault ≡ true → ((unwritten || unflushed) ≡ true) × (fault ≡ Some (write_fault old.name))
+  pub unwritten_told : unwritten ≡ true → is_fresh is_write_failed old.kept fault ≡ true
+  pub unflushed_told : unflushed ≡ true → (is_fresh is_write_failed old.kept fault ≡ true) ⊎ IsSomeAnd fault (λ f. is_write_failed f.kind ≡ false)
   pub again : (f : Told) → old.kept ≡ Some f → (fault ≡ Some f) × (bytes ≡ []) × (new ≡ old)
   pub kept : new.kept ≡ fault
   pub closed : fault ≡ None → new.phase ≡ Closed

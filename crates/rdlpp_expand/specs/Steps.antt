@@ -3,19 +3,18 @@
 use Rattle.std.specs.Prelude.{◌≡◌, ℕ, ◌≤◌, ◌<◌, Bool, true, false, List, [], Option, None, Some, Result, Ok, Err, IfErr, IfOk, IsSome, length}
 use Rattle.rdlpp_source.specs.declared.sources.Sources.{Ghosts}
 use Rattle.rdlpp_meaning.specs.declared.fault.FaultKind.{FaultKind}
-use Rattle.rdlpp_meaning.specs.declared.fault.FaultKind.TheVariants.{ReadFailed, WriteFailed, EmbeddedPerl}
+use Rattle.rdlpp_meaning.specs.declared.fault.FaultKind.TheVariants.{ReadFailed, WriteFailed, SourceMemory, EmbeddedPerl}
 use Rattle.rdlpp_scan.specs.Front.{Breach}
 use Rattle.rdlpp_scan.specs.declared.token.Mode.TheVariants.{Plain}
-use Rattle.rdlpp_meaning.specs.declared.fault.Fault.{Fault}
 use Rattle.rdlpp_meaning.specs.State.{breach_kind, fault_at}
-use Rattle.rdlpp_meaning.specs.Outcome.{Told, told, Outcome, gives, fails, and_then}
-use Rattle.rdlpp_expand.specs.Calls.{SourcesRead}
+use Rattle.rdlpp_meaning.specs.Outcome.{Told, Outcome, gives, fails, and_then}
+use Rattle.rdlpp_expand.specs.Calls.{SourcesCalled}
 use Rattle.rdlpp_expand.specs.Engine.{EngineView}
 use Rattle.rdlpp_expand.specs.Held.{stores_of, held_bytes, bound_of}
 use Rattle.rdlpp_expand.specs.Feed.{closed_feed, held_of, unused_of}
 use Rattle.rdlpp_expand.specs.Supply.{ended_tokens, only_broken}
 use Rattle.rdlpp_expand.specs.declared.place.Place.{Place}
-use Rattle.rdlpp_expand.specs.declared.place.Place.TheVariants.{End}
+use Rattle.rdlpp_expand.specs.declared.place.Place.TheVariants.{Source, Body, End, Kept}
 use Rattle.rdlpp_expand.specs.Remaining.{left_of, open_left, state_of, work_left}
 use Rattle.rdlpp_expand.specs.declared.phase.Phase.TheVariants.{Fresh, Open, Closed}
 
@@ -31,11 +30,31 @@ is_write_failed EmbeddedPerl = false
 is_write_failed WriteFailed = true
 is_write_failed _ = false
 
+-- whether a kind is that of memory that was refused for a source
+unfoldable pub is_memory_kind : FaultKind → Bool
+is_memory_kind EmbeddedPerl = false
+is_memory_kind SourceMemory = true
+is_memory_kind _ = false
+
+-- whether an answer is a fault of such a kind, and none was kept before the call
+unfoldable pub has_met : (FaultKind → Bool) → Option Told → Result (Option (List ℕ)) Told → Bool
+has_met test (Some f) answer = false
+has_met test None (Ok lent) = false
+has_met test None (Err f) = test f.kind
+
 -- whether an answer is a read that failed in this call
-unfoldable pub has_failed : Option Told → Result (Option (List ℕ)) Told → Bool
-has_failed (Some f) answer = false
-has_failed None (Ok lent) = false
-has_failed None (Err f) = is_read_failed f.kind
+abbrev pub has_failed : Option Told → Result (Option (List ℕ)) Told → Bool
+has_failed kept answer = has_met is_read_failed kept answer
+
+-- whether an answer is memory that was refused in this call
+abbrev pub has_refused : Option Told → Result (Option (List ℕ)) Told → Bool
+has_refused kept answer = has_met is_memory_kind kept answer
+
+-- a kind of fault that is a text's own: none of a device or of memory
+pub record IsOwn (kind : FaultKind) : Type 0 where
+  pub read : is_read_failed kind ≡ false
+  pub write : is_write_failed kind ≡ false
+  pub memory : is_memory_kind kind ≡ false
 
 -- what an answer says of what remained: bytes that were lent and then what remains now, the end, or the fault
 abbrev pub Tells : Result (Option (List ℕ)) Told → Outcome → Outcome → Type 0
@@ -57,7 +76,7 @@ pub record Takes {S R : Type 0} (g : Ghosts S R) (old new : EngineView S R) (ans
   pub name : new.name ≡ old.name
   pub phase : new.phase ≡ old.phase
   pub sources : new.sources ≡ old.sources
-  pub keeps : IfErr answer (λ f. (new.kept ≡ Some f) × (is_read_failed f.kind ≡ false) × (is_write_failed f.kind ≡ false))
+  pub keeps : IfErr answer (λ f. (new.kept ≡ Some f) × IsOwn f.kind)
   pub goes_on : IfOk answer (λ lent. (new.kept ≡ None) × IsSome lent)
   pub tells : Tells answer (open_left g.unread old) (left_of g.unread new)
   pub falls : IfOk answer (λ lent. unused_of new.feed < unused_of old.feed)
@@ -68,18 +87,19 @@ pub record IsReady {S R : Type 0} (e : EngineView S R) : Type 0 where
   pub free : e.kept ≡ None
   pub bytes : 0 < length (held_of e.feed)
 
--- an engine whose source ended in a string or in a block comment: its fault, at the line where that opened
-pub record StopsOpen {S R : Type 0} (old new : EngineView S R) (f : Told) : Type 0 where
+-- an engine whose source ended in a string or in a block comment: its fault is kept, at the line where that opened
+pub record StopsOpen {S R : Type 0} (old new : EngineView S R) : Type 0 where
   pub breach : Breach
   pub tokens : ended_tokens old.feed.mode old.feed.opened ≡ only_broken breach old.feed.opened
-  pub own : (is_read_failed (breach_kind breach) ≡ false) × (is_write_failed (breach_kind breach) ≡ false)
-  pub fault : f ≡ fault_at (breach_kind breach) old.feed.opened [] (state_of old)
-  pub kept : new ≡ record old { kept = Some f }
+  pub own : IsOwn (breach_kind breach)
+  pub kept : new ≡ record old { kept = Some (fault_at (breach_kind breach) old.feed.opened [] (state_of old)) }
 
 -- what the end of the open source comes to
-abbrev pub Ends : {S R : Type 0} → EngineView S R → EngineView S R → Result Place Fault → Type 0
-Ends old new (Ok place) = (place ≡ End) × (old.feed.mode ≡ Plain) × (new ≡ record old { phase = Closed; feed = closed_feed old.feed.line old.feed.most })
-Ends old new (Err fault) = StopsOpen old new (told fault)
+abbrev pub Ends : {S R : Type 0} → EngineView S R → EngineView S R → Place → Type 0
+Ends old new (Source start end) = ⊥
+Ends old new (Body id) = ⊥
+Ends old new End = (old.feed.mode ≡ Plain) × (new ≡ record old { phase = Closed; feed = closed_feed old.feed.line old.feed.most })
+Ends old new Kept = StopsOpen old new
 
 -- a step: a kept fault is answered again and changes nothing, and so is the end; a fault is kept, one of a write that failed
 -- comes only so, and bytes leave none kept; the shown name; the counts of failures; the output that remained is what was lent and then the output that remains; the work left falls; the bound holds
@@ -93,7 +113,8 @@ pub record Steps {S R : Type 0} (g : Ghosts S R) (old new : EngineView S R) (ans
   pub free : IfOk answer (λ lent. new.kept ≡ None)
   pub own : old.kept ≡ None → IfErr answer (λ f. is_write_failed f.kind ≡ false)
   pub ends : answer ≡ Ok None → (new.kept ≡ None) × (new.phase ≡ Closed)
-  pub call : SourcesRead g (has_failed old.kept answer) old.sources new.sources
+  pub failed : has_failed old.kept answer ≡ true → answer ≡ Err (fault_at ReadFailed new.feed.line [] (state_of new))
+  pub call : SourcesCalled g (has_failed old.kept answer) (has_refused old.kept answer) old.sources new.sources
   pub tells : has_failed old.kept answer ≡ false → g.tells old.sources → Tells answer (left_of g.unread old) (left_of g.unread new)
   pub falls : (bytes : List ℕ) → answer ≡ Ok (Some bytes) → work_left new < work_left old
   pub bounded : IsBounded new

@@ -1,15 +1,16 @@
 // The engine: it reads a source by lines, expands usages, and lends its output piece by piece.
-ghost use Rattle.std.specs.Prelude.{◌≡◌, ◌↔◌, ℕ, ◌+◌, ◌≤◌, ◌<◌, true, false, [], length, take, drop, None, Some, IfOk, IfErr, IsTrue, IsOk, not};
+ghost use Rattle.std.specs.Prelude.{◌≡◌, ◌↔◌, ℕ, ◌+◌, ◌≤◌, ◌<◌, true, false, [], length, take, drop, None, Some, IfSome, IsSome, IsTrue, IsOk, not};
 ghost use Rattle.std.specs.Borrow.{sem};
+ghost use Rattle.std.specs.Option.{option_map};
 ghost use Rattle.std.specs.Io.BufRead.{Rests};
 ghost use Rattle.rdlpp_table.specs.Limits.{limit_fault};
-ghost use Rattle.rdlpp_meaning.specs.Outcome.{told};
+ghost use Rattle.rdlpp_meaning.specs.Outcome.{Told, told};
 ghost use Rattle.rdlpp_meaning.specs.State.{fault_at};
 ghost use Rattle.rdlpp_expand.specs.Held.{held_told};
-ghost use Rattle.rdlpp_expand.specs.Pieces.{IsPlaced, Lends, answer_of, bytes_at, lent_answer, piece_bytes, placed_answer};
+ghost use Rattle.rdlpp_expand.specs.Pieces.{IsPlaced, Lends, answer_of, bytes_at, lent_answer, piece_bytes, step_answer};
 ghost use Rattle.rdlpp_expand.specs.Remaining.{state_of};
 ghost use Rattle.rdlpp_expand.specs.Run.{write_fault};
-ghost use Rattle.rdlpp_expand.specs.Steps.{Ends, IsBounded, IsReady, IsStarted, Steps, Takes};
+ghost use Rattle.rdlpp_expand.specs.Steps.{Ends, IsBounded, IsReady, IsStarted, Steps, Takes, is_write_failed};
 ghost use Rattle.rdlpp_expand.specs.Feed.{EndsHeld, closed_feed, entered, held_of};
 ghost use Rattle.rdlpp_expand.specs.Calls.{SourcesRead};
 ghost use Rattle.rdlpp_expand.specs.Supply.{Supplies, is_failed};
@@ -129,70 +130,71 @@ impl<S: Sources> Engine<S> {
         ensures* after { sem 𝓛 (Rests (the_row S.row S.Reader.row S.Sources) self.entry (λ new.
             Steps S.Sources self.old new (answer_of result) × Lends new (answer_of result))) }
     {
-        let place = self.place();
+        let place = self.advance();
         self.answer(place)
     }
 
-    // The same, where a fault stands in the engine.
-    fn place(&mut self) -> Place
+    // The step that `next` and `run` share: goes on to the next piece, and answers where it stands.
+    pub(crate) fn advance(&mut self) -> Place
         requires { IsStarted self.old }
         ensures place { IsPlaced self.new result }
         ensures steps { Steps S.Sources self.old self.new (lent_answer self.new result) }
     {
-        match self.advance() {
-            Ok(place) => place,
-            Err(_) => Place::Kept,
+        'stepping: loop {
+            if let Some(place) = self.step() {
+                return place;
+            }
         }
     }
 
-    // Goes on to the next piece, and answers where it stands.
-    pub(crate) fn advance(&mut self) -> Result<Place, Fault>
+    // Takes one step, which may lend nothing.
+    fn step(&mut self) -> Option<Place>
         requires { IsStarted self.old }
-        ensures place { IfOk result (IsPlaced self.new) }
-        ensures steps { Steps S.Sources self.old self.new (placed_answer self.new result) }
+        ensures place { IfSome result (IsPlaced self.new) }
+        ensures steps { Steps S.Sources self.old self.new (step_answer self.new result) }
     {
         self.facts();
-        if let Some(fault) = &self.kept {
-            return Err(copied_fault(fault));
+        if self.kept.is_some() {
+            return Some(Place::Kept);
         }
         match self.phase {
             Phase::Open => {
-                let place = self.advance_open();
+                let place = self.step_open();
                 self.facts();
                 place
             }
-            _ => Ok(Place::End),
+            _ => Some(Place::End),
         }
     }
 
-    // Goes on in the open source to the next piece, and answers where it stands.
-    fn advance_open(&mut self) -> Result<Place, Fault>
+    // Takes one step over the open source.
+    fn step_open(&mut self) -> Option<Place>
         requires open { self.old.phase ≡ Phase.Open }
         requires free { self.old.kept ≡ None }
-        ensures place { IfOk result (IsPlaced self.new) }
-        ensures steps { IsBounded self.new → Steps S.Sources self.old self.new (placed_answer self.new result) }
+        ensures place { IfSome result (IsPlaced self.new) }
+        ensures steps { IsBounded self.new → Steps S.Sources self.old self.new (step_answer self.new result) }
     {
         match self.fill() {
             Supply::Held => self.take_front(),
-            Supply::End => self.end(),
-            Supply::SourceLong => Err(self.refuse(FaultKind::SourceTooLong, ArrayString::new())),
-            Supply::LineLong => Err(self.refuse(FaultKind::LineTooLong, ArrayString::new())),
-            Supply::Failed => Err(self.refuse(FaultKind::ReadFailed, ArrayString::new())),
+            Supply::End => Some(self.end()),
+            Supply::SourceLong => Some(self.refuse(FaultKind::SourceTooLong, ArrayString::new())),
+            Supply::LineLong => Some(self.refuse(FaultKind::LineTooLong, ArrayString::new())),
+            Supply::Failed => Some(self.refuse(FaultKind::ReadFailed, ArrayString::new())),
         }
     }
 
     // Takes what the held bytes begin with.
-    fn take_front(&mut self) -> Result<Place, Fault>
+    fn take_front(&mut self) -> Option<Place>
         requires { IsReady self.old }
-        ensures place { IfOk result (IsPlaced self.new) }
-        ensures takes { Takes S.Sources self.old self.new (placed_answer self.new result) }
+        ensures place { IfSome result (IsPlaced self.new) }
+        ensures takes { Takes S.Sources self.old self.new (step_answer self.new result) }
     {
         match front_of(self.feed.mode(), self.feed.held()) {
-            Front::Text(len, next) => Ok(self.lend_text(len, next)),
-            Front::Usage(len) => self.expand(len),
-            Front::Define(len) => self.define_line(len),
+            Front::Text(len, next) => Some(self.lend_text(len, next)),
+            Front::Usage(len) => Some(self.expand(len)),
+            Front::Define(len) => Some(self.define_line(len)),
             Front::Undef(start, stop) => self.undefine(start, stop),
-            Front::Refused(kind) => Err(self.refuse(kind, ArrayString::new())),
+            Front::Refused(kind) => Some(self.refuse(kind, ArrayString::new())),
         }
     }
 
@@ -201,7 +203,7 @@ impl<S: Sources> Engine<S> {
         requires ready { IsReady self.old }
         requires text { IsText self.old.feed.mode (held_of self.old.feed) len next }
         ensures place { IsPlaced self.new result }
-        ensures takes { Takes S.Sources self.old self.new (placed_answer self.new (Ok result)) }
+        ensures takes { Takes S.Sources self.old self.new (lent_answer self.new result) }
     {
         let lines = line_ends_in(&self.feed.held()[..len]);
         self.enter(next);
@@ -210,98 +212,94 @@ impl<S: Sources> Engine<S> {
     }
 
     // Expands the usage of `len` bytes with which the held bytes begin.
-    fn expand(&mut self, len: usize) -> Result<Place, Fault>
+    fn expand(&mut self, len: usize) -> Place
         requires ready { IsReady self.old }
         requires mode { self.old.feed.mode ≡ Mode.Plain }
         requires usage { IsUsage (held_of self.old.feed) len }
-        ensures place { IfOk result (IsPlaced self.new) }
-        ensures takes { Takes S.Sources self.old self.new (placed_answer self.new result) }
+        ensures place { IsPlaced self.new result }
+        ensures takes { Takes S.Sources self.old self.new (lent_answer self.new result) }
     {
         let name = name_of(self.feed.held(), len);
         match self.table.find(name) {
             None => {
                 let word = word_of(name);
-                Err(self.refuse(FaultKind::UndefinedMacro, word))
+                self.refuse(FaultKind::UndefinedMacro, word)
             }
             Some(id) => self.lend_body(len, id),
         }
     }
 
     // Lends the body of a macro, whose usage has `len` bytes.
-    fn lend_body(&mut self, len: usize, id: MacroId) -> Result<Place, Fault>
+    fn lend_body(&mut self, len: usize, id: MacroId) -> Place
         requires ready { IsReady self.old }
         requires mode { self.old.feed.mode ≡ Mode.Plain }
         requires usage { IsUsage (held_of self.old.feed) len }
         requires inside { id < length self.old.table.macros }
         requires named { macro_named self.old.table.macros (usage_name (held_of self.old.feed) len) ≡ Some (macro_at self.old.table.macros id) }
-        ensures place { IfOk result (IsPlaced self.new) }
-        ensures takes { Takes S.Sources self.old self.new (placed_answer self.new result) }
+        ensures place { IsPlaced self.new result }
+        ensures takes { Takes S.Sources self.old self.new (lent_answer self.new result) }
     {
         if !is_built(&self.table, id) {
-            return Err(self.refuse(FaultKind::Unbuilt, ArrayString::new()));
+            return self.refuse(FaultKind::Unbuilt, ArrayString::new());
         }
         self.consume(len, 0);
-        Ok(Place::Body(id))
+        Place::Body(id)
     }
 
     // Reads the `define` whose line has `len` bytes, and lends the LF of that line.
-    fn define_line(&mut self, len: usize) -> Result<Place, Fault>
+    fn define_line(&mut self, len: usize) -> Place
         requires ready { IsReady self.old }
         requires mode { self.old.feed.mode ≡ Mode.Plain }
         requires define { IsDefine (held_of self.old.feed) len }
-        ensures place { IfOk result (IsPlaced self.new) }
-        ensures takes { Takes S.Sources self.old self.new (placed_answer self.new result) }
+        ensures place { IsPlaced self.new result }
+        ensures takes { Takes S.Sources self.old self.new (lent_answer self.new result) }
     {
         let line = &self.feed.held()[..len];
         let lines = line_ends_in(line);
         match self.table.read_define(&line[len.min(7)..]) {
-            Err(fault) => Err(self.refuse(fault_kind(fault.kind), fault.word)),
+            Err(fault) => self.refuse(fault_kind(fault.kind), fault.word),
             Ok(()) => {
                 let _count = self.table.len();
                 let end = self.consume(len, lines);
-                Ok(Place::Source(end - lines, end))
+                Place::Source(end - lines, end)
             }
         }
     }
 
-    // Takes out the macro of an `undef`, whose name stands from a place up to another.
-    fn undefine(&mut self, start: usize, stop: usize) -> Result<Place, Fault>
+    // Takes out the macro of an `undef`, whose name stands from a place up to another, and lends nothing.
+    fn undefine(&mut self, start: usize, stop: usize) -> Option<Place>
         requires ready { IsReady self.old }
         requires mode { self.old.feed.mode ≡ Mode.Plain }
         requires undef { IsUndef (held_of self.old.feed) start stop }
-        ensures place { IfOk result (IsPlaced self.new) }
-        ensures takes { Takes S.Sources self.old self.new (placed_answer self.new result) }
+        ensures place { IfSome result (IsPlaced self.new) }
+        ensures takes { Takes S.Sources self.old self.new (step_answer self.new result) }
     {
         let name = given_name(self.feed.held(), start, stop);
         if stop == start {
-            return Err(self.refuse(FaultKind::NameExpected, ArrayString::new()));
+            return Some(self.refuse(FaultKind::NameExpected, ArrayString::new()));
         }
         if reserved(name).is_some() {
             let word = word_of(name);
-            return Err(self.refuse(FaultKind::ReservedName, word));
+            return Some(self.refuse(FaultKind::ReservedName, word));
         }
         let _found = self.table.remove(name);
         let _count = self.table.len();
-        let end = self.consume(stop, 0);
-        Ok(Place::Source(end, end))
+        self.consume(stop, 0);
+        None
     }
 
     // Ends the source, which has no more bytes; a string or a comment that is open is a fault.
-    fn end(&mut self) -> Result<Place, Fault>
+    fn end(&mut self) -> Place
         ensures { Ends self.old self.new result }
     {
         let opened = self.feed.opened();
         match self.feed.mode() {
             Mode::Plain => {
                 self.close();
-                Ok(Place::End)
+                Place::End
             }
-            Mode::InStr => {
-                Err(self.refuse_at(FaultKind::OpenString, opened, ArrayString::new()))
-            }
-            Mode::InBlock => {
-                Err(self.refuse_at(FaultKind::OpenComment, opened, ArrayString::new()))
-            }
+            Mode::InStr => self.refuse_at(FaultKind::OpenString, opened, ArrayString::new()),
+            Mode::InBlock => self.refuse_at(FaultKind::OpenComment, opened, ArrayString::new()),
         }
     }
 
@@ -346,9 +344,9 @@ impl<S: Sources> Engine<S> {
     }
 
     // Keeps a fault at the line of the next byte.
-    fn refuse(&mut self, kind: FaultKind, word: ArrayString<128>) -> Fault
-        ensures fault { told result ≡ fault_at kind self.old.feed.line word.bytes (state_of self.old) }
-        ensures kept { self.new ≡ record self.old { kept = Some (told result) } }
+    fn refuse(&mut self, kind: FaultKind, word: ArrayString<128>) -> Place
+        ensures place { result ≡ Place.Kept }
+        ensures kept { self.new ≡ record self.old { kept = Some (fault_at kind self.old.feed.line word.bytes (state_of self.old)) } }
     {
         let line = self.feed.line();
         self.refuse_at(kind, line, word)
@@ -356,39 +354,55 @@ impl<S: Sources> Engine<S> {
 
     // Keeps a fault at a line.
     #[tactic(auto, unfolding(rdlpp_meaning::specs::Outcome::told, rdlpp_meaning::specs::State::fault_at, rdlpp_meaning::specs::State::shown_line, rdlpp_meaning::specs::State::no_shift, rdlpp_meaning::specs::Output::start_state, crate::specs::Remaining::state_of))]
-    fn refuse_at(&mut self, kind: FaultKind, line: u64, word: ArrayString<128>) -> Fault
-        ensures fault { told result ≡ fault_at kind line word.bytes (state_of self.old) }
-        ensures kept { self.new ≡ record self.old { kept = Some (told result) } }
+    fn refuse_at(&mut self, kind: FaultKind, line: u64, word: ArrayString<128>) -> Place
+        ensures place { result ≡ Place.Kept }
+        ensures kept { self.new ≡ record self.old { kept = Some (fault_at kind line word.bytes (state_of self.old)) } }
     {
         let _len = word.len();
-        let fault = Fault {
+        self.kept = Some(Fault {
             kind,
             name: copied(&self.path),
             line,
             word,
-        };
-        self.kept = Some(copied_fault(&fault));
-        fault
+        });
+        Place::Kept
     }
 
     // Keeps that a write failed, which is told at line 0 under the shown name.
     #[tactic(auto, unfolding(rdlpp_meaning::specs::Outcome::told, crate::specs::Run::write_fault))]
-    pub(crate) fn keep_write_failure(&mut self) -> Fault
-        ensures fault { told result ≡ write_fault self.old.name }
-        ensures kept { self.new ≡ record self.old { kept = Some (write_fault self.old.name) } }
+    pub(crate) fn refuse_write(&mut self)
+        ensures { self.new ≡ record self.old { kept = Some (write_fault self.old.name) } }
     {
-        let fault = Fault {
+        self.kept = Some(Fault {
             kind: FaultKind::WriteFailed,
             name: copied(&self.path),
             line: 0,
             word: ArrayString::new(),
-        };
-        self.kept = Some(copied_fault(&fault));
-        fault
+        });
+    }
+
+    // Whether the fault that is kept is that of a write that failed.
+    pub(crate) fn keeps_write_failure(&self) -> bool
+        ensures { (f : Told) → self.now.kept ≡ Some f → result ≡ is_write_failed f.kind }
+    {
+        match &self.kept {
+            Some(fault) => is_write_failure(fault.kind),
+            None => false,
+        }
+    }
+
+    // The fault that is kept, once more.
+    pub(crate) fn kept_fault(&self) -> Option<Fault>
+        ensures { option_map told result ≡ self.now.kept }
+    {
+        match &self.kept {
+            Some(fault) => Some(copied_fault(fault)),
+            None => None,
+        }
     }
 
     // Lends the piece at a place, or the fault that is kept.
-    fn answer(&self, place: Place) -> Result<Piece<'_>, &Fault>
+    pub(crate) fn answer(&self, place: Place) -> Result<Piece<'_>, &Fault>
         requires { IsPlaced self.now place }
         ensures { answer_of result ≡ lent_answer self.now place }
     {
@@ -399,7 +413,7 @@ impl<S: Sources> Engine<S> {
     }
 
     // Lends the piece at a place.
-    pub(crate) fn lend(&self, place: Place) -> Piece<'_>
+    fn lend(&self, place: Place) -> Piece<'_>
         requires { IsPlaced self.now place }
         ensures { piece_bytes result ≡ bytes_at self.now place }
     {
@@ -443,4 +457,12 @@ fn is_built(table: &Table, id: MacroId) -> bool
     ensures { result ≡ not (is_unbuilt_macro (macro_at table.now.macros id)) }
 {
     table.arity(id).is_none() && is_copied_body(table.body(id))
+}
+
+// Whether a kind is that of a write that failed.
+#[tactic(auto, unfolding(crate::specs::Steps::is_write_failed))]
+fn is_write_failure(kind: FaultKind) -> bool
+    ensures { result ≡ is_write_failed kind }
+{
+    kind == FaultKind::WriteFailed
 }

@@ -1,13 +1,13 @@
 // Runs: the output, written to a sink.
 ghost use Rattle.std.specs.Prelude.{◌≡◌, ◌≤◌, length, take, false, not};
-ghost use Rattle.std.specs.Io.KnownBytes.{Appends, Keeps};
+ghost use Rattle.std.specs.Io.KnownBytes.{Appends};
 ghost use Rattle.rdlpp_source.specs.Counts.{Counts};
-ghost use Rattle.rdlpp_expand.specs.Run.{Pulls, Runs, Wrote, count_of, fault_of};
-ghost use Rattle.rdlpp_expand.specs.Steps.{IsStarted, is_write_failed};
+ghost use Rattle.rdlpp_expand.specs.Run.{Flushes, Pulls, Runs, Unflushed, Wrote, count_of, fault_of};
+ghost use Rattle.rdlpp_expand.specs.Steps.{IsStarted};
 
 use crate::engine::Engine;
 use crate::place::Piece;
-use rdlpp_meaning::{Fault, FaultKind};
+use rdlpp_meaning::Fault;
 use rdlpp_source::{Sink, Sources};
 
 /// Why a run ended before the end of the output.
@@ -37,67 +37,69 @@ pub fn run<S: Sources, W: Sink>(engine: &mut Engine<S>, writer: &mut W) -> Resul
             if is_flushed(writer) {
                 return Ok(written);
             }
-            let fault = engine.keep_write_failure();
-            Err(RunFault { fault, written })
+            engine.refuse_write();
+            outcome(engine, written)
         }
-        Ending::Stopped(fault) => {
-            if is_write_failure(fault.kind) {
-                return Err(RunFault { fault, written });
+        Ending::Stopped => {
+            if engine.keeps_write_failure() {
+                return outcome(engine, written);
             }
             let _flushed = is_flushed(writer);
-            Err(RunFault { fault, written })
+            outcome(engine, written)
         }
         Ending::Unwritten => {
-            let fault = engine.keep_write_failure();
-            Err(RunFault { fault, written })
+            engine.refuse_write();
+            outcome(engine, written)
         }
     }
 }
 
+// The answer of a run: the fault that the engine keeps, or how many bytes the writer took.
+fn outcome<S: Sources>(engine: &Engine<S>, written: u64) -> Result<u64, RunFault>
+    ensures count { count_of result ≡ written }
+    ensures fault { fault_of result ≡ engine.now.kept }
+{
+    match engine.kept_fault() {
+        Some(fault) => Err(RunFault { fault, written }),
+        None => Ok(written),
+    }
+}
+
 // How the output ended.
-#[derive(Drop)]
+#[derive(Clone, Copy)]
 enum Ending {
     // It is whole.
     Finished,
-    // The engine answered a fault.
-    Stopped(Fault),
+    // The engine keeps a fault.
+    Stopped,
     // A write failed.
     Unwritten,
 }
 
 // What was written of a part: how many bytes, and whether a write failed behind them.
-#[derive(Drop)]
+#[derive(Clone, Copy)]
 struct PartWritten {
     len: usize,
     failed: bool,
 }
 
 // What was written of a piece: how many bytes, and how the output ended with it, if it did.
-#[derive(Drop)]
+#[derive(Clone, Copy)]
 struct Pulled {
     len: usize,
     ending: Option<Ending>,
 }
 
 // What was written of the output: how many bytes, up to `u64::MAX`, and how the output ended.
-#[derive(Drop)]
+#[derive(Clone, Copy)]
 struct Output {
     written: u64,
     ending: Ending,
 }
 
-// Whether a kind is that of a write that failed.
-#[tactic(auto, unfolding(crate::specs::Steps::is_write_failed))]
-fn is_write_failure(kind: FaultKind) -> bool
-    ensures { result ≡ is_write_failed kind }
-{
-    kind == FaultKind::WriteFailed
-}
-
 // Flushes a sink, and answers whether it could.
 fn is_flushed<W: Sink>(writer: &mut W) -> bool
-    ensures bytes { Keeps (W.taken writer.old) (W.taken writer.new) }
-    ensures failures { Counts (not result) (W.failures writer.old) (W.failures writer.new) }
+    ensures { Flushes W.Sink (not result) writer.old writer.new }
 {
     writer.flush().is_ok()
 }
@@ -107,7 +109,8 @@ fn write_part<W: Sink>(writer: &mut W, part: &[u8]) -> PartWritten
     ensures inside { result.len ≤ length part.now }
     ensures whole { result.failed ≡ false → result.len ≡ length part.now }
     ensures taken { Appends (W.taken writer.old) (W.taken writer.new) (take result.len part.now) }
-    ensures failures { Counts result.failed (W.failures writer.old) (W.failures writer.new) }
+    ensures writes { Counts result.failed (W.failed_writes writer.old) (W.failed_writes writer.new) }
+    ensures quiet { Unflushed W.Sink writer.old writer.new }
 {
     let mut len = 0;
     while len < part.len() {
@@ -127,32 +130,26 @@ fn pull<S: Sources, W: Sink>(engine: &mut Engine<S>, writer: &mut W) -> Pulled
     requires { IsStarted engine.old }
     ensures { Pulls S.Sources W.Sink engine.old engine.new writer.old writer.new result.len result.ending }
 {
-    let place = match engine.advance() {
-        Ok(place) => place,
-        Err(fault) => {
-            return Pulled {
-                len: 0,
-                ending: Some(Ending::Stopped(fault)),
-            };
-        }
-    };
-    match engine.lend(place) {
-        Piece::Bytes(part) => {
+    let place = engine.advance();
+    match engine.answer(place) {
+        Ok(Piece::Bytes(part)) => {
             let written = write_part(writer, part);
-            if written.failed {
-                return Pulled {
-                    len: written.len,
-                    ending: Some(Ending::Unwritten),
-                };
-            }
             Pulled {
                 len: written.len,
-                ending: None,
+                ending: if written.failed {
+                    Some(Ending::Unwritten)
+                } else {
+                    None
+                },
             }
         }
-        Piece::Done => Pulled {
+        Ok(Piece::Done) => Pulled {
             len: 0,
             ending: Some(Ending::Finished),
+        },
+        Err(_) => Pulled {
+            len: 0,
+            ending: Some(Ending::Stopped),
         },
     }
 }

@@ -1,5 +1,6 @@
 //! A sink over any writer.
-ghost use Rattle.std.specs.Prelude.{◌≡◌, ◌+◌, ◌-◌, ◌^◌, min};
+ghost use Rattle.std.specs.Prelude.{◌≡◌, true};
+ghost use Rattle.rdlpp_source.specs.Counts.{Counts};
 
 use crate::{Sink, SinkFault};
 use std::io::Write;
@@ -12,20 +13,26 @@ use std::io::Write;
 #[derive(Drop)]
 pub struct Counted<W> {
     writer: W,
-    failures: u64,
+    failed_writes: u64,
+    failed_flushes: u64,
+    flushes: u64,
 }
 
 impl<W> Counted<W> {
-    ghost use Rattle.rdlpp_source.specs.Counted.{counted_writer, counted_failures};
+    ghost use Rattle.rdlpp_source.specs.Counted.{counted_writer, counted_failed_writes, counted_failed_flushes, counted_flushes};
 
-    /// A sink over `writer`, with no failure yet.
+    /// A sink over `writer`, with no failure and no flush yet.
     pub fn new(writer: W) -> Self
         ensures writer { counted_writer result ≡ writer }
-        ensures failures { counted_failures result ≡ 0 }
+        ensures failed_writes { counted_failed_writes result ≡ 0 }
+        ensures failed_flushes { counted_failed_flushes result ≡ 0 }
+        ensures flushes { counted_flushes result ≡ 0 }
     {
         Counted {
             writer,
-            failures: 0,
+            failed_writes: 0,
+            failed_flushes: 0,
+            flushes: 0,
         }
     }
 
@@ -35,36 +42,41 @@ impl<W> Counted<W> {
     {
         self.writer
     }
+}
 
-    // Counts one failure more, up to `u64::MAX`.
-    fn count_failure(&mut self)
-        ensures { self.new ≡ record self.old { failures = min (self.old.failures + 1) (2 ^ 64 - 1) } }
-    {
-        self.failures = self.failures.saturating_add(1);
-    }
+// A count with one more, up to `u64::MAX`.
+fn one_more(count: u64) -> u64
+    ensures { Counts true count result }
+{
+    count.saturating_add(1)
 }
 
 impl<W: Write> Sink for Counted<W> {
-    ghost use Rattle.rdlpp_source.specs.Counted.{counted_writer, counted_failures};
+    ghost use Rattle.rdlpp_source.specs.Counted.{counted_writer, counted_failed_writes, counted_failed_flushes, counted_flushes};
 
     ghost taken = { λ counted. W.contents (counted_writer counted) };
 
-    ghost failures = { counted_failures };
+    ghost failed_writes = { counted_failed_writes };
+
+    ghost failed_flushes = { counted_failed_flushes };
+
+    ghost flushes = { counted_flushes };
 
     fn write(&mut self, part: &[u8]) -> Result<usize, SinkFault> {
         let Ok(len) = self.writer.write(part) else {
-            self.count_failure();
+            self.failed_writes = one_more(self.failed_writes);
             return Err(SinkFault);
         };
         if len == 0 && !part.is_empty() {
-            self.count_failure();
+            self.failed_writes = one_more(self.failed_writes);
         }
         Ok(len)
     }
 
     fn flush(&mut self) -> Result<(), SinkFault> {
+        self.flushes = one_more(self.flushes);
         let Ok(()) = self.writer.flush() else {
-            self.count_failure();
+            self.failed_flushes = one_more(self.failed_flushes);
             return Err(SinkFault);
         };
         Ok(())

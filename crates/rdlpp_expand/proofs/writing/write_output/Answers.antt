@@ -10,7 +10,7 @@ returns-in-Some g c =
     wrote_at g.S.Sources g.W.Sink _ _ _ _ _ _ _ _
     (wrote_more g.S.Sources g.W.Sink _ _ _ _ _ _ _ _ _ c.loop-ending.invariant c.pull-pulled.ensures)
     c.saturating_add-written.ensures
-    (ap Some c.in-Some.ending-is ∙ sym c.in-Some.is)
+    (sym c.in-Some.is)
 
 pub loop-ending-preserved : goal.loop-ending-preserved
 loop-ending-preserved g c =

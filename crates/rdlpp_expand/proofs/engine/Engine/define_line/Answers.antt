@@ -2,12 +2,9 @@ use Rattle.std.proofs.Common.{◌≡◌, ◌≤◌, ◌+◌, ◌-◌, length, ta
 use Rattle.std.proofs.lemmas.List.{length-take-le}
 use Rattle.rdlpp_scan.specs.SourceTokens.{line_ends}
 use Rattle.rdlpp_table.specs.Define.{define_of, Accepted, Refused, observed}
-use Rattle.rdlpp_meaning.specs.Outcome.{told}
-use Rattle.rdlpp_meaning.specs.State.{fault_at}
 use Rattle.rdlpp_expand.specs.Feed.{IsFeed, EndsHeld, held_of}
 use Rattle.rdlpp_expand.specs.Front.{passed}
 use Rattle.rdlpp_expand.specs.Pieces.{IsPlaced}
-use Rattle.rdlpp_expand.specs.Remaining.{state_of}
 use Rattle.rdlpp_meaning.specs.Profile.{define_fault}
 use Rattle.rdlpp_expand.proofs.FrontRemains.{define_inside}
 use Rattle.rdlpp_expand.proofs.FrontSteps.{held_room, line_ends-le, take_define, take_refused, left_refused_define, define_kind, define_rest, define_whole, defined_same}
@@ -67,10 +64,8 @@ returns-in-Err-clause-takes g c =
     let refused : define_of c.args.self.now.limits.definition_bytes c.args.self.now.limits.definitions c.args.self.now.table.macros (drop 7 (take c.args.len (held_of c.args.self.now.feed)))
     ≡ Refused c.in-Err.fault.kind c.in-Err.fault.word.bytes =
     rw (← c.self.view_is) (defined_same _ _ _ _ _ _ _ _ outcome bytes count (rest ∙ ap (λ h. drop 7 (take c.args.len h)) value)) in
-    let fault_told : told c.refuse.result ≡ fault_at (define_fault c.in-Err.fault.kind) c.args.self.now.feed.line c.in-Err.fault.word.bytes (state_of c.args.self.now) =
-    rw (← c.self.view_is, ← c.fault_kind.ensures) (rw c.in-Err.ensures.refused at c.refuse.ensures.fault) in
     take_refused g.S.Sources c.args.self.now c.refuse.new.self c.refuse.result (define_fault c.in-Err.fault.kind) c.in-Err.fault.word.bytes
-    fault_told (rw (← c.self.view_is) (rw c.in-Err.ensures.refused at c.refuse.ensures.kept)) (define_kind c.in-Err.fault.kind)
+    c.refuse.ensures.place (rw (← c.self.view_is, ← c.fault_kind.ensures) (rw c.in-Err.ensures.refused at c.refuse.ensures.kept)) (define_kind c.in-Err.fault.kind)
     (left_refused_define g.S.Sources.unread c.args.self.now c.args.len c.in-Err.fault.kind c.in-Err.fault.word.bytes c.requires.mode c.requires.ready.bytes ends fits c.requires.define refused)
 
 pub returns-in-Ok-clause-place : goal.returns-in-Ok-clause-place

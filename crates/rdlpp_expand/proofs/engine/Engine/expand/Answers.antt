@@ -1,13 +1,10 @@
 use Rattle.std.proofs.Common.{◌≡◌, take, None, ap, ◌∙◌}
 use Rattle.rdlpp_table.specs.Table.{macro_named}
 use Rattle.rdlpp_meaning.specs.declared.fault.FaultKind.TheVariants as fault
-use Rattle.rdlpp_meaning.specs.Outcome.{told}
-use Rattle.rdlpp_meaning.specs.State.{fault_at}
 use Rattle.rdlpp_expand.specs.Feed.{EndsHeld, held_of}
 use Rattle.rdlpp_expand.specs.Front.{usage_name}
-use Rattle.rdlpp_expand.specs.Remaining.{state_of}
 use Rattle.rdlpp_expand.proofs.FrontRemains.{usage_inside}
-use Rattle.rdlpp_expand.proofs.FrontSteps.{left_undefined, undefined_kind, take_refused, usage_word, cut_once}
+use Rattle.rdlpp_expand.proofs.FrontSteps.{left_undefined, undefined_kind, take_refused, usage_word, kept_cut}
 use Rattle.rdlpp_expand.proofs.engine.Engine.expand.Goals as goal
 
 pub name_of-name-requires-clause-some : goal.name_of-name-requires-clause-some
@@ -33,8 +30,6 @@ returns-in-None-clause-takes g c =
     rw (← name, ← c.self.view_is) c.in-None.ensures.named in
     let word : c.word_of-word.result.bytes ≡ take 128 (usage_name (held_of c.args.self.now.feed) c.args.len) =
     c.word_of-word.ensures ∙ ap (take 128) name in
-    let fault_told : told c.refuse.result ≡ fault_at fault.UndefinedMacro c.args.self.now.feed.line (usage_name (held_of c.args.self.now.feed) c.args.len) (state_of c.args.self.now) =
-    c.refuse.ensures.fault ∙ (ap (λ w. fault_at fault.UndefinedMacro c.args.self.now.feed.line w (state_of c.args.self.now)) word ∙ cut_once _ _ _ _) in
     take_refused g.S.Sources c.args.self.now c.refuse.new.self c.refuse.result fault.UndefinedMacro (usage_name (held_of c.args.self.now.feed) c.args.len)
-    fault_told c.refuse.ensures.kept undefined_kind
+    c.refuse.ensures.place (kept_cut c.args.self.now c.refuse.new.self _ _ _ _ _ c.refuse.ensures.kept word) undefined_kind
     (left_undefined g.S.Sources.unread c.args.self.now c.args.len c.requires.mode c.requires.ready.bytes ends c.requires.usage none)

@@ -18,8 +18,7 @@ returns-then-not-is_built-clause-takes g c =
     let ends : EndsHeld c.args.self.now.feed = rw (← c.self.view_is) c.self.invariant.6 in
     let unbuilt : is_unbuilt_macro (macro_at c.args.self.now.table.macros c.args.id) ≡ true =
     rw (← c.self.view_is) (turned _ false (sym c.is_built.ensures ∙ c.if-not-is_built.true)) in
-    let told = rw c.new.ensures at c.refuse.ensures.fault in
-    take_refused g.S.Sources c.args.self.now c.refuse.new.self c.refuse.result fault.Unbuilt [] told c.refuse.ensures.kept unbuilt_kind
+    take_refused g.S.Sources c.args.self.now c.refuse.new.self c.refuse.result fault.Unbuilt [] c.refuse.ensures.place (rw c.new.ensures at c.refuse.ensures.kept) unbuilt_kind
     (left_unbuilt g.S.Sources.unread c.args.self.now c.args.len (macro_at c.args.self.now.table.macros c.args.id) c.requires.mode c.requires.ready.bytes ends c.requires.usage c.requires.named unbuilt)
 
 pub consume-requires-clause-inside : goal.consume-requires-clause-inside

@@ -6,9 +6,9 @@ use Rattle.rdlpp_meaning.specs.Output.{start_state}
 use Rattle.rdlpp_expand.specs.Remaining.{state_of}
 use Rattle.rdlpp_expand.proofs.engine.Engine.refuse_at.Goals as goal
 
-pub returns-clause-fault : goal.returns-clause-fault
+pub returns-clause-kept : goal.returns-clause-kept
 unfolding told fault_at shown_line no_shift start_state state_of
-returns-clause-fault g c =
+returns-clause-kept g c =
     let short : take 128 c.args.word.bytes ≡ c.args.word.bytes = take_all 128 c.args.word.bytes (omega arith) in
     let shown : 0 + (c.args.line - 0) ≡ c.args.line = omega arith in
     let name = c.copied.ensures in

@@ -11,6 +11,5 @@ returns-in-Refused-clause-takes g c =
     let held : c.held.result.now ≡ held_of c.args.self.now.feed = c.held.ensures.value ∙ ap (λ e. held_of e.feed) c.self.view_is in
     let mode : c.mode.result ≡ c.args.self.now.feed.mode = c.mode.ensures ∙ ap (λ e. e.feed.mode) c.self.view_is in
     let refused : IsRefused c.args.self.now.feed.mode (held_of c.args.self.now.feed) c.in-Refused.kind = rw (← mode, ← held) c.in-Refused.ensures in
-    let told = rw c.new.ensures at c.refuse.ensures.fault in
-    take_refused g.S.Sources c.args.self.now c.refuse.new.self c.refuse.result c.in-Refused.kind [] told c.refuse.ensures.kept
+    take_refused g.S.Sources c.args.self.now c.refuse.new.self c.refuse.result c.in-Refused.kind [] c.refuse.ensures.place (rw c.new.ensures at c.refuse.ensures.kept)
     (refused_kind _ _ _ refused) (left_refused g.S.Sources.unread c.args.self.now c.in-Refused.kind c.requires.bytes ends refused)

@@ -2,21 +2,17 @@ use Rattle.std.proofs.Common.{◌≡◌, ◌≤◌, ◌<◌, length, take, true,
 use Rattle.rdlpp_scan.specs.Stage.{is_reserved}
 use Rattle.rdlpp_table.specs.Table.{without}
 use Rattle.rdlpp_meaning.specs.declared.fault.FaultKind.TheVariants as fault
-use Rattle.rdlpp_meaning.specs.Outcome.{told}
-use Rattle.rdlpp_meaning.specs.State.{fault_at}
 use Rattle.rdlpp_expand.specs.Feed.{IsFeed, EndsHeld, held_of}
 use Rattle.rdlpp_expand.specs.Front.{passed, undef_name}
-use Rattle.rdlpp_expand.specs.Remaining.{state_of}
-use Rattle.rdlpp_expand.proofs.FrontSteps.{cut_once, held_room, left_nameless, left_reserved, nameless_kind, reserved_kind, take_refused, take_undef, undef_word}
+use Rattle.rdlpp_expand.proofs.FrontSteps.{kept_cut, held_room, left_nameless, left_reserved, nameless_kind, reserved_kind, take_refused, take_undef, undef_word}
 use Rattle.rdlpp_expand.proofs.UndefRemains.{undef_inside}
 use Rattle.rdlpp_expand.proofs.engine.Engine.undefine.Goals as goal
 
 pub returns-then-stop-start-clause-takes : goal.returns-then-stop-start-clause-takes
 returns-then-stop-start-clause-takes g c =
     let ends : EndsHeld c.args.self.now.feed = rw (← c.self.view_is) c.self.invariant.6 in
-    let told_is = rw c.new.ensures at c.refuse.ensures.fault in
     let none : c.args.start ≡ c.args.stop = omega arith in
-    take_refused g.S.Sources c.args.self.now c.refuse.new.self c.refuse.result fault.NameExpected [] told_is c.refuse.ensures.kept nameless_kind
+    take_refused g.S.Sources c.args.self.now c.refuse.new.self c.refuse.result fault.NameExpected [] c.refuse.ensures.place (rw c.new.ensures at c.refuse.ensures.kept) nameless_kind
     (left_nameless g.S.Sources.unread c.args.self.now c.args.start c.args.stop c.requires.mode c.requires.ready.bytes ends c.requires.undef none)
 
 pub given_name-name-requires-clause-inside : goal.given_name-name-requires-clause-inside
@@ -44,25 +40,13 @@ returns-then-is_some-clause-takes g c =
     let has : c.args.start < c.args.stop = omega arith in
     let word : c.word_of-word.result.bytes ≡ take 128 (undef_name (held_of c.args.self.now.feed) c.args.start c.args.stop) =
     c.word_of-word.ensures ∙ ap (take 128) name in
-    let fault_told : told c.refuse-then-is_some.result ≡ fault_at fault.ReservedName c.args.self.now.feed.line (undef_name (held_of c.args.self.now.feed) c.args.start c.args.stop) (state_of c.args.self.now) =
-    c.refuse-then-is_some.ensures.fault ∙ (ap (λ w. fault_at fault.ReservedName c.args.self.now.feed.line w (state_of c.args.self.now)) word ∙ cut_once _ _ _ _) in
     take_refused g.S.Sources c.args.self.now c.refuse-then-is_some.new.self c.refuse-then-is_some.result fault.ReservedName (undef_name (held_of c.args.self.now.feed) c.args.start c.args.stop)
-    fault_told c.refuse-then-is_some.ensures.kept reserved_kind
+    c.refuse-then-is_some.ensures.place (kept_cut c.args.self.now c.refuse-then-is_some.new.self _ _ _ _ _ c.refuse-then-is_some.ensures.kept word) reserved_kind
     (left_reserved g.S.Sources.unread c.args.self.now c.args.start c.args.stop c.requires.mode c.requires.ready.bytes ends c.requires.undef has taken)
 
-pub consume-end-requires-clause-inside : goal.consume-end-requires-clause-inside
-consume-end-requires-clause-inside g c =
+pub consume-requires-clause-inside : goal.consume-requires-clause-inside
+consume-requires-clause-inside g c =
     rw (← c.self.view_is) at (undef_inside _ _ _ c.requires.ready.bytes c.requires.undef).2
-
-pub returns-clause-place : goal.returns-clause-place
-unfolding passed
-returns-clause-place g c =
-    let inside : c.args.stop ≤ length (held_of c.self.inside.feed) = rw (← c.self.view_is) at (undef_inside _ _ _ c.requires.ready.bytes c.requires.undef).2 in
-    let room = held_room c.self.inside.feed in
-    let is : IsFeed c.self.inside.feed = c.self.invariant.5 in
-    let end = c.consume-end.ensures.end in
-    let window = ap (λ e. e.feed.window) c.consume-end.ensures.passed in
-    (omega arith, rw window (omega arith))
 
 pub returns-clause-takes : goal.returns-clause-takes
 returns-clause-takes g c =
@@ -76,5 +60,5 @@ returns-clause-takes g c =
     let has : c.args.start < c.args.stop = omega arith in
     let table : c.remove-found.new.self ≡ record c.args.self.now.table { macros = without (undef_name (held_of c.args.self.now.feed) c.args.start c.args.stop) c.args.self.now.table.macros } =
     rw (← name, ← c.self.view_is) c.remove-found.ensures.table in
-    take_undef g.S.Sources c.args.self.now c.consume-end.new.self c.args.start c.args.stop c.consume-end.result c.remove-found.new.self
-    c.requires.ready c.requires.mode ends c.requires.undef has free table (rw (← c.self.view_is) c.consume-end.ensures.passed)
+    take_undef g.S.Sources c.args.self.now c.consume.new.self c.args.start c.args.stop c.remove-found.new.self
+    c.requires.ready c.requires.mode ends c.requires.undef has free table (rw (← c.self.view_is) c.consume.ensures.passed)
