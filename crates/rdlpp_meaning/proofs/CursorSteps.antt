@@ -161,8 +161,8 @@ usage_commutes size rules s source line o name frame keeps ts =
     ∙ choice-image frame (is_reserved name) (Refuses DirectiveInText name line)
     (elim (macro_named s.macros name) [ None ↦ Refuses UndefinedMacro name line | Some m ↦ token_usage_of_macro size rules line o name ts m ])
 
--- what a formal stands for by its actual, as items
-standing_image : (f : SourceToken → Item) (formal : Formal) (actual : List SourceToken)
+-- what a formal stands for by its actual, as what its things become
+standing_image : {A B : Type 0} (f : A → B) (formal : Formal) (actual : List A)
     → standing_of formal (map f actual) ≡ map_standing f (standing_of formal actual)
 unfolding standing_of map_standing
 standing_image f formal [] = empty (length formal.text == 0)
@@ -173,15 +173,15 @@ standing_image f formal [] = empty (length formal.text == 0)
     empty false = refl
 standing_image f formal (t ∷ ts) = refl
 
--- a choice of what a formal stands for, as items
-choice_standing : (f : SourceToken → Item) (same : Bool) (x : Standing SourceToken) (y : Standing Item) (rest : Option (Standing SourceToken)) (items : Option (Standing Item))
+-- a choice of what a formal stands for
+choice_standing : {A B : Type 0} (f : A → B) (same : Bool) (x : Standing A) (y : Standing B) (rest : Option (Standing A)) (items : Option (Standing B))
     → y ≡ map_standing f x → items ≡ option_map (map_standing f) rest
     → (if same then Some y else items) ≡ option_map (map_standing f) (if same then Some x else rest)
-choice_standing f true x y rest items e h = ap (λ (z : Standing Item). Some z) e
+choice_standing {B = B} f true x y rest items e h = ap (λ (z : Standing B). Some z) e
 choice_standing f false x y rest items e h = h
 
--- what a name stands for, as items
-bound_image : (f : SourceToken → Item) (formals : List Formal) (actuals : List (List SourceToken)) (name : List ℕ)
+-- what a name stands for, as what the things of its actual become
+pub bound_image : {A B : Type 0} (f : A → B) (formals : List Formal) (actuals : List (List A)) (name : List ℕ)
     → bound_to formals (map (map f) actuals) name ≡ option_map (map_standing f) (bound_to formals actuals name)
 unfolding bound_to
 bound_image f [] actuals name = refl

@@ -64,5 +64,6 @@ pub mod CallReadings
 pub mod TextRanges
 pub mod SourceRows
 pub mod UnlinedTokens
+pub mod UnlinedCursors
 pub mod KeptTexts
 pub mod ReadCalls
