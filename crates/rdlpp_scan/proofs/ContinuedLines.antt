@@ -1,6 +1,6 @@
 -- Logical lines over several physical lines.
-use Rattle.std.proofs.Common.{◌≡◌, ℕ, suc, ◌+◌, ◌<◌, Bool, true, false, not, cond, ◌&&◌, List, [], ◌∷◌, ◌++◌, Option, Some, None, length, get_or, take, refl, sym, ap, ◌∙◌, subst, inl, inr, ⊎_elim, arith}
-use Rattle.std.specs.Prelude.{codes, bytes_eq}
+use Rattle.std.proofs.Common.{◌≡◌, ℕ, suc, ◌+◌, ◌<◌, ◌≤◌, Bool, true, false, not, cond, ◌&&◌, List, [], ◌∷◌, ◌++◌, Option, Some, None, length, get_or, take, refl, sym, ap, ◌∙◌, subst, inl, inr, ⊎_elim, arith}
+use Rattle.std.specs.Prelude.{codes, bytes_eq, slice_index}
 use Rattle.std.specs.Option.{option_map}
 use Rattle.std.proofs.lemmas.Bool.{and_parts}
 use Rattle.std.proofs.lemmas.List.{append_assoc, length-append, length-take-le, take-append-le}
@@ -67,6 +67,19 @@ logical_len-whole x y (b ∷ bs) n h =
     let size = length-take-le p.0 bs within.1 in
     subst W (sym p.1.1) (whole_one b (take p.0 bs) (logical_len-whole y b bs p.0 p.1.0) (omega (arith, within.0, size))) in
     elim (is_line_end b && not (is_continued x y)) as P [ true ↦ at_true | false ↦ at_false ] refl h
+
+-- a logical line that is found has a byte, lies in its text and ends with its LF
+pub logical_len-found : (bytes : List ℕ) (n : ℕ) → logical_len 0 0 bytes ≡ Some n → (0 < n) × ((n ≤ length bytes) × IsWholeLines (take n bytes))
+logical_len-found bytes n is = let within = logical_len-within 0 0 bytes n is in (within.0, (within.1, logical_len-whole 0 0 bytes n is))
+
+-- a logical line that isn't found goes on behind what is held, with the last two bytes of that before it
+pub logical_len-goes_on : (held more : List ℕ) → logical_len 0 0 held ≡ None
+    → logical_len 0 0 (held ++ more)
+    ≡ option_map (λ n. length held + n) (logical_len (slice_index (0 ∷ 0 ∷ held) (length held)) (slice_index (0 ∷ 0 ∷ held) (length held + 1)) more)
+logical_len-goes_on held more none =
+    let one : suc (length held) ≡ length held + 1 = omega arith in
+    let there : ℕ → Option ℕ = λ i. option_map (λ n. length held + n) (logical_len (get_or (0 ∷ 0 ∷ held) (length held) 0) (get_or (0 ∷ 0 ∷ held) i 0) more) in
+    logical_len-goes_behind 0 0 held more none ∙ ap there one
 
 -- a `define` whose logical line goes on, with a further line taken in
 pub HoldsDefine-more : (u : List ℕ → Bool) (held w rest : List ℕ) → HoldsDefine u held (w ++ rest) → 0 < length w → EndsLine w rest → HoldsDefine u (held ++ w) rest

@@ -57,6 +57,22 @@ remaining-open_comment u most m o l held room rest some ends built mode =
     let b = behind most room held rest ends in
     step-open_comment (course u most room rest) m o l held more some (IsCut-from_line held more b.ends) (λ plain. built plain more b.ends) mode
 
+-- what is held of a string that was open before it, in front of what remains of its rest
+pub remaining-string_goes_on : (u : List ℕ → Bool) (most o l : ℕ) (held : List ℕ) (room : ℕ) (rest : List ℕ) → 0 < length held → EndsLine held rest
+    → (token_of InStr held).next_mode ≡ InStr → (token_of InStr held).len ≡ length held
+    → remaining_tokens u most InStr o l held room rest ≡ onto_tokens held l (remaining_tokens u most InStr o (l + line_ends held) [] room rest)
+unfolding opening
+remaining-string_goes_on u most o l held room rest some ends mode len =
+    remaining-open_string u most InStr o l held room rest some ends (λ e. absurd (cc)) mode len
+
+-- what is held of a block comment that was open before it
+pub remaining-comment_goes_on : (u : List ℕ → Bool) (most o l : ℕ) (held : List ℕ) (room : ℕ) (rest : List ℕ) → 0 < length held → EndsLine held rest
+    → (token_of InBlock held).next_mode ≡ InBlock
+    → remaining_tokens u most InBlock o l held room rest ≡ onto_tokens held l (remaining_tokens u most InBlock o (l + line_ends held) [] room rest)
+unfolding opening
+remaining-comment_goes_on u most o l held room rest some ends mode =
+    remaining-open_comment u most InBlock o l held room rest some ends (λ e. absurd (cc)) mode
+
 -- a string that `<%` cuts in what is held
 pub remaining-cut_string : (u : List ℕ → Bool) (most : ℕ) (m : Mode) (o l : ℕ) (held : List ℕ) (room : ℕ) (rest : List ℕ) → 0 < length held → EndsLine held rest → IsBuiltAt u m held
     → (token_of m held).kind ≡ Str → (token_of m held).next_mode ≡ InStr → (token_of m held).len < length held

@@ -3,7 +3,6 @@
 
 mod bytes;
 mod faults;
-pub mod laws;
 mod lines;
 mod names;
 mod plain;

@@ -1,5 +1,0 @@
-use Rattle.rdlpp_scan.proofs.OrdinaryLaws.{ordinary_text}
-use Rattle.rdlpp_scan.proofs.laws.ordinary_text.Goals as goal
-
-pub returns : goal.returns
-returns c = ordinary_text
