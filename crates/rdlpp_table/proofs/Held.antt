@@ -1,6 +1,7 @@
 -- A table after a change of its lists.
 use Rattle.std.proofs.Common.{◌≡◌, ℕ, ◌+◌, ◌<◌, ◌≤◌, [], ◌∷◌, ◌++◌, Ok, Err, List, length, map, remove, bytes_eq, Some, None, refl, ap, sym, ◌∙◌, subst, arith, le_trans, length-append}
-use Rattle.std.specs.List.{IsDistinct}
+use Rattle.std.specs.List.{All, IsDistinct}
+use Rattle.std.proofs.lemmas.List.Elements.{All-filter, All-push}
 use Rattle.rdlpp_table.specs.declared.entry.Entry.{Entry}
 use Rattle.rdlpp_table.specs.Table.{Macro, macro_size, table_size, without}
 use Rattle.rdlpp_table.specs.Define.{Accepted, Refused, observed, stored}
@@ -8,7 +9,7 @@ use Rattle.rdlpp_table.specs.declared.fault.DefineKind.{DefineKind}
 use Rattle.rdlpp_table.specs.declared.fault.DefineKind.TheVariants as kind
 use Rattle.rdlpp_table.specs.declared.fault.DefineFault.{DefineFault}
 use Rattle.std.proofs.lemmas.Bool.{cond-true, cond-false, lt-ltb, le-ltb}
-use Rattle.rdlpp_table.specs.View.{TableView, IsSound, place_named}
+use Rattle.rdlpp_table.specs.View.{TableView, IsSound, IsSoundMacro, place_named}
 use Rattle.rdlpp_table.specs.Store.{IsStored, macros_in}
 use Rattle.rdlpp_table.specs.Layout.{view_of, IsHeld}
 use Rattle.rdlpp_table.proofs.RoundTrip.{read_back}
@@ -29,9 +30,14 @@ held_of bytes entries ms a b s sound =
 pub view_after : (bytes : List ℕ) (entries : List Entry) (ms : List Macro) (a b : ℕ) → IsStored bytes entries ms → view_of bytes entries a b ≡ table_of ms a b
 view_after bytes entries ms a b s = ap (λ (l : List Macro). table_of l a b) (read_back bytes entries ms s)
 
+each_without : (name : List ℕ) (ms : List Macro) → All IsSoundMacro ms → All IsSoundMacro (without name ms)
+unfolding without
+each_without name ms h = All-filter _ IsSoundMacro ms h
+
 pub sound_without : (name : List ℕ) (view : TableView) → IsSound view → IsSound (table_of (without name view.macros) view.most_bytes view.most_macros)
 sound_without name view s = record {
   distinct = without_distinct name view.macros s.distinct;
+  each = each_without name view.macros s.each;
   bytes_fit = le_trans (without_size name view.macros) s.bytes_fit;
   macros_fit = le_trans (without_length name view.macros) s.macros_fit;
 }
@@ -67,11 +73,12 @@ pub accepted_is : (ms : List Macro) → observed (Ok tt) ms ≡ Accepted ms
 unfolding observed
 accepted_is ms = refl
 
-pub sound_with : (view : TableView) (m : Macro) → IsSound view → table_size (without m.name view.macros) + macro_size m ≤ view.most_bytes → length (without m.name view.macros) + 1 ≤ view.most_macros → IsSound (table_of (without m.name view.macros ++ m ∷ []) view.most_bytes view.most_macros)
-sound_with view m s h k =
+pub sound_with : (view : TableView) (m : Macro) → IsSound view → IsSoundMacro m → table_size (without m.name view.macros) + macro_size m ≤ view.most_bytes → length (without m.name view.macros) + 1 ≤ view.most_macros → IsSound (table_of (without m.name view.macros ++ m ∷ []) view.most_bytes view.most_macros)
+sound_with view m s sound h k =
     let one : table_size (m ∷ []) ≡ macro_size m = table_size-cons m [] ∙ omega (arith, size_of_none) in
     record {
       distinct = pushed_distinct m view.macros s.distinct;
+      each = All-push IsSoundMacro (without m.name view.macros) m (each_without m.name view.macros s.each) sound;
       bytes_fit = omega (arith, table_size-append (without m.name view.macros) (m ∷ []));
       macros_fit = omega (arith, length-append (without m.name view.macros) (m ∷ []));
     }

@@ -2,6 +2,7 @@
 use Rattle.std.proofs.Common.{◌≡◌, ℕ, ◌<◌, ◌≤◌, List, [], length, get_or, bytes_eq, Option, Some, option_map, is_some, unwrap_or, None, refl, ap, sym, ◌∙◌, subst, arith, Vec, vec_len, rules, Global}
 use Rattle.std.specs.List.{IsDistinct, position}
 use Rattle.std.proofs.lemmas.List.{length-map, get_or-map}
+use Rattle.std.proofs.lemmas.List.Elements.{All-nil}
 use Rattle.std.proofs.lemmas.List.Quantifiers.{position-Some}
 use Rattle.rdlpp_table.specs.declared.entry.Entry.{Entry}
 use Rattle.rdlpp_table.specs.Stops.{is_copied}
@@ -28,7 +29,7 @@ held_nothing : (a b : ℕ) → IsHeld [] [] a b
 unfolding macros_in entries_of table_bytes table_size IsDistinct
 held_nothing a b = record {
   stored = record { bytes_are = refl; entries_are = refl; plain = refl };
-  sound = record { distinct = tt; bytes_fit = omega arith; macros_fit = omega arith };
+  sound = record { distinct = tt; each = All-nil _; bytes_fit = omega arith; macros_fit = omega arith };
 }
 
 pub held_when_empty : (bytes : List ℕ) (entries : List Entry) (a b : ℕ) → bytes ≡ [] → entries ≡ [] → IsHeld bytes entries a b

@@ -1,7 +1,8 @@
 -- What a contract sees of a table.
 -- A definition that names no source is this project's own.
-use Rattle.std.specs.Prelude.{ℕ, ◌≤◌, List, [], length, map, bytes_eq, slice_index_or, Option, None, unwrap_or, position}
+use Rattle.std.specs.Prelude.{◌≡◌, ℕ, ◌<◌, ◌≤◌, false, All, List, [], length, map, bytes_eq, slice_index_or, Option, None, unwrap_or, position}
 use Rattle.std.specs.List.{IsDistinct}
+use Rattle.rdlpp_scan.specs.Stage.{is_reserved}
 use Rattle.rdlpp_table.specs.Table.{Formal, Macro, table_size}
 
 -- the macros, oldest first, and the most bytes and the most macros that the table takes
@@ -30,8 +31,30 @@ formals_of m = unwrap_or m.formals []
 abbrev pub formal_named : List Formal → List ℕ → Option ℕ
 formal_named formals name = position (λ f. bytes_eq f.name name) formals
 
--- what holds of every table: its macros have distinct names, and are no more and no larger than it takes
+-- the most formals of a macro (this project's profile)
+abbrev pub most_formals : ℕ
+most_formals = 64
+
+-- the most bytes of the name of a macro or of a formal (this project's profile)
+abbrev pub most_name_bytes : ℕ
+most_name_bytes = 128
+
+-- what holds of the formals of every macro: distinct names, no more and no longer than this project's profile has it
+pub record AreSoundFormals (formals : List Formal) : Type 0 where
+  pub distinct : IsDistinct bytes_eq (map (λ f. f.name) formals)
+  pub few : length formals ≤ most_formals
+  pub short : All (λ f. length f.name ≤ most_name_bytes) formals
+
+-- what holds of every macro of a table: a name that isn't that of a directive, and sound formals
+pub record IsSoundMacro (m : Macro) : Type 0 where
+  pub named : 0 < length m.name
+  pub short : length m.name ≤ most_name_bytes
+  pub unreserved : is_reserved m.name ≡ false
+  pub formals : AreSoundFormals (formals_of m)
+
+-- what holds of every table: its macros are sound, have distinct names, and are no more and no larger than it takes
 pub record IsSound (table : TableView) : Type 0 where
   pub distinct : IsDistinct bytes_eq (map (λ m. m.name) table.macros)
+  pub each : All IsSoundMacro table.macros
   pub bytes_fit : table_size table.macros ≤ table.most_bytes
   pub macros_fit : length table.macros ≤ table.most_macros

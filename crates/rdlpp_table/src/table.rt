@@ -1,5 +1,5 @@
 // The table of macros: a list of bytes, one of entries and an index by name, all reserved when the table is made.
-ghost use Rattle.std.specs.Prelude.{◌≡◌, ◌<◌, ◌≤◌, ◌==◌, [], length, IfOk, IfSome, IfNone, OnOk, Some, None, is_some, option_map, OnErr, true, ◌+◌};
+ghost use Rattle.std.specs.Prelude.{◌≡◌, ◌<◌, ◌≤◌, ◌==◌, [], length, IfOk, IfSome, IfNone, OnOk, Some, None, is_some, option_map, OnErr, true, unwrap_or, ◌+◌};
 ghost use Rattle.rdlpp_table.specs.New.{new_macro, IsList, IsNew};
 ghost use Rattle.rdlpp_table.specs.Bodies.{joined};
 ghost use Rattle.rdlpp_table.specs.Store.{formals_from};
@@ -8,8 +8,8 @@ ghost use Rattle.rdlpp_table.specs.Limits.{AreInRange};
 ghost use Rattle.rdlpp_table.specs.Stops.{is_copied, stop_in};
 ghost use Rattle.rdlpp_table.specs.Table.{macro_named, table_bytes, table_size, without};
 ghost use Rattle.rdlpp_scan.specs.SourceTokens.{logical_len};
-ghost use Rattle.rdlpp_table.specs.Define.{define_of, observed, set_of, stored, stored_draft, with_body, with_list};
-ghost use Rattle.rdlpp_table.specs.View.{TableView, IsSound, formal_named, formals_of, macro_at, place_named};
+ghost use Rattle.rdlpp_table.specs.Define.{define_of, name_fault, observed, set_of, stored, stored_draft, with_body, with_list};
+ghost use Rattle.rdlpp_table.specs.View.{TableView, AreSoundFormals, IsSound, IsSoundMacro, formal_named, formals_of, macro_at, place_named};
 
 use crate::body::body_len;
 use crate::entry::{Entry, body_in, formals_in, list_in};
@@ -269,7 +269,8 @@ impl Table {
 
     // Stores a macro of a name with what stands behind the name in a logical line.
     fn store_named(&mut self, name: &[u8], after: &[u8]) -> Result<(), DefineFault>
-        requires { length name.now ≤ 128 }
+        requires short { length name.now ≤ 128 }
+        requires named { name_fault name.now ≡ None }
         ensures outcome { observed result self.new.macros ≡ stored_draft self.old.most_bytes self.old.most_macros self.old.macros (with_list name.now (joined true after.now)) }
         ensures refused { OnErr result (self.new ≡ self.old) }
         ensures limits { (self.new.most_bytes ≡ self.old.most_bytes) × (self.new.most_macros ≡ self.old.most_macros) }
@@ -295,8 +296,10 @@ impl Table {
         is_logical: bool,
         text: &[u8],
     ) -> Result<(), DefineFault>
+        requires named { name_fault name.now ≡ None }
         requires short { length name.now + length list.now ≤ 65536 }
         requires listed { IsList name.now arity list.now }
+        requires sound { AreSoundFormals (unwrap_or (option_map (λ n. formals_from [] list.now) arity) []) }
         ensures outcome { observed result self.new.macros ≡ stored_draft self.old.most_bytes self.old.most_macros self.old.macros (with_body name.now (option_map (λ n. formals_from [] list.now) arity) (joined is_logical text.now)) }
         ensures refused { OnErr result (self.new ≡ self.old) }
         ensures limits { (self.new.most_bytes ≡ self.old.most_bytes) × (self.new.most_macros ≡ self.old.most_macros) }
@@ -318,6 +321,7 @@ impl Table {
     fn store(&mut self, new: &New) -> Result<(), DefineFault>
         requires short { length new.now.name.now + length new.now.list.now ≤ 65536 }
         requires counted { IsNew new.now.name.now new.now.arity new.now.list.now new.now.is_logical new.now.text.now new.now.body_len }
+        requires sound { IsSoundMacro (new_macro new.now.name.now new.now.arity new.now.list.now new.now.is_logical new.now.text.now) }
         ensures outcome { observed result self.new.macros ≡ stored self.old.most_bytes self.old.most_macros self.old.macros (new_macro new.now.name.now new.now.arity new.now.list.now new.now.is_logical new.now.text.now) }
         ensures refused { OnErr result (self.new ≡ self.old) }
         ensures limits { (self.new.most_bytes ≡ self.old.most_bytes) × (self.new.most_macros ≡ self.old.most_macros) }

@@ -1,6 +1,10 @@
 use Rattle.std.proofs.Common.{◌∙◌, sym}
 use Rattle.rdlpp_table.proofs.Bodied.{set_nameless, set_refuses, set_stores}
+use Rattle.rdlpp_table.proofs.SoundFormals.{no_formals_sound}
 use Rattle.rdlpp_table.proofs.table.Table.set.Goals as goal
+
+pub store_body-requires-clause-sound : goal.store_body-requires-clause-sound
+store_body-requires-clause-sound c = no_formals_sound
 
 pub returns-then-not-is_name-clause-outcome : goal.returns-then-not-is_name-clause-outcome
 returns-then-not-is_name-clause-outcome c = set_nameless _ _ _ _ _ _ (sym c.is_name.ensures ∙ c.if-not-is_name.true) c.refusal.ensures.kind c.refusal.ensures.word

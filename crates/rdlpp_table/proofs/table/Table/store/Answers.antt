@@ -56,7 +56,7 @@ invariant_of-self c =
     let h : table_size (without c.args.new.now.name.now view.macros) + macro_size m ≤ view.most_bytes = omega (arith, c.rest-rest.ensures.size, c.saturating_add-size.ensures, c.self.invariant.room, capacity_small c.self.inside.bytes, ap (λ (v : TableView). v.most_bytes) c.self.view_is) in
     let k : length (without c.args.new.now.name.now view.macros) + 1 ≤ view.most_macros = omega (arith, c.rest-rest.ensures.count) in
     record {
-      held = held_of _ _ _ _ _ c.replace.ensures.stored (sound_with view m c.self.invariant.held.sound h k);
+      held = held_of _ _ _ _ _ c.replace.ensures.stored (sound_with view m c.self.invariant.held.sound c.requires.sound h k);
       room = omega (arith, c.replace.ensures.capacity.0, c.self.invariant.room);
       entry_room = omega (arith, c.replace.ensures.capacity.1, c.self.invariant.entry_room);
       indexed = indexed_after _ _ _ _ c.replace.ensures.stored c.replace.ensures.indexed;
