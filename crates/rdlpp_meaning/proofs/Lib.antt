@@ -67,3 +67,4 @@ pub mod UnlinedTokens
 pub mod UnlinedCursors
 pub mod KeptTexts
 pub mod ReadCalls
+pub mod OpenScopes
