@@ -68,3 +68,4 @@ pub mod UnlinedCursors
 pub mod KeptTexts
 pub mod ReadCalls
 pub mod OpenScopes
+pub mod OpenMoves

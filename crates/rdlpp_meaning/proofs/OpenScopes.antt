@@ -132,7 +132,7 @@ unfolding part_tokens
 part-empty text part e = ap (λ (n : ℕ). text_tokens part.mode (take n (drop part.from text))) e ∙ text_nil part.mode
 
 -- a part of all of a text has its tokens
-part-whole : (text : List ℕ) → part_tokens text (record { from = 0; end = length text; mode = Plain }) ≡ body_tokens text
+pub part-whole : (text : List ℕ) → part_tokens text (record { from = 0; end = length text; mode = Plain }) ≡ body_tokens text
 unfolding part_tokens
 part-whole text =
     ap (λ (bytes : List ℕ). text_tokens Plain bytes) (ap (λ (n : ℕ). take n text) (same (length text)) ∙ take-length text)

@@ -1,7 +1,7 @@
 -- Open texts as parts of the texts in which they lie: a body or a default in the table, an actual in the text in which its call
 -- is written. Nothing says where a text lies but its home and what it is.
 -- A definition that names no source is this project's own.
-use Rattle.std.specs.Prelude.{ℕ, suc, ◌-◌, ◌≤◌, ◌==◌, ◌&&◌, not, List, [], ◌∷◌, map, length, slice_range, slice_index_or, Option, None, Some, if◌then◌else◌}
+use Rattle.std.specs.Prelude.{ℕ, suc, ◌+◌, ◌-◌, ◌≤◌, ◌==◌, ◌&&◌, not, List, [], ◌∷◌, map, length, slice_range, slice_index_or, Option, None, Some, if◌then◌else◌}
 use Rattle.std.specs.List.{AllByRecursion}
 use Rattle.std.specs.Option.{option_map}
 use Rattle.rdlpp_scan.specs.declared.token.Mode.{Mode}
@@ -126,3 +126,27 @@ abbrev pub AreOpen : Texts → List Open → Type 0
 AreOpen texts [] = Unit
 AreOpen texts (inner ∷ below) =
     (inner.home ≤ length below) × (HasParts texts (scope_text texts below inner.home) inner.kind × AreOpen texts below)
+
+-- the scope of what is written in an open text, with the texts around it: an actual is no scope of its own
+unfoldable pub open_scope : Open → List Open → ℕ
+open_scope x below = elim x.kind [ OpenActual ↦ x.home | _ ↦ suc (length below) ]
+
+-- the bytes that are left of an open text, in front of others
+unfoldable pub open_bytes : Texts → Open → List Open → List ℕ
+open_bytes texts x below = slice_range (text_around texts x.kind x.home below) x.part.from x.part.end
+
+-- an open text behind so many of its bytes, where what is behind them is read in a mode
+unfoldable pub open_behind : Open → ℕ → Mode → Open
+open_behind x n mode = record {
+  part = record { from = x.part.from + n; end = x.part.end; mode = mode };
+  home = x.home;
+  kind = x.kind;
+}
+
+-- the body of the macro at a place, opened by a call in a scope that has these parts as actuals
+unfoldable pub open_body : Texts → ℕ → List Part → ℕ → Open
+open_body texts id parts home = record {
+  part = record { from = 0; end = length (macro_at texts.macros id).body; mode = Plain };
+  home = home;
+  kind = OpenBody id parts;
+}
