@@ -67,3 +67,5 @@ pub mod UnlinedTokens
 pub mod UnlinedCursors
 pub mod KeptTexts
 pub mod ReadCalls
+pub mod OpenScopes
+pub mod OpenMoves

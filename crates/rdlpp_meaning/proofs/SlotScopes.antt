@@ -12,11 +12,11 @@ unequal a b true e h = absurd (h (eqb-true a b e))
 unequal a b false e h = refl
 
 -- a scope further out isn't the next one
-not_next : (k n : ℕ) → k ≤ n → (k == suc n) ≡ false
+pub not_next : (k n : ℕ) → k ≤ n → (k == suc n) ≡ false
 not_next k n h = unequal k (suc n) (k == suc n) refl (λ e. omega arith)
 
 -- the next one is
-next_is : (n : ℕ) → (n == n) ≡ true
+pub next_is : (n : ℕ) → (n == n) ≡ true
 next_is n = eq-eqb n n refl
 
 -- one more open text changes nothing of the scopes around it: the macros

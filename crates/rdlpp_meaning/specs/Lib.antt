@@ -23,3 +23,4 @@ pub mod LimitLaws
 pub mod CallScan
 pub mod CallReading
 pub mod TextTokens
+pub mod Opens

@@ -1,0 +1,152 @@
+-- Open texts as parts of the texts in which they lie: a body or a default in the table, an actual in the text in which its call
+-- is written. Nothing says where a text lies but its home and what it is.
+-- A definition that names no source is this project's own.
+use Rattle.std.specs.Prelude.{ℕ, suc, ◌+◌, ◌-◌, ◌≤◌, ◌==◌, ◌&&◌, not, List, [], ◌∷◌, map, length, slice_range, slice_index_or, Option, None, Some, if◌then◌else◌}
+use Rattle.std.specs.List.{AllByRecursion}
+use Rattle.std.specs.Option.{option_map}
+use Rattle.rdlpp_scan.specs.declared.token.Mode.{Mode}
+use Rattle.rdlpp_scan.specs.declared.token.Mode.TheVariants.{Plain}
+use Rattle.rdlpp_scan.specs.SourceTokens.{SourceToken}
+use Rattle.rdlpp_table.specs.Table.{Formal, Macro}
+use Rattle.rdlpp_table.specs.View.{macro_at, formals_of, formal_named}
+use Rattle.rdlpp_meaning.specs.Slots.{CallOf, SlotKind, Body, Actual, Default, Slot}
+use Rattle.rdlpp_meaning.specs.TextTokens.{text_tokens}
+
+-- a part of a text: its bytes from one place up to another, and the mode in which they are read
+pub record Part : Type 0 where
+  pub from : ℕ
+  pub end : ℕ
+  pub mode : Mode
+
+-- what an open text is: the body of the macro at a place of the table, with the parts that are its actuals; an actual; or the
+-- default of the formal at a place of such a macro
+pub data OpenKind : Type 0 where
+  OpenBody : ℕ → List Part → OpenKind
+  OpenActual : OpenKind
+  OpenDefault : ℕ → ℕ → OpenKind
+
+-- an open text: the part of its text that is left, its home, and what it is
+pub record Open : Type 0 where
+  pub part : Part
+  pub home : ℕ
+  pub kind : OpenKind
+
+-- where texts lie: the macros of the table, and what is kept of the call in the source
+pub record Texts : Type 0 where
+  pub macros : List Macro
+  pub arguments : List ℕ
+
+-- the formal at a place
+abbrev pub formal_at : List Formal → ℕ → Formal
+formal_at formals place = slice_index_or formals place (record { name = []; text = [] })
+
+-- the part at a place
+abbrev pub part_at : List Part → ℕ → Part
+part_at parts place = slice_index_or parts place (record { from = 0; end = 0; mode = Plain })
+
+-- the text of a body or of a default; an actual has none of its own
+unfoldable pub own_text : Texts → OpenKind → List ℕ
+own_text texts (OpenBody id parts) = (macro_at texts.macros id).body
+own_text texts OpenActual = []
+own_text texts (OpenDefault id place) = (formal_at (formals_of (macro_at texts.macros id)) place).text
+
+-- the text of a scope: what is kept of the call in the source, or that of an open text
+unfoldable pub scope_text : Texts → List Open → ℕ → List ℕ
+scope_text texts [] k = texts.arguments
+scope_text texts (inner ∷ below) k = if k == suc (length below) then own_text texts inner.kind else scope_text texts below k
+
+-- the text in which an open text lies: an actual lies in that of its home
+unfoldable pub text_around : Texts → OpenKind → ℕ → List Open → List ℕ
+text_around texts OpenActual home below = scope_text texts below home
+text_around texts kind home below = own_text texts kind
+
+-- the tokens of a part of a text
+unfoldable pub part_tokens : List ℕ → Part → List SourceToken
+part_tokens text part = text_tokens part.mode (slice_range text part.from part.end)
+
+-- what an open text is as a slot, where its call or its actual is written in a text
+unfoldable pub slot_kind : Texts → List ℕ → OpenKind → SlotKind
+slot_kind texts text (OpenBody id parts) =
+    Body (record {
+      name = (macro_at texts.macros id).name;
+      formals = formals_of (macro_at texts.macros id);
+      actuals = map (part_tokens text) parts;
+    })
+slot_kind texts text OpenActual = Actual
+slot_kind texts text (OpenDefault id place) = Default
+
+-- an open text as a slot, in front of others
+unfoldable pub slot_of : Texts → Open → List Open → Slot
+slot_of texts inner below = record {
+  text = part_tokens (text_around texts inner.kind inner.home below) inner.part;
+  home = inner.home;
+  kind = slot_kind texts (scope_text texts below inner.home) inner.kind;
+}
+
+-- open texts as slots, innermost first
+unfoldable pub slots_of : Texts → List Open → List Slot
+slots_of texts [] = []
+slots_of texts (inner ∷ below) = slot_of texts inner below ∷ slots_of texts below
+
+-- the open text that the formal at a place of a macro stands for, in a scope whose call is written in its home: its default, where
+-- the part that is its actual has no bytes and there is a default
+unfoldable pub open_standing : List Formal → ℕ → ℕ → ℕ → List Part → ℕ → Open
+open_standing formals id scope home parts place =
+    if ((part_at parts place).end - (part_at parts place).from == 0) && not (length (formal_at formals place).text == 0)
+    then record {
+      part = record { from = 0; end = length (formal_at formals place).text; mode = Plain };
+      home = scope;
+      kind = OpenDefault id place;
+    }
+    else record { part = part_at parts place; home = home; kind = OpenActual }
+
+-- the open text that a name stands for, by what its scope is and its home
+unfoldable pub own_open : Texts → OpenKind → ℕ → ℕ → List ℕ → Option Open
+own_open texts (OpenBody id parts) scope home name =
+    option_map (open_standing (formals_of (macro_at texts.macros id)) id scope home parts)
+    (formal_named (formals_of (macro_at texts.macros id)) name)
+own_open texts OpenActual scope home name = None
+own_open texts (OpenDefault id place) scope home name = None
+
+-- the open text that a name of a scope stands for, if it is a formal
+unfoldable pub open_at : Texts → List Open → ℕ → List ℕ → Option Open
+open_at texts [] k name = None
+open_at texts (inner ∷ below) k name =
+    if k == suc (length below) then own_open texts inner.kind k inner.home name else open_at texts below k name
+
+-- a body has a part for each formal of its macro, and each part lies in the text in which its call is written
+abbrev pub HasParts : Texts → List ℕ → OpenKind → Type 0
+HasParts texts text (OpenBody id parts) =
+    (length (formals_of (macro_at texts.macros id)) ≤ length parts) × AllByRecursion (λ part. part.end ≤ length text) parts
+HasParts texts text OpenActual = Unit
+HasParts texts text (OpenDefault id place) = Unit
+
+-- what holds of open texts: each home is a scope further out, and each body has its parts
+abbrev pub AreOpen : Texts → List Open → Type 0
+AreOpen texts [] = Unit
+AreOpen texts (inner ∷ below) =
+    (inner.home ≤ length below) × (HasParts texts (scope_text texts below inner.home) inner.kind × AreOpen texts below)
+
+-- the scope of what is written in an open text, with the texts around it: an actual is no scope of its own
+unfoldable pub open_scope : Open → List Open → ℕ
+open_scope x below = elim x.kind [ OpenActual ↦ x.home | _ ↦ suc (length below) ]
+
+-- the bytes that are left of an open text, in front of others
+unfoldable pub open_bytes : Texts → Open → List Open → List ℕ
+open_bytes texts x below = slice_range (text_around texts x.kind x.home below) x.part.from x.part.end
+
+-- an open text behind so many of its bytes, where what is behind them is read in a mode
+unfoldable pub open_behind : Open → ℕ → Mode → Open
+open_behind x n mode = record {
+  part = record { from = x.part.from + n; end = x.part.end; mode = mode };
+  home = x.home;
+  kind = x.kind;
+}
+
+-- the body of the macro at a place, opened by a call in a scope that has these parts as actuals
+unfoldable pub open_body : Texts → ℕ → List Part → ℕ → Open
+open_body texts id parts home = record {
+  part = record { from = 0; end = length (macro_at texts.macros id).body; mode = Plain };
+  home = home;
+  kind = OpenBody id parts;
+}
