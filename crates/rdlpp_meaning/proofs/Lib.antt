@@ -49,6 +49,9 @@ pub mod DirectiveWords
 pub mod SkippedStretches
 pub mod LineDirective
 pub mod AddedEnds
+pub mod OwedLineEnds
+pub mod IncludeArguments
+pub mod ConditionalTests
 pub mod TornCalls
 pub mod TornRuns
 pub mod TornPieces
