@@ -2,6 +2,7 @@
 -- or a `define`. Nothing is lost of the state, so they hold in a nest of open sources too (`NestMoves`).
 use Rattle.std.proofs.Common.{◌≡◌, ℕ, ◌<◌, Bool, true, false, ◌&&◌, List, [], ◌∷◌, ◌++◌, length, map, refl, sym, ap, ◌∙◌, None, Some}
 use Rattle.std.specs.Prelude.{drop}
+use Rattle.std.proofs.lemmas.Bool.{and_parts}
 use Rattle.std.specs.List.{list_all}
 use Rattle.rdlpp_scan.specs.declared.token.Kind.{Kind}
 use Rattle.rdlpp_scan.specs.declared.token.Kind.TheVariants.{BareBackquote}
@@ -43,16 +44,6 @@ resumed_fails rules os first t ts s f e w =
     resumed_token rules os first t ts s (fails f) e w
     ∙ fails-goes_on f s (λ after. resumed rules (Live os) (only_blanks first t.bytes) ts after)
 
--- the first of two tests that hold
-first_holds : (a b : Bool) → (a && b) ≡ true → a ≡ true
-first_holds true b e = refl
-first_holds false b e = cc
-
--- the second one
-second_holds : (a b : Bool) → (a && b) ≡ true → b ≡ true
-second_holds true b e = e
-second_holds false b e = cc
-
 -- tokens that are copied give their bytes, and then what remains behind them
 pub resumed_copied : (rules : Rules) (os : List Progress) (first : Bool) (ts more : List SourceToken) (s : State)
     → list_all is_copied ts ≡ true
@@ -61,10 +52,10 @@ pub resumed_copied : (rules : Rules) (os : List Progress) (first : Bool) (ts mor
 unfolding only_blanks
 resumed_copied rules os first [] more s e = sym (behind_bytes-nil (resumed rules (Live os) first more s))
 resumed_copied rules os first (t ∷ ts) more s e =
-    let own = first_holds (is_copied t) (list_all is_copied ts) e in
+    let own = (and_parts (is_copied t) (list_all is_copied ts) e).0 in
     resumed_writes rules os first t (ts ++ more) s t.bytes (copied_text t own) (copied_writes rules s t own)
     ∙ ap (λ (p : Passage). behind_bytes t.bytes p)
-    (resumed_copied rules os (only_blanks first t.bytes) ts more s (second_holds (is_copied t) (list_all is_copied ts) e))
+    (resumed_copied rules os (only_blanks first t.bytes) ts more s (and_parts (is_copied t) (list_all is_copied ts) e).1)
     ∙ behind_bytes-twice t.bytes (bytes_of ts) (resumed rules (Live os) (only_blanks (only_blanks first t.bytes) (bytes_of ts)) more s)
     ∙ ap (λ (f : Bool). behind_bytes (t.bytes ++ bytes_of ts) (resumed rules (Live os) f more s))
     (sym (only_blanks-append first t.bytes (bytes_of ts)))
