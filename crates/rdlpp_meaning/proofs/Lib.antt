@@ -4,6 +4,7 @@ pub mod Walks
 pub mod PlainBodies
 pub mod Usages
 pub mod Runs
+pub mod TokenWrites
 pub mod Remaining
 pub mod Resuming
 pub mod Outputs

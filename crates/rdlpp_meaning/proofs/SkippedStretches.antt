@@ -18,7 +18,7 @@ use Rattle.rdlpp_meaning.specs.Meaning.{Passage, leaves, behind_bytes, Progress}
 use Rattle.rdlpp_meaning.specs.Resumed.{Skipped, resumed}
 use Rattle.rdlpp_meaning.specs.Opened.{Waiting, all_remains}
 use Rattle.rdlpp_meaning.proofs.Passages.{goes_on-gives, behind_bytes-nil, behind_bytes-twice, gives_fails-goes_on}
-use Rattle.rdlpp_meaning.proofs.Remaining.{usage_text}
+use Rattle.rdlpp_meaning.proofs.TokenWrites.{usage_text}
 use Rattle.rdlpp_meaning.proofs.Trees.{line_ends_of-append}
 use Rattle.rdlpp_meaning.proofs.Directives.{skipped_single, skipped_opening, skipped_inner_branch, skipped_inner_end}
 use Rattle.rdlpp_meaning.proofs.Skipping.{skipped_token, broken_skips}

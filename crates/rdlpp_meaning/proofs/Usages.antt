@@ -67,17 +67,6 @@ substituted_none m o e =
     ap (λ (fs : Option (List Formal)). map (marked m.name (unwrap_or fs []) [] o) (body_tokens m.body)) e
     ∙ all_marked_none m.name [] o (body_tokens m.body)
 
--- the body of ordinary text of a macro without a list gives its bytes at any depth
-pub expand_body : (rules : Rules) (s : State) (d : ℕ) (source : Option ℕ) (o p : List (List ℕ)) (m : Macro)
-    → m.formals ≡ None → plain_len m.body ≡ length m.body
-    → expand rules s d source o (substituted m [] p) ≡ gives m.body
-unfolding body_tokens
-expand_body rules s d source o p m e plain =
-    let b = body_ordinary m.body plain in
-    ap (λ (items : List Item). expand rules s d source o items) (substituted_none m p e)
-    ∙ expand_all_copied rules s d source o (body_tokens m.body) b.copied
-    ∙ ap gives b.text
-
 -- a usage of a name that isn't defined
 pub usage_none : (rules : Rules) (s : State) (source : Option ℕ) (line : ℕ) (o : List (List ℕ)) (name : List ℕ) (xs : List Item)
     → is_reserved name ≡ false → macro_named s.macros name ≡ None
