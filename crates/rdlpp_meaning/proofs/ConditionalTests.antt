@@ -1,5 +1,5 @@
 -- What the test of a conditional's directive comes to, by the name that it is given and by how many more conditionals may be opened.
-use Rattle.std.proofs.Common.{◌≡◌, ℕ, suc, Bool, true, false, not, List, [], refl, ap, ◌∙◌, None, Some}
+use Rattle.std.proofs.Common.{◌≡◌, ℕ, suc, Bool, true, false, not, List, [], refl}
 use Rattle.std.specs.Prelude.{if◌then◌else◌}
 use Rattle.rdlpp_scan.specs.declared.token.Directive.{Directive}
 use Rattle.rdlpp_scan.specs.declared.token.Directive.TheVariants.{Elsif, Else}
@@ -8,7 +8,7 @@ use Rattle.rdlpp_meaning.specs.declared.fault.FaultKind.{FaultKind}
 use Rattle.rdlpp_meaning.specs.declared.fault.FaultKind.TheVariants.{BranchAfterElse, TooManyConditionals}
 use Rattle.rdlpp_meaning.specs.State.{State}
 use Rattle.rdlpp_meaning.specs.Parts.{command_of, command_in_front}
-use Rattle.rdlpp_meaning.specs.Meaning.{Checked, Fine, Faulty, macro_name, Progress, Test, Stopped, Holds, is_defined, name_test, wants_defined, opening_within, opening, is_else, turn}
+use Rattle.rdlpp_meaning.specs.Meaning.{Fine, Faulty, macro_name, Progress, Stopped, Holds, is_defined, name_test, wants_defined, opening_within, opening, is_else, turn}
 
 -- the test of a name
 abbrev pub named_test : Directive → State → List ℕ → Bool

@@ -1,6 +1,6 @@
 -- Laws of live text, in any open conditionals: what remains of a source where a token stands in front that begins no directive,
 -- or a `define`. Nothing is lost of the state, so they hold in a nest of open sources too (`NestMoves`).
-use Rattle.std.proofs.Common.{◌≡◌, ℕ, ◌<◌, Bool, true, false, ◌&&◌, List, [], ◌∷◌, ◌++◌, length, map, refl, sym, ap, ◌∙◌, None, Some}
+use Rattle.std.proofs.Common.{◌≡◌, ℕ, ◌<◌, Bool, true, false, List, [], ◌∷◌, ◌++◌, length, map, refl, sym, ap, ◌∙◌, None, Some}
 use Rattle.std.specs.Prelude.{drop}
 use Rattle.std.proofs.lemmas.Bool.{and_parts}
 use Rattle.std.specs.List.{list_all}

@@ -14,7 +14,7 @@ use Rattle.rdlpp_meaning.specs.Outcome.{Told, Outcome, gives, fails, and_then}
 use Rattle.rdlpp_meaning.specs.State.{Accepted, Refused, Rules, State, fault_at, breach_kind}
 use Rattle.rdlpp_meaning.specs.Expansion.{is_copied, usage_token, bytes_of}
 use Rattle.rdlpp_meaning.specs.Parts.{only_blanks, line_ends_of, pieces}
-use Rattle.rdlpp_meaning.specs.Meaning.{Passage, leaves, behind_bytes, outcome, Progress}
+use Rattle.rdlpp_meaning.specs.Meaning.{leaves, behind_bytes, outcome, Progress}
 use Rattle.rdlpp_meaning.specs.Resumed.{Place, Live, resume, resumed, remains}
 use Rattle.rdlpp_meaning.proofs.Passages.{outcome-leaves}
 use Rattle.rdlpp_meaning.proofs.Outputs.{outcome-behind_bytes}

@@ -1,15 +1,15 @@
 -- Laws of a token that is written in parts, and of one without bytes.
-use Rattle.std.proofs.Common.{◌≡◌, ℕ, Bool, true, false, List, [], ◌∷◌, ◌++◌, refl, sym, ap, ◌∙◌, None, append_assoc, ◌&&◌}
+use Rattle.std.proofs.Common.{◌≡◌, ℕ, Bool, true, List, ◌∷◌, ◌++◌, sym, ap, ◌∙◌, None}
 use Rattle.rdlpp_scan.specs.declared.token.Kind.{Kind}
 use Rattle.rdlpp_scan.specs.Front.{Breach}
 use Rattle.rdlpp_scan.specs.SourceTokens.{Ordinary, Broken, SourceToken}
-use Rattle.rdlpp_meaning.specs.Outcome.{Outcome, gives, fails, and_then}
-use Rattle.rdlpp_meaning.specs.State.{Rules, State, fault_at, breach_kind}
+use Rattle.rdlpp_meaning.specs.Outcome.{Outcome, gives, and_then}
+use Rattle.rdlpp_meaning.specs.State.{Rules, State}
 use Rattle.rdlpp_meaning.specs.Expansion.{is_copied}
 use Rattle.rdlpp_meaning.specs.Parts.{only_blanks, line_ends_of, directive_of}
 use Rattle.rdlpp_meaning.specs.Meaning.{Passage, leaves, goes_on, Progress}
 use Rattle.rdlpp_meaning.specs.Resumed.{Live, Skipped, resumed, remains}
-use Rattle.rdlpp_meaning.proofs.Outcomes.{and_then-gives, and_then-gives_gives, and_then-gives_nil}
+use Rattle.rdlpp_meaning.proofs.Outcomes.{and_then-gives}
 use Rattle.rdlpp_meaning.proofs.TokenWrites.{only_blanks-append}
 use Rattle.rdlpp_meaning.proofs.LiveText.{resumed_copied_parts, resumed_broken_parts}
 use Rattle.rdlpp_meaning.proofs.Remaining.{remains-behind}

@@ -1,23 +1,21 @@
 -- Laws of usages: of a name that isn't defined, of what isn't built, and of a macro without a list and with ordinary text.
-use Rattle.std.proofs.Common.{◌≡◌, ℕ, Bool, true, false, not, List, [], ◌∷◌, length, map, refl, ap, ◌∙◌, Option, None, Some}
+use Rattle.std.proofs.Common.{◌≡◌, ℕ, Bool, true, false, not, List, [], ◌∷◌, map, refl, ap, ◌∙◌, Option, None, Some}
 use Rattle.std.specs.Prelude.{if◌then◌else◌, is_some, unwrap_or}
 use Rattle.std.specs.List.{list_all}
 use Rattle.std.proofs.lemmas.Bool.{or_parts}
 use Rattle.rdlpp_scan.specs.declared.token.Kind.TheVariants.{Name}
-use Rattle.rdlpp_scan.specs.Tokens.{plain_len}
 use Rattle.rdlpp_scan.specs.SourceTokens.{Sort, Ordinary, Definition, Renumbering, Broken, SourceToken}
 use Rattle.rdlpp_scan.specs.Stage.{is_reserved}
 use Rattle.rdlpp_table.specs.Table.{Formal, Macro, macro_named}
 use Rattle.rdlpp_meaning.specs.declared.fault.FaultKind.{FaultKind}
 use Rattle.rdlpp_meaning.specs.declared.fault.FaultKind.TheVariants.{UndefinedMacro, Unbuilt}
-use Rattle.rdlpp_meaning.specs.Outcome.{Outcome, gives, fails, and_then}
+use Rattle.rdlpp_meaning.specs.Outcome.{Outcome, fails, and_then}
 use Rattle.rdlpp_meaning.specs.State.{Rules, State, fault_at}
 use Rattle.rdlpp_meaning.specs.Stage.{is_unbuilt_macro}
 use Rattle.rdlpp_meaning.specs.Items.{Item, Written}
 use Rattle.rdlpp_meaning.specs.Substitution.{body_tokens, bound_to, mark_or, marked, substituted}
-use Rattle.rdlpp_meaning.specs.Expansion.{Usage, Refuses, Opens, name_of, usage_of, usage_of_macro, usage_of_formals, walk, expand, is_copied, run_outcome, usage_token}
-use Rattle.rdlpp_meaning.proofs.Walks.{deeper_of, expand_walk, expand_all_copied}
-use Rattle.rdlpp_meaning.proofs.PlainBodies.{body_ordinary}
+use Rattle.rdlpp_meaning.specs.Expansion.{Usage, Refuses, Opens, name_of, usage_of, usage_of_macro, usage_of_formals, walk, is_copied, run_outcome, usage_token}
+use Rattle.rdlpp_meaning.proofs.Walks.{deeper_of, expand_walk}
 
 -- an optional value that is none
 none_of : {A : Type 0} (o : Option A) → is_some o ≡ false → o ≡ None
