@@ -33,6 +33,11 @@ name_not_utf8_in_line : row standard false (record { path = codes "m"; text = co
 unfolding row
 name_not_utf8_in_line = refl
 
+byte_before_the_levels_in_line : row standard false (record { path = codes "m"; text = codes "`line 5 \"a\" /\n" } ∷ [])
+    ≡ record { bytes = []; fault = Some (record { kind = fault.BadLine; name = codes "m"; line = 1; word = [] }) }
+unfolding row
+byte_before_the_levels_in_line = refl
+
 -- the name of an `include`
 
 name_not_utf8_in_include : row standard false
@@ -54,6 +59,13 @@ long_call_in_an_actual : row (record standard { argument_bytes = 16 }) false
     ≡ whole_output (codes "\n\n\nk\n")
 unfolding row
 long_call_in_an_actual = refl
+
+-- what opens a call
+
+bracket_behind_a_usage : row standard false (record { path = codes "m"; text = codes "`define F(x) x\n`F[1]\n" } ∷ [])
+    ≡ record { bytes = codes "\n"; fault = Some (record { kind = fault.ArgumentsMissing; name = codes "m"; line = 2; word = codes "F" }) }
+unfolding row
+bracket_behind_a_usage = refl
 
 -- the word and the name of a fault
 
@@ -118,6 +130,12 @@ long_source_in_a_comment : row (record standard { source_bytes = 9 }) false
 unfolding row
 long_source_in_a_comment = refl
 
+long_line_past_its_source : row (record standard { line_bytes = 256; source_bytes = 10 }) false
+    (record { path = codes "m"; text = replicate 256 97 ++ codes "\n" } ∷ [])
+    ≡ record { bytes = []; fault = Some (record { kind = fault.LineTooLong; name = codes "m"; line = 1; word = [] }) }
+unfolding row
+long_line_past_its_source = refl
+
 -- continuations of a `define`, and a line in it that breaks its source
 
 return_before_the_end_of_a_continued_line : row standard false (record { path = codes "m"; text = codes "`define A a\\\r\nb\n`A;" } ∷ [])
@@ -146,7 +164,41 @@ longer_define_cut_by_its_source : row (record standard { line_bytes = 256; sourc
 unfolding row define_with_line
 longer_define_cut_by_its_source = refl
 
+-- a `define` over two lines without an LF at its end, of which the second has so many bytes
+unfoldable unended_define : ℕ → List ℕ
+unended_define n = codes "`define A \\\n" ++ replicate n 120
+
+unended_define_of_full_length : row (record standard { line_bytes = 256 }) false (record { path = codes "m"; text = unended_define 244 } ∷ [])
+    ≡ whole_output (codes "\n")
+unfolding row unended_define
+unended_define_of_full_length = refl
+
+longer_unended_define : row (record standard { line_bytes = 256 }) false (record { path = codes "m"; text = unended_define 245 } ∷ [])
+    ≡ record { bytes = []; fault = Some (record { kind = fault.LineTooLong; name = codes "m"; line = 1; word = [] }) }
+unfolding row unended_define
+longer_unended_define = refl
+
 -- tokens
+
+bytes_beside_those_of_names : row standard false (record { path = codes "m"; text = codes "`define A 1\n`A/`A:`A@`A[`A^`A{`A-`A." } ∷ [])
+    ≡ whole_output (codes "\n1/1:1@1[1^1{1-1.")
+unfolding row
+bytes_beside_those_of_names = refl
+
+first_and_last_bytes_of_names : row standard false (record { path = codes "m"; text = codes "`define azAZ_09 2\n`azAZ_09;" } ∷ [])
+    ≡ whole_output (codes "\n2;")
+unfolding row
+first_and_last_bytes_of_names = refl
+
+letters_that_begin_names : row standard false (record { path = codes "m"; text = codes "`define a 1\n`define z 2\n`define A 3\n`define Z 4\n`define _ 5\n`a`z`A`Z`_" } ∷ [])
+    ≡ whole_output (codes "\n\n\n\n\n12345")
+unfolding row
+letters_that_begin_names = refl
+
+digits_that_begin_words : row standard false (record { path = codes "m"; text = codes "`define F(x) 0x 9x x\n`F(1)" } ∷ [])
+    ≡ whole_output (codes "\n0x 9x 1")
+unfolding row
+digits_that_begin_words = refl
 
 apostrophe_before_a_formal : row standard false (record { path = codes "m"; text = codes "`define F(x) 'x x\n`F(1)\n" } ∷ [])
     ≡ whole_output (codes "\n'x 1\n")
@@ -207,6 +259,18 @@ one_formal_more : row standard false (record { path = codes "m"; text = define_o
     ≡ record { bytes = []; fault = Some (record { kind = fault.TooManyFormals; name = codes "m"; line = 1; word = [] }) }
 unfolding row define_of_formals formals_to
 one_formal_more = refl
+
+one_formal_more_given_twice : row standard false
+    (record { path = codes "m"; text = codes "`define F(" ++ (formals_to (most_formals - 1) 1 ++ codes ",a1) z\n") } ∷ [])
+    ≡ record { bytes = []; fault = Some (record { kind = fault.FormalTwice; name = codes "m"; line = 1; word = [] }) }
+unfolding row formals_to
+one_formal_more_given_twice = refl
+
+one_formal_more_without_its_end : row standard false
+    (record { path = codes "m"; text = codes "`define F(" ++ (formals_to most_formals 1 ++ codes " b) z\n") } ∷ [])
+    ≡ record { bytes = []; fault = Some (record { kind = fault.TooManyFormals; name = codes "m"; line = 1; word = [] }) }
+unfolding row formals_to
+one_formal_more_without_its_end = refl
 
 -- a `define` with a formal of so many bytes, which is its body
 unfoldable define_of_formal : ℕ → List ℕ

@@ -20,7 +20,7 @@ use Rattle.rdlpp_meaning.specs.Resumed.{Live, resumed, leading, trailing}
 use Rattle.rdlpp_meaning.proofs.Passages.{fails-goes_on}
 use Rattle.rdlpp_meaning.proofs.Walks.{deeper_of, expand_walk}
 use Rattle.rdlpp_meaning.proofs.Usages.{after_usage, walk_usage, run_refused}
-use Rattle.rdlpp_meaning.proofs.Remaining.{usage_text}
+use Rattle.rdlpp_meaning.proofs.TokenWrites.{usage_text}
 use Rattle.rdlpp_meaning.proofs.Leading.{leading_text, resumed_run, resumed_part}
 
 -- items that are passed over are dropped

@@ -17,7 +17,7 @@ use Rattle.rdlpp_meaning.specs.Parts.{Command, Piece, line_ends_of, Single, Open
 use Rattle.rdlpp_meaning.specs.Meaning.{Passage, leaves, goes_on, behind_bytes, refusal, Nest, Test, Stopped, Holds, by_test, Checked, Fine, Faulty, defines, undefines, origin_line, at_start_of, back_in, added_end, includes, includes_found, includes_named, includes_given, unquoted, Renumbered, renumbered, renumbers, skipped_command, single, Progress, opening, in_conditional, past_conditional, begun, turn, turned, nest_of}
 use Rattle.rdlpp_meaning.specs.Resumed.{Place, Live, Skipped, resume, resumed, behind, skips}
 use Rattle.rdlpp_meaning.proofs.Passages.{on_leaves}
-use Rattle.rdlpp_meaning.proofs.Remaining.{only_blanks-append}
+use Rattle.rdlpp_meaning.proofs.TokenWrites.{only_blanks-append}
 
 -- tokens that are passed over leave what the flag of blanks is behind their bytes
 pub pieces_skip : (first : Bool) (k : ℕ) (ts : List SourceToken)

@@ -13,7 +13,7 @@ use Rattle.rdlpp_meaning.specs.Meaning.{Passage, leaves, goes_on, Nest, Progress
 use Rattle.rdlpp_meaning.specs.Resumed.{Live, resume, resumed, leading, trailing}
 use Rattle.rdlpp_meaning.proofs.Passages.{on_leaves, leaves-and_then, goes_on-nil}
 use Rattle.rdlpp_meaning.proofs.Runs.{run_nil, pieces_text}
-use Rattle.rdlpp_meaning.proofs.Remaining.{only_blanks-append}
+use Rattle.rdlpp_meaning.proofs.TokenWrites.{only_blanks-append}
 
 -- a run in front of pieces
 unfoldable run_before : List SourceToken → List Piece → List Piece

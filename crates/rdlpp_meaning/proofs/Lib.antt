@@ -4,6 +4,7 @@ pub mod Walks
 pub mod PlainBodies
 pub mod Usages
 pub mod Runs
+pub mod TokenWrites
 pub mod Remaining
 pub mod Resuming
 pub mod Outputs
@@ -49,6 +50,9 @@ pub mod DirectiveWords
 pub mod SkippedStretches
 pub mod LineDirective
 pub mod AddedEnds
+pub mod OwedLineEnds
+pub mod IncludeArguments
+pub mod ConditionalTests
 pub mod TornCalls
 pub mod TornRuns
 pub mod TornPieces

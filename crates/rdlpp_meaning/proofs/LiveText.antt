@@ -1,7 +1,8 @@
 -- Laws of live text, in any open conditionals: what remains of a source where a token stands in front that begins no directive,
 -- or a `define`. Nothing is lost of the state, so they hold in a nest of open sources too (`NestMoves`).
-use Rattle.std.proofs.Common.{◌≡◌, ℕ, ◌<◌, Bool, true, false, ◌&&◌, List, [], ◌∷◌, ◌++◌, length, map, refl, sym, ap, ◌∙◌, None, Some}
+use Rattle.std.proofs.Common.{◌≡◌, ℕ, ◌<◌, Bool, true, false, List, [], ◌∷◌, ◌++◌, length, map, refl, sym, ap, ◌∙◌, None, Some}
 use Rattle.std.specs.Prelude.{drop}
+use Rattle.std.proofs.lemmas.Bool.{and_parts}
 use Rattle.std.specs.List.{list_all}
 use Rattle.rdlpp_scan.specs.declared.token.Kind.{Kind}
 use Rattle.rdlpp_scan.specs.declared.token.Kind.TheVariants.{BareBackquote}
@@ -24,8 +25,8 @@ use Rattle.rdlpp_meaning.proofs.Outcomes.{and_then-fails}
 use Rattle.rdlpp_meaning.proofs.Passages.{fails-goes_on, goes_on-gives, behind_bytes-nil, behind_bytes-twice, gives_fails-goes_on}
 use Rattle.rdlpp_meaning.proofs.Usages.{usage_none, usage_some, usage_unbuilt, run_refused}
 use Rattle.rdlpp_meaning.proofs.Runs.{Writes, resumed_token}
-use Rattle.rdlpp_meaning.proofs.Remaining.{copied_text, copied_writes, plain_writes, bare_writes, broken_writes, usage_text, only_blanks-append, define_command, define_piece}
-use Rattle.rdlpp_meaning.proofs.CopiedBodies.{body_writes}
+use Rattle.rdlpp_meaning.proofs.PlainBodies.{body_ordinary}
+use Rattle.rdlpp_meaning.proofs.TokenWrites.{copied_text, copied_writes, body_writes, bare_writes, broken_writes, usage_text, only_blanks-append, define_command, define_piece}
 
 -- a token that writes bytes, and then what remains behind it
 pub resumed_writes : (rules : Rules) (os : List Progress) (first : Bool) (t : SourceToken) (ts : List SourceToken) (s : State) (x : List ℕ)
@@ -43,16 +44,6 @@ resumed_fails rules os first t ts s f e w =
     resumed_token rules os first t ts s (fails f) e w
     ∙ fails-goes_on f s (λ after. resumed rules (Live os) (only_blanks first t.bytes) ts after)
 
--- the first of two tests that hold
-first_holds : (a b : Bool) → (a && b) ≡ true → a ≡ true
-first_holds true b e = refl
-first_holds false b e = cc
-
--- the second one
-second_holds : (a b : Bool) → (a && b) ≡ true → b ≡ true
-second_holds true b e = e
-second_holds false b e = cc
-
 -- tokens that are copied give their bytes, and then what remains behind them
 pub resumed_copied : (rules : Rules) (os : List Progress) (first : Bool) (ts more : List SourceToken) (s : State)
     → list_all is_copied ts ≡ true
@@ -61,10 +52,10 @@ pub resumed_copied : (rules : Rules) (os : List Progress) (first : Bool) (ts mor
 unfolding only_blanks
 resumed_copied rules os first [] more s e = sym (behind_bytes-nil (resumed rules (Live os) first more s))
 resumed_copied rules os first (t ∷ ts) more s e =
-    let own = first_holds (is_copied t) (list_all is_copied ts) e in
+    let own = (and_parts (is_copied t) (list_all is_copied ts) e).0 in
     resumed_writes rules os first t (ts ++ more) s t.bytes (copied_text t own) (copied_writes rules s t own)
     ∙ ap (λ (p : Passage). behind_bytes t.bytes p)
-    (resumed_copied rules os (only_blanks first t.bytes) ts more s (second_holds (is_copied t) (list_all is_copied ts) e))
+    (resumed_copied rules os (only_blanks first t.bytes) ts more s (and_parts (is_copied t) (list_all is_copied ts) e).1)
     ∙ behind_bytes-twice t.bytes (bytes_of ts) (resumed rules (Live os) (only_blanks (only_blanks first t.bytes) (bytes_of ts)) more s)
     ∙ ap (λ (f : Bool). behind_bytes (t.bytes ++ bytes_of ts) (resumed rules (Live os) f more s))
     (sym (only_blanks-append first t.bytes (bytes_of ts)))
@@ -93,17 +84,6 @@ resumed_unbuilt rules os first name line more s m r e u =
     ∙ usage_unbuilt rules None line [] name (map Written us) m u)
     ∙ sym (and_then-fails f (run_outcome rules s us)))
 
--- a usage of a macro without a list and with ordinary text gives its body, and then what remains behind it
-pub resumed_plain_body : (rules : Rules) (os : List Progress) (first : Bool) (name : List ℕ) (line : ℕ) (more : List SourceToken) (s : State) (m : Macro)
-    → 0 < rules.depth
-    → is_reserved name ≡ false → macro_named s.macros name ≡ Some m → rules.unbuilt_macro m ≡ false
-    → m.formals ≡ None → plain_len m.body ≡ length m.body
-    → resumed rules (Live os) first (usage_token name line ∷ more) s
-    ≡ behind_bytes m.body (resumed rules (Live os) (only_blanks first (96 ∷ name)) more s)
-resumed_plain_body rules os first name line more s m h r e u f plain =
-    resumed_writes rules os first (usage_token name line) more s m.body (usage_text name line r)
-    (plain_writes rules s name line m h r e u f plain)
-
 -- a usage of a macro without a list, of whose body all tokens are copied, gives its body, and then what remains behind it
 pub resumed_copied_body : (rules : Rules) (os : List Progress) (first : Bool) (name : List ℕ) (line : ℕ) (more : List SourceToken) (s : State) (m : Macro)
     → 0 < rules.depth
@@ -114,6 +94,17 @@ pub resumed_copied_body : (rules : Rules) (os : List Progress) (first : Bool) (n
 resumed_copied_body rules os first name line more s m h r e u f copied =
     resumed_writes rules os first (usage_token name line) more s m.body (usage_text name line r)
     (body_writes rules s name line m h r e u f copied)
+
+-- a usage of a macro without a list and with ordinary text gives its body, and then what remains behind it
+pub resumed_plain_body : (rules : Rules) (os : List Progress) (first : Bool) (name : List ℕ) (line : ℕ) (more : List SourceToken) (s : State) (m : Macro)
+    → 0 < rules.depth
+    → is_reserved name ≡ false → macro_named s.macros name ≡ Some m → rules.unbuilt_macro m ≡ false
+    → m.formals ≡ None → plain_len m.body ≡ length m.body
+    → resumed rules (Live os) first (usage_token name line ∷ more) s
+    ≡ behind_bytes m.body (resumed rules (Live os) (only_blanks first (96 ∷ name)) more s)
+unfolding body_tokens
+resumed_plain_body rules os first name line more s m h r e u f plain =
+    resumed_copied_body rules os first name line more s m h r e u f (body_ordinary m.body plain).copied
 
 -- a lone backquote ends its source
 pub resumed_bare : (rules : Rules) (os : List Progress) (first : Bool) (bytes : List ℕ) (line : ℕ) (more : List SourceToken) (s : State)

@@ -1,6 +1,7 @@
 -- Skipped text in a nest of open sources: stretches of tokens between the words of conditionals, these words, broken tokens, and
 -- tokens in parts.
 use Rattle.std.proofs.Common.{◌≡◌, ℕ, suc, Bool, true, false, ◌&&◌, List, [], ◌∷◌, ◌++◌, refl, sym, ap, ◌∙◌, Option, None, Some}
+use Rattle.std.proofs.lemmas.Bool.{and_parts}
 use Rattle.std.specs.List.{list_all}
 use Rattle.rdlpp_scan.specs.declared.token.Kind.{Kind}
 use Rattle.rdlpp_scan.specs.declared.token.Kind.TheVariants.{Back, BareBackquote}
@@ -17,7 +18,7 @@ use Rattle.rdlpp_meaning.specs.Meaning.{Passage, leaves, behind_bytes, Progress}
 use Rattle.rdlpp_meaning.specs.Resumed.{Skipped, resumed}
 use Rattle.rdlpp_meaning.specs.Opened.{Waiting, all_remains}
 use Rattle.rdlpp_meaning.proofs.Passages.{goes_on-gives, behind_bytes-nil, behind_bytes-twice, gives_fails-goes_on}
-use Rattle.rdlpp_meaning.proofs.Remaining.{usage_text}
+use Rattle.rdlpp_meaning.proofs.TokenWrites.{usage_text}
 use Rattle.rdlpp_meaning.proofs.Trees.{line_ends_of-append}
 use Rattle.rdlpp_meaning.proofs.Directives.{skipped_single, skipped_opening, skipped_inner_branch, skipped_inner_end}
 use Rattle.rdlpp_meaning.proofs.Skipping.{skipped_token, broken_skips}
@@ -90,24 +91,14 @@ pub resumed_skipped_one : (rules : Rules) (n : ℕ) (p : Progress) (os : List Pr
     ≡ behind_bytes (line_ends_of t.bytes) (resumed rules (Skipped n p os) (only_blanks first t.bytes) ts s)
 resumed_skipped_one rules n p os first t ts s e = one_skipped_by rules n p os first t.sort t.bytes t.line ts s e
 
--- the first of two tests that hold
-first_holds : (a b : Bool) → (a && b) ≡ true → a ≡ true
-first_holds true b e = refl
-first_holds false b e = cc
-
--- the second one
-second_holds : (a b : Bool) → (a && b) ≡ true → b ≡ true
-second_holds true b e = e
-second_holds false b e = cc
-
 -- a stretch is passed
 stretch_passed : (rules : Rules) (n : ℕ) (p : Progress) (os : List Progress) (ts more : List SourceToken) (s : State)
     → list_all is_skipped ts ≡ true → IsPassed rules n p os ts more s
 stretch_passed rules n p os [] more s e = passed_none rules n p os more s
 stretch_passed rules n p os (t ∷ ts) more s e =
     passed_one rules n p os t ts more s
-    (λ first. resumed_skipped_one rules n p os first t (ts ++ more) s (first_holds (is_skipped t) (list_all is_skipped ts) e))
-    (stretch_passed rules n p os ts more s (second_holds (is_skipped t) (list_all is_skipped ts) e))
+    (λ first. resumed_skipped_one rules n p os first t (ts ++ more) s (and_parts (is_skipped t) (list_all is_skipped ts) e).0)
+    (stretch_passed rules n p os ts more s (and_parts (is_skipped t) (list_all is_skipped ts) e).1)
 
 -- a stretch of skipped text gives its LF bytes, and then comes what remains behind it, in as many open conditionals
 pub resumed_skipped : (rules : Rules) (n : ℕ) (p : Progress) (os : List Progress) (first : Bool) (ts more : List SourceToken) (s : State)
@@ -213,8 +204,8 @@ pub all_copied_skipped : (ts : List SourceToken) → list_all is_copied ts ≡ t
 all_copied_skipped [] e = refl
 all_copied_skipped (t ∷ ts) e =
     both_hold (is_skipped t) (list_all is_skipped ts)
-    (copied_skipped t (first_holds (is_copied t) (list_all is_copied ts) e))
-    (all_copied_skipped ts (second_holds (is_copied t) (list_all is_copied ts) e))
+    (copied_skipped t (and_parts (is_copied t) (list_all is_copied ts) e).0)
+    (all_copied_skipped ts (and_parts (is_copied t) (list_all is_copied ts) e).1)
 
 -- a usage is skipped, defined or not
 pub usage_skipped : (name : List ℕ) (line : ℕ) → is_reserved name ≡ false → is_skipped (usage_token name line) ≡ true

@@ -1,7 +1,8 @@
 -- Skipped text, token by token and in stretches, where any sources wait: of a token its LF bytes are written, and only the words of
 -- conditionals count. What a directive would take there is skipped as text like any other.
-use Rattle.std.proofs.Common.{◌≡◌, ℕ, Bool, true, false, ◌&&◌, List, [], ◌∷◌, ◌++◌, take, drop, refl, sym, ap, ◌∙◌, Option, None, Some}
+use Rattle.std.proofs.Common.{◌≡◌, ℕ, Bool, true, false, List, [], ◌∷◌, ◌++◌, take, drop, refl, sym, ap, ◌∙◌, Option, None, Some}
 use Rattle.std.specs.Prelude.{if◌then◌else◌}
+use Rattle.std.proofs.lemmas.Bool.{and_parts}
 use Rattle.std.specs.List.{list_all, list_any}
 use Rattle.std.proofs.lemmas.List.{take-append-drop}
 use Rattle.rdlpp_scan.specs.declared.token.Kind.TheVariants.{Name, Blank, Str}
@@ -16,7 +17,7 @@ use Rattle.rdlpp_meaning.specs.Parts.{Argument, no_argument, one_argument, behin
 use Rattle.rdlpp_meaning.specs.Meaning.{Passage, behind_bytes, skipped_command, Progress}
 use Rattle.rdlpp_meaning.specs.Resumed.{Skipped, resumed, behind, skips}
 use Rattle.rdlpp_meaning.proofs.Passages.{goes_on-gives, behind_bytes-nil, behind_bytes-twice}
-use Rattle.rdlpp_meaning.proofs.Remaining.{only_blanks-append}
+use Rattle.rdlpp_meaning.proofs.TokenWrites.{only_blanks-append}
 use Rattle.rdlpp_meaning.proofs.Trees.{line_ends_of-append}
 use Rattle.rdlpp_meaning.proofs.Directives.{argument_takes}
 use Rattle.rdlpp_meaning.proofs.Skipping.{skipped_token, ordinary_skips}
@@ -54,16 +55,6 @@ pub skipped_text_token : (rules : Rules) (n : ℕ) (p : Progress) (os : List Pro
     ≡ behind_bytes (line_ends_of t.bytes) (resumed rules (Skipped n p os) (only_blanks first t.bytes) ts s)
 skipped_text_token rules n p os first t ts s e = text_skipped_by rules n p os first t.sort t.bytes t.line ts s e
 
--- the first of two tests that hold
-first_holds : (a b : Bool) → (a && b) ≡ true → a ≡ true
-first_holds true b e = refl
-first_holds false b e = cc
-
--- the second one
-second_holds : (a b : Bool) → (a && b) ≡ true → b ≡ true
-second_holds true b e = e
-second_holds false b e = cc
-
 -- where one token is skipped and then others are, all are
 unfoldable pub IsPassed : Rules → ℕ → Progress → List Progress → List SourceToken → List SourceToken → State → Type 0
 IsPassed rules n p os ts more s = (first : Bool) → resumed rules (Skipped n p os) first (ts ++ more) s
@@ -95,8 +86,8 @@ text_passed : (rules : Rules) (n : ℕ) (p : Progress) (os : List Progress) (ts 
 text_passed rules n p os [] more s e = passed_none rules n p os more s
 text_passed rules n p os (t ∷ ts) more s e =
     passed_one rules n p os t ts more s
-    (λ first. skipped_text_token rules n p os first t (ts ++ more) s (first_holds (is_text t) (list_all is_text ts) e))
-    (text_passed rules n p os ts more s (second_holds (is_text t) (list_all is_text ts) e))
+    (λ first. skipped_text_token rules n p os first t (ts ++ more) s (and_parts (is_text t) (list_all is_text ts) e).0)
+    (text_passed rules n p os ts more s (and_parts (is_text t) (list_all is_text ts) e).1)
 
 -- what a directive takes is text
 TakesText : List SourceToken → Argument → Type 0

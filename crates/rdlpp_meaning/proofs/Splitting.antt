@@ -1,39 +1,21 @@
 -- Laws of a token that is written in parts, and of one without bytes.
-use Rattle.std.proofs.Common.{◌≡◌, ℕ, Bool, true, false, List, [], ◌∷◌, ◌++◌, refl, sym, ap, ◌∙◌, None, append_assoc, ◌&&◌}
+use Rattle.std.proofs.Common.{◌≡◌, ℕ, Bool, true, List, ◌∷◌, ◌++◌, sym, ap, ◌∙◌, None}
 use Rattle.rdlpp_scan.specs.declared.token.Kind.{Kind}
 use Rattle.rdlpp_scan.specs.Front.{Breach}
 use Rattle.rdlpp_scan.specs.SourceTokens.{Ordinary, Broken, SourceToken}
-use Rattle.rdlpp_meaning.specs.Outcome.{Outcome, gives, fails, and_then}
-use Rattle.rdlpp_meaning.specs.State.{Rules, State, fault_at, breach_kind}
+use Rattle.rdlpp_meaning.specs.Outcome.{Outcome, gives, and_then}
+use Rattle.rdlpp_meaning.specs.State.{Rules, State}
 use Rattle.rdlpp_meaning.specs.Expansion.{is_copied}
 use Rattle.rdlpp_meaning.specs.Parts.{only_blanks, line_ends_of, directive_of}
 use Rattle.rdlpp_meaning.specs.Meaning.{Passage, leaves, goes_on, Progress}
 use Rattle.rdlpp_meaning.specs.Resumed.{Live, Skipped, resumed, remains}
-use Rattle.rdlpp_meaning.proofs.Outcomes.{and_then-gives, and_then-gives_gives, and_then-gives_nil}
-use Rattle.rdlpp_meaning.proofs.Remaining.{only_blanks-append, remains_copied, remains_broken}
+use Rattle.rdlpp_meaning.proofs.Outcomes.{and_then-gives}
+use Rattle.rdlpp_meaning.proofs.TokenWrites.{only_blanks-append}
+use Rattle.rdlpp_meaning.proofs.LiveText.{resumed_copied_parts, resumed_broken_parts}
+use Rattle.rdlpp_meaning.proofs.Remaining.{remains-behind}
 use Rattle.rdlpp_meaning.proofs.Passages.{on_leaves, leaves-and_then}
 use Rattle.rdlpp_meaning.proofs.Skipping.{skipped_token, ordinary_skips}
 use Rattle.rdlpp_meaning.proofs.Trees.{line_ends_of-append}
-
--- whether a token of a kind is copied doesn't hang on its bytes
-copied_whole : (k : Kind) (x y : List ℕ) (line : ℕ)
-    → is_copied (record { sort = Ordinary k; bytes = x; line = line }) ≡ is_copied (record { sort = Ordinary k; bytes = y; line = line })
-unfolding is_copied
-copied_whole k x y line = refl
-
--- a test that holds, as one of a list of one
-one_holds : (b : Bool) → b ≡ true → (b && true) ≡ true
-one_holds true e = refl
-one_holds false e = e
-
--- a token that is copied gives its bytes, and then what remains behind it
-one_copied : (rules : Rules) (os : List Progress) (first : Bool) (k : Kind) (x : List ℕ) (line : ℕ) (more : List SourceToken) (s : State)
-    → is_copied (record { sort = Ordinary k; bytes = x; line = line }) ≡ true
-    → remains rules (Live os) first (record { sort = Ordinary k; bytes = x; line = line } ∷ more) s
-    ≡ and_then (gives (x ++ [])) (remains rules (Live os) (only_blanks first (x ++ [])) more s)
-one_copied rules os first k x line more s e =
-    remains_copied rules os first (record { sort = Ordinary k; bytes = x; line = line } ∷ []) more s
-    (one_holds (is_copied (record { sort = Ordinary k; bytes = x; line = line })) e)
 
 -- a token that is copied may be written in two parts
 pub copied_parts : (rules : Rules) (os : List Progress) (first : Bool) (k : Kind) (x y : List ℕ) (line : ℕ) (more : List SourceToken) (s : State)
@@ -41,31 +23,18 @@ pub copied_parts : (rules : Rules) (os : List Progress) (first : Bool) (k : Kind
     → remains rules (Live os) first (record { sort = Ordinary k; bytes = x ++ y; line = line } ∷ more) s
     ≡ and_then (gives x) (remains rules (Live os) (only_blanks first x) (record { sort = Ordinary k; bytes = y; line = line } ∷ more) s)
 copied_parts rules os first k x y line more s e =
-    let rest = remains rules (Live os) (only_blanks (only_blanks first x) (y ++ [])) more s in
-    one_copied rules os first k (x ++ y) line more s e
-    ∙ ap (λ (z : List ℕ). and_then (gives z) (remains rules (Live os) (only_blanks first z) more s)) (append_assoc x y [])
-    ∙ ap (λ (f : Bool). and_then (gives (x ++ (y ++ []))) (remains rules (Live os) f more s)) (only_blanks-append first x (y ++ []))
-    ∙ sym (and_then-gives_gives x (y ++ []) rest)
-    ∙ ap (λ (o : Outcome). and_then (gives x) o)
-    (sym (one_copied rules os (only_blanks first x) k y line more s (copied_whole k y (x ++ y) line ∙ e)))
-
--- a token that is copied and has no bytes is nothing
-pub copied_nothing : (rules : Rules) (os : List Progress) (first : Bool) (k : Kind) (line : ℕ) (more : List SourceToken) (s : State)
-    → is_copied (record { sort = Ordinary k; bytes = []; line = line }) ≡ true
-    → remains rules (Live os) first (record { sort = Ordinary k; bytes = []; line = line } ∷ more) s ≡ remains rules (Live os) first more s
-unfolding only_blanks
-copied_nothing rules os first k line more s e =
-    one_copied rules os first k [] line more s e ∙ and_then-gives_nil (remains rules (Live os) first more s)
+    remains-behind rules (Live os) (Live os) first (only_blanks first x)
+    (record { sort = Ordinary k; bytes = x ++ y; line = line } ∷ more) (record { sort = Ordinary k; bytes = y; line = line } ∷ more) s s x
+    (resumed_copied_parts rules os first k x y line more s e)
 
 -- a broken token may be written in two parts
 pub broken_parts : (rules : Rules) (os : List Progress) (first : Bool) (b : Breach) (x y : List ℕ) (line : ℕ) (more : List SourceToken) (s : State)
     → remains rules (Live os) first (record { sort = Broken b; bytes = x ++ y; line = line } ∷ more) s
     ≡ and_then (gives x) (remains rules (Live os) (only_blanks first x) (record { sort = Broken b; bytes = y; line = line } ∷ more) s)
 broken_parts rules os first b x y line more s =
-    let f = fails (fault_at (breach_kind b) line [] s) in
-    remains_broken rules os first b (x ++ y) line more s
-    ∙ sym (and_then-gives_gives x y f)
-    ∙ ap (λ (o : Outcome). and_then (gives x) o) (sym (remains_broken rules os (only_blanks first x) b y line more s))
+    remains-behind rules (Live os) (Live os) first (only_blanks first x)
+    (record { sort = Broken b; bytes = x ++ y; line = line } ∷ more) (record { sort = Broken b; bytes = y; line = line } ∷ more) s s x
+    (resumed_broken_parts rules os first b x y line more s)
 
 -- a skipped token comes to its LF bytes, and then what remains
 skipped_one : (rules : Rules) (n : ℕ) (p : Progress) (os : List Progress) (first : Bool) (k : Kind) (x : List ℕ) (line : ℕ) (more : List SourceToken) (s : State)

@@ -1,23 +1,21 @@
 -- Laws of usages: of a name that isn't defined, of what isn't built, and of a macro without a list and with ordinary text.
-use Rattle.std.proofs.Common.{◌≡◌, ℕ, Bool, true, false, not, List, [], ◌∷◌, length, map, refl, ap, ◌∙◌, Option, None, Some}
+use Rattle.std.proofs.Common.{◌≡◌, ℕ, Bool, true, false, not, List, [], ◌∷◌, map, refl, ap, ◌∙◌, Option, None, Some}
 use Rattle.std.specs.Prelude.{if◌then◌else◌, is_some, unwrap_or}
 use Rattle.std.specs.List.{list_all}
 use Rattle.std.proofs.lemmas.Bool.{or_parts}
 use Rattle.rdlpp_scan.specs.declared.token.Kind.TheVariants.{Name}
-use Rattle.rdlpp_scan.specs.Tokens.{plain_len}
 use Rattle.rdlpp_scan.specs.SourceTokens.{Sort, Ordinary, Definition, Renumbering, Broken, SourceToken}
 use Rattle.rdlpp_scan.specs.Stage.{is_reserved}
 use Rattle.rdlpp_table.specs.Table.{Formal, Macro, macro_named}
 use Rattle.rdlpp_meaning.specs.declared.fault.FaultKind.{FaultKind}
 use Rattle.rdlpp_meaning.specs.declared.fault.FaultKind.TheVariants.{UndefinedMacro, Unbuilt}
-use Rattle.rdlpp_meaning.specs.Outcome.{Outcome, gives, fails, and_then}
+use Rattle.rdlpp_meaning.specs.Outcome.{Outcome, fails, and_then}
 use Rattle.rdlpp_meaning.specs.State.{Rules, State, fault_at}
 use Rattle.rdlpp_meaning.specs.Stage.{is_unbuilt_macro}
 use Rattle.rdlpp_meaning.specs.Items.{Item, Written}
 use Rattle.rdlpp_meaning.specs.Substitution.{body_tokens, bound_to, mark_or, marked, substituted}
-use Rattle.rdlpp_meaning.specs.Expansion.{Usage, Refuses, Opens, name_of, usage_of, usage_of_macro, usage_of_formals, walk, expand, is_copied, run_outcome, usage_token}
-use Rattle.rdlpp_meaning.proofs.Walks.{deeper_of, expand_walk, expand_all_copied}
-use Rattle.rdlpp_meaning.proofs.PlainBodies.{body_ordinary}
+use Rattle.rdlpp_meaning.specs.Expansion.{Usage, Refuses, Opens, name_of, usage_of, usage_of_macro, usage_of_formals, walk, is_copied, run_outcome, usage_token}
+use Rattle.rdlpp_meaning.proofs.Walks.{deeper_of, expand_walk}
 
 -- an optional value that is none
 none_of : {A : Type 0} (o : Option A) → is_some o ≡ false → o ≡ None
@@ -66,17 +64,6 @@ unfolding substituted
 substituted_none m o e =
     ap (λ (fs : Option (List Formal)). map (marked m.name (unwrap_or fs []) [] o) (body_tokens m.body)) e
     ∙ all_marked_none m.name [] o (body_tokens m.body)
-
--- the body of ordinary text of a macro without a list gives its bytes at any depth
-pub expand_body : (rules : Rules) (s : State) (d : ℕ) (source : Option ℕ) (o p : List (List ℕ)) (m : Macro)
-    → m.formals ≡ None → plain_len m.body ≡ length m.body
-    → expand rules s d source o (substituted m [] p) ≡ gives m.body
-unfolding body_tokens
-expand_body rules s d source o p m e plain =
-    let b = body_ordinary m.body plain in
-    ap (λ (items : List Item). expand rules s d source o items) (substituted_none m p e)
-    ∙ expand_all_copied rules s d source o (body_tokens m.body) b.copied
-    ∙ ap gives b.text
 
 -- a usage of a name that isn't defined
 pub usage_none : (rules : Rules) (s : State) (source : Option ℕ) (line : ℕ) (o : List (List ℕ)) (name : List ℕ) (xs : List Item)

@@ -1,0 +1,130 @@
+-- What a token of a run writes in front of the run behind it, and the directives that tokens begin.
+use Rattle.std.proofs.Common.{◌≡◌, ℕ, zero, suc, ◌<◌, Bool, true, false, ◌||◌, List, [], ◌∷◌, ◌++◌, refl, sym, ap, ◌∙◌, None, Some, append-nil, arith, map, ◌&&◌, Option}
+use Rattle.std.specs.Prelude.{bytes_eq}
+use Rattle.std.specs.List.{list_all, list_any, AllByRecursion}
+use Rattle.std.proofs.lemmas.Bool.{or_parts}
+use Rattle.rdlpp_scan.specs.declared.token.Kind.TheVariants.{Back, BareBackquote}
+use Rattle.rdlpp_scan.specs.declared.token.Directive.TheVariants.{Define}
+use Rattle.rdlpp_scan.specs.Bytes.{is_blank, is_line_end}
+use Rattle.rdlpp_scan.specs.Front.{Breach}
+use Rattle.rdlpp_scan.specs.SourceTokens.{Sort, Ordinary, Definition, Renumbering, Broken, SourceToken}
+use Rattle.rdlpp_scan.specs.Stage.{is_reserved, reserved_names}
+use Rattle.rdlpp_table.specs.Table.{Macro, macro_named}
+use Rattle.rdlpp_meaning.specs.declared.fault.FaultKind.TheVariants.{BareBackquote as NoName}
+use Rattle.rdlpp_meaning.specs.Outcome.{Outcome, gives, fails, and_then}
+use Rattle.rdlpp_meaning.specs.State.{Rules, State, fault_at, breach_kind}
+use Rattle.rdlpp_meaning.specs.Items.{Written, Item}
+use Rattle.rdlpp_meaning.specs.Substitution.{substituted, body_tokens}
+use Rattle.rdlpp_meaning.specs.Expansion.{Opens, walk, is_copied, run_outcome, usage_token, expand}
+use Rattle.rdlpp_meaning.specs.Parts.{Command, Single, only_blanks, directive_named, directive_of, no_argument, argument_of, command_of, piece_of, pieces}
+use Rattle.rdlpp_meaning.proofs.Walks.{deeper_of, expand_walk, walk_copied, expand_all_copied}
+use Rattle.rdlpp_meaning.proofs.Usages.{usage_some, usage_plain, after_usage, walk_usage, substituted_none}
+use Rattle.rdlpp_meaning.proofs.Runs.{Writes}
+use Rattle.rdlpp_meaning.proofs.Cover.{body_covered}
+
+-- a token that is copied begins no directive, by what it is
+copied_text_by : (sort : Sort) (bytes : List ℕ) (line : ℕ) → is_copied (record { sort = sort; bytes = bytes; line = line }) ≡ true
+    → directive_of (record { sort = sort; bytes = bytes; line = line }) ≡ None
+unfolding is_copied directive_of
+copied_text_by (Ordinary Back) bytes line e = cc
+copied_text_by (Ordinary k) bytes line e = refl
+copied_text_by Definition bytes line e = cc
+copied_text_by Renumbering bytes line e = cc
+copied_text_by (Broken b) bytes line e = refl
+
+-- a token that is copied begins no directive
+pub copied_text : (t : SourceToken) → is_copied t ≡ true → directive_of t ≡ None
+copied_text t e = copied_text_by t.sort t.bytes t.line e
+
+-- a token that is copied writes its bytes
+pub copied_writes : (rules : Rules) (s : State) (t : SourceToken) → is_copied t ≡ true → Writes rules s t (gives t.bytes)
+unfolding Writes run_outcome
+copied_writes rules s t e us =
+    expand_walk rules s rules.depth None [] (Written t ∷ map Written us)
+    ∙ walk_copied rules s (deeper_of rules s rules.depth) None [] t (map Written us) e
+    ∙ ap (λ (x : Outcome). and_then (gives t.bytes) x) (sym (expand_walk rules s rules.depth None [] (map Written us)))
+
+-- only blanks behind bytes and then bytes
+pub only_blanks-append : (first : Bool) (x y : List ℕ) → only_blanks first (x ++ y) ≡ only_blanks (only_blanks first x) y
+unfolding only_blanks
+only_blanks-append first [] y = refl
+only_blanks-append first (b ∷ x) y = only_blanks-append (is_line_end b || is_blank b && first) x y
+
+-- a name that is none of some words is none of each
+none_of_words : (name : List ℕ) (words : List (List ℕ)) → list_any (bytes_eq name) words ≡ false
+    → AllByRecursion (λ word. bytes_eq name word ≡ false) words
+none_of_words name [] e = tt
+none_of_words name (w ∷ ws) e =
+    let parts = or_parts (bytes_eq name w) (list_any (bytes_eq name) ws) e in
+    (parts.0, none_of_words name ws parts.1)
+
+-- a name that isn't reserved is none of the directives
+not_directive : (name : List ℕ) → is_reserved name ≡ false → directive_named (96 ∷ name) ≡ None
+unfolding is_reserved reserved_names directive_named
+not_directive name e =
+    let h : AllByRecursion (λ word. bytes_eq name word ≡ false) reserved_names = none_of_words name reserved_names e in
+    rw (h.1.0, h.1.1.0, h.1.1.1.0, h.1.1.1.1.0, h.1.1.1.1.1.0, h.1.1.1.1.1.1.0, h.1.1.1.1.1.1.1.0) refl
+
+-- a usage of a name that isn't reserved begins no directive
+pub usage_text : (name : List ℕ) (line : ℕ) → is_reserved name ≡ false → directive_of (usage_token name line) ≡ None
+unfolding directive_of
+usage_text name line e = not_directive name e
+
+-- a lone backquote writes its fault
+pub bare_writes : (rules : Rules) (s : State) (bytes : List ℕ) (line : ℕ)
+    → Writes rules s (record { sort = Ordinary BareBackquote; bytes = bytes; line = line }) (fails (fault_at NoName line [] s))
+unfolding Writes run_outcome walk and_then fails
+bare_writes rules s bytes line us =
+    expand_walk rules s rules.depth None [] (Written (record { sort = Ordinary BareBackquote; bytes = bytes; line = line }) ∷ map Written us)
+
+-- a broken token writes its bytes and its fault
+pub broken_writes : (rules : Rules) (s : State) (b : Breach) (bytes : List ℕ) (line : ℕ)
+    → Writes rules s (record { sort = Broken b; bytes = bytes; line = line })
+    (and_then (gives bytes) (fails (fault_at (breach_kind b) line [] s)))
+unfolding Writes run_outcome walk and_then gives fails
+broken_writes rules s b bytes line us =
+    expand_walk rules s rules.depth None [] (Written (record { sort = Broken b; bytes = bytes; line = line }) ∷ map Written us)
+
+-- a `define` as a directive
+abbrev pub define_command : Bool → List ℕ → ℕ → Command
+define_command first bytes line = record { word = Define; given = None; text = bytes; line = line; first = first }
+
+-- a `define` in front of tokens is a piece
+pub define_piece : (first : Bool) (bytes : List ℕ) (line : ℕ) (more : List SourceToken)
+    → pieces first 0 (record { sort = Definition; bytes = bytes; line = line } ∷ more)
+    ≡ Single (define_command first bytes line) ∷ pieces (only_blanks first bytes) 0 more
+unfolding pieces directive_of argument_of no_argument command_of piece_of
+define_piece first bytes line more =
+    ap (λ (x : List ℕ). Single (define_command first x line) ∷ pieces (only_blanks first bytes) 0 more) (append-nil bytes)
+
+-- a body of tokens that are copied gives its bytes at any depth
+pub expand_copied_body : (rules : Rules) (s : State) (d : ℕ) (source : Option ℕ) (o p : List (List ℕ)) (m : Macro)
+    → m.formals ≡ None → list_all is_copied (body_tokens m.body) ≡ true
+    → expand rules s d source o (substituted m [] p) ≡ gives m.body
+expand_copied_body rules s d source o p m e copied =
+    ap (λ (items : List Item). expand rules s d source o items) (substituted_none m p e)
+    ∙ expand_all_copied rules s d source o (body_tokens m.body) copied
+    ∙ ap gives (body_covered m.body)
+
+-- the same in a source where one more body may be open
+deeper_copied : (rules : Rules) (s : State) (d line : ℕ) (o : List (List ℕ)) (m : Macro) → 0 < d
+    → m.formals ≡ None → list_all is_copied (body_tokens m.body) ≡ true
+    → deeper_of rules s d line o (substituted m [] []) ≡ gives m.body
+unfolding deeper_of
+deeper_copied rules s zero line o m h e copied = absurd (omega arith)
+deeper_copied rules s (suc d) line o m h e copied = expand_copied_body rules s d (Some line) o [] m e copied
+
+-- a usage of such a macro writes its body
+pub body_writes : (rules : Rules) (s : State) (name : List ℕ) (line : ℕ) (m : Macro) → 0 < rules.depth
+    → is_reserved name ≡ false → macro_named s.macros name ≡ Some m → rules.unbuilt_macro m ≡ false
+    → m.formals ≡ None → list_all is_copied (body_tokens m.body) ≡ true
+    → Writes rules s (usage_token name line) (gives m.body)
+unfolding Writes run_outcome after_usage
+body_writes rules s name line m h r e u f copied us =
+    let deeper = deeper_of rules s rules.depth in
+    expand_walk rules s rules.depth None [] (Written (usage_token name line) ∷ map Written us)
+    ∙ walk_usage rules s deeper name line (map Written us) (Opens m [] 0)
+    (usage_some rules s None line [] name (map Written us) m r e ∙ usage_plain rules None line name (map Written us) m u f)
+    ∙ ap (λ (x : Outcome). and_then x (walk rules s deeper None [] 0 (map Written us)))
+    (deeper_copied rules s rules.depth line (m.name ∷ []) m h f copied)
+    ∙ ap (λ (x : Outcome). and_then (gives m.body) x) (sym (expand_walk rules s rules.depth None [] (map Written us)))
