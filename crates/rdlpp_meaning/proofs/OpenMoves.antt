@@ -290,3 +290,128 @@ open-formal_deep rules s line depth texts x below new h some name found deep =
     formal-move rules s line depth texts x below new h some name found
     ∙ opened-deep s line depth (slot_of texts new (rest ∷ below)) (slots_of texts (rest ∷ below))
     (let e = slots-length texts (rest ∷ below) in omega (arith, e, deep))
+
+-- a token of a kind that is no name stands for nothing
+other-none : (slots : List Slot) (k : ℕ) (kind : Kind) (bytes : List ℕ) → ((b : Binding) → stood_for b (spelled_token kind bytes) ≡ None)
+    → standing_at slots k (spelled_token kind bytes) ≡ None
+other-none slots k kind bytes e = unnamed slots k (spelled_token kind bytes) e
+
+-- a backquote with a name or without one is no name
+back-none : (b : Binding) (bytes : List ℕ) → stood_for b (spelled_token Back bytes) ≡ None
+unfolding stood_for spelled_token
+back-none b bytes = refl
+
+-- nor is a backquote alone
+bare-none : (b : Binding) (bytes : List ℕ) → stood_for b (spelled_token BareBackquote bytes) ≡ None
+unfolding stood_for spelled_token
+bare-none b bytes = refl
+
+-- a step at a backquote with a name
+back-token : (rules : Rules) (s : State) (line depth : ℕ) (slot : Slot) (bytes : List ℕ) (ts : List SourceToken) (below : List Slot)
+    → slot_token rules s line depth slot (spelled_token Back bytes) ts below
+    ≡ slot_usage s line depth slot ts below (token_usage_of not_kept rules s line (writer_at (slot ∷ below) (scope_of slot below)) (drop 1 bytes) ts)
+unfolding slot_token spelled_token name_of
+back-token rules s line depth slot bytes ts below = refl
+
+-- a step at a backquote alone
+bare-token : (rules : Rules) (s : State) (line depth : ℕ) (slot : Slot) (bytes : List ℕ) (ts : List SourceToken) (below : List Slot)
+    → slot_token rules s line depth slot (spelled_token BareBackquote bytes) ts below ≡ SlotStops [] (fault_at NoName line [] s)
+unfolding slot_token spelled_token
+bare-token rules s line depth slot bytes ts below = refl
+
+-- a step at a first token of a kind that is no name
+other-move : (rules : Rules) (s : State) (line depth : ℕ) (texts : Texts) (x : Open) (below : List Open) (kind : Kind)
+    → 0 < length (open_bytes texts x below) → first_kind texts x below ≡ kind
+    → ((b : Binding) → stood_for b (spelled_token kind (first_bytes texts x below)) ≡ None)
+    → slot_move rules s line depth (slot_of texts x below) (slots_of texts below)
+    ≡ slot_token rules s line depth (slot_of texts x below) (spelled_token kind (first_bytes texts x below))
+    (slot_of texts (first_behind texts x below) below).text (slots_of texts below)
+unfolding first_kind first_bytes first_behind first_spelled spelled_token
+other-move rules s line depth texts x below kind some e none =
+    let bytes = open_bytes texts x below in
+    let t = token_of x.part.mode bytes in
+    let slot = slot_of texts x below in
+    let under = slots_of texts below in
+    let ts = (slot_of texts (open_behind x t.len t.next_mode) below).text in
+    let own = take t.len bytes in
+    move-first rules s line depth slot under (spelled_token t.kind own) ts (first-left texts x below some)
+    ∙ ap (λ (c : Kind). slot_standing rules s line depth slot (spelled_token c own) ts under (standing_at (slot ∷ under) (scope_of slot under) (spelled_token c own))) e
+    ∙ alone-move rules s line depth slot (spelled_token kind own) ts under (standing_at (slot ∷ under) (scope_of slot under) (spelled_token kind own))
+    (other-none (slot ∷ under) (scope_of slot under) kind own none)
+
+-- a lone backquote is a fault
+pub open-bare : (rules : Rules) (s : State) (line depth : ℕ) (texts : Texts) (x : Open) (below : List Open)
+    → 0 < length (open_bytes texts x below) → first_kind texts x below ≡ BareBackquote
+    → slot_move rules s line depth (slot_of texts x below) (slots_of texts below) ≡ SlotStops [] (fault_at NoName line [] s)
+open-bare rules s line depth texts x below some e =
+    other-move rules s line depth texts x below BareBackquote some e (λ b. bare-none b (first_bytes texts x below))
+    ∙ bare-token rules s line depth (slot_of texts x below) (first_bytes texts x below) (slot_of texts (first_behind texts x below) below).text (slots_of texts below)
+
+-- what the usage in front of an open text comes to
+pub first_usage : Rules → State → ℕ → Texts → Open → List Open → TokenUsage
+first_usage rules s line texts x below =
+    token_usage_of not_kept rules s line (writer_at (slots_of texts (x ∷ below)) (open_scope x below)) (drop 1 (first_bytes texts x below))
+    (slot_of texts (first_behind texts x below) below).text
+
+-- a step at a usage
+usage-move : (rules : Rules) (s : State) (line depth : ℕ) (texts : Texts) (x : Open) (below : List Open) (u : TokenUsage)
+    → 0 < length (open_bytes texts x below) → first_kind texts x below ≡ Back → first_usage rules s line texts x below ≡ u
+    → slot_move rules s line depth (slot_of texts x below) (slots_of texts below)
+    ≡ slot_usage s line depth (slot_of texts x below) (slot_of texts (first_behind texts x below) below).text (slots_of texts below) u
+unfolding first_usage slots_of
+usage-move rules s line depth texts x below u some e comes =
+    let slot = slot_of texts x below in
+    let under = slots_of texts below in
+    let ts = (slot_of texts (first_behind texts x below) below).text in
+    let own = first_bytes texts x below in
+    other-move rules s line depth texts x below Back some e (λ b. back-none b own)
+    ∙ back-token rules s line depth slot own ts under
+    ∙ ap (λ (k : ℕ). slot_usage s line depth slot ts under (token_usage_of not_kept rules s line (writer_at (slot ∷ under) k) (drop 1 own) ts)) (open-scope texts x below)
+    ∙ ap (slot_usage s line depth slot ts under) comes
+
+-- a usage that is refused is its fault
+pub open-refused : (rules : Rules) (s : State) (line depth : ℕ) (texts : Texts) (x : Open) (below : List Open) (f : FaultKind) (word : List ℕ) (at : ℕ)
+    → 0 < length (open_bytes texts x below) → first_kind texts x below ≡ Back → first_usage rules s line texts x below ≡ Refuses f word at
+    → slot_move rules s line depth (slot_of texts x below) (slots_of texts below) ≡ SlotStops [] (fault_at f at word s)
+unfolding slot_usage
+open-refused rules s line depth texts x below f word at some e comes = usage-move rules s line depth texts x below (Refuses f word at) some e comes
+
+-- the body that a call opens is the slot of an open text: of a macro of the table, with the parts that are the call's actuals
+body-opened : (texts : Texts) (id : ℕ) (parts : List Part) (scope : ℕ) (opens : List Open) (actuals : List (List SourceToken))
+    → actuals ≡ map (part_tokens (scope_text texts opens scope)) parts
+    → body_slot (macro_at texts.macros id) actuals scope ≡ slot_of texts (open_body texts id parts scope) opens
+unfolding body_slot slot_of open_body text_around own_text slot_kind
+body-opened texts id parts scope opens actuals e =
+    let m = macro_at texts.macros id in
+    ap (λ (ts : List SourceToken). record { text = ts; home = scope; kind = Body (record { name = m.name; formals = formals_of m; actuals = actuals }) })
+    (sym (part-whole m.body))
+    ∙ ap (λ (bound : List (List SourceToken)). record {
+      text = part_tokens m.body (record { from = 0; end = length m.body; mode = Plain });
+      home = scope;
+      kind = Body (record { name = m.name; formals = formals_of m; actuals = bound });
+    }) e
+
+-- a usage that opens a macro of the table does, where there is room: the tokens behind its call are those of a part
+pub open-usage : (rules : Rules) (s : State) (line depth : ℕ) (texts : Texts) (x : Open) (below : List Open)
+    (id : ℕ) (actuals : List (List SourceToken)) (used : ℕ) (parts : List Part) (from : ℕ) (mode : Mode)
+    → 0 < length (open_bytes texts x below) → first_kind texts x below ≡ Back
+    → first_usage rules s line texts x below ≡ Opens (macro_at texts.macros id) actuals used
+    → actuals ≡ map (part_tokens (scope_text texts (open_behind x from mode ∷ below) (open_scope x below))) parts
+    → drop used (slot_of texts (first_behind texts x below) below).text ≡ (slot_of texts (open_behind x from mode) below).text
+    → length (x ∷ below) < depth
+    → slot_move rules s line depth (slot_of texts x below) (slots_of texts below)
+    ≡ SlotWrites [] (slots_of texts (open_body texts id parts (open_scope x below) ∷ open_behind x from mode ∷ below))
+unfolding slot_usage slots_of
+open-usage rules s line depth texts x below id actuals used parts from mode some e comes bound left room =
+    let slot = slot_of texts x below in
+    let under = slots_of texts below in
+    let rest = open_behind x from mode in
+    let ts = (slot_of texts (first_behind texts x below) below).text in
+    let m = macro_at texts.macros id in
+    usage-move rules s line depth texts x below (Opens m actuals used) some e comes
+    ∙ ap (λ (k : ℕ). slot_opened s line depth (body_slot m actuals k) (with_left slot (drop used ts) ∷ under)) (open-scope texts x below)
+    ∙ ap (λ (us : List SourceToken). slot_opened s line depth (body_slot m actuals (open_scope x below)) (with_left slot us ∷ under)) left
+    ∙ ap (λ (y : Slot). slot_opened s line depth (body_slot m actuals (open_scope x below)) (y ∷ under)) (left-behind texts x below from mode)
+    ∙ ap (λ (y : Slot). slot_opened s line depth y (slot_of texts rest below ∷ under)) (body-opened texts id parts (open_scope x below) (rest ∷ below) actuals bound)
+    ∙ opened-room s line depth (slot_of texts (open_body texts id parts (open_scope x below)) (rest ∷ below)) (slot_of texts rest below ∷ under)
+    (let n = slots-length texts below in omega (arith, n, room))
