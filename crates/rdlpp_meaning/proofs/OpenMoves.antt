@@ -18,10 +18,10 @@ use Rattle.rdlpp_meaning.specs.State.{Rules, State, fault_at}
 use Rattle.rdlpp_meaning.specs.Substitution.{Standing, body_tokens}
 use Rattle.rdlpp_meaning.specs.Expansion.{is_copied, name_of}
 use Rattle.rdlpp_meaning.specs.Cursors.{Binding, stood_for, not_kept, TokenUsage, Refuses, Opens, token_usage_of}
-use Rattle.rdlpp_meaning.specs.Slots.{SlotKind, Body, Actual, Default, Slot, scope_of, writer_at, body_slot, standing_slot, own_standing, standing_at, SlotMove, SlotWrites, SlotStops, slot_opened, with_left, slot_usage, slot_token, slot_standing, slot_move}
+use Rattle.rdlpp_meaning.specs.Slots.{SlotKind, Body, Actual, Default, Slot, scope_of, own_writer, writer_at, body_slot, standing_slot, own_standing, standing_at, SlotMove, SlotWrites, SlotStops, slot_opened, with_left, slot_usage, slot_token, slot_standing, slot_move}
 use Rattle.rdlpp_meaning.specs.TextTokens.{text_tokens}
-use Rattle.rdlpp_meaning.specs.Opens.{Part, OpenKind, OpenBody, OpenActual, OpenDefault, Open, Texts, own_text, scope_text, text_around, part_tokens, slot_kind, slot_of, slots_of, open_at, AreOpen, open_scope, open_bytes, open_behind, open_body}
-use Rattle.rdlpp_meaning.proofs.OpenScopes.{slots-length, part-whole, OpenFound, IsOpenFound, open-found}
+use Rattle.rdlpp_meaning.specs.Opens.{Part, OpenKind, OpenBody, OpenActual, OpenDefault, Open, Texts, own_text, scope_text, text_around, part_tokens, slot_kind, slot_of, slots_of, open_at, HasParts, AreOpen, open_scope, open_bytes, open_behind, open_body, own_writers, writers_at}
+use Rattle.rdlpp_meaning.proofs.OpenScopes.{slots-length, part-whole, IsOpenText, OpenFound, IsOpenFound, open-found}
 use Rattle.rdlpp_scan.proofs.TokenLens.{token_of-part}
 use Rattle.rdlpp_meaning.proofs.TextRanges.{text_step, text_nil, first_spelled}
 
@@ -415,3 +415,68 @@ open-usage rules s line depth texts x below id actuals used parts from mode some
     ∙ ap (λ (y : Slot). slot_opened s line depth y (slot_of texts rest below ∷ under)) (body-opened texts id parts (open_scope x below) (rest ∷ below) actuals bound)
     ∙ opened-room s line depth (slot_of texts (open_body texts id parts (open_scope x below)) (rest ∷ below)) (slot_of texts rest below ∷ under)
     (let n = slots-length texts below in omega (arith, n, room))
+
+-- and is a fault where there is none
+pub open-usage_deep : (rules : Rules) (s : State) (line depth : ℕ) (texts : Texts) (x : Open) (below : List Open)
+    (m : Macro) (actuals : List (List SourceToken)) (used : ℕ)
+    → 0 < length (open_bytes texts x below) → first_kind texts x below ≡ Back
+    → first_usage rules s line texts x below ≡ Opens m actuals used → depth ≤ length (x ∷ below)
+    → slot_move rules s line depth (slot_of texts x below) (slots_of texts below) ≡ SlotStops [] (fault_at DepthPassed line [] s)
+unfolding slot_usage slots_of
+open-usage_deep rules s line depth texts x below m actuals used some e comes deep =
+    let slot = slot_of texts x below in
+    let under = slots_of texts below in
+    let ts = (slot_of texts (first_behind texts x below) below).text in
+    usage-move rules s line depth texts x below (Opens m actuals used) some e comes
+    ∙ opened-deep s line depth (body_slot m actuals (scope_of slot under)) (with_left slot (drop used ts) ∷ under)
+    (let n = slots-length texts below in omega (arith, n, deep))
+
+-- an open text behind some of its bytes is still open
+pub behind-open : (texts : Texts) (x : Open) (below : List Open) (n : ℕ) (mode : Mode) → AreOpen texts (x ∷ below)
+    → AreOpen texts (open_behind x n mode ∷ below)
+unfolding open_behind
+behind-open texts x below n mode h = h
+
+-- a text that is no body has no parts
+text-parts : (texts : Texts) (text : List ℕ) (kind : OpenKind) → IsOpenText kind → HasParts texts text kind
+unfolding IsOpenText
+text-parts texts text (OpenBody id parts) h = absurd h
+text-parts texts text OpenActual h = tt
+text-parts texts text (OpenDefault id place) h = tt
+
+-- what is found for a name is open in front, by what is found
+found-open : (texts : Texts) (opens : List Open) (found : Option Open) (standing : Option Slot) (new : Open) → OpenFound texts opens found standing
+    → found ≡ Some new → AreOpen texts opens → AreOpen texts (new ∷ opens)
+unfolding OpenFound
+found-open texts opens found standing new m e h =
+    let f : IsOpenFound texts opens new standing = subst (λ (o : Option Open). OpenFound texts opens o standing) e m in
+    (f.inside, (text-parts texts (scope_text texts opens new.home) new.kind f.text, h))
+
+-- what a formal stands for is open in front of what is left behind its name
+pub formal-open : (texts : Texts) (x : Open) (below : List Open) (bytes : List ℕ) (n : ℕ) (mode : Mode) (new : Open) → AreOpen texts (x ∷ below)
+    → open_at texts (open_behind x n mode ∷ below) (open_scope x below) bytes ≡ Some new
+    → AreOpen texts (new ∷ open_behind x n mode ∷ below)
+formal-open texts x below bytes n mode new h e =
+    let opens : List Open = open_behind x n mode ∷ below in
+    let sound : AreOpen texts opens = behind-open texts x below n mode h in
+    found-open texts opens (open_at texts opens (open_scope x below) bytes)
+    (standing_at (slots_of texts opens) (open_scope x below) (record { sort = Ordinary Name; bytes = bytes; line = 0 })) new
+    (open-found texts opens (open_scope x below) bytes 0 sound) e sound
+
+-- the macros in whose text a slot's scope is, by what it is
+own-writers : (texts : Texts) (text : List ℕ) (kind : OpenKind) (writers : List (List ℕ)) → own_writer (slot_kind texts text kind) writers ≡ own_writers texts kind writers
+unfolding own_writer slot_kind own_writers
+own-writers texts text (OpenBody id parts) writers = refl
+own-writers texts text OpenActual writers = refl
+own-writers texts text (OpenDefault id place) writers = refl
+
+-- the macros in whose text a scope is are those of the bodies down the chain of homes
+pub open-writers : (texts : Texts) (opens : List Open) (k : ℕ) → writer_at (slots_of texts opens) k ≡ writers_at texts opens k
+unfolding writer_at writers_at slots_of slot_of
+open-writers texts [] k = refl
+open-writers texts (x ∷ below) k =
+    let kind = slot_kind texts (scope_text texts below x.home) x.kind in
+    ap (λ (n : ℕ). if k == suc n then own_writer kind (writer_at (slots_of texts below) x.home) else writer_at (slots_of texts below) k) (slots-length texts below)
+    ∙ ap (λ (w : List (List ℕ)). if k == suc (length below) then own_writer kind w else writer_at (slots_of texts below) k) (open-writers texts below x.home)
+    ∙ ap (λ (w : List (List ℕ)). if k == suc (length below) then w else writer_at (slots_of texts below) k) (own-writers texts (scope_text texts below x.home) x.kind (writers_at texts below x.home))
+    ∙ ap (λ (w : List (List ℕ)). if k == suc (length below) then own_writers texts x.kind (writers_at texts below x.home) else w) (open-writers texts below k)

@@ -150,3 +150,15 @@ open_body texts id parts home = record {
   home = home;
   kind = OpenBody id parts;
 }
+
+-- the macros in whose text a scope is, by what it is and those of its home
+unfoldable pub own_writers : Texts → OpenKind → List (List ℕ) → List (List ℕ)
+own_writers texts (OpenBody id parts) writers = (macro_at texts.macros id).name ∷ writers
+own_writers texts OpenActual writers = []
+own_writers texts (OpenDefault id place) writers = writers
+
+-- the macros in whose text a scope is: those of the bodies down the chain of homes
+unfoldable pub writers_at : Texts → List Open → ℕ → List (List ℕ)
+writers_at texts [] k = []
+writers_at texts (x ∷ below) k =
+    if k == suc (length below) then own_writers texts x.kind (writers_at texts below x.home) else writers_at texts below k
