@@ -1,9 +1,9 @@
 -- The step of the machine with indices, where open texts are parts of texts: by the first token of what is left of the innermost.
-use Rattle.std.proofs.Common.{◌≡◌, ℕ, zero, suc, ◌+◌, ◌-◌, ◌<◌, ◌≤◌, Bool, true, false, true≢false, List, [], ◌∷◌, map, length, take, drop, refl, sym, ap, subst, ◌∙◌, arith, Option, None, Some}
-use Rattle.std.specs.Prelude.{if◌then◌else◌, ◌==◌, nat_lt, slice_range, unwrap_or}
+use Rattle.std.proofs.Common.{◌≡◌, ℕ, suc, ◌+◌, ◌-◌, ◌<◌, ◌≤◌, Bool, true, false, true≢false, List, [], ◌∷◌, map, length, take, drop, refl, sym, ap, subst, ◌∙◌, arith, Option, None, Some}
+use Rattle.std.specs.Prelude.{if◌then◌else◌, ◌==◌, slice_range}
 use Rattle.std.specs.Option.{option_map}
 use Rattle.std.proofs.lemmas.Bool.{lt-ltb, le-ltb}
-use Rattle.std.proofs.lemmas.List.{length-take, length-drop, drop-take, drop-drop}
+use Rattle.std.proofs.lemmas.List.{length-take, drop-take, drop-drop}
 use Rattle.rdlpp_scan.specs.declared.token.Kind.{Kind}
 use Rattle.rdlpp_scan.specs.declared.token.Kind.TheVariants.{Name, Back, BareBackquote}
 use Rattle.rdlpp_scan.specs.declared.token.Mode.{Mode}
@@ -15,10 +15,10 @@ use Rattle.rdlpp_table.specs.View.{macro_at, formals_of}
 use Rattle.rdlpp_meaning.specs.declared.fault.FaultKind.{FaultKind}
 use Rattle.rdlpp_meaning.specs.declared.fault.FaultKind.TheVariants.{BareBackquote as NoName, DepthPassed}
 use Rattle.rdlpp_meaning.specs.State.{Rules, State, fault_at}
-use Rattle.rdlpp_meaning.specs.Substitution.{Standing, body_tokens}
+use Rattle.rdlpp_meaning.specs.Substitution.{Standing}
 use Rattle.rdlpp_meaning.specs.Expansion.{is_copied, name_of}
 use Rattle.rdlpp_meaning.specs.Cursors.{Binding, stood_for, not_kept, TokenUsage, Refuses, Opens, token_usage_of}
-use Rattle.rdlpp_meaning.specs.Slots.{SlotKind, Body, Actual, Default, Slot, scope_of, own_writer, writer_at, body_slot, standing_slot, own_standing, standing_at, SlotMove, SlotWrites, SlotStops, slot_opened, with_left, slot_usage, slot_token, slot_standing, slot_move}
+use Rattle.rdlpp_meaning.specs.Slots.{SlotKind, Body, Actual, Default, Slot, scope_of, own_writer, writer_at, body_slot, standing_slot, own_standing, standing_at, SlotWrites, SlotStops, slot_opened, with_left, slot_usage, slot_token, slot_standing, slot_move}
 use Rattle.rdlpp_meaning.specs.TextTokens.{text_tokens}
 use Rattle.rdlpp_meaning.specs.Opens.{Part, OpenKind, OpenBody, OpenActual, OpenDefault, Open, Texts, own_text, scope_text, text_around, part_tokens, slot_kind, slot_of, slots_of, open_at, HasParts, AreOpen, open_scope, open_bytes, open_behind, open_body, own_writers, writers_at}
 use Rattle.rdlpp_meaning.proofs.OpenScopes.{slots-length, part-whole, IsOpenText, OpenFound, IsOpenFound, open-found}
