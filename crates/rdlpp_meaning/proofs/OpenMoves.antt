@@ -1,9 +1,9 @@
 -- The step of the machine with indices, where open texts are parts of texts: by the first token of what is left of the innermost.
-use Rattle.std.proofs.Common.{◌≡◌, ℕ, zero, suc, ◌+◌, ◌-◌, ◌<◌, ◌≤◌, Bool, true, false, true≢false, List, [], ◌∷◌, map, length, take, drop, refl, sym, ap, subst, ◌∙◌, arith, Option, None, Some}
-use Rattle.std.specs.Prelude.{if◌then◌else◌, ◌==◌, nat_lt, slice_range, unwrap_or}
+use Rattle.std.proofs.Common.{◌≡◌, ℕ, suc, ◌+◌, ◌-◌, ◌<◌, ◌≤◌, Bool, true, false, true≢false, List, [], ◌∷◌, map, length, take, drop, refl, sym, ap, subst, ◌∙◌, arith, Option, None, Some}
+use Rattle.std.specs.Prelude.{if◌then◌else◌, ◌==◌, slice_range}
 use Rattle.std.specs.Option.{option_map}
 use Rattle.std.proofs.lemmas.Bool.{lt-ltb, le-ltb}
-use Rattle.std.proofs.lemmas.List.{length-take, length-drop, drop-take, drop-drop}
+use Rattle.std.proofs.lemmas.List.{length-take, drop-take, drop-drop}
 use Rattle.rdlpp_scan.specs.declared.token.Kind.{Kind}
 use Rattle.rdlpp_scan.specs.declared.token.Kind.TheVariants.{Name, Back, BareBackquote}
 use Rattle.rdlpp_scan.specs.declared.token.Mode.{Mode}
@@ -15,13 +15,13 @@ use Rattle.rdlpp_table.specs.View.{macro_at, formals_of}
 use Rattle.rdlpp_meaning.specs.declared.fault.FaultKind.{FaultKind}
 use Rattle.rdlpp_meaning.specs.declared.fault.FaultKind.TheVariants.{BareBackquote as NoName, DepthPassed}
 use Rattle.rdlpp_meaning.specs.State.{Rules, State, fault_at}
-use Rattle.rdlpp_meaning.specs.Substitution.{Standing, body_tokens}
+use Rattle.rdlpp_meaning.specs.Substitution.{Standing}
 use Rattle.rdlpp_meaning.specs.Expansion.{is_copied, name_of}
 use Rattle.rdlpp_meaning.specs.Cursors.{Binding, stood_for, not_kept, TokenUsage, Refuses, Opens, token_usage_of}
-use Rattle.rdlpp_meaning.specs.Slots.{SlotKind, Body, Actual, Default, Slot, scope_of, writer_at, body_slot, standing_slot, own_standing, standing_at, SlotMove, SlotWrites, SlotStops, slot_opened, with_left, slot_usage, slot_token, slot_standing, slot_move}
+use Rattle.rdlpp_meaning.specs.Slots.{SlotKind, Body, Actual, Default, Slot, scope_of, own_writer, writer_at, body_slot, standing_slot, own_standing, standing_at, SlotWrites, SlotStops, slot_opened, with_left, slot_usage, slot_token, slot_standing, slot_move}
 use Rattle.rdlpp_meaning.specs.TextTokens.{text_tokens}
-use Rattle.rdlpp_meaning.specs.Opens.{Part, OpenKind, OpenBody, OpenActual, OpenDefault, Open, Texts, own_text, scope_text, text_around, part_tokens, slot_kind, slot_of, slots_of, open_at, AreOpen, open_scope, open_bytes, open_behind, open_body}
-use Rattle.rdlpp_meaning.proofs.OpenScopes.{slots-length, part-whole, OpenFound, IsOpenFound, open-found}
+use Rattle.rdlpp_meaning.specs.Opens.{Part, OpenKind, OpenBody, OpenActual, OpenDefault, Open, Texts, own_text, scope_text, text_around, part_tokens, slot_kind, slot_of, slots_of, open_at, HasParts, AreOpen, open_scope, open_bytes, open_behind, open_body, own_writers, writers_at}
+use Rattle.rdlpp_meaning.proofs.OpenScopes.{slots-length, part-whole, IsOpenText, OpenFound, IsOpenFound, open-found}
 use Rattle.rdlpp_scan.proofs.TokenLens.{token_of-part}
 use Rattle.rdlpp_meaning.proofs.TextRanges.{text_step, text_nil, first_spelled}
 
@@ -290,3 +290,193 @@ open-formal_deep rules s line depth texts x below new h some name found deep =
     formal-move rules s line depth texts x below new h some name found
     ∙ opened-deep s line depth (slot_of texts new (rest ∷ below)) (slots_of texts (rest ∷ below))
     (let e = slots-length texts (rest ∷ below) in omega (arith, e, deep))
+
+-- a token of a kind that is no name stands for nothing
+other-none : (slots : List Slot) (k : ℕ) (kind : Kind) (bytes : List ℕ) → ((b : Binding) → stood_for b (spelled_token kind bytes) ≡ None)
+    → standing_at slots k (spelled_token kind bytes) ≡ None
+other-none slots k kind bytes e = unnamed slots k (spelled_token kind bytes) e
+
+-- a backquote with a name or without one is no name
+back-none : (b : Binding) (bytes : List ℕ) → stood_for b (spelled_token Back bytes) ≡ None
+unfolding stood_for spelled_token
+back-none b bytes = refl
+
+-- nor is a backquote alone
+bare-none : (b : Binding) (bytes : List ℕ) → stood_for b (spelled_token BareBackquote bytes) ≡ None
+unfolding stood_for spelled_token
+bare-none b bytes = refl
+
+-- a step at a backquote with a name
+back-token : (rules : Rules) (s : State) (line depth : ℕ) (slot : Slot) (bytes : List ℕ) (ts : List SourceToken) (below : List Slot)
+    → slot_token rules s line depth slot (spelled_token Back bytes) ts below
+    ≡ slot_usage s line depth slot ts below (token_usage_of not_kept rules s line (writer_at (slot ∷ below) (scope_of slot below)) (drop 1 bytes) ts)
+unfolding slot_token spelled_token name_of
+back-token rules s line depth slot bytes ts below = refl
+
+-- a step at a backquote alone
+bare-token : (rules : Rules) (s : State) (line depth : ℕ) (slot : Slot) (bytes : List ℕ) (ts : List SourceToken) (below : List Slot)
+    → slot_token rules s line depth slot (spelled_token BareBackquote bytes) ts below ≡ SlotStops [] (fault_at NoName line [] s)
+unfolding slot_token spelled_token
+bare-token rules s line depth slot bytes ts below = refl
+
+-- a step at a first token of a kind that is no name
+other-move : (rules : Rules) (s : State) (line depth : ℕ) (texts : Texts) (x : Open) (below : List Open) (kind : Kind)
+    → 0 < length (open_bytes texts x below) → first_kind texts x below ≡ kind
+    → ((b : Binding) → stood_for b (spelled_token kind (first_bytes texts x below)) ≡ None)
+    → slot_move rules s line depth (slot_of texts x below) (slots_of texts below)
+    ≡ slot_token rules s line depth (slot_of texts x below) (spelled_token kind (first_bytes texts x below))
+    (slot_of texts (first_behind texts x below) below).text (slots_of texts below)
+unfolding first_kind first_bytes first_behind first_spelled spelled_token
+other-move rules s line depth texts x below kind some e none =
+    let bytes = open_bytes texts x below in
+    let t = token_of x.part.mode bytes in
+    let slot = slot_of texts x below in
+    let under = slots_of texts below in
+    let ts = (slot_of texts (open_behind x t.len t.next_mode) below).text in
+    let own = take t.len bytes in
+    move-first rules s line depth slot under (spelled_token t.kind own) ts (first-left texts x below some)
+    ∙ ap (λ (c : Kind). slot_standing rules s line depth slot (spelled_token c own) ts under (standing_at (slot ∷ under) (scope_of slot under) (spelled_token c own))) e
+    ∙ alone-move rules s line depth slot (spelled_token kind own) ts under (standing_at (slot ∷ under) (scope_of slot under) (spelled_token kind own))
+    (other-none (slot ∷ under) (scope_of slot under) kind own none)
+
+-- a lone backquote is a fault
+pub open-bare : (rules : Rules) (s : State) (line depth : ℕ) (texts : Texts) (x : Open) (below : List Open)
+    → 0 < length (open_bytes texts x below) → first_kind texts x below ≡ BareBackquote
+    → slot_move rules s line depth (slot_of texts x below) (slots_of texts below) ≡ SlotStops [] (fault_at NoName line [] s)
+open-bare rules s line depth texts x below some e =
+    other-move rules s line depth texts x below BareBackquote some e (λ b. bare-none b (first_bytes texts x below))
+    ∙ bare-token rules s line depth (slot_of texts x below) (first_bytes texts x below) (slot_of texts (first_behind texts x below) below).text (slots_of texts below)
+
+-- what the usage in front of an open text comes to
+pub first_usage : Rules → State → ℕ → Texts → Open → List Open → TokenUsage
+first_usage rules s line texts x below =
+    token_usage_of not_kept rules s line (writer_at (slots_of texts (x ∷ below)) (open_scope x below)) (drop 1 (first_bytes texts x below))
+    (slot_of texts (first_behind texts x below) below).text
+
+-- a step at a usage
+usage-move : (rules : Rules) (s : State) (line depth : ℕ) (texts : Texts) (x : Open) (below : List Open) (u : TokenUsage)
+    → 0 < length (open_bytes texts x below) → first_kind texts x below ≡ Back → first_usage rules s line texts x below ≡ u
+    → slot_move rules s line depth (slot_of texts x below) (slots_of texts below)
+    ≡ slot_usage s line depth (slot_of texts x below) (slot_of texts (first_behind texts x below) below).text (slots_of texts below) u
+unfolding first_usage slots_of
+usage-move rules s line depth texts x below u some e comes =
+    let slot = slot_of texts x below in
+    let under = slots_of texts below in
+    let ts = (slot_of texts (first_behind texts x below) below).text in
+    let own = first_bytes texts x below in
+    other-move rules s line depth texts x below Back some e (λ b. back-none b own)
+    ∙ back-token rules s line depth slot own ts under
+    ∙ ap (λ (k : ℕ). slot_usage s line depth slot ts under (token_usage_of not_kept rules s line (writer_at (slot ∷ under) k) (drop 1 own) ts)) (open-scope texts x below)
+    ∙ ap (slot_usage s line depth slot ts under) comes
+
+-- a usage that is refused is its fault
+pub open-refused : (rules : Rules) (s : State) (line depth : ℕ) (texts : Texts) (x : Open) (below : List Open) (f : FaultKind) (word : List ℕ) (at : ℕ)
+    → 0 < length (open_bytes texts x below) → first_kind texts x below ≡ Back → first_usage rules s line texts x below ≡ Refuses f word at
+    → slot_move rules s line depth (slot_of texts x below) (slots_of texts below) ≡ SlotStops [] (fault_at f at word s)
+unfolding slot_usage
+open-refused rules s line depth texts x below f word at some e comes = usage-move rules s line depth texts x below (Refuses f word at) some e comes
+
+-- the body that a call opens is the slot of an open text: of a macro of the table, with the parts that are the call's actuals
+body-opened : (texts : Texts) (id : ℕ) (parts : List Part) (scope : ℕ) (opens : List Open) (actuals : List (List SourceToken))
+    → actuals ≡ map (part_tokens (scope_text texts opens scope)) parts
+    → body_slot (macro_at texts.macros id) actuals scope ≡ slot_of texts (open_body texts id parts scope) opens
+unfolding body_slot slot_of open_body text_around own_text slot_kind
+body-opened texts id parts scope opens actuals e =
+    let m = macro_at texts.macros id in
+    ap (λ (ts : List SourceToken). record { text = ts; home = scope; kind = Body (record { name = m.name; formals = formals_of m; actuals = actuals }) })
+    (sym (part-whole m.body))
+    ∙ ap (λ (bound : List (List SourceToken)). record {
+      text = part_tokens m.body (record { from = 0; end = length m.body; mode = Plain });
+      home = scope;
+      kind = Body (record { name = m.name; formals = formals_of m; actuals = bound });
+    }) e
+
+-- a usage that opens a macro of the table does, where there is room: the tokens behind its call are those of a part
+pub open-usage : (rules : Rules) (s : State) (line depth : ℕ) (texts : Texts) (x : Open) (below : List Open)
+    (id : ℕ) (actuals : List (List SourceToken)) (used : ℕ) (parts : List Part) (from : ℕ) (mode : Mode)
+    → 0 < length (open_bytes texts x below) → first_kind texts x below ≡ Back
+    → first_usage rules s line texts x below ≡ Opens (macro_at texts.macros id) actuals used
+    → actuals ≡ map (part_tokens (scope_text texts (open_behind x from mode ∷ below) (open_scope x below))) parts
+    → drop used (slot_of texts (first_behind texts x below) below).text ≡ (slot_of texts (open_behind x from mode) below).text
+    → length (x ∷ below) < depth
+    → slot_move rules s line depth (slot_of texts x below) (slots_of texts below)
+    ≡ SlotWrites [] (slots_of texts (open_body texts id parts (open_scope x below) ∷ open_behind x from mode ∷ below))
+unfolding slot_usage slots_of
+open-usage rules s line depth texts x below id actuals used parts from mode some e comes bound left room =
+    let slot = slot_of texts x below in
+    let under = slots_of texts below in
+    let rest = open_behind x from mode in
+    let ts = (slot_of texts (first_behind texts x below) below).text in
+    let m = macro_at texts.macros id in
+    usage-move rules s line depth texts x below (Opens m actuals used) some e comes
+    ∙ ap (λ (k : ℕ). slot_opened s line depth (body_slot m actuals k) (with_left slot (drop used ts) ∷ under)) (open-scope texts x below)
+    ∙ ap (λ (us : List SourceToken). slot_opened s line depth (body_slot m actuals (open_scope x below)) (with_left slot us ∷ under)) left
+    ∙ ap (λ (y : Slot). slot_opened s line depth (body_slot m actuals (open_scope x below)) (y ∷ under)) (left-behind texts x below from mode)
+    ∙ ap (λ (y : Slot). slot_opened s line depth y (slot_of texts rest below ∷ under)) (body-opened texts id parts (open_scope x below) (rest ∷ below) actuals bound)
+    ∙ opened-room s line depth (slot_of texts (open_body texts id parts (open_scope x below)) (rest ∷ below)) (slot_of texts rest below ∷ under)
+    (let n = slots-length texts below in omega (arith, n, room))
+
+-- and is a fault where there is none
+pub open-usage_deep : (rules : Rules) (s : State) (line depth : ℕ) (texts : Texts) (x : Open) (below : List Open)
+    (m : Macro) (actuals : List (List SourceToken)) (used : ℕ)
+    → 0 < length (open_bytes texts x below) → first_kind texts x below ≡ Back
+    → first_usage rules s line texts x below ≡ Opens m actuals used → depth ≤ length (x ∷ below)
+    → slot_move rules s line depth (slot_of texts x below) (slots_of texts below) ≡ SlotStops [] (fault_at DepthPassed line [] s)
+unfolding slot_usage slots_of
+open-usage_deep rules s line depth texts x below m actuals used some e comes deep =
+    let slot = slot_of texts x below in
+    let under = slots_of texts below in
+    let ts = (slot_of texts (first_behind texts x below) below).text in
+    usage-move rules s line depth texts x below (Opens m actuals used) some e comes
+    ∙ opened-deep s line depth (body_slot m actuals (scope_of slot under)) (with_left slot (drop used ts) ∷ under)
+    (let n = slots-length texts below in omega (arith, n, deep))
+
+-- an open text behind some of its bytes is still open
+pub behind-open : (texts : Texts) (x : Open) (below : List Open) (n : ℕ) (mode : Mode) → AreOpen texts (x ∷ below)
+    → AreOpen texts (open_behind x n mode ∷ below)
+unfolding open_behind
+behind-open texts x below n mode h = h
+
+-- a text that is no body has no parts
+text-parts : (texts : Texts) (text : List ℕ) (kind : OpenKind) → IsOpenText kind → HasParts texts text kind
+unfolding IsOpenText
+text-parts texts text (OpenBody id parts) h = absurd h
+text-parts texts text OpenActual h = tt
+text-parts texts text (OpenDefault id place) h = tt
+
+-- what is found for a name is open in front, by what is found
+found-open : (texts : Texts) (opens : List Open) (found : Option Open) (standing : Option Slot) (new : Open) → OpenFound texts opens found standing
+    → found ≡ Some new → AreOpen texts opens → AreOpen texts (new ∷ opens)
+unfolding OpenFound
+found-open texts opens found standing new m e h =
+    let f : IsOpenFound texts opens new standing = subst (λ (o : Option Open). OpenFound texts opens o standing) e m in
+    (f.inside, (text-parts texts (scope_text texts opens new.home) new.kind f.text, h))
+
+-- what a formal stands for is open in front of what is left behind its name
+pub formal-open : (texts : Texts) (x : Open) (below : List Open) (bytes : List ℕ) (n : ℕ) (mode : Mode) (new : Open) → AreOpen texts (x ∷ below)
+    → open_at texts (open_behind x n mode ∷ below) (open_scope x below) bytes ≡ Some new
+    → AreOpen texts (new ∷ open_behind x n mode ∷ below)
+formal-open texts x below bytes n mode new h e =
+    let opens : List Open = open_behind x n mode ∷ below in
+    let sound : AreOpen texts opens = behind-open texts x below n mode h in
+    found-open texts opens (open_at texts opens (open_scope x below) bytes)
+    (standing_at (slots_of texts opens) (open_scope x below) (record { sort = Ordinary Name; bytes = bytes; line = 0 })) new
+    (open-found texts opens (open_scope x below) bytes 0 sound) e sound
+
+-- the macros in whose text a slot's scope is, by what it is
+own-writers : (texts : Texts) (text : List ℕ) (kind : OpenKind) (writers : List (List ℕ)) → own_writer (slot_kind texts text kind) writers ≡ own_writers texts kind writers
+unfolding own_writer slot_kind own_writers
+own-writers texts text (OpenBody id parts) writers = refl
+own-writers texts text OpenActual writers = refl
+own-writers texts text (OpenDefault id place) writers = refl
+
+-- the macros in whose text a scope is are those of the bodies down the chain of homes
+pub open-writers : (texts : Texts) (opens : List Open) (k : ℕ) → writer_at (slots_of texts opens) k ≡ writers_at texts opens k
+unfolding writer_at writers_at slots_of slot_of
+open-writers texts [] k = refl
+open-writers texts (x ∷ below) k =
+    let kind = slot_kind texts (scope_text texts below x.home) x.kind in
+    ap (λ (n : ℕ). if k == suc n then own_writer kind (writer_at (slots_of texts below) x.home) else writer_at (slots_of texts below) k) (slots-length texts below)
+    ∙ ap (λ (w : List (List ℕ)). if k == suc (length below) then own_writer kind w else writer_at (slots_of texts below) k) (open-writers texts below x.home)
+    ∙ ap (λ (w : List (List ℕ)). if k == suc (length below) then w else writer_at (slots_of texts below) k) (own-writers texts (scope_text texts below x.home) x.kind (writers_at texts below x.home))
+    ∙ ap (λ (w : List (List ℕ)). if k == suc (length below) then own_writers texts x.kind (writers_at texts below x.home) else w) (open-writers texts below k)

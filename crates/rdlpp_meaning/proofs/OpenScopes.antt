@@ -10,7 +10,7 @@ use Rattle.rdlpp_scan.specs.declared.token.Kind.TheVariants.{Name}
 use Rattle.rdlpp_scan.specs.declared.token.Mode.TheVariants.{Plain}
 use Rattle.rdlpp_scan.specs.SourceTokens.{Ordinary, SourceToken}
 use Rattle.rdlpp_scan.specs.Tokens.{token_of}
-use Rattle.rdlpp_table.specs.Table.{Formal, Macro}
+use Rattle.rdlpp_table.specs.Table.{Formal}
 use Rattle.rdlpp_table.specs.View.{macro_at, formals_of, formal_named}
 use Rattle.rdlpp_meaning.specs.Substitution.{Standing, Given, Defaulted, standing_of, bound_to}
 use Rattle.rdlpp_meaning.specs.Substitution.{body_tokens}

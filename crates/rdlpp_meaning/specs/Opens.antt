@@ -1,7 +1,7 @@
 -- Open texts as parts of the texts in which they lie: a body or a default in the table, an actual in the text in which its call
 -- is written. Nothing says where a text lies but its home and what it is.
 -- A definition that names no source is this project's own.
-use Rattle.std.specs.Prelude.{ℕ, suc, ◌+◌, ◌-◌, ◌≤◌, ◌==◌, ◌&&◌, not, List, [], ◌∷◌, map, length, slice_range, slice_index_or, Option, None, Some, if◌then◌else◌}
+use Rattle.std.specs.Prelude.{ℕ, suc, ◌+◌, ◌-◌, ◌≤◌, ◌==◌, ◌&&◌, not, List, [], ◌∷◌, map, length, slice_range, slice_index_or, Option, None, if◌then◌else◌}
 use Rattle.std.specs.List.{AllByRecursion}
 use Rattle.std.specs.Option.{option_map}
 use Rattle.rdlpp_scan.specs.declared.token.Mode.{Mode}
@@ -9,7 +9,7 @@ use Rattle.rdlpp_scan.specs.declared.token.Mode.TheVariants.{Plain}
 use Rattle.rdlpp_scan.specs.SourceTokens.{SourceToken}
 use Rattle.rdlpp_table.specs.Table.{Formal, Macro}
 use Rattle.rdlpp_table.specs.View.{macro_at, formals_of, formal_named}
-use Rattle.rdlpp_meaning.specs.Slots.{CallOf, SlotKind, Body, Actual, Default, Slot}
+use Rattle.rdlpp_meaning.specs.Slots.{SlotKind, Body, Actual, Default, Slot}
 use Rattle.rdlpp_meaning.specs.TextTokens.{text_tokens}
 
 -- a part of a text: its bytes from one place up to another, and the mode in which they are read
@@ -150,3 +150,15 @@ open_body texts id parts home = record {
   home = home;
   kind = OpenBody id parts;
 }
+
+-- the macros in whose text a scope is, by what it is and those of its home
+unfoldable pub own_writers : Texts → OpenKind → List (List ℕ) → List (List ℕ)
+own_writers texts (OpenBody id parts) writers = (macro_at texts.macros id).name ∷ writers
+own_writers texts OpenActual writers = []
+own_writers texts (OpenDefault id place) writers = writers
+
+-- the macros in whose text a scope is: those of the bodies down the chain of homes
+unfoldable pub writers_at : Texts → List Open → ℕ → List (List ℕ)
+writers_at texts [] k = []
+writers_at texts (x ∷ below) k =
+    if k == suc (length below) then own_writers texts x.kind (writers_at texts below x.home) else writers_at texts below k
