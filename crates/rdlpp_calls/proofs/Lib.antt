@@ -1,0 +1,2 @@
+pub mod FirstTokens
+pub mod Searches

@@ -1,0 +1,7 @@
+//! The parts of a call in a text: its `(`, its `)`, and the actuals between them, as ranges of bytes.
+#![tactic(auto)]
+
+mod parts;
+mod tokens;
+
+pub use parts::{Part, call_end, call_start, next_part};
