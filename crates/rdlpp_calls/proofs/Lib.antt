@@ -1,2 +1,3 @@
 pub mod FirstTokens
 pub mod Searches
+pub mod CallLaws

@@ -1,8 +1,10 @@
 -- A text that is cut at a boundary of its tokens has the tokens before the cut in front of it and the others behind it.
 use Rattle.std.proofs.Common.{◌≡◌, ◌≤◌, ◌<◌, ℕ, zero, suc, ◌+◌, ◌-◌, Bool, true, false, List, [], ◌∷◌, ◌++◌, length, take, drop, refl, sym, ap, ◌∙◌, subst, arith}
+use Rattle.std.proofs.lemmas.Bool.{false≢true}
 use Rattle.std.proofs.lemmas.List.{length-drop, length-take, take-take, drop-take, drop-drop}
 use Rattle.std.proofs.Math.Seq.{take-add}
 use Rattle.rdlpp_scan.specs.declared.token.Kind.{Kind}
+use Rattle.rdlpp_scan.specs.declared.token.Kind.TheVariants.{Blank, LineEnd, Str, LineComment, BlockComment, Opener, Closer, Comma}
 use Rattle.rdlpp_scan.specs.declared.token.Mode.{Mode}
 use Rattle.rdlpp_scan.specs.declared.token.Mode.TheVariants.{Plain}
 use Rattle.rdlpp_scan.specs.declared.token.Token.{Token}
@@ -14,6 +16,7 @@ use Rattle.rdlpp_scan.proofs.ClosedKinds.{closed_kind_plain}
 use Rattle.rdlpp_scan.proofs.RangeLaws.{tokens_from-first, tokens_from-front, tokens_from-behind_some}
 use Rattle.rdlpp_scan.proofs.TokenLens.{token_of-part}
 use Rattle.rdlpp_scan.proofs.TokenLists.{tokens_from-step}
+use Rattle.rdlpp_meaning.specs.Actuals.{Role, Remark, Text, kind_role, token_role}
 use Rattle.rdlpp_meaning.specs.Expansion.{bytes_of}
 use Rattle.rdlpp_meaning.specs.Substitution.{spelled, body_tokens}
 use Rattle.rdlpp_meaning.specs.TextTokens.{text_tokens}
@@ -136,3 +139,65 @@ text_cut m bs us vs e =
           ∙ ap (λ (ts : List Token). spelled ts (drop k bs)) behind
           ∙ c.back;
     }
+
+-- whether a token of a role leaves plain text behind it, wherever it stands
+unfoldable pub closes_text : Role → Bool
+closes_text Text = false
+closes_text Remark = false
+closes_text r = true
+
+-- such a token isn't open
+closed_role : (k : Kind) (bytes : List ℕ) → closes_text (kind_role k bytes) ≡ true → opens_mode k ≡ false
+unfolding closes_text kind_role opens_mode
+closed_role Str bytes e = absurd (false≢true e)
+closed_role BlockComment bytes e = absurd (false≢true e)
+closed_role Opener bytes e = refl
+closed_role Closer bytes e = refl
+closed_role Blank bytes e = refl
+closed_role LineEnd bytes e = refl
+closed_role LineComment bytes e = refl
+closed_role Comma bytes e = refl
+closed_role k bytes e = refl
+
+-- what is behind such a first token begins in plain text
+first_closed : (m : Mode) (bs : List ℕ) → closes_text (token_role (first_spelled m bs)) ≡ true → (token_of m bs).next_mode ≡ Plain
+unfolding first_spelled token_role
+first_closed m bs e = closed_kind_plain m bs (closed_role (token_of m bs).kind (take (token_of m bs).len bs) e)
+
+-- the first token of a text whose tokens begin with one, and the tokens behind it
+first_of : (m : Mode) (bs : List ℕ) (u : SourceToken) (vs : List SourceToken) → text_tokens m bs ≡ u ∷ vs → closes_text (token_role u) ≡ true
+    → (text_tokens Plain (drop (length u.bytes) bs) ≡ vs) × (length u.bytes ≤ length bs)
+first_of m [] u vs e closed = absurd (nil_cons u vs (sym (text_nil m) ∙ e))
+  where
+    nil_cons : (x : SourceToken) (xs : List SourceToken) → (let none : List SourceToken = [] in none) ≡ x ∷ xs → ⊥
+    nil_cons x xs h = cc
+first_of m (b ∷ bs) u vs e closed =
+    let T = b ∷ bs in
+    let some : 0 < length T = omega arith in
+    let t = token_of m T in
+    let later = text_tokens t.next_mode (drop t.len T) in
+    let whole = sym (text_step m T some) ∙ e in
+    let same : first_spelled m T ≡ u = heads (first_spelled m T) u later vs whole in
+    let size : length u.bytes ≡ t.len = ap (λ (v : SourceToken). length v.bytes) (sym same) ∙ first_size m T some in
+    let plain = first_closed m T (ap (λ (v : SourceToken). closes_text (token_role v)) same ∙ closed) in
+    let part = token_of-part m T some in
+    (ap (λ (n : ℕ). text_tokens Plain (drop n T)) size
+    ∙ ap (λ (mode : Mode). text_tokens mode (drop t.len T)) (sym plain)
+    ∙ tails (first_spelled m T) u later vs whole,
+    omega (arith, size, part.inside))
+  where
+    heads : (x y : SourceToken) (xs ys : List SourceToken) → x ∷ xs ≡ y ∷ ys → x ≡ y
+    heads x y xs ys h = cc
+    tails : (x y : SourceToken) (xs ys : List SourceToken) → x ∷ xs ≡ y ∷ ys → xs ≡ ys
+    tails x y xs ys h = cc
+
+-- behind a token that leaves plain text, a text has the tokens that follow
+pub text_behind : (m : Mode) (bs : List ℕ) (us : List SourceToken) (u : SourceToken) (vs : List SourceToken)
+    → text_tokens m bs ≡ us ++ u ∷ vs → closes_text (token_role u) ≡ true
+    → (text_tokens Plain (drop (length (bytes_of us) + length u.bytes) bs) ≡ vs) × (length (bytes_of us) + length u.bytes ≤ length bs)
+text_behind m bs us u vs e closed =
+    let c = text_cut m bs us (u ∷ vs) e in
+    let n = length (bytes_of us) in
+    let f = first_of c.mode (drop n bs) u vs c.back closed in
+    let size = length-drop n bs in
+    (ap (λ (x : List ℕ). text_tokens Plain x) (sym (drop-drop (length u.bytes) n bs)) ∙ f.0, omega (arith, f.1, size, c.inside))
