@@ -1,3 +1,5 @@
 pub mod FirstTokens
 pub mod Searches
 pub mod CallLaws
+pub mod ArgumentLaws
+pub mod PartLaws

@@ -1,13 +1,15 @@
 -- Where the `(` and the `)` of a call stand in a text, and its next part.
 -- A definition that names no source is this project's own.
-use Rattle.std.specs.Prelude.{◌≡◌, ℕ, zero, suc, ◌+◌, ◌-◌, ◌<◌, ◌≤◌, Bool, true, false, List, [], ◌∷◌, length, take, drop, filter, Option, None, Some, if◌then◌else◌}
-use Rattle.rdlpp_scan.specs.declared.token.Mode.TheVariants.{Plain}
+use Rattle.std.specs.Prelude.{◌≡◌, ℕ, zero, suc, ◌+◌, ◌-◌, ◌<◌, ◌≤◌, Bool, true, false, List, [], ◌∷◌, length, take, drop, filter, Option, None, Some, Result, Ok, Err, if◌then◌else◌}
 use Rattle.rdlpp_scan.specs.SourceTokens.{SourceToken}
 use Rattle.rdlpp_meaning.specs.declared.fault.FaultKind.TheVariants.{ArgumentsMissing, ArgumentsOpen}
-use Rattle.rdlpp_meaning.specs.Actuals.{Role, Space, Dropped, Remark, Start, End, Cut, level_behind, is_space, trimmed, token_role}
-use Rattle.rdlpp_meaning.specs.CallScan.{Before, Inside, Scanned, Refused, Closed, scan, Split, split, all_parts, is_kept}
+use Rattle.rdlpp_meaning.specs.Actuals.{Role, Space, Dropped, Remark, Start, End, Cut, Call, Lacking, call_of, level_behind, is_space, trimmed, token_role}
+use Rattle.rdlpp_meaning.specs.CallScan.{Closed, split, all_parts, call_of_scan, is_kept}
 use Rattle.rdlpp_meaning.specs.Cursors.{not_kept}
 use Rattle.rdlpp_meaning.specs.Substitution.{body_tokens}
+use Rattle.rdlpp_calls.specs.declared.parts.Arguments.{Arguments}
+use Rattle.rdlpp_calls.specs.declared.parts.CallFault.{CallFault}
+use Rattle.rdlpp_calls.specs.declared.parts.CallFault.TheVariants.{Missing, Unclosed}
 use Rattle.rdlpp_calls.specs.declared.parts.Part.{Part}
 
 -- where the `(` of a call ends, by the role of the first token: where it ends here, or what the rest tells
@@ -54,3 +56,32 @@ part_from start at level end (t ∷ ts) =
     if ends_part (token_role t) level then record { from = start; to = end; next = Some (at + length t.bytes) }
     else part_from start (at + length t.bytes) (level_behind (token_role t) level)
     (if is_space (token_role t) then end else at + length t.bytes) ts
+
+-- the arguments of a call in a text: the call is that of the definition, with what is kept of the tokens between its parentheses,
+-- and behind it stand the tokens of the text behind the `)` (source: this project's profile)
+pub record IsCallAt (text : List ℕ) (from to : ℕ) : Type 0 where
+  pub ordered : from ≤ to
+  pub inside : to < length text
+  pub used : ℕ
+  pub call : (room : ℕ) → call_of token_role not_kept room (body_tokens text)
+      ≡ call_of_scan token_role 0 (Closed (filter (λ t. is_kept (token_role t)) (body_tokens (take (to - from) (drop from text)))) used)
+  pub behind : drop used (body_tokens text) ≡ body_tokens (drop (to + 1) text)
+
+-- what a text has behind the name of a macro: the arguments of a call, or what is missing of it
+unfoldable pub IsCall : List ℕ → Result Arguments CallFault → Type 0
+IsCall text (Ok a) = IsCallAt text a.from a.to
+IsCall text (Err Missing) = (room : ℕ) → call_of token_role not_kept room (body_tokens text) ≡ Lacking ArgumentsMissing
+IsCall text (Err Unclosed) = (room : ℕ) → call_of token_role not_kept room (body_tokens text) ≡ Lacking ArgumentsOpen
+
+-- the further parts of a call are those of the text from a place on, or none
+unfoldable pub AreFurther : List ℕ → Option ℕ → List (List SourceToken) → Type 0
+AreFurther text None parts = parts ≡ []
+AreFurther text (Some next) parts = (next ≤ length text) × (parts ≡ all_parts (split token_role 0 (body_tokens (drop next text))))
+
+-- the next part of a call, in the text between its parentheses: the tokens of its range are those of the first part of the
+-- definition, trimmed, and the further parts are those of the text behind it (source: this project's profile)
+pub record IsNextPart (text : List ℕ) (part : Part) : Type 0 where
+  pub ordered : part.from ≤ part.to
+  pub inside : part.to ≤ length text
+  pub actual : body_tokens (take (part.to - part.from) (drop part.from text)) ≡ trimmed token_role (split token_role 0 (body_tokens text)).first
+  pub further : AreFurther text part.next (split token_role 0 (body_tokens text)).further

@@ -4,4 +4,4 @@
 mod parts;
 mod tokens;
 
-pub use parts::{Part, call_end, call_start, next_part};
+pub use parts::{Arguments, CallFault, Part, arguments_of, call_end, call_start, next_part};

@@ -1,10 +1,28 @@
 // The `(` and the `)` of a call in a text, and the parts between them.
-ghost use Rattle.std.specs.Prelude.{◌≡◌, ◌+◌, ◌≤◌, ◌<◌, ◌==◌, not, length, drop};
+ghost use Rattle.std.specs.Prelude.{◌≡◌, ◌+◌, ◌≤◌, ◌<◌, IfSome, length, drop};
 ghost use Rattle.rdlpp_meaning.specs.Substitution.{body_tokens};
-ghost use Rattle.rdlpp_calls.specs.CallParts.{closer_from, opener_from, part_from, space_from};
+ghost use Rattle.rdlpp_calls.specs.CallParts.{IsCall, IsNextPart, closer_from, opener_from, part_from, space_from};
 
 use crate::tokens::{CallRole, ends_call, ends_part, is_space, level_behind, token_in_call};
 use rdlpp_scan::Mode;
+
+/// The arguments of a call in a text: what stands between its parentheses.
+#[derive(Clone, Copy, Debug, PartialEq, Eq)]
+pub struct Arguments {
+    /// Where they begin, behind the `(`.
+    pub from: usize,
+    /// Where they end; the `)` stands there.
+    pub to: usize,
+}
+
+/// What is missing of a call.
+#[derive(Clone, Copy, Debug, PartialEq, Eq)]
+pub enum CallFault {
+    /// No `(` follows, but for white space, line ends and comments.
+    Missing,
+    /// No `)` closes the call.
+    Unclosed,
+}
 
 /// The next part of a call.
 #[derive(Clone, Copy, Debug, PartialEq, Eq)]
@@ -20,6 +38,7 @@ pub struct Part {
 /// How many bytes of a text stand up to and with the `(` of a call.
 pub fn call_start(text: &[u8]) -> Option<usize>
     ensures value { result ≡ opener_from 0 (body_tokens text.now) }
+    ensures inside { IfSome result (λ n. n ≤ length text.now) }
 {
     let mut at = 0;
     let mut mode = Mode::Plain;
@@ -39,6 +58,7 @@ pub fn call_start(text: &[u8]) -> Option<usize>
 /// How many bytes of a text stand in front of the `)` of a call.
 pub fn call_end(text: &[u8]) -> Option<usize>
     ensures value { result ≡ closer_from 0 0 (body_tokens text.now) }
+    ensures inside { IfSome result (λ n. n < length text.now) }
 {
     let mut at = 0;
     let mut level = 0;
@@ -53,6 +73,22 @@ pub fn call_end(text: &[u8]) -> Option<usize>
         mode = token.next_mode;
     }
     None
+}
+
+/// The arguments of a call in a text that begins behind the name of its macro.
+pub fn arguments_of(text: &[u8]) -> Result<Arguments, CallFault>
+    ensures { IsCall text.now result }
+{
+    let Some(from) = call_start(text) else {
+        return Err(CallFault::Missing);
+    };
+    let Some(len) = call_end(&text[from..]) else {
+        return Err(CallFault::Unclosed);
+    };
+    Ok(Arguments {
+        from,
+        to: from + len,
+    })
 }
 
 // How many bytes of white space a text begins with.
@@ -73,12 +109,11 @@ fn space_len(text: &[u8]) -> usize
     at
 }
 
-/// The next part of a call, in the text between its parentheses.
-pub fn next_part(text: &[u8]) -> Part
-    ensures value { let start = space_from 0 (body_tokens text.now) in
-        result ≡ part_from start start 0 start (body_tokens (drop start text.now)) }
+// The part that begins at a place, in the text between the parentheses of a call.
+fn part_at(text: &[u8], from: usize) -> Part
+    requires { from ≤ length text.now }
+    ensures { result ≡ part_from from from 0 from (body_tokens (drop from text.now)) }
 {
-    let from = space_len(text);
     let mut at = from;
     let mut to = from;
     let mut level = 0;
@@ -104,4 +139,14 @@ pub fn next_part(text: &[u8]) -> Part
         to,
         next: None,
     }
+}
+
+/// The next part of a call, in the text between its parentheses.
+pub fn next_part(text: &[u8]) -> Part
+    ensures value { let start = space_from 0 (body_tokens text.now) in
+        result ≡ part_from start start 0 start (body_tokens (drop start text.now)) }
+    ensures part { IsNextPart text.now result }
+{
+    let from = space_len(text);
+    part_at(text, from)
 }

@@ -21,6 +21,7 @@ returns-then-ends_call c =
     record {
       value = sym (sym c.loop-at.invariant.found ∙ closer_turn c.loop-at.mode text at c.loop-at.level token f
           ∙ ap (λ b. cond b (Some at) rest) (sym c.ends_call.ensures ∙ c.if-ends_call.true));
+      inside = omega arith;
     }
 
 pub loop-at-preserved : goal.loop-at-preserved
@@ -46,4 +47,5 @@ unfolding closer_from
 returns c =
     record {
       value = sym (sym c.loop-at.invariant.found ∙ ap (closer_from c.loop-at.at c.loop-at.level) (none_left c.loop-at.mode c.args.text.now c.loop-at.at (omega arith)));
+      inside = tt;
     }

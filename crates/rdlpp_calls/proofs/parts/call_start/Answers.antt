@@ -35,6 +35,7 @@ returns-in-Start c =
     let rest = opener_from here (text_tokens token.next_mode (drop here text)) in
     record {
       value = sym (sym c.loop-at.invariant.found ∙ opener_turn c.loop-at.mode text at token f ∙ ap (λ (r : CallRole). opener_by (role_meant r) here rest) c.in-Start.is);
+      inside = token_inside c.loop-at.mode text at token c.loop-at.invariant.inside f;
     }
 
 pub returns-in_default : goal.returns-in_default
@@ -48,6 +49,7 @@ returns-in_default c =
     record {
       value = sym (sym c.loop-at.invariant.found ∙ opener_turn c.loop-at.mode text at token f
           ∙ opener_lacks token.role here rest c.in_default.not-Space c.in_default.not-LineComment c.in_default.not-BlockComment c.in_default.not-Start);
+      inside = tt;
     }
 
 pub returns : goal.returns
@@ -55,4 +57,5 @@ unfolding opener_from
 returns c =
     record {
       value = sym (sym c.loop-at.invariant.found ∙ ap (opener_from c.loop-at.at) (none_left c.loop-at.mode c.args.text.now c.loop-at.at (omega arith)));
+      inside = tt;
     }

@@ -7,14 +7,14 @@ use Rattle.rdlpp_calls.specs.CallParts.{space_from, ends_part, part_from}
 use Rattle.rdlpp_calls.specs.CallTokens.{role_meant}
 use Rattle.rdlpp_calls.specs.declared.parts.Part.{Part}
 use Rattle.rdlpp_calls.proofs.Searches.{token_at, token_inside, part_turn, level_low, none_left}
-use Rattle.rdlpp_calls.proofs.parts.next_part.Goals as goal
-use Rattle.rdlpp_calls.proofs.parts.next_part.Goals.{then-not-is_space, else-not-is_space}
+use Rattle.rdlpp_calls.proofs.parts.part_at.Goals as goal
+use Rattle.rdlpp_calls.proofs.parts.part_at.Goals.{then-not-is_space, else-not-is_space}
 
 pub loop-at-init : goal.loop-at-init
 loop-at-init c =
-    let start = c.space_len-from.result in
+    let start = c.args.from in
     record {
-      inside = c.space_len-from.ensures.inside;
+      inside = omega arith;
       low = omega arith;
       found = ap (part_from start start 0 start) (sym (body_text (drop start c.args.text.now)));
     }
@@ -23,25 +23,21 @@ pub returns-then-ends_part : goal.returns-then-ends_part
 returns-then-ends_part c =
     let text = c.args.text.now in
     let at = c.loop-at.at in
-    let start = c.space_len-from.result in
+    let start = c.args.from in
     let token = c.token_in_call-token.result in
     let f = token_at c.loop-at.mode text at token c.loop-at.invariant.inside c.token_in_call-token.ensures in
     let here = at + token.len in
     let rest = part_from start here (level_behind (role_meant token.role) c.loop-at.level) (cond (is_space (role_meant token.role)) c.loop-at.to here)
     (text_tokens token.next_mode (drop here text)) in
     let ended : Part = record { from = start; to = c.loop-at.to; next = Some here } in
-    record {
-      value =
-          sym (sym c.loop-at.invariant.found ∙ part_turn c.loop-at.mode text start at c.loop-at.level c.loop-at.to token f
-          ∙ ap (λ b. cond b ended rest) (sym c.ends_part.ensures ∙ c.if-ends_part.true))
-          ∙ ap (λ (n : ℕ). part_from n n 0 n (body_tokens (drop n text))) c.space_len-from.ensures.value;
-    }
+    sym (sym c.loop-at.invariant.found ∙ part_turn c.loop-at.mode text start at c.loop-at.level c.loop-at.to token f
+    ∙ ap (λ b. cond b ended rest) (sym c.ends_part.ensures ∙ c.if-ends_part.true))
 
 pub loop-at-preserved : goal.loop-at-preserved
 loop-at-preserved c =
     let text = c.args.text.now in
     let at = c.loop-at.at in
-    let start = c.space_len-from.result in
+    let start = c.args.from in
     let token = c.token_in_call-token.result in
     let f = token_at c.loop-at.mode text at token c.loop-at.invariant.inside c.token_in_call-token.ensures in
     let here = at + token.len in
@@ -67,10 +63,6 @@ loop-at-preserved c =
 pub returns : goal.returns
 unfolding part_from
 returns c =
-    let start = c.space_len-from.result in
+    let start = c.args.from in
     let text = c.args.text.now in
-    record {
-      value =
-          sym (sym c.loop-at.invariant.found ∙ ap (part_from start c.loop-at.at c.loop-at.level c.loop-at.to) (none_left c.loop-at.mode text c.loop-at.at (omega arith)))
-          ∙ ap (λ (n : ℕ). part_from n n 0 n (body_tokens (drop n text))) c.space_len-from.ensures.value;
-    }
+    sym (sym c.loop-at.invariant.found ∙ ap (part_from start c.loop-at.at c.loop-at.level c.loop-at.to) (none_left c.loop-at.mode text c.loop-at.at (omega arith)))
