@@ -2,4 +2,5 @@ pub mod FirstTokens
 pub mod Searches
 pub mod CallLaws
 pub mod ArgumentLaws
+pub mod Trimming
 pub mod PartLaws
