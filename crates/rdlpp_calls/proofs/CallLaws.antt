@@ -1,5 +1,5 @@
 -- Where the parentheses of a call stand in a text is where its scan opens and closes.
-use Rattle.std.proofs.Common.{◌≡◌, ◌≤◌, ◌<◌, ℕ, zero, suc, ◌+◌, ◌-◌, Bool, true, false, cond, List, [], ◌∷◌, ◌++◌, length, take, drop, filter, ◌==◌, slice_index, All, refl, sym, ap, ◌∙◌, subst, arith, Option, Some, None}
+use Rattle.std.proofs.Common.{◌≡◌, ℕ, zero, suc, ◌+◌, ◌-◌, Bool, true, false, cond, List, [], ◌∷◌, ◌++◌, length, take, drop, filter, ◌==◌, slice_index, All, refl, ap, ◌∙◌, arith, Option, Some, None}
 use Rattle.std.specs.Prelude.{nat_le}
 use Rattle.std.proofs.lemmas.Bool.{false≢true}
 use Rattle.std.proofs.lemmas.Bool.Decides.{nat_tests}
@@ -12,8 +12,8 @@ use Rattle.rdlpp_scan.specs.declared.token.Token.{Token}
 use Rattle.rdlpp_scan.specs.SourceTokens.{Ordinary, SourceToken}
 use Rattle.rdlpp_scan.specs.Tokens.{tokens_from}
 use Rattle.rdlpp_meaning.specs.declared.fault.FaultKind.TheVariants.{ArgumentsMissing, ArgumentsOpen}
-use Rattle.rdlpp_meaning.specs.Actuals.{Role, Space, Dropped, Remark, Start, Up, End, Down, Cut, Halt, Text, Ends, Stops, level_behind, kept_size, kind_role, token_role}
-use Rattle.rdlpp_meaning.specs.CallScan.{Stand, Before, Inside, Turn, Passes, Keeps, Closes, Refuses, turn_before, turn_fitting, turn_inside, turn, stand_behind_lead, stand_behind, room_behind, fault_at_end, Scanned, Refused, Stopped, Closed, scan_passing, scan_keeping, scanned, scan, is_kept, is_call_text}
+use Rattle.rdlpp_meaning.specs.Actuals.{Role, Space, Dropped, Remark, Start, Up, End, Down, Halt, Ends, Stops, level_behind, kept_size, kind_role, token_role}
+use Rattle.rdlpp_meaning.specs.CallScan.{Stand, Before, Inside, Turn, Passes, Keeps, Closes, turn_before, turn_fitting, turn_inside, turn, stand_behind_lead, stand_behind, room_behind, fault_at_end, Scanned, Refused, Closed, scan_passing, scan_keeping, scanned, scan, is_kept, is_call_text}
 use Rattle.rdlpp_meaning.specs.Cursors.{not_kept}
 use Rattle.rdlpp_meaning.specs.Expansion.{bytes_of}
 use Rattle.rdlpp_meaning.specs.Substitution.{spelled}

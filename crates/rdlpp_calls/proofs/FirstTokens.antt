@@ -1,17 +1,15 @@
 -- The first token of a text by its role in a call.
-use Rattle.std.proofs.Common.{◌≡◌, ◌<◌, ◌≤◌, ℕ, zero, suc, subst, List, [], ◌∷◌, length, take, drop, slice_index, cond, refl, sym, ap, ◌∙◌, arith}
+use Rattle.std.proofs.Common.{◌≡◌, ◌<◌, ◌≤◌, ℕ, zero, suc, subst, List, [], ◌∷◌, length, take, drop, slice_index, refl, sym, ap, ◌∙◌, arith}
 use Rattle.rdlpp_scan.specs.declared.token.Kind.{Kind}
 use Rattle.rdlpp_scan.specs.declared.token.Kind.TheVariants.{Opener, Closer}
 use Rattle.rdlpp_scan.specs.declared.token.Mode.{Mode}
 use Rattle.rdlpp_scan.specs.declared.token.Token.{Token}
-use Rattle.rdlpp_scan.specs.SourceTokens.{SourceToken}
 use Rattle.rdlpp_scan.specs.Tokens.{token_of}
-use Rattle.rdlpp_meaning.specs.Actuals.{Role, Start, Up, End, Down, kind_role, token_role}
+use Rattle.rdlpp_meaning.specs.Actuals.{kind_role, token_role}
 use Rattle.rdlpp_meaning.specs.TextTokens.{text_tokens}
 use Rattle.rdlpp_meaning.proofs.TextRanges.{first_spelled, text_step, first_size}
 use Rattle.rdlpp_calls.specs.CallTokens.{role_meant, IsFirstToken}
 use Rattle.rdlpp_calls.specs.declared.tokens.CallRole.{CallRole}
-use Rattle.rdlpp_calls.specs.declared.tokens.CallToken.{CallToken}
 
 -- the role of a token hangs on its first byte alone
 first_byte : (k : Kind) (xs ys : List ℕ) → slice_index xs 0 ≡ slice_index ys 0 → kind_role k xs ≡ kind_role k ys

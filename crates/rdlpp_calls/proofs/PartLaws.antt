@@ -1,11 +1,11 @@
 -- The next part that is found in a text is that of the definition, trimmed.
-use Rattle.std.proofs.Common.{◌≡◌, ◌≤◌, ◌<◌, ℕ, zero, suc, ◌+◌, ◌-◌, Bool, true, false, cond, List, [], ◌∷◌, ◌++◌, length, take, drop, All, refl, sym, ap, ◌∙◌, subst, arith, append_assoc, Option, Some, None}
+use Rattle.std.proofs.Common.{◌≡◌, ◌≤◌, ℕ, zero, suc, ◌+◌, ◌-◌, Bool, true, false, cond, List, [], ◌∷◌, ◌++◌, length, take, drop, All, refl, sym, ap, ◌∙◌, subst, arith, append_assoc, Option, Some, None}
 use Rattle.std.proofs.lemmas.Bool.{false≢true}
 use Rattle.std.proofs.lemmas.List.{append-nil, drop-drop, length-drop, length-append}
 use Rattle.std.proofs.lemmas.List.Elements.{All-nil, All-cons, All-head, All-tail}
 use Rattle.rdlpp_scan.specs.declared.token.Mode.TheVariants.{Plain}
 use Rattle.rdlpp_scan.specs.SourceTokens.{SourceToken}
-use Rattle.rdlpp_meaning.specs.Actuals.{Role, Space, Dropped, Remark, Start, Up, End, Down, Cut, Halt, Text, Ends, Stops, level_behind, is_space, behind_space, trimmed, token_role}
+use Rattle.rdlpp_meaning.specs.Actuals.{Role, Space, Cut, level_behind, is_space, behind_space, token_role}
 use Rattle.rdlpp_meaning.specs.CallScan.{Split, split_by, split, all_parts}
 use Rattle.rdlpp_meaning.specs.Expansion.{bytes_of}
 use Rattle.rdlpp_meaning.specs.Substitution.{body_tokens}
@@ -13,7 +13,7 @@ use Rattle.rdlpp_meaning.specs.TextTokens.{text_tokens}
 use Rattle.rdlpp_meaning.proofs.TextRanges.{body_text, closes_text, text_cut, text_behind, first_behind}
 use Rattle.rdlpp_calls.specs.declared.parts.Part.{Part}
 use Rattle.rdlpp_calls.specs.CallParts.{space_from, ends_part, part_from, AreFurther, IsNextPart}
-use Rattle.rdlpp_calls.proofs.Trimming.{solid_front, solid, space_front, space_nil, trimmed_is, HasSolid, has_solid}
+use Rattle.rdlpp_calls.proofs.Trimming.{solid_front, solid, space_front, space_nil, trimmed_is, has_solid}
 
 -- where what isn't white space ends, in tokens that stand from a place on, without the white space at their end
 unfoldable solid_end : ℕ → ℕ → List SourceToken → ℕ
@@ -218,11 +218,12 @@ lead_behind (t ∷ lead) rest bs e spaces =
     let later = drop (length t.bytes) bs in
     let h = lead_behind lead rest later f.0 (All-tail P t lead spaces) in
     let size = length-append t.bytes (bytes_of lead) in
-    let left = length-drop (length t.bytes) bs in
-    (ap (λ (n : ℕ). text_tokens Plain (drop n bs)) size
-    ∙ ap (λ (x : List ℕ). text_tokens Plain x) (sym (drop-drop (length (bytes_of lead)) (length t.bytes) bs))
-    ∙ h.0,
-    omega (arith, size, left, h.1, f.1))
+    let left = length-drop (length t.bytes) bs in (
+      ap (λ (n : ℕ). text_tokens Plain (drop n bs)) size
+          ∙ ap (λ (x : List ℕ). text_tokens Plain x) (sym (drop-drop (length (bytes_of lead)) (length t.bytes) bs))
+          ∙ h.0,
+      omega (arith, size, left, h.1, f.1),
+    )
 
 -- what follows the first part, as a place in the text
 further_at : (text : List ℕ) (start : ℕ) (next : Option ℕ) (ts first : List SourceToken) (further : List (List SourceToken)) → start ≤ length text
@@ -232,14 +233,15 @@ further_at text start None ts first further inside e f = f.1
 further_at text start (Some n) ts first further inside e c =
     let b = text_behind Plain (drop start text) first c.comma c.more (e ∙ c.whole) (ap closes_text c.cuts) in
     let size = length-drop start text in
-    let k = length (bytes_of first) + length c.comma.bytes in
-    (omega (arith, c.place, b.1, size),
-    c.parts
-    ∙ ap (λ (ts : List SourceToken). all_parts (split token_role 0 ts))
-    (sym b.0
-    ∙ ap (λ (x : List ℕ). text_tokens Plain x) (drop-drop k start text)
-    ∙ ap (λ (i : ℕ). text_tokens Plain (drop i text)) (sym c.place)
-    ∙ sym (body_text (drop n text))))
+    let k = length (bytes_of first) + length c.comma.bytes in (
+      omega (arith, c.place, b.1, size),
+      c.parts
+          ∙ ap (λ (ts : List SourceToken). all_parts (split token_role 0 ts))
+          (sym b.0
+          ∙ ap (λ (x : List ℕ). text_tokens Plain x) (drop-drop k start text)
+          ∙ ap (λ (i : ℕ). text_tokens Plain (drop i text)) (sym c.place)
+          ∙ sym (body_text (drop n text))),
+    )
 
 -- where what isn't white space ends, from its beginning on
 solid_size : (at : ℕ) (ts : List SourceToken) → solid_end at at ts ≡ at + length (bytes_of ts)

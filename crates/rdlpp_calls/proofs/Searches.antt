@@ -1,10 +1,9 @@
 -- A turn of the search for the `(`, of that for the `)`, and of that for the end of a part.
-use Rattle.std.proofs.Common.{◌≡◌, ◌⊎◌, ⊎_elim, ◌≤◌, ◌<◌, ℕ, zero, suc, ◌+◌, ◌-◌, Bool, true, false, cond, List, [], ◌∷◌, length, take, drop, refl, sym, ap, ◌∙◌, subst, arith, Option, None, Some}
+use Rattle.std.proofs.Common.{◌≡◌, ◌⊎◌, ⊎_elim, ◌≤◌, ◌<◌, ℕ, ◌+◌, ◌-◌, cond, List, [], length, take, drop, refl, ap, ◌∙◌, subst, arith, Option, None, Some}
 use Rattle.std.proofs.lemmas.List.{drop-drop, length-drop, drop_all}
 use Rattle.std.proofs.lemmas.Slice.{between_to_end}
 use Rattle.rdlpp_scan.specs.declared.token.Mode.{Mode}
-use Rattle.rdlpp_scan.specs.SourceTokens.{SourceToken}
-use Rattle.rdlpp_meaning.specs.Actuals.{Role, level_behind, is_space, token_role}
+use Rattle.rdlpp_meaning.specs.Actuals.{Role, level_behind, is_space}
 use Rattle.rdlpp_meaning.specs.TextTokens.{text_tokens}
 use Rattle.rdlpp_meaning.proofs.TextRanges.{text_nil}
 use Rattle.rdlpp_calls.specs.CallParts.{opener_by, opener_from, ends_call, closer_from, space_from, ends_part, part_from}

@@ -1,9 +1,9 @@
 -- Where the `(` and the `)` of a call stand in a text, and its next part.
 -- A definition that names no source is this project's own.
-use Rattle.std.specs.Prelude.{◌≡◌, ℕ, zero, suc, ◌+◌, ◌-◌, ◌<◌, ◌≤◌, Bool, true, false, List, [], ◌∷◌, length, take, drop, filter, Option, None, Some, Result, Ok, Err, if◌then◌else◌}
+use Rattle.std.specs.Prelude.{◌≡◌, ℕ, zero, ◌+◌, ◌-◌, ◌<◌, ◌≤◌, Bool, true, false, List, [], ◌∷◌, length, take, drop, filter, Option, None, Some, Result, Ok, Err, if◌then◌else◌}
 use Rattle.rdlpp_scan.specs.SourceTokens.{SourceToken}
 use Rattle.rdlpp_meaning.specs.declared.fault.FaultKind.TheVariants.{ArgumentsMissing, ArgumentsOpen}
-use Rattle.rdlpp_meaning.specs.Actuals.{Role, Space, Dropped, Remark, Start, End, Cut, Call, Lacking, call_of, level_behind, is_space, trimmed, token_role}
+use Rattle.rdlpp_meaning.specs.Actuals.{Role, Space, Dropped, Remark, Start, End, Cut, Lacking, call_of, level_behind, is_space, trimmed, token_role}
 use Rattle.rdlpp_meaning.specs.CallScan.{Closed, split, all_parts, call_of_scan, is_kept}
 use Rattle.rdlpp_meaning.specs.Cursors.{not_kept}
 use Rattle.rdlpp_meaning.specs.Substitution.{body_tokens}

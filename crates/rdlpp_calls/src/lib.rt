@@ -5,3 +5,6 @@ mod parts;
 mod tokens;
 
 pub use parts::{Arguments, CallFault, Part, arguments_of, call_end, call_start, next_part};
+
+#[cfg(test)]
+mod tests;

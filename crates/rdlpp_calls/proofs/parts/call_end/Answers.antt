@@ -1,8 +1,8 @@
-use Rattle.std.proofs.Common.{◌≡◌, ◌≤◌, ℕ, ◌+◌, Bool, cond, List, length, drop, sym, ap, ◌∙◌, arith, rules, Option, Some, None}
+use Rattle.std.proofs.Common.{ℕ, ◌+◌, cond, drop, sym, ap, ◌∙◌, arith, Option, Some}
 use Rattle.rdlpp_meaning.specs.Actuals.{level_behind}
 use Rattle.rdlpp_meaning.specs.TextTokens.{text_tokens}
 use Rattle.rdlpp_meaning.proofs.TextRanges.{body_text}
-use Rattle.rdlpp_calls.specs.CallParts.{ends_call, closer_from}
+use Rattle.rdlpp_calls.specs.CallParts.{closer_from}
 use Rattle.rdlpp_calls.specs.CallTokens.{role_meant}
 use Rattle.rdlpp_calls.proofs.Searches.{token_at, token_inside, closer_turn, level_low, none_left}
 use Rattle.rdlpp_calls.proofs.parts.call_end.Goals as goal

@@ -1,4 +1,3 @@
-use Rattle.std.proofs.Common.{◌≡◌, ℕ}
 use Rattle.rdlpp_calls.proofs.PartLaws.{next_part_is}
 use Rattle.rdlpp_calls.proofs.parts.next_part.Goals as goal
 

@@ -1,9 +1,8 @@
-use Rattle.std.proofs.Common.{◌≡◌, ◌≤◌, ℕ, ◌+◌, Bool, true, false, cond, List, length, drop, sym, ap, ◌∙◌, arith, rules, Option, Some, None}
+use Rattle.std.proofs.Common.{◌≡◌, ℕ, ◌+◌, cond, drop, sym, ap, ◌∙◌, arith, Some}
 use Rattle.rdlpp_meaning.specs.Actuals.{level_behind, is_space}
-use Rattle.rdlpp_meaning.specs.Substitution.{body_tokens}
 use Rattle.rdlpp_meaning.specs.TextTokens.{text_tokens}
 use Rattle.rdlpp_meaning.proofs.TextRanges.{body_text}
-use Rattle.rdlpp_calls.specs.CallParts.{space_from, ends_part, part_from}
+use Rattle.rdlpp_calls.specs.CallParts.{part_from}
 use Rattle.rdlpp_calls.specs.CallTokens.{role_meant}
 use Rattle.rdlpp_calls.specs.declared.parts.Part.{Part}
 use Rattle.rdlpp_calls.proofs.Searches.{token_at, token_inside, part_turn, level_low, none_left}

@@ -1,9 +1,7 @@
-use Rattle.std.proofs.Common.{◌≡◌, ◌≤◌, ℕ, ◌+◌, Bool, true, cond, List, length, drop, sym, ap, ◌∙◌, arith, rules}
-use Rattle.rdlpp_meaning.specs.Actuals.{is_space}
+use Rattle.std.proofs.Common.{◌+◌, cond, drop, sym, ap, ◌∙◌, arith}
 use Rattle.rdlpp_meaning.specs.TextTokens.{text_tokens}
 use Rattle.rdlpp_meaning.proofs.TextRanges.{body_text}
 use Rattle.rdlpp_calls.specs.CallParts.{space_from}
-use Rattle.rdlpp_calls.specs.CallTokens.{role_meant}
 use Rattle.rdlpp_calls.proofs.Searches.{token_at, token_inside, space_turn, none_left}
 use Rattle.rdlpp_calls.proofs.parts.space_len.Goals as goal
 
