@@ -1,6 +1,7 @@
 -- The arguments that are found in a text are those of the call of the definition.
-use Rattle.std.proofs.Common.{◌≡◌, ◌≤◌, ◌<◌, ℕ, zero, suc, ◌+◌, ◌-◌, true, List, ◌∷◌, ◌++◌, length, take, drop, filter, All, refl, sym, ap, ◌∙◌, subst, arith, Some, None}
+use Rattle.std.proofs.Common.{◌≡◌, ◌≤◌, ◌<◌, ℕ, zero, suc, ◌+◌, ◌-◌, Bool, true, false, cond, List, [], ◌∷◌, ◌++◌, length, take, drop, filter, All, refl, sym, ap, ◌∙◌, subst, arith, Option, Some, None}
 use Rattle.std.proofs.lemmas.List.{drop-drop, length-drop}
+use Rattle.std.proofs.lemmas.List.Elements.{All-nil, All-cons, All-head, All-tail, filter_passes}
 use Rattle.rdlpp_scan.specs.declared.token.Mode.TheVariants.{Plain}
 use Rattle.rdlpp_scan.specs.SourceTokens.{SourceToken}
 use Rattle.rdlpp_meaning.specs.declared.fault.FaultKind.{FaultKind}
@@ -90,6 +91,32 @@ unfolding passing scan_passing
 passing_refused zero f = refl
 passing_refused (suc n) f = ap scan_passing (passing_refused n f)
 
+-- where all things pass a test, none is filtered out
+filter_all : {A : Type 0} (p : A → Bool) (xs : List A) → All (λ x. p x ≡ true) xs → filter p xs ≡ xs
+filter_all p [] all = refl
+filter_all {A = A} p (x ∷ xs) all =
+    let P : A → Type 0 = λ y. p y ≡ true in
+    ap (λ b. cond b (x ∷ filter p xs) (filter p xs)) (All-head P x xs all) ∙ ap (λ (ys : List A). x ∷ ys) (filter_all p xs (All-tail P x xs all))
+
+-- what holds of all things holds of those in front
+front_all : {A : Type 0} (P : A → Type 0) (xs ys : List A) → All P (xs ++ ys) → All P xs
+front_all P [] ys all = All-nil P
+front_all P (x ∷ xs) ys all = All-cons P x xs (All-head P x (xs ++ ys) all) (front_all P xs ys (All-tail P x (xs ++ ys) all))
+
+-- and of those behind some
+back_all : {A : Type 0} (P : A → Type 0) (xs ys : List A) → All P (xs ++ ys) → All P ys
+back_all P [] ys all = all
+back_all P (x ∷ xs) ys all = back_all P xs ys (All-tail P x (xs ++ ys) all)
+
+-- where a text keeps all its tokens, so does what stands between the parentheses
+inner_kept : (ts lead inner rest : List SourceToken) (opener : SourceToken) → ts ≡ lead ++ opener ∷ (inner ++ rest)
+    → filter (λ t. is_kept (token_role t)) ts ≡ ts → filter (λ t. is_kept (token_role t)) inner ≡ inner
+inner_kept ts lead inner rest opener whole e =
+    let p : SourceToken → Bool = λ t. is_kept (token_role t) in
+    let P : SourceToken → Type 0 = λ t. p t ≡ true in
+    let all : All P (lead ++ opener ∷ (inner ++ rest)) = subst (λ (us : List SourceToken). All P us) (e ∙ whole) (filter_passes p ts) in
+    filter_all p inner (front_all P inner rest (All-tail P opener (inner ++ rest) (back_all P lead (opener ∷ (inner ++ rest)) all)))
+
 -- where there is no `(`, arguments are missing
 pub missing_call : (text : List ℕ) → opener_from 0 (body_tokens text) ≡ None → (room : ℕ) → call_of token_role not_kept room (body_tokens text) ≡ Lacking ArgumentsMissing
 unfolding call_of_scan
@@ -147,4 +174,8 @@ call_at text from len e f =
           ∙ sym i.rest
           ∙ ap body_tokens (drop-drop (len + 1) from text)
           ∙ ap (λ (n : ℕ). body_tokens (drop n text)) more;
+      keeps_all = λ e.
+          let range : body_tokens (take ((from + len) - from) (drop from text)) ≡ c.inner =
+          ap (λ (n : ℕ). body_tokens (take n (drop from text))) less ∙ i.inner in
+          ap kept range ∙ inner_kept (body_tokens text) lead c.inner (c.closer ∷ c.rest) o.led.opener whole e ∙ sym range;
     }

@@ -1,16 +1,19 @@
 -- The next part that is found in a text is that of the definition, trimmed.
 use Rattle.std.proofs.Common.{◌≡◌, ◌≤◌, ℕ, zero, suc, ◌+◌, ◌-◌, Bool, true, false, cond, List, [], ◌∷◌, ◌++◌, length, take, drop, All, refl, sym, ap, ◌∙◌, subst, arith, append_assoc, Option, Some, None}
 use Rattle.std.proofs.lemmas.Bool.{false≢true}
-use Rattle.std.proofs.lemmas.List.{append-nil, drop-drop, length-drop, length-append}
+use Rattle.std.proofs.lemmas.List.{append-nil, drop-drop, length-drop, length-take, length-append}
 use Rattle.std.proofs.lemmas.List.Elements.{All-nil, All-cons, All-head, All-tail}
+use Rattle.std.specs.Prelude.{nat_lt}
+use Rattle.std.proofs.lemmas.Bool.Decides.{nat_tests}
 use Rattle.rdlpp_scan.specs.declared.token.Mode.TheVariants.{Plain}
+use Rattle.rdlpp_scan.specs.Tokens.{token_of}
 use Rattle.rdlpp_scan.specs.SourceTokens.{SourceToken}
-use Rattle.rdlpp_meaning.specs.Actuals.{Role, Space, Cut, level_behind, is_space, behind_space, token_role}
+use Rattle.rdlpp_meaning.specs.Actuals.{Role, Space, Cut, level_behind, is_space, behind_space, trimmed, token_role}
 use Rattle.rdlpp_meaning.specs.CallScan.{Split, split_by, split, all_parts}
 use Rattle.rdlpp_meaning.specs.Expansion.{bytes_of}
 use Rattle.rdlpp_meaning.specs.Substitution.{body_tokens}
 use Rattle.rdlpp_meaning.specs.TextTokens.{text_tokens}
-use Rattle.rdlpp_meaning.proofs.TextRanges.{body_text, closes_text, text_cut, text_behind, first_behind}
+use Rattle.rdlpp_meaning.proofs.TextRanges.{body_text, text_nil, text_step, closes_text, text_cut, text_behind, first_behind}
 use Rattle.rdlpp_calls.specs.declared.parts.Part.{Part}
 use Rattle.rdlpp_calls.specs.CallParts.{space_from, ends_part, part_from, AreFurther, IsNextPart}
 use Rattle.rdlpp_calls.proofs.Trimming.{solid_front, solid, space_front, space_nil, trimmed_is, has_solid}
@@ -256,6 +259,22 @@ unfolding Follows
 first_more at None ts first further f = ([], f.0 ∙ sym (append-nil first))
 first_more at (Some n) ts first further c = (c.comma ∷ c.more, c.whole)
 
+-- a text has tokens where it has bytes
+has_tokens : (bs : List ℕ) → nat_lt 0 (length (body_tokens bs)) ≡ nat_lt 0 (length bs)
+has_tokens [] = ap (λ (ts : List SourceToken). nat_lt 0 (length ts)) (body_text [] ∙ text_nil Plain)
+has_tokens (b ∷ bs) =
+    let T = b ∷ bs in
+    let step = text_step Plain T (omega arith) in
+    let n = length (text_tokens (token_of Plain T).next_mode (drop (token_of Plain T).len T)) in
+    ap (λ (ts : List SourceToken). nat_lt 0 (length ts)) (body_text T ∙ step) ∙ some_more n (length bs)
+  where
+    some_more : (k m : ℕ) → nat_lt 0 (suc k) ≡ nat_lt 0 (suc m)
+    some_more k m = grind (arith, nat_tests)
+
+-- a range has bytes where its end is behind its beginning
+range_some : (from to n : ℕ) → n ≡ to - from → nat_lt from to ≡ nat_lt 0 n
+range_some from to n e = grind (arith, nat_tests)
+
 -- the part that is found is the next one of the definition
 pub next_part_is : (text : List ℕ) (start : ℕ) (p : Part) → start ≡ space_from 0 (body_tokens text) → p ≡ part_from start start 0 start (body_tokens (drop start text))
     → IsNextPart text p
@@ -276,17 +295,24 @@ next_part_is text start p at is =
     let to : p.to ≡ start + length (bytes_of s) = q.to_is ∙ solid_size start s in
     let size = length-drop start text in
     let len : p.to - p.from ≡ length (bytes_of s) = omega (arith, q.from_is, to) in
+    let actual : body_tokens (take (p.to - p.from) (drop p.from text)) ≡ trimmed token_role (split token_role 0 (body_tokens text)).first =
+    ap (λ (n : ℕ). body_tokens (take n (drop p.from text))) len
+    ∙ ap (λ (n : ℕ). body_tokens (take (length (bytes_of s)) (drop n text))) q.from_is
+    ∙ ap (λ (x : List ℕ). body_tokens x) (sym cut.bytes)
+    ∙ body_text (bytes_of s)
+    ∙ cut.front
+    ∙ ap (λ (us : List SourceToken). solid token_role us) (sym h.first)
+    ∙ sym (trimmed_is token_role (split token_role 0 (body_tokens text)).first) in
+    let range : length (take (p.to - p.from) (drop p.from text)) ≡ p.to - p.from =
+    let k = length-take (p.to - p.from) (drop p.from text) in let d = length-drop p.from text in omega (arith, q.from_is, to, cut.inside, size) in
     record {
       ordered = omega (arith, q.from_is, to);
       inside = omega (arith, to, cut.inside, size);
-      actual =
-          ap (λ (n : ℕ). body_tokens (take n (drop p.from text))) len
-          ∙ ap (λ (n : ℕ). body_tokens (take (length (bytes_of s)) (drop n text))) q.from_is
-          ∙ ap (λ (x : List ℕ). body_tokens x) (sym cut.bytes)
-          ∙ body_text (bytes_of s)
-          ∙ cut.front
-          ∙ ap (λ (us : List SourceToken). solid token_role us) (sym h.first)
-          ∙ sym (trimmed_is token_role (split token_role 0 (body_tokens text)).first);
+      actual = actual;
+      items =
+          range_some p.from p.to (length (take (p.to - p.from) (drop p.from text))) range
+          ∙ sym (has_tokens (take (p.to - p.from) (drop p.from text)))
+          ∙ ap (λ (ts : List SourceToken). nat_lt 0 (length ts)) actual;
       further = subst (λ (parts : List (List SourceToken)). AreFurther text p.next parts) (sym h.further)
           (further_at text start p.next h.rest first (split token_role 0 h.rest).further inside tokens q.next_is);
     }

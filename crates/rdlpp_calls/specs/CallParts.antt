@@ -1,6 +1,6 @@
 -- Where the `(` and the `)` of a call stand in a text, and its next part.
 -- A definition that names no source is this project's own.
-use Rattle.std.specs.Prelude.{◌≡◌, ℕ, zero, ◌+◌, ◌-◌, ◌<◌, ◌≤◌, Bool, true, false, List, [], ◌∷◌, length, take, drop, filter, Option, None, Some, Result, Ok, Err, if◌then◌else◌}
+use Rattle.std.specs.Prelude.{◌≡◌, ℕ, zero, ◌+◌, ◌-◌, ◌<◌, ◌≤◌, Bool, true, false, nat_lt, List, [], ◌∷◌, length, take, drop, filter, Option, None, Some, Result, Ok, Err, if◌then◌else◌}
 use Rattle.rdlpp_scan.specs.SourceTokens.{SourceToken}
 use Rattle.rdlpp_meaning.specs.declared.fault.FaultKind.TheVariants.{ArgumentsMissing, ArgumentsOpen}
 use Rattle.rdlpp_meaning.specs.Actuals.{Role, Space, Dropped, Remark, Start, End, Cut, Lacking, call_of, level_behind, is_space, trimmed, token_role}
@@ -58,7 +58,8 @@ part_from start at level end (t ∷ ts) =
     (if is_space (token_role t) then end else at + length t.bytes) ts
 
 -- the arguments of a call in a text: the call is that of the definition, with what is kept of the tokens between its parentheses,
--- and behind it stand the tokens of the text behind the `)` (source: this project's profile)
+-- and behind it stand the tokens of the text behind the `)`; in a text without `//` comments, all tokens between the parentheses
+-- are kept (source: this project's profile)
 pub record IsCallAt (text : List ℕ) (from to : ℕ) : Type 0 where
   pub ordered : from ≤ to
   pub inside : to < length text
@@ -66,6 +67,8 @@ pub record IsCallAt (text : List ℕ) (from to : ℕ) : Type 0 where
   pub call : (room : ℕ) → call_of token_role not_kept room (body_tokens text)
       ≡ call_of_scan token_role 0 (Closed (filter (λ t. is_kept (token_role t)) (body_tokens (take (to - from) (drop from text)))) used)
   pub behind : drop used (body_tokens text) ≡ body_tokens (drop (to + 1) text)
+  pub keeps_all : filter (λ t. is_kept (token_role t)) (body_tokens text) ≡ body_tokens text
+      → filter (λ t. is_kept (token_role t)) (body_tokens (take (to - from) (drop from text))) ≡ body_tokens (take (to - from) (drop from text))
 
 -- what a text has behind the name of a macro: the arguments of a call, or what is missing of it
 unfoldable pub IsCall : List ℕ → Result Arguments CallFault → Type 0
@@ -79,9 +82,10 @@ AreFurther text None parts = parts ≡ []
 AreFurther text (Some next) parts = (next ≤ length text) × (parts ≡ all_parts (split token_role 0 (body_tokens (drop next text))))
 
 -- the next part of a call, in the text between its parentheses: the tokens of its range are those of the first part of the
--- definition, trimmed, and the further parts are those of the text behind it (source: this project's profile)
+-- definition, trimmed, it has items where its range isn't empty, and the further parts are those of the text behind it (source: this project's profile)
 pub record IsNextPart (text : List ℕ) (part : Part) : Type 0 where
   pub ordered : part.from ≤ part.to
   pub inside : part.to ≤ length text
   pub actual : body_tokens (take (part.to - part.from) (drop part.from text)) ≡ trimmed token_role (split token_role 0 (body_tokens text)).first
+  pub items : nat_lt part.from part.to ≡ nat_lt 0 (length (trimmed token_role (split token_role 0 (body_tokens text)).first))
   pub further : AreFurther text part.next (split token_role 0 (body_tokens text)).further

@@ -1,5 +1,5 @@
 // The `(` and the `)` of a call in a text, and the parts between them.
-ghost use Rattle.std.specs.Prelude.{◌≡◌, ◌+◌, ◌≤◌, ◌<◌, IfSome, length, drop};
+ghost use Rattle.std.specs.Prelude.{◌≡◌, ◌+◌, ◌≤◌, ◌<◌, IfSome, length, drop, nat_lt};
 ghost use Rattle.rdlpp_meaning.specs.Substitution.{body_tokens};
 ghost use Rattle.rdlpp_calls.specs.CallParts.{IsCall, IsNextPart, closer_from, opener_from, part_from, space_from};
 
@@ -35,7 +35,8 @@ pub struct Part {
     pub next: Option<usize>,
 }
 
-/// How many bytes of a text stand up to and with the `(` of a call.
+/// How many bytes of a text stand up to and with the `(` of a call, behind white space, line ends and comments; none where
+/// anything else stands before it, or where the text ends (this project's profile).
 pub fn call_start(text: &[u8]) -> Option<usize>
     ensures value { result ≡ opener_from 0 (body_tokens text.now) }
     ensures inside { IfSome result (λ n. n ≤ length text.now) }
@@ -55,7 +56,8 @@ pub fn call_start(text: &[u8]) -> Option<usize>
     None
 }
 
-/// How many bytes of a text stand in front of the `)` of a call.
+/// How many bytes of a text behind a `(` stand in front of the `)` of the call: the first that no opener in the text
+/// precedes, outside strings and comments; none where the text ends first (this project's profile).
 pub fn call_end(text: &[u8]) -> Option<usize>
     ensures value { result ≡ closer_from 0 0 (body_tokens text.now) }
     ensures inside { IfSome result (λ n. n < length text.now) }
@@ -75,7 +77,13 @@ pub fn call_end(text: &[u8]) -> Option<usize>
     None
 }
 
-/// The arguments of a call in a text that begins behind the name of its macro.
+/// The arguments of a call in a text that begins behind the name of its macro (IEEE 1364-2001, `define`; what may stand
+/// between the name and the `(` is this project's profile).
+///
+/// # Errors
+///
+/// [`CallFault::Missing`] where no `(` follows, but for white space, line ends and comments, and [`CallFault::Unclosed`]
+/// where no `)` closes the call outside strings, comments and further openers.
 pub fn arguments_of(text: &[u8]) -> Result<Arguments, CallFault>
     ensures { IsCall text.now result }
 {
@@ -89,6 +97,15 @@ pub fn arguments_of(text: &[u8]) -> Result<Arguments, CallFault>
         from,
         to: from + len,
     })
+}
+
+impl Part {
+    /// Whether the part has items: anything but white space.
+    pub fn has_items(&self) -> bool
+        ensures { result ≡ nat_lt self.now.from self.now.to }
+    {
+        self.from < self.to
+    }
 }
 
 // How many bytes of white space a text begins with.
@@ -141,7 +158,12 @@ fn part_at(text: &[u8], from: usize) -> Part
     }
 }
 
-/// The next part of a call, in the text between its parentheses.
+/// The next part of a call, in the text between its parentheses or behind a comma of it.
+///
+/// # Rules
+///
+/// A comma ends a part outside strings, comments and further openers, and white space and line ends at both ends of a part
+/// aren't of it; comments are (this project's profile). A part may have no bytes.
 pub fn next_part(text: &[u8]) -> Part
     ensures value { let start = space_from 0 (body_tokens text.now) in
         result ≡ part_from start start 0 start (body_tokens (drop start text.now)) }

@@ -44,6 +44,8 @@ fn the_arguments_of_a_call_are_found(rt: HostRuntime) {
 
 #[test]
 fn parts_are_trimmed_of_white_space_and_not_of_comments(rt: HostRuntime) {
+    assert!(&rt; next_part(b" a ").has_items());
+    assert!(&rt; !next_part(b" \n").has_items());
     expect_parts(
         &rt,
         b" a [1, 2] ,\n/* b */ , ",
