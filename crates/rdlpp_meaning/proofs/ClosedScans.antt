@@ -40,7 +40,7 @@ closed_kept : {A : Type 0} (ks kept : List A) (n used : ℕ) → Closed ks n ≡
 closed_kept ks kept n used e = (cc, cc)
 
 -- what is behind the things of a call
-behind_cut : {A : Type 0} (lead : List A) (opener : A) (inner : List A) (closer : A) (behind : List A)
+pub behind_cut : {A : Type 0} (lead : List A) (opener : A) (inner : List A) (closer : A) (behind : List A)
     → drop (length lead + (length inner + 2)) (lead ++ opener ∷ (inner ++ closer ∷ behind)) ≡ behind
 behind_cut {A = A} lead opener inner closer behind =
     let rest : List A = inner ++ closer ∷ behind in

@@ -14,7 +14,7 @@ use Rattle.rdlpp_scan.proofs.SourceLaws.{source_tokens-next, source_tokens-last}
 use Rattle.rdlpp_scan.proofs.TokenLens.{token_of-part}
 use Rattle.rdlpp_meaning.specs.Expansion.{bytes_of}
 use Rattle.rdlpp_meaning.specs.TextTokens.{text_tokens, broken_line, unlined}
-use Rattle.rdlpp_meaning.proofs.TextRanges.{first_spelled, text_step, first_size}
+use Rattle.rdlpp_meaning.proofs.TextRanges.{first_is, rest_is, first_spelled, text_step, first_size}
 
 -- where a text stands behind a row of tokens of the token table: in plain text, where there is one
 unfoldable pub mode_behind_row : Mode → List SourceToken → Mode
@@ -41,13 +41,6 @@ pub record IsSourceRow (c : Course) (m : Mode) (bs : List ℕ) (us rest : List S
   pub opened : ℕ
   pub line : ℕ
   pub behind : source_tokens c (mode_behind_row m us) opened line 0 (drop (length (bytes_of us)) bs) ≡ rest
-
--- the first of two lists, and the rest
-first_is : (x y : SourceToken) (xs ys : List SourceToken) → x ∷ xs ≡ y ∷ ys → x ≡ y
-first_is x y xs ys h = cc
-
-rest_is : (x y : SourceToken) (xs ys : List SourceToken) → x ∷ xs ≡ y ∷ ys → xs ≡ ys
-rest_is x y xs ys h = cc
 
 -- a broken token is none of the token table
 not_broken : (b : Breach) (bytes : List ℕ) (line : ℕ) (u : SourceToken) (us ts : List SourceToken)

@@ -1,19 +1,22 @@
 -- A text that is cut at a boundary of its tokens has the tokens before the cut in front of it and the others behind it.
 use Rattle.std.proofs.Common.{◌≡◌, ◌≤◌, ◌<◌, ℕ, zero, suc, ◌+◌, ◌-◌, Bool, true, false, List, [], ◌∷◌, ◌++◌, length, take, drop, refl, sym, ap, ◌∙◌, subst, arith}
+use Rattle.std.proofs.lemmas.Bool.{false≢true}
 use Rattle.std.proofs.lemmas.List.{length-drop, length-take, take-take, drop-take, drop-drop}
 use Rattle.std.proofs.Math.Seq.{take-add}
 use Rattle.rdlpp_scan.specs.declared.token.Kind.{Kind}
+use Rattle.rdlpp_scan.specs.declared.token.Kind.TheVariants.{Blank, LineEnd, Str, LineComment, BlockComment, Opener, Closer, Comma}
 use Rattle.rdlpp_scan.specs.declared.token.Mode.{Mode}
 use Rattle.rdlpp_scan.specs.declared.token.Mode.TheVariants.{Plain}
 use Rattle.rdlpp_scan.specs.declared.token.Token.{Token}
-use Rattle.rdlpp_scan.specs.TokenKinds.{opens_mode}
+use Rattle.rdlpp_scan.specs.TokenKinds.{opens_mode, is_one_byte}
 use Rattle.rdlpp_scan.specs.Pieces.{mode_behind, tokens_len}
 use Rattle.rdlpp_scan.specs.SourceTokens.{Ordinary, SourceToken}
 use Rattle.rdlpp_scan.specs.Tokens.{token_of, tokens_from}
-use Rattle.rdlpp_scan.proofs.ClosedKinds.{closed_kind_plain}
+use Rattle.rdlpp_scan.proofs.ClosedKinds.{closed_kind_plain, one_byte_len}
 use Rattle.rdlpp_scan.proofs.RangeLaws.{tokens_from-first, tokens_from-front, tokens_from-behind_some}
 use Rattle.rdlpp_scan.proofs.TokenLens.{token_of-part}
 use Rattle.rdlpp_scan.proofs.TokenLists.{tokens_from-step}
+use Rattle.rdlpp_meaning.specs.Actuals.{Role, Remark, Start, Up, End, Down, Cut, Text, kind_role, token_role}
 use Rattle.rdlpp_meaning.specs.Expansion.{bytes_of}
 use Rattle.rdlpp_meaning.specs.Substitution.{spelled, body_tokens}
 use Rattle.rdlpp_meaning.specs.TextTokens.{text_tokens}
@@ -22,6 +25,14 @@ use Rattle.rdlpp_meaning.specs.TextTokens.{text_tokens}
 pub body_text : (bs : List ℕ) → body_tokens bs ≡ text_tokens Plain bs
 unfolding body_tokens text_tokens
 body_text bs = refl
+
+-- the first of two lists of tokens
+pub first_is : (x y : SourceToken) (xs ys : List SourceToken) → x ∷ xs ≡ y ∷ ys → x ≡ y
+first_is x y xs ys h = cc
+
+-- the rest of two lists of tokens
+pub rest_is : (x y : SourceToken) (xs ys : List SourceToken) → x ∷ xs ≡ y ∷ ys → xs ≡ ys
+rest_is x y xs ys h = cc
 
 -- the token that stands in front of a text, with its bytes
 unfoldable pub first_spelled : Mode → List ℕ → SourceToken
@@ -87,13 +98,13 @@ spelled_cut [] vs ts bs e = record { before = []; behind = ts; whole = refl; fro
 spelled_cut (u ∷ us) vs [] bs e = absurd (cc)
 spelled_cut (u ∷ us) vs (t ∷ ts) bs e =
     let own : SourceToken = record { sort = Ordinary t.kind; bytes = take t.len bs; line = 0 } in
-    let h : spelled ts (drop t.len bs) ≡ us ++ vs = tails own u (spelled ts (drop t.len bs)) (us ++ vs) e in
+    let h : spelled ts (drop t.len bs) ≡ us ++ vs = rest_is own u (spelled ts (drop t.len bs)) (us ++ vs) e in
     let c = spelled_cut us vs ts (drop t.len bs) h in
     record {
       before = t ∷ c.before;
       behind = c.behind;
       whole = ap (λ (xs : List Token). t ∷ xs) c.whole;
-      front = ap (λ (xs : List SourceToken). own ∷ xs) c.front ∙ ap (λ (x : SourceToken). x ∷ us) (heads own u (spelled ts (drop t.len bs)) (us ++ vs) e);
+      front = ap (λ (xs : List SourceToken). own ∷ xs) c.front ∙ ap (λ (x : SourceToken). x ∷ us) (first_is own u (spelled ts (drop t.len bs)) (us ++ vs) e);
       back = ap (λ (x : List ℕ). spelled c.behind x) (sym (drop-drop (tokens_len c.before) t.len bs)) ∙ c.back;
     }
   where
@@ -136,3 +147,105 @@ text_cut m bs us vs e =
           ∙ ap (λ (ts : List Token). spelled ts (drop k bs)) behind
           ∙ c.back;
     }
+
+-- whether a token of a role leaves plain text behind it, wherever it stands
+unfoldable pub closes_text : Role → Bool
+closes_text Text = false
+closes_text Remark = false
+closes_text r = true
+
+-- such a token isn't open
+closed_role : (k : Kind) (bytes : List ℕ) → closes_text (kind_role k bytes) ≡ true → opens_mode k ≡ false
+unfolding closes_text kind_role opens_mode
+closed_role Str bytes e = absurd (false≢true e)
+closed_role BlockComment bytes e = absurd (false≢true e)
+closed_role Opener bytes e = refl
+closed_role Closer bytes e = refl
+closed_role Blank bytes e = refl
+closed_role LineEnd bytes e = refl
+closed_role LineComment bytes e = refl
+closed_role Comma bytes e = refl
+closed_role k bytes e = refl
+
+-- what is behind such a first token begins in plain text
+first_closed : (m : Mode) (bs : List ℕ) → closes_text (token_role (first_spelled m bs)) ≡ true → (token_of m bs).next_mode ≡ Plain
+unfolding first_spelled token_role
+first_closed m bs e = closed_kind_plain m bs (closed_role (token_of m bs).kind (take (token_of m bs).len bs) e)
+
+-- no list is empty and begins with a token
+nil_cons : (ts : List SourceToken) (x : SourceToken) (xs : List SourceToken) → ts ≡ [] → ts ≡ x ∷ xs → ⊥
+nil_cons ts x xs e h = cc
+
+-- the first token of a text whose tokens begin with one, and the tokens behind it
+record BeginsWith (m : Mode) (bs : List ℕ) (u : SourceToken) (vs : List SourceToken) : Type 0 where
+  some : 0 < length bs
+  first : first_spelled m bs ≡ u
+  behind : text_tokens (token_of m bs).next_mode (drop (token_of m bs).len bs) ≡ vs
+
+-- they are those
+begins : (m : Mode) (bs : List ℕ) (u : SourceToken) (vs : List SourceToken) → text_tokens m bs ≡ u ∷ vs → BeginsWith m bs u vs
+begins m [] u vs e = absurd (nil_cons (text_tokens m []) u vs (text_nil m) e)
+begins m (b ∷ bs) u vs e =
+    let T = b ∷ bs in
+    let some : 0 < length T = omega arith in
+    let later = text_tokens (token_of m T).next_mode (drop (token_of m T).len T) in
+    let whole = sym (text_step m T some) ∙ e in
+    record { some = some; first = first_is (first_spelled m T) u later vs whole; behind = rest_is (first_spelled m T) u later vs whole }
+
+-- behind a first token that leaves plain text, a text has the tokens that follow
+pub first_behind : (m : Mode) (bs : List ℕ) (u : SourceToken) (vs : List SourceToken) → text_tokens m bs ≡ u ∷ vs → closes_text (token_role u) ≡ true
+    → (text_tokens Plain (drop (length u.bytes) bs) ≡ vs) × (length u.bytes ≤ length bs)
+first_behind m bs u vs e closed =
+    let f = begins m bs u vs e in
+    let t = token_of m bs in
+    let size : length u.bytes ≡ t.len = ap (λ (v : SourceToken). length v.bytes) (sym f.first) ∙ first_size m bs f.some in
+    let plain = first_closed m bs (ap (λ (v : SourceToken). closes_text (token_role v)) f.first ∙ closed) in
+    let part = token_of-part m bs f.some in
+    (ap (λ (n : ℕ). text_tokens Plain (drop n bs)) size
+    ∙ ap (λ (mode : Mode). text_tokens mode (drop t.len bs)) (sym plain)
+    ∙ f.behind,
+    omega (arith, size, part.inside))
+
+-- whether each token of a role is one byte
+unfoldable pub is_one_role : Role → Bool
+is_one_role Start = true
+is_one_role Up = true
+is_one_role End = true
+is_one_role Down = true
+is_one_role Cut = true
+is_one_role r = false
+
+-- such a role is that of a kind of one byte
+one_role : (k : Kind) (bytes : List ℕ) → is_one_role (kind_role k bytes) ≡ true → is_one_byte k ≡ true
+unfolding is_one_role kind_role is_one_byte
+one_role Opener bytes e = refl
+one_role Closer bytes e = refl
+one_role Comma bytes e = refl
+one_role k bytes e = absurd (false≢true e)
+
+-- such a first token is one byte
+first_one : (m : Mode) (bs : List ℕ) → is_one_role (token_role (first_spelled m bs)) ≡ true → (token_of m bs).len ≡ 1
+unfolding first_spelled token_role
+first_one m bs e = one_byte_len m bs (one_role (token_of m bs).kind (take (token_of m bs).len bs) e)
+
+-- a token of such a role in a text is one byte
+pub text_one : (m : Mode) (bs : List ℕ) (us : List SourceToken) (u : SourceToken) (vs : List SourceToken)
+    → text_tokens m bs ≡ us ++ u ∷ vs → is_one_role (token_role u) ≡ true → length u.bytes ≡ 1
+text_one m bs us u vs e one =
+    let c = text_cut m bs us (u ∷ vs) e in
+    let rest = drop (length (bytes_of us)) bs in
+    let f = begins c.mode rest u vs c.back in
+    ap (λ (v : SourceToken). length v.bytes) (sym f.first)
+    ∙ first_size c.mode rest f.some
+    ∙ first_one c.mode rest (ap (λ (v : SourceToken). is_one_role (token_role v)) f.first ∙ one)
+
+-- behind a token that leaves plain text, a text has the tokens that follow
+pub text_behind : (m : Mode) (bs : List ℕ) (us : List SourceToken) (u : SourceToken) (vs : List SourceToken)
+    → text_tokens m bs ≡ us ++ u ∷ vs → closes_text (token_role u) ≡ true
+    → (text_tokens Plain (drop (length (bytes_of us) + length u.bytes) bs) ≡ vs) × (length (bytes_of us) + length u.bytes ≤ length bs)
+text_behind m bs us u vs e closed =
+    let c = text_cut m bs us (u ∷ vs) e in
+    let n = length (bytes_of us) in
+    let f = first_behind c.mode (drop n bs) u vs c.back closed in
+    let size = length-drop n bs in
+    (ap (λ (x : List ℕ). text_tokens Plain x) (sym (drop-drop (length u.bytes) n bs)) ∙ f.0, omega (arith, f.1, size, c.inside))

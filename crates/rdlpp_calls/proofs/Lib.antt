@@ -1,0 +1,6 @@
+pub mod FirstTokens
+pub mod Searches
+pub mod CallLaws
+pub mod ArgumentLaws
+pub mod Trimming
+pub mod PartLaws

@@ -1,0 +1,2 @@
+pub mod CallTokens
+pub mod CallParts

@@ -1,0 +1,122 @@
+// The tokens of a text by the role that each has in a call.
+ghost use Rattle.std.specs.Prelude.{◌≡◌, ◌+◌, ◌-◌, ◌<◌, ◌∷◌, [], length};
+ghost use Rattle.rdlpp_meaning.specs.Actuals.{is_space, kind_role, level_behind};
+ghost use Rattle.rdlpp_calls.specs.CallParts.{ends_call, ends_part};
+ghost use Rattle.rdlpp_calls.specs.CallTokens.{role_meant, IsFirstToken};
+
+use rdlpp_scan::{Kind, Mode, first_token};
+
+// What a token is in a call.
+#[derive(Clone, Copy)]
+pub(crate) enum CallRole {
+    // A run of blanks, or LF.
+    Space,
+    // A `//` comment.
+    LineComment,
+    // A block comment.
+    BlockComment,
+    // `(`.
+    Start,
+    // `[` or `{`.
+    Opener,
+    // `)`.
+    End,
+    // `]` or `}`.
+    Closer,
+    // `,`.
+    Comma,
+    // Anything else.
+    Text,
+}
+
+// A token of a text: its role, how many bytes it has, and where the text stands behind it.
+#[derive(Clone, Copy)]
+pub(crate) struct CallToken {
+    pub(crate) role: CallRole,
+    pub(crate) len: usize,
+    pub(crate) next_mode: Mode,
+}
+
+// The role of a token of a kind with this first byte.
+#[tactic(auto, unfolding(crate::specs::CallTokens::role_meant, rdlpp_meaning::specs::Actuals::kind_role))]
+fn role_of(kind: Kind, first: u8) -> CallRole
+    ensures { role_meant result ≡ kind_role kind (first ∷ []) }
+{
+    match kind {
+        Kind::Blank | Kind::LineEnd => CallRole::Space,
+        Kind::LineComment => CallRole::LineComment,
+        Kind::BlockComment => CallRole::BlockComment,
+        Kind::Opener => {
+            if first == b'(' {
+                CallRole::Start
+            } else {
+                CallRole::Opener
+            }
+        }
+        Kind::Closer => {
+            if first == b')' {
+                CallRole::End
+            } else {
+                CallRole::Closer
+            }
+        }
+        Kind::Comma => CallRole::Comma,
+        _ => CallRole::Text,
+    }
+}
+
+// The first token of a text that isn't empty.
+pub(crate) fn token_in_call(mode: Mode, text: &[u8]) -> CallToken
+    requires { 0 < length text.now }
+    ensures { IsFirstToken mode text.now result }
+{
+    let token = first_token(mode, text);
+    CallToken {
+        role: role_of(token.kind, text[0]),
+        len: token.len,
+        next_mode: token.next_mode,
+    }
+}
+
+// How many openers are open behind a token.
+#[tactic(auto, unfolding(crate::specs::CallTokens::role_meant, rdlpp_meaning::specs::Actuals::level_behind))]
+pub(crate) fn level_behind(role: CallRole, level: usize) -> usize
+    requires { level < usize.MAX }
+    ensures { result ≡ level_behind (role_meant role) level }
+{
+    match role {
+        CallRole::Start | CallRole::Opener => level + 1,
+        CallRole::End | CallRole::Closer => level.saturating_sub(1),
+        _ => level,
+    }
+}
+
+// Whether a token at a level of openers is the `)` of a call.
+#[tactic(auto, unfolding(crate::specs::CallTokens::role_meant, crate::specs::CallParts::ends_call))]
+pub(crate) fn ends_call(role: CallRole, level: usize) -> bool
+    ensures { result ≡ ends_call (role_meant role) level }
+{
+    match role {
+        CallRole::End => level == 0,
+        _ => false,
+    }
+}
+
+// Whether a token at a level of openers ends a part of a call.
+#[tactic(auto, unfolding(crate::specs::CallTokens::role_meant, crate::specs::CallParts::ends_part))]
+pub(crate) fn ends_part(role: CallRole, level: usize) -> bool
+    ensures { result ≡ ends_part (role_meant role) level }
+{
+    match role {
+        CallRole::Comma => level == 0,
+        _ => false,
+    }
+}
+
+// Whether a token is white space.
+#[tactic(auto, unfolding(crate::specs::CallTokens::role_meant, rdlpp_meaning::specs::Actuals::is_space))]
+pub(crate) fn is_space(role: CallRole) -> bool
+    ensures { result ≡ is_space (role_meant role) }
+{
+    matches!(role, CallRole::Space)
+}
