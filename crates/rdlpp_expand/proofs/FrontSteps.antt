@@ -3,7 +3,7 @@ use Rattle.std.proofs.Common.{◌≡◌, ℕ, zero, suc, ◌+◌, ◌-◌, ◌�
 use Rattle.std.specs.List.{slice_range, list_all, prefix_len}
 use Rattle.rdlpp_scan.specs.Bytes.{is_line_end, is_word}
 use Rattle.rdlpp_expand.specs.Names.{IsWordBytes}
-use Rattle.std.proofs.lemmas.List.{take-take, drop-take, length-take, length-drop, drop-drop, take_rest}
+use Rattle.std.proofs.lemmas.List.{take-take, drop-take, length-take, length-drop, drop-drop, take_all, take_rest}
 use Rattle.std.proofs.Math.Seq.{drop-nil}
 use Rattle.std.specs.Prelude.{min, IfSome}
 use Rattle.rdlpp_source.specs.declared.sources.Sources.{Ghosts}
@@ -35,7 +35,7 @@ use Rattle.rdlpp_scan.specs.declared.token.Mode.{Mode}
 use Rattle.rdlpp_scan.specs.declared.token.Mode.TheVariants.{Plain}
 use Rattle.rdlpp_expand.specs.Front.{passed, IsLead, Leads, Lacks, IsText, IsUndef, undef_name, IsUsage, IsDefine, usage_name, IsRefused, AtPerl, AtBare, AtUnbuilt}
 use Rattle.rdlpp_expand.specs.Pieces.{kept_answer, lent_answer, step_answer}
-use Rattle.rdlpp_expand.specs.Remaining.{left_of, open_left, kept_left, phase_left, staged_rules, state_of}
+use Rattle.rdlpp_expand.specs.Remaining.{uncut_of, open_left, kept_uncut, phase_uncut, staged_rules, state_of}
 use Rattle.rdlpp_meaning.specs.Profile.{define_fault, rules_of, with_fault}
 use Rattle.rdlpp_expand.specs.Steps.{Takes, IsReady, IsOwn, is_memory_kind, is_read_failed, is_write_failed}
 use Rattle.rdlpp_expand.specs.declared.phase.Phase.TheVariants.{Open}
@@ -83,19 +83,20 @@ held_part f len used inside =
     part_slice f.at (f.at + len) f.accepted f.window more within ∙ ap (λ k. take k (drop f.at (take f.accepted f.window))) same
 
 -- what remains of an engine whose source is open
-pub left_open : {S R : Type 0} (unread : R → List ℕ) (e : EngineView S R) → e.kept ≡ None → e.phase ≡ Open → left_of unread e ≡ open_left unread e
-unfolding left_of kept_left phase_left
+pub left_open : {S R : Type 0} (unread : R → List ℕ) (e : EngineView S R) → e.kept ≡ None → e.phase ≡ Open → uncut_of unread e ≡ open_left unread e
+unfolding uncut_of kept_uncut phase_uncut
 left_open unread e free open_ = rw (free, open_) refl
 
 -- bytes were lent
 pub takes_bytes : {S R : Type 0} (g : Ghosts S R) (old new : EngineView S R) (bytes : List ℕ) →
-    new.limits ≡ old.limits → new.name ≡ old.name → new.phase ≡ old.phase → new.sources ≡ old.sources → new.kept ≡ None → old.phase ≡ Open →
+    new.limits ≡ old.limits → new.name ≡ old.name → new.phase ≡ old.phase → new.quota ≡ old.quota → new.sources ≡ old.sources → new.kept ≡ None → old.phase ≡ Open →
     open_left g.unread old ≡ and_then (gives bytes) (open_left g.unread new) → unused_of new.feed < unused_of old.feed →
     Takes g old new (Ok (Some bytes))
-takes_bytes g old new bytes limits name phase sources free open_ moves falls = record {
+takes_bytes g old new bytes limits name phase quota sources free open_ moves falls = record {
   limits = limits;
   name = name;
   phase = phase;
+  quota = quota;
   sources = sources;
   keeps = tt;
   goes_on = (free, refl);
@@ -110,6 +111,7 @@ takes_fault g old new f becomes own ends = record {
   limits = ap (λ e. e.limits) becomes;
   name = ap (λ e. e.name) becomes;
   phase = ap (λ e. e.phase) becomes;
+  quota = ap (λ e. e.quota) becomes;
   sources = ap (λ e. e.sources) becomes;
   keeps = (ap (λ e. e.kept) becomes, own);
   goes_on = tt;
@@ -187,24 +189,29 @@ take_text g old new n lines from to next ready ends used text counted becomes be
     let w = take n (held_of old.feed) in
     let after = record old { blanks = only_blanks old.blanks w; feed = passed (entered old.feed next) n (line_ends w) } in
     let part : slice_range after.feed.window from to ≡ w = rw (begins, stops) (held_part old.feed n used inside) in
-    rw (becomes, counted, part) (takes_bytes g old after w refl refl refl refl ready.free ready.open_
+    rw (becomes, counted, part) (takes_bytes g old after w refl refl refl refl refl ready.free ready.open_
     (move_text g.unread (staged_rules old.limits old.origins) old.blanks (state_of old) old.feed n next ready.bytes (ends_line g.unread old.feed ends) text)
     (entered_unused old.feed next n (line_ends w) within.0 inside))
 
+-- all of a text, as a part of it
+whole_part : (xs : List ℕ) (n : ℕ) → n ≡ length xs → slice_range xs 0 n ≡ xs
+whole_part xs n whole = let same : n - 0 ≡ length xs = omega arith in ap (λ k. take k xs) same ∙ take_all (length xs) xs (omega arith)
+
 -- a body is lent
-pub take_usage : {S R : Type 0} (g : Ghosts S R) (old new : EngineView S R) (n id : ℕ) →
+pub take_usage : {S R : Type 0} (g : Ghosts S R) (old new : EngineView S R) (n id end : ℕ) →
     IsReady old → old.feed.mode ≡ Plain → EndsHeld old.feed → IsUsage (held_of old.feed) n →
     macro_named old.table.macros (take (n - 1) (drop 1 (held_of old.feed))) ≡ Some (macro_at old.table.macros id) →
     is_unbuilt_macro (macro_at old.table.macros id) ≡ false → 0 < old.limits.depth →
     new ≡ record old { blanks = only_blanks old.blanks (take n (held_of old.feed)); feed = passed old.feed n 0 } →
-    Takes g old new (lent_answer new (Body id))
+    end ≡ length (macro_at old.table.macros id).body → Takes g old new (lent_answer new (Body id 0 end))
 unfolding open_left state_of start_state staged_rules rules_of passed
-take_usage g old new n id ready mode ends usage named built depth becomes =
+take_usage g old new n id end ready mode ends usage named built depth becomes whole =
     let held = usage_inside (held_of old.feed) n ready.bytes usage in
     let inside = held.1 in
     let some = held.0 in
     let after = record old { blanks = only_blanks old.blanks (take n (held_of old.feed)); feed = passed old.feed n 0 } in
-    rw becomes (takes_bytes g old after (macro_at old.table.macros id).body refl refl refl refl ready.free ready.open_
+    let part : slice_range (macro_at old.table.macros id).body 0 end ≡ (macro_at old.table.macros id).body = whole_part (macro_at old.table.macros id).body end whole in
+    rw (becomes, part) (takes_bytes g old after (macro_at old.table.macros id).body refl refl refl refl refl ready.free ready.open_
     (move_usage g.unread (staged_rules old.limits old.origins) old.blanks (state_of old) old.feed n (macro_at old.table.macros id)
     mode ready.bytes (ends_line g.unread old.feed ends) usage named refl built depth)
     (passed_unused old.feed n 0 some inside))
@@ -238,7 +245,7 @@ take_define g old new n lines from to table ready mode ends used fits define def
     let after = record old { blanks = only_blanks old.blanks w; feed = passed old.feed n (line_ends w); table = table } in
     let part : slice_range after.feed.window from to ≡ line_ends_of w =
     rw (begins, stops, counted) (tail_part old.feed.at n (line_ends w) old.feed.window few ∙ (ap (drop (n - line_ends w)) same ∙ sym (define_line_ends (held_of old.feed) n define))) in
-    rw (becomes, counted, part) (takes_bytes g old after (line_ends_of w) refl refl refl refl ready.free ready.open_
+    rw (becomes, counted, part) (takes_bytes g old after (line_ends_of w) refl refl refl refl refl ready.free ready.open_
     (move_defined g.unread (staged_rules old.limits old.origins) old.blanks (state_of old) old.feed n table.macros
     mode ready.bytes (ends_line g.unread old.feed ends) fits define (ap with_fault defined))
     (passed_unused old.feed n (line_ends w) held.0 held.1))
@@ -412,7 +419,7 @@ take_undef g old new start stop table ready mode ends undef has free removed bec
     let w = take stop (held_of old.feed) in
     let after = record old { blanks = only_blanks old.blanks w; feed = passed old.feed stop 0; table = record old.table { macros = without (undef_name (held_of old.feed) start stop) old.table.macros } } in
     let same : new ≡ after = becomes ∙ ap (λ t. record old { blanks = only_blanks old.blanks w; feed = passed old.feed stop 0; table = t }) removed in
-    rw same (takes_bytes g old after [] refl refl refl refl ready.free ready.open_
+    rw same (takes_bytes g old after [] refl refl refl refl refl ready.free ready.open_
     (move_undef g.unread (staged_rules old.limits old.origins) old.blanks (state_of old) old.feed start stop mode ready.bytes (ends_line g.unread old.feed ends) undef has free
     ∙ sym (and_then-gives_nil (open_left g.unread after)))
     (passed_unused old.feed stop 0 (omega (arith, inside.0, inside.1)) inside.2))

@@ -20,3 +20,4 @@ pub mod BodyTokens
 pub mod TextRemains
 pub mod Endings
 pub mod UndefRemains
+pub mod Cuts

@@ -21,10 +21,13 @@ use Rattle.rdlpp_meaning.specs.Output.{character_place, name_cut, opening_fault,
 use Rattle.rdlpp_meaning.proofs.Outputs.{output_plain, output_missing, output_overlong}
 use Rattle.rdlpp_expand.specs.Engine.{EngineView}
 use Rattle.rdlpp_expand.specs.Feed.{opened_feed, tokens_left, held_of, rest_of, unread_of}
-use Rattle.rdlpp_expand.specs.Remaining.{staged_rules, state_of, open_left, phase_left, kept_left, left_of}
+use Rattle.rdlpp_expand.specs.Remaining.{staged_rules, state_of, open_left, output_fault, phase_uncut, kept_uncut, uncut_of, left_of}
+use Rattle.rdlpp_meaning.specs.OutputLimit.{limited}
+use Rattle.rdlpp_meaning.proofs.OutputLimits.{limited-fails}
+use Rattle.rdlpp_meaning.specs.State.{Lookup, NoSource, LongPath}
 use Rattle.rdlpp_meaning.specs.Profile.{rules_of}
 use Rattle.rdlpp_expand.specs.Steps.{is_memory_kind, is_read_failed}
-use Rattle.rdlpp_expand.specs.Opening.{kind_of_source, lookup_of, opened_engine, unopened_engine, staged_output, is_device_fault, is_memory_fault, Starts}
+use Rattle.rdlpp_expand.specs.Opening.{kind_of_source, lookup_of, opened_engine, unopened_engine, found_name, looked_up, staged_output, is_device_fault, is_memory_fault, Starts}
 use Rattle.rdlpp_expand.proofs.Bounds.{is_bounded}
 
 -- whether the byte at a place goes on with a character
@@ -122,29 +125,37 @@ name_cut_at bytes r below at nearest = cut_at_boundary bytes 1024 r below at nea
 left_opened : {S R : Type 0} (unread : R → List ℕ) (e : EngineView S R) (s : S) (found : Found R)
     → e.feed.most ≡ e.limits.line_bytes
     → left_of unread (opened_engine (record e { sources = s }) found)
-    ≡ remains (staged_rules e.limits e.origins) (Live []) true ((staged_rules e.limits e.origins).tokens (unread found.reader))
-    (start_state e.table.macros e.limits.includes e.limits.conditions found.path.bytes)
-unfolding left_of kept_left phase_left open_left state_of opened_engine opened_feed tokens_left held_of rest_of unread_of whole_tokens staged_rules rules_of
+    ≡ limited (output_fault found.path.bytes) e.limits.output_bytes
+    (remains (staged_rules e.limits e.origins) (Live []) true ((staged_rules e.limits e.origins).tokens (unread found.reader))
+    (start_state e.table.macros e.limits.includes e.limits.conditions found.path.bytes))
+unfolding left_of uncut_of kept_uncut phase_uncut open_left state_of opened_engine opened_feed tokens_left held_of rest_of unread_of whole_tokens staged_rules rules_of
 left_opened unread e s found most =
-    ap (λ (n : ℕ). remains (staged_rules e.limits e.origins) (Live []) true
+    ap (λ (n : ℕ). limited (output_fault found.path.bytes) e.limits.output_bytes (remains (staged_rules e.limits e.origins) (Live []) true
     (whole_tokens is_unbuilt n e.limits.source_bytes (unread found.reader))
-    (start_state e.table.macros e.limits.includes e.limits.conditions found.path.bytes)) most
+    (start_state e.table.macros e.limits.includes e.limits.conditions found.path.bytes))) most
 
 -- what remains where no main text was opened
 left_unopened : {S R : Type 0} (unread : R → List ℕ) (e : EngineView S R) (s : S) (kind : FaultKind) (path : List ℕ)
     → left_of unread (unopened_engine (record e { sources = s }) (opening_fault kind path)) ≡ fails (opening_fault kind path)
-unfolding left_of kept_left unopened_engine
-left_unopened unread e s kind path = refl
+unfolding left_of uncut_of kept_uncut unopened_engine
+left_unopened unread e s kind path = limited-fails (output_fault e.name) e.quota (opening_fault kind path)
 
 -- without origin lines the output is that of the main path
 staged_plain : {S R : Type 0} (g : Ghosts S R) (e : EngineView S R) (path : List ℕ) (answer : Answer)
     → e.origins ≡ false → (g.catalog e.sources).top path ≡ answer
-    → staged_output g e path
-    ≡ output (staged_rules e.limits e.origins) e.table.macros e.limits.includes e.limits.conditions path (lookup_of answer)
+    → staged_output g e path ≡ looked_up e path (lookup_of answer)
 unfolding staged_output
 staged_plain g e path answer plain found =
     cond-false _ _ _ plain
-    ∙ ap (λ (a : Answer). output (staged_rules e.limits e.origins) e.table.macros e.limits.includes e.limits.conditions path (lookup_of a)) found
+    ∙ ap (λ (a : Answer). looked_up e path (lookup_of a)) found
+
+-- the output of a main path that is no text
+looked_up-fails : {S R : Type 0} (e : EngineView S R) (path : List ℕ) (lookup : Lookup) (f : Told)
+    → output (staged_rules e.limits e.origins) e.table.macros e.limits.includes e.limits.conditions path lookup ≡ fails f
+    → looked_up e path lookup ≡ fails f
+unfolding looked_up
+looked_up-fails e path lookup f is =
+    ap (limited (output_fault (found_name path lookup)) e.limits.output_bytes) is ∙ limited-fails (output_fault (found_name path lookup)) e.limits.output_bytes f
 
 -- the rules write origin lines where the engine does
 rules_plain : {S R : Type 0} (e : EngineView S R) → e.origins ≡ false → (staged_rules e.limits e.origins).origins ≡ false
@@ -162,7 +173,7 @@ pub starts_open : {S R : Type 0} (g : Ghosts S R) (e : EngineView S R) (s : S) (
     → (g.tells e.sources → g.tells s)
     → g.catalog s ≡ g.catalog e.sources
     → Starts g e (opened_engine (record e { sources = s }) found) path None
-unfolding opened_engine opened_feed is_device_fault is_memory_fault lookup_of
+unfolding opened_engine opened_feed is_device_fault is_memory_fault lookup_of looked_up found_name
 starts_open g e s found path plain most fits answer failures refusals tells catalog = record {
   limits = refl;
   table = refl;
@@ -174,8 +185,9 @@ starts_open g e s found path plain most fits answer failures refusals tells cata
   remains_output = λ _ _ telling.
       left_opened g.unread e s found most
       ∙ sym (staged_plain g e path _ plain (answer telling)
-      ∙ output_plain (staged_rules e.limits e.origins) e.table.macros e.limits.includes e.limits.conditions path
-      found.path.bytes (g.unread found.reader) (rules_plain e plain));
+      ∙ ap (limited (output_fault found.path.bytes) e.limits.output_bytes)
+      (output_plain (staged_rules e.limits e.origins) e.table.macros e.limits.includes e.limits.conditions path
+      found.path.bytes (g.unread found.reader) (rules_plain e plain)));
   bounded = is_bounded _ fits (omega arith);
 }
 
@@ -220,10 +232,10 @@ pub starts_not_found : {S R : Type 0} (g : Ghosts S R) (e : EngineView S R) (s :
 unfolding kind_of_source is_read_failed is_memory_kind lookup_of
 starts_not_found g e s source.Absent path plain fits window answer failures refusals tells catalog =
     starts_refused g e s SourceNotFound path fits window failures refusals tells catalog
-    (λ _ _ telling. sym (staged_plain g e path _ plain (answer telling) ∙ output_missing _ _ _ _ _))
+    (λ _ _ telling. sym (staged_plain g e path _ plain (answer telling) ∙ looked_up-fails e path NoSource _ (output_missing _ _ _ _ _)))
 starts_not_found g e s source.PathTooLong path plain fits window answer failures refusals tells catalog =
     starts_refused g e s PathTooLong path fits window failures refusals tells catalog
-    (λ _ _ telling. sym (staged_plain g e path _ plain (answer telling) ∙ output_overlong _ _ _ _ _))
+    (λ _ _ telling. sym (staged_plain g e path _ plain (answer telling) ∙ looked_up-fails e path LongPath _ (output_overlong _ _ _ _ _)))
 starts_not_found g e s source.Device path plain fits window answer failures refusals tells catalog =
     starts_refused g e s ReadFailed path fits window failures refusals tells catalog (λ device _ _. cc)
 starts_not_found g e s source.NoMemory path plain fits window answer failures refusals tells catalog =

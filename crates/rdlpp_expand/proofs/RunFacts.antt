@@ -15,7 +15,7 @@ use Rattle.rdlpp_expand.specs.Engine.{EngineView}
 use Rattle.rdlpp_expand.specs.Held.{stores_of}
 use Rattle.rdlpp_expand.specs.Remaining.{left_of, state_of, work_left}
 use Rattle.rdlpp_expand.specs.Run.{Pulls, Wrote, WroteEnds, Going, Finishes, Stops, StopsAt, Breaks, Runs, Begins, Flushes, Unflushed, answered, is_fresh, is_kept, is_unwritten, write_fault}
-use Rattle.rdlpp_expand.specs.Steps.{Steps, Tells, IsBounded, IsStarted, has_met, is_memory_kind, is_read_failed, is_write_failed}
+use Rattle.rdlpp_expand.specs.Steps.{Steps, Tells, IsBounded, IsStarted, has_met, lent_len, is_memory_kind, is_read_failed, is_write_failed}
 use Rattle.rdlpp_expand.proofs.EngineSteps.{called_after, free_before, not_called, ok_not_met}
 use Rattle.rdlpp_expand.specs.declared.writing.Ending.{Ending}
 use Rattle.rdlpp_expand.specs.declared.writing.Ending.TheVariants.{Finished, Stopped, Unwritten}
@@ -142,7 +142,7 @@ wrote_with g h old mid new before between after n len ending w p reads limits na
 -- a piece was written whole
 pub goes_on : {S R : Type 0} (g : Ghosts S R) (old mid new : EngineView S R) (xs ys : List ℕ) → (g.tells old.sources → g.tells mid.sources) → Going g old mid xs → Steps g mid new (Ok (Some ys)) → Going g old new (xs ++ ys)
 goes_on g old mid new xs ys told w s =
-    let free : old.kept ≡ None = sym w.kept ∙ free_before g mid new mid.kept (Some ys) refl s in
+    let free : old.kept ≡ None = sym w.kept ∙ free_before g (left_of g.unread) lent_len mid new mid.kept (Some ys) refl s in
     record {
       kept = s.free ∙ sym free;
       tells = λ t. w.tells t ∙ ap (and_then (gives xs)) (ok_tells g mid new (Some ys) s (told t)) ∙ and_then-gives_gives xs ys (left_of g.unread new);
@@ -152,7 +152,7 @@ goes_on g old mid new xs ys told w s =
 -- nothing was left
 pub finishes : {S R : Type 0} (g : Ghosts S R) (old mid new : EngineView S R) (xs ys : List ℕ) → (g.tells old.sources → g.tells mid.sources) → Going g old mid xs → Steps g mid new (Ok None) → ys ≡ [] → Finishes g old new (xs ++ ys)
 finishes g old mid new xs ys told w s none =
-    let free : old.kept ≡ None = sym w.kept ∙ free_before g mid new mid.kept None refl s in
+    let free : old.kept ≡ None = sym w.kept ∙ free_before g (left_of g.unread) lent_len mid new mid.kept None refl s in
     record {
       free = free;
       kept = (s.ends refl).0;
@@ -185,7 +185,7 @@ stops g old mid new xs ys told w stop =
 pub breaks : {S R : Type 0} (g : Ghosts S R) (old mid new : EngineView S R) (xs ys rest : List ℕ) → (g.tells old.sources → g.tells mid.sources) → Going g old mid xs → Steps g mid new (Ok (Some (ys ++ rest))) → Breaks g old new (xs ++ ys)
 breaks g old mid new xs ys rest told w s =
     let left = left_of g.unread new in
-    let free : old.kept ≡ None = sym w.kept ∙ free_before g mid new mid.kept (Some (ys ++ rest)) refl s in
+    let free : old.kept ≡ None = sym w.kept ∙ free_before g (left_of g.unread) lent_len mid new mid.kept (Some (ys ++ rest)) refl s in
     record {
       free = free;
       kept = s.free;

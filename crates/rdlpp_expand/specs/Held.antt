@@ -1,12 +1,12 @@
 -- The held stores, and their bound.
 -- A definition that names no source is this project's own.
-use Rattle.std.specs.Prelude.{ℕ, ◌+◌, ◌*◌, List, [], ◌∷◌, length, sum_by}
+use Rattle.std.specs.Prelude.{ℕ, ◌+◌, ◌*◌, Bool, true, false, if◌then◌else◌, List, [], ◌∷◌, length, sum_by}
 use Rattle.rdlpp_table.specs.Table.{table_bytes}
 use Rattle.rdlpp_table.specs.declared.limits.Limits.{Limits}
 use Rattle.rdlpp_expand.specs.Engine.{EngineView}
 use Rattle.rdlpp_expand.specs.declared.held.Held.{Held}
 use Rattle.rdlpp_expand.specs.declared.phase.Phase.{Phase}
-use Rattle.rdlpp_expand.specs.declared.phase.Phase.TheVariants.{Fresh, Open, Closed}
+use Rattle.rdlpp_expand.specs.declared.phase.Phase.TheVariants.{Fresh, Open, Passed, Closed}
 
 -- the three stores whose bytes are counted: those of the live definitions, of the open call's kept text, and for each open
 -- source a part of its text, outermost first
@@ -15,11 +15,16 @@ pub record Stores : Type 0 where
   pub arguments : List ℕ
   pub buffers : List (List ℕ)
 
+-- whether the main text is open
+unfoldable pub is_open : Phase → Bool
+is_open Fresh = false
+is_open Open = true
+is_open Passed = true
+is_open Closed = false
+
 -- the parts of the open sources' texts
 unfoldable pub buffers_of : Phase → List ℕ → List (List ℕ)
-buffers_of Fresh window = []
-buffers_of Open window = window ∷ []
-buffers_of Closed window = []
+buffers_of phase window = if is_open phase then window ∷ [] else []
 
 -- the stores of an engine
 unfoldable pub stores_of : {S R : Type 0} → EngineView S R → Stores

@@ -17,7 +17,8 @@ use Rattle.rdlpp_meaning.specs.State.{Lookup, NoSource, LongPath, Source}
 use Rattle.rdlpp_meaning.specs.Output.{opening_fault, output}
 use Rattle.rdlpp_expand.specs.Engine.{EngineView}
 use Rattle.rdlpp_expand.specs.Feed.{closed_feed, opened_feed}
-use Rattle.rdlpp_expand.specs.Remaining.{staged_rules, left_of}
+use Rattle.rdlpp_expand.specs.Remaining.{output_fault, staged_rules, left_of}
+use Rattle.rdlpp_meaning.specs.OutputLimit.{limited}
 use Rattle.rdlpp_expand.specs.Steps.{IsBounded, IsStarted, is_memory_kind, is_read_failed}
 use Rattle.rdlpp_expand.specs.declared.engine.NewFault.{NewFault}
 use Rattle.rdlpp_expand.specs.declared.engine.NewFault.TheVariants.{BadLimits, NoMemory}
@@ -29,6 +30,7 @@ fresh_engine limits sources origins = record {
   limits = limits;
   origins = origins;
   phase = Fresh;
+  quota = limits.output_bytes;
   kept = None;
   name = [];
   blanks = true;
@@ -60,6 +62,7 @@ lookup_of (Present path text) = Source path text
 unfoldable pub opened_engine : {S R : Type 0} → EngineView S R → Found R → EngineView S R
 opened_engine e found = record e {
   phase = Open;
+  quota = e.limits.output_bytes;
   kept = None;
   name = found.path.bytes;
   blanks = true;
@@ -70,12 +73,23 @@ opened_engine e found = record e {
 unfoldable pub unopened_engine : {S R : Type 0} → EngineView S R → Told → EngineView S R
 unopened_engine e fault = record e { phase = Closed; kept = Some fault }
 
+-- the name under which a main path is found: its own where it isn't
+unfoldable pub found_name : List ℕ → Lookup → List ℕ
+found_name path NoSource = path
+found_name path LongPath = path
+found_name path (Source found text) = found
+
+-- the output of a main path by what the search for it comes to, with at most as many bytes as the limit says
+unfoldable pub looked_up : {S R : Type 0} → EngineView S R → List ℕ → Lookup → Outcome
+looked_up e path lookup =
+    limited (output_fault (found_name path lookup)) e.limits.output_bytes
+    (output (staged_rules e.limits e.origins) e.table.macros e.limits.includes e.limits.conditions path lookup)
+
 -- the output of a main path, where no opening fails; origin lines aren't built yet (this project's profile)
 unfoldable pub staged_output : {S R : Type 0} → Ghosts S R → EngineView S R → List ℕ → Outcome
 staged_output g e path =
     if e.origins then fails (opening_fault Unbuilt path)
-    else output (staged_rules e.limits e.origins) e.table.macros e.limits.includes e.limits.conditions path
-    (lookup_of ((g.catalog e.sources).top path))
+    else looked_up e path (lookup_of ((g.catalog e.sources).top path))
 
 -- the fault that a start answers
 unfoldable pub start_fault : Result (Unit {0}) Fault → Option Told

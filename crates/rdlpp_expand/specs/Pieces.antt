@@ -14,14 +14,14 @@ use Rattle.rdlpp_expand.specs.declared.place.Piece.TheVariants.{Bytes, Done}
 -- a place lies in the held stores
 abbrev pub IsPlaced : {S R : Type 0} → EngineView S R → Place → Type 0
 IsPlaced e (Source start end) = (start ≤ end) × (end ≤ length e.feed.window)
-IsPlaced e (Body id) = id < length e.table.macros
+IsPlaced e (Body id start end) = (id < length e.table.macros) × (start ≤ end) × (end ≤ length (macro_at e.table.macros id).body)
 IsPlaced e End = ⊤
 IsPlaced e Kept = ⊤
 
--- the bytes at a place: a part of the open source's buffer, or a live body; none at the end
+-- the bytes at a place: a part of the open source's buffer, or of a live body; none at the end
 abbrev pub bytes_at : {S R : Type 0} → EngineView S R → Place → Option (List ℕ)
 bytes_at e (Source start end) = Some (slice_range e.feed.window start end)
-bytes_at e (Body id) = Some (macro_at e.table.macros id).body
+bytes_at e (Body id start end) = Some (slice_range (macro_at e.table.macros id).body start end)
 bytes_at e End = None
 bytes_at e Kept = None
 
@@ -43,12 +43,12 @@ kept_answer None = Ok None
 -- what is answered at a place
 abbrev pub lent_answer : {S R : Type 0} → EngineView S R → Place → Result (Option (List ℕ)) Told
 lent_answer e (Source start end) = Ok (bytes_at e (Source start end))
-lent_answer e (Body id) = Ok (bytes_at e (Body id))
+lent_answer e (Body id start end) = Ok (bytes_at e (Body id start end))
 lent_answer e End = Ok None
 lent_answer e Kept = kept_answer e.kept
 
--- what is answered is what stands at a place in the held stores: a part of the open source's buffer, or a live body (source:
--- this project's profile)
+-- what is answered is what stands at a place in the held stores: a part of the open source's buffer, or of a live body
+-- (source: this project's profile)
 pub record Lends {S R : Type 0} (e : EngineView S R) (answer : Result (Option (List ℕ)) Told) : Type 0 where
   pub place : Place
   pub placed : IsPlaced e place

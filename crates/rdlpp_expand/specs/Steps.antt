@@ -1,6 +1,6 @@
 -- What a step of an engine does.
 -- A definition that names no source is this project's own.
-use Rattle.std.specs.Prelude.{◌≡◌, ℕ, ◌≤◌, ◌<◌, Bool, true, false, List, [], Option, None, Some, Result, Ok, Err, IfErr, IfOk, IsSome, length}
+use Rattle.std.specs.Prelude.{◌≡◌, ℕ, ◌+◌, ◌≤◌, ◌<◌, Bool, true, false, List, [], Option, None, Some, Result, Ok, Err, IfErr, IfOk, IsSome, length}
 use Rattle.rdlpp_source.specs.declared.sources.Sources.{Ghosts}
 use Rattle.rdlpp_meaning.specs.declared.fault.FaultKind.{FaultKind}
 use Rattle.rdlpp_meaning.specs.declared.fault.FaultKind.TheVariants.{ReadFailed, WriteFailed, SourceMemory, EmbeddedPerl}
@@ -10,12 +10,12 @@ use Rattle.rdlpp_meaning.specs.State.{breach_kind, fault_at}
 use Rattle.rdlpp_meaning.specs.Outcome.{Told, Outcome, gives, fails, and_then}
 use Rattle.rdlpp_expand.specs.Calls.{SourcesCalled}
 use Rattle.rdlpp_expand.specs.Engine.{EngineView}
-use Rattle.rdlpp_expand.specs.Held.{stores_of, held_bytes, bound_of}
+use Rattle.rdlpp_expand.specs.Held.{stores_of, held_bytes, bound_of, is_open}
 use Rattle.rdlpp_expand.specs.Feed.{closed_feed, held_of, unused_of}
 use Rattle.rdlpp_expand.specs.Supply.{ended_tokens, only_broken}
 use Rattle.rdlpp_expand.specs.declared.place.Place.{Place}
 use Rattle.rdlpp_expand.specs.declared.place.Place.TheVariants.{Source, Body, End, Kept}
-use Rattle.rdlpp_expand.specs.Remaining.{left_of, open_left, state_of, work_left}
+use Rattle.rdlpp_expand.specs.Remaining.{left_of, uncut_of, open_left, state_of, work_left}
 use Rattle.rdlpp_expand.specs.declared.phase.Phase.TheVariants.{Fresh, Open, Closed}
 
 -- whether a kind is that of a read that failed
@@ -75,10 +75,11 @@ pub record Takes {S R : Type 0} (g : Ghosts S R) (old new : EngineView S R) (ans
   pub limits : new.limits ≡ old.limits
   pub name : new.name ≡ old.name
   pub phase : new.phase ≡ old.phase
+  pub quota : new.quota ≡ old.quota
   pub sources : new.sources ≡ old.sources
   pub keeps : IfErr answer (λ f. (new.kept ≡ Some f) × IsOwn f.kind)
   pub goes_on : IfOk answer (λ lent. (new.kept ≡ None) × IsSome lent)
-  pub tells : Tells answer (open_left g.unread old) (left_of g.unread new)
+  pub tells : Tells answer (open_left g.unread old) (uncut_of g.unread new)
   pub falls : IfOk answer (λ lent. unused_of new.feed < unused_of old.feed)
 
 -- an engine whose open source has bytes to take
@@ -97,13 +98,14 @@ pub record StopsOpen {S R : Type 0} (old new : EngineView S R) : Type 0 where
 -- what the end of the open source comes to
 abbrev pub Ends : {S R : Type 0} → EngineView S R → EngineView S R → Place → Type 0
 Ends old new (Source start end) = ⊥
-Ends old new (Body id) = ⊥
+Ends old new (Body id start end) = ⊥
 Ends old new End = (old.feed.mode ≡ Plain) × (new ≡ record old { phase = Closed; feed = closed_feed old.feed.line old.feed.most })
 Ends old new Kept = StopsOpen old new
 
 -- a step: a kept fault is answered again and changes nothing, and so is the end; a fault is kept, one of a write that failed
--- comes only so, and bytes leave none kept; the shown name; the counts of failures; the output that remained is what was lent and then the output that remains; the work left falls; the bound holds
-pub record Steps {S R : Type 0} (g : Ghosts S R) (old new : EngineView S R) (answer : Result (Option (List ℕ)) Told) : Type 0 where
+-- comes only so, and bytes leave none kept; the shown name; the counts of failures; the output that remained is what was lent and then the output that remains; the work left falls; bytes come
+-- of an open text alone; what may still be lent; the bound holds
+pub record StepsOver {S R : Type 0} (g : Ghosts S R) (left : EngineView S R → Outcome) (spent : Result (Option (List ℕ)) Told → ℕ) (old new : EngineView S R) (answer : Result (Option (List ℕ)) Told) : Type 0 where
   pub limits : new.limits ≡ old.limits
   pub name : new.name ≡ old.name
   pub started : IsStarted new
@@ -115,6 +117,26 @@ pub record Steps {S R : Type 0} (g : Ghosts S R) (old new : EngineView S R) (ans
   pub ends : answer ≡ Ok None → (new.kept ≡ None) × (new.phase ≡ Closed)
   pub failed : has_failed old.kept answer ≡ true → answer ≡ Err (fault_at ReadFailed new.feed.line [] (state_of new))
   pub call : SourcesCalled g (has_failed old.kept answer) (has_refused old.kept answer) old.sources new.sources
-  pub tells : has_failed old.kept answer ≡ false → g.tells old.sources → Tells answer (left_of g.unread old) (left_of g.unread new)
+  pub tells : has_failed old.kept answer ≡ false → g.tells old.sources → Tells answer (left old) (left new)
   pub falls : (bytes : List ℕ) → answer ≡ Ok (Some bytes) → work_left new < work_left old
+  pub lends : (bytes : List ℕ) → answer ≡ Ok (Some bytes) → (old.phase ≡ Open) × (is_open new.phase ≡ true)
+  pub quota : new.quota + spent answer ≡ old.quota
   pub bounded : IsBounded new
+
+-- how many bytes an answer lends
+unfoldable pub lent_len : Result (Option (List ℕ)) Told → ℕ
+lent_len (Ok (Some bytes)) = length bytes
+lent_len (Ok None) = 0
+lent_len (Err f) = 0
+
+-- none, whatever is answered
+unfoldable pub no_len : Result (Option (List ℕ)) Told → ℕ
+no_len answer = 0
+
+-- a step over what remains of the output, in which the lent bytes count (this project's profile)
+abbrev pub Steps : {S R : Type 0} → Ghosts S R → EngineView S R → EngineView S R → Result (Option (List ℕ)) Told → Type 0
+Steps g old new answer = StepsOver g (left_of g.unread) lent_len old new answer
+
+-- a step over what remains without the limit on the output
+abbrev pub Walks : {S R : Type 0} → Ghosts S R → EngineView S R → EngineView S R → Result (Option (List ℕ)) Told → Type 0
+Walks g old new answer = StepsOver g (uncut_of g.unread) no_len old new answer

@@ -1,16 +1,16 @@
 // The engine: it reads a source by lines, expands usages, and lends its output piece by piece.
-ghost use Rattle.std.specs.Prelude.{◌≡◌, ◌↔◌, ℕ, ◌+◌, ◌≤◌, ◌<◌, true, false, [], length, take, drop, None, Some, IfSome, IsSome, IsTrue, IsOk, not};
+ghost use Rattle.std.specs.Prelude.{◌≡◌, ◌↔◌, ℕ, ◌+◌, ◌-◌, ◌≤◌, ◌<◌, true, false, [], length, take, drop, None, Some, IfSome, IsSome, IsTrue, IsOk, not};
 ghost use Rattle.std.specs.Borrow.{sem};
 ghost use Rattle.std.specs.Option.{option_map};
 ghost use Rattle.std.specs.Io.BufRead.{Rests};
 ghost use Rattle.rdlpp_table.specs.Limits.{limit_fault};
 ghost use Rattle.rdlpp_meaning.specs.Outcome.{Told, told};
 ghost use Rattle.rdlpp_meaning.specs.State.{fault_at};
-ghost use Rattle.rdlpp_expand.specs.Held.{held_told};
+ghost use Rattle.rdlpp_expand.specs.Held.{held_told, is_open};
 ghost use Rattle.rdlpp_expand.specs.Pieces.{IsPlaced, Lends, answer_of, bytes_at, lent_answer, piece_bytes, step_answer};
-ghost use Rattle.rdlpp_expand.specs.Remaining.{state_of};
+ghost use Rattle.rdlpp_expand.specs.Remaining.{output_fault, state_of};
 ghost use Rattle.rdlpp_expand.specs.Run.{write_fault};
-ghost use Rattle.rdlpp_expand.specs.Steps.{Ends, IsBounded, IsReady, IsStarted, Steps, Takes, is_write_failed};
+ghost use Rattle.rdlpp_expand.specs.Steps.{Ends, IsBounded, IsReady, IsStarted, Steps, Takes, Walks, is_write_failed};
 ghost use Rattle.rdlpp_expand.specs.Feed.{EndsHeld, closed_feed, entered, held_of};
 ghost use Rattle.rdlpp_expand.specs.Calls.{SourcesRead};
 ghost use Rattle.rdlpp_expand.specs.Supply.{Supplies, is_failed};
@@ -55,6 +55,8 @@ pub struct Engine<S: Sources> {
     limits: Limits,
     origins: bool,
     phase: Phase,
+    // how many bytes of output may still be lent
+    quota: u64,
     kept: Option<Fault>,
     path: ArrayString<1024>,
     blanks: bool,
@@ -78,6 +80,7 @@ impl<S: Sources> Model for Engine<S> {
       limits = e.limits;
       origins = e.origins;
       phase = e.phase;
+      quota = e.quota;
       kept = option_map told e.kept;
       name = e.path.bytes;
       blanks = e.blanks;
@@ -109,7 +112,7 @@ impl<S: Sources> Engine<S> {
         ensures value { result ≡ held_told self.now }
         ensures bounded { IsBounded self.now }
     {
-        let open = self.phase == Phase::Open;
+        let open = self.is_open();
         Held {
             definitions: self.table.bytes().len(),
             arguments: 0,
@@ -134,11 +137,47 @@ impl<S: Sources> Engine<S> {
         self.answer(place)
     }
 
-    // The step that `next` and `run` share: goes on to the next piece, and answers where it stands.
+    // The step that `next` and `run` share: goes on to the next piece, cut to what the limit on the
+    // output leaves, and answers where it stands.
     pub(crate) fn advance(&mut self) -> Place
         requires { IsStarted self.old }
         ensures place { IsPlaced self.new result }
         ensures steps { Steps S.Sources self.old self.new (lent_answer self.new result) }
+    {
+        match self.walk() {
+            Place::Source(start, end) => {
+                let len = self.spend(end - start);
+                Place::Source(start, start + len)
+            }
+            Place::Body(id, start, end) => {
+                let len = self.spend(end - start);
+                Place::Body(id, start, start + len)
+            }
+            Place::End => Place::End,
+            Place::Kept => Place::Kept,
+        }
+    }
+
+    // Takes so many bytes from what may still be lent, and answers how many of them may be.
+    fn spend(&mut self, len: usize) -> usize
+        ensures fits { len ≤ self.old.quota → (result ≡ len) × (self.new ≡ record self.old { quota = self.old.quota - len }) }
+        ensures passes { self.old.quota < len → (result ≡ self.old.quota) × (self.new ≡ record self.old { phase = Phase.Passed; quota = 0 }) }
+    {
+        if len as u64 <= self.quota {
+            self.quota -= len as u64;
+            return len;
+        }
+        let left = self.quota as usize;
+        self.quota = 0;
+        self.phase = Phase::Passed;
+        left
+    }
+
+    // Goes on to the next piece, however many bytes may still be lent, and answers where it stands.
+    fn walk(&mut self) -> Place
+        requires { IsStarted self.old }
+        ensures place { IsPlaced self.new result }
+        ensures walks { Walks S.Sources self.old self.new (lent_answer self.new result) }
     {
         'stepping: loop {
             if let Some(place) = self.step() {
@@ -151,7 +190,7 @@ impl<S: Sources> Engine<S> {
     fn step(&mut self) -> Option<Place>
         requires { IsStarted self.old }
         ensures place { IfSome result (IsPlaced self.new) }
-        ensures steps { Steps S.Sources self.old self.new (step_answer self.new result) }
+        ensures walks { Walks S.Sources self.old self.new (step_answer self.new result) }
     {
         self.facts();
         if self.kept.is_some() {
@@ -163,6 +202,7 @@ impl<S: Sources> Engine<S> {
                 self.facts();
                 place
             }
+            Phase::Passed => Some(self.refuse_output()),
             _ => Some(Place::End),
         }
     }
@@ -172,7 +212,7 @@ impl<S: Sources> Engine<S> {
         requires open { self.old.phase ≡ Phase.Open }
         requires free { self.old.kept ≡ None }
         ensures place { IfSome result (IsPlaced self.new) }
-        ensures steps { IsBounded self.new → Steps S.Sources self.old self.new (step_answer self.new result) }
+        ensures walks { IsBounded self.new → Walks S.Sources self.old self.new (step_answer self.new result) }
     {
         match self.fill() {
             Supply::Held => self.take_front(),
@@ -242,8 +282,9 @@ impl<S: Sources> Engine<S> {
         if !is_built(&self.table, id) {
             return self.refuse(FaultKind::Unbuilt, ArrayString::new());
         }
+        let end = self.table.body(id).len();
         self.consume(len, 0);
-        Place::Body(id)
+        Place::Body(id, 0, end)
     }
 
     // Reads the `define` whose line has `len` bytes, and lends the LF of that line.
@@ -368,6 +409,22 @@ impl<S: Sources> Engine<S> {
         Place::Kept
     }
 
+    // Keeps that more bytes are due than the output may have, which is told at line 0 under the main
+    // text's name.
+    #[tactic(auto, unfolding(rdlpp_meaning::specs::Outcome::told, crate::specs::Remaining::output_fault))]
+    fn refuse_output(&mut self) -> Place
+        ensures place { result ≡ Place.Kept }
+        ensures kept { self.new ≡ record self.old { kept = Some (output_fault self.old.name) } }
+    {
+        self.kept = Some(Fault {
+            kind: FaultKind::OutputBytes,
+            name: copied(&self.path),
+            line: 0,
+            word: ArrayString::new(),
+        });
+        Place::Kept
+    }
+
     // Keeps that a write failed, which is told at line 0 under the shown name.
     #[tactic(auto, unfolding(rdlpp_meaning::specs::Outcome::told, crate::specs::Run::write_fault))]
     pub(crate) fn refuse_write(&mut self)
@@ -419,9 +476,17 @@ impl<S: Sources> Engine<S> {
     {
         match place {
             Place::Source(start, end) => Piece::Bytes(self.feed.part(start, end)),
-            Place::Body(id) => Piece::Bytes(self.table.body(id)),
+            Place::Body(id, start, end) => Piece::Bytes(&self.table.body(id)[start..end]),
             Place::End | Place::Kept => Piece::Done,
         }
+    }
+
+    // Whether the main text is open.
+    #[tactic(auto, unfolding(crate::specs::Held::is_open))]
+    fn is_open(&self) -> bool
+        ensures { result ≡ is_open self.now.phase }
+    {
+        matches!(self.phase, Phase::Open | Phase::Passed)
     }
 
     // What always holds of it.

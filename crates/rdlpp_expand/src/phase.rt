@@ -7,6 +7,8 @@ pub(crate) enum Phase {
     Fresh,
     /// The main text is open.
     Open,
+    /// The main text is open, and more bytes were due than the output may have.
+    Passed,
     /// The main text has ended, or couldn't be opened.
     Closed,
 }

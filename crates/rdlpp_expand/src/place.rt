@@ -16,8 +16,8 @@ pub enum Piece<'a> {
 pub(crate) enum Place {
     /// From a place up to another in the buffer of the open source.
     Source(usize, usize),
-    /// A live body.
-    Body(MacroId),
+    /// From a place up to another in a live body.
+    Body(MacroId, usize, usize),
     /// At the end.
     End,
     /// In the fault that is kept.

@@ -118,3 +118,50 @@ impl Write for NarrowWriter {
         Ok(())
     }
 }
+
+/// Sources without a text, which count how often something was asked of them.
+#[derive(Drop)]
+pub struct AskedSources<'a> {
+    /// How often a search or a read was asked for.
+    pub asked: &'a mut u64,
+}
+
+impl<'a> Sources for AskedSources<'a> {
+    type Reader = DealtReader<'static>;
+
+    ghost use Rattle.std.specs.Prelude.{[]};
+    ghost use Rattle.rdlpp_source.specs.Sources.{Missing};
+
+    ghost tells = { λ _. ⊥ };
+
+    ghost catalog = { λ _. record { top = λ _. Missing; find = λ _ _. Missing } };
+
+    ghost unread = { λ _. [] };
+
+    ghost failures = { λ _. 0 };
+
+    ghost refusals = { λ _. 0 };
+
+    fn top(&mut self, _path: &str) -> Result<Found<DealtReader<'static>>, SourceFault> {
+        *self.asked = self.asked.saturating_add(1);
+        Err(SourceFault::Absent)
+    }
+
+    fn find(
+        &mut self,
+        _from: &str,
+        _name: &str,
+    ) -> Result<Found<DealtReader<'static>>, SourceFault> {
+        *self.asked = self.asked.saturating_add(1);
+        Err(SourceFault::Absent)
+    }
+
+    fn read(
+        &mut self,
+        _reader: &mut DealtReader<'static>,
+        _to: &mut [u8],
+    ) -> Result<usize, SourceFault> {
+        *self.asked = self.asked.saturating_add(1);
+        Ok(0)
+    }
+}

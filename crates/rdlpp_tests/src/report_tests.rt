@@ -1,4 +1,5 @@
 // Tests of the lines that report faults, and of the statuses.
+use crate::devices::AskedSources;
 use crate::row_tests::{STANDARD, narrow, run_source};
 use arrayvec::ArrayString;
 use rdlpp::{
@@ -235,6 +236,25 @@ fn takes_definitions_from_the_options(rt: HostRuntime) -> Result<(), Fail> {
             counted.into_writer().taken.as_slice() == output.as_bytes(),
             "{output}"
         );
+    }
+    Ok(())
+}
+
+// Nothing is asked of the sources where a definition is refused; else the main text is.
+#[test]
+fn opens_nothing_after_a_refused_definition(rt: HostRuntime) -> Result<(), Fail> {
+    for (name, wanted) in [("define", 0), ("W", 1)] {
+        let options = Options {
+            defines: owned(&rt, &[(name, "8")])?,
+            limits: STANDARD,
+            origins: false,
+        };
+        let mut asked = 0;
+        let mut counted = rdlpp::Counted::new(narrow(&rt, 9, 99));
+        let sources = AskedSources { asked: &mut asked };
+        let outcome = preprocess(rt.alloc(), &options, sources, "m", &mut counted);
+        assert!(rt; outcome.is_err());
+        assert_eq!(rt; asked, wanted);
     }
     Ok(())
 }

@@ -627,3 +627,27 @@ fn goes_through_a_long_text(rt: HostRuntime) -> Result<(), Fail> {
     run_row(&rt, &row);
     Ok(())
 }
+
+// At most as many bytes as the limit says, and its fault only where one more is due.
+#[test]
+fn keeps_the_limit_on_the_output(rt: HostRuntime) {
+    let source: &[u8] = b"`define W 8\nreg[`W];\n";
+    let over = fault(35, 0, "");
+    let first = fault(7, 1, "Q");
+    let rows = [
+        (9, whole("a limit that is reached", source, b"\nreg[8];\n")),
+        (8, faulty("a limit that is passed", source, b"\nreg[8];", over)),
+        (5, faulty("a limit before a body", source, b"\nreg[", over)),
+        (0, faulty("no byte allowed", source, b"", over)),
+        (0, whole("no byte due", b"`define W 8", b"")),
+        (1, faulty("a fault that comes first", b"a`Q", b"a", first)),
+        (0, faulty("a byte that comes first", b"a`Q", b"", over)),
+    ];
+    for (output_bytes, row) in rows {
+        let limits = Limits {
+            output_bytes,
+            ..STANDARD
+        };
+        run_row(&rt, &Row { limits, ..row });
+    }
+}

@@ -46,6 +46,7 @@ impl<S: Sources> Engine<S> {
             limits,
             origins,
             phase: Phase::Fresh,
+            quota: limits.output_bytes,
             kept: None,
             path: ArrayString::new(),
             blanks: true,
@@ -108,6 +109,7 @@ impl<S: Sources> Engine<S> {
     {
         let Found { path, reader } = found;
         self.phase = Phase::Open;
+        self.quota = self.limits.output_bytes;
         self.kept = None;
         self.path = path;
         self.blanks = true;

@@ -1,18 +1,18 @@
-use Rattle.std.proofs.Common.{[], inl, inr, refl}
-use Rattle.rdlpp_expand.proofs.EngineSteps.{passes_on, passes_started}
+use Rattle.rdlpp_expand.proofs.Cuts.{cut_body, cut_end, cut_kept, cut_source}
 use Rattle.rdlpp_expand.proofs.engine.Engine.advance.Goals as goal
 
-pub stepping-init : goal.stepping-init
-stepping-init g c = inl refl
+pub returns-in-Source-clause-steps : goal.returns-in-Source-clause-steps
+returns-in-Source-clause-steps g c =
+    cut_source g.S.Sources c.args.self.now c.walk.new.self c.spend-len.new.self c.in-Source.start c.in-Source.end c.spend-len.result
+    c.in-Source.ensures.walks c.in-Source.ensures.place (record { fits = c.spend-len.ensures.fits; passes = c.spend-len.ensures.passes })
 
-pub step-requires : goal.step-requires
-step-requires g c = passes_started g.S.Sources _ _ c.requires c.stepping.invariant
+pub returns-in-Body-clause-steps : goal.returns-in-Body-clause-steps
+returns-in-Body-clause-steps g c =
+    cut_body g.S.Sources c.args.self.now c.walk.new.self c.spend-len-in-Body.new.self c.in-Body.id c.in-Body.start c.in-Body.end c.spend-len-in-Body.result
+    c.in-Body.ensures.walks c.in-Body.ensures.place (record { fits = c.spend-len-in-Body.ensures.fits; passes = c.spend-len-in-Body.ensures.passes })
 
-pub returns-in-Some-clause-steps : goal.returns-in-Some-clause-steps
-returns-in-Some-clause-steps g c = passes_on g.S.Sources _ _ _ _ c.stepping.invariant c.in-Some.ensures.steps
+pub returns-in-End-clause-steps : goal.returns-in-End-clause-steps
+returns-in-End-clause-steps g c = cut_end g.S.Sources c.args.self.now c.walk.new.self c.in-End.ensures.walks
 
-pub stepping-preserved : goal.stepping-preserved
-stepping-preserved g c = inr (passes_on g.S.Sources _ _ _ _ c.stepping.invariant c.in_default.ensures.steps)
-
-pub stepping-smaller : goal.stepping-smaller
-stepping-smaller g c = c.in_default.ensures.steps.falls [] refl
+pub returns-in-Kept-clause-steps : goal.returns-in-Kept-clause-steps
+returns-in-Kept-clause-steps g c = cut_kept g.S.Sources c.args.self.now c.walk.new.self c.walk.new.self.kept c.in-Kept.ensures.walks

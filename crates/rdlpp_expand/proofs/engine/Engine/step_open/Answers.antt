@@ -7,8 +7,8 @@ use Rattle.rdlpp_expand.proofs.EngineSteps.{called, steps_taken, broken_steps, f
 use Rattle.rdlpp_expand.proofs.Endings.{ended_placed, ended_steps}
 use Rattle.rdlpp_expand.proofs.engine.Engine.step_open.Goals as goal
 
-pub returns-in-Held-clause-steps : goal.returns-in-Held-clause-steps
-returns-in-Held-clause-steps g c = λ bounded.
+pub returns-in-Held-clause-walks : goal.returns-in-Held-clause-walks
+returns-in-Held-clause-walks g c = λ bounded.
     steps_taken g.S.Sources c.args.self.now c.take_front.new.self c.fill.new.self.sources c.fill.new.self.feed (step_answer c.take_front.new.self c.take_front.result)
     c.requires.free c.requires.open bounded c.in-Held.ensures.supplies (called g.S.Sources false _ _ c.in-Held.ensures.call)
     (subst (λ m. Takes g.S.Sources m c.take_front.new.self (step_answer c.take_front.new.self c.take_front.result)) c.in-Held.ensures.feed.0 c.take_front.ensures.takes)
@@ -16,27 +16,27 @@ returns-in-Held-clause-steps g c = λ bounded.
 pub returns-in-End-clause-place : goal.returns-in-End-clause-place
 returns-in-End-clause-place g c = ended_placed c.fill.new.self c.end.new.self c.end.result c.end.ensures
 
-pub returns-in-End-clause-steps : goal.returns-in-End-clause-steps
-returns-in-End-clause-steps g c = λ bounded.
+pub returns-in-End-clause-walks : goal.returns-in-End-clause-walks
+returns-in-End-clause-walks g c = λ bounded.
     ended_steps g.S.Sources c.args.self.now c.fill.new.self c.end.new.self c.end.result
     c.requires.free c.requires.open bounded c.in-End.ensures.supplies (called g.S.Sources false _ _ c.in-End.ensures.call) c.in-End.ensures.feed.0 c.end.ensures
 
-pub returns-in-SourceLong-clause-steps : goal.returns-in-SourceLong-clause-steps
+pub returns-in-SourceLong-clause-walks : goal.returns-in-SourceLong-clause-walks
 unfolding breach_kind
-returns-in-SourceLong-clause-steps g c = λ bounded.
+returns-in-SourceLong-clause-walks g c = λ bounded.
     broken_steps g.S.Sources c.args.self.now c.fill.new.self c.refuse.new.self c.refuse.result Breach.SourceLong
     c.refuse.ensures.place c.requires.free c.requires.open bounded source_kind c.in-SourceLong.ensures.feed.0 c.in-SourceLong.ensures.supplies.line
     c.in-SourceLong.ensures.supplies.tokens (called g.S.Sources false _ _ c.in-SourceLong.ensures.call) (rw c.new.ensures at c.refuse.ensures.kept)
 
-pub returns-in-LineLong-clause-steps : goal.returns-in-LineLong-clause-steps
+pub returns-in-LineLong-clause-walks : goal.returns-in-LineLong-clause-walks
 unfolding breach_kind
-returns-in-LineLong-clause-steps g c = λ bounded.
+returns-in-LineLong-clause-walks g c = λ bounded.
     broken_steps g.S.Sources c.args.self.now c.fill.new.self c.refuse-in-LineLong.new.self c.refuse-in-LineLong.result Breach.LineLong
     c.refuse-in-LineLong.ensures.place c.requires.free c.requires.open bounded line_kind c.in-LineLong.ensures.feed.0 c.in-LineLong.ensures.supplies.line
     c.in-LineLong.ensures.supplies.tokens (called g.S.Sources false _ _ c.in-LineLong.ensures.call) (rw c.new-in-LineLong.ensures at c.refuse-in-LineLong.ensures.kept)
 
-pub returns-in-Failed-clause-steps : goal.returns-in-Failed-clause-steps
-returns-in-Failed-clause-steps g c = λ bounded.
+pub returns-in-Failed-clause-walks : goal.returns-in-Failed-clause-walks
+returns-in-Failed-clause-walks g c = λ bounded.
     failed_steps g.S.Sources c.args.self.now c.fill.new.self c.refuse-in-Failed.new.self c.refuse-in-Failed.result
     c.refuse-in-Failed.ensures.place c.requires.free c.requires.open bounded c.in-Failed.ensures.feed.0
     (called g.S.Sources true _ _ c.in-Failed.ensures.call) (rw c.new-in-Failed.ensures at c.refuse-in-Failed.ensures.kept)

@@ -1,6 +1,6 @@
 use Rattle.rdlpp_expand.specs.Remaining.{work_left}
 use Rattle.rdlpp_expand.proofs.EngineSteps.{Passes}
-use Rattle.rdlpp_expand.proofs.engine.Engine.advance.Given as goal
+use Rattle.rdlpp_expand.proofs.engine.Engine.walk.Given as goal
 
 abbrev pub invariant-stepping : goal.invariant-stepping
 invariant-stepping g l = Passes g.S.Sources l.initial.self l.self

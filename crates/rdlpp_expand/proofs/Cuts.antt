@@ -1,0 +1,237 @@
+-- A step cut to the bytes that may still be lent.
+use Rattle.std.proofs.Common.{◌≡◌, ℕ, ◌+◌, ◌-◌, ◌≤◌, ◌<◌, false, List, [], length, take, drop, Option, None, Some, Result, Ok, Err, refl, sym, ap, ◌∙◌, subst, inl, inr, arith, true}
+use Rattle.std.specs.List.{slice_range}
+use Rattle.std.specs.Prelude.{IfOk}
+use Rattle.std.proofs.lemmas.Bool.{cases_lt}
+use Rattle.std.proofs.lemmas.List.{length-drop, length-take-le, take_all, take-take}
+use Rattle.rdlpp_source.specs.declared.sources.Sources.{Ghosts}
+use Rattle.rdlpp_meaning.specs.Outcome.{Told, Outcome, gives, fails, and_then}
+use Rattle.rdlpp_meaning.specs.OutputLimit.{limited}
+use Rattle.rdlpp_meaning.proofs.OutputLimits.{limited-fails, limited-gives, limited-past, limited-within}
+use Rattle.rdlpp_expand.specs.Engine.{EngineView}
+use Rattle.rdlpp_expand.specs.Held.{stores_of, buffers_of, is_open}
+use Rattle.rdlpp_table.specs.View.{macro_at}
+use Rattle.rdlpp_expand.specs.Pieces.{IsPlaced, kept_answer, lent_answer}
+use Rattle.rdlpp_expand.specs.declared.place.Place.TheVariants.{Source, Body}
+use Rattle.rdlpp_expand.specs.Remaining.{kept_uncut, left_of, open_left, output_fault, phase_uncut, source_places, state_of, uncut_of, work_left}
+use Rattle.rdlpp_expand.specs.Steps.{Steps, Tells, Walks, IsBounded, has_met, lent_len, no_len, is_read_failed}
+use Rattle.rdlpp_expand.specs.Feed.{unused_of}
+use Rattle.rdlpp_expand.specs.Work.{work_of}
+use Rattle.rdlpp_expand.specs.declared.phase.Phase.{Phase}
+use Rattle.rdlpp_expand.specs.declared.phase.Phase.TheVariants.{Fresh, Open, Passed, Closed}
+use Rattle.rdlpp_expand.proofs.EngineSteps.{free_before, ok_not_met}
+
+-- how long a part is
+pub part_len : (xs : List ℕ) (from to : ℕ) → from ≤ to → to ≤ length xs → length (slice_range xs from to) ≡ to - from
+part_len xs from to order inside = length-take-le (to - from) (drop from xs) (omega (arith, length-drop from xs))
+
+-- the first bytes of a part
+pub part_cut : (xs : List ℕ) (from to len : ℕ) → len ≤ to - from → slice_range xs from (from + len) ≡ take len (slice_range xs from to)
+part_cut xs from to len h =
+    let same : from + len - from ≡ len = omega arith in
+    ap (λ k. take k (drop from xs)) same ∙ sym (take-take len (to - from) (drop from xs) h)
+
+-- an outcome without bytes is within each limit
+tells_end : (over : Told) (quota : ℕ) (o : Outcome) → o ≡ gives [] → limited over quota o ≡ gives []
+unfolding gives
+tells_end over quota o is = ap (limited over quota) is ∙ limited-within over quota (gives []) (omega arith)
+
+-- a step that ends the output, or tells its fault
+module _ {S R : Type 0} (g : Ghosts S R) (old new : EngineView S R) where
+  pub cut_end : Walks g old new (Ok None) → Steps g old new (Ok None)
+  unfolding left_of no_len lent_len
+  cut_end w = record {
+    limits = w.limits;
+    name = w.name;
+    started = w.started;
+    kept = w.kept;
+    ended = w.ended;
+    keeps = w.keeps;
+    free = w.free;
+    own = w.own;
+    ends = w.ends;
+    failed = w.failed;
+    call = w.call;
+    tells = λ own t. (let told = w.tells own t in (tells_end _ _ _ told.0, tells_end _ _ _ told.1));
+    falls = w.falls;
+    lends = w.lends;
+    quota = w.quota;
+    bounded = w.bounded;
+  }
+
+  pub cut_fault : (f : Told) → Walks g old new (Err f) → Steps g old new (Err f)
+  unfolding left_of no_len lent_len
+  cut_fault f w = record {
+    limits = w.limits;
+    name = w.name;
+    started = w.started;
+    kept = w.kept;
+    ended = w.ended;
+    keeps = w.keeps;
+    free = w.free;
+    own = w.own;
+    ends = w.ends;
+    failed = w.failed;
+    call = w.call;
+    tells = λ own t. ap (limited (output_fault old.name) old.quota) (w.tells own t) ∙ limited-fails (output_fault old.name) old.quota f;
+    falls = w.falls;
+    lends = w.lends;
+    quota = w.quota;
+    bounded = w.bounded;
+  }
+
+-- what remains without the limit doesn't hang on what may still be lent
+module _ {S R : Type 0} (unread : R → List ℕ) (e : EngineView S R) (quota : ℕ) where
+  phase_same : (phase : Phase) → phase_uncut unread phase (record e { quota = quota }) ≡ phase_uncut unread phase e
+  unfolding phase_uncut open_left state_of
+  phase_same Fresh = refl
+  phase_same Open = refl
+  phase_same Passed = refl
+  phase_same Closed = refl
+
+  kept_same : (kept : Option Told) → kept_uncut unread kept (record e { quota = quota }) ≡ kept_uncut unread kept e
+  unfolding kept_uncut
+  kept_same None = phase_same e.phase
+  kept_same (Some f) = refl
+
+  uncut_same : uncut_of unread (record e { quota = quota }) ≡ uncut_of unread e
+  unfolding uncut_of
+  uncut_same = kept_same e.kept
+
+-- the work left of an open text, whether or not more bytes may be lent
+places_open : (phase : Phase) (unused : ℕ) → is_open phase ≡ true → source_places Passed unused ≡ source_places phase unused
+unfolding is_open source_places
+places_open Fresh unused h = cc h
+places_open Open unused h = refl
+places_open Passed unused h = refl
+places_open Closed unused h = cc h
+
+-- what a walk that lent bytes says of what remains
+module _ {S R : Type 0} (g : Ghosts S R) (old mid new : EngineView S R) (xs : List ℕ) (w : Walks g old mid (Ok (Some xs))) where
+  free_old : old.kept ≡ None
+  free_old = free_before g (uncut_of g.unread) no_len old mid old.kept (Some xs) refl w
+
+  uncut_tells : g.tells old.sources → uncut_of g.unread old ≡ and_then (gives xs) (uncut_of g.unread mid)
+  uncut_tells t = w.tells (ok_not_met is_read_failed old.kept (Some xs)) t
+
+  -- a walk that lent bytes, and then only what may be lent and how far the engine is changed
+  lent_step : (ys : List ℕ) → new.limits ≡ mid.limits → new.name ≡ mid.name → (new.phase ≡ Fresh → ⊥) → is_open new.phase ≡ true → new.kept ≡ mid.kept → new.sources ≡ mid.sources → new.feed ≡ mid.feed
+      → (g.tells old.sources → left_of g.unread old ≡ and_then (gives ys) (left_of g.unread new)) → work_left new ≡ work_left mid → new.quota + length ys ≡ old.quota → IsBounded new
+      → Steps g old new (Ok (Some ys))
+  unfolding has_met lent_len
+  lent_step ys limits name started opens kept sources feed tells work quota bounded =
+      record {
+        limits = limits ∙ w.limits;
+        name = name ∙ w.name;
+        started = started;
+        kept = λ f is. absurd (let no : None ≡ Some f = sym free_old ∙ is in cc);
+        ended = λ none closed. absurd (let no : Ok (Some xs) ≡ Ok None = (w.ended none closed).0 in cc);
+        keeps = tt;
+        free = kept ∙ w.free;
+        own = λ none. tt;
+        ends = λ e. absurd (cc);
+        failed = λ met. absurd (let no : false ≡ _ = rw free_old at met in cc);
+        call = rw (free_old, sources) (rw free_old at w.call);
+        tells = λ own t. tells t;
+        falls = λ bytes e. (let less = w.falls xs refl in omega (arith, work));
+        lends = λ bytes e. ((w.lends xs refl).0, opens);
+        quota = quota;
+        bounded = bounded;
+      }
+
+  -- the whole piece may be lent
+  pub cut_fits : length xs ≤ old.quota → new ≡ record mid { quota = mid.quota - length xs } → Steps g old new (Ok (Some xs))
+  unfolding left_of no_len IsBounded stores_of work_left
+  cut_fits fits becomes =
+      let quota : mid.quota ≡ old.quota = (let q = w.quota in omega arith) in
+      let phase : new.phase ≡ mid.phase = ap (λ e. e.phase) becomes in
+      lent_step xs (ap (λ e. e.limits) becomes) (ap (λ e. e.name) becomes) (λ e. w.started (sym phase ∙ e)) (ap is_open phase ∙ (w.lends xs refl).1) (ap (λ e. e.kept) becomes) (ap (λ e. e.sources) becomes) (ap (λ e. e.feed) becomes)
+      (λ t. ap (limited (output_fault old.name) old.quota) (uncut_tells t)
+      ∙ limited-gives (output_fault old.name) old.quota xs (uncut_of g.unread mid) fits
+      ∙ ap (λ (n : List ℕ). and_then (gives xs) (limited (output_fault n) (old.quota - length xs) (uncut_of g.unread mid))) (sym w.name)
+      ∙ ap (λ (q : ℕ). and_then (gives xs) (limited (output_fault mid.name) (q - length xs) (uncut_of g.unread mid))) (sym quota)
+      ∙ ap (λ (o : Outcome). and_then (gives xs) (limited (output_fault mid.name) (mid.quota - length xs) o)) (sym (uncut_same g.unread mid (mid.quota - length xs)))
+      ∙ ap (λ (e : EngineView S R). and_then (gives xs) (left_of g.unread e)) (sym becomes))
+      (ap work_left becomes) (let q : new.quota ≡ mid.quota - length xs = ap (λ e. e.quota) becomes in omega arith)
+      (subst IsBounded (sym becomes) w.bounded)
+
+  -- a part of the piece may be lent
+  pub cut_passes : old.quota < length xs → new ≡ record mid { phase = Passed; quota = 0 } → Steps g old new (Ok (Some (take old.quota xs)))
+  unfolding left_of uncut_of kept_uncut phase_uncut no_len IsBounded stores_of buffers_of is_open work_left source_places
+  cut_passes passes becomes =
+      let phase : new.phase ≡ Passed = ap (λ e. e.phase) becomes in
+      let kept : new.kept ≡ None = ap (λ e. e.kept) becomes ∙ w.free in
+      let size : length (take old.quota xs) ≡ old.quota = length-take-le old.quota xs (omega arith) in
+      let over : left_of g.unread new ≡ fails (output_fault mid.name) =
+      ap (left_of g.unread) becomes ∙ rw w.free (limited-fails (output_fault mid.name) 0 (output_fault mid.name)) in
+      let bounded : IsBounded (record mid { phase = Passed; quota = 0 }) = (let b : IsBounded mid = w.bounded in rw (w.lends xs refl).1 at b) in
+      lent_step (take old.quota xs) (ap (λ e. e.limits) becomes) (ap (λ e. e.name) becomes) (λ e. (let no : Passed ≡ Fresh = sym phase ∙ e in cc)) (ap is_open phase) (ap (λ e. e.kept) becomes) (ap (λ e. e.sources) becomes) (ap (λ e. e.feed) becomes)
+      (λ t. ap (limited (output_fault old.name) old.quota) (uncut_tells t)
+      ∙ limited-past (output_fault old.name) old.quota xs (uncut_of g.unread mid) passes
+      ∙ ap (λ (n : List ℕ). and_then (gives (take old.quota xs)) (fails (output_fault n))) (sym w.name)
+      ∙ ap (λ (o : Outcome). and_then (gives (take old.quota xs)) o) (sym over))
+      (ap work_left becomes ∙ ap (λ (places : List ℕ). work_of mid.limits.includes mid.limits.depth places [] 0) (places_open mid.phase (unused_of mid.feed) (w.lends xs refl).1)) (let q : new.quota ≡ 0 = ap (λ e. e.quota) becomes in omega arith)
+      (subst IsBounded (sym becomes) bounded)
+
+-- a piece of so many bytes, of which so many were lent
+pub record IsSpent {S R : Type 0} (mid new : EngineView S R) (n len : ℕ) : Type 0 where
+  pub fits : n ≤ mid.quota → (len ≡ n) × (new ≡ record mid { quota = mid.quota - n })
+  pub passes : mid.quota < n → (len ≡ mid.quota) × (new ≡ record mid { phase = Passed; quota = 0 })
+
+-- no more than the piece has, and only what may be lent and how far the engine is changed
+pub record IsPart {S R : Type 0} (mid new : EngineView S R) (n len : ℕ) : Type 0 where
+  pub inside : len ≤ n
+  pub feed : new.feed ≡ mid.feed
+  pub table : new.table ≡ mid.table
+
+spent_part : {S R : Type 0} (mid new : EngineView S R) (n len : ℕ) → IsSpent mid new n len → IsPart mid new n len
+spent_part mid new n len spent =
+    elim (cases_lt mid.quota n) [
+      | inl over ↦ (let p = spent.passes over in record { inside = omega (arith, p.0); feed = ap (λ e. e.feed) p.1; table = ap (λ e. e.table) p.1 })
+      | inr under ↦ (let p = spent.fits under in record { inside = omega (arith, p.0); feed = ap (λ e. e.feed) p.1; table = ap (λ e. e.table) p.1 })
+    ]
+
+-- a piece, cut to what may still be lent
+cut_piece : {S R : Type 0} (g : Ghosts S R) (old mid new : EngineView S R) (xs : List ℕ) (n len : ℕ) → Walks g old mid (Ok (Some xs)) → length xs ≡ n → IsSpent mid new n len → Steps g old new (Ok (Some (take len xs)))
+unfolding no_len
+cut_piece {S} {R} g old mid new xs n len w size spent =
+    let quota : mid.quota ≡ old.quota = (let q = w.quota in omega arith) in
+    let P : List ℕ → Type 0 = λ ys. Steps g old new (Ok (Some ys)) in
+    let keeps : ℕ → EngineView S R = λ k. record mid { quota = mid.quota - k } in
+    elim (cases_lt mid.quota n) [
+      | inl over ↦
+          let p = spent.passes over in
+          subst P (ap (λ k. take k xs) (sym quota ∙ sym p.0)) (cut_passes g old mid new xs w (omega arith) p.1)
+      | inr under ↦
+          let p = spent.fits under in
+          subst P (sym (take_all len xs (omega (arith, p.0)))) (cut_fits g old mid new xs w (omega arith) (p.1 ∙ ap keeps (sym size)))
+    ]
+
+-- a step of which the same bytes are told
+told_bytes : {S R : Type 0} (g : Ghosts S R) (old new : EngineView S R) (xs ys : List ℕ) → ys ≡ xs → Steps g old new (Ok (Some xs)) → Steps g old new (Ok (Some ys))
+told_bytes g old new xs ys same steps = subst (λ (zs : List ℕ). Steps g old new (Ok (Some zs))) (sym same) steps
+
+-- a part of the open source's buffer, cut to what may still be lent
+pub cut_source : {S R : Type 0} (g : Ghosts S R) (old mid new : EngineView S R) (from to len : ℕ) → Walks g old mid (lent_answer mid (Source from to))
+    → IsPlaced mid (Source from to) → IsSpent mid new (to - from) len → Steps g old new (lent_answer new (Source from (from + len)))
+cut_source {S} {R} g old mid new from to len w placed spent =
+    let part = spent_part mid new (to - from) len spent in
+    let xs = slice_range mid.feed.window from to in
+    told_bytes g old new (take len xs) (slice_range new.feed.window from (from + len))
+    (ap (λ f. slice_range f.window from (from + len)) part.feed ∙ part_cut mid.feed.window from to len part.inside)
+    (cut_piece g old mid new xs (to - from) len w (part_len mid.feed.window from to placed.0 placed.1) spent)
+
+-- a part of a body, cut to what may still be lent
+pub cut_body : {S R : Type 0} (g : Ghosts S R) (old mid new : EngineView S R) (id from to len : ℕ) → Walks g old mid (lent_answer mid (Body id from to))
+    → IsPlaced mid (Body id from to) → IsSpent mid new (to - from) len → Steps g old new (lent_answer new (Body id from (from + len)))
+cut_body {S} {R} g old mid new id from to len w placed spent =
+    let part = spent_part mid new (to - from) len spent in
+    let body = (macro_at mid.table.macros id).body in
+    told_bytes g old new (take len (slice_range body from to)) (slice_range (macro_at new.table.macros id).body from (from + len))
+    (ap (λ t. slice_range (macro_at t.macros id).body from (from + len)) part.table ∙ part_cut body from to len part.inside)
+    (cut_piece g old mid new (slice_range body from to) (to - from) len w (part_len body from to placed.1 placed.2) spent)
+
+-- the fault that is kept, or the end where none is
+pub cut_kept : {S R : Type 0} (g : Ghosts S R) (old new : EngineView S R) (kept : Option Told) → Walks g old new (kept_answer kept) → Steps g old new (kept_answer kept)
+cut_kept g old new None w = cut_end g old new w
+cut_kept g old new (Some f) w = cut_fault g old new f w
