@@ -1,29 +1,24 @@
 // The stops of bodies as a caller meets them.
 use crate::stop::Stop;
-use crate::table::{MacroId, Table};
+use crate::table::Table;
 use crate::tests::{kind, table};
+use rdlpp_scan::logical_line;
 use std::process::Abort;
 
-// A table of one macro with formals, and its place.
-fn macro_of<R: Abort + AllocGlobal>(rt: &R, rest: &[u8], name: &[u8]) -> (Table, Option<MacroId>) {
+// A table of the one macro that a definition without an LF gives.
+fn table_of<R: Abort + AllocGlobal>(rt: &R, rest: &[u8]) -> Table {
     let mut table = table(rt, 1_024, 4);
-    match rdlpp_scan::logical_line(rest) {
-        Some(len) if len == rest.len() => assert_eq!(rt; kind(table.read_define(rest)), None),
-        Some(_) => panic!(rt; "more than a logical line"),
+    match logical_line(rest) {
         None => assert_eq!(rt; kind(table.read_define(rest)), None),
+        Some(_) => panic!(rt; "an LF in the definition"),
     }
-    let id = table.find(name);
-    (table, id)
+    table
 }
 
 #[test]
 fn a_body_is_read_from_stop_to_stop(rt: HostRuntime) {
-    let (table, id) = macro_of(
-        &rt,
-        b" F(x,y) yx + 8'x `G \"y`\" /* x */ y ` z".as_slice(),
-        b"F".as_slice(),
-    );
-    let Some(id) = id else {
+    let table = table_of(&rt, b" F(x,y) yx + 8'x `G \"y`\" /* x */ y ` z".as_slice());
+    let Some(id) = table.find(b"F".as_slice()) else {
         panic!(rt; "the macro isn't found");
     };
     assert!(rt; !table.is_copied(id));
@@ -53,8 +48,8 @@ fn a_body_is_read_from_stop_to_stop(rt: HostRuntime) {
 
 #[test]
 fn a_body_without_stops_is_copied(rt: HostRuntime) {
-    let (table, id) = macro_of(&rt, b" G(x) y \"x\" 1'x".as_slice(), b"G".as_slice());
-    let Some(id) = id else {
+    let table = table_of(&rt, b" G(x) y \"x\" 1'x".as_slice());
+    let Some(id) = table.find(b"G".as_slice()) else {
         panic!(rt; "the macro isn't found");
     };
     assert!(rt; table.is_copied(id));
