@@ -1,2 +1,3 @@
 mod buffer_tests;
 mod devices;
+mod files_tests;
