@@ -28,7 +28,7 @@ whole-append-none [] ys h = h
 whole-append-none (x ∷ xs) ys h = ap (onto_whole_lines x) (whole-append-none xs ys h)
 
 -- from a place to the end
-to_end : (seen : ℕ) (bytes : List ℕ) → take (length bytes - seen) (drop seen bytes) ≡ drop seen bytes
+pub to_end : (seen : ℕ) (bytes : List ℕ) → take (length bytes - seen) (drop seen bytes) ≡ drop seen bytes
 to_end seen bytes = rw (← length-drop seen bytes) (take-length (drop seen bytes))
 
 -- whole lines behind the first `seen` bytes are seen in the whole text
