@@ -1,8 +1,7 @@
 -- How long the whole lines of a text are, by its parts.
-use Rattle.std.proofs.Common.{◌≡◌, ℕ, zero, suc, ◌+◌, ◌-◌, ◌≤◌, ◌<◌, true, false, cond, List, [], ◌∷◌, ◌++◌, length, take, drop, refl, sym, ap, subst, ◌∙◌, arith}
-use Rattle.std.proofs.lemmas.List.{take-take, drop-take, take-append-drop, length-drop, length-take}
+use Rattle.std.proofs.Common.{◌≡◌, ℕ, zero, suc, ◌+◌, ◌-◌, ◌≤◌, ◌<◌, List, [], ◌∷◌, ◌++◌, length, take, drop, refl, ap, subst, ◌∙◌, arith}
+use Rattle.std.proofs.lemmas.List.{take-take, take-append-drop, length-drop, length-take}
 use Rattle.std.proofs.Math.Seq.{take-length}
-use Rattle.rdlpp_scan.specs.Bytes.{is_line_end}
 use Rattle.rdlpp_scan.specs.Lines.{IsWholeLines, whole_lines_len, onto_whole_lines}
 use Rattle.rdlpp_scan.proofs.WholeLines.{IsWholeLines-take, whole_lines_len-le}
 

@@ -1,4 +1,4 @@
-use Rattle.std.proofs.Common.{refl, sym, ap, ◌∙◌, arith}
+use Rattle.std.proofs.Common.{ap, ◌∙◌}
 use Rattle.rdlpp_read.specs.Files.{IsSlot}
 use Rattle.rdlpp_read.proofs.Slots.{moded-ends, slot-inner, slots-kept}
 use Rattle.rdlpp_read.specs.Buffer.{entered_mode}

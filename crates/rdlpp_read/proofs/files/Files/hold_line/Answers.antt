@@ -1,4 +1,4 @@
-use Rattle.std.proofs.Common.{refl, sym, ap, ◌∙◌, arith}
+use Rattle.std.proofs.Common.{◌∙◌}
 use Rattle.rdlpp_read.specs.Files.{IsSlot}
 use Rattle.rdlpp_read.proofs.Slots.{slot-inner, slots-kept}
 use Rattle.rdlpp_read.proofs.files.Files.hold_line.Goals as goal

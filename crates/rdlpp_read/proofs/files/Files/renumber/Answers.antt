@@ -1,6 +1,5 @@
-use Rattle.std.proofs.Common.{refl, sym, ap, ◌∙◌, arith}
 use Rattle.rdlpp_read.specs.Files.{IsSlot}
-use Rattle.rdlpp_read.proofs.Slots.{moded-ends, slot-inner, slots-kept}
+use Rattle.rdlpp_read.proofs.Slots.{slot-inner, slots-kept}
 use Rattle.rdlpp_read.proofs.files.Files.renumber.Goals as goal
 
 pub invariant_of-self : goal.invariant_of-self
