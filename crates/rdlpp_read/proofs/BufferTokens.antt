@@ -1,16 +1,16 @@
 -- The tokens that remain of an open source, as lines are read, accepted and used.
-use Rattle.std.proofs.Common.{◌≡◌, ℕ, ◌+◌, ◌-◌, ◌≤◌, ◌<◌, Bool, List, [], ◌++◌, length, take, drop, None, Some, refl, sym, ap, subst, ◌∙◌, arith, ◌⊎◌, inl, inr}
-use Rattle.std.proofs.lemmas.List.{append-nil, append_assoc, drop-drop, drop-take, length-append, length-drop, length-take, length-take-le}
+use Rattle.std.proofs.Common.{◌≡◌, ℕ, ◌+◌, ◌-◌, ◌≤◌, ◌<◌, Bool, List, [], ◌++◌, length, take, drop, None, Some, refl, sym, ap, subst, ◌∙◌, arith, inl, inr}
+use Rattle.std.proofs.lemmas.List.{drop-drop, drop-take, length-append, length-drop, length-take-le}
 use Rattle.rdlpp_scan.specs.declared.token.Mode.{Mode}
 use Rattle.rdlpp_scan.specs.declared.token.Mode.TheVariants.{Plain, InStr, InBlock}
-use Rattle.rdlpp_scan.specs.Front.{front, Break, LineLong as LineBreach, SourceLong as SourceBreach}
-use Rattle.rdlpp_scan.specs.SourceTokens.{SourceToken, remaining_tokens, source_tokens, source_end, open_end, broken, line_ends, line_len}
+use Rattle.rdlpp_scan.specs.Front.{front, Break}
+use Rattle.rdlpp_scan.specs.SourceTokens.{remaining_tokens, source_tokens, source_end, open_end, broken, line_ends, line_len}
 use Rattle.std.proofs.Math.Seq.{drop-nil}
-use Rattle.rdlpp_scan.specs.Lines.{EndsLine, IsWholeLines, whole_lines_len}
+use Rattle.rdlpp_scan.specs.Lines.{IsWholeLines, whole_lines_len}
 use Rattle.rdlpp_scan.proofs.WholeLines.{IsWholeLines-drop}
 use Rattle.rdlpp_scan.proofs.FrontLaws.{front-none, front-line_long, front-source_long}
 use Rattle.rdlpp_scan.proofs.RemainingLaws.{remaining-accept}
-use Rattle.rdlpp_read.specs.Buffer.{BufferView, EndsHeld, ahead_of, held_of, unread_of, rest_of, tokens_left, unused_of}
+use Rattle.rdlpp_read.specs.Buffer.{BufferView, EndsHeld, ahead_of, held_of, rest_of, tokens_left, unused_of}
 use Rattle.rdlpp_read.specs.Filling.{Fills, Grows, GrowsBy, HasBytes, Lengthens, Stays, TellsTokens, ended_tokens, only_broken}
 use Rattle.rdlpp_read.specs.declared.buffer.filling.Fill.{Fill}
 use Rattle.rdlpp_read.specs.declared.buffer.filling.Fill.TheVariants.{Held, End, SourceLong, LineLong, Failed}

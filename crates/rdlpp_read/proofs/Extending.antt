@@ -1,12 +1,12 @@
 -- How a logical line is taken in over several lines, and what its tokens are.
-use Rattle.std.proofs.Common.{◌≡◌, ℕ, ◌+◌, ◌-◌, ◌≤◌, ◌<◌, Bool, true, false, List, [], ◌∷◌, ◌++◌, length, take, drop, Option, None, Some, refl, sym, ap, subst, ◌∙◌, arith, ◌⊎◌, inl, inr}
-use Rattle.std.proofs.lemmas.List.{append-nil, append_assoc, drop_all, drop-drop, length-append, length-drop, length-take, length-take-le, take-append-drop}
+use Rattle.std.proofs.Common.{◌≡◌, ℕ, ◌+◌, ◌-◌, ◌≤◌, ◌<◌, Bool, false, List, [], ◌∷◌, ◌++◌, length, take, drop, None, Some, refl, sym, ap, subst, ◌∙◌, arith, inl, inr}
+use Rattle.std.proofs.lemmas.List.{append-nil, append_assoc, drop-drop, length-append, length-drop, length-take-le, take-append-drop}
 use Rattle.std.proofs.Math.Seq.{take-append_seam, take-length, drop-length}
 use Rattle.std.specs.Option.{option_map}
 use Rattle.rdlpp_scan.specs.declared.token.Mode.TheVariants.{Plain}
 use Rattle.rdlpp_scan.specs.Defines.{HoldsDefine}
 use Rattle.rdlpp_scan.specs.Front.{DefineCut, DefineLong}
-use Rattle.rdlpp_scan.specs.SourceTokens.{SourceToken, Definition, line_ends, line_len, logical_len, remaining_tokens}
+use Rattle.rdlpp_scan.specs.SourceTokens.{Definition, line_ends, logical_len, remaining_tokens}
 use Rattle.rdlpp_scan.specs.Lines.{IsWholeLines, whole_lines_len}
 use Rattle.rdlpp_scan.proofs.ContinuedLines.{HoldsDefine-more, logical_len-behind_lines}
 use Rattle.rdlpp_scan.proofs.DefineSteps.{logical_len-within}
@@ -14,8 +14,8 @@ use Rattle.rdlpp_scan.proofs.RemainingLaws.{remaining-end, remaining-opened}
 use Rattle.rdlpp_scan.proofs.RemainingSteps.{remaining-logical, remaining-logical_full, remaining-logical_last, remaining-logical_source}
 use Rattle.rdlpp_source.specs.declared.sources.Sources.{Ghosts}
 use Rattle.rdlpp_read.specs.Calls.{SourcesRead}
-use Rattle.rdlpp_read.specs.Buffer.{BufferView, EndsHeld, IsBuffer, ahead_of, consumed, held_of, rest_of, tokens_left, unused_of}
-use Rattle.rdlpp_read.specs.Filling.{Grows, Lengthens, Stays, only_broken}
+use Rattle.rdlpp_read.specs.Buffer.{BufferView, EndsHeld, IsBuffer, ahead_of, consumed, held_of, rest_of, tokens_left}
+use Rattle.rdlpp_read.specs.Filling.{Grows, Stays, only_broken}
 use Rattle.rdlpp_read.specs.LogicalLines.{Continues, Extends, HoldsLine, SameTokens}
 use Rattle.rdlpp_read.specs.declared.buffer.filling.Fill.{Fill}
 use Rattle.rdlpp_read.specs.declared.buffer.filling.Fill.TheVariants.{Held, End, SourceLong, LineLong, Failed}

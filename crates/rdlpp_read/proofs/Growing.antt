@@ -1,6 +1,6 @@
 -- How what is held of a source grows by reading on, and what then stands behind it.
 use Rattle.std.proofs.Common.{◌≡◌, ℕ, ◌+◌, ◌-◌, ◌≤◌, ◌<◌, Bool, true, List, [], ◌++◌, length, take, drop, false, Option, None, Some, refl, sym, ap, subst, ◌∙◌, arith, ◌⊎◌, inl, inr}
-use Rattle.std.proofs.lemmas.List.{append-nil, append_assoc, drop_all, drop-drop, drop-take, drop-append-le, length-append, length-drop, length-take, length-take-le, take-append-drop, take-append-le}
+use Rattle.std.proofs.lemmas.List.{append_assoc, drop_all, drop-drop, drop-append-le, length-append, length-drop, length-take, length-take-le, take-append-drop, take-append-le}
 use Rattle.std.proofs.Math.Seq.{take-add, take-append_seam}
 use Rattle.std.specs.Option.{IsSome, is_none}
 use Rattle.rdlpp_scan.specs.SourceTokens.{line_len}

@@ -5,3 +5,5 @@ pub mod ReadFacts
 pub mod Growing
 pub mod BufferTokens
 pub mod Extending
+pub mod BlankFacts
+pub mod Slots

@@ -1,8 +1,7 @@
 -- How long the whole lines of a text are, by its parts.
-use Rattle.std.proofs.Common.{◌≡◌, ℕ, zero, suc, ◌+◌, ◌-◌, ◌≤◌, ◌<◌, true, false, cond, List, [], ◌∷◌, ◌++◌, length, take, drop, refl, sym, ap, subst, ◌∙◌, arith}
-use Rattle.std.proofs.lemmas.List.{take-take, drop-take, take-append-drop, length-drop, length-take}
+use Rattle.std.proofs.Common.{◌≡◌, ℕ, zero, suc, ◌+◌, ◌-◌, ◌≤◌, ◌<◌, List, [], ◌∷◌, ◌++◌, length, take, drop, refl, ap, subst, ◌∙◌, arith}
+use Rattle.std.proofs.lemmas.List.{take-take, take-append-drop, length-drop, length-take}
 use Rattle.std.proofs.Math.Seq.{take-length}
-use Rattle.rdlpp_scan.specs.Bytes.{is_line_end}
 use Rattle.rdlpp_scan.specs.Lines.{IsWholeLines, whole_lines_len, onto_whole_lines}
 use Rattle.rdlpp_scan.proofs.WholeLines.{IsWholeLines-take, whole_lines_len-le}
 
@@ -28,7 +27,7 @@ whole-append-none [] ys h = h
 whole-append-none (x ∷ xs) ys h = ap (onto_whole_lines x) (whole-append-none xs ys h)
 
 -- from a place to the end
-to_end : (seen : ℕ) (bytes : List ℕ) → take (length bytes - seen) (drop seen bytes) ≡ drop seen bytes
+pub to_end : (seen : ℕ) (bytes : List ℕ) → take (length bytes - seen) (drop seen bytes) ≡ drop seen bytes
 to_end seen bytes = rw (← length-drop seen bytes) (take-length (drop seen bytes))
 
 -- whole lines behind the first `seen` bytes are seen in the whole text

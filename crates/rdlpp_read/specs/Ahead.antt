@@ -1,6 +1,6 @@
 -- What the bytes behind the accepted lines of a source allow: more whole lines, or none.
 -- A definition that names no source is this project's own.
-use Rattle.std.specs.Prelude.{◌≡◌, ℕ, ◌+◌, ◌≤◌, ◌<◌, Bool, true, false, List, [], ◌++◌, length, take, ◌⊎◌}
+use Rattle.std.specs.Prelude.{◌≡◌, ℕ, ◌≤◌, ◌<◌, Bool, true, false, List, [], ◌++◌, length, take, ◌⊎◌}
 use Rattle.rdlpp_scan.specs.SourceTokens.{line_len}
 use Rattle.rdlpp_scan.specs.Lines.{IsWholeLines, whole_lines_len}
 use Rattle.rdlpp_read.specs.declared.buffer.ahead.Ahead.{Ahead}

@@ -3,3 +3,5 @@ pub mod Buffer
 pub mod Ahead
 pub mod Filling
 pub mod LogicalLines
+pub mod Files
+pub mod Arguments

@@ -1,11 +1,11 @@
 -- What is found of the logical line at the front of what is held: all of it, a line of it that breaks it, or a failed read.
 -- A definition that names no source is this project's own.
-use Rattle.std.specs.Prelude.{◌≡◌, ℕ, ◌+◌, ◌-◌, ◌≤◌, ◌<◌, Bool, true, false, List, [], ◌∷◌, ◌++◌, length, take, None, Some, ⊤, ◌⊎◌}
+use Rattle.std.specs.Prelude.{◌≡◌, ℕ, ◌≤◌, Bool, true, false, List, [], ◌∷◌, ◌++◌, length, take, None, Some, ⊤, ◌⊎◌}
 use Rattle.rdlpp_scan.specs.declared.token.Mode.TheVariants.{Plain}
 use Rattle.rdlpp_scan.specs.Defines.{HoldsDefine}
 use Rattle.rdlpp_scan.specs.Front.{DefineCut, DefineLong}
 use Rattle.rdlpp_scan.specs.Lines.{IsWholeLines}
-use Rattle.rdlpp_scan.specs.SourceTokens.{SourceToken, Definition, logical_len}
+use Rattle.rdlpp_scan.specs.SourceTokens.{Definition, logical_len}
 use Rattle.rdlpp_source.specs.declared.sources.Sources.{Ghosts}
 use Rattle.rdlpp_read.specs.Calls.{SourcesRead}
 use Rattle.rdlpp_read.specs.Buffer.{BufferView, EndsHeld, consumed, held_of, rest_of, tokens_left, unused_of}

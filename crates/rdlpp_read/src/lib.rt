@@ -1,8 +1,13 @@
 //! The open sources of a run: each with the part of its text that is held, read by lines within the limits.
 #![tactic(auto)]
 
+mod arguments;
+mod blanks;
 mod buffer;
+mod files;
 #[cfg(test)]
 mod tests;
 
+pub use arguments::{Given, given_name, given_string};
 pub use buffer::{Fill, LogicalLine, SourceBuffer, fill_buffer, hold_logical_line};
+pub use files::{File, Files, Shift};

@@ -1,2 +1,4 @@
+mod arguments_tests;
 mod buffer_tests;
 mod devices;
+mod files_tests;

@@ -54,8 +54,8 @@ impl<'a> Sources for DealtTexts<'a> {
         }
     }
 
-    fn find(&mut self, _from: &str, _name: &str) -> Result<Found<DealtReader<'a>>, SourceFault> {
-        Err(SourceFault::Absent)
+    fn find(&mut self, _from: &str, name: &str) -> Result<Found<DealtReader<'a>>, SourceFault> {
+        self.top(name)
     }
 
     fn read(&mut self, reader: &mut DealtReader<'a>, to: &mut [u8]) -> Result<usize, SourceFault> {

@@ -1,5 +1,4 @@
-use Rattle.std.proofs.Common.{◌≡◌, ◌<◌, ◌-◌, length, take, drop, sym, ◌∙◌, arith}
-use Rattle.rdlpp_scan.specs.Lines.{whole_lines_len}
+use Rattle.std.proofs.Common.{arith}
 use Rattle.rdlpp_read.proofs.WholeLines.{found_behind, none_behind}
 use Rattle.rdlpp_read.proofs.buffer.ahead.look_ahead.Goals as goal
 

@@ -1,6 +1,6 @@
-use Rattle.std.proofs.Common.{◌≡◌, ◌≤◌, length, take, min, sym, ◌∙◌, arith, inl}
-use Rattle.std.proofs.lemmas.List.{length-take, length-take-le}
-use Rattle.rdlpp_scan.specs.Lines.{IsWholeLines, whole_lines_len}
+use Rattle.std.proofs.Common.{◌≤◌, take, sym, ◌∙◌, arith, inl}
+use Rattle.std.proofs.lemmas.List.{length-take}
+use Rattle.rdlpp_scan.specs.Lines.{IsWholeLines}
 use Rattle.rdlpp_scan.proofs.WholeLines.{whole_lines_len-le}
 use Rattle.rdlpp_read.proofs.FirstLines.{past-whole}
 use Rattle.rdlpp_read.proofs.WholeLines.{whole_within}

@@ -1,5 +1,4 @@
-use Rattle.std.proofs.Common.{◌≡◌, ◌≤◌, ◌-◌, None, Some, length, take, drop, refl, sym, ap, ◌∙◌, arith}
-use Rattle.rdlpp_scan.specs.SourceTokens.{logical_len}
+use Rattle.std.proofs.Common.{◌-◌, length, take, drop, sym, ap, ◌∙◌, arith}
 use Rattle.rdlpp_scan.proofs.DefineSteps.{logical_len-within}
 use Rattle.std.proofs.lemmas.List.{length-drop, length-take}
 use Rattle.rdlpp_read.specs.Buffer.{held_of}

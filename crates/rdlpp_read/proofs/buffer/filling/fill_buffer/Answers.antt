@@ -1,4 +1,4 @@
-use Rattle.std.proofs.Common.{◌≡◌, [], ◌≤◌, length, take, ◌∙◌, arith, rules}
+use Rattle.std.proofs.Common.{◌≡◌, [], ◌≤◌, length, take, arith, rules}
 use Rattle.std.proofs.lemmas.List.{drop_all, length-take}
 use Rattle.rdlpp_read.proofs.BufferTokens.{compacts, compacts-ends, compacts-grows, grows-fills, held-fills}
 use Rattle.rdlpp_read.specs.Buffer.{held_of}

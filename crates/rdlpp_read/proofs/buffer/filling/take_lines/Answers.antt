@@ -1,5 +1,4 @@
-use Rattle.std.proofs.Common.{◌≡◌, ◌≤◌, ◌-◌, length, take, drop, ap, ◌∙◌, arith, rules}
-use Rattle.std.proofs.lemmas.List.{length-take, length-drop}
+use Rattle.std.proofs.Common.{length, ap, ◌∙◌}
 use Rattle.rdlpp_read.specs.Buffer.{ahead_of}
 use Rattle.rdlpp_read.proofs.Growing.{fewer-turns, finds-ends, found-grows, search-goes-on, search-starts, stops-ends, stops-grows}
 use Rattle.rdlpp_read.proofs.buffer.filling.take_lines.Goals as goal

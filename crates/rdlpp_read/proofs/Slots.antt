@@ -1,0 +1,101 @@
+-- The slots of the open sources, as one of them changes, opens or closes.
+use Rattle.std.proofs.Common.{◌≡◌, ℕ, suc, ◌+◌, ◌-◌, ◌≤◌, ◌<◌, Bool, not, List, [], ◌∷◌, ◌++◌, length, take, drop, get_or, refl, sym, ap, subst, ◌∙◌, arith}
+use Rattle.std.proofs.lemmas.List.{drop-set, length-drop, take-set, take_more_set, take-take}
+use Rattle.std.proofs.Math.ListN.{set, length-set}
+use Rattle.std.proofs.lemmas.List.Elements.{All-append, All-cons, All-get_or, All-nil, All-same, All-set, All-take}
+use Rattle.std.specs.List.{All}
+use Rattle.rdlpp_scan.specs.Bytes.{is_line_end}
+use Rattle.rdlpp_scan.specs.declared.token.Mode.{Mode}
+use Rattle.rdlpp_read.specs.Buffer.{BufferView, EndsHeld, ahead_of, closed_buffer, entered_mode, held_of}
+use Rattle.rdlpp_read.proofs.BufferTokens.{none_ends}
+use Rattle.rdlpp_read.specs.declared.files.File.{File}
+use Rattle.rdlpp_read.specs.Files.{AreSlots, IsClosed, IsSlot, torn_after}
+
+-- an open slot changed
+pub slots-kept : {R : Type 0} (size first : ℕ) (slots : List (File R)) (f : File R) → AreSlots size first slots → IsSlot size f → AreSlots size first (set slots first f)
+slots-kept size first slots f s slot = record {
+  inside = (let inside = s.inside in omega (arith, length-set slots first f));
+  each = All-set (IsSlot size) slots first f slot s.each;
+  closed = All-same IsClosed (take first (set slots first f)) (take first slots) (take-set slots first f) s.closed;
+}
+
+-- one more slot was opened
+pub slots-entered : {R : Type 0} (size first : ℕ) (slots : List (File R)) (f : File R) → AreSlots size first slots → IsSlot size f → AreSlots size (first - 1) (set slots (first - 1) f)
+slots-entered size first slots f s slot = record {
+  inside = (let inside = s.inside in omega (arith, length-set slots (first - 1) f));
+  each = All-set (IsSlot size) slots (first - 1) f slot s.each;
+  closed = All-same IsClosed (take (first - 1) (set slots (first - 1) f)) (take (first - 1) (take first slots))
+      (take-set slots (first - 1) f ∙ sym (take-take (first - 1) first slots (omega arith))) (All-take IsClosed (first - 1) (take first slots) s.closed);
+}
+
+-- the innermost slot was closed
+pub slots-left : {R : Type 0} (size first : ℕ) (slots : List (File R)) (f : File R) → first < length slots → AreSlots size first slots → IsSlot size f → IsClosed f → AreSlots size (first + 1) (set slots first f)
+slots-left size first slots f more s slot closed = record {
+  inside = omega (arith, length-set slots first f);
+  each = All-set (IsSlot size) slots first f slot s.each;
+  closed = All-same IsClosed (take (first + 1) (set slots first f)) (take first slots ++ (f ∷ [])) (take_more_set slots first f more)
+      (All-append IsClosed (take first slots) (f ∷ []) s.closed (All-cons IsClosed f [] closed (All-nil IsClosed)));
+}
+
+-- some slot is open
+pub some-open : {R : Type 0} (first : ℕ) (slots : List (File R)) → 0 < length (drop first slots) → first < length slots
+some-open first slots some = omega (arith, length-drop first slots)
+
+-- the innermost slot
+pub slot-inner : {R : Type 0} (size first : ℕ) (slots : List (File R)) (f : File R) → AreSlots size first slots → 0 < length (drop first slots) → f ≡ get_or slots first f → IsSlot size f
+slot-inner size first slots f s some is = subst (IsSlot size) (sym is) (All-get_or (IsSlot size) slots first f (some-open first slots some) s.each)
+
+-- the open slots with one more
+pub entered-nest : {R : Type 0} (first : ℕ) (slots : List (File R)) (f : File R) → 0 < first → first ≤ length slots → drop (first - 1) (set slots (first - 1) f) ≡ f ∷ drop first slots
+entered-nest first slots f some inside =
+    let more : first - 1 < length slots = omega arith in
+    let back : first - 1 + 1 ≡ first = omega arith in
+    drop-set slots (first - 1) f more ∙ ap (λ k. f ∷ drop k slots) back
+
+-- the last byte says whether bytes end in LF
+pub torn-last : (torn : Bool) (bytes : List ℕ) (last : ℕ) → 0 < length bytes → last ≡ get_or bytes (length bytes - 1) 0 → torn_after torn bytes ≡ not (is_line_end last)
+unfolding torn_after
+torn-last torn [] last some is = absurd (omega arith)
+torn-last torn (b ∷ []) last some is = ap (λ x. not (is_line_end x)) (sym is)
+torn-last torn (b ∷ x ∷ bs) last some is =
+    let n = length bs in
+    let here : suc (suc n) - 1 ≡ suc n = omega arith in
+    let back : n ≡ suc n - 1 = omega arith in
+    torn-last (not (is_line_end b)) (x ∷ bs) last (omega arith) (is ∙ (ap (λ k. get_or (b ∷ x ∷ bs) k 0) here ∙ ap (λ k. get_or (x ∷ bs) k 0) back))
+
+-- one of the slots
+pub slot-at : {R : Type 0} (size at : ℕ) (slots : List (File R)) (f : File R) → All (IsSlot size) slots → at < length slots → f ≡ get_or slots at f → IsSlot size f
+slot-at size at slots f each more is = subst (IsSlot size) (sym is) (All-get_or (IsSlot size) slots at f more each)
+
+-- a slot that was just made
+pub closed-slot : {R : Type 0} (size : ℕ) (f : File R) → f.buffer ≡ closed_buffer 0 size → f.shift.number ≡ 0 → IsSlot size f
+unfolding closed_buffer
+closed-slot size f closed number = record {
+  size = ap (λ b. b.line_bytes) closed;
+  ends = none_ends f.buffer (ap (λ b. b.accepted) closed);
+  number = omega arith;
+}
+
+-- it has no reader
+pub closed-reader : {R : Type 0} (size : ℕ) (f : File R) → f.buffer ≡ closed_buffer 0 size → IsClosed f
+unfolding closed_buffer
+closed-reader size f closed = ap (λ b. b.reader) closed
+
+-- slots of which none is open
+pub slots-made : {R : Type 0} (size first : ℕ) (slots : List (File R)) → length slots ≡ first → All (IsSlot size) slots → All IsClosed slots → AreSlots size first slots
+slots-made size first slots all each closed = record {
+  inside = omega arith;
+  each = each;
+  closed = All-take IsClosed first slots closed;
+}
+
+-- the mode changes nothing of what is held
+pub moded-ends : {R : Type 0} (old new : BufferView R) (next : Mode) → new ≡ entered_mode old next → EndsHeld old → EndsHeld new
+unfolding entered_mode held_of ahead_of
+moded-ends old new next becomes ends = rw becomes ends
+
+-- no byte changes nothing
+pub torn-none : (torn : Bool) (bytes : List ℕ) → length bytes ≡ 0 → torn ≡ torn_after torn bytes
+unfolding torn_after
+torn-none torn [] none = refl
+torn-none torn (b ∷ bs) none = absurd (omega arith)

@@ -1,0 +1,13 @@
+use Rattle.std.proofs.Common.{ap, ◌∙◌}
+use Rattle.rdlpp_read.specs.Files.{IsSlot}
+use Rattle.rdlpp_read.proofs.Slots.{slot-inner, slots-left, some-open}
+use Rattle.rdlpp_read.proofs.files.Files.leave.Goals as goal
+
+pub invariant_of-self : goal.invariant_of-self
+invariant_of-self g c =
+    let some = rw (← c.self.view_is) at c.requires in
+    let slot : IsSlot c.self.inside.line_bytes c.index_mut.result.now =
+    slot-inner c.self.inside.line_bytes c.self.inside.first c.self.inside.slots.items c.index_mut.result.now c.self.invariant some c.index_mut.ensures.value in
+    slots-left c.self.inside.line_bytes c.self.inside.first c.self.inside.slots.items _ (some-open c.self.inside.first c.self.inside.slots.items some) c.self.invariant
+    (record { size = ap (λ f. f.line_bytes) c.close.ensures.closed ∙ slot.size; ends = c.close.ensures.ends; number = slot.number })
+    (ap (λ f. f.reader) c.close.ensures.closed)

@@ -1,0 +1,47 @@
+use Rattle.std.proofs.Common.{◌≡◌, ◌+◌, [], ◌∷◌, length, refl, ap, ◌∙◌, arith, vec_len}
+use Rattle.std.proofs.lemmas.List.{drop_all, length-append}
+use Rattle.std.proofs.lemmas.List.Elements.{All-nil, All-push, All-same}
+use Rattle.rdlpp_read.specs.Buffer.{closed_buffer}
+use Rattle.rdlpp_read.specs.Files.{IsClosed, IsSlot}
+use Rattle.rdlpp_read.proofs.Slots.{closed-reader, closed-slot, slots-made}
+use Rattle.rdlpp_read.proofs.files.Files.new.Goals as goal
+
+pub loop-slot-init : goal.loop-slot-init
+loop-slot-init g c =
+    let none = c.in_ok-list.ensures.items in (
+      ap length none,
+      omega (arith, c.in_ok-list.ensures.capacity),
+      All-same (IsSlot c.args.line_bytes) c.in_ok-list.list.items [] none (All-nil (IsSlot c.args.line_bytes)),
+      All-same IsClosed c.in_ok-list.list.items [] none (All-nil IsClosed),
+    )
+
+pub loop-slot-preserved : goal.loop-slot-preserved
+loop-slot-preserved g c =
+    let v = c.loop-slot.invariant in
+    let old = c.loop-slot.list.items in
+    let made = c.closed.result in
+    let items = c.push_reserved.ensures.items in
+    let closed : made.buffer ≡ closed_buffer 0 c.args.line_bytes = c.closed.ensures.buffer ∙ ap (closed_buffer 0) c.in_ok-vec.ensures.len in
+    let size : length c.push_reserved.new.self.items ≡ length old + 1 = ap length items ∙ length-append old (made ∷ []) in (
+      omega (arith, v.0),
+      omega (arith, v.1, c.push_reserved.ensures.capacity),
+      All-same (IsSlot c.args.line_bytes) c.push_reserved.new.self.items _ items
+          (All-push (IsSlot c.args.line_bytes) old made v.2 (closed-slot c.args.line_bytes made closed (ap (λ s. s.number) c.closed.ensures.shift))),
+      All-same IsClosed c.push_reserved.new.self.items _ items (All-push IsClosed old made v.3 (closed-reader c.args.line_bytes made closed)),
+    )
+
+pub push_reserved-requires : goal.push_reserved-requires
+push_reserved-requires g c = let v = c.loop-slot.invariant in omega (arith, v.0, v.1, c.loop-slot.list.ok.0)
+
+pub invariant_of-result : goal.invariant_of-result
+invariant_of-result g c =
+    let v = c.loop-slot.invariant in
+    slots-made c.args.line_bytes c.args.slots c.loop-slot.list.items (omega (arith, v.0)) v.2 v.3
+
+pub returns : goal.returns
+returns g c =
+    let v = c.loop-slot.invariant in
+    let all : length c.loop-slot.list.items ≡ c.args.slots = omega (arith, v.0) in
+    let none = drop_all c.args.slots c.loop-slot.list.items (omega arith) in
+    let size : vec_len c.loop-slot.list ≡ c.args.slots = omega (arith, c.loop-slot.list.ok.0) in
+    rw (none, size) refl

@@ -1,0 +1,10 @@
+use Rattle.rdlpp_read.specs.Files.{IsSlot}
+use Rattle.rdlpp_read.proofs.Slots.{slot-inner, slots-kept}
+use Rattle.rdlpp_read.proofs.files.Files.renumber.Goals as goal
+
+pub invariant_of-self : goal.invariant_of-self
+invariant_of-self g c =
+    let slot : IsSlot c.self.inside.line_bytes c.index_mut-file.result.now =
+    slot-inner c.self.inside.line_bytes c.self.inside.first c.self.inside.slots.items c.index_mut-file.result.now c.self.invariant (rw (← c.self.view_is) at c.requires.some) c.index_mut-file.ensures.value in
+    slots-kept c.self.inside.line_bytes c.self.inside.first c.self.inside.slots.items _ c.self.invariant
+    (record { size = slot.size; ends = slot.ends; number = c.requires.number })

@@ -1,0 +1,16 @@
+use Rattle.std.proofs.Common.{◌≡◌, ◌<◌, length, refl, sym, arith}
+use Rattle.std.proofs.lemmas.Bool.Decides.{nat_tests}
+use Rattle.rdlpp_scan.specs.Bytes.{is_line_end}
+use Rattle.rdlpp_read.proofs.Slots.{torn-last, torn-none}
+use Rattle.rdlpp_read.proofs.files.is_torn.Goals as goal
+
+pub returns-then-is_empty : goal.returns-then-is_empty
+returns-then-is_empty c =
+    let none : length c.args.bytes.now ≡ 0 = grind (arith, nat_tests) in
+    torn-none c.args.torn c.args.bytes.now none
+
+pub returns-else-is_empty : goal.returns-else-is_empty
+unfolding is_line_end
+returns-else-is_empty c =
+    let some : 0 < length c.args.bytes.now = grind (arith, nat_tests) in
+    sym (torn-last c.args.torn c.args.bytes.now _ some refl)
