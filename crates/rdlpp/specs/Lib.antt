@@ -2,3 +2,4 @@ pub mod Status
 pub mod Report
 pub mod Definitions
 pub mod Preprocess
+pub mod Folders
