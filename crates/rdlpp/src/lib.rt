@@ -1,9 +1,12 @@
-//! Preprocessing as one call: options, faults, exit statuses and the line that reports a fault.
+//! Preprocessing as one call: options, sources over files, faults, exit statuses, the line that reports
+//! a fault, and the words of a command line.
 #![tactic(auto)]
 
+mod command;
 mod defining;
 mod fault;
 mod folders;
+mod invocation;
 mod options;
 mod preprocessing;
 mod reporting;
@@ -11,6 +14,7 @@ mod status;
 
 pub use fault::PrepFault;
 pub use folders::{FolderReader, Folders};
+pub use invocation::{Invocation, UsageFault, parse_words};
 pub use options::Options;
 pub use preprocessing::preprocess;
 pub use rdlpp_expand::{Fault, FaultKind, RunFault};
