@@ -1,10 +1,11 @@
 //! Sources over files.
-ghost use Rattle.std.specs.Prelude.{◌≡◌, ◌≢◌, ℕ, ◌+◌, ◌-◌, ◌^◌, min, List, map, Option, IfOk, IfErr, option_map, slice_get};
+ghost use Rattle.std.specs.Prelude.{◌≡◌, ◌≢◌, ℕ, ◌+◌, ◌-◌, ◌^◌, ◌≤◌, min, List, length, map, Option, Some, IfOk, IfErr, slice_get};
 ghost use Rattle.std.specs.Io.{ReadsAtMost};
 ghost use Rattle.std.specs.Io.KnownBytes.{ReadConsumes};
 ghost use Rattle.rdlpp_source.specs.Counts.{Counts};
 ghost use Rattle.rdlpp_source.specs.Sources.{is_device, is_no_memory};
 ghost use Rattle.rdlpp_source.specs.Search.{candidates, joined_path};
+ghost use Rattle.rdlpp.specs.Answers.{is_absent};
 
 use arrayvec::ArrayString;
 use rdlpp_source::{Found, SourceFault, Sources, folder_of, joined_path};
@@ -39,6 +40,13 @@ pub enum FolderReader<I, F> {
     Input(I),
     /// A file.
     File(F),
+}
+
+// Whether nothing stands at a candidate.
+fn is_absent<T>(answer: &Result<T, SourceFault>) -> bool
+    ensures { result ≡ is_absent answer.now }
+{
+    matches!(answer, Err(SourceFault::Absent))
 }
 
 // What an open that failed comes to.
@@ -163,15 +171,15 @@ impl<'r, R: Files + Input> Folders<'r, R> {
 
     // The folder of the candidate at a place, from 0: that of the including source, and then the
     // include folders.
-    fn searched_folder<'s>(&'s self, from: &'s str, place: usize) -> Option<&'s str>
-        ensures { option_map (λ folder. folder.now) result
-            ≡ slice_get (searched_folders (include_folders self.now) from.now) place }
+    fn searched_folder<'s>(&'s self, from: &'s str, place: usize) -> &'s str
+        requires { place ≤ length (include_folders self.now) }
+        ensures { slice_get (searched_folders (include_folders self.now) from.now) place ≡ Some result.now }
     {
         if place == 0 {
-            return Some(folder_of(from));
+            folder_of(from)
+        } else {
+            self.folders[place - 1].as_str()
         }
-        let folder = self.folders.get(place - 1)?;
-        Some(folder.as_str())
     }
 
     // The file of a name in the first of the searched folders that has it.
@@ -183,12 +191,9 @@ impl<'r, R: Files + Input> Folders<'r, R> {
         ensures { SearchesPaths (map (λ folder. joined_path folder name.now)
             (searched_folders (include_folders self.now) from.now)) result }
     {
-        for place in 0..=self.folders.len() {
-            let Some(folder) = self.searched_folder(from, place) else {
-                break;
-            };
-            let answer = self.open_in(folder, name);
-            if !matches!(answer, Err(SourceFault::Absent)) {
+        for place in 0..self.folders.len() + 1 {
+            let answer = self.open_in(self.searched_folder(from, place), name);
+            if !is_absent(&answer) {
                 return answer;
             }
         }

@@ -1,6 +1,8 @@
 //! The program `rdlpp`: preprocesses a SystemRDL source, as its command line says.
 #![tactic(auto)]
 
+ghost use Rattle.rdlpp_cli.specs.Statuses.{UsageStatus};
+
 mod output;
 mod words;
 
@@ -90,7 +92,9 @@ fn tell_fault(rt: &HostRuntime, fault: &PrepFault) {
 }
 
 // Tells why there is no run, and answers the exit status.
-fn tell_usage(rt: &HostRuntime, fault: &UsageFault) -> u8 {
+fn tell_usage(rt: &HostRuntime, fault: &UsageFault) -> u8
+    ensures { UsageStatus fault.now result }
+{
     match fault {
         UsageFault::Help(text) => match rt.stdout().write_all(text.as_bytes()) {
             Ok(()) => 0,

@@ -1,27 +1,44 @@
--- What the open of a candidate comes to is what the search comes to.
-use Rattle.std.proofs.Common.{◌≡◌, ℕ, List, map, Option, Some, Result, Bor, option_map, slice_get, refl, sym, ap, ◌∙◌}
-use Rattle.std.proofs.lemmas.Option.{slice_get-map}
-use Rattle.rdlpp_source.specs.Search.{folder_of, joined_path}
-use Rattle.rdlpp_source.specs.declared.sources.Found.{Found}
-use Rattle.rdlpp_source.specs.declared.sources.SourceFault.{SourceFault}
-use Rattle.rdlpp.specs.Folders.{include_folders, searched_folders, OpensPath, SearchesPaths}
+-- Each candidate before the one that the search comes to is short.
+use Rattle.std.proofs.Common.{rules, ◌≡◌, ◌+◌, ◌≤◌, suc, false, true, length, map, refl, arith}
+use Rattle.std.proofs.lemmas.List.{length-map}
+use Rattle.std.specs.String.{string_bytes}
+use Rattle.rdlpp_source.specs.Search.{joined_path}
+use Rattle.rdlpp.specs.Answers.{is_absent}
+use Rattle.rdlpp.specs.Folders.{include_folders, searched_folders}
+use Rattle.rdlpp.proofs.Searches.{candidate_at, searches_one, short_all, short_more}
 use Rattle.rdlpp.proofs.folders.Folders.search_folders.Goals as goal
 
-searches-at : {R : Type 0} (folders : List (List ℕ)) (name : List ℕ) (place : ℕ) (found : Option (Bor (List ℕ))) (folder : Bor (List ℕ)) (answer : Result (Found R) SourceFault)
-    → option_map (λ f. f.now) found ≡ slice_get folders place → found ≡ Some folder → OpensPath (joined_path folder.now name) answer
-    → SearchesPaths (map (λ f. joined_path f name) folders) answer
-searches-at folders name place found folder answer at is opens = (
-  joined_path folder.now name,
-  place,
-  slice_get-map (λ f. joined_path f name) folders place
-      ∙ ap (option_map (λ f. joined_path f name)) (sym at ∙ ap (option_map (λ f. f.now)) is),
-  opens,
-)
+pub returns-then-not-is_absent : goal.returns-then-not-is_absent
+returns-then-not-is_absent g c =
+    let folders = searched_folders (include_folders c.args.self.now) c.args.from.now in
+    let folder = c.searched_folder.result.now in
+    let found : is_absent c.open_in-answer.result ≡ false = search rules in
+    searches_one (map (λ f. joined_path f c.args.name.now) folders) c.open_in-answer.result found (
+      joined_path folder c.args.name.now,
+      c.loop-place.place,
+      candidate_at folders c.args.name.now folder c.loop-place.place c.searched_folder.ensures,
+      c.loop-place.invariant,
+      c.open_in-answer.ensures,
+    )
 
-pub returns-then-not-matches : goal.returns-then-not-matches
-returns-then-not-matches g c =
-    searches-at (searched_folders (include_folders c.args.self.now) c.args.from.now) c.args.name.now c.loop-place.place
-    c.searched_folder.result c.in-Some.folder c.open_in-answer.result c.searched_folder.ensures c.in-Some.is c.open_in-answer.ensures
+pub loop-place-preserved : goal.loop-place-preserved
+loop-place-preserved g c =
+    let folders = searched_folders (include_folders c.args.self.now) c.args.from.now in
+    let folder = c.searched_folder.result.now in
+    let absent : is_absent c.open_in-answer.result ≡ true = search rules in
+    short_more (map (λ f. joined_path f c.args.name.now) folders) c.loop-place.place (joined_path folder c.args.name.now)
+    c.open_in-answer.result c.loop-place.invariant
+    (candidate_at folders c.args.name.now folder c.loop-place.place c.searched_folder.ensures) absent c.open_in-answer.ensures
 
 pub returns : goal.returns
-returns g c = (joined_path (folder_of c.args.from.now) c.args.name.now, 0, refl, tt)
+returns g c =
+    let kept = include_folders c.args.self.now in
+    let folders = searched_folders kept c.args.from.now in
+    let paths = map (λ f. joined_path f c.args.name.now) folders in
+    let as_many : length paths ≡ length folders = length-map folders (λ f. joined_path f c.args.name.now) in
+    let one_more : length folders ≡ suc (length kept) = refl in
+    let stored : length kept ≡ length c.args.self.now.folders.items = length-map c.args.self.now.folders.items string_bytes in
+    let counted : c.len-place-end.result ≡ length c.args.self.now.folders.items = search rules in
+    let done : c.len-place-end.result + 1 ≤ c.loop-place.place = c.loop-place-test.false in
+    let all : length paths ≤ c.loop-place.place = omega arith in
+    short_all paths c.loop-place.place c.loop-place.invariant all
