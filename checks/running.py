@@ -56,11 +56,14 @@ def has(need):
     return run(words, "/", source) == Outcome(*wanted)
 
 
-def shown(part):
-    """Bytes, or a number, as a reader can compare them; long ones by their ends."""
-    if isinstance(part, bytes) and 400 < len(part):
-        return f"{part[:200]!r} .. {part[-200:]!r} ({len(part)} bytes)"
-    return repr(part)
+def difference(wanted, got):
+    """How two parts of an outcome differ; texts by what stands around their first difference."""
+    if not isinstance(wanted, bytes):
+        return f"wanted {wanted}, got {got}"
+    ends = [at for at, (a, b) in enumerate(zip(wanted, got)) if a != b]
+    at = ends[0] if ends else min(len(wanted), len(got))
+    around = slice(max(0, at - 40), at + 40)
+    return f"at byte {at} wanted {wanted[around]!r}, got {got[around]!r}"
 
 
 class Tally:
@@ -86,7 +89,7 @@ class Tally:
             self.skip()
             return
         parts = [
-            f"\n  {part}: wanted {shown(getattr(wanted, part))}\n  {part}: got    {shown(getattr(got, part))}"
+            f"\n  {part}: {difference(getattr(wanted, part), getattr(got, part))}"
             for part in ("output", "faults", "status")
             if getattr(wanted, part) != getattr(got, part)
         ]

@@ -46,7 +46,11 @@ fn searches_the_folders_in_order(rt: HostRuntime) -> Result<(), Fail> {
     let x = format!(in rt.alloc(); "{folder}/x")?;
     let y = format!(in rt.alloc(); "{folder}/y/")?;
     let mut folders = Folders::new(&rt, rt.alloc(), &[x.as_str(), y.as_str()])?;
-    for (path, text) in [(near, b"near".as_slice()), (first, b"first"), (second, b"second")] {
+    for (path, text) in [
+        (near, b"near".as_slice()),
+        (first, b"first"),
+        (second, b"second"),
+    ] {
         let (place, bytes) = found(&rt, &mut folders, main.as_str(), "i")?;
         assert!(rt; place.as_str() == path.as_str(), "{place}");
         assert!(rt; bytes.as_slice() == text, "{place}");

@@ -10,7 +10,16 @@ fn asked(rt: &HostRuntime, words: &[&str]) -> Result<Invocation, Fail> {
 
 #[test]
 fn reads_a_command_line(rt: HostRuntime) -> Result<(), Fail> {
-    let words = ["rdlpp", "-D", "W=8", "-I", "inc", "--max-depth", "4", "a.rdl"];
+    let words = [
+        "rdlpp",
+        "-D",
+        "W=8",
+        "-I",
+        "inc",
+        "--max-depth",
+        "4",
+        "a.rdl",
+    ];
     let asked = asked(&rt, &words)?;
     let depth = Limits {
         depth: 4,
@@ -27,11 +36,19 @@ fn reads_a_command_line(rt: HostRuntime) -> Result<(), Fail> {
 
 #[test]
 fn splits_a_definition_at_its_first_sign(rt: HostRuntime) -> Result<(), Fail> {
-    for (word, name, text) in [("W=8", "W", "8"), ("W=a=b", "W", "a=b"), ("W", "W", ""), ("=2", "", "2")] {
+    for (word, name, text) in [
+        ("W=8", "W", "8"),
+        ("W=a=b", "W", "a=b"),
+        ("W", "W", ""),
+        ("=2", "", "2"),
+    ] {
         let asked = asked(&rt, &["rdlpp", "-D", word, "-"])?;
         assert_eq!(rt; asked.options.defines.len(), 1);
         let define = &asked.options.defines[0];
-        assert!(rt; define.0.as_str() == name && define.1.as_str() == text, "{word}");
+        assert!(rt;
+            define.0.as_str() == name && define.1.as_str() == text,
+            "{word}"
+        );
         assert!(rt; asked.source.as_str() == "-");
     }
     Ok(())
@@ -40,9 +57,33 @@ fn splits_a_definition_at_its_first_sign(rt: HostRuntime) -> Result<(), Fail> {
 #[test]
 fn reads_every_option(rt: HostRuntime) -> Result<(), Fail> {
     let words = [
-        "rdlpp", "-I", "x", "-o", "out", "--origins", "--max-depth", "1", "--max-includes", "2",
-        "--max-line", "256", "--max-source", "4", "--max-argument", "16", "--max-definition-bytes",
-        "1024", "--max-definitions", "7", "--max-conditions", "8", "--max-output", "0", "-I", "y", "m",
+        "rdlpp",
+        "-I",
+        "x",
+        "-o",
+        "out",
+        "--origins",
+        "--max-depth",
+        "1",
+        "--max-includes",
+        "2",
+        "--max-line",
+        "256",
+        "--max-source",
+        "4",
+        "--max-argument",
+        "16",
+        "--max-definition-bytes",
+        "1024",
+        "--max-definitions",
+        "7",
+        "--max-conditions",
+        "8",
+        "--max-output",
+        "0",
+        "-I",
+        "y",
+        "m",
     ];
     let asked = asked(&rt, &words)?;
     let limits = Limits {
@@ -73,7 +114,12 @@ fn refuses_what_is_no_command_line(rt: HostRuntime) {
         &["rdlpp", "a", "b"],
         &["rdlpp", "--max-depth", "0", "a"],
         &["rdlpp", "--max-depth", "1025", "a"],
-        &["rdlpp", "--max-output", "999999999999999999999999999999", "a"],
+        &[
+            "rdlpp",
+            "--max-output",
+            "999999999999999999999999999999",
+            "a",
+        ],
         &["rdlpp", "--max-depth", "+4", "a"],
         &["rdlpp", "-o", "x", "-o", "x", "a"],
     ];
@@ -88,7 +134,10 @@ fn refuses_what_is_no_command_line(rt: HostRuntime) {
 
 #[test]
 fn gives_help_and_the_version(rt: HostRuntime) {
-    for (word, begins) in [("--help", "Preprocesses a SystemRDL source"), ("--version", "rdlpp ")] {
+    for (word, begins) in [
+        ("--help", "Preprocesses a SystemRDL source"),
+        ("--version", "rdlpp "),
+    ] {
         let told = match parse_words(rt.alloc(), &["rdlpp", word]) {
             Err(UsageFault::Help(text)) => text.as_str().starts_with(begins),
             _ => false,
