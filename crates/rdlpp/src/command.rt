@@ -15,7 +15,8 @@ pub(crate) const ORIGINS: &str = "origins";
 pub(crate) const SOURCE: &str = "source";
 
 // What stands before the options in the help.
-const ABOUT: &str = "Preprocesses a SystemRDL source: macros, conditionals, includes and line directives.";
+const ABOUT: &str =
+    "Preprocesses a SystemRDL source: macros, conditionals, includes and line directives.";
 
 // What stands behind the options in the help.
 const AFTER: &str = "\

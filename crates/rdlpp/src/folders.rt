@@ -139,10 +139,7 @@ impl<'r, R: Files + Input> Folders<'r, R> {
     }
 
     // The main text: standard input, or the file at its path.
-    fn open_main(
-        &self,
-        path: &str,
-    ) -> Result<Found<FolderReader<R::Reader, R::File>>, SourceFault>
+    fn open_main(&self, path: &str) -> Result<Found<FolderReader<R::Reader, R::File>>, SourceFault>
         ensures { OpensPath path.now result }
     {
         let Ok(path) = ArrayString::from(path) else {
@@ -247,10 +244,7 @@ impl<'r, R: Files + Input> Sources for Folders<'r, R> {
 
     ghost refusals = { memory_refusals };
 
-    fn top(
-        &mut self,
-        path: &str,
-    ) -> Result<Found<FolderReader<R::Reader, R::File>>, SourceFault>
+    fn top(&mut self, path: &str) -> Result<Found<FolderReader<R::Reader, R::File>>, SourceFault>
         ensures path { OpensPath path.now result }
         ensures folders { include_folders self.new ≡ include_folders self.old }
         ensures failures { Counts (is_device result) (device_failures self.old) (device_failures self.new) }
