@@ -124,7 +124,8 @@ fn refuses_what_is_no_command_line(rt: HostRuntime) {
         &["rdlpp", "-o", "x", "-o", "x", "a"],
     ];
     for words in lines {
-        let bad = match parse_words(rt.alloc(), words) {
+        let outcome = parse_words(rt.alloc(), words);
+        let bad = match &outcome {
             Err(UsageFault::Bad(text)) => text.as_str().starts_with("error: "),
             _ => false,
         };
@@ -138,7 +139,9 @@ fn gives_help_and_the_version(rt: HostRuntime) {
         ("--help", "Preprocesses a SystemRDL source"),
         ("--version", "rdlpp "),
     ] {
-        let told = match parse_words(rt.alloc(), &["rdlpp", word]) {
+        let words = ["rdlpp", word];
+        let outcome = parse_words(rt.alloc(), &words);
+        let told = match &outcome {
             Err(UsageFault::Help(text)) => text.as_str().starts_with(begins),
             _ => false,
         };
