@@ -8,6 +8,15 @@ fn asked(rt: &HostRuntime, words: &[&str]) -> Result<Invocation, Fail> {
     Ok(parse_words(rt.alloc(), words)?)
 }
 
+// Whether words aren't a command line, with a text that says so.
+fn is_refused(rt: &HostRuntime, words: &[&str]) -> bool {
+    let outcome = parse_words(rt.alloc(), words);
+    match &outcome {
+        Err(UsageFault::Bad(text)) => text.as_str().starts_with("error: "),
+        _ => false,
+    }
+}
+
 #[test]
 fn reads_a_command_line(rt: HostRuntime) -> Result<(), Fail> {
     let words = [
@@ -124,12 +133,7 @@ fn refuses_what_is_no_command_line(rt: HostRuntime) {
         &["rdlpp", "-o", "x", "-o", "x", "a"],
     ];
     for words in lines {
-        let outcome = parse_words(rt.alloc(), words);
-        let bad = match &outcome {
-            Err(UsageFault::Bad(text)) => text.as_str().starts_with("error: "),
-            _ => false,
-        };
-        assert!(rt; bad, "{words:?}");
+        assert!(rt; is_refused(&rt, words), "{words:?}");
     }
 }
 
