@@ -1,5 +1,8 @@
 # The few commands that a reader of this repository needs. `make help` lists them.
-.PHONY: help build run test fmt bench definitions
+.PHONY: help build run test check install fmt bench definitions
+
+# Where `make install` puts the program and its manual page, below DESTDIR where that is given.
+PREFIX ?= /usr/local
 
 help: ## list these commands
 	@grep -E '^[a-z]+:.*##' $(MAKEFILE_LIST) | sed -E 's/^([a-z]+):.*## /  make \1\t/'
@@ -11,8 +14,18 @@ build: ## prove and build the program, which becomes out/rdlpp
 run: ## build the program and show the worked examples with their output
 	@examples/show
 
-test: ## the gate: every proof from nothing, the must-fail edits, the tests, the program's stored run
+test: ## the gate (every proof from nothing, the must-fail edits, the tests, the stored runs), and then `make check`
 	@rt ci
+	@$(MAKE) --silent check
+
+check: ## build the program and run it over files, streams, examples and refused command lines
+	@$(MAKE) --silent build
+	@checks/all
+
+install: ## build the program and put it, with its manual page, below PREFIX (/usr/local)
+	@$(MAKE) --silent build
+	install -D -m 755 out/rdlpp '$(DESTDIR)$(PREFIX)/bin/rdlpp'
+	install -D -m 644 docs/rdlpp.1 '$(DESTDIR)$(PREFIX)/share/man/man1/rdlpp.1'
 
 fmt: ## lay out every file
 	@for crate in crates/*/; do (cd $$crate && rt fmt); done

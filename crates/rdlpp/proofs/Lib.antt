@@ -1,3 +1,4 @@
 pub mod Givings
 pub mod FreshRuns
 pub mod Reports
+pub mod Searches

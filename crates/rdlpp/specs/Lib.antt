@@ -2,3 +2,5 @@ pub mod Status
 pub mod Report
 pub mod Definitions
 pub mod Preprocess
+pub mod Answers
+pub mod Folders

@@ -35,7 +35,7 @@ pub fn report<W: Write>(fault: &PrepFault, writer: &mut W) -> Result<(), io::Err
 }
 
 // The name of the field that is out of its range.
-fn limit_name(limit: LimitFault) -> &'static str
+pub(crate) fn limit_name(limit: LimitFault) -> &'static str
     ensures { result.now ≡ limit_name limit }
 {
     match limit {

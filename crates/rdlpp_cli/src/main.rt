@@ -1,52 +1,112 @@
-//! The program `rdlpp`: preprocesses standard input to standard output.
+//! The program `rdlpp`: preprocesses a SystemRDL source, as its command line says.
 #![tactic(auto)]
 
-mod standard_input;
+ghost use Rattle.rdlpp_cli.specs.Statuses.{UsageStatus};
+
+mod output;
 mod words;
 
-use rdlpp::{Counted, Limits, Options, PrepFault, exit_status, preprocess, report};
-use standard_input::StandardInput;
-use std::io::BufWriter;
+use output::{Output, open_output};
+use rdlpp::{Counted, Folders, Invocation, PrepFault, UsageFault, exit_status, preprocess, report};
+use std::alloc::AllocError;
+use std::io::{BufWriter, Write};
 use std::process::ExitCode;
-use words::{Words, read_words};
+use words::read_invocation;
 
-// The bytes of the buffer in front of standard output.
+// The bytes of the buffer in front of the output.
 const OUTPUT_BYTES: usize = 65_536;
 
-// The exit status of a command line that isn't one.
+// The bytes of the buffer in front of the line that reports a fault, which is never longer.
+const LINE_BYTES: usize = 2_048;
+
+// The exit status of words that aren't a command line.
 const USAGE_STATUS: u8 = 2;
 
+// The exit status of a device that failed.
+const DEVICE_STATUS: u8 = 3;
+
 fn main(rt: HostRuntime) -> ExitCode {
-    let outcome = match read_words(&rt) {
-        Words::StandardInput => preprocess_input(&rt),
-        Words::NoMemory => Err(PrepFault::NoMemory),
-        Words::Other => {
-            let _told = eprintln!(rt; "rdlpp: error: usage");
-            return ExitCode::from(USAGE_STATUS);
-        }
-    };
-    if let Err(fault) = &outcome {
-        let _told = report(fault, &mut rt.stderr());
-    }
-    ExitCode::from(exit_status(&outcome))
+    ExitCode::from(match read_invocation(&rt) {
+        Ok(invocation) => run_invocation(&rt, &invocation),
+        Err(fault) => tell_usage(&rt, &fault),
+    })
 }
 
-// Preprocesses standard input to standard output, with standard limits.
-fn preprocess_input(rt: &HostRuntime) -> Result<u64, PrepFault> {
-    let options = Options {
-        defines: Vec::new(rt.alloc()),
-        limits: Limits::standard(),
-        origins: false,
+// Does what a command line asks for, and answers the exit status.
+fn run_invocation(rt: &HostRuntime, invocation: &Invocation) -> u8 {
+    let Ok(output) = open_output(rt, invocation.output.as_ref()) else {
+        let _told = rt.stderr().write_all(b"rdlpp: error: cannot open output\n");
+        return DEVICE_STATUS;
     };
-    let Ok(output) = BufWriter::with_capacity(rt.alloc(), OUTPUT_BYTES, rt.stdout()) else {
+    let outcome = preprocess_to(rt, invocation, output);
+    if let Err(fault) = &outcome {
+        tell_fault(rt, fault);
+    }
+    exit_status(&outcome)
+}
+
+// Preprocesses the source of a command line.
+fn preprocess_to(
+    rt: &HostRuntime,
+    invocation: &Invocation,
+    output: Output,
+) -> Result<u64, PrepFault> {
+    let Ok(writer) = BufWriter::with_capacity(rt.alloc(), OUTPUT_BYTES, output) else {
         return Err(PrepFault::NoMemory);
     };
-    let sources = StandardInput::new(rt.stdin());
+    let Ok(sources) = folders_of(rt, invocation) else {
+        return Err(PrepFault::NoMemory);
+    };
     preprocess(
         rt.alloc(),
-        &options,
+        &invocation.options,
         sources,
-        "-",
-        &mut Counted::new(output),
+        invocation.source.as_str(),
+        &mut Counted::new(writer),
     )
+}
+
+// The sources of a command line.
+fn folders_of<'r>(
+    rt: &'r HostRuntime,
+    invocation: &Invocation,
+) -> Result<Folders<'r, HostRuntime>, AllocError> {
+    let mut folders = Vec::new(rt.alloc());
+    for folder in &invocation.folders {
+        folders.push(folder.as_str())?;
+    }
+    Folders::new(rt, rt.alloc(), folders.as_slice()).map_err(|_| AllocError)
+}
+
+// Tells a fault on standard error, by one write where there is memory for its line.
+fn tell_fault(rt: &HostRuntime, fault: &PrepFault) {
+    match BufWriter::with_capacity(rt.alloc(), LINE_BYTES, rt.stderr()) {
+        Ok(mut line) => {
+            let _told = report(fault, &mut line);
+            let _flushed = line.flush();
+        }
+        Err(_) => {
+            let _told = report(fault, &mut rt.stderr());
+        }
+    }
+}
+
+// Tells why there is no run, and answers the exit status.
+fn tell_usage(rt: &HostRuntime, fault: &UsageFault) -> u8
+    ensures { UsageStatus fault.now result }
+{
+    match fault {
+        UsageFault::Help(text) => match rt.stdout().write_all(text.as_bytes()) {
+            Ok(()) => 0,
+            Err(_) => DEVICE_STATUS,
+        },
+        UsageFault::Bad(text) => {
+            let _told = rt.stderr().write_all(text.as_bytes());
+            USAGE_STATUS
+        }
+        UsageFault::NoMemory => {
+            tell_fault(rt, &PrepFault::NoMemory);
+            DEVICE_STATUS
+        }
+    }
 }

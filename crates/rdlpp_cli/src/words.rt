@@ -1,45 +1,28 @@
-// The words of the command line.
-ghost use Rattle.std.specs.Prelude.{◌≡◌};
-ghost use Rattle.rdlpp_cli.specs.Inputs.{asked};
-
+//! The words of the command line.
+use rdlpp::{Invocation, UsageFault, parse_words};
 use std::env;
 use std::io::ErrorKind;
 use std::rt::Env;
 
-/// What the words of the command line ask for.
-#[derive(Clone, Copy)]
-pub enum Words {
-    /// The one word `-`: preprocess standard input.
-    StandardInput,
-    /// There was no memory for the words.
-    NoMemory,
-    /// Any other words.
-    Other,
-}
+// What is told of a word that isn't text.
+const NOT_TEXT: &str = "error: a word of the command line isn't UTF-8\n";
 
-/// What a first word asks for, by whether more words follow it.
-#[tactic(auto, unfolding(crate::specs::Inputs::asked))]
-pub fn asked_by(word: &str, has_more: bool) -> Words
-    ensures { result ≡ asked word.now has_more }
-{
-    if word == "-" && !has_more {
-        Words::StandardInput
-    } else {
-        Words::Other
-    }
-}
-
-/// Reads the words of the command line, after the program's name. What the words are stands in no
-/// contract.
-pub fn read_words(rt: &(impl Env + Alloc)) -> Words {
-    let mut words = match env::args(rt) {
+/// Reads what the words of the command line ask for.
+///
+/// # Errors
+/// As `parse_words`; and `Bad` where a word isn't UTF-8.
+pub fn read_invocation(rt: &(impl Env + AllocGlobal)) -> Result<Invocation, UsageFault> {
+    let words = match env::args(rt) {
         Ok(words) => words,
-        Err(error) if error.kind() == ErrorKind::OutOfMemory => return Words::NoMemory,
-        Err(_) => return Words::Other,
+        Err(error) if error.kind() == ErrorKind::OutOfMemory => return Err(UsageFault::NoMemory),
+        Err(_) => return Err(UsageFault::Bad(String::from_str(rt.alloc(), NOT_TEXT)?)),
     };
-    let _program = words.next();
-    match words.next() {
-        Some(word) => asked_by(word.as_str(), words.next().is_some()),
-        None => Words::Other,
+    let words = words.collect::<Vec<String>>(rt.alloc())?;
+    let mut texts = Vec::new(rt.alloc());
+    for word in &words {
+        if texts.push(word.as_str()).is_err() {
+            return Err(UsageFault::NoMemory);
+        }
     }
+    parse_words(rt.alloc(), texts.as_slice())
 }

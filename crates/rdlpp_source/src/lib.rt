@@ -3,6 +3,7 @@
 #![tactic(auto)]
 
 mod counted;
+mod paths;
 mod sinks;
 mod sources;
 #[cfg(test)]
@@ -10,6 +11,7 @@ mod tests;
 mod texts;
 
 pub use counted::Counted;
+pub use paths::{folder_of, joined_path};
 pub use sinks::{Sink, SinkFault};
 pub use sources::{Found, SourceFault, Sources};
 pub use texts::{TextReader, Texts};

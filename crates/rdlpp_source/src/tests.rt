@@ -1,4 +1,4 @@
-use crate::{Counted, Sink, SourceFault, Sources, Texts};
+use crate::{Counted, Sink, SourceFault, Sources, Texts, folder_of, joined_path};
 use arrayvec::ArrayString;
 use std::io::BufWriter;
 use std::test::Fail;
@@ -82,4 +82,16 @@ fn takes_and_flushes(rt: HostRuntime) -> Result<(), Fail> {
     let writer = counted.into_writer();
     assert!(rt; writer.get_ref().as_slice() == b"q\n".as_slice());
     Ok(())
+}
+
+#[test]
+fn joins_a_name_to_a_folder(rt: HostRuntime) {
+    assert!(rt; folder_of("t/inc/i") == "t/inc/");
+    for (folder, path) in [("", "i"), ("t/", "t/i"), ("t", "t/i")] {
+        let joined = joined_path(folder, "i");
+        assert!(rt;
+            joined.is_some_and(|joined| joined.as_str() == path),
+            "{path}"
+        );
+    }
 }

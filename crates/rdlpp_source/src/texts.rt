@@ -1,11 +1,11 @@
 //! Sources in memory.
-ghost use Rattle.std.specs.Prelude.{◌≡◌, map, min, drop, IfOk, MatchOption, length, ◌<◌};
+ghost use Rattle.std.specs.Prelude.{◌≡◌, map, min, drop, IfOk, length};
 ghost use Rattle.std.specs.Option.{option_copied};
 ghost use Rattle.std.specs.Io.{ReadsAtMost};
 ghost use Rattle.rdlpp_source.specs.Sources.{Gives, Reads};
-ghost use Rattle.rdlpp_source.specs.Search.{folder_of, joined_path, answer_at, first_answer};
+ghost use Rattle.rdlpp_source.specs.Search.{joined_path, answer_at, first_answer};
 
-use crate::{Found, SourceFault, Sources};
+use crate::{Found, SourceFault, Sources, folder_of, joined_path};
 use arrayvec::ArrayString;
 
 /// Sources in memory, by this project's search rule.
@@ -26,29 +26,6 @@ pub struct Texts<'a> {
 #[derive(Drop)]
 pub struct TextReader<'a> {
     left: &'a [u8],
-}
-
-// The folder of a path: all up to and with its last `/`, or nothing.
-fn folder_of(path: &str) -> &str
-    ensures { result.now ≡ folder_of path.now }
-{
-    match path.rfind('/') {
-        Some(at) => &path[..at + 1],
-        None => "",
-    }
-}
-
-// A name joined to a folder, where that has at most 1,024 bytes.
-fn join(folder: &str, name: &str) -> Option<ArrayString<1024>>
-    ensures { MatchOption result (1024 < length (joined_path folder.now name.now))
-        (λ path. path.bytes ≡ joined_path folder.now name.now) }
-{
-    let mut path = ArrayString::from(folder).ok()?;
-    if !folder.is_empty() && !folder.ends_with('/') {
-        path.try_push('/').ok()?;
-    }
-    path.try_push_str(name).ok()?;
-    Some(path)
 }
 
 impl<'a> Texts<'a> {
@@ -84,7 +61,7 @@ impl<'a> Texts<'a> {
     fn open_in(&self, folder: &str, name: &str) -> Result<Found<TextReader<'a>>, SourceFault>
         ensures { Gives left_of (answer_at (text_at self.now) (joined_path folder.now name.now)) result }
     {
-        match join(folder, name) {
+        match joined_path(folder, name) {
             Some(path) => self.open(path),
             None => Err(SourceFault::PathTooLong),
         }

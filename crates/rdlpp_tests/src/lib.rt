@@ -1,5 +1,6 @@
 //! Tests that cross crates: rows of a source with the output and the fault that it must give, readers
-//! and writers that fail or never end, what an engine holds, and the lines that report faults.
+//! and writers that fail or never end, what an engine holds, the lines that report faults, sources over
+//! files, and the words of a command line.
 #![tactic(auto)]
 
 #[cfg(test)]
@@ -9,6 +10,10 @@ mod engine_tests;
 #[cfg(test)]
 mod failure_tests;
 #[cfg(test)]
+mod folder_tests;
+#[cfg(test)]
 mod report_tests;
 #[cfg(test)]
 mod row_tests;
+#[cfg(test)]
+mod word_tests;

@@ -1,0 +1,103 @@
+"""Runs the built program and compares what it does with what is wanted, byte for byte.
+
+The program is out/rdlpp, or what RDLPP names. A check is skipped, and counted so, only where the
+program answers fault 99, 'not built yet', after a beginning of the wanted output, or where the check
+names a need whose probe below isn't met.
+"""
+
+import os
+import pathlib
+import re
+import subprocess
+import sys
+
+ROOT = pathlib.Path(__file__).resolve().parent.parent
+PROGRAM = os.environ.get("RDLPP", str(ROOT / "out" / "rdlpp"))
+UNBUILT = re.compile(rb"[^\n]*: error F99: not built yet\n")
+
+
+class Outcome:
+    """What a run wrote, and its status."""
+
+    def __init__(self, output, faults, status):
+        self.output, self.faults, self.status = output, faults, status
+
+    def __eq__(self, other):
+        return (self.output, self.faults, self.status) == (other.output, other.faults, other.status)
+
+    def is_unbuilt(self, wanted):
+        """Whether the run met what isn't built, after a beginning of the wanted output."""
+        unbuilt = UNBUILT.fullmatch(self.faults) and self.status == 1
+        return bool(unbuilt) and wanted.output.startswith(self.output)
+
+
+def run(words, folder, given=b"", **more):
+    """Runs the program in a folder; its standard input has these bytes."""
+    done = subprocess.run(
+        [PROGRAM, *words], cwd=folder, input=given, capture_output=True, timeout=60, **more
+    )
+    return Outcome(done.stdout, done.stderr, done.returncode)
+
+
+# What a part of the language needs: a command line, a source, and how a program that has it ends.
+PROBES = {
+    "defaults of formals": (["-"], b"`define F(x=1) x\n", (b"\n", b"", 0)),
+    "a limit on the output": (
+        ["--max-output", "0", "-"],
+        b"a\n",
+        (b"", b"-:0: error F35: output bytes passed\n", 1),
+    ),
+}
+
+
+def has(need):
+    """Whether the program has what a probe asks for."""
+    words, source, wanted = PROBES[need]
+    return run(words, "/", source) == Outcome(*wanted)
+
+
+def difference(wanted, got):
+    """How two parts of an outcome differ; texts by what stands around their first difference."""
+    if not isinstance(wanted, bytes):
+        return f"wanted {wanted}, got {got}"
+    ends = [at for at, (a, b) in enumerate(zip(wanted, got)) if a != b]
+    at = ends[0] if ends else min(len(wanted), len(got))
+    around = slice(max(0, at - 40), at + 40)
+    return f"at byte {at} wanted {wanted[around]!r}, got {got[around]!r}"
+
+
+class Tally:
+    """Counts what passed, failed and was skipped, and tells each failure."""
+
+    def __init__(self, name):
+        self.name, self.passed, self.failed, self.skipped = name, 0, 0, 0
+
+    def skip(self):
+        self.skipped += 1
+
+    def hold(self, name, holds, why=""):
+        """Counts a fact that has to hold."""
+        if holds:
+            self.passed += 1
+        else:
+            self.failed += 1
+            print(f"{self.name}: {name}: failed {why}")
+
+    def compare(self, name, wanted, got):
+        """Counts an outcome that has to be the wanted one, or skips what isn't built."""
+        if wanted != got and got.is_unbuilt(wanted):
+            self.skip()
+            return
+        parts = [
+            f"\n  {part}: {difference(getattr(wanted, part), getattr(got, part))}"
+            for part in ("output", "faults", "status")
+            if getattr(wanted, part) != getattr(got, part)
+        ]
+        self.hold(name, not parts, "".join(parts))
+
+    def close(self):
+        """Prints the counts as the last line, and ends with status 1 where a check failed."""
+        if self.skipped:
+            print(f"{self.name}: {self.skipped} skipped, which meet what isn't built yet")
+        print(f"{self.name}: {self.passed} passed, {self.failed} failed")
+        sys.exit(1 if self.failed else 0)

@@ -1,0 +1,287 @@
+//! Sources over files.
+ghost use Rattle.std.specs.Prelude.{◌≡◌, ◌≢◌, ℕ, ◌+◌, ◌-◌, ◌^◌, ◌≤◌, min, List, length, map, Option, Some, IfOk, IfErr, slice_get};
+ghost use Rattle.std.specs.Io.{ReadsAtMost};
+ghost use Rattle.std.specs.Io.KnownBytes.{ReadConsumes};
+ghost use Rattle.rdlpp_source.specs.Counts.{Counts};
+ghost use Rattle.rdlpp_source.specs.Sources.{is_device, is_no_memory};
+ghost use Rattle.rdlpp_source.specs.Search.{candidates, joined_path};
+ghost use Rattle.rdlpp.specs.Answers.{is_absent};
+
+use arrayvec::ArrayString;
+use rdlpp_source::{Found, SourceFault, Sources, folder_of, joined_path};
+use rdlpp_table::NoMemory;
+use std::alloc::Global;
+use std::fs::File;
+use std::io::{ErrorKind, Read};
+use std::rt::Files;
+
+// The main path that stands for standard input.
+const STANDARD_INPUT: &str = "-";
+
+/// Sources over files, by this project's search rule; the main path `-` is standard input.
+///
+/// They don't tell their texts: what a file holds, and which files there are, stands in no contract.
+/// An open that finds nothing at a candidate passes on to the next one; any other failed open ends
+/// the search, with `NoMemory` where memory was refused and else with `Device`. Reads go straight
+/// from the file into the bytes that are asked for.
+#[derive(Drop)]
+pub struct Folders<'r, R> {
+    rt: &'r R,
+    alloc: Global,
+    folders: Vec<String>,
+    failures: u64,
+    refusals: u64,
+}
+
+/// What reads a text of `Folders`.
+#[derive(Drop)]
+pub enum FolderReader<I, F> {
+    /// Standard input.
+    Input(I),
+    /// A file.
+    File(F),
+}
+
+// Whether nothing stands at a candidate.
+fn is_absent<T>(answer: &Result<T, SourceFault>) -> bool
+    ensures { result ≡ is_absent answer.now }
+{
+    matches!(answer, Err(SourceFault::Absent))
+}
+
+// What an open that failed comes to.
+fn open_fault(kind: ErrorKind) -> SourceFault
+    ensures absent { kind ≡ ErrorKind.NotFound → result ≡ SourceFault.Absent }
+    ensures no_memory { kind ≡ ErrorKind.OutOfMemory → result ≡ SourceFault.NoMemory }
+    ensures device { kind ≢ ErrorKind.NotFound → kind ≢ ErrorKind.OutOfMemory → result ≡ SourceFault.Device }
+{
+    match kind {
+        ErrorKind::NotFound => SourceFault::Absent,
+        ErrorKind::OutOfMemory => SourceFault::NoMemory,
+        _ => SourceFault::Device,
+    }
+}
+
+impl<I: Read, F: Read> FolderReader<I, F> {
+    ghost use Rattle.rdlpp.specs.Folders.{unread_bytes};
+
+    // Reads the next bytes into the front of `to`.
+    fn read(&mut self, to: &mut [u8]) -> Result<usize, SourceFault>
+        ensures bound { ReadsAtMost result to.new }
+        ensures only { IfErr result (λ fault. fault ≡ SourceFault.Device) }
+        ensures consumes { ReadConsumes (unread_bytes I.remaining F.remaining self.old)
+            (unread_bytes I.remaining F.remaining self.new) result to.new }
+    {
+        let read = match self {
+            FolderReader::Input(input) => input.read(to),
+            FolderReader::File(file) => file.read(to),
+        };
+        match read {
+            Ok(len) => Ok(len),
+            Err(_) => Err(SourceFault::Device),
+        }
+    }
+}
+
+impl<'r, R: Files + Input> Folders<'r, R> {
+    ghost use Rattle.rdlpp.specs.Folders.{include_folders, device_failures, memory_refusals, searched_folders, OpensPath, SearchesPaths};
+
+    /// Sources over the files of `rt`, with these include folders in the order of the search.
+    ///
+    /// Nothing is opened here. Each later search asks `alloc` for one growth for each candidate but
+    /// standard input.
+    ///
+    /// # Errors
+    /// `NoMemory` where there was no memory for the folders.
+    pub fn new(rt: &'r R, alloc: Global, folders: &[&str]) -> Result<Folders<'r, R>, NoMemory>
+        ensures folders { IfOk result (λ made. include_folders made ≡ map (λ folder. folder.now) folders.now) }
+        ensures failures { IfOk result (λ made. device_failures made ≡ 0) }
+        ensures refusals { IfOk result (λ made. memory_refusals made ≡ 0) }
+    {
+        let mut kept = Vec::new(alloc);
+        for folder in folders {
+            let Ok(folder) = String::from_str(alloc, folder) else {
+                return Err(NoMemory);
+            };
+            if kept.push(folder).is_err() {
+                return Err(NoMemory);
+            }
+        }
+        Ok(Folders {
+            rt,
+            alloc,
+            folders: kept,
+            failures: 0,
+            refusals: 0,
+        })
+    }
+
+    // The file at a path.
+    fn open(
+        &self,
+        path: ArrayString<1024>,
+    ) -> Result<Found<FolderReader<R::Reader, R::File>>, SourceFault>
+        ensures { OpensPath path.bytes result }
+    {
+        if path.as_bytes().contains(&b'\n') {
+            return Err(SourceFault::Absent);
+        }
+        let Ok(candidate) = String::from_str(self.alloc, path.as_str()) else {
+            return Err(SourceFault::NoMemory);
+        };
+        match File::open(self.rt, candidate.as_str()) {
+            Ok(file) => Ok(Found {
+                path,
+                reader: FolderReader::File(file),
+            }),
+            Err(error) => Err(open_fault(error.kind())),
+        }
+    }
+
+    // The main text: standard input, or the file at its path.
+    fn open_main(&self, path: &str) -> Result<Found<FolderReader<R::Reader, R::File>>, SourceFault>
+        ensures { OpensPath path.now result }
+    {
+        let Ok(path) = ArrayString::from(path) else {
+            return Err(SourceFault::PathTooLong);
+        };
+        if path.as_str() == STANDARD_INPUT {
+            let reader = FolderReader::Input(self.rt.reader());
+            return Ok(Found { path, reader });
+        }
+        self.open(path)
+    }
+
+    // The file of a name in a folder.
+    fn open_in(
+        &self,
+        folder: &str,
+        name: &str,
+    ) -> Result<Found<FolderReader<R::Reader, R::File>>, SourceFault>
+        ensures { OpensPath (joined_path folder.now name.now) result }
+    {
+        match joined_path(folder, name) {
+            Some(path) => self.open(path),
+            None => Err(SourceFault::PathTooLong),
+        }
+    }
+
+    // The folder of the candidate at a place, from 0: that of the including source, and then the
+    // include folders.
+    fn searched_folder<'s>(&'s self, from: &'s str, place: usize) -> &'s str
+        requires { place ≤ length (include_folders self.now) }
+        ensures { slice_get (searched_folders (include_folders self.now) from.now) place ≡ Some result.now }
+    {
+        if place == 0 {
+            folder_of(from)
+        } else {
+            self.folders[place - 1].as_str()
+        }
+    }
+
+    // The file of a name in the first of the searched folders that has it.
+    fn search_folders<'s>(
+        &'s self,
+        from: &'s str,
+        name: &str,
+    ) -> Result<Found<FolderReader<R::Reader, R::File>>, SourceFault>
+        ensures { SearchesPaths (map (λ folder. joined_path folder name.now)
+            (searched_folders (include_folders self.now) from.now)) result }
+    {
+        for place in 0..self.folders.len() + 1 {
+            let answer = self.open_in(self.searched_folder(from, place), name);
+            if !is_absent(&answer) {
+                return answer;
+            }
+        }
+        Err(SourceFault::Absent)
+    }
+
+    // The file of a name that a source includes.
+    fn search(
+        &self,
+        from: &str,
+        name: &str,
+    ) -> Result<Found<FolderReader<R::Reader, R::File>>, SourceFault>
+        ensures { SearchesPaths (candidates (include_folders self.now) from.now name.now) result }
+    {
+        if name.starts_with('/') {
+            return self.open_in("", name);
+        }
+        self.search_folders(from, name)
+    }
+
+    // Counts the failure or the refusal that an answer tells, and gives the answer.
+    fn counted<T>(&mut self, answer: Result<T, SourceFault>) -> Result<T, SourceFault>
+        ensures answer { result ≡ answer }
+        ensures failures { Counts (is_device answer) (device_failures self.old) (device_failures self.new) }
+        ensures refusals { Counts (is_no_memory answer) (memory_refusals self.old) (memory_refusals self.new) }
+        ensures folders { include_folders self.new ≡ include_folders self.old }
+    {
+        match &answer {
+            Err(SourceFault::Device) => self.failures = self.failures.saturating_add(1),
+            Err(SourceFault::NoMemory) => self.refusals = self.refusals.saturating_add(1),
+            _ => {}
+        }
+        answer
+    }
+}
+
+impl<'r, R: Files + Input> Sources for Folders<'r, R> {
+    type Reader = FolderReader<R::Reader, R::File>;
+
+    ghost use Rattle.std.specs.Prelude.{[]};
+    ghost use Rattle.rdlpp_source.specs.Sources.{Missing};
+    ghost use Rattle.rdlpp.specs.Folders.{include_folders, device_failures, memory_refusals, unread_bytes, OpensPath, SearchesPaths};
+
+    ghost tells = { λ _. ⊥ };
+
+    ghost catalog = { λ _. record { top = λ _. Missing; find = λ _ _. Missing } };
+
+    ghost unread = { λ _. [] };
+
+    ghost failures = { device_failures };
+
+    ghost refusals = { memory_refusals };
+
+    fn top(&mut self, path: &str) -> Result<Found<FolderReader<R::Reader, R::File>>, SourceFault>
+        ensures path { OpensPath path.now result }
+        ensures folders { include_folders self.new ≡ include_folders self.old }
+        ensures failures { Counts (is_device result) (device_failures self.old) (device_failures self.new) }
+        ensures refusals { Counts (is_no_memory result) (memory_refusals self.old) (memory_refusals self.new) }
+    {
+        let answer = self.open_main(path);
+        self.counted(answer)
+    }
+
+    fn find(
+        &mut self,
+        from: &str,
+        name: &str,
+    ) -> Result<Found<FolderReader<R::Reader, R::File>>, SourceFault>
+        ensures path { SearchesPaths (candidates (include_folders self.old) from.now name.now) result }
+        ensures folders { include_folders self.new ≡ include_folders self.old }
+        ensures failures { Counts (is_device result) (device_failures self.old) (device_failures self.new) }
+        ensures refusals { Counts (is_no_memory result) (memory_refusals self.old) (memory_refusals self.new) }
+    {
+        let answer = self.search(from, name);
+        self.counted(answer)
+    }
+
+    fn read(
+        &mut self,
+        reader: &mut FolderReader<R::Reader, R::File>,
+        to: &mut [u8],
+    ) -> Result<usize, SourceFault>
+        ensures bound { ReadsAtMost result to.new }
+        ensures only { IfErr result (λ fault. fault ≡ SourceFault.Device) }
+        ensures consumes { ReadConsumes (unread_bytes R.Reader.remaining R.File.remaining reader.old)
+            (unread_bytes R.Reader.remaining R.File.remaining reader.new) result to.new }
+        ensures folders { include_folders self.new ≡ include_folders self.old }
+        ensures failures { Counts (is_device result) (device_failures self.old) (device_failures self.new) }
+        ensures refusals { memory_refusals self.new ≡ memory_refusals self.old }
+    {
+        let answer = reader.read(to);
+        self.counted(answer)
+    }
+}
