@@ -1,66 +1,144 @@
 -- A macro that is to be stored, in the lists of a table.
-use Rattle.std.proofs.Common.{◌≡◌, ℕ, ◌+◌, Bool, true, List, [], ◌++◌, length, drop, Option, Some, None, Ok, option_map, unwrap_or, sum_by, refl, ap, sym, ◌∙◌, arith, append_assoc}
-use Rattle.std.proofs.lemmas.List.{drop_at}
+use Rattle.std.proofs.Common.{◌≡◌, ℕ, ◌+◌, ◌<◌, Bool, true, false, cond, List, [], ◌∷◌, ◌++◌, length, get_or, drop, eqb, slice_range, Option, Ok, Some, None, is_some, option_map, unwrap_or, sum_by, refl, ap, sym, ◌∙◌, arith, append_assoc, append-nil, length-append, inl, inr}
+use Rattle.std.specs.List.{flat_map}
+use Rattle.std.proofs.lemmas.Bool.{cases_Bool, cond-true, cond-false}
+use Rattle.std.proofs.lemmas.List.{drop_at, nil_from_length}
 use Rattle.rdlpp_table.specs.Stops.{is_copied, is_none, stop_of}
+use Rattle.rdlpp_table.proofs.RoundTrip.{between_parts, read_list}
 use Rattle.rdlpp_table.specs.declared.entry.Entry.{Entry}
 use Rattle.rdlpp_table.specs.declared.body.Inside.TheVariants.{Text}
-use Rattle.rdlpp_table.specs.Table.{Formal, formal_size, macro_bytes, macro_size}
-use Rattle.rdlpp_table.specs.Bodies.{Cleared, Sound, Unsound, body_left, body_len, cleared, joined}
-use Rattle.rdlpp_table.specs.Store.{entry_of, formals_from, is_plain_macro, list_size}
-use Rattle.rdlpp_table.specs.New.{new_macro, IsList, IsNew}
-use Rattle.rdlpp_table.proofs.Sizes.{length_list_bytes}
+use Rattle.rdlpp_table.specs.Table.{Formal, formal_bytes, formal_size, macro_bytes, macro_size}
+use Rattle.rdlpp_table.specs.Define.{FormalList, Listed, after_space, formals_in, formals_of_list}
+use Rattle.rdlpp_table.specs.Bodies.{Cleared, Sound, Unsound, trimmed_left, trimmed_len, trims, start_level, cleared, joined}
+use Rattle.std.specs.List.{list_all}
+use Rattle.rdlpp_table.specs.Formals.{IsRead, listed}
+use Rattle.rdlpp_table.specs.Store.{entry_of, formals_read, is_plain_formal, is_plain_macro, list_size}
+use Rattle.rdlpp_table.specs.New.{list_formals, new_macro, IsList, IsNew}
 
-left_len : (c : Cleared) (len : ℕ) → body_len c ≡ Ok len → length (body_left c) ≡ len
-unfolding body_len body_left
-left_len (Sound rest) len e = cc
+left_len : (c : Cleared) (len : ℕ) → trimmed_len (trims false) c ≡ Ok len → length (trimmed_left (trims false) c) ≡ len
+unfolding trimmed_len trimmed_left
+left_len (Sound rest last) len e = cc
 left_len (Unsound fault) len e = absurd (cc)
 
--- the formals of a macro that is to be stored
-abbrev formals_new : Option ℕ → List ℕ → Option (List Formal)
-formals_new arity list = option_map (λ (n : ℕ). formals_from [] list) arity
+-- what is left of a body's text
+abbrev pub body_of_text : Bool → List ℕ → List ℕ
+body_of_text is_logical text = trimmed_left (trims false) (cleared None Text (joined is_logical text))
 
-list_len : (name : List ℕ) (arity : Option ℕ) (list : List ℕ) → IsList name arity list → sum_by formal_size (unwrap_or (formals_new arity list) []) ≡ length list
-list_len name arity list l = sym (length_list_bytes (unwrap_or (formals_new arity list) [])) ∙ ap length l.list_is
-
-pub new_size : (name : List ℕ) (arity : Option ℕ) (list : List ℕ) (is_logical : Bool) (text : List ℕ) (len : ℕ) → IsNew name arity list is_logical text len → macro_size (new_macro name arity list is_logical text) ≡ length name + (length list + len)
+pub new_size : (name : List ℕ) (arity : Option ℕ) (list : List ℕ) (size : ℕ) (is_logical : Bool) (text : List ℕ) (len : ℕ) → IsNew name arity list size is_logical text len → macro_size (new_macro name arity list is_logical text) ≡ length name + (size + len)
 unfolding macro_size
-new_size name arity list is_logical text len n =
-    omega (arith, list_len name arity list n.listed, left_len (cleared Text (joined is_logical text)) len n.body_is)
+new_size name arity list size is_logical text len n =
+    omega (arith, n.listed.size_is, left_len (cleared None Text (joined is_logical text)) len n.body_is)
 
-pub new_bytes : (bytes named listed done name : List ℕ) (arity : Option ℕ) (list : List ℕ) (is_logical : Bool) (text : List ℕ) (len : ℕ) → IsNew name arity list is_logical text len → named ≡ bytes ++ name → listed ≡ named ++ list → done ≡ listed ++ body_left (cleared Text (joined is_logical text)) → done ≡ bytes ++ macro_bytes (new_macro name arity list is_logical text)
+pub new_bytes : (bytes named listed done name : List ℕ) (arity : Option ℕ) (list : List ℕ) (is_logical : Bool) (text : List ℕ) → named ≡ bytes ++ name → listed ≡ named ++ flat_map formal_bytes (unwrap_or (list_formals arity list) []) → done ≡ listed ++ body_of_text is_logical text → done ≡ bytes ++ macro_bytes (new_macro name arity list is_logical text)
 unfolding macro_bytes
-new_bytes bytes named listed done name arity list is_logical text len n e f g =
-    let body : List ℕ = body_left (cleared Text (joined is_logical text)) in
+new_bytes bytes named listed done name arity list is_logical text e f g =
+    let body : List ℕ = body_of_text is_logical text in
+    let formals : List ℕ = flat_map formal_bytes (unwrap_or (list_formals arity list) []) in
     g
-    ∙ (ap (λ (l : List ℕ). l ++ body) (f ∙ ap (λ (l : List ℕ). l ++ list) e)
-    ∙ (append_assoc (bytes ++ name) list body
-    ∙ (append_assoc bytes name (list ++ body)
-    ∙ ap (λ (l : List ℕ). bytes ++ (name ++ (l ++ body))) (sym n.listed.list_is))))
+    ∙ (ap (λ (l : List ℕ). l ++ body) (f ∙ ap (λ (l : List ℕ). l ++ formals) e)
+    ∙ (append_assoc (bytes ++ name) formals body
+    ∙ append_assoc bytes name (formals ++ body)))
 
--- the formals of a macro that is to be stored are those of its list
-listed_formals : (name : List ℕ) (arity : Option ℕ) (list : List ℕ) → IsList name arity list → formals_from [] list ≡ unwrap_or (formals_new arity list) []
-unfolding formals_from
-listed_formals name None list l = ap (formals_from []) (sym l.list_is)
-listed_formals name (Some n) list l = refl
+-- the formals of a macro that is to be stored are read back from their bytes
+count_of : (o : Option (List Formal)) (arity : Option ℕ) → option_map length o ≡ arity → unwrap_or arity 0 ≡ length (unwrap_or o [])
+count_of None arity e = ap (λ (a : Option ℕ). unwrap_or a 0) (sym e)
+count_of (Some fs) arity e = ap (λ (a : Option ℕ). unwrap_or a 0) (sym e)
 
--- whether its body is copied is told by its list and its body
-pub new_copied : (name : List ℕ) (arity : Option ℕ) (list : List ℕ) (is_logical : Bool) (text : List ℕ) (front bytes body : List ℕ) (copied : Bool) → IsList name arity list → bytes ≡ front ++ body_left (cleared Text (joined is_logical text)) → body ≡ drop (length front) bytes → copied ≡ is_none (stop_of (formals_from [] list) 0 body) → copied ≡ is_copied (new_macro name arity list is_logical text)
+same_formals : (arity : Option ℕ) (list : List ℕ) (size : ℕ) → IsList arity list size → formals_read (unwrap_or arity 0) (flat_map formal_bytes (unwrap_or (list_formals arity list) [])) ≡ unwrap_or (list_formals arity list) []
+same_formals arity list size l =
+    ap (λ (n : ℕ). formals_read n (flat_map formal_bytes (unwrap_or (list_formals arity list) []))) (count_of (list_formals arity list) arity l.arity_is)
+    ∙ read_list (unwrap_or (list_formals arity list) []) l.plain
+
+-- whether its body is copied is told by its formals and its body
+pub new_copied : (name : List ℕ) (arity : Option ℕ) (list : List ℕ) (size : ℕ) (is_logical : Bool) (text named listed all : List ℕ) (from to count : ℕ) (copied : Bool) → IsList arity list size → listed ≡ named ++ flat_map formal_bytes (unwrap_or (list_formals arity list) []) → all ≡ listed ++ body_of_text is_logical text → from ≡ length named → to ≡ length listed → count ≡ unwrap_or arity 0 → copied ≡ is_none (stop_of (formals_read count (slice_range all from to)) 0 (drop to all)) → copied ≡ is_copied (new_macro name arity list is_logical text)
 unfolding is_copied
-new_copied name arity list is_logical text front bytes body copied l e f h =
+new_copied name arity list size is_logical text named listed all from to count copied l e f i j n h =
+    let formals : List Formal = unwrap_or (list_formals arity list) [] in
+    let body : List ℕ = body_of_text is_logical text in
+    let whole : all ≡ named ++ (flat_map formal_bytes formals ++ body) = f ∙ (ap (λ (x : List ℕ). x ++ body) e ∙ append_assoc named (flat_map formal_bytes formals) body) in
+    let slice : slice_range all from to ≡ flat_map formal_bytes formals =
+    ap (λ (x : List ℕ). slice_range x from to) whole ∙ between_parts named (flat_map formal_bytes formals) body from to (sym i) (omega (arith, i, j, ap (length {A = ℕ}) e, length-append named (flat_map formal_bytes formals))) in
+    let rest : drop to all ≡ body = ap (drop to) f ∙ drop_at listed body to (sym j) in
     h
-    ∙ (ap (λ (b : List ℕ). is_none (stop_of (formals_from [] list) 0 b)) (f ∙ (ap (drop (length front)) e ∙ drop_at front (body_left (cleared Text (joined is_logical text))) (length front) refl))
-    ∙ ap (λ (fs : List Formal). is_none (stop_of fs 0 (body_left (cleared Text (joined is_logical text))))) (listed_formals name arity list l))
+    ∙ (ap (λ (x : List ℕ). is_none (stop_of (formals_read count (slice_range all from to)) 0 x)) rest
+    ∙ (ap (λ (x : List ℕ). is_none (stop_of (formals_read count x) 0 body)) slice
+    ∙ (ap (λ (k : ℕ). is_none (stop_of (formals_read k (flat_map formal_bytes formals)) 0 body)) n
+    ∙ ap (λ (fs : List Formal). is_none (stop_of fs 0 body)) (same_formals arity list size l))))
 
-pub new_entry : (start : ℕ) (name : List ℕ) (arity : Option ℕ) (list : List ℕ) (is_logical : Bool) (text : List ℕ) (len : ℕ) (copied : Bool) → IsNew name arity list is_logical text len → copied ≡ is_copied (new_macro name arity list is_logical text) → (let e : Entry = record { start = start; name_len = length name; list_len = length list; body_len = len; arity = arity; is_copied = copied } in e) ≡ entry_of start (new_macro name arity list is_logical text)
+pub new_entry : (start : ℕ) (name : List ℕ) (arity : Option ℕ) (list : List ℕ) (size : ℕ) (is_logical : Bool) (text : List ℕ) (len : ℕ) (copied : Bool) → IsNew name arity list size is_logical text len → copied ≡ is_copied (new_macro name arity list is_logical text) → (let e : Entry = record { start = start; name_len = length name; list_len = size; body_len = len; arity = arity; is_copied = copied } in e) ≡ entry_of start (new_macro name arity list is_logical text)
 unfolding entry_of list_size
-new_entry start name arity list is_logical text len copied n h =
-    let body : ℕ = length (body_left (cleared Text (joined is_logical text))) in
-    let size : ℕ = sum_by formal_size (unwrap_or (formals_new arity list) []) in
-    ap (λ (k : ℕ). let e : Entry = record { start = start; name_len = length name; list_len = k; body_len = len; arity = arity; is_copied = copied } in e) (sym (list_len name arity list n.listed))
-    ∙ (ap (λ (k : ℕ). let e : Entry = record { start = start; name_len = length name; list_len = size; body_len = k; arity = arity; is_copied = copied } in e) (sym (left_len (cleared Text (joined is_logical text)) len n.body_is))
-    ∙ (ap (λ (a : Option ℕ). let e : Entry = record { start = start; name_len = length name; list_len = size; body_len = body; arity = a; is_copied = copied } in e) (sym n.listed.arity_is)
-    ∙ ap (λ (b : Bool). let e : Entry = record { start = start; name_len = length name; list_len = size; body_len = body; arity = option_map length (formals_new arity list); is_copied = b } in e) h))
+new_entry start name arity list size is_logical text len copied n h =
+    let body : ℕ = length (body_of_text is_logical text) in
+    let sum : ℕ = sum_by formal_size (unwrap_or (list_formals arity list) []) in
+    ap (λ (k : ℕ). let e : Entry = record { start = start; name_len = length name; list_len = k; body_len = len; arity = arity; is_copied = copied } in e) (sym n.listed.size_is)
+    ∙ (ap (λ (k : ℕ). let e : Entry = record { start = start; name_len = length name; list_len = sum; body_len = k; arity = arity; is_copied = copied } in e) (sym (left_len (cleared None Text (joined is_logical text)) len n.body_is))
+    ∙ (ap (λ (a : Option ℕ). let e : Entry = record { start = start; name_len = length name; list_len = sum; body_len = body; arity = a; is_copied = copied } in e) (sym n.listed.arity_is)
+    ∙ ap (λ (b : Bool). let e : Entry = record { start = start; name_len = length name; list_len = sum; body_len = body; arity = option_map length (list_formals arity list); is_copied = b } in e) h))
 
-pub new_plain : (name : List ℕ) (arity : Option ℕ) (list : List ℕ) (is_logical : Bool) (text : List ℕ) → IsList name arity list → is_plain_macro (new_macro name arity list is_logical text) ≡ true
+pub new_plain : (name : List ℕ) (arity : Option ℕ) (list : List ℕ) (size : ℕ) (is_logical : Bool) (text : List ℕ) → IsList arity list size → is_plain_macro (new_macro name arity list is_logical text) ≡ true
 unfolding is_plain_macro
-new_plain name arity list is_logical text l = l.plain
+new_plain name arity list size is_logical text l = l.plain
+
+-- a list without formals
+no_length : (o : Option (List Formal)) → unwrap_or (option_map length o) 0 ≡ 0 → unwrap_or o [] ≡ []
+no_length None e = refl
+no_length (Some fs) e = nil_from_length fs e
+
+pub no_formals : (arity : Option ℕ) (list : List ℕ) (size : ℕ) (items : List ℕ) → IsList arity list size → unwrap_or arity 0 ≡ 0 → items ≡ items ++ flat_map formal_bytes (unwrap_or (list_formals arity list) [])
+no_formals arity list size items l e =
+    sym (ap (λ (fs : List Formal). items ++ flat_map formal_bytes fs) (no_length (list_formals arity list) (ap (λ (o : Option ℕ). unwrap_or o 0) l.arity_is ∙ e)) ∙ append-nil items)
+
+-- a list that has formals
+pub record HasFormals (arity : Option ℕ) (list : List ℕ) : Type 0 where
+  pub is_read : is_some (listed (formals_in 255 [] (joined true list))) ≡ true
+  pub same : unwrap_or (list_formals arity list) [] ≡ unwrap_or (listed (formals_in 255 [] (joined true list))) []
+
+by_length : (o : Option (List Formal)) (n : ℕ) → option_map length o ≡ Some n → is_some o ≡ true
+by_length None n e = absurd (cc)
+by_length (Some fs) n e = refl
+
+listed_count : (text : List ℕ) (n : ℕ) → option_map length (listed (formals_of_list text)) ≡ Some n → 0 < n → formals_of_list text ≡ formals_in 255 [] text
+unfolding formals_of_list listed
+listed_count text n e h = elim (cases_Bool (eqb (get_or (after_space text) 0 0) 41)) [
+  | inl c ↦
+      let k : Some 0 ≡ Some n = sym (ap (λ (l : FormalList). option_map length (listed l)) (cond-true _ (Listed (Some []) (drop 1 (after_space text))) (formals_in 255 [] text) c)) ∙ e in
+      let z : 0 ≡ n = cc in
+      absurd (omega arith)
+  | inr c ↦ cond-false _ _ _ c
+]
+
+pub has_formals : (arity : Option ℕ) (list : List ℕ) (size : ℕ) → IsList arity list size → 0 < unwrap_or arity 0 → HasFormals arity list
+unfolding list_formals
+has_formals None list size l h = absurd (omega arith)
+has_formals (Some n) list size l h =
+    let e : formals_of_list (joined true list) ≡ formals_in 255 [] (joined true list) = listed_count (joined true list) n l.arity_is h in
+    record {
+      is_read = ap (λ (x : FormalList). is_some (listed x)) (sym e) ∙ by_length (listed (formals_of_list (joined true list))) n l.arity_is;
+      same = ap (λ (x : FormalList). unwrap_or (listed x) []) e;
+    }
+
+-- what is appended of a body's text is what is left of it
+pub body_is : (is_logical : Bool) (text : List ℕ) → trimmed_left (trims false) (cleared (start_level false) Text (joined is_logical text)) ≡ body_of_text is_logical text
+unfolding start_level
+body_is is_logical text = refl
+
+-- a list that was read
+pub list_is : (list behind : List ℕ) (count size : ℕ) → (formals : List Formal) × IsRead (formals_of_list (joined true list)) behind count size formals → (IsList (Some count) list size) × (formals_of_list (joined true list) ≡ Listed (list_formals (Some count) list) behind)
+unfolding list_formals listed
+list_is list behind count size r =
+    let e : listed (formals_of_list (joined true list)) ≡ Some r.0 = ap listed r.1.is in (
+      record {
+        size_is = ap (λ (o : Option (List Formal)). sum_by formal_size (unwrap_or o [])) e ∙ r.1.size_is;
+        arity_is = ap (option_map length) e ∙ ap Some r.1.count_is;
+        plain = ap (λ (o : Option (List Formal)). list_all is_plain_formal (unwrap_or o [])) e ∙ r.1.plain;
+      },
+      r.1.is ∙ ap (λ (o : Option (List Formal)). Listed o behind) (sym e),
+    )
+
+pub no_list_is : (list : List ℕ) → IsList None list 0
+unfolding list_formals
+no_list_is list = record { size_is = refl; arity_is = refl; plain = refl }
+
+pub no_list_formals : (list : List ℕ) → list_formals None list ≡ None
+unfolding list_formals
+no_list_formals list = refl

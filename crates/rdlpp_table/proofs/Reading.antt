@@ -1,116 +1,322 @@
--- A formal list as it is read, one part after another.
-use Rattle.std.proofs.Common.{◌≡◌, ℕ, Bool, ◌||◌, ne_eqb, ◌+◌, ◌<◌, List, [], ◌∷◌, ◌++◌, length, eqb, Some, None, refl, ap, sym, ◌∙◌, arith, subst, false}
-use Rattle.rdlpp_table.specs.Table.{Formal}
-use Rattle.rdlpp_table.specs.Define.{Listed, Unlisted, after_space, formals_of_list, list_text}
-use Rattle.rdlpp_table.specs.Store.{formals_from}
-use Rattle.rdlpp_table.specs.New.{IsList}
-use Rattle.rdlpp_table.specs.Formals.{AreFormals, IsPart, formal_fault, formals_behind}
+-- A formal list as it is read, one formal after another.
+use Rattle.std.proofs.Common.{◌≡◌, ℕ, zero, suc, ◌+◌, ◌-◌, ◌<◌, ◌≤◌, Bool, true, false, cond, not, ◌&&◌, ◌||◌, List, [], ◌∷◌, ◌++◌, length, map, take, drop, get_or, eqb, ltb, leb, bytes_eq, is_some, sum_by, unwrap_or, length-append, append_assoc, Option, Some, None, refl, ap, sym, ◌∙◌, arith, inl, inr, ◌⊎◌, one-add}
+use Rattle.std.specs.List.{flat_map, list_any, list_all, prefix_len}
+use Rattle.std.proofs.lemmas.Bool.{cases_Bool, cond-true, cond-false, and_from, leb-true, leb-false, false≢true, eqb-true}
+use Rattle.std.proofs.lemmas.Grind.{flat_map-append}
+use Rattle.std.proofs.lemmas.List.{append-nil, map-append, length-map}
+use Rattle.std.proofs.lemmas.List.Folds.{list_all-append}
+use Rattle.std.proofs.lemmas.List.Sums.{sum_by-cons, sum_by-append}
+use Rattle.rdlpp_scan.specs.Bytes.{is_letter, is_digit, is_word}
+use Rattle.rdlpp_table.specs.Table.{Formal, default_size, formal_bytes, formal_size}
+use Rattle.rdlpp_table.specs.Define.{FormalList, Listed, Unlisted, OneFormal, Good, Bad, DefaultText, after_space, behind_name, default_in, formal_fault, formal_in, formal_name, formals_in, formals_of_list, is_nothing, leading_name, with_default}
+use Rattle.rdlpp_table.proofs.Agrees.{apart}
+use Rattle.rdlpp_table.specs.Store.{is_default, is_name_byte, is_plain_formal}
+use Rattle.rdlpp_table.specs.Formals.{IsDefault, IsPart, IsRead, behind_told, default_left, fault_behind, formal_told, is_told, listed}
 use Rattle.rdlpp_table.specs.declared.fault.DefineKind.{DefineKind}
 use Rattle.rdlpp_table.specs.declared.fault.DefineKind.TheVariants as kind
-use Rattle.rdlpp_table.proofs.Gathered.{IsFaultless, IsGathered, faultless, gathers, no_formals_are}
-use Rattle.rdlpp_table.proofs.Parts.{ends_part}
-use Rattle.rdlpp_table.proofs.Turns.{empty_list, formals_list, open_list, turn_closer, turn_comma, turn_fault, turn_none, turn_other}
 
--- the formals in these bytes, and those of the rest of a text, are those of the text
-pub record IsRead (text rest list : List ℕ) (count : ℕ) : Type 0 where
-  pub same : formals_behind (formals_from [] list) rest ≡ formals_behind [] text
-  pub are : AreFormals list count
+-- a list by its first formal
+pub list_full : (before : List Formal) (text : List ℕ) → formals_in 0 before text ≡ Unlisted (unwrap_or (formal_fault before (formal_name text)) kind.TooManyFormals)
+unfolding formals_in
+list_full before text = refl
 
-no_formals_from : formals_from [] [] ≡ []
-unfolding formals_from
-no_formals_from = refl
+abbrev pub list_by : ℕ → List Formal → OneFormal → FormalList
+list_by room before o = elim o [
+  | Bad k ↦ Unlisted k
+  | Good f behind ↦ cond (eqb (get_or behind 0 0) 44) (formals_in room (before ++ f ∷ []) (drop 1 behind))
+      (cond (eqb (get_or behind 0 0) 41) (Listed (Some (before ++ f ∷ [])) (drop 1 behind)) (Unlisted kind.BadFormals))
+]
 
-pub starts : (text list : List ℕ) → list ≡ [] → IsRead text text list 0
-starts text list e = record {
-  same = ap (λ (l : List ℕ). formals_behind (formals_from [] l) text) e ∙ ap (λ (fs : List Formal). formals_behind fs text) no_formals_from;
-  are = no_formals_are list e;
-}
+pub list_step : (room : ℕ) (before : List Formal) (text : List ℕ) → formals_in (suc room) before text ≡ list_by room before (formal_in before text)
+unfolding formals_in
+list_step room before text = refl
 
--- a formal was found in a part, and is it sound
-pub record IsFound (text rest list slice name behind : List ℕ) (count : ℕ) : Type 0 where
-  pub read : IsRead text rest list count
-  pub slice_is : slice ≡ list
-  pub part : IsPart rest name behind
+abbrev pub formal_by : Option DefineKind → List ℕ → Option DefaultText → OneFormal
+formal_by o name d = elim o [ Some k ↦ Bad k | None ↦ with_default name d ]
 
-pub counted : (text rest list slice : List ℕ) (count : ℕ) → IsRead text rest list count → slice ≡ list → length (formals_from [] slice) ≡ count
-counted text rest list slice count r e = ap (λ (l : List ℕ). length (formals_from [] l)) e ∙ r.are.count_is
+pub in_by : (before : List Formal) (text : List ℕ) → formal_in before text ≡ formal_by (formal_fault before (formal_name text)) (formal_name text) (default_in (behind_name text))
+unfolding formal_in
+in_by before text = refl
 
-pub read_fault : (text rest list slice name behind : List ℕ) (count : ℕ) (k : DefineKind) → IsFound text rest list slice name behind count → Some k ≡ formal_fault (formals_from [] slice) name → formals_behind [] text ≡ Unlisted k
-read_fault text rest list slice name behind count k f e =
+name_of : (text name behind : List ℕ) → IsPart text name behind → formal_name text ≡ name
+unfolding formal_name
+name_of text name behind p = sym p.name_is
+
+behind_of : (text name behind : List ℕ) → IsPart text name behind → behind_name text ≡ behind
+unfolding behind_name
+behind_of text name behind p = ap (λ (n : List ℕ). after_space (drop (length n) (after_space text))) (name_of text name behind p) ∙ sym p.behind_is
+
+pub part_by : (before : List Formal) (text name behind : List ℕ) → IsPart text name behind → formal_in before text ≡ formal_by (formal_fault before name) name (default_in behind)
+part_by before text name behind p =
+    in_by before text
+    ∙ (ap (λ (n : List ℕ). formal_by (formal_fault before n) n (default_in (behind_name text))) (name_of text name behind p)
+    ∙ ap (λ (x : List ℕ). formal_by (formal_fault before name) name (default_in x)) (behind_of text name behind p))
+
+-- the fault of a name, by the names before it
+any_mapped : {X : Type 0} (f : X → List ℕ) (xs : List X) (name : List ℕ) → list_any (λ n. bytes_eq n name) (map f xs) ≡ list_any (λ x. bytes_eq (f x) name) xs
+any_mapped f [] name = refl
+any_mapped f (x ∷ xs) name = ap (λ (t : Bool). bytes_eq (f x) name || t) (any_mapped f xs name)
+
+abbrev pub three : Bool → Bool → Bool → Option DefineKind
+three a b c = cond a (Some kind.BadFormals) (cond b (Some kind.NameTooLong) (cond c (Some kind.FormalTwice) None))
+
+abbrev four : Bool → Bool → Bool → Bool → Option DefineKind
+four a b c d = cond a (Some kind.BadFormals) (cond b (Some kind.NameTooLong) (cond c (Some kind.FormalTwice) (cond d (Some kind.TooManyFormals) None)))
+
+four_none : (a b c d : Bool) → four a b c d ≡ None → (three a b c ≡ None) × (d ≡ false) × (b ≡ false)
+four_none true b c d e = absurd (cc)
+four_none false true c d e = absurd (cc)
+four_none false false true d e = absurd (cc)
+four_none false false false true e = absurd (cc)
+four_none false false false false e = (refl, refl, refl)
+
+four_some : (a b c d : Bool) (k : DefineKind) → four a b c d ≡ Some k → (three a b c ≡ Some k) ⊎ ((three a b c ≡ None) × (d ≡ true) × (k ≡ kind.TooManyFormals))
+four_some true b c d k e = inl e
+four_some false true c d k e = inl e
+four_some false false true d k e = inl e
+four_some false false false true k e = inr (refl, refl, cc)
+four_some false false false false k e = absurd (cc)
+
+fault_four : (before : List Formal) (name : List ℕ) → fault_behind (map (λ (f : Formal). f.name) before) name ≡ four (is_nothing name) (ltb 128 (length name)) (list_any (λ (f : Formal). bytes_eq f.name name) before) (leb 255 (length before))
+unfolding fault_behind
+fault_four before name =
+    ap (λ (t : Bool). four (is_nothing name) (ltb 128 (length name)) t (leb 255 (length (map (λ (f : Formal). f.name) before)))) (any_mapped (λ (f : Formal). f.name) before name)
+    ∙ ap (λ (n : ℕ). four (is_nothing name) (ltb 128 (length name)) (list_any (λ (f : Formal). bytes_eq f.name name) before) (leb 255 n)) (length-map before (λ (f : Formal). f.name))
+
+pub fault_three : (before : List Formal) (name : List ℕ) → formal_fault before name ≡ three (is_nothing name) (ltb 128 (length name)) (list_any (λ (f : Formal). bytes_eq f.name name) before)
+unfolding formal_fault
+fault_three before name = refl
+
+-- a name without a fault
+record IsFaultless (before : List Formal) (name : List ℕ) : Type 0 where
+  fault : formal_fault before name ≡ None
+  few : length before < 255
+
+faultless : (before : List Formal) (name : List ℕ) → fault_behind (map (λ (f : Formal). f.name) before) name ≡ None → IsFaultless before name
+faultless before name e =
+    let f = four_none (is_nothing name) (ltb 128 (length name)) (list_any (λ (f : Formal). bytes_eq f.name name) before) (leb 255 (length before)) (sym (fault_four before name) ∙ e) in
+    record { fault = fault_three before name ∙ f.0; few = leb-false _ _ f.1 }
+
+-- a list whose next formal has a fault in its name
+refused_at : (room : ℕ) (before : List Formal) (text name behind : List ℕ) (k : DefineKind) → IsPart text name behind → formal_fault before name ≡ Some k → formals_in room before text ≡ Unlisted k
+refused_at zero before text name behind k p e =
+    list_full before text ∙ (ap (λ (n : List ℕ). Unlisted (unwrap_or (formal_fault before n) kind.TooManyFormals)) (name_of text name behind p) ∙ ap (λ (o : Option DefineKind). Unlisted (unwrap_or o kind.TooManyFormals)) e)
+refused_at (suc room) before text name behind k p e =
+    list_step room before text ∙ ap (list_by room before) (part_by before text name behind p ∙ ap (λ (o : Option DefineKind). formal_by o name (default_in behind)) e)
+
+full_at : (room : ℕ) (before : List Formal) (text name behind : List ℕ) → room ≡ 0 → IsPart text name behind → formal_fault before name ≡ None → formals_in room before text ≡ Unlisted kind.TooManyFormals
+full_at room before text name behind z p e =
+    ap (λ (n : ℕ). formals_in n before text) z
+    ∙ (list_full before text ∙ (ap (λ (n : List ℕ). Unlisted (unwrap_or (formal_fault before n) kind.TooManyFormals)) (name_of text name behind p) ∙ ap (λ (o : Option DefineKind). Unlisted (unwrap_or o kind.TooManyFormals)) e))
+
+fault_at : (before : List Formal) (text name behind : List ℕ) (k : DefineKind) → IsPart text name behind → fault_behind (map (λ (f : Formal). f.name) before) name ≡ Some k → formals_in (255 - length before) before text ≡ Unlisted k
+fault_at before text name behind k p e =
+    elim (four_some (is_nothing name) (ltb 128 (length name)) (list_any (λ (f : Formal). bytes_eq f.name name) before) (leb 255 (length before)) k (sym (fault_four before name) ∙ e)) [
+      | inl f ↦ refused_at (255 - length before) before text name behind k p (fault_three before name ∙ f)
+      | inr f ↦
+          let z : 255 - length before ≡ 0 = omega (arith, leb-true 255 (length before) f.1) in
+          full_at (255 - length before) before text name behind z p (fault_three before name ∙ f.0) ∙ ap Unlisted (sym f.2)
+    ]
+
+-- a formal with its default text
+abbrev pub formal_with : List ℕ → List ℕ → Formal
+formal_with name from = record { name = name; text = default_left from }
+
+good_by : (name from behind : List ℕ) (size : ℕ) (d : Option DefaultText) → IsDefault d from behind size → with_default name d ≡ Good (formal_with name from) behind
+unfolding with_default
+good_by name from behind size d i = ap (with_default name) i.is
+
+none_by : (name : List ℕ) → with_default name None ≡ Bad kind.BadFormals
+unfolding with_default
+none_by name = refl
+
+pub good_at : (before : List Formal) (text name tail from behind : List ℕ) (size : ℕ) → IsPart text name tail → formal_fault before name ≡ None → IsDefault (default_in tail) from behind size → formal_in before text ≡ Good (formal_with name from) behind
+good_at before text name tail from behind size p e d =
+    part_by before text name tail p
+    ∙ (ap (λ (o : Option DefineKind). formal_by o name (default_in tail)) e ∙ good_by name from behind size (default_in tail) d)
+
+pub bad_at : (before : List Formal) (text name tail : List ℕ) → IsPart text name tail → formal_fault before name ≡ None → default_in tail ≡ None → formal_in before text ≡ Bad kind.BadFormals
+bad_at before text name tail p e d =
+    part_by before text name tail p
+    ∙ (ap (λ (o : Option DefineKind). formal_by o name (default_in tail)) e ∙ (ap (with_default name) d ∙ none_by name))
+
+-- the formals before the rest of a text, and those of the text
+pub record IsReading (text rest : List ℕ) (names : List (List ℕ)) (size : ℕ) : Type 0 where
+  pub before : List Formal
+  pub same : formals_in (255 - length before) before rest ≡ formals_in 255 [] text
+  pub names_are : map (λ (f : Formal). f.name) before ≡ names
+  pub size_is : sum_by formal_size before ≡ size
+  pub plain : list_all is_plain_formal before ≡ true
+
+pub starts : (text : List ℕ) (names : List (List ℕ)) → names ≡ [] → IsReading text text names 0
+starts text names e = record { before = []; same = refl; names_are = sym e; size_is = refl; plain = refl }
+
+-- the next formal of a list that is read, and its name has no fault
+pub record IsFound (text rest : List ℕ) (names : List (List ℕ)) (size : ℕ) (name tail : List ℕ) : Type 0 where
+  pub read : IsReading text rest names size
+  pub part : IsPart rest name tail
+
+pub read_fault : (text rest : List ℕ) (names slice : List (List ℕ)) (size : ℕ) (name tail : List ℕ) (k : DefineKind) → IsFound text rest names size name tail → slice ≡ names → Some k ≡ fault_behind slice name → formals_in 255 [] text ≡ Unlisted k
+read_fault text rest names slice size name tail k f s e =
     sym f.read.same
-    ∙ turn_fault (formals_from [] list) rest name behind k f.part (sym (e ∙ ap (λ (l : List ℕ). formal_fault (formals_from [] l) name) f.slice_is))
+    ∙ fault_at f.read.before rest name tail k f.part (ap (λ (ns : List (List ℕ)). fault_behind ns name) (f.read.names_are ∙ sym s) ∙ sym e)
 
-sound_name : (list slice name : List ℕ) → slice ≡ list → None ≡ formal_fault (formals_from [] slice) name → formal_fault (formals_from [] list) name ≡ None
-sound_name list slice name s e = sym (e ∙ ap (λ (l : List ℕ). formal_fault (formals_from [] l) name) s)
+sound_name : (text rest : List ℕ) (names slice : List (List ℕ)) (size : ℕ) (name tail : List ℕ) (f : IsFound text rest names size name tail) → slice ≡ names → None ≡ fault_behind slice name → IsFaultless f.read.before name
+sound_name text rest names slice size name tail f s e =
+    faultless f.read.before name (ap (λ (ns : List (List ℕ)). fault_behind ns name) (f.read.names_are ∙ sym s) ∙ sym e)
 
-pub room_for : (text rest list slice name behind : List ℕ) (count : ℕ) → IsFound text rest list slice name behind count → None ≡ formal_fault (formals_from [] slice) name → length list + length name < 8256
-room_for text rest list slice name behind count f e =
-    let sound : IsFaultless (formals_from [] list) name = faultless (formals_from [] list) name (sound_name list slice name f.slice_is e) in
-    omega (arith, f.read.are.size, f.read.are.count_is, sound.short, sound.few)
+pub few_names : (text rest : List ℕ) (names slice : List (List ℕ)) (size : ℕ) (name tail : List ℕ) → IsFound text rest names size name tail → slice ≡ names → None ≡ fault_behind slice name → length names < 255
+few_names text rest names slice size name tail f s e =
+    let g = sound_name text rest names slice size name tail f s e in
+    omega (arith, g.few, length-map f.read.before (λ (x : Formal). x.name), ap (length {A = List ℕ}) f.read.names_are)
 
-pub few_before : (text rest list slice name behind : List ℕ) (count : ℕ) → IsFound text rest list slice name behind count → None ≡ formal_fault (formals_from [] slice) name → count < 64
-few_before text rest list slice name behind count f e =
-    let sound : IsFaultless (formals_from [] list) name = faultless (formals_from [] list) name (sound_name list slice name f.slice_is e) in
-    omega (arith, f.read.are.count_is, sound.few)
+-- a list whose next formal is read, by what it is
+next_by : (text rest : List ℕ) (names : List (List ℕ)) (size : ℕ) (name tail : List ℕ) (f : IsFound text rest names size name tail) → IsFaultless f.read.before name → formals_in 255 [] text ≡ list_by (254 - length f.read.before) f.read.before (formal_in f.read.before rest)
+next_by text rest names size name tail f g =
+    let n : 255 - length f.read.before ≡ suc (254 - length f.read.before) = omega (arith, g.few) in
+    sym f.read.same ∙ (ap (λ (k : ℕ). formals_in k f.read.before rest) n ∙ list_step (254 - length f.read.before) f.read.before rest)
 
-gathered : (text rest list slice name behind more : List ℕ) (count : ℕ) → IsFound text rest list slice name behind count → None ≡ formal_fault (formals_from [] slice) name → more ≡ (list ++ name) ++ 44 ∷ [] → IsGathered list more name count
-gathered text rest list slice name behind more count f e m =
-    gathers list more name (after_space rest) count f.read.are f.part.name_is (faultless (formals_from [] list) name (sound_name list slice name f.slice_is e)) m
+pub read_bad : (text rest : List ℕ) (names slice : List (List ℕ)) (size : ℕ) (name tail : List ℕ) → IsFound text rest names size name tail → slice ≡ names → None ≡ fault_behind slice name → default_in tail ≡ None → formals_in 255 [] text ≡ Unlisted kind.BadFormals
+read_bad text rest names slice size name tail f s e d =
+    let g = sound_name text rest names slice size name tail f s e in
+    next_by text rest names size name tail f g ∙ ap (list_by (254 - length f.read.before) f.read.before) (bad_at f.read.before rest name tail f.part g.fault d)
 
-pub read_comma : (text rest list slice name behind more after : List ℕ) (b count : ℕ) → IsFound text rest list slice name behind count → None ≡ formal_fault (formals_from [] slice) name → more ≡ (list ++ name) ++ 44 ∷ [] → behind ≡ b ∷ after → b ≡ 44 → IsRead text after more (count + 1)
-read_comma text rest list slice name behind more after b count f e m at is =
-    let g : IsGathered list more name count = gathered text rest list slice name behind more count f e m in
+-- a formal was read: its default text, and what stands behind it
+pub record IsTaken (text rest : List ℕ) (names slice : List (List ℕ)) (size : ℕ) (name tail from behind : List ℕ) (counted : ℕ) : Type 0 where
+  pub found : IsFound text rest names size name tail
+  pub slice_is : slice ≡ names
+  pub sound : None ≡ fault_behind slice name
+  pub default : IsDefault (default_in tail) from behind counted
+
+taken_by : (text rest : List ℕ) (names slice : List (List ℕ)) (size : ℕ) (name tail from behind : List ℕ) (counted : ℕ) (t : IsTaken text rest names slice size name tail from behind counted) → formals_in 255 [] text ≡ list_by (254 - length t.found.read.before) t.found.read.before (Good (formal_with name from) behind)
+taken_by text rest names slice size name tail from behind counted t =
+    let f = t.found in
+    let g = sound_name text rest names slice size name tail f t.slice_is t.sound in
+    next_by text rest names size name tail f g ∙ ap (list_by (254 - length f.read.before) f.read.before) (good_at f.read.before rest name tail from behind counted f.part g.fault t.default)
+
+pub read_other : (text rest : List ℕ) (names slice : List (List ℕ)) (size : ℕ) (name tail from behind : List ℕ) (counted : ℕ) → IsTaken text rest names slice size name tail from behind counted → eqb (get_or behind 0 0) 44 ≡ false → eqb (get_or behind 0 0) 41 ≡ false → formals_in 255 [] text ≡ Unlisted kind.BadFormals
+read_other text rest names slice size name tail from behind counted t a b =
+    taken_by text rest names slice size name tail from behind counted t ∙ (cond-false _ _ _ a ∙ cond-false _ _ _ b)
+
+-- a name's bytes
+word_name : (b : ℕ) → is_word b ≡ true → is_name_byte b ≡ true
+unfolding is_name_byte is_word is_letter is_digit
+word_name b e = ap not (ap (λ (t : Bool). t || eqb b 61) (apart is_word b 44 e refl) ∙ apart is_word b 61 e refl)
+
+words_named : (text : List ℕ) → list_all is_name_byte (take (prefix_len is_word text) text) ≡ true
+words_named [] = refl
+words_named (b ∷ bs) = elim (cases_Bool (is_word b)) [
+  | inl e ↦
+      let n : prefix_len is_word (b ∷ bs) ≡ suc (prefix_len is_word bs) = ap (λ (t : Bool). cond t (1 + prefix_len is_word bs) 0) e ∙ one-add (prefix_len is_word bs) in
+      ap (λ (k : ℕ). list_all is_name_byte (take k (b ∷ bs))) n ∙ and_from _ _ (word_name b e) (words_named bs)
+  | inr e ↦ ap (λ (k : ℕ). list_all is_name_byte (take k (b ∷ bs))) (cond-false (is_word b) (1 + prefix_len is_word bs) 0 e)
+]
+
+leading_named : (text : List ℕ) → list_all is_name_byte (leading_name text) ≡ true
+unfolding leading_name
+leading_named text = elim (cases_Bool (is_letter (get_or text 0 0))) [
+  | inl e ↦ ap (λ (t : Bool). list_all is_name_byte (cond t (take (prefix_len is_word text) text) [])) e ∙ words_named text
+  | inr e ↦ ap (λ (t : Bool). list_all is_name_byte (cond t (take (prefix_len is_word text) text) [])) e
+]
+
+plain_with : (text name tail from : List ℕ) → IsPart text name tail → is_default (default_left from) ≡ true → is_plain_formal (formal_with name from) ≡ true
+unfolding is_plain_formal
+plain_with text name tail from p d = and_from _ _ (ap (list_all is_name_byte) p.name_is ∙ leading_named (after_space text)) d
+
+size_with : (name from : List ℕ) (n : ℕ) → default_size (default_left from) ≡ n → formal_size (formal_with name from) ≡ length name + (n + 1)
+unfolding formal_size
+size_with name from n e = ap (λ (k : ℕ). length name + (k + 1)) e
+
+-- the formals with one more
+record IsMore (before : List Formal) (f : Formal) (names : List (List ℕ)) (size : ℕ) : Type 0 where
+  names_are : map (λ (x : Formal). x.name) (before ++ f ∷ []) ≡ names
+  size_is : sum_by formal_size (before ++ f ∷ []) ≡ size
+  plain : list_all is_plain_formal (before ++ f ∷ []) ≡ true
+
+one_size : (f : Formal) → sum_by formal_size (f ∷ []) ≡ formal_size f
+one_size f = omega (arith, sum_by-cons formal_size f [])
+
+more_of : (text rest : List ℕ) (names slice : List (List ℕ)) (size : ℕ) (name tail from behind : List ℕ) (counted : ℕ) (t : IsTaken text rest names slice size name tail from behind counted) (more : List (List ℕ)) (sum : ℕ) → more ≡ names ++ name ∷ [] → sum ≡ size + (length name + counted + 1) → IsMore t.found.read.before (formal_with name from) more sum
+more_of text rest names slice size name tail from behind counted t more sum m s =
+    let r = t.found.read in
+    let f : Formal = formal_with name from in
     record {
+      names_are = map-append (λ (x : Formal). x.name) r.before (f ∷ []) ∙ (ap (λ (l : List (List ℕ)). l ++ name ∷ []) r.names_are ∙ sym m);
+      size_is = omega (arith, sum_by-append formal_size r.before (f ∷ []), one_size f, size_with name from counted t.default.size_is, r.size_is, s);
+      plain = list_all-append is_plain_formal r.before (f ∷ []) ∙ and_from _ _ r.plain (and_from _ _ (plain_with rest name tail from t.found.part t.default.plain) refl);
+    }
+
+pub read_comma : (text rest : List ℕ) (names slice : List (List ℕ)) (size : ℕ) (name tail from behind : List ℕ) (counted : ℕ) (more : List (List ℕ)) (sum b : ℕ) (after : List ℕ) → IsTaken text rest names slice size name tail from behind counted → more ≡ names ++ name ∷ [] → sum ≡ size + (length name + counted + 1) → behind ≡ b ∷ after → b ≡ 44 → IsReading text after more sum
+read_comma text rest names slice size name tail from behind counted more sum b after t m s e is =
+    let r = t.found.read in
+    let f : Formal = formal_with name from in
+    let o : IsMore r.before f more sum = more_of text rest names slice size name tail from behind counted t more sum m s in
+    let at : behind ≡ 44 ∷ after = e ∙ ap (λ (x : ℕ). x ∷ after) is in
+    let n : 255 - length (r.before ++ f ∷ []) ≡ 254 - length r.before = omega (arith, length-append r.before (f ∷ [])) in
+    record {
+      before = r.before ++ f ∷ [];
       same =
-          ap (λ (fs : List Formal). formals_behind fs after) g.formals
-          ∙ (sym (turn_comma (formals_from [] list) rest name behind after f.part (sound_name list slice name f.slice_is e) (at ∙ ap (λ (x : ℕ). x ∷ after) is))
-          ∙ f.read.same);
-      are = g.are;
+          ap (λ (k : ℕ). formals_in k (r.before ++ f ∷ []) after) n
+          ∙ sym (taken_by text rest names slice size name tail from behind counted t ∙ ap (λ (x : List ℕ). list_by (254 - length r.before) r.before (Good f x)) at);
+      names_are = o.names_are;
+      size_is = o.size_is;
+      plain = o.plain;
     }
 
--- the formals of a list that was read to its `)`
-pub record IsClosed (text after list : List ℕ) (count : ℕ) : Type 0 where
-  pub formals : formals_behind [] text ≡ Listed (Some (formals_from [] list)) after
-  pub are : AreFormals list count
+pub read_closer : (text rest : List ℕ) (names slice : List (List ℕ)) (size : ℕ) (name tail from behind : List ℕ) (counted : ℕ) (more : List (List ℕ)) (sum count b : ℕ) (after : List ℕ) → IsTaken text rest names slice size name tail from behind counted → more ≡ names ++ name ∷ [] → sum ≡ size + (length name + counted + 1) → count ≡ length more → behind ≡ b ∷ after → b ≡ 41 → (formals : List Formal) × IsRead (formals_in 255 [] text) after count sum formals
+read_closer text rest names slice size name tail from behind counted more sum count b after t m s n e is =
+    let r = t.found.read in
+    let f : Formal = formal_with name from in
+    let o : IsMore r.before f more sum = more_of text rest names slice size name tail from behind counted t more sum m s in
+    let at : behind ≡ 41 ∷ after = e ∙ ap (λ (x : ℕ). x ∷ after) is in (
+      r.before ++ f ∷ [],
+      record {
+        is = taken_by text rest names slice size name tail from behind counted t ∙ ap (λ (x : List ℕ). list_by (254 - length r.before) r.before (Good f x)) at;
+        count_is = sym (length-map (r.before ++ f ∷ []) (λ (x : Formal). x.name)) ∙ (ap (length {A = List ℕ}) o.names_are ∙ sym n);
+        size_is = o.size_is;
+        plain = o.plain;
+      },
+    )
 
-pub read_closer : (text rest list slice name behind more after : List ℕ) (b count : ℕ) → IsFound text rest list slice name behind count → None ≡ formal_fault (formals_from [] slice) name → more ≡ (list ++ name) ++ 44 ∷ [] → behind ≡ b ∷ after → b ≡ 41 → IsClosed text after more (count + 1)
-read_closer text rest list slice name behind more after b count f e m at is =
-    let g : IsGathered list more name count = gathered text rest list slice name behind more count f e m in
-    record {
-      formals =
-          sym f.read.same
-          ∙ (turn_closer (formals_from [] list) rest name behind after f.part (sound_name list slice name f.slice_is e) (at ∙ ap (λ (x : ℕ). x ∷ after) is)
-          ∙ ap (λ (fs : List Formal). Listed (Some fs) after) (sym g.formals));
-      are = g.are;
-    }
+-- a list without formals, and one that has some
+pub read_empty : (text space after : List ℕ) (b : ℕ) → space ≡ after_space text → space ≡ b ∷ after → b ≡ 41 → (formals : List Formal) × IsRead (formals_of_list text) after 0 0 formals
+unfolding formals_of_list
+read_empty text space after b s e is =
+    let at : after_space text ≡ 41 ∷ after = sym s ∙ (e ∙ ap (λ (x : ℕ). x ∷ after) is) in (
+      [],
+      record {
+        is = ap (λ (x : List ℕ). cond (eqb (get_or x 0 0) 41) (Listed (Some []) (drop 1 x)) (formals_in 255 [] text)) at;
+        count_is = refl;
+        size_is = refl;
+        plain = refl;
+      },
+    )
 
-pub read_other : (text rest list slice name behind after : List ℕ) (b count : ℕ) → IsFound text rest list slice name behind count → None ≡ formal_fault (formals_from [] slice) name → behind ≡ b ∷ after → ends_part b ≡ false → formals_behind [] text ≡ Unlisted kind.BadFormals
-read_other text rest list slice name behind after b count f e at other =
-    sym f.read.same ∙ turn_other (formals_from [] list) rest name behind b after f.part (sound_name list slice name f.slice_is e) at other
+pub read_formals : (text : List ℕ) → eqb (get_or (after_space text) 0 0) 41 ≡ false → formals_in 255 [] text ≡ formals_of_list text
+unfolding formals_of_list
+read_formals text e = sym (cond-false _ _ _ e)
 
-pub read_open : (text rest list slice name behind : List ℕ) (count : ℕ) → IsFound text rest list slice name behind count → None ≡ formal_fault (formals_from [] slice) name → behind ≡ [] → formals_behind [] text ≡ Unlisted kind.BadFormals
-read_open text rest list slice name behind count f e at =
-    sym f.read.same ∙ turn_none (formals_from [] list) rest name behind f.part (sound_name list slice name f.slice_is e) at
+-- what is wrong with a name, by the tests of it
+pub fault_by : {X : Type 0} (f : X → List ℕ) (xs : List X) (name : List ℕ) (a b c d : Bool) → is_nothing name ≡ a → ltb 128 (length name) ≡ b → list_any (λ x. bytes_eq (f x) name) xs ≡ c → leb 255 (length xs) ≡ d → four a b c d ≡ fault_behind (map f xs) name
+unfolding fault_behind
+fault_by f xs name a b c d i j k m =
+    sym (ap (λ (t : Bool). four t (ltb 128 (length name)) (list_any (λ n. bytes_eq n name) (map f xs)) (leb 255 (length (map f xs)))) i
+    ∙ (ap (λ (t : Bool). four a t (list_any (λ n. bytes_eq n name) (map f xs)) (leb 255 (length (map f xs)))) j
+    ∙ (ap (λ (t : Bool). four a b t (leb 255 (length (map f xs)))) (any_mapped f xs name ∙ k)
+    ∙ ap (λ (t : Bool). four a b c t) (ap (λ (n : ℕ). leb 255 n) (length-map xs f) ∙ m))))
 
--- a list without formals
-pub read_empty : (text space list after : List ℕ) (b : ℕ) → list ≡ [] → space ≡ after_space text → space ≡ b ∷ after → b ≡ 41 → formals_of_list (list_text text) ≡ Listed (Some (formals_from [] list)) after
-read_empty text space list after b e s at is =
-    empty_list text after (sym s ∙ (at ∙ ap (λ (x : ℕ). x ∷ after) is))
-    ∙ ap (λ (fs : List Formal). Listed (Some fs) after) (sym (ap (formals_from []) e ∙ no_formals_from))
+-- one more name
+pub names_more : {X : Type 0} (f : X → List ℕ) (xs ys : List X) (x : X) → ys ≡ xs ++ x ∷ [] → map f ys ≡ map f xs ++ f x ∷ []
+names_more f xs ys x e = ap (map f) e ∙ map-append f xs (x ∷ [])
 
--- the bytes of formals are a list's
-pub formals_are : (name list slice : List ℕ) (count : ℕ) → AreFormals list count → slice ≡ list → IsList name (Some count) slice
-formals_are name list slice count a e =
-    let P : List ℕ → Type 0 = λ l. IsList name (Some count) l in
-    subst P (sym e) (record { list_is = a.list_is; arity_is = ap Some a.count_is; plain = a.plain })
+pub same_slice : {X : Type 0} (f : X → List ℕ) (xs ys : List X) → xs ≡ ys → map f xs ≡ map f ys
+same_slice f xs ys e = ap (map f) e
 
--- a byte that is neither `)` nor a comma
-pub ends_no_part : (b : ℕ) → (b ≡ 41 → ⊥) → (b ≡ 44 → ⊥) → ends_part b ≡ false
-ends_no_part b e f = ap (λ (t : Bool). t || eqb b 44) (ne_eqb b 41 e) ∙ ne_eqb b 44 f
+pub same_count : {X : Type 0} (f : X → List ℕ) (xs : List X) (n : ℕ) → length (map f xs) < n → length xs < n
+same_count f xs n h = omega (arith, length-map xs f)
 
--- a list that has formals gives what its formals give
-pub with_formals : (text space after : List ℕ) (b : ℕ) → space ≡ after_space text → space ≡ b ∷ after → (b ≡ 41 → ⊥) → formals_behind [] text ≡ formals_of_list (list_text text)
-with_formals text space after b s at other = sym (formals_list text b after (sym s ∙ at) (ne_eqb b 41 other))
+pub closer_count : {X : Type 0} (f : X → List ℕ) (xs : List X) (n : ℕ) → n ≡ length xs → n ≡ length (map f xs)
+closer_count f xs n e = e ∙ sym (length-map xs f)
 
-pub without_end : (text space : List ℕ) → space ≡ after_space text → space ≡ [] → formals_behind [] text ≡ formals_of_list (list_text text)
-without_end text space s at = sym (open_list text (sym s ∙ at))
+pub no_names : {X : Type 0} (f : X → List ℕ) (xs : List X) → xs ≡ [] → map f xs ≡ []
+no_names f xs e = ap (map f) e

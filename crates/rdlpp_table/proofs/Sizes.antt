@@ -4,7 +4,7 @@ use Rattle.std.specs.List.{All, flat_map}
 use Rattle.std.proofs.lemmas.List.Elements.{All-cons, All-nil}
 use Rattle.std.proofs.lemmas.List.Sums.{sum_by-cons, sum_by-append}
 use Rattle.rdlpp_table.specs.declared.entry.Entry.{Entry}
-use Rattle.rdlpp_table.specs.Table.{Formal, Macro, formal_size, macro_size, table_size, formal_bytes, macro_bytes, table_bytes}
+use Rattle.rdlpp_table.specs.Table.{Formal, Macro, default_bytes, default_size, formal_size, macro_size, table_size, formal_bytes, macro_bytes, table_bytes}
 use Rattle.rdlpp_table.specs.View.{macro_at}
 use Rattle.rdlpp_table.specs.Store.{entry_of, entries_of, entry_end, body_start, list_start, list_size, IsStored}
 use Rattle.rdlpp_table.specs.Entries.{AreWithin}
@@ -17,12 +17,21 @@ pub table_size-append : (xs ys : List Macro) → table_size (xs ++ ys) ≡ table
 unfolding table_size
 table_size-append xs ys = sum_by-append macro_size xs ys
 
-pub length_list_bytes : (fs : List Formal) → length (flat_map formal_bytes fs) ≡ sum_by formal_size fs
+length_default : (text : List ℕ) → length (default_bytes text) ≡ default_size text
+unfolding default_bytes default_size
+length_default [] = refl
+length_default (b ∷ bs) = omega arith
+
+pub length_formal_bytes : (f : Formal) → length (formal_bytes f) ≡ formal_size f
 unfolding formal_bytes formal_size
+length_formal_bytes f =
+    omega (arith, length-append f.name (default_bytes f.text ++ 44 ∷ []), length-append (default_bytes f.text) (44 ∷ []), length_default f.text)
+
+pub length_list_bytes : (fs : List Formal) → length (flat_map formal_bytes fs) ≡ sum_by formal_size fs
 length_list_bytes [] = refl
 length_list_bytes (f ∷ fs) =
-    let e : length (flat_map formal_bytes (f ∷ fs)) ≡ length (f.name ++ 44 ∷ []) + length (flat_map formal_bytes fs) = length-append (f.name ++ 44 ∷ []) (flat_map formal_bytes fs) in
-    omega (arith, e, length-append f.name (44 ∷ []), length_list_bytes fs, sum_by-cons formal_size f fs)
+    let e : length (flat_map formal_bytes (f ∷ fs)) ≡ length (formal_bytes f) + length (flat_map formal_bytes fs) = length-append (formal_bytes f) (flat_map formal_bytes fs) in
+    omega (arith, e, length_formal_bytes f, length_list_bytes fs, sum_by-cons formal_size f fs)
 
 pub length_macro_bytes : (m : Macro) → length (macro_bytes m) ≡ macro_size m
 unfolding macro_bytes macro_size

@@ -1,52 +1,50 @@
 -- The formals that a list gives are sound.
-use Rattle.std.proofs.Common.{◌≡◌, ℕ, ◌<◌, ◌≤◌, Bool, true, false, cond, ◌&&◌, ◌||◌, eqb, ltb, leb, List, [], ◌∷◌, ◌++◌, length, drop, map, bytes_eq, Option, Some, None, option_map, unwrap_or, refl, ap, sym, ◌∙◌, subst, arith, length-append}
-use Rattle.std.specs.List.{IsDistinct, list_any, list_all}
+use Rattle.std.proofs.Common.{◌≡◌, ℕ, zero, suc, ◌+◌, ◌<◌, ◌≤◌, Bool, true, false, cond, ◌||◌, eqb, ltb, List, [], ◌∷◌, ◌++◌, length, drop, get_or, map, bytes_eq, Option, Some, None, unwrap_or, refl, ap, sym, ◌∙◌, subst, arith, length-append, inl, inr}
+use Rattle.std.specs.List.{IsDistinct, list_any}
 use Rattle.std.proofs.lemmas.List.{map-append}
 use Rattle.std.proofs.lemmas.List.Elements.{All-nil, All-push}
 use Rattle.std.proofs.lemmas.Cmp.{nat_list_eq_equiv}
 use Rattle.std.proofs.lemmas.Map.Keys.{IsDistinct-push}
-use Rattle.std.proofs.lemmas.Bool.{eqb-false, ltb-false, leb-false}
+use Rattle.std.proofs.lemmas.Bool.{cases_Bool, cond-true, cond-false, eqb-false, ltb-false}
 use Rattle.rdlpp_table.specs.declared.fault.DefineKind.{DefineKind}
 use Rattle.rdlpp_table.specs.declared.fault.DefineKind.TheVariants as kind
 use Rattle.rdlpp_table.specs.Table.{Formal}
 use Rattle.rdlpp_table.specs.View.{AreSoundFormals, IsSoundMacro}
-use Rattle.rdlpp_table.specs.New.{new_macro}
-use Rattle.rdlpp_table.specs.Store.{formals_from}
+use Rattle.rdlpp_table.specs.New.{list_formals, new_macro}
 use Rattle.rdlpp_scan.specs.Stage.{is_reserved}
-use Rattle.rdlpp_table.specs.Define.{Bad, Good, ListText, Listed, OneFormal, Unlisted, after_space, formal_in, formals_in, formals_of_list, has_no_formals, is_ended, is_space, leading_name, name_fault}
+use Rattle.rdlpp_table.specs.Define.{Bad, DefaultText, Good, Listed, OneFormal, Unlisted, after_space, behind_name, default_in, formal_fault, formal_in, formal_name, formals_in, formals_of_list, is_nothing, name_fault, with_default}
+use Rattle.rdlpp_table.proofs.Reading.{fault_three, formal_by, in_by, list_by, list_full, list_step, three}
 
 -- a formal that may stand behind others
 record IsNextFormal (before : List Formal) (f : Formal) : Type 0 where
   short : length f.name ≤ 128
   other : list_any (λ g. bytes_eq g.name f.name) before ≡ false
-  room : length before < 64
+  room : length before < 255
 
--- a test that isn't refused fails
-passed : (c : Bool) (k : DefineKind) (y : OneFormal) (f : Formal) → cond c (Bad k) y ≡ Good f → (c ≡ false) × (y ≡ Good f)
-passed true k y f e = absurd (cc)
-passed false k y f e = (refl, e)
+three_none : (a b c : Bool) → three a b c ≡ None → (b ≡ false) × (c ≡ false)
+three_none true b c e = absurd (cc)
+three_none false true c e = absurd (cc)
+three_none false false true e = absurd (cc)
+three_none false false false e = (refl, refl)
 
-given : (c : Bool) (k : DefineKind) (g f : Formal) → cond c (Good g) (Bad k) ≡ Good f → g ≡ f
-given true k g f e = cc
-given false k g f e = absurd (cc)
+named_with : (name : List ℕ) (d : Option DefaultText) (f : Formal) (behind : List ℕ) → with_default name d ≡ Good f behind → name ≡ f.name
+unfolding with_default
+named_with name None f behind e = absurd (cc)
+named_with name (Some d) f behind e = let g : (let x : Formal = record { name = name; text = d.text } in x) ≡ f = cc in ap (λ (x : Formal). x.name) g
 
-next_of : (before : List Formal) (f : Formal) (name : List ℕ) → name ≡ f.name → length name ≤ 128 → list_any (λ g. bytes_eq g.name name) before ≡ false → length before < 64 → IsNextFormal before f
-next_of before f name e short other room = record {
-  short = omega (arith, ap length e);
-  other = ap (λ (n : List ℕ). list_any (λ g. bytes_eq g.name n) before) (sym e) ∙ other;
-  room = room;
-}
+good_by : (o : Option DefineKind) (name : List ℕ) (d : Option DefaultText) (f : Formal) (behind : List ℕ) → formal_by o name d ≡ Good f behind → (o ≡ None) × (name ≡ f.name)
+good_by None name d f behind e = (refl, named_with name d f behind e)
+good_by (Some k) name d f behind e = absurd (cc)
 
-next_formal : (before : List Formal) (ended : Bool) (part : List ℕ) (f : Formal) → formal_in before ended part ≡ Good f → IsNextFormal before f
-unfolding formal_in
-next_formal before ended part f e =
-    let name : List ℕ = leading_name (after_space part) in
-    let t1 = passed (eqb (length name) 0) kind.BadFormals _ f e in
-    let t2 = passed (ltb 128 (length name)) kind.NameTooLong _ f t1.1 in
-    let t3 = passed (list_any (λ g. bytes_eq g.name name) before) kind.FormalTwice _ f t2.1 in
-    let t4 = passed (leb 64 (length before)) kind.TooManyFormals _ f t3.1 in
-    let same : name ≡ f.name = ap (λ (g : Formal). g.name) (given (ended && list_all is_space (drop (length name) (after_space part))) kind.BadFormals (record { name = name; text = [] }) f t4.1) in
-    next_of before f name same (ltb-false _ _ t2.0) t3.0 (leb-false _ _ t4.0)
+next_formal : (before : List Formal) (text : List ℕ) (f : Formal) (behind : List ℕ) → length before < 255 → formal_in before text ≡ Good f behind → IsNextFormal before f
+next_formal before text f behind room e =
+    let g = good_by (formal_fault before (formal_name text)) (formal_name text) (default_in (behind_name text)) f behind (sym (in_by before text) ∙ e) in
+    let t = three_none (is_nothing (formal_name text)) (ltb 128 (length (formal_name text))) (list_any (λ (g : Formal). bytes_eq g.name (formal_name text)) before) (sym (fault_three before (formal_name text)) ∙ g.0) in
+    record {
+      short = omega (arith, ap (length {A = ℕ}) g.1, ltb-false 128 (length (formal_name text)) t.0);
+      other = ap (λ (n : List ℕ). list_any (λ (g : Formal). bytes_eq g.name n) before) (sym g.1) ∙ t.1;
+      room = room;
+    }
 
 turned_any : (name : List ℕ) (before : List Formal) → list_any (bytes_eq name) (map (λ g. g.name) before) ≡ list_any (λ g. bytes_eq g.name name) before
 turned_any name [] = refl
@@ -70,19 +68,26 @@ one_more_sound before f s n =
 listed_same : (before fs : List Formal) (after' after : List ℕ) → Listed (Some before) after' ≡ Listed (Some fs) after → before ≡ fs
 listed_same before fs after' after e = cc
 
-in_sound : (before : List Formal) (ps : List (List ℕ)) (behind : Option (List ℕ)) (fs : List Formal) (after : List ℕ) → AreSoundFormals before → formals_in before ps behind ≡ Listed (Some fs) after → AreSoundFormals fs
-unfolding formals_in
-in_sound before [] None fs after s e = absurd (cc)
-in_sound before [] (Some rest) fs after s e = subst AreSoundFormals (listed_same before fs rest after e) s
-in_sound before (p ∷ ps) behind fs after s e =
-    (elim (formal_in before (is_ended ps behind) p) as (λ o. formal_in before (is_ended ps behind) p ≡ o → elim o [ Bad k ↦ Unlisted k | Good f ↦ formals_in (before ++ f ∷ []) ps behind ] ≡ Listed (Some fs) after → AreSoundFormals fs) [
-      | Bad k ↦ λ q h. absurd (cc)
-      | Good f ↦ λ q h. in_sound (before ++ f ∷ []) ps behind fs after (one_more_sound before f s (next_formal before (is_ended ps behind) p f q)) h
-    ]) refl e
+-- by what stands behind the next formal
+behind_sound : (room : ℕ) (before : List Formal) (f : Formal) (behind : List ℕ) (fs : List Formal) (after : List ℕ) → AreSoundFormals (before ++ f ∷ []) → (formals_in room (before ++ f ∷ []) (drop 1 behind) ≡ Listed (Some fs) after → AreSoundFormals fs) → list_by room before (Good f behind) ≡ Listed (Some fs) after → AreSoundFormals fs
+behind_sound room before f behind fs after s next e =
+    elim (cases_Bool (eqb (get_or behind 0 0) 44)) [
+      | inl c ↦ next (sym (cond-true _ _ _ c) ∙ e)
+      | inr c ↦ elim (cases_Bool (eqb (get_or behind 0 0) 41)) [
+        | inl k ↦ subst AreSoundFormals (listed_same (before ++ f ∷ []) fs (drop 1 behind) after (sym (cond-true _ _ _ k) ∙ (sym (cond-false _ _ _ c) ∙ e))) s
+        | inr k ↦ let h : Unlisted kind.BadFormals ≡ Listed (Some fs) after = sym (cond-false _ _ _ k) ∙ (sym (cond-false _ _ _ c) ∙ e) in absurd (cc)
+      ]
+    ]
 
-by_case : (none : Bool) (l : ListText) (rest : List ℕ) (fs : List Formal) (after : List ℕ) → cond none (Listed (Some []) rest) (formals_in [] l.parts l.behind) ≡ Listed (Some fs) after → AreSoundFormals fs
-by_case true l rest fs after e = subst AreSoundFormals (listed_same [] fs rest after e) no_formals_sound
-by_case false l rest fs after e = in_sound [] l.parts l.behind fs after no_formals_sound e
+in_sound : (room : ℕ) (before : List Formal) (text : List ℕ) (fs : List Formal) (after : List ℕ) → AreSoundFormals before → length before + room ≤ 255 → formals_in room before text ≡ Listed (Some fs) after → AreSoundFormals fs
+in_sound zero before text fs after s n e = let h : Unlisted (unwrap_or (formal_fault before (formal_name text)) kind.TooManyFormals) ≡ Listed (Some fs) after = sym (list_full before text) ∙ e in absurd (cc)
+in_sound (suc room) before text fs after s n e =
+    (elim (formal_in before text) as (λ o. formal_in before text ≡ o → list_by room before o ≡ Listed (Some fs) after → AreSoundFormals fs) [
+      | Bad k ↦ λ q h. absurd (cc)
+      | Good f behind ↦ λ q h.
+          behind_sound room before f behind fs after (one_more_sound before f s (next_formal before text f behind (omega arith) q))
+          (λ i. in_sound room (before ++ f ∷ []) (drop 1 behind) fs after (one_more_sound before f s (next_formal before text f behind (omega arith) q)) (omega (arith, length-append before (f ∷ []))) i) h
+    ]) refl (sym (list_step room before text) ∙ e)
 
 -- a name without a fault is that of a sound macro
 record IsGoodName (name : List ℕ) : Type 0 where
@@ -103,12 +108,22 @@ good_name name e =
     let apart : (length name ≡ 0) → ⊥ = eqb-false _ _ t1.0 in
     record { named = omega (arith, apart); short = ltb-false _ _ t3.0; unreserved = t2.0 }
 
-pub new_sound : (name : List ℕ) (arity : Option ℕ) (list : List ℕ) (is_logical : Bool) (text : List ℕ) → name_fault name ≡ None → AreSoundFormals (unwrap_or (option_map (λ (n : ℕ). formals_from [] list) arity) []) → IsSoundMacro (new_macro name arity list is_logical text)
+pub new_sound : (name : List ℕ) (arity : Option ℕ) (list : List ℕ) (is_logical : Bool) (text : List ℕ) → name_fault name ≡ None → AreSoundFormals (unwrap_or (list_formals arity list) []) → IsSoundMacro (new_macro name arity list is_logical text)
 new_sound name arity list is_logical text e s =
     let g = good_name name e in
     record { named = g.named; short = g.short; unreserved = g.unreserved; formals = s }
 
--- the formals of a list are sound (this project's profile)
-pub listed_sound : (l : ListText) (fs : List Formal) (after : List ℕ) → formals_of_list l ≡ Listed (Some fs) after → AreSoundFormals fs
+by_list : (text : List ℕ) (fs : List Formal) (after : List ℕ) → formals_of_list text ≡ Listed (Some fs) after → AreSoundFormals fs
 unfolding formals_of_list
-listed_sound l fs after e = by_case (has_no_formals l) l _ fs after e
+by_list text fs after e = elim (cases_Bool (eqb (get_or (after_space text) 0 0) 41)) [
+  | inl c ↦ subst AreSoundFormals (listed_same [] fs (drop 1 (after_space text)) after (sym (cond-true _ _ _ c) ∙ e)) no_formals_sound
+  | inr c ↦ in_sound 255 [] text fs after no_formals_sound (omega arith) (sym (cond-false _ _ _ c) ∙ e)
+]
+
+by_formals : (text : List ℕ) (o : Option (List Formal)) (after : List ℕ) → formals_of_list text ≡ Listed o after → AreSoundFormals (unwrap_or o [])
+by_formals text None after e = no_formals_sound
+by_formals text (Some fs) after e = by_list text fs after e
+
+-- the formals of a list are sound (this project's profile)
+pub listed_sound : (text : List ℕ) (o : Option (List Formal)) (after : List ℕ) → formals_of_list text ≡ Listed o after → AreSoundFormals (unwrap_or o [])
+listed_sound text o after e = by_formals text o after e

@@ -5,7 +5,7 @@ use Rattle.std.proofs.lemmas.Bool.{cases_Bool, cond-true, cond-false, eqb-true, 
 use Rattle.std.proofs.lemmas.List.Folds.{length-prefix_len}
 use Rattle.rdlpp_scan.specs.Bytes.{is_letter, is_digit, is_word}
 use Rattle.std.proofs.lemmas.List.{take_rest}
-use Rattle.rdlpp_table.specs.Define.{Listed, after_space, continuation_len, formal_list, formals_of_list, is_space, leading_name, list_text}
+use Rattle.rdlpp_table.specs.Define.{Listed, after_space, continuation_len, formal_list, formals_of_list, is_space, leading_name}
 use Rattle.rdlpp_table.specs.Formals.{IsPart}
 use Rattle.rdlpp_table.specs.Bodies.{joined}
 use Rattle.rdlpp_table.proofs.Joins.{BeginsWith, begins_with, joined_none, no_joint_at, same_run, SameRun}
@@ -108,10 +108,10 @@ part_read text rest name tail behind r n t b = record {
 }
 
 -- whether a formal list follows
-pub list_follows : (text : List ℕ) (b : ℕ) (list : List ℕ) → text ≡ b ∷ list → eqb b 40 ≡ true → formal_list text ≡ formals_of_list (list_text list)
+pub list_follows : (text : List ℕ) (b : ℕ) (list : List ℕ) → text ≡ b ∷ list → eqb b 40 ≡ true → formal_list text ≡ formals_of_list list
 unfolding formal_list
 list_follows text b list e at =
-    ap (λ (t : List ℕ). cond (eqb (get_or t 0 0) 40) (formals_of_list (list_text (drop 1 t))) (Listed None t)) e
+    ap (λ (t : List ℕ). cond (eqb (get_or t 0 0) 40) (formals_of_list (drop 1 t)) (Listed None t)) e
     ∙ cond-true (eqb b 40) _ _ at
 
 pub no_list : (text : List ℕ) (b : ℕ) (list : List ℕ) → text ≡ b ∷ list → eqb b 40 ≡ false → formal_list text ≡ Listed None text

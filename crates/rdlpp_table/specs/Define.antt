@@ -1,15 +1,17 @@
 -- What a `define` gives: the table with the new macro, or its first fault.
 -- A definition that names no source is this project's own.
-use Rattle.std.specs.Prelude.{ℕ, zero, suc, ◌+◌, ◌-◌, Bool, not, ◌&&◌, ◌||◌, ◌==◌, nat_lt, nat_le, List, [], ◌∷◌, ◌++◌, length, take, drop, bytes_eq, slice_index, Option, None, Some, Result, Ok, Err, is_some, unwrap_or, if◌then◌else◌}
-use Rattle.std.specs.List.{prefix_len, list_any, list_all}
-use Rattle.rdlpp_scan.specs.declared.token.Kind.TheVariants.{LineComment}
+use Rattle.std.specs.Prelude.{ℕ, zero, suc, ◌+◌, ◌-◌, Bool, true, false, not, ◌&&◌, ◌||◌, ◌==◌, nat_lt, List, [], ◌∷◌, ◌++◌, length, take, drop, bytes_eq, slice_index, Option, None, Some, Result, Ok, Err, unwrap_or, if◌then◌else◌}
+use Rattle.std.specs.List.{prefix_len, list_any}
+use Rattle.std.specs.Option.{option_map}
+use Rattle.rdlpp_scan.specs.declared.token.Kind.{Kind}
+use Rattle.rdlpp_scan.specs.declared.token.Kind.TheVariants.{LineComment, Opener, Closer, Comma}
 use Rattle.rdlpp_scan.specs.declared.token.Mode.TheVariants.{Plain}
 use Rattle.rdlpp_scan.specs.declared.token.Token.{Token}
 use Rattle.rdlpp_scan.specs.declared.token.LexFault.{LexFault}
 use Rattle.rdlpp_scan.specs.declared.token.LexFault.TheVariants.{Perl, OpenString, OpenComment}
 use Rattle.rdlpp_scan.specs.Bytes.{is_blank, is_line_end, is_letter, is_word}
 use Rattle.rdlpp_scan.specs.Tokens.{tokens_from}
-use Rattle.rdlpp_scan.specs.LexFaults.{lex_fault_from}
+use Rattle.rdlpp_scan.specs.LexFaults.{is_perl, lex_fault_from}
 use Rattle.rdlpp_scan.specs.SourceTokens.{logical_len}
 use Rattle.rdlpp_scan.specs.Names.{is_name}
 use Rattle.rdlpp_scan.specs.Stage.{is_reserved}
@@ -79,19 +81,23 @@ without_remarks (t ∷ ts) text = elim t.kind [
   | _ ↦ take t.len text ++ without_remarks ts (drop t.len text)
 ]
 
--- a byte in front of a text that doesn't end in blanks
-unfoldable pub onto_trimmed : ℕ → List ℕ → List ℕ
-onto_trimmed b [] = if is_blank b then [] else b ∷ []
-onto_trimmed b (c ∷ cs) = b ∷ c ∷ cs
+-- a byte in front of a text that doesn't end in bytes of a class
+unfoldable pub onto_trimmed : (ℕ → Bool) → ℕ → List ℕ → List ℕ
+onto_trimmed class b [] = if class b then [] else b ∷ []
+onto_trimmed class b (c ∷ cs) = b ∷ c ∷ cs
 
--- a text without the blanks at its end
-unfoldable pub without_end_blanks : List ℕ → List ℕ
-without_end_blanks [] = []
-without_end_blanks (b ∷ bs) = onto_trimmed b (without_end_blanks bs)
+-- a text without the bytes of a class at its end
+unfoldable pub without_end : (ℕ → Bool) → List ℕ → List ℕ
+without_end class [] = []
+without_end class (b ∷ bs) = onto_trimmed class b (without_end class bs)
+
+-- a text without the bytes of a class at both ends
+unfoldable pub trimmed_of : (ℕ → Bool) → List ℕ → List ℕ
+trimmed_of class bytes = without_end class (drop (prefix_len class bytes) bytes)
 
 -- a text without the blanks at both ends (this project's profile)
 unfoldable pub trimmed : List ℕ → List ℕ
-trimmed bytes = without_end_blanks (drop (prefix_len is_blank bytes) bytes)
+trimmed bytes = trimmed_of is_blank bytes
 
 -- a fault of the tokens, as a reason to refuse a definition
 unfoldable pub lexical : LexFault → DefineKind
@@ -99,9 +105,54 @@ lexical Perl = kind.EmbeddedPerl
 lexical OpenString = kind.OpenString
 lexical OpenComment = kind.OpenComment
 
--- a formal that was read, or what is wrong with it
+-- whether a token ends a default text at level 0: a `,` or a `)`; b is its first byte (this project's profile)
+unfoldable pub ends_default : Kind → ℕ → Bool
+ends_default Comma b = true
+ends_default Closer b = b == 41
+ends_default _ b = false
+
+-- the level behind a token: `(`, `[` and `{` raise it, `)`, `]` and `}` lower it where it isn't 0 (this project's profile)
+unfoldable pub level_behind : Kind → ℕ → ℕ
+level_behind Opener level = level + 1
+level_behind Closer level = level - 1
+level_behind _ level = level
+
+-- a default text, and what stands behind it
+pub record DefaultText : Type 0 where
+  pub text : List ℕ
+  pub behind : List ℕ
+
+-- the bytes of a token in front of a default text; a `//` comment goes (this project's profile)
+unfoldable pub onto_default : Token → List ℕ → Option DefaultText → Option DefaultText
+onto_default t text None = None
+onto_default t text (Some d) = elim t.kind [
+  | LineComment ↦ Some d
+  | _ ↦ Some (record { text = take t.len text ++ d.text; behind = d.behind })
+]
+
+-- the default text with which a text begins, by its tokens, from a level on: up to the first `,` or `)` at level 0, without its
+-- `//` comments; none where `<%` outside comments or the text's end comes before that, also inside a string or a block comment
+-- (this project's profile)
+unfoldable pub default_of_tokens : ℕ → List Token → List ℕ → Option DefaultText
+default_of_tokens level [] text = None
+default_of_tokens level (t ∷ ts) text =
+    if is_perl t.kind then None
+    else (if level == 0 && ends_default t.kind (slice_index text 0) then Some (record { text = []; behind = text })
+    else onto_default t text (default_of_tokens (level_behind t.kind level) ts (drop t.len text)))
+
+-- a default text without the blanks and LF at both ends (this project's profile)
+unfoldable pub trimmed_default : DefaultText → DefaultText
+trimmed_default d = record { text = trimmed_of is_space d.text; behind = d.behind }
+
+-- the default text of a formal, by what stands behind its name: empty where no `=` stands there (this project's profile)
+unfoldable pub default_in : List ℕ → Option DefaultText
+default_in behind =
+    if slice_index behind 0 == 61 then option_map trimmed_default (default_of_tokens 0 (tokens_from Plain 0 (drop 1 behind)) (drop 1 behind))
+    else Some (record { text = []; behind = behind })
+
+-- a formal that was read and what stands behind it, or what is wrong with it
 pub data OneFormal : Type 0 where
-  Good : Formal → OneFormal
+  Good : Formal → List ℕ → OneFormal
   Bad : DefineKind → OneFormal
 
 -- the formals of a list and the text behind it, or what is wrong with them
@@ -109,64 +160,57 @@ pub data FormalList : Type 0 where
   Listed : Option (List Formal) → List ℕ → FormalList
   Unlisted : DefineKind → FormalList
 
--- the text of a formal list, after its `(`: the parts between its commas, and what stands behind its `)`, where it has one
-pub record ListText : Type 0 where
-  pub parts : List (List ℕ)
-  pub behind : Option (List ℕ)
+-- the name of the formal with which a list's text begins, or nothing (IEEE 1364-2001, `define`)
+unfoldable pub formal_name : List ℕ → List ℕ
+formal_name text = leading_name (after_space text)
 
--- a byte in front of the first part
-unfoldable pub onto_part : ℕ → ListText → ListText
-onto_part b l = elim l.parts [
-  | [] ↦ record { parts = (b ∷ []) ∷ []; behind = l.behind }
-  | p ∷ ps ↦ record { parts = (b ∷ p) ∷ ps; behind = l.behind }
+-- what stands behind that name and the white space after it
+unfoldable pub behind_name : List ℕ → List ℕ
+behind_name text = after_space (drop (length (formal_name text)) (after_space text))
+
+-- what is wrong with the name of a formal, behind other formals: no name stands there, it is too long, it was given before
+-- (this project's profile)
+unfoldable pub formal_fault : List Formal → List ℕ → Option DefineKind
+formal_fault before name =
+    if is_nothing name then Some kind.BadFormals
+    else (if nat_lt 128 (length name) then Some kind.NameTooLong
+    else (if list_any (λ f. bytes_eq f.name name) before then Some kind.FormalTwice
+    else None))
+
+-- a formal of a name with its default text, where that has no fault (this project's profile)
+unfoldable pub with_default : List ℕ → Option DefaultText → OneFormal
+with_default name None = Bad kind.BadFormals
+with_default name (Some d) = Good (record { name = name; text = d.text }) d.behind
+
+-- the formal with which a list's text begins, behind other formals (this project's profile)
+unfoldable pub formal_in : List Formal → List ℕ → OneFormal
+formal_in before text = elim (formal_fault before (formal_name text)) [
+  | Some k ↦ Bad k
+  | None ↦ with_default (formal_name text) (default_in (behind_name text))
 ]
 
--- the parts of a formal list (IEEE 1364-2001, `define`)
-unfoldable pub list_text : List ℕ → ListText
-list_text [] = record { parts = [] ∷ []; behind = None }
-list_text (b ∷ bs) =
-    if b == 41 then record { parts = [] ∷ []; behind = Some bs }
-    else (if b == 44 then record { parts = [] ∷ (list_text bs).parts; behind = (list_text bs).behind }
-    else onto_part b (list_text bs))
-
--- the formal in a part, behind other formals; `ended` says that a comma or the `)` stands behind the part (this project's profile)
-unfoldable pub formal_in : List Formal → Bool → List ℕ → OneFormal
-formal_in before ended part =
-    let text = after_space part in
-    let name = leading_name text in
-    if is_nothing name then Bad kind.BadFormals
-    else (if nat_lt 128 (length name) then Bad kind.NameTooLong
-    else (if list_any (λ f. bytes_eq f.name name) before then Bad kind.FormalTwice
-    else (if nat_le 64 (length before) then Bad kind.TooManyFormals
-    else (if ended && list_all is_space (drop (length name) text) then Good (record { name = name; text = [] })
-    else Bad kind.BadFormals))))
-
--- whether a part is followed by another one or by the `)`
-unfoldable pub is_ended : List (List ℕ) → Option (List ℕ) → Bool
-is_ended parts behind = not (is_nothing parts) || is_some behind
-
--- the formals in parts, behind other formals, up to the first fault; behind all parts stands `behind`, where the list is closed
-unfoldable pub formals_in : List Formal → List (List ℕ) → Option (List ℕ) → FormalList
-formals_in before [] None = Unlisted kind.BadFormals
-formals_in before [] (Some after) = Listed (Some before) after
-formals_in before (p ∷ ps) behind = elim (formal_in before (is_ended ps behind) p) [
+-- the formals of a list's text, behind other formals, up to the first fault, where so many more may follow; `,` stands between two
+-- of them, and `)` behind the last (IEEE 1364-2001, `define`; the faults are this project's profile)
+unfoldable pub formals_in : ℕ → List Formal → List ℕ → FormalList
+formals_in zero before text = Unlisted (unwrap_or (formal_fault before (formal_name text)) kind.TooManyFormals)
+formals_in (suc room) before text = elim (formal_in before text) [
   | Bad k ↦ Unlisted k
-  | Good f ↦ formals_in (before ++ f ∷ []) ps behind
+  | Good f behind ↦ if slice_index behind 0 == 44 then formals_in room (before ++ f ∷ []) (drop 1 behind)
+      else (if slice_index behind 0 == 41 then Listed (Some (before ++ f ∷ [])) (drop 1 behind)
+      else Unlisted kind.BadFormals)
 ]
 
--- whether a list has no formals: all is white space up to its `)`
-unfoldable pub has_no_formals : ListText → Bool
-has_no_formals l = is_some l.behind && (length l.parts == 1 && list_all (list_all is_space) l.parts)
-
--- the formals of a list, after its `(`, and the text behind it (this project's profile)
-unfoldable pub formals_of_list : ListText → FormalList
-formals_of_list l = if has_no_formals l then Listed (Some []) (unwrap_or l.behind []) else formals_in [] l.parts l.behind
+-- the formals of a list, after its `(`, and the text behind it: none where all is white space up to its `)`, else at most 255
+-- (this project's profile)
+unfoldable pub formals_of_list : List ℕ → FormalList
+formals_of_list text =
+    if slice_index (after_space text) 0 == 41 then Listed (Some []) (drop 1 (after_space text)) else formals_in 255 [] text
 
 -- what stands behind the name of a macro: a formal list where a `(` follows at once, then the text of the body
 -- (IEEE 1364-2001, `define`)
 unfoldable pub formal_list : List ℕ → FormalList
 formal_list after =
-    if slice_index after 0 == 40 then formals_of_list (list_text (drop 1 after)) else Listed None after
+    if slice_index after 0 == 40 then formals_of_list (drop 1 after) else Listed None after
 
 -- a macro that isn't stored yet, or why there is none, and for a reserved name that name
 pub data Draft : Type 0 where

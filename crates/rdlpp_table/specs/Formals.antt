@@ -1,33 +1,65 @@
--- The formals of a list, one part after another, and their bytes as they are gathered.
+-- A formal list as its parts are read, and formals as bytes.
 -- A definition that names no source is this project's own.
-use Rattle.std.specs.Prelude.{◌≡◌, ℕ, ◌*◌, ◌≤◌, true, nat_lt, nat_le, List, [], length, drop, bytes_eq, Option, None, Some, if◌then◌else◌}
-use Rattle.std.specs.List.{flat_map, list_any, list_all}
-use Rattle.rdlpp_table.specs.Table.{Formal, formal_bytes}
-use Rattle.rdlpp_table.specs.Define.{FormalList, after_space, formals_in, is_nothing, leading_name, list_text}
-use Rattle.rdlpp_table.specs.Store.{formals_from, is_plain_formal}
+use Rattle.std.specs.Prelude.{◌≡◌, ℕ, Bool, true, false, nat_lt, nat_le, List, [], length, drop, bytes_eq, sum_by, Option, None, Some, Ok, if◌then◌else◌}
+use Rattle.std.specs.List.{list_any, list_all}
+use Rattle.std.specs.Option.{option_map}
+use Rattle.rdlpp_scan.specs.declared.token.Mode.TheVariants.{Plain}
+use Rattle.rdlpp_scan.specs.Tokens.{tokens_from}
+use Rattle.rdlpp_table.specs.declared.body.Inside.TheVariants.{Text}
+use Rattle.rdlpp_table.specs.Table.{Formal, default_size, formal_size}
+use Rattle.rdlpp_table.specs.Define.{DefaultText, FormalList, Listed, Unlisted, Good, Bad, after_space, default_of_tokens, formal_in, is_nothing, leading_name, trimmed_default}
+use Rattle.rdlpp_table.specs.Bodies.{cleared, start_level, trimmed_left, trimmed_len, trims}
+use Rattle.rdlpp_table.specs.Store.{is_default, is_plain_formal}
 use Rattle.rdlpp_table.specs.declared.fault.DefineKind.{DefineKind}
 use Rattle.rdlpp_table.specs.declared.fault.DefineKind.TheVariants as kind
 
--- the formals of the text of a list, behind other formals (this project's profile)
-unfoldable pub formals_behind : List Formal → List ℕ → FormalList
-formals_behind before text = formals_in before (list_text text).parts (list_text text).behind
-
--- what is wrong with the name of a formal, behind other formals (this project's profile)
-unfoldable pub formal_fault : List Formal → List ℕ → Option DefineKind
-formal_fault before name =
+-- what is wrong with a formal of a name, behind formals of such names (this project's profile)
+unfoldable pub fault_behind : List (List ℕ) → List ℕ → Option DefineKind
+fault_behind names name =
     if is_nothing name then Some kind.BadFormals
     else (if nat_lt 128 (length name) then Some kind.NameTooLong
-    else (if list_any (λ f. bytes_eq f.name name) before then Some kind.FormalTwice
-    else (if nat_le 64 (length before) then Some kind.TooManyFormals
+    else (if list_any (λ n. bytes_eq n name) names then Some kind.FormalTwice
+    else (if nat_le 255 (length names) then Some kind.TooManyFormals
     else None)))
 
--- bytes are those of so many formals, each a name without a comma of at most 128 bytes
-pub record AreFormals (list : List ℕ) (count : ℕ) : Type 0 where
-  pub list_is : flat_map formal_bytes (formals_from [] list) ≡ list
-  pub count_is : length (formals_from [] list) ≡ count
-  pub plain : list_all is_plain_formal (formals_from [] list) ≡ true
-  pub size : length list ≤ 129 * count
-  pub few : count ≤ 64
+-- the default text of a text from behind its `=` on
+unfoldable pub default_left : List ℕ → List ℕ
+default_left text = trimmed_left (trims true) (cleared (Some 0) Text text)
+
+-- the default text, and what stands behind it, from behind its `=` on
+unfoldable pub default_behind : List ℕ → Option DefaultText
+default_behind text = option_map trimmed_default (default_of_tokens 0 (tokens_from Plain 0 text) text)
+
+-- a default text that counts so much was read from a text, and so much stands behind it
+pub record IsDefault (default : Option DefaultText) (from behind : List ℕ) (size : ℕ) : Type 0 where
+  pub is : default ≡ Some (record { text = default_left from; behind = behind })
+  pub size_is : default_size (default_left from) ≡ size
+  pub len_is : trimmed_len (trims true) (cleared (start_level true) Text from) ≡ Ok (length (default_left from))
+  pub plain : is_default (default_left from) ≡ true
+
+-- a list of so many formals with so many bytes was read, and so much stands behind it
+pub record IsRead (list : FormalList) (behind : List ℕ) (count size : ℕ) (formals : List Formal) : Type 0 where
+  pub is : list ≡ Listed (Some formals) behind
+  pub count_is : length formals ≡ count
+  pub size_is : sum_by formal_size formals ≡ size
+  pub plain : list_all is_plain_formal formals ≡ true
+
+-- the formal with which a list's text begins, where it has no fault
+unfoldable pub formal_told : List ℕ → Formal
+formal_told text = elim (formal_in [] text) [ Good f behind ↦ f | Bad k ↦ record { name = []; text = [] } ]
+
+-- what stands behind it
+unfoldable pub behind_told : List ℕ → List ℕ
+behind_told text = elim (formal_in [] text) [ Good f behind ↦ behind | Bad k ↦ [] ]
+
+-- whether it has no fault
+unfoldable pub is_told : List ℕ → Bool
+is_told text = elim (formal_in [] text) [ Good f behind ↦ true | Bad k ↦ false ]
+
+-- the formals of a list that was read
+unfoldable pub listed : FormalList → Option (List Formal)
+listed (Listed formals behind) = formals
+listed (Unlisted k) = None
 
 -- what a list's text begins with: white space, a name or nothing, white space, and what stands behind them
 pub record IsPart (text name behind : List ℕ) : Type 0 where

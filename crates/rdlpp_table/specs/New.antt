@@ -1,24 +1,36 @@
--- A macro that is to be stored: its name, its formals as their bytes, its body as the text that it is read from.
+-- A macro that is to be stored: its name, its formals as the text of their list, its body as the text that it is read from.
 -- A definition that names no source is this project's own.
-use Rattle.std.specs.Prelude.{◌≡◌, ℕ, Bool, true, List, [], length, Option, option_map, unwrap_or, Ok}
-use Rattle.std.specs.List.{flat_map, list_all}
+use Rattle.std.specs.Prelude.{◌≡◌, ℕ, Bool, true, false, List, [], length, drop, slice_range, Option, Some, None, option_map, sum_by, unwrap_or, Ok}
+use Rattle.std.specs.List.{list_all}
 use Rattle.rdlpp_table.specs.declared.body.Inside.TheVariants.{Text}
-use Rattle.rdlpp_table.specs.Table.{Macro, formal_bytes}
-use Rattle.rdlpp_table.specs.Bodies.{body_left, body_len, cleared, joined}
-use Rattle.rdlpp_table.specs.Store.{formals_from, is_plain_formal}
+use Rattle.rdlpp_table.specs.Table.{Formal, Macro, formal_size}
+use Rattle.rdlpp_table.specs.Define.{formals_of_list}
+use Rattle.rdlpp_table.specs.Formals.{listed}
+use Rattle.rdlpp_table.specs.Bodies.{cleared, joined, start_level, trimmed_left, trimmed_len, trims}
+use Rattle.rdlpp_table.specs.Stops.{is_none, stop_of}
+use Rattle.rdlpp_table.specs.Store.{formals_read, is_plain_formal}
+
+-- the formals of a list's text, where there is a list
+unfoldable pub list_formals : Option ℕ → List ℕ → Option (List Formal)
+list_formals None list = None
+list_formals (Some n) list = listed (formals_of_list (joined true list))
 
 -- the macro
 abbrev pub new_macro : List ℕ → Option ℕ → List ℕ → Bool → List ℕ → Macro
 new_macro name arity list is_logical text =
-    record { name = name; formals = option_map (λ n. formals_from [] list) arity; body = body_left (cleared Text (joined is_logical text)) }
+    record { name = name; formals = list_formals arity list; body = trimmed_left (trims false) (cleared None Text (joined is_logical text)) }
 
--- the bytes and the arity are those of formals
-pub record IsList (name : List ℕ) (arity : Option ℕ) (list : List ℕ) : Type 0 where
-  pub list_is : flat_map formal_bytes (unwrap_or (option_map (λ (n : ℕ). formals_from [] list) arity) []) ≡ list
-  pub arity_is : option_map length (option_map (λ (n : ℕ). formals_from [] list) arity) ≡ arity
-  pub plain : list_all is_plain_formal (unwrap_or (option_map (λ (n : ℕ). formals_from [] list) arity) []) ≡ true
+-- so many formals with so many bytes are those of a list's text
+pub record IsList (arity : Option ℕ) (list : List ℕ) (size : ℕ) : Type 0 where
+  pub size_is : sum_by formal_size (unwrap_or (list_formals arity list) []) ≡ size
+  pub arity_is : option_map length (list_formals arity list) ≡ arity
+  pub plain : list_all is_plain_formal (unwrap_or (list_formals arity list) []) ≡ true
 
--- the bytes and the arity are those of its formals, and its body has so many bytes
-pub record IsNew (name : List ℕ) (arity : Option ℕ) (list : List ℕ) (is_logical : Bool) (text : List ℕ) (len : ℕ) : Type 0 where
-  pub listed : IsList name arity list
-  pub body_is : body_len (cleared Text (joined is_logical text)) ≡ Ok len
+-- the size and the arity are those of its formals, and its body has so many bytes
+pub record IsNew (name : List ℕ) (arity : Option ℕ) (list : List ℕ) (size : ℕ) (is_logical : Bool) (text : List ℕ) (len : ℕ) : Type 0 where
+  pub listed : IsList arity list size
+  pub body_is : trimmed_len (trims false) (cleared None Text (joined is_logical text)) ≡ Ok len
+
+-- whether the body behind a place of a table's bytes is copied as it stands, by so many formals between two places
+abbrev pub copied_told : List ℕ → ℕ → ℕ → ℕ → Bool
+copied_told bytes list body count = is_none (stop_of (formals_read count (slice_range bytes list body)) 0 (drop body bytes))

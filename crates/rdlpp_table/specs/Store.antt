@@ -1,7 +1,11 @@
 -- How a table lies in its two lists: the bytes of its macros one after another, and an entry for each.
 -- A definition that names no source is this project's own.
-use Rattle.std.specs.Prelude.{◌≡◌, ℕ, ◌+◌, Bool, true, not, ◌&&◌, ◌==◌, List, [], ◌∷◌, ◌++◌, length, map, slice_range, sum_by, option_map, unwrap_or, if◌then◌else◌}
-use Rattle.std.specs.List.{list_any, list_all}
+use Rattle.std.specs.Prelude.{◌≡◌, ℕ, zero, suc, ◌+◌, ◌-◌, Bool, true, not, ◌&&◌, ◌||◌, ◌==◌, List, [], ◌∷◌, ◌++◌, length, take, drop, map, slice_index, slice_range, sum_by, Option, Some, option_map, unwrap_or, if◌then◌else◌}
+use Rattle.std.specs.List.{prefix_len, list_all}
+use Rattle.rdlpp_scan.specs.Bytes.{begins_perl}
+use Rattle.rdlpp_table.specs.declared.body.Inside.{Inside}
+use Rattle.rdlpp_table.specs.declared.body.Inside.TheVariants.{Text}
+use Rattle.rdlpp_table.specs.Bodies.{behind_first, cleared, keeps_first, level_after, minds_perl, stops_at, text_behind}
 use Rattle.rdlpp_table.specs.Table.{Formal, Macro, macro_size, table_bytes, formal_size}
 use Rattle.rdlpp_table.specs.Stops.{is_copied}
 use Rattle.rdlpp_table.specs.declared.entry.Entry.{Entry}
@@ -19,11 +23,34 @@ unfoldable pub entries_of : ℕ → List Macro → List Entry
 entries_of start [] = []
 entries_of start (m ∷ ms) = entry_of start m ∷ entries_of (start + macro_size m) ms
 
--- the parts of a list's bytes: a formal ends with a comma
-unfoldable pub formals_from : List ℕ → List ℕ → List Formal
-formals_from name [] = []
-formals_from name (b ∷ bs) =
-    if b == 44 then record { name = name; text = [] } ∷ formals_from [] bs else formals_from (name ++ b ∷ []) bs
+-- a byte of a formal's name in a table's bytes: neither the `,` nor the `=` that stands behind it
+unfoldable pub is_name_byte : ℕ → Bool
+is_name_byte b = not (b == 44 || b == 61)
+
+-- what stands behind a default text with which bytes of a table begin, from its `,` on
+unfoldable pub behind_stored : List ℕ → List ℕ
+behind_stored bytes = text_behind (cleared (Some 0) Text bytes)
+
+-- a formal that was read from a table's bytes, and what stands behind its `,`
+pub record StoredFormal : Type 0 where
+  pub formal : Formal
+  pub behind : List ℕ
+
+-- a formal of a name, by what stands behind the name: a default text behind `=`, or a `,` at once
+unfoldable pub formal_behind : List ℕ → List ℕ → StoredFormal
+formal_behind name bytes =
+    let text = drop 1 bytes in
+    if slice_index bytes 0 == 61 then record { formal = record { name = name; text = take (length text - length (behind_stored text)) text }; behind = drop 1 (behind_stored text) }
+    else record { formal = record { name = name; text = [] }; behind = text }
+
+-- the formal with which bytes of a table begin
+unfoldable pub formal_read : List ℕ → StoredFormal
+formal_read bytes = formal_behind (take (prefix_len is_name_byte bytes) bytes) (drop (prefix_len is_name_byte bytes) bytes)
+
+-- so many formals with which bytes of a table begin
+unfoldable pub formals_read : ℕ → List ℕ → List Formal
+formals_read zero bytes = []
+formals_read (suc n) bytes = (formal_read bytes).formal ∷ formals_read n (formal_read bytes).behind
 
 -- where the list of an entry's macro begins, where its body does, and where its bytes end
 unfoldable pub list_start : Entry → ℕ
@@ -51,15 +78,29 @@ body_of bytes e = slice_range bytes (body_start e) (entry_end e)
 
 -- the macro of an entry in a table's bytes
 unfoldable pub macro_in : List ℕ → Entry → Macro
-macro_in bytes e = record { name = name_of bytes e; formals = option_map (λ _. formals_from [] (list_of bytes e)) e.arity; body = body_of bytes e }
+macro_in bytes e = record { name = name_of bytes e; formals = option_map (λ n. formals_read n (list_of bytes e)) e.arity; body = body_of bytes e }
 
 -- the macros of entries in a table's bytes
 unfoldable pub macros_in : List ℕ → List Entry → List Macro
 macros_in bytes entries = map (macro_in bytes) entries
 
--- whether the formals of a macro can be told from their bytes: their names have no comma, and they have no default text
+-- whether a text that begins inside something, at a level, is read whole up to a `,` behind it: without a fault or a `//` comment,
+-- without a `,` or `)` at level 0, and at level 0 at its end
+unfoldable pub is_filled : Option ℕ → Inside → List ℕ → Bool
+is_filled level inside [] = stops_at level inside 44
+is_filled level inside (b ∷ bs) =
+    let c = slice_index (bs ++ 44 ∷ []) 0 in
+    not (stops_at level inside b)
+    && (not (minds_perl inside && begins_perl (b ∷ c ∷ []))
+    && (keeps_first inside (b ∷ c ∷ []) && is_filled (level_after level inside b) (behind_first inside (b ∷ c ∷ [])) bs))
+
+-- whether a default text is read back up to the `,` behind it
+abbrev pub is_default : List ℕ → Bool
+is_default text = is_filled (Some 0) Text text
+
+-- whether a formal can be told from its bytes: its name has neither `,` nor `=`, and its default text is read back
 unfoldable pub is_plain_formal : Formal → Bool
-is_plain_formal f = not (list_any (λ b. b == 44) f.name) && (length f.text == 0)
+is_plain_formal f = list_all is_name_byte f.name && is_default f.text
 
 -- whether all formals of a macro can be told from their bytes
 unfoldable pub is_plain_macro : Macro → Bool

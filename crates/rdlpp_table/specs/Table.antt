@@ -22,9 +22,14 @@ macro_named macros name = find (λ m. bytes_eq m.name name) macros
 unfoldable pub without : List ℕ → List Macro → List Macro
 without name macros = filter (λ m. not (bytes_eq m.name name)) macros
 
--- what a formal counts: its name and one more (this project's profile)
+-- what a default text counts: one and its bytes, where it isn't empty (this project's profile)
+unfoldable pub default_size : List ℕ → ℕ
+default_size [] = 0
+default_size (b ∷ bs) = 1 + length (b ∷ bs)
+
+-- what a formal counts: its name, its default text, and one more (this project's profile)
 unfoldable pub formal_size : Formal → ℕ
-formal_size f = length f.name + 1
+formal_size f = length f.name + (default_size f.text + 1)
 
 -- what a macro counts: its name, its formals and its body (this project's profile)
 unfoldable pub macro_size : Macro → ℕ
@@ -34,9 +39,14 @@ macro_size m = length m.name + (sum_by formal_size (unwrap_or m.formals []) + le
 unfoldable pub table_size : List Macro → ℕ
 table_size macros = sum_by macro_size macros
 
--- a formal in a table's bytes: its name and a comma
+-- a default text in a table's bytes: `=` and the text, where it isn't empty (this project's profile)
+unfoldable pub default_bytes : List ℕ → List ℕ
+default_bytes [] = []
+default_bytes (b ∷ bs) = 61 ∷ b ∷ bs
+
+-- a formal in a table's bytes: its name, its default text, and a comma (this project's profile)
 unfoldable pub formal_bytes : Formal → List ℕ
-formal_bytes f = f.name ++ 44 ∷ []
+formal_bytes f = f.name ++ (default_bytes f.text ++ 44 ∷ [])
 
 -- a macro in a table's bytes: its name, its formals, its body
 unfoldable pub macro_bytes : Macro → List ℕ

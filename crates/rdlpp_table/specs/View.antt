@@ -27,13 +27,21 @@ place_named macros name = position (λ m. bytes_eq m.name name) macros
 abbrev pub formals_of : Macro → List Formal
 formals_of m = unwrap_or m.formals []
 
+-- a formal without anything
+abbrev pub no_formal : Formal
+no_formal = record { name = []; text = [] }
+
+-- the formal at a place
+abbrev pub formal_at : List Formal → ℕ → Formal
+formal_at formals place = slice_index_or formals place no_formal
+
 -- the place of the formal of a name
 abbrev pub formal_named : List Formal → List ℕ → Option ℕ
 formal_named formals name = position (λ f. bytes_eq f.name name) formals
 
 -- the most formals of a macro (this project's profile)
 abbrev pub most_formals : ℕ
-most_formals = 64
+most_formals = 255
 
 -- the most bytes of the name of a macro or of a formal (this project's profile)
 abbrev pub most_name_bytes : ℕ

@@ -1,27 +1,57 @@
-// The text of a body, byte by byte.
-ghost use Rattle.std.specs.Prelude.{[], drop, length, slice_index, IfOk, IfSome, false, Ok, vec_len, vec_capacity, ◌+◌, ◌++◌, MatchOption, OnSome, ◌&&◌, ◌-◌, ◌<◌, ◌≡◌, ◌≤◌, ◌∷◌};
-ghost use Rattle.rdlpp_scan.specs.Bytes.{begins_perl, is_blank};
+// The text of a body or of a default, byte by byte.
+ghost use Rattle.std.specs.Prelude.{
+  [],
+  false,
+  length,
+  unwrap_or,
+  vec_capacity,
+  vec_len,
+  IfNone,
+  IfOk,
+  IfSome,
+  MatchOption,
+  MatchResult,
+  None,
+  Ok,
+  Err,
+  OnSome,
+  ◌+◌,
+  ◌++◌,
+  ◌&&◌,
+  ◌<◌,
+  ◌≡◌,
+  ◌≤◌,
+  ◌∷◌,
+};
+ghost use Rattle.rdlpp_scan.specs.Bytes.{begins_perl, is_closer, is_opener};
 ghost use Rattle.rdlpp_table.specs.Bodies.{
   at_end,
+  begun,
   behind_first,
   cleared,
   joined,
   keeps_first,
+  level_after,
+  level_of,
   minds_perl,
-  unblanked,
+  start_level,
+  stops_at,
+  text_behind,
+  trimmed_left,
+  trimmed_len,
+  trims,
   IsNext,
-  body_left,
-  body_len,
   Sound,
   Unsound,
 };
-ghost use Rattle.rdlpp_table.specs.BodyBytes.{left};
+ghost use Rattle.rdlpp_table.specs.BodyBytes.{left, LevelFits};
+ghost use Rattle.rdlpp_table.specs.Store.{behind_stored};
 
-use crate::header::is_blank;
+use crate::header::{is_blank, is_space};
 use crate::logical::{first_or_zero, split_first};
 use rdlpp_scan::LexFault;
 
-// Inside of what a byte of a body's text stands.
+// The lexical context of a byte of a body or of a default text.
 #[derive(Clone, Copy, Drop)]
 pub(crate) enum Inside {
     // Neither a string nor a comment.
@@ -83,10 +113,73 @@ fn behind_first(inside: Inside, b: u8, c: u8) -> Inside
     }
 }
 
+// `(`, `[` or `{`.
+#[tactic(auto, unfolding(rdlpp_scan::specs::Bytes::is_opener))]
+fn is_opener(b: u8) -> bool
+    ensures { result ≡ is_opener b }
+{
+    b == b'(' || b == b'[' || b == b'{'
+}
+
+// `)`, `]` or `}`.
+#[tactic(auto, unfolding(rdlpp_scan::specs::Bytes::is_closer))]
+fn is_closer(b: u8) -> bool
+    ensures { result ≡ is_closer b }
+{
+    b == b')' || b == b']' || b == b'}'
+}
+
+// Whether a default text ends at a byte; a body has no level, and ends at none.
+#[tactic(auto, unfolding(crate::specs::Bodies::stops_at, crate::specs::Bodies::ends_at))]
+fn stops_at(level: Option<usize>, inside: Inside, b: u8) -> bool
+    ensures { result ≡ stops_at level inside b }
+{
+    match (level, inside) {
+        (Some(level), Inside::Text) => level == 0 && (b == b',' || b == b')'),
+        _ => false,
+    }
+}
+
+// The level behind a byte of plain text.
+#[tactic(auto, unfolding(crate::specs::Bodies::level_of))]
+fn level_of(level: usize, b: u8) -> usize
+    requires { level < 18446744073709551615 }
+    ensures { result ≡ level_of level b }
+{
+    if is_opener(b) {
+        level + 1
+    } else if is_closer(b) {
+        level.saturating_sub(1)
+    } else {
+        level
+    }
+}
+
+// The level behind a byte.
+#[tactic(auto, unfolding(crate::specs::Bodies::level_after))]
+fn level_after(level: Option<usize>, inside: Inside, b: u8) -> Option<usize>
+    requires { unwrap_or level 0 < 18446744073709551615 }
+    ensures value { result ≡ level_after level inside b }
+    ensures small { unwrap_or result 0 ≤ unwrap_or level 0 + 1 }
+{
+    match (level, inside) {
+        (Some(level), Inside::Text) => Some(level_of(level, b)),
+        _ => level,
+    }
+}
+
+// Whether a byte goes at both ends: a blank, and of a default text LF too.
+#[tactic(auto, unfolding(crate::specs::Bodies::trims))]
+fn trims(is_default: bool, b: u8) -> bool
+    ensures { result ≡ trims is_default b }
+{
+    if is_default { is_space(b) } else { is_blank(b) }
+}
+
 // What is wrong with a text that ends inside something.
 #[tactic(auto, unfolding(crate::specs::Bodies::at_end))]
 fn open_fault(inside: Inside) -> Option<LexFault>
-    ensures { MatchOption result (at_end inside ≡ Sound []) (λ fault. at_end inside ≡ Unsound fault) }
+    ensures { MatchOption result (at_end inside ≡ Sound [] []) (λ fault. at_end inside ≡ Unsound fault) }
 {
     match inside {
         Inside::Text | Inside::Remark => None,
@@ -95,39 +188,62 @@ fn open_fault(inside: Inside) -> Option<LexFault>
     }
 }
 
-// The bytes of a body's text that are kept, one after another.
+// The bytes of a body or of a default text that are kept, one after another.
 #[derive(Drop)]
 pub(crate) struct BodyBytes<'a> {
     rest: &'a [u8],
     is_logical: bool,
+    // How deep in brackets; none in a body.
+    level: Option<usize>,
     inside: Inside,
 }
 
 impl<'a> BodyBytes<'a> {
-    // All of a text; of a logical line's text with LF in the place of each continuation.
-    fn new(text: &'a [u8], is_logical: bool) -> BodyBytes<'a>
+    // All of a text, up to the end of the default text with which it begins where it is to be one;
+    // of a logical line's text with LF in the place of each continuation.
+    #[tactic(auto, unfolding(crate::specs::Bodies::start_level))]
+    pub(crate) fn new(text: &'a [u8], is_logical: bool, is_default: bool) -> BodyBytes<'a>
         ensures rest { result.rest.now ≡ text.now }
-        ensures left { left result ≡ cleared Inside.Text (joined is_logical text.now) }
+        ensures is_logical { result.is_logical ≡ is_logical }
+        ensures left { left result ≡ cleared (start_level is_default) Inside.Text (joined is_logical text.now) }
+        ensures fits { LevelFits result }
     {
         BodyBytes {
             rest: text,
             is_logical,
+            level: if is_default { Some(0) } else { None },
             inside: Inside::Text,
         }
     }
 
+    // The text that wasn't read yet.
+    fn rest(&self) -> &'a [u8]
+        ensures { result.now ≡ self.now.rest.now }
+    {
+        self.rest
+    }
+
     // The next byte that is kept; `None` at the end.
     fn next(&mut self) -> Result<Option<u8>, LexFault>
+        requires { LevelFits self.old }
         ensures next { IsNext (left self.old) result (left self.new) }
         ensures less { IfOk result (λ found. OnSome found (length self.new.rest.now < length self.old.rest.now)) }
+        ensures inside { length self.new.rest.now ≤ length self.old.rest.now }
+        ensures end { IfOk result (λ found. IfNone found (text_behind (left self.new) ≡ joined self.new.is_logical self.new.rest.now)) }
+        ensures same { self.new.is_logical ≡ self.old.is_logical }
+        ensures fits { LevelFits self.new }
     {
         while let Some((b, after)) = split_first(self.rest, self.is_logical) {
-            let c = first_or_zero(after, self.is_logical);
             let inside = self.inside;
+            if stops_at(self.level, inside, b) {
+                return Ok(None);
+            }
+            let c = first_or_zero(after, self.is_logical);
             if cuts(inside, b, c) {
                 return Err(LexFault::Perl);
             }
             self.rest = after;
+            self.level = level_after(self.level, inside, b);
             self.inside = behind_first(inside, b, c);
             if keeps_first(inside, b, c) {
                 return Ok(Some(b));
@@ -139,16 +255,21 @@ impl<'a> BodyBytes<'a> {
         }
     }
 
-    // The next byte that is kept and isn't blank.
-    fn next_after_blanks(&mut self) -> Result<Option<u8>, LexFault>
-        ensures next { IsNext (unblanked (left self.old)) result (left self.new) }
+    // The next byte that is kept and doesn't go at the ends.
+    fn next_untrimmed(&mut self, is_default: bool) -> Result<Option<u8>, LexFault>
+        requires { LevelFits self.old }
+        ensures next { IsNext (begun (trims is_default) (left self.old)) result (left self.new) }
         ensures less { IfOk result (λ found. OnSome found (length self.new.rest.now < length self.old.rest.now)) }
-        ensures some { IfOk result (λ found. IfSome found (λ b. is_blank b ≡ false)) }
+        ensures inside { length self.new.rest.now ≤ length self.old.rest.now }
+        ensures some { IfOk result (λ found. IfSome found (λ b. trims is_default b ≡ false)) }
+        ensures end { IfOk result (λ found. IfNone found (text_behind (left self.new) ≡ joined self.new.is_logical self.new.rest.now)) }
+        ensures same { self.new.is_logical ≡ self.old.is_logical }
+        ensures fits { LevelFits self.new }
     {
         loop {
             match self.next() {
                 Ok(Some(b)) => {
-                    if !is_blank(b) {
+                    if !trims(is_default, b) {
                         return Ok(Some(b));
                     }
                 }
@@ -159,14 +280,30 @@ impl<'a> BodyBytes<'a> {
     }
 }
 
-// The length of a body without its `//` comments and without the blanks at both ends, or the first fault of its text.
-pub(crate) fn body_len(text: &[u8], is_logical: bool) -> Result<usize, LexFault>
-    ensures { result ≡ body_len (cleared Inside.Text (joined is_logical text.now)) }
+// How long a text is without its `//` comments and what goes at both ends, and what stands behind it.
+#[derive(Clone, Copy, Drop)]
+pub(crate) struct Measured<'a> {
+    pub(crate) len: usize,
+    pub(crate) behind: &'a [u8],
+}
+
+// The length of a body, or of a default text, without its `//` comments and without what goes at both ends, or the first fault.
+pub(crate) fn trimmed_len(
+    text: &[u8],
+    is_logical: bool,
+    is_default: bool,
+) -> Result<Measured<'_>, LexFault>
+    ensures len { MatchResult result (λ measured. trimmed_len (trims is_default) (cleared (start_level is_default) Inside.Text (joined is_logical text.now)) ≡ Ok measured.len) (λ fault. trimmed_len (trims is_default) (cleared (start_level is_default) Inside.Text (joined is_logical text.now)) ≡ Err fault) }
+    ensures behind { IfOk result (λ measured. text_behind (cleared (start_level is_default) Inside.Text (joined is_logical text.now)) ≡ joined is_logical measured.behind.now) }
+    ensures inside { IfOk result (λ measured. measured.len + length measured.behind.now ≤ length text.now) }
 {
-    let mut bytes = BodyBytes::new(text, is_logical);
-    match bytes.next_after_blanks() {
+    let mut bytes = BodyBytes::new(text, is_logical, is_default);
+    match bytes.next_untrimmed(is_default) {
         Ok(Some(_)) => {}
-        Ok(None) => return Ok(0),
+        Ok(None) => return Ok(Measured {
+            len: 0,
+            behind: bytes.rest(),
+        }),
         Err(fault) => return Err(fault),
     }
     let mut count = 1;
@@ -175,30 +312,54 @@ pub(crate) fn body_len(text: &[u8], is_logical: bool) -> Result<usize, LexFault>
         match bytes.next() {
             Ok(Some(b)) => {
                 count += 1;
-                if !is_blank(b) {
+                if !trims(is_default, b) {
                     end = count;
                 }
             }
-            Ok(None) => return Ok(end),
+            Ok(None) => return Ok(Measured {
+                len: end,
+                behind: bytes.rest(),
+            }),
             Err(fault) => return Err(fault),
         }
     }
 }
 
-// Appends a body of which the length is known.
-pub(crate) fn append_body(to: &mut Vec<u8>, text: &[u8], is_logical: bool, len: usize)
-    requires len { body_len (cleared Inside.Text (joined is_logical text.now)) ≡ Ok len }
+// Appends a body, or a default text, of which the length is known.
+pub(crate) fn append_trimmed(
+    to: &mut Vec<u8>,
+    text: &[u8],
+    is_logical: bool,
+    is_default: bool,
+    len: usize,
+)
+    requires len { trimmed_len (trims is_default) (cleared (start_level is_default) Inside.Text (joined is_logical text.now)) ≡ Ok len }
     requires room { vec_len to.old + len ≤ vec_capacity to.old }
-    ensures items { to.new.items ≡ to.old.items ++ body_left (cleared Inside.Text (joined is_logical text.now)) }
+    ensures items { to.new.items ≡ to.old.items ++ trimmed_left (trims is_default) (cleared (start_level is_default) Inside.Text (joined is_logical text.now)) }
     ensures capacity { vec_capacity to.new ≡ vec_capacity to.old }
 {
-    let mut bytes = BodyBytes::new(text, is_logical);
-    let mut found = bytes.next_after_blanks().unwrap_or(None);
+    let mut bytes = BodyBytes::new(text, is_logical, is_default);
+    let mut found = bytes.next_untrimmed(is_default).unwrap_or(None);
     for _ in 0..len {
         let Some(b) = found else {
             return;
         };
         to.push_reserved(b);
         found = bytes.next().unwrap_or(None);
+    }
+}
+
+// What stands behind a default text with which bytes of a table begin, from its comma on.
+pub(crate) fn behind_default(bytes: &[u8]) -> &[u8]
+    ensures value { result.now ≡ behind_stored bytes.now }
+    ensures inside { length result.now ≤ length bytes.now }
+{
+    let mut reader = BodyBytes::new(bytes, false, true);
+    loop {
+        match reader.next() {
+            Ok(Some(_)) => {}
+            Ok(None) => return reader.rest(),
+            Err(_) => return &[],
+        }
     }
 }

@@ -25,15 +25,16 @@ fn define<R: Abort>(rt: &R, table: &mut Table, rest: &[u8]) -> Option<DefineKind
 }
 
 // What follows the word `define` of a macro `F` with so many formals, from `a00` on.
-fn with_formals(alloc: Global, count: u8) -> Result<Vec<u8>, AllocError> {
+fn with_formals(alloc: Global, count: u8, last: &[u8]) -> Result<Vec<u8>, AllocError> {
     let mut line = Vec::new(alloc);
     line.extend_from_slice(b" F(".as_slice())?;
     for i in 0..count {
         if i > 0 {
             line.extend_from_slice(b" , ".as_slice())?;
         }
-        line.extend_from_slice([b'a', b'0' + i / 10, b'0' + i % 10].as_slice())?;
+        line.extend_from_slice([b'a' + i / 100, b'0' + i / 10 % 10, b'0' + i % 10].as_slice())?;
     }
+    line.extend_from_slice(last)?;
     line.extend_from_slice(b") x\n".as_slice())?;
     Ok(line)
 }
@@ -74,10 +75,8 @@ fn headers_have_their_faults(rt: HostRuntime) {
         define(&rt, &mut table, b" F(a b) 1\n".as_slice()),
         Some(DefineKind::BadFormals)
     );
-    assert_eq!(rt;
-        define(&rt, &mut table, b" F(a=1) a\n".as_slice()),
-        Some(DefineKind::BadFormals)
-    );
+    assert_eq!(rt; define(&rt, &mut table, b" G(a=1) a\n".as_slice()), None);
+    assert_eq!(rt; table.remove(b"G".as_slice()), true);
     assert_eq!(rt;
         define(&rt, &mut table, b" \n".as_slice()),
         Some(DefineKind::NameExpected)
@@ -138,22 +137,95 @@ fn a_name_has_at_most_128_bytes(rt: HostRuntime) -> Result<(), Fail> {
 }
 
 #[test]
-fn a_macro_has_at_most_64_formals(rt: HostRuntime) -> Result<(), Fail> {
+fn a_macro_has_at_most_255_formals(rt: HostRuntime) -> Result<(), Fail> {
     let mut table = table(&rt, 1_024, 4);
-    let line = with_formals(rt.alloc(), 64)?;
+    let line = with_formals(rt.alloc(), 255, b"".as_slice())?;
     assert_eq!(rt; define(&rt, &mut table, line.as_slice()), None);
-    assert_eq!(rt; arity(&table), Some(64));
+    assert_eq!(rt; arity(&table), Some(255));
     assert_eq!(rt; formal(&table, b"a00".as_slice()), Some(0));
-    assert_eq!(rt; formal(&table, b"a63".as_slice()), Some(63));
-    assert_eq!(rt; formal(&table, b"a64".as_slice()), None);
-    assert_eq!(rt; table.bytes().len(), 1 + 64 * 4 + 1);
-    let line = with_formals(rt.alloc(), 65)?;
+    assert_eq!(rt; formal(&table, b"c54".as_slice()), Some(254));
+    assert_eq!(rt; formal(&table, b"c55".as_slice()), None);
+    assert_eq!(rt; table.bytes().len(), 1 + 255 * 4 + 1);
+    let line = with_formals(rt.alloc(), 255, b",c55".as_slice())?;
     assert_eq!(rt;
         define(&rt, &mut table, line.as_slice()),
         Some(DefineKind::TooManyFormals)
     );
-    assert_eq!(rt; arity(&table), Some(64));
+    let line = with_formals(rt.alloc(), 255, b",c54=<%".as_slice())?;
+    assert_eq!(rt;
+        define(&rt, &mut table, line.as_slice()),
+        Some(DefineKind::FormalTwice)
+    );
+    assert_eq!(rt; arity(&table), Some(255));
     Ok(())
+}
+
+// The default text of the formal at a place of the macro `F`; nothing where there is no such formal.
+fn default_text(table: &Table, i: usize) -> &[u8] {
+    match table.find(b"F".as_slice()) {
+        Some(id) => match table.arity(id) {
+            Some(count) => {
+                if i < count {
+                    table.default_text(id, i)
+                } else {
+                    b""
+                }
+            }
+            None => b"",
+        },
+        None => b"",
+    }
+}
+
+#[test]
+fn defaults_are_read_and_found_again(rt: HostRuntime) {
+    let mut table = table(&rt, 1_024, 4);
+    assert_eq!(rt;
+        define(&rt, &mut table, b" F(x, y = 2) x+y\n".as_slice()),
+        None
+    );
+    assert_eq!(rt; table.bytes(), b"Fx,y=2,x+y".as_slice());
+    assert_eq!(rt; default_text(&table, 0), b"".as_slice());
+    assert_eq!(rt; default_text(&table, 1), b"2".as_slice());
+    assert_eq!(rt; formal(&table, b"y".as_slice()), Some(1));
+    let line = b" F(a=(1,2)/*)*/, b = \"),\" // )\\\n ,c=,d=[{,}]) c\n".as_slice();
+    assert_eq!(rt; define(&rt, &mut table, line), None);
+    assert_eq!(rt;
+        table.bytes(),
+        b"Fa=(1,2)/*)*/,b=\"),\",c,d=[{,}],c".as_slice()
+    );
+    assert_eq!(rt; default_text(&table, 0), b"(1,2)/*)*/".as_slice());
+    assert_eq!(rt; default_text(&table, 1), b"\"),\"".as_slice());
+    assert_eq!(rt; default_text(&table, 2), b"".as_slice());
+    assert_eq!(rt; default_text(&table, 3), b"[{,}]".as_slice());
+    assert_eq!(rt; formal(&table, b"d".as_slice()), Some(3));
+}
+
+#[test]
+fn broken_defaults_are_refused(rt: HostRuntime) {
+    let mut table = table(&rt, 1_024, 4);
+    let refused = Some(DefineKind::BadFormals);
+    assert_eq!(rt;
+        define(&rt, &mut table, b" F(x=\"a) 1\n".as_slice()),
+        refused
+    );
+    assert_eq!(rt;
+        define(&rt, &mut table, b" F(x=/*a) 1\n".as_slice()),
+        refused
+    );
+    assert_eq!(rt;
+        define(&rt, &mut table, b" F(x=<%) 1\n".as_slice()),
+        refused
+    );
+    assert_eq!(rt;
+        define(&rt, &mut table, b" F(x=(1) 1\n".as_slice()),
+        refused
+    );
+    assert_eq!(rt;
+        define(&rt, &mut table, b" F(x,x=<%) 1\n".as_slice()),
+        Some(DefineKind::FormalTwice)
+    );
+    assert_eq!(rt; table.len(), 0);
 }
 
 #[test]

@@ -1,6 +1,6 @@
 // Where the parts of one definition lie in a table's bytes.
-ghost use Rattle.std.specs.Prelude.{◌≡◌, ◌≤◌, [], length};
-ghost use Rattle.rdlpp_table.specs.Store.{body_of, entry_end, formals_from, list_of, macro_in, name_of};
+ghost use Rattle.std.specs.Prelude.{◌≡◌, ◌≤◌, [], length, unwrap_or};
+ghost use Rattle.rdlpp_table.specs.Store.{body_of, entry_end, formals_read, list_of, macro_in, name_of};
 ghost use Rattle.rdlpp_table.specs.View.{formals_of};
 
 // A definition's name, its formals with a comma after each, and its body lie one after another.
@@ -35,11 +35,11 @@ pub(crate) fn list_in<'a>(bytes: &'a [u8], entry: &Entry) -> &'a [u8]
     &bytes[start..start + entry.list_len]
 }
 
-// The formals of a definition, each with a comma after it; nothing where it has no list.
-#[tactic(auto, unfolding(crate::specs::Store::formals_from, crate::specs::Store::macro_in))]
+// The formals of a definition as they lie in a table; nothing where it has no list.
+#[tactic(auto, unfolding(crate::specs::Store::formals_read, crate::specs::Store::macro_in))]
 pub(crate) fn formals_in<'a>(bytes: &'a [u8], entry: &Entry) -> &'a [u8]
     requires { entry_end entry.now ≤ length bytes.now }
-    ensures { formals_from [] result.now ≡ formals_of (macro_in bytes.now entry.now) }
+    ensures { formals_read (unwrap_or entry.now.arity 0) result.now ≡ formals_of (macro_in bytes.now entry.now) }
 {
     match entry.arity {
         Some(_) => list_in(bytes, entry),

@@ -24,11 +24,11 @@ pub enum DefineKind {
     ReservedName,
     /// F17: a name has more than 128 bytes.
     NameTooLong,
-    /// F18: the formal list isn't one.
+    /// F18: the formal list isn't one, or a default text in it is broken.
     BadFormals,
     /// F19: a formal is given twice.
     FormalTwice,
-    /// F20: there are more than 64 formals.
+    /// F20: there are more than 255 formals.
     TooManyFormals,
     /// F21: the live definitions would have too many bytes.
     DefinitionBytes,

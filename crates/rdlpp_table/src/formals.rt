@@ -1,54 +1,56 @@
 // The formal list of a definition.
-ghost use Rattle.std.specs.Prelude.{◌≡◌, ◌+◌, ◌++◌, ◌∷◌, ◌<◌, ◌≤◌, ◌==◌, [], length, position, true, IfOk, MatchOption, MatchResult, Some};
+ghost use Rattle.std.specs.Prelude.{
+  [],
+  bytes_eq,
+  is_some,
+  length,
+  map,
+  slice_index,
+  sum_by,
+  true,
+  unwrap_or,
+  vec_capacity,
+  vec_len,
+  IfSome,
+  List,
+  MatchOption,
+  MatchResult,
+  None,
+  ◌+◌,
+  ◌++◌,
+  ◌<◌,
+  ◌≡◌,
+  ◌≢◌,
+  ◌≤◌,
+  ◌∷◌,
+};
+ghost use Rattle.std.specs.List.{flat_map, list_any};
 ghost use Rattle.rdlpp_table.specs.Bodies.{joined};
-ghost use Rattle.rdlpp_table.specs.Define.{formals_of_list, list_text, Listed, Unlisted};
-ghost use Rattle.rdlpp_table.specs.Formals.{formal_fault, formals_behind, AreFormals, IsPart};
-ghost use Rattle.rdlpp_table.specs.Store.{formals_from};
-ghost use Rattle.rdlpp_table.specs.View.{formal_named};
+ghost use Rattle.rdlpp_table.specs.Define.{default_in, formals_in, formals_of_list, Unlisted};
+ghost use Rattle.rdlpp_table.specs.Formals.{behind_told, default_behind, fault_behind, formal_told, is_told, listed, IsDefault, IsPart, IsRead};
+ghost use Rattle.rdlpp_table.specs.Table.{formal_bytes, formal_size, Formal};
 
+use crate::body::{append_trimmed, trimmed_len};
 use crate::fault::DefineKind;
 use crate::header::{after_space, leading_name};
 use crate::logical::split_first;
 use crate::name::MOST_NAME_BYTES;
+use crate::storing::append;
 use arrayvec::ArrayVec;
 
 // The most formals of a macro (this project's profile).
-const MOST_FORMALS: usize = 64;
+const MOST_FORMALS: usize = 255;
 
-// The most bytes of a list: each name has at most `MOST_NAME_BYTES`, and a comma after it.
-const LIST_BYTES: usize = MOST_FORMALS * (MOST_NAME_BYTES + 1);
-
-// The names of formals, with a comma after each.
-pub(crate) type FormalBytes = ArrayVec<u8, LIST_BYTES>;
-
-// The place of the first comma.
-fn comma_in(bytes: &[u8]) -> Option<usize>
-    ensures { result ≡ position (λ b. b == 44) bytes.now }
+// Whether a name is among names.
+fn is_among(names: &[&[u8]], name: &[u8]) -> bool
+    ensures { result ≡ list_any (λ n. bytes_eq n.now name.now) names.now }
 {
-    bytes.iter().position(|b| *b == b',')
+    names.iter().any(|other| *other == name)
 }
 
-// The place of the formal of a name, in names with a comma after each.
-pub(crate) fn place_in_list(list: &[u8], name: &[u8]) -> Option<usize>
-    ensures { result ≡ formal_named (formals_from [] list.now) name.now }
-{
-    let mut rest = list;
-    let mut place = 0;
-    while let Some(len) = comma_in(rest) {
-        if &rest[..len] == name {
-            return Some(place);
-        }
-        rest = &rest[len + 1..];
-        place += 1;
-    }
-    None
-}
-
-// What is wrong with the name of a formal, behind so many formals.
-#[tactic(auto, using(crate::proofs::Gathered::some_position), unfolding(crate::specs::Formals::formal_fault))]
-fn formal_fault(list: &[u8], count: usize, name: &[u8]) -> Option<DefineKind>
-    requires { length (formals_from [] list.now) ≡ count }
-    ensures { result ≡ formal_fault (formals_from [] list.now) name.now }
+// What is wrong with the name of a formal, behind formals of such names.
+fn formal_fault(names: &[&[u8]], name: &[u8]) -> Option<DefineKind>
+    ensures { result ≡ fault_behind (map (λ n. n.now) names.now) name.now }
 {
     if name.is_empty() {
         return Some(DefineKind::BadFormals);
@@ -56,22 +58,13 @@ fn formal_fault(list: &[u8], count: usize, name: &[u8]) -> Option<DefineKind>
     if name.len() > MOST_NAME_BYTES {
         return Some(DefineKind::NameTooLong);
     }
-    if place_in_list(list, name).is_some() {
+    if is_among(names, name) {
         return Some(DefineKind::FormalTwice);
     }
-    if count >= MOST_FORMALS {
+    if names.len() >= MOST_FORMALS {
         return Some(DefineKind::TooManyFormals);
     }
     None
-}
-
-// Appends a formal.
-fn append_formal(list: &mut FormalBytes, name: &[u8])
-    requires { length list.old.items + length name.now < LIST_BYTES }
-    ensures { list.new.items ≡ (list.old.items ++ name.now) ++ 44 ∷ [] }
-{
-    let _ = list.try_extend_from_slice(name);
-    list.push(b',');
 }
 
 // A formal's name, and what stands behind it and the white space after it.
@@ -84,7 +77,7 @@ struct Part<'a> {
 // The formal with which the text of a list begins.
 fn first_part(text: &[u8]) -> Part<'_>
     ensures part { IsPart (joined true text.now) result.name.now (joined true result.behind.now) }
-    ensures inside { length result.behind.now ≤ length text.now }
+    ensures inside { length result.name.now + length result.behind.now ≤ length text.now }
 {
     let rest = after_space(text);
     let name = leading_name(rest);
@@ -94,33 +87,89 @@ fn first_part(text: &[u8]) -> Part<'_>
     }
 }
 
-// A formal list that was read: how many formals it has, and the text behind its `)`.
+// A default text: where it is read from, what it counts, and what stands behind it; it counts nothing where there is none.
+#[derive(Clone, Copy, Drop)]
+struct DefaultText<'a> {
+    from: &'a [u8],
+    size: usize,
+    behind: &'a [u8],
+}
+
+// The default text behind the `=` of a formal; `None` where it has a fault or no end.
+fn read_default(from: &[u8]) -> Option<DefaultText<'_>>
+    requires { length from.now < 18446744073709551615 }
+    ensures is { MatchOption result (default_behind (joined true from.now) ≡ None) (λ d. IsDefault (default_behind (joined true from.now)) (joined true d.from.now) (joined true d.behind.now) d.size) }
+    ensures inside { IfSome result (λ d. d.size + length d.behind.now ≤ length from.now + 1) }
+{
+    let Ok(measured) = trimmed_len(from, true, true) else {
+        return None;
+    };
+    if measured.behind.is_empty() {
+        return None;
+    }
+    let size = if measured.len == 0 {
+        0
+    } else {
+        1 + measured.len
+    };
+    Some(DefaultText {
+        from,
+        size,
+        behind: measured.behind,
+    })
+}
+
+// The default text of a formal, by what stands behind its name; `None` where it has a fault or no end.
+fn default_in(text: &[u8]) -> Option<DefaultText<'_>>
+    ensures is { MatchOption result (default_in (joined true text.now) ≡ None) (λ d. IsDefault (default_in (joined true text.now)) (joined true d.from.now) (joined true d.behind.now) d.size) }
+    ensures inside { IfSome result (λ d. d.size + length d.behind.now ≤ length text.now) }
+{
+    if let Some((b, from)) = split_first(text, true) {
+        if b == b'=' {
+            return read_default(from);
+        }
+    }
+    Some(DefaultText {
+        from: &[],
+        size: 0,
+        behind: text,
+    })
+}
+
+// A formal list that was read: how many formals it has, how many bytes they are, and the text behind its `)`.
 #[derive(Clone, Copy, Drop)]
 pub(crate) struct ReadList<'a> {
     pub(crate) count: usize,
+    pub(crate) size: usize,
     pub(crate) behind: &'a [u8],
 }
 
 // Reads the formals of a list that has some.
-fn read_some<'a>(text: &'a [u8], list: &mut FormalBytes) -> Result<ReadList<'a>, DefineKind>
-    requires { list.old.items ≡ [] }
-    ensures formals { MatchResult result (λ read. formals_behind [] (joined true text.now) ≡ Listed (Some (formals_from [] list.new.items)) (joined true read.behind.now)) (λ kind. formals_behind [] (joined true text.now) ≡ Unlisted kind) }
-    ensures listed { IfOk result (λ read. AreFormals list.new.items read.count) }
+fn read_some(text: &[u8]) -> Result<ReadList<'_>, DefineKind>
+    ensures read { MatchResult result (λ read. (formals : List Formal) × IsRead (formals_in 255 [] (joined true text.now)) (joined true read.behind.now) read.count read.size formals) (λ kind. formals_in 255 [] (joined true text.now) ≡ Unlisted kind) }
 {
+    let mut names: ArrayVec<&[u8], MOST_FORMALS> = ArrayVec::new();
     let mut rest = text;
-    let mut count = 0;
+    let mut size = 0;
     loop {
         let part = first_part(rest);
-        if let Some(kind) = formal_fault(list.as_slice(), count, part.name) {
+        if let Some(kind) = formal_fault(names.as_slice(), part.name) {
             return Err(kind);
         }
-        append_formal(list, part.name);
-        count += 1;
-        let Some((b, behind)) = split_first(part.behind, true) else {
+        let Some(default) = default_in(part.behind) else {
+            return Err(DefineKind::BadFormals);
+        };
+        names.push(part.name);
+        size += part.name.len() + default.size + 1;
+        let Some((b, behind)) = split_first(default.behind, true) else {
             return Err(DefineKind::BadFormals);
         };
         if b == b')' {
-            return Ok(ReadList { count, behind });
+            return Ok(ReadList {
+                count: names.len(),
+                size,
+                behind,
+            });
         }
         if b != b',' {
             return Err(DefineKind::BadFormals);
@@ -130,22 +179,55 @@ fn read_some<'a>(text: &'a [u8], list: &mut FormalBytes) -> Result<ReadList<'a>,
 }
 
 // Reads a formal list, behind its `(`.
-pub(crate) fn read_list<'a>(
-    text: &'a [u8],
-    list: &mut FormalBytes,
-) -> Result<ReadList<'a>, DefineKind>
-    requires { list.old.items ≡ [] }
-    ensures formals { MatchResult result (λ read. formals_of_list (list_text (joined true text.now)) ≡ Listed (Some (formals_from [] list.new.items)) (joined true read.behind.now)) (λ kind. formals_of_list (list_text (joined true text.now)) ≡ Unlisted kind) }
-    ensures listed { IfOk result (λ read. AreFormals list.new.items read.count) }
+pub(crate) fn read_list(text: &[u8]) -> Result<ReadList<'_>, DefineKind>
+    ensures read { MatchResult result (λ read. (formals : List Formal) × IsRead (formals_of_list (joined true text.now)) (joined true read.behind.now) read.count read.size formals) (λ kind. formals_of_list (joined true text.now) ≡ Unlisted kind) }
 {
-    match split_first(after_space(text), true) {
-        Some((b, behind)) => {
-            if b == b')' {
-                Ok(ReadList { count: 0, behind })
-            } else {
-                read_some(text, list)
-            }
+    if let Some((b, behind)) = split_first(after_space(text), true) {
+        if b == b')' {
+            return Ok(ReadList {
+                count: 0,
+                size: 0,
+                behind,
+            });
         }
-        None => read_some(text, list),
+    }
+    read_some(text)
+}
+
+// Appends the formal with which a list's text begins, and answers the text behind the `,` after it, where there is one.
+fn append_formal<'a>(to: &mut Vec<u8>, text: &'a [u8]) -> Option<&'a [u8]>
+    requires good { is_told (joined true text.now) ≡ true }
+    requires room { vec_len to.old + formal_size (formal_told (joined true text.now)) ≤ vec_capacity to.old }
+    ensures items { to.new.items ≡ to.old.items ++ formal_bytes (formal_told (joined true text.now)) }
+    ensures capacity { vec_capacity to.old ≤ vec_capacity to.new }
+    ensures behind { MatchOption result (slice_index (behind_told (joined true text.now)) 0 ≢ 44) (λ behind. behind_told (joined true text.now) ≡ 44 ∷ joined true behind.now) }
+    ensures less { IfSome result (λ behind. length behind.now < length text.now) }
+{
+    let part = first_part(text);
+    let default = default_in(part.behind)?;
+    append(to, part.name);
+    if default.size > 0 {
+        to.push_reserved(b'=');
+        append_trimmed(to, default.from, true, true, default.size - 1);
+    }
+    to.push_reserved(b',');
+    if let Some((b, behind)) = split_first(default.behind, true) {
+        if b == b',' {
+            return Some(behind);
+        }
+    }
+    None
+}
+
+// Appends the formals of a list that was read.
+pub(crate) fn append_list(to: &mut Vec<u8>, text: &[u8])
+    requires listed { is_some (listed (formals_in 255 [] (joined true text.now))) ≡ true }
+    requires room { vec_len to.old + sum_by formal_size (unwrap_or (listed (formals_in 255 [] (joined true text.now))) []) ≤ vec_capacity to.old }
+    ensures items { to.new.items ≡ to.old.items ++ flat_map formal_bytes (unwrap_or (listed (formals_in 255 [] (joined true text.now))) []) }
+    ensures capacity { vec_capacity to.old ≤ vec_capacity to.new }
+{
+    let mut rest = text;
+    while let Some(behind) = append_formal(to, rest) {
+        rest = behind;
     }
 }

@@ -4,7 +4,7 @@ ghost use Rattle.std.specs.List.{list_any, prefix_len};
 ghost use Rattle.rdlpp_scan.specs.Bytes.{is_blank, is_letter, is_line_end, is_word};
 ghost use Rattle.rdlpp_scan.specs.SourceTokens.{logical_len};
 ghost use Rattle.rdlpp_table.specs.Bodies.{joined};
-ghost use Rattle.rdlpp_table.specs.Define.{after_space, formal_list, formals_of_list, is_space, leading_name, list_text, unended, Listed};
+ghost use Rattle.rdlpp_table.specs.Define.{after_space, formal_list, formals_of_list, is_space, leading_name, unended, Listed};
 
 use crate::logical::split_first;
 use rdlpp_scan::logical_line;
@@ -18,7 +18,7 @@ pub(crate) fn is_blank(b: u8) -> bool
 }
 
 #[tactic(auto, unfolding(crate::specs::Define::is_space, rdlpp_scan::specs::Bytes::is_line_end))]
-fn is_space(b: u8) -> bool
+pub(crate) fn is_space(b: u8) -> bool
     ensures { result ≡ is_space b }
 {
     is_blank(b) || b == b'\n'
@@ -88,7 +88,7 @@ pub(crate) fn leading_name(bytes: &[u8]) -> &[u8]
 
 // The text of a formal list, behind its `(`, where one follows the name at once.
 pub(crate) fn list_behind(after: &[u8]) -> Option<&[u8]>
-    ensures { MatchOption result (formal_list (joined true after.now) ≡ Listed None (joined true after.now)) (λ list. formal_list (joined true after.now) ≡ formals_of_list (list_text (joined true list.now))) }
+    ensures { MatchOption result (formal_list (joined true after.now) ≡ Listed None (joined true after.now)) (λ list. formal_list (joined true after.now) ≡ formals_of_list (joined true list.now)) }
 {
     match split_first(after, true) {
         Some((b, list)) => { if b == b'(' { Some(list) } else { None } }

@@ -19,6 +19,7 @@ mod sought;
 mod stop;
 #[cfg(test)]
 mod stop_tests;
+mod stored;
 mod storing;
 mod table;
 #[cfg(test)]

@@ -1,9 +1,9 @@
 // Where the text of a body isn't copied as it stands.
 ghost use Rattle.std.specs.Prelude.{[], length, slice_index, ◌+◌, ◌<◌, ◌≡◌, ◌^◌};
 ghost use Rattle.rdlpp_table.specs.Stops.{is_none, stop_at, stop_of};
-ghost use Rattle.rdlpp_table.specs.Store.{formals_from};
+ghost use Rattle.rdlpp_table.specs.Store.{formals_read};
 
-use crate::formals::place_in_list;
+use crate::stored::place_in_list;
 use rdlpp_scan::{Kind, Mode, Token, first_token};
 
 /// The first place of a range of a body that isn't copied as it stands.
@@ -44,15 +44,15 @@ fn is_none(stop: Stop) -> bool
     matches!(stop, Stop::None)
 }
 
-// What a token at a place is, among formals with a comma after each.
+// What a token at a place is, among so many formals as they lie in a table.
 #[tactic(auto, unfolding(crate::specs::Stops::stop_at))]
-fn stop_at(list: &[u8], at: usize, token: Token, text: &[u8]) -> Stop
-    ensures { result ≡ stop_at (formals_from [] list.now) at token text.now }
+fn stop_at(list: &[u8], count: usize, at: usize, token: Token, text: &[u8]) -> Stop
+    ensures { result ≡ stop_at (formals_read count list.now) at token text.now }
 {
     match token.kind {
         Kind::Back => Stop::Usage { at, len: token.len },
         Kind::BareBackquote => Stop::Bare { at },
-        Kind::Name => match place_in_list(list, text) {
+        Kind::Name => match place_in_list(list, count, text) {
             Some(place) => Stop::Formal {
                 at,
                 len: token.len,
@@ -64,10 +64,10 @@ fn stop_at(list: &[u8], at: usize, token: Token, text: &[u8]) -> Stop
     }
 }
 
-// The first stop of a text whose first byte stands at a place, among formals with a comma after each.
-pub(crate) fn first_stop(list: &[u8], text: &[u8], from: usize) -> Stop
+// The first stop of a text whose first byte stands at a place, among so many formals as they lie in a table.
+pub(crate) fn first_stop(list: &[u8], count: usize, text: &[u8], from: usize) -> Stop
     requires { from + length text.now < 2 ^ 64 }
-    ensures { result ≡ stop_of (formals_from [] list.now) from text.now }
+    ensures { result ≡ stop_of (formals_read count list.now) from text.now }
 {
     let mut mode = Mode::Plain;
     let mut rest = text;
@@ -75,7 +75,7 @@ pub(crate) fn first_stop(list: &[u8], text: &[u8], from: usize) -> Stop
     while !rest.is_empty() {
         let token = first_token(mode, rest);
         let (here, after) = rest.split_at(token.len);
-        let stop = stop_at(list, at, token, here);
+        let stop = stop_at(list, count, at, token, here);
         if !is_none(stop) {
             return stop;
         }
@@ -86,10 +86,10 @@ pub(crate) fn first_stop(list: &[u8], text: &[u8], from: usize) -> Stop
     Stop::None
 }
 
-// Whether a body is copied as it stands, where its formals have a comma after each.
-pub(crate) fn is_copied(list: &[u8], body: &[u8]) -> bool
+// Whether a body is copied as it stands, by so many formals as they lie in a table.
+pub(crate) fn is_copied(list: &[u8], count: usize, body: &[u8]) -> bool
     requires { length body.now < 2 ^ 64 }
-    ensures { result ≡ is_none (stop_of (formals_from [] list.now) 0 body.now) }
+    ensures { result ≡ is_none (stop_of (formals_read count list.now) 0 body.now) }
 {
-    is_none(first_stop(list, body, 0))
+    is_none(first_stop(list, count, body, 0))
 }

@@ -4,6 +4,7 @@ ghost use Rattle.std.specs.Prelude.{
   bytes_eq,
   length,
   map,
+  unwrap_or,
   vec_capacity,
   vec_len,
   List,
@@ -18,21 +19,22 @@ ghost use Rattle.std.specs.Prelude.{
   ◌^◌,
   ◌∷◌,
 };
-ghost use Rattle.std.specs.List.{IsDistinct};
+ghost use Rattle.std.specs.List.{flat_map, IsDistinct};
 ghost use Rattle.rdlpp_table.specs.Index.{names_of, IsIndex};
 ghost use Rattle.rdlpp_table.specs.Store.{macros_in, IsStored};
-ghost use Rattle.rdlpp_table.specs.Table.{table_size, without};
-ghost use Rattle.rdlpp_table.specs.New.{new_macro, IsNew};
+ghost use Rattle.rdlpp_table.specs.Table.{formal_bytes, table_size, without};
+ghost use Rattle.rdlpp_table.specs.New.{copied_told, list_formals, new_macro, IsList, IsNew};
 
-use crate::body::append_body;
+use crate::body::append_trimmed;
 use crate::entry::Entry;
+use crate::formals::append_list;
 use crate::index::{enter, gap_in, place_in};
 use crate::removal::take_out_named;
 use crate::sought::Steps;
 use crate::stop::is_copied;
 
 // Appends bytes for which there is room.
-fn append(bytes: &mut Vec<u8>, part: &[u8])
+pub(crate) fn append(bytes: &mut Vec<u8>, part: &[u8])
     requires { vec_len bytes.old + length part.now ≤ vec_capacity bytes.old }
     ensures items { bytes.new.items ≡ bytes.old.items ++ part.now }
     ensures capacity { vec_capacity bytes.old ≤ vec_capacity bytes.new }
@@ -45,32 +47,55 @@ fn append(bytes: &mut Vec<u8>, part: &[u8])
 pub(crate) struct New<'a> {
     pub(crate) name: &'a [u8],
     pub(crate) arity: Option<usize>,
-    // The formals with a comma after each.
+    // The text of the formal list behind its `(`, where it has formals, and how many bytes they are.
     pub(crate) list: &'a [u8],
+    pub(crate) list_len: usize,
     pub(crate) is_logical: bool,
     pub(crate) text: &'a [u8],
     pub(crate) body_len: usize,
 }
 
+// Appends the formals of a macro.
+fn append_formals(bytes: &mut Vec<u8>, new: &New)
+    requires listed { IsList new.now.arity new.now.list.now new.now.list_len }
+    requires room { vec_len bytes.old + new.now.list_len ≤ vec_capacity bytes.old }
+    ensures items { bytes.new.items ≡ bytes.old.items ++ flat_map formal_bytes (unwrap_or (list_formals new.now.arity new.now.list.now) []) }
+    ensures capacity { vec_capacity bytes.old ≤ vec_capacity bytes.new }
+{
+    if new.arity.unwrap_or(0) > 0 {
+        append_list(bytes, new.list);
+    }
+}
+
+// Whether the body behind a place is copied as it stands, by the formals between two places.
+fn copied_at(bytes: &[u8], list: usize, body: usize, count: usize) -> bool
+    requires order { (list ≤ body) × (body ≤ length bytes.now) }
+    requires short { length bytes.now < 2 ^ 64 }
+    ensures { result ≡ copied_told bytes.now list body count }
+{
+    is_copied(&bytes[list..body], count, &bytes[body..])
+}
+
 // Puts a macro behind the others.
 fn put(bytes: &mut Vec<u8>, entries: &mut Vec<Entry>, new: &New)
     requires stored { IsStored bytes.old.items entries.old.items (macros_in bytes.old.items entries.old.items) }
-    requires counted { IsNew new.now.name.now new.now.arity new.now.list.now new.now.is_logical new.now.text.now new.now.body_len }
-    requires room { vec_len bytes.old + (length new.now.name.now + (length new.now.list.now + new.now.body_len)) ≤ vec_capacity bytes.old }
+    requires counted { IsNew new.now.name.now new.now.arity new.now.list.now new.now.list_len new.now.is_logical new.now.text.now new.now.body_len }
+    requires room { vec_len bytes.old + (length new.now.name.now + (new.now.list_len + new.now.body_len)) ≤ vec_capacity bytes.old }
     requires entry_room { vec_len entries.old < vec_capacity entries.old }
     ensures stored { IsStored bytes.new.items entries.new.items (macros_in bytes.old.items entries.old.items ++ new_macro new.now.name.now new.now.arity new.now.list.now new.now.is_logical new.now.text.now ∷ []) }
     ensures capacity { (vec_capacity bytes.old ≤ vec_capacity bytes.new) × (vec_capacity entries.new ≡ vec_capacity entries.old) }
 {
     let start = bytes.len();
     append(bytes, new.name);
-    append(bytes, new.list);
+    let list = bytes.len();
+    append_formals(bytes, new);
     let body = bytes.len();
-    append_body(bytes, new.text, new.is_logical, new.body_len);
-    let is_copied = is_copied(new.list, &bytes[body..]);
+    append_trimmed(bytes, new.text, new.is_logical, false, new.body_len);
+    let is_copied = copied_at(bytes.as_slice(), list, body, new.arity.unwrap_or(0));
     entries.push_reserved(Entry {
         start,
         name_len: new.name.len(),
-        list_len: new.list.len(),
+        list_len: new.list_len,
         body_len: new.body_len,
         arity: new.arity,
         is_copied,
@@ -119,8 +144,8 @@ pub(crate) fn replace(
     requires distinct { IsDistinct bytes_eq (map (λ m. m.name) (macros_in bytes.old.items entries.old.items)) }
     requires indexed { IsIndex (names_of (macros_in bytes.old.items entries.old.items)) order.old.items }
     requires few { vec_len entries.old ≤ 65536 }
-    requires counted { IsNew new.now.name.now new.now.arity new.now.list.now new.now.is_logical new.now.text.now new.now.body_len }
-    requires room { table_size (without new.now.name.now (macros_in bytes.old.items entries.old.items)) + (length new.now.name.now + (length new.now.list.now + new.now.body_len)) ≤ vec_capacity bytes.old }
+    requires counted { IsNew new.now.name.now new.now.arity new.now.list.now new.now.list_len new.now.is_logical new.now.text.now new.now.body_len }
+    requires room { table_size (without new.now.name.now (macros_in bytes.old.items entries.old.items)) + (length new.now.name.now + (new.now.list_len + new.now.body_len)) ≤ vec_capacity bytes.old }
     requires entry_room { length (without new.now.name.now (macros_in bytes.old.items entries.old.items)) < vec_capacity entries.old }
     requires index_room { length (without new.now.name.now (macros_in bytes.old.items entries.old.items)) < vec_capacity order.old }
     ensures stored { IsStored bytes.new.items entries.new.items (without new.now.name.now (macros_in bytes.old.items entries.old.items) ++ new_macro new.now.name.now new.now.arity new.now.list.now new.now.is_logical new.now.text.now ∷ []) }

@@ -1,20 +1,19 @@
 // The table of macros: a list of bytes, one of entries and an index by name, all reserved when the table is made.
 ghost use Rattle.std.specs.Prelude.{◌≡◌, ◌<◌, ◌≤◌, ◌==◌, [], length, IfOk, IfSome, IfNone, OnOk, Some, None, is_some, option_map, OnErr, true, unwrap_or, ◌+◌};
-ghost use Rattle.rdlpp_table.specs.New.{new_macro, IsList, IsNew};
+ghost use Rattle.rdlpp_table.specs.New.{list_formals, new_macro, IsList, IsNew};
 ghost use Rattle.rdlpp_table.specs.Bodies.{joined};
-ghost use Rattle.rdlpp_table.specs.Store.{formals_from};
 ghost use Rattle.rdlpp_table.specs.Index.{IsCounted};
 ghost use Rattle.rdlpp_table.specs.Limits.{AreInRange};
 ghost use Rattle.rdlpp_table.specs.Stops.{is_copied, stop_in};
 ghost use Rattle.rdlpp_table.specs.Table.{macro_named, table_bytes, table_size, without};
 ghost use Rattle.rdlpp_scan.specs.SourceTokens.{logical_len};
 ghost use Rattle.rdlpp_table.specs.Define.{define_of, name_fault, observed, set_of, stored, stored_draft, with_body, with_list};
-ghost use Rattle.rdlpp_table.specs.View.{TableView, AreSoundFormals, IsSound, IsSoundMacro, formal_named, formals_of, macro_at, place_named};
+ghost use Rattle.rdlpp_table.specs.View.{TableView, AreSoundFormals, IsSound, IsSoundMacro, formal_at, formal_named, formals_of, macro_at, place_named};
 
-use crate::body::body_len;
+use crate::body::trimmed_len;
 use crate::entry::{Entry, body_in, formals_in, list_in};
 use crate::fault::{DefineFault, DefineKind, NoMemory, lexical, refusal};
-use crate::formals::{place_in_list, read_list};
+use crate::formals::read_list;
 use crate::header::{after_space, leading_name, list_behind, unended};
 use crate::index::place_in;
 use crate::limits::Limits;
@@ -22,8 +21,8 @@ use crate::name::check_name;
 use crate::removal::take_out_named;
 use crate::sought::Steps;
 use crate::stop::{Stop, first_stop};
+use crate::stored::{default_in_list, place_in_list};
 use crate::storing::{New, Rest, beside, replace};
-use arrayvec::ArrayVec;
 use rdlpp_scan::is_name;
 use std::alloc::Global;
 use std::marker::Model;
@@ -114,7 +113,8 @@ impl Table {
         self.len() == self.most_macros
     }
 
-    /// The bytes of the macros, oldest first: of each its name, its formals with a comma after each, its body.
+    /// The bytes of the macros, oldest first: of each its name, its formals, its body. A formal is its name, `=` and its
+    /// default text where it has one, and a comma.
     pub fn bytes(&self) -> &[u8]
         ensures value { result.now ≡ table_bytes self.now.macros }
         ensures sound { IsSound self.now }
@@ -188,7 +188,7 @@ impl Table {
             return Stop::None;
         }
         let list = formals_in(self.bytes.as_slice(), entry);
-        first_stop(list, &body[from..to], from)
+        first_stop(list, entry.arity.unwrap_or(0), &body[from..to], from)
     }
 
     /// The place of a formal among a macro's formals, counted from 0; `None` where the macro has no list,
@@ -199,9 +199,20 @@ impl Table {
     {
         let entry = &self.entries[id.index];
         match entry.arity {
-            Some(_) => place_in_list(list_in(self.bytes.as_slice(), entry), name),
+            Some(count) => place_in_list(list_in(self.bytes.as_slice(), entry), count, name),
             None => None,
         }
+    }
+
+    /// The default text of a macro's formal at a place, counted from 0; empty where it has none (this project's profile).
+    pub fn default_text(&self, id: MacroId, i: usize) -> &[u8]
+        requires id { id < length self.now.macros }
+        requires i { i < length (formals_of (macro_at self.now.macros id)) }
+        ensures { result.now ≡ (formal_at (formals_of (macro_at self.now.macros id)) i).text }
+    {
+        let entry = &self.entries[id.index];
+        let count = entry.arity.unwrap_or(0);
+        default_in_list(list_in(self.bytes.as_slice(), entry), count, i)
     }
 
     /// Takes out the macro of a name, and answers whether there was one.
@@ -221,7 +232,8 @@ impl Table {
     /// # Errors
     /// The first fault of the definition, and the table is unchanged then: of its name (`NameExpected`,
     /// `ReservedName` with that name, `NameTooLong` past 128 bytes); of its formals from left to right (`BadFormals`,
-    /// `NameTooLong`, `FormalTwice`, `TooManyFormals` past 64, which are this project's bounds); of its body
+    /// `NameTooLong`, `FormalTwice`, `TooManyFormals` past 255, which are this project's bounds, and `BadFormals` for a
+    /// default text with `<%` outside comments, or without an end); of its body
     /// (`EmbeddedPerl`, `OpenString`, `OpenComment`); of the room in the table without the old macro of that name
     /// (`DefinitionBytes`, `TooManyDefinitions`).
     pub fn read_define(&mut self, rest: &[u8]) -> Result<(), DefineFault>
@@ -253,7 +265,7 @@ impl Table {
             return Err(refusal(DefineKind::NameExpected));
         }
         match check_name(name) {
-            Ok(()) => self.store_body(name, None, &[], false, text),
+            Ok(()) => self.store_body(name, None, &[], 0, false, text),
             Err(fault) => Err(fault),
         }
     }
@@ -276,13 +288,10 @@ impl Table {
         ensures limits { (self.new.most_bytes ≡ self.old.most_bytes) × (self.new.most_macros ≡ self.old.most_macros) }
     {
         let Some(text) = list_behind(after) else {
-            return self.store_body(name, None, &[], true, after);
+            return self.store_body(name, None, &[], 0, true, after);
         };
-        let mut list = ArrayVec::new();
-        match read_list(text, &mut list) {
-            Ok(read) => {
-                self.store_body(name, Some(read.count), list.as_slice(), true, read.behind)
-            }
+        match read_list(text) {
+            Ok(read) => self.store_body(name, Some(read.count), text, read.size, true, read.behind),
             Err(kind) => Err(refusal(kind)),
         }
     }
@@ -293,25 +302,26 @@ impl Table {
         name: &[u8],
         arity: Option<usize>,
         list: &[u8],
+        list_len: usize,
         is_logical: bool,
         text: &[u8],
     ) -> Result<(), DefineFault>
         requires named { name_fault name.now ≡ None }
-        requires short { length name.now + length list.now ≤ 65536 }
-        requires listed { IsList name.now arity list.now }
-        requires sound { AreSoundFormals (unwrap_or (option_map (λ n. formals_from [] list.now) arity) []) }
-        ensures outcome { observed result self.new.macros ≡ stored_draft self.old.most_bytes self.old.most_macros self.old.macros (with_body name.now (option_map (λ n. formals_from [] list.now) arity) (joined is_logical text.now)) }
+        requires sound { AreSoundFormals (unwrap_or (list_formals arity list.now) []) }
+        requires listed { IsList arity list.now list_len }
+        ensures outcome { observed result self.new.macros ≡ stored_draft self.old.most_bytes self.old.most_macros self.old.macros (with_body name.now (list_formals arity list.now) (joined is_logical text.now)) }
         ensures refused { OnErr result (self.new ≡ self.old) }
         ensures limits { (self.new.most_bytes ≡ self.old.most_bytes) × (self.new.most_macros ≡ self.old.most_macros) }
     {
-        match body_len(text, is_logical) {
-            Ok(body_len) => self.store(&New {
+        match trimmed_len(text, is_logical, false) {
+            Ok(body) => self.store(&New {
                 name,
                 arity,
                 list,
+                list_len,
                 is_logical,
                 text,
-                body_len,
+                body_len: body.len,
             }),
             Err(fault) => Err(refusal(lexical(fault))),
         }
@@ -319,15 +329,18 @@ impl Table {
 
     // Stores a macro behind the others, in the place of one of its name.
     fn store(&mut self, new: &New) -> Result<(), DefineFault>
-        requires short { length new.now.name.now + length new.now.list.now ≤ 65536 }
-        requires counted { IsNew new.now.name.now new.now.arity new.now.list.now new.now.is_logical new.now.text.now new.now.body_len }
+        requires counted { IsNew new.now.name.now new.now.arity new.now.list.now new.now.list_len new.now.is_logical new.now.text.now new.now.body_len }
         requires sound { IsSoundMacro (new_macro new.now.name.now new.now.arity new.now.list.now new.now.is_logical new.now.text.now) }
         ensures outcome { observed result self.new.macros ≡ stored self.old.most_bytes self.old.most_macros self.old.macros (new_macro new.now.name.now new.now.arity new.now.list.now new.now.is_logical new.now.text.now) }
         ensures refused { OnErr result (self.new ≡ self.old) }
         ensures limits { (self.new.most_bytes ≡ self.old.most_bytes) × (self.new.most_macros ≡ self.old.most_macros) }
     {
         let rest = self.rest(new.name);
-        let size = (new.name.len() + new.list.len()).saturating_add(new.body_len);
+        let size = new
+            .name
+            .len()
+            .saturating_add(new.list_len)
+            .saturating_add(new.body_len);
         if self.most_bytes - rest.size < size {
             return Err(refusal(DefineKind::DefinitionBytes));
         }

@@ -1,24 +1,23 @@
-use Rattle.std.proofs.Common.{◌≡◌, [], Some, subst, true}
+use Rattle.std.proofs.Common.{◌≡◌, [], ℕ, List, get_or, eqb, false, true, ap, sym, ◌∙◌, subst, ne_eqb}
 use Rattle.std.specs.Result.{MatchResult}
 use Rattle.rdlpp_table.specs.Bodies.{joined}
-use Rattle.rdlpp_table.specs.Define.{FormalList, Listed, Unlisted}
-use Rattle.rdlpp_table.specs.Store.{formals_from}
-use Rattle.rdlpp_table.proofs.Gathered.{no_formals_are}
-use Rattle.rdlpp_table.proofs.Reading.{read_empty, with_formals, without_end}
+use Rattle.rdlpp_table.specs.Table.{Formal}
+use Rattle.rdlpp_table.specs.Define.{FormalList, Unlisted, after_space}
+use Rattle.rdlpp_table.specs.Formals.{IsRead}
+use Rattle.rdlpp_table.proofs.Reading.{read_empty, read_formals}
 use Rattle.rdlpp_table.proofs.formals.read_list.Goals as goal
+use Rattle.rdlpp_table.proofs.formals.read_list.Goals.{in-Some+else-b-eq41, in_default}
 
-pub returns-then-b-eq41-clause-formals : goal.returns-then-b-eq41-clause-formals
-returns-then-b-eq41-clause-formals c = read_empty _ _ _ _ _ c.requires c.after_space.ensures.value c.in-Some.ensures.0 c.if-b-eq41.true
+pub returns-then-b-eq41 : goal.returns-then-b-eq41
+returns-then-b-eq41 c = record { read = read_empty _ _ _ _ c.after_space.ensures.value c.in-Some.ensures.0 c.if-b-eq41.true }
 
-pub returns-then-b-eq41-clause-listed : goal.returns-then-b-eq41-clause-listed
-returns-then-b-eq41-clause-listed c = no_formals_are _ c.requires
-
-pub returns-else-b-eq41-clause-formals : goal.returns-else-b-eq41-clause-formals
-returns-else-b-eq41-clause-formals c =
-    let P : FormalList → Type 0 = λ l. MatchResult c.read_some.result (λ read. l ≡ Listed (Some (formals_from [] c.read_some.new.list.items)) (joined true read.behind.now)) (λ kind. l ≡ Unlisted kind) in
-    subst P (with_formals _ _ _ _ c.after_space.ensures.value c.in-Some.ensures.0 c.if-b-eq41.false) c.read_some.ensures.formals
-
-pub returns-in-None-clause-formals : goal.returns-in-None-clause-formals
-returns-in-None-clause-formals c =
-    let P : FormalList → Type 0 = λ l. MatchResult c.read_some-in-None.result (λ read. l ≡ Listed (Some (formals_from [] c.read_some-in-None.new.list.items)) (joined true read.behind.now)) (λ kind. l ≡ Unlisted kind) in
-    subst P (without_end _ _ c.after_space.ensures.value c.in-None.ensures) c.read_some-in-None.ensures.formals
+pub returns : goal.returns
+returns c =
+    let other : eqb (get_or (after_space (joined true c.args.text.now)) 0 0) 41 ≡ false =
+    ap (λ (x : List ℕ). eqb (get_or x 0 0) 41) (sym c.after_space.ensures.value)
+    ∙ (let e : eqb (get_or (joined true c.after_space.result.now) 0 0) 41 ≡ false = elim c.match-split_first.branch [
+      | in-Some+else-b-eq41 w ↦ ap (λ (x : List ℕ). eqb (get_or x 0 0) 41) w.in-Some.ensures.0 ∙ ne_eqb _ _ w.if-b-eq41.false
+      | in_default w ↦ ap (λ (x : List ℕ). eqb (get_or x 0 0) 41) w.in_default.ensures
+    ] in e) in
+    let P : FormalList → Type 0 = λ l. MatchResult c.read_some.result (λ read. (formals : List Formal) × IsRead l (joined true read.behind.now) read.count read.size formals) (λ kind. l ≡ Unlisted kind) in
+    record { read = subst P (read_formals _ other) c.read_some.ensures.read }

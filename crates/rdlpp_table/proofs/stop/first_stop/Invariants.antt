@@ -1,10 +1,10 @@
-use Rattle.std.proofs.Common.{[], length}
-use Rattle.rdlpp_table.specs.Store.{formals_from}
+use Rattle.std.proofs.Common.{length}
+use Rattle.rdlpp_table.specs.Store.{formals_read}
 use Rattle.rdlpp_table.proofs.Stopping.{IsStopping}
 use Rattle.rdlpp_table.proofs.stop.first_stop.Given as goal
 
 abbrev pub invariant-loop-rest : goal.invariant-loop-rest
-invariant-loop-rest l = IsStopping (formals_from [] l.list) l.from l.text l.mode l.at l.rest
+invariant-loop-rest l = IsStopping (formals_read l.count l.list) l.from l.text l.mode l.at l.rest
 
 abbrev pub decreases-loop-rest : goal.decreases-loop-rest
 decreases-loop-rest l = length l.rest

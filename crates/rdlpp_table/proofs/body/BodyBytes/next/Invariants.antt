@@ -1,9 +1,14 @@
 use Rattle.std.proofs.Common.{◌≡◌, ◌≤◌, length}
-use Rattle.rdlpp_table.specs.BodyBytes.{left}
+use Rattle.rdlpp_table.specs.BodyBytes.{left, LevelFits}
 use Rattle.rdlpp_table.proofs.body.BodyBytes.next.Given as goal
 
 abbrev pub invariant-loop-b : goal.invariant-loop-b
-invariant-loop-b l = record { same : left l.self ≡ left l.fn.self; shorter : length l.self.rest.now ≤ length l.fn.self.rest.now }
+invariant-loop-b l = record {
+  same : left l.self ≡ left l.fn.self;
+  shorter : length l.self.rest.now ≤ length l.fn.self.rest.now;
+  logical : l.self.is_logical ≡ l.fn.self.is_logical;
+  fits : LevelFits l.self;
+}
 
 abbrev pub decreases-loop-b : goal.decreases-loop-b
 decreases-loop-b l = length l.self.rest.now

@@ -1,15 +1,19 @@
 use Rattle.std.proofs.Common.{◌∙◌, sym}
+use Rattle.rdlpp_table.specs.New.{list_formals}
+use Rattle.rdlpp_table.proofs.News.{no_list_is}
 use Rattle.rdlpp_table.proofs.Bodied.{set_nameless, set_refuses, set_stores}
 use Rattle.rdlpp_table.proofs.SoundFormals.{no_formals_sound}
 use Rattle.rdlpp_table.proofs.table.Table.set.Goals as goal
 
-pub store_body-requires-clause-sound : goal.store_body-requires-clause-sound
-store_body-requires-clause-sound c = no_formals_sound
-
 pub returns-then-not-is_name-clause-outcome : goal.returns-then-not-is_name-clause-outcome
 returns-then-not-is_name-clause-outcome c = set_nameless _ _ _ _ _ _ (sym c.is_name.ensures ∙ c.if-not-is_name.true) c.refusal.ensures.kind c.refusal.ensures.word
 
+pub store_body-requires : goal.store_body-requires
+unfolding list_formals
+store_body-requires c = record { named = c.in-Ok.ensures.value; listed = no_list_is _; sound = no_formals_sound }
+
 pub returns-in-Ok-clause-outcome : goal.returns-in-Ok-clause-outcome
+unfolding list_formals
 returns-in-Ok-clause-outcome c = c.store_body.ensures.outcome ∙ set_stores _ _ _ _ _ (sym c.is_name.ensures ∙ c.if-not-is_name.false) c.in-Ok.ensures.value
 
 pub returns-in-Err-clause-outcome : goal.returns-in-Err-clause-outcome

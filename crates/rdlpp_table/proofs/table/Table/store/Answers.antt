@@ -21,18 +21,18 @@ overflow_sub-self-inside c =
 pub returns-then-self-rest-clause-outcome : goal.returns-then-self-rest-clause-outcome
 returns-then-self-rest-clause-outcome c =
     let m : Macro = new_macro c.args.new.now.name.now c.args.new.now.arity c.args.new.now.list.now c.args.new.now.is_logical c.args.new.now.text.now in
-    let size : macro_size m ≡ length c.args.new.now.name.now + (length c.args.new.now.list.now + c.args.new.now.body_len) = new_size _ _ _ _ _ _ c.requires.counted in
+    let size : macro_size m ≡ length c.args.new.now.name.now + (c.args.new.now.list_len + c.args.new.now.body_len) = new_size _ _ _ _ _ _ _ c.requires.counted in
     refused_is _ _ _ c.refusal.ensures.kind c.refusal.ensures.word
-    ∙ sym (too_large _ _ _ m (omega (arith, c.rest-rest.ensures.size, c.saturating_add-size.ensures, ap (λ (v : TableView). v.most_bytes) c.self.view_is)))
+    ∙ sym (too_large _ _ _ m (omega (arith, c.rest-rest.ensures.size, c.saturating_add.ensures, c.saturating_add-size.ensures, ap (λ (v : TableView). v.most_bytes) c.self.view_is)))
 
 pub returns-then-self-rest-2-clause-outcome : goal.returns-then-self-rest-2-clause-outcome
 returns-then-self-rest-2-clause-outcome c =
     let m : Macro = new_macro c.args.new.now.name.now c.args.new.now.arity c.args.new.now.list.now c.args.new.now.is_logical c.args.new.now.text.now in
-    let size : macro_size m ≡ length c.args.new.now.name.now + (length c.args.new.now.list.now + c.args.new.now.body_len) = new_size _ _ _ _ _ _ c.requires.counted in
+    let size : macro_size m ≡ length c.args.new.now.name.now + (c.args.new.now.list_len + c.args.new.now.body_len) = new_size _ _ _ _ _ _ _ c.requires.counted in
     let small : table_size (without c.args.new.now.name.now c.args.self.now.macros) ≤ c.args.self.now.most_bytes = omega (arith, without_size c.args.new.now.name.now c.args.self.now.macros, c.rest-rest.ensures.sound.bytes_fit) in
     refused_is _ _ _ c.refusal-then-self-rest-2.ensures.kind c.refusal-then-self-rest-2.ensures.word
     ∙ sym (too_many _ _ _ m
-    (omega (arith, c.rest-rest.ensures.size, c.saturating_add-size.ensures, c.self.invariant.room, capacity_small c.self.inside.bytes, ap (λ (v : TableView). v.most_bytes) c.self.view_is))
+    (omega (arith, c.rest-rest.ensures.size, c.saturating_add.ensures, c.saturating_add-size.ensures, c.self.invariant.room, capacity_small c.self.inside.bytes, ap (λ (v : TableView). v.most_bytes) c.self.view_is))
     (omega (arith, c.rest-rest.ensures.count, ap (λ (v : TableView). v.most_macros) c.self.view_is)))
 
 pub replace-requires-clause-few : goal.replace-requires-clause-few
@@ -43,17 +43,17 @@ pub replace-requires-clause-room : goal.replace-requires-clause-room
 replace-requires-clause-room c =
     let same : table_size (without c.args.new.now.name.now (macros_in c.self.inside.bytes.items c.self.inside.entries.items)) ≡ table_size (without c.args.new.now.name.now c.args.self.now.macros) = ap (λ (v : TableView). table_size (without c.args.new.now.name.now v.macros)) c.self.view_is in
     let small : table_size (without c.args.new.now.name.now c.args.self.now.macros) ≤ c.args.self.now.most_bytes = omega (arith, without_size c.args.new.now.name.now c.args.self.now.macros, c.rest-rest.ensures.sound.bytes_fit) in
-    omega (arith, c.rest-rest.ensures.size, c.saturating_add-size.ensures, c.self.invariant.room, capacity_small c.self.inside.bytes, ap (λ (v : TableView). v.most_bytes) c.self.view_is)
+    omega (arith, c.rest-rest.ensures.size, c.saturating_add.ensures, c.saturating_add-size.ensures, c.self.invariant.room, capacity_small c.self.inside.bytes, ap (λ (v : TableView). v.most_bytes) c.self.view_is)
 
 pub invariant_of-self : goal.invariant_of-self
 invariant_of-self c =
     let m : Macro = new_macro c.args.new.now.name.now c.args.new.now.arity c.args.new.now.list.now c.args.new.now.is_logical c.args.new.now.text.now in
-    let size : macro_size m ≡ length c.args.new.now.name.now + (length c.args.new.now.list.now + c.args.new.now.body_len) = new_size _ _ _ _ _ _ c.requires.counted in
+    let size : macro_size m ≡ length c.args.new.now.name.now + (c.args.new.now.list_len + c.args.new.now.body_len) = new_size _ _ _ _ _ _ _ c.requires.counted in
     let view : TableView = view_of c.self.inside.bytes.items c.self.inside.entries.items c.self.inside.most_bytes c.self.inside.most_macros in
     let same : table_size (without c.args.new.now.name.now view.macros) ≡ table_size (without c.args.new.now.name.now c.args.self.now.macros) = ap (λ (v : TableView). table_size (without c.args.new.now.name.now v.macros)) c.self.view_is in
     let count : length (without c.args.new.now.name.now view.macros) ≡ length (without c.args.new.now.name.now c.args.self.now.macros) = ap (λ (v : TableView). length (without c.args.new.now.name.now v.macros)) c.self.view_is in
     let small : table_size (without c.args.new.now.name.now c.args.self.now.macros) ≤ c.args.self.now.most_bytes = omega (arith, without_size c.args.new.now.name.now c.args.self.now.macros, c.rest-rest.ensures.sound.bytes_fit) in
-    let h : table_size (without c.args.new.now.name.now view.macros) + macro_size m ≤ view.most_bytes = omega (arith, c.rest-rest.ensures.size, c.saturating_add-size.ensures, c.self.invariant.room, capacity_small c.self.inside.bytes, ap (λ (v : TableView). v.most_bytes) c.self.view_is) in
+    let h : table_size (without c.args.new.now.name.now view.macros) + macro_size m ≤ view.most_bytes = omega (arith, c.rest-rest.ensures.size, c.saturating_add.ensures, c.saturating_add-size.ensures, c.self.invariant.room, capacity_small c.self.inside.bytes, ap (λ (v : TableView). v.most_bytes) c.self.view_is) in
     let k : length (without c.args.new.now.name.now view.macros) + 1 ≤ view.most_macros = omega (arith, c.rest-rest.ensures.count) in
     record {
       held = held_of _ _ _ _ _ c.replace.ensures.stored (sound_with view m c.self.invariant.held.sound c.requires.sound h k);
@@ -67,10 +67,10 @@ invariant_of-self c =
 pub returns-clause-outcome : goal.returns-clause-outcome
 returns-clause-outcome c =
     let m : Macro = new_macro c.args.new.now.name.now c.args.new.now.arity c.args.new.now.list.now c.args.new.now.is_logical c.args.new.now.text.now in
-    let size : macro_size m ≡ length c.args.new.now.name.now + (length c.args.new.now.list.now + c.args.new.now.body_len) = new_size _ _ _ _ _ _ c.requires.counted in
+    let size : macro_size m ≡ length c.args.new.now.name.now + (c.args.new.now.list_len + c.args.new.now.body_len) = new_size _ _ _ _ _ _ _ c.requires.counted in
     let small : table_size (without c.args.new.now.name.now c.args.self.now.macros) ≤ c.args.self.now.most_bytes = omega (arith, without_size c.args.new.now.name.now c.args.self.now.macros, c.rest-rest.ensures.sound.bytes_fit) in
     accepted_is _
     ∙ (ap Accepted (read_back _ _ _ c.replace.ensures.stored ∙ ap (λ (v : TableView). without c.args.new.now.name.now v.macros ++ m ∷ []) c.self.view_is)
     ∙ sym (fits _ _ _ m
-    (omega (arith, c.rest-rest.ensures.size, c.saturating_add-size.ensures, c.self.invariant.room, capacity_small c.self.inside.bytes, ap (λ (v : TableView). v.most_bytes) c.self.view_is))
+    (omega (arith, c.rest-rest.ensures.size, c.saturating_add.ensures, c.saturating_add-size.ensures, c.self.invariant.room, capacity_small c.self.inside.bytes, ap (λ (v : TableView). v.most_bytes) c.self.view_is))
     (omega (arith, c.rest-rest.ensures.count, ap (λ (v : TableView). v.most_macros) c.self.view_is))))

@@ -1,4 +1,5 @@
-use Rattle.std.proofs.Common.{◌∙◌}
+use Rattle.std.proofs.Common.{◌∙◌, sym}
+use Rattle.rdlpp_table.specs.Bodies.{start_level}
 use Rattle.rdlpp_table.proofs.Bodied.{body_stores, body_refuses}
 use Rattle.rdlpp_table.proofs.SoundFormals.{new_sound}
 use Rattle.rdlpp_table.proofs.table.Table.store_body.Goals as goal
@@ -6,8 +7,14 @@ use Rattle.rdlpp_table.proofs.table.Table.store_body.Goals as goal
 pub store-requires-clause-sound : goal.store-requires-clause-sound
 store-requires-clause-sound c = new_sound _ _ _ _ _ c.requires.named c.requires.sound
 
+pub store-requires-clause-counted : goal.store-requires-clause-counted
+unfolding start_level
+store-requires-clause-counted c = record { listed = c.requires.listed; body_is = c.in-Ok.ensures.len }
+
 pub returns-in-Ok-clause-outcome : goal.returns-in-Ok-clause-outcome
-returns-in-Ok-clause-outcome c = c.store.ensures.outcome ∙ body_stores _ _ _ _ _ _ _ c.in-Ok.ensures
+unfolding start_level
+returns-in-Ok-clause-outcome c = c.store.ensures.outcome ∙ body_stores _ _ _ _ _ _ _ (sym c.in-Ok.ensures.len)
 
 pub returns-in-Err-clause-outcome : goal.returns-in-Err-clause-outcome
-returns-in-Err-clause-outcome c = body_refuses _ _ _ _ _ _ _ _ c.in-Err.ensures (c.refusal.ensures.kind ∙ c.lexical.ensures) c.refusal.ensures.word
+unfolding start_level
+returns-in-Err-clause-outcome c = body_refuses _ _ _ _ _ _ _ _ (sym c.in-Err.ensures.len) (c.refusal.ensures.kind ∙ c.lexical.ensures) c.refusal.ensures.word

@@ -1,17 +1,19 @@
 use Rattle.std.proofs.Common.{◌≡◌, ◌-◌, ◌∙◌, arith, refl}
 use Rattle.rdlpp_table.specs.BodyBytes.{left}
+use Rattle.rdlpp_table.specs.Bodies.{trims}
 use Rattle.rdlpp_table.proofs.Measures.{copied_same, copied_start, copied_more, copied_short, found_is, found_some, found_none, sound_len, sound_behind}
-use Rattle.rdlpp_table.proofs.body.append_body.Goals as goal
+use Rattle.rdlpp_table.proofs.body.append_trimmed.Goals as goal
 
 pub loop-init : goal.loop-init
 loop-init c =
     let n : c.args.len - 0 ≡ c.args.len = omega arith in
-    let found = found_is _ _ _ _ c.next_after_blanks.ensures.next (sound_len _ _ _ c.requires.len c.new-bytes.ensures.left) c.unwrap_or-found.ensures in
-    let start = copied_start c.args.to.now.items c.args.len _ _ _ c.requires.len c.new-bytes.ensures.left found in
+    let found = found_is _ _ _ _ c.next_untrimmed.ensures.next (sound_len (trims c.args.is_default) _ _ _ c.requires.len c.new-bytes.ensures.left) c.unwrap_or-found.ensures in
+    let start = copied_start (trims c.args.is_default) c.args.to.now.items c.args.len _ _ _ c.requires.len c.new-bytes.ensures.left found in
     record {
       copied = copied_same _ _ _ _ _ _ _ refl n start;
       count = omega arith;
       room = refl;
+      fits = c.next_untrimmed.ensures.fits;
     }
 
 pub returns-in_default-clause-items : goal.returns-in_default-clause-items
@@ -26,4 +28,5 @@ loop-preserved c =
       copied = copied_same _ _ _ _ _ _ _ c.push_reserved.ensures.items refl more;
       count = omega (arith, c.loop.invariant.count, c.push_reserved.ensures.len);
       room = c.push_reserved.ensures.capacity ∙ c.loop.invariant.room;
+      fits = c.next.ensures.fits;
     }

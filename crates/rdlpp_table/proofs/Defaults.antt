@@ -1,0 +1,326 @@
+-- A default text that was read: by its tokens, and as it is read back from a table's bytes.
+use Rattle.std.proofs.Common.{◌≡◌, ℕ, zero, suc, ◌+◌, ◌-◌, ◌<◌, Bool, true, false, cond, not, ◌&&◌, List, [], ◌∷◌, ◌++◌, length, take, drop, get_or, eqb, Option, Some, None, Ok, Err, Result, option_map, refl, ap, sym, ◌∙◌, subst, arith, inl, inr}
+use Rattle.std.specs.List.{prefix_len}
+use Rattle.std.proofs.lemmas.Bool.{cases_Bool, cond-true, cond-false, and_from, eqb-true, false≢true, ne_eqb}
+use Rattle.rdlpp_scan.specs.declared.token.Kind.{Kind}
+use Rattle.rdlpp_scan.specs.declared.token.Kind.TheVariants.{Name, Word, Back, Blank, LineEnd, Str, LineComment, BlockComment, Opener, Closer, Comma, Other, Perl as PerlKind, BareBackquote}
+use Rattle.rdlpp_scan.specs.declared.token.Mode.{Mode}
+use Rattle.rdlpp_scan.specs.declared.token.Mode.TheVariants.{Plain, InStr, InBlock}
+use Rattle.rdlpp_scan.specs.declared.token.Token.{Token}
+use Rattle.rdlpp_scan.specs.declared.token.LexFault.{LexFault}
+use Rattle.rdlpp_scan.specs.Bytes.{is_blank, is_line_end, is_opener, is_closer, begins_perl, begins_line_comment, begins_block_comment}
+use Rattle.rdlpp_scan.specs.Tokens.{token_of, tokens_from}
+use Rattle.rdlpp_scan.specs.LexFaults.{is_perl, open_fault}
+use Rattle.rdlpp_scan.proofs.TokenLens.{token_of-part}
+use Rattle.rdlpp_table.specs.declared.body.Inside.{Inside}
+use Rattle.rdlpp_table.specs.declared.body.Inside.TheVariants.{Text, Remark, Opening, Comment, Closing, Quoted, Taken}
+use Rattle.rdlpp_table.specs.Table.{default_size}
+use Rattle.rdlpp_table.specs.Define.{DefaultText, default_in, default_of_tokens, ends_default, is_space, level_behind, onto_default, trimmed_default, trimmed_of, without_end}
+use Rattle.rdlpp_table.specs.Bodies.{Cleared, Sound, Unsound, onto, level_of, level_after, minds_perl, keeps_first, behind_first, stops_at, ends_at, at_end, cleared, start_level, text_behind, trimmed_left, trimmed_len, trims}
+use Rattle.rdlpp_table.specs.Formals.{IsDefault, default_behind, default_left}
+use Rattle.rdlpp_table.specs.Store.{is_default, is_filled}
+use Rattle.rdlpp_table.proofs.Clears.{IsFree, free_ends, free_level}
+use Rattle.rdlpp_table.proofs.Agrees.{told, read_by, by_tokens}
+use Rattle.rdlpp_table.proofs.Kept.{kept_bytes}
+use Rattle.rdlpp_table.proofs.Filled.{Turn, Stops, Drops, Keeps, turn, nothing_read, next_of, plain_of, stop_is, heads, IsOnto, IsAgain, Heads, again, whole_again, filled_byte, filled_end, remark_begins, front_filled, end_filled, space_free}
+
+-- the default text of what is left
+abbrev found : Cleared → Option DefaultText
+found (Sound rest []) = None
+found (Sound rest (b ∷ bs)) = Some (record { text = rest; behind = b ∷ bs })
+found (Unsound fault) = None
+
+front_by : (k : Kind) (xs rest behind : List ℕ) → (elim k [ LineComment ↦ Some (record { text = rest; behind = behind }) | _ ↦ Some (record { text = xs ++ rest; behind = behind }) ]) ≡ Some (let d : DefaultText = record { text = (elim k [ LineComment ↦ [] | _ ↦ xs ]) ++ rest; behind = behind } in d)
+front_by Name xs rest behind = refl
+front_by Word xs rest behind = refl
+front_by Back xs rest behind = refl
+front_by Blank xs rest behind = refl
+front_by LineEnd xs rest behind = refl
+front_by Str xs rest behind = refl
+front_by LineComment xs rest behind = refl
+front_by BlockComment xs rest behind = refl
+front_by Opener xs rest behind = refl
+front_by Closer xs rest behind = refl
+front_by Comma xs rest behind = refl
+front_by Other xs rest behind = refl
+front_by PerlKind xs rest behind = refl
+front_by BareBackquote xs rest behind = refl
+
+onto_found : (t : Token) (text : List ℕ) (c : Cleared) → onto_default t text (found c) ≡ found (onto (kept_bytes t text) c)
+unfolding onto_default onto
+onto_found t text (Sound rest []) = refl
+onto_found t text (Sound rest (b ∷ bs)) = front_by t.kind (take t.len text) rest (b ∷ bs)
+onto_found t text (Unsound fault) = refl
+
+none_found : (m : Mode) → None ≡ found (told (open_fault m) [])
+unfolding open_fault
+none_found Plain = refl
+none_found InStr = refl
+none_found InBlock = refl
+
+no_tokens : (m : Mode) (n : ℕ) → tokens_from m n [] ≡ []
+unfolding tokens_from
+no_tokens m zero = refl
+no_tokens m (suc n) = refl
+
+first_step : (m : Mode) (b : ℕ) (bs : List ℕ) → tokens_from m 0 (b ∷ bs) ≡ token_of m (b ∷ bs) ∷ tokens_from (token_of m (b ∷ bs)).next_mode ((token_of m (b ∷ bs)).len - 1) bs
+unfolding tokens_from
+first_step m b bs = refl
+
+later_step : (m : Mode) (n b : ℕ) (bs : List ℕ) → tokens_from m (suc n) (b ∷ bs) ≡ tokens_from m n bs
+unfolding tokens_from
+later_step m n b bs = refl
+
+no_default : (level : ℕ) (text : List ℕ) → default_of_tokens level [] text ≡ None
+unfolding default_of_tokens
+no_default level text = refl
+
+one_default : (level : ℕ) (t : Token) (ts : List Token) (text : List ℕ) → default_of_tokens level (t ∷ ts) text ≡ cond (is_perl t.kind) None (cond (eqb level 0 && ends_default t.kind (get_or text 0 0)) (Some (record { text = []; behind = text })) (onto_default t text (default_of_tokens (level_behind t.kind level) ts (drop t.len text))))
+unfolding default_of_tokens
+one_default level t ts text = refl
+
+behind_token : (n b : ℕ) (bs : List ℕ) → 0 < n → drop n (b ∷ bs) ≡ drop (n - 1) bs
+behind_token n b bs h = ap (λ (i : ℕ). drop i (b ∷ bs)) (let e : n ≡ suc (n - 1) = omega arith in e)
+
+found_cond : (p : Bool) (x y : Cleared) → found (cond p x y) ≡ cond p (found x) (found y)
+found_cond true x y = refl
+found_cond false x y = refl
+
+-- a default text by its tokens is what is left of the text
+found_by : (text : List ℕ) (m : Mode) (n level : ℕ) → default_of_tokens level (tokens_from m n text) (drop n text) ≡ found (read_by (Some level) m (tokens_from m n text) (drop n text))
+found_by [] m n level =
+    ap (λ (ts : List Token). default_of_tokens level ts (drop n [])) (no_tokens m n)
+    ∙ (no_default level (drop n []) ∙ (none_found m ∙ sym (ap (λ (ts : List Token). found (read_by (Some level) m ts (drop n []))) (no_tokens m n))))
+found_by (b ∷ bs) m (suc n) level =
+    ap (λ (ts : List Token). default_of_tokens level ts (drop n bs)) (later_step m n b bs)
+    ∙ (found_by bs m n level ∙ sym (ap (λ (ts : List Token). found (read_by (Some level) m ts (drop n bs))) (later_step m n b bs)))
+found_by (b ∷ bs) m zero level =
+    let t : Token = token_of m (b ∷ bs) in
+    let ts : List Token = tokens_from t.next_mode (t.len - 1) bs in
+    let at : drop t.len (b ∷ bs) ≡ drop (t.len - 1) bs = behind_token t.len b bs (token_of-part m (b ∷ bs) (omega arith)).not_empty in
+    let next : ℕ = level_behind t.kind level in
+    let ends : Bool = eqb level 0 && ends_default t.kind b in
+    let rest : onto_default t (b ∷ bs) (default_of_tokens next ts (drop t.len (b ∷ bs))) ≡ found (onto (kept_bytes t (b ∷ bs)) (read_by (Some next) t.next_mode ts (drop t.len (b ∷ bs)))) =
+    ap (λ (x : List ℕ). onto_default t (b ∷ bs) (default_of_tokens next ts x)) at
+    ∙ (ap (onto_default t (b ∷ bs)) (found_by bs t.next_mode (t.len - 1) next)
+    ∙ (onto_found t (b ∷ bs) _
+    ∙ ap (λ (x : List ℕ). found (onto (kept_bytes t (b ∷ bs)) (read_by (Some next) t.next_mode ts x))) (sym at))) in
+    ap (λ (us : List Token). default_of_tokens level us (b ∷ bs)) (first_step m b bs)
+    ∙ (one_default level t ts (b ∷ bs)
+    ∙ (ap (λ (o : Option DefaultText). cond (is_perl t.kind) None (cond ends (Some (record { text = []; behind = b ∷ bs })) o)) rest
+    ∙ (ap (λ (o : Option DefaultText). cond (is_perl t.kind) None o) (sym (found_cond ends (Sound [] (b ∷ bs)) _))
+    ∙ (sym (found_cond (is_perl t.kind) (Unsound _) _)
+    ∙ ap (λ (us : List Token). found (read_by (Some level) m us (b ∷ bs))) (sym (first_step m b bs))))))
+
+pub default_is : (text : List ℕ) → default_behind text ≡ option_map trimmed_default (found (cleared (Some 0) Text text))
+unfolding default_behind
+default_is text = ap (option_map trimmed_default) (found_by text Plain 0 0 ∙ ap found (by_tokens text (Some 0)))
+
+-- a default text that was measured
+fault_found : (c : Cleared) (fault : LexFault) → trimmed_len (trims true) c ≡ Err fault → option_map trimmed_default (found c) ≡ None
+unfolding trimmed_len
+fault_found (Sound rest last) fault e = absurd (cc)
+fault_found (Unsound other) fault e = refl
+
+pub default_fault : (text : List ℕ) (fault : LexFault) → trimmed_len (trims true) (cleared (start_level true) Text text) ≡ Err fault → default_behind text ≡ None
+unfolding start_level
+default_fault text fault e = default_is text ∙ fault_found (cleared (Some 0) Text text) fault e
+
+endless_found : (c : Cleared) → text_behind c ≡ [] → option_map trimmed_default (found c) ≡ None
+unfolding text_behind
+endless_found (Sound rest []) e = refl
+endless_found (Sound rest (b ∷ bs)) e = absurd (cc)
+endless_found (Unsound fault) e = refl
+
+pub default_endless : (text : List ℕ) → text_behind (cleared (start_level true) Text text) ≡ [] → default_behind text ≡ None
+unfolding start_level
+default_endless text e = default_is text ∙ endless_found (cleared (Some 0) Text text) e
+
+sound_found : (c : Cleared) (b : ℕ) (bs : List ℕ) → text_behind c ≡ b ∷ bs → option_map trimmed_default (found c) ≡ Some (let d : DefaultText = record { text = trimmed_left (trims true) c; behind = text_behind c } in d)
+unfolding text_behind trimmed_left trimmed_default trims
+sound_found (Sound rest []) b bs e = absurd (cc)
+sound_found (Sound rest (d ∷ ds)) b bs e = refl
+sound_found (Unsound fault) b bs e = absurd (cc)
+
+-- what a default text of so many bytes counts
+abbrev pub size_by : ℕ → ℕ
+size_by len = cond (eqb len 0) 0 (1 + len)
+
+size_is : (text : List ℕ) → default_size text ≡ size_by (length text)
+unfolding default_size
+size_is [] = refl
+size_is (b ∷ bs) = sym (cond-false _ _ _ (ne_eqb (length (b ∷ bs)) 0 (λ e. absurd (omega arith))))
+
+left_len : (c : Cleared) (len : ℕ) → trimmed_len (trims true) c ≡ Ok len → length (trimmed_left (trims true) c) ≡ len
+unfolding trimmed_len trimmed_left
+left_len (Sound rest last) len e = cc
+left_len (Unsound fault) len e = absurd (cc)
+
+slash_free : (b : ℕ) → b ≡ 47 → IsFree b
+unfolding is_opener is_closer
+slash_free b e = subst (λ (x : ℕ). IsFree x) (sym e) (record { opener = refl; closer = refl; comma = refl })
+
+remark_on : (b c : ℕ) → b ≡ 47 → c ≡ 47 → (eqb b 47 && eqb c 47) ≡ true
+remark_on b c e f = and_from _ _ (ap (λ (x : ℕ). eqb x 47) e) (ap (λ (x : ℕ). eqb x 47) f)
+
+-- the state behind a byte, of the text and of what is kept of it
+dropped_state : (l : Option ℕ) (i : Inside) (b c : ℕ) → keeps_first i (b ∷ c ∷ []) ≡ false → (level_after l i b ≡ l) × (plain_of (behind_first i (b ∷ c ∷ [])) ≡ plain_of i)
+unfolding keeps_first behind_first level_after begins_line_comment begins_block_comment is_line_end is_opener is_closer
+dropped_state l Text b c k =
+    let e = remark_begins b c k in
+    (free_level l b (slash_free b e.0), ap (λ (t : Bool). plain_of (cond t Remark (cond (eqb b 47 && eqb c 42) Opening (cond (eqb b 34) Quoted Text)))) (remark_on b c e.0 e.1))
+dropped_state l Remark b c k = (refl, ap (λ (t : Bool). plain_of (cond t Text Remark)) k)
+dropped_state l Opening b c k = absurd (false≢true (sym k))
+dropped_state l Comment b c k = absurd (false≢true (sym k))
+dropped_state l Closing b c k = absurd (false≢true (sym k))
+dropped_state l Quoted b c k = absurd (false≢true (sym k))
+dropped_state l Taken b c k = absurd (false≢true (sym k))
+
+no_remark_text : (r o q : Bool) → not r ≡ true → cond r Remark (cond o Opening (cond q Quoted Text)) ≡ Remark → ⊥
+no_remark_text true o q k e = false≢true k
+no_remark_text false true q k e = absurd (cc)
+no_remark_text false false true k e = absurd (cc)
+no_remark_text false false false k e = absurd (cc)
+
+no_remark_comment : (t : Bool) → cond t Closing Comment ≡ Remark → ⊥
+no_remark_comment true e = absurd (cc)
+no_remark_comment false e = absurd (cc)
+
+no_remark_quoted : (p q : Bool) → cond p Text (cond q Taken Quoted) ≡ Remark → ⊥
+no_remark_quoted true q e = absurd (cc)
+no_remark_quoted false true e = absurd (cc)
+no_remark_quoted false false e = absurd (cc)
+
+plain_same : (j : Inside) → (j ≡ Remark → ⊥) → plain_of j ≡ j
+plain_same Text n = refl
+plain_same Remark n = absurd (n refl)
+plain_same Opening n = refl
+plain_same Comment n = refl
+plain_same Closing n = refl
+plain_same Quoted n = refl
+plain_same Taken n = refl
+
+line_end_is : (b : ℕ) → is_line_end b ≡ true → eqb b 10 ≡ true
+unfolding is_line_end
+line_end_is b e = e
+
+-- a kept byte, read from where the kept bytes stand
+record IsKeptStep (l : Option ℕ) (i : Inside) (b c : ℕ) : Type 0 where
+  goes_on : stops_at l (plain_of i) b ≡ false
+  no_perl : (minds_perl (plain_of i) && begins_perl (b ∷ c ∷ [])) ≡ false
+  keeps : keeps_first (plain_of i) (b ∷ c ∷ []) ≡ true
+  level : level_after l (plain_of i) b ≡ level_after l i b
+  behind : behind_first (plain_of i) (b ∷ c ∷ []) ≡ behind_first i (b ∷ c ∷ [])
+  no_remark : behind_first i (b ∷ c ∷ []) ≡ Remark → ⊥
+
+remark_step : (l : Option ℕ) (b c : ℕ) → b ≡ 10 → IsKeptStep l Remark b c
+unfolding keeps_first behind_first stops_at ends_at minds_perl level_after begins_perl begins_line_comment begins_block_comment is_line_end is_opener is_closer
+remark_step l b c e = subst (λ (x : ℕ). IsKeptStep l Remark x c) (sym e) (record {
+  goes_on = free_ends l 10 (record { opener = refl; closer = refl; comma = refl });
+  no_perl = refl;
+  keeps = refl;
+  level = free_level l 10 (record { opener = refl; closer = refl; comma = refl });
+  behind = refl;
+  no_remark = λ f. absurd (cc);
+})
+
+kept_step : (l : Option ℕ) (i : Inside) (b c : ℕ) → stops_at l i b ≡ false → (minds_perl i && begins_perl (b ∷ c ∷ [])) ≡ false → keeps_first i (b ∷ c ∷ []) ≡ true → IsKeptStep l i b c
+unfolding keeps_first behind_first stops_at minds_perl level_after
+kept_step l Text b c s p k = record { goes_on = s; no_perl = p; keeps = k; level = refl; behind = refl; no_remark = no_remark_text _ _ _ k }
+kept_step l Remark b c s p k = remark_step l b c (eqb-true b 10 (line_end_is b k))
+kept_step l Opening b c s p k = record { goes_on = s; no_perl = p; keeps = k; level = refl; behind = refl; no_remark = λ e. absurd (cc) }
+kept_step l Comment b c s p k = record { goes_on = s; no_perl = p; keeps = k; level = refl; behind = refl; no_remark = no_remark_comment _ }
+kept_step l Closing b c s p k = record { goes_on = s; no_perl = p; keeps = k; level = refl; behind = refl; no_remark = λ e. absurd (cc) }
+kept_step l Quoted b c s p k = record { goes_on = s; no_perl = p; keeps = k; level = refl; behind = refl; no_remark = no_remark_quoted _ _ }
+kept_step l Taken b c s p k = record { goes_on = s; no_perl = p; keeps = k; level = refl; behind = refl; no_remark = λ e. absurd (cc) }
+
+stop_again : (l : Option ℕ) (i : Inside) (b : ℕ) → stops_at l i b ≡ true → stops_at l (plain_of i) 44 ≡ true
+unfolding stops_at
+stop_again l Text b s = (stop_is l b s).1
+stop_again l Remark b s = absurd (false≢true s)
+stop_again l Opening b s = absurd (false≢true s)
+stop_again l Comment b s = absurd (false≢true s)
+stop_again l Closing b s = absurd (false≢true s)
+stop_again l Quoted b s = absurd (false≢true s)
+stop_again l Taken b s = absurd (false≢true s)
+
+-- what is left of a text up to its end is read whole
+kept_filled : (ds : List ℕ) (l : Option ℕ) (i : Inside) (kept : List ℕ) (t : ℕ) (ts : List ℕ) → cleared l i ds ≡ Sound kept (t ∷ ts) → is_filled l (plain_of i) kept ≡ true
+kept_filled [] l i kept t ts e = absurd (nothing_read l i kept t ts e)
+kept_filled (b ∷ bs) l i kept t ts e = elim (turn l i b bs kept (t ∷ ts) e) [
+  | Stops s k ↦ ap (is_filled l (plain_of i)) k ∙ (filled_end l (plain_of i) ∙ stop_again l i b s)
+  | Drops s k r ↦
+      let d = dropped_state l i b (get_or bs 0 0) k in
+      ap (λ (m : Option ℕ). is_filled m (plain_of i) kept) (sym d.0)
+      ∙ (ap (λ (j : Inside). is_filled (level_after l i b) j kept) (sym d.1)
+      ∙ kept_filled bs (level_after l i b) (behind_first i (b ∷ get_or bs 0 0 ∷ [])) kept t ts r)
+  | Keeps s p k o ↦
+      let c : ℕ = get_or bs 0 0 in
+      let j : Inside = behind_first i (b ∷ c ∷ []) in
+      let w : IsKeptStep l i b c = kept_step l i b c s p k in
+      let h : is_filled (level_after l i b) (plain_of j) o.more ≡ true = kept_filled bs (level_after l i b) j o.more t ts o.is in
+      let r : is_filled (level_after l (plain_of i) b) (behind_first (plain_of i) (b ∷ c ∷ [])) o.more ≡ true =
+      ap (λ (m : Option ℕ). is_filled m (behind_first (plain_of i) (b ∷ c ∷ [])) o.more) w.level
+      ∙ (ap (λ (x : Inside). is_filled (level_after l i b) x o.more) (w.behind ∙ sym (plain_same j w.no_remark)) ∙ h) in
+      let a : IsAgain (plain_of i) b c (next_of o.more) = again (plain_of i) b c (next_of o.more) w.no_perl w.keeps (subst (λ (x : Inside). Heads x c (next_of o.more)) (sym w.behind) (heads bs (level_after l i b) j o.more t ts w.no_remark o.is)) in
+      ap (is_filled l (plain_of i)) o.kept_is ∙ filled_byte l (plain_of i) b o.more (whole_again l (plain_of i) b c (next_of o.more) o.more w.goes_on a r)
+]
+
+left_filled : (c : Cleared) (b : ℕ) (bs : List ℕ) → text_behind c ≡ b ∷ bs → ((kept : List ℕ) → c ≡ Sound kept (b ∷ bs) → is_filled (Some 0) Text kept ≡ true) → is_default (trimmed_left (trims true) c) ≡ true
+unfolding text_behind trimmed_left trimmed_of trims
+left_filled (Sound rest last) b bs e f =
+    end_filled (drop (prefix_len is_space rest) rest) (Some 0) Text tt (front_filled rest (Some 0) (f rest (ap (Sound rest) e)))
+left_filled (Unsound fault) b bs e f = absurd (cc)
+
+-- a default text that was read is read back
+pub default_plain : (text : List ℕ) (b : ℕ) (bs : List ℕ) → text_behind (cleared (start_level true) Text text) ≡ b ∷ bs → is_default (default_left text) ≡ true
+unfolding start_level default_left
+default_plain text b bs e = left_filled (cleared (Some 0) Text text) b bs e (λ kept k. kept_filled text (Some 0) Text kept b bs k)
+
+abbrev ok_len : ℕ → Result ℕ LexFault
+ok_len n = Ok n
+
+pub default_found : (text behind : List ℕ) (b : ℕ) (bs : List ℕ) (len size : ℕ) → trimmed_len (trims true) (cleared (start_level true) Text text) ≡ Ok len → text_behind (cleared (start_level true) Text text) ≡ behind → behind ≡ b ∷ bs → size ≡ size_by len → IsDefault (default_behind text) text behind size
+unfolding start_level default_left
+default_found text behind b bs len size l e f s =
+    let c : Cleared = cleared (Some 0) Text text in
+    record {
+      is = default_is text ∙ (sound_found c b bs (e ∙ f) ∙ ap (λ (x : List ℕ). Some (let d : DefaultText = record { text = trimmed_left (trims true) c; behind = x } in d)) e);
+      size_is = size_is (trimmed_left (trims true) c) ∙ (ap size_by (left_len c len l) ∙ sym s);
+      len_is = l ∙ ap (λ (n : ℕ). ok_len n) (sym (left_len c len l));
+      plain = default_plain text b bs (e ∙ f);
+    }
+
+-- a formal without a default text
+no_default_left : default_left [] ≡ []
+unfolding default_left cleared at_end trimmed_left trimmed_of without_end trims
+no_default_left = refl
+
+none_size : default_size [] ≡ 0
+unfolding default_size
+none_size = refl
+
+none_len : trimmed_len (trims true) (cleared (start_level true) Text []) ≡ ok_len 0
+unfolding cleared at_end trimmed_len trimmed_of without_end trims
+none_len = refl
+
+none_plain : is_default [] ≡ true
+unfolding is_filled stops_at ends_at
+none_plain = refl
+
+no_default_in : (text : List ℕ) → eqb (get_or text 0 0) 61 ≡ false → IsDefault (default_in text) [] text 0
+unfolding default_in
+no_default_in text e = record {
+  is = cond-false _ _ _ e ∙ ap (λ (x : List ℕ). Some (let d : DefaultText = record { text = x; behind = text } in d)) (sym no_default_left);
+  size_is = ap default_size no_default_left ∙ none_size;
+  len_is = none_len ∙ ap (λ (x : List ℕ). ok_len (length x)) (sym no_default_left);
+  plain = ap is_default no_default_left ∙ none_plain;
+}
+
+pub no_default_at : (text joined_from joined_text : List ℕ) (size : ℕ) → joined_from ≡ [] → joined_text ≡ text → size ≡ 0 → eqb (get_or text 0 0) 61 ≡ false → IsDefault (default_in text) joined_from joined_text size
+no_default_at text from behind size f t n e = rw (f, t, n) (no_default_in text e)
+
+-- what stands behind a name and begins with `=` is a default text
+pub default_at : (text : List ℕ) (b : ℕ) (from : List ℕ) → text ≡ b ∷ from → eqb b 61 ≡ true → default_in text ≡ default_behind from
+unfolding default_in default_behind
+default_at text b from t e = ap (λ (x : List ℕ). cond (eqb (get_or x 0 0) 61) (option_map trimmed_default (default_of_tokens 0 (tokens_from Plain 0 (drop 1 x)) (drop 1 x))) (Some (record { text = []; behind = x }))) t ∙ cond-true _ _ _ e

@@ -1,0 +1,15 @@
+use Rattle.std.proofs.Common.{◌≡◌, ◌≤◌, length}
+use Rattle.rdlpp_table.specs.Bodies.{begun, trims}
+use Rattle.rdlpp_table.specs.BodyBytes.{left, LevelFits}
+use Rattle.rdlpp_table.proofs.body.BodyBytes.next_untrimmed.Given as goal
+
+abbrev pub invariant-loop-b : goal.invariant-loop-b
+invariant-loop-b l = record {
+  same : begun (trims l.fn.is_default) (left l.self) ≡ begun (trims l.fn.is_default) (left l.fn.self);
+  shorter : length l.self.rest.now ≤ length l.fn.self.rest.now;
+  logical : l.self.is_logical ≡ l.fn.self.is_logical;
+  fits : LevelFits l.self;
+}
+
+abbrev pub decreases-loop-b : goal.decreases-loop-b
+decreases-loop-b l = length l.self.rest.now

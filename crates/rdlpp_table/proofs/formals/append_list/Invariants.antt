@@ -1,0 +1,13 @@
+use Rattle.std.proofs.Common.{◌≡◌, ◌≤◌, true, vec_capacity, length}
+use Rattle.rdlpp_table.specs.Bodies.{joined}
+use Rattle.rdlpp_table.proofs.Appending.{IsAppended}
+use Rattle.rdlpp_table.proofs.formals.append_list.Given as goal
+
+abbrev pub invariant-loop-behind : goal.invariant-loop-behind
+invariant-loop-behind l = record {
+  appended : IsAppended (joined true l.fn.text) (joined true l.rest) l.fn.to.items l.to.items;
+  room : vec_capacity l.fn.to ≤ vec_capacity l.to;
+}
+
+abbrev pub decreases-loop-behind : goal.decreases-loop-behind
+decreases-loop-behind l = length l.rest

@@ -1,0 +1,99 @@
+// Formals as they lie in a table's bytes: a name, `=` and a default text where there is one, and a comma.
+ghost use Rattle.std.specs.Prelude.{drop, length, ◌<◌, ◌≡◌, ◌≤◌};
+ghost use Rattle.std.specs.List.{prefix_len};
+ghost use Rattle.rdlpp_table.specs.Store.{behind_stored, formal_behind, formal_read, formals_read, is_name_byte};
+ghost use Rattle.rdlpp_table.specs.View.{formal_at, formal_named};
+
+use crate::body::behind_default;
+
+// A formal that was read: its name, its default text, and what stands behind its comma.
+#[derive(Clone, Copy, Drop)]
+struct StoredFormal<'a> {
+    name: &'a [u8],
+    text: &'a [u8],
+    behind: &'a [u8],
+}
+
+// How many bytes of a formal's name bytes begin with.
+#[tactic(auto, unfolding(crate::specs::Store::is_name_byte))]
+fn name_len(bytes: &[u8]) -> usize
+    ensures value { result ≡ prefix_len is_name_byte bytes.now }
+    ensures inside { result ≤ length bytes.now }
+{
+    bytes
+        .iter()
+        .take_while(|b| !(**b == b',' || **b == b'='))
+        .count()
+}
+
+// All but the first byte.
+fn after_first(bytes: &[u8]) -> &[u8]
+    ensures { result.now ≡ drop 1 bytes.now }
+{
+    match bytes.split_first() {
+        Some((_, rest)) => rest,
+        None => bytes,
+    }
+}
+
+// The formal of a name, by what stands behind the name.
+#[tactic(auto, unfolding(crate::specs::Store::formal_behind))]
+fn formal_behind<'a>(name: &'a [u8], bytes: &'a [u8]) -> StoredFormal<'a>
+    ensures name { result.name.now ≡ (formal_behind name.now bytes.now).formal.name }
+    ensures text { result.text.now ≡ (formal_behind name.now bytes.now).formal.text }
+    ensures behind { result.behind.now ≡ (formal_behind name.now bytes.now).behind }
+{
+    let text = after_first(bytes);
+    if bytes.first().copied().unwrap_or(0) == b'=' {
+        let behind = behind_default(text);
+        StoredFormal {
+            name,
+            text: &text[..text.len() - behind.len()],
+            behind: after_first(behind),
+        }
+    } else {
+        StoredFormal {
+            name,
+            text: &[],
+            behind: text,
+        }
+    }
+}
+
+// The formal with which bytes begin.
+#[tactic(auto, unfolding(crate::specs::Store::formal_read))]
+fn first_formal(bytes: &[u8]) -> StoredFormal<'_>
+    ensures name { result.name.now ≡ (formal_read bytes.now).formal.name }
+    ensures text { result.text.now ≡ (formal_read bytes.now).formal.text }
+    ensures behind { result.behind.now ≡ (formal_read bytes.now).behind }
+{
+    let len = name_len(bytes);
+    formal_behind(&bytes[..len], &bytes[len..])
+}
+
+// The place of the formal of a name among so many.
+pub(crate) fn place_in_list(bytes: &[u8], count: usize, name: &[u8]) -> Option<usize>
+    ensures { result ≡ formal_named (formals_read count bytes.now) name.now }
+{
+    let mut rest = bytes;
+    for place in 0..count {
+        let formal = first_formal(rest);
+        if formal.name == name {
+            return Some(place);
+        }
+        rest = formal.behind;
+    }
+    None
+}
+
+// The default text of the formal at a place among so many.
+pub(crate) fn default_in_list(bytes: &[u8], count: usize, place: usize) -> &[u8]
+    requires { place < count }
+    ensures { result.now ≡ (formal_at (formals_read count bytes.now) place).text }
+{
+    let mut rest = bytes;
+    for _ in 0..place {
+        rest = first_formal(rest).behind;
+    }
+    first_formal(rest).text
+}
