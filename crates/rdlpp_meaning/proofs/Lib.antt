@@ -41,6 +41,7 @@ pub mod MainOutputs
 pub mod OddRows
 pub mod BorderRows
 pub mod DefaultRows
+pub mod DefineDefaultRows
 pub mod OutputLimitRows
 pub mod LiveText
 pub mod NestMoves
