@@ -237,7 +237,7 @@ quote_behind_two_backslashes = refl
 
 -- the most formals that a macro may have
 abbrev most_formals : ℕ
-most_formals = 64
+most_formals = 255
 
 -- so many formals from a number on, and a last one
 unfoldable formals_to : ℕ → ℕ → List ℕ

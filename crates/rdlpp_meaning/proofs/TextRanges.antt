@@ -200,11 +200,12 @@ first_behind m bs u vs e closed =
     let t = token_of m bs in
     let size : length u.bytes ≡ t.len = ap (λ (v : SourceToken). length v.bytes) (sym f.first) ∙ first_size m bs f.some in
     let plain = first_closed m bs (ap (λ (v : SourceToken). closes_text (token_role v)) f.first ∙ closed) in
-    let part = token_of-part m bs f.some in
-    (ap (λ (n : ℕ). text_tokens Plain (drop n bs)) size
-    ∙ ap (λ (mode : Mode). text_tokens mode (drop t.len bs)) (sym plain)
-    ∙ f.behind,
-    omega (arith, size, part.inside))
+    let part = token_of-part m bs f.some in (
+      ap (λ (n : ℕ). text_tokens Plain (drop n bs)) size
+          ∙ ap (λ (mode : Mode). text_tokens mode (drop t.len bs)) (sym plain)
+          ∙ f.behind,
+      omega (arith, size, part.inside),
+    )
 
 -- whether each token of a role is one byte
 unfoldable pub is_one_role : Role → Bool

@@ -636,7 +636,10 @@ fn keeps_the_limit_on_the_output(rt: HostRuntime) {
     let first = fault(7, 1, "Q");
     let rows = [
         (9, whole("a limit that is reached", source, b"\nreg[8];\n")),
-        (8, faulty("a limit that is passed", source, b"\nreg[8];", over)),
+        (
+            8,
+            faulty("a limit that is passed", source, b"\nreg[8];", over),
+        ),
         (5, faulty("a limit before a body", source, b"\nreg[", over)),
         (0, faulty("no byte allowed", source, b"", over)),
         (0, whole("no byte due", b"`define W 8", b"")),
