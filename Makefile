@@ -1,5 +1,5 @@
 # The few commands that a reader of this repository needs. `make help` lists them.
-.PHONY: help build run test check install fmt bench definitions
+.PHONY: help build run test check fuzz install fmt bench definitions
 
 # Where `make install` puts the program and its manual page, below DESTDIR where that is given.
 PREFIX ?= /usr/local
@@ -21,6 +21,10 @@ test: ## the gate (every proof from nothing, the must-fail edits, the tests, the
 check: ## build the program and run it over files, streams, examples and refused command lines
 	@$(MAKE) --silent build
 	@checks/all
+
+fuzz: ## run the program over random sources: SEED=1 CASES=2000, or other numbers
+	@$(MAKE) --silent build
+	@checks/random $(or $(SEED),1) $(or $(CASES),2000)
 
 install: ## build the program and put it, with its manual page, below PREFIX (/usr/local)
 	@$(MAKE) --silent build
