@@ -34,7 +34,7 @@ install: ## build the program and put it, with its manual page, below PREFIX (/u
 fmt: ## lay out every file
 	@for crate in crates/*/; do (cd $$crate && rt fmt); done
 
-bench: ## build the programs, compare speed and memory with cat and cpp, and the scanner with a search for LF
+bench: ## build the programs, compare speed and memory with cat, cpp, ivlpp and m4, and the scanner with a search for LF
 	@$(MAKE) --silent build
 	@bench/compare out/rdlpp
 	@cd crates/rdlpp_bench && rt run -- lines 0 < /dev/null > /dev/null
