@@ -38,6 +38,10 @@ ahead_of f = drop f.accepted f.window
 unfoldable pub rest_of : {R : Type 0} → (R → List ℕ) → BufferView R → List ℕ
 rest_of unread f = ahead_of f ++ unread_of unread f.reader
 
+-- the text that isn't used
+unfoldable pub text_left : {R : Type 0} → (R → List ℕ) → BufferView R → List ℕ
+text_left unread f = held_of f ++ rest_of unread f
+
 -- the tokens that remain of the source, where a test says what isn't built yet
 unfoldable pub tokens_left : {R : Type 0} → (List ℕ → Bool) → (R → List ℕ) → BufferView R → List SourceToken
 tokens_left unbuilt unread f =
