@@ -177,7 +177,8 @@ compacts-grows tells unread fill old mid new c g = record {
 }
 
 -- what was found is what the source has, where nothing was held
-grows-text : {R : Type 0} (tells : Type 0) (unread : R → List ℕ) (fill : Fill) (old new : BufferView R) → GrowsBy tells unread fill old new → (fill ≡ LineLong → ⊥) → tells → text_left unread new ≡ text_left unread old
+-- the text that isn't used stays, but where a byte too many was read
+pub grows-text : {R : Type 0} (tells : Type 0) (unread : R → List ℕ) (fill : Fill) (old new : BufferView R) → GrowsBy tells unread fill old new → (fill ≡ LineLong → ⊥) → tells → text_left unread new ≡ text_left unread old
 unfolding text_left
 grows-text tells unread Held old new by other t = let held = by.held in let rest = by.rest t in let join = append_assoc (held_of old) by.lines (rest_of unread new) in cc
 grows-text tells unread End old new by other t = let held = by.0.held in let rest = by.1 t in let none = by.2 in cc

@@ -74,7 +74,7 @@ pub closed-slot : {R : Type 0} (size : ℕ) (f : File R) → f.buffer ≡ closed
 unfolding closed_buffer
 closed-slot size f closed number = record {
   size = ap (λ b. b.line_bytes) closed;
-  buffer = rw closed (record { used = omega arith; lines = omega arith; within = omega arith; counts = omega arith });
+  buffer = rw closed (record { used = omega arith; lines = omega arith; within = omega arith; counts = omega arith; opened = omega arith });
   ends = none_ends f.buffer (ap (λ b. b.accepted) closed);
   number = omega arith;
 }
