@@ -1,21 +1,19 @@
 -- The texts of a table's macros: each digit of the work left counts them, and the tokens of a clean text are all kept.
-use Rattle.std.proofs.Common.{◌≡◌, ℕ, zero, suc, ◌+◌, ◌<◌, ◌≤◌, Bool, true, false, not, cond, List, [], ◌∷◌, length, take, drop, filter, sum_by, unwrap_or, refl, sym, ap, ◌∙◌, subst, arith}
+use Rattle.std.proofs.Common.{◌≡◌, ℕ, ◌+◌, ◌<◌, ◌≤◌, true, not, cond, List, [], ◌∷◌, length, take, drop, filter, sum_by, unwrap_or, refl, ap, ◌∙◌, arith}
 use Rattle.std.specs.List.{AllByRecursion}
 use Rattle.std.proofs.lemmas.List.Elements.{recursion_from_All}
 use Rattle.std.proofs.lemmas.List.Sums.{sum_by-cons}
-use Rattle.rdlpp_scan.specs.declared.token.Kind.{Kind}
 use Rattle.rdlpp_scan.specs.declared.token.Mode.{Mode}
 use Rattle.rdlpp_scan.specs.declared.token.Mode.TheVariants.{Plain}
 use Rattle.rdlpp_scan.specs.declared.token.Token.{Token}
 use Rattle.rdlpp_scan.specs.CleanTexts.{IsCleanText, IsCleanToken}
-use Rattle.rdlpp_scan.specs.Comments.{is_line_comment}
 use Rattle.rdlpp_scan.specs.Pieces.{mode_behind}
 use Rattle.rdlpp_scan.specs.SourceTokens.{Ordinary, SourceToken}
 use Rattle.rdlpp_scan.specs.TokenKinds.{is_ordinary}
 use Rattle.rdlpp_scan.specs.Tokens.{tokens_from}
 use Rattle.rdlpp_scan.proofs.CleanTexts.{clean_tokens}
 use Rattle.rdlpp_table.specs.Table.{Formal, Macro, default_size, formal_size, macro_size, table_size}
-use Rattle.rdlpp_table.specs.View.{TableView, AreSoundFormals, IsSound, IsSoundMacro, formals_of}
+use Rattle.rdlpp_table.specs.View.{TableView, IsSound, IsSoundMacro, formals_of}
 use Rattle.rdlpp_meaning.specs.Actuals.{token_role}
 use Rattle.rdlpp_meaning.specs.CallScan.{is_kept}
 use Rattle.rdlpp_meaning.specs.CursorWork.{is_solid, HasCountedDefault, IsCountedMacro}

@@ -1,6 +1,6 @@
 -- Texts without a lexical fault and without `//` comments: their tokens, their fronts, and what is left of them without spaces at
 -- both ends.
-use Rattle.std.proofs.Common.{◌≡◌, ℕ, zero, suc, ◌+◌, ◌-◌, ◌<◌, ◌≤◌, Bool, true, false, not, cond, ◌||◌, List, [], ◌∷◌, ◌++◌, Option, Some, None, length, get_or, take, drop, refl, sym, ap, ◌∙◌, subst, inl, inr, ⊎_elim, arith}
+use Rattle.std.proofs.Common.{◌≡◌, ℕ, zero, suc, ◌+◌, ◌-◌, ◌<◌, ◌≤◌, Bool, true, false, not, cond, List, [], ◌∷◌, ◌++◌, Option, Some, None, length, get_or, take, drop, refl, sym, ap, ◌∙◌, subst, inl, ⊎_elim, arith}
 use Rattle.std.specs.List.{AllByRecursion, concat, filter, prefix_len}
 use Rattle.std.proofs.lemmas.Bool.{cases_Bool, cases_lt, cond_both, or_cases, eqb-true, false≢true, false_from_ne_true}
 use Rattle.std.proofs.lemmas.List.{drop-take, get_or-drop, length-drop, take-take}
@@ -217,7 +217,10 @@ module _ (class : ℕ → Bool) (are : AreSpaces class) (bs : List ℕ) (t : Tok
   cut_before : ((k : ℕ) → k < t.len → class (get_or bs k 0) ≡ true) → Cut class bs
   unfolding tokens_len
   cut_before own = record {
-    front = []; back = t ∷ later; is = step; inside = omega arith;
+    front = [];
+    back = t ∷ later;
+    is = step;
+    inside = omega arith;
     spaces = λ k le lt. ⊎_elim (own k) (λ ge. all_behind k ge lt) (cases_lt k t.len);
     ends = AtFront refl;
   }
@@ -225,7 +228,10 @@ module _ (class : ℕ → Bool) (are : AreSpaces class) (bs : List ℕ) (t : Tok
   cut_after : (k : ℕ) → t.len ≡ suc k → class (get_or bs k 0) ≡ false → Cut class bs
   unfolding tokens_len
   cut_after k len other = record {
-    front = t ∷ []; back = later; is = step; inside = omega arith;
+    front = t ∷ [];
+    back = later;
+    is = step;
+    inside = omega arith;
     spaces = λ j le lt. all_behind j (omega arith) lt;
     ends = AtOther k (omega arith) other;
   }
@@ -243,7 +249,10 @@ unfolding tokens_len
 cut_behind class bs t step fits c k len other =
     let size = length-drop t.len bs in
     record {
-      front = t ∷ c.front; back = c.back; is = step ∙ ap (λ us. t ∷ us) c.is; inside = omega (arith, c.inside);
+      front = t ∷ c.front;
+      back = c.back;
+      is = step ∙ ap (λ us. t ∷ us) c.is;
+      inside = omega (arith, c.inside);
       spaces = λ j le lt. behind-get class t.len j bs (omega arith) (c.spaces (j - t.len) (omega arith) (omega arith));
       ends = AtOther (t.len + k) (omega arith) (sym (ap class (get_or-drop t.len bs k 0 ∙ ap (λ i. get_or bs i 0) (omega arith))) ∙ other);
     }
@@ -285,13 +294,15 @@ pub clean_to : (class : ℕ → Bool) → AreSpaces class → (text : List ℕ) 
 clean_to class are text clean =
     let all = clean_tokens text clean in
     let c = cut_clean class are (length text) text (omega arith) all in
-    let C : List Token → Type 0 = λ ts. AreClean ts in
-    (tokens_len c.front, record {
-      clean = clean_front c.front c.back text c.is (clean_part c.front c.back (subst C c.is all));
-      inside = c.inside;
-      spaces = c.spaces;
-      last = ends-last class text (tokens_len c.front) c.ends;
-    })
+    let C : List Token → Type 0 = λ ts. AreClean ts in (
+      tokens_len c.front,
+      record {
+        clean = clean_front c.front c.back text c.is (clean_part c.front c.back (subst C c.is all));
+        inside = c.inside;
+        spaces = c.spaces;
+        last = ends-last class text (tokens_len c.front) c.ends;
+      },
+    )
 
 -- a token that is neither a string, a comment nor `<%` stands in plain text
 plain_before : (m : Mode) (bs : List ℕ) → opens_mode (token_of m bs).kind ≡ false → is_perl (token_of m bs).kind ≡ false → m ≡ Plain

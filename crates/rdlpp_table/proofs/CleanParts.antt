@@ -1,9 +1,9 @@
 -- The body and the default texts of a definition are clean.
-use Rattle.std.proofs.Common.{◌≡◌, ℕ, zero, suc, ◌+◌, ◌<◌, ◌≤◌, Bool, true, false, cond, ◌&&◌, ◌||◌, eqb, List, [], ◌∷◌, ◌++◌, Option, Some, None, length, get_or, take, drop, option_map, refl, sym, ap, ◌∙◌, subst, inl, inr, arith}
+use Rattle.std.proofs.Common.{◌≡◌, ℕ, zero, suc, ◌<◌, ◌≤◌, Bool, true, false, cond, ◌&&◌, eqb, List, [], ◌∷◌, ◌++◌, Option, Some, None, length, get_or, take, drop, option_map, refl, sym, ap, ◌∙◌, subst, inl, inr, arith}
 use Rattle.std.specs.List.{AllByRecursion, concat, prefix_len}
 use Rattle.std.proofs.lemmas.Bool.{and_parts, cases_Bool, cond-true, cond-false, false≢true, or_left}
 use Rattle.rdlpp_scan.specs.declared.token.Kind.{Kind}
-use Rattle.rdlpp_scan.specs.declared.token.Kind.TheVariants.{Name, Word, Back, Blank, LineEnd, Str, LineComment, BlockComment, Opener, Closer, Comma, Other, Perl, BareBackquote}
+use Rattle.rdlpp_scan.specs.declared.token.Kind.TheVariants.{LineComment, Closer, Comma}
 use Rattle.rdlpp_scan.specs.declared.token.LexFault.{LexFault}
 use Rattle.rdlpp_scan.specs.declared.token.Mode.TheVariants.{Plain}
 use Rattle.rdlpp_scan.specs.declared.token.Token.{Token}
@@ -15,7 +15,7 @@ use Rattle.rdlpp_scan.specs.TokenKinds.{opens_mode}
 use Rattle.rdlpp_scan.specs.Tokens.{tokens_from}
 use Rattle.rdlpp_scan.proofs.CleanTexts.{clean_nothing, clean_without, clean_behind_spaces, clean_to, clean_before_token}
 use Rattle.rdlpp_table.specs.Table.{Formal, Macro}
-use Rattle.rdlpp_table.specs.Define.{DefaultText, Draft, Drawn, Rejected, default_in, default_of_tokens, ends_default, is_space, level_behind, lexical, onto_default, onto_trimmed, trimmed, trimmed_default, trimmed_of, with_body, without_end, without_remarks}
+use Rattle.rdlpp_table.specs.Define.{DefaultText, Drawn, Rejected, default_in, default_of_tokens, ends_default, is_space, level_behind, lexical, onto_default, onto_trimmed, trimmed, trimmed_default, trimmed_of, with_body, without_end, without_remarks}
 
 -- a text without the bytes of a class at its end, by where those begin
 without_end_is : (class : ℕ → Bool) (bs : List ℕ) (n : ℕ) → n ≤ length bs → ((k : ℕ) → n ≤ k → k < length bs → class (get_or bs k 0) ≡ true)
@@ -114,9 +114,14 @@ found_next : (t : Token) (ts : List Token) (text : List ℕ) (e d : DefaultText)
 unfolding onto_default other_texts
 found_next t ts text e d whole h f =
     record {
-      before = t ∷ f.before; ends = f.ends; after = f.after; is = ap (λ us. t ∷ us) f.is;
+      before = t ∷ f.before;
+      ends = f.ends;
+      after = f.after;
+      is = ap (λ us. t ∷ us) f.is;
       text_is = onto_kind t.kind (take t.len text) e d (other_texts f.before (drop t.len text)) h f.text_is;
-      sound = (whole, f.sound); shut = f.shut; whole = f.whole;
+      sound = (whole, f.sound);
+      shut = f.shut;
+      whole = f.whole;
     }
 
 found_in : (level : ℕ) (ts : List Token) (text : List ℕ) (d : DefaultText) → default_of_tokens level ts text ≡ Some d → IsFound ts text d

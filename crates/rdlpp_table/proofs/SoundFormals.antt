@@ -15,7 +15,7 @@ use Rattle.rdlpp_table.specs.declared.body.Inside.TheVariants.{Text}
 use Rattle.rdlpp_table.specs.Bodies.{cleared, joined, trimmed_len, trims}
 use Rattle.rdlpp_scan.specs.CleanTexts.{IsCleanText}
 use Rattle.rdlpp_scan.specs.Stage.{is_reserved}
-use Rattle.rdlpp_table.specs.Define.{Bad, DefaultText, Good, Listed, OneFormal, Unlisted, after_space, behind_name, default_in, formal_fault, formal_in, formal_name, formals_in, formals_of_list, is_nothing, name_fault, with_default}
+use Rattle.rdlpp_table.specs.Define.{Bad, DefaultText, Good, Listed, Unlisted, after_space, behind_name, default_in, formal_fault, formal_in, formal_name, formals_in, formals_of_list, is_nothing, name_fault, with_default}
 use Rattle.rdlpp_table.proofs.Bodied.{body_drawn}
 use Rattle.rdlpp_table.proofs.CleanParts.{default_in_clean, drawn_clean}
 use Rattle.rdlpp_table.proofs.Reading.{fault_three, formal_by, in_by, list_by, list_full, list_step, three}
@@ -123,7 +123,10 @@ pub new_sound : (name : List ℕ) (arity : Option ℕ) (list : List ℕ) (is_log
 new_sound name arity list is_logical text len e s read =
     let g = good_name name e in
     record {
-      named = g.named; short = g.short; unreserved = g.unreserved; formals = s;
+      named = g.named;
+      short = g.short;
+      unreserved = g.unreserved;
+      formals = s;
       body = drawn_clean name (list_formals arity list) (joined is_logical text) (new_macro name arity list is_logical text) (body_drawn name (list_formals arity list) (joined is_logical text) len read);
     }
 
