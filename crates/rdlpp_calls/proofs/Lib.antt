@@ -4,3 +4,4 @@ pub mod CallLaws
 pub mod ArgumentLaws
 pub mod Trimming
 pub mod PartLaws
+pub mod BoundParts

@@ -1,9 +1,11 @@
 //! The parts of a call in a text: its `(`, its `)`, and the actuals between them, as ranges of bytes.
 #![tactic(auto)]
 
+mod bindings;
 mod parts;
 mod tokens;
 
+pub use bindings::Range;
 pub use parts::{Arguments, CallFault, Part, arguments_of, call_end, call_start, next_part};
 
 #[cfg(test)]
