@@ -5,3 +5,4 @@ pub mod ArgumentLaws
 pub mod Trimming
 pub mod PartLaws
 pub mod BoundParts
+pub mod PartCounts

@@ -34,6 +34,10 @@ AreWithin from to ranges = AllByRecursion (λ r. (from ≤ r.from) × ((r.from �
 unfoldable pub actuals_of : List ℕ → List (List SourceToken)
 actuals_of text = map (trimmed token_role) (all_parts (split token_role 0 (body_tokens text)))
 
+-- the first of them
+unfoldable pub first_actual : List ℕ → List SourceToken
+first_actual text = trimmed token_role (split token_role 0 (body_tokens text)).first
+
 -- tokens of which a call drops none: no `//` comment is among them
 abbrev pub KeepsAll : List SourceToken → Type 0
 KeepsAll ts = All (λ t. is_kept (token_role t) ≡ true) ts

@@ -1,10 +1,10 @@
 // The actuals of a call as ranges of the text in which the call stands.
-ghost use Rattle.std.specs.Prelude.{◌≡◌, ℕ, ◌+◌, ◌^◌, ◌≤◌, ◌<◌, ◌==◌, ◌++◌, List, true, length, map, drop, slice_range, IfOk, IfErr, is_ok, vec_len, vec_capacity};
+ghost use Rattle.std.specs.Prelude.{◌≡◌, ℕ, ◌+◌, ◌^◌, ◌≤◌, ◌<◌, ◌==◌, ◌++◌, ◌||◌, not, nat_lt, List, true, length, map, drop, slice_range, IfOk, IfErr, is_ok, vec_len, vec_capacity};
 ghost use Rattle.rdlpp_meaning.specs.Cursors.{is_token_count};
 ghost use Rattle.rdlpp_meaning.specs.Substitution.{body_tokens};
 ghost use Rattle.rdlpp_meaning.specs.declared.fault.FaultKind.TheVariants.{ArgumentCount};
 ghost use Rattle.rdlpp_table.specs.Table.{Formal};
-ghost use Rattle.rdlpp_calls.specs.BoundCalls.{actuals_of, added, ranges_tokens, AreWithin, IsBoundCall, KeepsAll};
+ghost use Rattle.rdlpp_calls.specs.BoundCalls.{actuals_of, first_actual, added, ranges_tokens, AreWithin, IsBoundCall, KeepsAll};
 
 use crate::parts::{CallFault, Part, arguments_of, next_part};
 use rdlpp_meaning::FaultKind;
@@ -54,4 +54,43 @@ fn push_parts(text: &[u8], from: usize, to: usize, count: usize, bindings: &mut 
     let part = next_part(&text[at..to]);
     bindings.push_reserved(range_of(&part, at));
     part.next.is_none()
+}
+
+// Whether the text between the parentheses of a call can have so many actuals by its first part: for no formals, that has
+// no items.
+fn admits(text: &[u8], formals: usize) -> bool
+    ensures { result ≡ (nat_lt 0 formals || not (nat_lt 0 (length (first_actual text.now)))) }
+{
+    formals > 0 || !next_part(text).has_items()
+}
+
+/// Binds the actuals of a call between its parentheses, two places of a text: appends where each part stands, without the
+/// white space at both of its ends (IEEE 1364-2001, `define`; what a part is, is this project's profile). There must be room
+/// for so many ranges, and for one at least.
+///
+/// # Rules
+///
+/// So many formals need as many parts. A list of no formals needs one part, without items, and its empty range is appended.
+///
+/// # Errors
+///
+/// [`FaultKind::ArgumentCount`] where there are more or fewer parts. No binding is appended then.
+pub fn bind_parts(text: &[u8], from: usize, to: usize, formals: usize, bindings: &mut Vec<Range>) -> Result<(), FaultKind>
+    requires range { (from ≤ to) × (to ≤ length text.now) }
+    requires room { (vec_len bindings.old + formals ≤ vec_capacity bindings.old) × (vec_len bindings.old < vec_capacity bindings.old) }
+    ensures whole { bindings.new.items ≡ bindings.old.items ++ added bindings.old.items bindings.new.items }
+    ensures within { AreWithin from to (added bindings.old.items bindings.new.items) }
+    ensures capacity { vec_capacity bindings.new ≡ vec_capacity bindings.old }
+    ensures refused { IfErr result (λ kind. (kind ≡ ArgumentCount) × (bindings.new.items ≡ bindings.old.items)) }
+    ensures actuals { IfOk result (λ _. actuals_of (slice_range text.now from to) ≡ ranges_tokens text.now (added bindings.old.items bindings.new.items)) }
+    ensures count { (fs : List Formal) → length fs ≡ formals → is_ok result ≡ is_token_count fs (actuals_of (slice_range text.now from to)) }
+{
+    let before = bindings.len();
+    let count = if formals > 0 { formals } else { 1 };
+    let all = push_parts(text, from, to, count, bindings);
+    if all && admits(&text[from..to], formals) {
+        return Ok(());
+    }
+    bindings.truncate(before);
+    Err(FaultKind::ArgumentCount)
 }

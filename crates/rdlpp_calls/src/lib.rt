@@ -5,7 +5,7 @@ mod bindings;
 mod parts;
 mod tokens;
 
-pub use bindings::Range;
+pub use bindings::{Range, bind_parts};
 pub use parts::{Arguments, CallFault, Part, arguments_of, call_end, call_start, next_part};
 
 #[cfg(test)]
