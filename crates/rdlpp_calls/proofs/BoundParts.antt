@@ -1,14 +1,13 @@
 -- Ranges that are bound part by part are the actuals of the text between the parentheses.
-use Rattle.std.proofs.Common.{◌≡◌, ◌≤◌, ◌<◌, ℕ, zero, suc, ◌+◌, ◌-◌, Bool, true, false, List, [], ◌∷◌, ◌++◌, map, length, take, drop, refl, sym, ap, ◌∙◌, subst, arith, append_assoc, Option, Some, None}
+use Rattle.std.proofs.Common.{◌≡◌, ◌≤◌, ◌<◌, ℕ, ◌+◌, ◌-◌, Bool, true, false, List, [], ◌∷◌, ◌++◌, map, length, take, drop, refl, sym, ap, ◌∙◌, subst, arith, append_assoc, Option, Some, None}
 use Rattle.std.specs.Prelude.{slice_range, ◌==◌, is_some, not}
-use Rattle.std.specs.List.{AllByRecursion}
 use Rattle.std.proofs.Math.Seq.{drop-append_seam}
 use Rattle.std.proofs.lemmas.Bool.{false≢true}
 use Rattle.std.proofs.lemmas.Bool.Decides.{nat_tests}
 use Rattle.std.proofs.lemmas.List.{append-nil, drop-drop, drop-take, take-take, length-drop, length-take, length-append, length-map, map-append}
 use Rattle.rdlpp_scan.specs.SourceTokens.{SourceToken}
 use Rattle.rdlpp_meaning.specs.Actuals.{trimmed, token_role}
-use Rattle.rdlpp_meaning.specs.CallScan.{Split, split, all_parts}
+use Rattle.rdlpp_meaning.specs.CallScan.{split, all_parts}
 use Rattle.rdlpp_meaning.specs.Opens.{part_tokens}
 use Rattle.rdlpp_meaning.specs.Substitution.{body_tokens}
 use Rattle.rdlpp_meaning.proofs.TextRanges.{body_text}
@@ -18,7 +17,7 @@ use Rattle.rdlpp_calls.specs.CallParts.{AreFurther, IsNextPart}
 use Rattle.rdlpp_calls.specs.BoundCalls.{range_part, ranges_tokens, added, AreWithin, actuals_of}
 
 -- a range of a range of a text is one of the text
-range_within : (text : List ℕ) (at to i j : ℕ) → i ≤ j → j ≤ to - at → slice_range (slice_range text at to) i j ≡ slice_range text (at + i) (at + j)
+pub range_within : (text : List ℕ) (at to i j : ℕ) → i ≤ j → j ≤ to - at → slice_range (slice_range text at to) i j ≡ slice_range text (at + i) (at + j)
 range_within text at to i j low high =
     let rest : List ℕ = drop at text in
     let n : to - at ≡ i + ((to - at) - i) = omega (arith, low, high) in
@@ -30,7 +29,7 @@ range_within text at to i j low high =
     ∙ ap (λ (k : ℕ). take k (drop (at + i) text)) (sym size)
 
 -- what is left of a range of a text behind a place in it is a range too
-range_behind : (text : List ℕ) (at to i : ℕ) → i ≤ to - at → drop i (slice_range text at to) ≡ slice_range text (at + i) to
+pub range_behind : (text : List ℕ) (at to i : ℕ) → i ≤ to - at → drop i (slice_range text at to) ≡ slice_range text (at + i) to
 range_behind text at to i inside =
     let rest : List ℕ = drop at text in
     let n : to - at ≡ i + ((to - at) - i) = omega (arith, inside) in

@@ -6,3 +6,4 @@ pub mod Trimming
 pub mod PartLaws
 pub mod BoundParts
 pub mod PartCounts
+pub mod BoundActuals

@@ -1,5 +1,5 @@
 // The actuals of a call as ranges of the text in which the call stands.
-ghost use Rattle.std.specs.Prelude.{◌≡◌, ℕ, ◌+◌, ◌^◌, ◌≤◌, ◌<◌, ◌==◌, ◌++◌, ◌||◌, not, nat_lt, List, true, length, map, drop, slice_range, IfOk, IfErr, is_ok, vec_len, vec_capacity};
+ghost use Rattle.std.specs.Prelude.{◌≡◌, ℕ, ◌+◌, ◌^◌, ◌≤◌, ◌<◌, ◌==◌, ◌++◌, ◌||◌, not, nat_lt, max, List, true, length, map, drop, slice_range, IfOk, IfErr, is_ok, vec_len, vec_capacity};
 ghost use Rattle.rdlpp_meaning.specs.Cursors.{is_token_count};
 ghost use Rattle.rdlpp_meaning.specs.Substitution.{body_tokens};
 ghost use Rattle.rdlpp_meaning.specs.declared.fault.FaultKind.TheVariants.{ArgumentCount};
@@ -38,6 +38,7 @@ fn push_parts(text: &[u8], from: usize, to: usize, count: usize, bindings: &mut 
     requires room { vec_len bindings.old + count ≤ vec_capacity bindings.old }
     ensures whole { bindings.new.items ≡ bindings.old.items ++ added bindings.old.items bindings.new.items }
     ensures within { AreWithin from to (added bindings.old.items bindings.new.items) }
+    ensures len { vec_len bindings.new ≤ vec_len bindings.old + count }
     ensures capacity { vec_capacity bindings.new ≡ vec_capacity bindings.old }
     ensures actuals { result ≡ true → actuals_of (slice_range text.now from to) ≡ ranges_tokens text.now (added bindings.old.items bindings.new.items) }
     ensures count { result ≡ (length (actuals_of (slice_range text.now from to)) == count) }
@@ -75,11 +76,18 @@ fn admits(text: &[u8], formals: usize) -> bool
 /// # Errors
 ///
 /// [`FaultKind::ArgumentCount`] where there are more or fewer parts. No binding is appended then.
-pub fn bind_parts(text: &[u8], from: usize, to: usize, formals: usize, bindings: &mut Vec<Range>) -> Result<(), FaultKind>
+pub fn bind_parts(
+    text: &[u8],
+    from: usize,
+    to: usize,
+    formals: usize,
+    bindings: &mut Vec<Range>,
+) -> Result<(), FaultKind>
     requires range { (from ≤ to) × (to ≤ length text.now) }
     requires room { (vec_len bindings.old + formals ≤ vec_capacity bindings.old) × (vec_len bindings.old < vec_capacity bindings.old) }
     ensures whole { bindings.new.items ≡ bindings.old.items ++ added bindings.old.items bindings.new.items }
     ensures within { AreWithin from to (added bindings.old.items bindings.new.items) }
+    ensures len { vec_len bindings.new ≤ vec_len bindings.old + max formals 1 }
     ensures capacity { vec_capacity bindings.new ≡ vec_capacity bindings.old }
     ensures refused { IfErr result (λ kind. (kind ≡ ArgumentCount) × (bindings.new.items ≡ bindings.old.items)) }
     ensures actuals { IfOk result (λ _. actuals_of (slice_range text.now from to) ≡ ranges_tokens text.now (added bindings.old.items bindings.new.items)) }
@@ -93,4 +101,40 @@ pub fn bind_parts(text: &[u8], from: usize, to: usize, formals: usize, bindings:
     }
     bindings.truncate(before);
     Err(FaultKind::ArgumentCount)
+}
+
+/// Binds the call of a macro with so many formals: the text between two places stands behind the macro's name. Appends where
+/// each actual stands, as [`bind_parts`] does, and answers the place behind the `)` of the call (IEEE 1364-2001, `define`;
+/// what a call may hold is this project's profile). There must be room for so many ranges, and for one at least.
+///
+/// # Errors
+///
+/// [`FaultKind::ArgumentsMissing`] where no `(` follows, but for white space, line ends and comments; else
+/// [`FaultKind::ArgumentsOpen`] where no `)` closes the call outside strings, comments and further openers; else
+/// [`FaultKind::ArgumentCount`] where the call has more or fewer parts. No binding is appended then.
+#[tactic(auto, unfolding(crate::specs::CallParts::IsCall))]
+pub fn bind_call(
+    text: &[u8],
+    at: usize,
+    end: usize,
+    formals: usize,
+    bindings: &mut Vec<Range>,
+) -> Result<usize, FaultKind>
+    requires range { (at ≤ end) × (end ≤ length text.now) }
+    requires room { (vec_len bindings.old + formals ≤ vec_capacity bindings.old) × (vec_len bindings.old < vec_capacity bindings.old) }
+    ensures whole { bindings.new.items ≡ bindings.old.items ++ added bindings.old.items bindings.new.items }
+    ensures within { AreWithin at end (added bindings.old.items bindings.new.items) }
+    ensures len { vec_len bindings.new ≤ vec_len bindings.old + max formals 1 }
+    ensures capacity { vec_capacity bindings.new ≡ vec_capacity bindings.old }
+    ensures refused { IfErr result (λ _. bindings.new.items ≡ bindings.old.items) }
+    ensures place { IfOk result (λ behind. (at ≤ behind) × (behind ≤ end)) }
+    ensures call { KeepsAll (body_tokens (slice_range text.now at end)) → IsBoundCall text.now at end formals (added bindings.old.items bindings.new.items) result }
+{
+    let arguments = match arguments_of(&text[at..end]) {
+        Ok(arguments) => arguments,
+        Err(fault) => return Err(fault.kind()),
+    };
+    let to = at + arguments.to;
+    bind_parts(text, at + arguments.from, to, formals, bindings)?;
+    Ok(to + 1)
 }

@@ -1,4 +1,4 @@
-use Rattle.std.proofs.Common.{length, not, ◌||◌, ap, ◌∙◌, sym, arith}
+use Rattle.std.proofs.Common.{length, not, ◌||◌, ap, ◌∙◌, sym}
 use Rattle.std.specs.Prelude.{nat_lt}
 use Rattle.std.proofs.lemmas.Bool.{le-ltb}
 use Rattle.rdlpp_calls.specs.BoundCalls.{first_actual}

@@ -1,4 +1,4 @@
-use Rattle.std.proofs.Common.{◌≡◌, ◌<◌, ℕ, length, Bool, not, ◌&&◌, ◌||◌, ap, sym, ◌∙◌, arith, refl}
+use Rattle.std.proofs.Common.{◌≡◌, ◌<◌, length, Bool, not, ◌&&◌, ◌||◌, ap, sym, ◌∙◌, arith, refl}
 use Rattle.std.specs.Prelude.{slice_range, nat_lt}
 use Rattle.rdlpp_calls.specs.BoundCalls.{first_actual}
 use Rattle.rdlpp_calls.proofs.PartCounts.{count_is, fails_beside}

@@ -1,8 +1,8 @@
-use Rattle.std.proofs.Common.{◌≡◌, ◌≤◌, ℕ, ◌+◌, ◌-◌, List, length, arith, ap, refl, ◌∙◌, subst}
+use Rattle.std.proofs.Common.{◌≡◌, ℕ, ◌+◌, ◌-◌, List, length, arith, ap, refl, ◌∙◌, subst}
 use Rattle.std.specs.Prelude.{slice_range, ◌==◌, not}
 use Rattle.rdlpp_calls.specs.BoundCalls.{actuals_of}
 use Rattle.rdlpp_calls.specs.declared.bindings.Range.{Range}
-use Rattle.rdlpp_calls.proofs.BoundParts.{HasBound, bound_more, others_none, others_some, others_from, too_few, last_count, last_actuals}
+use Rattle.rdlpp_calls.proofs.BoundParts.{HasBound, bound_more, others_none, others_some, too_few, last_count, last_actuals}
 use Rattle.rdlpp_calls.proofs.bindings.push_parts.Goals as goal
 
 -- a count by another name
