@@ -4,3 +4,6 @@ pub mod CallLaws
 pub mod ArgumentLaws
 pub mod Trimming
 pub mod PartLaws
+pub mod BoundParts
+pub mod PartCounts
+pub mod BoundActuals
