@@ -12,7 +12,7 @@ use Rattle.rdlpp_scan.specs.Tokens.{plain_len, stops_plain_text, token_of}
 use Rattle.rdlpp_scan.specs.Front.{Unbuilt}
 use Rattle.rdlpp_scan.specs.SourceTokens.{SourceToken, Ordinary, Course, Next, line_ends, source_tokens, source_step, step_by, broken}
 use Rattle.rdlpp_scan.specs.Ordinary.{is_plain_kind, IsEdge, IsOrdinary, IsPlainToken, SparesOrdinary}
-use Rattle.rdlpp_scan.specs.Stage.{is_unbuilt}
+use Rattle.rdlpp_scan.specs.Stage.{is_unbuilt, begins_directive}
 use Rattle.rdlpp_scan.proofs.Places.{first_place-before}
 use Rattle.rdlpp_scan.proofs.TokenLens.{token_of-part}
 use Rattle.rdlpp_scan.proofs.WholeLines.{IsWholeLines-drop}
@@ -24,7 +24,7 @@ neither x y h k = ap (λ t. t || y) h ∙ k
 
 -- nothing at this stage of the project is unbuilt in ordinary text
 pub is_unbuilt-spares : SparesOrdinary is_unbuilt
-unfolding is_unbuilt
+unfolding is_unbuilt begins_directive
 is_unbuilt-spares bs h =
     let g = goes_on bs h in
     and_left _ _ (and_left _ _ g.no_backquote)
