@@ -22,12 +22,17 @@ use Rattle.rdlpp_scan.proofs.PlainTokens.{goes_on, IsPlainPart, plain_token-plai
 neither : (x y : Bool) → x ≡ false → y ≡ false → (x || y) ≡ false
 neither x y h k = ap (λ t. t || y) h ∙ k
 
+-- a directive begins at no place of ordinary text
+pub directive-spares : SparesOrdinary begins_directive
+unfolding begins_directive
+directive-spares bs h =
+    let g = goes_on bs h in
+    and_left _ _ g.no_backquote
+
 -- nothing at this stage of the project is unbuilt in ordinary text
 pub is_unbuilt-spares : SparesOrdinary is_unbuilt
-unfolding is_unbuilt begins_directive
-is_unbuilt-spares bs h =
-    let g = goes_on bs h in
-    and_left _ _ (and_left _ _ g.no_backquote)
+unfolding is_unbuilt
+is_unbuilt-spares bs h = and_left _ _ (directive-spares bs h)
 
 step_by-kind : (c : Course) (o l : ℕ) (k : Kind) (n : ℕ) (m : Mode) (bs : List ℕ) → is_plain_kind k ≡ true → step_by c o l (record { kind = k; len = n; next_mode = m }) bs ≡ Next (record { sort = Ordinary k; bytes = take n bs; line = l })
 unfolding step_by is_plain_kind

@@ -1,0 +1,6 @@
+pub mod FirstBytes
+pub mod DirectiveFacts
+pub mod Stages
+pub mod SourceFacts
+pub mod SourcePassages
+pub mod TextLeft
