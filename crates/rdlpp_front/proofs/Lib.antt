@@ -4,3 +4,5 @@ pub mod Stages
 pub mod SourceFacts
 pub mod SourcePassages
 pub mod TextLeft
+pub mod UsageLeft
+pub mod DefineLeft
