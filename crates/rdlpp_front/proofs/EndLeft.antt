@@ -1,6 +1,6 @@
 -- What ends a source, or the output: what is refused in front, a line that breaks the source, its end, and an open string or
 -- comment there; and a buffer that was filled, in which nothing is lost.
-use Rattle.std.proofs.Common.{◌≡◌, ◌⊎◌, ℕ, ◌<◌, Bool, true, false, cond, List, [], ◌∷◌, length, take, drop, inl, inr, refl, ap, ◌∙◌, subst}
+use Rattle.std.proofs.Common.{◌≡◌, ◌⊎◌, ℕ, ◌<◌, Bool, true, false, cond, List, [], ◌∷◌, length, take, drop, inl, inr, refl, ap, ◌∙◌}
 use Rattle.rdlpp_scan.specs.declared.token.Kind.TheVariants.{Perl}
 use Rattle.rdlpp_scan.specs.declared.token.Mode.{Mode}
 use Rattle.rdlpp_scan.specs.declared.token.Mode.TheVariants.{Plain, InStr, InBlock}
@@ -8,7 +8,7 @@ use Rattle.rdlpp_scan.specs.Bytes.{begins_perl}
 use Rattle.rdlpp_scan.specs.Front.{Breach, CommentOpen, PerlFound, StringOpen}
 use Rattle.rdlpp_scan.specs.Front as breach
 use Rattle.rdlpp_scan.specs.Lines.{EndsLine}
-use Rattle.rdlpp_scan.specs.SourceTokens.{SourceToken, Broken, remaining_tokens}
+use Rattle.rdlpp_scan.specs.SourceTokens.{SourceToken, remaining_tokens}
 use Rattle.rdlpp_scan.specs.Stage.{is_unbuilt}
 use Rattle.rdlpp_scan.specs.Tokens.{string_token, token_of, whole}
 use Rattle.rdlpp_scan.proofs.RemainingLaws.{remaining-bare, remaining-perl, remaining-unbuilt}
@@ -19,7 +19,7 @@ use Rattle.rdlpp_meaning.specs.declared.fault.FaultKind.{FaultKind}
 use Rattle.rdlpp_meaning.specs.declared.fault.FaultKind.TheVariants.{LineTooLong, OpenComment, OpenConditional, OpenString, SourceTooLong}
 use Rattle.rdlpp_meaning.specs.Outcome.{fails}
 use Rattle.rdlpp_meaning.specs.State.{Rules, State, breach_kind, fault_at}
-use Rattle.rdlpp_meaning.specs.Meaning.{Passage, Progress, behind_bytes, goes_on, leaves, unclosed}
+use Rattle.rdlpp_meaning.specs.Meaning.{Progress, leaves, unclosed}
 use Rattle.rdlpp_meaning.specs.Parts.{pieces}
 use Rattle.rdlpp_meaning.specs.Resumed.{Live, Place, resume, resumed}
 use Rattle.rdlpp_meaning.specs.Opened.{Waiting, all_resumed, unwound}

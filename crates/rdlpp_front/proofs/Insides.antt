@@ -8,8 +8,7 @@ use Rattle.rdlpp_scan.specs.declared.token.Directive.TheVariants.{Define, Undef,
 use Rattle.rdlpp_scan.specs.declared.token.Mode.{Mode}
 use Rattle.rdlpp_scan.specs.declared.token.Mode.TheVariants.{Plain}
 use Rattle.rdlpp_scan.specs.Bytes.{is_word}
-use Rattle.rdlpp_scan.specs.SourceTokens.{line_ends}
-use Rattle.rdlpp_scan.specs.Tokens.{plain_len, stops_plain_text, token_of}
+use Rattle.rdlpp_scan.specs.Tokens.{plain_len, stops_plain_text}
 use Rattle.rdlpp_scan.proofs.FirstTokens.{plain_token-run}
 use Rattle.rdlpp_scan.proofs.Places.{first_place-le}
 use Rattle.rdlpp_scan.proofs.TokenLens.{token_of-part}

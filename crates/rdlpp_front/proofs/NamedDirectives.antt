@@ -1,5 +1,5 @@
 -- A directive that wants a name in front of what remains: its token, the name that it is given, and what remains behind that.
-use Rattle.std.proofs.Common.{◌≡◌, ◌⊎◌, ℕ, ◌+◌, ◌-◌, ◌<◌, ◌≤◌, Bool, true, false, List, [], ◌∷◌, ◌++◌, Some, None, length, take, drop, refl, sym, ap, ◌∙◌, subst, inl, inr, ⊎_elim, arith}
+use Rattle.std.proofs.Common.{◌≡◌, ◌⊎◌, ℕ, ◌+◌, ◌-◌, ◌<◌, Bool, true, false, List, [], ◌∷◌, ◌++◌, Some, length, take, drop, refl, sym, ap, ◌∙◌, subst, inl, inr, ⊎_elim, arith}
 use Rattle.std.specs.Prelude.{bytes_eq, codes}
 use Rattle.std.proofs.Math.Seq.{take-add}
 use Rattle.std.proofs.lemmas.List.{append-nil, drop-drop, take-append-drop}
@@ -22,12 +22,11 @@ use Rattle.rdlpp_scan.proofs.TokenSteps.{is_kept_kind}
 use Rattle.rdlpp_scan.proofs.WholeLines.{EndsLine-drop}
 use Rattle.rdlpp_meaning.specs.State.{Rules, State}
 use Rattle.rdlpp_meaning.specs.Parts.{Argument, argument_of, behind_blanks, behind_directive, command_in_front, command_of, directive_named, directive_of, name_in_front, no_argument, only_blanks, past_blanks}
-use Rattle.rdlpp_meaning.specs.Meaning.{Passage}
 use Rattle.rdlpp_meaning.specs.Resumed.{Place}
 use Rattle.rdlpp_meaning.specs.Opened.{Waiting, all_resumed}
 use Rattle.rdlpp_meaning.proofs.DirectiveWords.{has_own_token}
 use Rattle.rdlpp_meaning.proofs.Undefining.{blank_token, name_token, takes_name, takes_name_at_once, takes_name_behind_blanks, wants_name}
-use Rattle.rdlpp_read.specs.Arguments.{IsLead, Leads, Lacks, NameGiven, NoName}
+use Rattle.rdlpp_read.specs.Arguments.{IsLead, Leads, Lacks}
 use Rattle.rdlpp_read.specs.Buffer.{BufferView, held_of, rest_of, tokens_left}
 use Rattle.rdlpp_front.specs.Fronts.{HasName, IsDirective, LacksName, argument_name, word_of}
 use Rattle.rdlpp_front.specs.SourceLeft.{HoldsFront, IsStage}

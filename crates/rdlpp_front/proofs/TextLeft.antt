@@ -18,7 +18,7 @@ use Rattle.rdlpp_scan.specs.Ordinary.{IsPlainToken, SparesOrdinary, is_plain_kin
 use Rattle.rdlpp_scan.specs.Resumed.{opening, line_with, with_part, onto_tokens}
 use Rattle.rdlpp_scan.specs.SourceTokens.{Sort, SourceToken, Ordinary, Broken, line_ends, remaining_tokens}
 use Rattle.rdlpp_scan.specs.Stage.{begins_directive}
-use Rattle.rdlpp_scan.specs.Tokens.{plain_len, stops_plain_text, token_of}
+use Rattle.rdlpp_scan.specs.Tokens.{plain_len, token_of}
 use Rattle.rdlpp_scan.proofs.OrdinaryLaws.{directive-spares}
 use Rattle.rdlpp_scan.proofs.RemainingLaws.{GoesThrough, remaining-opened, remaining-ordinary}
 use Rattle.rdlpp_scan.proofs.RemainingSteps.{IsBuiltAt, remaining-closed, remaining-open_string, remaining-open_comment, remaining-cut_string}
@@ -26,11 +26,10 @@ use Rattle.rdlpp_scan.proofs.ResumedTokens.{IsOpenKind, Resumes, Copies, Breaks,
 use Rattle.rdlpp_scan.proofs.Seams.{Seam, Closed, BeforePerl, OpenString, OpenComment, token_of-seam}
 use Rattle.rdlpp_scan.proofs.StageLaws.{directive-string, directive-line_comment, directive-block_comment}
 use Rattle.rdlpp_scan.proofs.TokenSteps.{is_kept_kind}
-use Rattle.rdlpp_meaning.specs.Outcome.{fails}
-use Rattle.rdlpp_meaning.specs.State.{Rules, State, fault_at, breach_kind}
+use Rattle.rdlpp_meaning.specs.State.{Rules, State}
 use Rattle.rdlpp_meaning.specs.Expansion.{is_copied}
 use Rattle.rdlpp_meaning.specs.Parts.{only_blanks}
-use Rattle.rdlpp_meaning.specs.Meaning.{Passage, Progress, behind_bytes, leaves}
+use Rattle.rdlpp_meaning.specs.Meaning.{Passage, Progress, behind_bytes}
 use Rattle.rdlpp_meaning.specs.Resumed.{Live}
 use Rattle.rdlpp_meaning.specs.Opened.{Waiting, all_resumed}
 use Rattle.rdlpp_read.specs.declared.files.File.{File}

@@ -1,5 +1,5 @@
 -- What an `undef` in front does to what remains.
-use Rattle.std.proofs.Common.{◌≡◌, ℕ, Bool, true, false, List, [], ◌∷◌, take, drop, refl, ap, ◌∙◌}
+use Rattle.std.proofs.Common.{◌≡◌, ℕ, Bool, true, false, List, [], ◌∷◌, refl, ap, ◌∙◌}
 use Rattle.rdlpp_scan.specs.declared.token.Directive.TheVariants.{Undef}
 use Rattle.rdlpp_scan.specs.declared.token.Mode.TheVariants.{Plain}
 use Rattle.rdlpp_scan.specs.SourceTokens.{SourceToken}
@@ -9,8 +9,8 @@ use Rattle.rdlpp_meaning.specs.declared.fault.FaultKind.{FaultKind}
 use Rattle.rdlpp_meaning.specs.declared.fault.FaultKind.TheVariants.{NameExpected, ReservedName}
 use Rattle.rdlpp_meaning.specs.Outcome.{fails}
 use Rattle.rdlpp_meaning.specs.State.{Rules, State, fault_at}
-use Rattle.rdlpp_meaning.specs.Parts.{Argument, argument_of, behind_directive, command_in_front, command_of, no_argument, only_blanks}
-use Rattle.rdlpp_meaning.specs.Meaning.{Faulty, Passage, Progress, leaves, macro_name}
+use Rattle.rdlpp_meaning.specs.Parts.{Argument, behind_directive, command_in_front, command_of, no_argument, only_blanks}
+use Rattle.rdlpp_meaning.specs.Meaning.{Faulty, Progress, leaves, macro_name}
 use Rattle.rdlpp_meaning.specs.Resumed.{Live}
 use Rattle.rdlpp_meaning.specs.Opened.{Waiting, all_resumed}
 use Rattle.rdlpp_meaning.proofs.Includes.{all_resumed_move}
@@ -20,7 +20,7 @@ use Rattle.rdlpp_read.specs.Buffer.{held_of, tokens_left}
 use Rattle.rdlpp_read.specs.Files.{consumed_file}
 use Rattle.rdlpp_front.specs.Fronts.{HasName, LacksName, argument_name}
 use Rattle.rdlpp_front.specs.SourceLeft.{HoldsFront, source_left}
-use Rattle.rdlpp_front.proofs.NamedDirectives.{NameInFront, NoNameInFront, behind_name, name_in_front_of, no_name_in_front_of, wants_word, word_directive, word_token}
+use Rattle.rdlpp_front.proofs.NamedDirectives.{behind_name, name_in_front_of, no_name_in_front_of, wants_word, word_directive, word_token}
 use Rattle.rdlpp_front.proofs.SourcePassages.{all_resumed_refused}
 
 -- an `undef` wants a name
