@@ -1,5 +1,5 @@
 -- A call whose actuals are bound to ranges of its text is that of the definition.
-use Rattle.std.proofs.Common.{◌≡◌, ◌≤◌, ◌<◌, ℕ, zero, suc, ◌+◌, Bool, true, false, cond, List, [], ◌∷◌, map, length, drop, All, sym, ap, ◌∙◌, subst, arith}
+use Rattle.std.proofs.Common.{◌≡◌, ◌≤◌, ◌<◌, ℕ, zero, suc, ◌+◌, Bool, true, false, cond, List, [], ◌∷◌, map, length, drop, filter, All, sym, ap, ◌∙◌, subst, arith}
 use Rattle.std.specs.Prelude.{slice_range, Ok, Err}
 use Rattle.std.specs.List.{AllByRecursion, prefix_len}
 use Rattle.std.proofs.Math.ListN.{replicate}
@@ -23,6 +23,13 @@ use Rattle.rdlpp_calls.specs.BoundCalls.{range_part, ranges_tokens, actuals_of, 
 use Rattle.rdlpp_calls.proofs.ArgumentLaws.{filter_all, front_all}
 use Rattle.rdlpp_calls.proofs.BoundParts.{range_within, range_behind, range_size}
 use Rattle.rdlpp_calls.proofs.Trimming.{trimmed_is, has_solid, solid}
+
+-- tokens of which a filter drops none keep all
+pub keeps_all_by : (ts : List SourceToken) → filter (λ t. is_kept (token_role t)) ts ≡ ts → KeepsAll ts
+keeps_all_by ts e =
+    let p : SourceToken → Bool = λ t. is_kept (token_role t) in
+    let P : SourceToken → Type 0 = λ t. p t ≡ true in
+    subst (λ (us : List SourceToken). All P us) e (filter_passes p ts)
 
 -- a thing in front of parts of which all keep something, which it keeps too
 by_keeps : (P : SourceToken → Type 0) (r : Role) (k : ℕ) (x : SourceToken) (s : Split SourceToken) → P x → All P s.first → AllByRecursion (All P) s.further
@@ -84,9 +91,7 @@ inner_text text at end from to inside ordered low = let n = range_size text at e
 inner_keeps : (whole : List ℕ) (from to : ℕ) → IsCallAt whole from to → KeepsAll (body_tokens whole) → KeepsAll (body_tokens (slice_range whole from to))
 inner_keeps whole from to c all =
     let p : SourceToken → Bool = λ t. is_kept (token_role t) in
-    let P : SourceToken → Type 0 = λ t. p t ≡ true in
-    let inner = body_tokens (slice_range whole from to) in
-    subst (λ (ts : List SourceToken). All P ts) (c.keeps_all (filter_all p (body_tokens whole) all)) (filter_passes p inner)
+    keeps_all_by (body_tokens (slice_range whole from to)) (c.keeps_all (filter_all p (body_tokens whole) all))
 
 -- and the call is that with these parts
 call_parts : (whole inner : List ℕ) (from to : ℕ) (c : IsCallAt whole from to) → KeepsAll (body_tokens whole) → slice_range whole from to ≡ inner → (room : ℕ)

@@ -7,3 +7,4 @@ pub mod PartLaws
 pub mod BoundParts
 pub mod PartCounts
 pub mod BoundActuals
+pub mod BoundSourceCalls

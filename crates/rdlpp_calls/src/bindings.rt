@@ -6,7 +6,7 @@ ghost use Rattle.rdlpp_meaning.specs.declared.fault.FaultKind.TheVariants.{Argum
 ghost use Rattle.rdlpp_table.specs.Table.{Formal};
 ghost use Rattle.rdlpp_calls.specs.BoundCalls.{actuals_of, first_actual, added, ranges_tokens, AreWithin, IsBoundCall, KeepsAll};
 
-use crate::parts::{CallFault, Part, arguments_of, next_part};
+use crate::parts::{Part, arguments_of, next_part};
 use rdlpp_meaning::FaultKind;
 
 /// Where an actual stands in the text of its call: from one byte up to another.
