@@ -33,8 +33,9 @@ fn is_perl(kind: Kind) -> bool
     matches!(kind, Kind::Perl)
 }
 
+/// What is wrong with a text that ends in a mode: a string or a block comment that isn't closed.
 #[tactic(auto, unfolding(crate::specs::LexFaults::open_fault))]
-fn open_fault(mode: Mode) -> Option<LexFault>
+pub fn open_fault(mode: Mode) -> Option<LexFault>
     ensures { result ≡ open_fault mode }
 {
     match mode {

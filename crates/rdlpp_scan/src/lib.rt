@@ -10,7 +10,8 @@ mod scan;
 mod stage;
 mod token;
 
-pub use faults::lex_fault;
+pub use bytes::{byte_at, is_blank, is_letter, word_bytes};
+pub use faults::{lex_fault, open_fault};
 pub use lines::{last_line_end, line_ends_in, logical_line, rest_of_line};
 pub use names::{is_name, reserved};
 pub use plain::plain_text_len;

@@ -2,8 +2,7 @@
 use Rattle.std.proofs.Common.{◌≡◌, ℕ, suc, ◌+◌, ◌-◌, ◌<◌, ◌≤◌, Bool, true, false, cond, ◌&&◌, ◌⊎◌, List, [], ◌∷◌, length, take, drop, get_or, eqb, one-add, refl, ap, sym, ◌∙◌, subst, arith, inl, inr}
 use Rattle.std.specs.List.{prefix_len}
 use Rattle.std.proofs.lemmas.Bool.{cases_Bool, cond-true, cond-false, and_parts, and_left, and_right, eqb-true, false≢true, false_from_ne_true, both_ways}
-use Rattle.rdlpp_table.specs.Define.{continuation_len, without_continuations}
-use Rattle.rdlpp_table.specs.Bodies.{joined, first_len}
+use Rattle.rdlpp_lines.specs.Continuations.{continuation_len, without_continuations, joined, first_len}
 
 no_continuation : (b : ℕ) (bs : List ℕ) → eqb b 92 ≡ false → continuation_len (b ∷ bs) ≡ 0
 unfolding continuation_len
@@ -15,34 +14,34 @@ pub record BeginsWith (text : List ℕ) (n : ℕ) : Type 0 where
   pub first : without_continuations 0 text ≡ get_or text n 0 ∷ without_continuations 0 (drop (n + 1) text)
   pub joint : (n ≡ 0) ⊎ (eqb (get_or text n 0) 10 ≡ true)
 
-no_joint : (b : ℕ) (bs : List ℕ) → continuation_len (b ∷ bs) ≡ 0 → without_continuations 0 (b ∷ bs) ≡ b ∷ without_continuations 0 bs
+pub no_joint : (b : ℕ) (bs : List ℕ) → continuation_len (b ∷ bs) ≡ 0 → without_continuations 0 (b ∷ bs) ≡ b ∷ without_continuations 0 bs
 unfolding without_continuations
 no_joint b bs e = ap (λ (n : ℕ). cond (eqb n 0) (b ∷ without_continuations 0 bs) (without_continuations (n - 1) bs)) e
 
-one_joint : (b : ℕ) (bs : List ℕ) → continuation_len (b ∷ bs) ≡ 1 → without_continuations 0 (b ∷ bs) ≡ without_continuations 0 bs
+pub one_joint : (b : ℕ) (bs : List ℕ) → continuation_len (b ∷ bs) ≡ 1 → without_continuations 0 (b ∷ bs) ≡ without_continuations 0 bs
 unfolding without_continuations
 one_joint b bs e = ap (λ (n : ℕ). cond (eqb n 0) (b ∷ without_continuations 0 bs) (without_continuations (n - 1) bs)) e
 
-two_joint : (b c : ℕ) (cs : List ℕ) → continuation_len (b ∷ c ∷ cs) ≡ 2 → without_continuations 0 (b ∷ c ∷ cs) ≡ without_continuations 0 cs
+pub two_joint : (b c : ℕ) (cs : List ℕ) → continuation_len (b ∷ c ∷ cs) ≡ 2 → without_continuations 0 (b ∷ c ∷ cs) ≡ without_continuations 0 cs
 unfolding without_continuations
 two_joint b c cs e = ap (λ (n : ℕ). cond (eqb n 0) (b ∷ without_continuations 0 (c ∷ cs)) (without_continuations (n - 1) (c ∷ cs))) e
 
-end_first : (b : ℕ) (bs : List ℕ) → eqb b 10 ≡ true → without_continuations 0 (b ∷ bs) ≡ b ∷ without_continuations 0 bs
+pub end_first : (b : ℕ) (bs : List ℕ) → eqb b 10 ≡ true → without_continuations 0 (b ∷ bs) ≡ b ∷ without_continuations 0 bs
 end_first b bs e = no_joint b bs (no_continuation b bs (ap (λ (x : ℕ). eqb x 92) (eqb-true b 10 e)))
 
-alone : (b : ℕ) → continuation_len (b ∷ []) ≡ 0
+pub alone : (b : ℕ) → continuation_len (b ∷ []) ≡ 0
 unfolding continuation_len
 alone b = cond-false _ _ _ (and_right (eqb b 92) false refl) ∙ cond-false _ _ _ (and_right (eqb b 92) false refl)
 
-one_before : (b c : ℕ) (cs : List ℕ) → (eqb b 92 && eqb c 10) ≡ true → continuation_len (b ∷ c ∷ cs) ≡ 1
+pub one_before : (b c : ℕ) (cs : List ℕ) → (eqb b 92 && eqb c 10) ≡ true → continuation_len (b ∷ c ∷ cs) ≡ 1
 unfolding continuation_len
 one_before b c cs t = cond-true _ _ _ t
 
-two_before : (b c : ℕ) (cs : List ℕ) → (eqb b 92 && eqb c 10) ≡ false → (eqb b 92 && (eqb c 13 && eqb (get_or cs 0 0) 10)) ≡ true → continuation_len (b ∷ c ∷ cs) ≡ 2
+pub two_before : (b c : ℕ) (cs : List ℕ) → (eqb b 92 && eqb c 10) ≡ false → (eqb b 92 && (eqb c 13 && eqb (get_or cs 0 0) 10)) ≡ true → continuation_len (b ∷ c ∷ cs) ≡ 2
 unfolding continuation_len
 two_before b c cs f t = cond-false _ _ _ f ∙ cond-true _ _ _ t
 
-none_before : (b c : ℕ) (cs : List ℕ) → (eqb b 92 && eqb c 10) ≡ false → (eqb b 92 && (eqb c 13 && eqb (get_or cs 0 0) 10)) ≡ false → continuation_len (b ∷ c ∷ cs) ≡ 0
+pub none_before : (b c : ℕ) (cs : List ℕ) → (eqb b 92 && eqb c 10) ≡ false → (eqb b 92 && (eqb c 13 && eqb (get_or cs 0 0) 10)) ≡ false → continuation_len (b ∷ c ∷ cs) ≡ 0
 unfolding continuation_len
 none_before b c cs f t = cond-false _ _ _ f ∙ cond-false _ _ _ t
 
@@ -119,6 +118,10 @@ reads_plain is_logical text h e =
 pub no_joint_at : (b : ℕ) (bs : List ℕ) → eqb b 92 ≡ false → joined true (b ∷ bs) ≡ b ∷ joined true bs
 unfolding joined
 no_joint_at b bs e = no_joint b bs (no_continuation b bs e)
+
+pub none_left : without_continuations 0 [] ≡ []
+unfolding without_continuations
+none_left = refl
 
 pub joined_none : joined true [] ≡ []
 unfolding joined without_continuations

@@ -5,8 +5,9 @@ use Rattle.std.specs.Option.{OnSome, IfSome, IfNone}
 use Rattle.std.specs.Result.{result_unwrap_or}
 use Rattle.std.proofs.lemmas.Bool.{cond-false, ne_eqb, false≢true}
 use Rattle.rdlpp_scan.specs.declared.token.LexFault.{LexFault}
-use Rattle.rdlpp_table.specs.Define.{onto_trimmed, without_end, trimmed_of}
-use Rattle.rdlpp_table.specs.Bodies.{Cleared, Sound, Unsound, onto, begun, trimmed_left, trimmed_len, text_behind, joined, IsNext, len_from, ended_len, bytes_left, found_left, is_sound}
+use Rattle.rdlpp_lines.specs.Texts.{onto_trimmed, without_end, trimmed_of}
+use Rattle.rdlpp_lines.specs.Texts.{Cleared, Sound, Unsound, onto, begun, trimmed_left, trimmed_len, text_behind, IsNext, len_from, ended_len, bytes_left, found_left, is_sound}
+use Rattle.rdlpp_lines.specs.Continuations.{joined}
 
 some_length : (c : ℕ) (cs : List ℕ) → eqb (length (c ∷ cs)) 0 ≡ false
 some_length c cs = ne_eqb (length (c ∷ cs)) 0 (λ e. absurd (omega arith))

@@ -1,0 +1,3 @@
+pub mod Joins
+pub mod SideBySide
+pub mod JoinedTokens
