@@ -24,6 +24,6 @@ LevelFits bytes = unwrap_or bytes.level 0 + length bytes.rest.now ≤ 1844674407
 
 -- what going on to the next token does
 unfoldable pub IsAdvanced : KeptBytes → Result Bool LexFault → KeptBytes → Type 0
-IsAdvanced old (Ok true) new = (left new ≡ left_behind old) × (length new.rest.now < length old.rest.now) × (unread new ≤ length old.rest.now)
+IsAdvanced old (Ok true) new = (left new ≡ left_behind old) × (length new.rest.now < length old.rest.now)
 IsAdvanced old (Ok false) new = (left_behind old ≡ Sound [] (joined old.is_logical old.rest.now)) × (new ≡ old)
 IsAdvanced old (Err fault) new = left_behind old ≡ Unsound fault

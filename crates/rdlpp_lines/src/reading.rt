@@ -42,7 +42,7 @@ ghost use Rattle.rdlpp_lines.specs.Texts.{
 
 use crate::first::split_first;
 use crate::tokens::line_token;
-use rdlpp_scan::{Kind, LexFault, Mode, is_blank, open_fault};
+use rdlpp_scan::{Kind, LexFault, Mode, is_blank, is_perl, open_fault};
 
 /// Whether a byte is white space of a header: a blank or an LF (this project's profile).
 #[tactic(auto, unfolding(crate::specs::Texts::is_space, rdlpp_scan::specs::Bytes::is_line_end))]
@@ -102,6 +102,15 @@ fn level_by(level: Option<usize>, kind: Kind) -> Option<usize>
     }
 }
 
+// The level at which a text begins.
+#[tactic(auto, unfolding(crate::specs::Texts::start_level))]
+fn start_level(is_default: bool) -> Option<usize>
+    ensures value { result ≡ start_level is_default }
+    ensures zero { unwrap_or result 0 ≡ 0 }
+{
+    if is_default { Some(0) } else { None }
+}
+
 // Whether a byte goes at both ends: a blank, and of a default text LF too.
 #[tactic(auto, unfolding(crate::specs::Texts::trims))]
 fn trims(is_default: bool, b: u8) -> bool
@@ -126,7 +135,6 @@ pub(crate) struct KeptBytes<'a> {
 impl<'a> KeptBytes<'a> {
     // All of a text, up to the end of the default text with which it begins where it is to be one;
     // of a logical line's text with LF in the place of each continuation.
-    #[tactic(auto, unfolding(crate::specs::Texts::start_level))]
     fn new(text: &'a [u8], is_logical: bool, is_default: bool) -> KeptBytes<'a>
         ensures is_logical { result.is_logical ≡ is_logical }
         ensures left { left result ≡ cleared (start_level is_default) (joined is_logical text.now) }
@@ -137,7 +145,7 @@ impl<'a> KeptBytes<'a> {
             token: &[],
             rest: text,
             mode: Mode::Plain,
-            level: if is_default { Some(0) } else { None },
+            level: start_level(is_default),
             is_logical,
         }
     }
@@ -146,6 +154,7 @@ impl<'a> KeptBytes<'a> {
     fn advance(&mut self) -> Result<bool, LexFault>
         requires fits { LevelFits self.old }
         ensures next { IsAdvanced self.old result self.new }
+        ensures inside { unread self.new ≤ unread self.old }
         ensures same { self.new.is_logical ≡ self.old.is_logical }
         ensures fits { LevelFits self.new }
     {
@@ -157,7 +166,7 @@ impl<'a> KeptBytes<'a> {
             };
         }
         let token = line_token(self.mode, text, self.is_logical);
-        if matches!(token.kind, Kind::Perl) {
+        if is_perl(token.kind) {
             return Err(LexFault::Perl);
         }
         if stops_token(self.level, token.kind, text[0]) {

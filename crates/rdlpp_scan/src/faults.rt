@@ -26,8 +26,9 @@ pub fn lex_fault(bytes: &[u8]) -> Option<LexFault>
     open_fault(mode)
 }
 
+/// Whether a token is `<%`, which begins embedded Perl (SystemRDL 2.0, preprocessor clause).
 #[tactic(auto, unfolding(crate::specs::LexFaults::is_perl))]
-fn is_perl(kind: Kind) -> bool
+pub fn is_perl(kind: Kind) -> bool
     ensures { result ≡ is_perl kind }
 {
     matches!(kind, Kind::Perl)

@@ -1,12 +1,11 @@
 use Rattle.std.proofs.Common.{◌≡◌, ◌∙◌, sym, ap, arith, ℕ, length, true, false}
 use Rattle.rdlpp_lines.specs.Texts.{start_level, text_behind}
 use Rattle.rdlpp_lines.specs.Continuations.{joined}
-use Rattle.rdlpp_table.specs.Store.{behind_stored}
 use Rattle.rdlpp_lines.proofs.Measures.{found_next, same_next, fault_next, behind_onto, behind_none, behind_fault}
 use Rattle.rdlpp_lines.proofs.reading.behind_default.Goals as goal
 
 pub loop-reader-init : goal.loop-reader-init
-unfolding behind_stored joined start_level
+unfolding joined start_level
 loop-reader-init c = record {
   behind = ap text_behind c.new-reader.ensures.left;
   logical = c.new-reader.ensures.is_logical;
