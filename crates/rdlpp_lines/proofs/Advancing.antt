@@ -69,7 +69,6 @@ stops_alike None k x y e = refl
 stops_alike (Some n) k x y e = ap (λ q. eqb n 0 && q) (ends_alike k x y e)
 
 joined_kept : (is_logical : Bool) (k : Kind) (xs : List ℕ) → joined is_logical (kept_of k xs) ≡ kept_of k (joined is_logical xs)
-unfolding kept_of
 joined_kept is_logical LineComment xs = none_first is_logical [] refl
 joined_kept is_logical k xs = refl
 

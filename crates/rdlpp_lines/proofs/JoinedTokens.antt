@@ -244,7 +244,6 @@ line_alike InBlock raw text j h =
     alike_block 0 (first_place ends_block_comment raw) (first_place ends_block_comment text) raw text (omega arith) (omega arith) (comment_reaches raw text j) (λ lt. first_place-at ends_block_comment raw lt)
 
 kept_same : (k : Kind) (xs ys : List ℕ) → (is_remark k ≡ false → xs ≡ ys) → kept_of k xs ≡ kept_of k ys
-unfolding kept_of
 kept_same LineComment xs ys f = refl
 kept_same k xs ys f = f refl
 

@@ -17,9 +17,8 @@ line_token true InStr text = token_of InStr text
 line_token true InBlock text = token_of InBlock text
 
 -- the bytes of a token, none of a `//` comment
-unfoldable pub kept_of : Kind → List ℕ → List ℕ
-kept_of LineComment bytes = []
-kept_of _ bytes = bytes
+abbrev pub kept_of : Kind → List ℕ → List ℕ
+kept_of k bytes = elim k [ LineComment ↦ [] | _ ↦ bytes ]
 
 -- a first token is that of the text as it is read: its kind, the mode behind it, its bytes but for those of a `//` comment, and
 -- what stands behind it

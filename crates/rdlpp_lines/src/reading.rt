@@ -53,7 +53,6 @@ pub fn is_space(b: u8) -> bool
 }
 
 // The bytes of a token that are kept: those of a `//` comment go.
-#[tactic(auto, unfolding(crate::specs::LineTokens::kept_of))]
 fn kept_of(kind: Kind, bytes: &[u8]) -> &[u8]
     ensures value { result.now ≡ kept_of kind bytes.now }
     ensures inside { length result.now ≤ length bytes.now }
@@ -298,13 +297,7 @@ pub fn trimmed_len(
 /// length, to bytes that have room for it.
 ///
 /// Costs time linear in the text's length.
-pub fn append_trimmed(
-    to: &mut Vec<u8>,
-    text: &[u8],
-    is_logical: bool,
-    is_default: bool,
-    len: usize,
-)
+pub fn append_trimmed(to: &mut Vec<u8>, text: &[u8], is_logical: bool, is_default: bool, len: usize)
     requires len { trimmed_len (trims is_default) (cleared (start_level is_default) (joined is_logical text.now)) ≡ Ok len }
     requires room { vec_len to.old + len ≤ vec_capacity to.old }
     ensures items { to.new.items ≡ to.old.items ++ trimmed_left (trims is_default) (cleared (start_level is_default) (joined is_logical text.now)) }

@@ -22,18 +22,21 @@ returns-then-is_perl-clause-next c =
 
 pub returns-then-stops_token-clause-next : goal.returns-then-stops_token-clause-next
 unfolding IsAdvanced
-returns-then-stops_token-clause-next c =
-    (left_stop _ _ _ _ c.line_token-token.result
-    (record { some = some_from _ (sym c.is_empty.ensures ∙ c.if-is_empty.false); read = c.line_token-token.ensures.is_read })
-    (sym c.is_perl.ensures ∙ c.if-is_perl.false)
-    (sym c.stops_token.ensures ∙ c.if-stops_token.true), refl)
+returns-then-stops_token-clause-next c = (
+  left_stop _ _ _ _ c.line_token-token.result
+      (record { some = some_from _ (sym c.is_empty.ensures ∙ c.if-is_empty.false); read = c.line_token-token.ensures.is_read })
+      (sym c.is_perl.ensures ∙ c.if-is_perl.false)
+      (sym c.stops_token.ensures ∙ c.if-stops_token.true),
+  refl,
+)
 
 pub returns-clause-next : goal.returns-clause-next
 unfolding IsAdvanced
-returns-clause-next c =
-    (left_on _ _ _ _ _ _ _ _ c.line_token-token.result
-    (record { some = some_from _ (sym c.is_empty.ensures ∙ c.if-is_empty.false); read = c.line_token-token.ensures.is_read })
-    (sym c.is_perl.ensures ∙ c.if-is_perl.false)
-    (sym c.stops_token.ensures ∙ c.if-stops_token.false)
-    c.level_by-self.ensures.value c.split_at.ensures.front c.kept_of-self.ensures.value c.split_at.ensures.back,
-    omega (arith, c.split_at.ensures.back_len, c.line_token-token.ensures.not_empty, c.line_token-token.ensures.inside))
+returns-clause-next c = (
+  left_on _ _ _ _ _ _ _ _ c.line_token-token.result
+      (record { some = some_from _ (sym c.is_empty.ensures ∙ c.if-is_empty.false); read = c.line_token-token.ensures.is_read })
+      (sym c.is_perl.ensures ∙ c.if-is_perl.false)
+      (sym c.stops_token.ensures ∙ c.if-stops_token.false)
+      c.level_by-self.ensures.value c.split_at.ensures.front c.kept_of-self.ensures.value c.split_at.ensures.back,
+  omega (arith, c.split_at.ensures.back_len, c.line_token-token.ensures.not_empty, c.line_token-token.ensures.inside),
+)
