@@ -92,9 +92,13 @@ unfolding trimmed_len
 rejected_by name formals (Sound rest last) fault e = absurd (cc)
 rejected_by name formals (Unsound other) fault e = let same : other ≡ fault = cc in ap (λ (f : LexFault). Rejected (lexical f) []) same
 
+-- a body without a fault gives the macro
+pub body_drawn : (name : List ℕ) (formals : Option (List Formal)) (text : List ℕ) (len : ℕ) → Ok len ≡ trimmed_len (trims false) (cleared None text) → with_body name formals text ≡ Drawn (record { name = name; formals = formals; body = trimmed_left (trims false) (cleared None text) })
+body_drawn name formals text len e = body_draft name formals text ∙ drawn_by name formals (cleared None text) len e
+
 pub body_stores : (a b : ℕ) (ms : List Macro) (name : List ℕ) (formals : Option (List Formal)) (text : List ℕ) (len : ℕ) → Ok len ≡ trimmed_len (trims false) (cleared None text) → stored a b ms (record { name = name; formals = formals; body = trimmed_left (trims false) (cleared None text) }) ≡ stored_draft a b ms (with_body name formals text)
 unfolding stored_draft
-body_stores a b ms name formals text len e = sym (ap (stored_draft a b ms) (body_draft name formals text ∙ drawn_by name formals (cleared None text) len e))
+body_stores a b ms name formals text len e = sym (ap (stored_draft a b ms) (body_drawn name formals text len e))
 
 pub body_refuses : (a b : ℕ) (ms : List Macro) (name : List ℕ) (formals : Option (List Formal)) (text : List ℕ) (fault : LexFault) (refused : DefineFault) → Err fault ≡ trimmed_len (trims false) (cleared None text) → refused.kind ≡ lexical fault → refused.word.bytes ≡ [] → observed (Err refused) ms ≡ stored_draft a b ms (with_body name formals text)
 unfolding stored_draft

@@ -5,7 +5,8 @@ use Rattle.rdlpp_table.proofs.SoundFormals.{new_sound}
 use Rattle.rdlpp_table.proofs.table.Table.store_body.Goals as goal
 
 pub store-requires-clause-sound : goal.store-requires-clause-sound
-store-requires-clause-sound c = new_sound _ _ _ _ _ c.requires.named c.requires.sound
+unfolding start_level
+store-requires-clause-sound c = new_sound _ _ _ _ _ _ c.requires.named c.requires.sound (sym c.in-Ok.ensures.len)
 
 pub store-requires-clause-counted : goal.store-requires-clause-counted
 unfolding start_level
