@@ -11,8 +11,8 @@ use Rattle.rdlpp_table.specs.declared.fault.DefineKind.TheVariants as kind
 use Rattle.rdlpp_table.specs.Table.{Formal}
 use Rattle.rdlpp_table.specs.View.{AreSoundFormals, IsSoundMacro}
 use Rattle.rdlpp_table.specs.New.{list_formals, new_macro}
-use Rattle.rdlpp_table.specs.declared.body.Inside.TheVariants.{Text}
-use Rattle.rdlpp_table.specs.Bodies.{cleared, joined, trimmed_len, trims}
+use Rattle.rdlpp_lines.specs.Continuations.{joined}
+use Rattle.rdlpp_lines.specs.Texts.{cleared, trimmed_len, trims}
 use Rattle.rdlpp_scan.specs.CleanTexts.{IsCleanText}
 use Rattle.rdlpp_scan.specs.Stage.{is_reserved}
 use Rattle.rdlpp_table.specs.Define.{Bad, DefaultText, Good, Listed, Unlisted, after_space, behind_name, default_in, formal_fault, formal_in, formal_name, formals_in, formals_of_list, is_nothing, name_fault, with_default}
@@ -119,7 +119,7 @@ good_name name e =
     record { named = omega (arith, apart); short = ltb-false _ _ t3.0; unreserved = t2.0 }
 
 pub new_sound : (name : List ℕ) (arity : Option ℕ) (list : List ℕ) (is_logical : Bool) (text : List ℕ) (len : ℕ) → name_fault name ≡ None → AreSoundFormals (unwrap_or (list_formals arity list) [])
-    → Ok len ≡ trimmed_len (trims false) (cleared None Text (joined is_logical text)) → IsSoundMacro (new_macro name arity list is_logical text)
+    → Ok len ≡ trimmed_len (trims false) (cleared None (joined is_logical text)) → IsSoundMacro (new_macro name arity list is_logical text)
 new_sound name arity list is_logical text len e s read =
     let g = good_name name e in
     record {

@@ -1,5 +1,5 @@
 use Rattle.std.proofs.Common.{◌∙◌, sym}
-use Rattle.rdlpp_table.specs.Bodies.{start_level}
+use Rattle.rdlpp_lines.specs.Texts.{start_level}
 use Rattle.rdlpp_table.proofs.Bodied.{body_stores, body_refuses}
 use Rattle.rdlpp_table.proofs.SoundFormals.{new_sound}
 use Rattle.rdlpp_table.proofs.table.Table.store_body.Goals as goal
