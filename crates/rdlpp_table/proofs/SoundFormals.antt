@@ -100,16 +100,16 @@ in_sound (suc room) before text fs after s n e =
     ]) refl (sym (list_step room before text) ∙ e)
 
 -- a name without a fault is that of a sound macro
-record IsGoodName (name : List ℕ) : Type 0 where
-  named : 0 < length name
-  short : length name ≤ 128
-  unreserved : is_reserved name ≡ false
+pub record IsGoodName (name : List ℕ) : Type 0 where
+  pub named : 0 < length name
+  pub short : length name ≤ 128
+  pub unreserved : is_reserved name ≡ false
 
 faultless : (c : Bool) (k : DefineKind) (y : Option DefineKind) → cond c (Some k) y ≡ None → (c ≡ false) × (y ≡ None)
 faultless true k y e = absurd (cc)
 faultless false k y e = (refl, e)
 
-good_name : (name : List ℕ) → name_fault name ≡ None → IsGoodName name
+pub good_name : (name : List ℕ) → name_fault name ≡ None → IsGoodName name
 unfolding name_fault
 good_name name e =
     let t1 = faultless _ _ _ e in
