@@ -1,30 +1,36 @@
 -- A call in a source whose kept bytes were bound part by part: the usage opens those ranges, but for the lines of its tokens.
-use Rattle.std.proofs.Common.{◌≡◌, ℕ, suc, Bool, true, false, cond, ◌&&◌, ◌||◌, List, [], ◌∷◌, map, length, take, drop, refl, sym, ap, ◌∙◌, Option, None, Some}
-use Rattle.std.specs.Prelude.{◌==◌, if◌then◌else◌}
+use Rattle.std.proofs.Common.{◌≡◌, ℕ, suc, Bool, true, false, cond, ◌&&◌, ◌||◌, List, [], ◌∷◌, map, length, take, drop, refl, sym, ap, ◌∙◌, Some}
+use Rattle.std.specs.Prelude.{◌==◌}
 use Rattle.std.specs.List.{list_any}
 use Rattle.std.proofs.lemmas.List.{length-map}
 use Rattle.rdlpp_scan.specs.SourceTokens.{SourceToken}
 use Rattle.rdlpp_scan.specs.Stage.{is_reserved}
 use Rattle.rdlpp_table.specs.Table.{Formal, Macro, macro_named}
+use Rattle.rdlpp_table.specs.View.{macro_at, formals_of}
 use Rattle.rdlpp_meaning.specs.declared.fault.FaultKind.{FaultKind}
-use Rattle.rdlpp_meaning.specs.declared.fault.FaultKind.TheVariants.{UndefinedMacro, DirectiveInText, ArgumentCount, Unbuilt}
+use Rattle.rdlpp_meaning.specs.declared.fault.FaultKind.TheVariants.{ArgumentCount}
 use Rattle.rdlpp_meaning.specs.Outcome.{Outcome}
 use Rattle.rdlpp_meaning.specs.State.{Rules, State}
 use Rattle.rdlpp_meaning.specs.Actuals.{Call, Lacking, Broke, Bound, map_call, call_of, trimmed, token_role}
 use Rattle.rdlpp_meaning.specs.CallScan.{split, all_parts, call_of_scan}
-use Rattle.rdlpp_meaning.specs.Cursors.{kept, TokenUsage, Refuses, Opens, is_token_count, token_usage_of_call, token_usage_of_formals, token_usage_of_macro, token_usage_of, left, first_cursor}
+use Rattle.rdlpp_meaning.specs.Cursors.{kept, Refuses, Opens, is_token_count, token_usage_of_call, token_usage_of_formals, Cursor, left, first_cursor}
 use Rattle.rdlpp_meaning.specs.Expansion.{usage_token, bytes_of}
 use Rattle.rdlpp_meaning.specs.Meaning.{Passage, leaves, goes_on, Progress}
+use Rattle.rdlpp_meaning.specs.Opens.{Texts, own_text, scope_text, text_around, slot_kind, slot_of, slots_of, open_body}
 use Rattle.rdlpp_meaning.specs.Parts.{only_blanks}
 use Rattle.rdlpp_meaning.specs.Resumed.{Live, resumed, leading}
+use Rattle.rdlpp_meaning.specs.Slots.{Body, body_slot, first_slot, cursors_of}
 use Rattle.rdlpp_meaning.specs.Substitution.{body_tokens}
 use Rattle.rdlpp_meaning.specs.TextTokens.{unlined}
+use Rattle.rdlpp_meaning.proofs.OpenScopes.{part-whole}
 use Rattle.rdlpp_meaning.proofs.ReadCalls.{IsReadCall}
+use Rattle.rdlpp_meaning.proofs.SlotSteps.{first_slot_is}
 use Rattle.rdlpp_meaning.proofs.SourceCalls.{resumed_opens}
 use Rattle.rdlpp_meaning.proofs.UnlinedCursors.{first-unlined}
 use Rattle.rdlpp_meaning.proofs.UnlinedTokens.{unlined_trimmed}
 use Rattle.rdlpp_calls.specs.declared.bindings.Range.{Range}
-use Rattle.rdlpp_calls.specs.BoundCalls.{ranges_tokens, actuals_of}
+use Rattle.rdlpp_calls.specs.BoundCalls.{range_part, ranges_tokens, actuals_of}
+use Rattle.rdlpp_calls.proofs.BoundUsages.{usage_with_list}
 
 -- a call that has these parts, but for lines
 record HasParts (c : Call SourceToken) (first : List SourceToken) (further : List (List SourceToken)) (used : ℕ) : Type 0 where
@@ -150,19 +156,6 @@ pub source_breaks : (rules : Rules) (line : ℕ) (name : List ℕ) (ts : List So
 unfolding token_usage_of_formals token_usage_of_call
 source_breaks rules line name ts m fs f own e = ap (token_usage_of_call m fs line name) e
 
--- a usage in a source of a macro that is built and has a list of formals, by what its call comes to
-pub source_usage_of : (rules : Rules) (s : State) (line : ℕ) (name : List ℕ) (ts : List SourceToken) (m : Macro) (fs : List Formal) (u : TokenUsage)
-    → is_reserved name ≡ false → macro_named s.macros name ≡ Some m → rules.unbuilt_macro m ≡ false → m.formals ≡ Some fs
-    → token_usage_of_formals kept rules line name (leading ts) m (Some fs) ≡ u → token_usage_of kept rules s line [] name (leading ts) ≡ u
-unfolding token_usage_of token_usage_of_macro
-source_usage_of rules s line name ts m fs u reserved found built formals e =
-    let named : Option Macro → TokenUsage = λ o. elim o [ None ↦ Refuses UndefinedMacro name line | Some x ↦ token_usage_of_macro kept rules line [] name (leading ts) x ] in
-    ap (λ (b : Bool). if b then Refuses DirectiveInText name line else named (macro_named s.macros name)) reserved
-    ∙ ap named found
-    ∙ ap (λ (b : Bool). if b then Refuses Unbuilt [] line else token_usage_of_formals kept rules line name (leading ts) m m.formals) built
-    ∙ ap (token_usage_of_formals kept rules line name (leading ts) m) formals
-    ∙ e
-
 -- in live text, a usage whose call was read and bound comes to what remains of the cursor with those ranges as actuals, and then what
 -- remains behind its call
 pub resumed_bound : (rules : Rules) (os : List Progress) (first : Bool) (name : List ℕ) (line : ℕ) (ts : List SourceToken) (s : State) (d : ℕ) (m : Macro)
@@ -175,7 +168,37 @@ resumed_bound rules os first name line ts s d m fs bytes ranges behind b reserve
     let flag = only_blanks first (bytes_of (take (suc b.used) (usage_token name line ∷ ts))) in
     let further : List SourceToken → State → Passage = λ rest after. resumed rules (Live os) flag rest after in
     resumed_opens rules os first name line ts s d m b.actuals b.used reserved depth
-    (source_usage_of rules s line name ts m fs (Opens m b.actuals b.used) reserved found built formals b.opens)
+    (usage_with_list kept rules s line [] name (leading ts) m fs (Opens m b.actuals b.used) reserved found built refl formals b.opens)
     ∙ ap (λ (x : Outcome). goes_on (leaves x s) (further (drop b.used ts))) (sym (first-unlined rules s line m b.actuals d))
     ∙ ap (λ (xs : List (List SourceToken)). goes_on (leaves (left rules s line (first_cursor m xs d ∷ [])) s) (further (drop b.used ts))) b.same
     ∙ ap (λ (rest : List SourceToken). goes_on (leaves (left rules s line (first_cursor m (ranges_tokens bytes ranges) d ∷ [])) s) (further rest)) b.rest
+
+-- a body that a usage in a source opens with ranges of the kept text as actuals, as a slot
+first_open : (texts : Texts) (id : ℕ) (ranges : List Range)
+    → slots_of texts (open_body texts id (map range_part ranges) 0 ∷ []) ≡ first_slot (macro_at texts.macros id) (ranges_tokens texts.arguments ranges) ∷ []
+unfolding slots_of slot_of text_around slot_kind own_text scope_text open_body first_slot body_slot
+first_open texts id ranges =
+    let m = macro_at texts.macros id in
+    ap (λ (ts : List SourceToken). record {
+      text = ts;
+      home = 0;
+      kind = Body (record { name = m.name; formals = formals_of m; actuals = ranges_tokens texts.arguments ranges });
+    } ∷ []) (part-whole m.body)
+
+-- in live text, a usage of the macro at a place, whose call was read and bound, comes to what remains of that body with those
+-- ranges of the kept text as actuals, and then what remains behind its call
+pub resumed_open : (rules : Rules) (os : List Progress) (first : Bool) (name : List ℕ) (line : ℕ) (ts : List SourceToken) (s : State) (d : ℕ) (texts : Texts) (id : ℕ)
+    (fs : List Formal) (ranges : List Range) (behind : List SourceToken) (b : OpensBound rules line name ts (macro_at texts.macros id) fs texts.arguments ranges behind)
+    → is_reserved name ≡ false → rules.depth ≡ suc d → macro_named s.macros name ≡ Some (macro_at texts.macros id)
+    → rules.unbuilt_macro (macro_at texts.macros id) ≡ false → (macro_at texts.macros id).formals ≡ Some fs
+    → resumed rules (Live os) first (usage_token name line ∷ ts) s
+    ≡ goes_on (leaves (left rules s line (cursors_of (suc d) (slots_of texts (open_body texts id (map range_part ranges) 0 ∷ [])))) s)
+    (λ after. resumed rules (Live os) (only_blanks first (bytes_of (take (suc b.used) (usage_token name line ∷ ts)))) behind after)
+resumed_open rules os first name line ts s d texts id fs ranges behind b reserved depth found built formals =
+    let m = macro_at texts.macros id in
+    let actuals = ranges_tokens texts.arguments ranges in
+    let same : first_cursor m actuals d ∷ [] ≡ cursors_of (suc d) (slots_of texts (open_body texts id (map range_part ranges) 0 ∷ [])) =
+    sym (first_slot_is m actuals d) ∙ ap (cursors_of (suc d)) (sym (first_open texts id ranges)) in
+    resumed_bound rules os first name line ts s d m fs texts.arguments ranges behind b reserved depth found built formals
+    ∙ ap (λ (cursors : List Cursor). goes_on (leaves (left rules s line cursors) s)
+    (λ after. resumed rules (Live os) (only_blanks first (bytes_of (take (suc b.used) (usage_token name line ∷ ts)))) behind after)) same

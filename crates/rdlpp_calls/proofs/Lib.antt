@@ -7,4 +7,5 @@ pub mod PartLaws
 pub mod BoundParts
 pub mod PartCounts
 pub mod BoundActuals
+pub mod BoundUsages
 pub mod BoundSourceCalls
