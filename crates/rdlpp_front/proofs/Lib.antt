@@ -10,3 +10,5 @@ pub mod NamedDirectives
 pub mod UndefLeft
 pub mod EndLeft
 pub mod Insides
+pub mod DirectiveMoves
+pub mod ConditionalLeft
