@@ -7,8 +7,10 @@ pub mod TextLeft
 pub mod UsageLeft
 pub mod DefineLeft
 pub mod NamedDirectives
-pub mod UndefLeft
 pub mod EndLeft
 pub mod Insides
 pub mod DirectiveMoves
+pub mod UndefLeft
 pub mod ConditionalLeft
+pub mod LineLeft
+pub mod SkippedWords
