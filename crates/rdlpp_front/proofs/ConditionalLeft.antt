@@ -35,14 +35,14 @@ abbrev pub branched : Progress → Bool → Bool → Progress
 branched o live closing = record { line = o.line; taken = o.taken || live; closing = closing }
 
 -- a directive that opens a conditional wants a name
-opening_wants : (d : Directive) → opens_conditional d ≡ true → wants_name d ≡ true
+pub opening_wants : (d : Directive) → opens_conditional d ≡ true → wants_name d ≡ true
 unfolding opens_conditional wants_name
 opening_wants Ifdef e = refl
 opening_wants Ifndef e = refl
 opening_wants d e = cc
 
 -- a branch is a token
-branch_word : (d : Directive) → branches_conditional d ≡ true → has_own_token d ≡ false
+pub branch_word : (d : Directive) → branches_conditional d ≡ true → has_own_token d ≡ false
 unfolding branches_conditional has_own_token
 branch_word Elsif e = refl
 branch_word Else e = refl

@@ -3,6 +3,7 @@ pub mod DirectiveFacts
 pub mod Stages
 pub mod SourceFacts
 pub mod SourcePassages
+pub mod WrittenTexts
 pub mod TextLeft
 pub mod UsageLeft
 pub mod DefineLeft
@@ -14,3 +15,4 @@ pub mod UndefLeft
 pub mod ConditionalLeft
 pub mod LineLeft
 pub mod SkippedWords
+pub mod SkippedTokens

@@ -34,7 +34,7 @@ pub line_inside : (held : List ℕ) → 0 < length held → (0 < line_len held) 
 line_inside held some = (line_len-some held some, line_len-le held)
 
 -- the tokens at a `line`
-line_buffer : {R : Type 0} (u : List ℕ → Bool) (unread : R → List ℕ) (b : BufferView R)
+pub line_buffer : {R : Type 0} (u : List ℕ → Bool) (unread : R → List ℕ) (b : BufferView R)
     → HoldsFront u b → b.mode ≡ Plain → IsDirective Line (held_of b) → u (held_of b) ≡ false
     → tokens_left u unread b ≡ line_token (line_text (held_of b)) b.line ∷ tokens_left u unread (used_buffer b (line_len (held_of b)) (line_ends (line_text (held_of b))))
 line_buffer u unread b holds mode is built =

@@ -2,7 +2,7 @@
 -- and what ends a source there.
 use Rattle.std.proofs.Common.{◌≡◌, ℕ, suc, Bool, true, false, List, [], ◌∷◌, length, take, refl, sym, ap, ◌∙◌}
 use Rattle.rdlpp_scan.specs.declared.token.Directive.{Directive}
-use Rattle.rdlpp_scan.specs.declared.token.Directive.TheVariants.{Ifdef, Ifndef, Elsif, Else, Endif}
+use Rattle.rdlpp_scan.specs.declared.token.Directive.TheVariants.{Endif}
 use Rattle.rdlpp_scan.specs.declared.token.Mode.{Mode}
 use Rattle.rdlpp_scan.specs.declared.token.Mode.TheVariants.{Plain}
 use Rattle.rdlpp_scan.specs.Front.{Breach}
@@ -27,23 +27,12 @@ use Rattle.rdlpp_read.specs.Files.{consumed_file}
 use Rattle.rdlpp_read.specs.Filling.{Fills, ended_tokens, only_broken}
 use Rattle.rdlpp_front.specs.Fronts.{IsDirective, word_of}
 use Rattle.rdlpp_front.specs.SourceLeft.{HoldsFront, source_left}
-use Rattle.rdlpp_front.proofs.NamedDirectives.{word_at, word_directive, word_token, word_tokens}
+use Rattle.rdlpp_front.proofs.ConditionalLeft.{branch_word, opening_wants}
+use Rattle.rdlpp_front.proofs.NamedDirectives.{wants_word, word_at, word_directive, word_token, word_tokens}
 use Rattle.rdlpp_front.proofs.SourceFacts.{ends_line}
 use Rattle.rdlpp_front.proofs.SourcePassages.{all_resumed_behind_fails}
 
--- a directive that opens a conditional, branches it or closes it is a token
-opening_word : (d : Directive) → opens_conditional d ≡ true → has_own_token d ≡ false
-unfolding opens_conditional has_own_token
-opening_word Ifdef e = refl
-opening_word Ifndef e = refl
-opening_word d e = cc
-
-branching_word : (d : Directive) → branches_conditional d ≡ true → has_own_token d ≡ false
-unfolding branches_conditional has_own_token
-branching_word Elsif e = refl
-branching_word Else e = refl
-branching_word d e = cc
-
+-- an `endif` is a token
 end_word : has_own_token Endif ≡ false
 unfolding has_own_token
 end_word = refl
@@ -76,8 +65,8 @@ module _ {R : Type 0} (rules : Rules) (unbuilt : List ℕ → Bool) (unread : R 
       → source_left rules unbuilt unread ws (Skipped n p os) f s
       ≡ source_left rules unbuilt unread ws (Skipped (suc n) p os) (consumed_file (length (word_of d)) 0 f) s
   skipped_opening_left d n o holds mode is built =
-      word_move d n (suc n) (opening_word d o) holds mode is built
-      (λ ts. resumed_skipped_opening rules n p os d f.blanks (word_token d f.buffer.line) ts s (word_directive d f.buffer.line (opening_word d o)) o)
+      word_move d n (suc n) (wants_word d (opening_wants d o)) holds mode is built
+      (λ ts. resumed_skipped_opening rules n p os d f.blanks (word_token d f.buffer.line) ts s (word_directive d f.buffer.line (wants_word d (opening_wants d o))) o)
 
   -- a branch of a conditional that opened in skipped text
   pub inner_branch_left : (d : Directive) (n : ℕ) → branches_conditional d ≡ true
@@ -85,8 +74,8 @@ module _ {R : Type 0} (rules : Rules) (unbuilt : List ℕ → Bool) (unread : R 
       → source_left rules unbuilt unread ws (Skipped (suc n) p os) f s
       ≡ source_left rules unbuilt unread ws (Skipped (suc n) p os) (consumed_file (length (word_of d)) 0 f) s
   inner_branch_left d n b holds mode is built =
-      word_move d (suc n) (suc n) (branching_word d b) holds mode is built
-      (λ ts. resumed_inner_branch rules n p os d f.blanks (word_token d f.buffer.line) ts s (word_directive d f.buffer.line (branching_word d b)) b)
+      word_move d (suc n) (suc n) (branch_word d b) holds mode is built
+      (λ ts. resumed_inner_branch rules n p os d f.blanks (word_token d f.buffer.line) ts s (word_directive d f.buffer.line (branch_word d b)) b)
 
   -- the end of a conditional that opened in skipped text
   pub inner_end_left : (n : ℕ)
