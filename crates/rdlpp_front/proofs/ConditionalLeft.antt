@@ -1,5 +1,5 @@
 -- What the directives of conditionals in front do to what remains, in live text and at the end of a branch that is skipped.
-use Rattle.std.proofs.Common.{◌≡◌, ℕ, suc, ◌-◌, Bool, true, false, not, ◌||◌, List, [], ◌∷◌, length, take, drop, None, Some, refl, ap, ◌∙◌}
+use Rattle.std.proofs.Common.{◌≡◌, ℕ, suc, Bool, true, false, not, ◌||◌, List, [], ◌∷◌, length, refl, ap, ◌∙◌}
 use Rattle.rdlpp_scan.specs.declared.token.Directive.{Directive}
 use Rattle.rdlpp_scan.specs.declared.token.Directive.TheVariants.{Ifdef, Ifndef, Elsif, Else, Endif}
 use Rattle.rdlpp_scan.specs.declared.token.Mode.TheVariants.{Plain}
@@ -9,9 +9,9 @@ use Rattle.rdlpp_meaning.specs.declared.fault.FaultKind.{FaultKind}
 use Rattle.rdlpp_meaning.specs.declared.fault.FaultKind.TheVariants.{BranchAfterElse, NameExpected, ReservedName, StrayBranch, TooManyConditionals}
 use Rattle.rdlpp_meaning.specs.Outcome.{fails}
 use Rattle.rdlpp_meaning.specs.State.{Rules, State, fault_at, shown_line}
-use Rattle.rdlpp_meaning.specs.Parts.{Argument, argument_of, command_in_front, command_of, no_argument}
-use Rattle.rdlpp_meaning.specs.Meaning.{Faulty, Fine, Holds, Passage, Progress, Stopped, Test, begun, by_test, in_conditional, is_defined, is_else, leaves, macro_name, opening, past_conditional, refusal, turn, turned}
-use Rattle.rdlpp_meaning.specs.Resumed.{Live, Place, Skipped, behind, resumed}
+use Rattle.rdlpp_meaning.specs.Parts.{Argument, command_in_front, command_of, no_argument}
+use Rattle.rdlpp_meaning.specs.Meaning.{Faulty, Fine, Holds, Progress, Stopped, Test, begun, by_test, in_conditional, is_defined, is_else, leaves, macro_name, opening, past_conditional, refusal, turn, turned}
+use Rattle.rdlpp_meaning.specs.Resumed.{Live, Skipped, behind, resumed}
 use Rattle.rdlpp_meaning.specs.Opened.{Waiting}
 use Rattle.rdlpp_meaning.proofs.ConditionalMoves.{branches_conditional, branching_piece, closing_piece, in_branch, opening_piece, opens_conditional}
 use Rattle.rdlpp_meaning.proofs.ConditionalTests.{named_test, opening-faulty, opening-full, opening-held, turn-closing, turn-else, turn-faulty, turn-named, turn-taken}

@@ -1,9 +1,9 @@
 -- What a `line` in front does to what remains.
-use Rattle.std.proofs.Common.{◌≡◌, ℕ, ◌+◌, ◌<◌, ◌≤◌, Bool, true, false, List, [], ◌∷◌, ◌++◌, length, take, drop, None, Some, refl, sym, ap, ◌∙◌}
+use Rattle.std.proofs.Common.{◌≡◌, ℕ, ◌<◌, ◌≤◌, Bool, true, false, List, [], ◌∷◌, ◌++◌, length, take, drop, None, Some, refl, sym, ap, ◌∙◌}
 use Rattle.std.specs.Prelude.{bytes_eq, codes}
 use Rattle.rdlpp_scan.specs.declared.token.Directive.TheVariants.{Line}
 use Rattle.rdlpp_scan.specs.declared.token.Mode.TheVariants.{Plain}
-use Rattle.rdlpp_scan.specs.SourceTokens.{SourceToken, line_ends, line_len, remaining_tokens}
+use Rattle.rdlpp_scan.specs.SourceTokens.{SourceToken, line_ends, line_len}
 use Rattle.rdlpp_scan.specs.Tokens.{token_of}
 use Rattle.rdlpp_scan.proofs.LineLaws.{line_len-some}
 use Rattle.rdlpp_scan.proofs.LogicalLines.{line_len-le}
@@ -12,7 +12,7 @@ use Rattle.rdlpp_meaning.specs.declared.fault.FaultKind.TheVariants.{BadLine}
 use Rattle.rdlpp_meaning.specs.Outcome.{fails}
 use Rattle.rdlpp_meaning.specs.State.{Rules, State, fault_at}
 use Rattle.rdlpp_meaning.specs.Parts.{line_ends_of, only_blanks}
-use Rattle.rdlpp_meaning.specs.Meaning.{Passage, Progress, Renumbered, behind_bytes, leaves, origin_line, renumbered}
+use Rattle.rdlpp_meaning.specs.Meaning.{Progress, Renumbered, behind_bytes, leaves, origin_line, renumbered}
 use Rattle.rdlpp_meaning.specs.Resumed.{Live}
 use Rattle.rdlpp_meaning.specs.Opened.{Waiting, all_resumed}
 use Rattle.rdlpp_meaning.proofs.LineDirective.{line_token, renumbered_state, resumed_bad_line, resumed_late_line, resumed_renumbered}

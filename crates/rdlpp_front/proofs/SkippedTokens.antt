@@ -11,7 +11,7 @@ use Rattle.rdlpp_scan.proofs.RemainingLaws.{remaining-bare}
 use Rattle.rdlpp_scan.proofs.StageLaws.{directive-bare}
 use Rattle.rdlpp_meaning.specs.State.{Rules, State}
 use Rattle.rdlpp_meaning.specs.Expansion.{usage_token}
-use Rattle.rdlpp_meaning.specs.Parts.{directive_of, line_ends_of, only_blanks}
+use Rattle.rdlpp_meaning.specs.Parts.{line_ends_of, only_blanks}
 use Rattle.rdlpp_meaning.specs.Meaning.{Passage, Progress, behind_bytes}
 use Rattle.rdlpp_meaning.specs.Resumed.{Skipped}
 use Rattle.rdlpp_meaning.specs.Opened.{Waiting, all_resumed}

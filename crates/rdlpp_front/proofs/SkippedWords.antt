@@ -11,7 +11,7 @@ use Rattle.rdlpp_meaning.specs.declared.fault.FaultKind.TheVariants.{OpenConditi
 use Rattle.rdlpp_meaning.specs.Outcome.{fails}
 use Rattle.rdlpp_meaning.specs.State.{Rules, State, breach_kind, fault_at}
 use Rattle.rdlpp_meaning.specs.Parts.{line_ends_of, only_blanks}
-use Rattle.rdlpp_meaning.specs.Meaning.{Passage, Progress, behind_bytes, leaves, unclosed}
+use Rattle.rdlpp_meaning.specs.Meaning.{Progress, behind_bytes, leaves, unclosed}
 use Rattle.rdlpp_meaning.specs.Resumed.{Skipped, resumed}
 use Rattle.rdlpp_meaning.specs.Opened.{Waiting, all_resumed}
 use Rattle.rdlpp_meaning.proofs.ConditionalMoves.{branches_conditional, opens_conditional}

@@ -1,5 +1,5 @@
 -- What text that is copied does to what remains: ordinary text, and a string or a comment, or the part of one that is held.
-use Rattle.std.proofs.Common.{◌≡◌, ℕ, ◌+◌, ◌<◌, Bool, true, false, List, [], ◌∷◌, ◌++◌, length, take, drop, All, refl, sym, ap, ◌∙◌, subst, inl, inr, arith}
+use Rattle.std.proofs.Common.{◌≡◌, ℕ, ◌+◌, ◌<◌, Bool, true, false, List, [], ◌∷◌, ◌++◌, length, take, drop, All, refl, sym, ap, ◌∙◌, subst, inl, arith}
 use Rattle.std.specs.List.{list_all}
 use Rattle.std.proofs.lemmas.Bool.{false≢true}
 use Rattle.std.proofs.lemmas.List.{drop_all, length-drop}
@@ -22,7 +22,7 @@ use Rattle.rdlpp_scan.specs.Tokens.{plain_len, token_of}
 use Rattle.rdlpp_scan.proofs.OrdinaryLaws.{directive-spares}
 use Rattle.rdlpp_scan.proofs.RemainingLaws.{GoesThrough, remaining-opened, remaining-ordinary}
 use Rattle.rdlpp_scan.proofs.RemainingSteps.{IsBuiltAt, remaining-closed, remaining-open_string, remaining-open_comment, remaining-cut_string}
-use Rattle.rdlpp_scan.proofs.ResumedTokens.{IsOpenKind, Resumes, Copies, Breaks, remaining-in_string, remaining-in_comment, remaining-perl_in_string}
+use Rattle.rdlpp_scan.proofs.ResumedTokens.{Resumes, Copies, Breaks, remaining-in_string, remaining-in_comment, remaining-perl_in_string}
 use Rattle.rdlpp_scan.proofs.Seams.{Seam, Closed, BeforePerl, OpenString, OpenComment, token_of-seam}
 use Rattle.rdlpp_scan.proofs.StageLaws.{directive-string, directive-line_comment, directive-block_comment}
 use Rattle.rdlpp_scan.proofs.TokenSteps.{is_kept_kind}

@@ -1,5 +1,5 @@
 -- What an `undef` in front does to what remains.
-use Rattle.std.proofs.Common.{◌≡◌, ℕ, Bool, true, false, List, [], ◌∷◌, refl, ap, ◌∙◌}
+use Rattle.std.proofs.Common.{◌≡◌, ℕ, Bool, true, false, List, [], ◌∷◌, refl, ap}
 use Rattle.rdlpp_scan.specs.declared.token.Directive.TheVariants.{Undef}
 use Rattle.rdlpp_scan.specs.declared.token.Mode.TheVariants.{Plain}
 use Rattle.rdlpp_scan.specs.SourceTokens.{SourceToken}
@@ -9,11 +9,10 @@ use Rattle.rdlpp_meaning.specs.declared.fault.FaultKind.{FaultKind}
 use Rattle.rdlpp_meaning.specs.declared.fault.FaultKind.TheVariants.{NameExpected, ReservedName}
 use Rattle.rdlpp_meaning.specs.Outcome.{fails}
 use Rattle.rdlpp_meaning.specs.State.{Rules, State, fault_at}
-use Rattle.rdlpp_meaning.specs.Parts.{Argument, behind_directive, command_in_front, command_of, no_argument, only_blanks}
+use Rattle.rdlpp_meaning.specs.Parts.{Argument, command_in_front, no_argument}
 use Rattle.rdlpp_meaning.specs.Meaning.{Faulty, Progress, leaves, macro_name}
 use Rattle.rdlpp_meaning.specs.Resumed.{Live}
-use Rattle.rdlpp_meaning.specs.Opened.{Waiting, all_resumed}
-use Rattle.rdlpp_meaning.proofs.Includes.{all_resumed_move}
+use Rattle.rdlpp_meaning.specs.Opened.{Waiting}
 use Rattle.rdlpp_meaning.proofs.Undefining.{macro_name_given, macro_name_missing, macro_name_reserved, resumed_bad_undef, resumed_undef, wants_name}
 use Rattle.rdlpp_read.specs.declared.files.File.{File}
 use Rattle.rdlpp_read.specs.Buffer.{held_of, tokens_left}
@@ -21,8 +20,7 @@ use Rattle.rdlpp_read.specs.Files.{consumed_file}
 use Rattle.rdlpp_front.specs.Fronts.{HasName, LacksName, argument_name}
 use Rattle.rdlpp_front.specs.SourceLeft.{HoldsFront, source_left}
 use Rattle.rdlpp_front.proofs.DirectiveMoves.{named_move, refused_move}
-use Rattle.rdlpp_front.proofs.NamedDirectives.{behind_name, name_in_front_of, no_name_in_front_of, wants_word, word_directive, word_token}
-use Rattle.rdlpp_front.proofs.SourcePassages.{all_resumed_refused}
+use Rattle.rdlpp_front.proofs.NamedDirectives.{name_in_front_of, no_name_in_front_of, wants_word, word_directive, word_token}
 
 -- an `undef` wants a name
 undef_wants : wants_name Undef ≡ true

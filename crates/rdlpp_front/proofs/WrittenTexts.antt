@@ -9,7 +9,7 @@ use Rattle.rdlpp_meaning.specs.Outcome.{fails}
 use Rattle.rdlpp_meaning.specs.State.{Rules, State, breach_kind, fault_at}
 use Rattle.rdlpp_meaning.specs.Expansion.{bytes_of, is_copied}
 use Rattle.rdlpp_meaning.specs.Parts.{directive_of, line_ends_of, only_blanks}
-use Rattle.rdlpp_meaning.specs.Meaning.{Passage, Progress, behind_bytes, leaves}
+use Rattle.rdlpp_meaning.specs.Meaning.{Progress, behind_bytes, leaves}
 use Rattle.rdlpp_meaning.specs.Resumed.{Live, Place, Skipped}
 use Rattle.rdlpp_meaning.specs.Opened.{Waiting, all_resumed}
 use Rattle.rdlpp_meaning.proofs.NestMoves.{all_resumed_behind}
