@@ -48,7 +48,7 @@ holds_define unbuilt unread f holds is built = record {
 }
 
 -- the same buffer, by what its line counts
-consumed_used : {R : Type 0} (b : BufferView R) (len lines : ℕ) → lines ≡ line_ends (take len (held_of b)) → consumed b len ≡ used_buffer b len lines
+pub consumed_used : {R : Type 0} (b : BufferView R) (len lines : ℕ) → lines ≡ line_ends (take len (held_of b)) → consumed b len ≡ used_buffer b len lines
 unfolding consumed
 consumed_used b len lines e = ap (λ (n : ℕ). used_buffer b len n) (sym e)
 
