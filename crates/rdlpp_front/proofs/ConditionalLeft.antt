@@ -184,7 +184,7 @@ module _ {R : Type 0} (rules : Rules) (unbuilt : List ℕ → Bool) (unread : R 
       let t = named_test d s name in
       let wants = opening_wants d o in
       let i = name_in_front_of d unbuilt unread f.buffer wants holds mode built start stop has in
-      named_move rules unbuilt unread ws f s d holds mode built wants start stop i (Live os) (in_branch t (opened_at s f.buffer.line t) os) (in_conditional s)
+      named_move rules unbuilt unread ws f s d start stop i (Live os) (in_branch t (opened_at s f.buffer.line t) os) (in_conditional s)
       (resumed_opened rules os d f.buffer.line f.blanks i.tokens s t o
       (opening-held d f.blanks (word_token d f.buffer.line) i.tokens s name k (named_fine d start stop i free) left))
 
@@ -233,7 +233,7 @@ module _ {R : Type 0} (rules : Rules) (unbuilt : List ℕ → Bool) (unread : R 
       let name = argument_name (held_of f.buffer) start stop in
       let t = is_defined s name in
       let i = name_in_front_of Elsif unbuilt unread f.buffer elsif_wants holds mode built start stop has in
-      named_move rules unbuilt unread ws f s Elsif holds mode built elsif_wants start stop i (in_branch live o os) (in_branch t (branched o t false) os) s
+      named_move rules unbuilt unread ws f s Elsif start stop i (in_branch live o os) (in_branch t (branched o t false) os) s
       (resumed_turned rules live o os Elsif f.buffer.line f.blanks i.tokens s t elsif_branches
       (turn-named o f.blanks (word_token Elsif f.buffer.line) i.tokens s name open_ untaken (named_fine Elsif start stop i free)))
 
@@ -246,7 +246,7 @@ module _ {R : Type 0} (rules : Rules) (unbuilt : List ℕ → Bool) (unread : R 
   unfolding is_else in_branch
   elsif_passed_left live o start stop holds mode has built open_ taken =
       let i = name_in_front_of Elsif unbuilt unread f.buffer elsif_wants holds mode built start stop has in
-      named_move rules unbuilt unread ws f s Elsif holds mode built elsif_wants start stop i (in_branch live o os) (Skipped 0 (branched o false false) os) s
+      named_move rules unbuilt unread ws f s Elsif start stop i (in_branch live o os) (Skipped 0 (branched o false false) os) s
       (resumed_turned rules live o os Elsif f.buffer.line f.blanks i.tokens s false elsif_branches
       (turn-taken o f.blanks (word_token Elsif f.buffer.line) i.tokens s open_ taken))
 

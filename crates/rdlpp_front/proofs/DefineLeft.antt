@@ -203,7 +203,7 @@ counted true k n e h = omega arith
 counted false k n e h = cc
 
 -- and one that isn't
-not_counted : (t : Bool) (k n : ℕ) → t ≡ false → k ≡ cond t 1 0 + n → k ≡ n
+pub not_counted : (t : Bool) (k n : ℕ) → t ≡ false → k ≡ cond t 1 0 + n → k ≡ n
 not_counted true k n e h = cc
 not_counted false k n e h = omega arith
 

@@ -45,18 +45,6 @@ bare_word d e = cc
 
 module _ {R : Type 0} (rules : Rules) (unbuilt : List ℕ → Bool) (unread : R → List ℕ) (ws : List Waiting) (f : File R) (s : State) (d : Directive)
     (holds : HoldsFront unbuilt f.buffer) (mode : f.buffer.mode ≡ Plain) (built : unbuilt (held_of f.buffer) ≡ false) where
-  -- a directive with a name that changes the place or the state
-  pub named_move : (wants : wants_name d ≡ true) (start stop : ℕ) (i : NameInFront d unbuilt unread f.buffer start stop) (place new : Place) (t : State)
-      → resumed rules place f.blanks (word_token d f.buffer.line ∷ i.tokens) s ≡ behind rules new d f.blanks (word_token d f.buffer.line) i.tokens t
-      → source_left rules unbuilt unread ws place f s ≡ source_left rules unbuilt unread ws new (consumed_file stop 0 f) t
-  unfolding source_left
-  named_move wants start stop i place new t e =
-      let tok = word_token d f.buffer.line in
-      let c = command_in_front d f.blanks tok i.tokens in
-      ap (λ (ts : List SourceToken). all_resumed rules ws place f.blanks ts s) i.all
-      ∙ all_resumed_move rules ws place new f.blanks (only_blanks f.blanks c.text) (tok ∷ i.tokens) (behind_directive d i.tokens) s t e
-      ∙ behind_name d unbuilt unread f.buffer wants holds mode built rules ws new f.blanks t start stop i
-
   -- a directive that is given nothing
   pub bare_move : IsDirective d (held_of f.buffer) → (i : NoNameInFront d unbuilt unread f.buffer) (place new : Place) (t : State)
       → resumed rules place f.blanks (word_token d f.buffer.line ∷ i.tokens) s ≡ behind rules new d f.blanks (word_token d f.buffer.line) i.tokens t
@@ -94,3 +82,15 @@ module _ {R : Type 0} (rules : Rules) (unbuilt : List ℕ → Bool) (unread : R 
   refused_move tokens place kind word all e =
       ap (λ (ts : List SourceToken). all_resumed rules ws place f.blanks ts s) all
       ∙ all_resumed_refused rules ws place f.blanks (word_token d f.buffer.line ∷ tokens) s kind word (command_in_front d f.blanks (word_token d f.buffer.line) tokens) e
+
+  -- a directive that is given something and that changes the place or the state
+  pub named_move : (start stop : ℕ) (i : NameInFront d unbuilt unread f.buffer start stop) (place new : Place) (t : State)
+      → resumed rules place f.blanks (word_token d f.buffer.line ∷ i.tokens) s ≡ behind rules new d f.blanks (word_token d f.buffer.line) i.tokens t
+      → source_left rules unbuilt unread ws place f s ≡ source_left rules unbuilt unread ws new (consumed_file stop 0 f) t
+  unfolding source_left
+  named_move start stop i place new t e =
+      let tok = word_token d f.buffer.line in
+      let c = command_in_front d f.blanks tok i.tokens in
+      ap (λ (ts : List SourceToken). all_resumed rules ws place f.blanks ts s) i.all
+      ∙ all_resumed_move rules ws place new f.blanks (only_blanks f.blanks c.text) (tok ∷ i.tokens) (behind_directive d i.tokens) s t e
+      ∙ behind_name d unbuilt unread f.buffer rules ws new f.blanks t start stop i

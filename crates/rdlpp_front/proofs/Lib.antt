@@ -16,3 +16,4 @@ pub mod ConditionalLeft
 pub mod LineLeft
 pub mod SkippedWords
 pub mod SkippedTokens
+pub mod IncludeLeft

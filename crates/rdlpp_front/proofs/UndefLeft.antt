@@ -38,7 +38,7 @@ module _ {R : Type 0} (rules : Rules) (unbuilt : List ℕ → Bool) (unread : R 
       let i = name_in_front_of Undef unbuilt unread f.buffer undef_wants holds mode built start stop has in
       let t = word_token Undef f.buffer.line in
       let after = record s { macros = without name s.macros } in
-      named_move rules unbuilt unread ws f s Undef holds mode built undef_wants start stop i (Live os) (Live os) after
+      named_move rules unbuilt unread ws f s Undef start stop i (Live os) (Live os) after
       (resumed_undef rules os f.blanks t i.tokens s name (word_directive Undef f.buffer.line (wants_word Undef undef_wants)) (macro_name_given Undef f.blanks t i.tokens name i.given free))
 
   -- an `undef` whose name is refused, by its tokens
