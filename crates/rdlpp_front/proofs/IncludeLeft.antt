@@ -62,7 +62,7 @@ closed_string bytes n (Closes c) some = c
 closed_string bytes n (Opens none zero_is) some = absurd (omega arith)
 
 -- an `include` is a word
-include_word : has_own_token Include ≡ false
+pub include_word : has_own_token Include ≡ false
 unfolding has_own_token
 include_word = refl
 
