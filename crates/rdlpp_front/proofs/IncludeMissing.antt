@@ -4,11 +4,11 @@ use Rattle.std.specs.List.{list_any}
 use Rattle.std.specs.Option.{option_map}
 use Rattle.rdlpp_scan.specs.declared.token.Directive.TheVariants.{Include}
 use Rattle.rdlpp_scan.specs.declared.token.Kind.{Kind}
-use Rattle.rdlpp_scan.specs.declared.token.Kind.TheVariants.{Blank, BlockComment, Str}
+use Rattle.rdlpp_scan.specs.declared.token.Kind.TheVariants.{Blank, Str}
 use Rattle.rdlpp_scan.specs.declared.token.Mode.TheVariants.{Plain, InStr}
 use Rattle.rdlpp_scan.specs.declared.token.Token.{Token}
 use Rattle.rdlpp_scan.specs.Bytes.{is_line_end}
-use Rattle.rdlpp_scan.specs.Front.{Front, StringOpen, front}
+use Rattle.rdlpp_scan.specs.Front.{Front, StringOpen}
 use Rattle.rdlpp_scan.specs.Lines.{EndsLine, ended_line_len}
 use Rattle.rdlpp_scan.specs.Resumed.{line_with, onto_tokens, opening, with_part}
 use Rattle.rdlpp_scan.specs.SourceTokens.{Broken, Definition, Ordinary, Renumbering, Sort, SourceToken, broken, line_ends, open_end, remaining_tokens, source_end, source_tokens}
