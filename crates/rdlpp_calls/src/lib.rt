@@ -5,7 +5,7 @@ mod parts;
 mod tokens;
 
 pub use parts::{Arguments, CallFault, Part, arguments_of, call_end, call_start, next_part};
-pub use tokens::{CallRole, level_behind, role_of};
+pub use tokens::{CallRole, ends_call, level_behind, role_of};
 
 #[cfg(test)]
 mod tests;

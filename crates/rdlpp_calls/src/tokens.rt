@@ -92,9 +92,9 @@ pub fn level_behind(role: CallRole, level: usize) -> usize
     }
 }
 
-// Whether a token at a level of openers is the `)` of a call.
+/// Whether a token at a level of openers is the `)` of a call.
 #[tactic(auto, unfolding(crate::specs::CallTokens::role_meant, crate::specs::CallParts::ends_call))]
-pub(crate) fn ends_call(role: CallRole, level: usize) -> bool
+pub fn ends_call(role: CallRole, level: usize) -> bool
     ensures { result ≡ ends_call (role_meant role) level }
 {
     match role {

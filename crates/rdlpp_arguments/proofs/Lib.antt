@@ -1,0 +1,4 @@
+pub mod FirstReads
+pub mod Halts
+pub mod Takes
+pub mod Turns

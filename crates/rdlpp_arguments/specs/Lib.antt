@@ -1,0 +1,3 @@
+pub mod Store
+pub mod Reads
+pub mod Taking
