@@ -2,3 +2,5 @@ pub mod FirstReads
 pub mod Halts
 pub mod Takes
 pub mod Turns
+pub mod GoingOn
+pub mod CallLoop

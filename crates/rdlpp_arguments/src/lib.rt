@@ -2,9 +2,11 @@
 //! refills.
 #![tactic(auto)]
 
+mod reading;
 mod store;
 mod taking;
+#[cfg(test)]
+mod tests;
 
-
-
+pub use reading::{CallRead, read_call};
 pub use store::ArgumentStore;

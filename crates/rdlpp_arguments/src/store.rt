@@ -58,6 +58,7 @@ impl ArgumentStore {
     pub fn room(&self) -> usize
         ensures value { result ≡ self.now.most - length self.now.bytes }
         ensures fits { length self.now.bytes ≤ self.now.most }
+        ensures counted { self.now.most ≤ usize.MAX }
     {
         self.bytes.len() - self.len
     }
