@@ -4,3 +4,4 @@ pub mod Takes
 pub mod Turns
 pub mod GoingOn
 pub mod CallLoop
+pub mod CallLaws

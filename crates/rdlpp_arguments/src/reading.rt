@@ -7,6 +7,7 @@ ghost use Rattle.rdlpp_read.specs.Calls.{SourcesRead};
 ghost use Rattle.rdlpp_read.specs.Files.{inner_buffer};
 ghost use Rattle.rdlpp_arguments.specs.CallReads.{
   IsEndOfText,
+  MeansCall,
   ReadsCall,
   TakesToken,
   is_failed_call,
@@ -104,21 +105,8 @@ fn end_of_text<R: Drop>(files: &Files<R>, stand: Stand) -> CallRead
     }
 }
 
-/// Reads what stands behind the name of a macro with a list of formals, from the innermost source, over
-/// any number of its lines: behind white space, line ends and comments a `(`, and all up to its `)`,
-/// which stands outside strings, comments and further openers. What is kept are the bytes between the
-/// two but those of `//` comments; the store has them, and nothing of what it had before. Behind a call
-/// that is closed, the source goes on behind its `)`.
-///
-/// The sources are asked to read only where all held bytes are used. Takes no memory.
-///
-/// # Rules
-///
-/// A directive, or the end of the text, ends the call: before the `(` its arguments are missing, behind
-/// it they aren't closed. For each token its bytes count first: kept bytes that pass the room of the
-/// store are refused before a broken token's own fault. Where a read failed nothing is lost: what was
-/// kept so far and what remains come to the same call (this project's profile).
-pub fn read_call<S: Sources>(
+// Reads a call token by token, and fills the buffer where all that is held is used.
+fn read_tokens<S: Sources>(
     files: &mut Files<S::Reader>,
     sources: &mut S,
     store: &mut ArgumentStore,
@@ -148,4 +136,34 @@ pub fn read_call<S: Sources>(
             Fill::Failed => return CallRead::Failed,
         }
     }
+}
+
+/// Reads what stands behind the name of a macro with a list of formals, from the innermost source, over
+/// any number of its lines: behind white space, line ends and comments a `(`, and all up to its `)`,
+/// which stands outside strings, comments and further openers. What is kept are the bytes between the
+/// two but those of `//` comments; the store has them, and nothing of what it had before. Behind a call
+/// that is closed, the source goes on behind its `)`.
+///
+/// The sources are asked to read only where all held bytes are used. Takes no memory.
+///
+/// # Rules
+///
+/// A directive, or the end of the text, ends the call: before the `(` its arguments are missing, behind
+/// it they aren't closed. For each token its bytes count first: kept bytes that pass the room of the
+/// store are refused before a broken token's own fault. Where a read failed nothing is lost: what was
+/// kept so far and what remains come to the same call (this project's profile).
+pub fn read_call<S: Sources>(
+    files: &mut Files<S::Reader>,
+    sources: &mut S,
+    store: &mut ArgumentStore,
+) -> CallRead
+    requires some { 0 < length files.old.nest }
+    requires plain { (inner_buffer files.old.nest).mode ≡ Plain }
+    ensures only { files.new ≡ record files.old { nest = files.new.nest } }
+    ensures room { store.new.most ≡ store.old.most }
+    ensures call { SourcesRead S.Sources (is_failed_call result) sources.old sources.new }
+    ensures reads { ReadsCall (S.tells sources.old) S.unread Before store.old.most store.new.bytes result files.old.nest files.new.nest }
+    ensures means { MeansCall (S.tells sources.old) S.unread store.old.most store.new.bytes (inner_buffer files.old.nest) (inner_buffer files.new.nest) result }
+{
+    read_tokens(files, sources, store)
 }

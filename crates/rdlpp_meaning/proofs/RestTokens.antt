@@ -1,16 +1,15 @@
--- What remains of a source in a string or in a comment begins with the rest of it, which is whole or broken as a string or a
--- comment can be; and how a call reads that rest.
-use Rattle.std.proofs.Common.{◌≡◌, ℕ, ◌+◌, ◌-◌, ◌<◌, Bool, true, false, cond, ltb, eqb, List, [], ◌∷◌, ◌++◌, Some, None, Option, length, take, slice_index, refl, sym, ap, ◌∙◌, subst, arith}
-use Rattle.std.specs.Prelude.{nat_lt, nat_le}
-use Rattle.std.proofs.lemmas.Bool.{false≢true, cond_both}
+-- What remains of a source in a string or in a comment begins with the rest of it, which is whole, or broken as a string or a
+-- comment can be.
+use Rattle.std.proofs.Common.{◌≡◌, ℕ, ◌+◌, ◌-◌, Bool, true, cond, ltb, List, [], ◌∷◌, ◌++◌, Some, None, Option, length, take, refl, sym, ap, ◌∙◌, subst, arith}
+use Rattle.std.specs.Prelude.{nat_lt}
+use Rattle.std.proofs.lemmas.Bool.{cond_both}
 use Rattle.rdlpp_scan.specs.declared.token.Kind.{Kind}
 use Rattle.rdlpp_scan.specs.declared.token.Kind.TheVariants.{Str, BlockComment}
 use Rattle.rdlpp_scan.specs.declared.token.Mode.{Mode}
 use Rattle.rdlpp_scan.specs.declared.token.Mode.TheVariants.{Plain, InStr, InBlock}
 use Rattle.rdlpp_scan.specs.Tokens.{string_token, block_token}
-use Rattle.rdlpp_scan.specs.Front.{Breach, PerlFound, StringOpen, CommentOpen, LineLong, SourceLong, Break, Front, front, front_of_lines, lines_of, onto_front}
-use Rattle.rdlpp_scan.specs.Resumed.{onto_tokens, with_part, line_with}
-use Rattle.rdlpp_scan.specs.SourceTokens.{SourceToken, Course, Step, Last, Next, Sort, Ordinary, Broken, broken, comment_step, line_after, line_ends, open_end, remaining_tokens, source_end, source_step, source_tokens, string_step}
+use Rattle.rdlpp_scan.specs.Front.{Breach, PerlFound, StringOpen, CommentOpen, Break, Front, front, front_of_lines, lines_of, onto_front}
+use Rattle.rdlpp_scan.specs.SourceTokens.{SourceToken, Course, Step, Last, Next, Ordinary, Broken, broken, comment_step, line_ends, open_end, remaining_tokens, source_end, source_step, source_tokens, string_step}
 use Rattle.rdlpp_scan.proofs.StopKinds.{string_token-kind, block_token-kind}
 use Rattle.rdlpp_scan.proofs.TokenSteps.{string_rest, comment_rest}
 use Rattle.rdlpp_scan.proofs.ResumedTokens.{after_step, tokens_step}

@@ -7,8 +7,9 @@ use rdlpp_source::Found;
 use std::alloc::{AllocError, Global};
 use std::test::Fail;
 
-// A call, with lines of at most 8 bytes: what it comes to, what is kept, and what is held behind it.
-struct Wanted<'a> {
+// A call, in lines of at most 12 bytes: what it comes to, what is kept, and what is held behind it.
+#[derive(Drop)]
+struct Expected<'a> {
     read: CallRead,
     kept: &'a [u8],
     held: &'a [u8],
@@ -21,9 +22,9 @@ fn comes_to<'a>(
     text: &'a [u8],
     fails: bool,
     argument_bytes: usize,
-    wanted: &Wanted,
+    wanted: &Expected,
 ) -> Result<bool, AllocError> {
-    let mut files: Files<ByteReader<'a>> = Files::new(alloc, 1, 8)?;
+    let mut files: Files<ByteReader<'a>> = Files::new(alloc, 1, 12)?;
     let mut store = ArgumentStore::new(alloc, argument_bytes)?;
     let mut sources = OneText {
         text,
@@ -49,11 +50,67 @@ fn comes_to<'a>(
     Ok(files.file().buffer.held() == wanted.held && (fill == Fill::Held) != wanted.held.is_empty())
 }
 
+fn wanted<'a>(read: CallRead, kept: &'a [u8], held: &'a [u8]) -> Expected<'a> {
+    Expected { read, kept, held }
+}
+
 #[test]
 fn reads_over_lines(rt: HostRuntime) -> Result<(), Fail> {
     let alloc = rt.alloc();
-    let closed = |kept, held| Wanted { read: CallRead::Closed, kept, held };
-    let lines = closed(b" a,\n[b)], \n\"c)\" ".as_slice(), b"tail\n".as_slice());
+    let lines = wanted(CallRead::Closed, b" a,\n[b)], \n\"c)\" ", b"tail\n");
     assert!(rt; comes_to(alloc, b"\n /* a */\n( a,\n[b)], // d\n\"c)\" )tail\n", false, 99, &lines)?);
+    let string = wanted(CallRead::Closed, b"\"a\nb)\n\"", b"x\n");
+    assert!(rt; comes_to(alloc, b"(\"a\nb)\n\")x\n", false, 99, &string)?);
+    let comment = wanted(CallRead::Closed, b"a/*)\n*/", b"\n");
+    assert!(rt; comes_to(alloc, b"/* (\n*/\n(a/*)\n*/)\n", false, 99, &comment)?);
+    let full_line = wanted(CallRead::Closed, b"\na", b"\n");
+    assert!(rt; comes_to(alloc, b"          (\na)\n", false, 99, &full_line)?);
+    Ok(())
+}
+
+#[test]
+fn refuses_what_is_missing(rt: HostRuntime) -> Result<(), Fail> {
+    let alloc = rt.alloc();
+    let missing = CallRead::Refused(FaultKind::ArgumentsMissing);
+    let open = CallRead::Refused(FaultKind::ArgumentsOpen);
+    assert!(rt; comes_to(alloc, b"", false, 9, &wanted(missing, b"", b""))?);
+    assert!(rt; comes_to(alloc, b" a\n", false, 9, &wanted(missing, b"", b"a\n"))?);
+    assert!(rt; comes_to(alloc, b"`undef b\n", false, 9, &wanted(missing, b"", b"`undef b\n"))?);
+    assert!(rt; comes_to(alloc, b"(a\n", false, 9, &wanted(open, b"a\n", b""))?);
+    assert!(rt; comes_to(alloc, b"(a `undef b\n", false, 9, &wanted(open, b"a ", b"`undef b\n"))?);
+    assert!(rt; comes_to(alloc, b"(a `else)\n", false, 9, &wanted(open, b"a ", b"`else)\n"))?);
+    Ok(())
+}
+
+#[test]
+fn refuses_too_many_bytes(rt: HostRuntime) -> Result<(), Fail> {
+    let alloc = rt.alloc();
+    let bytes = CallRead::Refused(FaultKind::ArgumentBytes);
+    assert!(rt; comes_to(alloc, b"(abc)\n", false, 3, &wanted(CallRead::Closed, b"abc", b"\n"))?);
+    assert!(rt; comes_to(alloc, b"(abcd)\n", false, 3, &wanted(bytes, b"", b"abcd)\n"))?);
+    assert!(rt; comes_to(alloc, b"(a//bcd\n)\n", false, 2, &wanted(CallRead::Closed, b"a\n", b"\n"))?);
+    assert!(rt; comes_to(alloc, b"(a/*b\n*/)\n", false, 5, &wanted(bytes, b"a/*b\n", b"*/)\n"))?);
+    assert!(rt; comes_to(alloc, b"(ab\"c<%\n", false, 3, &wanted(bytes, b"ab", b"\"c<%\n"))?);
+    Ok(())
+}
+
+#[test]
+fn breaks_at_a_broken_token(rt: HostRuntime) -> Result<(), Fail> {
+    let alloc = rt.alloc();
+    let perl = CallRead::Broken(FaultKind::EmbeddedPerl, 2);
+    let string = CallRead::Broken(FaultKind::OpenString, 2);
+    let comment = CallRead::Broken(FaultKind::OpenComment, 2);
+    let line = CallRead::Broken(FaultKind::LineTooLong, 2);
+    assert!(rt; comes_to(alloc, b"(\n<%\n", false, 9, &wanted(perl, b"\n", b"<%\n"))?);
+    assert!(rt; comes_to(alloc, b"(\n\"a\nb", false, 9, &wanted(string, b"\n\"a\nb", b""))?);
+    assert!(rt; comes_to(alloc, b"\n/* a\n", false, 9, &wanted(comment, b"", b""))?);
+    assert!(rt; comes_to(alloc, b"(\naaaaaaaaaaaa\n", false, 9, &wanted(line, b"\n", b""))?);
+    Ok(())
+}
+
+#[test]
+fn tells_a_failed_read(rt: HostRuntime) -> Result<(), Fail> {
+    let alloc = rt.alloc();
+    assert!(rt; comes_to(alloc, b"(a\n", true, 9, &wanted(CallRead::Failed, b"a\n", b""))?);
     Ok(())
 }
