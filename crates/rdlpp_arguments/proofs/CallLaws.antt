@@ -8,9 +8,7 @@ use Rattle.rdlpp_meaning.specs.CallReading.{Reading, ReadClosed, read}
 use Rattle.rdlpp_meaning.specs.CallScan.{Before}
 use Rattle.rdlpp_meaning.proofs.ReadCalls.{read_closed, read_refused, read_stopped}
 use Rattle.rdlpp_read.specs.Buffer.{BufferView, held_of, rest_of, tokens_left}
-use Rattle.rdlpp_read.specs.Files.{inner_buffer}
-use Rattle.rdlpp_read.specs.declared.files.File.{File}
-use Rattle.rdlpp_arguments.specs.CallReads.{IsCallOf, MeansCall, ReadsCall, TellsCall}
+use Rattle.rdlpp_arguments.specs.CallReads.{IsCallOf, MeansCall, TellsCall}
 use Rattle.rdlpp_arguments.specs.Reads.{all_built, is_open, reading}
 use Rattle.rdlpp_arguments.specs.declared.reading.CallRead.{CallRead}
 use Rattle.rdlpp_arguments.specs.declared.reading.CallRead.TheVariants.{Closed, Refused, Broken, Failed}

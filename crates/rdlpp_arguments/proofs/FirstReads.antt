@@ -1,18 +1,17 @@
 -- The first token of held bytes, or the part of it that is held, as a call reads it.
-use Rattle.std.proofs.Common.{◌≡◌, ◌≢◌, ◌⊎◌, ℕ, zero, suc, ◌+◌, ◌-◌, ◌≤◌, ◌<◌, Bool, true, false, cond, ◌&&◌, ◌==◌, eqb, List, [], ◌∷◌, ◌++◌, length, take, drop, get_or, slice_index, refl, sym, ap, ◌∙◌, subst, append_assoc, append-nil, inl, inr, arith}
-use Rattle.std.specs.Prelude.{nat_le, bytes_eq, codes}
-use Rattle.std.proofs.lemmas.Bool.{false≢true, eqb-true, cases_Bool}
-use Rattle.std.proofs.lemmas.List.{length-take-le, length-drop, length-append, take_all, drop_all}
+use Rattle.std.proofs.Common.{◌≡◌, ◌≢◌, ℕ, ◌+◌, ◌-◌, ◌≤◌, ◌<◌, Bool, true, false, ◌&&◌, ◌==◌, List, [], ◌∷◌, ◌++◌, length, take, drop, slice_index, refl, sym, ap, ◌∙◌, subst, append_assoc, append-nil, arith}
+use Rattle.std.specs.Prelude.{nat_le}
+use Rattle.std.proofs.lemmas.Bool.{false≢true, eqb-true}
+use Rattle.std.proofs.lemmas.List.{length-take-le, length-drop, take_all, drop_all}
 use Rattle.rdlpp_scan.specs.declared.token.Kind.{Kind}
-use Rattle.rdlpp_scan.specs.declared.token.Kind.TheVariants.{Str, BlockComment, LineComment, Back, Perl, BareBackquote}
+use Rattle.rdlpp_scan.specs.declared.token.Kind.TheVariants.{Str, BlockComment, Back}
 use Rattle.rdlpp_scan.specs.declared.token.Mode.{Mode}
 use Rattle.rdlpp_scan.specs.declared.token.Mode.TheVariants.{Plain, InStr, InBlock}
 use Rattle.rdlpp_scan.specs.declared.token.Token.{Token}
 use Rattle.rdlpp_scan.specs.Bytes.{begins_perl, begins_block_comment}
 use Rattle.rdlpp_scan.specs.Front.{Breach, PerlFound}
-use Rattle.rdlpp_scan.specs.Lines.{EndsLine}
 use Rattle.rdlpp_scan.specs.Resumed.{onto_tokens, opening, with_part, line_with}
-use Rattle.rdlpp_scan.specs.SourceTokens.{SourceToken, Sort, Ordinary, Broken, line_ends, remaining_tokens}
+use Rattle.rdlpp_scan.specs.SourceTokens.{SourceToken, Ordinary, Broken, line_ends, remaining_tokens}
 use Rattle.rdlpp_scan.specs.Tokens.{token_of, whole}
 use Rattle.rdlpp_scan.proofs.RemainingLaws.{remaining-opened}
 use Rattle.rdlpp_scan.proofs.RemainingSteps.{IsBuiltAt, remaining-closed, remaining-open_string, remaining-open_comment, remaining-cut_string}
@@ -23,11 +22,10 @@ use Rattle.rdlpp_calls.proofs.FirstTokens.{front_byte}
 use Rattle.rdlpp_scan.proofs.StopKinds.{block_token-kind, Row, AtPerl, AtLineComment, AtBlockComment, AtString, AtBack, AtBare, AtPlain, token_of-row}
 use Rattle.rdlpp_scan.proofs.TokenLens.{token_of-part}
 use Rattle.rdlpp_scan.proofs.TokenSteps.{is_kept_kind}
-use Rattle.rdlpp_meaning.specs.declared.fault.FaultKind.TheVariants.{ArgumentsMissing, ArgumentBytes}
-use Rattle.rdlpp_meaning.specs.State.{breach_kind}
-use Rattle.rdlpp_meaning.specs.Actuals.{Role, Remark, Text, kind_role, kept_size, level_behind, token_role, broken_role}
-use Rattle.rdlpp_meaning.specs.CallReading.{Reading, ReadRefused, ReadStopped, ReadClosed, is_part_breach, is_part_sort, onto_kept, part_kept, read, read_by, rest_role, role_in}
-use Rattle.rdlpp_meaning.specs.CallScan.{Stand, Before, Inside, Keeps, Passes, turn, turn_before, turn_inside, turn_fitting, stand_behind, stand_behind_lead, room_behind, source_role}
+use Rattle.rdlpp_meaning.specs.declared.fault.FaultKind.TheVariants.{ArgumentsMissing}
+use Rattle.rdlpp_meaning.specs.Actuals.{Role, Remark, Text, kind_role, kept_size, level_behind, token_role}
+use Rattle.rdlpp_meaning.specs.CallReading.{Reading, ReadRefused, is_part_sort, part_kept, read, read_by, rest_role, role_in}
+use Rattle.rdlpp_meaning.specs.CallScan.{Stand, Before, Inside, Keeps, turn, turn_before, turn_inside, turn_fitting, stand_behind, stand_behind_lead, room_behind, source_role}
 use Rattle.rdlpp_meaning.specs.Expansion.{bytes_of}
 use Rattle.rdlpp_meaning.specs.Parts.{directive_of}
 use Rattle.rdlpp_meaning.proofs.CallReadings.{part_inside, comment_part_before, open_comment_before, string_before, open_string_before}

@@ -1,32 +1,27 @@
 -- Reading a call goes on over bytes that are used, token by token and over refills.
-use Rattle.std.proofs.Common.{◌≡◌, ◌≢◌, ℕ, ◌+◌, ◌-◌, ◌≤◌, ◌<◌, Bool, true, false, not, List, [], ◌∷◌, ◌++◌, length, take, drop, None, Some, refl, sym, ap, ◌∙◌, subst, append_assoc, inl, inr, arith}
+use Rattle.std.proofs.Common.{◌≡◌, ℕ, ◌+◌, ◌-◌, ◌≤◌, ◌<◌, Bool, not, List, [], ◌∷◌, ◌++◌, length, take, drop, refl, sym, ap, ◌∙◌, append_assoc, inl, inr, arith}
 use Rattle.std.proofs.lemmas.List.{drop-drop, length-append, length-drop, length-take, length-take-le}
 use Rattle.rdlpp_scan.specs.Bytes.{is_line_end}
 use Rattle.rdlpp_scan.specs.declared.token.Mode.{Mode}
-use Rattle.rdlpp_scan.specs.declared.token.Mode.TheVariants.{Plain, InStr, InBlock}
-use Rattle.rdlpp_scan.specs.Front.{Breach, StringOpen, CommentOpen, LineLong, SourceLong}
+use Rattle.rdlpp_scan.specs.declared.token.Mode.TheVariants.{Plain}
 use Rattle.rdlpp_scan.specs.Lines.{EndsLine}
-use Rattle.rdlpp_scan.specs.SourceTokens.{SourceToken, Broken, line_ends}
+use Rattle.rdlpp_scan.specs.SourceTokens.{line_ends}
 use Rattle.rdlpp_meaning.specs.declared.fault.FaultKind.{FaultKind}
-use Rattle.rdlpp_meaning.specs.State.{breach_kind}
-use Rattle.rdlpp_meaning.specs.CallReading.{Reading, ReadRefused, ReadStopped, ReadClosed, is_part_breach, onto_kept, read}
-use Rattle.rdlpp_meaning.specs.CallScan.{Before, Stand, fault_at_end}
+use Rattle.rdlpp_meaning.specs.CallReading.{ReadRefused, ReadStopped, ReadClosed, onto_kept, read}
+use Rattle.rdlpp_meaning.specs.CallScan.{Stand}
 use Rattle.rdlpp_meaning.specs.Expansion.{bytes_of}
 use Rattle.rdlpp_meaning.specs.Parts.{only_blanks}
 use Rattle.rdlpp_meaning.proofs.CallReadings.{onto_kept-append, onto_kept-nil}
 use Rattle.rdlpp_meaning.proofs.TokenWrites.{only_blanks-append}
-use Rattle.rdlpp_read.specs.Buffer.{BufferView, EndsHeld, IsBuffer, ahead_of, entered_mode, held_of, rest_of, tokens_left, unread_of, unused_of}
+use Rattle.rdlpp_read.specs.Buffer.{BufferView, EndsHeld, ahead_of, entered_mode, held_of, rest_of, tokens_left, unread_of, unused_of}
 use Rattle.rdlpp_read.specs.Files.{FilesView, consumed_file, inner_buffer, torn_after, with_buffer, with_inner}
-use Rattle.rdlpp_read.specs.Filling.{Fills, ended_tokens, only_broken}
-use Rattle.rdlpp_read.specs.declared.buffer.filling.Fill.TheVariants.{Held, End, SourceLong as SourceFill, LineLong as LineFill, Failed as FailedFill}
 use Rattle.rdlpp_read.specs.declared.files.File.{File}
-use Rattle.rdlpp_arguments.specs.CallReads.{IsEndOfText, Pauses, ReadsCall, TellsCall, used_buffer, with_used}
+use Rattle.rdlpp_arguments.specs.CallReads.{TellsCall, used_buffer, with_used}
 use Rattle.rdlpp_arguments.specs.Reads.{Closes, GoesOn, SparesCalls, all_built, is_open, reading}
-use Rattle.rdlpp_arguments.specs.Taking.{Around, IsAround, IsClose, IsTaking, IsUse, kept_of, level_in, stand_meant, tokens_at, tokens_behind}
+use Rattle.rdlpp_arguments.specs.Taking.{Around, IsAround, IsClose, IsUse, kept_of, stand_meant, tokens_at, tokens_behind}
 use Rattle.rdlpp_arguments.specs.declared.reading.CallRead.{CallRead}
 use Rattle.rdlpp_arguments.specs.declared.reading.CallRead.TheVariants.{Closed, Refused, Broken as BrokenCall, Failed}
 use Rattle.rdlpp_arguments.specs.declared.taking.Use.{Use}
-use Rattle.rdlpp_arguments.proofs.Halts.{broken_reads}
 
 -- what the held bytes of a source stand in
 abbrev around_of : {R : Type 0} → (List ℕ → Bool) → (R → List ℕ) → BufferView R → Around

@@ -1,10 +1,9 @@
 -- Where a call is halted by a directive or broken, and where a backquoted name is read like any other token.
-use Rattle.std.proofs.Common.{◌≡◌, ℕ, suc, ◌+◌, ◌-◌, ◌<◌, ◌≤◌, Bool, true, false, cond, ◌&&◌, ◌||◌, ◌==◌, List, [], ◌∷◌, ◌++◌, length, take, drop, slice_index, Option, None, Some, refl, sym, ap, ◌∙◌, subst, arith}
+use Rattle.std.proofs.Common.{◌≡◌, ℕ, suc, ◌+◌, ◌-◌, ◌<◌, Bool, true, false, cond, ◌||◌, List, [], ◌∷◌, ◌++◌, length, take, drop, slice_index, Option, None, Some, refl, sym, ap, ◌∙◌, subst, arith}
 use Rattle.std.specs.Prelude.{nat_le, nat_lt, bytes_eq, codes, is_some}
-use Rattle.std.specs.List.{list_any}
 use Rattle.std.proofs.lemmas.Bool.{false≢true, eqb-true, le-leb, cond_both, or_parts}
 use Rattle.std.proofs.lemmas.List.{length-append, length-take-le}
-use Rattle.rdlpp_scan.specs.declared.token.Kind.TheVariants.{Back, Perl, Str, BlockComment}
+use Rattle.rdlpp_scan.specs.declared.token.Kind.TheVariants.{Back, Perl}
 use Rattle.rdlpp_scan.specs.declared.token.Directive.{Directive}
 use Rattle.rdlpp_scan.specs.declared.token.Directive.TheVariants.{Undef, Ifdef, Ifndef, Elsif, Else, Endif, Include}
 use Rattle.rdlpp_scan.specs.declared.token.Mode.{Mode}
@@ -12,11 +11,10 @@ use Rattle.rdlpp_scan.specs.declared.token.Mode.TheVariants.{Plain, InStr, InBlo
 use Rattle.rdlpp_scan.specs.declared.token.Token.{Token}
 use Rattle.rdlpp_scan.specs.Bytes.{begins_perl}
 use Rattle.rdlpp_scan.specs.Front.{Breach, PerlFound, DefineLong, DefineCut, Break, front}
-use Rattle.rdlpp_scan.specs.Lines.{EndsLine}
 use Rattle.rdlpp_scan.specs.Ordinary.{is_plain_kind}
-use Rattle.rdlpp_scan.specs.SourceTokens.{SourceToken, Course, Step, Last, Next, Ordinary, Broken, Definition, Renumbering, broken, define_step, line_step, logical_len, line_ends, remaining_tokens, source_tokens, source_step}
+use Rattle.rdlpp_scan.specs.SourceTokens.{SourceToken, Course, Step, Last, Next, Ordinary, Broken, Definition, broken, define_step, line_step, logical_len, line_ends, remaining_tokens, source_tokens, source_step}
 use Rattle.rdlpp_scan.specs.Stage.{is_reserved, reserved_names}
-use Rattle.rdlpp_scan.specs.Tokens.{token_of, whole, string_token, block_token}
+use Rattle.rdlpp_scan.specs.Tokens.{token_of, whole, string_token}
 use Rattle.rdlpp_scan.proofs.RemainingLaws.{behind, course, remaining-perl}
 use Rattle.rdlpp_scan.proofs.RemainingSteps.{IsBuiltAt}
 use Rattle.rdlpp_scan.proofs.ResumedTokens.{after_step, tokens_step, remaining-perl_in_string}
@@ -26,7 +24,7 @@ use Rattle.rdlpp_scan.proofs.TokenLens.{token_of-part}
 use Rattle.rdlpp_meaning.specs.declared.fault.FaultKind.TheVariants.{EmbeddedPerl}
 use Rattle.rdlpp_meaning.specs.State.{breach_kind}
 use Rattle.rdlpp_meaning.specs.Actuals.{Role, Halt, Text, broken_role, kind_role, token_role}
-use Rattle.rdlpp_meaning.specs.CallReading.{Reading, ReadRefused, ReadStopped, is_part_breach, read, read_by, rest_role, role_in}
+use Rattle.rdlpp_meaning.specs.CallReading.{ReadRefused, ReadStopped, is_part_breach, read, read_by, rest_role, role_in}
 use Rattle.rdlpp_meaning.specs.CallScan.{Stand, Before, Inside, fault_at_end, room_behind, source_role, stand_behind, turn, turn_before, turn_fitting, turn_inside}
 use Rattle.rdlpp_meaning.specs.Expansion.{usage_token}
 use Rattle.rdlpp_meaning.specs.Parts.{directive_named, directive_of}

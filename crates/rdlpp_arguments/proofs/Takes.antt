@@ -1,6 +1,6 @@
 -- What is done with the first token of held bytes is what reading the call comes to there.
-use Rattle.std.proofs.Common.{◌≡◌, ◌≢◌, ℕ, zero, suc, ◌+◌, ◌-◌, ◌≤◌, ◌<◌, Bool, true, false, cond, ◌==◌, List, [], ◌∷◌, ◌++◌, length, take, drop, slice_index, refl, sym, ap, ◌∙◌, subst, inl, inr, ⊎_elim, arith}
-use Rattle.std.specs.Prelude.{nat_le, if◌then◌else◌}
+use Rattle.std.proofs.Common.{◌≡◌, ◌≢◌, ℕ, ◌-◌, ◌≤◌, ◌<◌, Bool, true, false, cond, ◌==◌, List, [], ◌∷◌, ◌++◌, length, take, drop, slice_index, refl, sym, ap, ◌∙◌, subst, inl, ⊎_elim, arith}
+use Rattle.std.specs.Prelude.{nat_le}
 use Rattle.std.proofs.lemmas.Bool.{false≢true, cases_Bool, cond_both}
 use Rattle.std.proofs.lemmas.List.{length-take-le}
 use Rattle.rdlpp_scan.specs.declared.token.Kind.{Kind}
@@ -8,7 +8,6 @@ use Rattle.rdlpp_scan.specs.declared.token.Kind.TheVariants.{Str, LineComment, B
 use Rattle.rdlpp_scan.specs.declared.token.Mode.{Mode}
 use Rattle.rdlpp_scan.specs.declared.token.Mode.TheVariants.{Plain, InStr, InBlock}
 use Rattle.rdlpp_scan.specs.declared.token.Token.{Token}
-use Rattle.rdlpp_scan.specs.Lines.{EndsLine}
 use Rattle.rdlpp_scan.specs.Ordinary.{is_plain_kind}
 use Rattle.rdlpp_scan.specs.SourceTokens.{SourceToken}
 use Rattle.rdlpp_scan.specs.Stage.{is_reserved, is_unbuilt}
@@ -26,7 +25,7 @@ use Rattle.rdlpp_scan.proofs.TokenLens.{token_of-part}
 use Rattle.rdlpp_scan.proofs.TokenSteps.{is_kept_kind}
 use Rattle.rdlpp_meaning.specs.declared.fault.FaultKind.{FaultKind}
 use Rattle.rdlpp_meaning.specs.Actuals.{Role, Space, Remark, Start, Dropped, Halt, End, Stops, Text, kind_role}
-use Rattle.rdlpp_meaning.specs.CallReading.{Reading, ReadRefused, ReadStopped, ReadClosed, onto_kept, read, read_by}
+use Rattle.rdlpp_meaning.specs.CallReading.{Reading, ReadRefused, ReadClosed, onto_kept, read, read_by}
 use Rattle.rdlpp_meaning.specs.CallScan.{Stand, Before, Inside, Turn, Keeps, Passes, Closes, Refuses, turn, turn_before, turn_fitting, turn_inside, fault_at_end, stand_behind, stand_behind_lead, room_behind}
 use Rattle.rdlpp_meaning.specs.Expansion.{bytes_of}
 use Rattle.rdlpp_meaning.proofs.CallReadings.{onto_kept-nil}

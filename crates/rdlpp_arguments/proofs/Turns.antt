@@ -1,18 +1,17 @@
 -- What is answered at a token behind the `(`, by its role.
-use Rattle.std.proofs.Common.{◌≡◌, ◌≢◌, ℕ, zero, suc, ◌+◌, ◌-◌, ◌≤◌, ◌<◌, Bool, true, false, refl, sym, ap, ◌∙◌, arith}
+use Rattle.std.proofs.Common.{◌≡◌, ◌≢◌, ℕ, zero, suc, ◌+◌, ◌-◌, ◌≤◌, ◌<◌, Bool, true, false, refl, ap, ◌∙◌, arith}
 use Rattle.std.specs.Prelude.{nat_le}
 use Rattle.std.proofs.lemmas.Bool.{le-leb, lt-leb}
 use Rattle.rdlpp_scan.specs.declared.token.Token.{Token}
 use Rattle.rdlpp_meaning.specs.declared.fault.FaultKind.TheVariants.{ArgumentBytes}
 use Rattle.rdlpp_meaning.specs.Actuals.{Role, kept_size, level_behind}
 use Rattle.rdlpp_meaning.specs.Actuals as role
-use Rattle.rdlpp_meaning.specs.CallScan.{Before, Inside, Closes, Keeps, Passes, Refuses, turn, turn_fitting, turn_inside, stand_behind, room_behind}
+use Rattle.rdlpp_meaning.specs.CallScan.{Inside, Closes, Keeps, Refuses, turn, turn_fitting, turn_inside, stand_behind, room_behind}
 use Rattle.rdlpp_calls.specs.CallParts.{ends_call}
 use Rattle.rdlpp_calls.specs.CallTokens.{role_meant}
 use Rattle.rdlpp_calls.specs.declared.tokens.CallRole.{CallRole}
 use Rattle.rdlpp_calls.specs.declared.tokens.CallRole.TheVariants.{LineComment, End}
-use Rattle.rdlpp_arguments.specs.Taking.{IsKeptAt, IsStep, kept_len, level_in, stand_meant}
-use Rattle.rdlpp_arguments.specs.declared.taking.Use.{Use}
+use Rattle.rdlpp_arguments.specs.Taking.{IsKeptAt, IsStep, level_in, stand_meant}
 use Rattle.rdlpp_arguments.specs.declared.taking.Stand.TheVariants.{Inside as InsideCall}
 
 -- the `)` of a call

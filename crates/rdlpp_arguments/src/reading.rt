@@ -62,7 +62,11 @@ fn kept_part(token: Use, held: &[u8]) -> &[u8]
     requires { token.len ≤ length held.now }
     ensures { result.now ≡ kept_of token.is_kept (take token.len held.now) }
 {
-    if token.is_kept { &held[..token.len] } else { &[] }
+    if token.is_kept {
+        &held[..token.len]
+    } else {
+        &[]
+    }
 }
 
 // Takes one token of a call, or the part of it that is held.

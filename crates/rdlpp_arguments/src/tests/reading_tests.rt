@@ -7,24 +7,24 @@ use rdlpp_source::Found;
 use std::alloc::{AllocError, Global};
 use std::test::Fail;
 
-// A call, in lines of at most 12 bytes: what it comes to, what is kept, and what is held behind it.
-#[derive(Drop)]
-struct Expected<'a> {
-    read: CallRead,
-    kept: &'a [u8],
-    held: &'a [u8],
+// Whether bytes are the same.
+fn is_same(left: &[u8], right: &[u8]) -> bool {
+    left == right
 }
 
-// Whether reading the call at the front of a text comes to what is wanted.
+// Whether reading the call at the front of a text, in lines of at most 12 bytes, comes to an answer,
+// with kept bytes, and with held bytes behind it.
 #[tactic(auto, unfolding(rdlpp_read::specs::Buffer::opened_buffer))]
-fn comes_to<'a>(
+fn comes_to(
     alloc: Global,
-    text: &'a [u8],
+    text: &[u8],
     fails: bool,
     argument_bytes: usize,
-    wanted: &Expected,
+    wanted: CallRead,
+    kept: &[u8],
+    behind: &[u8],
 ) -> Result<bool, AllocError> {
-    let mut files: Files<ByteReader<'a>> = Files::new(alloc, 1, 12)?;
+    let mut files: Files<ByteReader> = Files::new(alloc, 1, 12)?;
     let mut store = ArgumentStore::new(alloc, argument_bytes)?;
     let mut sources = OneText {
         text,
@@ -40,31 +40,65 @@ fn comes_to<'a>(
     let reader = ByteReader { left: text };
     files.enter(Found { path, reader }, 100, 0, 0);
     let read = read_call(&mut files, &mut sources, &mut store);
-    if files.len() == 0 || read != wanted.read || store.bytes() != wanted.kept {
+    if files.len() == 0 {
         return Ok(false);
     }
     let fill = files.fill(&mut sources);
     if files.len() == 0 {
         return Ok(false);
     }
-    Ok(files.file().buffer.held() == wanted.held && (fill == Fill::Held) != wanted.held.is_empty())
-}
-
-fn wanted<'a>(read: CallRead, kept: &'a [u8], held: &'a [u8]) -> Expected<'a> {
-    Expected { read, kept, held }
+    let is_read = read == wanted && is_same(store.bytes(), kept);
+    let is_behind = is_same(files.file().buffer.held(), behind);
+    Ok(is_read && is_behind && (fill == Fill::Held) != behind.is_empty())
 }
 
 #[test]
 fn reads_over_lines(rt: HostRuntime) -> Result<(), Fail> {
     let alloc = rt.alloc();
-    let lines = wanted(CallRead::Closed, b" a,\n[b)], \n\"c)\" ", b"tail\n");
-    assert!(rt; comes_to(alloc, b"\n /* a */\n( a,\n[b)], // d\n\"c)\" )tail\n", false, 99, &lines)?);
-    let string = wanted(CallRead::Closed, b"\"a\nb)\n\"", b"x\n");
-    assert!(rt; comes_to(alloc, b"(\"a\nb)\n\")x\n", false, 99, &string)?);
-    let comment = wanted(CallRead::Closed, b"a/*)\n*/", b"\n");
-    assert!(rt; comes_to(alloc, b"/* (\n*/\n(a/*)\n*/)\n", false, 99, &comment)?);
-    let full_line = wanted(CallRead::Closed, b"\na", b"\n");
-    assert!(rt; comes_to(alloc, b"          (\na)\n", false, 99, &full_line)?);
+    assert!(rt;
+        comes_to(
+            alloc,
+            b"\n /* a */\n( a,\n[b)], // d\n\"c)\" )tail\n",
+            false,
+            99,
+            CallRead::Closed,
+            b" a,\n[b)], \n\"c)\" ",
+            b"tail\n"
+        )?
+    );
+    assert!(rt;
+        comes_to(
+            alloc,
+            b"(\"a\nb)\n\")x\n",
+            false,
+            99,
+            CallRead::Closed,
+            b"\"a\nb)\n\"",
+            b"x\n"
+        )?
+    );
+    assert!(rt;
+        comes_to(
+            alloc,
+            b"/* (\n*/\n(a/*)\n*/)\n",
+            false,
+            99,
+            CallRead::Closed,
+            b"a/*)\n*/",
+            b"\n"
+        )?
+    );
+    assert!(rt;
+        comes_to(
+            alloc,
+            b"          (\na)\n",
+            false,
+            99,
+            CallRead::Closed,
+            b"\na",
+            b"\n"
+        )?
+    );
     Ok(())
 }
 
@@ -73,12 +107,22 @@ fn refuses_what_is_missing(rt: HostRuntime) -> Result<(), Fail> {
     let alloc = rt.alloc();
     let missing = CallRead::Refused(FaultKind::ArgumentsMissing);
     let open = CallRead::Refused(FaultKind::ArgumentsOpen);
-    assert!(rt; comes_to(alloc, b"", false, 9, &wanted(missing, b"", b""))?);
-    assert!(rt; comes_to(alloc, b" a\n", false, 9, &wanted(missing, b"", b"a\n"))?);
-    assert!(rt; comes_to(alloc, b"`undef b\n", false, 9, &wanted(missing, b"", b"`undef b\n"))?);
-    assert!(rt; comes_to(alloc, b"(a\n", false, 9, &wanted(open, b"a\n", b""))?);
-    assert!(rt; comes_to(alloc, b"(a `undef b\n", false, 9, &wanted(open, b"a ", b"`undef b\n"))?);
-    assert!(rt; comes_to(alloc, b"(a `else)\n", false, 9, &wanted(open, b"a ", b"`else)\n"))?);
+    assert!(rt; comes_to(alloc, b"", false, 9, missing, b"", b"")?);
+    assert!(rt; comes_to(alloc, b" a\n", false, 9, missing, b"", b"a\n")?);
+    assert!(rt; comes_to(alloc, b"`undef b\n", false, 9, missing, b"", b"`undef b\n")?);
+    assert!(rt; comes_to(alloc, b"(a\n", false, 9, open, b"a\n", b"")?);
+    assert!(rt;
+        comes_to(
+            alloc,
+            b"(a `undef b\n",
+            false,
+            9,
+            open,
+            b"a ",
+            b"`undef b\n"
+        )?
+    );
+    assert!(rt; comes_to(alloc, b"(a `else)\n", false, 9, open, b"a ", b"`else)\n")?);
     Ok(())
 }
 
@@ -86,11 +130,21 @@ fn refuses_what_is_missing(rt: HostRuntime) -> Result<(), Fail> {
 fn refuses_too_many_bytes(rt: HostRuntime) -> Result<(), Fail> {
     let alloc = rt.alloc();
     let bytes = CallRead::Refused(FaultKind::ArgumentBytes);
-    assert!(rt; comes_to(alloc, b"(abc)\n", false, 3, &wanted(CallRead::Closed, b"abc", b"\n"))?);
-    assert!(rt; comes_to(alloc, b"(abcd)\n", false, 3, &wanted(bytes, b"", b"abcd)\n"))?);
-    assert!(rt; comes_to(alloc, b"(a//bcd\n)\n", false, 2, &wanted(CallRead::Closed, b"a\n", b"\n"))?);
-    assert!(rt; comes_to(alloc, b"(a/*b\n*/)\n", false, 5, &wanted(bytes, b"a/*b\n", b"*/)\n"))?);
-    assert!(rt; comes_to(alloc, b"(ab\"c<%\n", false, 3, &wanted(bytes, b"ab", b"\"c<%\n"))?);
+    assert!(rt; comes_to(alloc, b"(abc)\n", false, 3, CallRead::Closed, b"abc", b"\n")?);
+    assert!(rt; comes_to(alloc, b"(abcd)\n", false, 3, bytes, b"", b"abcd)\n")?);
+    assert!(rt;
+        comes_to(
+            alloc,
+            b"(a//bcd\n)\n",
+            false,
+            2,
+            CallRead::Closed,
+            b"a\n",
+            b"\n"
+        )?
+    );
+    assert!(rt; comes_to(alloc, b"(a/*b\n*/)\n", false, 5, bytes, b"a/*b\n", b"*/)\n")?);
+    assert!(rt; comes_to(alloc, b"(ab\"c<%\n", false, 3, bytes, b"ab", b"\"c<%\n")?);
     Ok(())
 }
 
@@ -101,16 +155,16 @@ fn breaks_at_a_broken_token(rt: HostRuntime) -> Result<(), Fail> {
     let string = CallRead::Broken(FaultKind::OpenString, 2);
     let comment = CallRead::Broken(FaultKind::OpenComment, 2);
     let line = CallRead::Broken(FaultKind::LineTooLong, 2);
-    assert!(rt; comes_to(alloc, b"(\n<%\n", false, 9, &wanted(perl, b"\n", b"<%\n"))?);
-    assert!(rt; comes_to(alloc, b"(\n\"a\nb", false, 9, &wanted(string, b"\n\"a\nb", b""))?);
-    assert!(rt; comes_to(alloc, b"\n/* a\n", false, 9, &wanted(comment, b"", b""))?);
-    assert!(rt; comes_to(alloc, b"(\naaaaaaaaaaaa\n", false, 9, &wanted(line, b"\n", b""))?);
+    assert!(rt; comes_to(alloc, b"(\n<%\n", false, 9, perl, b"\n", b"<%\n")?);
+    assert!(rt; comes_to(alloc, b"(\n\"a\nb", false, 9, string, b"\n\"a\nb", b"")?);
+    assert!(rt; comes_to(alloc, b"\n/* a\n", false, 9, comment, b"", b"")?);
+    assert!(rt; comes_to(alloc, b"(\naaaaaaaaaaaaaaaa\n", false, 9, line, b"\n", b"")?);
     Ok(())
 }
 
 #[test]
 fn tells_a_failed_read(rt: HostRuntime) -> Result<(), Fail> {
     let alloc = rt.alloc();
-    assert!(rt; comes_to(alloc, b"(a\n", true, 9, &wanted(CallRead::Failed, b"a\n", b""))?);
+    assert!(rt; comes_to(alloc, b"(a\n", true, 9, CallRead::Failed, b"a\n", b"")?);
     Ok(())
 }

@@ -1,4 +1,4 @@
-use Rattle.std.proofs.Common.{◌≡◌, ◌-◌, true, false, length, refl, sym, ap, ◌∙◌, subst, arith}
+use Rattle.std.proofs.Common.{◌≡◌, ◌-◌, true, false, length, refl, sym, ap, ◌∙◌, subst}
 use Rattle.rdlpp_scan.specs.Front.{SourceLong, LineLong}
 use Rattle.rdlpp_meaning.specs.CallReading.{is_part_breach}
 use Rattle.rdlpp_meaning.specs.State.{breach_kind}

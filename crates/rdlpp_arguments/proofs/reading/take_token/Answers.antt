@@ -1,6 +1,5 @@
-use Rattle.std.proofs.Common.{◌≡◌, sym, ap, ◌∙◌, subst, arith}
+use Rattle.std.proofs.Common.{ap, ◌∙◌, subst, arith}
 use Rattle.rdlpp_read.specs.Buffer.{EndsHeld, held_of}
-use Rattle.rdlpp_read.specs.Files.{inner_buffer}
 use Rattle.rdlpp_arguments.specs.Taking.{stand_meant}
 use Rattle.rdlpp_arguments.proofs.CallLoop.{token_closed, token_perl, token_refused, token_used}
 use Rattle.rdlpp_arguments.proofs.reading.take_token.Goals as goal

@@ -1,4 +1,4 @@
-use Rattle.std.proofs.Common.{◌≡◌, sym, ap, ◌∙◌, subst, arith}
+use Rattle.std.proofs.Common.{sym, ◌∙◌}
 use Rattle.std.specs.Prelude.{nat_le}
 use Rattle.rdlpp_calls.specs.CallTokens.{role_meant}
 use Rattle.rdlpp_arguments.proofs.Turns.{closing, comment_step, kept_at}

@@ -1,4 +1,3 @@
-use Rattle.std.proofs.Common.{arith}
 use Rattle.rdlpp_arguments.proofs.Turns.{keeps_step, passes_room}
 use Rattle.rdlpp_calls.specs.CallTokens.{role_meant}
 use Rattle.rdlpp_arguments.proofs.taking.kept_taking.Goals as goal
