@@ -16,11 +16,11 @@ use Rattle.rdlpp_scan.specs.Bytes.{begins_perl}
 use Rattle.rdlpp_scan.specs.Tokens.{token_of, whole, string_token}
 use Rattle.rdlpp_scan.proofs.StopKinds.{string_token-kind, block_token-kind}
 use Rattle.rdlpp_scan.proofs.ClosedKinds.{closed_kind_plain, one_byte_len}
-use Rattle.rdlpp_scan.proofs.FirstTokens.{plain_kind-built}
+use Rattle.rdlpp_scan.proofs.FirstTokens.{plain_kind-no_directive}
 use Rattle.rdlpp_scan.proofs.Locality.{is_unbuilt-append}
 use Rattle.rdlpp_scan.proofs.RemainingSteps.{IsBuiltAt}
 use Rattle.rdlpp_scan.proofs.Seams.{Seam, Closed, BeforePerl, OpenString, OpenComment, token_of-seam}
-use Rattle.rdlpp_scan.proofs.StageLaws.{is_unbuilt-string, is_unbuilt-line_comment, is_unbuilt-block_comment, is_unbuilt-perl, is_unbuilt-bare, is_unbuilt-back}
+use Rattle.rdlpp_scan.proofs.StageLaws.{built_without_directive, directive-string, directive-line_comment, directive-block_comment, directive-perl, directive-bare, directive-back}
 use Rattle.rdlpp_scan.proofs.TokenLens.{token_of-part}
 use Rattle.rdlpp_scan.proofs.TokenSteps.{is_kept_kind}
 use Rattle.rdlpp_meaning.specs.declared.fault.FaultKind.{FaultKind}
@@ -48,13 +48,13 @@ built_at u m held spares some built plain more ends =
 -- a token of a kind that stands in the list as it is, is built
 kind_built_by : (k : Kind) (bs : List ℕ) → (token_of Plain bs).kind ≡ k → is_kept_kind k ≡ true → is_unbuilt bs ≡ false
 unfolding is_kept_kind is_plain_kind
-kind_built_by Str bs e h = is_unbuilt-string bs e
-kind_built_by LineComment bs e h = is_unbuilt-line_comment bs e
-kind_built_by BlockComment bs e h = is_unbuilt-block_comment bs e
-kind_built_by BareBackquote bs e h = is_unbuilt-bare bs e
+kind_built_by Str bs e h = built_without_directive bs (directive-string bs e)
+kind_built_by LineComment bs e h = built_without_directive bs (directive-line_comment bs e)
+kind_built_by BlockComment bs e h = built_without_directive bs (directive-block_comment bs e)
+kind_built_by BareBackquote bs e h = built_without_directive bs (directive-bare bs e)
 kind_built_by Back bs e h = absurd (false≢true h)
 kind_built_by Perl bs e h = absurd (false≢true h)
-kind_built_by k bs e h = plain_kind-built bs (ap is_plain_kind e)
+kind_built_by k bs e h = built_without_directive bs (plain_kind-no_directive bs (ap is_plain_kind e))
 
 kind_built : (m : Mode) (bs : List ℕ) → is_kept_kind (token_of m bs).kind ≡ true → m ≡ Plain → is_unbuilt bs ≡ false
 kind_built Plain bs h is = kind_built_by (token_of Plain bs).kind bs refl h
@@ -62,7 +62,7 @@ kind_built InStr bs h is = absurd (cc)
 kind_built InBlock bs h is = absurd (cc)
 
 perl_built : (m : Mode) (bs : List ℕ) → (token_of m bs).kind ≡ Perl → m ≡ Plain → is_unbuilt bs ≡ false
-perl_built Plain bs h is = is_unbuilt-perl bs h
+perl_built Plain bs h is = built_without_directive bs (directive-perl bs h)
 perl_built InStr bs h is = absurd (cc)
 perl_built InBlock bs h is = absurd (cc)
 
@@ -225,7 +225,7 @@ name_taken at room held t x some is back free answer =
     let kind : v.kind ≡ Back = ap (λ (w : Token). w.kind) (sym is) ∙ back in
     let name : is_reserved (take (v.len - 1) (drop 1 held)) ≡ false = ap (λ (w : Token). is_reserved (take (w.len - 1) (drop 1 held))) (sym is) ∙ free in
     let closed : v.next_mode ≡ Plain = closed_kind_plain Plain held (ap opens_mode kind) in
-    let built : is_unbuilt held ≡ false = is_unbuilt-back held kind ∙ rw name refl in
+    let built : is_unbuilt held ≡ false = built_without_directive held (directive-back held kind ∙ name) in
     taken_by at Plain room held v Text x part.not_empty part.inside
     (λ before b turns open_. (let no : Plain ≡ InStr = sym closed ∙ open_ in cc))
     (λ e. absurd (cc))

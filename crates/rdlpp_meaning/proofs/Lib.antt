@@ -75,3 +75,4 @@ pub mod ReadCalls
 pub mod OpenScopes
 pub mod OpenMoves
 pub mod RestTokens
+pub mod TableTexts
