@@ -5,7 +5,7 @@ ghost use Rattle.rdlpp_meaning.specs.Parts.{only_blanks};
 
 // Whether a byte is a space, tab, CR, VT or FF.
 #[tactic(auto, unfolding(rdlpp_scan::specs::Bytes::is_blank))]
-fn is_blank(b: u8) -> bool
+pub(crate) fn is_blank(b: u8) -> bool
     ensures { result ≡ is_blank b }
 {
     b == b' ' || b == b'\t' || b == b'\r' || b == 0x0b || b == 0x0c
