@@ -2,8 +2,10 @@
 #![tactic(auto)]
 
 mod conditions;
+mod skipped_text;
 
 pub use conditions::{Branch, Conditions};
+pub use skipped_text::{SkippedText, skip_text};
 
 #[cfg(test)]
 mod tests;
