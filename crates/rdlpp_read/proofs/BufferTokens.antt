@@ -1,5 +1,5 @@
 -- The tokens that remain of an open source, as lines are read, accepted and used.
-use Rattle.std.proofs.Common.{◌≡◌, ℕ, ◌+◌, ◌-◌, ◌≤◌, ◌<◌, Bool, List, [], ◌++◌, length, take, drop, None, Some, refl, sym, ap, subst, ◌∙◌, arith, inl, inr}
+use Rattle.std.proofs.Common.{◌≡◌, ℕ, ◌+◌, ◌-◌, ◌≤◌, ◌<◌, Bool, List, [], ◌++◌, length, take, drop, None, Some, refl, sym, ap, subst, ◌∙◌, append_assoc, arith, inl, inr}
 use Rattle.std.proofs.lemmas.List.{drop-drop, drop-take, length-append, length-drop, length-take-le}
 use Rattle.rdlpp_scan.specs.declared.token.Mode.{Mode}
 use Rattle.rdlpp_scan.specs.declared.token.Mode.TheVariants.{Plain, InStr, InBlock}
@@ -10,7 +10,7 @@ use Rattle.rdlpp_scan.specs.Lines.{IsWholeLines, whole_lines_len}
 use Rattle.rdlpp_scan.proofs.WholeLines.{IsWholeLines-drop}
 use Rattle.rdlpp_scan.proofs.FrontLaws.{front-none, front-line_long, front-source_long}
 use Rattle.rdlpp_scan.proofs.RemainingLaws.{remaining-accept}
-use Rattle.rdlpp_read.specs.Buffer.{BufferView, EndsHeld, ahead_of, held_of, rest_of, tokens_left, unused_of}
+use Rattle.rdlpp_read.specs.Buffer.{BufferView, EndsHeld, ahead_of, held_of, rest_of, text_left, tokens_left, unused_of}
 use Rattle.rdlpp_read.specs.Filling.{Fills, Grows, GrowsBy, HasBytes, Lengthens, Stays, TellsTokens, ended_tokens, only_broken}
 use Rattle.rdlpp_read.specs.declared.buffer.filling.Fill.{Fill}
 use Rattle.rdlpp_read.specs.declared.buffer.filling.Fill.TheVariants.{Held, End, SourceLong, LineLong, Failed}
@@ -177,6 +177,16 @@ compacts-grows tells unread fill old mid new c g = record {
 }
 
 -- what was found is what the source has, where nothing was held
+-- the text that isn't used stays, but where a byte too many was read
+pub grows-text : {R : Type 0} (tells : Type 0) (unread : R → List ℕ) (fill : Fill) (old new : BufferView R) → GrowsBy tells unread fill old new → (fill ≡ LineLong → ⊥) → tells → text_left unread new ≡ text_left unread old
+unfolding text_left
+grows-text tells unread Held old new by other t = let held = by.held in let rest = by.rest t in let join = append_assoc (held_of old) by.lines (rest_of unread new) in cc
+grows-text tells unread End old new by other t = let held = by.0.held in let rest = by.1 t in let none = by.2 in cc
+grows-text tells unread SourceLong old new by other t = let held = by.0.held in let rest = by.3 t in cc
+grows-text tells unread LineLong old new by other t = absurd (other refl)
+grows-text tells unread Failed old new by other t = let held = by.0.held in let rest = by.1 t in cc
+
+-- what a source has before its next byte, by what stood there
 pub grows-fills : {R : Type 0} (tells : Type 0) (unread : R → List ℕ) (fill : Fill) (old new : BufferView R) → held_of old ≡ [] → Grows tells unread fill old new → Fills tells unread fill old new
 grows-fills tells unread fill old new none g = record {
   line = g.line;
@@ -185,6 +195,7 @@ grows-fills tells unread fill old new none g = record {
   open_token_line = g.open_token_line;
   bytes = grows-bytes tells unread fill old new none g.by;
   unused = g.unused;
+  text = grows-text tells unread fill old new g.by;
   tokens = grows-tokens tells unread fill old new none g;
 }
 
@@ -198,6 +209,7 @@ held-fills tells unread f some inside = record {
   open_token_line = refl;
   bytes = omega (arith, length-drop f.at (take f.accepted f.window), length-take-le f.accepted f.window inside);
   unused = refl;
+  text = λ other t. refl;
   tokens = λ u t. refl;
 }
 

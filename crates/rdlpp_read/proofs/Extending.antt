@@ -20,7 +20,7 @@ use Rattle.rdlpp_read.specs.LogicalLines.{Continues, Extends, HoldsLine, SameTok
 use Rattle.rdlpp_read.specs.declared.buffer.filling.Fill.{Fill}
 use Rattle.rdlpp_read.specs.declared.buffer.filling.Fill.TheVariants.{Held, End, SourceLong, LineLong, Failed}
 use Rattle.rdlpp_read.specs.declared.buffer.extending.LogicalLine.TheVariants.{Whole, TooLong, SourceLong as LineCut, Failed as LineFailed}
-use Rattle.rdlpp_read.proofs.BufferTokens.{lengthens-tokens, tokens-same}
+use Rattle.rdlpp_read.proofs.BufferTokens.{grows-text, lengthens-tokens, tokens-same}
 use Rattle.rdlpp_read.proofs.Growing.{calls-on, held-le}
 
 -- before the first line is taken in
@@ -29,6 +29,7 @@ unfolding whole_lines_len logical_len
 continues-starts g sources f ends = record {
   extends = record { line = refl; line_bytes = refl; mode = refl; open_token_line = refl; unused = refl; more = []; held = sym (append-nil (held_of f)) };
   tokens = λ u t. refl;
+  text = λ t. refl;
   define = λ u t h. h;
   place = omega arith;
   whole = refl;
@@ -100,6 +101,7 @@ found-line g first now old mid seen len c sound some =
     record {
       extends = c.extends;
       has = (within.1, inl found, c.tokens);
+      text = λ other t. c.text t;
       define = λ u t plain holds. sym (c.tokens u t)
           ∙ (define-whole u g.unread mid (seen + len) (c.extends.mode ∙ plain) (c.define u t holds) found (held-short mid sound)
           ∙ ap (λ l. record { sort = Definition; bytes = take (seen + len) (held_of mid); line = l } ∷ tokens_left u g.unread (consumed mid (seen + len))) line);
@@ -137,6 +139,7 @@ last-line g first now old mid new seen len c sound none all grows =
     record {
       extends = e;
       has = (omega arith, inr (none_now, size, λ t. grows.by.2), tokens);
+      text = λ other t. grows-text (g.tells now) g.unread End mid new grows.by (λ e. cc) (c.call.tells t) ∙ c.text t;
       define = λ u t plain holds.
           let here : HoldsDefine u (held_of new) (rest_of g.unread new) = rw (held, grows.by.2) (rw (grows.by.1 (c.call.tells t)) at (c.define u t holds)) in
           sym (tokens u t) ∙ (define-last u g.unread new (e.mode ∙ plain) here none_now grows.by.2 short
@@ -150,6 +153,7 @@ unfolding tokens_left
 long-line g first now old mid new seen c none grows = record {
   extends = extends-stays (g.tells now) g.unread LineLong old mid new c.extends grows grows.by.0;
   has = tt;
+  text = λ other t. absurd (other refl);
   define = λ u t plain holds.
       sym (c.tokens u t) ∙ (ap (λ m. remaining_tokens u mid.line_bytes m mid.open_token_line mid.line (held_of mid) mid.bytes_left (rest_of g.unread mid)) (c.extends.mode ∙ plain)
       ∙ (remaining-logical_full u mid.line_bytes mid.open_token_line mid.line (held_of mid) mid.bytes_left (rest_of g.unread mid) (c.define u t holds) none (grows.by.2 (c.call.tells t)) (grows.by.1 (c.call.tells t))
@@ -163,6 +167,7 @@ unfolding tokens_left
 cut-line g first now old mid new seen c none grows = record {
   extends = extends-stays (g.tells now) g.unread SourceLong old mid new c.extends grows grows.by.0;
   has = stays-tokens g first now SourceLong old mid new seen c grows grows.by.0 grows.by.3;
+  text = λ other t. grows-text (g.tells now) g.unread SourceLong mid new grows.by (λ e. cc) (c.call.tells t) ∙ c.text t;
   define = λ u t plain holds.
       sym (c.tokens u t) ∙ (ap (λ m. remaining_tokens u mid.line_bytes m mid.open_token_line mid.line (held_of mid) mid.bytes_left (rest_of g.unread mid)) (c.extends.mode ∙ plain)
       ∙ (remaining-logical_source u mid.line_bytes mid.open_token_line mid.line (held_of mid) mid.bytes_left (rest_of g.unread mid) (c.define u t holds) none (grows.by.1 (c.call.tells t)) (grows.by.2 (c.call.tells t))
@@ -175,6 +180,7 @@ pub failed-line : {S R : Type 0} (g : Ghosts S R) (first now : S) (old mid new :
 failed-line g first now old mid new seen c grows = record {
   extends = extends-stays (g.tells now) g.unread Failed old mid new c.extends grows grows.by.0;
   has = stays-tokens g first now Failed old mid new seen c grows grows.by.0 grows.by.1;
+  text = λ other t. grows-text (g.tells now) g.unread Failed mid new grows.by (λ e. cc) (c.call.tells t) ∙ c.text t;
   define = λ u t plain holds. tt;
 }
 
@@ -197,6 +203,7 @@ continues-on g first now after old mid new seen len c none all ends grows call =
         held = l.held ∙ (ap (λ h. h ++ l.lines) e.held ∙ append_assoc (held_of old) e.more l.lines);
       };
       tokens = λ u t. lengthens-tokens (g.tells now) u g.unread mid new grows.line grows.line_bytes grows.mode grows.open_token_line l (c.call.tells t) ∙ c.tokens u t;
+      text = λ t. grows-text (g.tells now) g.unread Held mid new grows.by (λ e. cc) (c.call.tells t) ∙ c.text t;
       define = λ u t holds.
           let here : HoldsDefine u (held_of mid) (l.lines ++ rest_of g.unread new) = rw (l.rest (c.call.tells t)) at (c.define u t holds) in
           rw l.held (HoldsDefine-more u (held_of mid) l.lines (rest_of g.unread new) here l.some l.ends);

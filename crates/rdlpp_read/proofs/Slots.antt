@@ -1,15 +1,17 @@
 -- The slots of the open sources, as one of them changes, opens or closes.
-use Rattle.std.proofs.Common.{◌≡◌, ℕ, suc, ◌+◌, ◌-◌, ◌≤◌, ◌<◌, Bool, not, List, [], ◌∷◌, ◌++◌, length, take, drop, get_or, refl, sym, ap, subst, ◌∙◌, arith}
-use Rattle.std.proofs.lemmas.List.{drop-set, length-drop, take-set, take_more_set, take-take}
+use Rattle.std.proofs.Common.{◌≡◌, ℕ, suc, ◌+◌, ◌-◌, ◌*◌, ◌≤◌, ◌<◌, Bool, not, List, [], ◌∷◌, ◌++◌, length, take, drop, map, reverse, sum_by, get_or, refl, sym, ap, subst, ◌∙◌, add-one, arith}
+use Rattle.std.proofs.lemmas.List.{drop-set, length-drop, reverse-append, take-set, take_more_set, take-take}
 use Rattle.std.proofs.Math.ListN.{set, length-set}
-use Rattle.std.proofs.lemmas.List.Elements.{All-append, All-cons, All-get_or, All-nil, All-same, All-set, All-take}
+use Rattle.std.proofs.lemmas.List.Elements.{All-append, All-cons, All-drop, All-get_or, All-head, All-nil, All-same, All-set, All-tail, All-take}
+use Rattle.std.proofs.lemmas.List.Sums.{sum_by-append, sum_by-cons, sum_by_more_le}
+use Rattle.std.proofs.Math.Nat.{mul-le-mul_right}
 use Rattle.std.specs.List.{All}
 use Rattle.rdlpp_scan.specs.Bytes.{is_line_end}
 use Rattle.rdlpp_scan.specs.declared.token.Mode.{Mode}
 use Rattle.rdlpp_read.specs.Buffer.{BufferView, EndsHeld, ahead_of, closed_buffer, entered_mode, held_of}
 use Rattle.rdlpp_read.proofs.BufferTokens.{none_ends}
 use Rattle.rdlpp_read.specs.declared.files.File.{File}
-use Rattle.rdlpp_read.specs.Files.{AreSlots, IsClosed, IsSlot, torn_after}
+use Rattle.rdlpp_read.specs.Files.{AreOpen, AreSlots, FilesView, IsClosed, IsSlot, held_bytes, held_windows, torn_after}
 
 -- an open slot changed
 pub slots-kept : {R : Type 0} (size first : ℕ) (slots : List (File R)) (f : File R) → AreSlots size first slots → IsSlot size f → AreSlots size first (set slots first f)
@@ -72,6 +74,7 @@ pub closed-slot : {R : Type 0} (size : ℕ) (f : File R) → f.buffer ≡ closed
 unfolding closed_buffer
 closed-slot size f closed number = record {
   size = ap (λ b. b.line_bytes) closed;
+  buffer = rw closed (record { used = omega arith; lines = omega arith; within = omega arith; counts = omega arith; opened = omega arith });
   ends = none_ends f.buffer (ap (λ b. b.accepted) closed);
   number = omega arith;
 }
@@ -93,6 +96,53 @@ slots-made size first slots all each closed = record {
 pub moded-ends : {R : Type 0} (old new : BufferView R) (next : Mode) → new ≡ entered_mode old next → EndsHeld old → EndsHeld new
 unfolding entered_mode held_of ahead_of
 moded-ends old new next becomes ends = rw becomes ends
+
+-- what is held of all slots is at most so much of each
+held-within : {R : Type 0} (size : ℕ) (slots : List (File R)) → All (IsSlot size) slots → held_bytes slots ≤ length slots * size
+held-within size [] each = omega arith
+held-within {R} size (f ∷ fs) each =
+    let slot : IsSlot size f = All-head (IsSlot size) f fs each in
+    let rest = held-within size fs (All-tail (IsSlot size) f fs each) in
+    let within = slot.buffer.within in
+    let same = slot.size in
+    let cut : held_bytes (f ∷ fs) ≡ length f.buffer.window + held_bytes fs = sum_by-cons (λ (g : File R). length g.buffer.window) f fs in
+    omega (arith, add-one)
+
+-- and so of the open ones
+pub held-bound : {R : Type 0} (files : FilesView R) → AreOpen files → held_bytes files.nest ≤ files.slots * files.line_bytes
+held-bound files open_ =
+    let few : length files.nest * files.line_bytes ≤ files.slots * files.line_bytes = mul-le-mul_right files.line_bytes open_.few in
+    let within = held-within files.line_bytes files.nest open_.each in
+    omega arith
+
+-- a part of what is held
+pub held-part : {R : Type 0} (files : FilesView R) (items : List (File R)) (i : ℕ) (f : File R) → items ≡ files.nest → AreOpen files → i < length items → f ≡ get_or items i f → held_bytes (take i items) + length f.buffer.window ≤ files.slots * files.line_bytes
+held-part {R} files items i f same open_ more is =
+    let size : File R → ℕ = λ g. length g.buffer.window in
+    let part : held_bytes (take i items) + size (get_or items i f) ≤ held_bytes items = sum_by_more_le size items i f more in
+    let whole : held_bytes items ≤ files.slots * files.line_bytes = rw same (held-bound files open_) in
+    let here : size f ≡ size (get_or items i f) = ap size is in
+    omega arith
+
+-- the open ones of the slots
+pub slots-open : {R : Type 0} (size first : ℕ) (slots : List (File R)) → (n : ℕ) → n ≡ length slots → AreSlots size first slots → AreOpen (record { nest = drop first slots; slots = n; line_bytes = size })
+slots-open size first slots n all s = record {
+  few = omega (arith, length-drop first slots);
+  each = All-drop (IsSlot size) first slots s.each;
+}
+
+-- all that is held, by the parts of it, the outermost first
+pub held_windows-len : {R : Type 0} (nest : List (File R)) → sum_by length (held_windows nest) ≡ held_bytes nest
+unfolding held_windows
+held_windows-len [] = refl
+held_windows-len {R} (f ∷ fs) =
+    let windows = map (λ (g : File R). g.buffer.window) fs in
+    let rest : sum_by length (reverse windows) ≡ held_bytes fs = held_windows-len fs in
+    let cut : reverse (f.buffer.window ∷ windows) ≡ reverse windows ++ f.buffer.window ∷ [] = reverse-append (f.buffer.window ∷ []) windows in
+    let parts : sum_by length (reverse windows ++ f.buffer.window ∷ []) ≡ sum_by length (reverse windows) + sum_by length (f.buffer.window ∷ []) = sum_by-append length (reverse windows) (f.buffer.window ∷ []) in
+    let one : sum_by length (f.buffer.window ∷ []) ≡ length f.buffer.window + 0 = sum_by-cons length f.buffer.window [] in
+    let whole : held_bytes (f ∷ fs) ≡ length f.buffer.window + held_bytes fs = sum_by-cons (λ (g : File R). length g.buffer.window) f fs in
+    ap (sum_by length) cut ∙ parts ∙ omega arith
 
 -- no byte changes nothing
 pub torn-none : (torn : Bool) (bytes : List ℕ) → length bytes ≡ 0 → torn ≡ torn_after torn bytes

@@ -38,6 +38,10 @@ ahead_of f = drop f.accepted f.window
 unfoldable pub rest_of : {R : Type 0} → (R → List ℕ) → BufferView R → List ℕ
 rest_of unread f = ahead_of f ++ unread_of unread f.reader
 
+-- the text that isn't used
+unfoldable pub text_left : {R : Type 0} → (R → List ℕ) → BufferView R → List ℕ
+text_left unread f = held_of f ++ rest_of unread f
+
 -- the tokens that remain of the source, where a test says what isn't built yet
 unfoldable pub tokens_left : {R : Type 0} → (List ℕ → Bool) → (R → List ℕ) → BufferView R → List SourceToken
 tokens_left unbuilt unread f =
@@ -47,12 +51,13 @@ tokens_left unbuilt unread f =
 unfoldable pub unused_of : {R : Type 0} → BufferView R → ℕ
 unused_of f = f.bytes_left + (f.accepted - f.at)
 
--- the places in what is held are in order, and the line can still be counted
+-- the places in what is held are in order, the line can still be counted, and what is open didn't open behind it
 pub record IsBuffer {R : Type 0} (f : BufferView R) : Type 0 where
   pub used : f.at ≤ f.accepted
   pub lines : f.accepted ≤ length f.window
   pub within : length f.window ≤ f.line_bytes
   pub counts : f.line + (f.bytes_left + (f.accepted - f.at)) ≤ 2 ^ 31
+  pub opened : f.open_token_line ≤ f.line
 
 -- a source that isn't open
 unfoldable pub closed_buffer : {R : Type 0} → ℕ → ℕ → BufferView R

@@ -7,7 +7,7 @@ use Rattle.rdlpp_meaning.specs.State.{Shift}
 use Rattle.rdlpp_source.specs.declared.sources.Found.{Found}
 use Rattle.rdlpp_read.specs.declared.files.File.{File}
 use Rattle.rdlpp_read.specs.declared.files.Shift.{Shift as FileShift}
-use Rattle.rdlpp_read.specs.Buffer.{BufferView, EndsHeld, closed_buffer, held_of, opened_buffer, unused_of}
+use Rattle.rdlpp_read.specs.Buffer.{BufferView, EndsHeld, IsBuffer, closed_buffer, held_of, opened_buffer, unused_of}
 
 -- the open sources, the innermost first; how many may be open, and the most bytes of a line
 pub record FilesView (R : Type 0) : Type 0 where
@@ -22,6 +22,7 @@ IsClosed f = f.buffer.reader ≡ None
 -- what holds of each slot, open or not
 pub record IsSlot {R : Type 0} (line_bytes : ℕ) (f : File R) : Type 0 where
   pub size : f.buffer.line_bytes ≡ line_bytes
+  pub buffer : IsBuffer f.buffer
   pub ends : EndsHeld f.buffer
   pub number : f.shift.number < 2 ^ 32
 
@@ -30,6 +31,11 @@ pub record AreSlots {R : Type 0} (line_bytes first : ℕ) (slots : List (File R)
   pub inside : first ≤ length slots
   pub each : All (IsSlot line_bytes) slots
   pub closed : All IsClosed (take first slots)
+
+-- what holds of the open sources
+pub record AreOpen {R : Type 0} (files : FilesView R) : Type 0 where
+  pub few : length files.nest ≤ files.slots
+  pub each : All (IsSlot files.line_bytes) files.nest
 
 -- a source that was opened: nothing of it is read, and it shows its path and its own lines (this project's profile)
 abbrev pub entered_file : {R : Type 0} → Found R → ℕ → ℕ → ℕ → ℕ → File R

@@ -10,7 +10,7 @@ use Rattle.rdlpp_scan.specs.Lines.{EndsLine, IsWholeLines, whole_lines_len}
 use Rattle.rdlpp_source.specs.declared.sources.Sources.{Ghosts}
 use Rattle.rdlpp_read.specs.Ahead.{AreLines, IsPast}
 use Rattle.rdlpp_read.specs.Calls.{SourcesRead}
-use Rattle.rdlpp_read.specs.Buffer.{BufferView, EndsHeld, ahead_of, held_of, unread_of, rest_of, tokens_left, unused_of}
+use Rattle.rdlpp_read.specs.Buffer.{BufferView, EndsHeld, ahead_of, held_of, unread_of, rest_of, text_left, tokens_left, unused_of}
 use Rattle.rdlpp_read.specs.declared.buffer.filling.Fill.{Fill}
 use Rattle.rdlpp_read.specs.declared.buffer.filling.Fill.TheVariants.{Held, End, SourceLong, LineLong, Failed}
 
@@ -151,7 +151,8 @@ HasBytes SourceLong f = held_of f ≡ []
 HasBytes LineLong f = held_of f ≡ []
 HasBytes Failed f = held_of f ≡ []
 
--- what a source has before its next byte: its tokens stay the same, or are told
+-- what a source has before its next byte: its text that isn't used stays the same, but where a byte too many was read, and its
+-- tokens stay the same, or are told
 pub record Fills {R : Type 0} (tells : Type 0) (unread : R → List ℕ) (fill : Fill) (old new : BufferView R) : Type 0 where
   pub line : new.line ≡ old.line
   pub line_bytes : new.line_bytes ≡ old.line_bytes
@@ -159,4 +160,5 @@ pub record Fills {R : Type 0} (tells : Type 0) (unread : R → List ℕ) (fill :
   pub open_token_line : new.open_token_line ≡ old.open_token_line
   pub bytes : HasBytes fill new
   pub unused : unused_of new ≡ unused_of old
+  pub text : (fill ≡ LineLong → ⊥) → tells → text_left unread new ≡ text_left unread old
   pub tokens : (unbuilt : List ℕ → Bool) → tells → TellsTokens fill old (tokens_left unbuilt unread old) (tokens_left unbuilt unread new)

@@ -8,7 +8,7 @@ use Rattle.rdlpp_scan.specs.Lines.{IsWholeLines}
 use Rattle.rdlpp_scan.specs.SourceTokens.{Definition, logical_len}
 use Rattle.rdlpp_source.specs.declared.sources.Sources.{Ghosts}
 use Rattle.rdlpp_read.specs.Calls.{SourcesRead}
-use Rattle.rdlpp_read.specs.Buffer.{BufferView, EndsHeld, consumed, held_of, rest_of, tokens_left, unused_of}
+use Rattle.rdlpp_read.specs.Buffer.{BufferView, EndsHeld, consumed, held_of, rest_of, text_left, tokens_left, unused_of}
 use Rattle.rdlpp_read.specs.Filling.{only_broken}
 use Rattle.rdlpp_read.specs.declared.buffer.extending.LogicalLine.{LogicalLine}
 use Rattle.rdlpp_read.specs.declared.buffer.extending.LogicalLine.TheVariants.{Whole, TooLong, SourceLong, Failed}
@@ -61,6 +61,7 @@ HasLine tells unread Failed old new = SameTokens tells unread old new
 pub record HoldsLine {R : Type 0} (tells : Type 0) (unread : R → List ℕ) (answer : LogicalLine) (old new : BufferView R) : Type 0 where
   pub extends : Extends old new
   pub has : HasLine tells unread answer old new
+  pub text : (answer ≡ TooLong → ⊥) → tells → text_left unread new ≡ text_left unread old
   pub define : (unbuilt : List ℕ → Bool) → tells → old.mode ≡ Plain → HoldsDefine unbuilt (held_of old) (rest_of unread old)
       → TellsDefine unbuilt unread answer old new
 
@@ -68,6 +69,7 @@ pub record HoldsLine {R : Type 0} (tells : Type 0) (unread : R → List ℕ) (an
 pub record Continues {S R : Type 0} (g : Ghosts S R) (sources new_sources : S) (old new : BufferView R) (seen : ℕ) : Type 0 where
   pub extends : Extends old new
   pub tokens : SameTokens (g.tells sources) g.unread old new
+  pub text : g.tells sources → text_left g.unread new ≡ text_left g.unread old
   pub define : (unbuilt : List ℕ → Bool) → g.tells sources → HoldsDefine unbuilt (held_of old) (rest_of g.unread old)
       → HoldsDefine unbuilt (held_of new) (rest_of g.unread new)
   pub place : seen ≤ length (held_of new)

@@ -47,7 +47,8 @@ impl<R> Model for SourceBuffer<R> {
     } };
 
     ghost invariant = { λ f. (f.at ≤ f.accepted) × (f.accepted ≤ f.filled) × (f.filled ≤ vec_len f.bytes)
-        × (f.line + (f.bytes_left + (f.accepted - f.at)) ≤ 2 ^ 31) };
+        × (f.line + (f.bytes_left + (f.accepted - f.at)) ≤ 2 ^ 31)
+        × (f.open_token_line ≤ f.line) };
 }
 
 impl<R: Drop> SourceBuffer<R> {

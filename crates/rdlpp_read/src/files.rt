@@ -6,6 +6,7 @@ ghost use Rattle.rdlpp_read.specs.Buffer.{EndsHeld, closed_buffer, entered_mode,
 ghost use Rattle.rdlpp_read.specs.Filling.{Fills, is_failed};
 ghost use Rattle.rdlpp_read.specs.LogicalLines.{HoldsLine, is_failed_line};
 ghost use Rattle.rdlpp_read.specs.Files.{
+  AreOpen,
   consumed_file,
   entered_file,
   held_bytes,
@@ -198,6 +199,7 @@ impl<R: Drop> Files<R> {
         let at = self.first - 1;
         let file = &mut self.slots[at];
         file.buffer.open(found.reader, source_bytes);
+        file.buffer.facts();
         file.path = found.path;
         file.name = file.path;
         file.shift = Shift { from: 0, number: 0 };
@@ -214,7 +216,9 @@ impl<R: Drop> Files<R> {
         ensures { self.new ≡ record self.old { nest = drop 1 self.old.nest } }
     {
         let at = self.first;
-        self.slots[at].buffer.close();
+        let buffer = &mut self.slots[at].buffer;
+        buffer.close();
+        buffer.facts();
         self.first = at + 1;
     }
 
@@ -226,7 +230,10 @@ impl<R: Drop> Files<R> {
         ensures call { SourcesRead S.Sources (is_failed result) sources.old sources.new }
     {
         let at = self.first;
-        fill_buffer(&mut self.slots[at].buffer, sources)
+        let buffer = &mut self.slots[at].buffer;
+        let fill = fill_buffer(buffer, sources);
+        buffer.facts();
+        fill
     }
 
     /// Takes in the logical line at the front of what is held of the innermost source, as
@@ -238,7 +245,10 @@ impl<R: Drop> Files<R> {
         ensures call { SourcesRead S.Sources (is_failed_line result) sources.old sources.new }
     {
         let at = self.first;
-        hold_logical_line(&mut self.slots[at].buffer, sources)
+        let buffer = &mut self.slots[at].buffer;
+        let line = hold_logical_line(buffer, sources);
+        buffer.facts();
+        line
     }
 
     /// Uses `len` held bytes of the innermost source, which have `lines` line ends, and answers where in
@@ -251,7 +261,10 @@ impl<R: Drop> Files<R> {
         ensures used { self.new ≡ record self.old { nest = with_inner (consumed_file len lines) self.old.nest } }
     {
         let at = self.first;
-        self.slots[at].consume(len, lines)
+        let file = &mut self.slots[at];
+        let start = file.consume(len, lines);
+        file.buffer.facts();
+        start
     }
 
     /// Changes whether the next byte of the innermost source stands in a string or in a comment, at a
@@ -261,7 +274,9 @@ impl<R: Drop> Files<R> {
         ensures { self.new ≡ record self.old { nest = with_buffer (entered_mode (inner_buffer self.old.nest) next) self.old.nest } }
     {
         let at = self.first;
-        self.slots[at].buffer.enter_mode(next);
+        let buffer = &mut self.slots[at].buffer;
+        buffer.enter_mode(next);
+        buffer.facts();
     }
 
     /// Gives the innermost source another name to show, and from a physical line on other numbers
@@ -275,5 +290,24 @@ impl<R: Drop> Files<R> {
         let file = &mut self.slots[at];
         file.name = name;
         file.shift = Shift { from, number };
+    }
+
+    /// How many bytes of the texts of the open sources are held.
+    pub fn held_len(&self) -> usize
+        requires { self.now.slots * self.now.line_bytes < 2 ^ 64 }
+        ensures { result ≡ held_bytes self.now.nest }
+    {
+        let mut len = 0;
+        for file in &self.slots[self.first..] {
+            len += file.buffer.len();
+        }
+        len
+    }
+
+    /// What always holds of the open sources.
+    pub fn facts(&self)
+        ensures { AreOpen self.now }
+    {
+        let _first = self.first;
     }
 }

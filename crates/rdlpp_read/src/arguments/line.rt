@@ -5,9 +5,8 @@ ghost use Rattle.rdlpp_scan.specs.Bytes.{is_blank, is_digit};
 ghost use Rattle.rdlpp_meaning.specs.Meaning.{is_level, past_blank_bytes, quote_place};
 ghost use Rattle.rdlpp_read.specs.Arguments.{IsLineGiven, IsLineNumber, IsShownName, IsQuoteWithin};
 
-use crate::blanks::is_blank;
 use arrayvec::ArrayString;
-use rdlpp_scan::rest_of_line;
+use rdlpp_scan::{is_blank, rest_of_line};
 
 const MAX_NUMBER: u64 = 2_147_483_647;
 

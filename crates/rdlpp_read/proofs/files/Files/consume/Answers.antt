@@ -5,7 +5,7 @@ use Rattle.rdlpp_read.proofs.files.Files.consume.Goals as goal
 
 pub invariant_of-self : goal.invariant_of-self
 invariant_of-self g c =
-    let slot : IsSlot c.self.inside.line_bytes c.index_mut.result.now =
-    slot-inner c.self.inside.line_bytes c.self.inside.first c.self.inside.slots.items c.index_mut.result.now c.self.invariant (rw (← c.self.view_is) at c.requires.some) c.index_mut.ensures.value in
+    let slot : IsSlot c.self.inside.line_bytes c.index_mut-file.result.now =
+    slot-inner c.self.inside.line_bytes c.self.inside.first c.self.inside.slots.items c.index_mut-file.result.now c.self.invariant (rw (← c.self.view_is) at c.requires.some) c.index_mut-file.ensures.value in
     slots-kept c.self.inside.line_bytes c.self.inside.first c.self.inside.slots.items _ c.self.invariant
-    (record { size = ap (λ f. f.buffer.line_bytes) c.consume.ensures.used ∙ slot.size; ends = c.consume.ensures.ends slot.ends; number = rw c.consume.ensures.used slot.number })
+    (record { buffer = c.facts.ensures; size = ap (λ f. f.buffer.line_bytes) c.consume-start.ensures.used ∙ slot.size; ends = c.consume-start.ensures.ends slot.ends; number = rw c.consume-start.ensures.used slot.number })

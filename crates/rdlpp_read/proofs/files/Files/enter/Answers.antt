@@ -13,7 +13,7 @@ invariant_of-self g c =
     let slot : IsSlot c.self.inside.line_bytes c.index_mut-file.result.now =
     slot-at c.self.inside.line_bytes (c.self.inside.first - 1) c.self.inside.slots.items c.index_mut-file.result.now c.self.invariant.each (omega arith) c.index_mut-file.ensures.value in
     slots-entered c.self.inside.line_bytes c.self.inside.first c.self.inside.slots.items _ c.self.invariant
-    (record { size = ap (λ f. f.line_bytes) c.open.ensures.opened ∙ slot.size; ends = c.open.ensures.ends; number = omega arith })
+    (record { buffer = c.facts.ensures; size = ap (λ f. f.line_bytes) c.open.ensures.opened ∙ slot.size; ends = c.open.ensures.ends; number = omega arith })
 
 pub returns : goal.returns
 unfolding opened_buffer

@@ -10,4 +10,4 @@ invariant_of-self g c =
     let slot : IsSlot c.self.inside.line_bytes c.index_mut.result.now =
     slot-inner c.self.inside.line_bytes c.self.inside.first c.self.inside.slots.items c.index_mut.result.now c.self.invariant (rw (← c.self.view_is) at c.requires) c.index_mut.ensures.value in
     slots-kept c.self.inside.line_bytes c.self.inside.first c.self.inside.slots.items _ c.self.invariant
-    (record { size = ap (λ b. b.line_bytes) c.enter_mode.ensures ∙ slot.size; ends = moded-ends _ _ c.args.next c.enter_mode.ensures slot.ends; number = slot.number })
+    (record { buffer = c.facts.ensures; size = ap (λ b. b.line_bytes) c.enter_mode.ensures ∙ slot.size; ends = moded-ends _ _ c.args.next c.enter_mode.ensures slot.ends; number = slot.number })

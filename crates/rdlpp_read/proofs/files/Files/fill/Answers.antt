@@ -3,8 +3,8 @@ use Rattle.rdlpp_read.specs.Files.{IsSlot}
 use Rattle.rdlpp_read.proofs.Slots.{slot-inner, slots-kept}
 use Rattle.rdlpp_read.proofs.files.Files.fill.Goals as goal
 
-pub fill_buffer-requires : goal.fill_buffer-requires
-fill_buffer-requires g c =
+pub fill_buffer-fill-requires : goal.fill_buffer-fill-requires
+fill_buffer-fill-requires g c =
     (slot-inner c.self.inside.line_bytes c.self.inside.first c.self.inside.slots.items c.index_mut.result.now c.self.invariant (rw (← c.self.view_is) at c.requires) c.index_mut.ensures.value).ends
 
 pub invariant_of-self : goal.invariant_of-self
@@ -12,4 +12,4 @@ invariant_of-self g c =
     let slot : IsSlot c.self.inside.line_bytes c.index_mut.result.now =
     slot-inner c.self.inside.line_bytes c.self.inside.first c.self.inside.slots.items c.index_mut.result.now c.self.invariant (rw (← c.self.view_is) at c.requires) c.index_mut.ensures.value in
     slots-kept c.self.inside.line_bytes c.self.inside.first c.self.inside.slots.items _ c.self.invariant
-    (record { size = c.fill_buffer.ensures.fills.line_bytes ∙ slot.size; ends = c.fill_buffer.ensures.ends; number = slot.number })
+    (record { buffer = c.facts.ensures; size = c.fill_buffer-fill.ensures.fills.line_bytes ∙ slot.size; ends = c.fill_buffer-fill.ensures.ends; number = slot.number })

@@ -3,8 +3,8 @@ use Rattle.rdlpp_read.specs.Files.{IsSlot}
 use Rattle.rdlpp_read.proofs.Slots.{slot-inner, slots-kept}
 use Rattle.rdlpp_read.proofs.files.Files.hold_line.Goals as goal
 
-pub hold_logical_line-requires : goal.hold_logical_line-requires
-hold_logical_line-requires g c =
+pub hold_logical_line-line-requires : goal.hold_logical_line-line-requires
+hold_logical_line-line-requires g c =
     (slot-inner c.self.inside.line_bytes c.self.inside.first c.self.inside.slots.items c.index_mut.result.now c.self.invariant (rw (← c.self.view_is) at c.requires) c.index_mut.ensures.value).ends
 
 pub invariant_of-self : goal.invariant_of-self
@@ -12,4 +12,4 @@ invariant_of-self g c =
     let slot : IsSlot c.self.inside.line_bytes c.index_mut.result.now =
     slot-inner c.self.inside.line_bytes c.self.inside.first c.self.inside.slots.items c.index_mut.result.now c.self.invariant (rw (← c.self.view_is) at c.requires) c.index_mut.ensures.value in
     slots-kept c.self.inside.line_bytes c.self.inside.first c.self.inside.slots.items _ c.self.invariant
-    (record { size = c.hold_logical_line.ensures.holds.extends.line_bytes ∙ slot.size; ends = c.hold_logical_line.ensures.ends; number = slot.number })
+    (record { buffer = c.facts.ensures; size = c.hold_logical_line-line.ensures.holds.extends.line_bytes ∙ slot.size; ends = c.hold_logical_line-line.ensures.ends; number = slot.number })

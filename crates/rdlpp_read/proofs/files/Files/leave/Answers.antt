@@ -9,5 +9,5 @@ invariant_of-self g c =
     let slot : IsSlot c.self.inside.line_bytes c.index_mut.result.now =
     slot-inner c.self.inside.line_bytes c.self.inside.first c.self.inside.slots.items c.index_mut.result.now c.self.invariant some c.index_mut.ensures.value in
     slots-left c.self.inside.line_bytes c.self.inside.first c.self.inside.slots.items _ (some-open c.self.inside.first c.self.inside.slots.items some) c.self.invariant
-    (record { size = ap (λ f. f.line_bytes) c.close.ensures.closed ∙ slot.size; ends = c.close.ensures.ends; number = slot.number })
+    (record { buffer = c.facts.ensures; size = ap (λ f. f.line_bytes) c.close.ensures.closed ∙ slot.size; ends = c.close.ensures.ends; number = slot.number })
     (ap (λ f. f.reader) c.close.ensures.closed)

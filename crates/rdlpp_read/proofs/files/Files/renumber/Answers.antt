@@ -7,4 +7,4 @@ invariant_of-self g c =
     let slot : IsSlot c.self.inside.line_bytes c.index_mut-file.result.now =
     slot-inner c.self.inside.line_bytes c.self.inside.first c.self.inside.slots.items c.index_mut-file.result.now c.self.invariant (rw (← c.self.view_is) at c.requires.some) c.index_mut-file.ensures.value in
     slots-kept c.self.inside.line_bytes c.self.inside.first c.self.inside.slots.items _ c.self.invariant
-    (record { size = slot.size; ends = slot.ends; number = c.requires.number })
+    (record { buffer = slot.buffer; size = slot.size; ends = slot.ends; number = c.requires.number })

@@ -1,0 +1,13 @@
+use Rattle.std.proofs.Common.{◌≡◌, ◌+◌, ◌*◌, ◌^◌, ◌<◌, ◌≤◌, take, length, arith}
+use Rattle.rdlpp_read.specs.Files.{AreOpen, held_bytes}
+use Rattle.rdlpp_read.proofs.Slots.{held-part, slots-open}
+use Rattle.rdlpp_read.proofs.files.Files.held_len.Goals as goal
+
+pub overflow_add-len : goal.overflow_add-len
+overflow_add-len g c =
+    let v = c.loop-file.invariant in
+    let open_ : AreOpen c.args.self.now =
+    rw (← c.self.view_is) (slots-open c.self.inside.line_bytes c.self.inside.first c.self.inside.slots.items _ (omega (arith, c.self.inside.slots.ok.0)) c.self.invariant) in
+    let within = held-part c.args.self.now _ c.loop-file.file-index c.file-item.result v.items open_ c.loop-file-test.true c.file-item.is in
+    let room = c.requires in
+    omega (arith, v.sum, c.len-len.ensures)
