@@ -1,0 +1,12 @@
+//! The stack of open texts of a run: bodies, actuals and default texts, as ranges of bytes.
+#![tactic(auto)]
+
+mod front;
+mod place;
+mod range;
+mod slot;
+mod step;
+
+pub use place::{TextPlace, TextSource};
+pub use range::Range;
+pub use step::{CursorFault, CursorStep};
