@@ -1,3 +1,6 @@
 pub mod Moving
 pub mod Runs
 pub mod Scoping
+pub mod Stacking
+pub mod Stepping
+pub mod Stopping

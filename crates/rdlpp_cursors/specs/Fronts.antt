@@ -1,6 +1,7 @@
 -- What stands at the front of an open text.
 -- A definition that names no source is this project's own.
-use Rattle.std.specs.Prelude.{◌≡◌, ℕ, ◌+◌, ◌-◌, ◌<◌, ◌≤◌, List, [], ◌∷◌, length, take, drop, Option, Some, if◌then◌else◌}
+use Rattle.std.specs.Prelude.{◌≡◌, ℕ, ◌+◌, ◌-◌, ◌<◌, ◌≤◌, Bool, true, false, List, [], ◌∷◌, length, take, drop, Option, Some, if◌then◌else◌}
+use Rattle.rdlpp_scan.specs.declared.token.Kind.{Kind}
 use Rattle.rdlpp_scan.specs.declared.token.Kind.TheVariants.{Name, Back, BareBackquote}
 use Rattle.rdlpp_scan.specs.declared.token.Mode.TheVariants.{Plain}
 use Rattle.rdlpp_scan.specs.declared.token.Token.{Token}
@@ -8,8 +9,18 @@ use Rattle.rdlpp_scan.specs.Tokens.{token_of, tokens_from}
 use Rattle.rdlpp_table.specs.Table.{Formal}
 use Rattle.rdlpp_table.specs.View.{formal_named}
 use Rattle.rdlpp_table.specs.Stops.{is_none, stop_at}
+use Rattle.rdlpp_meaning.specs.Opens.{Open, Texts, open_bytes}
+use Rattle.rdlpp_cursors.specs.Places.{source_formals}
+use Rattle.rdlpp_cursors.specs.Scopes.{front_source}
 use Rattle.rdlpp_cursors.specs.declared.front.Front.{Front}
+use Rattle.rdlpp_cursors.specs.declared.front.Look.{Look}
 use Rattle.rdlpp_cursors.specs.declared.front.Front.TheVariants.{Ended, Run, Formal as FormalName, Usage, Bare}
+
+-- whether a kind is that of a usage or a lone backquote
+unfoldable pub is_back : Kind → Bool
+is_back Back = true
+is_back BareBackquote = true
+is_back kind = false
 
 -- how many bytes the tokens have that come before the first stop
 unfoldable pub run_len : List Formal → List Token → List ℕ → ℕ
@@ -27,3 +38,10 @@ IsFront formals text (FormalName len place) =
 IsFront formals text (Usage len) =
     (0 < length text) × ((token_of Plain text).kind ≡ Back) × ((token_of Plain text).len ≡ len)
 IsFront formals text Bare = (0 < length text) × ((token_of Plain text).kind ≡ BareBackquote)
+
+-- what a look at open texts tells: where the innermost lies, where it goes on, and what stands there
+unfoldable pub IsLook : Texts → List Open → Look → Type 0
+IsLook texts [] look = ⊥
+IsLook texts (x ∷ below) look =
+    (look.source ≡ front_source (x ∷ below)) × (look.from ≡ x.part.from)
+    × IsFront (source_formals texts (front_source (x ∷ below))) (open_bytes texts x below) look.front

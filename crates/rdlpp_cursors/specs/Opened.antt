@@ -1,9 +1,11 @@
 -- Open texts as they lie in slots, with the ranges that calls have bound.
 -- A definition that names no source is this project's own.
-use Rattle.std.specs.Prelude.{◌≡◌, ℕ, ◌+◌, ◌*◌, ◌≤◌, List, [], ◌∷◌, map, length, take, drop, vec_capacity, Vec}
+use Rattle.std.specs.Prelude.{◌≡◌, ℕ, ◌+◌, ◌*◌, ◌≤◌, ◌==◌, Bool, false, List, [], ◌∷◌, map, length, take, drop, vec_capacity, Vec}
 use Rattle.rdlpp_scan.specs.declared.token.Mode.TheVariants.{Plain}
 use Rattle.rdlpp_meaning.specs.Opens.{Part, OpenKind, OpenBody, OpenActual, OpenDefault, Open}
 use Rattle.rdlpp_cursors.specs.declared.range.Range.{Range}
+use Rattle.rdlpp_cursors.specs.declared.place.TextSource.{TextSource}
+use Rattle.rdlpp_cursors.specs.declared.place.TextSource.TheVariants as source
 use Rattle.rdlpp_cursors.specs.declared.slot.Slot.{Slot}
 use Rattle.rdlpp_cursors.specs.declared.slot.SlotKind.{SlotKind}
 use Rattle.rdlpp_cursors.specs.declared.slot.SlotKind.TheVariants.{Body, Actual, Default}
@@ -67,3 +69,47 @@ pub record IsStack {A : Type 0} (slots : List Slot) (first : ℕ) (bindings : Ve
   pub inside : first ≤ length slots
   pub laid : AreLaid (drop first slots) bindings.items
   pub room : 255 * length slots ≤ vec_capacity bindings
+
+-- what is no body
+abbrev pub IsNoBody : SlotKind → Type 0
+IsNoBody (Body id first) = ⊥
+IsNoBody Actual = Unit
+IsNoBody (Default id place) = Unit
+
+-- open texts of which the innermost goes on at a place
+unfoldable pub moved_to : ℕ → List Open → List Open
+moved_to at [] = []
+moved_to at (x ∷ below) = record { part = record { from = at; end = x.part.end; mode = Plain }; home = x.home; kind = x.kind } ∷ below
+
+-- each home of the slots is a scope further out
+abbrev pub AreHomedSlots : List Slot → Type 0
+AreHomedSlots [] = Unit
+AreHomedSlots (slot ∷ below) = (slot.home ≤ length below) × AreHomedSlots below
+
+-- whether a slot has the body of a macro
+abbrev pub is_body_of : SlotKind → ℕ → Bool
+is_body_of (Body own first) id = id == own
+is_body_of Actual id = false
+is_body_of (Default own place) id = false
+
+-- the scope in which the call of a slot's text is written, and the source for an actual, which is no scope
+abbrev pub kind_outer : SlotKind → ℕ → ℕ
+kind_outer (Body id first) home = home
+kind_outer Actual home = 0
+kind_outer (Default id place) home = home
+
+-- that of a slot
+abbrev pub outer_of : Slot → ℕ
+outer_of slot = kind_outer slot.kind slot.home
+
+-- where the text of a slot lies, if it is a body or a default
+abbrev pub slot_source : SlotKind → TextSource
+slot_source (Body id first) = source.Body id
+slot_source Actual = source.Arguments
+slot_source (Default id place) = source.Default id place
+
+-- how many of so many ranges are kept where a slot is closed
+abbrev pub kept_by : SlotKind → ℕ → ℕ
+kept_by (Body id first) n = first
+kept_by Actual n = n
+kept_by (Default id place) n = n

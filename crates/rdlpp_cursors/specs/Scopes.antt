@@ -1,6 +1,6 @@
 -- The scopes of open texts: the open text that a scope is, and what follows from it.
 -- A definition that names no source is this project's own.
-use Rattle.std.specs.Prelude.{ℕ, suc, ◌≤◌, ◌==◌, List, [], ◌∷◌, length, Option, None, Some, if◌then◌else◌}
+use Rattle.std.specs.Prelude.{ℕ, suc, ◌<◌, ◌≤◌, ◌==◌, List, [], ◌∷◌, length, Option, None, Some, if◌then◌else◌}
 use Rattle.rdlpp_table.specs.Table.{Formal, Macro}
 use Rattle.rdlpp_table.specs.View.{macro_at, formals_of}
 use Rattle.rdlpp_meaning.specs.Opens.{Part, OpenKind, OpenBody, OpenActual, OpenDefault, Open, open_scope, open_standing}
@@ -63,7 +63,13 @@ writer_ids [] k = []
 writer_ids (x ∷ below) k =
     if k == suc (length below) then own_ids x.kind (writer_ids below x.home) else writer_ids below k
 
--- each home is a scope further out
-abbrev pub AreHomed : List Open → Type 0
-AreHomed [] = Unit
-AreHomed (x ∷ below) = (x.home ≤ length below) × AreHomed below
+-- a body has a range for each formal of its macro, which is in the table; so is the macro of a default, with its formal
+abbrev pub IsBound : List Macro → OpenKind → Type 0
+IsBound macros (OpenBody id parts) = (id < length macros) × (length (formals_of (macro_at macros id)) ≤ length parts)
+IsBound macros OpenActual = Unit
+IsBound macros (OpenDefault id place) = (id < length macros) × (place < length (formals_of (macro_at macros id)))
+
+-- so it is for each open text, whose home is a scope further out
+abbrev pub AreBound : List Macro → List Open → Type 0
+AreBound macros [] = Unit
+AreBound macros (x ∷ below) = (x.home ≤ length below) × (IsBound macros x.kind × AreBound macros below)

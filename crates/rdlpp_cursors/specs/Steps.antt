@@ -2,6 +2,7 @@
 -- A definition that names no source is this project's own.
 use Rattle.std.specs.Prelude.{◌≡◌, ℕ, ◌<◌, ◌≤◌, false, List, [], ◌∷◌, length}
 use Rattle.std.specs.List.{AllByRecursion}
+use Rattle.rdlpp_scan.specs.declared.token.Mode.TheVariants.{Plain}
 use Rattle.rdlpp_table.specs.Table.{Macro}
 use Rattle.rdlpp_table.specs.View.{macro_at, formals_of}
 use Rattle.rdlpp_meaning.specs.Outcome.{gives, fails, and_then}
@@ -45,11 +46,11 @@ IsKnown macros (OpenBody id parts) = id < length macros
 IsKnown macros OpenActual = Unit
 IsKnown macros (OpenDefault id place) = (id < length macros) × (place < length (formals_of (macro_at macros id)))
 
--- each open text lies in its text, and its macro is in the table
+-- each open text lies in its text and is read from plain text on, and its macro is in the table
 abbrev pub AreInside : Texts → List Open → Type 0
 AreInside texts [] = Unit
 AreInside texts (x ∷ below) =
-    IsKnown texts.macros x.kind × ((x.part.end ≤ length (text_around texts x.kind x.home below)) × AreInside texts below)
+    IsKnown texts.macros x.kind × ((x.part.end ≤ length (text_around texts x.kind x.home below)) × ((x.part.mode ≡ Plain) × AreInside texts below))
 
 -- what holds of open texts between steps: their homes are further out, their parts lie in their texts, and so do they
 pub record AreSound (texts : Texts) (opens : List Open) : Type 0 where
