@@ -1,3 +1,4 @@
+pub mod Looking
 pub mod Moving
 pub mod Runs
 pub mod Scoping

@@ -1,6 +1,7 @@
 -- The slots of open texts and the ranges that they have bound, as one text moves, opens or closes.
 use Rattle.std.proofs.Common.{◌≡◌, ℕ, suc, ◌+◌, ◌-◌, ◌*◌, ◌<◌, ◌≤◌, List, [], ◌∷◌, map, length, take, drop, get_or, refl, sym, ap, subst, ◌∙◌, arith}
-use Rattle.std.specs.Prelude.{vec_capacity, Vec}
+use Rattle.std.proofs.Common.{rules, Global}
+use Rattle.std.specs.Prelude.{vec_capacity, vec_len, Vec}
 use Rattle.std.proofs.lemmas.List.{drop-set, drop_more, drop_all, length-drop, length-take, length-map, take_all}
 use Rattle.std.proofs.Math.ListN.{set, length-set}
 use Rattle.rdlpp_scan.specs.declared.token.Mode.TheVariants.{Plain}
@@ -9,7 +10,7 @@ use Rattle.rdlpp_cursors.specs.declared.range.Range.{Range}
 use Rattle.rdlpp_cursors.specs.declared.slot.Slot.{Slot}
 use Rattle.rdlpp_cursors.specs.declared.slot.SlotKind.{SlotKind}
 use Rattle.rdlpp_cursors.specs.declared.slot.SlotKind.TheVariants as slot
-use Rattle.rdlpp_cursors.specs.Opened.{part_of, bindings_below, open_of, opens_of, AreLaid, IsStack, bound_by, moved_to, kept_by, IsNoBody}
+use Rattle.rdlpp_cursors.specs.Opened.{part_of, bindings_below, open_of, opens_of, AreLaid, IsStack, bound_by, moved_to, kept_by, IsNoBody, CursorsView}
 use Rattle.rdlpp_cursors.proofs.Scoping.{opens-length}
 
 -- the slot at a place, in front of those behind it
@@ -106,15 +107,15 @@ entered slots first new some inside =
 pub pushed-opens : (slots : List Slot) (first : ℕ) (bindings : List Range) (new : Slot) → 0 < first → first ≤ length slots → IsNoBody new.kind
     → opens_of (drop (first - 1) (set slots (first - 1) new)) bindings ≡ open_of new [] ∷ opens_of (drop first slots) bindings
 unfolding opens_of
-pushed-opens slots first bindings new some inside no =
-    ap (λ (s : List Slot). opens_of s bindings) (entered slots first new some inside) ∙ by new.kind no
+pushed-opens slots first bindings new some inside nobody =
+    ap (λ (s : List Slot). opens_of s bindings) (entered slots first new some inside) ∙ by new.kind nobody
   where
     by : (kind : SlotKind) → IsNoBody kind
         → open_of (record new { kind = kind }) bindings ∷ opens_of (drop first slots) (bindings_below kind bindings)
         ≡ open_of (record new { kind = kind }) [] ∷ opens_of (drop first slots) bindings
-    by (slot.Body id from) no = absurd no
-    by slot.Actual no = refl
-    by (slot.Default id place) no = refl
+    by (slot.Body id from) nobody = absurd nobody
+    by slot.Actual nobody = refl
+    by (slot.Default id place) nobody = refl
 
 -- a text that is opened and binds nothing
 pub pushed-laid : (slots : List Slot) (first : ℕ) (bindings : List Range) (new : Slot) → 0 < first → first ≤ length slots
@@ -128,9 +129,9 @@ pushed-laid slots first bindings new some inside same laid =
 
 -- what is no body binds nothing
 pub no-body_below : (kind : SlotKind) (bindings : List Range) → IsNoBody kind → bindings_below kind bindings ≡ bindings
-no-body_below (slot.Body id first) bindings no = absurd no
-no-body_below slot.Actual bindings no = refl
-no-body_below (slot.Default id place) bindings no = refl
+no-body_below (slot.Body id first) bindings nobody = absurd nobody
+no-body_below slot.Actual bindings nobody = refl
+no-body_below (slot.Default id place) bindings nobody = refl
 
 -- the open texts where a body is opened whose call binds nothing
 pub body-opens : (slots : List Slot) (first : ℕ) (bindings : List Range) (id end home n : ℕ) → 0 < first → first ≤ length slots → n ≡ length bindings
@@ -143,3 +144,79 @@ body-opens slots first bindings id end home n some inside e =
     (drop_all n bindings (omega (arith, e)))
     ∙ ap (λ (bs : List Range). record { part = record { from = 0; end = end; mode = Plain }; home = home; kind = OpenBody id [] } ∷ opens_of (drop first slots) bs)
     (take_all n bindings (omega (arith, e)))
+
+-- what a contract sees
+abbrev pub made_view : List Open → ℕ → ℕ → CursorsView
+made_view opens line depth = record { opens = opens; line = line; depth = depth }
+
+-- a view of open texts
+pub view-is : (xs ys : List Open) (line depth own : ℕ) → xs ≡ ys → depth ≡ own → made_view xs line depth ≡ made_view ys line own
+view-is xs ys line depth own e d = ap (λ (o : List Open). made_view o line depth) e ∙ ap (λ (n : ℕ). made_view ys line n) d
+
+-- as many slots as a vector has
+pub slots-count : (v : Vec Slot Global) → vec_len v ≡ length v.items
+slots-count v = search rules
+
+-- as many ranges
+pub ranges-count : (v : Vec Range Global) → vec_len v ≡ length v.items
+ranges-count v = search rules
+
+-- the innermost slot stands in front of the last one
+pub first-inside : (v : Vec Slot Global) (first : ℕ) (bindings : List Range) → 0 < length (opens_of (drop first v.items) bindings) → first < vec_len v
+first-inside v first bindings some = let n = slots-count v in let h = some-open v.items first bindings some in omega (arith, n, h)
+
+-- where there is room some slot stands in front of the open ones
+pub room-first : (v : Vec Slot Global) (first : ℕ) (bindings : List Range) → first ≤ length v.items → length (opens_of (drop first v.items) bindings) < vec_len v → 0 < first
+room-first v first bindings inside room =
+    let n = slots-count v in
+    let h = open-count v.items first bindings in
+    omega (arith, n, h, inside, room)
+
+-- slots of which none is open
+pub stack-made : (v : Vec Slot Global) (first : ℕ) (bindings : Vec Range Global) → vec_len v ≡ first → bindings.items ≡ [] → vec_capacity bindings ≡ first * 255
+    → IsStack v.items first bindings
+unfolding AreLaid
+stack-made v first bindings size none room =
+    let n = slots-count v in
+    record {
+      inside = omega (arith, n, size);
+      laid = subst (λ (s : List Slot). AreLaid s bindings.items) (sym (drop_all first v.items (omega (arith, n, size)))) (ap (λ (bs : List Range). length bs) none);
+      room = omega (arith, n, size, room);
+    }
+
+-- the slots where the innermost goes on at a place
+pub stack-moved : (slots : List Slot) (first at : ℕ) (bindings : Vec Range Global) (own : Slot) → first < length slots → own ≡ get_or slots first own
+    → IsStack slots first bindings → IsStack (set slots first (record own { from = at })) first bindings
+stack-moved slots first at bindings own inside e h =
+    let n = length-set slots first (record own { from = at }) in
+    let room = h.room in
+    record {
+      inside = omega (arith, n, inside);
+      laid = moved-laid slots first at bindings.items own inside e h.laid;
+      room = omega (arith, n, room);
+    }
+
+-- where it is closed
+pub stack-closed : (slots : List Slot) (first : ℕ) (bindings new : Vec Range Global) (own : Slot) (kept : ℕ) → first < length slots → own ≡ get_or slots first own
+    → kept ≡ kept_by own.kind (length bindings.items) → new.items ≡ take kept bindings.items → vec_capacity bindings ≤ vec_capacity new
+    → IsStack slots first bindings → IsStack slots (first + 1) new
+stack-closed slots first bindings new own kept inside e k is more h =
+    let room = h.room in
+    record {
+      inside = omega (arith, inside);
+      laid = subst (λ (bs : List Range). AreLaid (drop (first + 1) slots) bs) (sym is) (closed-laid slots first bindings.items own kept inside e k h.laid);
+      room = omega (arith, room, more);
+    }
+
+-- where one more is opened that binds nothing
+pub stack-pushed : (slots : List Slot) (first : ℕ) (bindings : Vec Range Global) (new : Slot) → 0 < first → bindings_below new.kind bindings.items ≡ bindings.items
+    → IsStack slots first bindings → IsStack (set slots (first - 1) new) (first - 1) bindings
+stack-pushed slots first bindings new some same h =
+    let n = length-set slots (first - 1) new in
+    let inside = h.inside in
+    let room = h.room in
+    record {
+      inside = omega (arith, n, inside);
+      laid = pushed-laid slots first bindings.items new some inside same h.laid;
+      room = omega (arith, n, room);
+    }

@@ -39,9 +39,9 @@ IsFront formals text (Usage len) =
     (0 < length text) × ((token_of Plain text).kind ≡ Back) × ((token_of Plain text).len ≡ len)
 IsFront formals text Bare = (0 < length text) × ((token_of Plain text).kind ≡ BareBackquote)
 
--- what a look at open texts tells: where the innermost lies, where it goes on, and what stands there
+-- what a look at open texts tells: where the innermost lies, where it goes on and ends, and what stands there
 unfoldable pub IsLook : Texts → List Open → Look → Type 0
 IsLook texts [] look = ⊥
 IsLook texts (x ∷ below) look =
-    (look.source ≡ front_source (x ∷ below)) × (look.from ≡ x.part.from)
+    (look.source ≡ front_source (x ∷ below)) × (look.from ≡ x.part.from) × (look.end ≡ x.part.end)
     × IsFront (source_formals texts (front_source (x ∷ below))) (open_bytes texts x below) look.front

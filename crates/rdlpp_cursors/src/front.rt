@@ -3,11 +3,15 @@ ghost use Rattle.std.specs.Prelude.{[], length, slice_range, nat_lt, ifâ—Œthenâ—
 ghost use Rattle.rdlpp_scan.specs.Tokens.{tokens_from};
 ghost use Rattle.rdlpp_table.specs.Stops.{stop_of};
 ghost use Rattle.rdlpp_table.specs.Table.{Formal};
-ghost use Rattle.rdlpp_cursors.specs.Fronts.{is_back, run_len, IsFront};
+ghost use Rattle.rdlpp_cursors.specs.Fronts.{is_back, run_len, IsFront, IsLook};
+ghost use Rattle.rdlpp_cursors.specs.Opened.{opens_of};
 ghost use Rattle.rdlpp_cursors.specs.Places.{source_formals, source_text, texts_of, IsSource};
+ghost use Rattle.rdlpp_cursors.specs.Steps.{AreSound};
 
 use crate::place::TextSource;
-use crate::scopes::text_of;
+use crate::range::Range;
+use crate::scopes::{front_source, text_of};
+use crate::slot::Slot;
 use rdlpp_scan::{Kind, Mode, first_token};
 use rdlpp_table::{Stop, Table};
 
@@ -26,11 +30,12 @@ pub(crate) enum Front {
     Bare,
 }
 
-// A look at the innermost open text: where it lies, where it goes on, and what stands there.
+// A look at the innermost open text: where it lies, where it goes on and ends, and what stands there.
 #[derive(Clone, Copy)]
 pub(crate) struct Look {
     pub(crate) source: TextSource,
     pub(crate) from: usize,
+    pub(crate) end: usize,
     pub(crate) front: Front,
 }
 
@@ -121,4 +126,26 @@ pub(crate) fn front_of(
     }
     let text = text_of(table, arguments, source);
     plain_front(&text[from..end])
+}
+
+// A look at open texts, which lie in slots, the innermost first.
+pub(crate) fn look_at(
+    slots: &[Slot],
+    bindings: &[Range],
+    table: &Table,
+    arguments: &[u8],
+) -> Look
+    requires some { 0 < length slots.now }
+    requires sound { AreSound (texts_of table.now.macros arguments.now) (opens_of slots.now bindings.now) }
+    ensures { IsLook (texts_of table.now.macros arguments.now) (opens_of slots.now bindings.now) result }
+{
+    let _bound = bindings.len();
+    let slot = &slots[0];
+    let source = front_source(slots);
+    Look {
+        source,
+        from: slot.from,
+        end: slot.end,
+        front: front_of(table, arguments, source, slot.from, slot.end),
+    }
 }
