@@ -1,4 +1,5 @@
 pub mod Looking
+pub mod Passing
 pub mod Moving
 pub mod Runs
 pub mod Scoping

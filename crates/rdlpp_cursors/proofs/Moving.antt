@@ -65,9 +65,9 @@ pub reaches-same : (rules : Rules) (s : State) (line depth : ℕ) (texts : Texts
 reaches-same rules s line depth texts old new e = record {
   remains = ap (λ (slots : List Slot). left rules s line (cursors_of depth slots)) e ∙ sym (and_then-gives_nil (left rules s line (cursors_of depth (slots_of texts new))));
   work = λ base bodies counted. (
-      subst (λ (slots : List Slot). cursors_work base (cursors_of depth slots) ≤ cursors_work base (cursors_of depth (slots_of texts old))) e
-          (omega arith),
-      subst (λ (slots : List Slot). AllByRecursion (IsCountedCursor base) (cursors_of depth slots)) e counted,
+    subst (λ (slots : List Slot). cursors_work base (cursors_of depth slots) ≤ cursors_work base (cursors_of depth (slots_of texts old))) e
+        (omega arith),
+    subst (λ (slots : List Slot). AllByRecursion (IsCountedCursor base) (cursors_of depth slots)) e counted,
   );
 }
 

@@ -1,12 +1,21 @@
 // The stack of open texts.
-ghost use Rattle.std.specs.Prelude.{[], length, IfOk, ◌==◌, ◌<◌, ◌≡◌, ◌≤◌, ◌∷◌, drop};
+ghost use Rattle.std.specs.Prelude.{[], length, IfOk, MatchOption, List, None, ℕ, ◌==◌, ◌<◌, ◌≡◌, ◌≤◌, ◌∷◌, ◌^◌, drop};
 ghost use Rattle.rdlpp_scan.specs.declared.token.Mode.TheVariants.{Plain};
-ghost use Rattle.rdlpp_meaning.specs.Opens.{OpenBody};
+ghost use Rattle.std.specs.Option.{option_map};
+ghost use Rattle.rdlpp_table.specs.View.{macro_at};
+ghost use Rattle.rdlpp_meaning.specs.Opens.{open_body, OpenBody};
+ghost use Rattle.rdlpp_cursors.specs.Fronts.{IsHeld, IsLook};
 ghost use Rattle.rdlpp_cursors.specs.Opened.{bound_by, kept_by, moved_to, open_of, IsNoBody};
+ghost use Rattle.rdlpp_cursors.specs.Places.{texts_of};
+ghost use Rattle.rdlpp_cursors.specs.Steps.{AreSound, IsStep};
 
+use crate::front::{Front, Look, look_at};
+use crate::place::{TextPlace, TextSource};
 use crate::range::Range;
 use crate::slot::{Slot, SlotKind};
-use rdlpp_table::MacroId;
+use crate::step::{CursorFault, CursorStep};
+use rdlpp_meaning::FaultKind;
+use rdlpp_table::{MacroId, Table};
 use std::alloc::{AllocError, Global};
 use std::marker::Model;
 
@@ -139,5 +148,73 @@ impl Cursors {
             kind: SlotKind::Body { id, first: bound },
         };
         self.first = first;
+    }
+
+    // Where the innermost text lies, where it goes on and ends, and what stands there.
+    fn look(&self, table: &Table, arguments: &[u8]) -> Look
+        requires some { 0 < length self.now.opens }
+        requires sound { AreSound (texts_of table.now.macros arguments.now) self.now.opens }
+        ensures look { IsLook (texts_of table.now.macros arguments.now) self.now.opens result }
+        ensures short { result.end < 2 ^ 64 }
+    {
+        let slots = self.slots.as_slice();
+        look_at(
+            &slots[self.first..],
+            self.bindings.as_slice(),
+            table,
+            arguments,
+        )
+    }
+
+    /// Opens the body of a macro for a usage without arguments, which stands in a source at a line.
+    pub fn open_body(&mut self, table: &Table, id: MacroId, line: u64)
+        requires id { id < length table.now.macros }
+        requires plain { option_map length (macro_at table.now.macros id).formals ≡ None }
+        requires closed { self.old.opens ≡ [] }
+        requires room { 0 < self.old.depth }
+        ensures opens { self.new ≡ record { opens = open_body (texts_of table.now.macros []) id [] 0 ∷ []; line = line; depth = self.old.depth } }
+        ensures sound { (arguments : List ℕ) → AreSound (texts_of table.now.macros arguments) self.new.opens }
+    {
+        self.line = line;
+        self.push_body(id, table.body(id).len(), 0);
+    }
+
+    /// One step of the innermost text, unless the name of a formal or a usage stands at its front: it lends the longest run
+    /// of bytes that are copied, in one piece as they lie, or closes a text of which nothing is left. `arguments` is what is
+    /// kept of the call in the source. `None`, and nothing changes, where the name of a formal or a usage stands there.
+    ///
+    /// A backquote without a name is a fault (`BareBackquote`), and nothing changes then.
+    pub fn pass(&mut self, table: &Table, arguments: &[u8]) -> Option<CursorStep>
+        requires some { 0 < length self.old.opens }
+        requires sound { AreSound (texts_of table.now.macros arguments.now) self.old.opens }
+        ensures step { MatchOption result ((self.new ≡ self.old) × IsHeld (texts_of table.now.macros arguments.now) self.old.opens) (λ step. IsStep self.old.line self.old.depth (texts_of table.now.macros arguments.now) self.old.opens step self.new.opens) }
+        ensures sound { AreSound (texts_of table.now.macros arguments.now) self.new.opens }
+        ensures kept { (self.new.line ≡ self.old.line) × (self.new.depth ≡ self.old.depth) }
+    {
+        let look = self.look(table, arguments);
+        match look.front {
+            Front::Ended => {
+                self.close();
+                Some(CursorStep::Silent)
+            }
+            Front::Run(len) => {
+                let end = look.from + len;
+                self.move_to(end);
+                Some(CursorStep::Lends(TextPlace {
+                    source: look.source,
+                    from: look.from,
+                    end,
+                }))
+            }
+            Front::Bare => Some(CursorStep::Refused(CursorFault {
+                kind: FaultKind::BareBackquote,
+                word: TextPlace {
+                    source: TextSource::Arguments,
+                    from: 0,
+                    end: 0,
+                },
+            })),
+            _ => None,
+        }
     }
 }

@@ -1,5 +1,5 @@
 // What stands at the front of an open text.
-ghost use Rattle.std.specs.Prelude.{[], length, slice_range, nat_lt, if◌then◌else◌, List, ℕ, ◌+◌, ◌-◌, ◌<◌, ◌≡◌, ◌≤◌};
+ghost use Rattle.std.specs.Prelude.{[], length, slice_range, nat_lt, if◌then◌else◌, List, ℕ, ◌+◌, ◌-◌, ◌<◌, ◌≡◌, ◌≤◌, ◌^◌};
 ghost use Rattle.rdlpp_scan.specs.Tokens.{tokens_from};
 ghost use Rattle.rdlpp_table.specs.Stops.{stop_of};
 ghost use Rattle.rdlpp_table.specs.Table.{Formal};
@@ -129,23 +129,22 @@ pub(crate) fn front_of(
 }
 
 // A look at open texts, which lie in slots, the innermost first.
-pub(crate) fn look_at(
-    slots: &[Slot],
-    bindings: &[Range],
-    table: &Table,
-    arguments: &[u8],
-) -> Look
+pub(crate) fn look_at(slots: &[Slot], bindings: &[Range], table: &Table, arguments: &[u8]) -> Look
     requires some { 0 < length slots.now }
     requires sound { AreSound (texts_of table.now.macros arguments.now) (opens_of slots.now bindings.now) }
-    ensures { IsLook (texts_of table.now.macros arguments.now) (opens_of slots.now bindings.now) result }
+    ensures look { IsLook (texts_of table.now.macros arguments.now) (opens_of slots.now bindings.now) result }
+    ensures short { result.end < 2 ^ 64 }
 {
     let _bound = bindings.len();
     let slot = &slots[0];
+    let (from, end) = (slot.from, slot.end);
+    let text = front_source(slots);
+    let front = front_of(table, arguments, text, from, end);
     let source = front_source(slots);
     Look {
         source,
-        from: slot.from,
-        end: slot.end,
-        front: front_of(table, arguments, source, slot.from, slot.end),
+        from,
+        end,
+        front,
     }
 }

@@ -13,3 +13,6 @@ pub use cursors::Cursors;
 pub use place::{TextPlace, TextSource};
 pub use range::Range;
 pub use step::{CursorFault, CursorStep};
+
+#[cfg(test)]
+mod tests;

@@ -15,10 +15,12 @@ loop-at-smaller c =
 pub loop-at-preserved : goal.loop-at-preserved
 loop-at-preserved c =
     let further = (written-step c.args.slots.now [] c.loop-at.at 0 c.index-slots-slots.result c.requires.homed c.loop-at-test.true c.loop-at.invariant.0 c.index-slots-slots.is).further in
-    let inside : c.loop-at.at ≤ _ = c.loop-at.invariant.0 in
-    (omega (arith, further, c.outer_of-at.ensures, inside), λ bindings. rw c.outer_of-at.ensures
-    (written-further c.args.slots.now bindings c.loop-at.at c.args.scope _ _ c.requires.homed c.loop-at-test.true c.loop-at.invariant.0 c.index-slots-slots.is
-    (sym c.is_body_of.ensures ∙ c.if-is_body_of.false) (c.loop-at.invariant.1 bindings)))
+    let inside : c.loop-at.at ≤ _ = c.loop-at.invariant.0 in (
+      omega (arith, further, c.outer_of-at.ensures, inside),
+      λ bindings. rw c.outer_of-at.ensures
+          (written-further c.args.slots.now bindings c.loop-at.at c.args.scope _ _ c.requires.homed c.loop-at-test.true c.loop-at.invariant.0 c.index-slots-slots.is
+          (sym c.is_body_of.ensures ∙ c.if-is_body_of.false) (c.loop-at.invariant.1 bindings)),
+    )
 
 pub returns : goal.returns
 returns c bindings = written-source c.args.slots.now bindings c.loop-at.at c.args.scope _ (omega (arith, c.loop-at-test.false)) (c.loop-at.invariant.1 bindings)
