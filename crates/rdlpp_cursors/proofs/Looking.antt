@@ -1,8 +1,6 @@
 -- A look at open texts: where the innermost lies, and what stands at its front.
-use Rattle.std.proofs.Common.{◌≡◌, ℕ, zero, suc, ◌-◌, ◌<◌, ◌≤◌, Bool, true, false, List, [], ◌∷◌, length, take, drop, get_or, refl, sym, ap, subst, ◌∙◌, arith, Option, None, Some}
+use Rattle.std.proofs.Common.{◌≡◌, ℕ, suc, ◌-◌, ◌<◌, ◌≤◌, Bool, true, false, List, [], ◌∷◌, length, take, drop, get_or, sym, ap, subst, ◌∙◌, arith, Some}
 use Rattle.std.specs.Prelude.{if◌then◌else◌, ◌==◌, slice_range}
-use Rattle.std.proofs.lemmas.List.{take_rest}
-use Rattle.rdlpp_table.specs.Table.{Macro}
 use Rattle.rdlpp_meaning.specs.Opens.{OpenKind, OpenBody, OpenActual, OpenDefault, Open, Texts, text_around, open_bytes}
 use Rattle.rdlpp_cursors.specs.declared.front.Front.{Front}
 use Rattle.rdlpp_cursors.specs.declared.front.Look.{Look}

@@ -1,5 +1,5 @@
 -- A run of tokens that are copied, up to the first stop of a text.
-use Rattle.std.proofs.Common.{◌≡◌, ℕ, zero, suc, ◌+◌, ◌-◌, ◌<◌, ◌≤◌, Bool, true, false, true≢false, List, [], ◌∷◌, ◌++◌, length, take, drop, refl, sym, ap, subst, ◌∙◌, arith, Option, None, Some}
+use Rattle.std.proofs.Common.{◌≡◌, ℕ, suc, ◌+◌, ◌-◌, ◌<◌, ◌≤◌, Bool, true, false, true≢false, List, [], ◌∷◌, ◌++◌, length, take, drop, refl, sym, ap, subst, ◌∙◌, arith, Option, None, Some}
 use Rattle.std.specs.Prelude.{if◌then◌else◌, slice_range, slice_index, nat_lt, ◌==◌}
 use Rattle.std.proofs.lemmas.List.{length-take, length-drop, drop-take, drop-drop}
 use Rattle.std.proofs.Math.Seq.{take-add}
@@ -16,14 +16,11 @@ use Rattle.rdlpp_scan.proofs.TokenLens.{token_of-part}
 use Rattle.rdlpp_scan.proofs.TokenLists.{tokens_from-step}
 use Rattle.rdlpp_table.specs.Table.{Formal}
 use Rattle.rdlpp_table.specs.View.{formal_named}
-use Rattle.rdlpp_table.specs.declared.stop.Stop.{Stop}
-use Rattle.rdlpp_table.specs.declared.stop.Stop.TheVariants as stop
 use Rattle.rdlpp_table.specs.Stops.{is_none, stop_name, stop_at}
 use Rattle.rdlpp_meaning.specs.State.{Rules, State}
 use Rattle.rdlpp_meaning.specs.Expansion.{is_copied}
 use Rattle.rdlpp_meaning.specs.TextTokens.{text_tokens}
-use Rattle.rdlpp_meaning.specs.Slots.{Slot}
-use Rattle.rdlpp_meaning.specs.Opens.{Part, Open, Texts, scope_text, text_around, part_tokens, slot_kind, slot_of, slots_of, open_at, AreOpen, open_scope, open_bytes, open_behind}
+use Rattle.rdlpp_meaning.specs.Opens.{Open, Texts, scope_text, text_around, part_tokens, slot_kind, slot_of, slots_of, open_at, AreOpen, open_scope, open_bytes, open_behind}
 use Rattle.rdlpp_meaning.proofs.TextRanges.{text_nil}
 use Rattle.rdlpp_meaning.proofs.OpenMoves.{Alone, first_kind, first_bytes, first_behind, open-lends, behind-open}
 use Rattle.rdlpp_cursors.specs.Fronts.{run_len}

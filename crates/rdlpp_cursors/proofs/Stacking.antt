@@ -1,5 +1,5 @@
 -- The slots of open texts and the ranges that they have bound, as one text moves, opens or closes.
-use Rattle.std.proofs.Common.{◌≡◌, ℕ, suc, ◌+◌, ◌-◌, ◌*◌, ◌<◌, ◌≤◌, List, [], ◌∷◌, map, length, take, drop, get_or, refl, sym, ap, subst, ◌∙◌, arith}
+use Rattle.std.proofs.Common.{◌≡◌, ℕ, ◌+◌, ◌-◌, ◌*◌, ◌<◌, ◌≤◌, List, [], ◌∷◌, map, length, take, drop, get_or, refl, sym, ap, subst, ◌∙◌, arith}
 use Rattle.std.proofs.Common.{rules, Global}
 use Rattle.std.specs.Prelude.{vec_capacity, vec_len, Vec}
 use Rattle.std.proofs.lemmas.List.{drop-set, drop_more, drop_all, length-drop, length-take, length-map, take_all}

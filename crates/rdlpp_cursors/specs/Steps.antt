@@ -12,8 +12,6 @@ use Rattle.rdlpp_meaning.specs.CursorWork.{cursors_work, IsCountedMacro, IsCount
 use Rattle.rdlpp_meaning.specs.Slots.{cursors_of}
 use Rattle.rdlpp_meaning.specs.Opens.{OpenKind, OpenBody, OpenActual, OpenDefault, Open, Texts, text_around, slots_of, AreOpen}
 use Rattle.rdlpp_cursors.specs.Places.{place_bytes}
-use Rattle.rdlpp_cursors.specs.declared.place.TextPlace.{TextPlace}
-use Rattle.rdlpp_cursors.specs.declared.step.CursorFault.{CursorFault}
 use Rattle.rdlpp_cursors.specs.declared.step.CursorStep.{CursorStep}
 use Rattle.rdlpp_cursors.specs.declared.step.CursorStep.TheVariants.{Lends, Silent, Refused}
 

@@ -1,4 +1,4 @@
-use Rattle.std.proofs.Common.{subst, List, ℕ, sym, []}
+use Rattle.std.proofs.Common.{subst, List, ℕ, []}
 use Rattle.std.specs.Prelude.{slice_range}
 use Rattle.rdlpp_cursors.specs.Fronts.{IsFront}
 use Rattle.rdlpp_cursors.specs.Places.{texts_of}

@@ -1,7 +1,5 @@
-use Rattle.std.proofs.Common.{◌≡◌, arith, sym, ◌∙◌, []}
-use Rattle.rdlpp_scan.specs.declared.token.Mode.TheVariants.{Plain}
-use Rattle.rdlpp_scan.specs.Tokens.{tokens_from}
-use Rattle.rdlpp_cursors.specs.Fronts.{IsFront, run_len}
+use Rattle.std.proofs.Common.{◌≡◌, arith, sym, ◌∙◌}
+use Rattle.rdlpp_cursors.specs.Fronts.{IsFront}
 use Rattle.rdlpp_cursors.proofs.Stopping.{front-plain}
 use Rattle.rdlpp_cursors.proofs.front.plain_front.Goals as goal
 

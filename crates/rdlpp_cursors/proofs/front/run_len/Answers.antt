@@ -1,4 +1,4 @@
-use Rattle.std.proofs.Common.{◌≡◌, drop, List, ℕ, ap, sym, ◌∙◌}
+use Rattle.std.proofs.Common.{List, ℕ, ap, sym, ◌∙◌}
 use Rattle.std.proofs.lemmas.List.{take_rest}
 use Rattle.rdlpp_scan.specs.Tokens.{token_of}
 use Rattle.rdlpp_cursors.proofs.Stopping.{running-end, running-more, running-start, running-stop}

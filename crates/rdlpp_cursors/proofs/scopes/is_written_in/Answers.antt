@@ -1,4 +1,4 @@
-use Rattle.std.proofs.Common.{◌≡◌, ◌<◌, ◌≤◌, ℕ, arith, sym, ◌∙◌, []}
+use Rattle.std.proofs.Common.{◌≤◌, arith, sym, ◌∙◌, []}
 use Rattle.rdlpp_cursors.proofs.Scoping.{written-found, written-further, written-source, written-step}
 use Rattle.rdlpp_cursors.proofs.scopes.is_written_in.Goals as goal
 

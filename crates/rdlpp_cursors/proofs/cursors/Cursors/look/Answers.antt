@@ -1,4 +1,4 @@
-use Rattle.std.proofs.Common.{◌<◌, ◌≡◌, ◌-◌, length, drop, List, ap, arith, ◌∙◌}
+use Rattle.std.proofs.Common.{◌<◌, ◌≡◌, ◌-◌, length, drop, List, ap, arith}
 use Rattle.std.proofs.lemmas.List.{length-drop, length-take}
 use Rattle.rdlpp_cursors.specs.declared.slot.Slot.{Slot}
 use Rattle.rdlpp_cursors.proofs.Stacking.{some-open}

@@ -1,4 +1,4 @@
-use Rattle.std.proofs.Common.{ℕ, arith, ap, ◌≤◌, ◌∙◌}
+use Rattle.std.proofs.Common.{arith}
 use Rattle.rdlpp_cursors.proofs.Stacking.{none-open, slots-count, stack-made, view-is}
 use Rattle.rdlpp_cursors.proofs.cursors.Cursors.new.Goals as goal
 
