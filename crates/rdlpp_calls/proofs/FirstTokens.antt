@@ -12,14 +12,14 @@ use Rattle.rdlpp_calls.specs.CallTokens.{role_meant, IsFirstToken}
 use Rattle.rdlpp_calls.specs.declared.tokens.CallRole.{CallRole}
 
 -- the role of a token hangs on its first byte alone
-first_byte : (k : Kind) (xs ys : List ℕ) → slice_index xs 0 ≡ slice_index ys 0 → kind_role k xs ≡ kind_role k ys
+pub first_byte : (k : Kind) (xs ys : List ℕ) → slice_index xs 0 ≡ slice_index ys 0 → kind_role k xs ≡ kind_role k ys
 unfolding kind_role
 first_byte Opener xs ys e = rw e refl
 first_byte Closer xs ys e = rw e refl
 first_byte k xs ys e = refl
 
 -- the first byte of the front of a text
-front_byte : (n : ℕ) (text : List ℕ) → 0 < n → slice_index (take n text) 0 ≡ slice_index text 0
+pub front_byte : (n : ℕ) (text : List ℕ) → 0 < n → slice_index (take n text) 0 ≡ slice_index text 0
 front_byte zero text some = absurd (omega arith)
 front_byte (suc n) [] some = refl
 front_byte (suc n) (b ∷ bs) some = refl

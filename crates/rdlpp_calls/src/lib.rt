@@ -8,6 +8,7 @@ mod tokens;
 
 pub use bindings::{Range, bind_call, bind_parts};
 pub use parts::{Arguments, CallFault, Part, arguments_of, call_end, call_start, next_part};
+pub use tokens::{CallRole, ends_call, level_behind, role_of};
 
 #[cfg(test)]
 mod tests;

@@ -6,26 +6,26 @@ ghost use Rattle.rdlpp_calls.specs.CallTokens.{role_meant, IsFirstToken};
 
 use rdlpp_scan::{Kind, Mode, first_token};
 
-// What a token is in a call.
+/// What a token is in a call (this project's profile).
 #[derive(Clone, Copy)]
-pub(crate) enum CallRole {
-    // A run of blanks, or LF.
+pub enum CallRole {
+    /// A run of blanks, or LF.
     Space,
-    // A `//` comment.
+    /// A `//` comment.
     LineComment,
-    // A block comment.
+    /// A block comment.
     BlockComment,
-    // `(`.
+    /// `(`.
     Start,
-    // `[` or `{`.
+    /// `[` or `{`.
     Opener,
-    // `)`.
+    /// `)`.
     End,
-    // `]` or `}`.
+    /// `]` or `}`.
     Closer,
-    // `,`.
+    /// `,`.
     Comma,
-    // Anything else.
+    /// Anything else.
     Text,
 }
 
@@ -37,9 +37,9 @@ pub(crate) struct CallToken {
     pub(crate) next_mode: Mode,
 }
 
-// The role of a token of a kind with this first byte.
+/// The role of a token of a kind with this first byte.
 #[tactic(auto, unfolding(crate::specs::CallTokens::role_meant, rdlpp_meaning::specs::Actuals::kind_role))]
-fn role_of(kind: Kind, first: u8) -> CallRole
+pub fn role_of(kind: Kind, first: u8) -> CallRole
     ensures { role_meant result ≡ kind_role kind (first ∷ []) }
 {
     match kind {
@@ -78,9 +78,10 @@ pub(crate) fn token_in_call(mode: Mode, text: &[u8]) -> CallToken
     }
 }
 
-// How many openers are open behind a token.
+/// How many openers are open behind a token, where so many are in front of it. `level` is less than
+/// `usize::MAX`.
 #[tactic(auto, unfolding(crate::specs::CallTokens::role_meant, rdlpp_meaning::specs::Actuals::level_behind))]
-pub(crate) fn level_behind(role: CallRole, level: usize) -> usize
+pub fn level_behind(role: CallRole, level: usize) -> usize
     requires { level < usize.MAX }
     ensures { result ≡ level_behind (role_meant role) level }
 {
@@ -91,9 +92,9 @@ pub(crate) fn level_behind(role: CallRole, level: usize) -> usize
     }
 }
 
-// Whether a token at a level of openers is the `)` of a call.
+/// Whether a token at a level of openers is the `)` of a call.
 #[tactic(auto, unfolding(crate::specs::CallTokens::role_meant, crate::specs::CallParts::ends_call))]
-pub(crate) fn ends_call(role: CallRole, level: usize) -> bool
+pub fn ends_call(role: CallRole, level: usize) -> bool
     ensures { result ≡ ends_call (role_meant role) level }
 {
     match role {

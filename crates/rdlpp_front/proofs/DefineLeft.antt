@@ -198,7 +198,7 @@ pub define_inside : {R : Type 0} (tells : Type 0) (unread : R → List ℕ) (hel
 define_inside tells unread held more new len some is e logical = (whole_rest tells unread held more new len some is e logical).wide
 
 -- a byte that is counted
-counted : (t : Bool) (k n : ℕ) → t ≡ true → k ≡ cond t 1 0 + n → k ≡ suc n
+pub counted : (t : Bool) (k n : ℕ) → t ≡ true → k ≡ cond t 1 0 + n → k ≡ suc n
 counted true k n e h = omega arith
 counted false k n e h = cc
 

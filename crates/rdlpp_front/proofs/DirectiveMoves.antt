@@ -13,7 +13,6 @@ use Rattle.rdlpp_meaning.specs.Resumed.{Place, behind, resumed}
 use Rattle.rdlpp_meaning.specs.Opened.{Waiting, all_resumed}
 use Rattle.rdlpp_meaning.proofs.DirectiveWords.{has_own_token}
 use Rattle.rdlpp_meaning.proofs.Includes.{all_resumed_move}
-use Rattle.rdlpp_meaning.proofs.Undefining.{wants_name}
 use Rattle.rdlpp_read.specs.declared.files.File.{File}
 use Rattle.rdlpp_read.specs.Buffer.{held_of, rest_of, tokens_left}
 use Rattle.rdlpp_read.specs.Files.{consumed_file}

@@ -1,5 +1,5 @@
 -- What an `include` with its string in front does to what remains: it opens the source that is found, or is a fault.
-use Rattle.std.proofs.Common.{◌≡◌, ℕ, suc, ◌+◌, ◌-◌, ◌<◌, Bool, true, false, cond, ◌||◌, List, [], ◌∷◌, ◌++◌, Option, Some, None, length, take, drop, refl, sym, ap, ◌∙◌, subst, arith}
+use Rattle.std.proofs.Common.{◌≡◌, ℕ, suc, ◌+◌, ◌-◌, ◌<◌, Bool, true, false, cond, ◌||◌, List, [], ◌∷◌, ◌++◌, Some, None, length, take, drop, refl, sym, ap, ◌∙◌, subst, arith}
 use Rattle.std.specs.Prelude.{not, ◌==◌}
 use Rattle.std.specs.List.{list_any}
 use Rattle.std.specs.Option.{option_map}
@@ -8,7 +8,7 @@ use Rattle.std.proofs.Math.Seq.{take-add}
 use Rattle.std.proofs.lemmas.List.{drop-drop}
 use Rattle.rdlpp_scan.specs.declared.token.Directive.TheVariants.{Include}
 use Rattle.rdlpp_scan.specs.declared.token.Kind.{Kind}
-use Rattle.rdlpp_scan.specs.declared.token.Kind.TheVariants.{Blank, Str}
+use Rattle.rdlpp_scan.specs.declared.token.Kind.TheVariants.{Blank}
 use Rattle.rdlpp_scan.specs.declared.token.Mode.TheVariants.{Plain}
 use Rattle.rdlpp_scan.specs.Bytes.{is_line_end}
 use Rattle.rdlpp_scan.specs.Lines.{EndsLine, ended_line_len}
@@ -23,8 +23,8 @@ use Rattle.rdlpp_scan.proofs.WholeLines.{EndsLine-drop}
 use Rattle.rdlpp_meaning.specs.declared.fault.FaultKind.TheVariants.{IncludeName, PathTooLong, SourceNotFound, TooManyIncludes}
 use Rattle.rdlpp_meaning.specs.Outcome.{fails}
 use Rattle.rdlpp_meaning.specs.State.{LongPath, NoSource, Rules, Source, State, fault_at, shown_line}
-use Rattle.rdlpp_meaning.specs.Parts.{behind_directive, command_in_front, command_of, only_blanks}
-use Rattle.rdlpp_meaning.specs.Meaning.{Passage, Progress, added_end, at_start_of, behind_bytes, leaves, origin_line, unquoted}
+use Rattle.rdlpp_meaning.specs.Parts.{behind_directive, command_of, only_blanks}
+use Rattle.rdlpp_meaning.specs.Meaning.{Progress, added_end, at_start_of, behind_bytes, leaves, origin_line, unquoted}
 use Rattle.rdlpp_meaning.specs.Resumed.{Live}
 use Rattle.rdlpp_meaning.specs.Opened.{Waiting, all_resumed, waiting}
 use Rattle.rdlpp_meaning.proofs.DirectiveWords.{has_own_token}
@@ -62,7 +62,7 @@ closed_string bytes n (Closes c) some = c
 closed_string bytes n (Opens none zero_is) some = absurd (omega arith)
 
 -- an `include` is a word
-include_word : has_own_token Include ≡ false
+pub include_word : has_own_token Include ≡ false
 unfolding has_own_token
 include_word = refl
 

@@ -17,3 +17,4 @@ pub mod LineLeft
 pub mod SkippedWords
 pub mod SkippedTokens
 pub mod IncludeLeft
+pub mod IncludeMissing

@@ -11,7 +11,7 @@ use Rattle.rdlpp_scan.specs.Tokens.{token_of, plain_len}
 use Rattle.rdlpp_scan.specs.Stage.{is_reserved, is_unbuilt}
 use Rattle.rdlpp_meaning.specs.declared.fault.FaultKind.{FaultKind}
 use Rattle.rdlpp_meaning.specs.declared.fault.FaultKind.TheVariants as fault
-use Rattle.rdlpp_read.specs.Arguments.{NameGiven, NoName, StringGiven}
+use Rattle.rdlpp_read.specs.Arguments.{NameGiven, NoName, NoString, StringGiven}
 use Rattle.rdlpp_front.specs.declared.front.Argument.{Argument}
 use Rattle.rdlpp_front.specs.declared.front.Front.{Front}
 use Rattle.rdlpp_front.specs.declared.front.Front.TheVariants.{Text, Usage, Define, Undef, Refused}
@@ -91,6 +91,11 @@ pub record HasString (held : List ℕ) (start stop : ℕ) : Type 0 where
   pub given : StringGiven (drop (length (word_of directive.Include)) held) from to
   pub starts : start ≡ length (word_of directive.Include) + from
   pub stops : stop ≡ length (word_of directive.Include) + to
+
+-- an `include` behind which no string stands that closes on its line
+pub record LacksString (held : List ℕ) : Type 0 where
+  pub word : IsDirective directive.Include held
+  pub none : NoString (drop (length (word_of directive.Include)) held)
 
 -- what a directive is given
 abbrev pub argument_name : List ℕ → ℕ → ℕ → List ℕ

@@ -74,4 +74,5 @@ pub mod KeptTexts
 pub mod ReadCalls
 pub mod OpenScopes
 pub mod OpenMoves
+pub mod RestTokens
 pub mod TableTexts

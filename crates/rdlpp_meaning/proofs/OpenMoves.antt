@@ -164,15 +164,15 @@ alone-move rules s line depth slot t ts below standing e =
     ap (λ (o : Option Slot). slot_standing rules s line depth slot t ts below o) e
 
 -- the kind of the first token of an open text
-pub first_kind : Texts → Open → List Open → Kind
+unfoldable pub first_kind : Texts → Open → List Open → Kind
 first_kind texts x below = (token_of x.part.mode (open_bytes texts x below)).kind
 
 -- its bytes
-pub first_bytes : Texts → Open → List Open → List ℕ
+unfoldable pub first_bytes : Texts → Open → List Open → List ℕ
 first_bytes texts x below = take (token_of x.part.mode (open_bytes texts x below)).len (open_bytes texts x below)
 
 -- the open text behind it
-pub first_behind : Texts → Open → List Open → Open
+unfoldable pub first_behind : Texts → Open → List Open → Open
 first_behind texts x below =
     open_behind x (token_of x.part.mode (open_bytes texts x below)).len (token_of x.part.mode (open_bytes texts x below)).next_mode
 
@@ -348,7 +348,7 @@ open-bare rules s line depth texts x below some e =
     ∙ bare-token rules s line depth (slot_of texts x below) (first_bytes texts x below) (slot_of texts (first_behind texts x below) below).text (slots_of texts below)
 
 -- what the usage in front of an open text comes to
-pub first_usage : Rules → State → ℕ → Texts → Open → List Open → TokenUsage
+unfoldable pub first_usage : Rules → State → ℕ → Texts → Open → List Open → TokenUsage
 first_usage rules s line texts x below =
     token_usage_of not_kept rules s line (writer_at (slots_of texts (x ∷ below)) (open_scope x below)) (drop 1 (first_bytes texts x below))
     (slot_of texts (first_behind texts x below) below).text

@@ -7,3 +7,4 @@ pub mod BufferTokens
 pub mod Extending
 pub mod BlankFacts
 pub mod Slots
+pub mod LineArguments

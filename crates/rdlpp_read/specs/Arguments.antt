@@ -1,12 +1,16 @@
 -- What a directive is given behind its word, by the tokens that stand there.
 -- A definition that names no source is this project's own.
-use Rattle.std.specs.Prelude.{◌≡◌, ℕ, ◌-◌, ◌≤◌, ◌<◌, List, length, take, drop, Option, None, Some}
+use Rattle.std.specs.Prelude.{◌≡◌, ℕ, ◌-◌, ◌≤◌, ◌<◌, false, ◌&&◌, nat_le, List, length, take, drop, Option, None, Some}
+use Rattle.arrayvec.specs.declared.array_string.ArrayString.{ArrayString}
 use Rattle.rdlpp_scan.specs.declared.token.Kind.{Kind}
 use Rattle.rdlpp_scan.specs.declared.token.Kind.TheVariants.{Blank, Name, Str}
 use Rattle.rdlpp_scan.specs.declared.token.Mode.TheVariants.{Plain}
 use Rattle.rdlpp_scan.specs.Lines.{ended_line_len}
 use Rattle.rdlpp_scan.specs.Tokens.{token_of}
+use Rattle.rdlpp_scan.specs.SourceTokens.{line_len}
+use Rattle.rdlpp_meaning.specs.Meaning.{digits_value, renumbered, renumbered_name}
 use Rattle.rdlpp_read.specs.declared.arguments.Given.{Given}
+use Rattle.rdlpp_read.specs.declared.arguments.line.GivenLine.{GivenLine}
 
 -- the first token of a text, where it is of a kind: how long it is; 0 where it isn't
 pub data IsLead (kind : Kind) (bytes : List ℕ) (len : ℕ) : Type 0 where
@@ -61,3 +65,30 @@ pub record NoString (bytes : List ℕ) : Type 0 where
 abbrev pub IsStringGiven : Option Given → List ℕ → Type 0
 IsStringGiven None bytes = NoString bytes
 IsStringGiven (Some given) bytes = StringGiven bytes given.start given.stop
+
+-- the number and the name that the line at the front of a text gives, and how long that line is (IEEE 1364-2001, `line`)
+pub record LineGiven (bytes : List ℕ) (given : GivenLine) : Type 0 where
+  pub value : renumbered (take (line_len bytes) bytes) ≡ Some (record { number = given.number; name = given.name.bytes })
+  pub number : given.number ≤ 2147483647
+  pub stop : given.stop ≡ line_len bytes
+  pub inside : given.stop ≤ length bytes
+
+-- what a `line` is given by the rest of its line (IEEE 1364-2001, `line`)
+abbrev pub IsLineGiven : Option GivenLine → List ℕ → Type 0
+IsLineGiven None bytes = renumbered (take (line_len bytes) bytes) ≡ None
+IsLineGiven (Some given) bytes = LineGiven bytes given
+
+-- the number that digits spell, where it is from 1 to 2,147,483,647 (this project's profile)
+abbrev pub IsLineNumber : Option ℕ → List ℕ → Type 0
+IsLineNumber None digits = (nat_le 1 (digits_value digits) && nat_le (digits_value digits) 2147483647) ≡ false
+IsLineNumber (Some number) digits = (number ≡ digits_value digits) × (0 < number) × (number ≤ 2147483647)
+
+-- the name that stands in front, where a level ends the line behind it (IEEE 1364-2001, `line`)
+abbrev pub IsShownName : Option (ArrayString 1024) → List ℕ → Type 0
+IsShownName None bytes = (number : ℕ) → renumbered_name number bytes ≡ None
+IsShownName (Some name) bytes = (number : ℕ) → renumbered_name number bytes ≡ Some (record { number = number; name = name.bytes })
+
+-- a closing quote stands within the text
+abbrev pub IsQuoteWithin : Option ℕ → List ℕ → Type 0
+IsQuoteWithin None bytes = Unit {0}
+IsQuoteWithin (Some place) bytes = place < length bytes

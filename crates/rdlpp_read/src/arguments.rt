@@ -2,6 +2,9 @@
 ghost use Rattle.std.specs.Prelude.{◌≡◌, ◌≤◌, length};
 ghost use Rattle.rdlpp_read.specs.Arguments.{IsClosedString, IsLead, IsNameGiven, IsStringGiven};
 
+mod line;
+
+pub use line::{GivenLine, given_line};
 use rdlpp_scan::{Kind, Mode, first_token, rest_of_line};
 
 /// Where what a directive is given stands, counted in bytes from behind its word.

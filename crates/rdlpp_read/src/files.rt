@@ -179,6 +179,7 @@ impl<R: Drop> Files<R> {
         requires { 0 < length self.now.nest }
         ensures inner { self.now.nest ≡ result.now ∷ drop 1 self.now.nest }
         ensures buffer { result.now.buffer ≡ inner_buffer self.now.nest }
+        ensures ends { EndsHeld result.now.buffer }
     {
         &self.slots[self.first]
     }

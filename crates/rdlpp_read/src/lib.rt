@@ -8,6 +8,6 @@ mod files;
 #[cfg(test)]
 mod tests;
 
-pub use arguments::{Given, given_name, given_string};
+pub use arguments::{Given, GivenLine, given_line, given_name, given_string};
 pub use buffer::{Fill, LogicalLine, SourceBuffer, fill_buffer, hold_logical_line};
 pub use files::{File, Files, Shift};

@@ -1,0 +1,319 @@
+-- The reading of a call as it goes on: what was read so far, and what each turn makes of it.
+use Rattle.std.proofs.Common.{◌≡◌, ◌≢◌, ℕ, ◌+◌, ◌-◌, ◌≤◌, ◌<◌, Bool, true, false, List, [], ◌∷◌, ◌++◌, length, take, refl, sym, ap, ◌∙◌, subst, arith, append-nil}
+use Rattle.std.proofs.lemmas.List.{length-append, length-take-le}
+use Rattle.rdlpp_scan.specs.declared.token.Mode.{Mode}
+use Rattle.rdlpp_scan.specs.declared.token.Mode.TheVariants.{Plain, InStr, InBlock}
+use Rattle.rdlpp_scan.specs.Front.{Breach, StringOpen, CommentOpen}
+use Rattle.rdlpp_meaning.specs.declared.fault.FaultKind.{FaultKind}
+use Rattle.rdlpp_meaning.specs.declared.fault.FaultKind.TheVariants.{EmbeddedPerl}
+use Rattle.rdlpp_meaning.specs.State.{breach_kind}
+use Rattle.rdlpp_meaning.specs.CallReading.{ReadRefused, ReadStopped, is_part_breach, read}
+use Rattle.rdlpp_meaning.specs.CallScan.{Before, Stand, fault_at_end}
+use Rattle.rdlpp_meaning.specs.Parts.{only_blanks}
+use Rattle.rdlpp_read.specs.Buffer.{BufferView, EndsHeld, entered_mode, held_of, tokens_left, unused_of}
+use Rattle.rdlpp_read.specs.Calls.{SourcesRead}
+use Rattle.rdlpp_read.specs.Files.{FilesView, inner_buffer, torn_after, with_buffer}
+use Rattle.rdlpp_read.specs.Filling.{ended_tokens, only_broken}
+use Rattle.rdlpp_read.specs.declared.files.File.{File}
+use Rattle.rdlpp_read.proofs.Growing.{calls-on}
+use Rattle.rdlpp_source.specs.declared.sources.Sources.{Ghosts}
+use Rattle.rdlpp_arguments.specs.CallReads.{IsEndOfText, IsEnded, IsTaken, ReadsCall, TellsCall, is_failed_call, used_buffer, with_used}
+use Rattle.rdlpp_arguments.specs.Reads.{Closes, GoesOn, all_built, is_open, reading}
+use Rattle.rdlpp_arguments.specs.Store.{StoreView}
+use Rattle.rdlpp_arguments.specs.Taking.{IsClose, IsTaking, IsUse, kept_of, level_in, stand_meant}
+use Rattle.rdlpp_arguments.specs.declared.taking.Taking.TheVariants.{Refused as RefusedTaking, Perl}
+use Rattle.rdlpp_arguments.specs.declared.taking.Use.{Use}
+use Rattle.rdlpp_arguments.specs.declared.reading.CallRead.{CallRead}
+use Rattle.rdlpp_arguments.specs.declared.reading.CallRead.TheVariants.{Closed, Refused, Broken, Failed}
+use Rattle.rdlpp_arguments.proofs.GoingOn.{close_closes, fill_goes_on, goes_on_told, goes_on_twice, taking_broken, taking_refused, token_goes_on, tells_behind, tells_told, used_inner, used_length, used_none, used_twice}
+use Rattle.rdlpp_arguments.proofs.Halts.{broken_reads}
+
+-- a call of which some was read: the store has what is kept of the used bytes, and reading goes on where it stands
+pub record IsReading {S R : Type 0} (g : Ghosts S R) (failed : Bool) (first now : S) (old new : FilesView R) (most : ℕ) (store : StoreView) (at : Stand) : Type 0 where
+  pub used : List ℕ
+  pub only : new ≡ record old { nest = new.nest }
+  pub inner : new.nest ≡ with_used (inner_buffer new.nest) used old.nest
+  pub goes_on : GoesOn (g.tells first) g.unread Before at most store.bytes used (inner_buffer old.nest) (inner_buffer new.nest)
+  pub room : store.most ≡ most
+  pub level : level_in at ≤ length store.bytes
+  pub lead : at ≡ Before → (inner_buffer new.nest).mode ≢ InStr
+  pub call : SourcesRead g failed first now
+
+-- sources of which nothing was used
+same_used : {R : Type 0} (nest : List (File R)) → nest ≡ with_used (inner_buffer nest) [] nest
+unfolding only_blanks torn_after
+same_used [] = refl
+same_used (f ∷ outer) = refl
+
+-- sources that weren't asked
+not_asked : {S R : Type 0} (g : Ghosts S R) (s : S) → SourcesRead g false s s
+not_asked g s = record { failures = refl; refusals = refl; tells = λ t. t; catalog = refl }
+
+-- nothing was read yet
+pub reading_starts : {S R : Type 0} (g : Ghosts S R) (s : S) (files : FilesView R) (most : ℕ) (store : StoreView) → store.bytes ≡ [] → store.most ≡ most
+    → (inner_buffer files.nest).mode ≡ Plain → IsReading g false s s files files most store Before
+unfolding level_in
+reading_starts g s files most store none room plain =
+    record {
+      used = [];
+      only = refl;
+      inner = same_used files.nest;
+      goes_on = subst (λ (k : List ℕ). GoesOn (g.tells s) g.unread Before Before most k [] (inner_buffer files.nest) (inner_buffer files.nest)) (sym none)
+          (fill_goes_on (g.tells s) g.unread Before most (inner_buffer files.nest) (inner_buffer files.nest) refl refl (λ u t. refl));
+      room = room;
+      level = omega arith;
+      lead = λ _ open_. (let no : Plain ≡ InStr = sym plain ∙ open_ in cc);
+      call = not_asked g s;
+    }
+
+-- there is still a source
+pub still_open : {S R : Type 0} (g : Ghosts S R) (failed : Bool) (first now : S) (old new : FilesView R) (most : ℕ) (store : StoreView) (at : Stand)
+    → IsReading g failed first now old new most store at → 0 < length old.nest → 0 < length new.nest
+still_open g failed first now old new most store at r some =
+    omega (arith, ap length r.inner, used_length (inner_buffer new.nest) r.used old.nest)
+
+-- bytes that are used one after the other
+pub used_on : {R : Type 0} (old mid new : List (File R)) (x y : List ℕ) → mid ≡ with_used (inner_buffer mid) x old → new ≡ with_used (inner_buffer new) y mid
+    → new ≡ with_used (inner_buffer new) (x ++ y) old
+used_on {R = R} old mid new x y a b =
+    b ∙ ap (λ (m : List (File R)). with_used (inner_buffer new) y m) a ∙ used_twice (inner_buffer mid) (inner_buffer new) x y old
+
+-- a buffer was filled, and the tokens stay
+pub filled : {S R : Type 0} (g : Ghosts S R) (failed : Bool) (first now after : S) (old mid new : FilesView R) (most : ℕ) (store : StoreView) (at : Stand)
+    → IsReading g false first now old mid most store at
+    → new ≡ record mid { nest = with_buffer (inner_buffer new.nest) mid.nest }
+    → unused_of (inner_buffer new.nest) ≡ unused_of (inner_buffer mid.nest) → (inner_buffer new.nest).mode ≡ (inner_buffer mid.nest).mode
+    → ((u : List ℕ → Bool) → g.tells now → tokens_left u g.unread (inner_buffer new.nest) ≡ tokens_left u g.unread (inner_buffer mid.nest))
+    → SourcesRead g failed now after
+    → IsReading g failed first after old new most store at
+filled g failed first now after old mid new most store at r only unused mode tokens call =
+    let nest : new.nest ≡ with_used (inner_buffer new.nest) [] mid.nest = ap (λ f. f.nest) only ∙ used_none (inner_buffer new.nest) mid.nest in
+    record {
+      used = r.used ++ [];
+      only = (let o = r.only in cc);
+      inner = used_on old.nest mid.nest new.nest r.used [] r.inner nest;
+      goes_on = subst (λ (k : List ℕ). GoesOn (g.tells first) g.unread Before at most k (r.used ++ []) (inner_buffer old.nest) (inner_buffer new.nest)) (append-nil store.bytes)
+          (goes_on_twice (g.tells first) g.unread Before at at most store.bytes [] r.used [] (inner_buffer old.nest) (inner_buffer mid.nest) (inner_buffer new.nest) r.goes_on
+          (fill_goes_on (g.tells first) g.unread at (most - length store.bytes) (inner_buffer mid.nest) (inner_buffer new.nest) unused mode (λ u t. tokens u (r.call.tells t))));
+      room = r.room;
+      level = r.level;
+      lead = λ before open_. r.lead before (sym mode ∙ open_);
+      call = calls-on g failed first now after r.call call;
+    }
+
+-- a token was taken
+pub taken : {S R : Type 0} (g : Ghosts S R) (first now : S) (old mid new : FilesView R) (most : ℕ) (store after : StoreView) (at to : Stand)
+    → IsReading g false first now old mid most store at
+    → new ≡ record mid { nest = new.nest } → after.most ≡ store.most
+    → IsTaken at to (store.most - length store.bytes) store.bytes after.bytes mid.nest new.nest
+    → IsReading g false first now old new most after to
+taken {R = R} g first now old mid new most store after at to r only room t =
+    let size : length after.bytes ≡ length store.bytes + length t.kept = ap length t.bytes ∙ length-append store.bytes t.kept in
+    let level = t.level in
+    let before = r.level in
+    record {
+      used = r.used ++ t.used;
+      only = (let o = r.only in cc);
+      inner = used_on old.nest mid.nest new.nest r.used t.used r.inner t.inner;
+      goes_on = subst (λ (k : List ℕ). GoesOn (g.tells first) g.unread Before to most k (r.used ++ t.used) (inner_buffer old.nest) (inner_buffer new.nest)) (sym t.bytes)
+          (goes_on_twice (g.tells first) g.unread Before at to most store.bytes t.kept r.used t.used (inner_buffer old.nest) (inner_buffer mid.nest) (inner_buffer new.nest) r.goes_on
+          (goes_on_told (g.tells first) g.unread at to (most - length store.bytes) t.kept t.used (inner_buffer mid.nest) (inner_buffer new.nest)
+          (subst (λ n. GoesOn Unit g.unread at to (n - length store.bytes) t.kept t.used (inner_buffer mid.nest) (inner_buffer new.nest)) r.room (t.goes_on g.unread))));
+      room = room ∙ r.room;
+      level = omega arith;
+      lead = t.lead;
+      call = r.call;
+    }
+
+-- an answer behind what was read
+pub answered : {S R : Type 0} (g : Ghosts S R) (first now : S) (old mid : FilesView R) (new : List (File R)) (most : ℕ) (store : StoreView) (at : Stand) (used : List ℕ) (result : CallRead)
+    → IsReading g false first now old mid most store at
+    → new ≡ with_used (inner_buffer new) used mid.nest → unused_of (inner_buffer new) + length used ≡ unused_of (inner_buffer mid.nest)
+    → TellsCall (g.tells first) g.unread at (most - length store.bytes) [] used (inner_buffer mid.nest) (inner_buffer new) result
+    → ReadsCall (g.tells first) g.unread Before most store.bytes result old.nest new
+answered g first now old mid new most store at used result r inner unused tells =
+    let on = r.goes_on.unused in
+    record {
+      used = r.used ++ used;
+      inner = used_on old.nest mid.nest new r.used used r.inner inner;
+      unused = omega (arith, length-append r.used used);
+      answer = subst (λ (k : List ℕ). TellsCall (g.tells first) g.unread Before most k (r.used ++ used) (inner_buffer old.nest) (inner_buffer new) result) (append-nil store.bytes)
+          (tells_behind (g.tells first) g.unread Before at most store.bytes [] r.used used (inner_buffer old.nest) (inner_buffer mid.nest) (inner_buffer new) result r.goes_on tells);
+    }
+
+-- an answer at a token
+pub answered_token : {S R : Type 0} (g : Ghosts S R) (first now : S) (old mid : FilesView R) (new : List (File R)) (most : ℕ) (store after : StoreView) (at : Stand) (result : CallRead)
+    → IsReading g false first now old mid most store at
+    → IsEnded at (store.most - length store.bytes) store.bytes after.bytes mid.nest new result
+    → ReadsCall (g.tells first) g.unread Before most after.bytes result old.nest new
+answered_token g first now old mid new most store after at result r e =
+    let c = e.reads g.unread in
+    subst (λ (k : List ℕ). ReadsCall (g.tells first) g.unread Before most k result old.nest new) (sym e.bytes)
+    (answered g first now old mid new most store at c.used result r c.inner c.unused
+    (tells_told (g.tells first) g.unread at (most - length store.bytes) [] c.used (inner_buffer mid.nest) (inner_buffer new) result
+    (subst (λ n. TellsCall Unit g.unread at (n - length store.bytes) [] c.used (inner_buffer mid.nest) (inner_buffer new) result) r.room c.answer)))
+
+-- an answer where nothing more is held
+pub answered_unfilled : {S R : Type 0} (g : Ghosts S R) (first now : S) (old mid new : FilesView R) (most : ℕ) (store : StoreView) (at : Stand) (result : CallRead)
+    → IsReading g false first now old mid most store at
+    → new ≡ record mid { nest = with_buffer (inner_buffer new.nest) mid.nest } → unused_of (inner_buffer new.nest) ≡ unused_of (inner_buffer mid.nest)
+    → TellsCall (g.tells first) g.unread at (most - length store.bytes) [] [] (inner_buffer mid.nest) (inner_buffer new.nest) result
+    → ReadsCall (g.tells first) g.unread Before most store.bytes result old.nest new.nest
+answered_unfilled g first now old mid new most store at result r only unused tells =
+    answered g first now old mid new.nest most store at [] result r
+    (ap (λ f. f.nest) only ∙ used_none (inner_buffer new.nest) mid.nest) (omega (arith, unused)) tells
+
+-- a read failed behind what was read
+pub answered_failed : {S R : Type 0} (g : Ghosts S R) (first now : S) (old new : FilesView R) (most : ℕ) (store : StoreView) (at : Stand)
+    → IsReading g true first now old new most store at
+    → ReadsCall (g.tells first) g.unread Before most store.bytes Failed old.nest new.nest
+answered_failed g first now old new most store at r =
+    record { used = r.used; inner = r.inner; unused = r.goes_on.unused; answer = record { to = at; goes_on = r.goes_on } }
+
+-- what an answer at the end of a text tells
+pub end_tells : {R : Type 0} (tells : Type 0) (unread : R → List ℕ) (at : Stand) (room : ℕ) (old new : BufferView R) (result : CallRead)
+    → IsEndOfText at room new result → new.mode ≡ old.mode → new.open_token_line ≡ old.open_token_line
+    → ((u : List ℕ → Bool) → tells → tokens_left u unread old ≡ ended_tokens old.mode old.open_token_line)
+    → TellsCall tells unread at room [] [] old new result
+unfolding reading
+end_tells tells unread at room old new (Refused kind) e mode opened tokens =
+    λ t. ap (read at (is_open old.mode) room) (tokens all_built t)
+    ∙ sym (ap (λ (m : Mode). read at (is_open m) room (ended_tokens m old.open_token_line)) mode)
+    ∙ sym (ap (λ n. read at (is_open new.mode) room (ended_tokens new.mode n)) opened)
+    ∙ e
+end_tells tells unread at room old new (Broken kind line) e mode opened tokens =
+    λ u spares t. ap (read at (is_open old.mode) room) (tokens u t)
+    ∙ sym (ap (λ (m : Mode). read at (is_open m) room (ended_tokens m old.open_token_line)) mode)
+    ∙ sym (ap (λ n. read at (is_open new.mode) room (ended_tokens new.mode n)) opened)
+    ∙ e
+end_tells tells unread at room old new Closed e mode opened tokens = absurd e
+end_tells tells unread at room old new Failed e mode opened tokens = absurd e
+
+pub end_read : {R : Type 0} (at : Stand) (room : ℕ) (f : BufferView R) (result : CallRead) → IsEndOfText at room f result → is_failed_call result ≡ false
+end_read at room f (Refused kind) e = refl
+end_read at room f (Broken kind line) e = refl
+end_read at room f Closed e = absurd e
+end_read at room f Failed e = absurd e
+
+-- what a line that breaks the text tells
+pub break_tells : {R : Type 0} (tells : Type 0) (unread : R → List ℕ) (at : Stand) (room : ℕ) (old new : BufferView R) (b : Breach) (line : ℕ)
+    → is_part_breach b ≡ true → line ≡ old.line → ((u : List ℕ → Bool) → tells → tokens_left u unread old ≡ only_broken b old.line)
+    → TellsCall tells unread at room [] [] old new (Broken (breach_kind b) line)
+unfolding reading
+break_tells tells unread at room old new b line part same tokens u spares t =
+    ap (read at (is_open old.mode) room) (tokens u t) ∙ broken_reads at (is_open old.mode) room b old.line part ∙ ap (ReadStopped (breach_kind b)) (sym same)
+
+-- what stands at the end of a text, in plain text, in a string and in a comment
+pub end_plain : {R : Type 0} (at : Stand) (room : ℕ) (f : BufferView R) → f.mode ≡ Plain → read at (is_open f.mode) room (ended_tokens f.mode f.open_token_line) ≡ ReadRefused (fault_at_end at)
+unfolding read is_open
+end_plain at room f is = ap (λ (m : Mode). read at (is_open m) room (ended_tokens m f.open_token_line)) is
+
+pub end_string : {R : Type 0} (at : Stand) (room : ℕ) (f : BufferView R) → f.mode ≡ InStr
+    → read at (is_open f.mode) room (ended_tokens f.mode f.open_token_line) ≡ ReadStopped (breach_kind StringOpen) f.open_token_line
+unfolding is_part_breach
+end_string at room f is = ap (λ (m : Mode). read at (is_open m) room (ended_tokens m f.open_token_line)) is ∙ broken_reads at (is_open InStr) room StringOpen f.open_token_line refl
+
+pub end_comment : {R : Type 0} (at : Stand) (room : ℕ) (f : BufferView R) → f.mode ≡ InBlock
+    → read at (is_open f.mode) room (ended_tokens f.mode f.open_token_line) ≡ ReadStopped (breach_kind CommentOpen) f.open_token_line
+unfolding is_part_breach
+end_comment at room f is = ap (λ (m : Mode). read at (is_open m) room (ended_tokens m f.open_token_line)) is ∙ broken_reads at (is_open InBlock) room CommentOpen f.open_token_line refl
+
+-- a token that is used, by what is done with it
+pub token_used : {R : Type 0} (at : Stand) (m : Mode) (room most : ℕ) (held kept bytes after : List ℕ) (old new : List (File R)) (u : Use)
+    → 0 < length old → EndsHeld (inner_buffer old) → m ≡ (inner_buffer old).mode → held ≡ held_of (inner_buffer old) → room ≡ most - length bytes
+    → IsUse at m room held u → kept ≡ kept_of u.is_kept (take u.len held) → after ≡ bytes ++ kept
+    → new ≡ with_used (used_buffer (inner_buffer old) u.len u.next_mode) (take u.len (held_of (inner_buffer old))) old
+    → IsTaken at (stand_meant u.stand) (most - length bytes) bytes after old new
+unfolding entered_mode
+token_used {R = R} at m room most held kept bytes after old new u some ends mode text left how keeps becomes uses =
+    let f = inner_buffer old in
+    let g = used_buffer f u.len u.next_mode in
+    let used = take u.len (held_of f) in
+    let own : IsUse at f.mode (most - length bytes) (held_of f) u =
+    subst (λ (d : Mode). IsUse at d (most - length bytes) (held_of f) u) mode
+    (subst (λ (xs : List ℕ). IsUse at m (most - length bytes) xs u) text (subst (λ n. IsUse at m n held u) left how)) in
+    let inner : inner_buffer new ≡ g = ap inner_buffer uses ∙ used_inner g used old some in
+    let size : length used ≡ u.len = length-take-le u.len (held_of f) own.inside in
+    record {
+      used = used;
+      kept = kept_of u.is_kept used;
+      some = omega (arith, size, own.some);
+      bytes = becomes ∙ ap (λ z. bytes ++ z) (keeps ∙ ap (λ xs. kept_of u.is_kept (take u.len xs)) text);
+      inner = uses ∙ ap (λ (b : BufferView R). with_used b used old) (sym inner);
+      level = own.level;
+      lead = λ before open_. own.lead before (sym (ap (λ (b : BufferView R). b.mode) inner) ∙ open_);
+      goes_on = λ unread.
+          subst (λ (b : BufferView R). GoesOn Unit unread at (stand_meant u.stand) (most - length bytes) (kept_of u.is_kept used) used f b) (sym inner)
+          (token_goes_on unread at (most - length bytes) f u ends own);
+    }
+
+-- the `)`, by what is done with it
+pub token_closed : {R : Type 0} (at : Stand) (m : Mode) (room most : ℕ) (held bytes : List ℕ) (old new : List (File R))
+    → 0 < length old → EndsHeld (inner_buffer old) → 0 < length (held_of (inner_buffer old)) → m ≡ (inner_buffer old).mode → held ≡ held_of (inner_buffer old) → room ≡ most - length bytes
+    → IsClose at m room held → new ≡ with_used (used_buffer (inner_buffer old) 1 Plain) (take 1 (held_of (inner_buffer old))) old
+    → IsEnded at (most - length bytes) bytes bytes old new Closed
+token_closed {R = R} at m room most held bytes old new some ends there mode text left close uses =
+    let f = inner_buffer old in
+    let g = used_buffer f 1 Plain in
+    let used = take 1 (held_of f) in
+    let own : IsClose at f.mode (most - length bytes) (held_of f) =
+    subst (λ (d : Mode). IsClose at d (most - length bytes) (held_of f)) mode
+    (subst (λ (xs : List ℕ). IsClose at m (most - length bytes) xs) text (subst (λ n. IsClose at m n held) left close)) in
+    let inner : inner_buffer new ≡ g = ap inner_buffer uses ∙ used_inner g used old some in
+    record {
+      bytes = refl;
+      answers = refl;
+      reads = λ unread.
+          let closes = close_closes unread at (most - length bytes) f ends there own in
+          record {
+            used = used;
+            inner = uses ∙ ap (λ (b : BufferView R). with_used b used old) (sym inner);
+            unused = ap (λ (b : BufferView R). unused_of b + length used) inner ∙ closes.unused;
+            answer = subst (λ (b : BufferView R). Closes Unit unread at (most - length bytes) [] used f b) (sym inner) closes;
+          };
+    }
+
+-- nothing was used
+nothing_used : {R : Type 0} (unread : R → List ℕ) (at : Stand) (room : ℕ) (nest : List (File R)) (result : CallRead)
+    → TellsCall Unit unread at room [] [] (inner_buffer nest) (inner_buffer nest) result → ReadsCall Unit unread at room [] result nest nest
+nothing_used unread at room nest result tells = record { used = []; inner = same_used nest; unused = omega arith; answer = tells }
+
+-- a call that is refused at a token
+pub token_refused : {R : Type 0} (at : Stand) (m : Mode) (room most : ℕ) (held bytes : List ℕ) (nest : List (File R)) (kind : FaultKind)
+    → EndsHeld (inner_buffer nest) → m ≡ (inner_buffer nest).mode → held ≡ held_of (inner_buffer nest) → room ≡ most - length bytes
+    → IsTaking at m room held (RefusedTaking kind) → IsEnded at (most - length bytes) bytes bytes nest nest (Refused kind)
+token_refused at m room most held bytes nest kind ends mode text left law =
+    let f = inner_buffer nest in
+    let own : IsTaking at f.mode (most - length bytes) (held_of f) (RefusedTaking kind) =
+    subst (λ (d : Mode). IsTaking at d (most - length bytes) (held_of f) (RefusedTaking kind)) mode
+    (subst (λ (xs : List ℕ). IsTaking at m (most - length bytes) xs (RefusedTaking kind)) text (subst (λ n. IsTaking at m n held (RefusedTaking kind)) left law)) in
+    record {
+      bytes = refl;
+      answers = refl;
+      reads = λ unread. nothing_used unread at (most - length bytes) nest (Refused kind) (λ _. taking_refused unread at (most - length bytes) f kind ends own);
+    }
+
+-- a call that embedded Perl breaks
+pub token_perl : {R : Type 0} (at : Stand) (m : Mode) (room most line : ℕ) (held bytes : List ℕ) (nest : List (File R))
+    → EndsHeld (inner_buffer nest) → m ≡ (inner_buffer nest).mode → held ≡ held_of (inner_buffer nest) → room ≡ most - length bytes → line ≡ (inner_buffer nest).line
+    → IsTaking at m room held Perl → IsEnded at (most - length bytes) bytes bytes nest nest (Broken EmbeddedPerl line)
+token_perl at m room most line held bytes nest ends mode text left where_ law =
+    let f = inner_buffer nest in
+    let own : IsTaking at f.mode (most - length bytes) (held_of f) Perl =
+    subst (λ (d : Mode). IsTaking at d (most - length bytes) (held_of f) Perl) mode
+    (subst (λ (xs : List ℕ). IsTaking at m (most - length bytes) xs Perl) text (subst (λ n. IsTaking at m n held Perl) left law)) in
+    record {
+      bytes = refl;
+      answers = refl;
+      reads = λ unread.
+          nothing_used unread at (most - length bytes) nest (Broken EmbeddedPerl line)
+          (λ u spares _. taking_broken unread at (most - length bytes) f EmbeddedPerl ends own u spares ∙ ap (ReadStopped EmbeddedPerl) (sym where_));
+    }
+
+-- a token uses bytes
+pub less_left : {R : Type 0} (unread : R → List ℕ) (at to : Stand) (room most : ℕ) (bytes after : List ℕ) (old mid new : List (File R))
+    → IsTaken at to room bytes after mid new → unused_of (inner_buffer mid) ≡ unused_of (inner_buffer old) → unused_of (inner_buffer new) < unused_of (inner_buffer old)
+less_left unread at to room most bytes after old mid new t same =
+    let on = (t.goes_on unread).unused in
+    let some = t.some in
+    omega arith

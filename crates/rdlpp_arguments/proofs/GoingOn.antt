@@ -1,0 +1,222 @@
+-- Reading a call goes on over bytes that are used, token by token and over refills.
+use Rattle.std.proofs.Common.{◌≡◌, ℕ, ◌+◌, ◌-◌, ◌≤◌, ◌<◌, Bool, not, List, [], ◌∷◌, ◌++◌, length, take, drop, refl, sym, ap, ◌∙◌, append_assoc, inl, inr, arith}
+use Rattle.std.proofs.lemmas.List.{drop-drop, length-append, length-drop, length-take, length-take-le}
+use Rattle.rdlpp_scan.specs.Bytes.{is_line_end}
+use Rattle.rdlpp_scan.specs.declared.token.Mode.{Mode}
+use Rattle.rdlpp_scan.specs.declared.token.Mode.TheVariants.{Plain}
+use Rattle.rdlpp_scan.specs.Lines.{EndsLine}
+use Rattle.rdlpp_scan.specs.SourceTokens.{line_ends}
+use Rattle.rdlpp_meaning.specs.declared.fault.FaultKind.{FaultKind}
+use Rattle.rdlpp_meaning.specs.CallReading.{ReadRefused, ReadStopped, ReadClosed, onto_kept, read}
+use Rattle.rdlpp_meaning.specs.CallScan.{Stand}
+use Rattle.rdlpp_meaning.specs.Expansion.{bytes_of}
+use Rattle.rdlpp_meaning.specs.Parts.{only_blanks}
+use Rattle.rdlpp_meaning.proofs.CallReadings.{onto_kept-append, onto_kept-nil}
+use Rattle.rdlpp_meaning.proofs.TokenWrites.{only_blanks-append}
+use Rattle.rdlpp_read.specs.Buffer.{BufferView, EndsHeld, ahead_of, entered_mode, held_of, rest_of, tokens_left, unread_of, unused_of}
+use Rattle.rdlpp_read.specs.Files.{FilesView, consumed_file, inner_buffer, torn_after, with_buffer, with_inner}
+use Rattle.rdlpp_read.specs.declared.files.File.{File}
+use Rattle.rdlpp_arguments.specs.CallReads.{TellsCall, used_buffer, with_used}
+use Rattle.rdlpp_arguments.specs.Reads.{Closes, GoesOn, SparesCalls, all_built, is_open, reading}
+use Rattle.rdlpp_arguments.specs.Taking.{Around, IsAround, IsClose, IsUse, kept_of, stand_meant, tokens_at, tokens_behind}
+use Rattle.rdlpp_arguments.specs.declared.reading.CallRead.{CallRead}
+use Rattle.rdlpp_arguments.specs.declared.reading.CallRead.TheVariants.{Closed, Refused, Broken as BrokenCall, Failed}
+use Rattle.rdlpp_arguments.specs.declared.taking.Use.{Use}
+
+-- what the held bytes of a source stand in
+abbrev around_of : {R : Type 0} → (List ℕ → Bool) → (R → List ℕ) → BufferView R → Around
+around_of u unread f = record { unbuilt = u; most = f.line_bytes; opened = f.open_token_line; line = f.line; left = f.bytes_left; rest = rest_of unread f }
+
+-- what is held ends at a line end, or with the text
+ends_line : {R : Type 0} (unread : R → List ℕ) (f : BufferView R) → EndsHeld f → EndsLine (held_of f) (rest_of unread f)
+unfolding rest_of unread_of ahead_of
+ends_line unread f (inl whole) = inl whole
+ends_line unread f (inr none) = inr (rw (none.0, none.1) refl)
+
+is_around : {R : Type 0} (u : List ℕ → Bool) (unread : R → List ℕ) (f : BufferView R) → EndsHeld f → SparesCalls u → IsAround (held_of f) (around_of u unread f)
+is_around u unread f ends spares = record { ends = ends_line unread f ends; spares = spares }
+
+-- the tokens behind used bytes
+behind_used : {R : Type 0} (u : List ℕ → Bool) (unread : R → List ℕ) (f : BufferView R) (len : ℕ) (next : Mode)
+    → tokens_behind (around_of u unread f) f.mode (held_of f) len next ≡ tokens_left u unread (used_buffer f len next)
+unfolding tokens_left rest_of ahead_of held_of entered_mode
+behind_used u unread f len next = rw (drop-drop len f.at (take f.accepted f.window)) refl
+
+-- what isn't used behind used bytes
+less_unused : {R : Type 0} (f : BufferView R) (len : ℕ) (next : Mode) → len ≤ length (held_of f)
+    → unused_of (used_buffer f len next) + length (take len (held_of f)) ≡ unused_of f
+unfolding unused_of entered_mode held_of
+less_unused f len next inside =
+    let size = length-take-le len (drop f.at (take f.accepted f.window)) inside in
+    omega (arith, size, length-drop f.at (take f.accepted f.window), length-take f.accepted f.window)
+
+-- a token that is used
+pub token_goes_on : {R : Type 0} (unread : R → List ℕ) (at : Stand) (room : ℕ) (f : BufferView R) (u : Use) → EndsHeld f → IsUse at f.mode room (held_of f) u
+    → GoesOn Unit unread at (stand_meant u.stand) room (kept_of u.is_kept (take u.len (held_of f))) (take u.len (held_of f)) f (used_buffer f u.len u.next_mode)
+unfolding reading tokens_left entered_mode
+token_goes_on unread at room f u ends how =
+    let kept = kept_of u.is_kept (take u.len (held_of f)) in
+    record {
+      unused = less_unused f u.len u.next_mode how.inside;
+      fits = how.fits;
+      reads = λ b spares _.
+          how.reads (around_of b unread f) (is_around b unread f ends spares)
+          ∙ ap (λ ts. onto_kept kept (read (stand_meant u.stand) (is_open u.next_mode) (room - length kept) ts)) (behind_used b unread f u.len u.next_mode);
+      bytes = λ b spares _.
+          how.bytes (around_of b unread f) (is_around b unread f ends spares)
+          ∙ ap (λ ts. take u.len (held_of f) ++ bytes_of ts) (behind_used b unread f u.len u.next_mode);
+    }
+
+-- the `)`
+pub close_closes : {R : Type 0} (unread : R → List ℕ) (at : Stand) (room : ℕ) (f : BufferView R) → EndsHeld f → 0 < length (held_of f) → IsClose at f.mode room (held_of f)
+    → Closes Unit unread at room [] (take 1 (held_of f)) f (used_buffer f 1 Plain)
+unfolding reading tokens_left entered_mode
+close_closes unread at room f ends some close =
+    record {
+      unused = less_unused f 1 Plain (omega arith);
+      fits = omega arith;
+      plain = refl;
+      reads = λ b spares _.
+          close.reads (around_of b unread f) (is_around b unread f ends spares) ∙ ap (ReadClosed []) (behind_used b unread f 1 Plain);
+      bytes = λ b spares _.
+          close.bytes (around_of b unread f) (is_around b unread f ends spares)
+          ∙ ap (λ ts. take 1 (held_of f) ++ bytes_of ts) (behind_used b unread f 1 Plain);
+    }
+
+-- nothing is held back where all is built
+spares_all : SparesCalls all_built
+spares_all bytes h = absurd (cc)
+
+-- a refusal at a token
+pub taking_refused : {R : Type 0} (unread : R → List ℕ) (at : Stand) (room : ℕ) (f : BufferView R) (kind : FaultKind) → EndsHeld f
+    → ((a : Around) → IsAround (held_of f) a → a.unbuilt ≡ all_built → read at (is_open f.mode) room (tokens_at a f.mode (held_of f)) ≡ ReadRefused kind)
+    → reading all_built unread at room f ≡ ReadRefused kind
+unfolding reading tokens_left
+taking_refused unread at room f kind ends law = law (around_of all_built unread f) (is_around all_built unread f ends spares_all) refl
+
+-- a break at a token
+pub taking_broken : {R : Type 0} (unread : R → List ℕ) (at : Stand) (room : ℕ) (f : BufferView R) (kind : FaultKind) → EndsHeld f
+    → ((a : Around) → IsAround (held_of f) a → read at (is_open f.mode) room (tokens_at a f.mode (held_of f)) ≡ ReadStopped kind a.line)
+    → (u : List ℕ → Bool) → SparesCalls u → reading u unread at room f ≡ ReadStopped kind f.line
+unfolding reading tokens_left
+taking_broken unread at room f kind ends law u spares = law (around_of u unread f) (is_around u unread f ends spares)
+
+-- nothing was used, and the tokens stay
+pub fill_goes_on : {R : Type 0} (tells : Type 0) (unread : R → List ℕ) (at : Stand) (room : ℕ) (old new : BufferView R)
+    → unused_of new ≡ unused_of old → new.mode ≡ old.mode → ((u : List ℕ → Bool) → tells → tokens_left u unread new ≡ tokens_left u unread old)
+    → GoesOn tells unread at at room [] [] old new
+unfolding reading
+fill_goes_on tells unread at room old new unused mode tokens =
+    record {
+      unused = omega (arith, unused);
+      fits = omega arith;
+      reads = λ u spares t.
+          ap (λ ts. read at (is_open old.mode) room ts) (sym (tokens u t))
+          ∙ ap (λ (m : Mode). read at (is_open m) room (tokens_left u unread new)) (sym mode)
+          ∙ ap (λ n. read at (is_open new.mode) n (tokens_left u unread new)) (let same : room ≡ room - 0 = omega arith in same)
+          ∙ sym (onto_kept-nil (read at (is_open new.mode) (room - 0) (tokens_left u unread new)));
+      bytes = λ u spares t. ap bytes_of (sym (tokens u t));
+    }
+
+-- less room, twice
+less_room : (room a b c : ℕ) → c ≡ a + b → (room - a) - b ≡ room - c
+less_room room a b c e = omega (arith, e)
+
+-- reading went on, and went on again
+pub goes_on_twice : {R : Type 0} (tells : Type 0) (unread : R → List ℕ) (at to last : Stand) (room : ℕ) (k l u v : List ℕ) (f g h : BufferView R)
+    → GoesOn tells unread at to room k u f g → GoesOn tells unread to last (room - length k) l v g h → GoesOn tells unread at last room (k ++ l) (u ++ v) f h
+unfolding reading
+goes_on_twice tells unread at to last room k l u v f g h a b =
+    let size : length (k ++ l) ≡ length k + length l = length-append k l in
+    record {
+      unused = omega (arith, a.unused, b.unused, length-append u v);
+      fits = omega (arith, a.fits, b.fits, size);
+      reads = λ x spares t.
+          a.reads x spares t ∙ ap (onto_kept k) (b.reads x spares t)
+          ∙ sym (onto_kept-append k l (read last (is_open h.mode) ((room - length k) - length l) (tokens_left x unread h)))
+          ∙ ap (λ n. onto_kept (k ++ l) (read last (is_open h.mode) n (tokens_left x unread h))) (less_room room (length k) (length l) (length (k ++ l)) size);
+      bytes = λ x spares t.
+          a.bytes x spares t ∙ ap (λ z. u ++ z) (b.bytes x spares t) ∙ sym (append_assoc u v (bytes_of (tokens_left x unread h)));
+    }
+
+-- reading went on, and then came to an answer
+pub tells_behind : {R : Type 0} (tells : Type 0) (unread : R → List ℕ) (at to : Stand) (room : ℕ) (k l u v : List ℕ) (f g h : BufferView R) (result : CallRead)
+    → GoesOn tells unread at to room k u f g → TellsCall tells unread to (room - length k) l v g h result → TellsCall tells unread at room (k ++ l) (u ++ v) f h result
+unfolding onto_kept
+tells_behind tells unread at to room k l u v f g h Closed a b =
+    record {
+      unused = omega (arith, a.unused, b.unused, length-append u v);
+      fits = omega (arith, a.fits, b.fits, length-append k l);
+      plain = b.plain;
+      reads = λ x spares t. a.reads x spares t ∙ ap (onto_kept k) (b.reads x spares t);
+      bytes = λ x spares t.
+          a.bytes x spares t ∙ ap (λ z. u ++ z) (b.bytes x spares t) ∙ sym (append_assoc u v (bytes_of (tokens_left x unread h)));
+    }
+tells_behind tells unread at to room k l u v f g h (Refused kind) a b = λ t. a.reads all_built spares_all t ∙ ap (onto_kept k) (b t)
+tells_behind tells unread at to room k l u v f g h (BrokenCall kind line) a b = λ x spares t. a.reads x spares t ∙ ap (onto_kept k) (b x spares t)
+tells_behind tells unread at to room k l u v f g h Failed a b =
+    record { to = b.to; goes_on = goes_on_twice tells unread at to b.to room k l u v f g h a b.goes_on }
+
+-- what needs no word of the sources holds with it
+pub goes_on_told : {R : Type 0} (tells : Type 0) (unread : R → List ℕ) (at to : Stand) (room : ℕ) (k u : List ℕ) (f g : BufferView R)
+    → GoesOn Unit unread at to room k u f g → GoesOn tells unread at to room k u f g
+goes_on_told tells unread at to room k u f g a =
+    record { unused = a.unused; fits = a.fits; reads = λ x spares t. a.reads x spares tt; bytes = λ x spares t. a.bytes x spares tt }
+
+pub tells_told : {R : Type 0} (tells : Type 0) (unread : R → List ℕ) (at : Stand) (room : ℕ) (k u : List ℕ) (f g : BufferView R) (result : CallRead)
+    → TellsCall Unit unread at room k u f g result → TellsCall tells unread at room k u f g result
+tells_told tells unread at room k u f g Closed a =
+    record { unused = a.unused; fits = a.fits; plain = a.plain; reads = λ x spares t. a.reads x spares tt; bytes = λ x spares t. a.bytes x spares tt }
+tells_told tells unread at room k u f g (Refused kind) a = λ t. a tt
+tells_told tells unread at room k u f g (BrokenCall kind line) a = λ x spares t. a x spares tt
+tells_told tells unread at room k u f g Failed a = record { to = a.to; goes_on = goes_on_told tells unread at a.to room k u f g a.goes_on }
+
+-- whether the last byte isn't LF, behind bytes and then bytes
+torn-append : (torn : Bool) (x y : List ℕ) → torn_after torn (x ++ y) ≡ torn_after (torn_after torn x) y
+unfolding torn_after
+torn-append torn [] y = refl
+torn-append torn (b ∷ x) y = torn-append (not (is_line_end b)) x y
+
+-- bytes that were used, and bytes behind them
+pub used_twice : {R : Type 0} (f g : BufferView R) (x y : List ℕ) (nest : List (File R)) → with_used g y (with_used f x nest) ≡ with_used g (x ++ y) nest
+used_twice f g x y [] = refl
+used_twice f g x y (s ∷ outer) = rw (only_blanks-append s.blanks x y, torn-append s.torn x y) refl
+
+-- another buffer, of which nothing more was used
+pub used_none : {R : Type 0} (f : BufferView R) (nest : List (File R)) → with_buffer f nest ≡ with_used f [] nest
+unfolding only_blanks torn_after
+used_none f [] = refl
+used_none f (s ∷ outer) = refl
+
+-- the innermost of sources of which bytes were used
+pub used_inner : {R : Type 0} (f : BufferView R) (x : List ℕ) (nest : List (File R)) → 0 < length nest → inner_buffer (with_used f x nest) ≡ f
+used_inner f x [] some = absurd (omega arith)
+used_inner f x (s ∷ outer) some = refl
+
+-- there are as many
+pub used_length : {R : Type 0} (f : BufferView R) (x : List ℕ) (nest : List (File R)) → length (with_used f x nest) ≡ length nest
+used_length f x [] = refl
+used_length f x (s ∷ outer) = refl
+
+-- a mode that is entered changes nothing that is held
+pub entered_held : {R : Type 0} (next : Mode) (nest : List (File R)) → held_of (inner_buffer (with_buffer (entered_mode (inner_buffer nest) next) nest)) ≡ held_of (inner_buffer nest)
+unfolding held_of entered_mode
+entered_held next [] = refl
+entered_held next (s ∷ outer) = refl
+
+-- a mode that is entered, and held bytes that are used
+pub used_is : {R : Type 0} (len lines : ℕ) (next : Mode) (nest : List (File R)) → lines ≡ line_ends (take len (held_of (inner_buffer nest)))
+    → with_inner (consumed_file len lines) (with_buffer (entered_mode (inner_buffer nest) next) nest)
+    ≡ with_used (used_buffer (inner_buffer nest) len next) (take len (held_of (inner_buffer nest))) nest
+unfolding held_of entered_mode
+used_is len lines next [] e = refl
+used_is len lines next (s ∷ outer) e = rw e refl
+
+-- the same of the files
+pub used_files : {R : Type 0} (len lines : ℕ) (next : Mode) (files mid new : FilesView R) → mid ≡ record files { nest = with_buffer (entered_mode (inner_buffer files.nest) next) files.nest }
+    → new ≡ record mid { nest = with_inner (consumed_file len lines) mid.nest } → lines ≡ line_ends (take len (held_of (inner_buffer files.nest)))
+    → new ≡ record files { nest = with_used (used_buffer (inner_buffer files.nest) len next) (take len (held_of (inner_buffer files.nest))) files.nest }
+used_files {R = R} len lines next files mid new entered used counted =
+    let F : FilesView R → FilesView R = λ m. record m { nest = with_inner (consumed_file len lines) m.nest } in
+    let G : List (File R) → FilesView R = λ n. record files { nest = n } in
+    used ∙ ap F entered ∙ ap G (used_is len lines next files.nest counted)

@@ -1,0 +1,7 @@
+pub mod FirstReads
+pub mod Halts
+pub mod Takes
+pub mod Turns
+pub mod GoingOn
+pub mod CallLoop
+pub mod CallLaws

@@ -1,0 +1,107 @@
+-- What reading a call did: the answer, the kept bytes, and the innermost source behind it.
+-- A definition that names no source is this project's own.
+use Rattle.std.specs.Prelude.{◌≡◌, ◌≢◌, ℕ, ◌+◌, ◌<◌, ◌≤◌, Bool, true, false, List, [], ◌++◌, length, take, drop}
+use Rattle.rdlpp_scan.specs.declared.token.Mode.{Mode}
+use Rattle.rdlpp_scan.specs.declared.token.Mode.TheVariants.{InStr}
+use Rattle.rdlpp_scan.specs.SourceTokens.{SourceToken, line_ends}
+use Rattle.rdlpp_meaning.specs.Actuals.{Broke, Lacking, call_of, map_call, token_role}
+use Rattle.rdlpp_meaning.specs.CallReading.{ReadRefused, ReadStopped, read}
+use Rattle.rdlpp_meaning.specs.CallScan as scan
+use Rattle.rdlpp_meaning.specs.CallScan.{Before, Stand, call_of_scan}
+use Rattle.rdlpp_meaning.specs.Cursors.{kept as kept_token}
+use Rattle.rdlpp_meaning.specs.Resumed.{leading}
+use Rattle.rdlpp_meaning.specs.Substitution.{body_tokens}
+use Rattle.rdlpp_meaning.specs.TextTokens.{unlined}
+use Rattle.rdlpp_meaning.specs.Parts.{only_blanks}
+use Rattle.rdlpp_read.specs.Buffer.{BufferView, entered_mode, held_of, tokens_left, unused_of}
+use Rattle.rdlpp_read.specs.Files.{inner_buffer, torn_after, with_inner}
+use Rattle.rdlpp_read.specs.Filling.{ended_tokens}
+use Rattle.rdlpp_read.specs.declared.files.File.{File}
+use Rattle.rdlpp_arguments.specs.Reads.{Closes, GoesOn, SparesCalls, all_built, is_open, reading}
+use Rattle.rdlpp_arguments.specs.Taking.{level_in, stand_meant}
+use Rattle.rdlpp_arguments.specs.declared.reading.CallRead.{CallRead}
+use Rattle.rdlpp_arguments.specs.declared.reading.CallRead.TheVariants.{Closed, Refused, Broken, Failed}
+use Rattle.rdlpp_arguments.specs.declared.reading.Next.{Next}
+use Rattle.rdlpp_arguments.specs.declared.reading.Next.TheVariants.{Goes, Ends}
+
+-- a source of which the first held bytes are used, and whose text stands in a mode behind them
+abbrev pub used_buffer : {R : Type 0} → BufferView R → ℕ → Mode → BufferView R
+used_buffer f len next = record (entered_mode f next) { at = f.at + len; line = f.line + line_ends (take len (held_of f)) }
+
+-- the sources with another buffer for the innermost, of which bytes were used
+abbrev pub with_used : {R : Type 0} → BufferView R → List ℕ → List (File R) → List (File R)
+with_used buffer used nest =
+    with_inner (λ f. record f { buffer = buffer; blanks = only_blanks f.blanks used; torn = torn_after f.torn used }) nest
+
+-- a read failed inside a call: from where the reading stands on, what remains comes to what it would have come to, with the kept
+-- bytes in front
+pub record Pauses {R : Type 0} (tells : Type 0) (unread : R → List ℕ) (at : Stand) (room : ℕ) (kept used : List ℕ) (old new : BufferView R) : Type 0 where
+  pub to : Stand
+  pub goes_on : GoesOn tells unread at to room kept used old new
+
+-- what the answer says of the call, from where its reading stands (source: this project's profile)
+abbrev pub TellsCall : {R : Type 0} → Type 0 → (R → List ℕ) → Stand → ℕ → List ℕ → List ℕ → BufferView R → BufferView R → CallRead → Type 0
+TellsCall tells unread at room kept used old new Closed = Closes tells unread at room kept used old new
+TellsCall tells unread at room kept used old new (Refused f) = tells → reading all_built unread at room old ≡ ReadRefused f
+TellsCall tells unread at room kept used old new (Broken f line) =
+    (unbuilt : List ℕ → Bool) → SparesCalls unbuilt → tells → reading unbuilt unread at room old ≡ ReadStopped f line
+TellsCall tells unread at room kept used old new Failed = Pauses tells unread at room kept used old new
+
+-- whether a read failed
+abbrev pub is_failed_call : CallRead → Bool
+is_failed_call Closed = false
+is_failed_call (Refused f) = false
+is_failed_call (Broken f line) = false
+is_failed_call Failed = true
+
+-- a call was read: bytes of the innermost source were used, and nothing else of the sources changed
+pub record ReadsCall {R : Type 0} (tells : Type 0) (unread : R → List ℕ) (at : Stand) (room : ℕ) (kept : List ℕ) (result : CallRead) (old new : List (File R)) : Type 0 where
+  pub used : List ℕ
+  pub inner : new ≡ with_used (inner_buffer new) used old
+  pub unused : unused_of (inner_buffer new) + length used ≡ unused_of (inner_buffer old)
+  pub answer : TellsCall tells unread at room kept used (inner_buffer old) (inner_buffer new) result
+
+-- a token was taken, or the part of it that was held, and the call goes on
+pub record IsTaken {R : Type 0} (at to : Stand) (room : ℕ) (old_bytes new_bytes : List ℕ) (old new : List (File R)) : Type 0 where
+  pub used : List ℕ
+  pub kept : List ℕ
+  pub some : 0 < length used
+  pub bytes : new_bytes ≡ old_bytes ++ kept
+  pub inner : new ≡ with_used (inner_buffer new) used old
+  pub level : level_in to ≤ level_in at + length kept
+  pub lead : to ≡ Before → (inner_buffer new).mode ≢ InStr
+  pub goes_on : (unread : R → List ℕ) → GoesOn Unit unread at to room kept used (inner_buffer old) (inner_buffer new)
+
+-- the reading ended at a token
+pub record IsEnded {R : Type 0} (at : Stand) (room : ℕ) (old_bytes new_bytes : List ℕ) (old new : List (File R)) (result : CallRead) : Type 0 where
+  pub bytes : new_bytes ≡ old_bytes
+  pub answers : is_failed_call result ≡ false
+  pub reads : (unread : R → List ℕ) → ReadsCall Unit unread at room [] result old new
+
+-- what follows a token
+abbrev pub TakesToken : {R : Type 0} → Stand → ℕ → List ℕ → List ℕ → List (File R) → List (File R) → Next → Type 0
+TakesToken at room old_bytes new_bytes old new (Goes to) = IsTaken at (stand_meant to) room old_bytes new_bytes old new
+TakesToken at room old_bytes new_bytes old new (Ends result) = IsEnded at room old_bytes new_bytes old new result
+
+-- what a call comes to where a text has ended
+abbrev pub IsEndOfText : {R : Type 0} → Stand → ℕ → BufferView R → CallRead → Type 0
+IsEndOfText at room f Closed = ⊥
+IsEndOfText at room f (Refused kind) = read at (is_open f.mode) room (ended_tokens f.mode f.open_token_line) ≡ ReadRefused kind
+IsEndOfText at room f (Broken kind line) = read at (is_open f.mode) room (ended_tokens f.mode f.open_token_line) ≡ ReadStopped kind line
+IsEndOfText at room f Failed = ⊥
+
+-- a call that was read is that of the definition: the parts of its kept bytes are its parts, but for the lines of tokens that
+-- aren't broken, and behind it are the tokens that remain (source: this project's profile)
+pub record IsCallOf (room : ℕ) (ts : List SourceToken) (bytes : List ℕ) (behind : List SourceToken) : Type 0 where
+  pub used : ℕ
+  pub call : map_call unlined (call_of token_role kept_token room (leading ts)) ≡ call_of_scan token_role 0 (scan.Closed (body_tokens bytes) used)
+  pub rest : drop used ts ≡ behind
+
+-- the call that the definition has there (source: this project's profile)
+abbrev pub MeansCall : {R : Type 0} → Type 0 → (R → List ℕ) → ℕ → List ℕ → BufferView R → BufferView R → CallRead → Type 0
+MeansCall tells unread room bytes old new Closed =
+    (unbuilt : List ℕ → Bool) → SparesCalls unbuilt → tells → IsCallOf room (tokens_left unbuilt unread old) bytes (tokens_left unbuilt unread new)
+MeansCall tells unread room bytes old new (Refused f) = tells → call_of token_role kept_token room (leading (tokens_left all_built unread old)) ≡ Lacking f
+MeansCall tells unread room bytes old new (Broken f line) =
+    (unbuilt : List ℕ → Bool) → SparesCalls unbuilt → tells → call_of token_role kept_token room (leading (tokens_left unbuilt unread old)) ≡ Broke f line
+MeansCall tells unread room bytes old new Failed = Unit

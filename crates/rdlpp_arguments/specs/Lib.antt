@@ -1,0 +1,4 @@
+pub mod Store
+pub mod Reads
+pub mod Taking
+pub mod CallReads

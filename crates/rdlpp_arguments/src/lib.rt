@@ -1,0 +1,12 @@
+//! The arguments of a call in a source: read token by token into a store, over any number of lines and
+//! refills.
+#![tactic(auto)]
+
+mod reading;
+mod store;
+mod taking;
+#[cfg(test)]
+mod tests;
+
+pub use reading::{CallRead, read_call};
+pub use store::ArgumentStore;

@@ -1,0 +1,169 @@
+// One token of a call, or the part of it that is held.
+ghost use Rattle.std.specs.Prelude.{◌≡◌, ◌≢◌, ℕ, ◌+◌, ◌≤◌, ◌<◌, ◌∷◌, [], length, false};
+ghost use Rattle.rdlpp_scan.specs.Tokens.{token_of};
+ghost use Rattle.rdlpp_scan.specs.declared.token.Kind.TheVariants.{Back};
+ghost use Rattle.rdlpp_scan.specs.declared.token.Mode.TheVariants.{InStr, Plain};
+ghost use Rattle.rdlpp_meaning.specs.CallScan.{Before, Inside, fault_at_end};
+ghost use Rattle.rdlpp_calls.specs.CallTokens.{role_meant};
+ghost use Rattle.rdlpp_arguments.specs.Taking.{Answers, IsKeptAt, IsTaking, level_in, stand_meant};
+
+use rdlpp_calls::{CallRole, ends_call, level_behind, role_of};
+use rdlpp_meaning::FaultKind;
+use rdlpp_scan::{Kind, Mode, Token, first_token, reserved};
+
+// Where the reading of a call stands.
+#[derive(Clone, Copy)]
+pub(crate) enum Stand {
+    // Before its `(`.
+    Before,
+    // Behind it, at a level of further openers.
+    Inside(usize),
+}
+
+// The use of a token, or of the part of one.
+#[derive(Clone, Copy)]
+pub(crate) struct Use {
+    // How many bytes it has.
+    pub(crate) len: usize,
+    // Where the text stands behind it.
+    pub(crate) next_mode: Mode,
+    // Where the call stands behind it.
+    pub(crate) stand: Stand,
+    // Whether its bytes are kept.
+    pub(crate) is_kept: bool,
+}
+
+// What is done with the first token of held bytes.
+#[derive(Clone, Copy)]
+pub(crate) enum Taking {
+    // It is used, and the call goes on.
+    Uses(Use),
+    // It is the `)` of the call, of one byte.
+    Closes,
+    // The call is refused.
+    Refused(FaultKind),
+    // It is embedded Perl.
+    Perl,
+}
+
+impl Stand {
+    // The fault of a call that goes no further.
+    #[tactic(auto, unfolding(crate::specs::Taking::stand_meant, rdlpp_meaning::specs::CallScan::fault_at_end))]
+    pub(crate) fn fault_at_end(&self) -> FaultKind
+        ensures { result ≡ fault_at_end (stand_meant self.now) }
+    {
+        match self {
+            Stand::Before => FaultKind::ArgumentsMissing,
+            Stand::Inside(_) => FaultKind::ArgumentsOpen,
+        }
+    }
+}
+
+// A token that is passed.
+fn passes(token: Token, stand: Stand) -> Taking
+    ensures { result ≡ Taking.Uses (record { len = token.len; next_mode = token.next_mode; stand = stand; is_kept = false }) }
+{
+    Taking::Uses(Use {
+        len: token.len,
+        next_mode: token.next_mode,
+        stand,
+        is_kept: false,
+    })
+}
+
+// What is done before the `(` with a token of a role.
+#[tactic(auto, unfolding(crate::specs::Taking::stand_meant, crate::specs::Taking::level_in, rdlpp_calls::specs::CallTokens::role_meant, rdlpp_meaning::specs::CallScan::turn, rdlpp_meaning::specs::CallScan::turn_before, rdlpp_meaning::specs::CallScan::stand_behind, rdlpp_meaning::specs::CallScan::stand_behind_lead, rdlpp_meaning::specs::CallScan::room_behind))]
+fn lead_taking(role: CallRole, token: Token) -> Taking
+    ensures { (room : ℕ) → Answers Before (role_meant role) room token result }
+{
+    match role {
+        CallRole::Space | CallRole::LineComment | CallRole::BlockComment => {
+            passes(token, Stand::Before)
+        }
+        CallRole::Start => passes(token, Stand::Inside(0)),
+        _ => Taking::Refused(FaultKind::ArgumentsMissing),
+    }
+}
+
+// What is done behind the `(`, at a level of further openers, with a token of a role.
+fn inside_taking(level: usize, room: usize, role: CallRole, token: Token) -> Taking
+    requires level { level + room ≤ usize.MAX }
+    requires some { 0 < token.len }
+    ensures { Answers (Inside level) (role_meant role) room token result }
+{
+    if ends_call(role, level) {
+        return Taking::Closes;
+    }
+    match role {
+        CallRole::LineComment => passes(token, Stand::Inside(level)),
+        _ => kept_taking(level, room, role, token),
+    }
+}
+
+// What is done behind the `(` with a token that is kept where it fits.
+fn kept_taking(level: usize, room: usize, role: CallRole, token: Token) -> Taking
+    requires level { level + room ≤ usize.MAX }
+    requires some { 0 < token.len }
+    requires text { IsKeptAt (role_meant role) level }
+    ensures { Answers (Inside level) (role_meant role) room token result }
+{
+    if room < token.len {
+        return Taking::Refused(FaultKind::ArgumentBytes);
+    }
+    Taking::Uses(Use {
+        len: token.len,
+        next_mode: token.next_mode,
+        stand: Stand::Inside(level_behind(role, level)),
+        is_kept: true,
+    })
+}
+
+// What is done with a token of a role.
+#[tactic(auto, unfolding(crate::specs::Taking::stand_meant, crate::specs::Taking::level_in))]
+fn role_taking(stand: Stand, room: usize, role: CallRole, token: Token) -> Taking
+    requires level { level_in (stand_meant stand) + room ≤ usize.MAX }
+    requires some { 0 < token.len }
+    ensures { Answers (stand_meant stand) (role_meant role) room token result }
+{
+    match stand {
+        Stand::Before => lead_taking(role, token),
+        Stand::Inside(level) => inside_taking(level, room, role, token),
+    }
+}
+
+// What is done with a backquote and its name: a directive ends the call.
+fn name_taking(stand: Stand, room: usize, held: &[u8], token: Token) -> Taking
+    requires some { 0 < token.len }
+    requires inside { token.len ≤ length held.now }
+    requires level { level_in (stand_meant stand) + room ≤ usize.MAX }
+    requires first { token ≡ token_of Plain held.now }
+    requires back { token.kind ≡ Back }
+    ensures { IsTaking (stand_meant stand) Plain room held.now result }
+{
+    if reserved(&held[1..token.len]).is_some() {
+        return Taking::Refused(stand.fault_at_end());
+    }
+    role_taking(stand, room, CallRole::Text, token)
+}
+
+/// What is done in a call with the first token of held bytes, or with the part of it that is held: it
+/// is used, and kept where it stands between the parentheses and is no `//` comment; or it is the `)`;
+/// or it ends the call.
+///
+/// # Rules
+///
+/// Before the `(` stand white space and comments alone; a directive ends the call; a token that passes
+/// the room is one byte too many, before a fault of its own (this project's profile).
+pub(crate) fn taking_of(stand: Stand, mode: Mode, room: usize, held: &[u8]) -> Taking
+    requires some { 0 < length held.now }
+    requires level { level_in (stand_meant stand) + room ≤ usize.MAX }
+    requires lead { stand_meant stand ≡ Before → mode ≢ InStr }
+    ensures { IsTaking (stand_meant stand) mode room held.now result }
+{
+    let token = first_token(mode, held);
+    match token.kind {
+        Kind::Perl => Taking::Perl,
+        Kind::Back => name_taking(stand, room, held, token),
+        kind => role_taking(stand, room, role_of(kind, held[0]), token),
+    }
+}

@@ -1,0 +1,28 @@
+-- Steps through skipped text.
+use Rattle.std.proofs.Common.{◌≡◌, ℕ, ◌+◌, ◌-◌, ◌<◌, Bool, false, List, length, take, drop, sym, ap, subst, ◌∙◌}
+use Rattle.std.proofs.lemmas.List.{take_rest}
+use Rattle.rdlpp_scan.specs.declared.token.Mode.{Mode}
+use Rattle.rdlpp_scan.specs.declared.token.Mode.TheVariants.{Plain}
+use Rattle.rdlpp_scan.specs.declared.token.Token.{Token}
+use Rattle.rdlpp_scan.specs.Tokens.{plain_len, token_of}
+use Rattle.rdlpp_conditions.specs.SkippedText.{IsPassed, IsPassedOnce, OneToken, Onward, Stretch, stops_at, stops_skipping}
+
+-- whether a stretch stops, by the first token
+pub stops_by : (mode : Mode) (bytes : List ℕ) (token : Token) (stops : Bool) → token ≡ token_of mode bytes → stops ≡ stops_skipping token (take token.len bytes) → stops ≡ stops_at mode bytes
+unfolding stops_at
+stops_by mode bytes token stops is tells = tells ∙ ap (λ (t : Token). stops_skipping t (take t.len bytes)) is
+
+-- a stretch of ordinary text
+pub passes_stretch : (mode : Mode) (bytes : List ℕ) (len : ℕ) → mode ≡ Plain → 0 < len → len ≡ plain_len bytes → IsPassedOnce mode bytes len mode
+passes_stretch mode bytes len plain some is = Stretch plain some is plain
+
+-- one token
+pub passes_token : (mode : Mode) (bytes : List ℕ) (token : Token) (stops : Bool) → token ≡ token_of mode bytes → stops ≡ stops_skipping token (take token.len bytes) → stops ≡ false
+    → IsPassedOnce mode bytes token.len token.next_mode
+passes_token mode bytes token stops is tells goes =
+    OneToken (sym (stops_by mode bytes token stops is tells) ∙ goes) (ap (λ (t : Token). t.len) is) (ap (λ (t : Token). t.next_mode) is)
+
+-- one step more
+pub passes_onward : (mode mid next : Mode) (held : List ℕ) (from len : ℕ) → IsPassed mode held from mid → from < length held → IsPassedOnce mid (take (length held - from) (drop from held)) len next → IsPassed mode held (from + len) next
+passes_onward mode mid next held from len before more once =
+    Onward from len mid next before more (subst (λ (x : List ℕ). IsPassedOnce mid x len next) (take_rest held from) once)

@@ -1,0 +1,11 @@
+use Rattle.std.proofs.Common.{sym, ◌∙◌}
+use Rattle.rdlpp_conditions.proofs.SkipSteps.{passes_token, stops_by}
+use Rattle.rdlpp_conditions.proofs.skipped_text.pass_once.Goals as goal
+
+pub returns-then-stops_skipping-clause-none : goal.returns-then-stops_skipping-clause-none
+returns-then-stops_skipping-clause-none c =
+    λ _. sym (stops_by c.args.mode c.args.bytes.now c.first_token-token.result c.stops_skipping.result c.first_token-token.ensures.value c.stops_skipping.ensures) ∙ c.if-stops_skipping.true
+
+pub returns-clause-some : goal.returns-clause-some
+returns-clause-some c =
+    passes_token c.args.mode c.args.bytes.now c.first_token-token.result c.stops_skipping.result c.first_token-token.ensures.value c.stops_skipping.ensures c.if-stops_skipping.false

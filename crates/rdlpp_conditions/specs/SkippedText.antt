@@ -1,0 +1,37 @@
+-- What is passed of skipped text at once: up to a word that counts there, or `<%`.
+-- A definition that names no source is this project's own.
+use Rattle.std.specs.Prelude.{◌≡◌, ℕ, ◌+◌, ◌<◌, Bool, true, false, List, length, take, drop, bytes_eq, codes, ◌∷◌, []}
+use Rattle.std.specs.List.{list_any}
+use Rattle.rdlpp_scan.specs.declared.token.Kind.TheVariants.{Back, Perl}
+use Rattle.rdlpp_scan.specs.declared.token.Mode.{Mode}
+use Rattle.rdlpp_scan.specs.declared.token.Mode.TheVariants.{Plain}
+use Rattle.rdlpp_scan.specs.declared.token.Token.{Token}
+use Rattle.rdlpp_scan.specs.Tokens.{plain_len, token_of}
+
+-- the words that count in skipped text: those of conditionals, and the two that take their lines (this project's profile)
+unfoldable pub counting_words : List (List ℕ)
+counting_words =
+    codes "`ifdef" ∷ codes "`ifndef" ∷ codes "`elsif" ∷ codes "`else" ∷ codes "`endif" ∷ codes "`define" ∷ codes "`line" ∷ []
+
+-- whether a word counts in skipped text
+unfoldable pub counts_skipped : List ℕ → Bool
+counts_skipped word = list_any (bytes_eq word) counting_words
+
+-- whether a token with these bytes ends a stretch of skipped text: `<%`, or a word that counts (this project's profile)
+unfoldable pub stops_skipping : Token → List ℕ → Bool
+stops_skipping token word = elim token.kind [ Perl ↦ true | Back ↦ counts_skipped word | _ ↦ false ]
+
+-- whether a stretch of skipped text stops before the first token of a text that isn't empty
+unfoldable pub stops_at : Mode → List ℕ → Bool
+stops_at mode bytes = let token = token_of mode bytes in stops_skipping token (take token.len bytes)
+
+-- what is passed of skipped text in one step: ordinary text as far as it goes, or one token that doesn't stop it, or the part of
+-- one that the bytes have (this project's profile)
+pub data IsPassedOnce (mode : Mode) (bytes : List ℕ) (len : ℕ) (next : Mode) : Type 0 where
+  Stretch : mode ≡ Plain → 0 < len → len ≡ plain_len bytes → next ≡ Plain → IsPassedOnce mode bytes len next
+  OneToken : stops_at mode bytes ≡ false → len ≡ (token_of mode bytes).len → next ≡ (token_of mode bytes).next_mode → IsPassedOnce mode bytes len next
+
+-- what is passed of skipped text step by step, from a mode, and the mode behind it (this project's profile)
+pub data IsPassed (mode : Mode) (held : List ℕ) : ℕ → Mode → Type 0 where
+  Begins : IsPassed mode held 0 mode
+  Onward : (from len : ℕ) (mid next : Mode) → IsPassed mode held from mid → from < length held → IsPassedOnce mid (drop from held) len next → IsPassed mode held (from + len) next

@@ -1,0 +1,129 @@
+// The passing of skipped text.
+ghost use Rattle.std.specs.Prelude.{◌≡◌, ◌≤◌, ◌<◌, length, take, drop, true, None, IfSome, IsTrue};
+ghost use Rattle.rdlpp_scan.specs.SourceTokens.{line_ends};
+ghost use Rattle.rdlpp_conditions.specs.SkippedText.{
+  IsPassed,
+  IsPassedOnce,
+  counts_skipped,
+  stops_at,
+  stops_skipping,
+};
+
+use rdlpp_scan::{Kind, Mode, Token, first_token, line_ends_in, plain_text_len};
+
+/// How much of skipped text was passed.
+#[derive(Clone, Copy, Debug, PartialEq, Eq)]
+pub struct SkippedText {
+    /// How many bytes.
+    pub len: usize,
+    /// Where the text stands behind them: in plain text, in a string or in a block comment.
+    pub mode: Mode,
+    /// How many of them are LF, which are written.
+    pub line_ends: usize,
+}
+
+/// Passes skipped text, which stands in `mode`, up to the next word that counts there, the next `<%`,
+/// or the end of `held`. The words that count are those of conditionals, and `define` and `line`, which
+/// take their lines.
+///
+/// `held` ends at a line end or where the text ends. Costs time linear in what is passed, most of it a
+/// search for a backquote, a quote or a comment.
+///
+/// # Rules
+///
+/// This project's profile.
+pub fn skip_text(mode: Mode, held: &[u8]) -> SkippedText
+    ensures passed { IsPassed mode held.now result.len result.mode }
+    ensures inside { result.len ≤ length held.now }
+    ensures stop { result.len < length held.now → stops_at result.mode (drop result.len held.now) ≡ true }
+    ensures line_ends { result.line_ends ≡ line_ends (take result.len held.now) }
+{
+    let mut len = 0;
+    let mut next = mode;
+    while len < held.len() {
+        let Some(step) = pass_once(next, &held[len..]) else {
+            return passed(held, len, next);
+        };
+        len += step.len;
+        next = step.mode;
+    }
+    passed(held, len, next)
+}
+
+// What was passed, with its LF bytes.
+fn passed(held: &[u8], len: usize, mode: Mode) -> SkippedText
+    requires { len ≤ length held.now }
+    ensures { result ≡ record { len = len; mode = mode; line_ends = line_ends (take len held.now) } }
+{
+    SkippedText {
+        len,
+        mode,
+        line_ends: line_ends_in(&held[..len]),
+    }
+}
+
+// One step through skipped text.
+#[derive(Clone, Copy)]
+struct Step {
+    len: usize,
+    mode: Mode,
+}
+
+// Passes ordinary text as far as it goes, or one token; `None` where the first token stops it.
+fn pass_once(mode: Mode, bytes: &[u8]) -> Option<Step>
+    requires { 0 < length bytes.now }
+    ensures none { result ≡ None → stops_at mode bytes.now ≡ true }
+    ensures some { IfSome result (λ step. IsPassedOnce mode bytes.now step.len step.mode) }
+    ensures inside { IfSome result (λ step. (0 < step.len) × (step.len ≤ length bytes.now)) }
+{
+    if is_plain(mode) {
+        let len = plain_text_len(bytes);
+        if 0 < len {
+            return Some(Step { len, mode });
+        }
+    }
+    let token = first_token(mode, bytes);
+    if stops_skipping(token, &bytes[..token.len]) {
+        return None;
+    }
+    Some(Step {
+        len: token.len,
+        mode: token.next_mode,
+    })
+}
+
+// Whether a text stands neither in a string nor in a block comment.
+fn is_plain(mode: Mode) -> bool
+    ensures { IsTrue result → mode ≡ Mode.Plain }
+{
+    match mode {
+        Mode::Plain => true,
+        _ => false,
+    }
+}
+
+// Whether a token with these bytes ends a stretch of skipped text.
+#[tactic(auto, unfolding(crate::specs::SkippedText::stops_skipping))]
+fn stops_skipping(token: Token, word: &[u8]) -> bool
+    ensures { result ≡ stops_skipping token word.now }
+{
+    match token.kind {
+        Kind::Perl => true,
+        Kind::Back => counts_skipped(word),
+        _ => false,
+    }
+}
+
+// Whether a word counts in skipped text.
+#[tactic(auto, unfolding(crate::specs::SkippedText::counts_skipped, crate::specs::SkippedText::counting_words))]
+fn counts_skipped(word: &[u8]) -> bool
+    ensures { result ≡ counts_skipped word.now }
+{
+    word == b"`ifdef".as_slice()
+        || word == b"`ifndef".as_slice()
+        || word == b"`elsif".as_slice()
+        || word == b"`else".as_slice()
+        || word == b"`endif".as_slice()
+        || word == b"`define".as_slice()
+        || word == b"`line".as_slice()
+}

@@ -1,0 +1,2 @@
+mod conditions_tests;
+mod skipped_text_tests;

@@ -1,0 +1,109 @@
+-- A look at open texts: where the innermost lies, and what stands at its front.
+use Rattle.std.proofs.Common.{◌≡◌, ℕ, suc, ◌-◌, ◌<◌, ◌≤◌, Bool, true, false, List, [], ◌∷◌, length, take, drop, get_or, sym, ap, subst, ◌∙◌, arith, Some}
+use Rattle.std.specs.Prelude.{if◌then◌else◌, ◌==◌, slice_range}
+use Rattle.rdlpp_meaning.specs.Opens.{OpenKind, OpenBody, OpenActual, OpenDefault, Open, Texts, text_around, open_bytes}
+use Rattle.rdlpp_cursors.specs.declared.front.Front.{Front}
+use Rattle.rdlpp_cursors.specs.declared.front.Look.{Look}
+use Rattle.rdlpp_cursors.specs.declared.place.TextSource.{TextSource}
+use Rattle.rdlpp_cursors.specs.declared.range.Range.{Range}
+use Rattle.rdlpp_cursors.specs.declared.slot.Slot.{Slot}
+use Rattle.rdlpp_cursors.specs.Fronts.{IsFront, IsLook}
+use Rattle.rdlpp_cursors.specs.Opened.{bindings_below, open_of, opens_of}
+use Rattle.rdlpp_cursors.specs.Places.{source_text, source_formals, IsSource}
+use Rattle.rdlpp_cursors.specs.Scopes.{scope_open, kind_source, found_source, own_source, front_source}
+use Rattle.rdlpp_cursors.specs.Steps.{IsKnown, AreInside, AreSound}
+use Rattle.rdlpp_cursors.proofs.Scoping.{source-around}
+
+-- the text of a known body or default is one that there is
+kind-known : (texts : Texts) (kind : OpenKind) → IsKnown texts.macros kind → IsSource texts (kind_source kind)
+kind-known texts (OpenBody id parts) h = h
+kind-known texts OpenActual h = tt
+kind-known texts (OpenDefault id place) h = h
+
+-- so is that of a scope
+scope-known : (texts : Texts) (opens : List Open) (k : ℕ) → AreInside texts opens → IsSource texts (found_source (scope_open opens k))
+unfolding scope_open
+scope-known texts [] k h = tt
+scope-known texts (x ∷ below) k h = by (k == suc (length below)) (scope-known texts below k (((h.1).1).1))
+  where
+    by : (here : Bool) → IsSource texts (found_source (scope_open below k)) → IsSource texts (found_source (if here then Some x else scope_open below k))
+    by true rest = kind-known texts x.kind h.0
+    by false rest = rest
+
+-- the innermost open text lies in a text that there is
+pub source-known : (texts : Texts) (x : Open) (below : List Open) → AreInside texts (x ∷ below) → IsSource texts (front_source (x ∷ below))
+unfolding front_source
+source-known texts x below h = by x.kind h.0
+  where
+    by : (kind : OpenKind) → IsKnown texts.macros kind → IsSource texts (own_source kind x.home below)
+    by (OpenBody id parts) k = k
+    by OpenActual k = scope-known texts below x.home (((h.1).1).1)
+    by (OpenDefault id place) k = k
+
+-- a text has a byte, or it has none
+has-byte : (text : List ℕ) (other : List ℕ) (n : ℕ) → n ≤ length text → (0 < length text → other ≡ text) → n ≤ length other
+has-byte [] other n h e = omega (arith, h)
+has-byte (b ∷ bs) other n h e = let same : other ≡ b ∷ bs = e (omega arith) in subst (λ (t : List ℕ). n ≤ length t) (sym same) h
+
+-- the innermost open text ends in the text in which it lies
+pub source-inside : (texts : Texts) (x : Open) (below : List Open) → AreInside texts (x ∷ below) → x.part.end ≤ length (source_text texts (front_source (x ∷ below)))
+source-inside texts x below h =
+    has-byte (text_around texts x.kind x.home below) (source_text texts (front_source (x ∷ below))) x.part.end (h.1).0 (source-around texts x below)
+
+-- a range that ends in a text is that of another one, where that is the same if it has a byte
+same-range : (text other : List ℕ) (from end : ℕ) → end ≤ length text → (0 < length text → other ≡ text) → slice_range other from end ≡ slice_range text from end
+same-range [] other from end h e =
+    let none : end - from ≡ 0 = omega (arith, h) in
+    ap (λ (n : ℕ). take n (drop from other)) none ∙ sym (ap (λ (n : ℕ). take n (drop from [])) none)
+same-range (b ∷ bs) other from end h e = ap (λ (t : List ℕ). slice_range t from end) (e (omega arith))
+
+-- what stands at the front of the range in its text stands at the front of the open text
+pub look-front : (texts : Texts) (x : Open) (below : List Open) (source : TextSource) (f : Front) → AreInside texts (x ∷ below) → source ≡ front_source (x ∷ below)
+    → IsFront (source_formals texts source) (slice_range (source_text texts source) x.part.from x.part.end) f
+    → IsFront (source_formals texts (front_source (x ∷ below))) (open_bytes texts x below) f
+unfolding open_bytes
+look-front texts x below source f h e is =
+    subst (λ (bytes : List ℕ). IsFront (source_formals texts (front_source (x ∷ below))) bytes f)
+    (same-range (text_around texts x.kind x.home below) (source_text texts (front_source (x ∷ below))) x.part.from x.part.end (h.1).0 (source-around texts x below))
+    (subst (λ (s : TextSource). IsFront (source_formals texts s) (slice_range (source_text texts s) x.part.from x.part.end) f) e is)
+
+-- slots from a place on, of which one is read
+pub record IsInner (slots : List Slot) (bindings : List Range) (own : Slot) : Type 0 where
+  pub rest : List Slot
+  pub is : opens_of slots bindings ≡ open_of own bindings ∷ opens_of rest (bindings_below own.kind bindings)
+
+-- the first of slots is the innermost open text
+pub inner-is : (slots : List Slot) (bindings : List Range) (own : Slot) → 0 < length slots → own ≡ get_or slots 0 own → IsInner slots bindings own
+unfolding opens_of
+inner-is [] bindings own some e = absurd (omega (arith, some))
+inner-is (y ∷ ys) bindings own some e =
+    record { rest = ys; is = ap (λ (z : Slot). open_of z bindings ∷ opens_of ys (bindings_below z.kind bindings)) (sym e) }
+
+-- a look at them tells that
+pub look-is : (texts : Texts) (slots : List Slot) (bindings : List Range) (own : Slot) (look : Look) → 0 < length slots → own ≡ get_or slots 0 own
+    → AreSound texts (opens_of slots bindings)
+    → look.source ≡ front_source (opens_of slots bindings) → look.from ≡ own.from → look.end ≡ own.end
+    → IsFront (source_formals texts look.source) (slice_range (source_text texts look.source) own.from own.end) look.front
+    → IsLook texts (opens_of slots bindings) look
+unfolding IsLook
+look-is texts slots bindings own look some e sound source from end f =
+    let inner = inner-is slots bindings own some e in
+    let x = open_of own bindings in
+    let below = opens_of inner.rest (bindings_below own.kind bindings) in
+    let s : AreSound texts (x ∷ below) = subst (λ (o : List Open). AreSound texts o) inner.is sound in
+    let at : look.source ≡ front_source (x ∷ below) = source ∙ ap (λ (o : List Open). front_source o) inner.is in
+    subst (λ (o : List Open). IsLook texts o look) (sym inner.is)
+    (at, from, end, look-front texts x below look.source look.front s.are_inside at f)
+
+-- where they lie there is a text
+pub look-known : (texts : Texts) (slots : List Slot) (bindings : List Range) (own : Slot) (source : TextSource) → 0 < length slots → own ≡ get_or slots 0 own
+    → AreSound texts (opens_of slots bindings) → source ≡ front_source (opens_of slots bindings)
+    → IsSource texts source × (own.end ≤ length (source_text texts source))
+look-known texts slots bindings own source some e sound is =
+    let inner = inner-is slots bindings own some e in
+    let x = open_of own bindings in
+    let below = opens_of inner.rest (bindings_below own.kind bindings) in
+    let s : AreSound texts (x ∷ below) = subst (λ (o : List Open). AreSound texts o) inner.is sound in
+    let at : source ≡ front_source (x ∷ below) = is ∙ ap (λ (o : List Open). front_source o) inner.is in
+    subst (λ (t : TextSource). IsSource texts t × (own.end ≤ length (source_text texts t))) (sym at)
+    (source-known texts x below s.are_inside, source-inside texts x below s.are_inside)

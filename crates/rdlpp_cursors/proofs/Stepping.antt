@@ -1,0 +1,157 @@
+-- One step of open texts, by what stands at the front of the innermost.
+use Rattle.std.proofs.Common.{◌≡◌, ℕ, ◌+◌, ◌-◌, ◌<◌, ◌≤◌, false, List, [], ◌∷◌, length, take, drop, refl, sym, ap, subst, ◌∙◌, arith, Some}
+use Rattle.std.proofs.lemmas.List.{length-take}
+use Rattle.rdlpp_scan.specs.declared.token.Kind.{Kind}
+use Rattle.rdlpp_scan.specs.declared.token.Kind.TheVariants.{Name, BareBackquote}
+use Rattle.rdlpp_scan.specs.declared.token.Mode.{Mode}
+use Rattle.rdlpp_scan.specs.declared.token.Mode.TheVariants.{Plain}
+use Rattle.rdlpp_scan.specs.TokenKinds.{opens_mode}
+use Rattle.rdlpp_scan.specs.Tokens.{token_of, tokens_from}
+use Rattle.rdlpp_scan.proofs.ClosedKinds.{closed_kind_plain}
+use Rattle.rdlpp_meaning.specs.declared.fault.FaultKind.TheVariants.{BareBackquote as NoName, DepthPassed}
+use Rattle.rdlpp_meaning.specs.State.{fault_at}
+use Rattle.rdlpp_meaning.specs.Slots.{SlotStops}
+use Rattle.rdlpp_meaning.specs.Opens.{Open, Texts, text_around, open_bytes, open_behind, open_scope, open_at}
+use Rattle.rdlpp_meaning.proofs.OpenMoves.{first_kind, first_bytes, first_behind, open-closes, open-bare, open-formal, open-formal_deep}
+use Rattle.rdlpp_cursors.specs.declared.front.Front.{Front}
+use Rattle.rdlpp_cursors.specs.declared.front.Front.TheVariants as front
+use Rattle.rdlpp_cursors.specs.declared.place.TextPlace.{TextPlace}
+use Rattle.rdlpp_cursors.specs.declared.step.CursorFault.{CursorFault}
+use Rattle.rdlpp_cursors.specs.declared.step.CursorStep.TheVariants.{Lends, Silent, Refused}
+use Rattle.rdlpp_cursors.specs.declared.front.Look.{Look}
+use Rattle.rdlpp_cursors.specs.Fronts.{run_len, IsFront, IsLook}
+use Rattle.rdlpp_cursors.specs.Opened.{moved_to}
+use Rattle.rdlpp_cursors.specs.Places.{place_bytes, source_formals}
+use Rattle.rdlpp_cursors.specs.Scopes.{front_source, scope_open, found_standing}
+use Rattle.rdlpp_cursors.specs.Steps.{AreSound, IsStep, StepsTo, Goes}
+use Rattle.rdlpp_cursors.proofs.Moving.{goes-by, ends-by, goes-bytes}
+use Rattle.rdlpp_cursors.proofs.Runs.{run-goes}
+use Rattle.rdlpp_cursors.proofs.Scoping.{front-formals, front-standing}
+
+-- an open text of which nothing is left is closed
+pub step-ended : (line depth : ℕ) (texts : Texts) (x : Open) (below : List Open) → AreSound texts (x ∷ below)
+    → IsFront (source_formals texts (front_source (x ∷ below))) (open_bytes texts x below) front.Ended
+    → IsStep line depth texts (x ∷ below) Silent below
+unfolding IsStep StepsTo IsFront
+step-ended line depth texts x below h e rules s m u =
+    goes-by rules s line depth texts x below [] below h.are_open (open-closes rules s line depth texts x below e)
+
+-- a run is lent
+pub step-run : (line depth : ℕ) (texts : Texts) (x : Open) (below : List Open) (n : ℕ) (place : TextPlace) → AreSound texts (x ∷ below)
+    → IsFront (source_formals texts (front_source (x ∷ below))) (open_bytes texts x below) (front.Run n)
+    → take n (open_bytes texts x below) ≡ place_bytes texts place
+    → IsStep line depth texts (x ∷ below) (Lends place) (moved_to (x.part.from + n) (x ∷ below))
+unfolding IsStep StepsTo IsFront moved_to open_behind
+step-run line depth texts x below n place h f p rules s m u =
+    let mode : x.part.mode ≡ Plain = (h.are_inside).1.1.0 in
+    goes-bytes rules s line depth texts (x ∷ below) (open_behind x n Plain ∷ below) (take n (open_bytes texts x below)) (place_bytes texts place) p
+    (run-goes rules s line depth texts (source_formals texts (front_source (x ∷ below))) x below n h.are_open (front-formals texts x below (h.are_open).0)
+    (ap (λ (md : Mode). run_len (source_formals texts (front_source (x ∷ below))) (tokens_from md 0 (open_bytes texts x below)) (open_bytes texts x below)) mode ∙ f.2) f.0)
+
+-- the kind of the first token
+kind-first : (texts : Texts) (x : Open) (below : List Open) (kind : Kind) → x.part.mode ≡ Plain → (token_of Plain (open_bytes texts x below)).kind ≡ kind
+    → first_kind texts x below ≡ kind
+unfolding first_kind
+kind-first texts x below kind m e = ap (λ (md : Mode). (token_of md (open_bytes texts x below)).kind) m ∙ e
+
+-- a lone backquote is a fault
+pub step-bare : (line depth : ℕ) (texts : Texts) (x : Open) (below : List Open) (new : List Open) (fault : CursorFault) → AreSound texts (x ∷ below)
+    → IsFront (source_formals texts (front_source (x ∷ below))) (open_bytes texts x below) front.Bare
+    → fault.kind ≡ NoName → place_bytes texts fault.word ≡ []
+    → IsStep line depth texts (x ∷ below) (Refused fault) new
+unfolding IsStep StepsTo IsFront
+step-bare line depth texts x below new fault h f k w rules s m u =
+    ends-by rules s line depth texts x below (fault_at fault.kind line (place_bytes texts fault.word) s) h.are_open
+    (open-bare rules s line depth texts x below f.0 (kind-first texts x below BareBackquote (h.are_inside).1.1.0 f.1)
+    ∙ sym (ap (λ c. SlotStops [] (fault_at c line (place_bytes texts fault.word) s)) k ∙ ap (λ (bytes : List ℕ). SlotStops [] (fault_at NoName line bytes s)) w))
+
+-- the bytes of the first token
+bytes-first : (texts : Texts) (x : Open) (below : List Open) (len : ℕ) → x.part.mode ≡ Plain → (token_of Plain (open_bytes texts x below)).len ≡ len
+    → first_bytes texts x below ≡ take len (open_bytes texts x below)
+unfolding first_bytes
+bytes-first texts x below len m e =
+    ap (λ (md : Mode). take (token_of md (open_bytes texts x below)).len (open_bytes texts x below)) m
+    ∙ ap (λ (n : ℕ). take n (open_bytes texts x below)) e
+
+-- behind a first token of a kind that closes, the open text goes on as plain text
+first-moved : (texts : Texts) (x : Open) (below : List Open) (len : ℕ) → x.part.mode ≡ Plain → opens_mode (token_of Plain (open_bytes texts x below)).kind ≡ false
+    → (token_of Plain (open_bytes texts x below)).len ≡ len → first_behind texts x below ≡ open_behind x len Plain
+unfolding first_behind
+first-moved texts x below len m k e =
+    let bytes = open_bytes texts x below in
+    ap (λ (md : Mode). open_behind x (token_of md bytes).len (token_of md bytes).next_mode) m
+    ∙ ap (λ (md : Mode). open_behind x (token_of Plain bytes).len md) (closed_kind_plain Plain bytes k)
+    ∙ ap (λ (n : ℕ). open_behind x n Plain) e
+
+-- a name closes
+name-closes : (kind : Kind) → kind ≡ Name → opens_mode kind ≡ false
+unfolding opens_mode
+name-closes kind e = ap (λ (k : Kind). opens_mode k) e
+
+-- what a formal stands for is opened, where there is room
+pub step-formal : (line depth : ℕ) (texts : Texts) (x : Open) (below : List Open) (len place : ℕ) (new : Open) → AreSound texts (x ∷ below)
+    → IsFront (source_formals texts (front_source (x ∷ below))) (open_bytes texts x below) (front.Formal len place)
+    → found_standing texts.macros (scope_open (x ∷ below) (open_scope x below)) (open_scope x below) place ≡ Some new
+    → length (x ∷ below) < depth
+    → IsStep line depth texts (x ∷ below) Silent (new ∷ moved_to (x.part.from + len) (x ∷ below))
+unfolding IsStep StepsTo IsFront moved_to open_behind
+step-formal line depth texts x below len place new h f standing room rules s m u =
+    let mode : x.part.mode ≡ Plain = (h.are_inside).1.1.0 in
+    let stands = front-standing texts x below (take len (open_bytes texts x below)) place (h.are_open).0 f.3 in
+    let same : stands.new ≡ new = one stands.new new (sym stands.standing_is ∙ standing) in
+    let found : open_at texts (x ∷ below) (open_scope x below) (first_bytes texts x below) ≡ Some new =
+    ap (λ (name : List ℕ). open_at texts (x ∷ below) (open_scope x below) name) (bytes-first texts x below len mode f.2)
+    ∙ stands.stands ∙ ap (λ (y : Open). Some y) same in
+    subst (λ (y : Open). Goes rules s line depth texts (x ∷ below) [] (new ∷ y ∷ below)) (first-moved texts x below len mode (name-closes _ f.1) f.2)
+    (goes-by rules s line depth texts x below [] (new ∷ first_behind texts x below ∷ below) h.are_open
+    (open-formal rules s line depth texts x below new h.are_open f.0 (kind-first texts x below Name mode f.1) found room))
+  where
+    one : (a b : Open) → Some a ≡ Some b → a ≡ b
+    one a b e = cc
+
+-- and is a fault where there is none
+pub step-formal_deep : (line depth : ℕ) (texts : Texts) (x : Open) (below : List Open) (len place : ℕ) (new : List Open) (fault : CursorFault) → AreSound texts (x ∷ below)
+    → IsFront (source_formals texts (front_source (x ∷ below))) (open_bytes texts x below) (front.Formal len place)
+    → depth ≤ length (x ∷ below) → fault.kind ≡ DepthPassed → place_bytes texts fault.word ≡ []
+    → IsStep line depth texts (x ∷ below) (Refused fault) new
+unfolding IsStep StepsTo IsFront
+step-formal_deep line depth texts x below len place new fault h f deep k w rules s m u =
+    let mode : x.part.mode ≡ Plain = (h.are_inside).1.1.0 in
+    let stands = front-standing texts x below (take len (open_bytes texts x below)) place (h.are_open).0 f.3 in
+    let found : open_at texts (x ∷ below) (open_scope x below) (first_bytes texts x below) ≡ Some stands.new =
+    ap (λ (name : List ℕ). open_at texts (x ∷ below) (open_scope x below) name) (bytes-first texts x below len mode f.2) ∙ stands.stands in
+    ends-by rules s line depth texts x below (fault_at fault.kind line (place_bytes texts fault.word) s) h.are_open
+    (open-formal_deep rules s line depth texts x below stands.new h.are_open f.0 (kind-first texts x below Name mode f.1) found deep
+    ∙ sym (ap (λ c. SlotStops [] (fault_at c line (place_bytes texts fault.word) s)) k ∙ ap (λ (bytes : List ℕ). SlotStops [] (fault_at DepthPassed line bytes s)) w))
+
+-- the texts around the innermost are sound
+pub sound-tail : (texts : Texts) (x : Open) (below : List Open) → AreSound texts (x ∷ below) → AreSound texts below
+sound-tail texts x below h = record { are_open = ((h.are_open).1).1; are_inside = (((h.are_inside).1).1).1 }
+
+-- so are open texts of which the innermost goes on at a place
+pub sound-moved : (texts : Texts) (opens : List Open) (at : ℕ) → AreSound texts opens → AreSound texts (moved_to at opens)
+unfolding moved_to
+sound-moved texts [] at h = h
+sound-moved texts (x ∷ below) at h =
+    record { are_open = h.are_open; are_inside = ((h.are_inside).0, (((h.are_inside).1).0, (refl, (((h.are_inside).1).1).1))) }
+
+-- a step by a look: nothing is left
+pub look-ended : (line depth : ℕ) (texts : Texts) (opens : List Open) (look : Look) → AreSound texts opens → IsLook texts opens look → look.front ≡ front.Ended
+    → IsStep line depth texts opens Silent (drop 1 opens) × AreSound texts (drop 1 opens)
+unfolding IsLook
+look-ended line depth texts [] look h l e = absurd l
+look-ended line depth texts (x ∷ below) look h l e =
+    (step-ended line depth texts x below h (subst (λ (f : Front). IsFront (source_formals texts (front_source (x ∷ below))) (open_bytes texts x below) f) e l.3), sound-tail texts x below h)
+
+-- a run ends in its text
+pub look-inside : (texts : Texts) (opens : List Open) (look : Look) (n : ℕ) → IsLook texts opens look → look.front ≡ front.Run n → look.from + n ≤ look.end
+unfolding IsLook IsFront open_bytes
+look-inside texts [] look n l e = absurd l
+look-inside texts (x ∷ below) look n l e =
+    let f : (0 < n) × (n ≤ length (open_bytes texts x below)) × _ = subst (λ (f : Front). IsFront (source_formals texts (front_source (x ∷ below))) (open_bytes texts x below) f) e l.3 in
+    let size = length-take (x.part.end - x.part.from) (drop x.part.from (text_around texts x.kind x.home below)) in
+    let from = l.1 in
+    let end = l.2 in
+    let some = f.0 in
+    let inside = f.1 in
+    omega (arith, size, from, end, some, inside)

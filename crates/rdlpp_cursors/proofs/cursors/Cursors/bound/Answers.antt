@@ -1,0 +1,6 @@
+use Rattle.std.proofs.Common.{◌∙◌}
+use Rattle.rdlpp_cursors.proofs.Stacking.{laid-bound, ranges-count}
+use Rattle.rdlpp_cursors.proofs.cursors.Cursors.bound.Goals as goal
+
+pub returns : goal.returns
+returns c = rw (← c.self.view_is) (c.len.ensures ∙ ranges-count c.self.inside.bindings ∙ laid-bound _ _ c.self.invariant.laid)

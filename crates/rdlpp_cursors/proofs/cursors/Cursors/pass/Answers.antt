@@ -1,0 +1,39 @@
+use Rattle.std.proofs.Common.{arith, refl}
+use Rattle.rdlpp_cursors.specs.Places.{texts_of}
+use Rattle.rdlpp_cursors.specs.declared.place.TextSource.TheVariants.{Arguments}
+use Rattle.rdlpp_cursors.proofs.Passing.{front-holds, look-held, pass-bare, pass-ended, pass-run}
+use Rattle.rdlpp_cursors.proofs.Stepping.{look-inside}
+use Rattle.rdlpp_cursors.proofs.cursors.Cursors.pass.Goals as goal
+
+pub overflow_add-end : goal.overflow_add-end
+overflow_add-end c =
+    let inside = look-inside (texts_of c.args.table.now.macros c.args.arguments.now) c.args.self.now.opens c.look-look.result c.in-Run.len c.look-look.ensures.look c.in-Run.is in
+    let short = c.look-look.ensures.short in
+    omega (arith, inside, short)
+
+pub returns-in-Ended-clause-step : goal.returns-in-Ended-clause-step
+returns-in-Ended-clause-step c =
+    (pass-ended (texts_of c.args.table.now.macros c.args.arguments.now) c.args.self.now c.close.new.self c.look-look.result c.requires.sound c.look-look.ensures.look c.in-Ended.is c.close.ensures).is_step
+
+pub returns-in-Ended-clause-sound : goal.returns-in-Ended-clause-sound
+returns-in-Ended-clause-sound c =
+    (pass-ended (texts_of c.args.table.now.macros c.args.arguments.now) c.args.self.now c.close.new.self c.look-look.result c.requires.sound c.look-look.ensures.look c.in-Ended.is c.close.ensures).sound
+
+pub returns-in-Run-clause-step : goal.returns-in-Run-clause-step
+returns-in-Run-clause-step c =
+    (pass-run (texts_of c.args.table.now.macros c.args.arguments.now) c.args.self.now c.move_to.new.self c.look-look.result c.in-Run.len _ c.requires.sound c.look-look.ensures.look c.in-Run.is refl c.move_to.ensures).is_step
+
+pub returns-in-Run-clause-sound : goal.returns-in-Run-clause-sound
+returns-in-Run-clause-sound c =
+    (pass-run (texts_of c.args.table.now.macros c.args.arguments.now) c.args.self.now c.move_to.new.self c.look-look.result c.in-Run.len _ c.requires.sound c.look-look.ensures.look c.in-Run.is refl c.move_to.ensures).sound
+
+pub returns-in-Bare-clause-step : goal.returns-in-Bare-clause-step
+returns-in-Bare-clause-step c =
+    (pass-bare (texts_of c.args.table.now.macros c.args.arguments.now) c.args.self.now c.look-look.result Arguments c.requires.sound c.look-look.ensures.look c.in-Bare.is).is_step
+
+pub returns-in_default-clause-step : goal.returns-in_default-clause-step
+returns-in_default-clause-step c = (
+  refl,
+  look-held (texts_of c.args.table.now.macros c.args.arguments.now) c.args.self.now.opens c.look-look.result c.look-look.ensures.look
+      (front-holds c.look-look.result.front c.in_default.not-Ended c.in_default.not-Run c.in_default.not-Bare),
+)

@@ -1,0 +1,61 @@
+-- What stands at the front of an open text.
+-- A definition that names no source is this project's own.
+use Rattle.std.specs.Prelude.{◌≡◌, ℕ, ◌+◌, ◌<◌, ◌≤◌, Bool, true, false, List, [], ◌∷◌, length, take, drop, Some, if◌then◌else◌}
+use Rattle.rdlpp_scan.specs.declared.token.Kind.{Kind}
+use Rattle.rdlpp_scan.specs.declared.token.Kind.TheVariants.{Name, Back, BareBackquote}
+use Rattle.rdlpp_scan.specs.declared.token.Mode.TheVariants.{Plain}
+use Rattle.rdlpp_scan.specs.declared.token.Token.{Token}
+use Rattle.rdlpp_scan.specs.Tokens.{token_of, tokens_from}
+use Rattle.rdlpp_table.specs.Table.{Formal}
+use Rattle.rdlpp_table.specs.View.{formal_named}
+use Rattle.rdlpp_table.specs.Stops.{is_none, stop_at}
+use Rattle.rdlpp_meaning.specs.Opens.{Open, Texts, open_bytes}
+use Rattle.rdlpp_cursors.specs.Places.{source_formals}
+use Rattle.rdlpp_cursors.specs.Scopes.{front_source}
+use Rattle.rdlpp_cursors.specs.declared.front.Front.{Front}
+use Rattle.rdlpp_cursors.specs.declared.front.Look.{Look}
+use Rattle.rdlpp_cursors.specs.declared.front.Front.TheVariants.{Ended, Run, Formal as FormalName, Usage, Bare}
+
+-- whether a kind is that of a usage or a lone backquote
+unfoldable pub is_back : Kind → Bool
+is_back Back = true
+is_back BareBackquote = true
+is_back kind = false
+
+-- how many bytes the tokens have that come before the first stop
+unfoldable pub run_len : List Formal → List Token → List ℕ → ℕ
+run_len formals [] text = 0
+run_len formals (t ∷ ts) text =
+    if is_none (stop_at formals 0 t (take t.len text)) then t.len + run_len formals ts (drop t.len text) else 0
+
+-- what stands at the front of a text with these formals: nothing; so many bytes of tokens that are copied; the name of a formal,
+-- so long, with its place; a usage, so long; or a backquote alone
+unfoldable pub IsFront : List Formal → List ℕ → Front → Type 0
+IsFront formals text Ended = text ≡ []
+IsFront formals text (Run len) = (0 < len) × (len ≤ length text) × (run_len formals (tokens_from Plain 0 text) text ≡ len)
+IsFront formals text (FormalName len place) =
+    (0 < length text) × ((token_of Plain text).kind ≡ Name) × ((token_of Plain text).len ≡ len) × (formal_named formals (take len text) ≡ Some place)
+IsFront formals text (Usage len) =
+    (0 < length text) × ((token_of Plain text).kind ≡ Back) × ((token_of Plain text).len ≡ len)
+IsFront formals text Bare = (0 < length text) × ((token_of Plain text).kind ≡ BareBackquote)
+
+-- what a look at open texts tells: where the innermost lies, where it goes on and ends, and what stands there
+unfoldable pub IsLook : Texts → List Open → Look → Type 0
+IsLook texts [] look = ⊥
+IsLook texts (x ∷ below) look =
+    (look.source ≡ front_source (x ∷ below)) × (look.from ≡ x.part.from) × (look.end ≡ x.part.end)
+    × IsFront (source_formals texts (front_source (x ∷ below))) (open_bytes texts x below) look.front
+
+-- whether the name of a formal or a usage stands at a front
+abbrev pub holds : Front → Bool
+holds Ended = false
+holds (Run len) = false
+holds (FormalName len place) = true
+holds (Usage len) = true
+holds Bare = false
+
+-- the name of a formal or a usage stands at the front of the innermost open text
+unfoldable pub IsHeld : Texts → List Open → Type 0
+IsHeld texts [] = ⊥
+IsHeld texts (x ∷ below) =
+    (f : Front) × (holds f ≡ true) × IsFront (source_formals texts (front_source (x ∷ below))) (open_bytes texts x below) f

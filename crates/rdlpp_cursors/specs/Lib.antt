@@ -1,0 +1,5 @@
+pub mod Opened
+pub mod Scopes
+pub mod Places
+pub mod Fronts
+pub mod Steps

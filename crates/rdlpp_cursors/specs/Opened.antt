@@ -1,0 +1,115 @@
+-- Open texts as they lie in slots, with the ranges that calls have bound.
+-- A definition that names no source is this project's own.
+use Rattle.std.specs.Prelude.{◌≡◌, ℕ, ◌+◌, ◌*◌, ◌≤◌, ◌==◌, Bool, false, List, [], ◌∷◌, map, length, take, drop, vec_capacity, Vec}
+use Rattle.rdlpp_scan.specs.declared.token.Mode.TheVariants.{Plain}
+use Rattle.rdlpp_meaning.specs.Opens.{Part, OpenKind, OpenBody, OpenActual, OpenDefault, Open}
+use Rattle.rdlpp_cursors.specs.declared.range.Range.{Range}
+use Rattle.rdlpp_cursors.specs.declared.place.TextSource.{TextSource}
+use Rattle.rdlpp_cursors.specs.declared.place.TextSource.TheVariants as source
+use Rattle.rdlpp_cursors.specs.declared.slot.Slot.{Slot}
+use Rattle.rdlpp_cursors.specs.declared.slot.SlotKind.{SlotKind}
+use Rattle.rdlpp_cursors.specs.declared.slot.SlotKind.TheVariants.{Body, Actual, Default}
+
+-- a range as a part of a text that is read as plain text
+abbrev pub part_of : Range → Part
+part_of r = record { from = r.from; end = r.to; mode = Plain }
+
+-- what a slot's text is, where these ranges are bound when it is the innermost: those from its first one on are its own
+abbrev pub kind_of : SlotKind → List Range → OpenKind
+kind_of (Body id first) bindings = OpenBody id (map part_of (drop first bindings))
+kind_of Actual bindings = OpenActual
+kind_of (Default id place) bindings = OpenDefault id place
+
+-- the ranges that are bound around it
+abbrev pub bindings_below : SlotKind → List Range → List Range
+bindings_below (Body id first) bindings = take first bindings
+bindings_below Actual bindings = bindings
+bindings_below (Default id place) bindings = bindings
+
+-- a slot as an open text
+abbrev pub open_of : Slot → List Range → Open
+open_of slot bindings = record {
+  part = record { from = slot.from; end = slot.end; mode = Plain };
+  home = slot.home;
+  kind = kind_of slot.kind bindings;
+}
+
+-- slots as open texts, the innermost first
+unfoldable pub opens_of : List Slot → List Range → List Open
+opens_of [] bindings = []
+opens_of (slot ∷ below) bindings = open_of slot bindings ∷ opens_of below (bindings_below slot.kind bindings)
+
+-- the ranges are those of the open bodies, each of which has at most 255 (source: this project's profile)
+unfoldable pub AreLaid : List Slot → List Range → Type 0
+AreLaid [] bindings = length bindings ≡ 0
+AreLaid (slot ∷ below) bindings =
+    (length bindings ≤ 255 * length (slot ∷ below)) × AreLaid below (bindings_below slot.kind bindings)
+
+-- what a contract sees of the open texts: the texts, the innermost first; the line of the usage in the source that opened
+-- them; and how many may be open
+pub record CursorsView : Type 0 where
+  pub opens : List Open
+  pub line : ℕ
+  pub depth : ℕ
+
+-- how many ranges an open text has bound
+abbrev pub bound_in : OpenKind → ℕ
+bound_in (OpenBody id parts) = length parts
+bound_in OpenActual = 0
+bound_in (OpenDefault id place) = 0
+
+-- how many ranges open texts have bound
+unfoldable pub bound_by : List Open → ℕ
+bound_by [] = 0
+bound_by (x ∷ below) = bound_in x.kind + bound_by below
+
+-- how the slots and the ranges lie: the open texts stand from `first` on, and there is room for the ranges of as many bodies
+-- as there are slots (source: this project's profile)
+pub record IsStack {A : Type 0} (slots : List Slot) (first : ℕ) (bindings : Vec Range A) : Type 0 where
+  pub inside : first ≤ length slots
+  pub laid : AreLaid (drop first slots) bindings.items
+  pub room : 255 * length slots ≤ vec_capacity bindings
+
+-- what is no body
+abbrev pub IsNoBody : SlotKind → Type 0
+IsNoBody (Body id first) = ⊥
+IsNoBody Actual = Unit
+IsNoBody (Default id place) = Unit
+
+-- open texts of which the innermost goes on at a place
+unfoldable pub moved_to : ℕ → List Open → List Open
+moved_to at [] = []
+moved_to at (x ∷ below) = record { part = record { from = at; end = x.part.end; mode = Plain }; home = x.home; kind = x.kind } ∷ below
+
+-- each home of the slots is a scope further out
+abbrev pub AreHomedSlots : List Slot → Type 0
+AreHomedSlots [] = Unit
+AreHomedSlots (slot ∷ below) = (slot.home ≤ length below) × AreHomedSlots below
+
+-- whether a slot has the body of a macro
+abbrev pub is_body_of : SlotKind → ℕ → Bool
+is_body_of (Body own first) id = id == own
+is_body_of Actual id = false
+is_body_of (Default own place) id = false
+
+-- the scope in which the call of a slot's text is written, and the source for an actual, which is no scope
+abbrev pub kind_outer : SlotKind → ℕ → ℕ
+kind_outer (Body id first) home = home
+kind_outer Actual home = 0
+kind_outer (Default id place) home = home
+
+-- that of a slot
+abbrev pub outer_of : Slot → ℕ
+outer_of slot = kind_outer slot.kind slot.home
+
+-- where the text of a slot lies, if it is a body or a default
+abbrev pub slot_source : SlotKind → TextSource
+slot_source (Body id first) = source.Body id
+slot_source Actual = source.Arguments
+slot_source (Default id place) = source.Default id place
+
+-- how many of so many ranges are kept where a slot is closed
+abbrev pub kept_by : SlotKind → ℕ → ℕ
+kept_by (Body id first) n = first
+kept_by Actual n = n
+kept_by (Default id place) n = n

@@ -1,0 +1,56 @@
+-- One step of open texts: what it lends, and what remains behind it.
+-- A definition that names no source is this project's own.
+use Rattle.std.specs.Prelude.{◌≡◌, ℕ, ◌<◌, ◌≤◌, false, List, [], ◌∷◌, length}
+use Rattle.std.specs.List.{AllByRecursion}
+use Rattle.rdlpp_scan.specs.declared.token.Mode.TheVariants.{Plain}
+use Rattle.rdlpp_table.specs.Table.{Macro}
+use Rattle.rdlpp_table.specs.View.{macro_at, formals_of}
+use Rattle.rdlpp_meaning.specs.Outcome.{gives, fails, and_then}
+use Rattle.rdlpp_meaning.specs.State.{Rules, State, fault_at}
+use Rattle.rdlpp_meaning.specs.Cursors.{left}
+use Rattle.rdlpp_meaning.specs.CursorWork.{cursors_work, IsCountedMacro, IsCountedCursor}
+use Rattle.rdlpp_meaning.specs.Slots.{cursors_of}
+use Rattle.rdlpp_meaning.specs.Opens.{OpenKind, OpenBody, OpenActual, OpenDefault, Open, Texts, text_around, slots_of, AreOpen}
+use Rattle.rdlpp_cursors.specs.Places.{place_bytes}
+use Rattle.rdlpp_cursors.specs.declared.step.CursorStep.{CursorStep}
+use Rattle.rdlpp_cursors.specs.declared.step.CursorStep.TheVariants.{Lends, Silent, Refused}
+
+-- open texts go on to others over some bytes: what remained is the bytes and what remains, and the work left, in which each text
+-- has a digit, falls in any base that has the digits
+pub record Goes (rules : Rules) (s : State) (line depth : ℕ) (texts : Texts) (old : List Open) (bytes : List ℕ) (new : List Open) : Type 0 where
+  pub remains : left rules s line (cursors_of depth (slots_of texts old))
+      ≡ and_then (gives bytes) (left rules s line (cursors_of depth (slots_of texts new)))
+  pub work : (base : ℕ) → AllByRecursion (IsCountedMacro base) s.macros
+      → AllByRecursion (IsCountedCursor base) (cursors_of depth (slots_of texts old))
+      → (cursors_work base (cursors_of depth (slots_of texts new)) < cursors_work base (cursors_of depth (slots_of texts old)))
+      × AllByRecursion (IsCountedCursor base) (cursors_of depth (slots_of texts new))
+
+-- what a step comes to by the rules of a run: bytes of a text, nothing, or a fault at the line of the usage in the source
+unfoldable pub StepsTo : Rules → State → ℕ → ℕ → Texts → List Open → CursorStep → List Open → Type 0
+StepsTo rules s line depth texts old (Lends place) new = Goes rules s line depth texts old (place_bytes texts place) new
+StepsTo rules s line depth texts old Silent new = Goes rules s line depth texts old [] new
+StepsTo rules s line depth texts old (Refused fault) new =
+    left rules s line (cursors_of depth (slots_of texts old)) ≡ fails (fault_at fault.kind line (place_bytes texts fault.word) s)
+
+-- a step is that of each run whose macros are those of the texts, and of which none isn't built
+unfoldable pub IsStep : ℕ → ℕ → Texts → List Open → CursorStep → List Open → Type 0
+IsStep line depth texts old step new =
+    (rules : Rules) (s : State) → s.macros ≡ texts.macros → ((m : Macro) → rules.unbuilt_macro m ≡ false)
+    → StepsTo rules s line depth texts old step new
+
+-- the macro of an open text is in the table
+abbrev pub IsKnown : List Macro → OpenKind → Type 0
+IsKnown macros (OpenBody id parts) = id < length macros
+IsKnown macros OpenActual = Unit
+IsKnown macros (OpenDefault id place) = (id < length macros) × (place < length (formals_of (macro_at macros id)))
+
+-- each open text lies in its text and is read from plain text on, and its macro is in the table
+abbrev pub AreInside : Texts → List Open → Type 0
+AreInside texts [] = Unit
+AreInside texts (x ∷ below) =
+    IsKnown texts.macros x.kind × ((x.part.end ≤ length (text_around texts x.kind x.home below)) × ((x.part.mode ≡ Plain) × AreInside texts below))
+
+-- what holds of open texts between steps: their homes are further out, their parts lie in their texts, and so do they
+pub record AreSound (texts : Texts) (opens : List Open) : Type 0 where
+  pub are_open : AreOpen texts opens
+  pub are_inside : AreInside texts opens

@@ -1,0 +1,220 @@
+// The stack of open texts.
+ghost use Rattle.std.specs.Prelude.{[], length, IfOk, MatchOption, List, None, ℕ, ◌==◌, ◌<◌, ◌≡◌, ◌≤◌, ◌∷◌, ◌^◌, drop};
+ghost use Rattle.rdlpp_scan.specs.declared.token.Mode.TheVariants.{Plain};
+ghost use Rattle.std.specs.Option.{option_map};
+ghost use Rattle.rdlpp_table.specs.View.{macro_at};
+ghost use Rattle.rdlpp_meaning.specs.Opens.{open_body, OpenBody};
+ghost use Rattle.rdlpp_cursors.specs.Fronts.{IsHeld, IsLook};
+ghost use Rattle.rdlpp_cursors.specs.Opened.{bound_by, kept_by, moved_to, open_of, IsNoBody};
+ghost use Rattle.rdlpp_cursors.specs.Places.{texts_of};
+ghost use Rattle.rdlpp_cursors.specs.Steps.{AreSound, IsStep};
+
+use crate::front::{Front, Look, look_at};
+use crate::place::{TextPlace, TextSource};
+use crate::range::Range;
+use crate::slot::{Slot, SlotKind};
+use crate::step::{CursorFault, CursorStep};
+use rdlpp_meaning::FaultKind;
+use rdlpp_table::{MacroId, Table};
+use std::alloc::{AllocError, Global};
+use std::marker::Model;
+
+/// The open texts of a usage in a source, the innermost first: bodies, actuals and default texts, as ranges of bytes.
+///
+/// No call but `new` takes memory.
+#[derive(Drop)]
+pub struct Cursors {
+    slots: Vec<Slot>,
+    // the open texts stand from here on, the innermost first
+    first: usize,
+    // the ranges that the calls of the open bodies have bound, those of the innermost last
+    bindings: Vec<Range>,
+    line: u64,
+}
+
+impl Model for Cursors {
+    ghost use Rattle.std.specs.Prelude.{drop, vec_len};
+    ghost use Rattle.rdlpp_cursors.specs.Opened.{opens_of, CursorsView, IsStack};
+
+    ghost Value = { CursorsView };
+
+    ghost view = { λ c. record {
+      opens = opens_of (drop c.first c.slots.items) c.bindings.items;
+      line = c.line;
+      depth = vec_len c.slots;
+    } };
+
+    ghost invariant = { λ c. IsStack c.slots.items c.first c.bindings };
+}
+
+// How many of so many ranges are kept where a slot is closed.
+fn kept_by(slot: &Slot, bound: usize) -> usize
+    ensures { result ≡ kept_by slot.now.kind bound }
+{
+    match slot.kind {
+        SlotKind::Body { first, .. } => first,
+        _ => bound,
+    }
+}
+
+impl Cursors {
+    /// No open texts, with room for `depth` of them, each of which may bind 255 ranges (this project's profile).
+    ///
+    /// # Errors
+    /// `AllocError` where there was no memory for them.
+    pub fn new(alloc: Global, depth: usize) -> Result<Cursors, AllocError>
+        requires { depth ≤ 1024 }
+        ensures { IfOk result (λ c. c ≡ record { opens = []; line = 0; depth = depth }) }
+    {
+        let closed = Slot {
+            from: 0,
+            end: 0,
+            home: 0,
+            kind: SlotKind::Actual,
+        };
+        let slots = vec![in alloc; closed; depth]?;
+        let bindings = Vec::with_capacity(alloc, depth * 255)?;
+        Ok(Cursors {
+            slots,
+            first: depth,
+            bindings,
+            line: 0,
+        })
+    }
+
+    /// Whether no text is open.
+    pub fn is_empty(&self) -> bool
+        ensures { result ≡ (length self.now.opens == 0) }
+    {
+        self.len() == 0
+    }
+
+    /// How many texts are open.
+    pub fn len(&self) -> usize
+        ensures { result ≡ length self.now.opens }
+    {
+        self.slots.len() - self.first
+    }
+
+    /// How many ranges the calls of the open bodies have bound.
+    pub fn bound(&self) -> usize
+        ensures { result ≡ bound_by self.now.opens }
+    {
+        let _first = self.first;
+        self.bindings.len()
+    }
+
+    // Closes the innermost text, with the ranges that its call has bound.
+    fn close(&mut self)
+        requires { 0 < length self.old.opens }
+        ensures { self.new ≡ record self.old { opens = drop 1 self.old.opens } }
+    {
+        let kept = kept_by(&self.slots[self.first], self.bindings.len());
+        self.bindings.truncate(kept);
+        self.first += 1;
+    }
+
+    // Goes on at a place of the innermost text.
+    fn move_to(&mut self, at: usize)
+        requires { 0 < length self.old.opens }
+        ensures { self.new ≡ record self.old { opens = moved_to at self.old.opens } }
+    {
+        let first = self.first;
+        self.slots[first].from = at;
+    }
+
+    // Opens an actual or a default.
+    fn push_text(&mut self, new: Slot)
+        requires text { IsNoBody new.kind }
+        requires room { length self.old.opens < self.old.depth }
+        ensures { self.new ≡ record self.old { opens = open_of new [] ∷ self.old.opens } }
+    {
+        let first = self.first - 1;
+        self.slots[first] = new;
+        self.first = first;
+    }
+
+    // Opens the body of a macro whose call is written in a scope and binds nothing.
+    fn push_body(&mut self, id: MacroId, end: usize, home: usize)
+        requires { length self.old.opens < self.old.depth }
+        ensures { self.new ≡ record self.old { opens = record { part = record { from = 0; end = end; mode = Plain }; home = home; kind = OpenBody id [] } ∷ self.old.opens } }
+    {
+        let bound = self.bindings.len();
+        let first = self.first - 1;
+        self.slots[first] = Slot {
+            from: 0,
+            end,
+            home,
+            kind: SlotKind::Body { id, first: bound },
+        };
+        self.first = first;
+    }
+
+    // Where the innermost text lies, where it goes on and ends, and what stands there.
+    fn look(&self, table: &Table, arguments: &[u8]) -> Look
+        requires some { 0 < length self.now.opens }
+        requires sound { AreSound (texts_of table.now.macros arguments.now) self.now.opens }
+        ensures look { IsLook (texts_of table.now.macros arguments.now) self.now.opens result }
+        ensures short { result.end < 2 ^ 64 }
+    {
+        let slots = self.slots.as_slice();
+        look_at(
+            &slots[self.first..],
+            self.bindings.as_slice(),
+            table,
+            arguments,
+        )
+    }
+
+    /// Opens the body of a macro for a usage without arguments, which stands in a source at a line.
+    pub fn open_body(&mut self, table: &Table, id: MacroId, line: u64)
+        requires id { id < length table.now.macros }
+        requires plain { option_map length (macro_at table.now.macros id).formals ≡ None }
+        requires closed { self.old.opens ≡ [] }
+        requires room { 0 < self.old.depth }
+        ensures opens { self.new ≡ record { opens = open_body (texts_of table.now.macros []) id [] 0 ∷ []; line = line; depth = self.old.depth } }
+        ensures sound { (arguments : List ℕ) → AreSound (texts_of table.now.macros arguments) self.new.opens }
+    {
+        self.line = line;
+        self.push_body(id, table.body(id).len(), 0);
+    }
+
+    /// One step of the innermost text, unless the name of a formal or a usage stands at its front: it lends the longest run
+    /// of bytes that are copied, in one piece as they lie, or closes a text of which nothing is left. `arguments` is what is
+    /// kept of the call in the source. `None`, and nothing changes, where the name of a formal or a usage stands there.
+    ///
+    /// A backquote without a name is a fault (`BareBackquote`), and nothing changes then.
+    pub fn pass(&mut self, table: &Table, arguments: &[u8]) -> Option<CursorStep>
+        requires some { 0 < length self.old.opens }
+        requires sound { AreSound (texts_of table.now.macros arguments.now) self.old.opens }
+        ensures step { MatchOption result ((self.new ≡ self.old) × IsHeld (texts_of table.now.macros arguments.now) self.old.opens) (λ step. IsStep self.old.line self.old.depth (texts_of table.now.macros arguments.now) self.old.opens step self.new.opens) }
+        ensures sound { AreSound (texts_of table.now.macros arguments.now) self.new.opens }
+        ensures kept { (self.new.line ≡ self.old.line) × (self.new.depth ≡ self.old.depth) }
+    {
+        let look = self.look(table, arguments);
+        match look.front {
+            Front::Ended => {
+                self.close();
+                Some(CursorStep::Silent)
+            }
+            Front::Run(len) => {
+                let end = look.from + len;
+                self.move_to(end);
+                Some(CursorStep::Lends(TextPlace {
+                    source: look.source,
+                    from: look.from,
+                    end,
+                }))
+            }
+            Front::Bare => Some(CursorStep::Refused(CursorFault {
+                kind: FaultKind::BareBackquote,
+                word: TextPlace {
+                    source: TextSource::Arguments,
+                    from: 0,
+                    end: 0,
+                },
+            })),
+            _ => None,
+        }
+    }
+}

@@ -1,0 +1,150 @@
+// What stands at the front of an open text.
+ghost use Rattle.std.specs.Prelude.{[], length, slice_range, nat_lt, if◌then◌else◌, List, ℕ, ◌+◌, ◌-◌, ◌<◌, ◌≡◌, ◌≤◌, ◌^◌};
+ghost use Rattle.rdlpp_scan.specs.Tokens.{tokens_from};
+ghost use Rattle.rdlpp_table.specs.Stops.{stop_of};
+ghost use Rattle.rdlpp_table.specs.Table.{Formal};
+ghost use Rattle.rdlpp_cursors.specs.Fronts.{is_back, run_len, IsFront, IsLook};
+ghost use Rattle.rdlpp_cursors.specs.Opened.{opens_of};
+ghost use Rattle.rdlpp_cursors.specs.Places.{source_formals, source_text, texts_of, IsSource};
+ghost use Rattle.rdlpp_cursors.specs.Steps.{AreSound};
+
+use crate::place::TextSource;
+use crate::range::Range;
+use crate::scopes::{front_source, text_of};
+use crate::slot::Slot;
+use rdlpp_scan::{Kind, Mode, first_token};
+use rdlpp_table::{Stop, Table};
+
+// What stands at the front of an open text.
+#[derive(Clone, Copy)]
+pub(crate) enum Front {
+    // Nothing.
+    Ended,
+    // So many bytes that are copied.
+    Run(usize),
+    // The name of a formal.
+    Formal { len: usize, place: usize },
+    // A backquote and a name, with so many bytes together.
+    Usage(usize),
+    // A backquote without a name.
+    Bare,
+}
+
+// A look at the innermost open text: where it lies, where it goes on and ends, and what stands there.
+#[derive(Clone, Copy)]
+pub(crate) struct Look {
+    pub(crate) source: TextSource,
+    pub(crate) from: usize,
+    pub(crate) end: usize,
+    pub(crate) front: Front,
+}
+
+// Whether a token of a kind is a usage or a lone backquote.
+#[tactic(auto, unfolding(crate::specs::Fronts::is_back))]
+fn is_back(kind: Kind) -> bool
+    ensures { result ≡ is_back kind }
+{
+    matches!(kind, Kind::Back | Kind::BareBackquote)
+}
+
+// How many bytes of a text without formals are copied up to its first usage or lone backquote.
+fn run_len(text: &[u8]) -> usize
+    ensures value { result ≡ run_len [] (tokens_from Mode.Plain 0 text.now) text.now }
+    ensures inside { result ≤ length text.now }
+{
+    let mut mode = Mode::Plain;
+    let mut at = 0;
+    while at < text.len() {
+        let token = first_token(mode, &text[at..]);
+        if is_back(token.kind) {
+            return at;
+        }
+        mode = token.next_mode;
+        at += token.len;
+    }
+    at
+}
+
+// What stands at the front of a text without formals.
+fn plain_front(text: &[u8]) -> Front
+    requires { 0 < length text.now }
+    ensures { IsFront [] text.now result }
+{
+    let len = run_len(text);
+    if len > 0 {
+        return Front::Run(len);
+    }
+    let token = first_token(Mode::Plain, text);
+    match token.kind {
+        Kind::Back => Front::Usage(token.len),
+        _ => Front::Bare,
+    }
+}
+
+// What stands at the front of a text that begins at a place, where something stands at a stop: what is copied before it, if
+// that is further on.
+fn ahead(from: usize, at: usize, front: Front) -> Front
+    ensures { result ≡ (if nat_lt from at then Front.Run (at - from) else front) }
+{
+    if from < at {
+        Front::Run(at - from)
+    } else {
+        front
+    }
+}
+
+// What stands at the front of a text between two places, by its first stop.
+fn stop_front(stop: Stop, from: usize, end: usize) -> Front
+    requires { from < end }
+    ensures { (formals : List Formal) (text : List ℕ) → from + length text ≡ end → stop ≡ stop_of formals from text → IsFront formals text result }
+{
+    match stop {
+        Stop::None => Front::Run(end - from),
+        Stop::Formal { at, len, place } => ahead(from, at, Front::Formal { len, place }),
+        Stop::Usage { at, len } => ahead(from, at, Front::Usage(len)),
+        Stop::Bare { at } => ahead(from, at, Front::Bare),
+    }
+}
+
+// What stands at the front of a range of a text.
+pub(crate) fn front_of(
+    table: &Table,
+    arguments: &[u8],
+    source: TextSource,
+    from: usize,
+    end: usize,
+) -> Front
+    requires source { IsSource (texts_of table.now.macros arguments.now) source }
+    requires inside { end ≤ length (source_text (texts_of table.now.macros arguments.now) source) }
+    ensures { IsFront (source_formals (texts_of table.now.macros arguments.now) source) (slice_range (source_text (texts_of table.now.macros arguments.now) source) from end) result }
+{
+    if end <= from {
+        return Front::Ended;
+    }
+    if let TextSource::Body(id) = source {
+        return stop_front(table.stop(id, from, end), from, end);
+    }
+    let text = text_of(table, arguments, source);
+    plain_front(&text[from..end])
+}
+
+// A look at open texts, which lie in slots, the innermost first.
+pub(crate) fn look_at(slots: &[Slot], bindings: &[Range], table: &Table, arguments: &[u8]) -> Look
+    requires some { 0 < length slots.now }
+    requires sound { AreSound (texts_of table.now.macros arguments.now) (opens_of slots.now bindings.now) }
+    ensures look { IsLook (texts_of table.now.macros arguments.now) (opens_of slots.now bindings.now) result }
+    ensures short { result.end < 2 ^ 64 }
+{
+    let _bound = bindings.len();
+    let slot = &slots[0];
+    let (from, end) = (slot.from, slot.end);
+    let text = front_source(slots);
+    let front = front_of(table, arguments, text, from, end);
+    let source = front_source(slots);
+    Look {
+        source,
+        from,
+        end,
+        front,
+    }
+}

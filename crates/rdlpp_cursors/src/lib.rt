@@ -1,0 +1,18 @@
+//! The stack of open texts of a run: bodies, actuals and default texts, as ranges of bytes.
+#![tactic(auto)]
+
+mod cursors;
+mod front;
+mod place;
+mod range;
+mod scopes;
+mod slot;
+mod step;
+
+pub use cursors::Cursors;
+pub use place::{TextPlace, TextSource};
+pub use range::Range;
+pub use step::{CursorFault, CursorStep};
+
+#[cfg(test)]
+mod tests;
