@@ -54,7 +54,7 @@ wants_name Elsif = true
 wants_name d = false
 
 -- such a directive takes what stands behind blanks
-takes_name : (d : Directive) (ts : List SourceToken) → wants_name d ≡ true → argument_of d ts ≡ past_blanks name_in_front ts
+pub takes_name : (d : Directive) (ts : List SourceToken) → wants_name d ≡ true → argument_of d ts ≡ past_blanks name_in_front ts
 unfolding wants_name argument_of
 takes_name Undef ts e = refl
 takes_name Ifdef ts e = refl

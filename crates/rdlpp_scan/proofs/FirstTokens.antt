@@ -16,12 +16,12 @@ use Rattle.rdlpp_scan.proofs.ResumedTokens.{after_step, tokens_step}
 use Rattle.rdlpp_scan.specs.SourceTokens.{SourceToken, Course, Step, Last, Next, Ordinary, Definition, broken, back_step, comment_step, define_step, line_ends, line_step, logical_len, open_end, remaining_tokens, source_step, source_tokens, step_by, string_step}
 use Rattle.rdlpp_scan.specs.Lines.{EndsLine, IsWholeLines}
 use Rattle.rdlpp_scan.specs.Ordinary.{is_plain_kind}
-use Rattle.rdlpp_scan.specs.Stage.{is_unbuilt}
+use Rattle.rdlpp_scan.specs.Stage.{begins_directive}
 use Rattle.rdlpp_scan.proofs.Searches.{false_since}
 use Rattle.rdlpp_scan.proofs.Seams.{Seam, Closed, BeforePerl, OpenString, OpenComment, token_of-seam, line_end-ten}
 use Rattle.rdlpp_scan.proofs.SourceLaws.{line_ends-cons}
 use Rattle.rdlpp_scan.proofs.StopKinds.{Row, AtPerl, AtLineComment, AtBlockComment, AtString, AtBack, AtBare, AtPlain, token_of-row, string_token-kind, block_token-kind}
-use Rattle.rdlpp_scan.proofs.OrdinaryLaws.{is_unbuilt-spares}
+use Rattle.rdlpp_scan.proofs.OrdinaryLaws.{directive-spares}
 use Rattle.rdlpp_scan.proofs.WholeLines.{IsWholeLines-rest, IsWholeLines-one}
 use Rattle.rdlpp_scan.proofs.Locality.{IsCut-from_line}
 
@@ -105,19 +105,19 @@ whole-line_ends (b ∷ []) some whole =
 whole-line_ends (b ∷ c ∷ cs) some whole =
     omega (arith, line_ends-cons b (c ∷ cs), whole-line_ends (c ∷ cs) (omega arith) (IsWholeLines-rest b (c ∷ cs) whole))
 
--- a plain token is built
-plain_row-built : (bs : List ℕ) (t : Token) → Row bs t → is_plain_kind t.kind ≡ true → is_unbuilt bs ≡ false
+-- a plain token begins no directive
+plain_row-no_directive : (bs : List ℕ) (t : Token) → Row bs t → is_plain_kind t.kind ≡ true → begins_directive bs ≡ false
 unfolding is_plain_kind whole
-plain_row-built bs t (AtPerl h e) k = absurd (false≢true (sym (ap (λ (u : Token). is_plain_kind u.kind) e) ∙ k))
-plain_row-built bs t (AtLineComment h e) k = absurd (false≢true (sym (ap is_plain_kind e) ∙ k))
-plain_row-built bs t (AtBlockComment h e) k = absurd (false≢true (sym (ap is_plain_kind e) ∙ k))
-plain_row-built bs t (AtString h e) k = absurd (false≢true (sym (ap is_plain_kind e) ∙ k))
-plain_row-built bs t (AtBack h e) k = absurd (false≢true (sym (ap (λ (u : Token). is_plain_kind u.kind) e) ∙ k))
-plain_row-built bs t (AtBare h g e) k = absurd (false≢true (sym (ap (λ (u : Token). is_plain_kind u.kind) e) ∙ k))
-plain_row-built bs t (AtPlain h q) k = is_unbuilt-spares bs q
+plain_row-no_directive bs t (AtPerl h e) k = absurd (false≢true (sym (ap (λ (u : Token). is_plain_kind u.kind) e) ∙ k))
+plain_row-no_directive bs t (AtLineComment h e) k = absurd (false≢true (sym (ap is_plain_kind e) ∙ k))
+plain_row-no_directive bs t (AtBlockComment h e) k = absurd (false≢true (sym (ap is_plain_kind e) ∙ k))
+plain_row-no_directive bs t (AtString h e) k = absurd (false≢true (sym (ap is_plain_kind e) ∙ k))
+plain_row-no_directive bs t (AtBack h e) k = absurd (false≢true (sym (ap (λ (u : Token). is_plain_kind u.kind) e) ∙ k))
+plain_row-no_directive bs t (AtBare h g e) k = absurd (false≢true (sym (ap (λ (u : Token). is_plain_kind u.kind) e) ∙ k))
+plain_row-no_directive bs t (AtPlain h q) k = directive-spares bs q
 
-pub plain_kind-built : (bs : List ℕ) → is_plain_kind (token_of Plain bs).kind ≡ true → is_unbuilt bs ≡ false
-plain_kind-built bs k = plain_row-built bs (token_of Plain bs) (token_of-row bs) k
+pub plain_kind-no_directive : (bs : List ℕ) → is_plain_kind (token_of Plain bs).kind ≡ true → begins_directive bs ≡ false
+plain_kind-no_directive bs k = plain_row-no_directive bs (token_of Plain bs) (token_of-row bs) k
 
 -- what follows a line doesn't change the kind of a token
 seam_kind : (xs ys : List ℕ) (t u : Token) → Seam xs ys t u → u.kind ≡ t.kind

@@ -7,10 +7,10 @@ use Rattle.rdlpp_scan.specs.declared.token.Mode.TheVariants.{Plain}
 use Rattle.rdlpp_scan.specs.declared.token.Token.{Token}
 use Rattle.rdlpp_scan.specs.Bytes.{is_word, is_letter, is_digit, begins_line_comment, begins_block_comment, begins_perl}
 use Rattle.rdlpp_scan.specs.Tokens.{token_of, stops_plain_text}
-use Rattle.rdlpp_scan.specs.Lines.{EndsLine, IsWholeLines, line_continues}
+use Rattle.rdlpp_scan.specs.Lines.{EndsLine, IsWholeLines}
 use Rattle.rdlpp_scan.specs.Pieces.{IsCut}
-use Rattle.rdlpp_scan.specs.Stage.{is_unbuilt, unbuilt_name, is_reserved, name_behind}
-use Rattle.rdlpp_scan.proofs.LineLaws.{line_continues-whole, nothing_behind}
+use Rattle.rdlpp_scan.specs.Stage.{is_unbuilt, begins_directive, is_unbuilt_name, is_reserved, name_behind}
+use Rattle.rdlpp_scan.proofs.LineLaws.{nothing_behind}
 use Rattle.rdlpp_scan.proofs.WholeLines.{IsWholeLines-rest, IsWholeLines-one}
 use Rattle.rdlpp_scan.proofs.Seams.{Seam, Closed, BeforePerl, OpenString, OpenComment, token_of-seam, begins_perl-append, begins_line_comment-append, begins_block_comment-append, run-append, line_end-ten}
 
@@ -50,15 +50,15 @@ name_behind-append b c w more cut =
     ap (λ n. take n (xs ++ more)) (run-append is_word word_ten xs more (omega arith) cut) ∙ take-append-le (prefix_len is_word xs) xs more (prefix_len-le-length is_word xs)
 
 -- what isn't built, by its parts
-unbuilt_parts : ℕ → List ℕ → Bool → Bool
-unbuilt_parts b name continues = eqb b 96 && is_reserved name && unbuilt_name name continues
+unbuilt_parts : ℕ → List ℕ → Bool
+unbuilt_parts b name = eqb b 96 && is_reserved name && is_unbuilt_name name
 
-is_unbuilt-parts : (b : ℕ) (bs : List ℕ) → is_unbuilt (b ∷ bs) ≡ unbuilt_parts b (name_behind (b ∷ bs)) (line_continues 0 0 (b ∷ bs))
-unfolding is_unbuilt unbuilt_parts
+is_unbuilt-parts : (b : ℕ) (bs : List ℕ) → is_unbuilt (b ∷ bs) ≡ unbuilt_parts b (name_behind (b ∷ bs))
+unfolding is_unbuilt begins_directive unbuilt_parts
 is_unbuilt-parts b bs = refl
 
 line_end-built : (b : ℕ) (bs : List ℕ) → b ≡ 10 → is_unbuilt (b ∷ bs) ≡ false
-unfolding is_unbuilt
+unfolding is_unbuilt begins_directive
 line_end-built b bs ten = subst (λ (n : ℕ). is_unbuilt (n ∷ bs) ≡ false) (sym ten) refl
 
 is_unbuilt-whole : (held more : List ℕ) → 0 < length held → IsWholeLines held → is_unbuilt (held ++ more) ≡ is_unbuilt held
@@ -67,12 +67,9 @@ is_unbuilt-whole (b ∷ []) more some whole =
     let ten = line_end-ten b (IsWholeLines-one b whole) in
     line_end-built b more ten ∙ sym (line_end-built b [] ten)
 is_unbuilt-whole (b ∷ c ∷ w) more some whole =
-    let xs = b ∷ c ∷ w in
     let rest : IsCut (c ∷ w) more = inr (inr (IsWholeLines-rest b (c ∷ w) whole)) in
-    let line : line_continues 0 0 (xs ++ more) ≡ line_continues 0 0 xs = line_continues-whole 0 0 xs more some whole in
     is_unbuilt-parts b (c ∷ w ++ more)
-    ∙ ap (λ n. unbuilt_parts b n (line_continues 0 0 (xs ++ more))) (name_behind-append b c w more rest)
-    ∙ ap (unbuilt_parts b (name_behind xs)) line
+    ∙ ap (unbuilt_parts b) (name_behind-append b c w more rest)
     ∙ sym (is_unbuilt-parts b (c ∷ w))
 
 -- what isn't built

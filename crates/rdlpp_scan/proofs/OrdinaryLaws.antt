@@ -12,7 +12,7 @@ use Rattle.rdlpp_scan.specs.Tokens.{plain_len, stops_plain_text, token_of}
 use Rattle.rdlpp_scan.specs.Front.{Unbuilt}
 use Rattle.rdlpp_scan.specs.SourceTokens.{SourceToken, Ordinary, Course, Next, line_ends, source_tokens, source_step, step_by, broken}
 use Rattle.rdlpp_scan.specs.Ordinary.{is_plain_kind, IsEdge, IsOrdinary, IsPlainToken, SparesOrdinary}
-use Rattle.rdlpp_scan.specs.Stage.{is_unbuilt}
+use Rattle.rdlpp_scan.specs.Stage.{is_unbuilt, begins_directive}
 use Rattle.rdlpp_scan.proofs.Places.{first_place-before}
 use Rattle.rdlpp_scan.proofs.TokenLens.{token_of-part}
 use Rattle.rdlpp_scan.proofs.WholeLines.{IsWholeLines-drop}
@@ -22,12 +22,17 @@ use Rattle.rdlpp_scan.proofs.PlainTokens.{goes_on, IsPlainPart, plain_token-plai
 neither : (x y : Bool) → x ≡ false → y ≡ false → (x || y) ≡ false
 neither x y h k = ap (λ t. t || y) h ∙ k
 
+-- a directive begins at no place of ordinary text
+pub directive-spares : SparesOrdinary begins_directive
+unfolding begins_directive
+directive-spares bs h =
+    let g = goes_on bs h in
+    and_left _ _ g.no_backquote
+
 -- nothing at this stage of the project is unbuilt in ordinary text
 pub is_unbuilt-spares : SparesOrdinary is_unbuilt
 unfolding is_unbuilt
-is_unbuilt-spares bs h =
-    let g = goes_on bs h in
-    and_left _ _ (and_left _ _ g.no_backquote)
+is_unbuilt-spares bs h = and_left _ _ (directive-spares bs h)
 
 step_by-kind : (c : Course) (o l : ℕ) (k : Kind) (n : ℕ) (m : Mode) (bs : List ℕ) → is_plain_kind k ≡ true → step_by c o l (record { kind = k; len = n; next_mode = m }) bs ≡ Next (record { sort = Ordinary k; bytes = take n bs; line = l })
 unfolding step_by is_plain_kind

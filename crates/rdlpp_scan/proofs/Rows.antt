@@ -8,8 +8,7 @@ use Rattle.rdlpp_scan.specs.Comments.{is_line_comment, other_texts, without_line
 use Rattle.rdlpp_scan.specs.Tokens.{tokens_from, token_of, plain_token, string_token, block_token, whole, string_stop, first_place}
 use Rattle.rdlpp_scan.specs.Front.{PerlFound, StringOpen, CommentOpen, LineLong, SourceLong, DefineLong, DefineCut, Unbuilt, front, front_of_lines, lines_of, onto_first, onto_front}
 use Rattle.rdlpp_scan.specs.SourceTokens.{Sort, SourceToken, Ordinary, Definition, Renumbering, Broken, whole_tokens, remaining_tokens, source_tokens, source_step, source_end, step_by, string_step, comment_step, back_step, define_step, line_step, open_end, broken, line_ends, line_after, logical_len, is_continued, line_len}
-use Rattle.rdlpp_scan.specs.Lines.{line_continues}
-use Rattle.rdlpp_scan.specs.Stage.{is_unbuilt, unbuilt_name, is_reserved, reserved_names, name_behind}
+use Rattle.rdlpp_scan.specs.Stage.{is_unbuilt, begins_directive, unbuilt_names, is_unbuilt_name, is_reserved, reserved_names, name_behind}
 
 -- all is built
 built : List ℕ → Bool
@@ -100,10 +99,6 @@ record Rows : Type 0 where
       whole_tokens is_unbuilt 100 1000 (codes "\n`ifdef A")
       ≡ token (Ordinary LineEnd) (codes "\n") 1
       ∷ token (Broken Unbuilt) [] 2 ∷ []
-  -- a `define` over two lines, at this stage of the project
-  unbuilt_define :
-      whole_tokens is_unbuilt 100 1000 (codes "`define A(x) x\\\n\n")
-      ≡ token (Broken Unbuilt) [] 1 ∷ []
   -- a `define` with a list, a string and a comment, on one line
   define_with_list :
       whole_tokens is_unbuilt 100 1000 (codes "`define A(x) \"x\" // \\")
@@ -158,5 +153,5 @@ record Rows : Type 0 where
       ∷ token (Ordinary Name) (codes "x") 2 ∷ []
 
 rows : Rows
-unfolding without_line_comments other_texts is_line_comment tokens_from whole_tokens remaining_tokens front front_of_lines lines_of onto_first onto_front source_tokens source_step source_end step_by string_step comment_step back_step define_step line_step open_end broken line_ends line_after logical_len is_continued line_len token_of plain_token string_token block_token whole string_stop first_place is_blank is_line_end is_letter is_digit is_word is_opener is_closer takes_word begins_perl begins_line_comment begins_block_comment ends_block_comment is_unbuilt unbuilt_name is_reserved reserved_names name_behind line_continues built
-rows = record { define_then_usage = refl; string_over_two_lines = refl; continued_define = refl; perl_in_string = refl; perl_taken_along = refl; perl_in_comment = refl; long_line = refl; long_source = refl; string_at_break = refl; open_string = refl; open_comment = refl; define_with_long_line = refl; define_at_source_end = refl; string_in_text = refl; unbuilt_directive = refl; unbuilt_define = refl; define_with_list = refl; usage_in_string = refl; comment_in_define = refl; perl_in_text = refl; perl_in_line_comment = refl; open_string_over_lines = refl; long_define = refl; comments_dropped = refl; line_directive = refl }
+unfolding without_line_comments other_texts is_line_comment tokens_from whole_tokens remaining_tokens front front_of_lines lines_of onto_first onto_front source_tokens source_step source_end step_by string_step comment_step back_step define_step line_step open_end broken line_ends line_after logical_len is_continued line_len token_of plain_token string_token block_token whole string_stop first_place is_blank is_line_end is_letter is_digit is_word is_opener is_closer takes_word begins_perl begins_line_comment begins_block_comment ends_block_comment is_unbuilt begins_directive unbuilt_names is_unbuilt_name is_reserved reserved_names name_behind built
+rows = record { define_then_usage = refl; string_over_two_lines = refl; continued_define = refl; perl_in_string = refl; perl_taken_along = refl; perl_in_comment = refl; long_line = refl; long_source = refl; string_at_break = refl; open_string = refl; open_comment = refl; define_with_long_line = refl; define_at_source_end = refl; string_in_text = refl; unbuilt_directive = refl; define_with_list = refl; usage_in_string = refl; comment_in_define = refl; perl_in_text = refl; perl_in_line_comment = refl; open_string_over_lines = refl; long_define = refl; comments_dropped = refl; line_directive = refl }

@@ -1,4 +1,4 @@
--- What isn't built, by the first token.
+-- Whether a text begins with a directive, by its first token; and what isn't built begins with one.
 use Rattle.std.proofs.Common.{◌≡◌, ℕ, zero, suc, ◌-◌, Bool, true, false, ◌&&◌, ◌||◌, eqb, List, [], ◌∷◌, take, drop, get_or, refl, sym, ap, ◌∙◌, arith}
 use Rattle.std.specs.Prelude.{bytes_eq}
 use Rattle.std.specs.List.{prefix_len}
@@ -9,9 +9,8 @@ use Rattle.rdlpp_scan.specs.declared.token.Mode.TheVariants.{Plain}
 use Rattle.rdlpp_scan.specs.declared.token.Token.{Token}
 use Rattle.rdlpp_scan.specs.Bytes.{is_letter, is_word, begins_perl, begins_line_comment, begins_block_comment}
 use Rattle.rdlpp_scan.specs.Tokens.{token_of, whole, stops_plain_text}
-use Rattle.rdlpp_scan.specs.Lines.{line_continues}
 use Rattle.rdlpp_scan.specs.Ordinary.{is_plain_kind}
-use Rattle.rdlpp_scan.specs.Stage.{is_unbuilt, unbuilt_name, is_reserved, reserved_names, name_behind}
+use Rattle.rdlpp_scan.specs.Stage.{is_unbuilt, is_unbuilt_name, begins_directive, is_reserved, reserved_names, name_behind}
 use Rattle.rdlpp_scan.proofs.Searches.{false_since}
 use Rattle.rdlpp_scan.proofs.StopKinds.{Row, AtPerl, AtLineComment, AtBlockComment, AtString, AtBack, AtBare, AtPlain, token_of-row}
 
@@ -19,36 +18,36 @@ use Rattle.rdlpp_scan.proofs.StopKinds.{Row, AtPerl, AtLineComment, AtBlockComme
 abbrev pub front_name : List ℕ → List ℕ
 front_name bs = take ((token_of Plain bs).len - 1) (drop 1 bs)
 
--- what the first byte leaves of the test
-is_unbuilt-byte : (bs : List ℕ) (n : ℕ) → get_or bs 0 0 ≡ n
-    → is_unbuilt bs ≡ (eqb n 96 && is_reserved (name_behind bs) && unbuilt_name (name_behind bs) (line_continues 0 0 bs))
+-- what isn't built begins with a directive
+pub built_without_directive : (bs : List ℕ) → begins_directive bs ≡ false → is_unbuilt bs ≡ false
 unfolding is_unbuilt
-is_unbuilt-byte bs n is =
-    let R = is_reserved (name_behind bs) in
-    let N = unbuilt_name (name_behind bs) (line_continues 0 0 bs) in
-    ap (λ m. eqb m 96 && R && N) is
+built_without_directive bs h = ap (λ t. t && is_unbuilt_name (name_behind bs)) h
 
--- what begins with no backquote is built
-is_unbuilt-first : (bs : List ℕ) (n : ℕ) → eqb (get_or bs 0 0) n ≡ true → eqb n 96 ≡ false → is_unbuilt bs ≡ false
-is_unbuilt-first bs n first other =
-    let R = is_reserved (name_behind bs) in
-    let N = unbuilt_name (name_behind bs) (line_continues 0 0 bs) in
-    is_unbuilt-byte bs n (eqb-true (get_or bs 0 0) n first) ∙ ap (λ t. t && R && N) other
+-- what the first byte leaves of the test
+directive-byte : (bs : List ℕ) (n : ℕ) → get_or bs 0 0 ≡ n
+    → begins_directive bs ≡ (eqb n 96 && is_reserved (name_behind bs))
+unfolding begins_directive
+directive-byte bs n is = ap (λ m. eqb m 96 && is_reserved (name_behind bs)) is
 
--- `<%` is
-is_unbuilt-at_perl : (bs : List ℕ) → begins_perl bs ≡ true → is_unbuilt bs ≡ false
+-- what begins with no backquote begins with no directive
+directive-first : (bs : List ℕ) (n : ℕ) → eqb (get_or bs 0 0) n ≡ true → eqb n 96 ≡ false → begins_directive bs ≡ false
+directive-first bs n first other =
+    directive-byte bs n (eqb-true (get_or bs 0 0) n first) ∙ ap (λ t. t && is_reserved (name_behind bs)) other
+
+-- `<%` doesn't
+directive-at_perl : (bs : List ℕ) → begins_perl bs ≡ true → begins_directive bs ≡ false
 unfolding begins_perl
-is_unbuilt-at_perl bs h = is_unbuilt-first bs 60 (and_parts (eqb (get_or bs 0 0) 60) (eqb (get_or bs 1 0) 37) h).0 refl
+directive-at_perl bs h = directive-first bs 60 (and_parts (eqb (get_or bs 0 0) 60) (eqb (get_or bs 1 0) 37) h).0 refl
 
--- a `//` comment is
-is_unbuilt-at_line : (bs : List ℕ) → begins_line_comment bs ≡ true → is_unbuilt bs ≡ false
+-- a `//` comment doesn't
+directive-at_line : (bs : List ℕ) → begins_line_comment bs ≡ true → begins_directive bs ≡ false
 unfolding begins_line_comment
-is_unbuilt-at_line bs h = is_unbuilt-first bs 47 (and_parts (eqb (get_or bs 0 0) 47) (eqb (get_or bs 1 0) 47) h).0 refl
+directive-at_line bs h = directive-first bs 47 (and_parts (eqb (get_or bs 0 0) 47) (eqb (get_or bs 1 0) 47) h).0 refl
 
--- a block comment is
-is_unbuilt-at_block : (bs : List ℕ) → begins_block_comment bs ≡ true → is_unbuilt bs ≡ false
+-- a block comment doesn't
+directive-at_block : (bs : List ℕ) → begins_block_comment bs ≡ true → begins_directive bs ≡ false
 unfolding begins_block_comment
-is_unbuilt-at_block bs h = is_unbuilt-first bs 47 (and_parts (eqb (get_or bs 0 0) 47) (eqb (get_or bs 1 0) 42) h).0 refl
+directive-at_block bs h = directive-first bs 47 (and_parts (eqb (get_or bs 0 0) 47) (eqb (get_or bs 1 0) 42) h).0 refl
 
 -- a text that doesn't begin with a letter isn't one that does
 other_word : (name ys : List ℕ) (y : ℕ) → is_letter (get_or name 0 0) ≡ false → is_letter y ≡ true → bytes_eq name (y ∷ ys) ≡ false
@@ -85,11 +84,9 @@ bare_name : (bs : List ℕ) → is_letter (get_or bs 1 0) ≡ false → is_reser
 unfolding name_behind
 bare_name bs h = not_reserved _ (first_of_name (prefix_len is_word (drop 1 bs)) (drop 1 bs) (ap is_letter (second_byte bs) ∙ h))
 
--- a backquote without a name is built
-pub is_unbuilt-at_bare : (bs : List ℕ) → eqb (get_or bs 0 0) 96 ≡ true → is_letter (get_or bs 1 0) ≡ false → is_unbuilt bs ≡ false
-is_unbuilt-at_bare bs h none =
-    let N = unbuilt_name (name_behind bs) (line_continues 0 0 bs) in
-    is_unbuilt-byte bs 96 (eqb-true (get_or bs 0 0) 96 h) ∙ ap (λ t. t && N) (bare_name bs none)
+-- a backquote without a name begins none
+pub directive-at_bare : (bs : List ℕ) → eqb (get_or bs 0 0) 96 ≡ true → is_letter (get_or bs 1 0) ≡ false → begins_directive bs ≡ false
+directive-at_bare bs h none = directive-byte bs 96 (eqb-true (get_or bs 0 0) 96 h) ∙ bare_name bs none
 
 -- by the kind of the first token
 module _ (bs : List ℕ) where
@@ -106,42 +103,44 @@ module _ (bs : List ℕ) where
   by_row k A t is (AtBare h g e) perl line block str back bare plain = bare (sym (ap (λ (u : Token). u.kind) e) ∙ is) h g
   by_row k A t is (AtPlain h q) perl line block str back bare plain = plain (sym (ap is_plain_kind is) ∙ h)
 
-  pub is_unbuilt-string : (token_of Plain bs).kind ≡ Str → is_unbuilt bs ≡ false
-  unfolding is_plain_kind
-  is_unbuilt-string is =
-      by_row Str (is_unbuilt bs ≡ false) (token_of Plain bs) is (token_of-row bs) (λ e _. absurd (cc)) (λ e _. absurd (cc)) (λ e _. absurd (cc)) (λ _ h. is_unbuilt-first bs 34 h refl) (λ e _ _. absurd (cc)) (λ e _ _. absurd (cc)) (λ e. absurd (false≢true e))
-
-  pub is_unbuilt-line_comment : (token_of Plain bs).kind ≡ LineComment → is_unbuilt bs ≡ false
-  unfolding is_plain_kind
-  is_unbuilt-line_comment is =
-      by_row LineComment (is_unbuilt bs ≡ false) (token_of Plain bs) is (token_of-row bs) (λ e _. absurd (cc)) (λ _ h. is_unbuilt-at_line bs h) (λ e _. absurd (cc)) (λ e _. absurd (cc)) (λ e _ _. absurd (cc)) (λ e _ _. absurd (cc)) (λ e. absurd (false≢true e))
-
-  pub is_unbuilt-block_comment : (token_of Plain bs).kind ≡ BlockComment → is_unbuilt bs ≡ false
-  unfolding is_plain_kind
-  is_unbuilt-block_comment is =
-      by_row BlockComment (is_unbuilt bs ≡ false) (token_of Plain bs) is (token_of-row bs) (λ e _. absurd (cc)) (λ e _. absurd (cc)) (λ _ h. is_unbuilt-at_block bs h) (λ e _. absurd (cc)) (λ e _ _. absurd (cc)) (λ e _ _. absurd (cc)) (λ e. absurd (false≢true e))
-
-  pub is_unbuilt-perl : (token_of Plain bs).kind ≡ Perl → is_unbuilt bs ≡ false
-  unfolding is_plain_kind
-  is_unbuilt-perl is =
-      by_row Perl (is_unbuilt bs ≡ false) (token_of Plain bs) is (token_of-row bs) (λ _ h. is_unbuilt-at_perl bs h) (λ e _. absurd (cc)) (λ e _. absurd (cc)) (λ e _. absurd (cc)) (λ e _ _. absurd (cc)) (λ e _ _. absurd (cc)) (λ e. absurd (false≢true e))
-
-  pub is_unbuilt-bare : (token_of Plain bs).kind ≡ BareBackquote → is_unbuilt bs ≡ false
-  unfolding is_plain_kind
-  is_unbuilt-bare is =
-      by_row BareBackquote (is_unbuilt bs ≡ false) (token_of Plain bs) is (token_of-row bs) (λ e _. absurd (cc)) (λ e _. absurd (cc)) (λ e _. absurd (cc)) (λ e _. absurd (cc)) (λ e _ _. absurd (cc)) (λ _ h g. is_unbuilt-at_bare bs h g) (λ e. absurd (false≢true e))
-
-  -- a backquote with a name: unbuilt by that name, where it is reserved
-  pub is_unbuilt-back : (token_of Plain bs).kind ≡ Back
-      → is_unbuilt bs ≡ (is_reserved (front_name bs) && unbuilt_name (front_name bs) (line_continues 0 0 bs))
-  unfolding is_plain_kind name_behind
-  is_unbuilt-back is =
-      let R : List ℕ → Bool = λ name. is_reserved name && unbuilt_name name (line_continues 0 0 bs) in
-      let named : (token_of Plain bs).len ≡ suc (prefix_len is_word (drop 1 bs)) → name_behind bs ≡ front_name bs = λ e.
+  -- the name behind the backquote is that of the token
+  named_behind : (token_of Plain bs).len ≡ suc (prefix_len is_word (drop 1 bs)) → name_behind bs ≡ front_name bs
+  unfolding name_behind
+  named_behind e =
       let less : prefix_len is_word (drop 1 bs) ≡ (token_of Plain bs).len - 1 = omega arith in
-      ap (λ n. take n (drop 1 bs)) less in
-      by_row Back (is_unbuilt bs ≡ R (front_name bs)) (token_of Plain bs) is (token_of-row bs) (λ e _. absurd (cc)) (λ e _. absurd (cc)) (λ e _. absurd (cc)) (λ e _. absurd (cc))
-      (λ _ h len. is_unbuilt-byte bs 96 (eqb-true (get_or bs 0 0) 96 h) ∙ ap R (named len)) (λ e _ _. absurd (cc)) (λ e. absurd (false≢true e))
+      ap (λ n. take n (drop 1 bs)) less
+
+  pub directive-string : (token_of Plain bs).kind ≡ Str → begins_directive bs ≡ false
+  unfolding is_plain_kind
+  directive-string is =
+      by_row Str (begins_directive bs ≡ false) (token_of Plain bs) is (token_of-row bs) (λ e _. absurd (cc)) (λ e _. absurd (cc)) (λ e _. absurd (cc)) (λ _ h. directive-first bs 34 h refl) (λ e _ _. absurd (cc)) (λ e _ _. absurd (cc)) (λ e. absurd (false≢true e))
+
+  pub directive-line_comment : (token_of Plain bs).kind ≡ LineComment → begins_directive bs ≡ false
+  unfolding is_plain_kind
+  directive-line_comment is =
+      by_row LineComment (begins_directive bs ≡ false) (token_of Plain bs) is (token_of-row bs) (λ e _. absurd (cc)) (λ _ h. directive-at_line bs h) (λ e _. absurd (cc)) (λ e _. absurd (cc)) (λ e _ _. absurd (cc)) (λ e _ _. absurd (cc)) (λ e. absurd (false≢true e))
+
+  pub directive-block_comment : (token_of Plain bs).kind ≡ BlockComment → begins_directive bs ≡ false
+  unfolding is_plain_kind
+  directive-block_comment is =
+      by_row BlockComment (begins_directive bs ≡ false) (token_of Plain bs) is (token_of-row bs) (λ e _. absurd (cc)) (λ e _. absurd (cc)) (λ _ h. directive-at_block bs h) (λ e _. absurd (cc)) (λ e _ _. absurd (cc)) (λ e _ _. absurd (cc)) (λ e. absurd (false≢true e))
+
+  pub directive-perl : (token_of Plain bs).kind ≡ Perl → begins_directive bs ≡ false
+  unfolding is_plain_kind
+  directive-perl is =
+      by_row Perl (begins_directive bs ≡ false) (token_of Plain bs) is (token_of-row bs) (λ _ h. directive-at_perl bs h) (λ e _. absurd (cc)) (λ e _. absurd (cc)) (λ e _. absurd (cc)) (λ e _ _. absurd (cc)) (λ e _ _. absurd (cc)) (λ e. absurd (false≢true e))
+
+  pub directive-bare : (token_of Plain bs).kind ≡ BareBackquote → begins_directive bs ≡ false
+  unfolding is_plain_kind
+  directive-bare is =
+      by_row BareBackquote (begins_directive bs ≡ false) (token_of Plain bs) is (token_of-row bs) (λ e _. absurd (cc)) (λ e _. absurd (cc)) (λ e _. absurd (cc)) (λ e _. absurd (cc)) (λ e _ _. absurd (cc)) (λ _ h g. directive-at_bare bs h g) (λ e. absurd (false≢true e))
+
+  -- a backquote with a name begins one, where that is reserved
+  pub directive-back : (token_of Plain bs).kind ≡ Back → begins_directive bs ≡ is_reserved (front_name bs)
+  unfolding is_plain_kind
+  directive-back is =
+      by_row Back (begins_directive bs ≡ is_reserved (front_name bs)) (token_of Plain bs) is (token_of-row bs) (λ e _. absurd (cc)) (λ e _. absurd (cc)) (λ e _. absurd (cc)) (λ e _. absurd (cc))
+      (λ _ h len. directive-byte bs 96 (eqb-true (get_or bs 0 0) 96 h) ∙ ap is_reserved (named_behind len)) (λ e _ _. absurd (cc)) (λ e. absurd (false≢true e))
 
   stop_kind : (t : Token) → Row bs t → stops_plain_text bs ≡ true → is_plain_kind t.kind ≡ false
   unfolding is_plain_kind whole

@@ -7,7 +7,6 @@ mod lines;
 mod names;
 mod plain;
 mod scan;
-mod stage;
 mod token;
 
 pub use faults::lex_fault;
@@ -15,7 +14,6 @@ pub use lines::{last_line_end, line_ends_in, logical_line, rest_of_line};
 pub use names::{is_name, reserved};
 pub use plain::plain_text_len;
 pub use scan::first_token;
-pub use stage::is_unbuilt_define;
 pub use token::{Directive, Kind, LexFault, Mode, Token};
 
 #[cfg(test)]

@@ -77,7 +77,7 @@ fn is_continuation(before: u8, last: u8) -> bool
 }
 
 // Whether a line without its LF goes on behind that LF.
-pub(crate) fn is_continued(line: &[u8]) -> bool
+fn is_continued(line: &[u8]) -> bool
     ensures { result ≡ ends_continued 0 0 line.now }
 {
     is_continuation(byte_back(line, 2), byte_back(line, 1))

@@ -146,9 +146,6 @@ fn finds_lines_names_and_faults(rt: HostRuntime) {
     assert_eq!(rt; lex_fault(b"\"a"), Some(LexFault::OpenString));
     assert_eq!(rt; lex_fault(b"a /* \""), Some(LexFault::OpenComment));
     assert_eq!(rt; lex_fault(b"\"a\" // <% \"\n/*<%*/"), None);
-    assert!(rt;
-        is_unbuilt_define(b"`define A 1\\\n") && !is_unbuilt_define(b"`define A(x) \"\n\\\n")
-    );
 }
 
 // A text, its kind in plain text, its token in a string, and the mode behind it in a comment.

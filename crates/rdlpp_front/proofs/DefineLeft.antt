@@ -1,0 +1,227 @@
+-- What a `define` in front does to what remains, once its logical line is held or broken; and what stands behind its word.
+use Rattle.std.proofs.Common.{◌≡◌, ◌⊎◌, ℕ, suc, ◌+◌, ◌≤◌, ◌<◌, ◌==◌, eqb, Bool, true, false, not, cond, ◌&&◌, List, [], ◌∷◌, ◌++◌, length, take, drop, Option, None, Some, inl, inr, refl, sym, ap, ◌∙◌, subst, arith}
+use Rattle.std.specs.Prelude.{IfSome, codes, bytes_eq, replicate}
+use Rattle.std.specs.Option.{option_map}
+use Rattle.std.proofs.lemmas.List.{append_assoc, drop-take, length-append, length-take-le, take-append-drop}
+use Rattle.std.proofs.Math.Seq.{take-length}
+use Rattle.rdlpp_scan.specs.declared.token.Directive.TheVariants.{Define}
+use Rattle.rdlpp_scan.specs.declared.token.Mode.TheVariants.{Plain}
+use Rattle.rdlpp_scan.specs.Bytes.{is_line_end}
+use Rattle.rdlpp_scan.specs.Defines.{HoldsDefine}
+use Rattle.rdlpp_scan.specs.Front.{DefineCut, DefineLong}
+use Rattle.rdlpp_scan.specs.SourceTokens.{SourceToken, Definition, is_continued, line_ends, logical_len}
+use Rattle.rdlpp_scan.specs.Tokens.{token_of}
+use Rattle.rdlpp_scan.proofs.DefineSteps.{logical_len-within}
+use Rattle.rdlpp_scan.proofs.LineLaws.{some_suc}
+use Rattle.rdlpp_scan.proofs.Seams.{line_end-ten}
+use Rattle.rdlpp_scan.proofs.SourceLaws.{line_ends-cons}
+use Rattle.rdlpp_table.specs.Table.{Macro}
+use Rattle.rdlpp_meaning.specs.declared.fault.FaultKind.{FaultKind}
+use Rattle.rdlpp_meaning.specs.declared.fault.FaultKind.TheVariants.{LineTooLong, SourceTooLong}
+use Rattle.rdlpp_meaning.specs.Outcome.{fails}
+use Rattle.rdlpp_meaning.specs.State.{Accepted, Refused, Rules, State, breach_kind, fault_at}
+use Rattle.rdlpp_meaning.specs.Parts.{line_ends_of, only_blanks}
+use Rattle.rdlpp_meaning.specs.Meaning.{Passage, Progress, behind_bytes, leaves}
+use Rattle.rdlpp_meaning.specs.Resumed.{Live}
+use Rattle.rdlpp_meaning.specs.Opened.{Waiting, all_resumed}
+use Rattle.rdlpp_read.specs.declared.buffer.extending.LogicalLine.TheVariants.{Whole, TooLong, SourceLong}
+use Rattle.rdlpp_read.specs.declared.files.File.{File}
+use Rattle.rdlpp_read.specs.Buffer.{BufferView, consumed, held_of, rest_of, tokens_left}
+use Rattle.rdlpp_read.specs.Files.{consumed_file}
+use Rattle.rdlpp_read.specs.LogicalLines.{HoldsLine, IsLogical}
+use Rattle.rdlpp_front.specs.Fronts.{IsDirective}
+use Rattle.rdlpp_front.specs.SourceLeft.{HoldsFront, source_left, with_file_buffer}
+use Rattle.rdlpp_front.proofs.DirectiveFacts.{word_len}
+use Rattle.rdlpp_front.proofs.SourceFacts.{ends_line, used_buffer}
+use Rattle.rdlpp_front.proofs.SourcePassages.{all_resumed_bad_define, all_resumed_defined, all_resumed_only_broken}
+use Rattle.rdlpp_front.proofs.Stages.{stage_built}
+
+-- a `define` in front that is built
+pub holds_define : {R : Type 0} (unbuilt : List ℕ → Bool) (unread : R → List ℕ) (f : File R)
+    → HoldsFront unbuilt f.buffer → IsDirective Define (held_of f.buffer) → unbuilt (held_of f.buffer) ≡ false
+    → HoldsDefine unbuilt (held_of f.buffer) (rest_of unread f.buffer)
+holds_define unbuilt unread f holds is built = record {
+  some = holds.some;
+  ends = ends_line unread f.buffer holds.ends;
+  built = stage_built unbuilt (held_of f.buffer) holds.stage holds.some built;
+  kind = is.kind;
+  word = rw is.word refl;
+}
+
+-- the same buffer, by what its line counts
+consumed_used : {R : Type 0} (b : BufferView R) (len lines : ℕ) → lines ≡ line_ends (take len (held_of b)) → consumed b len ≡ used_buffer b len lines
+unfolding consumed
+consumed_used b len lines e = ap (λ (n : ℕ). used_buffer b len n) (sym e)
+
+module _ {R : Type 0} (rules : Rules) (unbuilt : List ℕ → Bool) (unread : R → List ℕ) (ws : List Waiting) (os : List Progress) (f : File R) (s : State)
+    (tells : Type 0) (new : BufferView R) where
+  -- a `define` that is accepted gives its LF bytes and changes the macros
+  pub define_left : (len lines : ℕ) (macros : List Macro) → HoldsLine tells unread (Whole len) f.buffer new → tells → f.buffer.mode ≡ Plain
+      → HoldsDefine unbuilt (held_of f.buffer) (rest_of unread f.buffer)
+      → rules.define s.macros (drop 7 (take len (held_of new))) ≡ Accepted macros → lines ≡ line_ends (take len (held_of new))
+      → source_left rules unbuilt unread ws (Live os) f s
+      ≡ behind_bytes (line_ends_of (take len (held_of new)))
+      (source_left rules unbuilt unread ws (Live os) (consumed_file len lines (with_file_buffer new f)) (record s { macros = macros }))
+  unfolding source_left
+  define_left len lines macros line t mode holds e count =
+      let w = take len (held_of new) in
+      let after = record s { macros = macros } in
+      ap (λ (ts : List SourceToken). all_resumed rules ws (Live os) f.blanks ts s) (line.define unbuilt t mode holds)
+      ∙ all_resumed_defined rules ws os f.blanks w f.buffer.line (tokens_left unbuilt unread (consumed new len)) s macros e
+      ∙ ap (λ (b : BufferView R). behind_bytes (line_ends_of w) (all_resumed rules ws (Live os) (only_blanks f.blanks w) (tokens_left unbuilt unread b) after))
+      (consumed_used new len lines count)
+
+  -- a `define` that is refused is a fault
+  pub define_refused_left : (len : ℕ) (kind : FaultKind) (word : List ℕ) → HoldsLine tells unread (Whole len) f.buffer new → tells → f.buffer.mode ≡ Plain
+      → HoldsDefine unbuilt (held_of f.buffer) (rest_of unread f.buffer)
+      → rules.define s.macros (drop 7 (take len (held_of new))) ≡ Refused kind word
+      → source_left rules unbuilt unread ws (Live os) f s ≡ leaves (fails (fault_at kind f.buffer.line word s)) s
+  unfolding source_left
+  define_refused_left len kind word line t mode holds e =
+      ap (λ (ts : List SourceToken). all_resumed rules ws (Live os) f.blanks ts s) (line.define unbuilt t mode holds)
+      ∙ all_resumed_bad_define rules ws os f.blanks (take len (held_of new)) f.buffer.line (tokens_left unbuilt unread (consumed new len)) s kind word e
+
+  -- a `define` whose logical line has too many bytes is a fault
+  pub define_long_left : HoldsLine tells unread TooLong f.buffer new → tells → f.buffer.mode ≡ Plain
+      → HoldsDefine unbuilt (held_of f.buffer) (rest_of unread f.buffer)
+      → source_left rules unbuilt unread ws (Live os) f s ≡ leaves (fails (fault_at LineTooLong f.buffer.line [] s)) s
+  unfolding source_left breach_kind
+  define_long_left line t mode holds =
+      ap (λ (ts : List SourceToken). all_resumed rules ws (Live os) f.blanks ts s) (line.define unbuilt t mode holds)
+      ∙ all_resumed_only_broken rules ws os f.blanks DefineLong f.buffer.line [] s
+
+  -- a `define` that the limit of its source cuts is a fault
+  pub define_cut_left : HoldsLine tells unread SourceLong f.buffer new → tells → f.buffer.mode ≡ Plain
+      → HoldsDefine unbuilt (held_of f.buffer) (rest_of unread f.buffer)
+      → source_left rules unbuilt unread ws (Live os) f s ≡ leaves (fails (fault_at SourceTooLong f.buffer.line [] s)) s
+  unfolding source_left breach_kind
+  define_cut_left line t mode holds =
+      ap (λ (ts : List SourceToken). all_resumed rules ws (Live os) f.blanks ts s) (line.define unbuilt t mode holds)
+      ∙ all_resumed_only_broken rules ws os f.blanks DefineCut f.buffer.line [] s
+
+-- a logical line is that of its own bytes
+logical_len-take : (x y : ℕ) (bs : List ℕ) (n : ℕ) → logical_len x y bs ≡ Some n → logical_len x y (take n bs) ≡ Some n
+unfolding logical_len
+logical_len-take x y [] n h = absurd (cc)
+logical_len-take x y (b ∷ bs) n h =
+    let ends = is_line_end b && not (is_continued x y) in
+    let P : Bool → Type 0 = λ t. ends ≡ t → cond t (Some 1) (option_map suc (logical_len y b bs)) ≡ Some n → logical_len x y (take n (b ∷ bs)) ≡ Some n in
+    let at_true : P true = λ is e.
+    let one : 1 ≡ n = cc in
+    subst (λ (k : ℕ). logical_len x y (take k (b ∷ bs)) ≡ Some k) one (rw is refl) in
+    let at_false : P false = λ is e.
+    let p = some_suc (logical_len y b bs) n e in
+    subst (λ (k : ℕ). logical_len x y (take k (b ∷ bs)) ≡ Some k) (sym p.1.1) (rw is (ap (option_map suc) (logical_len-take y b bs p.0 p.1.0))) in
+    elim ends as P [ true ↦ at_true | false ↦ at_false ] refl h
+
+-- two bytes that continue no line don't change where a logical line ends
+logical_len-behind : (x y : ℕ) (bs : List ℕ) → (x == 92) ≡ false → (y == 92) ≡ false → logical_len x y bs ≡ logical_len 0 0 bs
+unfolding logical_len is_continued
+logical_len-behind x y [] p q = refl
+logical_len-behind x y (b ∷ []) p q = rw (p, q) refl
+logical_len-behind x y (b ∷ c ∷ cs) p q = rw (p, q) refl
+
+-- seven more
+unfoldable seven_more : Option ℕ → Option ℕ
+seven_more o = option_map suc (option_map suc (option_map suc (option_map suc (option_map suc (option_map suc (option_map suc o))))))
+
+-- the logical line of a `define` is the word and the logical line of what stands behind it
+define_logical : (rest : List ℕ) → logical_len 0 0 (codes "`define" ++ rest) ≡ seven_more (logical_len 0 0 rest)
+unfolding logical_len is_line_end is_continued seven_more
+define_logical rest = ap seven_more (logical_len-behind 110 101 rest refl refl)
+
+-- a `define` begins with that word
+define_begins : (held : List ℕ) → 0 < length held → IsDirective Define held → held ≡ codes "`define" ++ drop 7 held
+define_begins held some is =
+    let seven = word_len Define held some is in
+    sym (take-append-drop 7 held) ∙ ap (λ (xs : List ℕ). xs ++ drop 7 held) (ap (λ (i : ℕ). take i held) (sym seven) ∙ is.word)
+
+-- what stands behind the word of a `define`, of the first bytes of its text
+define_rest : (rest : List ℕ) (n : ℕ) → drop 7 (take (7 + n) (codes "`define" ++ rest)) ≡ take n rest
+define_rest rest n = drop-take 7 n (codes "`define" ++ rest)
+
+-- a text that is one logical line, or has no end of one
+abbrev IsLine : List ℕ → Type 0
+IsLine bytes = IfSome (logical_len 0 0 bytes) (λ k. k ≡ length bytes)
+
+-- a logical line of a `define` has its word and what stands behind it, which is a whole logical line
+record WholeRest (bytes : List ℕ) (len : ℕ) : Type 0 where
+  pub wide : 7 ≤ len
+  pub whole : IsLine (drop 7 (take len bytes))
+
+-- by where it ends behind the word
+rest_by : (rest : List ℕ) (len n : ℕ) → 7 + n ≡ len → IsLine (take n rest) → WholeRest (codes "`define" ++ rest) len
+rest_by rest len n same line =
+    subst (λ (k : ℕ). WholeRest (codes "`define" ++ rest) k) same
+    (record { wide = omega arith; whole = subst IsLine (sym (define_rest rest n)) line })
+
+-- where it ends
+rest_ended : (rest : List ℕ) (len : ℕ) (o : Option ℕ) → logical_len 0 0 rest ≡ o → seven_more o ≡ Some len → WholeRest (codes "`define" ++ rest) len
+unfolding seven_more
+rest_ended rest len None e h = cc
+rest_ended rest len (Some n) e h =
+    let all : suc (suc (suc (suc (suc (suc (suc n)))))) ≡ len = cc in
+    let inside = (logical_len-within 0 0 rest n e).1 in
+    let size : n ≡ length (take n rest) = sym (length-take-le n rest inside) in
+    rest_by rest len n (omega arith)
+    (subst (λ (o : Option ℕ). IfSome o (λ k. k ≡ length (take n rest))) (sym (logical_len-take 0 0 rest n e)) size)
+
+-- where the text ends first
+rest_open : (rest : List ℕ) (len : ℕ) (o : Option ℕ) → logical_len 0 0 rest ≡ o → seven_more o ≡ None → len ≡ length (codes "`define" ++ rest) → WholeRest (codes "`define" ++ rest) len
+unfolding seven_more
+rest_open rest len (Some n) e h size = cc
+rest_open rest len None e h size =
+    rest_by rest len (length rest) (omega (arith, size, length-append (codes "`define") rest))
+    (subst IsLine (sym (take-length rest)) (subst (λ (o : Option ℕ). IfSome o (λ k. k ≡ length rest)) (sym e) tt))
+
+-- the logical line of a `define`, which may go on behind what was held of it
+whole_rest : {R : Type 0} (tells : Type 0) (unread : R → List ℕ) (held more : List ℕ) (new : BufferView R) (len : ℕ) → 0 < length held → IsDirective Define held
+    → held_of new ≡ held ++ more → IsLogical tells unread new len → WholeRest (held_of new) len
+whole_rest tells unread held more new len some is e logical =
+    let rest = drop 7 held ++ more in
+    let text : held_of new ≡ codes "`define" ++ rest =
+    e ∙ ap (λ (xs : List ℕ). xs ++ more) (define_begins held some is) ∙ append_assoc (codes "`define") (drop 7 held) more in
+    let line : logical_len 0 0 (held_of new) ≡ seven_more (logical_len 0 0 rest) = ap (logical_len 0 0) text ∙ define_logical rest in
+    subst (λ (xs : List ℕ). WholeRest xs len) (sym text) (elim logical [
+      | inl ended ↦ rest_ended rest len (logical_len 0 0 rest) refl (sym line ∙ ended)
+      | inr open_ ↦ rest_open rest len (logical_len 0 0 rest) refl (sym line ∙ open_.0) (open_.1 ∙ ap length text)
+    ])
+
+-- what stands behind the word of a `define` is a logical line
+pub define_rest_whole : {R : Type 0} (tells : Type 0) (unread : R → List ℕ) (held more : List ℕ) (new : BufferView R) (len : ℕ) → 0 < length held → IsDirective Define held
+    → held_of new ≡ held ++ more → IsLogical tells unread new len
+    → IfSome (logical_len 0 0 (drop 7 (take len (held_of new)))) (λ k. k ≡ length (drop 7 (take len (held_of new))))
+define_rest_whole tells unread held more new len some is e logical = (whole_rest tells unread held more new len some is e logical).whole
+
+-- its logical line has at least the word
+pub define_inside : {R : Type 0} (tells : Type 0) (unread : R → List ℕ) (held more : List ℕ) (new : BufferView R) (len : ℕ) → 0 < length held → IsDirective Define held
+    → held_of new ≡ held ++ more → IsLogical tells unread new len → 7 ≤ len
+define_inside tells unread held more new len some is e logical = (whole_rest tells unread held more new len some is e logical).wide
+
+-- a byte that is counted
+counted : (t : Bool) (k n : ℕ) → t ≡ true → k ≡ cond t 1 0 + n → k ≡ suc n
+counted true k n e h = omega arith
+counted false k n e h = cc
+
+-- and one that isn't
+not_counted : (t : Bool) (k n : ℕ) → t ≡ false → k ≡ cond t 1 0 + n → k ≡ n
+not_counted true k n e h = cc
+not_counted false k n e h = omega arith
+
+-- the LF bytes of a text are as many LF bytes
+pub line_ends_of-replicate : (bytes : List ℕ) → line_ends_of bytes ≡ replicate (line_ends bytes) 10
+unfolding line_ends_of line_ends
+line_ends_of-replicate [] = refl
+line_ends_of-replicate (b ∷ bs) =
+    let rest = line_ends_of-replicate bs in
+    let P : Bool → Type 0 = λ t. is_line_end b ≡ t → line_ends_of (b ∷ bs) ≡ replicate (line_ends (b ∷ bs)) 10 in
+    let at_true : P true = λ e.
+    let own : line_ends_of (b ∷ bs) ≡ b ∷ line_ends_of bs = rw e refl in
+    let count : line_ends (b ∷ bs) ≡ suc (line_ends bs) = counted (is_line_end b) (line_ends (b ∷ bs)) (line_ends bs) e (line_ends-cons b bs) in
+    own ∙ ap (λ (x : ℕ). x ∷ line_ends_of bs) (line_end-ten b e) ∙ ap (λ (xs : List ℕ). 10 ∷ xs) rest
+    ∙ sym (ap (λ (n : ℕ). replicate n 10) count) in
+    let at_false : P false = λ e.
+    let own : line_ends_of (b ∷ bs) ≡ line_ends_of bs = rw e refl in
+    let count : line_ends (b ∷ bs) ≡ line_ends bs = not_counted (is_line_end b) (line_ends (b ∷ bs)) (line_ends bs) e (line_ends-cons b bs) in
+    own ∙ rest ∙ sym (ap (λ (n : ℕ). replicate n 10) count) in
+    elim (is_line_end b) as P [ true ↦ at_true | false ↦ at_false ] refl

@@ -1,0 +1,162 @@
+-- What the bytes at the front of a text tell of its first token.
+use Rattle.std.proofs.Common.{◌≡◌, ◌≢◌, ℕ, suc, ◌+◌, ◌-◌, ◌<◌, Bool, true, false, cond, ◌&&◌, ◌==◌, List, [], ◌∷◌, length, take, drop, slice_index, refl, sym, ap, ◌∙◌, arith, inl, inr}
+use Rattle.std.specs.Prelude.{nat_lt}
+use Rattle.std.specs.List.{prefix_len}
+use Rattle.std.proofs.lemmas.Bool.Decides.{eqb_tells}
+use Rattle.rdlpp_scan.specs.declared.token.Kind.TheVariants.{Back, Str, BlockComment, Perl, BareBackquote}
+use Rattle.rdlpp_scan.specs.declared.token.Mode.{Mode}
+use Rattle.rdlpp_scan.specs.declared.token.Mode.TheVariants.{Plain, InStr, InBlock}
+use Rattle.rdlpp_scan.specs.declared.token.Token.{Token}
+use Rattle.rdlpp_scan.specs.Bytes.{is_blank, is_line_end, is_letter, is_digit, is_word, is_opener, is_closer, takes_word, begins_perl, begins_line_comment, begins_block_comment, ends_block_comment}
+use Rattle.rdlpp_scan.specs.Stage.{name_behind}
+use Rattle.rdlpp_scan.specs.Tokens.{whole, string_stop, string_token, block_token, plain_token, token_of, first_place, plain_len, stops_plain_text}
+use Rattle.rdlpp_scan.proofs.StopKinds.{Row, AtPerl, AtLineComment, AtBlockComment, AtString, AtBack, AtBare, AtPlain, token_of-row}
+use Rattle.rdlpp_front.specs.Fronts.{is_text_kind}
+
+-- a text without ordinary text at its front stops there
+pub stops_at_front : (bs : List ℕ) → 0 < length bs → plain_len bs ≡ 0 → stops_plain_text bs ≡ true
+unfolding plain_len first_place
+stops_at_front [] some none = absurd (omega arith)
+stops_at_front (b ∷ bs) some none =
+    let P : Bool → Type 0 = λ t. cond t 0 (suc (first_place stops_plain_text bs)) ≡ 0 → t ≡ true in
+    let at_true : P true = λ e. refl in
+    let at_false : P false = λ e. absurd (omega arith) in
+    elim (stops_plain_text (b ∷ bs)) as P [ true ↦ at_true | false ↦ at_false ] none
+
+-- a test of a byte that fails
+other_byte : (a b : ℕ) → a ≢ b → (a == b) ≡ false
+other_byte a b ne = elim (eqb_tells a b) [ inl h ↦ absurd (ne h.1) | inr h ↦ h.0 ]
+
+-- the first of two tests that pass
+first_passes : (a b : Bool) → (a && b) ≡ true → a ≡ true
+first_passes true b e = refl
+first_passes false b e = cc
+
+-- a byte that passes the test for a byte
+same_byte : (a b : ℕ) → (a == b) ≡ true → a ≡ b
+same_byte a b e = elim (eqb_tells a b) [ inl h ↦ h.1 | inr h ↦ absurd (cc) ]
+
+-- a string is a string
+not_string : (n : ℕ) (bs : List ℕ) → (string_token n bs).kind ≡ Str
+unfolding string_token whole
+not_string n bs = elim (slice_index bs (n + string_stop false (drop n bs)) == 34) as
+    (λ t. (cond t (whole Str (suc (n + string_stop false (drop n bs)))) (record { kind = Str; len = n + string_stop false (drop n bs); next_mode = InStr })).kind ≡ Str) [ true ↦ refl | false ↦ refl ]
+
+-- a block comment is a block comment
+not_block : (n : ℕ) (bs : List ℕ) → (block_token n bs).kind ≡ BlockComment
+unfolding block_token whole
+not_block n bs = elim (nat_lt (n + first_place ends_block_comment (drop n bs)) (length bs)) as
+    (λ t. (cond t (whole BlockComment (n + first_place ends_block_comment (drop n bs) + 2)) (record { kind = BlockComment; len = n + first_place ends_block_comment (drop n bs); next_mode = InBlock })).kind ≡ BlockComment) [ true ↦ refl | false ↦ refl ]
+
+-- what begins where ordinary text stops, at no backquote, is `<%`, or a string or a comment
+text_by_row : (bs : List ℕ) (t : Token) → Row bs t → stops_plain_text bs ≡ true → slice_index bs 0 ≢ 96
+    → (t.kind ≡ Perl → ⊥) → is_text_kind t.kind ≡ true
+unfolding is_text_kind whole
+text_by_row bs t (AtPerl h e) stop back other = absurd (other (ap (λ (u : Token). u.kind) e))
+text_by_row bs t (AtLineComment h e) stop back other = ap is_text_kind e
+text_by_row bs t (AtBlockComment h e) stop back other = ap is_text_kind e
+text_by_row bs t (AtString h e) stop back other = ap is_text_kind e
+text_by_row bs t (AtBack h e) stop back other = absurd (back (same_byte (slice_index bs 0) 96 h))
+text_by_row bs t (AtBare h g e) stop back other = absurd (back (same_byte (slice_index bs 0) 96 h))
+text_by_row bs t (AtPlain h q) stop back other = absurd (let no : false ≡ true = sym q ∙ stop in cc)
+
+-- the rest of a string
+string_text : (bs : List ℕ) → ((token_of InStr bs).kind ≡ Perl → ⊥) → is_text_kind (token_of InStr bs).kind ≡ true
+unfolding token_of is_text_kind whole
+string_text bs other =
+    let P : Bool → Type 0 = λ t. ((cond t (whole Perl 2) (string_token 0 bs)).kind ≡ Perl → ⊥) → is_text_kind (cond t (whole Perl 2) (string_token 0 bs)).kind ≡ true in
+    let at_true : P true = λ h. absurd (h refl) in
+    let at_false : P false = λ h. ap is_text_kind (not_string 0 bs) in
+    elim (begins_perl bs) as P [ true ↦ at_true | false ↦ at_false ] other
+
+-- the rest of a block comment
+comment_text : (bs : List ℕ) → is_text_kind (token_of InBlock bs).kind ≡ true
+unfolding token_of is_text_kind
+comment_text bs = ap is_text_kind (not_block 0 bs)
+
+-- what begins with a string or a comment, or with the rest of one
+pub text_at_front : (m : Mode) (bs : List ℕ) → (m ≡ Plain → (stops_plain_text bs ≡ true) × (slice_index bs 0 ≢ 96))
+    → ((token_of m bs).kind ≡ Perl → ⊥) → is_text_kind (token_of m bs).kind ≡ true
+text_at_front Plain bs stops other = let h = stops refl in text_by_row bs (token_of Plain bs) (token_of-row bs) h.0 h.1 other
+text_at_front InStr bs stops other = string_text bs other
+text_at_front InBlock bs stops other = comment_text bs
+
+-- the token at a backquote
+abbrev pub back_token : List ℕ → Token
+back_token bs = cond (is_letter (slice_index bs 1)) (whole Back (suc (prefix_len is_word (drop 1 bs)))) (whole BareBackquote 1)
+
+-- a backquote begins a name or stands alone
+pub token_at_backquote : (bs : List ℕ) → slice_index bs 0 ≡ 96 → token_of Plain bs ≡ back_token bs
+unfolding token_of plain_token begins_perl is_line_end is_blank begins_line_comment begins_block_comment is_letter is_digit takes_word
+token_at_backquote bs e = rw e refl
+
+-- a token at a backquote without a name, by its kind
+bare_by : (t : Bool) (n : ℕ) → (cond t (whole Back n) (whole BareBackquote 1)).kind ≢ Back → (cond t (whole Back n) (whole BareBackquote 1)).kind ≡ BareBackquote
+unfolding whole
+bare_by true n h = absurd (h refl)
+bare_by false n h = refl
+
+-- a token at a backquote that has no name is a lone backquote
+pub bare_at_front : (bs : List ℕ) → slice_index bs 0 ≡ 96 → (token_of Plain bs).kind ≢ Back → (token_of Plain bs).kind ≡ BareBackquote
+bare_at_front bs e h =
+    rw (token_at_backquote bs e) (bare_by (is_letter (slice_index bs 1)) (suc (prefix_len is_word (drop 1 bs))) (rw (token_at_backquote bs e) at h))
+
+-- how long a token at a backquote with a name is, by its kind
+back_by : (t : Bool) (n : ℕ) → (cond t (whole Back n) (whole BareBackquote 1)).kind ≡ Back → (cond t (whole Back n) (whole BareBackquote 1)).len ≡ n
+unfolding whole
+back_by true n h = refl
+back_by false n h = cc
+
+-- how long a token at a backquote with a name is
+pub back_len : (bs : List ℕ) → slice_index bs 0 ≡ 96 → (token_of Plain bs).kind ≡ Back → (token_of Plain bs).len ≡ suc (prefix_len is_word (drop 1 bs))
+back_len bs e h =
+    rw (token_at_backquote bs e) (back_by (is_letter (slice_index bs 1)) (suc (prefix_len is_word (drop 1 bs))) (rw (token_at_backquote bs e) at h))
+
+-- the name of such a token is the run of word bytes behind the backquote
+pub back_name : (bs : List ℕ) → slice_index bs 0 ≡ 96 → (token_of Plain bs).kind ≡ Back → take ((token_of Plain bs).len - 1) (drop 1 bs) ≡ name_behind bs
+unfolding name_behind
+back_name bs e h =
+    let n = prefix_len is_word (drop 1 bs) in
+    let same : (token_of Plain bs).len - 1 ≡ n = omega (arith, back_len bs e h) in
+    ap (λ (k : ℕ). take k (drop 1 bs)) same
+
+-- a text that begins with a byte
+pub front_byte : (bs : List ℕ) (b : ℕ) → 0 < b → slice_index bs 0 ≡ b → bs ≡ b ∷ drop 1 bs
+front_byte [] b some e = absurd (omega arith)
+front_byte (x ∷ xs) b some e = ap (λ (y : ℕ). y ∷ xs) e
+
+-- a token at a backquote with a name is that backquote and its name
+pub back_text : (bs : List ℕ) → slice_index bs 0 ≡ 96 → (token_of Plain bs).kind ≡ Back
+    → take (token_of Plain bs).len bs ≡ 96 ∷ take ((token_of Plain bs).len - 1) (drop 1 bs)
+back_text bs e h =
+    let n = prefix_len is_word (drop 1 bs) in
+    let first : take (token_of Plain bs).len bs ≡ take (suc n) (96 ∷ drop 1 bs) =
+    ap (λ (k : ℕ). take k bs) (back_len bs e h) ∙ ap (take (suc n)) (front_byte bs 96 (omega arith) e) in
+    let same : (token_of Plain bs).len - 1 ≡ n = omega (arith, back_len bs e h) in
+    first ∙ sym (ap (λ (k : ℕ). 96 ∷ take k (drop 1 bs)) same)
+
+-- one of two tokens, by a test
+by_test : (t : Bool) (x y : Token) (G : Type 0) → (t ≡ true → x.kind ≡ Back → G) → (y.kind ≡ Back → G) → (cond t x y).kind ≡ Back → G
+by_test true x y G first second h = first refl h
+by_test false x y G first second h = second h
+
+-- a token with a backquote's name begins with the backquote
+pub back_front : (bs : List ℕ) → (token_of Plain bs).kind ≡ Back → slice_index bs 0 ≡ 96
+unfolding token_of plain_token whole
+back_front bs h =
+    let b = slice_index bs 0 in
+    let G : Type 0 = b ≡ 96 in
+    by_test (begins_perl bs) _ _ G (λ t e. absurd (cc))
+    (by_test (is_line_end b) _ _ G (λ t e. absurd (cc))
+    (by_test (is_blank b) _ _ G (λ t e. absurd (cc))
+    (by_test (begins_line_comment bs) _ _ G (λ t e. absurd (cc))
+    (by_test (begins_block_comment bs) _ _ G (λ t e. absurd (cc (not_block 2 bs)))
+    (by_test (b == 34) _ _ G (λ t e. absurd (cc (not_string 1 bs)))
+    (by_test (is_letter b) _ _ G (λ t e. absurd (cc))
+    (by_test (is_digit b) _ _ G (λ t e. absurd (cc))
+    (by_test (takes_word b && is_word (slice_index bs 1)) _ _ G (λ t e. absurd (cc))
+    (by_test (b == 96 && is_letter (slice_index bs 1)) _ _ G (λ t e. same_byte b 96 (first_passes (b == 96) (is_letter (slice_index bs 1)) t))
+    (by_test (b == 96) _ _ G (λ t e. absurd (cc))
+    (by_test (is_opener b) _ _ G (λ t e. absurd (cc))
+    (by_test (is_closer b) _ _ G (λ t e. absurd (cc))
+    (by_test (b == 44) _ _ G (λ t e. absurd (cc)) (λ e. absurd (cc))))))))))))))) h

@@ -1,0 +1,359 @@
+-- A directive that wants a name in front of what remains: its token, the name that it is given, and what remains behind that.
+use Rattle.std.proofs.Common.{◌≡◌, ◌⊎◌, ℕ, ◌+◌, ◌-◌, ◌<◌, ◌≤◌, Bool, true, false, List, [], ◌∷◌, ◌++◌, Some, None, length, take, drop, refl, sym, ap, ◌∙◌, subst, inl, inr, ⊎_elim, arith}
+use Rattle.std.specs.Prelude.{bytes_eq, codes}
+use Rattle.std.proofs.Math.Seq.{take-add}
+use Rattle.std.proofs.lemmas.List.{append-nil, drop-drop, take-append-drop}
+use Rattle.rdlpp_scan.specs.declared.token.Kind.{Kind}
+use Rattle.rdlpp_scan.specs.declared.token.Kind.TheVariants.{Name, Blank, Back}
+use Rattle.rdlpp_scan.specs.declared.token.Directive.{Directive}
+use Rattle.rdlpp_scan.specs.declared.token.Directive.TheVariants.{Define, Undef, Ifdef, Ifndef, Elsif, Else, Endif, Include, Line}
+use Rattle.rdlpp_scan.specs.declared.token.Mode.TheVariants.{Plain}
+use Rattle.rdlpp_scan.specs.Bytes.{is_line_end}
+use Rattle.rdlpp_scan.specs.Lines.{EndsLine}
+use Rattle.rdlpp_scan.specs.Ordinary.{is_plain_kind}
+use Rattle.rdlpp_scan.specs.SourceTokens.{Sort, SourceToken, Ordinary, Definition, Renumbering, Broken, line_ends, remaining_tokens}
+use Rattle.rdlpp_scan.specs.Tokens.{token_of}
+use Rattle.rdlpp_scan.proofs.FirstTokens.{FirstToken, is_ordinary, blanks-line_ends, name-line_ends, plain_kind-no_directive, plain_token-run, remaining-first, whole-line_ends}
+use Rattle.rdlpp_scan.proofs.RemainingLaws.{remaining-end}
+use Rattle.rdlpp_scan.proofs.RemainingSteps.{remaining-closed}
+use Rattle.rdlpp_scan.proofs.SourceLaws.{line_ends-append}
+use Rattle.rdlpp_scan.proofs.TokenLens.{token_of-part}
+use Rattle.rdlpp_scan.proofs.TokenSteps.{is_kept_kind}
+use Rattle.rdlpp_scan.proofs.WholeLines.{EndsLine-drop}
+use Rattle.rdlpp_meaning.specs.State.{Rules, State}
+use Rattle.rdlpp_meaning.specs.Parts.{Argument, argument_of, behind_blanks, behind_directive, command_in_front, command_of, directive_named, directive_of, name_in_front, no_argument, only_blanks, past_blanks}
+use Rattle.rdlpp_meaning.specs.Meaning.{Passage}
+use Rattle.rdlpp_meaning.specs.Resumed.{Place}
+use Rattle.rdlpp_meaning.specs.Opened.{Waiting, all_resumed}
+use Rattle.rdlpp_meaning.proofs.DirectiveWords.{has_own_token}
+use Rattle.rdlpp_meaning.proofs.Undefining.{blank_token, name_token, takes_name, takes_name_at_once, takes_name_behind_blanks, wants_name}
+use Rattle.rdlpp_read.specs.Arguments.{IsLead, Leads, Lacks, NameGiven, NoName}
+use Rattle.rdlpp_read.specs.Buffer.{BufferView, held_of, rest_of, tokens_left}
+use Rattle.rdlpp_front.specs.Fronts.{HasName, IsDirective, LacksName, argument_name, word_of}
+use Rattle.rdlpp_front.specs.SourceLeft.{HoldsFront, IsStage}
+use Rattle.rdlpp_front.proofs.DirectiveFacts.{word_len}
+use Rattle.rdlpp_front.proofs.SourceFacts.{ends_line, tokens_used, used_buffer}
+use Rattle.rdlpp_front.proofs.UsageLeft.{back_tokens}
+
+-- the word of a directive as a token
+abbrev pub word_token : Directive → ℕ → SourceToken
+word_token d line = record { sort = Ordinary Back; bytes = word_of d; line = line }
+
+-- a directive of which the word is a token
+record IsWordToken (d : Directive) : Type 0 where
+  pub other : bytes_eq (word_of d) (codes "`define") ≡ false
+  pub also : bytes_eq (word_of d) (codes "`line") ≡ false
+  pub directive : (line : ℕ) → directive_of (word_token d line) ≡ Some d
+
+-- all are but `define` and `line`
+word_alone : (d : Directive) → has_own_token d ≡ false → IsWordToken d
+unfolding has_own_token directive_of directive_named
+word_alone Define e = absurd (cc)
+word_alone Line e = absurd (cc)
+word_alone Undef e = record { other = refl; also = refl; directive = λ line. refl }
+word_alone Ifdef e = record { other = refl; also = refl; directive = λ line. refl }
+word_alone Ifndef e = record { other = refl; also = refl; directive = λ line. refl }
+word_alone Elsif e = record { other = refl; also = refl; directive = λ line. refl }
+word_alone Else e = record { other = refl; also = refl; directive = λ line. refl }
+word_alone Endif e = record { other = refl; also = refl; directive = λ line. refl }
+word_alone Include e = record { other = refl; also = refl; directive = λ line. refl }
+
+-- the word of a directive begins it
+pub word_directive : (d : Directive) (line : ℕ) → has_own_token d ≡ false → directive_of (word_token d line) ≡ Some d
+word_directive d line e = (word_alone d e).directive line
+
+-- a directive that wants a name is a word
+pub wants_word : (d : Directive) → wants_name d ≡ true → has_own_token d ≡ false
+unfolding wants_name has_own_token
+wants_word Undef e = refl
+wants_word Ifdef e = refl
+wants_word Ifndef e = refl
+wants_word Elsif e = refl
+wants_word d e = cc
+
+-- a word has no LF
+word_line_ends : (d : Directive) → line_ends (word_of d) ≡ 0
+unfolding line_ends is_line_end
+word_line_ends Define = refl
+word_line_ends Undef = refl
+word_line_ends Ifdef = refl
+word_line_ends Ifndef = refl
+word_line_ends Elsif = refl
+word_line_ends Else = refl
+word_line_ends Endif = refl
+word_line_ends Include = refl
+word_line_ends Line = refl
+
+-- the tokens at a directive whose word is a token
+pub word_tokens : {R : Type 0} (d : Directive) (u : List ℕ → Bool) (unread : R → List ℕ) (b : BufferView R) → has_own_token d ≡ false
+    → HoldsFront u b → b.mode ≡ Plain → IsDirective d (held_of b) → u (held_of b) ≡ false
+    → tokens_left u unread b ≡ word_token d b.line ∷ tokens_left u unread (used_buffer b (length (word_of d)) 0)
+word_tokens d u unread b word holds mode is built =
+    let held = held_of b in
+    let len = (token_of Plain held).len in
+    let alone = word_alone d word in
+    back_tokens u unread b holds mode built is.kind (rw is.word alone.other) (rw is.word alone.also)
+    ∙ ap (λ (xs : List ℕ). record { sort = Ordinary Back; bytes = xs; line = b.line } ∷ tokens_left u unread (used_buffer b len 0)) is.word
+    ∙ ap (λ (n : ℕ). word_token d b.line ∷ tokens_left u unread (used_buffer b n 0)) (word_len d held holds.some is)
+
+-- a token of such a kind isn't a name
+no_name_by : (sort : Sort) (bytes : List ℕ) (line : ℕ) (ts : List SourceToken) → (k : Kind) → (sort ≡ Ordinary k) ⊎ (is_ordinary (record { sort = sort; bytes = bytes; line = line }) ≡ false) → (k ≡ Name → ⊥)
+    → name_in_front (record { sort = sort; bytes = bytes; line = line } ∷ ts) ≡ no_argument
+unfolding name_in_front is_ordinary
+no_name_by (Ordinary Name) bytes line ts k (inl e) other = absurd (other (let same : Ordinary Name ≡ Ordinary k = e in cc))
+no_name_by (Ordinary Name) bytes line ts k (inr e) other = cc
+no_name_by (Ordinary n) bytes line ts k h other = refl
+no_name_by Definition bytes line ts k h other = refl
+no_name_by Renumbering bytes line ts k h other = refl
+no_name_by (Broken b) bytes line ts k h other = refl
+
+-- nor are blanks and a name
+no_blank_by : (sort : Sort) (bytes : List ℕ) (line : ℕ) (ts : List SourceToken) → (k : Kind) → (sort ≡ Ordinary k) ⊎ (is_ordinary (record { sort = sort; bytes = bytes; line = line }) ≡ false) → (k ≡ Blank → ⊥)
+    → past_blanks name_in_front (record { sort = sort; bytes = bytes; line = line } ∷ ts) ≡ name_in_front (record { sort = sort; bytes = bytes; line = line } ∷ ts)
+unfolding past_blanks name_in_front is_ordinary
+no_blank_by (Ordinary Blank) bytes line ts k (inl e) other = absurd (other (let same : Ordinary Blank ≡ Ordinary k = e in cc))
+no_blank_by (Ordinary Blank) bytes line ts k (inr e) other = cc
+no_blank_by (Ordinary n) bytes line ts k h other = refl
+no_blank_by Definition bytes line ts k h other = refl
+no_blank_by Renumbering bytes line ts k h other = refl
+no_blank_by (Broken b) bytes line ts k h other = refl
+
+no_name : (k : Kind) (us : List SourceToken) → FirstToken k us → (k ≡ Name → ⊥) → name_in_front us ≡ no_argument
+no_name k us f other = ap name_in_front f.is ∙ no_name_by f.first.sort f.first.bytes f.first.line f.more k f.kind other
+
+no_blank : (k : Kind) (us : List SourceToken) → FirstToken k us → (k ≡ Blank → ⊥) → past_blanks name_in_front us ≡ name_in_front us
+no_blank k us f other = ap (past_blanks name_in_front) f.is ∙ no_blank_by f.first.sort f.first.bytes f.first.line f.more k f.kind other ∙ sym (ap name_in_front f.is)
+
+-- what a directive is given, and what is behind that
+record IsGiven (d : Directive) (ts : List SourceToken) (name text : List ℕ) (behind : List SourceToken) : Type 0 where
+  pub given : (argument_of d ts).given ≡ Some name
+  pub taken : (argument_of d ts).text ≡ text
+  pub rest : behind_directive d ts ≡ behind
+
+given_of : (d : Directive) (ts : List SourceToken) (name text : List ℕ) (behind : List SourceToken) (used : ℕ)
+    → argument_of d ts ≡ record { given = Some name; text = text; used = used } → drop used ts ≡ behind → IsGiven d ts name text behind
+given_of d ts name text behind used e h = record {
+  given = ap (λ (a : Argument). a.given) e;
+  taken = ap (λ (a : Argument). a.text) e;
+  rest = ap (λ (a : Argument). drop a.used ts) e ∙ h;
+}
+
+module _ (u : List ℕ → Bool) (stage : IsStage u) (most l room : ℕ) (rest : List ℕ) where
+  -- the tokens of what is held and behind it, on the line of the directive
+  abbrev tokens_of : List ℕ → List SourceToken
+  tokens_of z = remaining_tokens u most Plain l l z room rest
+
+  -- blanks or a name in front
+  lead_tokens : (z : List ℕ) (k : Kind) (n : ℕ) → EndsLine z rest → 0 < length z → (token_of Plain z).kind ≡ k → n ≡ (token_of Plain z).len
+      → is_plain_kind k ≡ true → is_kept_kind k ≡ true → (token_of Plain z).next_mode ≡ Plain → line_ends (take (token_of Plain z).len z) ≡ 0
+      → tokens_of z ≡ record { sort = Ordinary k; bytes = take n z; line = l } ∷ tokens_of (drop n z)
+  lead_tokens z k n ends some is len plain kept closed none =
+      let t = token_of Plain z in
+      let built : u z ≡ false = stage.spares z (plain_kind-no_directive z (ap is_plain_kind is ∙ plain)) in
+      let line : l + line_ends (take t.len z) ≡ l = omega (arith, none) in
+      remaining-closed u most Plain l l z room rest some ends (λ _ more e. stage.by_lines z more some e ∙ built) (ap is_kept_kind is ∙ kept) closed
+      ∙ ap (λ (m : ℕ). record { sort = Ordinary t.kind; bytes = take t.len z; line = l } ∷ remaining_tokens u most Plain l m (drop t.len z) room rest) line
+      ∙ ap (λ (m : Kind). record { sort = Ordinary m; bytes = take t.len z; line = l } ∷ tokens_of (drop t.len z)) is
+      ∙ ap (λ (m : ℕ). record { sort = Ordinary k; bytes = take m z; line = l } ∷ tokens_of (drop m z)) (sym len)
+
+  pub blank_lead : (z : List ℕ) (n : ℕ) → EndsLine z rest → 0 < length z → (token_of Plain z).kind ≡ Blank → n ≡ (token_of Plain z).len
+      → tokens_of z ≡ blank_token (take n z) l ∷ tokens_of (drop n z)
+  unfolding is_plain_kind is_kept_kind
+  blank_lead z n ends some is len = lead_tokens z Blank n ends some is len refl refl ((plain_token-run z).blanks is).1 (blanks-line_ends z is)
+
+  name_lead : (z : List ℕ) (n : ℕ) → EndsLine z rest → 0 < length z → (token_of Plain z).kind ≡ Name → n ≡ (token_of Plain z).len
+      → tokens_of z ≡ name_token (take n z) l ∷ tokens_of (drop n z)
+  unfolding is_plain_kind is_kept_kind
+  name_lead z n ends some is len = lead_tokens z Name n ends some is len refl refl ((plain_token-run z).name is).1 (name-line_ends z is)
+
+  -- where nothing is held
+  pub nothing_tokens : rest ≡ [] → tokens_of [] ≡ []
+  nothing_tokens none = ap (λ (r : List ℕ). remaining_tokens u most Plain l l [] room r) none ∙ remaining-end u most l l room
+
+  -- no name in front
+  lacks_name : (z : List ℕ) → EndsLine z rest → (z ≡ [] → rest ≡ []) → (0 < length z → (token_of Plain z).kind ≡ Name → ⊥) → name_in_front (tokens_of z) ≡ no_argument
+  unfolding name_in_front
+  lacks_name [] ends none other = ap name_in_front (nothing_tokens (none refl))
+  lacks_name (b ∷ w) ends none other =
+      no_name (token_of Plain (b ∷ w)).kind (tokens_of (b ∷ w)) (remaining-first u most l l (b ∷ w) room rest (omega arith) ends) (other (omega arith))
+
+  -- no blanks in front
+  lacks_blank : (z : List ℕ) → EndsLine z rest → (z ≡ [] → rest ≡ []) → (0 < length z → (token_of Plain z).kind ≡ Blank → ⊥) → past_blanks name_in_front (tokens_of z) ≡ name_in_front (tokens_of z)
+  unfolding name_in_front past_blanks
+  lacks_blank [] ends none other = let e = nothing_tokens (none refl) in ap (past_blanks name_in_front) e ∙ sym (ap name_in_front e)
+  lacks_blank (b ∷ w) ends none other =
+      no_blank (token_of Plain (b ∷ w)).kind (tokens_of (b ∷ w)) (remaining-first u most l l (b ∷ w) room rest (omega arith) ends) (other (omega arith))
+
+  -- behind the word: blanks, and then a name
+  behind_given : (d : Directive) → wants_name d ≡ true → (r : List ℕ) (bl n : ℕ) → EndsLine r rest → (r ≡ [] → rest ≡ []) → IsLead Blank r bl
+      → 0 < length (drop bl r) → (token_of Plain (drop bl r)).kind ≡ Name → n ≡ (token_of Plain (drop bl r)).len
+      → IsGiven d (tokens_of r) (take n (drop bl r)) (take bl r ++ take n (drop bl r)) (tokens_of (drop n (drop bl r)))
+  behind_given d wants r bl n ends none (Leads some is len) has name whole =
+      let z = drop bl r in
+      let e : tokens_of r ≡ blank_token (take bl r) l ∷ name_token (take n z) l ∷ tokens_of (drop n z) =
+      blank_lead r bl ends some is len ∙ ap (λ (ts : List SourceToken). blank_token (take bl r) l ∷ ts) (name_lead z n (EndsLine-drop bl r rest ends) has name whole) in
+      subst (λ (ts : List SourceToken). IsGiven d ts (take n z) (take bl r ++ take n z) (tokens_of (drop n z))) (sym e)
+      (given_of d _ (take n z) (take bl r ++ take n z) (tokens_of (drop n z)) 2 (takes_name_behind_blanks d (take bl r) (take n z) l l (tokens_of (drop n z)) wants) refl)
+  behind_given d wants r bl n ends none (Lacks other zero_is) has name whole =
+      let P : ℕ → Type 0 = λ m. 0 < length (drop m r) → (token_of Plain (drop m r)).kind ≡ Name → n ≡ (token_of Plain (drop m r)).len → IsGiven d (tokens_of r) (take n (drop m r)) (take m r ++ take n (drop m r)) (tokens_of (drop n (drop m r))) in
+      let at_zero : P 0 = λ some is len.
+      subst (λ (ts : List SourceToken). IsGiven d ts (take n r) (take n r) (tokens_of (drop n r))) (sym (name_lead r n ends some is len))
+      (given_of d _ (take n r) (take n r) (tokens_of (drop n r)) 1 (takes_name_at_once d (take n r) l (tokens_of (drop n r)) wants) refl) in
+      subst P (sym zero_is) at_zero has name whole
+
+  -- or no name
+  behind_missing : (d : Directive) → wants_name d ≡ true → (r : List ℕ) (bl : ℕ) → EndsLine r rest → (r ≡ [] → rest ≡ []) → (drop bl r ≡ [] → rest ≡ []) → IsLead Blank r bl
+      → (0 < length (drop bl r) → (token_of Plain (drop bl r)).kind ≡ Name → ⊥) → argument_of d (tokens_of r) ≡ no_argument
+  unfolding past_blanks behind_blanks no_argument
+  behind_missing d wants r bl ends none gone (Leads some is len) other =
+      let z = drop bl r in
+      let blank = blank_token (take bl r) l in
+      takes_name d (tokens_of r) wants
+      ∙ ap (past_blanks name_in_front) (blank_lead r bl ends some is len)
+      ∙ ap (behind_blanks blank) (lacks_name z (EndsLine-drop bl r rest ends) gone other)
+  behind_missing d wants r bl ends none gone (Lacks lacks zero_is) other =
+      let at_zero : (0 < length r → (token_of Plain r).kind ≡ Name → ⊥) = subst (λ (m : ℕ). 0 < length (drop m r) → (token_of Plain (drop m r)).kind ≡ Name → ⊥) zero_is other in
+      takes_name d (tokens_of r) wants ∙ lacks_blank r ends none lacks ∙ lacks_name r ends none at_zero
+
+-- a name has a byte
+pub lead_name : (bytes : List ℕ) (n : ℕ) → IsLead Name bytes n → 0 < n → (0 < length bytes) × ((token_of Plain bytes).kind ≡ Name) × (n ≡ (token_of Plain bytes).len)
+lead_name bytes n (Leads some is len) h = (some, is, len)
+lead_name bytes n (Lacks other zero_is) h = absurd (omega arith)
+
+-- no name stands there
+lead_none : (bytes : List ℕ) (n : ℕ) → IsLead Name bytes n → n ≡ 0 → 0 < length bytes → (token_of Plain bytes).kind ≡ Name → ⊥
+lead_none bytes n (Leads some is len) h has name = omega (arith, (token_of-part Plain bytes some).not_empty)
+lead_none bytes n (Lacks other zero_is) h has name = other has name
+
+-- blanks have no LF
+pub lead_line_ends : (bytes : List ℕ) (n : ℕ) → IsLead Blank bytes n → line_ends (take n bytes) ≡ 0
+unfolding line_ends
+lead_line_ends bytes n (Leads some is len) = ap (λ (m : ℕ). line_ends (take m bytes)) len ∙ blanks-line_ends bytes is
+lead_line_ends bytes n (Lacks other zero_is) = ap (λ (m : ℕ). line_ends (take m bytes)) zero_is
+
+-- where nothing is held behind bytes without an LF, the text has ended
+ended_behind : (held rest : List ℕ) (m : ℕ) → 0 < length held → EndsLine held rest → line_ends (take m held) ≡ 0 → drop m held ≡ [] → rest ≡ []
+ended_behind held rest m some ends none gone =
+    let all : take m held ≡ held = sym (append-nil (take m held)) ∙ ap (λ (z : List ℕ). take m held ++ z) (sym gone) ∙ take-append-drop m held in
+    let free : line_ends held ≡ 0 = ap line_ends (sym all) ∙ none in
+    ⊎_elim (λ whole. absurd (omega (arith, free, whole-line_ends held some whole))) (λ h. h) ends
+
+-- what is held of a directive, behind its word and behind blanks
+module _ (d : Directive) (held rest : List ℕ) (some : 0 < length held) (ends : EndsLine held rest) (is : IsDirective d held) where
+  -- the first bytes are the word
+  pub word_at : take (length (word_of d)) held ≡ word_of d
+  word_at = ap (λ (n : ℕ). take n held) (sym (word_len d held some is)) ∙ is.word
+
+  -- they have no LF
+  pub word_at_line_ends : line_ends (take (length (word_of d)) held) ≡ 0
+  word_at_line_ends = ap line_ends word_at ∙ word_line_ends d
+
+  -- where nothing is held behind them
+  pub gone_word : drop (length (word_of d)) held ≡ [] → rest ≡ []
+  gone_word gone = ended_behind held rest (length (word_of d)) some ends word_at_line_ends gone
+
+  -- nor behind blanks there
+  pub gone_blanks : (bl : ℕ) → IsLead Blank (drop (length (word_of d)) held) bl → drop bl (drop (length (word_of d)) held) ≡ [] → rest ≡ []
+  gone_blanks bl space gone =
+      let n = length (word_of d) in
+      let none : line_ends (take (n + bl) held) ≡ 0 =
+      omega (arith, ap line_ends (take-add n bl held), line_ends-append (take n held) (take bl (drop n held)), word_at_line_ends, lead_line_ends (drop n held) bl space) in
+      ended_behind held rest (n + bl) some ends none (sym (drop-drop bl n held) ∙ gone)
+
+-- a directive with its name in front: the tokens behind its word, what it takes of them, and what remains behind that
+pub record NameInFront {R : Type 0} (d : Directive) (u : List ℕ → Bool) (unread : R → List ℕ) (b : BufferView R) (start stop : ℕ) : Type 0 where
+  pub tokens : List SourceToken
+  pub all : tokens_left u unread b ≡ word_token d b.line ∷ tokens
+  pub given : (argument_of d tokens).given ≡ Some (argument_name (held_of b) start stop)
+  pub text : word_of d ++ (argument_of d tokens).text ≡ take stop (held_of b)
+  pub behind : behind_directive d tokens ≡ tokens_left u unread (used_buffer b stop 0)
+
+-- a directive without a name in front
+pub record NoNameInFront {R : Type 0} (d : Directive) (u : List ℕ → Bool) (unread : R → List ℕ) (b : BufferView R) : Type 0 where
+  pub tokens : List SourceToken
+  pub all : tokens_left u unread b ≡ word_token d b.line ∷ tokens
+  pub none : argument_of d tokens ≡ no_argument
+  pub behind : tokens ≡ tokens_left u unread (used_buffer b (length (word_of d)) 0)
+
+module _ {R : Type 0} (d : Directive) (u : List ℕ → Bool) (unread : R → List ℕ) (b : BufferView R) (wants : wants_name d ≡ true)
+    (holds : HoldsFront u b) (mode : b.mode ≡ Plain) (built : u (held_of b) ≡ false) where
+  -- the tokens behind a place, on the line of the directive
+  abbrev tokens_at : ℕ → List SourceToken
+  tokens_at n = remaining_tokens u b.line_bytes Plain b.line b.line (drop n (held_of b)) b.bytes_left (rest_of unread b)
+
+  -- they are those that remain where so many bytes are used
+  at_used : (n : ℕ) → tokens_at n ≡ tokens_left u unread (used_buffer b n 0)
+  at_used n =
+      let line : b.line ≡ b.line + 0 = omega arith in
+      ap (λ (k : ℕ). remaining_tokens u b.line_bytes Plain b.line k (drop n (held_of b)) b.bytes_left (rest_of unread b)) line
+      ∙ tokens_used u unread b n 0 b.line mode
+
+  -- the word in front
+  at_word : IsDirective d (held_of b) → tokens_left u unread b ≡ word_token d b.line ∷ tokens_at (length (word_of d))
+  at_word is =
+      word_tokens d u unread b (wants_word d wants) holds mode is built
+      ∙ ap (λ (ts : List SourceToken). word_token d b.line ∷ ts) (sym (at_used (length (word_of d))))
+
+  -- a directive with its name
+  pub name_in_front_of : (start stop : ℕ) → HasName d (held_of b) start stop → NameInFront d u unread b start stop
+  name_in_front_of start stop has =
+      let held = held_of b in
+      let rest = rest_of unread b in
+      let n = length (word_of d) in
+      let r = drop n held in
+      let bl = has.name.from in
+      let k = has.name.to - bl in
+      let g = has.name.given in
+      let ends = ends_line unread b holds.ends in
+      let starts = has.name.starts in
+      let stops = has.name.stops in
+      let some_name : 0 < k = omega (arith, g.some) in
+      let lead = lead_name (drop bl r) k g.name some_name in
+      let a = behind_given u holds.stage b.line_bytes b.line b.bytes_left rest d wants r bl k (EndsLine-drop n held rest ends)
+      (gone_word d held rest holds.some ends has.word) g.space lead.0 lead.1 lead.2 in
+      let at : drop bl r ≡ drop start held = drop-drop bl n held ∙ ap (λ (i : ℕ). drop i held) (sym starts) in
+      let size : k ≡ stop - start = omega (arith, g.some) in
+      let more : bl + k ≡ has.name.to = omega (arith, g.some) in
+      let taken : take bl r ++ take k (drop bl r) ≡ take has.name.to r = sym (take-add bl k r) ∙ ap (λ (i : ℕ). take i r) more in
+      let whole : word_of d ++ take has.name.to r ≡ take stop held =
+      ap (λ (z : List ℕ). z ++ take has.name.to r) (sym (word_at d held rest holds.some ends has.word))
+      ∙ sym (take-add n has.name.to held) ∙ ap (λ (i : ℕ). take i held) (sym stops) in
+      let end : start + k ≡ stop = omega (arith, g.some) in
+      record {
+        tokens = tokens_at n;
+        all = at_word has.word;
+        given = a.given ∙ ap Some (ap (take k) at ∙ ap (λ (i : ℕ). take i (drop start held)) size);
+        text = ap (λ (z : List ℕ). word_of d ++ z) (a.taken ∙ taken) ∙ whole;
+        behind =
+            a.rest
+            ∙ ap (λ (z : List ℕ). remaining_tokens u b.line_bytes Plain b.line b.line z b.bytes_left rest)
+            (ap (drop k) at ∙ drop-drop k start held ∙ ap (λ (i : ℕ). drop i held) end)
+            ∙ at_used stop;
+      }
+
+  -- a directive without one
+  pub no_name_in_front_of : LacksName d (held_of b) → NoNameInFront d u unread b
+  no_name_in_front_of lacks =
+      let held = held_of b in
+      let rest = rest_of unread b in
+      let n = length (word_of d) in
+      let r = drop n held in
+      let ends = ends_line unread b holds.ends in
+      record {
+        tokens = tokens_at n;
+        all = at_word lacks.word;
+        none =
+            behind_missing u holds.stage b.line_bytes b.line b.bytes_left rest d wants r lacks.none.start (EndsLine-drop n held rest ends)
+            (gone_word d held rest holds.some ends lacks.word) (gone_blanks d held rest holds.some ends lacks.word lacks.none.start lacks.none.space)
+            lacks.none.space (lead_none (drop lacks.none.start r) 0 lacks.none.none refl);
+        behind = at_used n;
+      }
+
+  -- what remains behind a directive and its name
+  pub behind_name : (rules : Rules) (ws : List Waiting) (place : Place) (first : Bool) (s : State) (start stop : ℕ) (i : NameInFront d u unread b start stop)
+      → all_resumed rules ws place (only_blanks first (command_in_front d first (word_token d b.line) i.tokens).text) (behind_directive d i.tokens) s
+      ≡ all_resumed rules ws place (only_blanks first (take stop (held_of b))) (tokens_left u unread (used_buffer b stop 0)) s
+  unfolding command_of
+  behind_name rules ws place first s start stop i =
+      ap (λ (z : List ℕ). all_resumed rules ws place (only_blanks first z) (behind_directive d i.tokens) s) i.text
+      ∙ ap (λ (ts : List SourceToken). all_resumed rules ws place (only_blanks first (take stop (held_of b))) ts s) i.behind

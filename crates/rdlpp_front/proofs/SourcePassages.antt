@@ -1,0 +1,147 @@
+-- What remains of a nest of open sources in live text, with the state behind it, for each kind of token in front of the innermost.
+use Rattle.std.proofs.Common.{◌≡◌, ℕ, ◌<◌, Bool, true, false, List, [], ◌∷◌, ◌++◌, ap, ◌∙◌, None, Some}
+use Rattle.std.specs.Prelude.{drop}
+use Rattle.std.specs.List.{list_all}
+use Rattle.rdlpp_scan.specs.declared.token.Kind.{Kind}
+use Rattle.rdlpp_scan.specs.declared.token.Kind.TheVariants.{BareBackquote}
+use Rattle.rdlpp_scan.specs.Front.{Breach}
+use Rattle.rdlpp_scan.specs.SourceTokens.{Ordinary, Definition, Broken, SourceToken}
+use Rattle.rdlpp_scan.specs.Stage.{is_reserved}
+use Rattle.rdlpp_table.specs.Table.{Macro, macro_named}
+use Rattle.rdlpp_meaning.specs.declared.fault.FaultKind.{FaultKind}
+use Rattle.rdlpp_meaning.specs.declared.fault.FaultKind.TheVariants.{BareBackquote as NoName, UndefinedMacro, Unbuilt}
+use Rattle.rdlpp_meaning.specs.Outcome.{Told, fails}
+use Rattle.rdlpp_meaning.specs.State.{Accepted, Refused, Rules, State, fault_at, breach_kind}
+use Rattle.rdlpp_meaning.specs.Substitution.{body_tokens}
+use Rattle.rdlpp_meaning.specs.Expansion.{is_copied, usage_token, bytes_of}
+use Rattle.rdlpp_meaning.specs.Parts.{Command, only_blanks, line_ends_of}
+use Rattle.rdlpp_meaning.specs.Meaning.{Passage, leaves, behind_bytes, goes_on, refusal, Progress}
+use Rattle.rdlpp_meaning.specs.Resumed.{Place, Live, resumed}
+use Rattle.rdlpp_meaning.specs.Opened.{Waiting, unwound, all_resumed}
+use Rattle.rdlpp_meaning.proofs.Includes.{behind_bytes-goes_on}
+use Rattle.rdlpp_meaning.proofs.LiveText.{resumed_copied, resumed_one_copied, resumed_copied_parts, resumed_broken, resumed_broken_parts, resumed_bare, resumed_undefined, resumed_unbuilt, resumed_copied_body, resumed_defined, resumed_refused}
+use Rattle.rdlpp_meaning.proofs.NestMoves.{all_resumed_behind, all_resumed_fails}
+use Rattle.rdlpp_meaning.proofs.Passages.{behind_bytes-nil, fails-goes_on}
+
+-- bytes and then a fault of the innermost source end the nest
+pub all_resumed_behind_fails : (rules : Rules) (ws : List Waiting) (place : Place) (first : Bool) (ts : List SourceToken) (s t : State) (x : List ℕ) (f : Told)
+    → resumed rules place first ts s ≡ behind_bytes x (leaves (fails f) t)
+    → all_resumed rules ws place first ts s ≡ behind_bytes x (leaves (fails f) t)
+unfolding all_resumed
+all_resumed_behind_fails rules ws place first ts s t x f e =
+    let next : State → Passage = λ after. unwound rules ws after in
+    ap (λ (p : Passage). goes_on p next) e
+    ∙ behind_bytes-goes_on x (leaves (fails f) t) next
+    ∙ ap (λ (p : Passage). behind_bytes x p) (fails-goes_on f t next)
+
+-- a refusal in the innermost source ends the nest with its fault
+pub all_resumed_refused : (rules : Rules) (ws : List Waiting) (place : Place) (first : Bool) (ts : List SourceToken) (s : State) (kind : FaultKind) (word : List ℕ) (c : Command)
+    → resumed rules place first ts s ≡ refusal kind word c s
+    → all_resumed rules ws place first ts s ≡ leaves (fails (fault_at kind c.line word s)) s
+unfolding refusal
+all_resumed_refused rules ws place first ts s kind word c e =
+    all_resumed_fails rules ws place first ts s s (fault_at kind c.line word s) e
+
+module _ (rules : Rules) (ws : List Waiting) (os : List Progress) (first : Bool) where
+  -- tokens that are copied give their bytes
+  pub all_resumed_copied : (ts more : List SourceToken) (s : State) → list_all is_copied ts ≡ true
+      → all_resumed rules ws (Live os) first (ts ++ more) s
+      ≡ behind_bytes (bytes_of ts) (all_resumed rules ws (Live os) (only_blanks first (bytes_of ts)) more s)
+  all_resumed_copied ts more s e =
+      all_resumed_behind rules ws (Live os) (Live os) first (only_blanks first (bytes_of ts)) (ts ++ more) more s s (bytes_of ts)
+      (resumed_copied rules os first ts more s e)
+
+  -- and so does one
+  pub all_resumed_one_copied : (t : SourceToken) (more : List SourceToken) (s : State) → is_copied t ≡ true
+      → all_resumed rules ws (Live os) first (t ∷ more) s
+      ≡ behind_bytes t.bytes (all_resumed rules ws (Live os) (only_blanks first t.bytes) more s)
+  all_resumed_one_copied t more s e =
+      all_resumed_behind rules ws (Live os) (Live os) first (only_blanks first t.bytes) (t ∷ more) more s s t.bytes
+      (resumed_one_copied rules os first t more s e)
+
+  -- a token that is copied may be written in two parts
+  pub all_resumed_copied_parts : (k : Kind) (x y : List ℕ) (line : ℕ) (more : List SourceToken) (s : State)
+      → is_copied (record { sort = Ordinary k; bytes = x ++ y; line = line }) ≡ true
+      → all_resumed rules ws (Live os) first (record { sort = Ordinary k; bytes = x ++ y; line = line } ∷ more) s
+      ≡ behind_bytes x (all_resumed rules ws (Live os) (only_blanks first x) (record { sort = Ordinary k; bytes = y; line = line } ∷ more) s)
+  all_resumed_copied_parts k x y line more s e =
+      all_resumed_behind rules ws (Live os) (Live os) first (only_blanks first x)
+      (record { sort = Ordinary k; bytes = x ++ y; line = line } ∷ more) (record { sort = Ordinary k; bytes = y; line = line } ∷ more) s s x
+      (resumed_copied_parts rules os first k x y line more s e)
+
+  -- a broken token may be written in two parts
+  pub all_resumed_broken_parts : (b : Breach) (x y : List ℕ) (line : ℕ) (more : List SourceToken) (s : State)
+      → all_resumed rules ws (Live os) first (record { sort = Broken b; bytes = x ++ y; line = line } ∷ more) s
+      ≡ behind_bytes x (all_resumed rules ws (Live os) (only_blanks first x) (record { sort = Broken b; bytes = y; line = line } ∷ more) s)
+  all_resumed_broken_parts b x y line more s =
+      all_resumed_behind rules ws (Live os) (Live os) first (only_blanks first x)
+      (record { sort = Broken b; bytes = x ++ y; line = line } ∷ more) (record { sort = Broken b; bytes = y; line = line } ∷ more) s s x
+      (resumed_broken_parts rules os first b x y line more s)
+
+  -- a broken token gives its bytes and its fault
+  pub all_resumed_broken : (b : Breach) (bytes : List ℕ) (line : ℕ) (more : List SourceToken) (s : State)
+      → all_resumed rules ws (Live os) first (record { sort = Broken b; bytes = bytes; line = line } ∷ more) s
+      ≡ behind_bytes bytes (leaves (fails (fault_at (breach_kind b) line [] s)) s)
+  all_resumed_broken b bytes line more s =
+      all_resumed_behind_fails rules ws (Live os) first (record { sort = Broken b; bytes = bytes; line = line } ∷ more) s s bytes
+      (fault_at (breach_kind b) line [] s) (resumed_broken rules os first b bytes line more s)
+
+  -- a broken token without bytes gives its fault alone
+  pub all_resumed_only_broken : (b : Breach) (line : ℕ) (more : List SourceToken) (s : State)
+      → all_resumed rules ws (Live os) first (record { sort = Broken b; bytes = []; line = line } ∷ more) s
+      ≡ leaves (fails (fault_at (breach_kind b) line [] s)) s
+  all_resumed_only_broken b line more s =
+      all_resumed_broken b [] line more s ∙ behind_bytes-nil (leaves (fails (fault_at (breach_kind b) line [] s)) s)
+
+  -- a lone backquote is a fault
+  pub all_resumed_bare : (bytes : List ℕ) (line : ℕ) (more : List SourceToken) (s : State)
+      → all_resumed rules ws (Live os) first (record { sort = Ordinary BareBackquote; bytes = bytes; line = line } ∷ more) s
+      ≡ leaves (fails (fault_at NoName line [] s)) s
+  all_resumed_bare bytes line more s =
+      all_resumed_fails rules ws (Live os) first (record { sort = Ordinary BareBackquote; bytes = bytes; line = line } ∷ more) s s
+      (fault_at NoName line [] s) (resumed_bare rules os first bytes line more s)
+
+  -- a usage of a name that isn't defined is a fault
+  pub all_resumed_undefined : (name : List ℕ) (line : ℕ) (more : List SourceToken) (s : State)
+      → is_reserved name ≡ false → macro_named s.macros name ≡ None
+      → all_resumed rules ws (Live os) first (usage_token name line ∷ more) s ≡ leaves (fails (fault_at UndefinedMacro line name s)) s
+  all_resumed_undefined name line more s r e =
+      all_resumed_fails rules ws (Live os) first (usage_token name line ∷ more) s s (fault_at UndefinedMacro line name s)
+      (resumed_undefined rules os first name line more s r e)
+
+  -- a usage of a macro that isn't built is a fault
+  pub all_resumed_unbuilt : (name : List ℕ) (line : ℕ) (more : List SourceToken) (s : State) (m : Macro)
+      → is_reserved name ≡ false → macro_named s.macros name ≡ Some m → rules.unbuilt_macro m ≡ true
+      → all_resumed rules ws (Live os) first (usage_token name line ∷ more) s ≡ leaves (fails (fault_at Unbuilt line [] s)) s
+  all_resumed_unbuilt name line more s m r e u =
+      all_resumed_fails rules ws (Live os) first (usage_token name line ∷ more) s s (fault_at Unbuilt line [] s)
+      (resumed_unbuilt rules os first name line more s m r e u)
+
+  -- a usage of a macro without a list, of whose body all tokens are copied, gives its body
+  pub all_resumed_copied_body : (name : List ℕ) (line : ℕ) (more : List SourceToken) (s : State) (m : Macro)
+      → 0 < rules.depth
+      → is_reserved name ≡ false → macro_named s.macros name ≡ Some m → rules.unbuilt_macro m ≡ false
+      → m.formals ≡ None → list_all is_copied (body_tokens m.body) ≡ true
+      → all_resumed rules ws (Live os) first (usage_token name line ∷ more) s
+      ≡ behind_bytes m.body (all_resumed rules ws (Live os) (only_blanks first (96 ∷ name)) more s)
+  all_resumed_copied_body name line more s m h r e u f copied =
+      all_resumed_behind rules ws (Live os) (Live os) first (only_blanks first (96 ∷ name)) (usage_token name line ∷ more) more s s m.body
+      (resumed_copied_body rules os first name line more s m h r e u f copied)
+
+  -- a `define` that is accepted gives its LF bytes and changes the macros
+  pub all_resumed_defined : (bytes : List ℕ) (line : ℕ) (more : List SourceToken) (s : State) (macros : List Macro)
+      → rules.define s.macros (drop 7 bytes) ≡ Accepted macros
+      → all_resumed rules ws (Live os) first (record { sort = Definition; bytes = bytes; line = line } ∷ more) s
+      ≡ behind_bytes (line_ends_of bytes) (all_resumed rules ws (Live os) (only_blanks first bytes) more (record s { macros = macros }))
+  all_resumed_defined bytes line more s macros e =
+      all_resumed_behind rules ws (Live os) (Live os) first (only_blanks first bytes) (record { sort = Definition; bytes = bytes; line = line } ∷ more) more s
+      (record s { macros = macros }) (line_ends_of bytes) (resumed_defined rules os first bytes line more s macros e)
+
+  -- a `define` that is refused is a fault
+  pub all_resumed_bad_define : (bytes : List ℕ) (line : ℕ) (more : List SourceToken) (s : State) (kind : FaultKind) (word : List ℕ)
+      → rules.define s.macros (drop 7 bytes) ≡ Refused kind word
+      → all_resumed rules ws (Live os) first (record { sort = Definition; bytes = bytes; line = line } ∷ more) s
+      ≡ leaves (fails (fault_at kind line word s)) s
+  all_resumed_bad_define bytes line more s kind word e =
+      all_resumed_fails rules ws (Live os) first (record { sort = Definition; bytes = bytes; line = line } ∷ more) s s (fault_at kind line word s)
+      (resumed_refused rules os first bytes line more s kind word e)

@@ -1,0 +1,22 @@
+use Rattle.std.proofs.Common.{◌≡◌, ◌∙◌, ℕ, ◌-◌, List, ◌∷◌, sym, ap, take, drop, arith}
+use Rattle.rdlpp_scan.specs.Tokens.{token_of}
+use Rattle.rdlpp_scan.specs.declared.token.Mode.TheVariants.{Plain}
+use Rattle.rdlpp_front.proofs.DirectiveFacts.{named_word}
+use Rattle.rdlpp_front.proofs.FirstBytes.{back_text}
+use Rattle.rdlpp_front.proofs.front.name_front.Goals as goal
+
+pub directive_front-requires : goal.directive_front-requires
+directive_front-requires c =
+    let held = c.args.held.now in
+    let text : take (token_of Plain held).len held ≡ 96 ∷ take (c.args.len - 1) (drop 1 held) =
+    back_text held c.requires.backquote c.requires.kind
+    ∙ ap (λ (n : ℕ). 96 ∷ take (n - 1) (drop 1 held)) (sym c.requires.whole) in
+    record {
+      some = omega (arith, c.requires.some, c.requires.inside);
+      inside = c.requires.inside;
+      word = record {
+        kind = c.requires.kind;
+        word = text ∙ named_word (take (c.args.len - 1) (drop 1 held)) c.in-Some.directive (sym c.reserved.ensures.value ∙ c.in-Some.is);
+      };
+      whole = c.requires.whole;
+    }

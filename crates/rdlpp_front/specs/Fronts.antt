@@ -1,0 +1,102 @@
+-- What the held bytes of a source begin with.
+-- A definition that names no source is this project's own.
+use Rattle.std.specs.Prelude.{◌≡◌, ℕ, ◌+◌, ◌-◌, ◌<◌, Bool, true, false, List, length, take, drop, codes, Option, None, Some}
+use Rattle.rdlpp_scan.specs.declared.token.Mode.{Mode}
+use Rattle.rdlpp_scan.specs.declared.token.Mode.TheVariants.{Plain}
+use Rattle.rdlpp_scan.specs.declared.token.Kind.{Kind}
+use Rattle.rdlpp_scan.specs.declared.token.Kind.TheVariants.{Back, BareBackquote, BlockComment, LineComment, Perl, Str}
+use Rattle.rdlpp_scan.specs.declared.token.Directive.{Directive}
+use Rattle.rdlpp_scan.specs.declared.token.Directive.TheVariants as directive
+use Rattle.rdlpp_scan.specs.Tokens.{token_of, plain_len}
+use Rattle.rdlpp_scan.specs.Stage.{is_reserved, is_unbuilt}
+use Rattle.rdlpp_meaning.specs.declared.fault.FaultKind.{FaultKind}
+use Rattle.rdlpp_meaning.specs.declared.fault.FaultKind.TheVariants as fault
+use Rattle.rdlpp_read.specs.Arguments.{NameGiven, NoName}
+use Rattle.rdlpp_front.specs.declared.front.Argument.{Argument}
+use Rattle.rdlpp_front.specs.declared.front.Front.{Front}
+use Rattle.rdlpp_front.specs.declared.front.Front.TheVariants.{Text, Usage, Define, Undef, Refused}
+
+-- a kind of tokens that are copied, and may be copied in parts: strings and comments
+unfoldable pub is_text_kind : Kind → Bool
+is_text_kind Str = true
+is_text_kind LineComment = true
+is_text_kind BlockComment = true
+is_text_kind _ = false
+
+-- text that is copied, and the mode behind it: ordinary text, or a string or a comment, or the part of one that is held
+pub data IsText (mode : Mode) (held : List ℕ) (len : ℕ) (next : Mode) : Type 0 where
+  AtOrdinary : mode ≡ Plain → next ≡ Plain → 0 < len → len ≡ plain_len held → IsText mode held len next
+  AtToken : is_text_kind (token_of mode held).kind ≡ true → next ≡ (token_of mode held).next_mode → len ≡ (token_of mode held).len → IsText mode held len next
+
+-- a backquote and a name that isn't reserved
+pub record IsUsage (held : List ℕ) (len : ℕ) : Type 0 where
+  pub kind : (token_of Plain held).kind ≡ Back
+  pub whole : len ≡ (token_of Plain held).len
+  pub free : is_reserved (take (len - 1) (drop 1 held)) ≡ false
+
+-- the name in a usage of so many bytes
+abbrev pub usage_name : List ℕ → ℕ → List ℕ
+usage_name held len = take (len - 1) (drop 1 held)
+
+-- the word of a directive, with its backquote (IEEE 1364-2001, clause on compiler directives)
+abbrev pub word_of : Directive → List ℕ
+word_of directive.Define = codes "`define"
+word_of directive.Undef = codes "`undef"
+word_of directive.Ifdef = codes "`ifdef"
+word_of directive.Ifndef = codes "`ifndef"
+word_of directive.Elsif = codes "`elsif"
+word_of directive.Else = codes "`else"
+word_of directive.Endif = codes "`endif"
+word_of directive.Include = codes "`include"
+word_of directive.Line = codes "`line"
+
+-- the word of a directive
+pub record IsDirective (d : Directive) (held : List ℕ) : Type 0 where
+  pub kind : (token_of Plain held).kind ≡ Back
+  pub word : take (token_of Plain held).len held ≡ word_of d
+
+-- behind the word of a directive, which has so many bytes, a name stands from a place up to another
+pub record NameBehind (word_len : ℕ) (held : List ℕ) (start stop : ℕ) : Type 0 where
+  pub from : ℕ
+  pub to : ℕ
+  pub given : NameGiven (drop word_len held) from to
+  pub starts : start ≡ word_len + from
+  pub stops : stop ≡ word_len + to
+
+-- the name behind the word of a directive, if one stands there
+abbrev pub IsNameBehind : ℕ → List ℕ → Option Argument → Type 0
+IsNameBehind word_len held None = NoName (drop word_len held)
+IsNameBehind word_len held (Some a) = NameBehind word_len held a.start a.stop
+
+-- a directive with its name, which stands from a place up to another (IEEE 1364-2001, compiler directives)
+pub record HasName (d : Directive) (held : List ℕ) (start stop : ℕ) : Type 0 where
+  pub word : IsDirective d held
+  pub name : NameBehind (length (word_of d)) held start stop
+
+-- a directive behind which no name stands
+pub record LacksName (d : Directive) (held : List ℕ) : Type 0 where
+  pub word : IsDirective d held
+  pub none : NoName (drop (length (word_of d)) held)
+
+-- a directive that wants a name, and the name that it is given (IEEE 1364-2001, compiler directives)
+abbrev pub IsNamed : Directive → List ℕ → Option Argument → Type 0
+IsNamed d held None = LacksName d held
+IsNamed d held (Some a) = HasName d held a.start a.stop
+
+-- what a directive is given
+abbrev pub argument_name : List ℕ → ℕ → ℕ → List ℕ
+argument_name held start stop = take (stop - start) (drop start held)
+
+-- what ends the output
+pub data IsRefused (mode : Mode) (held : List ℕ) : FaultKind → Type 0 where
+  AtPerl : (token_of mode held).kind ≡ Perl → IsRefused mode held fault.EmbeddedPerl
+  AtBare : mode ≡ Plain → (token_of Plain held).kind ≡ BareBackquote → IsRefused mode held fault.BareBackquote
+  AtUnbuilt : mode ≡ Plain → is_unbuilt held ≡ true → IsRefused mode held fault.Unbuilt
+
+-- what held bytes begin with, in a mode
+abbrev pub IsFront : Mode → List ℕ → Front → Type 0
+IsFront mode held (Text len next) = IsText mode held len next
+IsFront mode held (Usage len) = (mode ≡ Plain) × IsUsage held len
+IsFront mode held Define = (mode ≡ Plain) × IsDirective directive.Define held
+IsFront mode held (Undef given) = (mode ≡ Plain) × IsNamed directive.Undef held given
+IsFront mode held (Refused kind) = IsRefused mode held kind

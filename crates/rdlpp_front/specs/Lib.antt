@@ -1,0 +1,3 @@
+pub mod Names
+pub mod Fronts
+pub mod SourceLeft

@@ -1,0 +1,138 @@
+// What the held bytes of a source begin with.
+ghost use Rattle.std.specs.Prelude.{◌≡◌, ◌≢◌, ◌<◌, ◌≤◌, length, slice_index, true};
+ghost use Rattle.rdlpp_scan.specs.Tokens.{stops_plain_text, token_of};
+ghost use Rattle.rdlpp_scan.specs.declared.token.Kind.TheVariants.{Back};
+ghost use Rattle.rdlpp_scan.specs.declared.token.Mode.TheVariants.{Plain};
+ghost use Rattle.rdlpp_front.specs.Fronts.{IsDirective, IsFront, IsNameBehind};
+
+use rdlpp_meaning::FaultKind;
+use rdlpp_read::given_name;
+use rdlpp_scan::{Directive, Kind, Mode, first_token, plain_text_len, reserved};
+
+/// Where what a directive is given stands in held bytes that begin with the directive.
+#[derive(Clone, Copy, Debug, PartialEq, Eq)]
+pub struct Argument {
+    /// The place of its first byte.
+    pub start: usize,
+    /// The place behind its last byte, and behind the directive.
+    pub stop: usize,
+}
+
+/// What the held bytes of a source begin with.
+#[derive(Clone, Copy, Debug, PartialEq, Eq)]
+pub enum Front {
+    /// So many bytes that are copied, and the mode behind them: ordinary text, or a string or a
+    /// comment, or the part of one that is held.
+    Text(usize, Mode),
+    /// A backquote and a name that isn't reserved, of so many bytes together.
+    Usage(usize),
+    /// A `define`, whose logical line may not all be held yet.
+    Define,
+    /// An `undef`, and the name that it is given, where one stands behind it on its line.
+    Undef(Option<Argument>),
+    /// What ends the output.
+    Refused(FaultKind),
+}
+
+/// What held bytes begin with that stand in a mode: `held` is what is held of a source and not used.
+///
+/// There must be such bytes, and they end at a line end or where the text ends.
+///
+/// Costs time linear in the bytes of the answer and of what a directive is given.
+///
+/// # Rules
+///
+/// IEEE 1364-2001, compiler directives and macros; that `<%`, a backquote without a name, and at
+/// this stage of the project a directive that isn't built end the output is this project's profile.
+pub fn front_of(mode: Mode, held: &[u8]) -> Front
+    requires { 0 < length held.now }
+    ensures { IsFront mode held.now result }
+{
+    match mode {
+        Mode::Plain => plain_front(held),
+        _ => token_front(mode, held),
+    }
+}
+
+// What held bytes in plain text begin with.
+fn plain_front(held: &[u8]) -> Front
+    requires { 0 < length held.now }
+    ensures { IsFront Plain held.now result }
+{
+    let len = plain_text_len(held);
+    if len > 0 {
+        return Front::Text(len, Mode::Plain);
+    }
+    match held[0] {
+        b'`' => backquote_front(held),
+        _ => token_front(Mode::Plain, held),
+    }
+}
+
+// What held bytes begin with that begin with a string, a comment or `<%`.
+fn token_front(mode: Mode, held: &[u8]) -> Front
+    requires some { 0 < length held.now }
+    requires stops { mode ≡ Plain → (stops_plain_text held.now ≡ true) × (slice_index held.now 0 ≢ 96) }
+    ensures { IsFront mode held.now result }
+{
+    let token = first_token(mode, held);
+    match token.kind {
+        Kind::Perl => Front::Refused(FaultKind::EmbeddedPerl),
+        _ => Front::Text(token.len, token.next_mode),
+    }
+}
+
+// What held bytes begin with that begin with a backquote.
+fn backquote_front(held: &[u8]) -> Front
+    requires some { 0 < length held.now }
+    requires backquote { slice_index held.now 0 ≡ 96 }
+    ensures { IsFront Plain held.now result }
+{
+    let token = first_token(Mode::Plain, held);
+    match token.kind {
+        Kind::Back => name_front(held, token.len),
+        _ => Front::Refused(FaultKind::BareBackquote),
+    }
+}
+
+// What held bytes begin with that begin with a backquote and a name, of so many bytes together.
+fn name_front(held: &[u8], len: usize) -> Front
+    requires some { 0 < len }
+    requires inside { len ≤ length held.now }
+    requires backquote { slice_index held.now 0 ≡ 96 }
+    requires kind { (token_of Plain held.now).kind ≡ Back }
+    requires whole { len ≡ (token_of Plain held.now).len }
+    ensures { IsFront Plain held.now result }
+{
+    match reserved(&held[1..len]) {
+        None => Front::Usage(len),
+        Some(directive) => directive_front(held, len, directive),
+    }
+}
+
+// What held bytes begin with that begin with the word of a directive, of so many bytes.
+fn directive_front(held: &[u8], len: usize, directive: Directive) -> Front
+    requires some { 0 < length held.now }
+    requires inside { len ≤ length held.now }
+    requires word { IsDirective directive held.now }
+    requires whole { len ≡ (token_of Plain held.now).len }
+    ensures { IsFront Plain held.now result }
+{
+    match directive {
+        Directive::Define => Front::Define,
+        Directive::Undef => Front::Undef(name_behind(held, len)),
+        _ => Front::Refused(FaultKind::Unbuilt),
+    }
+}
+
+// The name that stands behind a directive's word, which has so many bytes.
+fn name_behind(held: &[u8], len: usize) -> Option<Argument>
+    requires { len ≤ length held.now }
+    ensures { IsNameBehind len held.now result }
+{
+    let given = given_name(&held[len..])?;
+    Some(Argument {
+        start: len + given.start,
+        stop: len + given.stop,
+    })
+}

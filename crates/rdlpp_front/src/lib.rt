@@ -1,0 +1,8 @@
+//! What the held bytes of the innermost open source begin with, and what each front does to what remains.
+#![tactic(auto)]
+
+mod front;
+#[cfg(test)]
+mod tests;
+
+pub use front::{Argument, Front, front_of};
