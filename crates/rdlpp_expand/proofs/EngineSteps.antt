@@ -205,7 +205,7 @@ module _ {S R : Type 0} (g : Ghosts S R) (old new : EngineView S R) (free : old.
         ends = λ e. (none, closed);
         failed = λ met. absurd (let no : false ≡ true = rw free at met in cc);
         call = rw free call;
-        tells = λ _ t. (rw (free, open_) (ap outcome ((text t).text) ∙ outcome-leaves (gives []) (text t).last), rw (none, closed) refl);
+        tells = λ _ t. (left_open g.unread old free open_ ∙ (ap outcome ((text t).text) ∙ outcome-leaves (gives []) (text t).last), rw (none, closed) refl);
         text = λ _ _ _ t. text t;
         falls = λ bytes e. absurd (cc);
         lends = λ bytes e. absurd (cc);
@@ -229,9 +229,9 @@ pub record IsSilent {S R : Type 0} (g : Ghosts S R) (old mid : EngineView S R) :
 
 -- what a step says of the fault that is kept, where it answers none: none was kept
 pub free_before : {S R : Type 0} (g : Ghosts S R) (left : EngineView S R → Outcome) (spent : Result (Option (List ℕ)) Told → ℕ) (most : ℕ → List ℕ → List ℕ) (goes_on : Phase → Bool) (old new : EngineView S R) (kept : Option Told) (lent : Option (List ℕ)) →
-    old.kept ≡ kept → StepsOver g left spent old new (Ok lent) → kept ≡ None
-free_before g left spent old new None lent e s = refl
-free_before g left spent old new (Some f) lent e s = cc ((s.kept f e).0)
+    old.kept ≡ kept → StepsOver g left spent most goes_on old new (Ok lent) → kept ≡ None
+free_before g left spent most goes_on old new None lent e s = refl
+free_before g left spent most goes_on old new (Some f) lent e s = cc ((s.kept f e).0)
 
 -- whether a fault was met, by the fault that was kept before
 met_none : (test : FaultKind → Bool) (a b : Option Told) (answer : Result (Option (List ℕ)) Told) → a ≡ None → b ≡ None → has_met test a answer ≡ has_met test b answer

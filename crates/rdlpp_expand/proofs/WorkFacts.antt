@@ -18,7 +18,10 @@ power_some (suc n) = let less = power_some n in rw pow-suc (omega arith)
 
 -- a power is at least its base
 power_least : (n : ℕ) → 2 ^ 31 ≤ (2 ^ 31) ^ suc n
-power_least n = let some = power_some n in rw pow-suc (omega arith)
+power_least n =
+    let some = power_some n in
+    let next : (2 ^ 31) ^ suc n ≡ (2 ^ 31) ^ n * 2 ^ 31 = pow-suc (2 ^ 31) n in
+    omega arith
 
 -- a number with a smaller digit behind the same ones
 digits_fall : (before : List ℕ) (a b : ℕ) (t u : List ℕ) → length t ≡ length u → a < b → number_of t < (2 ^ 31) ^ length t
@@ -45,11 +48,11 @@ unfolding number_of
 lower_digits n m owed = zeros_first n (replicate m 0 ++ owed ∷ []) ∙ (zeros_first m (owed ∷ []) ∙ omega arith)
 
 -- they are within their places
-lower_within : (n m owed : ℕ) → owed < 2 ^ 31 → number_of (replicate n 0 ++ (replicate m 0 ++ owed ∷ [])) < (2 ^ 31) ^ length (replicate n 0 ++ (replicate m 0 ++ owed ∷ []))
+lower_within : (n m owed : ℕ) → owed < 2 ^ 31 → number_of (replicate n 0 ++ (replicate m 0 ++ owed ∷ [])) < (2 ^ 31) ^ length {A = ℕ} (replicate n 0 ++ (replicate m 0 ++ owed ∷ []))
 lower_within n m owed h =
-    let long : length (replicate n 0 ++ (replicate m 0 ++ owed ∷ [])) ≡ suc (length (replicate n 0) + length (replicate m 0)) =
-    length-append (replicate n 0) (replicate m 0 ++ owed ∷ []) ∙ (ap (λ k. length (replicate n 0) + k) (length-append (replicate m 0) (owed ∷ [])) ∙ omega arith) in
-    let least = power_least (length (replicate n 0) + length (replicate m 0)) in
+    let long : length {A = ℕ} (replicate n 0 ++ (replicate m 0 ++ owed ∷ [])) ≡ suc (length {A = ℕ} (replicate n 0) + length {A = ℕ} (replicate m 0)) =
+    length-append (replicate n 0) (replicate m 0 ++ owed ∷ []) ∙ (ap (λ k. length {A = ℕ} (replicate n 0) + k) (length-append (replicate m 0) (owed ∷ [])) ∙ omega arith) in
+    let least = power_least (length {A = ℕ} (replicate n 0) + length {A = ℕ} (replicate m 0)) in
     rw (lower_digits n m owed, long) (omega arith)
 
 -- the digits of the open sources, the innermost of which comes last
@@ -75,7 +78,7 @@ work_less includes depth owed owing a b before less few =
     let low : ℕ → List ℕ = λ k. replicate n 0 ++ (replicate m 0 ++ k ∷ []) in
     let long : length (low owing) ≡ length (low owed) =
     length-append (replicate n 0) (replicate m 0 ++ owing ∷ [])
-    ∙ (ap (λ k. length (replicate n 0) + k) (length-append (replicate m 0) (owing ∷ []) ∙ sym (length-append (replicate m 0) (owed ∷ [])))
+    ∙ (ap (λ k. length {A = ℕ} (replicate n 0) + k) (length-append (replicate m 0) (owing ∷ []) ∙ sym (length-append (replicate m 0) (owed ∷ [])))
     ∙ sym (length-append (replicate n 0) (replicate m 0 ++ owed ∷ []))) in
     rw (work_by includes depth owing a before, work_by includes depth owed b before, places)
     (digits_fall before a b (low owing) (low owed) long less (lower_within n m owing few))

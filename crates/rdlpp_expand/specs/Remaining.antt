@@ -64,7 +64,7 @@ waiting_around limits rules unread f (around ∷ outer) = record {
 
 -- what remains of the open sources, the innermost first, from macros (this project's profile)
 unfoldable pub nest_left : {R : Type 0} → Limits → Rules → (R → List ℕ) → List Macro → List (File R) → Passage
-nest_left limits rules unread macros [] = leaves (gives []) (nest_state limits macros [])
+nest_left {R} limits rules unread macros [] = leaves (gives []) (nest_state {R = R} limits macros [])
 nest_left limits rules unread macros (f ∷ outer) =
     source_left rules is_unbuilt unread (waiting_around limits rules unread f outer) (Live []) f (nest_state limits macros (f ∷ outer))
 

@@ -274,7 +274,7 @@ impl<S: Sources> Engine<S> {
         ensures place { IsPlaced self.new result }
         ensures walks { IsBounded self.new → Walks S.Sources self.old self.new (lent_answer self.new result) }
     {
-        let name = &self.files.file().buffer.held()[1..len];
+        let name = name_of(self.files.file().buffer.held(), len);
         match self.table.find(name) {
             None => {
                 let word = word_of(name);
@@ -313,7 +313,10 @@ impl<S: Sources> Engine<S> {
         ensures walks { IsBounded self.new → Walks S.Sources self.old self.new (step_answer self.new result) }
     {
         match self.hold_line() {
-            LogicalLine::Whole(len) => self.read_define(len),
+            LogicalLine::Whole(len) => {
+                self.facts();
+                self.read_define(len)
+            }
             LogicalLine::TooLong => Some(self.refuse(FaultKind::LineTooLong, ArrayString::new())),
             LogicalLine::SourceLong => Some(self.refuse(FaultKind::SourceTooLong, ArrayString::new())),
             LogicalLine::Failed => Some(self.refuse_read()),
@@ -322,7 +325,7 @@ impl<S: Sources> Engine<S> {
 
     // Reads the `define` whose logical line has `len` bytes, and owes the LF bytes of that line.
     fn read_define(&mut self, len: usize) -> Option<Place>
-        requires open { 0 < length self.old.files.nest }
+        requires nest { 0 < length self.old.files.nest }
         requires inside { len ≤ length (held_of (inner_buffer self.old.files.nest)) }
         requires line { IfSome (logical_len 0 0 (drop 7 (take len (held_of (inner_buffer self.old.files.nest))))) (λ n. n ≡ length (drop 7 (take len (held_of (inner_buffer self.old.files.nest))))) }
         requires nothing { self.old.owed ≡ nothing_owed }
@@ -384,6 +387,7 @@ impl<S: Sources> Engine<S> {
         requires some { 0 < length self.old.files.nest }
         ensures { Ends self.old self.new result }
     {
+        self.files.facts();
         let buffer = &self.files.file().buffer;
         let opened = buffer.open_token_line();
         match buffer.mode() {
@@ -568,6 +572,15 @@ impl<S: Sources> Engine<S> {
     {
         self.files.facts();
     }
+}
+
+// The name in a usage of `len` bytes.
+fn name_of(held: &[u8], len: usize) -> &[u8]
+    requires some { 0 < len }
+    requires inside { len ≤ length held.now }
+    ensures { result.now ≡ usage_name held.now len }
+{
+    &held[1..len]
 }
 
 // Whether usages of a macro are built.

@@ -75,6 +75,7 @@ impl<S: Sources> Engine<S> {
     {
         let outcome = self.table.set(name, text);
         let _len = self.table.len();
+        self.facts();
         outcome
     }
 
@@ -92,12 +93,14 @@ impl<S: Sources> Engine<S> {
         requires { self.old.phase ≡ Phase.Fresh }
         ensures { Starts S.Sources self.old self.new path.now (start_fault result) }
     {
+        self.facts();
         if self.origins {
             return Err(self.refuse_main(FaultKind::Unbuilt, path));
         }
         match self.sources.top(path) {
             Ok(found) => {
                 self.open_main(found);
+                self.facts();
                 Ok(())
             }
             Err(fault) => Err(self.refuse_main(source_kind(fault), path)),

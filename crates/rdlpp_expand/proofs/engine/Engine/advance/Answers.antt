@@ -1,4 +1,4 @@
-use Rattle.rdlpp_expand.proofs.Cuts.{cut_body, cut_end, cut_kept, cut_source}
+use Rattle.rdlpp_expand.proofs.Cuts.{cut_body, cut_end, cut_kept, cut_owed, cut_source, owed_placed}
 use Rattle.rdlpp_expand.proofs.engine.Engine.advance.Goals as goal
 
 pub returns-in-Source-clause-steps : goal.returns-in-Source-clause-steps
@@ -10,6 +10,15 @@ pub returns-in-Body-clause-steps : goal.returns-in-Body-clause-steps
 returns-in-Body-clause-steps g c =
     cut_body g.S.Sources c.args.self.now c.walk.new.self c.spend-len-in-Body.new.self c.in-Body.id c.in-Body.start c.in-Body.end c.spend-len-in-Body.result
     c.in-Body.ensures.walks c.in-Body.ensures.place (record { fits = c.spend-len-in-Body.ensures.fits; passes = c.spend-len-in-Body.ensures.passes })
+
+pub returns-in-Owed-clause-steps : goal.returns-in-Owed-clause-steps
+returns-in-Owed-clause-steps g c =
+    cut_owed g.S.Sources c.args.self.now c.walk.new.self c.spend.new.self c.in-Owed.len c.spend.result
+    c.in-Owed.ensures.walks (record { fits = c.spend.ensures.fits; passes = c.spend.ensures.passes })
+
+pub returns-in-Owed-clause-place : goal.returns-in-Owed-clause-place
+returns-in-Owed-clause-place g c =
+    owed_placed c.walk.new.self c.spend.new.self c.in-Owed.len c.spend.result c.in-Owed.ensures.place (record { fits = c.spend.ensures.fits; passes = c.spend.ensures.passes })
 
 pub returns-in-End-clause-steps : goal.returns-in-End-clause-steps
 returns-in-End-clause-steps g c = cut_end g.S.Sources c.args.self.now c.walk.new.self c.in-End.ensures.walks
