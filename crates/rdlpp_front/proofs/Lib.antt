@@ -6,7 +6,3 @@ pub mod SourcePassages
 pub mod TextLeft
 pub mod UsageLeft
 pub mod DefineLeft
-pub mod NamedDirectives
-pub mod UndefLeft
-pub mod EndLeft
-pub mod Insides
