@@ -1,5 +1,5 @@
 # The few commands that a reader of this repository needs. `make help` lists them.
-.PHONY: help build run test check install fmt bench definitions
+.PHONY: help build run test check fuzz install fmt bench definitions
 
 # Where `make install` puts the program and its manual page, below DESTDIR where that is given.
 PREFIX ?= /usr/local
@@ -22,6 +22,10 @@ check: ## build the program and run it over files, streams, examples and refused
 	@$(MAKE) --silent build
 	@checks/all
 
+fuzz: ## run the program over random sources: SEED=1 CASES=2000, or other numbers
+	@$(MAKE) --silent build
+	@checks/random $(or $(SEED),1) $(or $(CASES),2000)
+
 install: ## build the program and put it, with its manual page, below PREFIX (/usr/local)
 	@$(MAKE) --silent build
 	install -D -m 755 out/rdlpp '$(DESTDIR)$(PREFIX)/bin/rdlpp'
@@ -30,7 +34,7 @@ install: ## build the program and put it, with its manual page, below PREFIX (/u
 fmt: ## lay out every file
 	@for crate in crates/*/; do (cd $$crate && rt fmt); done
 
-bench: ## build the programs, compare speed and memory with cat and cpp, and the scanner with a search for LF
+bench: ## build the programs, compare speed and memory with cat, cpp, ivlpp and m4, and the scanner with a search for LF
 	@$(MAKE) --silent build
 	@bench/compare out/rdlpp
 	@cd crates/rdlpp_bench && rt run -- lines 0 < /dev/null > /dev/null

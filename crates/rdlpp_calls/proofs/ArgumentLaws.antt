@@ -1,5 +1,5 @@
 -- The arguments that are found in a text are those of the call of the definition.
-use Rattle.std.proofs.Common.{◌≡◌, ◌≤◌, ◌<◌, ℕ, zero, suc, ◌+◌, ◌-◌, Bool, true, false, cond, List, [], ◌∷◌, ◌++◌, length, take, drop, filter, All, refl, sym, ap, ◌∙◌, subst, arith, Option, Some, None}
+use Rattle.std.proofs.Common.{◌≡◌, ◌≤◌, ◌<◌, ℕ, zero, suc, ◌+◌, ◌-◌, Bool, true, cond, List, [], ◌∷◌, ◌++◌, length, take, drop, filter, All, refl, sym, ap, ◌∙◌, subst, arith, Some, None}
 use Rattle.std.proofs.lemmas.List.{drop-drop, length-drop}
 use Rattle.std.proofs.lemmas.List.Elements.{All-nil, All-cons, All-head, All-tail, filter_passes}
 use Rattle.rdlpp_scan.specs.declared.token.Mode.TheVariants.{Plain}
@@ -92,14 +92,14 @@ passing_refused zero f = refl
 passing_refused (suc n) f = ap scan_passing (passing_refused n f)
 
 -- where all things pass a test, none is filtered out
-filter_all : {A : Type 0} (p : A → Bool) (xs : List A) → All (λ x. p x ≡ true) xs → filter p xs ≡ xs
+pub filter_all : {A : Type 0} (p : A → Bool) (xs : List A) → All (λ x. p x ≡ true) xs → filter p xs ≡ xs
 filter_all p [] all = refl
 filter_all {A = A} p (x ∷ xs) all =
     let P : A → Type 0 = λ y. p y ≡ true in
     ap (λ b. cond b (x ∷ filter p xs) (filter p xs)) (All-head P x xs all) ∙ ap (λ (ys : List A). x ∷ ys) (filter_all p xs (All-tail P x xs all))
 
 -- what holds of all things holds of those in front
-front_all : {A : Type 0} (P : A → Type 0) (xs ys : List A) → All P (xs ++ ys) → All P xs
+pub front_all : {A : Type 0} (P : A → Type 0) (xs ys : List A) → All P (xs ++ ys) → All P xs
 front_all P [] ys all = All-nil P
 front_all P (x ∷ xs) ys all = All-cons P x xs (All-head P x (xs ++ ys) all) (front_all P xs ys (All-tail P x (xs ++ ys) all))
 

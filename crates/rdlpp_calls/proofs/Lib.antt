@@ -4,3 +4,8 @@ pub mod CallLaws
 pub mod ArgumentLaws
 pub mod Trimming
 pub mod PartLaws
+pub mod BoundParts
+pub mod PartCounts
+pub mod BoundActuals
+pub mod BoundUsages
+pub mod BoundSourceCalls

@@ -2,6 +2,7 @@
 -- A definition that names no source is this project's own.
 use Rattle.std.specs.Prelude.{◌≡◌, ℕ, zero, ◌+◌, ◌-◌, ◌<◌, ◌≤◌, Bool, true, false, nat_lt, List, [], ◌∷◌, length, take, drop, filter, Option, None, Some, Result, Ok, Err, if◌then◌else◌}
 use Rattle.rdlpp_scan.specs.SourceTokens.{SourceToken}
+use Rattle.rdlpp_meaning.specs.declared.fault.FaultKind.{FaultKind}
 use Rattle.rdlpp_meaning.specs.declared.fault.FaultKind.TheVariants.{ArgumentsMissing, ArgumentsOpen}
 use Rattle.rdlpp_meaning.specs.Actuals.{Role, Space, Dropped, Remark, Start, End, Cut, Lacking, call_of, level_behind, is_space, trimmed, token_role}
 use Rattle.rdlpp_meaning.specs.CallScan.{Closed, split, all_parts, call_of_scan, is_kept}
@@ -56,6 +57,11 @@ part_from start at level end (t ∷ ts) =
     if ends_part (token_role t) level then record { from = start; to = end; next = Some (at + length t.bytes) }
     else part_from start (at + length t.bytes) (level_behind (token_role t) level)
     (if is_space (token_role t) then end else at + length t.bytes) ts
+
+-- the fault that a usage is refused for, by what is missing of its call (source: this project's profile)
+unfoldable pub call_fault_kind : CallFault → FaultKind
+call_fault_kind Missing = ArgumentsMissing
+call_fault_kind Unclosed = ArgumentsOpen
 
 -- the arguments of a call in a text: the call is that of the definition, with what is kept of the tokens between its parentheses,
 -- and behind it stand the tokens of the text behind the `)`; in a text without `//` comments, all tokens between the parentheses

@@ -1,2 +1,3 @@
 pub mod CallTokens
 pub mod CallParts
+pub mod BoundCalls

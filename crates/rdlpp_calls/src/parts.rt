@@ -1,9 +1,10 @@
 // The `(` and the `)` of a call in a text, and the parts between them.
 ghost use Rattle.std.specs.Prelude.{◌≡◌, ◌+◌, ◌≤◌, ◌<◌, IfSome, length, drop, nat_lt};
 ghost use Rattle.rdlpp_meaning.specs.Substitution.{body_tokens};
-ghost use Rattle.rdlpp_calls.specs.CallParts.{IsCall, IsNextPart, closer_from, opener_from, part_from, space_from};
+ghost use Rattle.rdlpp_calls.specs.CallParts.{IsCall, IsNextPart, call_fault_kind, closer_from, opener_from, part_from, space_from};
 
 use crate::tokens::{CallRole, ends_call, ends_part, is_space, level_behind, token_in_call};
+use rdlpp_meaning::FaultKind;
 use rdlpp_scan::Mode;
 
 /// The arguments of a call in a text: what stands between its parentheses.
@@ -22,6 +23,19 @@ pub enum CallFault {
     Missing,
     /// No `)` closes the call.
     Unclosed,
+}
+
+impl CallFault {
+    /// The fault that ends the output.
+    #[tactic(auto, unfolding(crate::specs::CallParts::call_fault_kind))]
+    pub fn kind(&self) -> FaultKind
+        ensures { result ≡ call_fault_kind self.now }
+    {
+        match self {
+            CallFault::Missing => FaultKind::ArgumentsMissing,
+            CallFault::Unclosed => FaultKind::ArgumentsOpen,
+        }
+    }
 }
 
 /// The next part of a call.

@@ -1,6 +1,6 @@
 -- What a `define` in front does to what remains, once its logical line is held or broken; and what stands behind its word.
-use Rattle.std.proofs.Common.{◌≡◌, ◌⊎◌, ℕ, suc, ◌+◌, ◌≤◌, ◌<◌, ◌==◌, eqb, Bool, true, false, not, cond, ◌&&◌, List, [], ◌∷◌, ◌++◌, length, take, drop, Option, None, Some, inl, inr, refl, sym, ap, ◌∙◌, subst, arith}
-use Rattle.std.specs.Prelude.{IfSome, codes, bytes_eq, replicate}
+use Rattle.std.proofs.Common.{◌≡◌, ℕ, suc, ◌+◌, ◌≤◌, ◌<◌, ◌==◌, Bool, true, false, not, cond, ◌&&◌, List, [], ◌∷◌, ◌++◌, length, take, drop, Option, None, Some, inl, inr, refl, sym, ap, ◌∙◌, subst, arith}
+use Rattle.std.specs.Prelude.{IfSome, codes, replicate}
 use Rattle.std.specs.Option.{option_map}
 use Rattle.std.proofs.lemmas.List.{append_assoc, drop-take, length-append, length-take-le, take-append-drop}
 use Rattle.std.proofs.Math.Seq.{take-length}
@@ -9,8 +9,7 @@ use Rattle.rdlpp_scan.specs.declared.token.Mode.TheVariants.{Plain}
 use Rattle.rdlpp_scan.specs.Bytes.{is_line_end}
 use Rattle.rdlpp_scan.specs.Defines.{HoldsDefine}
 use Rattle.rdlpp_scan.specs.Front.{DefineCut, DefineLong}
-use Rattle.rdlpp_scan.specs.SourceTokens.{SourceToken, Definition, is_continued, line_ends, logical_len}
-use Rattle.rdlpp_scan.specs.Tokens.{token_of}
+use Rattle.rdlpp_scan.specs.SourceTokens.{SourceToken, is_continued, line_ends, logical_len}
 use Rattle.rdlpp_scan.proofs.DefineSteps.{logical_len-within}
 use Rattle.rdlpp_scan.proofs.LineLaws.{some_suc}
 use Rattle.rdlpp_scan.proofs.Seams.{line_end-ten}
@@ -21,7 +20,7 @@ use Rattle.rdlpp_meaning.specs.declared.fault.FaultKind.TheVariants.{LineTooLong
 use Rattle.rdlpp_meaning.specs.Outcome.{fails}
 use Rattle.rdlpp_meaning.specs.State.{Accepted, Refused, Rules, State, breach_kind, fault_at}
 use Rattle.rdlpp_meaning.specs.Parts.{line_ends_of, only_blanks}
-use Rattle.rdlpp_meaning.specs.Meaning.{Passage, Progress, behind_bytes, leaves}
+use Rattle.rdlpp_meaning.specs.Meaning.{Progress, behind_bytes, leaves}
 use Rattle.rdlpp_meaning.specs.Resumed.{Live}
 use Rattle.rdlpp_meaning.specs.Opened.{Waiting, all_resumed}
 use Rattle.rdlpp_read.specs.declared.buffer.extending.LogicalLine.TheVariants.{Whole, TooLong, SourceLong}
@@ -49,7 +48,7 @@ holds_define unbuilt unread f holds is built = record {
 }
 
 -- the same buffer, by what its line counts
-consumed_used : {R : Type 0} (b : BufferView R) (len lines : ℕ) → lines ≡ line_ends (take len (held_of b)) → consumed b len ≡ used_buffer b len lines
+pub consumed_used : {R : Type 0} (b : BufferView R) (len lines : ℕ) → lines ≡ line_ends (take len (held_of b)) → consumed b len ≡ used_buffer b len lines
 unfolding consumed
 consumed_used b len lines e = ap (λ (n : ℕ). used_buffer b len n) (sym e)
 
@@ -204,7 +203,7 @@ counted true k n e h = omega arith
 counted false k n e h = cc
 
 -- and one that isn't
-not_counted : (t : Bool) (k n : ℕ) → t ≡ false → k ≡ cond t 1 0 + n → k ≡ n
+pub not_counted : (t : Bool) (k n : ℕ) → t ≡ false → k ≡ cond t 1 0 + n → k ≡ n
 not_counted true k n e h = cc
 not_counted false k n e h = omega arith
 

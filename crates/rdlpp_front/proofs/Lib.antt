@@ -3,6 +3,17 @@ pub mod DirectiveFacts
 pub mod Stages
 pub mod SourceFacts
 pub mod SourcePassages
+pub mod WrittenTexts
 pub mod TextLeft
 pub mod UsageLeft
 pub mod DefineLeft
+pub mod NamedDirectives
+pub mod EndLeft
+pub mod Insides
+pub mod DirectiveMoves
+pub mod UndefLeft
+pub mod ConditionalLeft
+pub mod LineLeft
+pub mod SkippedWords
+pub mod SkippedTokens
+pub mod IncludeLeft

@@ -1,5 +1,5 @@
 -- A directive that wants a name in front of what remains: its token, the name that it is given, and what remains behind that.
-use Rattle.std.proofs.Common.{◌≡◌, ◌⊎◌, ℕ, ◌+◌, ◌-◌, ◌<◌, ◌≤◌, Bool, true, false, List, [], ◌∷◌, ◌++◌, Some, None, length, take, drop, refl, sym, ap, ◌∙◌, subst, inl, inr, ⊎_elim, arith}
+use Rattle.std.proofs.Common.{◌≡◌, ◌⊎◌, ℕ, ◌+◌, ◌-◌, ◌<◌, Bool, true, false, List, [], ◌∷◌, ◌++◌, Some, length, take, drop, refl, sym, ap, ◌∙◌, subst, inl, inr, ⊎_elim, arith}
 use Rattle.std.specs.Prelude.{bytes_eq, codes}
 use Rattle.std.proofs.Math.Seq.{take-add}
 use Rattle.std.proofs.lemmas.List.{append-nil, drop-drop, take-append-drop}
@@ -22,12 +22,11 @@ use Rattle.rdlpp_scan.proofs.TokenSteps.{is_kept_kind}
 use Rattle.rdlpp_scan.proofs.WholeLines.{EndsLine-drop}
 use Rattle.rdlpp_meaning.specs.State.{Rules, State}
 use Rattle.rdlpp_meaning.specs.Parts.{Argument, argument_of, behind_blanks, behind_directive, command_in_front, command_of, directive_named, directive_of, name_in_front, no_argument, only_blanks, past_blanks}
-use Rattle.rdlpp_meaning.specs.Meaning.{Passage}
 use Rattle.rdlpp_meaning.specs.Resumed.{Place}
 use Rattle.rdlpp_meaning.specs.Opened.{Waiting, all_resumed}
 use Rattle.rdlpp_meaning.proofs.DirectiveWords.{has_own_token}
 use Rattle.rdlpp_meaning.proofs.Undefining.{blank_token, name_token, takes_name, takes_name_at_once, takes_name_behind_blanks, wants_name}
-use Rattle.rdlpp_read.specs.Arguments.{IsLead, Leads, Lacks, NameGiven, NoName}
+use Rattle.rdlpp_read.specs.Arguments.{IsLead, Leads, Lacks}
 use Rattle.rdlpp_read.specs.Buffer.{BufferView, held_of, rest_of, tokens_left}
 use Rattle.rdlpp_front.specs.Fronts.{HasName, IsDirective, LacksName, argument_name, word_of}
 use Rattle.rdlpp_front.specs.SourceLeft.{HoldsFront, IsStage}
@@ -125,12 +124,12 @@ no_blank : (k : Kind) (us : List SourceToken) → FirstToken k us → (k ≡ Bla
 no_blank k us f other = ap (past_blanks name_in_front) f.is ∙ no_blank_by f.first.sort f.first.bytes f.first.line f.more k f.kind other ∙ sym (ap name_in_front f.is)
 
 -- what a directive is given, and what is behind that
-record IsGiven (d : Directive) (ts : List SourceToken) (name text : List ℕ) (behind : List SourceToken) : Type 0 where
+pub record IsGiven (d : Directive) (ts : List SourceToken) (name text : List ℕ) (behind : List SourceToken) : Type 0 where
   pub given : (argument_of d ts).given ≡ Some name
   pub taken : (argument_of d ts).text ≡ text
   pub rest : behind_directive d ts ≡ behind
 
-given_of : (d : Directive) (ts : List SourceToken) (name text : List ℕ) (behind : List SourceToken) (used : ℕ)
+pub given_of : (d : Directive) (ts : List SourceToken) (name text : List ℕ) (behind : List SourceToken) (used : ℕ)
     → argument_of d ts ≡ record { given = Some name; text = text; used = used } → drop used ts ≡ behind → IsGiven d ts name text behind
 given_of d ts name text behind used e h = record {
   given = ap (λ (a : Argument). a.given) e;
@@ -260,7 +259,7 @@ module _ (d : Directive) (held rest : List ℕ) (some : 0 < length held) (ends :
       omega (arith, ap line_ends (take-add n bl held), line_ends-append (take n held) (take bl (drop n held)), word_at_line_ends, lead_line_ends (drop n held) bl space) in
       ended_behind held rest (n + bl) some ends none (sym (drop-drop bl n held) ∙ gone)
 
--- a directive with its name in front: the tokens behind its word, what it takes of them, and what remains behind that
+-- a directive with what it is given in front: the tokens behind its word, what it takes of them, and what remains behind that
 pub record NameInFront {R : Type 0} (d : Directive) (u : List ℕ → Bool) (unread : R → List ℕ) (b : BufferView R) (start stop : ℕ) : Type 0 where
   pub tokens : List SourceToken
   pub all : tokens_left u unread b ≡ word_token d b.line ∷ tokens
@@ -349,11 +348,12 @@ module _ {R : Type 0} (d : Directive) (u : List ℕ → Bool) (unread : R → Li
         behind = at_used n;
       }
 
-  -- what remains behind a directive and its name
-  pub behind_name : (rules : Rules) (ws : List Waiting) (place : Place) (first : Bool) (s : State) (start stop : ℕ) (i : NameInFront d u unread b start stop)
-      → all_resumed rules ws place (only_blanks first (command_in_front d first (word_token d b.line) i.tokens).text) (behind_directive d i.tokens) s
-      ≡ all_resumed rules ws place (only_blanks first (take stop (held_of b))) (tokens_left u unread (used_buffer b stop 0)) s
-  unfolding command_of
-  behind_name rules ws place first s start stop i =
-      ap (λ (z : List ℕ). all_resumed rules ws place (only_blanks first z) (behind_directive d i.tokens) s) i.text
-      ∙ ap (λ (ts : List SourceToken). all_resumed rules ws place (only_blanks first (take stop (held_of b))) ts s) i.behind
+-- what remains behind a directive and what it is given
+pub behind_name : {R : Type 0} (d : Directive) (u : List ℕ → Bool) (unread : R → List ℕ) (b : BufferView R) (rules : Rules) (ws : List Waiting) (place : Place) (first : Bool) (s : State)
+    (start stop : ℕ) (i : NameInFront d u unread b start stop)
+    → all_resumed rules ws place (only_blanks first (command_in_front d first (word_token d b.line) i.tokens).text) (behind_directive d i.tokens) s
+    ≡ all_resumed rules ws place (only_blanks first (take stop (held_of b))) (tokens_left u unread (used_buffer b stop 0)) s
+unfolding command_of
+behind_name d u unread b rules ws place first s start stop i =
+    ap (λ (z : List ℕ). all_resumed rules ws place (only_blanks first z) (behind_directive d i.tokens) s) i.text
+    ∙ ap (λ (ts : List SourceToken). all_resumed rules ws place (only_blanks first (take stop (held_of b))) ts s) i.behind

@@ -1,11 +1,11 @@
 -- An open source where its next bytes are used: what is held, what stands behind it, and the tokens that remain.
-use Rattle.std.proofs.Common.{◌≡◌, ◌⊎◌, ℕ, ◌+◌, ◌-◌, Bool, List, [], ◌++◌, length, take, drop, None, refl, sym, ap, ◌∙◌, subst, inl, inr, append-nil}
+use Rattle.std.proofs.Common.{◌≡◌, ℕ, ◌+◌, Bool, List, take, drop, refl, sym, ap, ◌∙◌, inl, inr, append-nil}
 use Rattle.std.proofs.lemmas.List.{drop-drop}
 use Rattle.rdlpp_scan.specs.declared.token.Mode.{Mode}
 use Rattle.rdlpp_scan.specs.declared.token.Mode.TheVariants.{Plain}
 use Rattle.rdlpp_scan.specs.Lines.{EndsLine}
 use Rattle.rdlpp_scan.specs.Resumed.{opening}
-use Rattle.rdlpp_scan.specs.SourceTokens.{SourceToken, remaining_tokens}
+use Rattle.rdlpp_scan.specs.SourceTokens.{remaining_tokens}
 use Rattle.rdlpp_scan.proofs.RemainingLaws.{remaining-opened}
 use Rattle.rdlpp_read.specs.Buffer.{BufferView, EndsHeld, ahead_of, entered_mode, held_of, rest_of, tokens_left, unread_of}
 

@@ -1,12 +1,7 @@
 -- Stages: the tests of what isn't built, and what such a test spares.
-use Rattle.std.proofs.Common.{◌≡◌, ℕ, ◌<◌, Bool, true, false, List, ◌++◌, length, refl, ap, ◌∙◌}
-use Rattle.rdlpp_scan.specs.declared.token.Kind.{Kind}
-use Rattle.rdlpp_scan.specs.declared.token.Kind.TheVariants.{Back, BareBackquote, Perl}
-use Rattle.rdlpp_scan.specs.declared.token.Mode.TheVariants.{Plain}
+use Rattle.std.proofs.Common.{◌≡◌, ℕ, ◌<◌, Bool, false, List, ◌++◌, length, refl, ◌∙◌}
 use Rattle.rdlpp_scan.specs.Lines.{EndsLine}
-use Rattle.rdlpp_scan.specs.Ordinary.{SparesOrdinary}
-use Rattle.rdlpp_scan.specs.Stage.{begins_directive, is_reserved, is_unbuilt}
-use Rattle.rdlpp_scan.specs.Tokens.{token_of, stops_plain_text}
+use Rattle.rdlpp_scan.specs.Stage.{is_unbuilt}
 use Rattle.rdlpp_scan.proofs.Locality.{is_unbuilt-append}
 use Rattle.rdlpp_scan.proofs.StageLaws.{built_without_directive}
 use Rattle.rdlpp_front.specs.SourceLeft.{IsStage}

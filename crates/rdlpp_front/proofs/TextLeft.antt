@@ -1,5 +1,5 @@
 -- What text that is copied does to what remains: ordinary text, and a string or a comment, or the part of one that is held.
-use Rattle.std.proofs.Common.{◌≡◌, ℕ, ◌+◌, ◌<◌, Bool, true, false, List, [], ◌∷◌, ◌++◌, length, take, drop, All, refl, sym, ap, ◌∙◌, subst, inl, inr, arith}
+use Rattle.std.proofs.Common.{◌≡◌, ℕ, ◌+◌, ◌<◌, Bool, true, false, List, [], ◌∷◌, ◌++◌, length, take, drop, All, refl, sym, ap, ◌∙◌, subst, inl, arith}
 use Rattle.std.specs.List.{list_all}
 use Rattle.std.proofs.lemmas.Bool.{false≢true}
 use Rattle.std.proofs.lemmas.List.{drop_all, length-drop}
@@ -18,28 +18,29 @@ use Rattle.rdlpp_scan.specs.Ordinary.{IsPlainToken, SparesOrdinary, is_plain_kin
 use Rattle.rdlpp_scan.specs.Resumed.{opening, line_with, with_part, onto_tokens}
 use Rattle.rdlpp_scan.specs.SourceTokens.{Sort, SourceToken, Ordinary, Broken, line_ends, remaining_tokens}
 use Rattle.rdlpp_scan.specs.Stage.{begins_directive}
-use Rattle.rdlpp_scan.specs.Tokens.{plain_len, stops_plain_text, token_of}
+use Rattle.rdlpp_scan.specs.Tokens.{plain_len, token_of}
 use Rattle.rdlpp_scan.proofs.OrdinaryLaws.{directive-spares}
 use Rattle.rdlpp_scan.proofs.RemainingLaws.{GoesThrough, remaining-opened, remaining-ordinary}
 use Rattle.rdlpp_scan.proofs.RemainingSteps.{IsBuiltAt, remaining-closed, remaining-open_string, remaining-open_comment, remaining-cut_string}
-use Rattle.rdlpp_scan.proofs.ResumedTokens.{IsOpenKind, Resumes, Copies, Breaks, remaining-in_string, remaining-in_comment, remaining-perl_in_string}
+use Rattle.rdlpp_scan.proofs.ResumedTokens.{Resumes, Copies, Breaks, remaining-in_string, remaining-in_comment, remaining-perl_in_string}
 use Rattle.rdlpp_scan.proofs.Seams.{Seam, Closed, BeforePerl, OpenString, OpenComment, token_of-seam}
 use Rattle.rdlpp_scan.proofs.StageLaws.{directive-string, directive-line_comment, directive-block_comment}
 use Rattle.rdlpp_scan.proofs.TokenSteps.{is_kept_kind}
 use Rattle.rdlpp_meaning.specs.Outcome.{fails}
-use Rattle.rdlpp_meaning.specs.State.{Rules, State, fault_at, breach_kind}
+use Rattle.rdlpp_meaning.specs.State.{Rules, State, breach_kind, fault_at}
 use Rattle.rdlpp_meaning.specs.Expansion.{is_copied}
-use Rattle.rdlpp_meaning.specs.Parts.{only_blanks}
+use Rattle.rdlpp_meaning.specs.Parts.{line_ends_of, only_blanks}
 use Rattle.rdlpp_meaning.specs.Meaning.{Passage, Progress, behind_bytes, leaves}
-use Rattle.rdlpp_meaning.specs.Resumed.{Live}
+use Rattle.rdlpp_meaning.specs.Resumed.{Live, Place, Skipped}
 use Rattle.rdlpp_meaning.specs.Opened.{Waiting, all_resumed}
+use Rattle.rdlpp_meaning.proofs.Passages.{behind_bytes-nil}
 use Rattle.rdlpp_read.specs.declared.files.File.{File}
 use Rattle.rdlpp_read.specs.Buffer.{BufferView, entered_mode, held_of, rest_of, tokens_left}
 use Rattle.rdlpp_read.specs.Files.{consumed_file}
 use Rattle.rdlpp_front.specs.Fronts.{AtOrdinary, AtToken, IsText, is_text_kind}
 use Rattle.rdlpp_front.specs.SourceLeft.{HoldsFront, IsStage, source_left, with_file_buffer}
 use Rattle.rdlpp_front.proofs.SourceFacts.{ends_line, tokens_entered, tokens_plain, used_buffer}
-use Rattle.rdlpp_front.proofs.SourcePassages.{all_resumed_broken, all_resumed_broken_parts, all_resumed_copied, all_resumed_copied_parts, all_resumed_one_copied, all_resumed_only_broken}
+use Rattle.rdlpp_front.proofs.WrittenTexts.{Writes, live_writes, open_copied, skipped_writes, writes_one}
 
 -- strings and comments begin no directive
 text_no_directive : (held : List ℕ) (k : Kind) → (token_of Plain held).kind ≡ k → is_text_kind k ≡ true → begins_directive held ≡ false
@@ -63,12 +64,6 @@ text_copied Str bytes line h = refl
 text_copied LineComment bytes line h = refl
 text_copied BlockComment bytes line h = refl
 text_copied _ bytes line h = absurd (false≢true h)
-
--- so is what may be open
-open_copied : (k : Kind) (bytes : List ℕ) (line : ℕ) → IsOpenKind k → is_copied (record { sort = Ordinary k; bytes = bytes; line = line }) ≡ true
-unfolding is_copied
-open_copied k bytes line (inl is) = rw is refl
-open_copied k bytes line (inr is) = rw is refl
 
 -- a token of ordinary text is copied, by its kind
 copied_kind : (kind : Kind) (bytes : List ℕ) (line : ℕ) → is_plain_kind kind ≡ true → is_copied (record { sort = Ordinary kind; bytes = bytes; line = line }) ≡ true
@@ -94,37 +89,38 @@ record TextHeld (u : List ℕ → Bool) (m : Mode) (held rest : List ℕ) : Type
   pub ends : EndsLine held rest
   pub kind : is_text_kind (token_of m held).kind ≡ true
 
--- a part in front of the rest of a string or of a comment is given before that
-part_move : (rules : Rules) (ws : List Waiting) (os : List Progress) (b : Bool) (s : State) (held : List ℕ) (l : ℕ) (ts : List SourceToken) → Resumes ts
-    → all_resumed rules ws (Live os) b (onto_tokens held l ts) s
-    ≡ behind_bytes held (all_resumed rules ws (Live os) (only_blanks b held) ts s)
+-- a part in front of the rest of a string or of a comment is written before that
+part_move : (rules : Rules) (ws : List Waiting) (place : Place) (writes : List ℕ → List ℕ) (s : State) → Writes rules ws place writes s
+    → (b : Bool) (held : List ℕ) (l : ℕ) (ts : List SourceToken) → Resumes ts
+    → all_resumed rules ws place b (onto_tokens held l ts) s
+    ≡ behind_bytes (writes held) (all_resumed rules ws place (only_blanks b held) ts s)
 unfolding onto_tokens with_part line_with
-part_move rules ws os b s held l ts (Copies k bytes line more open_ is) =
+part_move rules ws place writes s w b held l ts (Copies k bytes line more open_ is) =
     let first = only_blanks b held in
-    let rest = all_resumed rules ws (Live os) (only_blanks first bytes) more s in
-    let one : (n : ℕ) → all_resumed rules ws (Live os) first (record { sort = Ordinary k; bytes = bytes; line = n } ∷ more) s ≡ behind_bytes bytes rest =
-    λ n. all_resumed_one_copied rules ws os first (record { sort = Ordinary k; bytes = bytes; line = n }) more s (open_copied k bytes n open_) in
-    ap (λ (us : List SourceToken). all_resumed rules ws (Live os) b (onto_tokens held l us) s) is
-    ∙ all_resumed_copied_parts rules ws os b k held bytes l more s (open_copied k (held ++ bytes) l open_)
-    ∙ ap (λ (o : Passage). behind_bytes held o) (one l ∙ sym (one line))
-    ∙ sym (ap (λ (us : List SourceToken). behind_bytes held (all_resumed rules ws (Live os) first us s)) is)
-part_move rules ws os b s held l ts (Breaks k bytes line is) =
-    ap (λ (us : List SourceToken). all_resumed rules ws (Live os) b (onto_tokens held l us) s) is
-    ∙ all_resumed_broken_parts rules ws os b k held bytes line [] s
-    ∙ sym (ap (λ (us : List SourceToken). behind_bytes held (all_resumed rules ws (Live os) (only_blanks b held) us s)) is)
+    let rest = all_resumed rules ws place (only_blanks first bytes) more s in
+    let one : (n : ℕ) → all_resumed rules ws place first (record { sort = Ordinary k; bytes = bytes; line = n } ∷ more) s ≡ behind_bytes (writes bytes) rest =
+    λ n. writes_one rules ws place writes s w first (record { sort = Ordinary k; bytes = bytes; line = n }) more (open_copied k bytes n open_) in
+    ap (λ (us : List SourceToken). all_resumed rules ws place b (onto_tokens held l us) s) is
+    ∙ w.parts b k held bytes l more open_
+    ∙ ap (λ (o : Passage). behind_bytes (writes held) o) (one l ∙ sym (one line))
+    ∙ sym (ap (λ (us : List SourceToken). behind_bytes (writes held) (all_resumed rules ws place first us s)) is)
+part_move rules ws place writes s w b held l ts (Breaks k bytes line is) =
+    ap (λ (us : List SourceToken). all_resumed rules ws place b (onto_tokens held l us) s) is
+    ∙ w.broken_parts b k held bytes line []
+    ∙ sym (ap (λ (us : List SourceToken). behind_bytes (writes held) (all_resumed rules ws place (only_blanks b held) us s)) is)
 
-module _ (rules : Rules) (ws : List Waiting) (os : List Progress) (b : Bool) (s : State) (u : List ℕ → Bool) (most : ℕ) (m : Mode) (o l : ℕ) (held : List ℕ) (room : ℕ) (rest : List ℕ) (h : TextHeld u m held rest) where
+module _ (rules : Rules) (ws : List Waiting) (place : Place) (writes : List ℕ → List ℕ) (s : State) (written : Writes rules ws place writes s) (b : Bool) (u : List ℕ → Bool) (most : ℕ) (m : Mode) (o l : ℕ) (held : List ℕ) (room : ℕ) (rest : List ℕ) (h : TextHeld u m held rest) where
   -- what remains in a mode, from a line on where a token opened, behind so many bytes
   abbrev left_in : Mode → ℕ → ℕ → Bool → Passage
-  left_in next opened n first = all_resumed rules ws (Live os) first (remaining_tokens u most next opened (l + line_ends (take n held)) (drop n held) room rest) s
+  left_in next opened n first = all_resumed rules ws place first (remaining_tokens u most next opened (l + line_ends (take n held)) (drop n held) room rest) s
 
   -- what remains at the token
   abbrev left_here : Passage
-  left_here = all_resumed rules ws (Live os) b (remaining_tokens u most m o l held room rest) s
+  left_here = all_resumed rules ws place b (remaining_tokens u most m o l held room rest) s
 
   -- the token, or the part of it, is given, and then comes what remains behind it
   abbrev Moves : Token → Type 0
-  Moves t = left_here ≡ behind_bytes (take t.len held) (left_in t.next_mode (opening m o l) t.len (only_blanks b (take t.len held)))
+  Moves t = left_here ≡ behind_bytes (writes (take t.len held)) (left_in t.next_mode (opening m o l) t.len (only_blanks b (take t.len held)))
 
   built_here : IsBuiltAt u m held
   built_here plain more e =
@@ -140,10 +136,10 @@ module _ (rules : Rules) (ws : List Waiting) (os : List Progress) (b : Bool) (s 
       let same : behind ≡ remaining_tokens u most t.next_mode (opening m o l) (l + line_ends w) (drop t.len held) room rest =
       remaining-opened u most l (opening m o l) (l + line_ends w) (drop t.len held) room rest
       ∙ ap (λ (n : Mode). remaining_tokens u most n (opening m o l) (l + line_ends w) (drop t.len held) room rest) (sym closed) in
-      ap (λ (ts : List SourceToken). all_resumed rules ws (Live os) b ts s)
+      ap (λ (ts : List SourceToken). all_resumed rules ws place b ts s)
       (remaining-closed u most m o l held room rest h.some h.ends built_here (text_kept t.kind h.kind) closed)
-      ∙ all_resumed_one_copied rules ws os b (record { sort = Ordinary t.kind; bytes = w; line = l }) behind s (text_copied t.kind w l h.kind)
-      ∙ ap (λ (ts : List SourceToken). behind_bytes w (all_resumed rules ws (Live os) (only_blanks b w) ts s)) same
+      ∙ writes_one rules ws place writes s written b (record { sort = Ordinary t.kind; bytes = w; line = l }) behind (text_copied t.kind w l h.kind)
+      ∙ ap (λ (ts : List SourceToken). behind_bytes (writes w) (all_resumed rules ws place (only_blanks b w) ts s)) same
 
   -- a token of which all that is held is a part
   move_part : (next : Mode) → (token_of m held).next_mode ≡ next → (token_of m held).len ≡ length held
@@ -154,12 +150,19 @@ module _ (rules : Rules) (ws : List Waiting) (os : List Progress) (b : Bool) (s 
       let t = token_of m held in
       let all : take t.len held ≡ held = ap (λ (n : ℕ). take n held) len ∙ take-length held in
       let gone : drop t.len held ≡ [] = drop_all t.len held (omega arith) in
-      let to : Mode → List ℕ → List ℕ → Passage = λ n w z. behind_bytes w (all_resumed rules ws (Live os) (only_blanks b w) (remaining_tokens u most n (opening m o l) (l + line_ends w) z room rest) s) in
-      ap (λ (ts : List SourceToken). all_resumed rules ws (Live os) b ts s) step
-      ∙ part_move rules ws os b s held l (remaining_tokens u most next (opening m o l) (l + line_ends held) [] room rest) resumes
+      let to : Mode → List ℕ → List ℕ → Passage = λ n w z. behind_bytes (writes w) (all_resumed rules ws place (only_blanks b w) (remaining_tokens u most n (opening m o l) (l + line_ends w) z room rest) s) in
+      ap (λ (ts : List SourceToken). all_resumed rules ws place b ts s) step
+      ∙ part_move rules ws place writes s written b held l (remaining_tokens u most next (opening m o l) (l + line_ends held) [] room rest) resumes
       ∙ ap (λ (n : Mode). to n held []) (sym is)
       ∙ ap (λ (w : List ℕ). to t.next_mode w []) (sym all)
       ∙ ap (λ (z : List ℕ). to t.next_mode (take t.len held) z) (sym gone)
+
+  -- `<%` is a fault
+  only_broken : (first : Bool) (line : ℕ)
+      → all_resumed rules ws place first (record { sort = Broken PerlFound; bytes = []; line = line } ∷ []) s ≡ leaves (fails (fault_at (breach_kind PerlFound) line [] s)) s
+  only_broken first line =
+      let fault = leaves (fails (fault_at (breach_kind PerlFound) line [] s)) s in
+      written.broken first PerlFound [] line [] ∙ ap (λ (x : List ℕ). behind_bytes x fault) written.nothing ∙ behind_bytes-nil fault
 
   -- a string that `<%` cuts
   move_cut : (token_of m held).kind ≡ Str → (token_of m held).next_mode ≡ InStr → (token_of m held).len < length held → begins_perl (drop (token_of m held).len held) ≡ true → Moves (token_of m held)
@@ -171,10 +174,10 @@ module _ (rules : Rules) (ws : List Waiting) (os : List Progress) (b : Bool) (s 
       let some : 0 < length z = omega (arith, length-drop t.len held) in
       let behind : remaining_tokens u most t.next_mode (opening m o l) next z room rest ≡ record { sort = Broken PerlFound; bytes = []; line = next } ∷ [] =
       ap (λ (n : Mode). remaining_tokens u most n (opening m o l) next z room rest) mode ∙ remaining-perl_in_string u most (opening m o l) next z room rest some perl in
-      ap (λ (ts : List SourceToken). all_resumed rules ws (Live os) b ts s) (remaining-cut_string u most m o l held room rest h.some h.ends built_here kind mode lt)
-      ∙ all_resumed_broken rules ws os b PerlFound w next [] s
-      ∙ ap (λ (x : Passage). behind_bytes w x)
-      (sym (ap (λ (ts : List SourceToken). all_resumed rules ws (Live os) (only_blanks b w) ts s) behind ∙ all_resumed_only_broken rules ws os (only_blanks b w) PerlFound next [] s))
+      ap (λ (ts : List SourceToken). all_resumed rules ws place b ts s) (remaining-cut_string u most m o l held room rest h.some h.ends built_here kind mode lt)
+      ∙ written.broken b PerlFound w next []
+      ∙ ap (λ (x : Passage). behind_bytes (writes w) x)
+      (sym (ap (λ (ts : List SourceToken). all_resumed rules ws place (only_blanks b w) ts s) behind ∙ only_broken (only_blanks b w) next))
 
   by_seam : (v : Token) → Seam held [] (token_of m held) v → Moves (token_of m held)
   by_seam v (Closed e closed) = move_closed closed
@@ -194,16 +197,17 @@ module _ (rules : Rules) (ws : List Waiting) (os : List Progress) (b : Bool) (s 
   move_token : Moves (token_of m held)
   move_token = by_seam (token_of m (held ++ [])) (token_of-seam m held [] h.some (inl refl))
 
-module _ {R : Type 0} (rules : Rules) (unbuilt : List ℕ → Bool) (unread : R → List ℕ) (ws : List Waiting) (os : List Progress) where
+module _ {R : Type 0} (rules : Rules) (unbuilt : List ℕ → Bool) (unread : R → List ℕ) (ws : List Waiting) (place : Place) (writes : List ℕ → List ℕ) (s : State)
+    (written : Writes rules ws place writes s) where
   -- what remains of a buffer, where only blanks stand before it on its line or don't
-  abbrev left_of : Bool → BufferView R → State → Passage
-  left_of first b s = all_resumed rules ws (Live os) first (tokens_left unbuilt unread b) s
+  abbrev left_of : Bool → BufferView R → Passage
+  left_of first b = all_resumed rules ws place first (tokens_left unbuilt unread b) s
 
   -- ordinary text goes through as it is
-  ordinary_left : (first : Bool) (b : BufferView R) (s : State) → IsStage unbuilt → b.mode ≡ Plain → EndsLine (held_of b) (rest_of unread b)
+  ordinary_left : (first : Bool) (b : BufferView R) → IsStage unbuilt → b.mode ≡ Plain → EndsLine (held_of b) (rest_of unread b)
       → let w = take (plain_len (held_of b)) (held_of b) in
-      left_of first b s ≡ behind_bytes w (left_of (only_blanks first w) (used_buffer (entered_mode b Plain) (plain_len (held_of b)) (line_ends w)) s)
-  ordinary_left first b s stage mode ends =
+      left_of first b ≡ behind_bytes (writes w) (left_of (only_blanks first w) (used_buffer (entered_mode b Plain) (plain_len (held_of b)) (line_ends w)))
+  ordinary_left first b stage mode ends =
       let held = held_of b in
       let rest = rest_of unread b in
       let n = plain_len held in
@@ -213,56 +217,75 @@ module _ {R : Type 0} (rules : Rules) (unbuilt : List ℕ → Bool) (unread : R 
       remaining-ordinary unbuilt b.line_bytes b.line held b.bytes_left rest spares ends in
       let o = opening b.mode b.open_token_line b.line in
       let behind = remaining_tokens unbuilt b.line_bytes Plain o (b.line + line_ends w) (drop n held) b.bytes_left rest in
-      ap (λ (ts : List SourceToken). all_resumed rules ws (Live os) first ts s) (tokens_plain unbuilt unread b mode ∙ g.steps b.line o)
-      ∙ all_resumed_copied rules ws os first g.tokens behind s (copied_tokens g.tokens g.plain)
-      ∙ ap (λ (xs : List ℕ). behind_bytes xs (all_resumed rules ws (Live os) (only_blanks first xs) behind s)) g.spelled
-      ∙ ap (λ (ts : List SourceToken). behind_bytes w (all_resumed rules ws (Live os) (only_blanks first w) ts s)) (tokens_entered unbuilt unread b n (line_ends w) Plain)
+      ap (λ (ts : List SourceToken). all_resumed rules ws place first ts s) (tokens_plain unbuilt unread b mode ∙ g.steps b.line o)
+      ∙ written.copied first g.tokens behind (copied_tokens g.tokens g.plain)
+      ∙ ap (λ (xs : List ℕ). behind_bytes (writes xs) (all_resumed rules ws place (only_blanks first xs) behind s)) g.spelled
+      ∙ ap (λ (ts : List SourceToken). behind_bytes (writes w) (all_resumed rules ws place (only_blanks first w) ts s)) (tokens_entered unbuilt unread b n (line_ends w) Plain)
 
   -- a string or a comment, or the part of one, over what is held
-  token_here : (first : Bool) (b : BufferView R) (s : State) → TextHeld unbuilt b.mode (held_of b) (rest_of unread b)
+  token_here : (first : Bool) (b : BufferView R) → TextHeld unbuilt b.mode (held_of b) (rest_of unread b)
       → let t = token_of b.mode (held_of b) in
       let w = take t.len (held_of b) in
-      left_of first b s ≡ behind_bytes w (all_resumed rules ws (Live os) (only_blanks first w)
+      left_of first b ≡ behind_bytes (writes w) (all_resumed rules ws place (only_blanks first w)
       (remaining_tokens unbuilt b.line_bytes t.next_mode (opening b.mode b.open_token_line b.line) (b.line + line_ends w) (drop t.len (held_of b)) b.bytes_left (rest_of unread b)) s)
   unfolding tokens_left
-  token_here first b s text =
-      move_token rules ws os first s unbuilt b.line_bytes b.mode b.open_token_line b.line (held_of b) b.bytes_left (rest_of unread b) text
+  token_here first b text =
+      move_token rules ws place writes s written first unbuilt b.line_bytes b.mode b.open_token_line b.line (held_of b) b.bytes_left (rest_of unread b) text
 
   -- and so it goes through as it is
-  token_left : (first : Bool) (b : BufferView R) (s : State) → TextHeld unbuilt b.mode (held_of b) (rest_of unread b)
+  token_left : (first : Bool) (b : BufferView R) → TextHeld unbuilt b.mode (held_of b) (rest_of unread b)
       → let t = token_of b.mode (held_of b) in
       let w = take t.len (held_of b) in
-      left_of first b s ≡ behind_bytes w (left_of (only_blanks first w) (used_buffer (entered_mode b t.next_mode) t.len (line_ends w)) s)
-  token_left first b s text =
+      left_of first b ≡ behind_bytes (writes w) (left_of (only_blanks first w) (used_buffer (entered_mode b t.next_mode) t.len (line_ends w)))
+  token_left first b text =
       let t = token_of b.mode (held_of b) in
       let w = take t.len (held_of b) in
-      token_here first b s text
-      ∙ ap (λ (ts : List SourceToken). behind_bytes w (all_resumed rules ws (Live os) (only_blanks first w) ts s)) (tokens_entered unbuilt unread b t.len (line_ends w) t.next_mode)
+      token_here first b text
+      ∙ ap (λ (ts : List SourceToken). behind_bytes (writes w) (all_resumed rules ws place (only_blanks first w) ts s)) (tokens_entered unbuilt unread b t.len (line_ends w) t.next_mode)
 
   -- what text that is copied comes to, by its length and the mode behind it
-  abbrev Copied : Bool → BufferView R → State → ℕ → Mode → Type 0
-  Copied first b s n next = let w = take n (held_of b) in
-      left_of first b s ≡ behind_bytes w (left_of (only_blanks first w) (used_buffer (entered_mode b next) n (line_ends w)) s)
+  abbrev Copied : Bool → BufferView R → ℕ → Mode → Type 0
+  Copied first b n next = let w = take n (held_of b) in
+      left_of first b ≡ behind_bytes (writes w) (left_of (only_blanks first w) (used_buffer (entered_mode b next) n (line_ends w)))
 
   -- text that is copied, in either form
-  copied_left : (first : Bool) (b : BufferView R) (s : State) (n : ℕ) (next : Mode) → HoldsFront unbuilt b → IsText b.mode (held_of b) n next → Copied first b s n next
-  copied_left first b s n next holds (AtOrdinary plain behind has whole) =
-      subst (λ (k : ℕ). Copied first b s k next) (sym whole)
-      (subst (λ (m : Mode). Copied first b s (plain_len (held_of b)) m) (sym behind)
-      (ordinary_left first b s holds.stage plain (ends_line unread b holds.ends)))
-  copied_left first b s n next holds (AtToken kind behind whole) =
+  copied_left : (first : Bool) (b : BufferView R) (n : ℕ) (next : Mode) → HoldsFront unbuilt b → IsText b.mode (held_of b) n next → Copied first b n next
+  copied_left first b n next holds (AtOrdinary plain behind has whole) =
+      subst (λ (k : ℕ). Copied first b k next) (sym whole)
+      (subst (λ (m : Mode). Copied first b (plain_len (held_of b)) m) (sym behind)
+      (ordinary_left first b holds.stage plain (ends_line unread b holds.ends)))
+  copied_left first b n next holds (AtToken kind behind whole) =
       let t = token_of b.mode (held_of b) in
-      subst (λ (k : ℕ). Copied first b s k next) (sym whole)
-      (subst (λ (m : Mode). Copied first b s t.len m) (sym behind)
-      (token_left first b s (record { stage = holds.stage; some = holds.some; ends = ends_line unread b holds.ends; kind = kind })))
+      subst (λ (k : ℕ). Copied first b k next) (sym whole)
+      (subst (λ (m : Mode). Copied first b t.len m) (sym behind)
+      (token_left first b (record { stage = holds.stage; some = holds.some; ends = ends_line unread b holds.ends; kind = kind })))
 
-  -- text that is copied is written as it is
-  pub text_left : (f : File R) (s : State) (len lines : ℕ) (next : Mode)
+  -- text that is copied in live text is written as the place writes it
+  written_left : (f : File R) (len lines : ℕ) (next : Mode)
       → HoldsFront unbuilt f.buffer → IsText f.buffer.mode (held_of f.buffer) len next → lines ≡ line_ends (take len (held_of f.buffer))
-      → source_left rules unbuilt unread ws (Live os) f s
-      ≡ behind_bytes (take len (held_of f.buffer))
-      (source_left rules unbuilt unread ws (Live os) (consumed_file len lines (with_file_buffer (entered_mode f.buffer next) f)) s)
+      → source_left rules unbuilt unread ws place f s
+      ≡ behind_bytes (writes (take len (held_of f.buffer)))
+      (source_left rules unbuilt unread ws place (consumed_file len lines (with_file_buffer (entered_mode f.buffer next) f)) s)
   unfolding source_left held_of entered_mode
-  text_left f s len lines next holds text e =
-      copied_left f.blanks f.buffer s len next holds text
-      ∙ ap (λ (k : ℕ). behind_bytes (take len (held_of f.buffer)) (left_of (only_blanks f.blanks (take len (held_of f.buffer))) (used_buffer (entered_mode f.buffer next) len k) s)) (sym e)
+  written_left f len lines next holds text e =
+      let w = take len (held_of f.buffer) in
+      copied_left f.blanks f.buffer len next holds text
+      ∙ ap (λ (k : ℕ). behind_bytes (writes w) (left_of (only_blanks f.blanks w) (used_buffer (entered_mode f.buffer next) len k))) (sym e)
+
+-- text that is copied is written as it is
+pub text_left : {R : Type 0} (rules : Rules) (unbuilt : List ℕ → Bool) (unread : R → List ℕ) (ws : List Waiting) (os : List Progress) (f : File R) (s : State) (len lines : ℕ) (next : Mode)
+    → HoldsFront unbuilt f.buffer → IsText f.buffer.mode (held_of f.buffer) len next → lines ≡ line_ends (take len (held_of f.buffer))
+    → source_left rules unbuilt unread ws (Live os) f s
+    ≡ behind_bytes (take len (held_of f.buffer))
+    (source_left rules unbuilt unread ws (Live os) (consumed_file len lines (with_file_buffer (entered_mode f.buffer next) f)) s)
+text_left rules unbuilt unread ws os f s len lines next holds text e =
+    written_left rules unbuilt unread ws (Live os) (λ (x : List ℕ). x) s (live_writes rules ws os s) f len lines next holds text e
+
+-- of such text its LF bytes are written where it is skipped
+pub skipped_text_left : {R : Type 0} (rules : Rules) (unbuilt : List ℕ → Bool) (unread : R → List ℕ) (ws : List Waiting) (n : ℕ) (p : Progress) (os : List Progress) (f : File R) (s : State) (len lines : ℕ) (next : Mode)
+    → HoldsFront unbuilt f.buffer → IsText f.buffer.mode (held_of f.buffer) len next → lines ≡ line_ends (take len (held_of f.buffer))
+    → source_left rules unbuilt unread ws (Skipped n p os) f s
+    ≡ behind_bytes (line_ends_of (take len (held_of f.buffer)))
+    (source_left rules unbuilt unread ws (Skipped n p os) (consumed_file len lines (with_file_buffer (entered_mode f.buffer next) f)) s)
+skipped_text_left rules unbuilt unread ws n p os f s len lines next holds text e =
+    written_left rules unbuilt unread ws (Skipped n p os) line_ends_of s (skipped_writes rules ws n p os s) f len lines next holds text e

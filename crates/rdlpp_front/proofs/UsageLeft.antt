@@ -1,12 +1,11 @@
 -- What a usage in front does to what remains: its token, and what it comes to where its macro isn't defined, isn't built, or
 -- has a body that is copied.
-use Rattle.std.proofs.Common.{◌≡◌, ℕ, ◌+◌, ◌-◌, ◌<◌, Bool, true, false, List, [], ◌∷◌, ◌++◌, length, take, drop, None, Some, refl, sym, ap, ◌∙◌, subst, arith}
+use Rattle.std.proofs.Common.{◌≡◌, ℕ, ◌+◌, ◌-◌, ◌<◌, Bool, true, false, List, [], ◌∷◌, take, drop, None, Some, sym, ap, ◌∙◌, subst, arith}
 use Rattle.std.specs.Prelude.{bytes_eq, codes}
 use Rattle.std.specs.List.{list_any, AllByRecursion}
 use Rattle.std.proofs.lemmas.Bool.{or_parts}
 use Rattle.rdlpp_scan.specs.declared.token.Kind.TheVariants.{Back}
 use Rattle.rdlpp_scan.specs.declared.token.Mode.TheVariants.{Plain}
-use Rattle.rdlpp_scan.specs.Lines.{EndsLine}
 use Rattle.rdlpp_scan.specs.SourceTokens.{SourceToken, Ordinary, remaining_tokens}
 use Rattle.rdlpp_scan.specs.Stage.{is_reserved, reserved_names}
 use Rattle.rdlpp_scan.specs.Tokens.{token_of}
@@ -19,7 +18,7 @@ use Rattle.rdlpp_meaning.specs.State.{Rules, State, fault_at}
 use Rattle.rdlpp_meaning.specs.Stage.{is_unbuilt_macro}
 use Rattle.rdlpp_meaning.specs.Expansion.{usage_token}
 use Rattle.rdlpp_meaning.specs.Parts.{only_blanks}
-use Rattle.rdlpp_meaning.specs.Meaning.{Passage, Progress, behind_bytes, leaves}
+use Rattle.rdlpp_meaning.specs.Meaning.{Progress, behind_bytes, leaves}
 use Rattle.rdlpp_meaning.specs.Resumed.{Live}
 use Rattle.rdlpp_meaning.specs.Opened.{Waiting, all_resumed}
 use Rattle.rdlpp_meaning.proofs.Usages.{built_body, built_formals}

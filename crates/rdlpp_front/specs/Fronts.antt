@@ -11,7 +11,7 @@ use Rattle.rdlpp_scan.specs.Tokens.{token_of, plain_len}
 use Rattle.rdlpp_scan.specs.Stage.{is_reserved, is_unbuilt}
 use Rattle.rdlpp_meaning.specs.declared.fault.FaultKind.{FaultKind}
 use Rattle.rdlpp_meaning.specs.declared.fault.FaultKind.TheVariants as fault
-use Rattle.rdlpp_read.specs.Arguments.{NameGiven, NoName}
+use Rattle.rdlpp_read.specs.Arguments.{NameGiven, NoName, StringGiven}
 use Rattle.rdlpp_front.specs.declared.front.Argument.{Argument}
 use Rattle.rdlpp_front.specs.declared.front.Front.{Front}
 use Rattle.rdlpp_front.specs.declared.front.Front.TheVariants.{Text, Usage, Define, Undef, Refused}
@@ -82,6 +82,15 @@ pub record LacksName (d : Directive) (held : List ℕ) : Type 0 where
 abbrev pub IsNamed : Directive → List ℕ → Option Argument → Type 0
 IsNamed d held None = LacksName d held
 IsNamed d held (Some a) = HasName d held a.start a.stop
+
+-- an `include` with its string, which stands from a place up to another (IEEE 1364-2001, `include`)
+pub record HasString (held : List ℕ) (start stop : ℕ) : Type 0 where
+  pub word : IsDirective directive.Include held
+  pub from : ℕ
+  pub to : ℕ
+  pub given : StringGiven (drop (length (word_of directive.Include)) held) from to
+  pub starts : start ≡ length (word_of directive.Include) + from
+  pub stops : stop ≡ length (word_of directive.Include) + to
 
 -- what a directive is given
 abbrev pub argument_name : List ℕ → ℕ → ℕ → List ℕ

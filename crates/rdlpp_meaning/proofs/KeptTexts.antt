@@ -29,7 +29,7 @@ use Rattle.rdlpp_meaning.proofs.TextRanges.{body_text, text_cut}
 use Rattle.rdlpp_meaning.proofs.UnlinedTokens.{unlined_role, unlined_bytes, kept-map, source_kept}
 
 -- whether a token is kept by a call, by its role
-unfoldable stays : SourceToken → Bool
+unfoldable pub stays : SourceToken → Bool
 stays t = is_kept (token_role t)
 
 -- tokens with given bytes
@@ -51,7 +51,7 @@ either_kept true r q h k = h
 either_kept false r q h k = k
 
 -- a token of the token table is kept where it is no `//` comment
-comment_stays : (k : Kind) (bytes : List ℕ) (line : ℕ) → stays (record { sort = Ordinary k; bytes = bytes; line = line }) ≡ not (is_line_comment k)
+pub comment_stays : (k : Kind) (bytes : List ℕ) (line : ℕ) → stays (record { sort = Ordinary k; bytes = bytes; line = line }) ≡ not (is_line_comment k)
 unfolding stays token_role kind_role is_kept is_line_comment
 comment_stays LineComment bytes line = refl
 comment_stays Opener bytes line = either_kept _ Start Up refl refl

@@ -74,3 +74,4 @@ pub mod KeptTexts
 pub mod ReadCalls
 pub mod OpenScopes
 pub mod OpenMoves
+pub mod TableTexts

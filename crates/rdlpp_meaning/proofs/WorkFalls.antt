@@ -115,7 +115,7 @@ taken-has zero b bs h = absurd (omega (arith, h))
 taken-has (suc n) b bs h = lt-ltb 0 (suc (length (take n bs))) (omega arith)
 
 -- tokens of a body are solid
-spelled-solid : (mode : Mode) (skip : ℕ) (bs : List ℕ)
+pub spelled-solid : (mode : Mode) (skip : ℕ) (bs : List ℕ)
     → AllByRecursion (λ t. is_solid t ≡ true) (spelled (tokens_from mode skip bs) (drop skip bs))
 unfolding tokens_from spelled HasByte is_solid
 spelled-solid mode zero [] = tt

@@ -1,15 +1,8 @@
 // Whether only blanks stand before a place on its line.
 ghost use Rattle.std.specs.Prelude.{◌≡◌};
-ghost use Rattle.rdlpp_scan.specs.Bytes.{is_blank};
 ghost use Rattle.rdlpp_meaning.specs.Parts.{only_blanks};
 
-// Whether a byte is a space, tab, CR, VT or FF.
-#[tactic(auto, unfolding(rdlpp_scan::specs::Bytes::is_blank))]
-fn is_blank(b: u8) -> bool
-    ensures { result ≡ is_blank b }
-{
-    b == b' ' || b == b'\t' || b == b'\r' || b == 0x0b || b == 0x0c
-}
+use rdlpp_scan::is_blank;
 
 /// Whether only blanks stand on the line behind bytes, where `first` says whether they did before
 /// them.

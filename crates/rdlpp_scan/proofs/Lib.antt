@@ -32,3 +32,5 @@ pub mod FirstTokens
 pub mod ClosedKinds
 pub mod OrdinaryTokens
 pub mod LineTokens
+pub mod TokenEnds
+pub mod CleanTexts

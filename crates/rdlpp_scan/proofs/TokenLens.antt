@@ -46,7 +46,7 @@ unfolding ends_block_comment
 ends_block_comment-two bs h = two_of bs 42 47 (omega arith) h
 
 -- a run that its first byte is part of has a byte
-prefix_len-some : (p : ℕ → Bool) (bs : List ℕ) → 0 < length bs → p (get_or bs 0 0) ≡ true → 0 < prefix_len p bs
+pub prefix_len-some : (p : ℕ → Bool) (bs : List ℕ) → 0 < length bs → p (get_or bs 0 0) ≡ true → 0 < prefix_len p bs
 prefix_len-some p [] some h = absurd (omega arith)
 prefix_len-some p (x ∷ xs) some h = let P : Bool → Type 0 = λ t. 0 < cond t (1 + prefix_len p xs) 0 in subst P (sym h) (omega arith)
 
@@ -99,7 +99,7 @@ pub is_word-letter : (b : ℕ) → is_letter b ≡ true → is_word b ≡ true
 unfolding is_word
 is_word-letter b h = ap (λ t. t || is_digit b) h
 
-is_word-digit : (b : ℕ) → is_digit b ≡ true → is_word b ≡ true
+pub is_word-digit : (b : ℕ) → is_digit b ≡ true → is_word b ≡ true
 unfolding is_word
 is_word-digit b h = ap (λ t. is_letter b || t) h ∙ or-true (is_letter b)
 

@@ -12,3 +12,4 @@ pub mod Stage
 pub mod Defines
 pub mod Comments
 pub mod TokenKinds
+pub mod CleanTexts

@@ -14,23 +14,25 @@ ghost use Rattle.rdlpp_scan.specs.Bytes.{
   takes_word,
 };
 
-// The byte at a place, or 0 past the end.
-pub(crate) fn byte_at(bytes: &[u8], at: usize) -> u8
+/// The byte at a place, or 0 past the end.
+pub fn byte_at(bytes: &[u8], at: usize) -> u8
     ensures value { result ≡ slice_index bytes.now at }
     ensures inside { 0 < result → at < length bytes.now }
 {
     bytes.get(at).copied().unwrap_or(0)
 }
 
+/// Whether a byte is a space, tab, CR, VT or FF (this project's profile).
 #[tactic(auto, unfolding(crate::specs::Bytes::is_blank))]
-pub(crate) fn is_blank(b: u8) -> bool
+pub fn is_blank(b: u8) -> bool
     ensures { result ≡ is_blank b }
 {
     b == b' ' || b == b'\t' || b == b'\r' || b == 11 || b == 12
 }
 
+/// Whether a byte begins a name: a letter or `_` (IEEE 1364-2001, identifiers).
 #[tactic(auto, unfolding(crate::specs::Bytes::is_letter))]
-pub(crate) fn is_letter(b: u8) -> bool
+pub fn is_letter(b: u8) -> bool
     ensures { result ≡ is_letter b }
 {
     b'A' <= b && b <= b'Z' || b'a' <= b && b <= b'z' || b == b'_'
@@ -101,8 +103,11 @@ pub(crate) fn blanks(bytes: &[u8]) -> usize
     bytes.iter().take_while(|b| is_blank(**b)).count()
 }
 
-// How many word bytes a text begins with.
-pub(crate) fn word_bytes(bytes: &[u8]) -> usize
+/// How many bytes of a name or a number a text begins with: letters, `_` and digits (IEEE 1364-2001,
+/// identifiers).
+///
+/// Costs time linear in that count.
+pub fn word_bytes(bytes: &[u8]) -> usize
     ensures value { result ≡ prefix_len is_word bytes.now }
     ensures inside { result ≤ length bytes.now }
 {

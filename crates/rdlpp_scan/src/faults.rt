@@ -26,15 +26,17 @@ pub fn lex_fault(bytes: &[u8]) -> Option<LexFault>
     open_fault(mode)
 }
 
+/// Whether a token is `<%`, which begins embedded Perl (SystemRDL 2.0, preprocessor clause).
 #[tactic(auto, unfolding(crate::specs::LexFaults::is_perl))]
-fn is_perl(kind: Kind) -> bool
+pub fn is_perl(kind: Kind) -> bool
     ensures { result ≡ is_perl kind }
 {
     matches!(kind, Kind::Perl)
 }
 
+/// What is wrong with a text that ends in a mode: a string or a block comment that isn't closed.
 #[tactic(auto, unfolding(crate::specs::LexFaults::open_fault))]
-fn open_fault(mode: Mode) -> Option<LexFault>
+pub fn open_fault(mode: Mode) -> Option<LexFault>
     ensures { result ≡ open_fault mode }
 {
     match mode {

@@ -312,3 +312,16 @@ fn takes_a_text_of_every_byte(rt: HostRuntime) {
     assert_eq!(rt; plain_text_len(&text), 34);
     assert_eq!(rt; line_ends_in(&text), 1);
 }
+
+#[test]
+fn classes_of_bytes(rt: HostRuntime) {
+    assert_eq!(rt; byte_at(b"ab".as_slice(), 1), b'b');
+    assert_eq!(rt; byte_at(b"ab".as_slice(), 2), 0);
+    assert_eq!(rt; is_blank(11), true);
+    assert_eq!(rt; is_blank(b'\n'), false);
+    assert_eq!(rt; is_letter(b'_'), true);
+    assert_eq!(rt; is_letter(b'0'), false);
+    assert_eq!(rt; word_bytes(b"a_0$".as_slice()), 3);
+    assert_eq!(rt; is_perl(Kind::Perl), true);
+    assert_eq!(rt; open_fault(Mode::InBlock), Some(LexFault::OpenComment));
+}

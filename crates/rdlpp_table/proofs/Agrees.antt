@@ -15,27 +15,17 @@ use Rattle.rdlpp_scan.specs.LexFaults.{is_perl, open_fault}
 use Rattle.rdlpp_scan.proofs.TokenLens.{token_of-part}
 use Rattle.rdlpp_scan.proofs.TokenLists.{tokens_from-skip, tokens_from-step}
 use Rattle.std.proofs.lemmas.List.{drop_all}
-use Rattle.rdlpp_table.specs.declared.body.Inside.TheVariants.{Text, Remark, Opening, Comment, Quoted}
-use Rattle.rdlpp_table.specs.Bodies.{Cleared, Sound, Unsound, onto, at_end, ends_at, stops_at, level_of, level_after, minds_perl, keeps_first, behind_first, cleared}
+use Rattle.rdlpp_table.specs.Insides.{Text, Remark, Opening, Comment, Quoted}
+use Rattle.rdlpp_lines.specs.Texts.{Cleared, Sound, Unsound, onto}
+use Rattle.rdlpp_table.specs.Insides.{at_end, ends_at, stops_at, level_of, level_after, minds_perl, keeps_first, behind_first, byte_cleared}
 use Rattle.rdlpp_table.specs.Define.{ends_default, level_behind}
-use Rattle.rdlpp_table.proofs.Kept.{IsKept, kept_bytes, stops_token, level_by, same_level, kept_stop, is_level, kept_whole, is_copied, first_some}
+use Rattle.rdlpp_lines.specs.Texts.{told, read_by, left_in, cleared, kept_bytes, stops_token, level_by}
+use Rattle.rdlpp_table.proofs.Kept.{IsKept, same_level, kept_stop, is_level, kept_whole, is_copied, first_some}
 use Rattle.rdlpp_table.proofs.Clears.{onto_none, onto_both, IsFree, free_ends, free_level, text_step, IsPlain, one_plain, plain_run, clears_remark, StringRead, string_read, CommentRead, comment_read}
-
--- a fault, or else a text
-abbrev pub told : Option LexFault → List ℕ → Cleared
-told fault text = elim fault [ Some f ↦ Unsound f | None ↦ Sound text [] ]
-
--- what is left of a text by its tokens, from a mode and a level on
-abbrev pub read_by : Option ℕ → Mode → List Token → List ℕ → Cleared
-read_by l mode [] text = told (open_fault mode) []
-read_by l mode (t ∷ ts) text =
-    cond (is_perl t.kind) (Unsound Perl)
-    (cond (stops_token l t.kind (get_or text 0 0)) (Sound [] text)
-    (onto (kept_bytes t text) (read_by (level_by l t.kind) t.next_mode ts (drop t.len text))))
 
 -- a first token leaves what the text read byte by byte leaves, if what is behind it does
 pub record Follows (l : Option ℕ) (t : Token) (b : ℕ) (bs : List ℕ) : Type 0 where
-  pub leaves : 0 < t.len → ((m : Option ℕ) (n : ℕ) → read_by m Plain (tokens_from Plain n bs) (drop n bs) ≡ cleared m Text (drop n bs)) → read_by l Plain (t ∷ tokens_from t.next_mode (t.len - 1) bs) (b ∷ bs) ≡ cleared l Text (b ∷ bs)
+  pub leaves : 0 < t.len → ((m : Option ℕ) (n : ℕ) → read_by m Plain (tokens_from Plain n bs) (drop n bs) ≡ byte_cleared m Text (drop n bs)) → read_by l Plain (t ∷ tokens_from t.next_mode (t.len - 1) bs) (b ∷ bs) ≡ byte_cleared l Text (b ∷ bs)
 
 behind_token : (n b : ℕ) (bs : List ℕ) → 0 < n → drop n (b ∷ bs) ≡ drop (n - 1) bs
 behind_token n b bs h = ap (λ (i : ℕ). drop i (b ∷ bs)) (let e : n ≡ suc (n - 1) = omega arith in e)
@@ -154,7 +144,7 @@ unfolding begins_perl begins_line_comment begins_block_comment
 plain_harmless b bs p = record { perl = and_left _ _ p.less; remark = and_left _ _ p.slash; comment = and_left _ _ p.slash; quote = p.quote }
 
 module _ (l : Option ℕ) where
-  row_kept : (t : Token) (b : ℕ) (bs : List ℕ) → IsKept t → cleared l Text (b ∷ bs) ≡ onto (take t.len (b ∷ bs)) (cleared l Text (drop t.len (b ∷ bs))) → Follows l t b bs
+  row_kept : (t : Token) (b : ℕ) (bs : List ℕ) → IsKept t → byte_cleared l Text (b ∷ bs) ≡ onto (take t.len (b ∷ bs)) (byte_cleared l Text (drop t.len (b ∷ bs))) → Follows l t b bs
   row_kept t b bs k e = record {
     leaves = λ some ih.
         let ts : List Token = tokens_from Plain (t.len - 1) bs in
@@ -166,11 +156,11 @@ module _ (l : Option ℕ) where
         ∙ (ap (λ (m : Option ℕ). onto (take t.len (b ∷ bs)) (read_by m Plain ts (drop t.len (b ∷ bs)))) (k.level l)
         ∙ (ap (λ (x : List ℕ). onto (take t.len (b ∷ bs)) (read_by l Plain ts x)) at
         ∙ (ap (onto (take t.len (b ∷ bs))) (ih l (t.len - 1))
-        ∙ (ap (λ (x : List ℕ). onto (take t.len (b ∷ bs)) (cleared l Text x)) (sym at)
+        ∙ (ap (λ (x : List ℕ). onto (take t.len (b ∷ bs)) (byte_cleared l Text x)) (sym at)
         ∙ sym e)))))));
   }
 
-  row_dropped : (n b : ℕ) (bs : List ℕ) → cleared l Text (b ∷ bs) ≡ cleared l Text (drop n (b ∷ bs)) → Follows l (whole LineComment n) b bs
+  row_dropped : (n b : ℕ) (bs : List ℕ) → byte_cleared l Text (b ∷ bs) ≡ byte_cleared l Text (drop n (b ∷ bs)) → Follows l (whole LineComment n) b bs
   unfolding whole is_perl level_behind ends_default
   row_dropped n b bs e = record {
     leaves = λ some ih.
@@ -180,10 +170,10 @@ module _ (l : Option ℕ) where
         ∙ (onto_none _
         ∙ (ap (λ (m : Option ℕ). read_by m Plain ts (drop n (b ∷ bs))) (same_level l)
         ∙ (ap (read_by l Plain ts) at
-        ∙ (ih l (n - 1) ∙ (ap (cleared l Text) (sym at) ∙ sym e)))));
+        ∙ (ih l (n - 1) ∙ (ap (byte_cleared l Text) (sym at) ∙ sym e)))));
   }
 
-  text_perl : (b : ℕ) (bs : List ℕ) → begins_perl (b ∷ bs) ≡ true → cleared l Text (b ∷ bs) ≡ Unsound Perl
+  text_perl : (b : ℕ) (bs : List ℕ) → begins_perl (b ∷ bs) ≡ true → byte_cleared l Text (b ∷ bs) ≡ Unsound Perl
   unfolding begins_perl is_opener is_closer
   text_perl b bs e =
       let at : b ≡ 60 = slash_is b 60 _ e in
@@ -194,25 +184,25 @@ module _ (l : Option ℕ) where
   row_perl b bs e = record { leaves = λ some ih. sym (text_perl b bs e) }
 
   -- a token that leaves the text inside something to its end, or up to `<%`
-  row_open : (t : Token) (b : ℕ) (bs : List ℕ) (fault : LexFault) → is_perl t.kind ≡ false → ((m : Option ℕ) (k : ℕ) → stops_token m t.kind k ≡ false) → ((m : Option ℕ) (x : List ℕ) → read_by m t.next_mode (tokens_from t.next_mode (t.len - 1) bs) x ≡ Unsound fault) → cleared l Text (b ∷ bs) ≡ Unsound fault → Follows l t b bs
+  row_open : (t : Token) (b : ℕ) (bs : List ℕ) (fault : LexFault) → is_perl t.kind ≡ false → ((m : Option ℕ) (k : ℕ) → stops_token m t.kind k ≡ false) → ((m : Option ℕ) (x : List ℕ) → read_by m t.next_mode (tokens_from t.next_mode (t.len - 1) bs) x ≡ Unsound fault) → byte_cleared l Text (b ∷ bs) ≡ Unsound fault → Follows l t b bs
   unfolding onto
   row_open t b bs fault k s f e = record {
     leaves = λ some ih. cond-false _ _ _ k ∙ (cond-false _ _ _ (s l b) ∙ (ap (onto (kept_bytes t (b ∷ bs))) (f _ _) ∙ sym e));
   }
 
-  text_any : (b : ℕ) (bs : List ℕ) → IsHarmless b bs → cleared l Text (b ∷ bs) ≡ cond (ends_at l b) (Sound [] (b ∷ bs)) (onto (b ∷ []) (cleared (option_map (λ n. level_of n b) l) Text bs))
-  unfolding cleared stops_at level_after minds_perl keeps_first behind_first
+  text_any : (b : ℕ) (bs : List ℕ) → IsHarmless b bs → byte_cleared l Text (b ∷ bs) ≡ cond (ends_at l b) (Sound [] (b ∷ bs)) (onto (b ∷ []) (byte_cleared (option_map (λ n. level_of n b) l) Text bs))
+  unfolding byte_cleared stops_at level_after minds_perl keeps_first behind_first
   text_any b bs p =
       let m : Option ℕ = option_map (λ n. level_of n b) l in
       ap (λ (c : Cleared). cond (ends_at l b) (Sound [] (b ∷ bs)) c)
       (cond-false _ _ _ p.perl
-      ∙ (ap (λ (t : Bool). onto (cond (not t) (b ∷ []) []) (cleared m (cond t Remark (cond (begins_block_comment (b ∷ bs)) Opening (cond (eqb b 34) Quoted Text))) bs)) p.remark
-      ∙ (ap (λ (t : Bool). onto (b ∷ []) (cleared m (cond t Opening (cond (eqb b 34) Quoted Text)) bs)) p.comment
-      ∙ ap (λ (t : Bool). onto (b ∷ []) (cleared m (cond t Quoted Text) bs)) p.quote)))
+      ∙ (ap (λ (t : Bool). onto (cond (not t) (b ∷ []) []) (byte_cleared m (cond t Remark (cond (begins_block_comment (b ∷ bs)) Opening (cond (eqb b 34) Quoted Text))) bs)) p.remark
+      ∙ (ap (λ (t : Bool). onto (b ∷ []) (byte_cleared m (cond t Opening (cond (eqb b 34) Quoted Text)) bs)) p.comment
+      ∙ ap (λ (t : Bool). onto (b ∷ []) (byte_cleared m (cond t Quoted Text) bs)) p.quote)))
 
-  one_harmless : (b : ℕ) (bs : List ℕ) → IsHarmless b bs → IsFree b → cleared l Text (b ∷ bs) ≡ onto (b ∷ []) (cleared l Text bs)
+  one_harmless : (b : ℕ) (bs : List ℕ) → IsHarmless b bs → IsFree b → byte_cleared l Text (b ∷ bs) ≡ onto (b ∷ []) (byte_cleared l Text bs)
   one_harmless b bs p f =
-      text_any b bs p ∙ (cond-false _ _ _ (free_ends l b f) ∙ ap (λ (m : Option ℕ). onto (b ∷ []) (cleared m Text bs)) (free_level l b f))
+      text_any b bs p ∙ (cond-false _ _ _ (free_ends l b f) ∙ ap (λ (m : Option ℕ). onto (b ∷ []) (byte_cleared m Text bs)) (free_level l b f))
 
   -- a token of one byte that may end the text or change the level
   row_level : (k : Kind) (b : ℕ) (bs : List ℕ) → is_perl k ≡ false → kept_bytes (whole k 1) (b ∷ bs) ≡ b ∷ [] → stops_token l k b ≡ ends_at l b → level_by l k ≡ option_map (λ n. level_of n b) l → IsHarmless b bs → Follows l (whole k 1) b bs
@@ -227,16 +217,16 @@ module _ (l : Option ℕ) where
         ∙ sym (text_any b bs p)))));
   }
 
-  harmless_word : (b : ℕ) (bs : List ℕ) → IsHarmless b bs → IsFree b → cleared l Text (b ∷ bs) ≡ onto (take (suc (prefix_len is_word bs)) (b ∷ bs)) (cleared l Text (drop (suc (prefix_len is_word bs)) (b ∷ bs)))
+  harmless_word : (b : ℕ) (bs : List ℕ) → IsHarmless b bs → IsFree b → byte_cleared l Text (b ∷ bs) ≡ onto (take (suc (prefix_len is_word bs)) (b ∷ bs)) (byte_cleared l Text (drop (suc (prefix_len is_word bs)) (b ∷ bs)))
   harmless_word b bs p f = one_harmless b bs p f ∙ (ap (onto (b ∷ [])) (plain_run l is_word word_plain bs) ∙ onto_both (b ∷ []) _ _)
 
-  text_remark : (b : ℕ) (bs : List ℕ) → begins_line_comment (b ∷ bs) ≡ true → cleared l Text (b ∷ bs) ≡ cleared l Remark bs
+  text_remark : (b : ℕ) (bs : List ℕ) → begins_line_comment (b ∷ bs) ≡ true → byte_cleared l Text (b ∷ bs) ≡ byte_cleared l Remark bs
   unfolding behind_first is_opener is_closer begins_perl begins_line_comment
   text_remark b bs e =
       let at : b ≡ 47 = slash_is b 47 _ e in
       text_step l b bs (subst (λ (x : ℕ). IsFree x) (sym at) (record { opener = refl; closer = refl; comma = refl }))
       ∙ (cond-false _ _ _ (and_left (eqb b 60) _ (ap (λ (x : ℕ). eqb x 60) at))
-      ∙ (ap (λ (t : Bool). onto (cond (not t) (b ∷ []) []) (cleared l (cond t Remark (cond (begins_block_comment (b ∷ bs)) Opening (cond (eqb b 34) Quoted Text))) bs)) e
+      ∙ (ap (λ (t : Bool). onto (cond (not t) (b ∷ []) []) (byte_cleared l (cond t Remark (cond (begins_block_comment (b ∷ bs)) Opening (cond (eqb b 34) Quoted Text))) bs)) e
       ∙ onto_none _))
 
   row_remark : (b : ℕ) (bs : List ℕ) → begins_line_comment (b ∷ bs) ≡ true → Follows l (whole LineComment (prefix_len (λ x. not (is_line_end x)) (b ∷ bs))) b bs
@@ -248,15 +238,15 @@ module _ (l : Option ℕ) where
       let P : ℕ → Type 0 = λ k. Follows l (whole LineComment k) b bs in
       subst P (sym n) (row_dropped (suc (prefix_len test bs)) b bs (text_remark b bs e ∙ clears_remark l bs))
 
-  text_quote : (b : ℕ) (bs : List ℕ) → eqb b 34 ≡ true → cleared l Text (b ∷ bs) ≡ onto (b ∷ []) (cleared l Quoted bs)
+  text_quote : (b : ℕ) (bs : List ℕ) → eqb b 34 ≡ true → byte_cleared l Text (b ∷ bs) ≡ onto (b ∷ []) (byte_cleared l Quoted bs)
   unfolding behind_first is_opener is_closer begins_perl begins_line_comment begins_block_comment
   text_quote b bs e =
       let at : b ≡ 34 = eqb-true b 34 e in
       text_step l b bs (subst (λ (x : ℕ). IsFree x) (sym at) (record { opener = refl; closer = refl; comma = refl }))
       ∙ (cond-false _ _ _ (and_left (eqb b 60) _ (ap (λ (x : ℕ). eqb x 60) at))
-      ∙ (ap (λ (t : Bool). onto (cond (not t) (b ∷ []) []) (cleared l (cond t Remark (cond (eqb b 47 && eqb (get_or (b ∷ bs) 1 0) 42) Opening (cond (eqb b 34) Quoted Text))) bs)) (and_left (eqb b 47) _ (ap (λ (x : ℕ). eqb x 47) at))
-      ∙ (ap (λ (t : Bool). onto (b ∷ []) (cleared l (cond t Opening (cond (eqb b 34) Quoted Text)) bs)) (and_left (eqb b 47) _ (ap (λ (x : ℕ). eqb x 47) at))
-      ∙ ap (λ (t : Bool). onto (b ∷ []) (cleared l (cond t Quoted Text) bs)) e)))
+      ∙ (ap (λ (t : Bool). onto (cond (not t) (b ∷ []) []) (byte_cleared l (cond t Remark (cond (eqb b 47 && eqb (get_or (b ∷ bs) 1 0) 42) Opening (cond (eqb b 34) Quoted Text))) bs)) (and_left (eqb b 47) _ (ap (λ (x : ℕ). eqb x 47) at))
+      ∙ (ap (λ (t : Bool). onto (b ∷ []) (byte_cleared l (cond t Opening (cond (eqb b 34) Quoted Text)) bs)) (and_left (eqb b 47) _ (ap (λ (x : ℕ). eqb x 47) at))
+      ∙ ap (λ (t : Bool). onto (b ∷ []) (byte_cleared l (cond t Quoted Text) bs)) e)))
 
   open_string : (b : ℕ) (bs : List ℕ) (stop : ℕ) → eqb b 34 ≡ true → StringRead l false bs stop → eqb (get_or bs stop 0) 34 ≡ false → Follows l (record { kind = Str; len = 1 + stop; next_mode = InStr }) b bs
   unfolding is_perl open_fault onto
@@ -290,18 +280,18 @@ module _ (l : Option ℕ) where
       (λ h. closed_string b bs s q r (ap (λ (x : ℕ). eqb x 34) (sym same) ∙ h))
       (λ h. open_string b bs s q r (ap (λ (x : ℕ). eqb x 34) (sym same) ∙ h))
 
-  text_comment : (b c : ℕ) (cs : List ℕ) → begins_block_comment (b ∷ c ∷ cs) ≡ true → cleared l Text (b ∷ c ∷ cs) ≡ onto (b ∷ c ∷ []) (cleared l Comment cs)
-  unfolding cleared stops_at level_after minds_perl keeps_first behind_first is_opener is_closer begins_perl begins_line_comment begins_block_comment
+  text_comment : (b c : ℕ) (cs : List ℕ) → begins_block_comment (b ∷ c ∷ cs) ≡ true → byte_cleared l Text (b ∷ c ∷ cs) ≡ onto (b ∷ c ∷ []) (byte_cleared l Comment cs)
+  unfolding byte_cleared stops_at level_after minds_perl keeps_first behind_first is_opener is_closer begins_perl begins_line_comment begins_block_comment
   text_comment b c cs e =
       let at : b ≡ 47 = slash_is b 47 _ e in
       let star : c ≡ 42 = eqb-true c 42 (and_parts (eqb b 47) (eqb c 42) e).1 in
       text_step l b (c ∷ cs) (subst (λ (x : ℕ). IsFree x) (sym at) (record { opener = refl; closer = refl; comma = refl }))
       ∙ (cond-false _ _ _ (and_left (eqb b 60) _ (ap (λ (x : ℕ). eqb x 60) at))
-      ∙ (ap (λ (t : Bool). onto (cond (not t) (b ∷ []) []) (cleared l (cond t Remark (cond (eqb b 47 && eqb c 42) Opening (cond (eqb b 34) Quoted Text))) (c ∷ cs))) (and_right (eqb b 47) (eqb c 47) (ap (λ (x : ℕ). eqb x 47) star))
-      ∙ (ap (λ (t : Bool). onto (b ∷ []) (cleared l (cond t Opening (cond (eqb b 34) Quoted Text)) (c ∷ cs))) e
-      ∙ onto_both (b ∷ []) (c ∷ []) (cleared l Comment cs))))
+      ∙ (ap (λ (t : Bool). onto (cond (not t) (b ∷ []) []) (byte_cleared l (cond t Remark (cond (eqb b 47 && eqb c 42) Opening (cond (eqb b 34) Quoted Text))) (c ∷ cs))) (and_right (eqb b 47) (eqb c 47) (ap (λ (x : ℕ). eqb x 47) star))
+      ∙ (ap (λ (t : Bool). onto (b ∷ []) (byte_cleared l (cond t Opening (cond (eqb b 34) Quoted Text)) (c ∷ cs))) e
+      ∙ onto_both (b ∷ []) (c ∷ []) (byte_cleared l Comment cs))))
 
-  kept_row : (k : Kind) (n b : ℕ) (bs : List ℕ) → is_copied k ≡ true → cleared l Text (b ∷ bs) ≡ onto (take n (b ∷ bs)) (cleared l Text (drop n (b ∷ bs))) → Follows l (whole k n) b bs
+  kept_row : (k : Kind) (n b : ℕ) (bs : List ℕ) → is_copied k ≡ true → byte_cleared l Text (b ∷ bs) ≡ onto (take n (b ∷ bs)) (byte_cleared l Text (drop n (b ∷ bs))) → Follows l (whole k n) b bs
   unfolding whole
   kept_row k n b bs copied e = row_kept (whole k n) b bs (kept_whole k n copied) e
 
@@ -330,7 +320,7 @@ module _ (l : Option ℕ) where
   row_run : (k : Kind) (test : ℕ → Bool) → ((x : ℕ) → test x ≡ true → IsPlain x) → (b : ℕ) (bs : List ℕ) → is_copied k ≡ true → Follows l (whole k (prefix_len test (b ∷ bs))) b bs
   row_run k test plain b bs copied = kept_row k (prefix_len test (b ∷ bs)) b bs copied (plain_run l test plain (b ∷ bs))
 
-  row_one : (k : Kind) (b : ℕ) (bs : List ℕ) → is_copied k ≡ true → cleared l Text (b ∷ bs) ≡ onto (b ∷ []) (cleared l Text bs) → Follows l (whole k 1) b bs
+  row_one : (k : Kind) (b : ℕ) (bs : List ℕ) → is_copied k ≡ true → byte_cleared l Text (b ∷ bs) ≡ onto (b ∷ []) (byte_cleared l Text bs) → Follows l (whole k 1) b bs
   row_one k b bs copied e = kept_row k 1 b bs copied e
 
   row_word : (k : Kind) (b : ℕ) (bs : List ℕ) → is_copied k ≡ true → IsHarmless b bs → IsFree b → Follows l (whole k (suc (prefix_len is_word (drop 1 (b ∷ bs))))) b bs
@@ -368,8 +358,8 @@ module _ (l : Option ℕ) where
       cond_both (is_closer b) _ _ P (λ e. row_closer b bs opener e (record { perl = perl; remark = remark; comment = comment; quote = quote })) (λ closer.
       cond_both (eqb b 44) _ _ P (λ e. row_comma b bs e (record { perl = perl; remark = remark; comment = comment; quote = quote })) (λ comma. row_one Other b bs refl (one_harmless b bs (record { perl = perl; remark = remark; comment = comment; quote = quote }) (record { opener = opener; closer = closer; comma = comma }))))))))))))))))
 
-none_read : (l : Option ℕ) → read_by l Plain [] [] ≡ cleared l Text []
-unfolding open_fault cleared at_end
+none_read : (l : Option ℕ) → read_by l Plain [] [] ≡ byte_cleared l Text []
+unfolding open_fault byte_cleared at_end
 none_read l = refl
 
 no_tokens : (n : ℕ) → tokens_from Plain n [] ≡ []
@@ -385,12 +375,17 @@ unfolding tokens_from
 later_step n b bs = refl
 
 -- read by its tokens or byte by byte, the same is left of a text
-agrees : (text : List ℕ) (l : Option ℕ) (n : ℕ) → read_by l Plain (tokens_from Plain n text) (drop n text) ≡ cleared l Text (drop n text)
+agrees : (text : List ℕ) (l : Option ℕ) (n : ℕ) → read_by l Plain (tokens_from Plain n text) (drop n text) ≡ byte_cleared l Text (drop n text)
 agrees [] l n =
     ap (λ (ts : List Token). read_by l Plain ts (drop n [])) (no_tokens n)
-    ∙ (ap (read_by l Plain []) (nothing_left n) ∙ (none_read l ∙ ap (cleared l Text) (sym (nothing_left n))))
+    ∙ (ap (read_by l Plain []) (nothing_left n) ∙ (none_read l ∙ ap (byte_cleared l Text) (sym (nothing_left n))))
 agrees (b ∷ bs) l zero = ap (λ (ts : List Token). read_by l Plain ts (b ∷ bs)) (first_step b bs) ∙ (plain_follows l b bs).leaves (first_some b bs) (agrees bs)
 agrees (b ∷ bs) l (suc n) = ap (λ (ts : List Token). read_by l Plain ts (drop n bs)) (later_step n b bs) ∙ agrees bs l n
 
-pub by_tokens : (text : List ℕ) (l : Option ℕ) → read_by l Plain (tokens_from Plain 0 text) text ≡ cleared l Text text
+pub by_tokens : (text : List ℕ) (l : Option ℕ) → read_by l Plain (tokens_from Plain 0 text) text ≡ byte_cleared l Text text
 by_tokens text l = agrees text l 0
+
+-- what is left of a text by its tokens is what is left byte by byte
+pub by_bytes : (text : List ℕ) (l : Option ℕ) → cleared l text ≡ byte_cleared l Text text
+unfolding cleared left_in
+by_bytes text l = by_tokens text l

@@ -4,10 +4,9 @@ use Rattle.std.specs.List.{flat_map}
 use Rattle.std.proofs.lemmas.Bool.{cases_Bool, cond-true, cond-false, false≢true, ne_eqb}
 use Rattle.std.proofs.lemmas.Grind.{flat_map-append}
 use Rattle.std.proofs.lemmas.List.Sums.{sum_by-cons, sum_by-append}
-use Rattle.rdlpp_table.specs.declared.body.Inside.TheVariants.{Text}
 use Rattle.rdlpp_table.specs.Table.{Formal, default_bytes, default_size, formal_bytes, formal_size}
-use Rattle.rdlpp_table.specs.Define.{FormalList, Listed, Unlisted, OneFormal, Good, Bad, behind_name, default_in, formal_fault, formal_in, formal_name, formals_in, formals_of_list}
-use Rattle.rdlpp_table.specs.Bodies.{cleared, start_level, trimmed_left, trimmed_len, trims}
+use Rattle.rdlpp_table.specs.Define.{FormalList, Listed, Unlisted, OneFormal, Good, Bad, behind_name, default_in, formal_fault, formal_in, formal_name, formals_in}
+use Rattle.rdlpp_lines.specs.Texts.{cleared, start_level, trimmed_left, trimmed_len, trims}
 use Rattle.rdlpp_table.specs.Formals.{IsDefault, IsPart, behind_told, default_left, formal_told, is_told, listed}
 use Rattle.rdlpp_scan.specs.declared.token.LexFault.{LexFault}
 use Rattle.rdlpp_table.specs.declared.fault.DefineKind.{DefineKind}
@@ -59,7 +58,7 @@ pub record IsTold (text name from behind : List ℕ) (size : ℕ) : Type 0 where
   pub size_is : formal_size (formal_told text) ≡ length name + (size + 1)
   pub short : size ≡ 0 → formal_bytes (formal_told text) ≡ name ++ 44 ∷ []
   pub long : 0 < size → formal_bytes (formal_told text) ≡ name ++ (61 ∷ default_left from ++ 44 ∷ [])
-  pub len : 0 < size → trimmed_len (trims true) (cleared (start_level true) Text from) ≡ Ok (size - 1)
+  pub len : 0 < size → trimmed_len (trims true) (cleared (start_level true) from) ≡ Ok (size - 1)
 
 size_of : (name from : List ℕ) (n : ℕ) → default_size (default_left from) ≡ n → formal_size (formal_with name from) ≡ length name + (n + 1)
 unfolding formal_size
@@ -237,11 +236,11 @@ append_last text rest old items more a h m c =
 pub record IsMid (text old items : List ℕ) : Type 0 where
   pub whole : items ++ 44 ∷ [] ≡ old ++ formal_bytes (formal_told text)
 
-left_is : (from : List ℕ) → trimmed_left (trims true) (cleared (start_level true) Text from) ≡ default_left from
+left_is : (from : List ℕ) → trimmed_left (trims true) (cleared (start_level true) from) ≡ default_left from
 unfolding start_level default_left
 left_is from = refl
 
-pub mid_long : (text name from behind old named signed items : List ℕ) (size : ℕ) → IsTold text name from behind size → 0 < size → named ≡ old ++ name → signed ≡ named ++ 61 ∷ [] → items ≡ signed ++ trimmed_left (trims true) (cleared (start_level true) Text from) → IsMid text old items
+pub mid_long : (text name from behind old named signed items : List ℕ) (size : ℕ) → IsTold text name from behind size → 0 < size → named ≡ old ++ name → signed ≡ named ++ 61 ∷ [] → items ≡ signed ++ trimmed_left (trims true) (cleared (start_level true) from) → IsMid text old items
 mid_long text name from behind old named signed items size t h e f g = record {
   whole =
       ap (λ (l : List ℕ). l ++ 44 ∷ []) (g ∙ (ap (λ (l : List ℕ). signed ++ l) (left_is from) ∙ ap (λ (l : List ℕ). l ++ default_left from) (f ∙ ap (λ (l : List ℕ). l ++ 61 ∷ []) e)))
@@ -265,10 +264,10 @@ long_size text name from behind size t h =
     let a = ap (length {A = ℕ}) (t.long h) in
     omega (arith, a, t.size_is, length_formal_bytes (formal_told text), length-append name (61 ∷ default_left from ++ 44 ∷ []), length-append (default_left from) (44 ∷ []))
 
-pub left_length : (text name from behind : List ℕ) (size : ℕ) (items more : List ℕ) → IsTold text name from behind size → 0 < size → more ≡ items ++ trimmed_left (trims true) (cleared (start_level true) Text from) → length more + 1 ≡ length items + size
+pub left_length : (text name from behind : List ℕ) (size : ℕ) (items more : List ℕ) → IsTold text name from behind size → 0 < size → more ≡ items ++ trimmed_left (trims true) (cleared (start_level true) from) → length more + 1 ≡ length items + size
 left_length text name from behind size items more t h e =
     let n : length (default_left from) ≡ size - 1 = omega (arith, long_size text name from behind size t h) in
-    omega (arith, ap (length {A = ℕ}) e, length-append items (trimmed_left (trims true) (cleared (start_level true) Text from)), ap (length {A = ℕ}) (left_is from))
+    omega (arith, ap (length {A = ℕ}) e, length-append items (trimmed_left (trims true) (cleared (start_level true) from)), ap (length {A = ℕ}) (left_is from))
 
 pub behind_comma : (text behind after : List ℕ) (b : ℕ) → behind_told text ≡ behind → behind ≡ b ∷ after → b ≡ 44 → behind_told text ≡ 44 ∷ after
 behind_comma text behind after b e f g = e ∙ (f ∙ ap (λ (x : ℕ). x ∷ after) g)

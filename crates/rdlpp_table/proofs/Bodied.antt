@@ -1,5 +1,5 @@
 -- A macro with a body, by what is left of the body's text.
-use Rattle.std.proofs.Common.{◌≡◌, ℕ, Bool, true, false, cond, List, [], ◌∷◌, ◌++◌, take, drop, Option, Some, None, Ok, Err, refl, ap, sym, ◌∙◌, inl, inr}
+use Rattle.std.proofs.Common.{◌≡◌, ℕ, true, false, List, [], ◌∷◌, ◌++◌, take, drop, Option, Some, None, Ok, Err, refl, ap, sym, ◌∙◌, inl, inr}
 use Rattle.rdlpp_scan.specs.declared.token.Kind.{Kind}
 use Rattle.rdlpp_scan.specs.declared.token.Kind.TheVariants.{Name, Word, Back, Blank, LineEnd, Str, LineComment, BlockComment, Opener, Closer, Comma, Other, Perl, BareBackquote}
 use Rattle.rdlpp_scan.specs.declared.token.Token.{Token}
@@ -8,17 +8,16 @@ use Rattle.rdlpp_scan.specs.declared.token.Mode.TheVariants.{Plain}
 use Rattle.rdlpp_scan.specs.declared.token.LexFault.{LexFault}
 use Rattle.rdlpp_scan.specs.Tokens.{tokens_from}
 use Rattle.rdlpp_scan.specs.LexFaults.{is_perl, open_fault, fault_of_tokens, lex_fault_from}
-use Rattle.rdlpp_table.specs.declared.body.Inside.TheVariants.{Text}
 use Rattle.std.proofs.lemmas.Bool.{cases_Bool, cond-true, cond-false}
 use Rattle.rdlpp_scan.specs.Names.{is_name}
 use Rattle.rdlpp_table.specs.declared.fault.DefineKind.{DefineKind}
 use Rattle.rdlpp_table.specs.declared.fault.DefineKind.TheVariants as kind
 use Rattle.rdlpp_table.specs.declared.fault.DefineFault.{DefineFault}
 use Rattle.rdlpp_table.specs.Table.{Formal, Macro}
-use Rattle.rdlpp_table.specs.Bodies.{Cleared, Sound, Unsound, onto, trimmed_left, trimmed_len, trims, cleared, joined}
+use Rattle.rdlpp_lines.specs.Continuations.{joined}
+use Rattle.rdlpp_lines.specs.Texts.{Cleared, Sound, Unsound, onto, trimmed_left, trimmed_len, trims, cleared}
 use Rattle.rdlpp_table.specs.Define.{Draft, Drawn, Rejected, lexical, observed, macro_set, name_fault, refused_word, set_of, stored, stored_draft, trimmed, with_body, without_list, without_remarks}
-use Rattle.rdlpp_table.proofs.Agrees.{told, read_by, by_tokens}
-use Rattle.rdlpp_table.proofs.Kept.{kept_bytes}
+use Rattle.rdlpp_lines.specs.Texts.{told, read_by, left_in, kept_bytes}
 use Rattle.rdlpp_table.proofs.Held.{refused_is}
 
 -- the draft of what is left
@@ -74,11 +73,11 @@ body_read mode (t ∷ ts) text =
           ∙ sym (ap (λ (f : Option LexFault). told f (without_remarks (t ∷ ts) text)) (cond-false _ _ _ e)))))
     ]
 
-pub same_left : (text : List ℕ) → told (lex_fault_from Plain text) (without_remarks (tokens_from Plain 0 text) text) ≡ cleared None Text text
-unfolding lex_fault_from
-same_left text = sym (body_read Plain (tokens_from Plain 0 text) text) ∙ by_tokens text None
+pub same_left : (text : List ℕ) → told (lex_fault_from Plain text) (without_remarks (tokens_from Plain 0 text) text) ≡ cleared None text
+unfolding lex_fault_from cleared left_in
+same_left text = sym (body_read Plain (tokens_from Plain 0 text) text)
 
-body_draft : (name : List ℕ) (formals : Option (List Formal)) (text : List ℕ) → with_body name formals text ≡ drafted_by name formals (cleared None Text text)
+body_draft : (name : List ℕ) (formals : Option (List Formal)) (text : List ℕ) → with_body name formals text ≡ drafted_by name formals (cleared None text)
 unfolding with_body
 body_draft name formals text =
     by_fault name formals (lex_fault_from Plain text) (without_remarks (tokens_from Plain 0 text) text) ∙ ap (drafted_by name formals) (same_left text)
@@ -93,14 +92,18 @@ unfolding trimmed_len
 rejected_by name formals (Sound rest last) fault e = absurd (cc)
 rejected_by name formals (Unsound other) fault e = let same : other ≡ fault = cc in ap (λ (f : LexFault). Rejected (lexical f) []) same
 
-pub body_stores : (a b : ℕ) (ms : List Macro) (name : List ℕ) (formals : Option (List Formal)) (text : List ℕ) (len : ℕ) → Ok len ≡ trimmed_len (trims false) (cleared None Text text) → stored a b ms (record { name = name; formals = formals; body = trimmed_left (trims false) (cleared None Text text) }) ≡ stored_draft a b ms (with_body name formals text)
-unfolding stored_draft
-body_stores a b ms name formals text len e = sym (ap (stored_draft a b ms) (body_draft name formals text ∙ drawn_by name formals (cleared None Text text) len e))
+-- a body without a fault gives the macro
+pub body_drawn : (name : List ℕ) (formals : Option (List Formal)) (text : List ℕ) (len : ℕ) → Ok len ≡ trimmed_len (trims false) (cleared None text) → with_body name formals text ≡ Drawn (record { name = name; formals = formals; body = trimmed_left (trims false) (cleared None text) })
+body_drawn name formals text len e = body_draft name formals text ∙ drawn_by name formals (cleared None text) len e
 
-pub body_refuses : (a b : ℕ) (ms : List Macro) (name : List ℕ) (formals : Option (List Formal)) (text : List ℕ) (fault : LexFault) (refused : DefineFault) → Err fault ≡ trimmed_len (trims false) (cleared None Text text) → refused.kind ≡ lexical fault → refused.word.bytes ≡ [] → observed (Err refused) ms ≡ stored_draft a b ms (with_body name formals text)
+pub body_stores : (a b : ℕ) (ms : List Macro) (name : List ℕ) (formals : Option (List Formal)) (text : List ℕ) (len : ℕ) → Ok len ≡ trimmed_len (trims false) (cleared None text) → stored a b ms (record { name = name; formals = formals; body = trimmed_left (trims false) (cleared None text) }) ≡ stored_draft a b ms (with_body name formals text)
+unfolding stored_draft
+body_stores a b ms name formals text len e = sym (ap (stored_draft a b ms) (body_drawn name formals text len e))
+
+pub body_refuses : (a b : ℕ) (ms : List Macro) (name : List ℕ) (formals : Option (List Formal)) (text : List ℕ) (fault : LexFault) (refused : DefineFault) → Err fault ≡ trimmed_len (trims false) (cleared None text) → refused.kind ≡ lexical fault → refused.word.bytes ≡ [] → observed (Err refused) ms ≡ stored_draft a b ms (with_body name formals text)
 unfolding stored_draft
 body_refuses a b ms name formals text fault refused e k w =
-    refused_is refused (lexical fault) ms k w ∙ sym (ap (stored_draft a b ms) (body_draft name formals text ∙ rejected_by name formals (cleared None Text text) fault e))
+    refused_is refused (lexical fault) ms k w ∙ sym (ap (stored_draft a b ms) (body_draft name formals text ∙ rejected_by name formals (cleared None text) fault e))
 
 -- a macro that is set, by what is wrong with its name
 pub set_nameless : (a b : ℕ) (ms : List Macro) (name text : List ℕ) (fault : DefineFault) → is_name name ≡ false → fault.kind ≡ kind.NameExpected → fault.word.bytes ≡ [] → observed (Err fault) ms ≡ set_of a b ms name text

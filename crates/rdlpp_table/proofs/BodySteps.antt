@@ -4,9 +4,10 @@ use Rattle.std.proofs.lemmas.Bool.{cond-true, cond-false}
 use Rattle.rdlpp_table.proofs.Clears.{onto_none}
 use Rattle.rdlpp_scan.specs.declared.token.LexFault.TheVariants.{Perl}
 use Rattle.rdlpp_scan.specs.Bytes.{begins_perl, begins_line_comment, begins_block_comment, ends_block_comment}
-use Rattle.rdlpp_table.specs.declared.body.Inside.{Inside}
-use Rattle.rdlpp_table.specs.declared.body.Inside.TheVariants.{Text, Remark, Opening, Comment, Closing, Quoted, Taken}
-use Rattle.rdlpp_table.specs.Bodies.{Cleared, Sound, Unsound, onto, at_end, text_behind, IsNext, stops_at, level_after, minds_perl, keeps_first, behind_first, cleared}
+use Rattle.rdlpp_table.specs.Insides.{Inside}
+use Rattle.rdlpp_table.specs.Insides.{Text, Remark, Opening, Comment, Closing, Quoted, Taken}
+use Rattle.rdlpp_lines.specs.Texts.{Cleared, Sound, Unsound, onto, text_behind, IsNext}
+use Rattle.rdlpp_table.specs.Insides.{at_end, stops_at, level_after, minds_perl, keeps_first, behind_first, byte_cleared}
 
 perl_by_two : (b : ℕ) (bs : List ℕ) (c : ℕ) → c ≡ get_or bs 0 0 → begins_perl (b ∷ bs) ≡ begins_perl (b ∷ c ∷ [])
 unfolding begins_perl
@@ -37,28 +38,28 @@ abbrev pub step_of : Option ℕ → Inside → ℕ → ℕ → List ℕ → Clea
 step_of l i b c bs =
     cond (stops_at l i b) (Sound [] (b ∷ bs))
     (cond (minds_perl i && begins_perl (b ∷ c ∷ [])) (Unsound Perl)
-    (onto (cond (keeps_first i (b ∷ c ∷ [])) (b ∷ []) []) (cleared (level_after l i b) (behind_first i (b ∷ c ∷ [])) bs)))
+    (onto (cond (keeps_first i (b ∷ c ∷ [])) (b ∷ []) []) (byte_cleared (level_after l i b) (behind_first i (b ∷ c ∷ [])) bs)))
 
-pub by_two : (l : Option ℕ) (i : Inside) (b : ℕ) (bs : List ℕ) (c : ℕ) → c ≡ get_or bs 0 0 → cleared l i (b ∷ bs) ≡ step_of l i b c bs
-unfolding cleared
+pub by_two : (l : Option ℕ) (i : Inside) (b : ℕ) (bs : List ℕ) (c : ℕ) → c ≡ get_or bs 0 0 → byte_cleared l i (b ∷ bs) ≡ step_of l i b c bs
+unfolding byte_cleared
 by_two l i b bs c e =
-    ap (λ (p : Bool). cond (stops_at l i b) (Sound [] (b ∷ bs)) (cond (minds_perl i && p) (Unsound Perl) (onto (cond (keeps_first i (b ∷ bs)) (b ∷ []) []) (cleared (level_after l i b) (behind_first i (b ∷ bs)) bs)))) (perl_by_two b bs c e)
-    ∙ (ap (λ (k : Bool). cond (stops_at l i b) (Sound [] (b ∷ bs)) (cond (minds_perl i && begins_perl (b ∷ c ∷ [])) (Unsound Perl) (onto (cond k (b ∷ []) []) (cleared (level_after l i b) (behind_first i (b ∷ bs)) bs)))) (keeps_by_two i b bs c e)
-    ∙ ap (λ (j : Inside). cond (stops_at l i b) (Sound [] (b ∷ bs)) (cond (minds_perl i && begins_perl (b ∷ c ∷ [])) (Unsound Perl) (onto (cond (keeps_first i (b ∷ c ∷ [])) (b ∷ []) []) (cleared (level_after l i b) j bs)))) (behind_by_two i b bs c e))
+    ap (λ (p : Bool). cond (stops_at l i b) (Sound [] (b ∷ bs)) (cond (minds_perl i && p) (Unsound Perl) (onto (cond (keeps_first i (b ∷ bs)) (b ∷ []) []) (byte_cleared (level_after l i b) (behind_first i (b ∷ bs)) bs)))) (perl_by_two b bs c e)
+    ∙ (ap (λ (k : Bool). cond (stops_at l i b) (Sound [] (b ∷ bs)) (cond (minds_perl i && begins_perl (b ∷ c ∷ [])) (Unsound Perl) (onto (cond k (b ∷ []) []) (byte_cleared (level_after l i b) (behind_first i (b ∷ bs)) bs)))) (keeps_by_two i b bs c e)
+    ∙ ap (λ (j : Inside). cond (stops_at l i b) (Sound [] (b ∷ bs)) (cond (minds_perl i && begins_perl (b ∷ c ∷ [])) (Unsound Perl) (onto (cond (keeps_first i (b ∷ c ∷ [])) (b ∷ []) []) (byte_cleared (level_after l i b) j bs)))) (behind_by_two i b bs c e))
 
-pub step_stop : (l : Option ℕ) (i : Inside) (text : List ℕ) (b : ℕ) (bs : List ℕ) → text ≡ b ∷ bs → stops_at l i b ≡ true → cleared l i text ≡ Sound [] text
-unfolding cleared
-step_stop l i text b bs t s = ap (cleared l i) t ∙ (cond-true _ _ _ s ∙ ap (Sound []) (sym t))
+pub step_stop : (l : Option ℕ) (i : Inside) (text : List ℕ) (b : ℕ) (bs : List ℕ) → text ≡ b ∷ bs → stops_at l i b ≡ true → byte_cleared l i text ≡ Sound [] text
+unfolding byte_cleared
+step_stop l i text b bs t s = ap (byte_cleared l i) t ∙ (cond-true _ _ _ s ∙ ap (Sound []) (sym t))
 
-pub step_cut : (l : Option ℕ) (i : Inside) (text : List ℕ) (b : ℕ) (bs : List ℕ) (c : ℕ) → text ≡ b ∷ bs → stops_at l i b ≡ false → c ≡ get_or bs 0 0 → (minds_perl i && begins_perl (b ∷ c ∷ [])) ≡ true → cleared l i text ≡ Unsound Perl
-step_cut l i text b bs c t s e p = ap (cleared l i) t ∙ (by_two l i b bs c e ∙ (cond-false _ _ _ s ∙ cond-true _ _ _ p))
+pub step_cut : (l : Option ℕ) (i : Inside) (text : List ℕ) (b : ℕ) (bs : List ℕ) (c : ℕ) → text ≡ b ∷ bs → stops_at l i b ≡ false → c ≡ get_or bs 0 0 → (minds_perl i && begins_perl (b ∷ c ∷ [])) ≡ true → byte_cleared l i text ≡ Unsound Perl
+step_cut l i text b bs c t s e p = ap (byte_cleared l i) t ∙ (by_two l i b bs c e ∙ (cond-false _ _ _ s ∙ cond-true _ _ _ p))
 
-pub step_on : (l : Option ℕ) (i : Inside) (text : List ℕ) (b : ℕ) (bs : List ℕ) (c : ℕ) → text ≡ b ∷ bs → stops_at l i b ≡ false → c ≡ get_or bs 0 0 → (minds_perl i && begins_perl (b ∷ c ∷ [])) ≡ false → cleared l i text ≡ onto (cond (keeps_first i (b ∷ c ∷ [])) (b ∷ []) []) (cleared (level_after l i b) (behind_first i (b ∷ c ∷ [])) bs)
-step_on l i text b bs c t s e p = ap (cleared l i) t ∙ (by_two l i b bs c e ∙ (cond-false _ _ _ s ∙ cond-false _ _ _ p))
+pub step_on : (l : Option ℕ) (i : Inside) (text : List ℕ) (b : ℕ) (bs : List ℕ) (c : ℕ) → text ≡ b ∷ bs → stops_at l i b ≡ false → c ≡ get_or bs 0 0 → (minds_perl i && begins_perl (b ∷ c ∷ [])) ≡ false → byte_cleared l i text ≡ onto (cond (keeps_first i (b ∷ c ∷ [])) (b ∷ []) []) (byte_cleared (level_after l i b) (behind_first i (b ∷ c ∷ [])) bs)
+step_on l i text b bs c t s e p = ap (byte_cleared l i) t ∙ (by_two l i b bs c e ∙ (cond-false _ _ _ s ∙ cond-false _ _ _ p))
 
-pub end_left : (l : Option ℕ) (i : Inside) (text : List ℕ) → text ≡ [] → cleared l i text ≡ at_end i
-unfolding cleared
-end_left l i text e = ap (cleared l i) e
+pub end_left : (l : Option ℕ) (i : Inside) (text : List ℕ) → text ≡ [] → byte_cleared l i text ≡ at_end i
+unfolding byte_cleared
+end_left l i text e = ap (byte_cleared l i) e
 
 -- a text behind a byte that is read
 pub record IsPassed (l m : Option ℕ) (i j : Inside) (text bs : List ℕ) (b c : ℕ) : Type 0 where
@@ -69,20 +70,20 @@ pub record IsPassed (l m : Option ℕ) (i j : Inside) (text bs : List ℕ) (b c 
   pub level_is : m ≡ level_after l i b
   pub inside_is : j ≡ behind_first i (b ∷ c ∷ [])
 
-pub kept_on : (l m : Option ℕ) (i j : Inside) (text bs : List ℕ) (b c : ℕ) → IsPassed l m i j text bs b c → keeps_first i (b ∷ c ∷ []) ≡ true → cleared l i text ≡ onto (b ∷ []) (cleared m j bs)
+pub kept_on : (l m : Option ℕ) (i j : Inside) (text bs : List ℕ) (b c : ℕ) → IsPassed l m i j text bs b c → keeps_first i (b ∷ c ∷ []) ≡ true → byte_cleared l i text ≡ onto (b ∷ []) (byte_cleared m j bs)
 kept_on l m i j text bs b c p k =
     step_on l i text b bs c p.text_is p.goes_on p.next_is p.no_perl
-    ∙ (ap (λ (x : Bool). onto (cond x (b ∷ []) []) (cleared (level_after l i b) (behind_first i (b ∷ c ∷ [])) bs)) k
-    ∙ (ap (λ (x : Inside). onto (b ∷ []) (cleared (level_after l i b) x bs)) (sym p.inside_is)
-    ∙ ap (λ (x : Option ℕ). onto (b ∷ []) (cleared x j bs)) (sym p.level_is)))
+    ∙ (ap (λ (x : Bool). onto (cond x (b ∷ []) []) (byte_cleared (level_after l i b) (behind_first i (b ∷ c ∷ [])) bs)) k
+    ∙ (ap (λ (x : Inside). onto (b ∷ []) (byte_cleared (level_after l i b) x bs)) (sym p.inside_is)
+    ∙ ap (λ (x : Option ℕ). onto (b ∷ []) (byte_cleared x j bs)) (sym p.level_is)))
 
-pub dropped_on : (l m : Option ℕ) (i j : Inside) (text bs : List ℕ) (b c : ℕ) → IsPassed l m i j text bs b c → keeps_first i (b ∷ c ∷ []) ≡ false → cleared l i text ≡ cleared m j bs
+pub dropped_on : (l m : Option ℕ) (i j : Inside) (text bs : List ℕ) (b c : ℕ) → IsPassed l m i j text bs b c → keeps_first i (b ∷ c ∷ []) ≡ false → byte_cleared l i text ≡ byte_cleared m j bs
 dropped_on l m i j text bs b c p k =
     step_on l i text b bs c p.text_is p.goes_on p.next_is p.no_perl
-    ∙ (ap (λ (x : Bool). onto (cond x (b ∷ []) []) (cleared (level_after l i b) (behind_first i (b ∷ c ∷ [])) bs)) k
+    ∙ (ap (λ (x : Bool). onto (cond x (b ∷ []) []) (byte_cleared (level_after l i b) (behind_first i (b ∷ c ∷ [])) bs)) k
     ∙ (onto_none _
-    ∙ (ap (λ (x : Inside). cleared (level_after l i b) x bs) (sym p.inside_is)
-    ∙ ap (λ (x : Option ℕ). cleared x j bs) (sym p.level_is))))
+    ∙ (ap (λ (x : Inside). byte_cleared (level_after l i b) x bs) (sym p.inside_is)
+    ∙ ap (λ (x : Option ℕ). byte_cleared x j bs) (sym p.level_is))))
 
 -- a text that is at its end
 pub stop_next : (old new : Cleared) (text : List ℕ) → new ≡ old → new ≡ Sound [] text → IsNext old (Ok None) new

@@ -5,9 +5,10 @@ use Rattle.std.proofs.lemmas.Bool.{cases_Bool, cond-true, cond-false, and_parts,
 use Rattle.rdlpp_scan.specs.declared.token.LexFault.TheVariants.{Perl, OpenString, OpenComment}
 use Rattle.rdlpp_scan.specs.Bytes.{is_line_end, is_opener, is_closer, begins_perl, begins_line_comment, begins_block_comment, ends_block_comment}
 use Rattle.rdlpp_scan.specs.Tokens.{first_place, string_stop}
-use Rattle.rdlpp_table.specs.declared.body.Inside.{Inside}
-use Rattle.rdlpp_table.specs.declared.body.Inside.TheVariants.{Text, Remark, Opening, Comment, Closing, Quoted, Taken}
-use Rattle.rdlpp_table.specs.Bodies.{Cleared, Sound, Unsound, onto, at_end, ends_at, stops_at, level_of, level_after, minds_perl, keeps_first, behind_first, cleared}
+use Rattle.rdlpp_table.specs.Insides.{Inside}
+use Rattle.rdlpp_table.specs.Insides.{Text, Remark, Opening, Comment, Closing, Quoted, Taken}
+use Rattle.rdlpp_lines.specs.Texts.{Cleared, Sound, Unsound, onto}
+use Rattle.rdlpp_table.specs.Insides.{at_end, ends_at, stops_at, level_of, level_after, minds_perl, keeps_first, behind_first, byte_cleared}
 
 pub onto_none : (c : Cleared) → onto [] c ≡ c
 unfolding onto
@@ -40,11 +41,11 @@ free_level None b f = refl
 free_level (Some n) b f = ap Some (cond-false (is_opener b) _ _ f.opener ∙ cond-false (is_closer b) _ _ f.closer)
 
 -- plain text by its first byte
-pub text_step : (l : Option ℕ) (b : ℕ) (bs : List ℕ) → IsFree b → cleared l Text (b ∷ bs) ≡ cond (begins_perl (b ∷ bs)) (Unsound Perl) (onto (cond (not (begins_line_comment (b ∷ bs))) (b ∷ []) []) (cleared l (behind_first Text (b ∷ bs)) bs))
-unfolding cleared stops_at level_after minds_perl keeps_first
+pub text_step : (l : Option ℕ) (b : ℕ) (bs : List ℕ) → IsFree b → byte_cleared l Text (b ∷ bs) ≡ cond (begins_perl (b ∷ bs)) (Unsound Perl) (onto (cond (not (begins_line_comment (b ∷ bs))) (b ∷ []) []) (byte_cleared l (behind_first Text (b ∷ bs)) bs))
+unfolding byte_cleared stops_at level_after minds_perl keeps_first
 text_step l b bs f =
     cond-false _ _ _ (free_ends l b f)
-    ∙ ap (λ (m : Option ℕ). cond (begins_perl (b ∷ bs)) (Unsound Perl) (onto (cond (not (begins_line_comment (b ∷ bs))) (b ∷ []) []) (cleared m (behind_first Text (b ∷ bs)) bs))) (free_level l b f)
+    ∙ ap (λ (m : Option ℕ). cond (begins_perl (b ∷ bs)) (Unsound Perl) (onto (cond (not (begins_line_comment (b ∷ bs))) (b ∷ []) []) (byte_cleared m (behind_first Text (b ∷ bs)) bs))) (free_level l b f)
 
 -- a byte that begins no string, comment or `<%`
 pub record IsPlain (b : ℕ) : Type 0 where
@@ -54,26 +55,26 @@ pub record IsPlain (b : ℕ) : Type 0 where
   pub less : eqb b 60 ≡ false
 
 module _ (l : Option ℕ) where
-  pub one_plain : (b : ℕ) (bs : List ℕ) → IsPlain b → cleared l Text (b ∷ bs) ≡ onto (b ∷ []) (cleared l Text bs)
-  unfolding cleared stops_at level_after minds_perl keeps_first behind_first begins_perl begins_line_comment begins_block_comment
+  pub one_plain : (b : ℕ) (bs : List ℕ) → IsPlain b → byte_cleared l Text (b ∷ bs) ≡ onto (b ∷ []) (byte_cleared l Text bs)
+  unfolding byte_cleared stops_at level_after minds_perl keeps_first behind_first begins_perl begins_line_comment begins_block_comment
   one_plain b bs p =
       text_step l b bs p.free
       ∙ (cond-false _ _ _ (and_left _ _ p.less)
-      ∙ (ap (λ (t : Bool). onto (cond (not t) (b ∷ []) []) (cleared l (cond t Remark (cond (eqb b 47 && eqb (get_or (b ∷ bs) 1 0) 42) Opening (cond (eqb b 34) Quoted Text))) bs)) (and_left (eqb b 47) (eqb (get_or (b ∷ bs) 1 0) 47) p.slash)
-      ∙ (ap (λ (t : Bool). onto (b ∷ []) (cleared l (cond t Opening (cond (eqb b 34) Quoted Text)) bs)) (and_left (eqb b 47) (eqb (get_or (b ∷ bs) 1 0) 42) p.slash)
-      ∙ ap (λ (t : Bool). onto (b ∷ []) (cleared l (cond t Quoted Text) bs)) p.quote)))
+      ∙ (ap (λ (t : Bool). onto (cond (not t) (b ∷ []) []) (byte_cleared l (cond t Remark (cond (eqb b 47 && eqb (get_or (b ∷ bs) 1 0) 42) Opening (cond (eqb b 34) Quoted Text))) bs)) (and_left (eqb b 47) (eqb (get_or (b ∷ bs) 1 0) 47) p.slash)
+      ∙ (ap (λ (t : Bool). onto (b ∷ []) (byte_cleared l (cond t Opening (cond (eqb b 34) Quoted Text)) bs)) (and_left (eqb b 47) (eqb (get_or (b ∷ bs) 1 0) 42) p.slash)
+      ∙ ap (λ (t : Bool). onto (b ∷ []) (byte_cleared l (cond t Quoted Text) bs)) p.quote)))
 
   -- a run of plain bytes
-  pub plain_run : (test : ℕ → Bool) → ((b : ℕ) → test b ≡ true → IsPlain b) → (bs : List ℕ) → cleared l Text bs ≡ onto (take (prefix_len test bs) bs) (cleared l Text (drop (prefix_len test bs) bs))
+  pub plain_run : (test : ℕ → Bool) → ((b : ℕ) → test b ≡ true → IsPlain b) → (bs : List ℕ) → byte_cleared l Text bs ≡ onto (take (prefix_len test bs) bs) (byte_cleared l Text (drop (prefix_len test bs) bs))
   plain_run test plain [] = sym (onto_none _)
   plain_run test plain (b ∷ bs) =
-      let P : Bool → Type 0 = λ t. cleared l Text (b ∷ bs) ≡ onto (take (cond t (1 + prefix_len test bs) 0) (b ∷ bs)) (cleared l Text (drop (cond t (1 + prefix_len test bs) 0) (b ∷ bs))) in
+      let P : Bool → Type 0 = λ t. byte_cleared l Text (b ∷ bs) ≡ onto (take (cond t (1 + prefix_len test bs) 0) (b ∷ bs)) (byte_cleared l Text (drop (cond t (1 + prefix_len test bs) 0) (b ∷ bs))) in
       elim (cases_Bool (test b)) [
         | inl e ↦ subst P (sym e)
             (one_plain b bs (plain b e)
             ∙ (ap (onto (b ∷ [])) (plain_run test plain bs)
             ∙ (onto_both (b ∷ []) _ _
-            ∙ ap (λ (n : ℕ). onto (take n (b ∷ bs)) (cleared l Text (drop n (b ∷ bs)))) (sym (one-add (prefix_len test bs))))))
+            ∙ ap (λ (n : ℕ). onto (take n (b ∷ bs)) (byte_cleared l Text (drop n (b ∷ bs)))) (sym (one-add (prefix_len test bs))))))
         | inr e ↦ subst P (sym e) (sym (onto_none _))
       ]
 
@@ -82,15 +83,15 @@ module _ (l : Option ℕ) where
   line_plain b e = subst (λ (x : ℕ). IsPlain x) (sym (eqb-true b 10 e)) (record { free = record { opener = refl; closer = refl; comma = refl }; quote = refl; slash = refl; less = refl })
 
   -- a `//` comment goes up to its line's end
-  pub clears_remark : (bs : List ℕ) → cleared l Remark bs ≡ cleared l Text (drop (prefix_len (λ x. not (is_line_end x)) bs) bs)
-  unfolding cleared stops_at level_after at_end minds_perl keeps_first behind_first
+  pub clears_remark : (bs : List ℕ) → byte_cleared l Remark bs ≡ byte_cleared l Text (drop (prefix_len (λ x. not (is_line_end x)) bs) bs)
+  unfolding byte_cleared stops_at level_after at_end minds_perl keeps_first behind_first
   clears_remark [] = refl
   clears_remark (b ∷ bs) =
       let test : ℕ → Bool = λ x. not (is_line_end x) in
-      let P : Bool → Type 0 = λ t. onto (cond t (b ∷ []) []) (cleared l (cond t Text Remark) bs) ≡ cleared l Text (drop (cond (not t) (1 + prefix_len test bs) 0) (b ∷ bs)) in
+      let P : Bool → Type 0 = λ t. onto (cond t (b ∷ []) []) (byte_cleared l (cond t Text Remark) bs) ≡ byte_cleared l Text (drop (cond (not t) (1 + prefix_len test bs) 0) (b ∷ bs)) in
       elim (cases_Bool (is_line_end b)) [
         | inl e ↦ subst P (sym e) (sym (one_plain b bs (line_plain b e)))
-        | inr e ↦ subst P (sym e) (onto_none _ ∙ (clears_remark bs ∙ ap (λ (n : ℕ). cleared l Text (drop n (b ∷ bs))) (sym (one-add (prefix_len test bs)))))
+        | inr e ↦ subst P (sym e) (onto_none _ ∙ (clears_remark bs ∙ ap (λ (n : ℕ). byte_cleared l Text (drop n (b ∷ bs))) (sym (one-add (prefix_len test bs)))))
       ]
 
   -- the state inside a string
@@ -118,35 +119,35 @@ module _ (l : Option ℕ) where
   unfolding begins_perl
   quote_no_perl b bs e = ap (λ (x : ℕ). eqb x 60 && eqb (get_or (x ∷ bs) 1 0) 37) (eqb-true b 34 e)
 
-  quoted_closes : (b : ℕ) (bs : List ℕ) → eqb b 34 ≡ true → cleared l Quoted (b ∷ bs) ≡ onto (b ∷ []) (cleared l Text bs)
-  unfolding cleared stops_at level_after minds_perl keeps_first behind_first
-  quoted_closes b bs e = cond-false _ _ _ (quote_no_perl b bs e) ∙ ap (λ (t : Bool). onto (b ∷ []) (cleared l (cond t Text (cond (eqb b 92) Taken Quoted)) bs)) e
+  quoted_closes : (b : ℕ) (bs : List ℕ) → eqb b 34 ≡ true → byte_cleared l Quoted (b ∷ bs) ≡ onto (b ∷ []) (byte_cleared l Text bs)
+  unfolding byte_cleared stops_at level_after minds_perl keeps_first behind_first
+  quoted_closes b bs e = cond-false _ _ _ (quote_no_perl b bs e) ∙ ap (λ (t : Bool). onto (b ∷ []) (byte_cleared l (cond t Text (cond (eqb b 92) Taken Quoted)) bs)) e
 
-  quoted_goes_on : (b : ℕ) (bs : List ℕ) → eqb b 34 ≡ false → begins_perl (b ∷ bs) ≡ false → cleared l Quoted (b ∷ bs) ≡ onto (b ∷ []) (cleared l (within (eqb b 92)) bs)
-  unfolding cleared stops_at level_after minds_perl keeps_first behind_first
-  quoted_goes_on b bs e p = cond-false _ _ _ p ∙ ap (λ (t : Bool). onto (b ∷ []) (cleared l (cond t Text (cond (eqb b 92) Taken Quoted)) bs)) e
+  quoted_goes_on : (b : ℕ) (bs : List ℕ) → eqb b 34 ≡ false → begins_perl (b ∷ bs) ≡ false → byte_cleared l Quoted (b ∷ bs) ≡ onto (b ∷ []) (byte_cleared l (within (eqb b 92)) bs)
+  unfolding byte_cleared stops_at level_after minds_perl keeps_first behind_first
+  quoted_goes_on b bs e p = cond-false _ _ _ p ∙ ap (λ (t : Bool). onto (b ∷ []) (byte_cleared l (cond t Text (cond (eqb b 92) Taken Quoted)) bs)) e
 
-  quoted_perl : (b : ℕ) (bs : List ℕ) → begins_perl (b ∷ bs) ≡ true → cleared l Quoted (b ∷ bs) ≡ Unsound Perl
-  unfolding cleared stops_at level_after minds_perl
+  quoted_perl : (b : ℕ) (bs : List ℕ) → begins_perl (b ∷ bs) ≡ true → byte_cleared l Quoted (b ∷ bs) ≡ Unsound Perl
+  unfolding byte_cleared stops_at level_after minds_perl
   quoted_perl b bs p = cond-true _ _ _ p
 
-  taken_goes_on : (b : ℕ) (bs : List ℕ) → cleared l Taken (b ∷ bs) ≡ onto (b ∷ []) (cleared l Quoted bs)
-  unfolding cleared stops_at level_after minds_perl keeps_first behind_first
+  taken_goes_on : (b : ℕ) (bs : List ℕ) → byte_cleared l Taken (b ∷ bs) ≡ onto (b ∷ []) (byte_cleared l Quoted bs)
+  unfolding byte_cleared stops_at level_after minds_perl keeps_first behind_first
   taken_goes_on b bs = refl
 
-  quoted_ends : (taken : Bool) → cleared l (within taken) [] ≡ Unsound OpenString
-  unfolding cleared stops_at level_after at_end
+  quoted_ends : (taken : Bool) → byte_cleared l (within taken) [] ≡ Unsound OpenString
+  unfolding byte_cleared stops_at level_after at_end
   quoted_ends true = refl
   quoted_ends false = refl
 
   -- what a string's text is, by where it stops
   pub record StringRead (taken : Bool) (bs : List ℕ) (stop : ℕ) : Type 0 where
-    pub closed : eqb (get_or bs stop 0) 34 ≡ true → cleared l (within taken) bs ≡ onto (take (suc stop) bs) (cleared l Text (drop (suc stop) bs))
-    pub cut : eqb (get_or bs stop 0) 34 ≡ false → stop < length bs → (cleared l (within taken) bs ≡ Unsound Perl) × (begins_perl (drop stop bs) ≡ true)
-    pub open_end : length bs ≤ stop → cleared l (within taken) bs ≡ Unsound OpenString
+    pub closed : eqb (get_or bs stop 0) 34 ≡ true → byte_cleared l (within taken) bs ≡ onto (take (suc stop) bs) (byte_cleared l Text (drop (suc stop) bs))
+    pub cut : eqb (get_or bs stop 0) 34 ≡ false → stop < length bs → (byte_cleared l (within taken) bs ≡ Unsound Perl) × (begins_perl (drop stop bs) ≡ true)
+    pub open_end : length bs ≤ stop → byte_cleared l (within taken) bs ≡ Unsound OpenString
 
   -- a byte in front of a string's text
-  longer_string : (taken : Bool) (b : ℕ) (bs : List ℕ) (before : Bool) (stop : ℕ) → cleared l (within before) (b ∷ bs) ≡ onto (b ∷ []) (cleared l (within taken) bs) → StringRead taken bs stop → StringRead before (b ∷ bs) (suc stop)
+  longer_string : (taken : Bool) (b : ℕ) (bs : List ℕ) (before : Bool) (stop : ℕ) → byte_cleared l (within before) (b ∷ bs) ≡ onto (b ∷ []) (byte_cleared l (within taken) bs) → StringRead taken bs stop → StringRead before (b ∷ bs) (suc stop)
   unfolding onto
   longer_string taken b bs before stop e r = record {
     closed = λ h. e ∙ (ap (onto (b ∷ [])) (r.closed h) ∙ onto_both (b ∷ []) _ _);
@@ -184,23 +185,23 @@ module _ (l : Option ℕ) where
         ]
       ]
 
-  comment_goes_on : (b : ℕ) (bs : List ℕ) → ends_block_comment (b ∷ bs) ≡ false → cleared l Comment (b ∷ bs) ≡ onto (b ∷ []) (cleared l Comment bs)
-  unfolding cleared stops_at level_after minds_perl keeps_first behind_first
-  comment_goes_on b bs e = ap (λ (t : Bool). onto (b ∷ []) (cleared l (cond t Closing Comment) bs)) e
+  comment_goes_on : (b : ℕ) (bs : List ℕ) → ends_block_comment (b ∷ bs) ≡ false → byte_cleared l Comment (b ∷ bs) ≡ onto (b ∷ []) (byte_cleared l Comment bs)
+  unfolding byte_cleared stops_at level_after minds_perl keeps_first behind_first
+  comment_goes_on b bs e = ap (λ (t : Bool). onto (b ∷ []) (byte_cleared l (cond t Closing Comment) bs)) e
 
-  comment_closes : (b : ℕ) (bs : List ℕ) → ends_block_comment (b ∷ bs) ≡ true → cleared l Comment (b ∷ bs) ≡ onto (take 2 (b ∷ bs)) (cleared l Text (drop 2 (b ∷ bs)))
-  unfolding cleared stops_at level_after minds_perl keeps_first behind_first ends_block_comment
+  comment_closes : (b : ℕ) (bs : List ℕ) → ends_block_comment (b ∷ bs) ≡ true → byte_cleared l Comment (b ∷ bs) ≡ onto (take 2 (b ∷ bs)) (byte_cleared l Text (drop 2 (b ∷ bs)))
+  unfolding byte_cleared stops_at level_after minds_perl keeps_first behind_first ends_block_comment
   comment_closes b [] e = absurd (false≢true (and_parts (eqb b 42) false e).1)
-  comment_closes b (c ∷ cs) e = ap (λ (t : Bool). onto (b ∷ []) (cleared l (cond t Closing Comment) (c ∷ cs))) e ∙ onto_both (b ∷ []) (c ∷ []) _
+  comment_closes b (c ∷ cs) e = ap (λ (t : Bool). onto (b ∷ []) (byte_cleared l (cond t Closing Comment) (c ∷ cs))) e ∙ onto_both (b ∷ []) (c ∷ []) _
 
-  comment_ends : cleared l Comment [] ≡ Unsound OpenComment
-  unfolding cleared stops_at level_after at_end
+  comment_ends : byte_cleared l Comment [] ≡ Unsound OpenComment
+  unfolding byte_cleared stops_at level_after at_end
   comment_ends = refl
 
   -- what a block comment's text is, by where it ends
   pub record CommentRead (bs : List ℕ) (stop : ℕ) : Type 0 where
-    pub closed : stop < length bs → cleared l Comment bs ≡ onto (take (suc (suc stop)) bs) (cleared l Text (drop (suc (suc stop)) bs))
-    pub open_end : length bs ≤ stop → cleared l Comment bs ≡ Unsound OpenComment
+    pub closed : stop < length bs → byte_cleared l Comment bs ≡ onto (take (suc (suc stop)) bs) (byte_cleared l Text (drop (suc (suc stop)) bs))
+    pub open_end : length bs ≤ stop → byte_cleared l Comment bs ≡ Unsound OpenComment
 
   pub comment_read : (bs : List ℕ) → CommentRead bs (first_place ends_block_comment bs)
   unfolding first_place onto

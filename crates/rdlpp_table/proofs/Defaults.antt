@@ -1,28 +1,29 @@
 -- A default text that was read: by its tokens, and as it is read back from a table's bytes.
-use Rattle.std.proofs.Common.{◌≡◌, ℕ, zero, suc, ◌+◌, ◌-◌, ◌<◌, Bool, true, false, cond, not, ◌&&◌, List, [], ◌∷◌, ◌++◌, length, take, drop, get_or, eqb, Option, Some, None, Ok, Err, Result, option_map, refl, ap, sym, ◌∙◌, subst, arith, inl, inr}
+use Rattle.std.proofs.Common.{◌≡◌, ℕ, zero, suc, ◌+◌, ◌-◌, ◌<◌, Bool, true, false, cond, not, ◌&&◌, List, [], ◌∷◌, ◌++◌, length, take, drop, get_or, eqb, Option, Some, None, Ok, Err, Result, option_map, refl, ap, sym, ◌∙◌, subst, arith}
 use Rattle.std.specs.List.{prefix_len}
-use Rattle.std.proofs.lemmas.Bool.{cases_Bool, cond-true, cond-false, and_from, eqb-true, false≢true, ne_eqb}
+use Rattle.std.proofs.lemmas.Bool.{cond-true, cond-false, and_from, eqb-true, false≢true, ne_eqb}
 use Rattle.rdlpp_scan.specs.declared.token.Kind.{Kind}
 use Rattle.rdlpp_scan.specs.declared.token.Kind.TheVariants.{Name, Word, Back, Blank, LineEnd, Str, LineComment, BlockComment, Opener, Closer, Comma, Other, Perl as PerlKind, BareBackquote}
 use Rattle.rdlpp_scan.specs.declared.token.Mode.{Mode}
 use Rattle.rdlpp_scan.specs.declared.token.Mode.TheVariants.{Plain, InStr, InBlock}
 use Rattle.rdlpp_scan.specs.declared.token.Token.{Token}
 use Rattle.rdlpp_scan.specs.declared.token.LexFault.{LexFault}
-use Rattle.rdlpp_scan.specs.Bytes.{is_blank, is_line_end, is_opener, is_closer, begins_perl, begins_line_comment, begins_block_comment}
+use Rattle.rdlpp_scan.specs.Bytes.{is_line_end, is_opener, is_closer, begins_perl, begins_line_comment, begins_block_comment}
 use Rattle.rdlpp_scan.specs.Tokens.{token_of, tokens_from}
 use Rattle.rdlpp_scan.specs.LexFaults.{is_perl, open_fault}
 use Rattle.rdlpp_scan.proofs.TokenLens.{token_of-part}
-use Rattle.rdlpp_table.specs.declared.body.Inside.{Inside}
-use Rattle.rdlpp_table.specs.declared.body.Inside.TheVariants.{Text, Remark, Opening, Comment, Closing, Quoted, Taken}
+use Rattle.rdlpp_table.specs.Insides.{byte_cleared, Inside}
+use Rattle.rdlpp_table.specs.Insides.{byte_cleared, Text, Remark, Opening, Comment, Closing, Quoted, Taken}
 use Rattle.rdlpp_table.specs.Table.{default_size}
 use Rattle.rdlpp_table.specs.Define.{DefaultText, default_in, default_of_tokens, ends_default, is_space, level_behind, onto_default, trimmed_default, trimmed_of, without_end}
-use Rattle.rdlpp_table.specs.Bodies.{Cleared, Sound, Unsound, onto, level_of, level_after, minds_perl, keeps_first, behind_first, stops_at, ends_at, at_end, cleared, start_level, text_behind, trimmed_left, trimmed_len, trims}
+use Rattle.rdlpp_lines.specs.Texts.{Cleared, Sound, Unsound, onto, cleared, start_level, text_behind, trimmed_left, trimmed_len, trims}
+use Rattle.rdlpp_table.specs.Insides.{level_after, minds_perl, keeps_first, behind_first, stops_at, ends_at}
 use Rattle.rdlpp_table.specs.Formals.{IsDefault, default_behind, default_left}
 use Rattle.rdlpp_table.specs.Store.{is_default, is_filled}
 use Rattle.rdlpp_table.proofs.Clears.{IsFree, free_ends, free_level}
-use Rattle.rdlpp_table.proofs.Agrees.{told, read_by, by_tokens}
-use Rattle.rdlpp_table.proofs.Kept.{kept_bytes}
-use Rattle.rdlpp_table.proofs.Filled.{Turn, Stops, Drops, Keeps, turn, nothing_read, next_of, plain_of, stop_is, heads, IsOnto, IsAgain, Heads, again, whole_again, filled_byte, filled_end, remark_begins, front_filled, end_filled, space_free}
+use Rattle.rdlpp_lines.specs.Texts.{told, read_by, left_in, kept_bytes}
+use Rattle.rdlpp_table.proofs.Agrees.{by_bytes}
+use Rattle.rdlpp_table.proofs.Filled.{Stops, Drops, Keeps, turn, nothing_read, next_of, plain_of, stop_is, heads, IsAgain, Heads, again, whole_again, filled_byte, filled_end, remark_begins, front_filled, end_filled}
 
 -- the default text of what is left
 abbrev found : Cleared → Option DefaultText
@@ -112,9 +113,9 @@ found_by (b ∷ bs) m zero level =
     ∙ (sym (found_cond (is_perl t.kind) (Unsound _) _)
     ∙ ap (λ (us : List Token). found (read_by (Some level) m us (b ∷ bs))) (sym (first_step m b bs))))))
 
-pub default_is : (text : List ℕ) → default_behind text ≡ option_map trimmed_default (found (cleared (Some 0) Text text))
-unfolding default_behind
-default_is text = ap (option_map trimmed_default) (found_by text Plain 0 0 ∙ ap found (by_tokens text (Some 0)))
+pub default_is : (text : List ℕ) → default_behind text ≡ option_map trimmed_default (found (cleared (Some 0) text))
+unfolding default_behind cleared left_in
+default_is text = ap (option_map trimmed_default) (found_by text Plain 0 0)
 
 -- a default text that was measured
 fault_found : (c : Cleared) (fault : LexFault) → trimmed_len (trims true) c ≡ Err fault → option_map trimmed_default (found c) ≡ None
@@ -122,9 +123,9 @@ unfolding trimmed_len
 fault_found (Sound rest last) fault e = absurd (cc)
 fault_found (Unsound other) fault e = refl
 
-pub default_fault : (text : List ℕ) (fault : LexFault) → trimmed_len (trims true) (cleared (start_level true) Text text) ≡ Err fault → default_behind text ≡ None
+pub default_fault : (text : List ℕ) (fault : LexFault) → trimmed_len (trims true) (cleared (start_level true) text) ≡ Err fault → default_behind text ≡ None
 unfolding start_level
-default_fault text fault e = default_is text ∙ fault_found (cleared (Some 0) Text text) fault e
+default_fault text fault e = default_is text ∙ fault_found (cleared (Some 0) text) fault e
 
 endless_found : (c : Cleared) → text_behind c ≡ [] → option_map trimmed_default (found c) ≡ None
 unfolding text_behind
@@ -132,9 +133,9 @@ endless_found (Sound rest []) e = refl
 endless_found (Sound rest (b ∷ bs)) e = absurd (cc)
 endless_found (Unsound fault) e = refl
 
-pub default_endless : (text : List ℕ) → text_behind (cleared (start_level true) Text text) ≡ [] → default_behind text ≡ None
+pub default_endless : (text : List ℕ) → text_behind (cleared (start_level true) text) ≡ [] → default_behind text ≡ None
 unfolding start_level
-default_endless text e = default_is text ∙ endless_found (cleared (Some 0) Text text) e
+default_endless text e = default_is text ∙ endless_found (cleared (Some 0) text) e
 
 sound_found : (c : Cleared) (b : ℕ) (bs : List ℕ) → text_behind c ≡ b ∷ bs → option_map trimmed_default (found c) ≡ Some (let d : DefaultText = record { text = trimmed_left (trims true) c; behind = text_behind c } in d)
 unfolding text_behind trimmed_left trimmed_default trims
@@ -245,7 +246,7 @@ stop_again l Quoted b s = absurd (false≢true s)
 stop_again l Taken b s = absurd (false≢true s)
 
 -- what is left of a text up to its end is read whole
-kept_filled : (ds : List ℕ) (l : Option ℕ) (i : Inside) (kept : List ℕ) (t : ℕ) (ts : List ℕ) → cleared l i ds ≡ Sound kept (t ∷ ts) → is_filled l (plain_of i) kept ≡ true
+kept_filled : (ds : List ℕ) (l : Option ℕ) (i : Inside) (kept : List ℕ) (t : ℕ) (ts : List ℕ) → byte_cleared l i ds ≡ Sound kept (t ∷ ts) → is_filled l (plain_of i) kept ≡ true
 kept_filled [] l i kept t ts e = absurd (nothing_read l i kept t ts e)
 kept_filled (b ∷ bs) l i kept t ts e = elim (turn l i b bs kept (t ∷ ts) e) [
   | Stops s k ↦ ap (is_filled l (plain_of i)) k ∙ (filled_end l (plain_of i) ∙ stop_again l i b s)
@@ -273,17 +274,17 @@ left_filled (Sound rest last) b bs e f =
 left_filled (Unsound fault) b bs e f = absurd (cc)
 
 -- a default text that was read is read back
-pub default_plain : (text : List ℕ) (b : ℕ) (bs : List ℕ) → text_behind (cleared (start_level true) Text text) ≡ b ∷ bs → is_default (default_left text) ≡ true
+pub default_plain : (text : List ℕ) (b : ℕ) (bs : List ℕ) → text_behind (cleared (start_level true) text) ≡ b ∷ bs → is_default (default_left text) ≡ true
 unfolding start_level default_left
-default_plain text b bs e = left_filled (cleared (Some 0) Text text) b bs e (λ kept k. kept_filled text (Some 0) Text kept b bs k)
+default_plain text b bs e = left_filled (cleared (Some 0) text) b bs e (λ kept k. kept_filled text (Some 0) Text kept b bs (sym (by_bytes text (Some 0)) ∙ k))
 
 abbrev ok_len : ℕ → Result ℕ LexFault
 ok_len n = Ok n
 
-pub default_found : (text behind : List ℕ) (b : ℕ) (bs : List ℕ) (len size : ℕ) → trimmed_len (trims true) (cleared (start_level true) Text text) ≡ Ok len → text_behind (cleared (start_level true) Text text) ≡ behind → behind ≡ b ∷ bs → size ≡ size_by len → IsDefault (default_behind text) text behind size
+pub default_found : (text behind : List ℕ) (b : ℕ) (bs : List ℕ) (len size : ℕ) → trimmed_len (trims true) (cleared (start_level true) text) ≡ Ok len → text_behind (cleared (start_level true) text) ≡ behind → behind ≡ b ∷ bs → size ≡ size_by len → IsDefault (default_behind text) text behind size
 unfolding start_level default_left
 default_found text behind b bs len size l e f s =
-    let c : Cleared = cleared (Some 0) Text text in
+    let c : Cleared = cleared (Some 0) text in
     record {
       is = default_is text ∙ (sound_found c b bs (e ∙ f) ∙ ap (λ (x : List ℕ). Some (let d : DefaultText = record { text = trimmed_left (trims true) c; behind = x } in d)) e);
       size_is = size_is (trimmed_left (trims true) c) ∙ (ap size_by (left_len c len l) ∙ sym s);
@@ -293,15 +294,15 @@ default_found text behind b bs len size l e f s =
 
 -- a formal without a default text
 no_default_left : default_left [] ≡ []
-unfolding default_left cleared at_end trimmed_left trimmed_of without_end trims
+unfolding default_left cleared left_in tokens_from open_fault trimmed_left trimmed_of without_end trims
 no_default_left = refl
 
 none_size : default_size [] ≡ 0
 unfolding default_size
 none_size = refl
 
-none_len : trimmed_len (trims true) (cleared (start_level true) Text []) ≡ ok_len 0
-unfolding cleared at_end trimmed_len trimmed_of without_end trims
+none_len : trimmed_len (trims true) (cleared (start_level true) []) ≡ ok_len 0
+unfolding cleared left_in tokens_from open_fault trimmed_len trimmed_of without_end trims
 none_len = refl
 
 none_plain : is_default [] ≡ true

@@ -1,15 +1,16 @@
 -- Default texts as they are read back from a table's bytes.
-use Rattle.std.proofs.Common.{◌≡◌, ℕ, suc, ◌+◌, Bool, true, false, cond, not, ◌&&◌, ◌||◌, ◌⊎◌, List, [], ◌∷◌, ◌++◌, length, take, drop, get_or, eqb, one-add, Option, Some, None, option_map, refl, ap, sym, ◌∙◌, subst, inl, inr}
+use Rattle.std.proofs.Common.{◌≡◌, ℕ, suc, ◌+◌, Bool, true, false, cond, not, ◌&&◌, ◌||◌, ◌⊎◌, List, [], ◌∷◌, ◌++◌, drop, get_or, eqb, one-add, Option, Some, None, refl, ap, sym, ◌∙◌, subst, inl, inr}
 use Rattle.std.specs.List.{prefix_len}
-use Rattle.std.proofs.lemmas.Bool.{cases_Bool, cond-true, cond-false, and_parts, and_from, and_left, and_right, both_ways, eqb-true, not-true, false≢true, false_from_ne_true}
-use Rattle.rdlpp_scan.specs.Bytes.{is_blank, is_line_end, is_opener, is_closer, begins_perl, begins_line_comment, begins_block_comment, ends_block_comment}
+use Rattle.std.proofs.lemmas.Bool.{cases_Bool, cond-true, cond-false, and_parts, and_from, and_left, and_right, eqb-true, not-true, false≢true}
+use Rattle.rdlpp_scan.specs.Bytes.{is_blank, is_line_end, begins_perl, begins_line_comment, begins_block_comment, ends_block_comment}
 use Rattle.rdlpp_scan.specs.declared.token.LexFault.TheVariants.{Perl}
-use Rattle.rdlpp_table.specs.declared.body.Inside.{Inside}
-use Rattle.rdlpp_table.specs.declared.body.Inside.TheVariants.{Text, Remark, Opening, Comment, Closing, Quoted, Taken}
+use Rattle.rdlpp_table.specs.Insides.{Inside}
+use Rattle.rdlpp_table.specs.Insides.{Text, Remark, Opening, Comment, Closing, Quoted, Taken}
 use Rattle.rdlpp_table.specs.Define.{is_space, onto_trimmed, without_end}
-use Rattle.rdlpp_table.specs.Bodies.{Cleared, Sound, Unsound, onto, at_end, ends_at, stops_at, level_of, level_after, minds_perl, keeps_first, behind_first, cleared}
+use Rattle.rdlpp_lines.specs.Texts.{Cleared, Sound, Unsound, onto}
+use Rattle.rdlpp_table.specs.Insides.{at_end, ends_at, stops_at, level_after, minds_perl, keeps_first, behind_first, byte_cleared}
 use Rattle.rdlpp_table.specs.Store.{is_filled}
-use Rattle.rdlpp_table.proofs.Clears.{IsFree, free_level, onto_none}
+use Rattle.rdlpp_table.proofs.Clears.{IsFree, free_level}
 use Rattle.rdlpp_table.proofs.Agrees.{class_free, apart}
 use Rattle.rdlpp_table.proofs.BodySteps.{IsPassed, kept_on, dropped_on, step_stop, step_cut, end_left}
 
@@ -46,7 +47,7 @@ same_next [] rest = refl
 same_next (b ∷ bs) rest = refl
 
 -- a text that is read whole is read back up to a comma behind it
-pub filled_read : (xs : List ℕ) (l : Option ℕ) (i : Inside) (rest : List ℕ) → is_filled l i xs ≡ true → cleared l i (xs ++ 44 ∷ rest) ≡ Sound xs (44 ∷ rest)
+pub filled_read : (xs : List ℕ) (l : Option ℕ) (i : Inside) (rest : List ℕ) → is_filled l i xs ≡ true → byte_cleared l i (xs ++ 44 ∷ rest) ≡ Sound xs (44 ∷ rest)
 unfolding onto
 filled_read [] l i rest h = step_stop l i (44 ∷ rest) 44 rest refl (sym (filled_end l i) ∙ h)
 filled_read (b ∷ bs) l i rest h =
@@ -303,16 +304,16 @@ no_end Closing kept t ts e = absurd (cc)
 no_end Quoted kept t ts e = absurd (cc)
 no_end Taken kept t ts e = absurd (cc)
 
-pub nothing_read : (l : Option ℕ) (i : Inside) (kept : List ℕ) (t : ℕ) (ts : List ℕ) → cleared l i [] ≡ Sound kept (t ∷ ts) → ⊥
+pub nothing_read : (l : Option ℕ) (i : Inside) (kept : List ℕ) (t : ℕ) (ts : List ℕ) → byte_cleared l i [] ≡ Sound kept (t ∷ ts) → ⊥
 nothing_read l i kept t ts e = no_end i kept t ts (sym (end_left l i [] refl) ∙ e)
 
 -- one byte of a text that is read to its end
 pub data Turn (l : Option ℕ) (i : Inside) (b : ℕ) (bs kept tail : List ℕ) : Type 0 where
   Stops : stops_at l i b ≡ true → kept ≡ [] → Turn l i b bs kept tail
-  Drops : stops_at l i b ≡ false → keeps_first i (b ∷ get_or bs 0 0 ∷ []) ≡ false → cleared (level_after l i b) (behind_first i (b ∷ get_or bs 0 0 ∷ [])) bs ≡ Sound kept tail → Turn l i b bs kept tail
-  Keeps : stops_at l i b ≡ false → (minds_perl i && begins_perl (b ∷ get_or bs 0 0 ∷ [])) ≡ false → keeps_first i (b ∷ get_or bs 0 0 ∷ []) ≡ true → IsOnto b (cleared (level_after l i b) (behind_first i (b ∷ get_or bs 0 0 ∷ [])) bs) kept tail → Turn l i b bs kept tail
+  Drops : stops_at l i b ≡ false → keeps_first i (b ∷ get_or bs 0 0 ∷ []) ≡ false → byte_cleared (level_after l i b) (behind_first i (b ∷ get_or bs 0 0 ∷ [])) bs ≡ Sound kept tail → Turn l i b bs kept tail
+  Keeps : stops_at l i b ≡ false → (minds_perl i && begins_perl (b ∷ get_or bs 0 0 ∷ [])) ≡ false → keeps_first i (b ∷ get_or bs 0 0 ∷ []) ≡ true → IsOnto b (byte_cleared (level_after l i b) (behind_first i (b ∷ get_or bs 0 0 ∷ [])) bs) kept tail → Turn l i b bs kept tail
 
-pub turn : (l : Option ℕ) (i : Inside) (b : ℕ) (bs kept tail : List ℕ) → cleared l i (b ∷ bs) ≡ Sound kept tail → Turn l i b bs kept tail
+pub turn : (l : Option ℕ) (i : Inside) (b : ℕ) (bs kept tail : List ℕ) → byte_cleared l i (b ∷ bs) ≡ Sound kept tail → Turn l i b bs kept tail
 turn l i b bs kept tail e =
     let c : ℕ = get_or bs 0 0 in
     elim (cases_Bool (stops_at l i b)) [
@@ -329,14 +330,14 @@ turn l i b bs kept tail e =
     ]
 
 -- a `//` comment is read up to LF
-remark_head : (bs : List ℕ) (l : Option ℕ) (kept : List ℕ) (t : ℕ) (ts : List ℕ) → cleared l Remark bs ≡ Sound kept (t ∷ ts) → next_of kept ≡ 10
+remark_head : (bs : List ℕ) (l : Option ℕ) (kept : List ℕ) (t : ℕ) (ts : List ℕ) → byte_cleared l Remark bs ≡ Sound kept (t ∷ ts) → next_of kept ≡ 10
 unfolding stops_at level_after keeps_first behind_first is_line_end
 remark_head [] l kept t ts e = absurd (nothing_read l Remark kept t ts e)
 remark_head (b ∷ bs) l kept t ts e = elim (turn l Remark b bs kept (t ∷ ts) e) [
   | Stops s k ↦ absurd (false≢true s)
   | Drops s k r ↦
       let j : cond (eqb b 10) Text Remark ≡ Remark = cond-false _ _ _ k in
-      remark_head bs l kept t ts (ap (λ (x : Inside). cleared l x bs) (sym j) ∙ r)
+      remark_head bs l kept t ts (ap (λ (x : Inside). byte_cleared l x bs) (sym j) ∙ r)
   | Keeps s p k o ↦ ap next_of o.kept_is ∙ eqb-true b 10 k
 ]
 
@@ -364,13 +365,13 @@ stop_heads l Closing d kept s k = absurd (false≢true s)
 stop_heads l Quoted d kept s k = absurd (false≢true s)
 stop_heads l Taken d kept s k = absurd (false≢true s)
 
-drop_heads : (l : Option ℕ) (j : Inside) (d : ℕ) (ds kept : List ℕ) (t : ℕ) (ts : List ℕ) → (j ≡ Remark → ⊥) → keeps_first j (d ∷ get_or ds 0 0 ∷ []) ≡ false → cleared (level_after l j d) (behind_first j (d ∷ get_or ds 0 0 ∷ [])) ds ≡ Sound kept (t ∷ ts) → Heads j d (next_of kept)
+drop_heads : (l : Option ℕ) (j : Inside) (d : ℕ) (ds kept : List ℕ) (t : ℕ) (ts : List ℕ) → (j ≡ Remark → ⊥) → keeps_first j (d ∷ get_or ds 0 0 ∷ []) ≡ false → byte_cleared (level_after l j d) (behind_first j (d ∷ get_or ds 0 0 ∷ [])) ds ≡ Sound kept (t ∷ ts) → Heads j d (next_of kept)
 unfolding keeps_first behind_first begins_line_comment
 drop_heads l Text d ds kept t ts n k r =
     let c : ℕ = get_or ds 0 0 in
     let b = remark_begins d c k in
     let on : (eqb d 47 && eqb c 47) ≡ true = and_from _ _ (ap (λ (x : ℕ). eqb x 47) b.0) (ap (λ (x : ℕ). eqb x 47) b.1) in
-    let at : next_of kept ≡ 10 = remark_head ds (level_after l Text d) kept t ts (ap (λ (x : Inside). cleared (level_after l Text d) x ds) (sym (cond-true _ _ _ on)) ∙ r) in
+    let at : next_of kept ≡ 10 = remark_head ds (level_after l Text d) kept t ts (ap (λ (x : Inside). byte_cleared (level_after l Text d) x ds) (sym (cond-true _ _ _ on)) ∙ r) in
     inr (record { text = refl; percent = ap (λ (x : ℕ). eqb x 37) at; slash = ap (λ (x : ℕ). eqb x 47) at; star = ap (λ (x : ℕ). eqb x 42) at; no_star = ap (λ (x : ℕ). eqb x 42) b.0 })
 drop_heads l Remark d ds kept t ts n k r = absurd (n refl)
 drop_heads l Opening d ds kept t ts n k r = absurd (false≢true (sym k))
@@ -379,7 +380,7 @@ drop_heads l Closing d ds kept t ts n k r = absurd (false≢true (sym k))
 drop_heads l Quoted d ds kept t ts n k r = absurd (false≢true (sym k))
 drop_heads l Taken d ds kept t ts n k r = absurd (false≢true (sym k))
 
-pub heads : (ds : List ℕ) (l : Option ℕ) (j : Inside) (kept : List ℕ) (t : ℕ) (ts : List ℕ) → (j ≡ Remark → ⊥) → cleared l j ds ≡ Sound kept (t ∷ ts) → Heads j (get_or ds 0 0) (next_of kept)
+pub heads : (ds : List ℕ) (l : Option ℕ) (j : Inside) (kept : List ℕ) (t : ℕ) (ts : List ℕ) → (j ≡ Remark → ⊥) → byte_cleared l j ds ≡ Sound kept (t ∷ ts) → Heads j (get_or ds 0 0) (next_of kept)
 heads [] l j kept t ts n e = absurd (nothing_read l j kept t ts e)
 heads (d ∷ ds) l j kept t ts n e = elim (turn l j d ds kept (t ∷ ts) e) [
   | Stops s k ↦ stop_heads l j d kept s k

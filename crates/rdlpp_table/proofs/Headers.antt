@@ -1,7 +1,7 @@
 -- A `define` by its name and what stands behind it.
 use Rattle.std.proofs.Common.{◌≡◌, ℕ, true, List, [], length, drop, Option, Some, None, Err, refl, ap, sym, ◌∙◌}
 use Rattle.rdlpp_table.specs.Table.{Formal, Macro}
-use Rattle.rdlpp_table.specs.Bodies.{joined}
+use Rattle.rdlpp_lines.specs.Continuations.{joined}
 use Rattle.rdlpp_table.specs.Define.{Draft, FormalList, Listed, Rejected, Unlisted, after_space, define_of, formal_list, leading_name, logical_text, macro_from, macro_of, name_fault, observed, refused_word, stored_draft, unended, with_body, with_list}
 use Rattle.rdlpp_table.specs.declared.fault.DefineKind.{DefineKind}
 use Rattle.rdlpp_table.specs.declared.fault.DefineFault.{DefineFault}

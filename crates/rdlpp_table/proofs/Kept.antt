@@ -1,5 +1,5 @@
 -- Tokens that are kept, behind which plain text goes on at the same level.
-use Rattle.std.proofs.Common.{◌≡◌, ℕ, ◌<◌, Bool, true, false, ◌&&◌, List, [], ◌∷◌, take, eqb, Option, Some, None, option_map, refl, ap, arith}
+use Rattle.std.proofs.Common.{◌≡◌, ℕ, ◌<◌, Bool, true, false, List, ◌∷◌, take, eqb, Option, Some, None, option_map, refl, ap, arith}
 use Rattle.std.proofs.lemmas.Bool.{and_right, false≢true}
 use Rattle.rdlpp_scan.specs.declared.token.Kind.{Kind}
 use Rattle.rdlpp_scan.specs.declared.token.Kind.TheVariants.{Name, Word, Back, Blank, LineEnd, Str, LineComment, BlockComment, Opener, Closer, Comma, Other, Perl, BareBackquote}
@@ -8,23 +8,7 @@ use Rattle.rdlpp_scan.specs.declared.token.Token.{Token}
 use Rattle.rdlpp_scan.specs.Tokens.{whole, plain_token, token_of}
 use Rattle.rdlpp_scan.specs.LexFaults.{is_perl}
 use Rattle.rdlpp_scan.proofs.TokenLens.{token_of-part}
-use Rattle.rdlpp_table.specs.Define.{ends_default, level_behind}
-
--- the bytes of a token that are kept
-abbrev pub kept_bytes : Token → List ℕ → List ℕ
-kept_bytes t text = elim t.kind [
-  | LineComment ↦ []
-  | _ ↦ take t.len text
-]
-
--- whether a text that is read from a level on, or as a body, ends at a token
-abbrev pub stops_token : Option ℕ → Kind → ℕ → Bool
-stops_token None k b = false
-stops_token (Some n) k b = eqb n 0 && ends_default k b
-
--- the level behind a token
-abbrev pub level_by : Option ℕ → Kind → Option ℕ
-level_by l k = option_map (λ n. level_behind k n) l
+use Rattle.rdlpp_lines.specs.Texts.{ends_default, level_behind, kept_bytes, stops_token, level_by}
 
 -- a token that is kept, behind which plain text goes on at the same level
 pub record IsKept (t : Token) : Type 0 where

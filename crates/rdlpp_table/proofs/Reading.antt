@@ -1,17 +1,16 @@
 -- A formal list as it is read, one formal after another.
-use Rattle.std.proofs.Common.{◌≡◌, ℕ, zero, suc, ◌+◌, ◌-◌, ◌<◌, ◌≤◌, Bool, true, false, cond, not, ◌&&◌, ◌||◌, List, [], ◌∷◌, ◌++◌, length, map, take, drop, get_or, eqb, ltb, leb, bytes_eq, is_some, sum_by, unwrap_or, length-append, append_assoc, Option, Some, None, refl, ap, sym, ◌∙◌, arith, inl, inr, ◌⊎◌, one-add}
-use Rattle.std.specs.List.{flat_map, list_any, list_all, prefix_len}
-use Rattle.std.proofs.lemmas.Bool.{cases_Bool, cond-true, cond-false, and_from, leb-true, leb-false, false≢true, eqb-true}
-use Rattle.std.proofs.lemmas.Grind.{flat_map-append}
-use Rattle.std.proofs.lemmas.List.{append-nil, map-append, length-map}
+use Rattle.std.proofs.Common.{◌≡◌, ℕ, zero, suc, ◌+◌, ◌-◌, ◌<◌, Bool, true, false, cond, not, ◌||◌, List, [], ◌∷◌, ◌++◌, length, map, take, drop, get_or, eqb, ltb, leb, bytes_eq, sum_by, unwrap_or, length-append, Option, Some, None, refl, ap, sym, ◌∙◌, arith, inl, inr, ◌⊎◌, one-add}
+use Rattle.std.specs.List.{list_any, list_all, prefix_len}
+use Rattle.std.proofs.lemmas.Bool.{cases_Bool, cond-false, and_from, leb-true, leb-false}
+use Rattle.std.proofs.lemmas.List.{map-append, length-map}
 use Rattle.std.proofs.lemmas.List.Folds.{list_all-append}
 use Rattle.std.proofs.lemmas.List.Sums.{sum_by-cons, sum_by-append}
 use Rattle.rdlpp_scan.specs.Bytes.{is_letter, is_digit, is_word}
-use Rattle.rdlpp_table.specs.Table.{Formal, default_size, formal_bytes, formal_size}
+use Rattle.rdlpp_table.specs.Table.{Formal, default_size, formal_size}
 use Rattle.rdlpp_table.specs.Define.{FormalList, Listed, Unlisted, OneFormal, Good, Bad, DefaultText, after_space, behind_name, default_in, formal_fault, formal_in, formal_name, formals_in, formals_of_list, is_nothing, leading_name, with_default}
 use Rattle.rdlpp_table.proofs.Agrees.{apart}
 use Rattle.rdlpp_table.specs.Store.{is_default, is_name_byte, is_plain_formal}
-use Rattle.rdlpp_table.specs.Formals.{IsDefault, IsPart, IsRead, behind_told, default_left, fault_behind, formal_told, is_told, listed}
+use Rattle.rdlpp_table.specs.Formals.{IsDefault, IsPart, IsRead, default_left, fault_behind}
 use Rattle.rdlpp_table.specs.declared.fault.DefineKind.{DefineKind}
 use Rattle.rdlpp_table.specs.declared.fault.DefineKind.TheVariants as kind
 

@@ -1,5 +1,5 @@
 -- The formals that a list gives are sound.
-use Rattle.std.proofs.Common.{◌≡◌, ℕ, zero, suc, ◌+◌, ◌<◌, ◌≤◌, Bool, true, false, cond, ◌||◌, eqb, ltb, List, [], ◌∷◌, ◌++◌, length, drop, get_or, map, bytes_eq, Option, Some, None, unwrap_or, refl, ap, sym, ◌∙◌, subst, arith, length-append, inl, inr}
+use Rattle.std.proofs.Common.{◌≡◌, ℕ, zero, suc, ◌+◌, ◌<◌, ◌≤◌, Bool, true, false, cond, ◌||◌, eqb, ltb, List, [], ◌∷◌, ◌++◌, length, drop, get_or, map, bytes_eq, Option, Some, None, Ok, unwrap_or, refl, ap, sym, ◌∙◌, subst, arith, length-append, inl, inr}
 use Rattle.std.specs.List.{IsDistinct, list_any}
 use Rattle.std.proofs.lemmas.List.{map-append}
 use Rattle.std.proofs.lemmas.List.Elements.{All-nil, All-push}
@@ -11,8 +11,13 @@ use Rattle.rdlpp_table.specs.declared.fault.DefineKind.TheVariants as kind
 use Rattle.rdlpp_table.specs.Table.{Formal}
 use Rattle.rdlpp_table.specs.View.{AreSoundFormals, IsSoundMacro}
 use Rattle.rdlpp_table.specs.New.{list_formals, new_macro}
+use Rattle.rdlpp_lines.specs.Continuations.{joined}
+use Rattle.rdlpp_lines.specs.Texts.{cleared, trimmed_len, trims}
+use Rattle.rdlpp_scan.specs.CleanTexts.{IsCleanText}
 use Rattle.rdlpp_scan.specs.Stage.{is_reserved}
-use Rattle.rdlpp_table.specs.Define.{Bad, DefaultText, Good, Listed, OneFormal, Unlisted, after_space, behind_name, default_in, formal_fault, formal_in, formal_name, formals_in, formals_of_list, is_nothing, name_fault, with_default}
+use Rattle.rdlpp_table.specs.Define.{Bad, DefaultText, Good, Listed, Unlisted, after_space, behind_name, default_in, formal_fault, formal_in, formal_name, formals_in, formals_of_list, is_nothing, name_fault, with_default}
+use Rattle.rdlpp_table.proofs.Bodied.{body_drawn}
+use Rattle.rdlpp_table.proofs.CleanParts.{default_in_clean, drawn_clean}
 use Rattle.rdlpp_table.proofs.Reading.{fault_three, formal_by, in_by, list_by, list_full, list_step, three}
 
 -- a formal that may stand behind others
@@ -20,6 +25,7 @@ record IsNextFormal (before : List Formal) (f : Formal) : Type 0 where
   short : length f.name ≤ 128
   other : list_any (λ g. bytes_eq g.name f.name) before ≡ false
   room : length before < 255
+  text : IsCleanText f.text
 
 three_none : (a b c : Bool) → three a b c ≡ None → (b ≡ false) × (c ≡ false)
 three_none true b c e = absurd (cc)
@@ -27,23 +33,26 @@ three_none false true c e = absurd (cc)
 three_none false false true e = absurd (cc)
 three_none false false false e = (refl, refl)
 
-named_with : (name : List ℕ) (d : Option DefaultText) (f : Formal) (behind : List ℕ) → with_default name d ≡ Good f behind → name ≡ f.name
+named_with : (name from : List ℕ) (d : Option DefaultText) (f : Formal) (behind : List ℕ) → default_in from ≡ d → with_default name d ≡ Good f behind → (name ≡ f.name) × IsCleanText f.text
 unfolding with_default
-named_with name None f behind e = absurd (cc)
-named_with name (Some d) f behind e = let g : (let x : Formal = record { name = name; text = d.text } in x) ≡ f = cc in ap (λ (x : Formal). x.name) g
+named_with name from None f behind is e = absurd (cc)
+named_with name from (Some d) f behind is e =
+    let g : (let x : Formal = record { name = name; text = d.text } in x) ≡ f = cc in
+    (ap (λ (x : Formal). x.name) g, subst IsCleanText (ap (λ (x : Formal). x.text) g) (default_in_clean from d is))
 
-good_by : (o : Option DefineKind) (name : List ℕ) (d : Option DefaultText) (f : Formal) (behind : List ℕ) → formal_by o name d ≡ Good f behind → (o ≡ None) × (name ≡ f.name)
-good_by None name d f behind e = (refl, named_with name d f behind e)
-good_by (Some k) name d f behind e = absurd (cc)
+good_by : (o : Option DefineKind) (name from : List ℕ) (f : Formal) (behind : List ℕ) → formal_by o name (default_in from) ≡ Good f behind → (o ≡ None) × ((name ≡ f.name) × IsCleanText f.text)
+good_by None name from f behind e = (refl, named_with name from (default_in from) f behind refl e)
+good_by (Some k) name from f behind e = absurd (cc)
 
 next_formal : (before : List Formal) (text : List ℕ) (f : Formal) (behind : List ℕ) → length before < 255 → formal_in before text ≡ Good f behind → IsNextFormal before f
 next_formal before text f behind room e =
-    let g = good_by (formal_fault before (formal_name text)) (formal_name text) (default_in (behind_name text)) f behind (sym (in_by before text) ∙ e) in
+    let g = good_by (formal_fault before (formal_name text)) (formal_name text) (behind_name text) f behind (sym (in_by before text) ∙ e) in
     let t = three_none (is_nothing (formal_name text)) (ltb 128 (length (formal_name text))) (list_any (λ (g : Formal). bytes_eq g.name (formal_name text)) before) (sym (fault_three before (formal_name text)) ∙ g.0) in
     record {
-      short = omega (arith, ap (length {A = ℕ}) g.1, ltb-false 128 (length (formal_name text)) t.0);
-      other = ap (λ (n : List ℕ). list_any (λ (g : Formal). bytes_eq g.name n) before) (sym g.1) ∙ t.1;
+      short = omega (arith, ap (length {A = ℕ}) g.1.0, ltb-false 128 (length (formal_name text)) t.0);
+      other = ap (λ (n : List ℕ). list_any (λ (g : Formal). bytes_eq g.name n) before) (sym g.1.0) ∙ t.1;
       room = room;
+      text = g.1.1;
     }
 
 turned_any : (name : List ℕ) (before : List Formal) → list_any (bytes_eq name) (map (λ g. g.name) before) ≡ list_any (λ g. bytes_eq g.name name) before
@@ -54,7 +63,7 @@ turned_any name (g ∷ before) =
 
 pub no_formals_sound : AreSoundFormals []
 unfolding IsDistinct
-no_formals_sound = record { distinct = tt; few = omega arith; short = All-nil _ }
+no_formals_sound = record { distinct = tt; few = omega arith; short = All-nil _; texts = All-nil _ }
 
 one_more_sound : (before : List Formal) (f : Formal) → AreSoundFormals before → IsNextFormal before f → AreSoundFormals (before ++ f ∷ [])
 one_more_sound before f s n =
@@ -63,6 +72,7 @@ one_more_sound before f s n =
       distinct = subst P (sym (map-append (λ (g : Formal). g.name) before (f ∷ []))) (IsDistinct-push nat_list_eq_equiv (map (λ (g : Formal). g.name) before) f.name s.distinct (turned_any f.name before ∙ n.other));
       few = omega (arith, length-append before (f ∷ []), n.room);
       short = All-push (λ g. length g.name ≤ 128) before f s.short n.short;
+      texts = All-push (λ g. IsCleanText g.text) before f s.texts n.text;
     }
 
 listed_same : (before fs : List Formal) (after' after : List ℕ) → Listed (Some before) after' ≡ Listed (Some fs) after → before ≡ fs
@@ -90,16 +100,16 @@ in_sound (suc room) before text fs after s n e =
     ]) refl (sym (list_step room before text) ∙ e)
 
 -- a name without a fault is that of a sound macro
-record IsGoodName (name : List ℕ) : Type 0 where
-  named : 0 < length name
-  short : length name ≤ 128
-  unreserved : is_reserved name ≡ false
+pub record IsGoodName (name : List ℕ) : Type 0 where
+  pub named : 0 < length name
+  pub short : length name ≤ 128
+  pub unreserved : is_reserved name ≡ false
 
 faultless : (c : Bool) (k : DefineKind) (y : Option DefineKind) → cond c (Some k) y ≡ None → (c ≡ false) × (y ≡ None)
 faultless true k y e = absurd (cc)
 faultless false k y e = (refl, e)
 
-good_name : (name : List ℕ) → name_fault name ≡ None → IsGoodName name
+pub good_name : (name : List ℕ) → name_fault name ≡ None → IsGoodName name
 unfolding name_fault
 good_name name e =
     let t1 = faultless _ _ _ e in
@@ -108,10 +118,17 @@ good_name name e =
     let apart : (length name ≡ 0) → ⊥ = eqb-false _ _ t1.0 in
     record { named = omega (arith, apart); short = ltb-false _ _ t3.0; unreserved = t2.0 }
 
-pub new_sound : (name : List ℕ) (arity : Option ℕ) (list : List ℕ) (is_logical : Bool) (text : List ℕ) → name_fault name ≡ None → AreSoundFormals (unwrap_or (list_formals arity list) []) → IsSoundMacro (new_macro name arity list is_logical text)
-new_sound name arity list is_logical text e s =
+pub new_sound : (name : List ℕ) (arity : Option ℕ) (list : List ℕ) (is_logical : Bool) (text : List ℕ) (len : ℕ) → name_fault name ≡ None → AreSoundFormals (unwrap_or (list_formals arity list) [])
+    → Ok len ≡ trimmed_len (trims false) (cleared None (joined is_logical text)) → IsSoundMacro (new_macro name arity list is_logical text)
+new_sound name arity list is_logical text len e s read =
     let g = good_name name e in
-    record { named = g.named; short = g.short; unreserved = g.unreserved; formals = s }
+    record {
+      named = g.named;
+      short = g.short;
+      unreserved = g.unreserved;
+      formals = s;
+      body = drawn_clean name (list_formals arity list) (joined is_logical text) (new_macro name arity list is_logical text) (body_drawn name (list_formals arity list) (joined is_logical text) len read);
+    }
 
 by_list : (text : List ℕ) (fs : List Formal) (after : List ℕ) → formals_of_list text ≡ Listed (Some fs) after → AreSoundFormals fs
 unfolding formals_of_list

@@ -7,8 +7,8 @@ use Rattle.rdlpp_scan.specs.Bytes.{is_letter, is_digit, is_word}
 use Rattle.std.proofs.lemmas.List.{take_rest}
 use Rattle.rdlpp_table.specs.Define.{Listed, after_space, continuation_len, formal_list, formals_of_list, is_space, leading_name}
 use Rattle.rdlpp_table.specs.Formals.{IsPart}
-use Rattle.rdlpp_table.specs.Bodies.{joined}
-use Rattle.rdlpp_table.proofs.Joins.{BeginsWith, begins_with, joined_none, no_joint_at, same_run, SameRun}
+use Rattle.rdlpp_lines.specs.Continuations.{joined}
+use Rattle.rdlpp_lines.proofs.Joins.{BeginsWith, begins_with, joined_none, no_joint_at, same_run, SameRun}
 
 -- the white space at which a text begins, byte by byte
 space_len : (b : ℕ) (bs : List ℕ) → is_space b ≡ true → prefix_len is_space (b ∷ bs) ≡ suc (prefix_len is_space bs)

@@ -1,20 +1,21 @@
 -- What a `define` gives: the table with the new macro, or its first fault.
 -- A definition that names no source is this project's own.
-use Rattle.std.specs.Prelude.{ℕ, zero, suc, ◌+◌, ◌-◌, Bool, true, false, not, ◌&&◌, ◌||◌, ◌==◌, nat_lt, List, [], ◌∷◌, ◌++◌, length, take, drop, bytes_eq, slice_index, Option, None, Some, Result, Ok, Err, unwrap_or, if◌then◌else◌}
+use Rattle.std.specs.Prelude.{ℕ, zero, suc, ◌+◌, ◌-◌, Bool, ◌&&◌, ◌==◌, nat_lt, List, [], ◌∷◌, ◌++◌, length, take, drop, bytes_eq, slice_index, Option, None, Some, Result, Ok, Err, unwrap_or, if◌then◌else◌}
 use Rattle.std.specs.List.{prefix_len, list_any}
 use Rattle.std.specs.Option.{option_map}
-use Rattle.rdlpp_scan.specs.declared.token.Kind.{Kind}
-use Rattle.rdlpp_scan.specs.declared.token.Kind.TheVariants.{LineComment, Opener, Closer, Comma}
+use Rattle.rdlpp_scan.specs.declared.token.Kind.TheVariants.{LineComment}
 use Rattle.rdlpp_scan.specs.declared.token.Mode.TheVariants.{Plain}
 use Rattle.rdlpp_scan.specs.declared.token.Token.{Token}
 use Rattle.rdlpp_scan.specs.declared.token.LexFault.{LexFault}
 use Rattle.rdlpp_scan.specs.declared.token.LexFault.TheVariants.{Perl, OpenString, OpenComment}
-use Rattle.rdlpp_scan.specs.Bytes.{is_blank, is_line_end, is_letter, is_word}
+use Rattle.rdlpp_scan.specs.Bytes.{is_blank, is_letter, is_word}
 use Rattle.rdlpp_scan.specs.Tokens.{tokens_from}
 use Rattle.rdlpp_scan.specs.LexFaults.{is_perl, lex_fault_from}
 use Rattle.rdlpp_scan.specs.SourceTokens.{logical_len}
 use Rattle.rdlpp_scan.specs.Names.{is_name}
 use Rattle.rdlpp_scan.specs.Stage.{is_reserved}
+unfoldable pub use Rattle.rdlpp_lines.specs.Continuations.{continuation_len, without_continuations}
+unfoldable pub use Rattle.rdlpp_lines.specs.Texts.{is_space, onto_trimmed, without_end, trimmed_of, ends_default, level_behind}
 use Rattle.rdlpp_table.specs.Table.{Formal, Macro, macro_size, table_size, without}
 use Rattle.rdlpp_table.specs.declared.fault.DefineKind.{DefineKind}
 use Rattle.rdlpp_table.specs.declared.fault.DefineFault.{DefineFault}
@@ -25,22 +26,6 @@ pub data Defined : Type 0 where
   Accepted : List Macro → Defined
   Refused : DefineKind → List ℕ → Defined
 
--- how many bytes stand before the LF of a continuation, where a text begins with one: `\`, or `\` and CR
--- (IEEE 1364-2001, `define`)
-unfoldable pub continuation_len : List ℕ → ℕ
-continuation_len bytes =
-    if slice_index bytes 0 == 92 && slice_index bytes 1 == 10 then 1
-    else (if slice_index bytes 0 == 92 && (slice_index bytes 1 == 13 && slice_index bytes 2 == 10) then 2
-    else 0)
-
--- a text with LF in the place of each continuation, after so many bytes are dropped (IEEE 1364-2001, `define`)
-unfoldable pub without_continuations : ℕ → List ℕ → List ℕ
-without_continuations skip [] = []
-without_continuations (suc skip) (b ∷ bs) = without_continuations skip bs
-without_continuations zero (b ∷ bs) =
-    if continuation_len (b ∷ bs) == 0 then b ∷ without_continuations 0 bs
-    else without_continuations (continuation_len (b ∷ bs) - 1) bs
-
 -- a logical line without the LF that ends it, where one does (this project's profile)
 unfoldable pub unended : List ℕ → List ℕ
 unended rest = elim (logical_len 0 0 rest) [ Some n ↦ take (n - 1) rest | None ↦ rest ]
@@ -48,10 +33,6 @@ unended rest = elim (logical_len 0 0 rest) [ Some n ↦ take (n - 1) rest | None
 -- the text of a logical line: without the LF that ends it, and with LF in the place of each continuation (this project's profile)
 unfoldable pub logical_text : List ℕ → List ℕ
 logical_text rest = without_continuations 0 (unended rest)
-
--- white space of a header: a blank or an LF (this project's profile)
-unfoldable pub is_space : ℕ → Bool
-is_space b = is_blank b || is_line_end b
 
 -- a text without the white space with which it begins
 unfoldable pub after_space : List ℕ → List ℕ
@@ -81,20 +62,6 @@ without_remarks (t ∷ ts) text = elim t.kind [
   | _ ↦ take t.len text ++ without_remarks ts (drop t.len text)
 ]
 
--- a byte in front of a text that doesn't end in bytes of a class
-unfoldable pub onto_trimmed : (ℕ → Bool) → ℕ → List ℕ → List ℕ
-onto_trimmed class b [] = if class b then [] else b ∷ []
-onto_trimmed class b (c ∷ cs) = b ∷ c ∷ cs
-
--- a text without the bytes of a class at its end
-unfoldable pub without_end : (ℕ → Bool) → List ℕ → List ℕ
-without_end class [] = []
-without_end class (b ∷ bs) = onto_trimmed class b (without_end class bs)
-
--- a text without the bytes of a class at both ends
-unfoldable pub trimmed_of : (ℕ → Bool) → List ℕ → List ℕ
-trimmed_of class bytes = without_end class (drop (prefix_len class bytes) bytes)
-
 -- a text without the blanks at both ends (this project's profile)
 unfoldable pub trimmed : List ℕ → List ℕ
 trimmed bytes = trimmed_of is_blank bytes
@@ -104,18 +71,6 @@ unfoldable pub lexical : LexFault → DefineKind
 lexical Perl = kind.EmbeddedPerl
 lexical OpenString = kind.OpenString
 lexical OpenComment = kind.OpenComment
-
--- whether a token ends a default text at level 0: a `,` or a `)`; b is its first byte (this project's profile)
-unfoldable pub ends_default : Kind → ℕ → Bool
-ends_default Comma b = true
-ends_default Closer b = b == 41
-ends_default _ b = false
-
--- the level behind a token: `(`, `[` and `{` raise it, `)`, `]` and `}` lower it where it isn't 0 (this project's profile)
-unfoldable pub level_behind : Kind → ℕ → ℕ
-level_behind Opener level = level + 1
-level_behind Closer level = level - 1
-level_behind _ level = level
 
 -- a default text, and what stands behind it
 pub record DefaultText : Type 0 where

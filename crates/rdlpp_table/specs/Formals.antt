@@ -5,10 +5,9 @@ use Rattle.std.specs.List.{list_any, list_all}
 use Rattle.std.specs.Option.{option_map}
 use Rattle.rdlpp_scan.specs.declared.token.Mode.TheVariants.{Plain}
 use Rattle.rdlpp_scan.specs.Tokens.{tokens_from}
-use Rattle.rdlpp_table.specs.declared.body.Inside.TheVariants.{Text}
 use Rattle.rdlpp_table.specs.Table.{Formal, default_size, formal_size}
 use Rattle.rdlpp_table.specs.Define.{DefaultText, FormalList, Listed, Unlisted, Good, Bad, after_space, default_of_tokens, formal_in, is_nothing, leading_name, trimmed_default}
-use Rattle.rdlpp_table.specs.Bodies.{cleared, start_level, trimmed_left, trimmed_len, trims}
+use Rattle.rdlpp_lines.specs.Texts.{cleared, start_level, trimmed_left, trimmed_len, trims}
 use Rattle.rdlpp_table.specs.Store.{is_default, is_plain_formal}
 use Rattle.rdlpp_table.specs.declared.fault.DefineKind.{DefineKind}
 use Rattle.rdlpp_table.specs.declared.fault.DefineKind.TheVariants as kind
@@ -24,7 +23,7 @@ fault_behind names name =
 
 -- the default text of a text from behind its `=` on
 unfoldable pub default_left : List ℕ → List ℕ
-default_left text = trimmed_left (trims true) (cleared (Some 0) Text text)
+default_left text = trimmed_left (trims true) (cleared (Some 0) text)
 
 -- the default text, and what stands behind it, from behind its `=` on
 unfoldable pub default_behind : List ℕ → Option DefaultText
@@ -34,7 +33,7 @@ default_behind text = option_map trimmed_default (default_of_tokens 0 (tokens_fr
 pub record IsDefault (default : Option DefaultText) (from behind : List ℕ) (size : ℕ) : Type 0 where
   pub is : default ≡ Some (record { text = default_left from; behind = behind })
   pub size_is : default_size (default_left from) ≡ size
-  pub len_is : trimmed_len (trims true) (cleared (start_level true) Text from) ≡ Ok (length (default_left from))
+  pub len_is : trimmed_len (trims true) (cleared (start_level true) from) ≡ Ok (length (default_left from))
   pub plain : is_default (default_left from) ≡ true
 
 -- a list of so many formals with so many bytes was read, and so much stands behind it

@@ -4,11 +4,10 @@ pub mod Stops
 pub mod Limits
 pub mod Words
 pub mod Define
-pub mod Bodies
+pub mod Insides
 pub mod Store
 pub mod Entries
 pub mod Index
 pub mod New
 pub mod Layout
-pub mod BodyBytes
 pub mod Formals

@@ -2,11 +2,11 @@
 -- A definition that names no source is this project's own.
 use Rattle.std.specs.Prelude.{◌≡◌, ℕ, Bool, true, false, List, [], length, drop, slice_range, Option, Some, None, option_map, sum_by, unwrap_or, Ok}
 use Rattle.std.specs.List.{list_all}
-use Rattle.rdlpp_table.specs.declared.body.Inside.TheVariants.{Text}
 use Rattle.rdlpp_table.specs.Table.{Formal, Macro, formal_size}
 use Rattle.rdlpp_table.specs.Define.{formals_of_list}
 use Rattle.rdlpp_table.specs.Formals.{listed}
-use Rattle.rdlpp_table.specs.Bodies.{cleared, joined, start_level, trimmed_left, trimmed_len, trims}
+use Rattle.rdlpp_lines.specs.Continuations.{joined}
+use Rattle.rdlpp_lines.specs.Texts.{cleared, trimmed_left, trimmed_len, trims}
 use Rattle.rdlpp_table.specs.Stops.{is_none, stop_of}
 use Rattle.rdlpp_table.specs.Store.{formals_read, is_plain_formal}
 
@@ -18,7 +18,7 @@ list_formals (Some n) list = listed (formals_of_list (joined true list))
 -- the macro
 abbrev pub new_macro : List ℕ → Option ℕ → List ℕ → Bool → List ℕ → Macro
 new_macro name arity list is_logical text =
-    record { name = name; formals = list_formals arity list; body = trimmed_left (trims false) (cleared None Text (joined is_logical text)) }
+    record { name = name; formals = list_formals arity list; body = trimmed_left (trims false) (cleared None (joined is_logical text)) }
 
 -- so many formals with so many bytes are those of a list's text
 pub record IsList (arity : Option ℕ) (list : List ℕ) (size : ℕ) : Type 0 where
@@ -29,7 +29,7 @@ pub record IsList (arity : Option ℕ) (list : List ℕ) (size : ℕ) : Type 0 w
 -- the size and the arity are those of its formals, and its body has so many bytes
 pub record IsNew (name : List ℕ) (arity : Option ℕ) (list : List ℕ) (size : ℕ) (is_logical : Bool) (text : List ℕ) (len : ℕ) : Type 0 where
   pub listed : IsList arity list size
-  pub body_is : trimmed_len (trims false) (cleared None Text (joined is_logical text)) ≡ Ok len
+  pub body_is : trimmed_len (trims false) (cleared None (joined is_logical text)) ≡ Ok len
 
 -- whether the body behind a place of a table's bytes is copied as it stands, by so many formals between two places
 abbrev pub copied_told : List ℕ → ℕ → ℕ → ℕ → Bool

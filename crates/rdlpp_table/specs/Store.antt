@@ -3,9 +3,10 @@
 use Rattle.std.specs.Prelude.{◌≡◌, ℕ, zero, suc, ◌+◌, ◌-◌, Bool, true, not, ◌&&◌, ◌||◌, ◌==◌, List, [], ◌∷◌, ◌++◌, length, take, drop, map, slice_index, slice_range, sum_by, Option, Some, option_map, unwrap_or, if◌then◌else◌}
 use Rattle.std.specs.List.{prefix_len, list_all}
 use Rattle.rdlpp_scan.specs.Bytes.{begins_perl}
-use Rattle.rdlpp_table.specs.declared.body.Inside.{Inside}
-use Rattle.rdlpp_table.specs.declared.body.Inside.TheVariants.{Text}
-use Rattle.rdlpp_table.specs.Bodies.{behind_first, cleared, keeps_first, level_after, minds_perl, stops_at, text_behind}
+use Rattle.rdlpp_table.specs.Insides.{Inside}
+use Rattle.rdlpp_table.specs.Insides.{Text}
+use Rattle.rdlpp_lines.specs.Texts.{cleared, text_behind}
+use Rattle.rdlpp_table.specs.Insides.{behind_first, keeps_first, level_after, minds_perl, stops_at}
 use Rattle.rdlpp_table.specs.Table.{Formal, Macro, macro_size, table_bytes, formal_size}
 use Rattle.rdlpp_table.specs.Stops.{is_copied}
 use Rattle.rdlpp_table.specs.declared.entry.Entry.{Entry}
@@ -29,7 +30,7 @@ is_name_byte b = not (b == 44 || b == 61)
 
 -- what stands behind a default text with which bytes of a table begin, from its `,` on
 unfoldable pub behind_stored : List ℕ → List ℕ
-behind_stored bytes = text_behind (cleared (Some 0) Text bytes)
+behind_stored bytes = text_behind (cleared (Some 0) bytes)
 
 -- a formal that was read from a table's bytes, and what stands behind its `,`
 pub record StoredFormal : Type 0 where

@@ -2,6 +2,7 @@
 -- A definition that names no source is this project's own.
 use Rattle.std.specs.Prelude.{◌≡◌, ℕ, ◌<◌, ◌≤◌, false, All, List, [], length, map, bytes_eq, slice_index_or, Option, None, unwrap_or, position}
 use Rattle.std.specs.List.{IsDistinct}
+use Rattle.rdlpp_scan.specs.CleanTexts.{IsCleanText}
 use Rattle.rdlpp_scan.specs.Stage.{is_reserved}
 use Rattle.rdlpp_table.specs.Table.{Formal, Macro, table_size}
 
@@ -47,18 +48,22 @@ most_formals = 255
 abbrev pub most_name_bytes : ℕ
 most_name_bytes = 128
 
--- what holds of the formals of every macro: distinct names, no more and no longer than this project's profile has it
+-- what holds of the formals of every macro: distinct names, no more and no longer than this project's profile has it, and default
+-- texts that are read whole, without `//` comments
 pub record AreSoundFormals (formals : List Formal) : Type 0 where
   pub distinct : IsDistinct bytes_eq (map (λ f. f.name) formals)
   pub few : length formals ≤ most_formals
   pub short : All (λ f. length f.name ≤ most_name_bytes) formals
+  pub texts : All (λ f. IsCleanText f.text) formals
 
--- what holds of every macro of a table: a name that isn't that of a directive, and sound formals
+-- what holds of every macro of a table: a name that isn't that of a directive, sound formals, and a body that is read whole,
+-- without `//` comments
 pub record IsSoundMacro (m : Macro) : Type 0 where
   pub named : 0 < length m.name
   pub short : length m.name ≤ most_name_bytes
   pub unreserved : is_reserved m.name ≡ false
   pub formals : AreSoundFormals (formals_of m)
+  pub body : IsCleanText m.body
 
 -- what holds of every table: its macros are sound, have distinct names, and are no more and no larger than it takes
 pub record IsSound (table : TableView) : Type 0 where

@@ -25,18 +25,17 @@ ghost use Rattle.std.specs.Prelude.{
   ◌∷◌,
 };
 ghost use Rattle.std.specs.List.{flat_map, list_any};
-ghost use Rattle.rdlpp_table.specs.Bodies.{joined};
+ghost use Rattle.rdlpp_lines.specs.Continuations.{joined};
 ghost use Rattle.rdlpp_table.specs.Define.{default_in, formals_in, formals_of_list, Unlisted};
 ghost use Rattle.rdlpp_table.specs.Formals.{behind_told, default_behind, fault_behind, formal_told, is_told, listed, IsDefault, IsPart, IsRead};
 ghost use Rattle.rdlpp_table.specs.Table.{formal_bytes, formal_size, Formal};
 
-use crate::body::{append_trimmed, trimmed_len};
 use crate::fault::DefineKind;
 use crate::header::{after_space, leading_name};
-use crate::logical::split_first;
 use crate::name::MOST_NAME_BYTES;
 use crate::storing::append;
 use arrayvec::ArrayVec;
+use rdlpp_lines::{append_trimmed, split_first, trimmed_len};
 
 // The most formals of a macro (this project's profile).
 const MOST_FORMALS: usize = 255;

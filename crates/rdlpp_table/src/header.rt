@@ -1,50 +1,13 @@
 // The header of a definition: white space, a name, and whether a formal list follows.
 ghost use Rattle.std.specs.Prelude.{length, true, IfSome, MatchOption, None, Some, ◌≡◌, ◌≤◌};
 ghost use Rattle.std.specs.List.{list_any, prefix_len};
-ghost use Rattle.rdlpp_scan.specs.Bytes.{is_blank, is_letter, is_line_end, is_word};
+ghost use Rattle.rdlpp_scan.specs.Bytes.{is_letter, is_word};
 ghost use Rattle.rdlpp_scan.specs.SourceTokens.{logical_len};
-ghost use Rattle.rdlpp_table.specs.Bodies.{joined};
+ghost use Rattle.rdlpp_lines.specs.Continuations.{joined};
 ghost use Rattle.rdlpp_table.specs.Define.{after_space, formal_list, formals_of_list, is_space, leading_name, unended, Listed};
 
-use crate::logical::split_first;
-use rdlpp_scan::logical_line;
-
-// A space, tab, CR, VT or FF.
-#[tactic(auto, unfolding(rdlpp_scan::specs::Bytes::is_blank))]
-pub(crate) fn is_blank(b: u8) -> bool
-    ensures { result ≡ is_blank b }
-{
-    b == b' ' || b == b'\t' || b == b'\r' || b == 11 || b == 12
-}
-
-#[tactic(auto, unfolding(crate::specs::Define::is_space, rdlpp_scan::specs::Bytes::is_line_end))]
-pub(crate) fn is_space(b: u8) -> bool
-    ensures { result ≡ is_space b }
-{
-    is_blank(b) || b == b'\n'
-}
-
-#[tactic(auto, unfolding(rdlpp_scan::specs::Bytes::is_letter))]
-fn is_letter(b: u8) -> bool
-    ensures { result ≡ is_letter b }
-{
-    b'A' <= b && b <= b'Z' || b'a' <= b && b <= b'z' || b == b'_'
-}
-
-#[tactic(auto, unfolding(rdlpp_scan::specs::Bytes::is_word, rdlpp_scan::specs::Bytes::is_digit))]
-fn is_word(b: u8) -> bool
-    ensures { result ≡ is_word b }
-{
-    is_letter(b) || b'0' <= b && b <= b'9'
-}
-
-// How many word bytes a text begins with.
-fn word_bytes(bytes: &[u8]) -> usize
-    ensures value { result ≡ prefix_len is_word bytes.now }
-    ensures inside { result ≤ length bytes.now }
-{
-    bytes.iter().take_while(|b| is_word(**b)).count()
-}
+use rdlpp_lines::{is_space, split_first};
+use rdlpp_scan::{is_letter, logical_line, word_bytes};
 
 // A logical line without the LF that ends it, where one does.
 #[tactic(auto, unfolding(crate::specs::Define::unended))]

@@ -1,7 +1,6 @@
 //! The macro table: limits, and a counted store of definitions.
 #![tactic(auto)]
 
-mod body;
 #[cfg(test)]
 mod define_tests;
 mod entry;
@@ -12,7 +11,6 @@ mod index;
 #[cfg(test)]
 mod index_tests;
 mod limits;
-mod logical;
 mod name;
 mod removal;
 mod sought;

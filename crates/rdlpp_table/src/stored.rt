@@ -4,7 +4,7 @@ ghost use Rattle.std.specs.List.{prefix_len};
 ghost use Rattle.rdlpp_table.specs.Store.{behind_stored, formal_behind, formal_read, formals_read, is_name_byte};
 ghost use Rattle.rdlpp_table.specs.View.{formal_at, formal_named};
 
-use crate::body::behind_default;
+use rdlpp_lines::behind_default;
 
 // A formal that was read: its name, its default text, and what stands behind its comma.
 #[derive(Clone, Copy, Drop)]
@@ -37,7 +37,7 @@ fn after_first(bytes: &[u8]) -> &[u8]
 }
 
 // The formal of a name, by what stands behind the name.
-#[tactic(auto, unfolding(crate::specs::Store::formal_behind))]
+#[tactic(auto, unfolding(crate::specs::Store::formal_behind, crate::specs::Store::behind_stored))]
 fn formal_behind<'a>(name: &'a [u8], bytes: &'a [u8]) -> StoredFormal<'a>
     ensures name { result.name.now ≡ (formal_behind name.now bytes.now).formal.name }
     ensures text { result.text.now ≡ (formal_behind name.now bytes.now).formal.text }

@@ -25,13 +25,13 @@ ghost use Rattle.rdlpp_table.specs.Store.{macros_in, IsStored};
 ghost use Rattle.rdlpp_table.specs.Table.{formal_bytes, table_size, without};
 ghost use Rattle.rdlpp_table.specs.New.{copied_told, list_formals, new_macro, IsList, IsNew};
 
-use crate::body::append_trimmed;
 use crate::entry::Entry;
 use crate::formals::append_list;
 use crate::index::{enter, gap_in, place_in};
 use crate::removal::take_out_named;
 use crate::sought::Steps;
 use crate::stop::is_copied;
+use rdlpp_lines::append_trimmed;
 
 // Appends bytes for which there is room.
 pub(crate) fn append(bytes: &mut Vec<u8>, part: &[u8])

@@ -1,7 +1,7 @@
 // The table of macros: a list of bytes, one of entries and an index by name, all reserved when the table is made.
 ghost use Rattle.std.specs.Prelude.{◌≡◌, ◌<◌, ◌≤◌, ◌==◌, [], length, IfOk, IfSome, IfNone, OnOk, Some, None, is_some, option_map, OnErr, true, unwrap_or, ◌+◌};
 ghost use Rattle.rdlpp_table.specs.New.{list_formals, new_macro, IsList, IsNew};
-ghost use Rattle.rdlpp_table.specs.Bodies.{joined};
+ghost use Rattle.rdlpp_lines.specs.Continuations.{joined};
 ghost use Rattle.rdlpp_table.specs.Index.{IsCounted};
 ghost use Rattle.rdlpp_table.specs.Limits.{AreInRange};
 ghost use Rattle.rdlpp_table.specs.Stops.{is_copied, stop_in};
@@ -10,7 +10,6 @@ ghost use Rattle.rdlpp_scan.specs.SourceTokens.{logical_len};
 ghost use Rattle.rdlpp_table.specs.Define.{define_of, name_fault, observed, set_of, stored, stored_draft, with_body, with_list};
 ghost use Rattle.rdlpp_table.specs.View.{TableView, AreSoundFormals, IsSound, IsSoundMacro, formal_at, formal_named, formals_of, macro_at, place_named};
 
-use crate::body::trimmed_len;
 use crate::entry::{Entry, body_in, formals_in, list_in};
 use crate::fault::{DefineFault, DefineKind, NoMemory, lexical, refusal};
 use crate::formals::read_list;
@@ -23,6 +22,7 @@ use crate::sought::Steps;
 use crate::stop::{Stop, first_stop};
 use crate::stored::{default_in_list, place_in_list};
 use crate::storing::{New, Rest, beside, replace};
+use rdlpp_lines::trimmed_len;
 use rdlpp_scan::is_name;
 use std::alloc::Global;
 use std::marker::Model;

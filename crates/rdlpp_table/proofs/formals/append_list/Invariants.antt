@@ -1,5 +1,5 @@
-use Rattle.std.proofs.Common.{◌≡◌, ◌≤◌, true, vec_capacity, length}
-use Rattle.rdlpp_table.specs.Bodies.{joined}
+use Rattle.std.proofs.Common.{◌≤◌, true, vec_capacity, length}
+use Rattle.rdlpp_lines.specs.Continuations.{joined}
 use Rattle.rdlpp_table.proofs.Appending.{IsAppended}
 use Rattle.rdlpp_table.proofs.formals.append_list.Given as goal
 

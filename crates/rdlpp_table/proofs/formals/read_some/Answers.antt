@@ -1,4 +1,4 @@
-use Rattle.std.proofs.Common.{◌≡◌, ℕ, List, get_or, eqb, ap, sym, ◌∙◌, arith, refl, ne_eqb}
+use Rattle.std.proofs.Common.{ℕ, List, get_or, eqb, ap, ◌∙◌, arith, refl, ne_eqb}
 use Rattle.rdlpp_table.proofs.Reading.{closer_count, names_more, few_names, no_names, read_bad, read_closer, read_comma, read_fault, read_other, same_count, same_slice, starts}
 use Rattle.rdlpp_table.proofs.formals.read_some.Goals as goal
 

@@ -1,6 +1,6 @@
 use Rattle.std.proofs.Common.{◌∙◌, ◌++◌, ◌∷◌, [], ap, arith, length, length-append, unwrap_or, List, ℕ}
 use Rattle.std.specs.List.{flat_map}
-use Rattle.rdlpp_table.specs.Bodies.{start_level}
+use Rattle.rdlpp_lines.specs.Texts.{start_level}
 use Rattle.rdlpp_table.specs.Table.{Formal, formal_bytes}
 use Rattle.rdlpp_table.proofs.Sizes.{length_list_bytes}
 use Rattle.rdlpp_table.specs.declared.entry.Entry.{Entry}

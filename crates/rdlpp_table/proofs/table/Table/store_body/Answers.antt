@@ -1,11 +1,12 @@
 use Rattle.std.proofs.Common.{◌∙◌, sym}
-use Rattle.rdlpp_table.specs.Bodies.{start_level}
+use Rattle.rdlpp_lines.specs.Texts.{start_level}
 use Rattle.rdlpp_table.proofs.Bodied.{body_stores, body_refuses}
 use Rattle.rdlpp_table.proofs.SoundFormals.{new_sound}
 use Rattle.rdlpp_table.proofs.table.Table.store_body.Goals as goal
 
 pub store-requires-clause-sound : goal.store-requires-clause-sound
-store-requires-clause-sound c = new_sound _ _ _ _ _ c.requires.named c.requires.sound
+unfolding start_level
+store-requires-clause-sound c = new_sound _ _ _ _ _ _ c.requires.named c.requires.sound (sym c.in-Ok.ensures.len)
 
 pub store-requires-clause-counted : goal.store-requires-clause-counted
 unfolding start_level

@@ -1,0 +1,225 @@
+-- What an `include` with its string in front does to what remains: it opens the source that is found, or is a fault.
+use Rattle.std.proofs.Common.{◌≡◌, ℕ, suc, ◌+◌, ◌-◌, ◌<◌, Bool, true, false, cond, ◌||◌, List, [], ◌∷◌, ◌++◌, Option, Some, None, length, take, drop, refl, sym, ap, ◌∙◌, subst, arith}
+use Rattle.std.specs.Prelude.{not, ◌==◌}
+use Rattle.std.specs.List.{list_any}
+use Rattle.std.specs.Option.{option_map}
+use Rattle.std.specs.Str.{is_utf8}
+use Rattle.std.proofs.Math.Seq.{take-add}
+use Rattle.std.proofs.lemmas.List.{drop-drop}
+use Rattle.rdlpp_scan.specs.declared.token.Directive.TheVariants.{Include}
+use Rattle.rdlpp_scan.specs.declared.token.Kind.{Kind}
+use Rattle.rdlpp_scan.specs.declared.token.Kind.TheVariants.{Blank, Str}
+use Rattle.rdlpp_scan.specs.declared.token.Mode.TheVariants.{Plain}
+use Rattle.rdlpp_scan.specs.Bytes.{is_line_end}
+use Rattle.rdlpp_scan.specs.Lines.{EndsLine, ended_line_len}
+use Rattle.rdlpp_scan.specs.SourceTokens.{Ordinary, SourceToken, line_ends, remaining_tokens}
+use Rattle.rdlpp_scan.specs.Tokens.{token_of}
+use Rattle.rdlpp_scan.proofs.LineLaws.{none_suc}
+use Rattle.rdlpp_scan.proofs.RemainingSteps.{remaining-closed}
+use Rattle.rdlpp_scan.proofs.SourceLaws.{line_ends-cons}
+use Rattle.rdlpp_scan.proofs.StageLaws.{directive-string}
+use Rattle.rdlpp_scan.proofs.TokenSteps.{is_kept_kind}
+use Rattle.rdlpp_scan.proofs.WholeLines.{EndsLine-drop}
+use Rattle.rdlpp_meaning.specs.declared.fault.FaultKind.TheVariants.{IncludeName, PathTooLong, SourceNotFound, TooManyIncludes}
+use Rattle.rdlpp_meaning.specs.Outcome.{fails}
+use Rattle.rdlpp_meaning.specs.State.{LongPath, NoSource, Rules, Source, State, fault_at, shown_line}
+use Rattle.rdlpp_meaning.specs.Parts.{behind_directive, command_in_front, command_of, only_blanks}
+use Rattle.rdlpp_meaning.specs.Meaning.{Passage, Progress, added_end, at_start_of, behind_bytes, leaves, origin_line, unquoted}
+use Rattle.rdlpp_meaning.specs.Resumed.{Live}
+use Rattle.rdlpp_meaning.specs.Opened.{Waiting, all_resumed, waiting}
+use Rattle.rdlpp_meaning.proofs.DirectiveWords.{has_own_token}
+use Rattle.rdlpp_meaning.proofs.IncludeArguments.{string_token, takes_string_at_once, takes_string_behind_blanks}
+use Rattle.rdlpp_meaning.proofs.Includes.{all_resumed_include, include_bad_name, include_long_path, include_not_found, include_too_deep}
+use Rattle.rdlpp_meaning.proofs.Undefining.{blank_token}
+use Rattle.rdlpp_read.specs.declared.files.File.{File}
+use Rattle.rdlpp_read.specs.Arguments.{ClosesString, Closes, IsClosedString, IsLead, Lacks, Leads, Opens}
+use Rattle.rdlpp_read.specs.Buffer.{BufferView, held_of, rest_of, tokens_left}
+use Rattle.rdlpp_read.specs.Files.{consumed_file}
+use Rattle.rdlpp_front.specs.Fronts.{HasString, argument_name, word_of}
+use Rattle.rdlpp_front.specs.SourceLeft.{HoldsFront, IsStage, source_left}
+use Rattle.rdlpp_front.proofs.DefineLeft.{not_counted}
+use Rattle.rdlpp_front.proofs.DirectiveMoves.{refused_move}
+use Rattle.rdlpp_front.proofs.NamedDirectives.{IsGiven, NameInFront, blank_lead, given_of, word_at, word_directive, word_token, word_tokens}
+use Rattle.rdlpp_front.proofs.SourceFacts.{ends_line, tokens_used, used_buffer}
+
+-- a text whose first line doesn't end has no LF
+no_line_end : (bytes : List ℕ) → ended_line_len bytes ≡ None → (line_ends bytes ≡ 0) × (list_any is_line_end bytes ≡ false)
+unfolding ended_line_len line_ends
+no_line_end [] h = (refl, refl)
+no_line_end (b ∷ bs) h =
+    let P : Bool → Type 0 = λ t. is_line_end b ≡ t → cond t (Some 1) (option_map suc (ended_line_len bs)) ≡ None
+    → (line_ends (b ∷ bs) ≡ 0) × (list_any is_line_end (b ∷ bs) ≡ false) in
+    let at_true : P true = λ e k. absurd (cc) in
+    let at_false : P false = λ e k.
+    let rest = no_line_end bs (none_suc (ended_line_len bs) k) in
+    let count : line_ends (b ∷ bs) ≡ line_ends bs = not_counted (is_line_end b) (line_ends (b ∷ bs)) (line_ends bs) e (line_ends-cons b bs) in
+    (count ∙ rest.0, rw e rest.1) in
+    elim (is_line_end b) as P [ true ↦ at_true | false ↦ at_false ] refl h
+
+-- a string that has a byte closes
+closed_string : (bytes : List ℕ) (n : ℕ) → IsClosedString bytes n → 0 < n → ClosesString bytes n
+closed_string bytes n (Closes c) some = c
+closed_string bytes n (Opens none zero_is) some = absurd (omega arith)
+
+-- an `include` is a word
+include_word : has_own_token Include ≡ false
+unfolding has_own_token
+include_word = refl
+
+module _ (u : List ℕ → Bool) (stage : IsStage u) (most l room : ℕ) (rest : List ℕ) where
+  -- the tokens of what is held and behind it, on the line of the directive
+  abbrev tokens_of : List ℕ → List SourceToken
+  tokens_of z = remaining_tokens u most Plain l l z room rest
+
+  -- a string in front that closes on its line
+  string_lead : (z : List ℕ) (n : ℕ) → EndsLine z rest → ClosesString z n → tokens_of z ≡ string_token (take n z) l ∷ tokens_of (drop n z)
+  unfolding is_kept_kind
+  string_lead z n ends c =
+      let t = token_of Plain z in
+      let built : u z ≡ false = stage.spares z (directive-string z c.kind) in
+      let none : line_ends (take t.len z) ≡ 0 = ap (λ (k : ℕ). line_ends (take k z)) (sym c.whole) ∙ (no_line_end (take n z) c.line).0 in
+      let line : l + line_ends (take t.len z) ≡ l = omega (arith, none) in
+      remaining-closed u most Plain l l z room rest c.some ends (λ _ more e. stage.by_lines z more c.some e ∙ built) (ap is_kept_kind c.kind) c.closed
+      ∙ ap (λ (m : ℕ). record { sort = Ordinary t.kind; bytes = take t.len z; line = l } ∷ remaining_tokens u most Plain l m (drop t.len z) room rest) line
+      ∙ ap (λ (m : Kind). record { sort = Ordinary m; bytes = take t.len z; line = l } ∷ tokens_of (drop t.len z)) c.kind
+      ∙ ap (λ (m : ℕ). string_token (take m z) l ∷ tokens_of (drop m z)) (sym c.whole)
+
+  -- behind the word: blanks, and then a string
+  string_given : (r : List ℕ) (bl n : ℕ) → EndsLine r rest → IsLead Blank r bl → ClosesString (drop bl r) n
+      → IsGiven Include (tokens_of r) (take n (drop bl r)) (take bl r ++ take n (drop bl r)) (tokens_of (drop n (drop bl r)))
+  string_given r bl n ends (Leads some is len) c =
+      let z = drop bl r in
+      let e : tokens_of r ≡ blank_token (take bl r) l ∷ string_token (take n z) l ∷ tokens_of (drop n z) =
+      blank_lead u stage most l room rest r bl ends some is len ∙ ap (λ (ts : List SourceToken). blank_token (take bl r) l ∷ ts) (string_lead z n (EndsLine-drop bl r rest ends) c) in
+      subst (λ (ts : List SourceToken). IsGiven Include ts (take n z) (take bl r ++ take n z) (tokens_of (drop n z))) (sym e)
+      (given_of Include _ (take n z) (take bl r ++ take n z) (tokens_of (drop n z)) 2
+      (takes_string_behind_blanks (take bl r) (take n z) l l (tokens_of (drop n z)) (no_line_end (take n z) c.line).1) refl)
+  string_given r bl n ends (Lacks other zero_is) c =
+      let P : ℕ → Type 0 = λ m. ClosesString (drop m r) n → IsGiven Include (tokens_of r) (take n (drop m r)) (take m r ++ take n (drop m r)) (tokens_of (drop n (drop m r))) in
+      let at_zero : P 0 = λ own.
+      subst (λ (ts : List SourceToken). IsGiven Include ts (take n r) (take n r) (tokens_of (drop n r))) (sym (string_lead r n ends own))
+      (given_of Include _ (take n r) (take n r) (tokens_of (drop n r)) 1 (takes_string_at_once (take n r) l (tokens_of (drop n r)) (no_line_end (take n r) own.line).1) refl) in
+      subst P (sym zero_is) at_zero c
+
+-- an `include` with its string in front
+pub string_in_front_of : {R : Type 0} (u : List ℕ → Bool) (unread : R → List ℕ) (b : BufferView R) → HoldsFront u b → b.mode ≡ Plain → u (held_of b) ≡ false
+    → (start stop : ℕ) → HasString (held_of b) start stop → NameInFront Include u unread b start stop
+string_in_front_of u unread b holds mode built start stop has =
+    let held = held_of b in
+    let rest = rest_of unread b in
+    let n = length (word_of Include) in
+    let r = drop n held in
+    let bl = has.from in
+    let k = has.to - bl in
+    let g = has.given in
+    let ends = ends_line unread b holds.ends in
+    let starts = has.starts in
+    let stops = has.stops in
+    let some_string : 0 < k = omega (arith, g.some) in
+    let line : b.line ≡ b.line + 0 = omega arith in
+    let used : (i : ℕ) → remaining_tokens u b.line_bytes Plain b.line b.line (drop i held) b.bytes_left rest ≡ tokens_left u unread (used_buffer b i 0) =
+    λ i. ap (λ (m : ℕ). remaining_tokens u b.line_bytes Plain b.line m (drop i held) b.bytes_left rest) line ∙ tokens_used u unread b i 0 b.line mode in
+    let a = string_given u holds.stage b.line_bytes b.line b.bytes_left rest r bl k (EndsLine-drop n held rest ends) g.space (closed_string (drop bl r) k g.string some_string) in
+    let at : drop bl r ≡ drop start held = drop-drop bl n held ∙ ap (λ (i : ℕ). drop i held) (sym starts) in
+    let size : k ≡ stop - start = omega (arith, g.some) in
+    let more : bl + k ≡ has.to = omega (arith, g.some) in
+    let taken : take bl r ++ take k (drop bl r) ≡ take has.to r = sym (take-add bl k r) ∙ ap (λ (i : ℕ). take i r) more in
+    let whole : word_of Include ++ take has.to r ≡ take stop held =
+    ap (λ (z : List ℕ). z ++ take has.to r) (sym (word_at Include held rest holds.some ends has.word))
+    ∙ sym (take-add n has.to held) ∙ ap (λ (i : ℕ). take i held) (sym stops) in
+    let end : start + k ≡ stop = omega (arith, g.some) in
+    record {
+      tokens = remaining_tokens u b.line_bytes Plain b.line b.line r b.bytes_left rest;
+      all = word_tokens Include u unread b include_word holds mode has.word built ∙ ap (λ (ts : List SourceToken). word_token Include b.line ∷ ts) (sym (used n));
+      given = a.given ∙ ap Some (ap (take k) at ∙ ap (λ (i : ℕ). take i (drop start held)) size);
+      text = ap (λ (z : List ℕ). word_of Include ++ z) (a.taken ∙ taken) ∙ whole;
+      behind =
+          a.rest
+          ∙ ap (λ (z : List ℕ). remaining_tokens u b.line_bytes Plain b.line b.line z b.bytes_left rest)
+          (ap (drop k) at ∙ drop-drop k start held ∙ ap (λ (i : ℕ). drop i held) end)
+          ∙ used stop;
+    }
+
+-- a source that waits for the text that its `include` has found, as a file of which the directive is used
+abbrev pub waiting_file : {R : Type 0} → Rules → (List ℕ → Bool) → (R → List ℕ) → List Progress → ℕ → File R → State → List ℕ → Waiting
+waiting_file rules unbuilt unread os stop f s text = record {
+  open_conditionals = os;
+  first = (consumed_file stop 0 f).blanks;
+  tokens = tokens_left unbuilt unread (consumed_file stop 0 f).buffer;
+  state = s;
+  ending = added_end text ++ origin_line rules s.name (shown_line s.shift f.buffer.line);
+}
+
+-- the name in the string
+abbrev pub include_name : List ℕ → ℕ → ℕ → List ℕ
+include_name held start stop = unquoted (argument_name held start stop)
+
+module _ {R : Type 0} (rules : Rules) (unbuilt : List ℕ → Bool) (unread : R → List ℕ) (ws : List Waiting) (os : List Progress) (f : File R) (s : State)
+    (holds : HoldsFront unbuilt f.buffer) (mode : f.buffer.mode ≡ Plain) (built : unbuilt (held_of f.buffer) ≡ false)
+    (start stop : ℕ) (has : HasString (held_of f.buffer) start stop) where
+  -- the tokens at the `include`
+  abbrev front : NameInFront Include unbuilt unread f.buffer start stop
+  front = string_in_front_of unbuilt unread f.buffer holds mode built start stop has
+
+  -- the source that stood innermost waits
+  waits : (i : NameInFront Include unbuilt unread f.buffer start stop) (text : List ℕ)
+      → waiting rules os f.blanks (word_token Include f.buffer.line) i.tokens s text ≡ waiting_file rules unbuilt unread os stop f s text
+  unfolding waiting command_of
+  waits i text =
+      let w : Bool → List SourceToken → Waiting = λ first ts. record {
+        open_conditionals = os;
+        first = first;
+        tokens = ts;
+        state = s;
+        ending = added_end text ++ origin_line rules s.name (shown_line s.shift f.buffer.line);
+      } in
+      ap (λ (z : List ℕ). w (only_blanks f.blanks z) (behind_directive Include i.tokens)) i.text
+      ∙ ap (λ (ts : List SourceToken). w (only_blanks f.blanks (take stop (held_of f.buffer))) ts) i.behind
+
+  -- an `include` that finds a source opens it, and the source that stood innermost waits
+  pub include_left : (k : ℕ) (path text : List ℕ)
+      → (length (include_name (held_of f.buffer) start stop) == 0 || not (is_utf8 (include_name (held_of f.buffer) start stop))) ≡ false → s.sources_left ≡ suc k
+      → rules.find s.path (include_name (held_of f.buffer) start stop) ≡ Source path text
+      → source_left rules unbuilt unread ws (Live os) f s
+      ≡ behind_bytes (origin_line rules path 1)
+      (all_resumed rules (waiting_file rules unbuilt unread os stop f s text ∷ ws) (Live []) true (rules.tokens text) (at_start_of path s))
+  unfolding source_left
+  include_left k path text name left found =
+      ap (λ (ts : List SourceToken). all_resumed rules ws (Live os) f.blanks ts s) front.all
+      ∙ all_resumed_include rules ws os f.blanks (word_token Include f.buffer.line) front.tokens s (argument_name (held_of f.buffer) start stop) k path text
+      (word_directive Include f.buffer.line include_word) front.given name left found
+      ∙ ap (λ (w : Waiting). behind_bytes (origin_line rules path 1) (all_resumed rules (w ∷ ws) (Live []) true (rules.tokens text) (at_start_of path s))) (waits front text)
+
+  -- an `include` of an empty name, or of one that isn't UTF-8, is a fault
+  pub include_bad_left : (length (include_name (held_of f.buffer) start stop) == 0 || not (is_utf8 (include_name (held_of f.buffer) start stop))) ≡ true
+      → source_left rules unbuilt unread ws (Live os) f s ≡ leaves (fails (fault_at IncludeName f.buffer.line [] s)) s
+  include_bad_left name =
+      refused_move rules unbuilt unread ws f s Include front.tokens (Live os) IncludeName [] front.all
+      (include_bad_name rules os f.blanks (word_token Include f.buffer.line) front.tokens s (argument_name (held_of f.buffer) start stop)
+      (word_directive Include f.buffer.line include_word) front.given name)
+
+  -- where no more sources may be opened, it is a fault
+  pub include_deep_left : (length (include_name (held_of f.buffer) start stop) == 0 || not (is_utf8 (include_name (held_of f.buffer) start stop))) ≡ false → s.sources_left ≡ 0
+      → source_left rules unbuilt unread ws (Live os) f s ≡ leaves (fails (fault_at TooManyIncludes f.buffer.line [] s)) s
+  include_deep_left name left =
+      refused_move rules unbuilt unread ws f s Include front.tokens (Live os) TooManyIncludes [] front.all
+      (include_too_deep rules os f.blanks (word_token Include f.buffer.line) front.tokens s (argument_name (held_of f.buffer) start stop)
+      (word_directive Include f.buffer.line include_word) front.given name left)
+
+  -- and where the search finds nothing
+  pub include_absent_left : (k : ℕ) → (length (include_name (held_of f.buffer) start stop) == 0 || not (is_utf8 (include_name (held_of f.buffer) start stop))) ≡ false
+      → s.sources_left ≡ suc k → rules.find s.path (include_name (held_of f.buffer) start stop) ≡ NoSource
+      → source_left rules unbuilt unread ws (Live os) f s ≡ leaves (fails (fault_at SourceNotFound f.buffer.line [] s)) s
+  include_absent_left k name left found =
+      refused_move rules unbuilt unread ws f s Include front.tokens (Live os) SourceNotFound [] front.all
+      (include_not_found rules os f.blanks (word_token Include f.buffer.line) front.tokens s (argument_name (held_of f.buffer) start stop) k
+      (word_directive Include f.buffer.line include_word) front.given name left found)
+
+  -- or a path that is too long
+  pub include_overlong_left : (k : ℕ) → (length (include_name (held_of f.buffer) start stop) == 0 || not (is_utf8 (include_name (held_of f.buffer) start stop))) ≡ false
+      → s.sources_left ≡ suc k → rules.find s.path (include_name (held_of f.buffer) start stop) ≡ LongPath
+      → source_left rules unbuilt unread ws (Live os) f s ≡ leaves (fails (fault_at PathTooLong f.buffer.line [] s)) s
+  include_overlong_left k name left found =
+      refused_move rules unbuilt unread ws f s Include front.tokens (Live os) PathTooLong [] front.all
+      (include_long_path rules os f.blanks (word_token Include f.buffer.line) front.tokens s (argument_name (held_of f.buffer) start stop) k
+      (word_directive Include f.buffer.line include_word) front.given name left found)

@@ -1,0 +1,5 @@
+pub mod Joins
+pub mod SideBySide
+pub mod JoinedTokens
+pub mod Measures
+pub mod Advancing

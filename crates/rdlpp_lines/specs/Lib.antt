@@ -1,0 +1,4 @@
+pub mod Continuations
+pub mod LineTokens
+pub mod Texts
+pub mod Reading

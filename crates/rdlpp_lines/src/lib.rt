@@ -1,0 +1,13 @@
+//! The text of a logical line: its tokens, with each continuation read as its LF.
+#![tactic(auto)]
+
+mod first;
+mod reading;
+mod tokens;
+
+pub use first::split_first;
+pub use reading::{Measured, append_trimmed, behind_default, is_space, trimmed_len};
+pub use tokens::line_token;
+
+#[cfg(test)]
+mod tests;

@@ -1,0 +1,333 @@
+// The text of a body or of a default, token by token: the bytes that are kept.
+ghost use Rattle.std.specs.Prelude.{
+  [],
+  false,
+  length,
+  unwrap_or,
+  vec_capacity,
+  vec_len,
+  IfNone,
+  IfOk,
+  IfSome,
+  MatchResult,
+  None,
+  Ok,
+  Err,
+  OnSome,
+  Some,
+  ◌+◌,
+  ◌++◌,
+  ◌<◌,
+  ◌≡◌,
+  ◌≤◌,
+};
+ghost use Rattle.rdlpp_lines.specs.Continuations.{joined};
+ghost use Rattle.rdlpp_lines.specs.LineTokens.{kept_of};
+ghost use Rattle.rdlpp_lines.specs.Reading.{left, unread, IsAdvanced, LevelFits};
+ghost use Rattle.rdlpp_lines.specs.Texts.{
+  begun,
+  cleared,
+  is_space,
+  ends_default,
+  level_behind,
+  level_by,
+  start_level,
+  stops_token,
+  text_behind,
+  trimmed_left,
+  trimmed_len,
+  trims,
+  IsNext,
+};
+
+use crate::first::split_first;
+use crate::tokens::line_token;
+use rdlpp_scan::{Kind, LexFault, Mode, is_blank, is_perl, open_fault};
+
+/// Whether a byte is white space of a header: a blank or an LF (this project's profile).
+#[tactic(auto, unfolding(crate::specs::Texts::is_space, rdlpp_scan::specs::Bytes::is_line_end))]
+pub fn is_space(b: u8) -> bool
+    ensures { result ≡ is_space b }
+{
+    is_blank(b) || b == b'\n'
+}
+
+// The bytes of a token that are kept: those of a `//` comment go.
+fn kept_of(kind: Kind, bytes: &[u8]) -> &[u8]
+    ensures value { result.now ≡ kept_of kind bytes.now }
+    ensures inside { length result.now ≤ length bytes.now }
+{
+    match kind {
+        Kind::LineComment => &[],
+        _ => bytes,
+    }
+}
+
+// Whether a default text ends at a token; a body has no level, and ends at none. b is the token's first byte.
+#[tactic(auto, unfolding(crate::specs::Texts::ends_default))]
+fn stops_token(level: Option<usize>, kind: Kind, b: u8) -> bool
+    ensures { result ≡ stops_token level kind b }
+{
+    match (level, kind) {
+        (Some(level), Kind::Comma) => level == 0,
+        (Some(level), Kind::Closer) => level == 0 && b == b')',
+        _ => false,
+    }
+}
+
+// The level behind a token.
+#[tactic(auto, unfolding(crate::specs::Texts::level_behind))]
+fn level_behind(kind: Kind, level: usize) -> usize
+    requires { level < 18446744073709551615 }
+    ensures value { result ≡ level_behind kind level }
+    ensures small { result ≤ level + 1 }
+{
+    match kind {
+        Kind::Opener => level + 1,
+        Kind::Closer => level.saturating_sub(1),
+        _ => level,
+    }
+}
+
+// The level behind a token, where there is one.
+fn level_by(level: Option<usize>, kind: Kind) -> Option<usize>
+    requires { unwrap_or level 0 < 18446744073709551615 }
+    ensures value { result ≡ level_by level kind }
+    ensures small { unwrap_or result 0 ≤ unwrap_or level 0 + 1 }
+{
+    match level {
+        Some(level) => Some(level_behind(kind, level)),
+        None => None,
+    }
+}
+
+// The level at which a text begins.
+#[tactic(auto, unfolding(crate::specs::Texts::start_level))]
+fn start_level(is_default: bool) -> Option<usize>
+    ensures value { result ≡ start_level is_default }
+    ensures zero { unwrap_or result 0 ≡ 0 }
+{
+    if is_default { Some(0) } else { None }
+}
+
+// Whether a byte goes at both ends: a blank, and of a default text LF too.
+#[tactic(auto, unfolding(crate::specs::Texts::trims))]
+fn trims(is_default: bool, b: u8) -> bool
+    ensures { result ≡ trims is_default b }
+{
+    if is_default { is_space(b) } else { is_blank(b) }
+}
+
+// The bytes of a body or of a default text that are kept, one after another.
+#[derive(Drop)]
+pub(crate) struct KeptBytes<'a> {
+    // What is left of the token that is read.
+    token: &'a [u8],
+    // The text behind it, and where that stands.
+    rest: &'a [u8],
+    mode: Mode,
+    // How deep in brackets; none in a body.
+    level: Option<usize>,
+    is_logical: bool,
+}
+
+impl<'a> KeptBytes<'a> {
+    // All of a text, up to the end of the default text with which it begins where it is to be one;
+    // of a logical line's text with LF in the place of each continuation.
+    fn new(text: &'a [u8], is_logical: bool, is_default: bool) -> KeptBytes<'a>
+        ensures is_logical { result.is_logical ≡ is_logical }
+        ensures left { left result ≡ cleared (start_level is_default) (joined is_logical text.now) }
+        ensures unread { unread result ≡ length text.now }
+        ensures fits { LevelFits result }
+    {
+        KeptBytes {
+            token: &[],
+            rest: text,
+            mode: Mode::Plain,
+            level: start_level(is_default),
+            is_logical,
+        }
+    }
+
+    // Goes on to the next token behind one that is read whole; false at the end.
+    fn advance(&mut self) -> Result<bool, LexFault>
+        requires fits { LevelFits self.old }
+        ensures next { IsAdvanced self.old result self.new }
+        ensures inside { unread self.new ≤ unread self.old }
+        ensures same { self.new.is_logical ≡ self.old.is_logical }
+        ensures fits { LevelFits self.new }
+    {
+        let text = self.rest;
+        if text.is_empty() {
+            return match open_fault(self.mode) {
+                Some(fault) => Err(fault),
+                None => Ok(false),
+            };
+        }
+        let token = line_token(self.mode, text, self.is_logical);
+        if is_perl(token.kind) {
+            return Err(LexFault::Perl);
+        }
+        if stops_token(self.level, token.kind, text[0]) {
+            return Ok(false);
+        }
+        let (here, after) = text.split_at(token.len);
+        self.token = kept_of(token.kind, here);
+        self.rest = after;
+        self.mode = token.next_mode;
+        self.level = level_by(self.level, token.kind);
+        Ok(true)
+    }
+
+    // The text that wasn't read yet.
+    fn rest(&self) -> &'a [u8]
+        ensures { result.now ≡ self.now.rest.now }
+    {
+        self.rest
+    }
+
+    // The next byte that is kept; `None` at the end.
+    fn next(&mut self) -> Result<Option<u8>, LexFault>
+        requires { LevelFits self.old }
+        ensures next { IsNext (left self.old) result (left self.new) }
+        ensures less { IfOk result (λ found. OnSome found (unread self.new < unread self.old)) }
+        ensures inside { unread self.new ≤ unread self.old }
+        ensures end { IfOk result (λ found. IfNone found (text_behind (left self.new) ≡ joined self.new.is_logical self.new.rest.now)) }
+        ensures same { self.new.is_logical ≡ self.old.is_logical }
+        ensures fits { LevelFits self.new }
+    {
+        loop {
+            if let Some((b, after)) = split_first(self.token, self.is_logical) {
+                self.token = after;
+                return Ok(Some(b));
+            }
+            match self.advance() {
+                Ok(true) => {}
+                Ok(false) => return Ok(None),
+                Err(fault) => return Err(fault),
+            }
+        }
+    }
+
+    // The next byte that is kept and doesn't go at the ends.
+    fn next_untrimmed(&mut self, is_default: bool) -> Result<Option<u8>, LexFault>
+        requires { LevelFits self.old }
+        ensures next { IsNext (begun (trims is_default) (left self.old)) result (left self.new) }
+        ensures less { IfOk result (λ found. OnSome found (unread self.new < unread self.old)) }
+        ensures inside { unread self.new ≤ unread self.old }
+        ensures some { IfOk result (λ found. IfSome found (λ b. trims is_default b ≡ false)) }
+        ensures end { IfOk result (λ found. IfNone found (text_behind (left self.new) ≡ joined self.new.is_logical self.new.rest.now)) }
+        ensures same { self.new.is_logical ≡ self.old.is_logical }
+        ensures fits { LevelFits self.new }
+    {
+        loop {
+            match self.next() {
+                Ok(Some(b)) => {
+                    if !trims(is_default, b) {
+                        return Ok(Some(b));
+                    }
+                }
+                Ok(None) => return Ok(None),
+                Err(fault) => return Err(fault),
+            }
+        }
+    }
+}
+
+/// How long a text is without its `//` comments and what goes at both ends, and what stands behind it.
+#[derive(Clone, Copy, Drop)]
+pub struct Measured<'a> {
+    /// Its length in bytes.
+    pub len: usize,
+    /// What stands behind it: nothing behind a body.
+    pub behind: &'a [u8],
+}
+
+/// Measures a body, or the default text with which a text begins: its length without its `//`
+/// comments and without the blanks, and of a default text LF too, at both ends.
+///
+/// A default text goes up to the first `,` or `)` outside brackets, strings and comments, or to the
+/// end; brackets are counted by one level for all kinds (this project's profile). Of the text of a
+/// logical line each continuation is read as its LF (IEEE 1364-2001, `define`).
+///
+/// # Errors
+///
+/// The first fault of the text up to its end: `<%` outside comments, or a string or a block comment
+/// that isn't closed.
+///
+/// Costs time linear in the text's length.
+pub fn trimmed_len(
+    text: &[u8],
+    is_logical: bool,
+    is_default: bool,
+) -> Result<Measured<'_>, LexFault>
+    ensures len { MatchResult result (λ measured. trimmed_len (trims is_default) (cleared (start_level is_default) (joined is_logical text.now)) ≡ Ok measured.len) (λ fault. trimmed_len (trims is_default) (cleared (start_level is_default) (joined is_logical text.now)) ≡ Err fault) }
+    ensures behind { IfOk result (λ measured. text_behind (cleared (start_level is_default) (joined is_logical text.now)) ≡ joined is_logical measured.behind.now) }
+    ensures inside { IfOk result (λ measured. measured.len + length measured.behind.now ≤ length text.now) }
+{
+    let mut bytes = KeptBytes::new(text, is_logical, is_default);
+    match bytes.next_untrimmed(is_default) {
+        Ok(Some(_)) => {}
+        Ok(None) => return Ok(Measured {
+            len: 0,
+            behind: bytes.rest(),
+        }),
+        Err(fault) => return Err(fault),
+    }
+    let mut count = 1;
+    let mut end = 1;
+    loop {
+        match bytes.next() {
+            Ok(Some(b)) => {
+                count += 1;
+                if !trims(is_default, b) {
+                    end = count;
+                }
+            }
+            Ok(None) => return Ok(Measured {
+                len: end,
+                behind: bytes.rest(),
+            }),
+            Err(fault) => return Err(fault),
+        }
+    }
+}
+
+/// Appends a body, or the default text with which a text begins, of which `trimmed_len` told the
+/// length, to bytes that have room for it.
+///
+/// Costs time linear in the text's length.
+pub fn append_trimmed(to: &mut Vec<u8>, text: &[u8], is_logical: bool, is_default: bool, len: usize)
+    requires len { trimmed_len (trims is_default) (cleared (start_level is_default) (joined is_logical text.now)) ≡ Ok len }
+    requires room { vec_len to.old + len ≤ vec_capacity to.old }
+    ensures items { to.new.items ≡ to.old.items ++ trimmed_left (trims is_default) (cleared (start_level is_default) (joined is_logical text.now)) }
+    ensures capacity { vec_capacity to.new ≡ vec_capacity to.old }
+{
+    let mut bytes = KeptBytes::new(text, is_logical, is_default);
+    let mut found = bytes.next_untrimmed(is_default).unwrap_or(None);
+    for _ in 0..len {
+        let Some(b) = found else {
+            return;
+        };
+        to.push_reserved(b);
+        found = bytes.next().unwrap_or(None);
+    }
+}
+
+/// What stands behind the default text with which bytes begin, from its `,` or `)` on, where no
+/// byte is a continuation; nothing where the default text has a fault or goes up to the end.
+///
+/// Costs time linear in the default text's length.
+pub fn behind_default(bytes: &[u8]) -> &[u8]
+    ensures value { result.now ≡ text_behind (cleared (Some 0) bytes.now) }
+    ensures inside { length result.now ≤ length bytes.now }
+{
+    let mut reader = KeptBytes::new(bytes, false, true);
+    loop {
+        match reader.next() {
+            Ok(Some(_)) => {}
+            Ok(None) => return reader.rest(),
+            Err(_) => return &[],
+        }
+    }
+}
