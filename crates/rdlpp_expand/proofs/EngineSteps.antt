@@ -307,7 +307,7 @@ silent_then g old mid new answer first then_ =
     }
 
 -- where bytes may follow, the main text is open
-follows : (p : Phase) → may_follow p ≡ true → p ≡ Open
+pub follows : (p : Phase) → may_follow p ≡ true → p ≡ Open
 unfolding may_follow
 follows Fresh h = cc h
 follows Open h = refl

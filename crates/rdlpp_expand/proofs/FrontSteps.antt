@@ -732,3 +732,22 @@ defines_by {S} {R} len old now new table owed lines used owes adds nothing limit
       becomes = owes ∙ (ap (λ (e : EngineView S R). record e { owed = owed }) used
           ∙ (ap (makes table) exact ∙ ap (λ (t : TableView). makes t (record { line_ends = lines })) (table_same old.table table limits.0 limits.1)));
     }
+
+-- an engine of which nothing is owed goes on in its open sources
+pub ready_unowed : {S R : Type 0} (old new : EngineView S R) → old.phase ≡ Open → old.kept ≡ None → new ≡ record old { owed = nothing_owed }
+    → IsSoundEngine old.limits old.phase old.table old.files → AreOpen old.files → IsReady new
+ready_unowed old new open_ free becomes sound files = rw becomes (record {
+  open_ = open_;
+  free = free;
+  owed = refl;
+  nest = sound.open_ (opened_phase old.phase open_);
+  sound = sound;
+  files = files;
+})
+
+-- the same engine, with something else owed
+pub owing : {S R : Type 0} (a b : EngineView S R) (owed : OwedView) → a ≡ b → record a { owed = owed } ≡ record b { owed = owed }
+owing {S} {R} a b owed same = ap (λ (e : EngineView S R). record e { owed = owed }) same
+
+pub owing_same : {S R : Type 0} (e : EngineView S R) (a b : OwedView) → a ≡ b → record e { owed = a } ≡ record e { owed = b }
+owing_same e a b same = ap (λ (o : OwedView). record e { owed = o }) same

@@ -1,5 +1,5 @@
 -- The opening of a main text: the name that its fault tells, and what a start comes to.
-use Rattle.std.proofs.Common.{◌≡◌, ℕ, zero, suc, ◌≤◌, ◌<◌, ◌&&◌, Bool, true, false, leb, List, [], length, get_or, take, None, Some, Err, refl, sym, ap, ◌∙◌, inl, inr, arith}
+use Rattle.std.proofs.Common.{◌≡◌, ℕ, zero, suc, ◌-◌, ◌≤◌, ◌<◌, ◌&&◌, Bool, true, false, leb, List, [], length, get_or, take, None, Some, Err, refl, sym, ap, ◌∙◌, inl, inr, arith}
 use Rattle.std.specs.Str.{IsCharBoundary}
 use Rattle.std.proofs.lemmas.Bool.{cases_lt, cond-true, cond-false}
 use Rattle.std.proofs.lemmas.Bool.Decides.{nat_tests}
@@ -140,9 +140,12 @@ left_opened : {S R : Type 0} (unread : R → List ℕ) (e : EngineView S R) (s :
     (start_state e.table.macros e.limits.includes e.limits.conditions found.path.bytes))
 unfolding left_of uncut_of kept_uncut phase_uncut text_of nest_left waiting_around nest_state file_state source_left opened_engine nothing_owed owed_bytes opened_buffer tokens_left held_of rest_of ahead_of unread_of whole_tokens staged_rules rules_of start_state no_shift
 left_opened unread e s found most none =
-    rw (none, most) (ap (limited (output_fault found.path.bytes) e.limits.output_bytes)
-    (alone (staged_rules e.limits e.origins) (whole_tokens is_unbuilt e.limits.line_bytes e.limits.source_bytes (unread found.reader))
-    (start_state e.table.macros e.limits.includes e.limits.conditions found.path.bytes)))
+    let rules = staged_rules e.limits e.origins in
+    let ts = whole_tokens is_unbuilt e.limits.line_bytes e.limits.source_bytes (unread found.reader) in
+    let starts : ℕ → State = λ n. record (start_state e.table.macros e.limits.includes e.limits.conditions found.path.bytes) { sources_left = n } in
+    let all : e.limits.includes - 0 ≡ e.limits.includes = omega arith in
+    rw (none, most) (ap (limited (output_fault found.path.bytes) e.limits.output_bytes) (alone rules ts (starts (e.limits.includes - 0)))
+    ∙ ap (λ (n : ℕ). limited (output_fault found.path.bytes) e.limits.output_bytes (remains rules (Live []) true ts (starts n))) all)
 
 -- what remains where no main text was opened
 left_unopened : {S R : Type 0} (unread : R → List ℕ) (e : EngineView S R) (s : S) (kind : FaultKind) (path : List ℕ)

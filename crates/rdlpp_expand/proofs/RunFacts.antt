@@ -432,7 +432,7 @@ module _ {S R W : Type 0} (g : Ghosts S R) (h : SinkGhosts W) (old new : EngineV
         closed = λ e. (let bad : ⊥ = cc (e, told) in absurd bad);
         limits = w.limits;
         origins = w.origins;
-      main = w.main;
+        main = w.main;
         started = w.started;
         bounded = w.ends.bounded;
       }

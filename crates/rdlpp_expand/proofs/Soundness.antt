@@ -13,7 +13,7 @@ use Rattle.rdlpp_read.specs.declared.files.File.{File}
 use Rattle.rdlpp_expand.specs.Engine.{IsSoundEngine, is_open}
 use Rattle.rdlpp_expand.specs.Remaining.{file_state, nest_state}
 use Rattle.rdlpp_expand.specs.declared.phase.Phase.{Phase}
-use Rattle.rdlpp_expand.specs.declared.phase.Phase.TheVariants.{Fresh, Open, Closed}
+use Rattle.rdlpp_expand.specs.declared.phase.Phase.TheVariants.{Fresh, Open, Passed, Closed}
 
 -- as many sources are open where the innermost changes
 pub with_inner-length : {R : Type 0} (change : File R → File R) (nest : List (File R)) → length (with_inner change nest) ≡ length nest
@@ -124,4 +124,20 @@ sound_unopened limits phase table files s fresh = record {
   alone = s.alone;
   open_ = λ o. cc;
   closed = λ c. fresh_nest limits phase table files s fresh;
+}
+
+-- an engine whose output has passed its limit
+pub sound_passed : {R : Type 0} (limits : Limits) (phase : Phase) (table : TableView) (files : FilesView R)
+    → IsSoundEngine limits phase table files → phase ≡ Open → IsSoundEngine limits Passed table files
+unfolding is_open
+sound_passed limits phase table files s was = record {
+  in_range = s.in_range;
+  definition_bytes = s.definition_bytes;
+  definitions = s.definitions;
+  size = s.size;
+  slots = s.slots;
+  line_bytes = s.line_bytes;
+  alone = s.alone;
+  open_ = λ o. s.open_ (ap is_open was);
+  closed = λ c. cc;
 }

@@ -155,6 +155,7 @@ impl<S: Sources> Engine<S> {
 
     // Takes so many bytes from what may still be lent, and answers how many of them may be.
     fn spend(&mut self, len: usize) -> usize
+        requires { self.old.phase ≡ Phase.Open }
         ensures fits { len ≤ self.old.quota → (result ≡ len) × (self.new ≡ record self.old { quota = self.old.quota - len }) }
         ensures passes { self.old.quota < len → (result ≡ self.old.quota) × (self.new ≡ record self.old { phase = Phase.Passed; quota = 0 }) }
     {
@@ -318,7 +319,10 @@ impl<S: Sources> Engine<S> {
                 self.read_define(len)
             }
             LogicalLine::TooLong => Some(self.refuse(FaultKind::LineTooLong, ArrayString::new())),
-            LogicalLine::SourceLong => Some(self.refuse(FaultKind::SourceTooLong, ArrayString::new())),
+            LogicalLine::SourceLong => Some(self.refuse(
+                FaultKind::SourceTooLong,
+                ArrayString::new(),
+            )),
             LogicalLine::Failed => Some(self.refuse_read()),
         }
     }

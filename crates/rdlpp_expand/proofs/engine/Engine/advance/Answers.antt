@@ -1,3 +1,5 @@
+use Rattle.std.proofs.Common.{refl}
+use Rattle.rdlpp_expand.proofs.EngineSteps.{follows}
 use Rattle.rdlpp_expand.proofs.Cuts.{cut_body, cut_end, cut_kept, cut_owed, cut_source, owed_placed}
 use Rattle.rdlpp_expand.proofs.engine.Engine.advance.Goals as goal
 
@@ -25,3 +27,12 @@ returns-in-End-clause-steps g c = cut_end g.S.Sources c.args.self.now c.walk.new
 
 pub returns-in-Kept-clause-steps : goal.returns-in-Kept-clause-steps
 returns-in-Kept-clause-steps g c = cut_kept g.S.Sources c.args.self.now c.walk.new.self c.walk.new.self.kept c.in-Kept.ensures.walks
+
+pub spend-len-requires : goal.spend-len-requires
+spend-len-requires g c = follows _ (c.in-Source.ensures.walks.lends _ refl).1
+
+pub spend-len-requires-in-Body : goal.spend-len-requires-in-Body
+spend-len-requires-in-Body g c = follows _ (c.in-Body.ensures.walks.lends _ refl).1
+
+pub spend-requires : goal.spend-requires
+spend-requires g c = follows _ (c.in-Owed.ensures.walks.lends _ refl).1

@@ -13,5 +13,5 @@ unfolding held_told stores_of
 returns-clause-value g c =
     let bytes : c.held_len.result ≡ sum_by length (held_windows c.self.inside.files.nest) = c.held_len.ensures ∙ sym (held_windows-len c.self.inside.files.nest) in
     let definitions = c.bytes.ensures.value in
-    let open_ = c.len-2.ensures in
+    let open_ = c.len.ensures in
     rw (← c.self.view_is) (cc)

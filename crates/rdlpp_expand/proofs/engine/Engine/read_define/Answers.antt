@@ -1,4 +1,4 @@
-use Rattle.std.proofs.Common.{◌≡◌, ◌≤◌, ◌+◌, ◌<◌, length, take, drop, sym, ap, ◌∙◌, refl, arith}
+use Rattle.std.proofs.Common.{◌≡◌, ℕ, ◌≤◌, ◌+◌, ◌<◌, length, take, drop, sym, ap, ◌∙◌, refl, arith}
 use Rattle.std.proofs.lemmas.List.{length-take-le}
 use Rattle.rdlpp_scan.specs.SourceTokens.{line_ends}
 use Rattle.rdlpp_table.specs.Define.{Accepted, Refused, define_of, observed}
@@ -6,8 +6,8 @@ use Rattle.rdlpp_meaning.specs.Profile.{define_fault}
 use Rattle.rdlpp_read.specs.Buffer.{held_of}
 use Rattle.rdlpp_read.specs.Files.{inner_buffer}
 use Rattle.rdlpp_expand.specs.Moves.{define_rest}
-use Rattle.rdlpp_expand.specs.Owed.{nothing_owed}
-use Rattle.rdlpp_expand.proofs.FrontSteps.{behind_word, defined_same, defines_by, line_ends-le, reads_refused}
+use Rattle.rdlpp_expand.specs.Owed.{OwedView, nothing_owed}
+use Rattle.rdlpp_expand.proofs.FrontSteps.{behind_word, defined_same, defines_by, line_ends-le, owing, reads_refused}
 use Rattle.rdlpp_expand.proofs.engine.Engine.read_define.Goals as goal
 
 pub consume-requires-clause-lines : goal.consume-requires-clause-lines
@@ -54,7 +54,8 @@ returns-in-Ok-clause-reads g c =
     let accepted : define_of e.table.most_bytes e.table.most_macros e.table.macros (define_rest e c.args.len) ≡ Accepted c.read_define.new.self.macros =
     rw (← c.self.view_is) (defined_same _ _ _ _ _ _ c.in-Ok.ensures.outcome (rest ∙ ap (λ h. drop 7 (take c.args.len h)) inside)) in
     let counted : c.line_ends_in-lines.result ≡ line_ends (take c.args.len (held_of (inner_buffer e.files.nest))) = c.line_ends_in-lines.ensures ∙ ap (λ h. line_ends (take c.args.len h)) held in
+    let grows : ℕ → OwedView = λ n. record { line_ends = n + c.line_ends_in-lines.result } in
     defines_by c.args.len e c.consume.new.self _ c.read_define.new.self c.owe_line_ends.new.self c.line_ends_in-lines.result
-    (rw (← c.self.view_is) c.consume.ensures.used) (ap (λ e. record e { owed = c.owe_line_ends.new.self }) c.self-in-Ok.view_is)
-    (c.owe_line_ends.ensures ∙ ap (λ n. record { line_ends = n + c.line_ends_in-lines.result }) (ap (λ e. e.owed.line_ends) c.self-in-Ok.view_is))
+    (rw (← c.self.view_is) c.consume.ensures.used) (owing _ c.consume.new.self c.owe_line_ends.new.self c.self-in-Ok.view_is)
+    (c.owe_line_ends.ensures ∙ ap grows (ap (λ e. e.owed.line_ends) c.self-in-Ok.view_is))
     c.requires.nothing (rw (← c.self.view_is) c.in-Ok.ensures.limits) accepted counted

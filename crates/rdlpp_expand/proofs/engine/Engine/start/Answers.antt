@@ -11,7 +11,14 @@ returns-then-self g c =
     (starts_unbuilt g.S.Sources _ c.args.path.now c.if-self.true (rw (← c.self.view_is) at c.facts.ensures.bounded))
 
 pub returns-in-Ok : goal.returns-in-Ok
-returns-in-Ok g c = ?
+unfolding start_fault
+returns-in-Ok g c =
+    let e = c.in-Ok.ensures in
+    let bounded = rw c.open_main.ensures at c.facts-in-Ok.ensures.bounded in
+    rw (c.open_main.ensures, ← c.self.view_is)
+    (starts_open g.S.Sources _ c.top.new.self c.in-Ok.found c.args.path.now c.if-self.false c.self.invariant.line_bytes
+    (fresh_nest _ _ _ _ c.self.invariant (rw (← c.self.view_is) at c.requires)) bounded
+    e.answer e.failures e.refusals e.tells e.catalog)
 
 pub returns-in-Err : goal.returns-in-Err
 unfolding start_fault
