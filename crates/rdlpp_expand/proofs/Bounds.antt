@@ -1,23 +1,29 @@
 -- The bytes that are held are within their bound.
-use Rattle.std.proofs.Common.{ℕ, ◌≤◌, List, length, sum_by, arith}
+use Rattle.std.proofs.Common.{◌≡◌, ℕ, ◌+◌, ◌*◌, ◌^◌, ◌≤◌, ◌<◌, List, [], length, sum_by, ap, sym, ◌∙◌, arith}
+use Rattle.std.proofs.Math.Nat.{mul-le-mul_right}
 use Rattle.rdlpp_table.proofs.Sizes.{length_table_bytes}
-use Rattle.rdlpp_table.specs.Table.{table_size}
-use Rattle.rdlpp_expand.specs.Engine.{EngineView}
-use Rattle.rdlpp_expand.specs.Held.{stores_of, buffers_of, is_open, held_bytes, bound_of}
-use Rattle.rdlpp_expand.specs.Steps.{IsBounded}
-use Rattle.rdlpp_expand.specs.declared.phase.Phase.{Phase}
-use Rattle.rdlpp_expand.specs.declared.phase.Phase.TheVariants.{Fresh, Open, Passed, Closed}
-
--- the bytes of the open buffers
-buffers_le : (phase : Phase) (window : List ℕ) → sum_by length (buffers_of phase window) ≤ length window
-unfolding buffers_of is_open
-buffers_le Fresh window = omega arith
-buffers_le Open window = omega arith
-buffers_le Passed window = omega arith
-buffers_le Closed window = omega arith
+use Rattle.rdlpp_table.specs.Limits.{AreInRange}
+use Rattle.rdlpp_table.specs.declared.limits.Limits.{Limits}
+use Rattle.rdlpp_read.proofs.Slots.{held-bound, held_windows-len}
+use Rattle.rdlpp_read.specs.Files.{AreOpen, held_windows}
+use Rattle.rdlpp_expand.specs.Engine.{EngineView, IsSoundEngine}
+use Rattle.rdlpp_expand.specs.Held.{IsBounded, stores_of, held_bytes, bound_of}
 
 -- an engine whose stores are within their limits is within the bound
-pub is_bounded : {S R : Type 0} (e : EngineView S R) → table_size e.table.macros ≤ e.limits.definition_bytes → length e.feed.window ≤ e.limits.line_bytes → IsBounded e
+pub is_bounded : {S R : Type 0} (e : EngineView S R) → IsSoundEngine e.limits e.phase e.table e.files → AreOpen e.files → IsBounded e
 unfolding IsBounded stores_of held_bytes bound_of
-is_bounded e definitions buffer =
-    omega (arith, length_table_bytes e.table.macros, buffers_le e.phase e.feed.window)
+is_bounded e sound files =
+    let windows = held_windows-len e.files.nest in
+    let most = held-bound e.files files in
+    let room : e.files.slots * e.files.line_bytes ≡ (e.limits.includes + 1) * e.limits.line_bytes =
+    ap (λ (n : ℕ). n * e.files.line_bytes) sound.slots ∙ ap (λ (n : ℕ). (e.limits.includes + 1) * n) sound.line_bytes in
+    let size = sound.size in
+    let bytes = sound.definition_bytes in
+    omega (arith, length_table_bytes e.table.macros)
+
+-- as many bytes as all buffers have can be counted
+pub slots_fit : (limits : Limits) → AreInRange limits → (limits.includes + 1) * limits.line_bytes < 2 ^ 64
+slots_fit limits range =
+    let most : (limits.includes + 1) * limits.line_bytes ≤ 65 * limits.line_bytes = mul-le-mul_right limits.line_bytes (omega (arith, range.includes.1)) in
+    let lines = range.line_bytes.1 in
+    omega arith

@@ -1,22 +1,22 @@
 -- A step cut to the bytes that may still be lent.
-use Rattle.std.proofs.Common.{◌≡◌, ℕ, ◌+◌, ◌-◌, ◌≤◌, ◌<◌, false, List, [], length, take, drop, Option, None, Some, Result, Ok, Err, refl, sym, ap, ◌∙◌, subst, inl, inr, arith, true}
+use Rattle.std.proofs.Common.{◌≡◌, ℕ, ◌+◌, ◌-◌, ◌≤◌, ◌<◌, false, List, [], length, take, drop, replicate, Option, None, Some, Result, Ok, Err, refl, sym, ap, ◌∙◌, subst, inl, inr, arith, true}
 use Rattle.std.specs.List.{slice_range}
 use Rattle.std.specs.Prelude.{IfOk}
 use Rattle.std.proofs.lemmas.Bool.{cases_lt}
-use Rattle.std.proofs.lemmas.List.{length-drop, length-take-le, take_all, take-take}
+use Rattle.std.proofs.lemmas.List.{length-drop, length-replicate, length-take-le, take_all, take-replicate, take-take}
 use Rattle.rdlpp_source.specs.declared.sources.Sources.{Ghosts}
 use Rattle.rdlpp_meaning.specs.Outcome.{Told, Outcome, gives, fails, and_then}
 use Rattle.rdlpp_meaning.specs.OutputLimit.{limited}
 use Rattle.rdlpp_meaning.proofs.OutputLimits.{limited-fails, limited-gives, limited-past, limited-within}
-use Rattle.rdlpp_expand.specs.Engine.{EngineView}
-use Rattle.rdlpp_expand.specs.Held.{stores_of, buffers_of, is_open}
+use Rattle.rdlpp_meaning.specs.Meaning.{behind_bytes}
+use Rattle.rdlpp_read.specs.Files.{inner_buffer}
 use Rattle.rdlpp_table.specs.View.{macro_at}
+use Rattle.rdlpp_expand.specs.Engine.{EngineView, is_open}
+use Rattle.rdlpp_expand.specs.Held.{IsBounded, stores_of}
 use Rattle.rdlpp_expand.specs.Pieces.{IsPlaced, kept_answer, lent_answer}
-use Rattle.rdlpp_expand.specs.declared.place.Place.TheVariants.{Source, Body}
-use Rattle.rdlpp_expand.specs.Remaining.{kept_uncut, left_of, open_left, output_fault, phase_uncut, source_places, state_of, uncut_of, work_left}
-use Rattle.rdlpp_expand.specs.Steps.{Steps, Tells, Walks, IsBounded, has_met, lent_len, no_len, is_read_failed}
-use Rattle.rdlpp_expand.specs.Feed.{unused_of}
-use Rattle.rdlpp_expand.specs.Work.{work_of}
+use Rattle.rdlpp_expand.specs.declared.place.Place.TheVariants.{Source, Body, Owed}
+use Rattle.rdlpp_expand.specs.Remaining.{kept_uncut, left_of, output_fault, phase_uncut, text_of, uncut_of, work_left}
+use Rattle.rdlpp_expand.specs.Steps.{Steps, Tells, Walks, all_of, has_met, lent_len, may_follow, no_len, is_read_failed}
 use Rattle.rdlpp_expand.specs.declared.phase.Phase.{Phase}
 use Rattle.rdlpp_expand.specs.declared.phase.Phase.TheVariants.{Fresh, Open, Passed, Closed}
 use Rattle.rdlpp_expand.proofs.EngineSteps.{free_before, ok_not_met}
@@ -42,10 +42,12 @@ module _ {S R : Type 0} (g : Ghosts S R) (old new : EngineView S R) where
   unfolding left_of no_len lent_len
   cut_end w = record {
     limits = w.limits;
-    name = w.name;
+    origins = w.origins;
+    main = w.main;
     started = w.started;
     kept = w.kept;
     ended = w.ended;
+    passed = w.passed;
     keeps = w.keeps;
     free = w.free;
     own = w.own;
@@ -53,8 +55,9 @@ module _ {S R : Type 0} (g : Ghosts S R) (old new : EngineView S R) where
     failed = w.failed;
     call = w.call;
     tells = λ own t. (let told = w.tells own t in (tells_end _ _ _ told.0, tells_end _ _ _ told.1));
+    text = w.text;
     falls = w.falls;
-    lends = w.lends;
+    lends = λ bytes e. absurd (cc);
     quota = w.quota;
     bounded = w.bounded;
   }
@@ -63,19 +66,22 @@ module _ {S R : Type 0} (g : Ghosts S R) (old new : EngineView S R) where
   unfolding left_of no_len lent_len
   cut_fault f w = record {
     limits = w.limits;
-    name = w.name;
+    origins = w.origins;
+    main = w.main;
     started = w.started;
     kept = w.kept;
     ended = w.ended;
+    passed = w.passed;
     keeps = w.keeps;
     free = w.free;
     own = w.own;
     ends = w.ends;
     failed = w.failed;
     call = w.call;
-    tells = λ own t. ap (limited (output_fault old.name) old.quota) (w.tells own t) ∙ limited-fails (output_fault old.name) old.quota f;
+    tells = λ own t. ap (limited (output_fault old.main) old.quota) (w.tells own t) ∙ limited-fails (output_fault old.main) old.quota f;
+    text = w.text;
     falls = w.falls;
-    lends = w.lends;
+    lends = λ bytes e. absurd (cc);
     quota = w.quota;
     bounded = w.bounded;
   }
@@ -83,7 +89,7 @@ module _ {S R : Type 0} (g : Ghosts S R) (old new : EngineView S R) where
 -- what remains without the limit doesn't hang on what may still be lent
 module _ {S R : Type 0} (unread : R → List ℕ) (e : EngineView S R) (quota : ℕ) where
   phase_same : (phase : Phase) → phase_uncut unread phase (record e { quota = quota }) ≡ phase_uncut unread phase e
-  unfolding phase_uncut open_left state_of
+  unfolding phase_uncut text_of
   phase_same Fresh = refl
   phase_same Open = refl
   phase_same Passed = refl
@@ -98,80 +104,105 @@ module _ {S R : Type 0} (unread : R → List ℕ) (e : EngineView S R) (quota : 
   unfolding uncut_of
   uncut_same = kept_same e.kept
 
--- the work left of an open text, whether or not more bytes may be lent
-places_open : (phase : Phase) (unused : ℕ) → is_open phase ≡ true → source_places Passed unused ≡ source_places phase unused
-unfolding is_open source_places
-places_open Fresh unused h = cc h
-places_open Open unused h = refl
-places_open Passed unused h = refl
-places_open Closed unused h = cc h
+-- where bytes may follow, the main text is open
+follows_open : (p : Phase) → may_follow p ≡ true → is_open p ≡ true
+unfolding may_follow is_open
+follows_open Fresh h = cc h
+follows_open Open h = refl
+follows_open Passed h = cc h
+follows_open Closed h = cc h
+
+-- the text, the work left and what is held don't hang on how far an engine is, nor on what may still be lent
+same_text : {S R : Type 0} (unread : R → List ℕ) (e : EngineView S R) (phase : Phase) (quota : ℕ) → text_of unread (record e { phase = phase; quota = quota }) ≡ text_of unread e
+unfolding text_of
+same_text unread e phase quota = refl
+
+same_work : {S R : Type 0} (e : EngineView S R) (phase : Phase) (quota : ℕ) → work_left (record e { phase = phase; quota = quota }) ≡ work_left e
+unfolding work_left
+same_work e phase quota = refl
+
+same_bound : {S R : Type 0} (e : EngineView S R) (phase : Phase) (quota : ℕ) → IsBounded e → IsBounded (record e { phase = phase; quota = quota })
+unfolding IsBounded stores_of
+same_bound e phase quota bounded = bounded
 
 -- what a walk that lent bytes says of what remains
 module _ {S R : Type 0} (g : Ghosts S R) (old mid new : EngineView S R) (xs : List ℕ) (w : Walks g old mid (Ok (Some xs))) where
   free_old : old.kept ≡ None
-  free_old = free_before g (uncut_of g.unread) no_len old mid old.kept (Some xs) refl w
+  free_old = free_before g (uncut_of g.unread) no_len all_of may_follow old mid old.kept (Some xs) refl w
 
   uncut_tells : g.tells old.sources → uncut_of g.unread old ≡ and_then (gives xs) (uncut_of g.unread mid)
   uncut_tells t = w.tells (ok_not_met is_read_failed old.kept (Some xs)) t
 
   -- a walk that lent bytes, and then only what may be lent and how far the engine is changed
-  lent_step : (ys : List ℕ) → new.limits ≡ mid.limits → new.name ≡ mid.name → (new.phase ≡ Fresh → ⊥) → is_open new.phase ≡ true → new.kept ≡ mid.kept → new.sources ≡ mid.sources → new.feed ≡ mid.feed
-      → (g.tells old.sources → left_of g.unread old ≡ and_then (gives ys) (left_of g.unread new)) → work_left new ≡ work_left mid → new.quota + length ys ≡ old.quota → IsBounded new
+  lent_step : (ys : List ℕ) → new ≡ record mid { phase = new.phase; quota = new.quota } → (new.phase ≡ Fresh → ⊥) → is_open new.phase ≡ true
+      → (g.tells old.sources → left_of g.unread old ≡ and_then (gives ys) (left_of g.unread new)) → ys ≡ take old.quota xs → new.quota + length ys ≡ old.quota
       → Steps g old new (Ok (Some ys))
-  unfolding has_met lent_len
-  lent_step ys limits name started opens kept sources feed tells work quota bounded =
+  unfolding has_met lent_len all_of
+  lent_step ys becomes started opens tells part quota =
+      let limits : new.limits ≡ mid.limits = ap (λ e. e.limits) becomes in
+      let sources : new.sources ≡ mid.sources = ap (λ e. e.sources) becomes in
+      let none : has_met is_read_failed old.kept (Ok (Some xs)) ≡ false = ok_not_met is_read_failed old.kept (Some xs) in
       record {
         limits = limits ∙ w.limits;
-        name = name ∙ w.name;
+        origins = ap (λ e. e.origins) becomes ∙ w.origins;
+        main = ap (λ e. e.main) becomes ∙ w.main;
         started = started;
         kept = λ f is. absurd (let no : None ≡ Some f = sym free_old ∙ is in cc);
-        ended = λ none closed. absurd (let no : Ok (Some xs) ≡ Ok None = (w.ended none closed).0 in cc);
+        ended = λ _ closed. absurd (let no : Ok (Some xs) ≡ Ok None = (w.ended free_old closed).0 in cc);
+        passed = λ _ past. absurd (let no : Ok (Some xs) ≡ Err (output_fault old.main) = (w.passed free_old past).0 in cc);
         keeps = tt;
-        free = kept ∙ w.free;
-        own = λ none. tt;
+        free = ap (λ e. e.kept) becomes ∙ w.free;
+        own = λ _. tt;
         ends = λ e. absurd (cc);
         failed = λ met. absurd (let no : false ≡ _ = rw free_old at met in cc);
         call = rw (free_old, sources) (rw free_old at w.call);
         tells = λ own t. tells t;
-        falls = λ bytes e. (let less = w.falls xs refl in omega (arith, work));
+        text = λ free open_ own t.
+            let piece = w.text free open_ none t in
+            record {
+              piece = piece.piece;
+              lent = part ∙ ap (take old.quota) piece.lent;
+              text = piece.text ∙ ap (behind_bytes piece.piece) (sym (ap (text_of g.unread) becomes ∙ same_text g.unread mid new.phase new.quota));
+            };
+        falls = λ bytes e. (let less = w.falls xs refl in let same : work_left new ≡ work_left mid = ap work_left becomes ∙ same_work mid new.phase new.quota in omega arith);
         lends = λ bytes e. ((w.lends xs refl).0, opens);
         quota = quota;
-        bounded = bounded;
+        bounded = subst IsBounded (sym becomes) (same_bound mid new.phase new.quota w.bounded);
       }
 
   -- the whole piece may be lent
   pub cut_fits : length xs ≤ old.quota → new ≡ record mid { quota = mid.quota - length xs } → Steps g old new (Ok (Some xs))
-  unfolding left_of no_len IsBounded stores_of work_left
+  unfolding left_of no_len
   cut_fits fits becomes =
       let quota : mid.quota ≡ old.quota = (let q = w.quota in omega arith) in
       let phase : new.phase ≡ mid.phase = ap (λ e. e.phase) becomes in
-      lent_step xs (ap (λ e. e.limits) becomes) (ap (λ e. e.name) becomes) (λ e. w.started (sym phase ∙ e)) (ap is_open phase ∙ (w.lends xs refl).1) (ap (λ e. e.kept) becomes) (ap (λ e. e.sources) becomes) (ap (λ e. e.feed) becomes)
-      (λ t. ap (limited (output_fault old.name) old.quota) (uncut_tells t)
-      ∙ limited-gives (output_fault old.name) old.quota xs (uncut_of g.unread mid) fits
-      ∙ ap (λ (n : List ℕ). and_then (gives xs) (limited (output_fault n) (old.quota - length xs) (uncut_of g.unread mid))) (sym w.name)
-      ∙ ap (λ (q : ℕ). and_then (gives xs) (limited (output_fault mid.name) (q - length xs) (uncut_of g.unread mid))) (sym quota)
-      ∙ ap (λ (o : Outcome). and_then (gives xs) (limited (output_fault mid.name) (mid.quota - length xs) o)) (sym (uncut_same g.unread mid (mid.quota - length xs)))
+      let spent : new.quota ≡ mid.quota - length xs = ap (λ e. e.quota) becomes in
+      let changes : Phase → ℕ → EngineView S R = λ p q. record mid { phase = p; quota = q } in
+      lent_step xs (becomes ∙ (ap (changes mid.phase) (sym spent) ∙ ap (λ p. changes p new.quota) (sym phase))) (λ e. w.started (sym phase ∙ e)) (ap is_open phase ∙ follows_open mid.phase (w.lends xs refl).1)
+      (λ t. ap (limited (output_fault old.main) old.quota) (uncut_tells t)
+      ∙ limited-gives (output_fault old.main) old.quota xs (uncut_of g.unread mid) fits
+      ∙ ap (λ (n : List ℕ). and_then (gives xs) (limited (output_fault n) (old.quota - length xs) (uncut_of g.unread mid))) (sym w.main)
+      ∙ ap (λ (q : ℕ). and_then (gives xs) (limited (output_fault mid.main) (q - length xs) (uncut_of g.unread mid))) (sym quota)
+      ∙ ap (λ (o : Outcome). and_then (gives xs) (limited (output_fault mid.main) (mid.quota - length xs) o)) (sym (uncut_same g.unread mid (mid.quota - length xs)))
       ∙ ap (λ (e : EngineView S R). and_then (gives xs) (left_of g.unread e)) (sym becomes))
-      (ap work_left becomes) (let q : new.quota ≡ mid.quota - length xs = ap (λ e. e.quota) becomes in omega arith)
-      (subst IsBounded (sym becomes) w.bounded)
+      (sym (take_all old.quota xs fits)) (omega arith)
 
   -- a part of the piece may be lent
   pub cut_passes : old.quota < length xs → new ≡ record mid { phase = Passed; quota = 0 } → Steps g old new (Ok (Some (take old.quota xs)))
-  unfolding left_of uncut_of kept_uncut phase_uncut no_len IsBounded stores_of buffers_of is_open work_left source_places
+  unfolding left_of uncut_of kept_uncut phase_uncut no_len is_open
   cut_passes passes becomes =
       let phase : new.phase ≡ Passed = ap (λ e. e.phase) becomes in
-      let kept : new.kept ≡ None = ap (λ e. e.kept) becomes ∙ w.free in
+      let none : new.quota ≡ 0 = ap (λ e. e.quota) becomes in
+      let changes : Phase → ℕ → EngineView S R = λ p q. record mid { phase = p; quota = q } in
       let size : length (take old.quota xs) ≡ old.quota = length-take-le old.quota xs (omega arith) in
-      let over : left_of g.unread new ≡ fails (output_fault mid.name) =
-      ap (left_of g.unread) becomes ∙ rw w.free (limited-fails (output_fault mid.name) 0 (output_fault mid.name)) in
-      let bounded : IsBounded (record mid { phase = Passed; quota = 0 }) = (let b : IsBounded mid = w.bounded in rw (w.lends xs refl).1 at b) in
-      lent_step (take old.quota xs) (ap (λ e. e.limits) becomes) (ap (λ e. e.name) becomes) (λ e. (let no : Passed ≡ Fresh = sym phase ∙ e in cc)) (ap is_open phase) (ap (λ e. e.kept) becomes) (ap (λ e. e.sources) becomes) (ap (λ e. e.feed) becomes)
-      (λ t. ap (limited (output_fault old.name) old.quota) (uncut_tells t)
-      ∙ limited-past (output_fault old.name) old.quota xs (uncut_of g.unread mid) passes
-      ∙ ap (λ (n : List ℕ). and_then (gives (take old.quota xs)) (fails (output_fault n))) (sym w.name)
+      let over : left_of g.unread new ≡ fails (output_fault mid.main) =
+      ap (left_of g.unread) becomes ∙ rw w.free (limited-fails (output_fault mid.main) 0 (output_fault mid.main)) in
+      lent_step (take old.quota xs) (becomes ∙ (ap (changes Passed) (sym none) ∙ ap (λ p. changes p new.quota) (sym phase))) (λ e. (let no : Passed ≡ Fresh = sym phase ∙ e in cc)) (ap is_open phase)
+      (λ t. ap (limited (output_fault old.main) old.quota) (uncut_tells t)
+      ∙ limited-past (output_fault old.main) old.quota xs (uncut_of g.unread mid) passes
+      ∙ ap (λ (n : List ℕ). and_then (gives (take old.quota xs)) (fails (output_fault n))) (sym w.main)
       ∙ ap (λ (o : Outcome). and_then (gives (take old.quota xs)) o) (sym over))
-      (ap work_left becomes ∙ ap (λ (places : List ℕ). work_of mid.limits.includes mid.limits.depth places [] 0) (places_open mid.phase (unused_of mid.feed) (w.lends xs refl).1)) (let q : new.quota ≡ 0 = ap (λ e. e.quota) becomes in omega arith)
-      (subst IsBounded (sym becomes) bounded)
+      refl (omega arith)
 
 -- a piece of so many bytes, of which so many were lent
 pub record IsSpent {S R : Type 0} (mid new : EngineView S R) (n len : ℕ) : Type 0 where
@@ -181,14 +212,14 @@ pub record IsSpent {S R : Type 0} (mid new : EngineView S R) (n len : ℕ) : Typ
 -- no more than the piece has, and only what may be lent and how far the engine is changed
 pub record IsPart {S R : Type 0} (mid new : EngineView S R) (n len : ℕ) : Type 0 where
   pub inside : len ≤ n
-  pub feed : new.feed ≡ mid.feed
+  pub files : new.files ≡ mid.files
   pub table : new.table ≡ mid.table
 
 spent_part : {S R : Type 0} (mid new : EngineView S R) (n len : ℕ) → IsSpent mid new n len → IsPart mid new n len
 spent_part mid new n len spent =
     elim (cases_lt mid.quota n) [
-      | inl over ↦ (let p = spent.passes over in record { inside = omega (arith, p.0); feed = ap (λ e. e.feed) p.1; table = ap (λ e. e.table) p.1 })
-      | inr under ↦ (let p = spent.fits under in record { inside = omega (arith, p.0); feed = ap (λ e. e.feed) p.1; table = ap (λ e. e.table) p.1 })
+      | inl over ↦ (let p = spent.passes over in record { inside = omega (arith, p.0); files = ap (λ e. e.files) p.1; table = ap (λ e. e.table) p.1 })
+      | inr under ↦ (let p = spent.fits under in record { inside = omega (arith, p.0); files = ap (λ e. e.files) p.1; table = ap (λ e. e.table) p.1 })
     ]
 
 -- a piece, cut to what may still be lent
@@ -216,10 +247,10 @@ pub cut_source : {S R : Type 0} (g : Ghosts S R) (old mid new : EngineView S R) 
     → IsPlaced mid (Source from to) → IsSpent mid new (to - from) len → Steps g old new (lent_answer new (Source from (from + len)))
 cut_source {S} {R} g old mid new from to len w placed spent =
     let part = spent_part mid new (to - from) len spent in
-    let xs = slice_range mid.feed.window from to in
-    told_bytes g old new (take len xs) (slice_range new.feed.window from (from + len))
-    (ap (λ f. slice_range f.window from (from + len)) part.feed ∙ part_cut mid.feed.window from to len part.inside)
-    (cut_piece g old mid new xs (to - from) len w (part_len mid.feed.window from to placed.0 placed.1) spent)
+    let xs = slice_range (inner_buffer mid.files.nest).window from to in
+    told_bytes g old new (take len xs) (slice_range (inner_buffer new.files.nest).window from (from + len))
+    (ap (λ f. slice_range (inner_buffer f.nest).window from (from + len)) part.files ∙ part_cut (inner_buffer mid.files.nest).window from to len part.inside)
+    (cut_piece g old mid new xs (to - from) len w (part_len (inner_buffer mid.files.nest).window from to placed.1 placed.2) spent)
 
 -- a part of a body, cut to what may still be lent
 pub cut_body : {S R : Type 0} (g : Ghosts S R) (old mid new : EngineView S R) (id from to len : ℕ) → Walks g old mid (lent_answer mid (Body id from to))
@@ -235,3 +266,14 @@ cut_body {S} {R} g old mid new id from to len w placed spent =
 pub cut_kept : {S R : Type 0} (g : Ghosts S R) (old new : EngineView S R) (kept : Option Told) → Walks g old new (kept_answer kept) → Steps g old new (kept_answer kept)
 cut_kept g old new None w = cut_end g old new w
 cut_kept g old new (Some f) w = cut_fault g old new f w
+
+-- LF bytes that are owed, cut to what may still be lent
+pub cut_owed : {S R : Type 0} (g : Ghosts S R) (old mid new : EngineView S R) (n len : ℕ) → Walks g old mid (lent_answer mid (Owed n)) → IsSpent mid new n len → Steps g old new (lent_answer new (Owed len))
+cut_owed g old mid new n len w spent =
+    let part = spent_part mid new n len spent in
+    told_bytes g old new (take len (replicate n 10)) (replicate len 10) (sym (take-replicate len n 10 part.inside))
+    (cut_piece g old mid new (replicate n 10) n len w (length-replicate n 10) spent)
+
+-- a part of what is owed is a place
+pub owed_placed : {S R : Type 0} (mid new : EngineView S R) (n len : ℕ) → IsPlaced mid (Owed n) → IsSpent mid new n len → IsPlaced new (Owed len)
+owed_placed mid new n len placed spent = let part = spent_part mid new n len spent in let inside = part.inside in omega arith

@@ -1,125 +1,106 @@
--- What is taken of an open source, as steps of the engine.
-use Rattle.std.proofs.Common.{◌≡◌, ℕ, zero, suc, ◌+◌, ◌-◌, ◌≤◌, ◌<◌, Bool, true, false, cond, one-add, List, [], ◌∷◌, length, take, drop, Option, None, Some, Result, Ok, Err, refl, sym, ap, ◌∙◌, subst, arith, inl, inr}
-use Rattle.std.specs.List.{slice_range, list_all, prefix_len}
-use Rattle.rdlpp_scan.specs.Bytes.{is_line_end, is_word}
-use Rattle.rdlpp_expand.specs.Names.{IsWordBytes}
-use Rattle.std.proofs.lemmas.List.{take-take, drop-take, length-take, length-drop, drop-drop, take_all, take_rest}
-use Rattle.std.proofs.Math.Seq.{drop-nil}
+-- What is taken of the open sources, as steps of the engine.
+use Rattle.std.proofs.Common.{◌≡◌, ◌⊎◌, ℕ, zero, suc, ◌+◌, ◌-◌, ◌^◌, ◌≤◌, ◌<◌, Bool, true, false, cond, List, [], ◌∷◌, ◌++◌, length, take, drop, replicate, append_assoc, Option, None, Some, Result, Ok, Err, refl, sym, ap, ◌∙◌, subst, inl, inr, arith}
+use Rattle.std.specs.List.{slice_range}
 use Rattle.std.specs.Prelude.{min, IfSome}
+use Rattle.std.proofs.lemmas.List.{take-take, drop-take, length-drop, length-take, replicate-append-replicate, take_all, take_rest}
+use Rattle.std.proofs.Math.Seq.{drop-nil}
 use Rattle.rdlpp_source.specs.declared.sources.Sources.{Ghosts}
-use Rattle.rdlpp_scan.specs.Lines.{whole_lines_len}
+use Rattle.rdlpp_scan.specs.Bytes.{is_line_end}
+use Rattle.rdlpp_scan.specs.Front.{Breach}
 use Rattle.rdlpp_scan.specs.SourceTokens.{line_ends, logical_len}
-use Rattle.rdlpp_scan.proofs.SourceLaws.{line_ends-cons}
-use Rattle.rdlpp_scan.proofs.WholeLines.{IsWholeLines-drop}
-use Rattle.rdlpp_table.specs.Table.{Macro, macro_named, without}
 use Rattle.rdlpp_scan.specs.Stage.{is_reserved}
-use Rattle.rdlpp_scan.specs.declared.token.Kind.TheVariants.{Name}
-use Rattle.rdlpp_scan.proofs.FirstTokens.{plain_token-run}
-use Rattle.rdlpp_meaning.proofs.Outcomes.{and_then-gives_nil}
-use Rattle.rdlpp_expand.proofs.UndefRemains.{move_nameless, move_reserved, move_undef, undef_inside}
+use Rattle.rdlpp_scan.specs.declared.token.Directive.TheVariants.{Define, Undef}
+use Rattle.rdlpp_scan.specs.declared.token.Mode.{Mode}
+use Rattle.rdlpp_scan.specs.declared.token.Mode.TheVariants.{Plain, InStr, InBlock}
+use Rattle.rdlpp_scan.proofs.SourceLaws.{line_ends-cons}
+use Rattle.rdlpp_table.specs.Table.{Macro, macro_named, without}
 use Rattle.rdlpp_table.specs.View.{TableView, macro_at}
+use Rattle.rdlpp_table.specs.declared.limits.Limits.{Limits}
 use Rattle.rdlpp_table.specs.Define.{define_of}
 use Rattle.rdlpp_table.specs.Define as table_define
 use Rattle.rdlpp_table.specs.declared.fault.DefineKind.{DefineKind}
 use Rattle.rdlpp_table.specs.declared.fault.DefineKind.TheVariants as define
 use Rattle.rdlpp_meaning.specs.declared.fault.FaultKind.{FaultKind}
 use Rattle.rdlpp_meaning.specs.declared.fault.FaultKind.TheVariants as fault
-use Rattle.rdlpp_meaning.specs.Outcome.{Told, gives, fails, and_then}
+use Rattle.rdlpp_meaning.specs.Meaning.{Passage, behind_bytes, leaves}
+use Rattle.rdlpp_meaning.specs.Outcome.{Told, fails, gives}
 use Rattle.rdlpp_meaning.specs.Output.{start_state}
-use Rattle.rdlpp_meaning.specs.Parts.{only_blanks, line_ends_of}
-use Rattle.rdlpp_meaning.specs.Stage.{is_unbuilt_macro}
-use Rattle.rdlpp_meaning.specs.State.{State, fault_at}
-use Rattle.rdlpp_expand.specs.Engine.{EngineView}
-use Rattle.rdlpp_expand.specs.Feed.{FeedView, IsFeed, EndsHeld, entered, held_of, unused_of}
-use Rattle.rdlpp_scan.specs.declared.token.Mode.{Mode}
-use Rattle.rdlpp_scan.specs.declared.token.Mode.TheVariants.{Plain}
-use Rattle.rdlpp_expand.specs.Front.{passed, IsLead, Leads, Lacks, IsText, IsUndef, undef_name, IsUsage, IsDefine, usage_name, IsRefused, AtPerl, AtBare, AtUnbuilt}
-use Rattle.rdlpp_expand.specs.Pieces.{kept_answer, lent_answer, step_answer}
-use Rattle.rdlpp_expand.specs.Remaining.{uncut_of, open_left, kept_uncut, phase_uncut, staged_rules, state_of}
+use Rattle.rdlpp_meaning.specs.Parts.{line_ends_of}
 use Rattle.rdlpp_meaning.specs.Profile.{define_fault, rules_of, with_fault}
-use Rattle.rdlpp_expand.specs.Steps.{Takes, IsReady, IsOwn, is_memory_kind, is_read_failed, is_write_failed}
-use Rattle.rdlpp_expand.specs.declared.phase.Phase.TheVariants.{Open}
+use Rattle.rdlpp_meaning.specs.Stage.{is_unbuilt_macro}
+use Rattle.rdlpp_meaning.specs.State.{State, breach_kind, fault_at}
+use Rattle.rdlpp_meaning.proofs.OwedLineEnds.{line_ends_of-owed}
+use Rattle.rdlpp_read.specs.Buffer.{BufferView, EndsHeld, IsBuffer, closed_buffer, entered_mode, held_of, reading_line_of, unused_of}
+use Rattle.rdlpp_read.specs.Files.{AreOpen, FilesView, consumed_file, inner_buffer, with_buffer, with_inner}
+use Rattle.rdlpp_read.specs.Filling.{Fills, ended_tokens, only_broken}
+use Rattle.rdlpp_read.specs.LogicalLines.{HoldsLine}
+use Rattle.rdlpp_read.specs.declared.buffer.extending.LogicalLine.TheVariants as line
+use Rattle.rdlpp_read.specs.declared.buffer.filling.Fill.TheVariants as fill
+use Rattle.rdlpp_read.specs.declared.files.File.{File}
+use Rattle.rdlpp_front.specs.Fronts.{AtBare, AtPerl, AtUnbuilt, HasName, IsDirective, IsRefused, IsText, IsUsage, LacksName, argument_name, usage_name}
+use Rattle.rdlpp_front.proofs.Insides.{name_inside, text_inside, usage_inside}
+use Rattle.rdlpp_expand.specs.Calls.{SourcesCalled}
+use Rattle.rdlpp_expand.specs.Engine.{EngineView, IsSoundEngine, is_open}
+use Rattle.rdlpp_expand.specs.Held.{IsBounded}
+use Rattle.rdlpp_expand.specs.Moves.{Defines, Ends, IsReady, ReadsDefine, RefusesDefine, StopsOpen, define_rest}
+use Rattle.rdlpp_expand.specs.Owed.{OwedView, nothing_owed, owed_bytes, owed_pieces}
+use Rattle.rdlpp_expand.specs.Pieces.{IsPlaced, lent_answer, step_answer}
+use Rattle.rdlpp_expand.specs.Remaining.{file_state, nest_left, nest_state, staged_rules, state_of, text_of, work_left}
+use Rattle.rdlpp_expand.specs.Steps.{EndsText, IsOwn, Walks, is_memory_kind, is_read_failed, is_write_failed}
+use Rattle.rdlpp_expand.specs.declared.phase.Phase.{Phase}
+use Rattle.rdlpp_expand.specs.declared.phase.Phase.TheVariants.{Open, Closed}
 use Rattle.rdlpp_expand.specs.declared.place.Place.{Place}
-use Rattle.rdlpp_expand.specs.declared.place.Place.TheVariants.{Source, Body, Kept}
-use Rattle.rdlpp_expand.proofs.EndsFacts.{ends_line}
-use Rattle.rdlpp_expand.proofs.Slices.{part_slice}
-use Rattle.rdlpp_expand.proofs.FrontRemains.{held_passed, move_text, move_usage, move_undefined, move_unbuilt, move_defined, move_refused_define, move_refused, text_inside, usage_inside, define_inside}
-use Rattle.rdlpp_expand.proofs.FrontFacts.{back_front, back_len}
-use Rattle.rdlpp_expand.proofs.DefineLines.{define_line_ends, define_one_line, define_logical}
+use Rattle.rdlpp_expand.specs.declared.place.Place.TheVariants.{Source, Body, Owed, End, Kept}
+use Rattle.rdlpp_expand.proofs.EngineSteps.{IsSilent, kept_at, not_called, walks_end, walks_failed, walks_fault, walks_lent}
+use Rattle.rdlpp_expand.proofs.NestLeft.{nest_body, nest_cut_define, nest_defined, nest_ended, nest_filled, nest_long_define, nest_long_line, nest_long_source, nest_nameless, nest_open, nest_refused, nest_refused_define, nest_reserved, nest_text, nest_unbuilt, nest_undef, nest_undefined}
+use Rattle.rdlpp_expand.proofs.Soundness.{IsInner, inner_facts, with_inner-length}
+use Rattle.rdlpp_expand.proofs.WorkFacts.{IsUsed, entered_unused, held_room, owed_falls, used_after, used_bytes, work_falls, work_same}
 
--- no more is held than the places say
-pub held_room : {R : Type 0} (f : FeedView R) → length (held_of f) ≤ f.accepted - f.at
-unfolding held_of
-held_room f = omega (arith, length-drop f.at (take f.accepted f.window), length-take f.accepted f.window)
+-- another buffer for the innermost source changes no state
+pub same_state : {R : Type 0} (b : BufferView R) (limits : Limits) (macros : List Macro) (nest : List (File R)) → nest_state limits macros (with_buffer b nest) ≡ nest_state limits macros nest
+unfolding nest_state file_state
+same_state b limits macros [] = refl
+same_state b limits macros (f ∷ outer) = refl
 
--- a source stays a source where held bytes are used
-pub passed_feed : {R : Type 0} (f : FeedView R) (len lines : ℕ) → IsFeed f → len ≤ length (held_of f) → lines ≤ len → IsFeed (passed f len lines)
-unfolding passed
-passed_feed f len lines is inside few =
-    let room = held_room f in
-    record { used = omega arith; lines = is.lines; within = is.within; counts = omega arith }
+-- nor what is held of it
+pub buffer_given : {R : Type 0} (b : BufferView R) (nest : List (File R)) → 0 < length nest → inner_buffer (with_buffer b nest) ≡ b
+buffer_given b [] some = absurd (omega arith)
+buffer_given b (f ∷ outer) some = refl
 
--- what is held still ends at a line end, or where the text ends
-pub passed_ends : {R : Type 0} (f : FeedView R) (len lines : ℕ) → EndsHeld f → EndsHeld (passed f len lines)
-unfolding passed
-passed_ends f len lines (inl e) =
-    let P : List ℕ → Type 0 = λ xs. whole_lines_len xs ≡ length xs in
-    inl (subst P (sym (held_passed f len lines)) (IsWholeLines-drop len (held_of f) e))
-passed_ends f len lines (inr e) = inr e
+-- the innermost source with its own buffer
+same_nest : {R : Type 0} (nest : List (File R)) → nest ≡ with_buffer (inner_buffer nest) nest
+same_nest [] = refl
+same_nest (f ∷ outer) = refl
 
--- fewer bytes aren't used
-pub passed_unused : {R : Type 0} (f : FeedView R) (len lines : ℕ) → 0 < len → len ≤ length (held_of f) → unused_of (passed f len lines) < unused_of f
-unfolding passed unused_of
-passed_unused f len lines some inside = let room = held_room f in omega arith
+-- what is held is the same in each mode
+pub held_entered : {R : Type 0} (b : BufferView R) (next : Mode) → held_of (entered_mode b next) ≡ held_of b
+unfolding held_of entered_mode
+held_entered b next = refl
+
+-- the window stays where bytes are used and a mode is entered
+same_window : {R : Type 0} (nest : List (File R)) (len lines : ℕ) (next : Mode)
+    → (inner_buffer (with_inner (consumed_file len lines) (with_buffer (entered_mode (inner_buffer nest) next) nest))).window ≡ (inner_buffer nest).window
+unfolding entered_mode
+same_window [] len lines next = refl
+same_window (f ∷ outer) len lines next = refl
+
+-- a part of a text up to a place behind it
+part_slice : (xs : List ℕ) (at len accepted : ℕ) → at + len ≤ accepted → take len (drop at xs) ≡ take len (drop at (take accepted xs))
+part_slice xs at len accepted h =
+    let place : at + (accepted - at) ≡ accepted = omega arith in
+    let cut : drop at (take (at + (accepted - at)) xs) ≡ take (accepted - at) (drop at xs) = drop-take at (accepted - at) xs in
+    sym (ap (take len) (rw place at cut) ∙ take-take len (accepted - at) (drop at xs) (omega arith))
 
 -- the held bytes that are used are a part of the window
-pub held_part : {R : Type 0} (f : FeedView R) (len : ℕ) → f.at ≤ f.accepted → len ≤ length (held_of f) → take (f.at + len - f.at) (drop f.at f.window) ≡ take len (held_of f)
+held_part : {R : Type 0} (b : BufferView R) (len : ℕ) → b.at ≤ b.accepted → len ≤ length (held_of b) → slice_range b.window b.at (b.at + len) ≡ take len (held_of b)
 unfolding held_of
-held_part f len used inside =
-    let room = held_room f in
-    let more : f.at ≤ f.at + len = omega arith in
-    let within : f.at + len ≤ f.accepted = omega (arith, length-drop f.at (take f.accepted f.window), length-take f.accepted f.window) in
-    let same : f.at + len - f.at ≡ len = omega arith in
-    part_slice f.at (f.at + len) f.accepted f.window more within ∙ ap (λ k. take k (drop f.at (take f.accepted f.window))) same
+held_part b len used inside =
+    let room = held_room b in
+    let within : b.at + len ≤ b.accepted = omega (arith, length-drop b.at (take b.accepted b.window), length-take b.accepted b.window) in
+    let same : b.at + len - b.at ≡ len = omega arith in
+    ap (λ k. take k (drop b.at b.window)) same ∙ part_slice b.window b.at len b.accepted within
 
--- what remains of an engine whose source is open
-pub left_open : {S R : Type 0} (unread : R → List ℕ) (e : EngineView S R) → e.kept ≡ None → e.phase ≡ Open → uncut_of unread e ≡ open_left unread e
-unfolding uncut_of kept_uncut phase_uncut
-left_open unread e free open_ = rw (free, open_) refl
-
--- bytes were lent
-pub takes_bytes : {S R : Type 0} (g : Ghosts S R) (old new : EngineView S R) (bytes : List ℕ) →
-    new.limits ≡ old.limits → new.name ≡ old.name → new.phase ≡ old.phase → new.quota ≡ old.quota → new.sources ≡ old.sources → new.kept ≡ None → old.phase ≡ Open →
-    open_left g.unread old ≡ and_then (gives bytes) (open_left g.unread new) → unused_of new.feed < unused_of old.feed →
-    Takes g old new (Ok (Some bytes))
-takes_bytes g old new bytes limits name phase quota sources free open_ moves falls = record {
-  limits = limits;
-  name = name;
-  phase = phase;
-  quota = quota;
-  sources = sources;
-  keeps = tt;
-  goes_on = (free, refl);
-  tells = rw (left_open g.unread new free (phase ∙ open_)) moves;
-  falls = falls;
-}
-
--- the output ended
-pub takes_fault : {S R : Type 0} (g : Ghosts S R) (old new : EngineView S R) (f : Told) →
-    new ≡ record old { kept = Some f } → IsOwn f.kind → open_left g.unread old ≡ fails f → Takes g old new (Err f)
-takes_fault g old new f becomes own ends = record {
-  limits = ap (λ e. e.limits) becomes;
-  name = ap (λ e. e.name) becomes;
-  phase = ap (λ e. e.phase) becomes;
-  quota = ap (λ e. e.quota) becomes;
-  sources = ap (λ e. e.sources) becomes;
-  keeps = (ap (λ e. e.kept) becomes, own);
-  goes_on = tt;
-  tells = ends;
-  falls = tt;
-}
-
--- no bytes have no line end
+-- no line end is owed of no bytes
 line_ends-none : line_ends [] ≤ 0
 unfolding line_ends
 line_ends-none = omega arith
@@ -136,150 +117,49 @@ line_ends-le (b ∷ bs) =
     let tail = line_ends-le bs in
     rw line_ends-cons (one_more (is_line_end b) (line_ends bs) (length bs) tail)
 
--- bytes that pass a test pass it together
-pub list_all-prefix : (p : ℕ → Bool) (bs : List ℕ) → list_all p (take (prefix_len p bs) bs) ≡ true
-list_all-prefix p [] = refl
-list_all-prefix p (b ∷ bs) = elim (p b) as (λ v. p b ≡ v → list_all p (take (cond v (1 + prefix_len p bs) 0) (b ∷ bs)) ≡ true) [
-  | true ↦ λ e. rw (one-add, e) (list_all-prefix p bs)
-  | false ↦ λ e. refl
-] refl
+-- what remains of the text where nothing is owed
+text_unowed : {S R : Type 0} (unread : R → List ℕ) (e : EngineView S R) → e.owed ≡ nothing_owed
+    → text_of unread e ≡ nest_left e.limits (staged_rules e.limits e.origins) unread e.table.macros e.files.nest
+unfolding text_of nothing_owed owed_bytes behind_bytes
+text_unowed unread e none = rw none refl
 
--- the name of a usage is a word
-pub usage_word : (held : List ℕ) (n : ℕ) → IsUsage held n → IsWordBytes (usage_name held n)
-usage_word held n usage =
-    let at = back_front held usage.kind in
-    let len : n ≡ suc (prefix_len is_word (drop 1 held)) = usage.whole ∙ back_len held at usage.kind in
-    let same : n - 1 ≡ prefix_len is_word (drop 1 held) = omega arith in
-    rw same (list_all-prefix is_word (drop 1 held))
+-- nothing that is owed is before nothing
+unowed_behind : (owed : OwedView) (p : Passage) → owed ≡ nothing_owed → behind_bytes (owed_bytes owed) p ≡ p
+unfolding nothing_owed owed_bytes behind_bytes
+unowed_behind owed p none = rw none refl
 
--- a source stays a source in each mode
-pub entered_feed : {R : Type 0} (f : FeedView R) (next : Mode) → IsFeed f → IsFeed (entered f next)
-unfolding entered
-entered_feed f next is = record { used = is.used; lines = is.lines; within = is.within; counts = is.counts }
+-- nothing that is owed can be counted
+unowed_few : (owed : OwedView) → owed ≡ nothing_owed → owed_pieces owed < 2 ^ 31
+unfolding nothing_owed owed_pieces
+unowed_few owed none = rw none (omega arith)
 
--- what is held still ends at a line end, or where the text ends
-pub entered_ends : {R : Type 0} (f : FeedView R) (next : Mode) → EndsHeld f → EndsHeld (entered f next)
-unfolding entered held_of
-entered_ends f next (inl e) = inl e
-entered_ends f next (inr e) = inr e
+-- what is left of the open sources of an engine, with other macros and others open
+abbrev pub left_by : {S R : Type 0} → (R → List ℕ) → EngineView S R → List Macro → List (File R) → Passage
+left_by unread e macros nest = nest_left e.limits (staged_rules e.limits e.origins) unread macros nest
 
--- a mode that is entered, and bytes that are used
-pub entered_passed : {S R : Type 0} (old mid new : EngineView S R) (n lines : ℕ) (next : Mode) →
-    mid ≡ record old { feed = entered old.feed next } →
-    new ≡ record mid { blanks = only_blanks mid.blanks (take n (held_of mid.feed)); feed = passed mid.feed n lines } →
-    new ≡ record old { blanks = only_blanks old.blanks (take n (held_of old.feed)); feed = passed (entered old.feed next) n lines }
-unfolding held_of entered
-entered_passed {S} {R} old mid new n lines next a b =
-    b ∙ ap (λ (m : EngineView S R). record m { blanks = only_blanks m.blanks (take n (held_of m.feed)); feed = passed m.feed n lines }) a
+-- bytes of the innermost source are used, and a piece is lent
+pub lends_piece : {S R : Type 0} (g : Ghosts S R) (old : EngineView S R) (ready : IsReady old) (bytes : List ℕ) (owed : OwedView) (macros : List Macro) (nest : List (File R)) (sources : S)
+    → let after = record old { owed = owed; table = record old.table { macros = macros }; files = record old.files { nest = nest }; sources = sources } in
+    IsBounded after → owed_pieces owed < 2 ^ 31 → IsUsed old.files.nest nest → SourcesCalled g false false old.sources sources
+    → (g.tells old.sources → left_by g.unread old old.table.macros old.files.nest ≡ behind_bytes bytes (behind_bytes (owed_bytes owed) (left_by g.unread old macros nest)))
+    → Walks g old after (Ok (Some bytes))
+unfolding text_of
+lends_piece g old ready bytes owed macros nest sources bounded few used call law =
+    let after = record old { owed = owed; table = record old.table { macros = macros }; files = record old.files { nest = nest }; sources = sources } in
+    walks_lent g old after ready.free ready.open_ bounded bytes refl call
+    (λ t. unowed_behind old.owed (left_by g.unread old old.table.macros old.files.nest) ready.owed ∙ law t)
+    (work_falls old after refl used few)
 
--- fewer bytes aren't used, in each mode
-entered_unused : {R : Type 0} (f : FeedView R) (next : Mode) (len lines : ℕ) → 0 < len → len ≤ length (held_of f) → unused_of (passed (entered f next) len lines) < unused_of f
-unfolding passed unused_of entered
-entered_unused f next len lines some inside = let room = held_room f in omega arith
-
--- text that is copied is lent
-pub take_text : {S R : Type 0} (g : Ghosts S R) (old new : EngineView S R) (n lines from to : ℕ) (next : Mode) →
-    IsReady old → EndsHeld old.feed → old.feed.at ≤ old.feed.accepted → IsText old.feed.mode (held_of old.feed) n next → lines ≡ line_ends (take n (held_of old.feed)) →
-    new ≡ record old { blanks = only_blanks old.blanks (take n (held_of old.feed)); feed = passed (entered old.feed next) n lines } →
-    from ≡ old.feed.at → to ≡ old.feed.at + n → Takes g old new (lent_answer new (Source from to))
-unfolding open_left state_of passed entered
-take_text g old new n lines from to next ready ends used text counted becomes begins stops =
-    let within = text_inside old.feed.mode (held_of old.feed) n next ready.bytes text in
-    let inside = within.1 in
-    let w = take n (held_of old.feed) in
-    let after = record old { blanks = only_blanks old.blanks w; feed = passed (entered old.feed next) n (line_ends w) } in
-    let part : slice_range after.feed.window from to ≡ w = rw (begins, stops) (held_part old.feed n used inside) in
-    rw (becomes, counted, part) (takes_bytes g old after w refl refl refl refl refl ready.free ready.open_
-    (move_text g.unread (staged_rules old.limits old.origins) old.blanks (state_of old) old.feed n next ready.bytes (ends_line g.unread old.feed ends) text)
-    (entered_unused old.feed next n (line_ends w) within.0 inside))
-
--- all of a text, as a part of it
-whole_part : (xs : List ℕ) (n : ℕ) → n ≡ length xs → slice_range xs 0 n ≡ xs
-whole_part xs n whole = let same : n - 0 ≡ length xs = omega arith in ap (λ k. take k xs) same ∙ take_all (length xs) xs (omega arith)
-
--- a body is lent
-pub take_usage : {S R : Type 0} (g : Ghosts S R) (old new : EngineView S R) (n id end : ℕ) →
-    IsReady old → old.feed.mode ≡ Plain → EndsHeld old.feed → IsUsage (held_of old.feed) n →
-    macro_named old.table.macros (take (n - 1) (drop 1 (held_of old.feed))) ≡ Some (macro_at old.table.macros id) →
-    is_unbuilt_macro (macro_at old.table.macros id) ≡ false → 0 < old.limits.depth →
-    new ≡ record old { blanks = only_blanks old.blanks (take n (held_of old.feed)); feed = passed old.feed n 0 } →
-    end ≡ length (macro_at old.table.macros id).body → Takes g old new (lent_answer new (Body id 0 end))
-unfolding open_left state_of start_state staged_rules rules_of passed
-take_usage g old new n id end ready mode ends usage named built depth becomes whole =
-    let held = usage_inside (held_of old.feed) n ready.bytes usage in
-    let inside = held.1 in
-    let some = held.0 in
-    let after = record old { blanks = only_blanks old.blanks (take n (held_of old.feed)); feed = passed old.feed n 0 } in
-    let part : slice_range (macro_at old.table.macros id).body 0 end ≡ (macro_at old.table.macros id).body = whole_part (macro_at old.table.macros id).body end whole in
-    rw (becomes, part) (takes_bytes g old after (macro_at old.table.macros id).body refl refl refl refl refl ready.free ready.open_
-    (move_usage g.unread (staged_rules old.limits old.origins) old.blanks (state_of old) old.feed n (macro_at old.table.macros id)
-    mode ready.bytes (ends_line g.unread old.feed ends) usage named refl built depth)
-    (passed_unused old.feed n 0 some inside))
-
--- the end of a part
-tail_part : (at n k : ℕ) (xs : List ℕ) → k ≤ n → take (at + n - (at + n - k)) (drop (at + n - k) xs) ≡ drop (n - k) (take n (drop at xs))
-tail_part at n k xs h =
-    let few : at + n - (at + n - k) ≡ k = omega arith in
-    let place : at + n - k ≡ at + (n - k) = omega arith in
-    let whole : n - k + k ≡ n = omega arith in
-    let first : drop (n - k) (take (n - k + k) (drop at xs)) ≡ take k (drop (n - k) (drop at xs)) = drop-take (n - k) k (drop at xs) in
-    let joined : drop (n - k) (drop at xs) ≡ drop (at + (n - k)) xs = drop-drop (n - k) at xs in
-    rw (few, place) (sym (rw whole at first ∙ ap (take k) joined))
-
--- a `define` is read, and the LF of its line is lent
-pub take_define : {S R : Type 0} (g : Ghosts S R) (old new : EngineView S R) (n lines from to : ℕ) (table : TableView) →
-    IsReady old → old.feed.mode ≡ Plain → EndsHeld old.feed → old.feed.at ≤ old.feed.accepted → length (held_of old.feed) ≤ old.feed.most → IsDefine (held_of old.feed) n →
-    define_of old.limits.definition_bytes old.limits.definitions old.table.macros (drop 7 (take n (held_of old.feed))) ≡ table_define.Accepted table.macros →
-    lines ≡ line_ends (take n (held_of old.feed)) →
-    new ≡ record old { blanks = only_blanks old.blanks (take n (held_of old.feed)); feed = passed old.feed n lines; table = table } →
-    from ≡ old.feed.at + n - lines → to ≡ old.feed.at + n → Takes g old new (lent_answer new (Source from to))
-unfolding open_left state_of start_state staged_rules rules_of with_fault passed
-take_define g old new n lines from to table ready mode ends used fits define defined counted becomes begins stops =
-    let held = define_inside (held_of old.feed) n ready.bytes define in
-    let w = take n (held_of old.feed) in
-    let one : line_ends w ≤ 1 = define_one_line (held_of old.feed) n define in
-    let few : line_ends w ≤ n = omega arith in
-    let same : take n (drop old.feed.at old.feed.window) ≡ w =
-    let exact : old.feed.at + n - old.feed.at ≡ n = omega arith in
-    ap (λ k. take k (drop old.feed.at old.feed.window)) (sym exact) ∙ held_part old.feed n used held.1 in
-    let after = record old { blanks = only_blanks old.blanks w; feed = passed old.feed n (line_ends w); table = table } in
-    let part : slice_range after.feed.window from to ≡ line_ends_of w =
-    rw (begins, stops, counted) (tail_part old.feed.at n (line_ends w) old.feed.window few ∙ (ap (drop (n - line_ends w)) same ∙ sym (define_line_ends (held_of old.feed) n define))) in
-    rw (becomes, counted, part) (takes_bytes g old after (line_ends_of w) refl refl refl refl refl ready.free ready.open_
-    (move_defined g.unread (staged_rules old.limits old.origins) old.blanks (state_of old) old.feed n table.macros
-    mode ready.bytes (ends_line g.unread old.feed ends) fits define (ap with_fault defined))
-    (passed_unused old.feed n (line_ends w) held.0 held.1))
-
--- the kind of a fault that is told
-pub fault_kind : (kind : FaultKind) (line : ℕ) (word : List ℕ) (s : State) → IsOwn kind → IsOwn (fault_at kind line word s).kind
-unfolding fault_at
-fault_kind kind line word s own = own
-
--- a fault's word is cut once
-pub cut_once : (kind : FaultKind) (line : ℕ) (word : List ℕ) (s : State) → fault_at kind line (take 128 word) s ≡ fault_at kind line word s
-unfolding fault_at
-cut_once kind line word s = rw (take-take 128 128 word (omega arith)) refl
-
--- a fault that is kept is what is answered
-pub kept_lent : {S R : Type 0} (e : EngineView S R) (place : Place) (f : Told) → place ≡ Kept → e.kept ≡ Some f → lent_answer e place ≡ Err f
-kept_lent e place f is kept = ap (lent_answer e) is ∙ ap kept_answer kept
-
--- a fault that is kept about a name that was cut
-pub kept_cut : {S R : Type 0} (old new : EngineView S R) (kind : FaultKind) (line : ℕ) (word name : List ℕ) (s : State) →
-    new ≡ record old { kept = Some (fault_at kind line word s) } → word ≡ take 128 name →
-    new ≡ record old { kept = Some (fault_at kind line name s) }
-kept_cut {S} {R} old new kind line word name s becomes cut =
-    let keeps : Told → EngineView S R = λ f. record old { kept = Some f } in
-    becomes ∙ ap keeps (ap (λ w. fault_at kind line w s) cut ∙ cut_once kind line name s)
-
--- a fault ends the output
-pub take_refused : {S R : Type 0} (g : Ghosts S R) (old new : EngineView S R) (place : Place) (kind : FaultKind) (word : List ℕ) →
-    place ≡ Kept → new ≡ record old { kept = Some (fault_at kind old.feed.line word (state_of old)) } → IsOwn kind →
-    open_left g.unread old ≡ fails (fault_at kind old.feed.line word (state_of old)) → Takes g old new (lent_answer new place)
-take_refused g old new place kind word is becomes own ends =
-    let f = fault_at kind old.feed.line word (state_of old) in
-    subst (λ (a : Result (Option (List ℕ)) Told). Takes g old new a) (sym (kept_lent new place f is (ap (λ e. e.kept) becomes)))
-    (takes_fault g old new f becomes (fault_kind kind old.feed.line word (state_of old) own) ends)
+-- and nothing is owed
+pub lends_source : {S R : Type 0} (g : Ghosts S R) (old new : EngineView S R) (ready : IsReady old) (bytes : List ℕ) (macros : List Macro) (nest : List (File R))
+    → new ≡ record old { table = record old.table { macros = macros }; files = record old.files { nest = nest } }
+    → IsBounded new → IsUsed old.files.nest nest
+    → left_by g.unread old old.table.macros old.files.nest ≡ behind_bytes bytes (left_by g.unread old macros nest)
+    → Walks g old new (Ok (Some bytes))
+lends_source {S} {R} g old new ready bytes macros nest becomes bounded used law =
+    subst (λ (e : EngineView S R). Walks g old e (Ok (Some bytes))) (sym becomes)
+    (lends_piece g old ready bytes old.owed macros nest old.sources (subst IsBounded becomes bounded) (unowed_few old.owed ready.owed) used (not_called g old.sources)
+    (λ t. law ∙ ap (behind_bytes bytes) (sym (unowed_behind old.owed (left_by g.unread old macros nest) ready.owed))))
 
 -- what isn't built, refused or read isn't a failed read
 pub refused_kind : (mode : Mode) (held : List ℕ) (kind : FaultKind) → IsRefused mode held kind → IsOwn kind
@@ -303,7 +183,7 @@ define_kind define.TooManyFormals = record { read = refl; write = refl; memory =
 define_kind define.DefinitionBytes = record { read = refl; write = refl; memory = refl }
 define_kind define.TooManyDefinitions = record { read = refl; write = refl; memory = refl }
 
--- nor is an undefined macro, or one that isn't built
+-- nor are the faults that the engine names itself
 pub undefined_kind : IsOwn fault.UndefinedMacro
 unfolding is_read_failed is_write_failed is_memory_kind
 undefined_kind = record { read = refl; write = refl; memory = refl }
@@ -312,78 +192,6 @@ pub unbuilt_kind : IsOwn fault.Unbuilt
 unfolding is_read_failed is_write_failed is_memory_kind
 unbuilt_kind = record { read = refl; write = refl; memory = refl }
 
--- what remains is refused
-pub left_refused : {S R : Type 0} (unread : R → List ℕ) (e : EngineView S R) (kind : FaultKind) → 0 < length (held_of e.feed) → EndsHeld e.feed → IsRefused e.feed.mode (held_of e.feed) kind →
-    open_left unread e ≡ fails (fault_at kind e.feed.line [] (state_of e))
-unfolding open_left
-left_refused unread e kind some ends refused =
-    move_refused unread (staged_rules e.limits e.origins) e.blanks (state_of e) e.feed kind some (ends_line unread e.feed ends) refused
-
--- a usage of what isn't defined
-pub left_undefined : {S R : Type 0} (unread : R → List ℕ) (e : EngineView S R) (n : ℕ) → e.feed.mode ≡ Plain → 0 < length (held_of e.feed) → EndsHeld e.feed → IsUsage (held_of e.feed) n →
-    macro_named e.table.macros (usage_name (held_of e.feed) n) ≡ None →
-    open_left unread e ≡ fails (fault_at fault.UndefinedMacro e.feed.line (usage_name (held_of e.feed) n) (state_of e))
-unfolding open_left state_of start_state
-left_undefined unread e n mode some ends usage none =
-    move_undefined unread (staged_rules e.limits e.origins) e.blanks (state_of e) e.feed n mode some (ends_line unread e.feed ends) usage none
-
--- a usage of what isn't built
-pub left_unbuilt : {S R : Type 0} (unread : R → List ℕ) (e : EngineView S R) (n : ℕ) (m : Macro) → e.feed.mode ≡ Plain → 0 < length (held_of e.feed) → EndsHeld e.feed → IsUsage (held_of e.feed) n →
-    macro_named e.table.macros (usage_name (held_of e.feed) n) ≡ Some m → is_unbuilt_macro m ≡ true →
-    open_left unread e ≡ fails (fault_at fault.Unbuilt e.feed.line [] (state_of e))
-unfolding open_left state_of start_state staged_rules rules_of
-left_unbuilt unread e n m mode some ends usage named unbuilt =
-    move_unbuilt unread (staged_rules e.limits e.origins) e.blanks (state_of e) e.feed n m mode some (ends_line unread e.feed ends) usage named unbuilt
-
--- a `define` that is refused
-pub left_refused_define : {S R : Type 0} (unread : R → List ℕ) (e : EngineView S R) (n : ℕ) (kind : DefineKind) (word : List ℕ) →
-    e.feed.mode ≡ Plain → 0 < length (held_of e.feed) → EndsHeld e.feed → length (held_of e.feed) ≤ e.feed.most → IsDefine (held_of e.feed) n →
-    define_of e.limits.definition_bytes e.limits.definitions e.table.macros (drop 7 (take n (held_of e.feed))) ≡ table_define.Refused kind word →
-    open_left unread e ≡ fails (fault_at (define_fault kind) e.feed.line word (state_of e))
-unfolding open_left state_of start_state staged_rules rules_of with_fault
-left_refused_define unread e n kind word mode some ends fits define refused =
-    move_refused_define unread (staged_rules e.limits e.origins) e.blanks (state_of e) e.feed n (define_fault kind) word
-    mode some (ends_line unread e.feed ends) fits define (ap with_fault refused)
-
--- what is dropped of a short text
-pub drop_min : (xs : List ℕ) (m k : ℕ) → m ≡ min (length xs) k → drop m xs ≡ drop k xs
-drop_min [] m k e = drop-nil m ∙ sym (drop-nil k)
-drop_min (x ∷ xs) zero zero e = refl
-drop_min (x ∷ xs) zero (suc k) e = absurd (omega arith)
-drop_min (x ∷ xs) (suc m) zero e = absurd (omega arith)
-drop_min (x ∷ xs) (suc m) (suc k) e = drop_min xs m k (omega arith)
-
--- what stands behind the word of a `define`
-pub define_rest : (line : List ℕ) (len m : ℕ) → length line ≡ len → m ≡ min len 7 → take (length line - m) (drop m line) ≡ drop 7 line
-define_rest line len m wide least =
-    take_rest line m ∙ drop_min line m 7 (least ∙ ap (λ n. min n 7) (sym wide))
-
--- it is a logical line
-pub define_whole : (held : List ℕ) (n : ℕ) → 0 < length held → IsDefine held n → IfSome (logical_len 0 0 (drop 7 (take n held))) (λ k. k ≡ length (drop 7 (take n held)))
-define_whole held n some define = elim (define_logical held n some define) [
-  | inl e ↦ rw e tt
-  | inr e ↦ rw e refl
-]
-
--- what a `define` gives of the same things
-pub defined_same : (b1 b2 n1 n2 : ℕ) (macros : List Macro) (r1 r2 : List ℕ) (o : table_define.Defined) →
-    o ≡ define_of b1 n1 macros r1 → b1 ≡ b2 → n1 ≡ n2 → r1 ≡ r2 → define_of b2 n2 macros r2 ≡ o
-defined_same b1 b2 n1 n2 macros r1 r2 o e b n r = rw (← b, ← n, ← r) (sym e)
-
--- the name of an `undef` is a word
-word_lead : (bytes : List ℕ) (n : ℕ) → IsLead Name bytes n → IsWordBytes (take n bytes)
-word_lead bytes n (Leads some is len) =
-    let run : n ≡ prefix_len is_word bytes = len ∙ ((plain_token-run bytes).name is).0 in
-    rw run (list_all-prefix is_word bytes)
-word_lead bytes n (Lacks other zero_is) = rw zero_is refl
-
-pub undef_word : (held : List ℕ) (start stop : ℕ) → IsUndef held start stop → IsWordBytes (undef_name held start stop)
-undef_word held start stop undef =
-    let stops = undef.stops in
-    let same : stop - start ≡ undef.len = omega arith in
-    rw same (word_lead (drop start held) undef.len undef.name)
-
--- the faults of an `undef`
 pub nameless_kind : IsOwn fault.NameExpected
 unfolding is_read_failed is_write_failed is_memory_kind
 nameless_kind = record { read = refl; write = refl; memory = refl }
@@ -392,34 +200,554 @@ pub reserved_kind : IsOwn fault.ReservedName
 unfolding is_read_failed is_write_failed is_memory_kind
 reserved_kind = record { read = refl; write = refl; memory = refl }
 
--- an `undef` without a name
-pub left_nameless : {S R : Type 0} (unread : R → List ℕ) (e : EngineView S R) (start stop : ℕ) → e.feed.mode ≡ Plain → 0 < length (held_of e.feed) → EndsHeld e.feed → IsUndef (held_of e.feed) start stop →
-    start ≡ stop → open_left unread e ≡ fails (fault_at fault.NameExpected e.feed.line [] (state_of e))
-unfolding open_left
-left_nameless unread e start stop mode some ends undef none =
-    move_nameless unread (staged_rules e.limits e.origins) e.blanks (state_of e) e.feed start stop mode some (ends_line unread e.feed ends) undef none
+pub line_kind : IsOwn fault.LineTooLong
+unfolding is_read_failed is_write_failed is_memory_kind
+line_kind = record { read = refl; write = refl; memory = refl }
 
--- an `undef` of a reserved name
-pub left_reserved : {S R : Type 0} (unread : R → List ℕ) (e : EngineView S R) (start stop : ℕ) → e.feed.mode ≡ Plain → 0 < length (held_of e.feed) → EndsHeld e.feed → IsUndef (held_of e.feed) start stop →
-    start < stop → is_reserved (undef_name (held_of e.feed) start stop) ≡ true → open_left unread e ≡ fails (fault_at fault.ReservedName e.feed.line (undef_name (held_of e.feed) start stop) (state_of e))
-unfolding open_left
-left_reserved unread e start stop mode some ends undef has taken =
-    move_reserved unread (staged_rules e.limits e.origins) e.blanks (state_of e) e.feed start stop mode some (ends_line unread e.feed ends) undef has taken
+pub source_kind : IsOwn fault.SourceTooLong
+unfolding is_read_failed is_write_failed is_memory_kind
+source_kind = record { read = refl; write = refl; memory = refl }
+
+pub string_kind : IsOwn fault.OpenString
+unfolding is_read_failed is_write_failed is_memory_kind
+string_kind = record { read = refl; write = refl; memory = refl }
+
+pub comment_kind : IsOwn fault.OpenComment
+unfolding is_read_failed is_write_failed is_memory_kind
+comment_kind = record { read = refl; write = refl; memory = refl }
+
+-- a fault's word is cut once
+pub cut_once : (kind : FaultKind) (line : ℕ) (word : List ℕ) (s : State) → fault_at kind line (take 128 word) s ≡ fault_at kind line word s
+unfolding fault_at
+cut_once kind line word s = rw (take-take 128 128 word (omega arith)) refl
+
+-- a fault that is kept about a name that was cut
+pub kept_cut : {S R : Type 0} (old new : EngineView S R) (kind : FaultKind) (line : ℕ) (word name : List ℕ) (s : State) →
+    new ≡ record old { kept = Some (fault_at kind line word s) } → word ≡ take 128 name →
+    new ≡ record old { kept = Some (fault_at kind line name s) }
+kept_cut {S} {R} old new kind line word name s becomes cut =
+    let keeps : Told → EngineView S R = λ f. record old { kept = Some f } in
+    becomes ∙ ap keeps (ap (λ w. fault_at kind line w s) cut ∙ cut_once kind line name s)
+
+-- only the innermost buffer and the sources changed
+pub record IsRead {S R : Type 0} (old mid : EngineView S R) : Type 0 where
+  pub becomes : mid ≡ record old { files = mid.files; sources = mid.sources }
+  pub only : mid.files ≡ record old.files { nest = with_buffer (inner_buffer mid.files.nest) old.files.nest }
+
+-- the state is the same then
+pub read_state : {S R : Type 0} (old mid : EngineView S R) → IsRead old mid → state_of mid ≡ state_of old
+unfolding state_of
+read_state {S} {R} old mid r =
+    let limits : mid.limits ≡ old.limits = ap (λ e. e.limits) r.becomes in
+    let table : mid.table ≡ old.table = ap (λ e. e.table) r.becomes in
+    let nest : mid.files.nest ≡ with_buffer (inner_buffer mid.files.nest) old.files.nest = ap (λ f. f.nest) r.only in
+    ap (λ (ns : List (File R)). nest_state mid.limits mid.table.macros ns) nest
+    ∙ (same_state (inner_buffer mid.files.nest) mid.limits mid.table.macros old.files.nest
+    ∙ rw (limits, table) refl)
+
+-- what keeping a fault makes of an engine
+keeps_fault : {S R : Type 0} (old mid new : EngineView S R) (f : Told) → IsRead old mid → new ≡ record mid { kept = Some f }
+    → new ≡ record old { kept = Some f; files = new.files; sources = new.sources }
+keeps_fault {S} {R} old mid new f r becomes =
+    let files : new.files ≡ mid.files = ap (λ e. e.files) becomes in
+    let sources : new.sources ≡ mid.sources = ap (λ e. e.sources) becomes in
+    let keeps : FilesView R → S → EngineView S R = λ fs s. record old { kept = Some f; files = fs; sources = s } in
+    becomes ∙ (ap (λ (m : EngineView S R). record m { kept = Some f }) r.becomes
+    ∙ (ap (λ (fs : FilesView R). keeps fs mid.sources) (sym files) ∙ ap (λ (s : S). keeps new.files s) (sym sources)))
+
+-- the kind of a fault that is told
+told_kind : (kind : FaultKind) (line : ℕ) (word : List ℕ) (s : State) → IsOwn kind → IsOwn (fault_at kind line word s).kind
+unfolding fault_at
+told_kind kind line word s own = own
+
+-- a fault of the text is kept
+pub refuses : {S R : Type 0} (g : Ghosts S R) (old mid new : EngineView S R) (place : Place) (kind : FaultKind) (line : ℕ) (word : List ℕ) → IsReady old → IsRead old mid → IsBounded new
+    → place ≡ Kept → new ≡ record mid { kept = Some (fault_at kind line word (state_of mid)) } → IsOwn kind → SourcesCalled g false false old.sources mid.sources
+    → (g.tells old.sources → left_by g.unread old old.table.macros old.files.nest ≡ leaves (fails (fault_at kind line word (state_of old))) (state_of old))
+    → Walks g old new (lent_answer new place)
+unfolding state_of
+refuses {S} {R} g old mid new place kind line word ready r bounded is becomes own call law =
+    let f = fault_at kind line word (state_of mid) in
+    let same : state_of mid ≡ state_of old = read_state old mid r in
+    let here : state_of new ≡ state_of mid = ap (λ (e : EngineView S R). nest_state e.limits e.table.macros e.files.nest) becomes in
+    let sources : new.sources ≡ mid.sources = ap (λ e. e.sources) becomes in
+    let P : S → Type 0 = λ s. SourcesCalled g false false old.sources s in
+    kept_at g old new place f is (ap (λ e. e.kept) becomes)
+    (walks_fault g old new ready.free ready.open_ bounded f (told_kind kind line word (state_of mid) own) (keeps_fault old mid new f r becomes) (subst P (sym sources) call)
+    (λ t. text_unowed g.unread old ready.owed ∙ (law t ∙ (ap (λ (s : State). leaves (fails (fault_at kind line word s)) s) (sym same) ∙ ap (leaves (fails f)) (sym here)))))
+
+-- a failed read is kept
+pub fails_reading : {S R : Type 0} (g : Ghosts S R) (old mid new : EngineView S R) (place : Place) → IsReady old → IsRead old mid → IsBounded new
+    → place ≡ Kept → new ≡ record mid { kept = Some (fault_at fault.ReadFailed (reading_line_of (inner_buffer mid.files.nest)) [] (state_of mid)) } → SourcesCalled g true false old.sources mid.sources
+    → Walks g old new (lent_answer new place)
+unfolding state_of
+fails_reading {S} {R} g old mid new place ready r bounded is becomes call =
+    let told : EngineView S R → Told = λ e. fault_at fault.ReadFailed (reading_line_of (inner_buffer e.files.nest)) [] (nest_state e.limits e.table.macros e.files.nest) in
+    let sources : new.sources ≡ mid.sources = ap (λ e. e.sources) becomes in
+    let P : S → Type 0 = λ s. SourcesCalled g true false old.sources s in
+    kept_at g old new place (told mid) is (ap (λ e. e.kept) becomes)
+    (walks_failed g old new ready.free ready.open_ bounded (told mid) (sym (ap told becomes)) (keeps_fault old mid new (told mid) r becomes) (subst P (sym sources) call))
+
+-- nothing changed
+pub read_nothing : {S R : Type 0} (e : EngineView S R) → IsRead e e
+read_nothing e = record { becomes = refl; only = ap (λ ns. record e.files { nest = ns }) (same_nest e.files.nest) }
+
+-- text that is copied is lent
+pub take_text : {S R : Type 0} (g : Ghosts S R) (old mid new : EngineView S R) (len lines from to : ℕ) (next : Mode) → IsReady old → IsBounded new
+    → 0 < length (held_of (inner_buffer old.files.nest)) → IsText (inner_buffer old.files.nest).mode (held_of (inner_buffer old.files.nest)) len next
+    → lines ≡ line_ends (take len (held_of (inner_buffer old.files.nest)))
+    → mid ≡ record old { files = record old.files { nest = with_buffer (entered_mode (inner_buffer old.files.nest) next) old.files.nest } }
+    → new ≡ record mid { files = record mid.files { nest = with_inner (consumed_file len lines) mid.files.nest } }
+    → from ≡ (inner_buffer old.files.nest).at → to ≡ from + len → Walks g old new (lent_answer new (Source from to))
+take_text {S} {R} g old mid new len lines from to next ready bounded some text counted enters uses begins stops =
+    let inner = inner_facts old.files ready.nest ready.files in
+    let b = inner_buffer old.files.nest in
+    let within = text_inside b.mode (held_of b) len next some text in
+    let nest = with_inner (consumed_file len lines) (with_buffer (entered_mode b next) old.files.nest) in
+    let becomes : new ≡ record old { files = record old.files { nest = nest } } =
+    uses ∙ ap (λ (m : EngineView S R). record m { files = record m.files { nest = with_inner (consumed_file len lines) m.files.nest } }) enters in
+    let window : (inner_buffer new.files.nest).window ≡ b.window = ap (λ (e : EngineView S R). (inner_buffer e.files.nest).window) becomes ∙ same_window old.files.nest len lines next in
+    let part : slice_range (inner_buffer new.files.nest).window from to ≡ take len (held_of b) =
+    rw (window, begins, stops) (rw begins (held_part b len inner.buffer.used within.1)) in
+    subst (λ (xs : List ℕ). Walks g old new (Ok (Some xs))) (sym part)
+    (lends_source g old new ready (take len (held_of b)) old.table.macros nest becomes bounded
+    (used_after old.files.nest (entered_mode b next) len lines ready.nest (entered_unused b next) within.0 (rw (held_entered b next) within.1))
+    (nest_text old.limits (staged_rules old.limits old.origins) g.unread old.table.macros old.files.nest len lines next some inner.ends text counted))
+
+-- all of a text, as a part of it
+whole_part : (xs : List ℕ) (n : ℕ) → n ≡ length xs → slice_range xs 0 n ≡ xs
+whole_part xs n whole = let same : n - 0 ≡ length xs = omega arith in ap (λ k. take k xs) same ∙ take_all (length xs) xs (omega arith)
+
+-- a body is lent
+pub take_usage : {S R : Type 0} (g : Ghosts S R) (old new : EngineView S R) (len id end : ℕ) → IsReady old → IsBounded new
+    → 0 < length (held_of (inner_buffer old.files.nest)) → (inner_buffer old.files.nest).mode ≡ Plain → IsUsage (held_of (inner_buffer old.files.nest)) len
+    → macro_named old.table.macros (usage_name (held_of (inner_buffer old.files.nest)) len) ≡ Some (macro_at old.table.macros id)
+    → is_unbuilt_macro (macro_at old.table.macros id) ≡ false
+    → new ≡ record old { files = record old.files { nest = with_inner (consumed_file len 0) old.files.nest } }
+    → end ≡ length (macro_at old.table.macros id).body → Walks g old new (lent_answer new (Body id 0 end))
+unfolding staged_rules rules_of
+take_usage {S} {R} g old new len id end ready bounded some plain usage named built becomes whole =
+    let inner = inner_facts old.files ready.nest ready.files in
+    let held = held_of (inner_buffer old.files.nest) in
+    let within = usage_inside held len some usage in
+    let m = macro_at old.table.macros id in
+    let body : slice_range (macro_at new.table.macros id).body 0 end ≡ m.body =
+    ap (λ (e : EngineView S R). slice_range (macro_at e.table.macros id).body 0 end) becomes ∙ whole_part m.body end whole in
+    let depth = ready.sound.in_range.depth.0 in
+    subst (λ (xs : List ℕ). Walks g old new (Ok (Some xs))) (sym body)
+    (lends_source g old new ready m.body old.table.macros (with_inner (consumed_file len 0) old.files.nest) becomes bounded
+    (used_bytes old.files.nest len 0 within.0 within.1)
+    (nest_body old.limits (staged_rules old.limits old.origins) g.unread old.table.macros old.files.nest len m some inner.ends plain usage named refl built (omega arith)))
 
 -- a macro is taken out
-pub take_undef : {S R : Type 0} (g : Ghosts S R) (old new : EngineView S R) (start stop : ℕ) (table : TableView) →
-    IsReady old → old.feed.mode ≡ Plain → EndsHeld old.feed → IsUndef (held_of old.feed) start stop → start < stop →
-    is_reserved (undef_name (held_of old.feed) start stop) ≡ false →
-    table ≡ record old.table { macros = without (undef_name (held_of old.feed) start stop) old.table.macros } →
-    new ≡ record old { blanks = only_blanks old.blanks (take stop (held_of old.feed)); feed = passed old.feed stop 0; table = table } →
-    Takes g old new (step_answer new None)
-unfolding open_left state_of start_state passed
-take_undef g old new start stop table ready mode ends undef has free removed becomes =
-    let inside = undef_inside (held_of old.feed) start stop ready.bytes undef in
-    let w = take stop (held_of old.feed) in
-    let after = record old { blanks = only_blanks old.blanks w; feed = passed old.feed stop 0; table = record old.table { macros = without (undef_name (held_of old.feed) start stop) old.table.macros } } in
-    let same : new ≡ after = becomes ∙ ap (λ t. record old { blanks = only_blanks old.blanks w; feed = passed old.feed stop 0; table = t }) removed in
-    rw same (takes_bytes g old after [] refl refl refl refl refl ready.free ready.open_
-    (move_undef g.unread (staged_rules old.limits old.origins) old.blanks (state_of old) old.feed start stop mode ready.bytes (ends_line g.unread old.feed ends) undef has free
-    ∙ sym (and_then-gives_nil (open_left g.unread after)))
-    (passed_unused old.feed stop 0 (omega (arith, inside.0, inside.1)) inside.2))
+pub take_undef : {S R : Type 0} (g : Ghosts S R) (old new : EngineView S R) (start stop : ℕ) → IsReady old → IsBounded new
+    → 0 < length (held_of (inner_buffer old.files.nest)) → (inner_buffer old.files.nest).mode ≡ Plain → HasName Undef (held_of (inner_buffer old.files.nest)) start stop
+    → is_reserved (argument_name (held_of (inner_buffer old.files.nest)) start stop) ≡ false
+    → new ≡ record old {
+      table = record old.table { macros = without (argument_name (held_of (inner_buffer old.files.nest)) start stop) old.table.macros };
+      files = record old.files { nest = with_inner (consumed_file stop 0) old.files.nest };
+    } → Walks g old new (step_answer new None)
+unfolding behind_bytes
+take_undef g old new start stop ready bounded some plain named free becomes =
+    let inner = inner_facts old.files ready.nest ready.files in
+    let held = held_of (inner_buffer old.files.nest) in
+    let within = name_inside Undef held start stop named in
+    lends_source g old new ready [] (without (argument_name held start stop) old.table.macros) (with_inner (consumed_file stop 0) old.files.nest) becomes bounded
+    (used_bytes old.files.nest stop 0 (omega (arith, within.0, within.1)) within.2)
+    (nest_undef old.limits (staged_rules old.limits old.origins) g.unread old.table.macros old.files.nest start stop some inner.ends plain named free)
+
+-- a `define` whose logical line is held, and what it comes to
+module _ {S R : Type 0} (g : Ghosts S R) (old mid new : EngineView S R) (len : ℕ) (ready : IsReady old) (r : IsRead old mid) (bounded : IsBounded new)
+    (some : 0 < length (held_of (inner_buffer old.files.nest))) (plain : (inner_buffer old.files.nest).mode ≡ Plain) (define : IsDirective Define (held_of (inner_buffer old.files.nest)))
+    (holds : HoldsLine (g.tells old.sources) g.unread (line.Whole len) (inner_buffer old.files.nest) (inner_buffer mid.files.nest))
+    (call : SourcesCalled g false false old.sources mid.sources) where
+  -- it is accepted
+  accepted_steps : 7 ≤ len → len ≤ length (held_of (inner_buffer mid.files.nest)) → length (held_of (inner_buffer mid.files.nest)) < 2 ^ 31 → Defines len mid new → Walks g old new (step_answer new None)
+  unfolding staged_rules rules_of with_fault owed_bytes owed_pieces behind_bytes
+  accepted_steps wide inside few d =
+      let inner = inner_facts old.files ready.nest ready.files in
+      let b = inner_buffer mid.files.nest in
+      let w = take len (held_of b) in
+      let limits : mid.limits ≡ old.limits = ap (λ e. e.limits) r.becomes in
+      let table : mid.table ≡ old.table = ap (λ e. e.table) r.becomes in
+      let nest : mid.files.nest ≡ with_buffer b old.files.nest = ap (λ f. f.nest) r.only in
+      let after = with_inner (consumed_file len d.lines) (with_buffer b old.files.nest) in
+      let least = line_ends-le w in
+      let size = length-take len (held_of b) in
+      let counted = d.counted in
+      let makes : List (File R) → EngineView S R = λ ns.
+      record old { owed = record { line_ends = d.lines }; table = record old.table { macros = d.macros }; files = record old.files { nest = ns }; sources = mid.sources } in
+      let becomes : new ≡ makes after =
+      d.becomes ∙ (ap (λ (m : EngineView S R). record m { table = record m.table { macros = d.macros }; files = record m.files { nest = with_inner (consumed_file len d.lines) mid.files.nest }; owed = record { line_ends = d.lines } }) r.becomes
+      ∙ (ap (λ (fs : FilesView R). record old { owed = record { line_ends = d.lines }; table = record old.table { macros = d.macros }; files = record fs { nest = with_inner (consumed_file len d.lines) mid.files.nest }; sources = mid.sources }) r.only
+      ∙ ap (λ (ns : List (File R)). makes (with_inner (consumed_file len d.lines) ns)) nest)) in
+      let accepted : define_of old.limits.definition_bytes old.limits.definitions old.table.macros (drop 7 w) ≡ table_define.Accepted d.macros =
+      rw (← ready.sound.definition_bytes, ← ready.sound.definitions) (rw table at d.accepted) in
+      let owed : line_ends_of w ≡ replicate d.lines 10 = line_ends_of-owed w ∙ ap (λ n. replicate n 10) (sym counted) in
+      subst (λ (e : EngineView S R). Walks g old e (Ok (Some []))) (sym becomes)
+      (lends_piece g old ready [] (record { line_ends = d.lines }) d.macros after mid.sources (subst IsBounded becomes bounded) (omega arith)
+      (used_after old.files.nest b len d.lines ready.nest holds.extends.unused (omega arith) inside) call
+      (λ t. nest_defined old.limits (staged_rules old.limits old.origins) g.unread old.table.macros (g.tells old.sources) t old.files.nest b len d.lines d.macros
+      some inner.ends plain define holds (ap with_fault accepted) counted
+      ∙ ap (λ (x : List ℕ). behind_bytes x (left_by g.unread old d.macros after)) owed))
+
+  -- it is refused
+  refused_steps : (place : Place) → place ≡ Kept → RefusesDefine len mid new → Walks g old new (lent_answer new place)
+  unfolding staged_rules rules_of with_fault state_of
+  refused_steps place is d =
+      let inner = inner_facts old.files ready.nest ready.files in
+      let b = inner_buffer mid.files.nest in
+      let table : mid.table ≡ old.table = ap (λ e. e.table) r.becomes in
+      let here : b.line ≡ (inner_buffer old.files.nest).line = holds.extends.line in
+      let refused : define_of old.limits.definition_bytes old.limits.definitions old.table.macros (drop 7 (take len (held_of b))) ≡ table_define.Refused d.kind d.word =
+      rw (← ready.sound.definition_bytes, ← ready.sound.definitions) (rw table at d.refused) in
+      refuses g old mid new place (define_fault d.kind) b.line d.word ready r bounded is d.becomes (define_kind d.kind) call
+      (λ t. nest_refused_define old.limits (staged_rules old.limits old.origins) g.unread old.table.macros (g.tells old.sources) t old.files.nest b len (define_fault d.kind) d.word
+      some inner.ends plain define holds (ap with_fault refused)
+      ∙ rw here refl)
+
+  pub defined_steps : (result : Option Place) → 7 ≤ len → len ≤ length (held_of (inner_buffer mid.files.nest)) → length (held_of (inner_buffer mid.files.nest)) < 2 ^ 31 → ReadsDefine len mid new result → Walks g old new (step_answer new result)
+  defined_steps None wide inside few reads = accepted_steps wide inside few reads
+  defined_steps (Some Kept) wide inside few reads = refused_steps Kept refl reads
+  defined_steps (Some (Source start end)) wide inside few reads = absurd reads
+  defined_steps (Some (Body id start end)) wide inside few reads = absurd reads
+  defined_steps (Some (Owed n)) wide inside few reads = absurd reads
+  defined_steps (Some End) wide inside few reads = absurd reads
+
+-- a `define` leaves no place, or the fault that is kept
+pub defined_placed : {S R : Type 0} (len : ℕ) (old new : EngineView S R) (result : Option Place) → ReadsDefine len old new result → IfSome result (IsPlaced new)
+defined_placed len old new None reads = tt
+defined_placed len old new (Some Kept) reads = tt
+defined_placed len old new (Some (Source start end)) reads = absurd reads
+defined_placed len old new (Some (Body id start end)) reads = absurd reads
+defined_placed len old new (Some (Owed n)) reads = absurd reads
+defined_placed len old new (Some End) reads = absurd reads
+
+-- the macros of a state are those that it is made of
+nest_macros : {R : Type 0} (limits : Limits) (macros : List Macro) (nest : List (File R)) → (nest_state limits macros nest).macros ≡ macros
+unfolding nest_state file_state start_state
+nest_macros limits macros [] = refl
+nest_macros limits macros (f ∷ outer) = refl
+
+-- bytes in front of bytes
+behind_twice : (x y : List ℕ) (p : Passage) → behind_bytes (x ++ y) p ≡ behind_bytes x (behind_bytes y p)
+unfolding behind_bytes
+behind_twice x y p = ap (λ (xs : List ℕ). record { bytes = xs; fault = p.fault; after = p.after }) (append_assoc x y p.bytes)
+
+-- the end of the main text
+module _ {S R : Type 0} (g : Ghosts S R) (old mid new : EngineView S R) (ready : IsReady old) (r : IsRead old mid) (bounded : IsBounded new)
+    (fills : Fills (g.tells old.sources) g.unread fill.End (inner_buffer old.files.nest) (inner_buffer mid.files.nest))
+    (call : SourcesCalled g false false old.sources mid.sources) where
+  ended_text : (inner_buffer mid.files.nest).mode ≡ Plain → new ≡ record mid { phase = Closed; files = record mid.files { nest = [] } } → Walks g old new (Ok None)
+  unfolding state_of
+  ended_text plain becomes =
+      let files : FilesView R = record mid.files { nest = [] } in
+      let table : new.table ≡ old.table = ap (λ e. e.table) becomes ∙ ap (λ e. e.table) r.becomes in
+      let sources : new.sources ≡ mid.sources = ap (λ e. e.sources) becomes in
+      let closes : FilesView R → S → EngineView S R = λ fs s. record old { phase = Closed; files = fs; sources = s } in
+      let ends : new ≡ record old { phase = Closed; files = new.files; sources = new.sources } =
+      becomes ∙ (ap (λ (m : EngineView S R). record m { phase = Closed; files = files }) r.becomes
+      ∙ (ap (λ (fs : FilesView R). closes fs mid.sources) (sym (ap (λ e. e.files) becomes)) ∙ ap (λ (s : S). closes new.files s) (sym sources))) in
+      let P : S → Type 0 = λ s. SourcesCalled g false false old.sources s in
+      walks_end g old new ready.free ready.open_ bounded ends (subst P (sym sources) call)
+      (λ t. record {
+        last = nest_state old.limits old.table.macros old.files.nest;
+        text = text_unowed g.unread old ready.owed
+            ∙ nest_ended old.limits (staged_rules old.limits old.origins) g.unread old.table.macros (g.tells old.sources) t old.files.nest (inner_buffer mid.files.nest)
+            ready.nest ready.sound.alone fills (sym fills.mode ∙ plain);
+        macros = nest_macros old.limits old.table.macros old.files.nest ∙ ap (λ t. t.macros) (sym table);
+        closed = ap (λ e. e.files.nest) becomes;
+      })
+
+  ended_open : StopsOpen mid new → Walks g old new (lent_answer new Kept)
+  unfolding state_of
+  ended_open stops =
+      let b = inner_buffer mid.files.nest in
+      let before = inner_buffer old.files.nest in
+      let tokens : ended_tokens before.mode before.open_token_line ≡ ended_tokens b.mode b.open_token_line =
+      rw (fills.mode, fills.open_token_line) refl in
+      refuses g old mid new Kept (breach_kind stops.breach) b.open_token_line [] ready r bounded refl stops.kept stops.own call
+      (λ t. nest_open old.limits (staged_rules old.limits old.origins) g.unread old.table.macros (g.tells old.sources) t old.files.nest b stops.breach ready.nest fills
+      (tokens ∙ (stops.tokens ∙ ap (only_broken stops.breach) fills.open_token_line))
+      ∙ rw fills.open_token_line refl)
+
+  pub ended_steps : (place : Place) → Ends mid new place → Walks g old new (lent_answer new place)
+  ended_steps (Source start end) ends = absurd ends
+  ended_steps (Body id start end) ends = absurd ends
+  ended_steps (Owed n) ends = absurd ends
+  ended_steps End ends = ended_text ends.0 ends.1
+  ended_steps Kept ends = ended_open ends
+
+-- the end is a place
+pub ended_placed : {S R : Type 0} (mid new : EngineView S R) (place : Place) → Ends mid new place → IsPlaced new place
+ended_placed mid new (Source start end) ends = absurd ends
+ended_placed mid new (Body id start end) ends = absurd ends
+ended_placed mid new (Owed n) ends = absurd ends
+ended_placed mid new End ends = tt
+ended_placed mid new Kept ends = tt
+
+-- what is owed is lent
+pub take_owed : {S R : Type 0} (g : Ghosts S R) (old new : EngineView S R) (len : ℕ) (owed : OwedView) → old.kept ≡ None → old.phase ≡ Open → IsBounded new
+    → 0 < len → old.owed.line_ends ≡ len + owed.line_ends → new ≡ record old { owed = owed } → Walks g old new (lent_answer new (Owed len))
+unfolding text_of owed_bytes owed_pieces
+take_owed {S} {R} g old new len owed free open_ bounded some split becomes =
+    let after = record old { owed = owed } in
+    let rest = left_by g.unread old old.table.macros old.files.nest in
+    let joined : replicate old.owed.line_ends 10 ≡ replicate len 10 ++ replicate owed.line_ends 10 =
+    ap (λ n. replicate n 10) split ∙ sym (replicate-append-replicate len owed.line_ends 10) in
+    subst (λ (e : EngineView S R). Walks g old e (Ok (Some (replicate len 10)))) (sym becomes)
+    (walks_lent g old after free open_ (subst IsBounded becomes bounded) (replicate len 10) refl (not_called g old.sources)
+    (λ t. ap (λ (x : List ℕ). behind_bytes x rest) joined ∙ behind_twice (replicate len 10) (replicate owed.line_ends 10) rest)
+    (owed_falls old after refl refl (omega arith)))
+
+-- bytes are held that weren't, and nothing else changed
+pub silent_fill : {S R : Type 0} (g : Ghosts S R) (old mid : EngineView S R) → IsReady old → IsRead old mid
+    → Fills (g.tells old.sources) g.unread fill.Held (inner_buffer old.files.nest) (inner_buffer mid.files.nest) → SourcesCalled g false false old.sources mid.sources → IsSilent g old mid
+silent_fill {S} {R} g old mid ready r fills call =
+    let b = inner_buffer mid.files.nest in
+    let limits : mid.limits ≡ old.limits = ap (λ e. e.limits) r.becomes in
+    let origins : mid.origins ≡ old.origins = ap (λ e. e.origins) r.becomes in
+    let table : mid.table ≡ old.table = ap (λ e. e.table) r.becomes in
+    let owed : mid.owed ≡ old.owed = ap (λ e. e.owed) r.becomes in
+    let nest : mid.files.nest ≡ with_buffer b old.files.nest = ap (λ f. f.nest) r.only in
+    record {
+      limits = limits;
+      origins = origins;
+      main = ap (λ e. e.main) r.becomes;
+      quota = ap (λ e. e.quota) r.becomes;
+      free = ready.free;
+      still = ap (λ e. e.kept) r.becomes ∙ ready.free;
+      open_ = ready.open_;
+      stays = ap (λ e. e.phase) r.becomes ∙ ready.open_;
+      call = call;
+      text = λ t. text_unowed g.unread old ready.owed
+          ∙ (nest_filled old.limits (staged_rules old.limits old.origins) g.unread old.table.macros (g.tells old.sources) t old.files.nest b fills
+          ∙ (ap (λ (ns : List (File R)). nest_left old.limits (staged_rules old.limits old.origins) g.unread old.table.macros ns) (sym nest)
+          ∙ (rw (limits, origins, table) refl ∙ sym (text_unowed g.unread mid (owed ∙ ready.owed)))));
+      work = (let same : work_left mid ≡ work_left old = work_same old mid b limits owed nest fills.unused in omega arith);
+    }
+
+-- the main text is open
+pub opened_phase : (p : Phase) → p ≡ Open → is_open p ≡ true
+unfolding is_open
+opened_phase p e = ap is_open e
+
+-- an engine that goes on still does where bytes were filled in
+pub ready_filled : {S R : Type 0} (old mid : EngineView S R) → IsReady old → IsRead old mid → IsSoundEngine mid.limits mid.phase mid.table mid.files → AreOpen mid.files → IsReady mid
+ready_filled old mid ready r sound files = record {
+  open_ = ap (λ e. e.phase) r.becomes ∙ ready.open_;
+  free = ap (λ e. e.kept) r.becomes ∙ ready.free;
+  owed = ap (λ e. e.owed) r.becomes ∙ ready.owed;
+  nest = sound.open_ (opened_phase mid.phase (ap (λ e. e.phase) r.becomes ∙ ready.open_));
+  sound = sound;
+  files = files;
+}
+
+-- what remains of an engine that goes on, where what it begins with ends the output
+module _ {S R : Type 0} (unread : R → List ℕ) (e : EngineView S R) where
+  abbrev pub Fails : FaultKind → ℕ → List ℕ → Type 0
+  Fails kind line word = left_by unread e e.table.macros e.files.nest ≡ leaves (fails (fault_at kind line word (state_of e))) (state_of e)
+
+  -- a usage of what isn't built
+  pub left_unbuilt : (len : ℕ) (m : Macro) → IsReady e → 0 < length (held_of (inner_buffer e.files.nest)) → (inner_buffer e.files.nest).mode ≡ Plain → IsUsage (held_of (inner_buffer e.files.nest)) len
+      → macro_named e.table.macros (usage_name (held_of (inner_buffer e.files.nest)) len) ≡ Some m → is_unbuilt_macro m ≡ true → Fails fault.Unbuilt (inner_buffer e.files.nest).line []
+  unfolding state_of staged_rules rules_of
+  left_unbuilt len m ready some plain usage named unbuilt =
+      nest_unbuilt e.limits (staged_rules e.limits e.origins) unread e.table.macros e.files.nest len m some (inner_facts e.files ready.nest ready.files).ends plain usage named unbuilt
+
+  -- a usage of what isn't defined
+  pub left_undefined : (len : ℕ) → IsReady e → 0 < length (held_of (inner_buffer e.files.nest)) → (inner_buffer e.files.nest).mode ≡ Plain → IsUsage (held_of (inner_buffer e.files.nest)) len
+      → macro_named e.table.macros (usage_name (held_of (inner_buffer e.files.nest)) len) ≡ None → Fails fault.UndefinedMacro (inner_buffer e.files.nest).line (usage_name (held_of (inner_buffer e.files.nest)) len)
+  unfolding state_of
+  left_undefined len ready some plain usage none =
+      nest_undefined e.limits (staged_rules e.limits e.origins) unread e.table.macros e.files.nest len some (inner_facts e.files ready.nest ready.files).ends plain usage none
+
+  -- what is refused
+  pub left_refused : (kind : FaultKind) → IsReady e → 0 < length (held_of (inner_buffer e.files.nest)) → IsRefused (inner_buffer e.files.nest).mode (held_of (inner_buffer e.files.nest)) kind → Fails kind (inner_buffer e.files.nest).line []
+  unfolding state_of
+  left_refused kind ready some refused =
+      nest_refused e.limits (staged_rules e.limits e.origins) unread e.table.macros e.files.nest kind some (inner_facts e.files ready.nest ready.files).ends refused
+
+  -- an `undef` of a reserved name
+  pub left_reserved : (start stop : ℕ) → IsReady e → 0 < length (held_of (inner_buffer e.files.nest)) → (inner_buffer e.files.nest).mode ≡ Plain → HasName Undef (held_of (inner_buffer e.files.nest)) start stop
+      → is_reserved (argument_name (held_of (inner_buffer e.files.nest)) start stop) ≡ true → Fails fault.ReservedName (inner_buffer e.files.nest).line (argument_name (held_of (inner_buffer e.files.nest)) start stop)
+  unfolding state_of
+  left_reserved start stop ready some plain named taken =
+      nest_reserved e.limits (staged_rules e.limits e.origins) unread e.table.macros e.files.nest start stop some (inner_facts e.files ready.nest ready.files).ends plain named taken
+
+  -- an `undef` without a name
+  pub left_nameless : IsReady e → 0 < length (held_of (inner_buffer e.files.nest)) → (inner_buffer e.files.nest).mode ≡ Plain → LacksName Undef (held_of (inner_buffer e.files.nest)) → Fails fault.NameExpected (inner_buffer e.files.nest).line []
+  unfolding state_of
+  left_nameless ready some plain lacks =
+      nest_nameless e.limits (staged_rules e.limits e.origins) unread e.table.macros e.files.nest some (inner_facts e.files ready.nest ready.files).ends plain lacks
+
+-- what remains where a line breaks the source
+module _ {S R : Type 0} (g : Ghosts S R) (old mid : EngineView S R) (ready : IsReady old) (t : g.tells old.sources) where
+  pub left_long_line : Fills (g.tells old.sources) g.unread fill.LineLong (inner_buffer old.files.nest) (inner_buffer mid.files.nest)
+      → left_by g.unread old old.table.macros old.files.nest ≡ leaves (fails (fault_at fault.LineTooLong (inner_buffer mid.files.nest).line [] (state_of old))) (state_of old)
+  unfolding state_of
+  left_long_line fills =
+      nest_long_line old.limits (staged_rules old.limits old.origins) g.unread old.table.macros (g.tells old.sources) t old.files.nest (inner_buffer mid.files.nest) ready.nest fills
+      ∙ rw fills.line refl
+
+  pub left_long_source : Fills (g.tells old.sources) g.unread fill.SourceLong (inner_buffer old.files.nest) (inner_buffer mid.files.nest)
+      → left_by g.unread old old.table.macros old.files.nest ≡ leaves (fails (fault_at fault.SourceTooLong (inner_buffer mid.files.nest).line [] (state_of old))) (state_of old)
+  unfolding state_of
+  left_long_source fills =
+      nest_long_source old.limits (staged_rules old.limits old.origins) g.unread old.table.macros (g.tells old.sources) t old.files.nest (inner_buffer mid.files.nest) ready.nest fills
+      ∙ rw fills.line refl
+
+  -- or the logical line of a `define` does
+  module _ (some : 0 < length (held_of (inner_buffer old.files.nest))) (plain : (inner_buffer old.files.nest).mode ≡ Plain) (define : IsDirective Define (held_of (inner_buffer old.files.nest))) where
+    pub left_long_define : HoldsLine (g.tells old.sources) g.unread line.TooLong (inner_buffer old.files.nest) (inner_buffer mid.files.nest)
+        → left_by g.unread old old.table.macros old.files.nest ≡ leaves (fails (fault_at fault.LineTooLong (inner_buffer mid.files.nest).line [] (state_of old))) (state_of old)
+    unfolding state_of
+    left_long_define holds =
+        nest_long_define old.limits (staged_rules old.limits old.origins) g.unread old.table.macros (g.tells old.sources) t old.files.nest (inner_buffer mid.files.nest)
+        some (inner_facts old.files ready.nest ready.files).ends plain define holds
+        ∙ rw holds.extends.line refl
+
+    pub left_cut_define : HoldsLine (g.tells old.sources) g.unread line.SourceLong (inner_buffer old.files.nest) (inner_buffer mid.files.nest)
+        → left_by g.unread old old.table.macros old.files.nest ≡ leaves (fails (fault_at fault.SourceTooLong (inner_buffer mid.files.nest).line [] (state_of old))) (state_of old)
+    unfolding state_of
+    left_cut_define holds =
+        nest_cut_define old.limits (staged_rules old.limits old.origins) g.unread old.table.macros (g.tells old.sources) t old.files.nest (inner_buffer mid.files.nest)
+        some (inner_facts old.files ready.nest ready.files).ends plain define holds
+        ∙ rw holds.extends.line refl
+
+-- a text that ended in a mode in which its end is a fault, at a place
+pub stops_open : {S R : Type 0} (old new : EngineView S R) (place : Place) (breach : Breach) (mode : Mode) (line : ℕ) →
+    place ≡ Kept → (inner_buffer old.files.nest).mode ≡ mode
+    → ended_tokens mode (inner_buffer old.files.nest).open_token_line ≡ only_broken breach (inner_buffer old.files.nest).open_token_line
+    → IsOwn (breach_kind breach) → line ≡ (inner_buffer old.files.nest).open_token_line →
+    new ≡ record old { kept = Some (fault_at (breach_kind breach) line [] (state_of old)) } → Ends old new place
+stops_open {S} {R} old new place breach mode line is at_mode tokens own opened becomes =
+    let b = inner_buffer old.files.nest in
+    let keeps : ℕ → EngineView S R = λ n. record old { kept = Some (fault_at (breach_kind breach) n [] (state_of old)) } in
+    subst (λ (p : Place). Ends old new p) (sym is) (record {
+      breach = breach;
+      tokens = ap (λ (m : Mode). ended_tokens m b.open_token_line) at_mode ∙ tokens;
+      own = own;
+      kept = becomes ∙ ap keeps opened;
+    })
+
+-- no more is held than a line may have
+pub held_few : {S R : Type 0} (e : EngineView S R) → IsSoundEngine e.limits e.phase e.table e.files → AreOpen e.files → 0 < length e.files.nest → length (held_of (inner_buffer e.files.nest)) < 2 ^ 31
+held_few e sound files some =
+    let inner = inner_facts e.files some files in
+    let room = held_room (inner_buffer e.files.nest) in
+    let lines = inner.buffer.lines in
+    let within = inner.buffer.within in
+    let size = inner.size in
+    let most = sound.line_bytes in
+    let range = sound.in_range.line_bytes.1 in
+    omega arith
+
+-- what stands where a mode is entered
+pub entered_at : {R : Type 0} (nest : List (File R)) (next : Mode) → (inner_buffer (with_buffer (entered_mode (inner_buffer nest) next) nest)).at ≡ (inner_buffer nest).at
+unfolding entered_mode
+entered_at [] next = refl
+entered_at (f ∷ outer) next = refl
+
+pub entered_holds : {R : Type 0} (nest : List (File R)) (next : Mode) → held_of (inner_buffer (with_buffer (entered_mode (inner_buffer nest) next) nest)) ≡ held_of (inner_buffer nest)
+unfolding entered_mode held_of
+entered_holds [] next = refl
+entered_holds (f ∷ outer) next = refl
+
+-- the places of held bytes can be counted, and lie in the window
+pub record IsRoom {S R : Type 0} (e : EngineView S R) (len start : ℕ) : Type 0 where
+  pub inside : start + len ≤ length (inner_buffer e.files.nest).window
+  pub few : start + len < 2 ^ 64
+
+pub room_of : {S R : Type 0} (e : EngineView S R) (len start : ℕ) → IsReady e → len ≤ length (held_of (inner_buffer e.files.nest)) → start ≡ (inner_buffer e.files.nest).at → IsRoom e len start
+room_of e len start ready inside is =
+    let inner = inner_facts e.files ready.nest ready.files in
+    let room = held_room (inner_buffer e.files.nest) in
+    let used = inner.buffer.used in
+    let lines = inner.buffer.lines in
+    let within = inner.buffer.within in
+    let size = inner.size in
+    let most = ready.sound.line_bytes in
+    let range = ready.sound.in_range.line_bytes.1 in
+    record { inside = omega arith; few = omega arith }
+
+-- the text that is lent lies in the window
+pub text_placed : {S R : Type 0} (old mid new : EngineView S R) (len lines start : ℕ) (next : Mode) → IsReady old → IsRoom old len start
+    → mid ≡ record old { files = record old.files { nest = with_buffer (entered_mode (inner_buffer old.files.nest) next) old.files.nest } }
+    → new ≡ record mid { files = record mid.files { nest = with_inner (consumed_file len lines) mid.files.nest } }
+    → IsPlaced new (Source start (start + len))
+text_placed {S} {R} old mid new len lines start next ready room enters uses =
+    let nest : new.files.nest ≡ with_inner (consumed_file len lines) (with_buffer (entered_mode (inner_buffer old.files.nest) next) old.files.nest) =
+    ap (λ e. e.files.nest) uses ∙ ap (λ (m : EngineView S R). with_inner (consumed_file len lines) m.files.nest) enters in
+    let window = ap (λ ns. length (inner_buffer ns).window) nest ∙ ap length (same_window old.files.nest len lines next) in
+    let size = ap length nest ∙ (with_inner-length (consumed_file len lines) (with_buffer (entered_mode (inner_buffer old.files.nest) next) old.files.nest) ∙ with_inner-length (λ f. record f { buffer = entered_mode (inner_buffer old.files.nest) next }) old.files.nest) in
+    let some = ready.nest in
+    let inside = room.inside in
+    (omega arith, omega arith, omega arith)
+
+-- what is dropped of a short text
+drop_min : (xs : List ℕ) (m k : ℕ) → m ≡ min (length xs) k → drop m xs ≡ drop k xs
+drop_min [] m k e = drop-nil m ∙ sym (drop-nil k)
+drop_min (x ∷ xs) zero zero e = refl
+drop_min (x ∷ xs) zero (suc k) e = absurd (omega arith)
+drop_min (x ∷ xs) (suc m) zero e = absurd (omega arith)
+drop_min (x ∷ xs) (suc m) (suc k) e = drop_min xs m k (omega arith)
+
+-- what stands behind the word of a `define`
+pub behind_word : (line : List ℕ) (len m : ℕ) → length line ≡ len → m ≡ min len 7 → take (length line - m) (drop m line) ≡ drop 7 line
+behind_word line len m wide least =
+    take_rest line m ∙ drop_min line m 7 (least ∙ ap (λ n. min n 7) (sym wide))
+
+-- what a `define` gives of the same things
+pub defined_same : (b n : ℕ) (macros : List Macro) (r1 r2 : List ℕ) (o : table_define.Defined) → o ≡ define_of b n macros r1 → r1 ≡ r2 → define_of b n macros r2 ≡ o
+defined_same b n macros r1 r2 o e r = rw (← r) (sym e)
+
+-- a refused `define`, at a place
+pub reads_refused : {S R : Type 0} (len : ℕ) (old new : EngineView S R) (place : Place) → place ≡ Kept → RefusesDefine len old new → ReadsDefine len old new (Some place)
+reads_refused {S} {R} len old new place is refuses = subst (λ (p : Place). ReadsDefine len old new (Some p)) (sym is) refuses
+
+-- a table of which only the macros changed
+table_same : (old new : TableView) → new.most_bytes ≡ old.most_bytes → new.most_macros ≡ old.most_macros → new ≡ record old { macros = new.macros }
+table_same old new bytes count = rw (← bytes, ← count) refl
+
+-- an accepted `define`
+pub defines_by : {S R : Type 0} (len : ℕ) (old now new : EngineView S R) (table : TableView) (owed : OwedView) (lines : ℕ)
+    → now ≡ record old { table = table; files = record old.files { nest = with_inner (consumed_file len lines) old.files.nest } }
+    → new ≡ record now { owed = owed } → owed ≡ record { line_ends = now.owed.line_ends + lines } → old.owed ≡ nothing_owed
+    → (table.most_bytes ≡ old.table.most_bytes) × (table.most_macros ≡ old.table.most_macros)
+    → define_of old.table.most_bytes old.table.most_macros old.table.macros (define_rest old len) ≡ table_define.Accepted table.macros
+    → lines ≡ line_ends (take len (held_of (inner_buffer old.files.nest))) → Defines len old new
+unfolding nothing_owed
+defines_by {S} {R} len old now new table owed lines used owes adds nothing limits accepted counted =
+    let files : FilesView R = record old.files { nest = with_inner (consumed_file len lines) old.files.nest } in
+    let none : now.owed.line_ends ≡ 0 = ap (λ e. e.owed.line_ends) used ∙ ap (λ o. o.line_ends) nothing in
+    let count : now.owed.line_ends + lines ≡ lines = omega arith in
+    let exact : owed ≡ record { line_ends = lines } = adds ∙ ap (λ (n : ℕ). record { line_ends = n }) count in
+    let makes : TableView → OwedView → EngineView S R = λ t o. record old { table = t; files = files; owed = o } in
+    record {
+      macros = table.macros;
+      accepted = accepted;
+      lines = lines;
+      counted = counted;
+      becomes = owes ∙ (ap (λ (e : EngineView S R). record e { owed = owed }) used
+          ∙ (ap (makes table) exact ∙ ap (λ (t : TableView). makes t (record { line_ends = lines })) (table_same old.table table limits.0 limits.1)));
+    }
+
+-- an engine of which nothing is owed goes on in its open sources
+pub ready_unowed : {S R : Type 0} (old new : EngineView S R) → old.phase ≡ Open → old.kept ≡ None → new ≡ record old { owed = nothing_owed }
+    → IsSoundEngine old.limits old.phase old.table old.files → AreOpen old.files → IsReady new
+ready_unowed old new open_ free becomes sound files = rw becomes (record {
+  open_ = open_;
+  free = free;
+  owed = refl;
+  nest = sound.open_ (opened_phase old.phase open_);
+  sound = sound;
+  files = files;
+})
+
+-- the same engine, with something else owed
+pub owing : {S R : Type 0} (a b : EngineView S R) (owed : OwedView) → a ≡ b → record a { owed = owed } ≡ record b { owed = owed }
+owing {S} {R} a b owed same = ap (λ (e : EngineView S R). record e { owed = owed }) same
+
+pub owing_same : {S R : Type 0} (e : EngineView S R) (a b : OwedView) → a ≡ b → record e { owed = a } ≡ record e { owed = b }
+owing_same e a b same = ap (λ (o : OwedView). record e { owed = o }) same

@@ -1,5 +1,5 @@
 -- The opening of a main text: the name that its fault tells, and what a start comes to.
-use Rattle.std.proofs.Common.{◌≡◌, ℕ, zero, suc, ◌≤◌, ◌<◌, ◌&&◌, Bool, true, false, leb, List, [], length, get_or, take, None, Some, Err, refl, sym, ap, ◌∙◌, inl, inr, arith}
+use Rattle.std.proofs.Common.{◌≡◌, ℕ, zero, suc, ◌-◌, ◌≤◌, ◌<◌, ◌&&◌, Bool, true, false, leb, List, [], length, get_or, take, None, Some, Err, refl, sym, ap, ◌∙◌, inl, inr, arith}
 use Rattle.std.specs.Str.{IsCharBoundary}
 use Rattle.std.proofs.lemmas.Bool.{cases_lt, cond-true, cond-false}
 use Rattle.std.proofs.lemmas.Bool.Decides.{nat_tests}
@@ -12,7 +12,6 @@ use Rattle.rdlpp_source.specs.declared.sources.Found.{Found}
 use Rattle.rdlpp_source.specs.declared.sources.SourceFault.{SourceFault}
 use Rattle.rdlpp_source.specs.declared.sources.SourceFault.TheVariants as source
 use Rattle.rdlpp_source.specs.declared.sources.Sources.{Ghosts}
-use Rattle.rdlpp_table.specs.Table.{table_size}
 use Rattle.rdlpp_meaning.specs.declared.fault.FaultKind.{FaultKind}
 use Rattle.rdlpp_meaning.specs.declared.fault.FaultKind.TheVariants.{SourceNotFound, PathTooLong, ReadFailed, SourceMemory, Unbuilt}
 use Rattle.rdlpp_meaning.specs.Outcome.{Told, fails}
@@ -20,15 +19,21 @@ use Rattle.rdlpp_meaning.specs.Resumed.{Live, remains}
 use Rattle.rdlpp_meaning.specs.Output.{character_place, name_cut, opening_fault, start_state, output}
 use Rattle.rdlpp_meaning.proofs.Outputs.{output_plain, output_missing, output_overlong}
 use Rattle.rdlpp_expand.specs.Engine.{EngineView}
-use Rattle.rdlpp_expand.specs.Feed.{opened_feed, tokens_left, held_of, rest_of, unread_of}
-use Rattle.rdlpp_expand.specs.Remaining.{staged_rules, state_of, open_left, output_fault, phase_uncut, kept_uncut, uncut_of, left_of}
+use Rattle.rdlpp_scan.specs.SourceTokens.{SourceToken}
+use Rattle.rdlpp_meaning.specs.Meaning.{behind_bytes, outcome}
+use Rattle.rdlpp_meaning.specs.Opened.{all_resumed}
+use Rattle.rdlpp_meaning.proofs.Includes.{all_resumed_alone}
+use Rattle.rdlpp_read.specs.Buffer.{ahead_of, held_of, opened_buffer, rest_of, tokens_left, unread_of}
+use Rattle.rdlpp_front.specs.SourceLeft.{source_left}
+use Rattle.rdlpp_expand.specs.Held.{IsBounded, stores_of}
+use Rattle.rdlpp_expand.specs.Owed.{nothing_owed, owed_bytes}
+use Rattle.rdlpp_expand.specs.Remaining.{file_state, kept_uncut, left_of, nest_left, nest_state, output_fault, phase_uncut, staged_rules, text_of, uncut_of, waiting_around}
 use Rattle.rdlpp_meaning.specs.OutputLimit.{limited}
 use Rattle.rdlpp_meaning.proofs.OutputLimits.{limited-fails}
-use Rattle.rdlpp_meaning.specs.State.{Lookup, NoSource, LongPath}
+use Rattle.rdlpp_meaning.specs.State.{Lookup, NoSource, LongPath, Rules, State, no_shift}
 use Rattle.rdlpp_meaning.specs.Profile.{rules_of}
 use Rattle.rdlpp_expand.specs.Steps.{is_memory_kind, is_read_failed}
 use Rattle.rdlpp_expand.specs.Opening.{kind_of_source, lookup_of, opened_engine, unopened_engine, found_name, looked_up, staged_output, is_device_fault, is_memory_fault, Starts}
-use Rattle.rdlpp_expand.proofs.Bounds.{is_bounded}
 
 -- whether the byte at a place goes on with a character
 goes_on : List ℕ → ℕ → Bool
@@ -121,24 +126,32 @@ pub name_cut_at : (bytes : List ℕ) (r : ℕ) → r ≤ 1024 → IsCharBoundary
 unfolding name_cut
 name_cut_at bytes r below at nearest = cut_at_boundary bytes 1024 r below at nearest
 
+-- where nothing is owed and no source waits, what remains of the text is what remains of its only source
+alone : (rules : Rules) (ts : List SourceToken) (s : State) → outcome (behind_bytes [] (all_resumed rules [] (Live []) true ts s)) ≡ remains rules (Live []) true ts s
+unfolding behind_bytes remains
+alone rules ts s = ap outcome (all_resumed_alone rules (Live []) true ts s)
+
 -- what remains of a main text that was opened
 left_opened : {S R : Type 0} (unread : R → List ℕ) (e : EngineView S R) (s : S) (found : Found R)
-    → e.feed.most ≡ e.limits.line_bytes
+    → e.files.line_bytes ≡ e.limits.line_bytes → e.files.nest ≡ []
     → left_of unread (opened_engine (record e { sources = s }) found)
     ≡ limited (output_fault found.path.bytes) e.limits.output_bytes
     (remains (staged_rules e.limits e.origins) (Live []) true ((staged_rules e.limits e.origins).tokens (unread found.reader))
     (start_state e.table.macros e.limits.includes e.limits.conditions found.path.bytes))
-unfolding left_of uncut_of kept_uncut phase_uncut open_left state_of opened_engine opened_feed tokens_left held_of rest_of unread_of whole_tokens staged_rules rules_of
-left_opened unread e s found most =
-    ap (λ (n : ℕ). limited (output_fault found.path.bytes) e.limits.output_bytes (remains (staged_rules e.limits e.origins) (Live []) true
-    (whole_tokens is_unbuilt n e.limits.source_bytes (unread found.reader))
-    (start_state e.table.macros e.limits.includes e.limits.conditions found.path.bytes))) most
+unfolding left_of uncut_of kept_uncut phase_uncut text_of nest_left waiting_around nest_state file_state source_left opened_engine nothing_owed owed_bytes opened_buffer tokens_left held_of rest_of ahead_of unread_of whole_tokens staged_rules rules_of start_state no_shift
+left_opened unread e s found most none =
+    let rules = staged_rules e.limits e.origins in
+    let ts = whole_tokens is_unbuilt e.limits.line_bytes e.limits.source_bytes (unread found.reader) in
+    let starts : ℕ → State = λ n. record (start_state e.table.macros e.limits.includes e.limits.conditions found.path.bytes) { sources_left = n } in
+    let all : e.limits.includes - 0 ≡ e.limits.includes = omega arith in
+    rw (none, most) (ap (limited (output_fault found.path.bytes) e.limits.output_bytes) (alone rules ts (starts (e.limits.includes - 0)))
+    ∙ ap (λ (n : ℕ). limited (output_fault found.path.bytes) e.limits.output_bytes (remains rules (Live []) true ts (starts n))) all)
 
 -- what remains where no main text was opened
 left_unopened : {S R : Type 0} (unread : R → List ℕ) (e : EngineView S R) (s : S) (kind : FaultKind) (path : List ℕ)
     → left_of unread (unopened_engine (record e { sources = s }) (opening_fault kind path)) ≡ fails (opening_fault kind path)
 unfolding left_of uncut_of kept_uncut unopened_engine
-left_unopened unread e s kind path = limited-fails (output_fault e.name) e.quota (opening_fault kind path)
+left_unopened unread e s kind path = limited-fails (output_fault e.main) e.quota (opening_fault kind path)
 
 -- without origin lines the output is that of the main path
 staged_plain : {S R : Type 0} (g : Ghosts S R) (e : EngineView S R) (path : List ℕ) (answer : Answer)
@@ -165,17 +178,19 @@ rules_plain e plain = plain
 -- a start that finds its main text
 pub starts_open : {S R : Type 0} (g : Ghosts S R) (e : EngineView S R) (s : S) (found : Found R) (path : List ℕ)
     → e.origins ≡ false
-    → e.feed.most ≡ e.limits.line_bytes
-    → table_size e.table.macros ≤ e.limits.definition_bytes
+    → e.files.line_bytes ≡ e.limits.line_bytes
+    → e.files.nest ≡ []
+    → IsBounded (opened_engine (record e { sources = s }) found)
     → (g.tells e.sources → (g.catalog e.sources).top path ≡ Present found.path.bytes (g.unread found.reader))
     → g.failures s ≡ g.failures e.sources
     → g.refusals s ≡ g.refusals e.sources
     → (g.tells e.sources → g.tells s)
     → g.catalog s ≡ g.catalog e.sources
     → Starts g e (opened_engine (record e { sources = s }) found) path None
-unfolding opened_engine opened_feed is_device_fault is_memory_fault lookup_of looked_up found_name
-starts_open g e s found path plain most fits answer failures refusals tells catalog = record {
+unfolding opened_engine is_device_fault is_memory_fault lookup_of looked_up found_name
+starts_open g e s found path plain most none bounded answer failures refusals tells catalog = record {
   limits = refl;
+  origins = refl;
   table = refl;
   started = λ h. cc;
   keeps = refl;
@@ -183,18 +198,17 @@ starts_open g e s found path plain most fits answer failures refusals tells cata
   refused = λ f is. absurd (cc is);
   call = record { failures = failures; refusals = refusals; tells = tells; catalog = catalog };
   remains_output = λ _ _ telling.
-      left_opened g.unread e s found most
+      left_opened g.unread e s found most none
       ∙ sym (staged_plain g e path _ plain (answer telling)
       ∙ ap (limited (output_fault found.path.bytes) e.limits.output_bytes)
       (output_plain (staged_rules e.limits e.origins) e.table.macros e.limits.includes e.limits.conditions path
       found.path.bytes (g.unread found.reader) (rules_plain e plain)));
-  bounded = is_bounded _ fits (omega arith);
+  bounded = bounded;
 }
 
 -- a start that is refused
 starts_refused : {S R : Type 0} (g : Ghosts S R) (e : EngineView S R) (s : S) (kind : FaultKind) (path : List ℕ)
-    → table_size e.table.macros ≤ e.limits.definition_bytes
-    → length e.feed.window ≤ e.limits.line_bytes
+    → IsBounded e
     → Counts (is_read_failed kind) (g.failures e.sources) (g.failures s)
     → Counts (is_memory_kind kind) (g.refusals e.sources) (g.refusals s)
     → (g.tells e.sources → g.tells s)
@@ -202,9 +216,10 @@ starts_refused : {S R : Type 0} (g : Ghosts S R) (e : EngineView S R) (s : S) (k
     → (is_read_failed kind ≡ false → is_memory_kind kind ≡ false → g.tells e.sources
     → fails (opening_fault kind path) ≡ staged_output g e path)
     → Starts g e (unopened_engine (record e { sources = s }) (opening_fault kind path)) path (Some (opening_fault kind path))
-unfolding unopened_engine is_device_fault is_memory_fault opening_fault
-starts_refused g e s kind path fits window failures refusals tells catalog told = record {
+unfolding unopened_engine is_device_fault is_memory_fault opening_fault IsBounded stores_of
+starts_refused g e s kind path bounded failures refusals tells catalog told = record {
   limits = refl;
+  origins = refl;
   table = refl;
   started = λ h. cc;
   keeps = refl;
@@ -214,14 +229,13 @@ starts_refused g e s kind path fits window failures refusals tells catalog told 
       (sym same ∙ ap (λ (t : Told). opening_fault t.kind path) same, ap (unopened_engine (record e { sources = s })) same);
   call = record { failures = failures; refusals = refusals; tells = tells; catalog = catalog };
   remains_output = λ device memory telling. left_unopened g.unread e s kind path ∙ told device memory telling;
-  bounded = is_bounded _ fits window;
+  bounded = bounded;
 }
 
 -- a start that the sources refuse
 pub starts_not_found : {S R : Type 0} (g : Ghosts S R) (e : EngineView S R) (s : S) (fault : SourceFault) (path : List ℕ)
     → e.origins ≡ false
-    → table_size e.table.macros ≤ e.limits.definition_bytes
-    → length e.feed.window ≤ e.limits.line_bytes
+    → IsBounded e
     → (g.tells e.sources → Finds {R = R} g.unread ((g.catalog e.sources).top path) (Err fault))
     → Counts (is_device {A = Found R} (Err fault)) (g.failures e.sources) (g.failures s)
     → Counts (is_no_memory {A = Found R} (Err fault)) (g.refusals e.sources) (g.refusals s)
@@ -230,24 +244,23 @@ pub starts_not_found : {S R : Type 0} (g : Ghosts S R) (e : EngineView S R) (s :
     → Starts g e (unopened_engine (record e { sources = s }) (opening_fault (kind_of_source fault) path)) path
     (Some (opening_fault (kind_of_source fault) path))
 unfolding kind_of_source is_read_failed is_memory_kind lookup_of
-starts_not_found g e s source.Absent path plain fits window answer failures refusals tells catalog =
-    starts_refused g e s SourceNotFound path fits window failures refusals tells catalog
+starts_not_found g e s source.Absent path plain bounded answer failures refusals tells catalog =
+    starts_refused g e s SourceNotFound path bounded failures refusals tells catalog
     (λ _ _ telling. sym (staged_plain g e path _ plain (answer telling) ∙ looked_up-fails e path NoSource _ (output_missing _ _ _ _ _)))
-starts_not_found g e s source.PathTooLong path plain fits window answer failures refusals tells catalog =
-    starts_refused g e s PathTooLong path fits window failures refusals tells catalog
+starts_not_found g e s source.PathTooLong path plain bounded answer failures refusals tells catalog =
+    starts_refused g e s PathTooLong path bounded failures refusals tells catalog
     (λ _ _ telling. sym (staged_plain g e path _ plain (answer telling) ∙ looked_up-fails e path LongPath _ (output_overlong _ _ _ _ _)))
-starts_not_found g e s source.Device path plain fits window answer failures refusals tells catalog =
-    starts_refused g e s ReadFailed path fits window failures refusals tells catalog (λ device _ _. cc)
-starts_not_found g e s source.NoMemory path plain fits window answer failures refusals tells catalog =
-    starts_refused g e s SourceMemory path fits window failures refusals tells catalog (λ _ memory _. cc)
+starts_not_found g e s source.Device path plain bounded answer failures refusals tells catalog =
+    starts_refused g e s ReadFailed path bounded failures refusals tells catalog (λ device _ _. cc)
+starts_not_found g e s source.NoMemory path plain bounded answer failures refusals tells catalog =
+    starts_refused g e s SourceMemory path bounded failures refusals tells catalog (λ _ memory _. cc)
 
 -- a start with origin lines
 pub starts_unbuilt : {S R : Type 0} (g : Ghosts S R) (e : EngineView S R) (path : List ℕ)
     → e.origins ≡ true
-    → table_size e.table.macros ≤ e.limits.definition_bytes
-    → length e.feed.window ≤ e.limits.line_bytes
+    → IsBounded e
     → Starts g e (unopened_engine e (opening_fault Unbuilt path)) path (Some (opening_fault Unbuilt path))
 unfolding is_read_failed is_memory_kind staged_output
-starts_unbuilt g e path origins fits window =
-    starts_refused g e e.sources Unbuilt path fits window refl refl (λ h. h) refl
+starts_unbuilt g e path origins bounded =
+    starts_refused g e e.sources Unbuilt path bounded refl refl (λ h. h) refl
     (λ _ _ _. sym (cond-true _ _ _ origins))

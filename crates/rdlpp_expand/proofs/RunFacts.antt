@@ -11,11 +11,13 @@ use Rattle.rdlpp_meaning.specs.State.{fault_at}
 use Rattle.rdlpp_meaning.specs.Outcome.{Told, Outcome, gives, fails, and_then}
 use Rattle.rdlpp_meaning.proofs.Outcomes.{and_then-gives_nil, and_then-gives, and_then-gives_gives, bytes-and_then_gives}
 use Rattle.rdlpp_expand.specs.Calls.{SourcesCalled}
-use Rattle.rdlpp_expand.specs.Engine.{EngineView}
-use Rattle.rdlpp_expand.specs.Held.{stores_of}
+use Rattle.rdlpp_read.specs.Buffer.{reading_line_of}
+use Rattle.rdlpp_read.specs.Files.{inner_buffer}
+use Rattle.rdlpp_expand.specs.Engine.{EngineView, is_open}
+use Rattle.rdlpp_expand.specs.Held.{IsBounded, stores_of}
 use Rattle.rdlpp_expand.specs.Remaining.{left_of, state_of, work_left}
 use Rattle.rdlpp_expand.specs.Run.{Pulls, Wrote, WroteEnds, Going, Finishes, Stops, StopsAt, Breaks, Runs, Begins, Flushes, Unflushed, answered, is_fresh, is_kept, is_unwritten, write_fault}
-use Rattle.rdlpp_expand.specs.Steps.{Steps, Tells, IsBounded, IsStarted, has_met, lent_len, is_memory_kind, is_read_failed, is_write_failed}
+use Rattle.rdlpp_expand.specs.Steps.{Steps, Tells, IsStarted, has_met, lent_len, is_memory_kind, is_read_failed, is_write_failed}
 use Rattle.rdlpp_expand.proofs.EngineSteps.{called_after, free_before, not_called, ok_not_met}
 use Rattle.rdlpp_expand.specs.declared.writing.Ending.{Ending}
 use Rattle.rdlpp_expand.specs.declared.writing.Ending.TheVariants.{Finished, Stopped, Unwritten}
@@ -115,7 +117,8 @@ wrote_none g h e w started = record {
   quiet = record { failed_flushes = refl; flushes = refl };
   reads = none_reads g e.kept e.sources e.sources (not_called g e.sources);
   limits = refl;
-  name = refl;
+  origins = refl;
+  main = refl;
   started = started;
   ends = record { kept = refl; tells = λ t. sym (and_then-gives_nil (left_of g.unread e)); again = λ f k. (refl, refl) };
 }
@@ -124,9 +127,9 @@ wrote_none g h e w started = record {
 pub wrote_with : {S R W : Type 0} (g : Ghosts S R) (h : SinkGhosts W) (old mid new : EngineView S R) (before between after : W) (n len : ℕ) (ending : Option Ending)
     (w : Wrote g h old mid before between n None) (p : Pulls g h mid new between after len ending)
     → SourcesCalled g (is_fresh is_read_failed old.kept (answered ending new.kept)) (is_fresh is_memory_kind old.kept (answered ending new.kept)) old.sources new.sources
-    → new.limits ≡ mid.limits → new.name ≡ mid.name → IsStarted new → WroteEnds g old new (w.bytes ++ p.bytes) ending
+    → new.limits ≡ mid.limits → new.origins ≡ mid.origins → new.main ≡ mid.main → IsStarted new → WroteEnds g old new (w.bytes ++ p.bytes) ending
     → Wrote g h old new before after (min (n + len) (2 ^ 64 - 1)) ending
-wrote_with g h old mid new before between after n len ending w p reads limits name started ends = record {
+wrote_with g h old mid new before between after n len ending w p reads limits origins main started ends = record {
   bytes = w.bytes ++ p.bytes;
   taken = appends_more _ _ _ w.bytes p.bytes _ w.taken p.taken refl;
   counted = counted_more n (length w.bytes) len (length p.bytes) _ w.counted p.count (length-append w.bytes p.bytes);
@@ -134,7 +137,8 @@ wrote_with g h old mid new before between after n len ending w p reads limits na
   quiet = unflushed_more h _ _ _ w.quiet p.quiet;
   reads = reads;
   limits = limits ∙ w.limits;
-  name = name ∙ w.name;
+  origins = origins ∙ w.origins;
+  main = main ∙ w.main;
   started = started;
   ends = ends;
 }
@@ -142,7 +146,7 @@ wrote_with g h old mid new before between after n len ending w p reads limits na
 -- a piece was written whole
 pub goes_on : {S R : Type 0} (g : Ghosts S R) (old mid new : EngineView S R) (xs ys : List ℕ) → (g.tells old.sources → g.tells mid.sources) → Going g old mid xs → Steps g mid new (Ok (Some ys)) → Going g old new (xs ++ ys)
 goes_on g old mid new xs ys told w s =
-    let free : old.kept ≡ None = sym w.kept ∙ free_before g (left_of g.unread) lent_len mid new mid.kept (Some ys) refl s in
+    let free : old.kept ≡ None = sym w.kept ∙ free_before g (left_of g.unread) lent_len take is_open mid new mid.kept (Some ys) refl s in
     record {
       kept = s.free ∙ sym free;
       tells = λ t. w.tells t ∙ ap (and_then (gives xs)) (ok_tells g mid new (Some ys) s (told t)) ∙ and_then-gives_gives xs ys (left_of g.unread new);
@@ -152,7 +156,7 @@ goes_on g old mid new xs ys told w s =
 -- nothing was left
 pub finishes : {S R : Type 0} (g : Ghosts S R) (old mid new : EngineView S R) (xs ys : List ℕ) → (g.tells old.sources → g.tells mid.sources) → Going g old mid xs → Steps g mid new (Ok None) → ys ≡ [] → Finishes g old new (xs ++ ys)
 finishes g old mid new xs ys told w s none =
-    let free : old.kept ≡ None = sym w.kept ∙ free_before g (left_of g.unread) lent_len mid new mid.kept None refl s in
+    let free : old.kept ≡ None = sym w.kept ∙ free_before g (left_of g.unread) lent_len take is_open mid new mid.kept None refl s in
     record {
       free = free;
       kept = (s.ends refl).0;
@@ -174,7 +178,7 @@ stops g old mid new xs ys told w stop =
       fault = f;
       kept = s.keeps;
       own = ap (λ (k : Option Told). is_fresh is_write_failed k (Some f)) (sym w.kept) ∙ own;
-      failed = λ fresh. (let same_fault : Err f ≡ Err (fault_at ReadFailed new.feed.line [] (state_of new)) = s.failed (met is_read_failed ∙ fresh) in cc);
+      failed = λ fresh. (let same_fault : Err f ≡ Err (fault_at ReadFailed (reading_line_of (inner_buffer new.files.nest)) [] (state_of new)) = s.failed (met is_read_failed ∙ fresh) in cc);
       begins = λ t. begins_of (xs ++ ys) (left_of g.unread mid) (left_of g.unread old) (w.tells t ∙ ap (λ (zs : List ℕ). and_then (gives zs) (left_of g.unread mid)) same);
       tells = λ fresh t. w.tells t ∙ ap (and_then (gives xs)) (s.tells (met is_read_failed ∙ fresh) (told t)) ∙ ap (λ (zs : List ℕ). and_then (gives zs) (fails f)) same;
       again = λ k e. (let was = w.again k e in let now = s.kept k (w.kept ∙ e) in (cc (now.0), sym same ∙ was.0, now.1 ∙ was.1));
@@ -185,7 +189,7 @@ stops g old mid new xs ys told w stop =
 pub breaks : {S R : Type 0} (g : Ghosts S R) (old mid new : EngineView S R) (xs ys rest : List ℕ) → (g.tells old.sources → g.tells mid.sources) → Going g old mid xs → Steps g mid new (Ok (Some (ys ++ rest))) → Breaks g old new (xs ++ ys)
 breaks g old mid new xs ys rest told w s =
     let left = left_of g.unread new in
-    let free : old.kept ≡ None = sym w.kept ∙ free_before g (left_of g.unread) lent_len mid new mid.kept (Some (ys ++ rest)) refl s in
+    let free : old.kept ≡ None = sym w.kept ∙ free_before g (left_of g.unread) lent_len take is_open mid new mid.kept (Some (ys ++ rest)) refl s in
     record {
       free = free;
       kept = s.free;
@@ -202,13 +206,13 @@ wrote_more g h old mid new before between after n len None w p =
     let was = going_reads g old.kept _ _ w.reads in
     wrote_with g h old mid new before between after n len None w p
     (none_reads g old.kept _ _ (called_after g false false false false _ _ _ refl refl was (ok_reads g mid new (Some p.bytes) s)))
-    s.limits s.name s.started (goes_on g old mid new w.bytes p.bytes was.tells w.ends s)
+    s.limits s.origins s.main s.started (goes_on g old mid new w.bytes p.bytes was.tells w.ends s)
 wrote_more g h old mid new before between after n len (Some Finished) w p =
     let s : Steps g mid new (Ok None) = p.ends.0 in
     let was = going_reads g old.kept _ _ w.reads in
     wrote_with g h old mid new before between after n len (Some Finished) w p
     (none_reads g old.kept _ _ (called_after g false false false false _ _ _ refl refl was (ok_reads g mid new None s)))
-    s.limits s.name s.started (finishes g old mid new w.bytes p.bytes was.tells w.ends s p.ends.1)
+    s.limits s.origins s.main s.started (finishes g old mid new w.bytes p.bytes was.tells w.ends s p.ends.1)
 wrote_more g h old mid new before between after n len (Some Stopped) w p =
     let stop : StopsAt g mid new p.bytes = p.ends in
     let s = stop.steps in
@@ -217,13 +221,13 @@ wrote_more g h old mid new before between after n len (Some Stopped) w p =
     let reads : P old.kept new.kept = subst (λ (f : Option Told). P old.kept f) (sym s.keeps) (subst (λ (k : Option Told). P k (Some stop.fault)) w.ends.kept (err_reads g mid new stop.fault s)) in
     wrote_with g h old mid new before between after n len (Some Stopped) w p
     (called_after g false _ false _ _ _ _ refl refl was reads)
-    s.limits s.name s.started (stops g old mid new w.bytes p.bytes was.tells w.ends stop)
+    s.limits s.origins s.main s.started (stops g old mid new w.bytes p.bytes was.tells w.ends stop)
 wrote_more g h old mid new before between after n len (Some Unwritten) w p =
     let s : Steps g mid new (Ok (Some (p.bytes ++ p.ends.0))) = p.ends.1 in
     let was = going_reads g old.kept _ _ w.reads in
     wrote_with g h old mid new before between after n len (Some Unwritten) w p
     (none_reads g old.kept _ _ (called_after g false false false false _ _ _ refl refl was (ok_reads g mid new (Some (p.bytes ++ p.ends.0)) s)))
-    s.limits s.name s.started (breaks g old mid new w.bytes p.bytes p.ends.0 was.tells w.ends s)
+    s.limits s.origins s.main s.started (breaks g old mid new w.bytes p.bytes p.ends.0 was.tells w.ends s)
 
 -- a piece that was written whole is work done
 pub pull_falls : {S R W : Type 0} (g : Ghosts S R) (h : SinkGhosts W) (old new : EngineView S R) (before after : W) (len : ℕ) (ending : Option Ending) → Pulls g h old new before after len ending → ending ≡ None → work_left new < work_left old
@@ -382,7 +386,8 @@ runs_whole g h old new before between after n w flush =
       kept = w.ends.kept;
       closed = λ e. w.ends.closed;
       limits = w.limits;
-      name = w.name;
+      origins = w.origins;
+      main = w.main;
       started = w.started;
       bounded = w.ends.bounded;
     }
@@ -426,7 +431,8 @@ module _ {S R W : Type 0} (g : Ghosts S R) (h : SinkGhosts W) (old new : EngineV
         kept = sym is;
         closed = λ e. (let bad : ⊥ = cc (e, told) in absurd bad);
         limits = w.limits;
-        name = w.name;
+        origins = w.origins;
+        main = w.main;
         started = w.started;
         bounded = w.ends.bounded;
       }
@@ -445,15 +451,15 @@ pub runs_unwritten : {S R W : Type 0} (g : Ghosts S R) (h : SinkGhosts W) (old m
     → Keeps (h.taken between) (h.taken after) → Counts unwritten (h.failed_writes before) (h.failed_writes after)
     → Counts unflushed (h.failed_flushes between) (h.failed_flushes after) → Counts asked (h.flushes between) (h.flushes after)
     → (unwritten || unflushed) ≡ true → asked ≡ not unwritten → (unflushed ≡ true → asked ≡ true)
-    → new ≡ record mid { kept = Some (write_fault mid.name) } → fault ≡ new.kept → Runs g h old new before after n fault
+    → new ≡ record mid { kept = Some (write_fault mid.main) } → fault ≡ new.kept → Runs g h old new before after n fault
 runs_unwritten {S} {R} g h old mid new before between after n fault ending unwritten unflushed asked w quiet free begins bounded keeps writes failed flushes some asks first becomes is =
-    let f = write_fault mid.name in
+    let f = write_fault mid.main in
     let told : fault ≡ Some f = is ∙ ap (λ e. e.kept) becomes in
-    let fresh : is_fresh is_write_failed old.kept fault ≡ true = ap (is_fresh is_write_failed old.kept) told ∙ write_fresh old.kept mid.name f free refl in
+    let fresh : is_fresh is_write_failed old.kept fault ≡ true = ap (is_fresh is_write_failed old.kept) told ∙ write_fresh old.kept mid.main f free refl in
     let P : Option Told → Type 0 = λ k. SourcesCalled g (is_fresh is_read_failed old.kept k) (is_fresh is_memory_kind old.kept k) old.sources mid.sources in
     let reads : SourcesCalled g false false old.sources mid.sources = going_reads g old.kept _ _ (subst P quiet w.reads) in
-    let no_read : is_fresh is_read_failed old.kept fault ≡ false = ap (is_fresh is_read_failed old.kept) told ∙ write_no_read old.kept mid.name f refl in
-    let no_memory : is_fresh is_memory_kind old.kept fault ≡ false = ap (is_fresh is_memory_kind old.kept) told ∙ write_no_memory old.kept mid.name f refl in
+    let no_read : is_fresh is_read_failed old.kept fault ≡ false = ap (is_fresh is_read_failed old.kept) told ∙ write_no_read old.kept mid.main f refl in
+    let no_memory : is_fresh is_memory_kind old.kept fault ≡ false = ap (is_fresh is_memory_kind old.kept) told ∙ write_no_memory old.kept mid.main f refl in
     let sources : new.sources ≡ mid.sources = ap (λ e. e.sources) becomes in
     record {
       bytes = w.bytes;
@@ -471,14 +477,15 @@ runs_unwritten {S} {R} g h old mid new before between after n fault ending unwri
       flushes = counts_after asked _ _ _ w.quiet.flushes flushes;
       asks = asks ∙ ap not (sym (or_false unwritten) ∙ ap (λ (b : Bool). unwritten || b) (sym (none_kept is_write_failed old.kept free)));
       unflushed_asked = first;
-      write_failed = λ e. (some, told ∙ ap Some (ap write_fault w.name));
+      write_failed = λ e. (some, told ∙ ap Some (ap write_fault w.main));
       unwritten_told = λ e. fresh;
       unflushed_told = λ e. inl fresh;
       again = λ k e. (let bad : ⊥ = cc (e, free) in absurd bad);
       kept = sym is;
       closed = λ e. (let bad : ⊥ = cc (e, told) in absurd bad);
       limits = ap (λ e. e.limits) becomes ∙ w.limits;
-      name = ap (λ e. e.name) becomes ∙ w.name;
+      origins = ap (λ e. e.origins) becomes ∙ w.origins;
+      main = ap (λ e. e.main) becomes ∙ w.main;
       started = λ e. w.started (sym (ap (λ e. e.phase) becomes) ∙ e);
       bounded = subst IsBounded (sym becomes) (bounded_kept mid _ bounded);
     }
@@ -491,7 +498,7 @@ keeps_same (Some xs) = refl
 -- the flush failed behind the whole output
 pub runs_unflushed : {S R W : Type 0} (g : Ghosts S R) (h : SinkGhosts W) (old mid new : EngineView S R) (before between after : W) (n : ℕ) (fault : Option Told)
     → Wrote g h old mid before between n (Some Finished) → Flushes h true between after
-    → new ≡ record mid { kept = Some (write_fault mid.name) } → fault ≡ new.kept → Runs g h old new before after n fault
+    → new ≡ record mid { kept = Some (write_fault mid.main) } → fault ≡ new.kept → Runs g h old new before after n fault
 runs_unflushed g h old mid new before between after n fault w flush becomes is =
     runs_unwritten g h old mid new before between after n fault (Some Finished) false true true w refl w.ends.free
     (λ t. begins_all w.bytes _ (w.ends.tells t)) w.ends.bounded flush.bytes (flush.writes ∙ w.writes) flush.failures flush.asked refl refl (λ e. refl) becomes is
@@ -499,7 +506,7 @@ runs_unflushed g h old mid new before between after n fault w flush becomes is =
 -- a write failed
 pub runs_broken : {S R W : Type 0} (g : Ghosts S R) (h : SinkGhosts W) (old mid new : EngineView S R) (before after : W) (n : ℕ) (fault : Option Told)
     → Wrote g h old mid before after n (Some Unwritten)
-    → new ≡ record mid { kept = Some (write_fault mid.name) } → fault ≡ new.kept → Runs g h old new before after n fault
+    → new ≡ record mid { kept = Some (write_fault mid.main) } → fault ≡ new.kept → Runs g h old new before after n fault
 runs_broken g h old mid new before after n fault w becomes is =
     runs_unwritten g h old mid new before after after n fault (Some Unwritten) true false false w refl w.ends.free
     w.ends.begins w.ends.bounded (keeps_same (h.taken after)) w.writes refl refl refl refl (λ e. (let bad : ⊥ = cc e in absurd bad)) becomes is

@@ -5,7 +5,7 @@ use Rattle.std.specs.List.{list_all}
 use Rattle.std.specs.Str.{IsAscii, IsUtf8}
 use Rattle.std.proofs.lemmas.Str.{IsUtf8-from_ascii}
 use Rattle.rdlpp_scan.specs.Bytes.{is_word, is_letter, is_digit}
-use Rattle.rdlpp_expand.specs.Names.{IsWordBytes}
+use Rattle.rdlpp_front.specs.Names.{IsWordBytes}
 
 -- a word byte is ASCII
 pub word-ascii : (b : ℕ) → is_word b ≡ true → b < 128

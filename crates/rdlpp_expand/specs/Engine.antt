@@ -1,22 +1,46 @@
 -- What a contract sees of an engine.
 -- A definition that names no source is this project's own.
-use Rattle.std.specs.Prelude.{ℕ, Bool, List, Option}
+use Rattle.std.specs.Prelude.{◌≡◌, ℕ, ◌+◌, ◌≤◌, ◌<◌, Bool, true, false, List, [], Option, length}
+use Rattle.rdlpp_table.specs.Limits.{AreInRange}
+use Rattle.rdlpp_table.specs.Table.{table_size}
 use Rattle.rdlpp_table.specs.View.{TableView}
 use Rattle.rdlpp_table.specs.declared.limits.Limits.{Limits}
 use Rattle.rdlpp_meaning.specs.Outcome.{Told}
-use Rattle.rdlpp_expand.specs.Feed.{FeedView}
+use Rattle.rdlpp_read.specs.Files.{FilesView}
+use Rattle.rdlpp_expand.specs.Owed.{OwedView}
 use Rattle.rdlpp_expand.specs.declared.phase.Phase.{Phase}
+use Rattle.rdlpp_expand.specs.declared.phase.Phase.TheVariants.{Fresh, Open, Passed, Closed}
 
--- an engine: its limits, whether it writes origin lines, how far it is, how many bytes it may still lend, the fault that it keeps, the shown name, whether only
--- blanks stand before it on its line, its table, its sources, and the open source
+-- an engine: its limits, whether it writes origin lines, how far it is, how many bytes it may still lend, the fault that it keeps, the main
+-- text's name, what it owes, its table, its sources, and those that are open
 pub record EngineView (S R : Type 0) : Type 0 where
   pub limits : Limits
   pub origins : Bool
   pub phase : Phase
   pub quota : ℕ
   pub kept : Option Told
-  pub name : List ℕ
-  pub blanks : Bool
+  pub main : List ℕ
+  pub owed : OwedView
   pub table : TableView
   pub sources : S
-  pub feed : FeedView R
+  pub files : FilesView R
+
+-- whether the main text is open
+unfoldable pub is_open : Phase → Bool
+is_open Fresh = false
+is_open Open = true
+is_open Passed = true
+is_open Closed = false
+
+-- what always holds of an engine: its limits are in their ranges, its table and its slots are those of its limits, no source is included yet, and one is open
+-- exactly where the main text is
+pub record IsSoundEngine {R : Type 0} (limits : Limits) (phase : Phase) (table : TableView) (files : FilesView R) : Type 0 where
+  pub in_range : AreInRange limits
+  pub definition_bytes : table.most_bytes ≡ limits.definition_bytes
+  pub definitions : table.most_macros ≡ limits.definitions
+  pub size : table_size table.macros ≤ table.most_bytes
+  pub slots : files.slots ≡ limits.includes + 1
+  pub line_bytes : files.line_bytes ≡ limits.line_bytes
+  pub alone : length files.nest ≤ 1
+  pub open_ : is_open phase ≡ true → 0 < length files.nest
+  pub closed : is_open phase ≡ false → files.nest ≡ []

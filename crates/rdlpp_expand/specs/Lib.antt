@@ -1,13 +1,11 @@
 pub mod Calls
-pub mod Feed
-pub mod Supply
 pub mod Work
+pub mod Owed
 pub mod Engine
 pub mod Held
 pub mod Remaining
 pub mod Steps
+pub mod Moves
 pub mod Pieces
-pub mod Front
-pub mod Names
 pub mod Opening
 pub mod Run

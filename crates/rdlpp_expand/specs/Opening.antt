@@ -1,6 +1,6 @@
 -- How an engine is made, and how its main text is opened.
 -- A definition that names no source is this project's own.
-use Rattle.std.specs.Prelude.{◌≡◌, ℕ, Bool, true, false, List, [], Option, None, Some, Result, Ok, Err, if◌then◌else◌}
+use Rattle.std.specs.Prelude.{◌≡◌, ℕ, Bool, true, false, ◌+◌, List, [], ◌∷◌, Option, None, Some, Result, Ok, Err, if◌then◌else◌}
 use Rattle.rdlpp_expand.specs.Calls.{SourcesCalled}
 use Rattle.rdlpp_source.specs.Sources.{Answer, Missing, Overlong, Present}
 use Rattle.rdlpp_source.specs.declared.sources.Found.{Found}
@@ -16,10 +16,12 @@ use Rattle.rdlpp_meaning.specs.Outcome.{Told, told, Outcome, fails}
 use Rattle.rdlpp_meaning.specs.State.{Lookup, NoSource, LongPath, Source}
 use Rattle.rdlpp_meaning.specs.Output.{opening_fault, output}
 use Rattle.rdlpp_expand.specs.Engine.{EngineView}
-use Rattle.rdlpp_expand.specs.Feed.{closed_feed, opened_feed}
+use Rattle.rdlpp_read.specs.Files.{entered_file}
+use Rattle.rdlpp_expand.specs.Owed.{nothing_owed}
+use Rattle.rdlpp_expand.specs.Held.{IsBounded}
 use Rattle.rdlpp_expand.specs.Remaining.{output_fault, staged_rules, left_of}
 use Rattle.rdlpp_meaning.specs.OutputLimit.{limited}
-use Rattle.rdlpp_expand.specs.Steps.{IsBounded, IsStarted, is_memory_kind, is_read_failed}
+use Rattle.rdlpp_expand.specs.Steps.{IsStarted, is_memory_kind, is_read_failed}
 use Rattle.rdlpp_expand.specs.declared.engine.NewFault.{NewFault}
 use Rattle.rdlpp_expand.specs.declared.engine.NewFault.TheVariants.{BadLimits, NoMemory}
 use Rattle.rdlpp_expand.specs.declared.phase.Phase.TheVariants.{Fresh, Open, Closed}
@@ -32,11 +34,11 @@ fresh_engine limits sources origins = record {
   phase = Fresh;
   quota = limits.output_bytes;
   kept = None;
-  name = [];
-  blanks = true;
+  main = [];
+  owed = nothing_owed;
   table = record { macros = []; most_bytes = limits.definition_bytes; most_macros = limits.definitions };
   sources = sources;
-  feed = closed_feed 0 limits.line_bytes;
+  files = record { nest = []; slots = limits.includes + 1; line_bytes = limits.line_bytes };
 }
 
 -- a new engine is fresh, and a limit out of its range is told exactly where there is one (this project's profile)
@@ -64,9 +66,9 @@ opened_engine e found = record e {
   phase = Open;
   quota = e.limits.output_bytes;
   kept = None;
-  name = found.path.bytes;
-  blanks = true;
-  feed = opened_feed found.reader e.limits.source_bytes e.feed.most;
+  main = found.path.bytes;
+  owed = nothing_owed;
+  files = record e.files { nest = entered_file found e.limits.source_bytes e.files.line_bytes 0 0 ∷ e.files.nest };
 }
 
 -- an engine whose main text couldn't be opened
@@ -117,6 +119,7 @@ pub record Opens {S R : Type 0} (g : Ghosts S R) (old new : EngineView S R) (pat
 -- for that path, where nothing else changed; the output that remains is that of the main path (this project's profile)
 pub record Starts {S R : Type 0} (g : Ghosts S R) (old new : EngineView S R) (path : List ℕ) (answer : Option Told) : Type 0 where
   pub limits : new.limits ≡ old.limits
+  pub origins : new.origins ≡ old.origins
   pub table : new.table ≡ old.table
   pub started : IsStarted new
   pub keeps : new.kept ≡ answer

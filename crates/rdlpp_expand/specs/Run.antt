@@ -11,8 +11,11 @@ use Rattle.rdlpp_meaning.specs.Outcome.{Told, told, Outcome, gives, fails, and_t
 use Rattle.rdlpp_expand.specs.Calls.{SourcesCalled}
 use Rattle.rdlpp_expand.specs.Engine.{EngineView}
 use Rattle.rdlpp_meaning.specs.State.{fault_at}
+use Rattle.rdlpp_read.specs.Buffer.{reading_line_of}
+use Rattle.rdlpp_read.specs.Files.{inner_buffer}
+use Rattle.rdlpp_expand.specs.Held.{IsBounded}
 use Rattle.rdlpp_expand.specs.Remaining.{left_of, state_of}
-use Rattle.rdlpp_expand.specs.Steps.{Steps, IsBounded, IsStarted, is_memory_kind, is_read_failed, is_write_failed}
+use Rattle.rdlpp_expand.specs.Steps.{Steps, IsStarted, is_memory_kind, is_read_failed, is_write_failed}
 use Rattle.rdlpp_expand.specs.declared.phase.Phase.TheVariants.{Closed}
 use Rattle.rdlpp_expand.specs.declared.writing.Ending.{Ending}
 use Rattle.rdlpp_expand.specs.declared.writing.Ending.TheVariants.{Finished, Stopped, Unwritten}
@@ -20,7 +23,7 @@ use Rattle.rdlpp_expand.specs.declared.writing.RunFault.{RunFault}
 
 -- the fault of a write that failed: under the main text's name, at line 0, about no word (source: this project's profile)
 unfoldable pub write_fault : List ℕ → Told
-write_fault name = record { kind = WriteFailed; name = name; line = 0; word = [] }
+write_fault main = record { kind = WriteFailed; name = main; line = 0; word = [] }
 
 -- whether a call answered a fault of such a kind, and none was kept before the call (source: this project's profile)
 unfoldable pub is_fresh : (FaultKind → Bool) → Option Told → Option Told → Bool
@@ -107,7 +110,7 @@ pub record Stops {S R : Type 0} (g : Ghosts S R) (old new : EngineView S R) (byt
   pub fault : Told
   pub kept : new.kept ≡ Some fault
   pub own : is_fresh is_write_failed old.kept (Some fault) ≡ false
-  pub failed : is_fresh is_read_failed old.kept (Some fault) ≡ true → fault ≡ fault_at ReadFailed new.feed.line [] (state_of new)
+  pub failed : is_fresh is_read_failed old.kept (Some fault) ≡ true → fault ≡ fault_at ReadFailed (reading_line_of (inner_buffer new.files.nest)) [] (state_of new)
   pub begins : g.tells old.sources → Begins bytes (left_of g.unread old)
   pub tells : is_fresh is_read_failed old.kept (Some fault) ≡ false → g.tells old.sources → left_of g.unread old ≡ and_then (gives bytes) (fails fault)
   pub again : (k : Told) → old.kept ≡ Some k → (k ≡ fault) × (bytes ≡ []) × (new ≡ old)
@@ -136,7 +139,8 @@ pub record Wrote {S R W : Type 0} (g : Ghosts S R) (h : SinkGhosts W) (old new :
   pub quiet : Unflushed h before after
   pub reads : SourcesCalled g (is_fresh is_read_failed old.kept (answered ending new.kept)) (is_fresh is_memory_kind old.kept (answered ending new.kept)) old.sources new.sources
   pub limits : new.limits ≡ old.limits
-  pub name : new.name ≡ old.name
+  pub origins : new.origins ≡ old.origins
+  pub main : new.main ≡ old.main
   pub started : IsStarted new
   pub ends : WroteEnds g old new bytes ending
 
@@ -169,19 +173,20 @@ pub record Runs {S R W : Type 0} (g : Ghosts S R) (h : SinkGhosts W) (old new : 
   pub begins : g.tells old.sources → Begins bytes (left_of g.unread old)
   pub exact : is_fresh is_read_failed old.kept fault ≡ false → is_fresh is_write_failed old.kept fault ≡ false → g.tells old.sources → left_of g.unread old ≡ record { bytes = bytes; fault = fault }
   pub reads : SourcesCalled g (is_fresh is_read_failed old.kept fault) (is_fresh is_memory_kind old.kept fault) old.sources new.sources
-  pub read_failed : is_fresh is_read_failed old.kept fault ≡ true → fault ≡ Some (fault_at ReadFailed new.feed.line [] (state_of new))
+  pub read_failed : is_fresh is_read_failed old.kept fault ≡ true → fault ≡ Some (fault_at ReadFailed (reading_line_of (inner_buffer new.files.nest)) [] (state_of new))
   pub writes : Counts unwritten (h.failed_writes before) (h.failed_writes after)
   pub failed_flushes : Counts unflushed (h.failed_flushes before) (h.failed_flushes after)
   pub flushes : Counts asked (h.flushes before) (h.flushes after)
   pub asks : asked ≡ not (unwritten || is_kept is_write_failed old.kept)
   pub unflushed_asked : unflushed ≡ true → asked ≡ true
-  pub write_failed : is_fresh is_write_failed old.kept fault ≡ true → ((unwritten || unflushed) ≡ true) × (fault ≡ Some (write_fault old.name))
+  pub write_failed : is_fresh is_write_failed old.kept fault ≡ true → ((unwritten || unflushed) ≡ true) × (fault ≡ Some (write_fault old.main))
   pub unwritten_told : unwritten ≡ true → is_fresh is_write_failed old.kept fault ≡ true
   pub unflushed_told : unflushed ≡ true → (is_fresh is_write_failed old.kept fault ≡ true) ⊎ IsSomeAnd fault (λ f. is_write_failed f.kind ≡ false)
   pub again : (f : Told) → old.kept ≡ Some f → (fault ≡ Some f) × (bytes ≡ []) × (new ≡ old)
   pub kept : new.kept ≡ fault
   pub closed : fault ≡ None → new.phase ≡ Closed
   pub limits : new.limits ≡ old.limits
-  pub name : new.name ≡ old.name
+  pub origins : new.origins ≡ old.origins
+  pub main : new.main ≡ old.main
   pub started : IsStarted new
   pub bounded : IsBounded new

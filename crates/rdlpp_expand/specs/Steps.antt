@@ -1,22 +1,20 @@
 -- What a step of an engine does.
 -- A definition that names no source is this project's own.
-use Rattle.std.specs.Prelude.{◌≡◌, ℕ, ◌+◌, ◌≤◌, ◌<◌, Bool, true, false, List, [], Option, None, Some, Result, Ok, Err, IfErr, IfOk, IsSome, length}
+use Rattle.std.specs.Prelude.{◌≡◌, ℕ, ◌+◌, ◌<◌, Bool, true, false, List, [], Option, None, Some, Result, Ok, Err, IfErr, IfOk, length, take}
 use Rattle.rdlpp_source.specs.declared.sources.Sources.{Ghosts}
 use Rattle.rdlpp_meaning.specs.declared.fault.FaultKind.{FaultKind}
 use Rattle.rdlpp_meaning.specs.declared.fault.FaultKind.TheVariants.{ReadFailed, WriteFailed, SourceMemory, EmbeddedPerl}
-use Rattle.rdlpp_scan.specs.Front.{Breach}
-use Rattle.rdlpp_scan.specs.declared.token.Mode.TheVariants.{Plain}
-use Rattle.rdlpp_meaning.specs.State.{breach_kind, fault_at}
+use Rattle.rdlpp_meaning.specs.Meaning.{Passage, behind_bytes, leaves}
+use Rattle.rdlpp_meaning.specs.State.{State, fault_at}
 use Rattle.rdlpp_meaning.specs.Outcome.{Told, Outcome, gives, fails, and_then}
+use Rattle.rdlpp_read.specs.Buffer.{reading_line_of}
+use Rattle.rdlpp_read.specs.Files.{inner_buffer}
 use Rattle.rdlpp_expand.specs.Calls.{SourcesCalled}
-use Rattle.rdlpp_expand.specs.Engine.{EngineView}
-use Rattle.rdlpp_expand.specs.Held.{stores_of, held_bytes, bound_of, is_open}
-use Rattle.rdlpp_expand.specs.Feed.{closed_feed, held_of, unused_of}
-use Rattle.rdlpp_expand.specs.Supply.{ended_tokens, only_broken}
-use Rattle.rdlpp_expand.specs.declared.place.Place.{Place}
-use Rattle.rdlpp_expand.specs.declared.place.Place.TheVariants.{Source, Body, End, Kept}
-use Rattle.rdlpp_expand.specs.Remaining.{left_of, uncut_of, open_left, state_of, work_left}
-use Rattle.rdlpp_expand.specs.declared.phase.Phase.TheVariants.{Fresh, Open, Closed}
+use Rattle.rdlpp_expand.specs.Engine.{EngineView, is_open}
+use Rattle.rdlpp_expand.specs.Held.{IsBounded}
+use Rattle.rdlpp_expand.specs.Remaining.{left_of, output_fault, uncut_of, state_of, text_of, work_left}
+use Rattle.rdlpp_expand.specs.declared.phase.Phase.{Phase}
+use Rattle.rdlpp_expand.specs.declared.phase.Phase.TheVariants.{Fresh, Open, Passed, Closed}
 
 -- whether a kind is that of a read that failed
 unfoldable pub is_read_failed : FaultKind → Bool
@@ -62,64 +60,54 @@ Tells (Ok (Some bytes)) old new = old ≡ and_then (gives bytes) new
 Tells (Ok None) old new = (old ≡ gives []) × (new ≡ gives [])
 Tells (Err f) old new = old ≡ fails f
 
--- the bytes that are held are within their bound
-unfoldable pub IsBounded : {S R : Type 0} → EngineView S R → Type 0
-IsBounded e = held_bytes (stores_of e) ≤ bound_of e.limits
+-- where the text has ended: its last state has the macros that an engine has, and no source is open
+pub record EndsText {S R : Type 0} (new : EngineView S R) (old : Passage) : Type 0 where
+  pub last : State
+  pub text : old ≡ leaves (gives []) last
+  pub macros : last.macros ≡ new.table.macros
+  pub closed : new.files.nest ≡ []
+
+-- a piece of so many bytes, of which these are lent
+pub record LendsText (most : List ℕ → List ℕ) (bytes : List ℕ) (old new : Passage) : Type 0 where
+  pub piece : List ℕ
+  pub lent : bytes ≡ most piece
+  pub text : old ≡ behind_bytes piece new
+
+-- what an answer says of what remained of the text, with the state behind it: a piece and then what remains now; the end; or the
+-- fault, in the state that the engine stands in
+abbrev pub TellsText : {S R : Type 0} → (List ℕ → List ℕ) → (R → List ℕ) → Result (Option (List ℕ)) Told → Passage → EngineView S R → Type 0
+TellsText most unread (Ok (Some bytes)) old new = LendsText most bytes old (text_of unread new)
+TellsText most unread (Ok None) old new = EndsText new old
+TellsText most unread (Err f) old new = old ≡ leaves (fails f) (state_of new)
 
 -- an engine that was started
 abbrev pub IsStarted : {S R : Type 0} → EngineView S R → Type 0
 IsStarted e = e.phase ≡ Fresh → ⊥
 
--- a step within the open source: what its held bytes begin with is taken, or ends the output
-pub record Takes {S R : Type 0} (g : Ghosts S R) (old new : EngineView S R) (answer : Result (Option (List ℕ)) Told) : Type 0 where
-  pub limits : new.limits ≡ old.limits
-  pub name : new.name ≡ old.name
-  pub phase : new.phase ≡ old.phase
-  pub quota : new.quota ≡ old.quota
-  pub sources : new.sources ≡ old.sources
-  pub keeps : IfErr answer (λ f. (new.kept ≡ Some f) × IsOwn f.kind)
-  pub goes_on : IfOk answer (λ lent. (new.kept ≡ None) × IsSome lent)
-  pub tells : Tells answer (open_left g.unread old) (uncut_of g.unread new)
-  pub falls : IfOk answer (λ lent. unused_of new.feed < unused_of old.feed)
-
--- an engine whose open source has bytes to take
-pub record IsReady {S R : Type 0} (e : EngineView S R) : Type 0 where
-  pub open_ : e.phase ≡ Open
-  pub free : e.kept ≡ None
-  pub bytes : 0 < length (held_of e.feed)
-
--- an engine whose source ended in a string or in a block comment: its fault is kept, at the line where that opened
-pub record StopsOpen {S R : Type 0} (old new : EngineView S R) : Type 0 where
-  pub breach : Breach
-  pub tokens : ended_tokens old.feed.mode old.feed.opened ≡ only_broken breach old.feed.opened
-  pub own : IsOwn (breach_kind breach)
-  pub kept : new ≡ record old { kept = Some (fault_at (breach_kind breach) old.feed.opened [] (state_of old)) }
-
--- what the end of the open source comes to
-abbrev pub Ends : {S R : Type 0} → EngineView S R → EngineView S R → Place → Type 0
-Ends old new (Source start end) = ⊥
-Ends old new (Body id start end) = ⊥
-Ends old new End = (old.feed.mode ≡ Plain) × (new ≡ record old { phase = Closed; feed = closed_feed old.feed.line old.feed.most })
-Ends old new Kept = StopsOpen old new
-
 -- a step: a kept fault is answered again and changes nothing, and so is the end; a fault is kept, one of a write that failed
--- comes only so, and bytes leave none kept; the shown name; the counts of failures; the output that remained is what was lent and then the output that remains; the work left falls; bytes come
--- of an open text alone; what may still be lent; the bound holds
-pub record StepsOver {S R : Type 0} (g : Ghosts S R) (left : EngineView S R → Outcome) (spent : Result (Option (List ℕ)) Told → ℕ) (old new : EngineView S R) (answer : Result (Option (List ℕ)) Told) : Type 0 where
+-- comes only so, and bytes leave none kept; the main text's name; the counts of failures; the output that remained is what was lent
+-- and then the output that remains; so it is with the text and the state behind it; the work left falls; bytes come of an open text
+-- alone; what may still be lent; the bound holds
+pub record StepsOver {S R : Type 0} (g : Ghosts S R) (left : EngineView S R → Outcome) (spent : Result (Option (List ℕ)) Told → ℕ)
+    (most : ℕ → List ℕ → List ℕ) (goes_on : Phase → Bool) (old new : EngineView S R) (answer : Result (Option (List ℕ)) Told) : Type 0 where
   pub limits : new.limits ≡ old.limits
-  pub name : new.name ≡ old.name
+  pub origins : new.origins ≡ old.origins
+  pub main : new.main ≡ old.main
   pub started : IsStarted new
   pub kept : (f : Told) → old.kept ≡ Some f → (answer ≡ Err f) × (new ≡ old)
   pub ended : old.kept ≡ None → old.phase ≡ Closed → (answer ≡ Ok None) × (new ≡ old)
+  pub passed : old.kept ≡ None → old.phase ≡ Passed → (answer ≡ Err (output_fault old.main)) × (new ≡ record old { kept = Some (output_fault old.main) })
   pub keeps : IfErr answer (λ f. new.kept ≡ Some f)
   pub free : IfOk answer (λ lent. new.kept ≡ None)
   pub own : old.kept ≡ None → IfErr answer (λ f. is_write_failed f.kind ≡ false)
   pub ends : answer ≡ Ok None → (new.kept ≡ None) × (new.phase ≡ Closed)
-  pub failed : has_failed old.kept answer ≡ true → answer ≡ Err (fault_at ReadFailed new.feed.line [] (state_of new))
+  pub failed : has_failed old.kept answer ≡ true → answer ≡ Err (fault_at ReadFailed (reading_line_of (inner_buffer new.files.nest)) [] (state_of new))
   pub call : SourcesCalled g (has_failed old.kept answer) (has_refused old.kept answer) old.sources new.sources
   pub tells : has_failed old.kept answer ≡ false → g.tells old.sources → Tells answer (left old) (left new)
+  pub text : old.kept ≡ None → old.phase ≡ Open → has_failed old.kept answer ≡ false → g.tells old.sources
+      → TellsText (most old.quota) g.unread answer (text_of g.unread old) new
   pub falls : (bytes : List ℕ) → answer ≡ Ok (Some bytes) → work_left new < work_left old
-  pub lends : (bytes : List ℕ) → answer ≡ Ok (Some bytes) → (old.phase ≡ Open) × (is_open new.phase ≡ true)
+  pub lends : (bytes : List ℕ) → answer ≡ Ok (Some bytes) → (old.phase ≡ Open) × (goes_on new.phase ≡ true)
   pub quota : new.quota + spent answer ≡ old.quota
   pub bounded : IsBounded new
 
@@ -133,10 +121,22 @@ lent_len (Err f) = 0
 unfoldable pub no_len : Result (Option (List ℕ)) Told → ℕ
 no_len answer = 0
 
--- a step over what remains of the output, in which the lent bytes count (this project's profile)
+-- all of a piece, whatever may still be lent
+unfoldable pub all_of : ℕ → List ℕ → List ℕ
+all_of quota piece = piece
+
+-- whether bytes may follow
+unfoldable pub may_follow : Phase → Bool
+may_follow Fresh = false
+may_follow Open = true
+may_follow Passed = false
+may_follow Closed = false
+
+-- a step over what remains of the output, in which the lent bytes count: no more are lent of a piece than may be (this project's
+-- profile)
 abbrev pub Steps : {S R : Type 0} → Ghosts S R → EngineView S R → EngineView S R → Result (Option (List ℕ)) Told → Type 0
-Steps g old new answer = StepsOver g (left_of g.unread) lent_len old new answer
+Steps g old new answer = StepsOver g (left_of g.unread) lent_len take is_open old new answer
 
 -- a step over what remains without the limit on the output
 abbrev pub Walks : {S R : Type 0} → Ghosts S R → EngineView S R → EngineView S R → Result (Option (List ℕ)) Told → Type 0
-Walks g old new answer = StepsOver g (uncut_of g.unread) no_len old new answer
+Walks g old new answer = StepsOver g (uncut_of g.unread) no_len all_of may_follow old new answer

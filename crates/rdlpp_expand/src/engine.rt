@@ -1,39 +1,43 @@
-// The engine: it reads a source by lines, expands usages, and lends its output piece by piece.
-ghost use Rattle.std.specs.Prelude.{◌≡◌, ◌↔◌, ℕ, ◌+◌, ◌-◌, ◌≤◌, ◌<◌, true, false, [], length, take, drop, None, Some, IfSome, IsSome, IsTrue, IsOk, not};
+// The engine: it reads sources by lines, expands usages, and lends its output piece by piece.
+ghost use Rattle.std.specs.Prelude.{◌≡◌, ◌↔◌, ℕ, ◌+◌, ◌-◌, ◌^◌, ◌≤◌, ◌<◌, true, false, [], length, take, drop, None, Some, IfSome, IsTrue, not};
 ghost use Rattle.std.specs.Borrow.{sem};
 ghost use Rattle.std.specs.Option.{option_map};
 ghost use Rattle.std.specs.Io.BufRead.{Rests};
-ghost use Rattle.rdlpp_table.specs.Limits.{limit_fault};
+ghost use Rattle.rdlpp_scan.specs.SourceTokens.{logical_len};
+ghost use Rattle.rdlpp_scan.specs.declared.token.Directive.TheVariants.{Define, Undef};
+ghost use Rattle.rdlpp_table.specs.Table.{macro_named};
+ghost use Rattle.rdlpp_table.specs.View.{macro_at};
 ghost use Rattle.rdlpp_meaning.specs.Outcome.{Told, told};
+ghost use Rattle.rdlpp_meaning.specs.Stage.{is_unbuilt_macro};
 ghost use Rattle.rdlpp_meaning.specs.State.{fault_at};
-ghost use Rattle.rdlpp_expand.specs.Held.{held_told, is_open};
+ghost use Rattle.rdlpp_read.specs.Buffer.{entered_mode, held_of, reading_line_of};
+ghost use Rattle.rdlpp_read.specs.Calls.{SourcesRead};
+ghost use Rattle.rdlpp_read.specs.Files.{AreOpen, consumed_file, inner_buffer, with_buffer, with_inner};
+ghost use Rattle.rdlpp_read.specs.Filling.{Fills, is_failed};
+ghost use Rattle.rdlpp_read.specs.LogicalLines.{HoldsLine, is_failed_line};
+ghost use Rattle.rdlpp_front.specs.Fronts.{HasName, IsDirective, IsNamed, IsText, IsUsage, usage_name};
+ghost use Rattle.rdlpp_expand.specs.Engine.{IsSoundEngine};
+ghost use Rattle.rdlpp_expand.specs.Held.{IsBounded, held_told};
+ghost use Rattle.rdlpp_expand.specs.Moves.{Ends, IsReady, ReadsDefine};
+ghost use Rattle.rdlpp_expand.specs.Owed.{nothing_owed};
 ghost use Rattle.rdlpp_expand.specs.Pieces.{IsPlaced, Lends, answer_of, bytes_at, lent_answer, piece_bytes, step_answer};
 ghost use Rattle.rdlpp_expand.specs.Remaining.{output_fault, state_of};
 ghost use Rattle.rdlpp_expand.specs.Run.{write_fault};
-ghost use Rattle.rdlpp_expand.specs.Steps.{Ends, IsBounded, IsReady, IsStarted, Steps, Takes, Walks, is_write_failed};
-ghost use Rattle.rdlpp_expand.specs.Feed.{EndsHeld, closed_feed, entered, held_of};
-ghost use Rattle.rdlpp_expand.specs.Calls.{SourcesRead};
-ghost use Rattle.rdlpp_expand.specs.Supply.{Supplies, is_failed};
-ghost use Rattle.rdlpp_expand.specs.Front.{IsDefine, IsText, IsUndef, IsUsage, passed, undef_name, usage_name};
-ghost use Rattle.rdlpp_table.specs.Table.{macro_named};
-ghost use Rattle.rdlpp_meaning.specs.Parts.{only_blanks};
-ghost use Rattle.rdlpp_meaning.specs.Stage.{is_unbuilt_macro};
-ghost use Rattle.rdlpp_table.specs.View.{macro_at};
+ghost use Rattle.rdlpp_expand.specs.Steps.{IsStarted, Steps, Walks, is_write_failed};
 ghost use Rattle.rdlpp_expand.specs.contracts.engine.Engine.{the_row};
 
 mod opening;
 
-use crate::blanks::only_blanks;
-use crate::bodies::is_copied_body;
-use crate::feed::{Feed, Supply, provide};
-use crate::front::{Front, front_of};
 use crate::held::Held;
 use crate::kinds::fault_kind;
+use crate::owed::{Owed, line_ends};
 use crate::phase::Phase;
 use crate::place::{Piece, Place};
 use crate::texts::{copied, copied_fault, word_of};
 use arrayvec::ArrayString;
+use rdlpp_front::{Argument, Front, front_of};
 use rdlpp_meaning::{Fault, FaultKind};
+use rdlpp_read::{Files, Fill, LogicalLine};
 use rdlpp_scan::{Mode, line_ends_in, reserved};
 use rdlpp_source::Sources;
 use rdlpp_table::{LimitFault, Limits, MacroId, Table};
@@ -58,21 +62,18 @@ pub struct Engine<S: Sources> {
     // how many bytes of output may still be lent
     quota: u64,
     kept: Option<Fault>,
-    path: ArrayString<1024>,
-    blanks: bool,
+    // the name of the main text
+    main: ArrayString<1024>,
+    owed: Owed,
     table: Table,
     sources: S,
-    feed: Feed<S::Reader>,
+    files: Files<S::Reader>,
 }
 
 impl<S: Sources> Model for Engine<S> {
-    ghost use Rattle.std.specs.Prelude.{◌≡◌, ◌≤◌};
     ghost use Rattle.std.specs.Option.{option_map};
-    ghost use Rattle.rdlpp_table.specs.Table.{table_size};
-    ghost use Rattle.rdlpp_table.specs.Limits.{AreInRange};
     ghost use Rattle.rdlpp_meaning.specs.Outcome.{told};
-    ghost use Rattle.rdlpp_expand.specs.Feed.{EndsHeld, IsFeed};
-    ghost use Rattle.rdlpp_expand.specs.Engine.{EngineView};
+    ghost use Rattle.rdlpp_expand.specs.Engine.{EngineView, IsSoundEngine};
 
     ghost Value = { EngineView S S.Reader };
 
@@ -82,20 +83,14 @@ impl<S: Sources> Model for Engine<S> {
       phase = e.phase;
       quota = e.quota;
       kept = option_map told e.kept;
-      name = e.path.bytes;
-      blanks = e.blanks;
+      main = e.main.bytes;
+      owed = e.owed;
       table = e.table;
       sources = e.sources;
-      feed = e.feed;
+      files = e.files;
     } };
 
-    ghost invariant = { λ e. AreInRange e.limits
-        × (e.feed.most ≡ e.limits.line_bytes)
-        × (e.table.most_bytes ≡ e.limits.definition_bytes)
-        × (e.table.most_macros ≡ e.limits.definitions)
-        × (table_size e.table.macros ≤ e.table.most_bytes)
-        × IsFeed e.feed
-        × EndsHeld e.feed };
+    ghost invariant = { λ e. IsSoundEngine e.limits e.phase e.table e.files };
 }
 
 impl<S: Sources> Engine<S> {
@@ -107,20 +102,19 @@ impl<S: Sources> Engine<S> {
     }
 
     /// What the engine holds.
-    #[tactic(auto, unfolding(crate::specs::Held::held_told, crate::specs::Held::stores_of, crate::specs::Held::buffers_of, crate::specs::Held::held_bytes, crate::specs::Held::bound_of, crate::specs::Steps::IsBounded))]
     pub fn held(&self) -> Held
         ensures value { result ≡ held_told self.now }
         ensures bounded { IsBounded self.now }
     {
-        let open = self.is_open();
+        self.facts();
         Held {
             definitions: self.table.bytes().len(),
             arguments: 0,
-            buffers: if open { self.feed.len() } else { 0 },
+            buffers: self.files.held_len(),
             cursors: 0,
             bindings: 0,
             conditions: 0,
-            sources: usize::from(open),
+            sources: self.files.len(),
         }
     }
 
@@ -153,6 +147,7 @@ impl<S: Sources> Engine<S> {
                 let len = self.spend(end - start);
                 Place::Body(id, start, start + len)
             }
+            Place::Owed(len) => Place::Owed(self.spend(len)),
             Place::End => Place::End,
             Place::Kept => Place::Kept,
         }
@@ -160,6 +155,7 @@ impl<S: Sources> Engine<S> {
 
     // Takes so many bytes from what may still be lent, and answers how many of them may be.
     fn spend(&mut self, len: usize) -> usize
+        requires { self.old.phase ≡ Phase.Open }
         ensures fits { len ≤ self.old.quota → (result ≡ len) × (self.new ≡ record self.old { quota = self.old.quota - len }) }
         ensures passes { self.old.quota < len → (result ≡ self.old.quota) × (self.new ≡ record self.old { phase = Phase.Passed; quota = 0 }) }
     {
@@ -207,33 +203,51 @@ impl<S: Sources> Engine<S> {
         }
     }
 
-    // Takes one step over the open source.
+    // Takes one step over what is owed and the open sources.
     fn step_open(&mut self) -> Option<Place>
         requires open { self.old.phase ≡ Phase.Open }
         requires free { self.old.kept ≡ None }
         ensures place { IfSome result (IsPlaced self.new) }
         ensures walks { IsBounded self.new → Walks S.Sources self.old self.new (step_answer self.new result) }
     {
+        self.facts();
+        match self.owed.take() {
+            Some(len) => Some(Place::Owed(len)),
+            None => self.step_sources(),
+        }
+    }
+
+    // Takes one step over the open sources.
+    fn step_sources(&mut self) -> Option<Place>
+        requires { IsReady self.old }
+        ensures place { IfSome result (IsPlaced self.new) }
+        ensures walks { IsBounded self.new → Walks S.Sources self.old self.new (step_answer self.new result) }
+    {
         match self.fill() {
-            Supply::Held => self.take_front(),
-            Supply::End => Some(self.end()),
-            Supply::SourceLong => Some(self.refuse(FaultKind::SourceTooLong, ArrayString::new())),
-            Supply::LineLong => Some(self.refuse(FaultKind::LineTooLong, ArrayString::new())),
-            Supply::Failed => Some(self.refuse(FaultKind::ReadFailed, ArrayString::new())),
+            Fill::Held => {
+                self.facts();
+                self.take_front()
+            }
+            Fill::End => Some(self.end()),
+            Fill::SourceLong => Some(self.refuse(FaultKind::SourceTooLong, ArrayString::new())),
+            Fill::LineLong => Some(self.refuse(FaultKind::LineTooLong, ArrayString::new())),
+            Fill::Failed => Some(self.refuse_read()),
         }
     }
 
     // Takes what the held bytes begin with.
     fn take_front(&mut self) -> Option<Place>
-        requires { IsReady self.old }
+        requires ready { IsReady self.old }
+        requires some { 0 < length (held_of (inner_buffer self.old.files.nest)) }
         ensures place { IfSome result (IsPlaced self.new) }
-        ensures takes { Takes S.Sources self.old self.new (step_answer self.new result) }
+        ensures walks { IsBounded self.new → Walks S.Sources self.old self.new (step_answer self.new result) }
     {
-        match front_of(self.feed.mode(), self.feed.held()) {
+        let buffer = &self.files.file().buffer;
+        match front_of(buffer.mode(), buffer.held()) {
             Front::Text(len, next) => Some(self.lend_text(len, next)),
             Front::Usage(len) => Some(self.expand(len)),
-            Front::Define(len) => Some(self.define_line(len)),
-            Front::Undef(start, stop) => self.undefine(start, stop),
+            Front::Define => self.define_line(),
+            Front::Undef(argument) => self.undefine(argument),
             Front::Refused(kind) => Some(self.refuse(kind, ArrayString::new())),
         }
     }
@@ -241,25 +255,27 @@ impl<S: Sources> Engine<S> {
     // Lends `len` bytes of text that are copied, behind which the text stands in a mode.
     fn lend_text(&mut self, len: usize, next: Mode) -> Place
         requires ready { IsReady self.old }
-        requires text { IsText self.old.feed.mode (held_of self.old.feed) len next }
+        requires some { 0 < length (held_of (inner_buffer self.old.files.nest)) }
+        requires text { IsText (inner_buffer self.old.files.nest).mode (held_of (inner_buffer self.old.files.nest)) len next }
         ensures place { IsPlaced self.new result }
-        ensures takes { Takes S.Sources self.old self.new (lent_answer self.new result) }
+        ensures walks { IsBounded self.new → Walks S.Sources self.old self.new (lent_answer self.new result) }
     {
-        let lines = line_ends_in(&self.feed.held()[..len]);
-        self.enter(next);
-        let end = self.consume(len, lines);
-        Place::Source(end - len, end)
+        let lines = line_ends_in(&self.files.file().buffer.held()[..len]);
+        self.enter_mode(next);
+        let start = self.consume(len, lines);
+        Place::Source(start, start + len)
     }
 
     // Expands the usage of `len` bytes with which the held bytes begin.
     fn expand(&mut self, len: usize) -> Place
         requires ready { IsReady self.old }
-        requires mode { self.old.feed.mode ≡ Mode.Plain }
-        requires usage { IsUsage (held_of self.old.feed) len }
+        requires some { 0 < length (held_of (inner_buffer self.old.files.nest)) }
+        requires mode { (inner_buffer self.old.files.nest).mode ≡ Mode.Plain }
+        requires usage { IsUsage (held_of (inner_buffer self.old.files.nest)) len }
         ensures place { IsPlaced self.new result }
-        ensures takes { Takes S.Sources self.old self.new (lent_answer self.new result) }
+        ensures walks { IsBounded self.new → Walks S.Sources self.old self.new (lent_answer self.new result) }
     {
-        let name = name_of(self.feed.held(), len);
+        let name = name_of(self.files.file().buffer.held(), len);
         match self.table.find(name) {
             None => {
                 let word = word_of(name);
@@ -272,12 +288,13 @@ impl<S: Sources> Engine<S> {
     // Lends the body of a macro, whose usage has `len` bytes.
     fn lend_body(&mut self, len: usize, id: MacroId) -> Place
         requires ready { IsReady self.old }
-        requires mode { self.old.feed.mode ≡ Mode.Plain }
-        requires usage { IsUsage (held_of self.old.feed) len }
+        requires some { 0 < length (held_of (inner_buffer self.old.files.nest)) }
+        requires mode { (inner_buffer self.old.files.nest).mode ≡ Mode.Plain }
+        requires usage { IsUsage (held_of (inner_buffer self.old.files.nest)) len }
         requires inside { id < length self.old.table.macros }
-        requires named { macro_named self.old.table.macros (usage_name (held_of self.old.feed) len) ≡ Some (macro_at self.old.table.macros id) }
+        requires named { macro_named self.old.table.macros (usage_name (held_of (inner_buffer self.old.files.nest)) len) ≡ Some (macro_at self.old.table.macros id) }
         ensures place { IsPlaced self.new result }
-        ensures takes { Takes S.Sources self.old self.new (lent_answer self.new result) }
+        ensures walks { IsBounded self.new → Walks S.Sources self.old self.new (lent_answer self.new result) }
     {
         if !is_built(&self.table, id) {
             return self.refuse(FaultKind::Unbuilt, ArrayString::new());
@@ -287,38 +304,77 @@ impl<S: Sources> Engine<S> {
         Place::Body(id, 0, end)
     }
 
-    // Reads the `define` whose line has `len` bytes, and lends the LF of that line.
-    fn define_line(&mut self, len: usize) -> Place
+    // Takes in the logical line of the `define` with which the held bytes begin, and reads it.
+    fn define_line(&mut self) -> Option<Place>
         requires ready { IsReady self.old }
-        requires mode { self.old.feed.mode ≡ Mode.Plain }
-        requires define { IsDefine (held_of self.old.feed) len }
-        ensures place { IsPlaced self.new result }
-        ensures takes { Takes S.Sources self.old self.new (lent_answer self.new result) }
+        requires some { 0 < length (held_of (inner_buffer self.old.files.nest)) }
+        requires mode { (inner_buffer self.old.files.nest).mode ≡ Mode.Plain }
+        requires define { IsDirective Define (held_of (inner_buffer self.old.files.nest)) }
+        ensures place { IfSome result (IsPlaced self.new) }
+        ensures walks { IsBounded self.new → Walks S.Sources self.old self.new (step_answer self.new result) }
     {
-        let line = &self.feed.held()[..len];
+        match self.hold_line() {
+            LogicalLine::Whole(len) => {
+                self.facts();
+                self.read_define(len)
+            }
+            LogicalLine::TooLong => Some(self.refuse(FaultKind::LineTooLong, ArrayString::new())),
+            LogicalLine::SourceLong => Some(self.refuse(
+                FaultKind::SourceTooLong,
+                ArrayString::new(),
+            )),
+            LogicalLine::Failed => Some(self.refuse_read()),
+        }
+    }
+
+    // Reads the `define` whose logical line has `len` bytes, and owes the LF bytes of that line.
+    fn read_define(&mut self, len: usize) -> Option<Place>
+        requires nest { 0 < length self.old.files.nest }
+        requires inside { len ≤ length (held_of (inner_buffer self.old.files.nest)) }
+        requires line { IfSome (logical_len 0 0 (drop 7 (take len (held_of (inner_buffer self.old.files.nest))))) (λ n. n ≡ length (drop 7 (take len (held_of (inner_buffer self.old.files.nest))))) }
+        requires nothing { self.old.owed ≡ nothing_owed }
+        requires files { AreOpen self.old.files }
+        ensures place { IfSome result (IsPlaced self.new) }
+        ensures reads { ReadsDefine len self.old self.new result }
+    {
+        let line = &self.files.file().buffer.held()[..len];
         let lines = line_ends_in(line);
         match self.table.read_define(&line[len.min(7)..]) {
-            Err(fault) => self.refuse(fault_kind(fault.kind), fault.word),
+            Err(fault) => Some(self.refuse(fault_kind(fault.kind), fault.word)),
             Ok(()) => {
                 let _count = self.table.len();
-                let end = self.consume(len, lines);
-                Place::Source(end - lines, end)
+                self.consume(len, lines);
+                self.owed.owe_line_ends(lines);
+                None
             }
         }
     }
 
-    // Takes out the macro of an `undef`, whose name stands from a place up to another, and lends nothing.
-    fn undefine(&mut self, start: usize, stop: usize) -> Option<Place>
+    // Takes out the macro of an `undef`, which is given a name or none, and lends nothing.
+    fn undefine(&mut self, argument: Option<Argument>) -> Option<Place>
         requires ready { IsReady self.old }
-        requires mode { self.old.feed.mode ≡ Mode.Plain }
-        requires undef { IsUndef (held_of self.old.feed) start stop }
+        requires some { 0 < length (held_of (inner_buffer self.old.files.nest)) }
+        requires mode { (inner_buffer self.old.files.nest).mode ≡ Mode.Plain }
+        requires undef { IsNamed Undef (held_of (inner_buffer self.old.files.nest)) argument }
         ensures place { IfSome result (IsPlaced self.new) }
-        ensures takes { Takes S.Sources self.old self.new (step_answer self.new result) }
+        ensures walks { IsBounded self.new → Walks S.Sources self.old self.new (step_answer self.new result) }
     {
-        let name = given_name(self.feed.held(), start, stop);
-        if stop == start {
-            return Some(self.refuse(FaultKind::NameExpected, ArrayString::new()));
+        match argument {
+            None => Some(self.refuse(FaultKind::NameExpected, ArrayString::new())),
+            Some(Argument { start, stop }) => self.undefine_named(start, stop),
         }
+    }
+
+    // Takes out the macro of an `undef`, whose name stands from a place up to another.
+    fn undefine_named(&mut self, start: usize, stop: usize) -> Option<Place>
+        requires ready { IsReady self.old }
+        requires some { 0 < length (held_of (inner_buffer self.old.files.nest)) }
+        requires mode { (inner_buffer self.old.files.nest).mode ≡ Mode.Plain }
+        requires undef { HasName Undef (held_of (inner_buffer self.old.files.nest)) start stop }
+        ensures place { IfSome result (IsPlaced self.new) }
+        ensures walks { IsBounded self.new → Walks S.Sources self.old self.new (step_answer self.new result) }
+    {
+        let name = &self.files.file().buffer.held()[start..stop];
         if reserved(name).is_some() {
             let word = word_of(name);
             return Some(self.refuse(FaultKind::ReservedName, word));
@@ -329,12 +385,16 @@ impl<S: Sources> Engine<S> {
         None
     }
 
-    // Ends the source, which has no more bytes; a string or a comment that is open is a fault.
+    // Ends the main text, which has no more bytes; a string or a comment that is open is a fault.
     fn end(&mut self) -> Place
+        requires open { self.old.phase ≡ Phase.Open }
+        requires some { 0 < length self.old.files.nest }
         ensures { Ends self.old self.new result }
     {
-        let opened = self.feed.opened();
-        match self.feed.mode() {
+        self.files.facts();
+        let buffer = &self.files.file().buffer;
+        let opened = buffer.open_token_line();
+        match buffer.mode() {
             Mode::Plain => {
                 self.close();
                 Place::End
@@ -344,66 +404,92 @@ impl<S: Sources> Engine<S> {
         }
     }
 
-    // Closes the source, which has ended.
+    // Closes the main text, which has ended.
     fn close(&mut self)
-        ensures { self.new ≡ record self.old { phase = Phase.Closed; feed = closed_feed self.old.feed.line self.old.feed.most } }
+        requires { 0 < length self.old.files.nest }
+        ensures { self.new ≡ record self.old { phase = Phase.Closed; files = record self.old.files { nest = [] } } }
     {
         self.phase = Phase::Closed;
-        self.feed.close();
+        self.files.leave();
     }
 
-    // Sees to it that bytes of the open source are held, or tells why there are none.
-    fn fill(&mut self) -> Supply
-        ensures feed { (self.new ≡ record self.old { feed = self.new.feed; sources = self.new.sources }) × EndsHeld self.new.feed }
-        ensures supplies { Supplies (S.tells self.old.sources) S.unread result self.old.feed self.new.feed }
+    // Sees to it that bytes of the innermost source are held, or tells why there are none.
+    fn fill(&mut self) -> Fill
+        requires { 0 < length self.old.files.nest }
+        ensures becomes { self.new ≡ record self.old { files = self.new.files; sources = self.new.sources } }
+        ensures only { self.new.files ≡ record self.old.files { nest = with_buffer (inner_buffer self.new.files.nest) self.old.files.nest } }
+        ensures fills { Fills (S.tells self.old.sources) S.unread result (inner_buffer self.old.files.nest) (inner_buffer self.new.files.nest) }
         ensures call { SourcesRead S.Sources (is_failed result) self.old.sources self.new.sources }
     {
-        let supply = provide(&mut self.feed, &mut self.sources);
-        self.feed.facts();
-        supply
+        self.files.fill(&mut self.sources)
     }
 
-    // Uses `len` held bytes, which have `lines` line ends, and answers where they end.
-    fn consume(&mut self, len: usize, lines: usize) -> usize
-        requires inside { len ≤ length (held_of self.old.feed) }
-        requires lines { lines ≤ len }
-        ensures end { result ≡ self.old.feed.at + len }
-        ensures passed { self.new ≡ record self.old {
-          blanks = only_blanks self.old.blanks (take len (held_of self.old.feed));
-          feed = passed self.old.feed len lines;
-        } }
+    // Takes in the logical line at the front of what is held of the innermost source.
+    fn hold_line(&mut self) -> LogicalLine
+        requires { 0 < length self.old.files.nest }
+        ensures becomes { self.new ≡ record self.old { files = self.new.files; sources = self.new.sources } }
+        ensures only { self.new.files ≡ record self.old.files { nest = with_buffer (inner_buffer self.new.files.nest) self.old.files.nest } }
+        ensures holds { HoldsLine (S.tells self.old.sources) S.unread result (inner_buffer self.old.files.nest) (inner_buffer self.new.files.nest) }
+        ensures call { SourcesRead S.Sources (is_failed_line result) self.old.sources self.new.sources }
     {
-        self.blanks = only_blanks(self.blanks, &self.feed.held()[..len]);
-        self.feed.pass(len, lines) + len
+        self.files.hold_line(&mut self.sources)
+    }
+
+    // Uses `len` held bytes, which have `lines` line ends, and answers where they begin.
+    fn consume(&mut self, len: usize, lines: usize) -> usize
+        requires some { 0 < length self.old.files.nest }
+        requires inside { len ≤ length (held_of (inner_buffer self.old.files.nest)) }
+        requires lines { lines ≤ len }
+        ensures start { result ≡ (inner_buffer self.old.files.nest).at }
+        ensures used { self.new ≡ record self.old { files = record self.old.files { nest = with_inner (consumed_file len lines) self.old.files.nest } } }
+    {
+        self.files.consume(len, lines)
     }
 
     // Changes whether the next byte stands in a string or in a comment.
-    fn enter(&mut self, next: Mode)
-        ensures { self.new ≡ record self.old { feed = entered self.old.feed next } }
+    fn enter_mode(&mut self, next: Mode)
+        requires { 0 < length self.old.files.nest }
+        ensures { self.new ≡ record self.old { files = record self.old.files { nest = with_buffer (entered_mode (inner_buffer self.old.files.nest) next) self.old.files.nest } } }
     {
-        self.feed.enter(next);
+        self.files.enter_mode(next);
     }
 
     // Keeps a fault at the line of the next byte.
     fn refuse(&mut self, kind: FaultKind, word: ArrayString<128>) -> Place
+        requires { 0 < length self.old.files.nest }
         ensures place { result ≡ Place.Kept }
-        ensures kept { self.new ≡ record self.old { kept = Some (fault_at kind self.old.feed.line word.bytes (state_of self.old)) } }
+        ensures kept { self.new ≡ record self.old { kept = Some (fault_at kind (inner_buffer self.old.files.nest).line word.bytes (state_of self.old)) } }
     {
-        let line = self.feed.line();
+        let line = self.files.file().buffer.line();
+        self.files.facts();
         self.refuse_at(kind, line, word)
     }
 
-    // Keeps a fault at a line.
-    #[tactic(auto, unfolding(rdlpp_meaning::specs::Outcome::told, rdlpp_meaning::specs::State::fault_at, rdlpp_meaning::specs::State::shown_line, rdlpp_meaning::specs::State::no_shift, rdlpp_meaning::specs::Output::start_state, crate::specs::Remaining::state_of))]
+    // Keeps that a read failed, at the line that is read.
+    fn refuse_read(&mut self) -> Place
+        requires { 0 < length self.old.files.nest }
+        ensures place { result ≡ Place.Kept }
+        ensures kept { self.new ≡ record self.old { kept = Some (fault_at FaultKind.ReadFailed (reading_line_of (inner_buffer self.old.files.nest)) [] (state_of self.old)) } }
+    {
+        let line = self.files.file().buffer.reading_line();
+        self.files.facts();
+        self.refuse_at(FaultKind::ReadFailed, line, ArrayString::new())
+    }
+
+    // Keeps a fault at a physical line of the innermost source.
     fn refuse_at(&mut self, kind: FaultKind, line: u64, word: ArrayString<128>) -> Place
+        requires open { 0 < length self.old.files.nest }
+        requires line { line < 2 ^ 63 }
         ensures place { result ≡ Place.Kept }
         ensures kept { self.new ≡ record self.old { kept = Some (fault_at kind line word.bytes (state_of self.old)) } }
     {
+        self.files.facts();
+        let file = self.files.file();
         let _len = word.len();
         self.kept = Some(Fault {
             kind,
-            name: copied(&self.path),
-            line,
+            name: copied(&file.name),
+            line: file.shift.shown_line(line),
             word,
         });
         Place::Kept
@@ -414,25 +500,25 @@ impl<S: Sources> Engine<S> {
     #[tactic(auto, unfolding(rdlpp_meaning::specs::Outcome::told, crate::specs::Remaining::output_fault))]
     fn refuse_output(&mut self) -> Place
         ensures place { result ≡ Place.Kept }
-        ensures kept { self.new ≡ record self.old { kept = Some (output_fault self.old.name) } }
+        ensures kept { self.new ≡ record self.old { kept = Some (output_fault self.old.main) } }
     {
         self.kept = Some(Fault {
             kind: FaultKind::OutputBytes,
-            name: copied(&self.path),
+            name: copied(&self.main),
             line: 0,
             word: ArrayString::new(),
         });
         Place::Kept
     }
 
-    // Keeps that a write failed, which is told at line 0 under the shown name.
+    // Keeps that a write failed, which is told at line 0 under the main text's name.
     #[tactic(auto, unfolding(rdlpp_meaning::specs::Outcome::told, crate::specs::Run::write_fault))]
     pub(crate) fn refuse_write(&mut self)
-        ensures { self.new ≡ record self.old { kept = Some (write_fault self.old.name) } }
+        ensures { self.new ≡ record self.old { kept = Some (write_fault self.old.main) } }
     {
         self.kept = Some(Fault {
             kind: FaultKind::WriteFailed,
-            name: copied(&self.path),
+            name: copied(&self.main),
             line: 0,
             word: ArrayString::new(),
         });
@@ -475,25 +561,20 @@ impl<S: Sources> Engine<S> {
         ensures { piece_bytes result ≡ bytes_at self.now place }
     {
         match place {
-            Place::Source(start, end) => Piece::Bytes(self.feed.part(start, end)),
+            Place::Source(start, end) => Piece::Bytes(self.files.file().buffer.part(start, end)),
             Place::Body(id, start, end) => Piece::Bytes(&self.table.body(id)[start..end]),
+            Place::Owed(len) => Piece::Bytes(line_ends(len)),
             Place::End | Place::Kept => Piece::Done,
         }
     }
 
-    // Whether the main text is open.
-    #[tactic(auto, unfolding(crate::specs::Held::is_open))]
-    fn is_open(&self) -> bool
-        ensures { result ≡ is_open self.now.phase }
-    {
-        matches!(self.phase, Phase::Open | Phase::Passed)
-    }
-
     // What always holds of it.
     fn facts(&self)
-        ensures { IsBounded self.now }
+        ensures bounded { IsBounded self.now }
+        ensures sound { IsSoundEngine self.now.limits self.now.phase self.now.table self.now.files }
+        ensures files { AreOpen self.now.files }
     {
-        self.feed.facts();
+        self.files.facts();
     }
 }
 
@@ -506,22 +587,12 @@ fn name_of(held: &[u8], len: usize) -> &[u8]
     &held[1..len]
 }
 
-// The name of an `undef`, from a place up to another.
-fn given_name(held: &[u8], start: usize, stop: usize) -> &[u8]
-    requires ordered { start ≤ stop }
-    requires inside { stop ≤ length held.now }
-    ensures { result.now ≡ undef_name held.now start stop }
-{
-    &held[start..stop]
-}
-
 // Whether usages of a macro are built.
-#[tactic(auto, unfolding(rdlpp_meaning::specs::Stage::is_unbuilt_macro))]
 fn is_built(table: &Table, id: MacroId) -> bool
     requires { id < length table.now.macros }
     ensures { result ≡ not (is_unbuilt_macro (macro_at table.now.macros id)) }
 {
-    table.arity(id).is_none() && is_copied_body(table.body(id))
+    table.arity(id).is_none() && table.is_copied(id)
 }
 
 // Whether a kind is that of a write that failed.

@@ -1,13 +1,10 @@
 //! The preprocessor's engine: it reads sources by lines, expands macros, and lends its output piece by piece.
 #![tactic(auto)]
 
-mod blanks;
-mod bodies;
 mod engine;
-mod feed;
-mod front;
 mod held;
 mod kinds;
+mod owed;
 mod phase;
 mod place;
 mod texts;

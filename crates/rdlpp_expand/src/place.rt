@@ -14,10 +14,12 @@ pub enum Piece<'a> {
 /// Where a piece stands in the held stores.
 #[derive(Clone, Copy)]
 pub(crate) enum Place {
-    /// From a place up to another in the buffer of the open source.
+    /// From a place up to another in the buffer of the innermost source.
     Source(usize, usize),
     /// From a place up to another in a live body.
     Body(MacroId, usize, usize),
+    /// In the texts that are owed: so many LF bytes.
+    Owed(usize),
     /// At the end.
     End,
     /// In the fault that is kept.

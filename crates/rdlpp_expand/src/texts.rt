@@ -1,7 +1,7 @@
 // Short texts of bounded length.
 ghost use Rattle.std.specs.Prelude.{◌≡◌, length, take};
 ghost use Rattle.rdlpp_meaning.specs.Outcome.{told};
-ghost use Rattle.rdlpp_expand.specs.Names.{IsWordBytes};
+ghost use Rattle.rdlpp_front.specs.Names.{IsWordBytes};
 
 use arrayvec::ArrayString;
 use rdlpp_meaning::Fault;

@@ -329,17 +329,15 @@ fn gives_each_row_of_definitions(rt: HostRuntime) {
             b"\n ",
             fault(99, 2, ""),
         ),
-        faulty(
-            "a definition over two lines isn't built",
-            b"a\n`define A 1\\\n2\n",
-            b"a\n",
-            fault(99, 2, ""),
+        whole(
+            "a definition over two lines",
+            b"a\n`define A 1\\\n2\n`A\n",
+            b"a\n\n\n1\n2\n",
         ),
-        faulty(
-            "a definition over two lines of CR and LF isn't built",
-            b"`define A 1\\\r\n2\n",
-            b"",
-            fault(99, 1, ""),
+        whole(
+            "a definition over two lines of CR and LF",
+            b"`define A 1\\\r\n2\n`A\n",
+            b"\n\n1\n2\n",
         ),
     ];
     for row in &rows {

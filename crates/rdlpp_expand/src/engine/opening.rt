@@ -3,15 +3,16 @@ ghost use Rattle.std.specs.Prelude.{◌≡◌, OnErr};
 ghost use Rattle.rdlpp_table.specs.Define.{observed, set_of};
 ghost use Rattle.rdlpp_meaning.specs.Outcome.{told};
 ghost use Rattle.rdlpp_meaning.specs.Output.{name_cut, opening_fault};
-ghost use Rattle.rdlpp_expand.specs.Steps.{IsBounded};
+ghost use Rattle.rdlpp_expand.specs.Held.{IsBounded};
 ghost use Rattle.rdlpp_expand.specs.Opening.{Makes, Starts, kind_of_source, opened_engine, start_fault, unopened_engine};
 
 use super::{Engine, NewFault};
-use crate::feed::Feed;
+use crate::owed::Owed;
 use crate::phase::Phase;
 use crate::texts::copied_fault;
 use arrayvec::ArrayString;
 use rdlpp_meaning::{Fault, FaultKind};
+use rdlpp_read::Files;
 use rdlpp_source::{Found, SourceFault, Sources};
 use rdlpp_table::{DefineFault, Limits, Table};
 use std::alloc::Global;
@@ -19,7 +20,8 @@ use std::alloc::Global;
 impl<S: Sources> Engine<S> {
     /// A fresh engine with an empty table, which writes origin lines where `origins` says so.
     ///
-    /// All memory that it ever uses for itself is reserved here: the table's, and one line's buffer.
+    /// All memory that it ever uses for itself is reserved here: the table's, and the buffers of as many sources as may
+    /// be open, each of one line.
     ///
     /// # Errors
     /// `BadLimits` with the first limit, in the order of the fields, that is out of its range;
@@ -39,7 +41,7 @@ impl<S: Sources> Engine<S> {
         let Ok(table) = Table::new(alloc, &limits) else {
             return Err(NewFault::NoMemory);
         };
-        let Ok(buffer) = vec![in alloc; 0u8; limits.line_bytes] else {
+        let Ok(files) = Files::new(alloc, limits.includes + 1, limits.line_bytes) else {
             return Err(NewFault::NoMemory);
         };
         Ok(Engine {
@@ -48,11 +50,11 @@ impl<S: Sources> Engine<S> {
             phase: Phase::Fresh,
             quota: limits.output_bytes,
             kept: None,
-            path: ArrayString::new(),
-            blanks: true,
+            main: ArrayString::new(),
+            owed: Owed::nothing(),
             table,
             sources,
-            feed: Feed::new(buffer),
+            files,
         })
     }
 
@@ -73,6 +75,7 @@ impl<S: Sources> Engine<S> {
     {
         let outcome = self.table.set(name, text);
         let _len = self.table.len();
+        self.facts();
         outcome
     }
 
@@ -90,12 +93,14 @@ impl<S: Sources> Engine<S> {
         requires { self.old.phase ≡ Phase.Fresh }
         ensures { Starts S.Sources self.old self.new path.now (start_fault result) }
     {
+        self.facts();
         if self.origins {
             return Err(self.refuse_main(FaultKind::Unbuilt, path));
         }
         match self.sources.top(path) {
             Ok(found) => {
                 self.open_main(found);
+                self.facts();
                 Ok(())
             }
             Err(fault) => Err(self.refuse_main(source_kind(fault), path)),
@@ -103,23 +108,24 @@ impl<S: Sources> Engine<S> {
     }
 
     // Opens the main text that was found.
-    #[tactic(auto, unfolding(crate::specs::Opening::opened_engine, crate::specs::Feed::opened_feed, crate::specs::Feed::held_of))]
+    #[tactic(auto, unfolding(crate::specs::Opening::opened_engine))]
     fn open_main(&mut self, found: Found<S::Reader>)
+        requires { self.old.phase ≡ Phase.Fresh }
         ensures { self.new ≡ opened_engine self.old found }
     {
-        let Found { path, reader } = found;
         self.phase = Phase::Open;
         self.quota = self.limits.output_bytes;
         self.kept = None;
-        self.path = path;
-        self.blanks = true;
-        let room = self.limits.source_bytes;
-        self.feed.open(reader, room);
+        self.main = found.path;
+        self.owed = Owed::nothing();
+        let source_bytes = self.limits.source_bytes;
+        self.files.enter(found, source_bytes, 0, 0);
     }
 
     // Keeps a fault of the opening of the main text.
     #[tactic(auto, unfolding(crate::specs::Opening::unopened_engine, rdlpp_meaning::specs::Output::opening_fault, rdlpp_meaning::specs::Outcome::told))]
     fn refuse_main(&mut self, kind: FaultKind, path: &str) -> Fault
+        requires { self.old.phase ≡ Phase.Fresh }
         ensures fault { told result ≡ opening_fault kind path.now }
         ensures kept { self.new ≡ unopened_engine self.old (opening_fault kind path.now) }
     {

@@ -1,4 +1,6 @@
-use Rattle.rdlpp_expand.proofs.Cuts.{cut_body, cut_end, cut_kept, cut_source}
+use Rattle.std.proofs.Common.{refl}
+use Rattle.rdlpp_expand.proofs.EngineSteps.{follows}
+use Rattle.rdlpp_expand.proofs.Cuts.{cut_body, cut_end, cut_kept, cut_owed, cut_source, owed_placed}
 use Rattle.rdlpp_expand.proofs.engine.Engine.advance.Goals as goal
 
 pub returns-in-Source-clause-steps : goal.returns-in-Source-clause-steps
@@ -11,8 +13,26 @@ returns-in-Body-clause-steps g c =
     cut_body g.S.Sources c.args.self.now c.walk.new.self c.spend-len-in-Body.new.self c.in-Body.id c.in-Body.start c.in-Body.end c.spend-len-in-Body.result
     c.in-Body.ensures.walks c.in-Body.ensures.place (record { fits = c.spend-len-in-Body.ensures.fits; passes = c.spend-len-in-Body.ensures.passes })
 
+pub returns-in-Owed-clause-steps : goal.returns-in-Owed-clause-steps
+returns-in-Owed-clause-steps g c =
+    cut_owed g.S.Sources c.args.self.now c.walk.new.self c.spend.new.self c.in-Owed.len c.spend.result
+    c.in-Owed.ensures.walks (record { fits = c.spend.ensures.fits; passes = c.spend.ensures.passes })
+
+pub returns-in-Owed-clause-place : goal.returns-in-Owed-clause-place
+returns-in-Owed-clause-place g c =
+    owed_placed c.walk.new.self c.spend.new.self c.in-Owed.len c.spend.result c.in-Owed.ensures.place (record { fits = c.spend.ensures.fits; passes = c.spend.ensures.passes })
+
 pub returns-in-End-clause-steps : goal.returns-in-End-clause-steps
 returns-in-End-clause-steps g c = cut_end g.S.Sources c.args.self.now c.walk.new.self c.in-End.ensures.walks
 
 pub returns-in-Kept-clause-steps : goal.returns-in-Kept-clause-steps
 returns-in-Kept-clause-steps g c = cut_kept g.S.Sources c.args.self.now c.walk.new.self c.walk.new.self.kept c.in-Kept.ensures.walks
+
+pub spend-len-requires : goal.spend-len-requires
+spend-len-requires g c = follows _ (c.in-Source.ensures.walks.lends _ refl).1
+
+pub spend-len-requires-in-Body : goal.spend-len-requires-in-Body
+spend-len-requires-in-Body g c = follows _ (c.in-Body.ensures.walks.lends _ refl).1
+
+pub spend-requires : goal.spend-requires
+spend-requires g c = follows _ (c.in-Owed.ensures.walks.lends _ refl).1

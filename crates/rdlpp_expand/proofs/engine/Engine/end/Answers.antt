@@ -1,22 +1,43 @@
-use Rattle.std.proofs.Common.{◌≡◌, refl, sym, ap, ◌∙◌}
+use Rattle.std.proofs.Common.{◌≡◌, refl, sym, ap, ◌∙◌, arith}
 use Rattle.rdlpp_scan.specs.Front.{Breach}
-use Rattle.rdlpp_scan.specs.declared.token.Mode.TheVariants.{InStr, InBlock}
+use Rattle.rdlpp_scan.specs.declared.token.Mode.TheVariants.{InStr, InBlock, Plain}
 use Rattle.rdlpp_meaning.specs.State.{breach_kind}
-use Rattle.rdlpp_expand.proofs.EngineSteps.{comment_kind, stops_open, string_kind}
+use Rattle.rdlpp_read.specs.Files.{inner_buffer}
+use Rattle.rdlpp_expand.proofs.Soundness.{inner_facts}
+use Rattle.rdlpp_expand.proofs.FrontSteps.{comment_kind, stops_open, string_kind}
 use Rattle.rdlpp_expand.proofs.engine.Engine.end.Goals as goal
+
+pub refuse_at-requires-clause-line : goal.refuse_at-requires-clause-line
+refuse_at-requires-clause-line g c =
+    let buffer = (inner_facts c.self.inside.files (rw (← c.self.view_is) at c.requires.some) c.facts.ensures).buffer in
+    let counts = buffer.counts in
+    let before = buffer.opened in
+    let line = c.open_token_line-opened.ensures ∙ ap (λ b. b.open_token_line) c.file.ensures.buffer in
+    omega arith
+
+pub refuse_at-requires-in-InBlock-clause-line : goal.refuse_at-requires-in-InBlock-clause-line
+refuse_at-requires-in-InBlock-clause-line g c =
+    let buffer = (inner_facts c.self.inside.files (rw (← c.self.view_is) at c.requires.some) c.facts.ensures).buffer in
+    let counts = buffer.counts in
+    let before = buffer.opened in
+    let line = c.open_token_line-opened.ensures ∙ ap (λ b. b.open_token_line) c.file.ensures.buffer in
+    omega arith
+
+pub returns-in-Plain : goal.returns-in-Plain
+returns-in-Plain g c =
+    let same = c.file.ensures.buffer ∙ ap (λ e. inner_buffer e.files.nest) c.self.view_is in
+    (ap (λ b. b.mode) (sym same) ∙ (sym c.mode.ensures ∙ c.in-Plain.is), c.close.ensures)
 
 pub returns-in-InStr : goal.returns-in-InStr
 unfolding breach_kind
 returns-in-InStr g c =
-    let mode : c.args.self.now.feed.mode ≡ InStr = rw (← c.self.view_is) (sym c.mode.ensures ∙ c.in-InStr.is) in
-    let opened : c.opened-opened.result ≡ c.args.self.now.feed.opened = c.opened-opened.ensures ∙ ap (λ e. e.feed.opened) c.self.view_is in
-    stops_open c.args.self.now c.refuse_at.new.self c.refuse_at.result Breach.StringOpen InStr c.opened-opened.result
-    c.refuse_at.ensures.place mode refl string_kind opened (rw c.new.ensures at c.refuse_at.ensures.kept)
+    let same = c.file.ensures.buffer ∙ ap (λ e. inner_buffer e.files.nest) c.self.view_is in
+    stops_open c.args.self.now c.refuse_at.new.self c.refuse_at.result Breach.StringOpen InStr c.open_token_line-opened.result
+    c.refuse_at.ensures.place (ap (λ b. b.mode) (sym same) ∙ (sym c.mode.ensures ∙ c.in-InStr.is)) refl string_kind (c.open_token_line-opened.ensures ∙ ap (λ b. b.open_token_line) same) (rw c.new.ensures at c.refuse_at.ensures.kept)
 
 pub returns-in-InBlock : goal.returns-in-InBlock
 unfolding breach_kind
 returns-in-InBlock g c =
-    let mode : c.args.self.now.feed.mode ≡ InBlock = rw (← c.self.view_is) (sym c.mode.ensures ∙ c.in-InBlock.is) in
-    let opened : c.opened-opened.result ≡ c.args.self.now.feed.opened = c.opened-opened.ensures ∙ ap (λ e. e.feed.opened) c.self.view_is in
-    stops_open c.args.self.now c.refuse_at-in-InBlock.new.self c.refuse_at-in-InBlock.result Breach.CommentOpen InBlock c.opened-opened.result
-    c.refuse_at-in-InBlock.ensures.place mode refl comment_kind opened (rw c.new-in-InBlock.ensures at c.refuse_at-in-InBlock.ensures.kept)
+    let same = c.file.ensures.buffer ∙ ap (λ e. inner_buffer e.files.nest) c.self.view_is in
+    stops_open c.args.self.now c.refuse_at-in-InBlock.new.self c.refuse_at-in-InBlock.result Breach.CommentOpen InBlock c.open_token_line-opened.result
+    c.refuse_at-in-InBlock.ensures.place (ap (λ b. b.mode) (sym same) ∙ (sym c.mode.ensures ∙ c.in-InBlock.is)) refl comment_kind (c.open_token_line-opened.ensures ∙ ap (λ b. b.open_token_line) same) (rw c.new-in-InBlock.ensures at c.refuse_at-in-InBlock.ensures.kept)

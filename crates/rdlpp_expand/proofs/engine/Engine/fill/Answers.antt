@@ -1,13 +1,5 @@
-use Rattle.std.proofs.Common.{◌∙◌}
+use Rattle.rdlpp_expand.proofs.Soundness.{sound_inner}
 use Rattle.rdlpp_expand.proofs.engine.Engine.fill.Goals as goal
 
 pub invariant_of-self : goal.invariant_of-self
-invariant_of-self g c = (
-  c.self.invariant.0,
-  c.provide-supply.ensures.supplies.most ∙ c.self.invariant.1,
-  c.self.invariant.2,
-  c.self.invariant.3,
-  c.self.invariant.4,
-  c.facts.ensures,
-  c.provide-supply.ensures.ends,
-)
+invariant_of-self g c = sound_inner _ _ _ c.self.inside.files _ _ c.self.invariant c.fill.ensures.only

@@ -1,6 +1,17 @@
-use Rattle.std.proofs.Common.{arith}
-use Rattle.rdlpp_expand.proofs.Bounds.{is_bounded}
+use Rattle.std.proofs.Common.{◌≡◌, length, sum_by, ap, ◌∙◌, sym, arith}
+use Rattle.rdlpp_read.specs.Files.{held_windows}
+use Rattle.rdlpp_read.proofs.Slots.{held_windows-len}
+use Rattle.rdlpp_expand.specs.Held.{held_told, stores_of}
+use Rattle.rdlpp_expand.proofs.Bounds.{slots_fit}
 use Rattle.rdlpp_expand.proofs.engine.Engine.held.Goals as goal
 
-pub returns-clause-bounded : goal.returns-clause-bounded
-returns-clause-bounded g c = rw (← c.self.view_is) (is_bounded _ (omega arith) (omega arith))
+pub held_len-requires : goal.held_len-requires
+held_len-requires g c = rw (c.self.invariant.slots, c.self.invariant.line_bytes) (slots_fit c.self.inside.limits c.self.invariant.in_range)
+
+pub returns-clause-value : goal.returns-clause-value
+unfolding held_told stores_of
+returns-clause-value g c =
+    let bytes : c.held_len.result ≡ sum_by length (held_windows c.self.inside.files.nest) = c.held_len.ensures ∙ sym (held_windows-len c.self.inside.files.nest) in
+    let definitions = c.bytes.ensures.value in
+    let open_ = c.len.ensures in
+    rw (← c.self.view_is) (cc)

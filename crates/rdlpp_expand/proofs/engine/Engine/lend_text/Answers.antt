@@ -1,53 +1,48 @@
-use Rattle.std.proofs.Common.{◌≡◌, ◌+◌, ◌-◌, length, take, sym, ap, ◌∙◌, arith}
+use Rattle.std.proofs.Common.{◌≡◌, ◌≤◌, ◌+◌, length, take, sym, ap, ◌∙◌, refl, arith}
 use Rattle.std.proofs.lemmas.List.{length-take-le}
 use Rattle.rdlpp_scan.specs.SourceTokens.{line_ends}
-use Rattle.rdlpp_expand.specs.Feed.{IsFeed, EndsHeld, entered, held_of}
-use Rattle.rdlpp_expand.specs.Front.{passed}
-use Rattle.rdlpp_expand.specs.Pieces.{IsPlaced}
-use Rattle.rdlpp_expand.proofs.FrontRemains.{held_entered, text_inside}
-use Rattle.rdlpp_expand.proofs.FrontSteps.{entered_passed, held_room, line_ends-le, take_text}
+use Rattle.rdlpp_read.specs.Buffer.{held_of}
+use Rattle.rdlpp_read.specs.Files.{inner_buffer}
+use Rattle.rdlpp_front.proofs.Insides.{text_inside}
+use Rattle.rdlpp_expand.proofs.FrontSteps.{IsRoom, entered_at, entered_holds, line_ends-le, room_of, take_text, text_placed}
 use Rattle.rdlpp_expand.proofs.engine.Engine.lend_text.Goals as goal
 
 pub slice_bounds-line_ends_in-end : goal.slice_bounds-line_ends_in-end
 slice_bounds-line_ends_in-end g c =
-    let inside = rw (← c.self.view_is) at (text_inside _ _ _ _ c.requires.ready.bytes c.requires.text).1 in
-    sym (length-take-le c.args.len c.held.result.now (rw c.held.ensures.value inside))
+    let held : c.held.result.now ≡ held_of (inner_buffer c.args.self.now.files.nest) = c.held.ensures.value ∙ ap held_of (c.file.ensures.buffer ∙ ap (λ e. inner_buffer e.files.nest) c.self.view_is) in
+    sym (length-take-le c.args.len c.held.result.now (rw held ((text_inside _ _ _ _ c.requires.some c.requires.text).1)))
 
-pub consume-end-requires-clause-inside : goal.consume-end-requires-clause-inside
-consume-end-requires-clause-inside g c =
-    let same : held_of c.enter.new.self.feed ≡ held_of c.args.self.now.feed = ap (λ e. held_of e.feed) c.enter.ensures ∙ held_entered _ _ in
-    rw same ((text_inside _ _ _ _ c.requires.ready.bytes c.requires.text).1)
+pub consume-start-requires-clause-inside : goal.consume-start-requires-clause-inside
+consume-start-requires-clause-inside g c =
+    let same : held_of (inner_buffer c.enter_mode.new.self.files.nest) ≡ held_of (inner_buffer c.args.self.now.files.nest) =
+    ap (λ e. held_of (inner_buffer e.files.nest)) c.enter_mode.ensures ∙ entered_holds _ _ in
+    rw same ((text_inside _ _ _ _ c.requires.some c.requires.text).1)
 
-pub consume-end-requires-clause-lines : goal.consume-end-requires-clause-lines
-consume-end-requires-clause-lines g c =
-    let inside = rw (← c.self.view_is) at (text_inside _ _ _ _ c.requires.ready.bytes c.requires.text).1 in
-    let few : length (take c.args.len c.held.result.now) ≡ c.args.len = length-take-le c.args.len c.held.result.now (rw c.held.ensures.value inside) in
+pub consume-start-requires-clause-lines : goal.consume-start-requires-clause-lines
+consume-start-requires-clause-lines g c =
+    let held : c.held.result.now ≡ held_of (inner_buffer c.args.self.now.files.nest) = c.held.ensures.value ∙ ap held_of (c.file.ensures.buffer ∙ ap (λ e. inner_buffer e.files.nest) c.self.view_is) in
+    let few : length (take c.args.len c.held.result.now) ≡ c.args.len = length-take-le c.args.len c.held.result.now (rw held ((text_inside _ _ _ _ c.requires.some c.requires.text).1)) in
     let most = line_ends-le (take c.args.len c.held.result.now) in
     let count = c.line_ends_in-lines.ensures in
     omega arith
 
-pub returns-clause-place : goal.returns-clause-place
-unfolding IsPlaced passed entered
-returns-clause-place g c =
-    let is : IsFeed c.args.self.now.feed = rw (← c.self.view_is) c.self.invariant.5 in
-    let inside = (text_inside _ _ _ _ c.requires.ready.bytes c.requires.text).1 in
-    let room = held_room c.args.self.now.feed in
-    let at : c.enter.new.self.feed.at ≡ c.args.self.now.feed.at = ap (λ e. e.feed.at) c.enter.ensures in
-    let end : c.consume-end.result ≡ c.enter.new.self.feed.at + c.args.len = c.consume-end.ensures.end in
-    let window = ap (λ e. e.feed.window) c.consume-end.ensures.passed ∙ ap (λ e. e.feed.window) c.enter.ensures in
-    (omega arith, rw window (omega arith))
+pub overflow_add-result : goal.overflow_add-result
+overflow_add-result g c =
+    let begins : c.consume-start.result ≡ (inner_buffer c.args.self.now.files.nest).at = c.consume-start.ensures.start ∙ (ap (λ e. (inner_buffer e.files.nest).at) c.enter_mode.ensures ∙ entered_at _ _) in
+    let few = (room_of c.args.self.now c.args.len c.consume-start.result c.requires.ready ((text_inside _ _ _ _ c.requires.some c.requires.text).1) begins).few in
+    omega arith
 
-pub returns-clause-takes : goal.returns-clause-takes
-unfolding entered
-returns-clause-takes g c =
-    let is : IsFeed c.args.self.now.feed = rw (← c.self.view_is) c.self.invariant.5 in
-    let ends : EndsHeld c.args.self.now.feed = rw (← c.self.view_is) c.self.invariant.6 in
-    let held : c.held.result.now ≡ held_of c.args.self.now.feed = c.held.ensures.value ∙ ap (λ e. held_of e.feed) c.self.view_is in
-    let counted : c.line_ends_in-lines.result ≡ line_ends (take c.args.len (held_of c.args.self.now.feed)) =
+pub returns-clause-place : goal.returns-clause-place
+returns-clause-place g c =
+    let begins : c.consume-start.result ≡ (inner_buffer c.args.self.now.files.nest).at = c.consume-start.ensures.start ∙ (ap (λ e. (inner_buffer e.files.nest).at) c.enter_mode.ensures ∙ entered_at _ _) in
+    text_placed c.args.self.now c.enter_mode.new.self c.consume-start.new.self c.args.len c.line_ends_in-lines.result c.consume-start.result c.args.next c.requires.ready
+    (room_of c.args.self.now c.args.len c.consume-start.result c.requires.ready ((text_inside _ _ _ _ c.requires.some c.requires.text).1) begins) c.enter_mode.ensures c.consume-start.ensures.used
+
+pub returns-clause-walks : goal.returns-clause-walks
+returns-clause-walks g c = λ bounded.
+    let held : c.held.result.now ≡ held_of (inner_buffer c.args.self.now.files.nest) = c.held.ensures.value ∙ ap held_of (c.file.ensures.buffer ∙ ap (λ e. inner_buffer e.files.nest) c.self.view_is) in
+    let counted : c.line_ends_in-lines.result ≡ line_ends (take c.args.len (held_of (inner_buffer c.args.self.now.files.nest))) =
     c.line_ends_in-lines.ensures ∙ ap (λ h. line_ends (take c.args.len h)) held in
-    let at : c.enter.new.self.feed.at ≡ c.args.self.now.feed.at = ap (λ e. e.feed.at) c.enter.ensures in
-    let stops : c.consume-end.result ≡ c.args.self.now.feed.at + c.args.len = c.consume-end.ensures.end ∙ ap (λ k. k + c.args.len) at in
-    let begins : c.consume-end.result - c.args.len ≡ c.args.self.now.feed.at = omega arith in
-    take_text g.S.Sources c.args.self.now c.consume-end.new.self c.args.len c.line_ends_in-lines.result (c.consume-end.result - c.args.len) c.consume-end.result c.args.next
-    c.requires.ready ends is.used c.requires.text counted
-    (entered_passed c.args.self.now c.enter.new.self c.consume-end.new.self c.args.len c.line_ends_in-lines.result c.args.next c.enter.ensures c.consume-end.ensures.passed) begins stops
+    let begins : c.consume-start.result ≡ (inner_buffer c.args.self.now.files.nest).at = c.consume-start.ensures.start ∙ (ap (λ e. (inner_buffer e.files.nest).at) c.enter_mode.ensures ∙ entered_at _ _) in
+    take_text g.S.Sources c.args.self.now c.enter_mode.new.self c.consume-start.new.self c.args.len c.line_ends_in-lines.result c.consume-start.result (c.consume-start.result + c.args.len) c.args.next
+    c.requires.ready bounded c.requires.some c.requires.text counted c.enter_mode.ensures c.consume-start.ensures.used begins refl

@@ -1,15 +1,19 @@
-use Rattle.std.proofs.Common.{◌≡◌, ◌+◌, ◌-◌, take, arith}
-use Rattle.std.proofs.lemmas.List.{take_all}
+use Rattle.std.proofs.Common.{◌≡◌, ◌+◌, ◌<◌, ◌^◌, ap, sym, ◌∙◌, arith}
 use Rattle.rdlpp_meaning.specs.Outcome.{told}
-use Rattle.rdlpp_meaning.specs.State.{fault_at, shown_line, no_shift}
-use Rattle.rdlpp_meaning.specs.Output.{start_state}
 use Rattle.rdlpp_expand.specs.Remaining.{state_of}
+use Rattle.rdlpp_expand.proofs.Soundness.{inner_number, told_first}
 use Rattle.rdlpp_expand.proofs.engine.Engine.refuse_at.Goals as goal
 
+pub shown_line-requires : goal.shown_line-requires
+shown_line-requires g c =
+    let number = inner_number c.self.inside.files c.file-file.result.now _ c.file-file.ensures.inner c.facts.ensures in
+    let line = c.requires.line in
+    omega arith
+
 pub returns-clause-kept : goal.returns-clause-kept
-unfolding told fault_at shown_line no_shift start_state state_of
+unfolding told state_of
 returns-clause-kept g c =
-    let short : take 128 c.args.word.bytes ≡ c.args.word.bytes = take_all 128 c.args.word.bytes (omega arith) in
-    let shown : 0 + (c.args.line - 0) ≡ c.args.line = omega arith in
     let name = c.copied.ensures in
-    rw (← c.self.view_is, short) (cc)
+    let shown = c.shown_line.ensures in
+    let fault = told_first c.self.inside.limits c.self.inside.table.macros c.self.inside.files.nest c.file-file.result.now _ c.args.kind c.args.line c.args.word.bytes c.file-file.ensures.inner (omega arith) in
+    rw (← c.self.view_is) (cc)

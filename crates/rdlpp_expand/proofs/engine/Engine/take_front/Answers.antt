@@ -1,15 +1,18 @@
 use Rattle.std.proofs.Common.{◌≡◌, [], ap, ◌∙◌}
-use Rattle.rdlpp_expand.specs.Feed.{EndsHeld, held_of}
-use Rattle.rdlpp_expand.specs.Front.{IsRefused}
-use Rattle.rdlpp_expand.proofs.FrontSteps.{left_refused, refused_kind, take_refused}
+use Rattle.rdlpp_read.specs.Buffer.{held_of}
+use Rattle.rdlpp_read.specs.Files.{inner_buffer}
+use Rattle.rdlpp_front.specs.Fronts.{IsRefused}
+use Rattle.rdlpp_expand.proofs.EngineSteps.{not_called}
+use Rattle.rdlpp_expand.proofs.FrontSteps.{left_refused, read_nothing, refused_kind, refuses}
 use Rattle.rdlpp_expand.proofs.engine.Engine.take_front.Goals as goal
 
-pub returns-in-Refused-clause-takes : goal.returns-in-Refused-clause-takes
-unfolding held_of
-returns-in-Refused-clause-takes g c =
-    let ends : EndsHeld c.args.self.now.feed = rw (← c.self.view_is) c.self.invariant.6 in
-    let held : c.held.result.now ≡ held_of c.args.self.now.feed = c.held.ensures.value ∙ ap (λ e. held_of e.feed) c.self.view_is in
-    let mode : c.mode.result ≡ c.args.self.now.feed.mode = c.mode.ensures ∙ ap (λ e. e.feed.mode) c.self.view_is in
-    let refused : IsRefused c.args.self.now.feed.mode (held_of c.args.self.now.feed) c.in-Refused.kind = rw (← mode, ← held) c.in-Refused.ensures in
-    take_refused g.S.Sources c.args.self.now c.refuse.new.self c.refuse.result c.in-Refused.kind [] c.refuse.ensures.place (rw c.new.ensures at c.refuse.ensures.kept)
-    (refused_kind _ _ _ refused) (left_refused g.S.Sources.unread c.args.self.now c.in-Refused.kind c.requires.bytes ends refused)
+pub returns-in-Refused-clause-walks : goal.returns-in-Refused-clause-walks
+returns-in-Refused-clause-walks g c = λ bounded.
+    let e = c.args.self.now in
+    let same = c.file.ensures.buffer ∙ ap (λ e. inner_buffer e.files.nest) c.self.view_is in
+    let held : c.held.result.now ≡ held_of (inner_buffer e.files.nest) = c.held.ensures.value ∙ ap held_of same in
+    let mode : c.mode.result ≡ (inner_buffer e.files.nest).mode = c.mode.ensures ∙ ap (λ b. b.mode) same in
+    let refused : IsRefused (inner_buffer e.files.nest).mode (held_of (inner_buffer e.files.nest)) c.in-Refused.kind = rw (← mode, ← held) c.in-Refused.ensures in
+    refuses g.S.Sources e e c.refuse.new.self c.refuse.result c.in-Refused.kind _ [] c.requires.ready (read_nothing e) bounded c.refuse.ensures.place (rw c.new.ensures at c.refuse.ensures.kept)
+    (refused_kind _ _ _ refused) (not_called g.S.Sources e.sources)
+    (λ t. left_refused g.S.Sources.unread e c.in-Refused.kind c.requires.ready c.requires.some refused)

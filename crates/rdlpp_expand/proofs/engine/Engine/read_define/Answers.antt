@@ -1,0 +1,61 @@
+use Rattle.std.proofs.Common.{◌≡◌, ℕ, ◌≤◌, ◌+◌, ◌<◌, length, take, drop, sym, ap, ◌∙◌, refl, arith}
+use Rattle.std.proofs.lemmas.List.{length-take-le}
+use Rattle.rdlpp_scan.specs.SourceTokens.{line_ends}
+use Rattle.rdlpp_table.specs.Define.{Accepted, Refused, define_of, observed}
+use Rattle.rdlpp_meaning.specs.Profile.{define_fault}
+use Rattle.rdlpp_read.specs.Buffer.{held_of}
+use Rattle.rdlpp_read.specs.Files.{inner_buffer}
+use Rattle.rdlpp_expand.specs.Moves.{define_rest}
+use Rattle.rdlpp_expand.specs.Owed.{OwedView, nothing_owed}
+use Rattle.rdlpp_expand.proofs.FrontSteps.{behind_word, defined_same, defines_by, line_ends-le, owing, reads_refused}
+use Rattle.rdlpp_expand.proofs.engine.Engine.read_define.Goals as goal
+
+pub consume-requires-clause-lines : goal.consume-requires-clause-lines
+consume-requires-clause-lines g c =
+    let held : c.held.result.now ≡ held_of (inner_buffer c.args.self.now.files.nest) = c.held.ensures.value ∙ ap held_of (c.file.ensures.buffer ∙ ap (λ e. inner_buffer e.files.nest) c.self.view_is) in
+    let few : length (take c.args.len c.held.result.now) ≡ c.args.len = length-take-le c.args.len c.held.result.now (rw held c.requires.inside) in
+    let most = line_ends-le (take c.args.len c.held.result.now) in
+    let count = c.line_ends_in-lines.ensures in
+    omega arith
+
+pub owe_line_ends-requires : goal.owe_line_ends-requires
+unfolding nothing_owed
+owe_line_ends-requires g c =
+    let none : c.self-in-Ok.inside.owed.line_ends ≡ 0 =
+    ap (λ e. e.owed.line_ends) c.self-in-Ok.view_is ∙ (ap (λ e. e.owed.line_ends) c.consume.ensures.used ∙ (ap (λ e. e.owed.line_ends) c.self.view_is ∙ ap (λ o. o.line_ends) c.requires.nothing)) in
+    let few = c.line_ends_in-lines.type_inv in
+    omega arith
+
+pub returns-in-Err-clause-reads : goal.returns-in-Err-clause-reads
+unfolding observed
+returns-in-Err-clause-reads g c =
+    let e = c.args.self.now in
+    let held : c.held.result.now ≡ held_of (inner_buffer e.files.nest) = c.held.ensures.value ∙ ap held_of (c.file.ensures.buffer ∙ ap (λ e. inner_buffer e.files.nest) c.self.view_is) in
+    let inside : c.held.result.now ≡ held_of (inner_buffer c.self.inside.files.nest) = c.held.ensures.value ∙ ap held_of c.file.ensures.buffer in
+    let wide : length (take c.args.len c.held.result.now) ≡ c.args.len = length-take-le c.args.len c.held.result.now (rw held c.requires.inside) in
+    let rest = behind_word (take c.args.len c.held.result.now) c.args.len c.min.result wide c.min.ensures in
+    let refused : define_of e.table.most_bytes e.table.most_macros e.table.macros (define_rest e c.args.len) ≡ Refused c.in-Err.fault.kind c.in-Err.fault.word.bytes =
+    rw (← c.self.view_is) (defined_same _ _ _ _ _ _ c.in-Err.ensures.outcome (rest ∙ ap (λ h. drop 7 (take c.args.len h)) inside)) in
+    reads_refused c.args.len e c.refuse.new.self c.refuse.result c.refuse.ensures.place (record {
+      kind = c.in-Err.fault.kind;
+      word = c.in-Err.fault.word.bytes;
+      refused = refused;
+      becomes = rw (← c.self.view_is, ← c.fault_kind.ensures) (rw c.in-Err.ensures.refused at c.refuse.ensures.kept);
+    })
+
+pub returns-in-Ok-clause-reads : goal.returns-in-Ok-clause-reads
+unfolding observed
+returns-in-Ok-clause-reads g c =
+    let e = c.args.self.now in
+    let held : c.held.result.now ≡ held_of (inner_buffer e.files.nest) = c.held.ensures.value ∙ ap held_of (c.file.ensures.buffer ∙ ap (λ e. inner_buffer e.files.nest) c.self.view_is) in
+    let inside : c.held.result.now ≡ held_of (inner_buffer c.self.inside.files.nest) = c.held.ensures.value ∙ ap held_of c.file.ensures.buffer in
+    let wide : length (take c.args.len c.held.result.now) ≡ c.args.len = length-take-le c.args.len c.held.result.now (rw held c.requires.inside) in
+    let rest = behind_word (take c.args.len c.held.result.now) c.args.len c.min.result wide c.min.ensures in
+    let accepted : define_of e.table.most_bytes e.table.most_macros e.table.macros (define_rest e c.args.len) ≡ Accepted c.read_define.new.self.macros =
+    rw (← c.self.view_is) (defined_same _ _ _ _ _ _ c.in-Ok.ensures.outcome (rest ∙ ap (λ h. drop 7 (take c.args.len h)) inside)) in
+    let counted : c.line_ends_in-lines.result ≡ line_ends (take c.args.len (held_of (inner_buffer e.files.nest))) = c.line_ends_in-lines.ensures ∙ ap (λ h. line_ends (take c.args.len h)) held in
+    let grows : ℕ → OwedView = λ n. record { line_ends = n + c.line_ends_in-lines.result } in
+    defines_by c.args.len e c.consume.new.self _ c.read_define.new.self c.owe_line_ends.new.self c.line_ends_in-lines.result
+    (rw (← c.self.view_is) c.consume.ensures.used) (owing _ c.consume.new.self c.owe_line_ends.new.self c.self-in-Ok.view_is)
+    (c.owe_line_ends.ensures ∙ ap grows (ap (λ e. e.owed.line_ends) c.self-in-Ok.view_is))
+    c.requires.nothing (rw (← c.self.view_is) c.in-Ok.ensures.limits) accepted counted

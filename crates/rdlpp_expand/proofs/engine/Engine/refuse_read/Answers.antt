@@ -1,0 +1,26 @@
+use Rattle.std.proofs.Common.{◌≡◌, ◌≤◌, length, [], Some, ap, ◌∙◌, refl, arith}
+use Rattle.rdlpp_meaning.specs.State.{fault_at}
+use Rattle.rdlpp_meaning.specs.declared.fault.FaultKind.TheVariants.{ReadFailed}
+use Rattle.rdlpp_read.specs.Buffer.{held_of, reading_line_of}
+use Rattle.rdlpp_read.specs.Files.{inner_buffer}
+use Rattle.rdlpp_expand.specs.Remaining.{state_of}
+use Rattle.rdlpp_expand.proofs.Soundness.{inner_facts}
+use Rattle.rdlpp_expand.proofs.FrontSteps.{line_ends-le}
+use Rattle.rdlpp_expand.proofs.WorkFacts.{held_room}
+use Rattle.rdlpp_expand.proofs.engine.Engine.refuse_read.Goals as goal
+
+pub refuse_at-requires-clause-line : goal.refuse_at-requires-clause-line
+unfolding reading_line_of
+refuse_at-requires-clause-line g c =
+    let b = inner_buffer c.self.inside.files.nest in
+    let counts = (inner_facts c.self.inside.files (rw (← c.self.view_is) at c.requires) c.facts.ensures).buffer.counts in
+    let line : c.reading_line-line.result ≡ reading_line_of b = c.reading_line-line.ensures ∙ ap reading_line_of c.file.ensures.buffer in
+    let most = line_ends-le (held_of b) in
+    let room = held_room b in
+    omega arith
+
+pub returns-clause-kept : goal.returns-clause-kept
+returns-clause-kept g c =
+    let line : c.reading_line-line.result ≡ reading_line_of (inner_buffer c.args.self.now.files.nest) = c.reading_line-line.ensures ∙ (ap reading_line_of c.file.ensures.buffer ∙ ap (λ e. reading_line_of (inner_buffer e.files.nest)) c.self.view_is) in
+    let word = c.new.ensures in
+    c.refuse_at.ensures.kept ∙ rw (line, word) refl
