@@ -1,8 +1,8 @@
 -- What is taken of the open sources, as steps of the engine.
-use Rattle.std.proofs.Common.{◌≡◌, ◌⊎◌, ℕ, zero, suc, ◌+◌, ◌-◌, ◌^◌, ◌≤◌, ◌<◌, Bool, true, false, cond, List, [], ◌∷◌, ◌++◌, length, take, drop, replicate, append_assoc, Option, None, Some, Result, Ok, Err, refl, sym, ap, ◌∙◌, subst, inl, inr, arith}
+use Rattle.std.proofs.Common.{◌≡◌, ◌⊎◌, ℕ, zero, suc, ◌+◌, ◌-◌, ◌^◌, ◌≤◌, ◌<◌, Bool, true, false, cond, List, [], ◌∷◌, ◌++◌, length, take, drop, replicate, append_assoc, append-nil, Option, None, Some, Result, Ok, Err, refl, sym, ap, ◌∙◌, subst, inl, inr, arith}
 use Rattle.std.specs.List.{slice_range}
 use Rattle.std.specs.Prelude.{min, IfSome}
-use Rattle.std.proofs.lemmas.List.{take-take, drop-take, length-drop, length-take, replicate-append-replicate, take_all, take_rest}
+use Rattle.std.proofs.lemmas.List.{take-take, drop-take, length-drop, length-take, take_all, take_rest}
 use Rattle.std.proofs.Math.Seq.{drop-nil}
 use Rattle.rdlpp_source.specs.declared.sources.Sources.{Ghosts}
 use Rattle.rdlpp_scan.specs.Bytes.{is_line_end}
@@ -43,9 +43,10 @@ use Rattle.rdlpp_expand.specs.Calls.{SourcesCalled}
 use Rattle.rdlpp_expand.specs.Engine.{EngineView, IsSoundEngine, is_open}
 use Rattle.rdlpp_expand.specs.Held.{IsBounded}
 use Rattle.rdlpp_expand.specs.Moves.{Defines, Ends, IsReady, ReadsDefine, RefusesDefine, StopsOpen, define_rest}
-use Rattle.rdlpp_expand.specs.Owed.{OwedView, nothing_owed, owed_bytes, owed_pieces}
+use Rattle.rdlpp_expand.specs.Owed.{OriginView, OwedView, TakesPiece, digits_of, line_ends_owed, nothing_owed, origin_bytes, origin_pieces, owed_bytes, owed_pieces, part_bytes}
+use Rattle.rdlpp_expand.specs.declared.owed.OwedPiece.{OwedPiece}
 use Rattle.rdlpp_expand.specs.Pieces.{IsPlaced, lent_answer, step_answer}
-use Rattle.rdlpp_expand.specs.Remaining.{file_state, nest_left, nest_state, staged_rules, state_of, text_of, work_left}
+use Rattle.rdlpp_expand.specs.Remaining.{file_state, inner_name, nest_left, nest_state, staged_rules, state_of, text_of, work_left}
 use Rattle.rdlpp_expand.specs.Steps.{EndsText, IsOwn, Walks, is_memory_kind, is_read_failed, is_write_failed}
 use Rattle.rdlpp_expand.specs.declared.phase.Phase.{Phase}
 use Rattle.rdlpp_expand.specs.declared.phase.Phase.TheVariants.{Open, Closed}
@@ -120,18 +121,28 @@ line_ends-le (b ∷ bs) =
 -- what remains of the text where nothing is owed
 text_unowed : {S R : Type 0} (unread : R → List ℕ) (e : EngineView S R) → e.owed ≡ nothing_owed
     → text_of unread e ≡ nest_left e.limits (staged_rules e.limits e.origins) unread e.table.macros e.files.nest
-unfolding text_of nothing_owed owed_bytes behind_bytes
+unfolding text_of nothing_owed owed_bytes origin_bytes behind_bytes
 text_unowed unread e none = rw none refl
 
 -- nothing that is owed is before nothing
-unowed_behind : (owed : OwedView) (p : Passage) → owed ≡ nothing_owed → behind_bytes (owed_bytes owed) p ≡ p
-unfolding nothing_owed owed_bytes behind_bytes
-unowed_behind owed p none = rw none refl
+unowed_behind : (name : List ℕ) (owed : OwedView) (p : Passage) → owed ≡ nothing_owed → behind_bytes (owed_bytes name owed) p ≡ p
+unfolding nothing_owed owed_bytes origin_bytes behind_bytes
+unowed_behind name owed p none = rw none refl
 
 -- nothing that is owed can be counted
 unowed_few : (owed : OwedView) → owed ≡ nothing_owed → owed_pieces owed < 2 ^ 31
-unfolding nothing_owed owed_pieces
+unfolding nothing_owed owed_pieces origin_pieces
 unowed_few owed none = rw none (omega arith)
+
+-- LF bytes alone that are owed
+pub owed_lines : (name : List ℕ) (lines : ℕ) → owed_bytes name (line_ends_owed lines) ≡ replicate lines 10
+unfolding line_ends_owed owed_bytes origin_bytes
+owed_lines name lines = append-nil (replicate lines 10)
+
+-- each of them is a piece
+pub lines_few : (lines n : ℕ) → lines < n → owed_pieces (line_ends_owed lines) < n
+unfolding line_ends_owed owed_pieces origin_pieces
+lines_few lines n few = omega arith
 
 -- what is left of the open sources of an engine, with other macros and others open
 abbrev pub left_by : {S R : Type 0} → (R → List ℕ) → EngineView S R → List Macro → List (File R) → Passage
@@ -141,13 +152,13 @@ left_by unread e macros nest = nest_left e.limits (staged_rules e.limits e.origi
 pub lends_piece : {S R : Type 0} (g : Ghosts S R) (old : EngineView S R) (ready : IsReady old) (bytes : List ℕ) (owed : OwedView) (macros : List Macro) (nest : List (File R)) (sources : S)
     → let after = record old { owed = owed; table = record old.table { macros = macros }; files = record old.files { nest = nest }; sources = sources } in
     IsBounded after → owed_pieces owed < 2 ^ 31 → IsUsed old.files.nest nest → SourcesCalled g false false old.sources sources
-    → (g.tells old.sources → left_by g.unread old old.table.macros old.files.nest ≡ behind_bytes bytes (behind_bytes (owed_bytes owed) (left_by g.unread old macros nest)))
+    → (g.tells old.sources → left_by g.unread old old.table.macros old.files.nest ≡ behind_bytes bytes (behind_bytes (owed_bytes (inner_name nest) owed) (left_by g.unread old macros nest)))
     → Walks g old after (Ok (Some bytes))
 unfolding text_of
 lends_piece g old ready bytes owed macros nest sources bounded few used call law =
     let after = record old { owed = owed; table = record old.table { macros = macros }; files = record old.files { nest = nest }; sources = sources } in
     walks_lent g old after ready.free ready.open_ bounded bytes refl call
-    (λ t. unowed_behind old.owed (left_by g.unread old old.table.macros old.files.nest) ready.owed ∙ law t)
+    (λ t. unowed_behind (inner_name old.files.nest) old.owed (left_by g.unread old old.table.macros old.files.nest) ready.owed ∙ law t)
     (work_falls old after refl used few)
 
 -- and nothing is owed
@@ -159,7 +170,7 @@ pub lends_source : {S R : Type 0} (g : Ghosts S R) (old new : EngineView S R) (r
 lends_source {S} {R} g old new ready bytes macros nest becomes bounded used law =
     subst (λ (e : EngineView S R). Walks g old e (Ok (Some bytes))) (sym becomes)
     (lends_piece g old ready bytes old.owed macros nest old.sources (subst IsBounded becomes bounded) (unowed_few old.owed ready.owed) used (not_called g old.sources)
-    (λ t. law ∙ ap (behind_bytes bytes) (sym (unowed_behind old.owed (left_by g.unread old macros nest) ready.owed))))
+    (λ t. law ∙ ap (behind_bytes bytes) (sym (unowed_behind (inner_name nest) old.owed (left_by g.unread old macros nest) ready.owed))))
 
 -- what isn't built, refused or read isn't a failed read
 pub refused_kind : (mode : Mode) (held : List ℕ) (kind : FaultKind) → IsRefused mode held kind → IsOwn kind
@@ -363,7 +374,7 @@ module _ {S R : Type 0} (g : Ghosts S R) (old mid new : EngineView S R) (len : �
     (call : SourcesCalled g false false old.sources mid.sources) where
   -- it is accepted
   accepted_steps : 7 ≤ len → len ≤ length (held_of (inner_buffer mid.files.nest)) → length (held_of (inner_buffer mid.files.nest)) < 2 ^ 31 → Defines len mid new → Walks g old new (step_answer new None)
-  unfolding staged_rules rules_of with_fault owed_bytes owed_pieces behind_bytes
+  unfolding staged_rules rules_of with_fault behind_bytes
   accepted_steps wide inside few d =
       let inner = inner_facts old.files ready.nest ready.files in
       let b = inner_buffer mid.files.nest in
@@ -376,16 +387,17 @@ module _ {S R : Type 0} (g : Ghosts S R) (old mid new : EngineView S R) (len : �
       let size = length-take len (held_of b) in
       let counted = d.counted in
       let makes : List (File R) → EngineView S R = λ ns.
-      record old { owed = record { line_ends = d.lines }; table = record old.table { macros = d.macros }; files = record old.files { nest = ns }; sources = mid.sources } in
+      record old { owed = line_ends_owed d.lines; table = record old.table { macros = d.macros }; files = record old.files { nest = ns }; sources = mid.sources } in
       let becomes : new ≡ makes after =
-      d.becomes ∙ (ap (λ (m : EngineView S R). record m { table = record m.table { macros = d.macros }; files = record m.files { nest = with_inner (consumed_file len d.lines) mid.files.nest }; owed = record { line_ends = d.lines } }) r.becomes
-      ∙ (ap (λ (fs : FilesView R). record old { owed = record { line_ends = d.lines }; table = record old.table { macros = d.macros }; files = record fs { nest = with_inner (consumed_file len d.lines) mid.files.nest }; sources = mid.sources }) r.only
+      d.becomes ∙ (ap (λ (m : EngineView S R). record m { table = record m.table { macros = d.macros }; files = record m.files { nest = with_inner (consumed_file len d.lines) mid.files.nest }; owed = line_ends_owed d.lines }) r.becomes
+      ∙ (ap (λ (fs : FilesView R). record old { owed = line_ends_owed d.lines; table = record old.table { macros = d.macros }; files = record fs { nest = with_inner (consumed_file len d.lines) mid.files.nest }; sources = mid.sources }) r.only
       ∙ ap (λ (ns : List (File R)). makes (with_inner (consumed_file len d.lines) ns)) nest)) in
       let accepted : define_of old.limits.definition_bytes old.limits.definitions old.table.macros (drop 7 w) ≡ table_define.Accepted d.macros =
       rw (← ready.sound.definition_bytes, ← ready.sound.definitions) (rw table at d.accepted) in
-      let owed : line_ends_of w ≡ replicate d.lines 10 = line_ends_of-owed w ∙ ap (λ n. replicate n 10) (sym counted) in
+      let owed : line_ends_of w ≡ owed_bytes (inner_name after) (line_ends_owed d.lines) =
+      line_ends_of-owed w ∙ (ap (λ n. replicate n 10) (sym counted) ∙ sym (owed_lines (inner_name after) d.lines)) in
       subst (λ (e : EngineView S R). Walks g old e (Ok (Some []))) (sym becomes)
-      (lends_piece g old ready [] (record { line_ends = d.lines }) d.macros after mid.sources (subst IsBounded becomes bounded) (omega arith)
+      (lends_piece g old ready [] (line_ends_owed d.lines) d.macros after mid.sources (subst IsBounded becomes bounded) (lines_few d.lines _ (omega arith))
       (used_after old.files.nest b len d.lines ready.nest holds.extends.unused (omega arith) inside) call
       (λ t. nest_defined old.limits (staged_rules old.limits old.origins) g.unread old.table.macros (g.tells old.sources) t old.files.nest b len d.lines d.macros
       some inner.ends plain define holds (ap with_fault accepted) counted
@@ -487,18 +499,24 @@ ended_placed mid new End ends = tt
 ended_placed mid new Kept ends = tt
 
 -- what is owed is lent
-pub take_owed : {S R : Type 0} (g : Ghosts S R) (old new : EngineView S R) (len : ℕ) (owed : OwedView) → old.kept ≡ None → old.phase ≡ Open → IsBounded new
-    → 0 < len → old.owed.line_ends ≡ len + owed.line_ends → new ≡ record old { owed = owed } → Walks g old new (lent_answer new (Owed len))
-unfolding text_of owed_bytes owed_pieces
-take_owed {S} {R} g old new len owed free open_ bounded some split becomes =
+pub take_owed : {S R : Type 0} (g : Ghosts S R) (old new : EngineView S R) (piece : OwedPiece) (owed : OwedView) → old.kept ≡ None → old.phase ≡ Open → IsBounded new
+    → TakesPiece (inner_name old.files.nest) old.owed owed piece → new ≡ record old { owed = owed } → Walks g old new (lent_answer new (Owed piece))
+unfolding text_of
+take_owed {S} {R} g old new piece owed free open_ bounded takes becomes =
     let after = record old { owed = owed } in
+    let name = inner_name old.files.nest in
+    let bytes = take piece.len (part_bytes piece.part name (digits_of owed.origin)) in
     let rest = left_by g.unread old old.table.macros old.files.nest in
-    let joined : replicate old.owed.line_ends 10 ≡ replicate len 10 ++ replicate owed.line_ends 10 =
-    ap (λ n. replicate n 10) split ∙ sym (replicate-append-replicate len owed.line_ends 10) in
-    subst (λ (e : EngineView S R). Walks g old e (Ok (Some (replicate len 10)))) (sym becomes)
-    (walks_lent g old after free open_ (subst IsBounded becomes bounded) (replicate len 10) refl (not_called g old.sources)
-    (λ t. ap (λ (x : List ℕ). behind_bytes x rest) joined ∙ behind_twice (replicate len 10) (replicate owed.line_ends 10) rest)
-    (owed_falls old after refl refl (omega arith)))
+    subst (λ (e : EngineView S R). Walks g old e (lent_answer e (Owed piece))) (sym becomes)
+    (walks_lent g old after free open_ (subst IsBounded becomes bounded) bytes refl (not_called g old.sources)
+    (λ t. ap (λ (x : List ℕ). behind_bytes x rest) takes.bytes ∙ behind_twice bytes (owed_bytes name owed) rest)
+    (owed_falls old after refl refl takes.fewer))
+
+-- and it is a place
+pub owed_is_placed : {S R : Type 0} (old new : EngineView S R) (piece : OwedPiece) (owed : OwedView) → 0 < length old.files.nest
+    → TakesPiece (inner_name old.files.nest) old.owed owed piece → new ≡ record old { owed = owed } → IsPlaced new (Owed piece)
+owed_is_placed {S} {R} old new piece owed some takes becomes =
+    subst (λ (e : EngineView S R). IsPlaced e (Owed piece)) (sym becomes) (some, takes.inside)
 
 -- bytes are held that weren't, and nothing else changed
 pub silent_fill : {S R : Type 0} (g : Ghosts S R) (old mid : EngineView S R) → IsReady old → IsRead old mid
@@ -713,16 +731,18 @@ table_same old new bytes count = rw (← bytes, ← count) refl
 -- an accepted `define`
 pub defines_by : {S R : Type 0} (len : ℕ) (old now new : EngineView S R) (table : TableView) (owed : OwedView) (lines : ℕ)
     → now ≡ record old { table = table; files = record old.files { nest = with_inner (consumed_file len lines) old.files.nest } }
-    → new ≡ record now { owed = owed } → owed ≡ record { line_ends = now.owed.line_ends + lines } → old.owed ≡ nothing_owed
+    → new ≡ record now { owed = owed } → owed ≡ record now.owed { line_ends = now.owed.line_ends + lines } → old.owed ≡ nothing_owed
     → (table.most_bytes ≡ old.table.most_bytes) × (table.most_macros ≡ old.table.most_macros)
     → define_of old.table.most_bytes old.table.most_macros old.table.macros (define_rest old len) ≡ table_define.Accepted table.macros
     → lines ≡ line_ends (take len (held_of (inner_buffer old.files.nest))) → Defines len old new
-unfolding nothing_owed
+unfolding nothing_owed line_ends_owed
 defines_by {S} {R} len old now new table owed lines used owes adds nothing limits accepted counted =
     let files : FilesView R = record old.files { nest = with_inner (consumed_file len lines) old.files.nest } in
     let none : now.owed.line_ends ≡ 0 = ap (λ e. e.owed.line_ends) used ∙ ap (λ o. o.line_ends) nothing in
     let count : now.owed.line_ends + lines ≡ lines = omega arith in
-    let exact : owed ≡ record { line_ends = lines } = adds ∙ ap (λ (n : ℕ). record { line_ends = n }) count in
+    let empty : now.owed.origin ≡ None = ap (λ e. e.owed.origin) used ∙ ap (λ o. o.origin) nothing in
+    let owes_of : ℕ → Option OriginView → OwedView = λ n o. record { line_ends = n; origin = o } in
+    let exact : owed ≡ line_ends_owed lines = adds ∙ (ap (λ (n : ℕ). owes_of n now.owed.origin) count ∙ ap (owes_of lines) empty) in
     let makes : TableView → OwedView → EngineView S R = λ t o. record old { table = t; files = files; owed = o } in
     record {
       macros = table.macros;
@@ -730,7 +750,7 @@ defines_by {S} {R} len old now new table owed lines used owes adds nothing limit
       lines = lines;
       counted = counted;
       becomes = owes ∙ (ap (λ (e : EngineView S R). record e { owed = owed }) used
-          ∙ (ap (makes table) exact ∙ ap (λ (t : TableView). makes t (record { line_ends = lines })) (table_same old.table table limits.0 limits.1)));
+          ∙ (ap (makes table) exact ∙ ap (λ (t : TableView). makes t (line_ends_owed lines)) (table_same old.table table limits.0 limits.1)));
     }
 
 -- an engine of which nothing is owed goes on in its open sources

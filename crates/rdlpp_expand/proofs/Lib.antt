@@ -1,3 +1,4 @@
+pub mod OwedPieces
 pub mod WordFacts
 pub mod Soundness
 pub mod Bounds

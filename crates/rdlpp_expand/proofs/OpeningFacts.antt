@@ -26,7 +26,7 @@ use Rattle.rdlpp_meaning.proofs.Includes.{all_resumed_alone}
 use Rattle.rdlpp_read.specs.Buffer.{ahead_of, held_of, opened_buffer, rest_of, tokens_left, unread_of}
 use Rattle.rdlpp_front.specs.SourceLeft.{source_left}
 use Rattle.rdlpp_expand.specs.Held.{IsBounded, stores_of}
-use Rattle.rdlpp_expand.specs.Owed.{nothing_owed, owed_bytes}
+use Rattle.rdlpp_expand.specs.Owed.{nothing_owed, origin_bytes, owed_bytes}
 use Rattle.rdlpp_expand.specs.Remaining.{file_state, kept_uncut, left_of, nest_left, nest_state, output_fault, phase_uncut, staged_rules, text_of, uncut_of, waiting_around}
 use Rattle.rdlpp_meaning.specs.OutputLimit.{limited}
 use Rattle.rdlpp_meaning.proofs.OutputLimits.{limited-fails}
@@ -138,7 +138,7 @@ left_opened : {S R : Type 0} (unread : R → List ℕ) (e : EngineView S R) (s :
     ≡ limited (output_fault found.path.bytes) e.limits.output_bytes
     (remains (staged_rules e.limits e.origins) (Live []) true ((staged_rules e.limits e.origins).tokens (unread found.reader))
     (start_state e.table.macros e.limits.includes e.limits.conditions found.path.bytes))
-unfolding left_of uncut_of kept_uncut phase_uncut text_of nest_left waiting_around nest_state file_state source_left opened_engine nothing_owed owed_bytes opened_buffer tokens_left held_of rest_of ahead_of unread_of whole_tokens staged_rules rules_of start_state no_shift
+unfolding left_of uncut_of kept_uncut phase_uncut text_of nest_left waiting_around nest_state file_state source_left opened_engine nothing_owed owed_bytes origin_bytes opened_buffer tokens_left held_of rest_of ahead_of unread_of whole_tokens staged_rules rules_of start_state no_shift
 left_opened unread e s found most none =
     let rules = staged_rules e.limits e.origins in
     let ts = whole_tokens is_unbuilt e.limits.line_bytes e.limits.source_bytes (unread found.reader) in

@@ -72,9 +72,14 @@ nest_left limits rules unread macros (f ∷ outer) =
 unfoldable pub state_of : {S R : Type 0} → EngineView S R → State
 state_of e = nest_state e.limits e.table.macros e.files.nest
 
+-- the name that the innermost open source shows; none where none is open
+abbrev pub inner_name : {R : Type 0} → List (File R) → List ℕ
+inner_name [] = []
+inner_name (f ∷ outer) = f.name.bytes
+
 -- what remains of the text: the bytes that are owed, and then what remains of the open sources (this project's profile)
 unfoldable pub text_of : {S R : Type 0} → (R → List ℕ) → EngineView S R → Passage
-text_of unread e = behind_bytes (owed_bytes e.owed) (nest_left e.limits (staged_rules e.limits e.origins) unread e.table.macros e.files.nest)
+text_of unread e = behind_bytes (owed_bytes (inner_name e.files.nest) e.owed) (nest_left e.limits (staged_rules e.limits e.origins) unread e.table.macros e.files.nest)
 
 -- the fault of an output that has more bytes than it may have: under the main text's name, at line 0, about no word
 -- (this project's profile)

@@ -30,7 +30,7 @@ mod opening;
 
 use crate::held::Held;
 use crate::kinds::fault_kind;
-use crate::owed::{Owed, line_ends};
+use crate::owed::Owed;
 use crate::phase::Phase;
 use crate::place::{Piece, Place};
 use crate::texts::{copied, copied_fault, word_of};
@@ -147,7 +147,10 @@ impl<S: Sources> Engine<S> {
                 let len = self.spend(end - start);
                 Place::Body(id, start, start + len)
             }
-            Place::Owed(len) => Place::Owed(self.spend(len)),
+            Place::Owed(piece) => {
+                let len = self.spend(piece.len);
+                Place::Owed(piece.cut(len))
+            }
             Place::End => Place::End,
             Place::Kept => Place::Kept,
         }
@@ -211,8 +214,9 @@ impl<S: Sources> Engine<S> {
         ensures walks { IsBounded self.new → Walks S.Sources self.old self.new (step_answer self.new result) }
     {
         self.facts();
-        match self.owed.take() {
-            Some(len) => Some(Place::Owed(len)),
+        let name_len = self.files.file().name.len();
+        match self.owed.take(name_len) {
+            Some(piece) => Some(Place::Owed(piece)),
             None => self.step_sources(),
         }
     }
@@ -563,7 +567,9 @@ impl<S: Sources> Engine<S> {
         match place {
             Place::Source(start, end) => Piece::Bytes(self.files.file().buffer.part(start, end)),
             Place::Body(id, start, end) => Piece::Bytes(&self.table.body(id)[start..end]),
-            Place::Owed(len) => Piece::Bytes(line_ends(len)),
+            Place::Owed(piece) => Piece::Bytes(
+                self.owed.bytes(piece, self.files.file().name.as_str()),
+            ),
             Place::End | Place::Kept => Piece::Done,
         }
     }
