@@ -26,7 +26,7 @@ pub record IsReady {S R : Type 0} (e : EngineView S R) : Type 0 where
   pub free : e.kept ≡ None
   pub owed : e.owed ≡ nothing_owed
   pub nest : 0 < length e.files.nest
-  pub sound : IsSoundEngine e.limits e.phase e.table e.files
+  pub sound : IsSoundEngine e.limits e.phase e.table e.files e.conditions
   pub files : AreOpen e.files
 
 -- an engine whose text ended in a string or in a block comment: its fault is kept, at the line where that opened
