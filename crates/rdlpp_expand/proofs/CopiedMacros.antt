@@ -1,5 +1,5 @@
 -- A macro without formals is copied as it stands where all tokens of its body are.
-use Rattle.std.proofs.Common.{◌≡◌, ℕ, ◌+◌, ◌&&◌, Bool, true, false, not, ◌||◌, List, [], ◌∷◌, length, take, drop, None, Some, Option, refl, sym, ap, ◌∙◌}
+use Rattle.std.proofs.Common.{◌≡◌, ℕ, ◌+◌, ◌&&◌, Bool, true, false, not, List, [], ◌∷◌, length, take, drop, None, Some, Option, refl, sym, ap, ◌∙◌}
 use Rattle.std.specs.List.{list_all}
 use Rattle.std.specs.Option.{is_some, option_map}
 use Rattle.rdlpp_scan.specs.SourceTokens.{Ordinary}
@@ -10,7 +10,6 @@ use Rattle.rdlpp_scan.specs.declared.token.Mode.TheVariants.{Plain}
 use Rattle.rdlpp_scan.specs.declared.token.Token.{Token}
 use Rattle.rdlpp_table.specs.Stops.{first_stop, is_copied as is_copied_macro, is_none, or_stop, stop_at, stop_name, stop_of}
 use Rattle.rdlpp_table.specs.Table.{Formal, Macro}
-use Rattle.rdlpp_table.specs.View.{formals_of}
 use Rattle.rdlpp_table.specs.declared.stop.Stop.{Stop}
 use Rattle.rdlpp_table.specs.declared.stop.Stop.TheVariants as stop
 use Rattle.rdlpp_meaning.specs.Expansion.{is_copied}

@@ -1,7 +1,6 @@
 -- A step cut to the bytes that may still be lent.
-use Rattle.std.proofs.Common.{◌≡◌, ℕ, ◌+◌, ◌-◌, ◌≤◌, ◌<◌, false, List, [], length, take, drop, Option, None, Some, Result, Ok, Err, refl, sym, ap, ◌∙◌, subst, inl, inr, arith, true}
+use Rattle.std.proofs.Common.{◌≡◌, ℕ, ◌+◌, ◌-◌, ◌≤◌, ◌<◌, false, List, [], length, take, drop, Option, None, Some, Ok, Err, refl, sym, ap, ◌∙◌, subst, inl, inr, arith, true}
 use Rattle.std.specs.List.{slice_range}
-use Rattle.std.specs.Prelude.{IfOk}
 use Rattle.std.proofs.lemmas.Bool.{cases_lt}
 use Rattle.std.proofs.lemmas.List.{length-drop, length-take-le, take_all, take-take}
 use Rattle.rdlpp_source.specs.declared.sources.Sources.{Ghosts}
@@ -18,7 +17,7 @@ use Rattle.rdlpp_expand.specs.Pieces.{IsPlaced, kept_answer, lent_answer, owed_p
 use Rattle.rdlpp_expand.specs.declared.owed.OwedPiece.{OwedPiece}
 use Rattle.rdlpp_expand.specs.declared.place.Place.TheVariants.{Source, Body, Owed}
 use Rattle.rdlpp_expand.specs.Remaining.{inner_name, kept_uncut, left_of, output_fault, phase_uncut, text_of, uncut_of, work_left}
-use Rattle.rdlpp_expand.specs.Steps.{Steps, Tells, Walks, all_of, has_met, lent_len, may_follow, no_len, is_read_failed}
+use Rattle.rdlpp_expand.specs.Steps.{Steps, Walks, all_of, has_met, lent_len, may_follow, no_len, is_read_failed}
 use Rattle.rdlpp_expand.specs.declared.phase.Phase.{Phase}
 use Rattle.rdlpp_expand.specs.declared.phase.Phase.TheVariants.{Fresh, Open, Passed, Closed}
 use Rattle.rdlpp_expand.proofs.EngineSteps.{free_before, ok_not_met}

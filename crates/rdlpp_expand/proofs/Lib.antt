@@ -1,4 +1,5 @@
 pub mod OwedPieces
+pub mod OwedOrigins
 pub mod WordFacts
 pub mod Soundness
 pub mod Bounds
@@ -9,5 +10,7 @@ pub mod WorkFacts
 pub mod OpeningFacts
 pub mod EngineSteps
 pub mod FrontSteps
+pub mod LineSteps
+pub mod IncludeSteps
 pub mod Cuts
 pub mod RunFacts

@@ -13,21 +13,22 @@ use Rattle.rdlpp_source.specs.declared.sources.SourceFault.{SourceFault}
 use Rattle.rdlpp_source.specs.declared.sources.SourceFault.TheVariants as source
 use Rattle.rdlpp_source.specs.declared.sources.Sources.{Ghosts}
 use Rattle.rdlpp_meaning.specs.declared.fault.FaultKind.{FaultKind}
-use Rattle.rdlpp_meaning.specs.declared.fault.FaultKind.TheVariants.{SourceNotFound, PathTooLong, ReadFailed, SourceMemory, Unbuilt}
-use Rattle.rdlpp_meaning.specs.Outcome.{Told, fails}
+use Rattle.rdlpp_meaning.specs.declared.fault.FaultKind.TheVariants.{SourceNotFound, PathTooLong, ReadFailed, SourceMemory}
+use Rattle.rdlpp_meaning.specs.Outcome.{Outcome, Told, and_then, fails, gives}
 use Rattle.rdlpp_meaning.specs.Resumed.{Live, remains}
 use Rattle.rdlpp_meaning.specs.Output.{character_place, name_cut, opening_fault, start_state, output}
-use Rattle.rdlpp_meaning.proofs.Outputs.{output_plain, output_missing, output_overlong}
+use Rattle.rdlpp_meaning.proofs.Outputs.{outcome-behind_bytes, output_found, output_missing, output_overlong}
 use Rattle.rdlpp_expand.specs.Engine.{EngineView}
 use Rattle.rdlpp_scan.specs.SourceTokens.{SourceToken}
-use Rattle.rdlpp_meaning.specs.Meaning.{Progress, behind_bytes, outcome}
+use Rattle.rdlpp_meaning.specs.Meaning.{Passage, Progress, behind_bytes, origin_line, outcome}
 use Rattle.rdlpp_meaning.specs.Opened.{all_resumed}
 use Rattle.rdlpp_meaning.proofs.Includes.{all_resumed_alone}
 use Rattle.rdlpp_read.specs.Buffer.{ahead_of, held_of, opened_buffer, rest_of, tokens_left, unread_of}
 use Rattle.rdlpp_front.specs.SourceLeft.{source_left}
 use Rattle.rdlpp_expand.proofs.ConditionalPlaces.{no_place}
+use Rattle.rdlpp_expand.proofs.OwedOrigins.{owed_origin}
 use Rattle.rdlpp_expand.specs.Held.{IsBounded, stores_of}
-use Rattle.rdlpp_expand.specs.Owed.{nothing_owed, origin_bytes, owed_bytes}
+use Rattle.rdlpp_expand.specs.Owed.{origin_owed, owed_bytes}
 use Rattle.rdlpp_expand.specs.Remaining.{file_state, kept_uncut, left_of, nest_left, nest_state, output_fault, phase_uncut, staged_rules, text_of, uncut_of, waiting_around}
 use Rattle.rdlpp_meaning.specs.OutputLimit.{limited}
 use Rattle.rdlpp_meaning.proofs.OutputLimits.{limited-fails}
@@ -127,27 +128,32 @@ pub name_cut_at : (bytes : List ℕ) (r : ℕ) → r ≤ 1024 → IsCharBoundary
 unfolding name_cut
 name_cut_at bytes r below at nearest = cut_at_boundary bytes 1024 r below at nearest
 
--- where nothing is owed and no source waits, what remains of the text is what remains of its only source
-alone : (rules : Rules) (ts : List SourceToken) (s : State) → outcome (behind_bytes [] (all_resumed rules [] (Live []) true ts s)) ≡ remains rules (Live []) true ts s
-unfolding behind_bytes remains
-alone rules ts s = ap outcome (all_resumed_alone rules (Live []) true ts s)
+-- where no source waits, what remains of the text is what is owed and what remains of its only source
+alone : (rules : Rules) (x : List ℕ) (ts : List SourceToken) (s : State) → outcome (behind_bytes x (all_resumed rules [] (Live []) true ts s)) ≡ and_then (gives x) (remains rules (Live []) true ts s)
+unfolding remains
+alone rules x ts s =
+    outcome-behind_bytes x (all_resumed rules [] (Live []) true ts s)
+    ∙ ap (λ (p : Passage). and_then (gives x) (outcome p)) (all_resumed_alone rules (Live []) true ts s)
 
 -- what remains of a main text that was opened
 left_opened : {S R : Type 0} (unread : R → List ℕ) (e : EngineView S R) (s : S) (found : Found R)
     → e.files.line_bytes ≡ e.limits.line_bytes → e.files.nest ≡ [] → e.conditions.open_now ≡ []
     → left_of unread (opened_engine (record e { sources = s }) found)
     ≡ limited (output_fault found.path.bytes) e.limits.output_bytes
+    (and_then (gives (origin_line (staged_rules e.limits e.origins) found.path.bytes 1))
     (remains (staged_rules e.limits e.origins) (Live []) true ((staged_rules e.limits e.origins).tokens (unread found.reader))
-    (start_state e.table.macros e.limits.includes e.limits.conditions found.path.bytes))
-unfolding left_of uncut_of kept_uncut phase_uncut text_of nest_left waiting_around nest_state file_state source_left opened_engine nothing_owed owed_bytes origin_bytes opened_buffer tokens_left held_of rest_of ahead_of unread_of whole_tokens staged_rules rules_of start_state no_shift
+    (start_state e.table.macros e.limits.includes e.limits.conditions found.path.bytes)))
+unfolding left_of uncut_of kept_uncut phase_uncut text_of nest_left waiting_around nest_state file_state source_left opened_engine opened_buffer tokens_left held_of rest_of ahead_of unread_of whole_tokens staged_rules rules_of start_state no_shift
 left_opened unread e s found most none unopened =
     let rules = staged_rules e.limits e.origins in
     let ts = whole_tokens is_unbuilt e.limits.line_bytes e.limits.source_bytes (unread found.reader) in
     let starts : ℕ → State = λ n. record (start_state e.table.macros e.limits.includes e.limits.conditions found.path.bytes) { sources_left = n } in
     let count : e.limits.conditions - length {A = Progress} [] ≡ e.limits.conditions = omega arith in
     let all : e.limits.includes - 0 ≡ e.limits.includes = omega arith in
-    rw (none, most, no_place 0 e.conditions unopened, unopened, count) (ap (limited (output_fault found.path.bytes) e.limits.output_bytes) (alone rules ts (starts (e.limits.includes - 0)))
-    ∙ ap (λ (n : ℕ). limited (output_fault found.path.bytes) e.limits.output_bytes (remains rules (Live []) true ts (starts n))) all)
+    let x = owed_bytes found.path.bytes (record { line_ends = 0; origin = origin_owed e.origins 1 }) in
+    let cuts : List ℕ → ℕ → Outcome = λ y n. limited (output_fault found.path.bytes) e.limits.output_bytes (and_then (gives y) (remains rules (Live []) true ts (starts n))) in
+    rw (none, most, no_place 0 e.conditions unopened, unopened, count) (ap (limited (output_fault found.path.bytes) e.limits.output_bytes) (alone rules x ts (starts (e.limits.includes - 0)))
+    ∙ (ap (cuts x) all ∙ ap (λ (y : List ℕ). cuts y e.limits.includes) (owed_origin e.limits e.origins found.path.bytes 1)))
 
 -- what remains where no main text was opened
 left_unopened : {S R : Type 0} (unread : R → List ℕ) (e : EngineView S R) (s : S) (kind : FaultKind) (path : List ℕ)
@@ -155,14 +161,12 @@ left_unopened : {S R : Type 0} (unread : R → List ℕ) (e : EngineView S R) (s
 unfolding left_of uncut_of kept_uncut unopened_engine
 left_unopened unread e s kind path = limited-fails (output_fault e.main) e.quota (opening_fault kind path)
 
--- without origin lines the output is that of the main path
-staged_plain : {S R : Type 0} (g : Ghosts S R) (e : EngineView S R) (path : List ℕ) (answer : Answer)
-    → e.origins ≡ false → (g.catalog e.sources).top path ≡ answer
+-- the output is that of what is found at the main path
+staged_found : {S R : Type 0} (g : Ghosts S R) (e : EngineView S R) (path : List ℕ) (answer : Answer)
+    → (g.catalog e.sources).top path ≡ answer
     → staged_output g e path ≡ looked_up e path (lookup_of answer)
 unfolding staged_output
-staged_plain g e path answer plain found =
-    cond-false _ _ _ plain
-    ∙ ap (λ (a : Answer). looked_up e path (lookup_of a)) found
+staged_found g e path answer found = ap (λ (a : Answer). looked_up e path (lookup_of a)) found
 
 -- the output of a main path that is no text
 looked_up-fails : {S R : Type 0} (e : EngineView S R) (path : List ℕ) (lookup : Lookup) (f : Told)
@@ -172,14 +176,8 @@ unfolding looked_up
 looked_up-fails e path lookup f is =
     ap (limited (output_fault (found_name path lookup)) e.limits.output_bytes) is ∙ limited-fails (output_fault (found_name path lookup)) e.limits.output_bytes f
 
--- the rules write origin lines where the engine does
-rules_plain : {S R : Type 0} (e : EngineView S R) → e.origins ≡ false → (staged_rules e.limits e.origins).origins ≡ false
-unfolding staged_rules rules_of
-rules_plain e plain = plain
-
 -- a start that finds its main text
 pub starts_open : {S R : Type 0} (g : Ghosts S R) (e : EngineView S R) (s : S) (found : Found R) (path : List ℕ)
-    → e.origins ≡ false
     → e.files.line_bytes ≡ e.limits.line_bytes
     → e.files.nest ≡ []
     → e.conditions.open_now ≡ []
@@ -191,7 +189,7 @@ pub starts_open : {S R : Type 0} (g : Ghosts S R) (e : EngineView S R) (s : S) (
     → g.catalog s ≡ g.catalog e.sources
     → Starts g e (opened_engine (record e { sources = s }) found) path None
 unfolding opened_engine is_device_fault is_memory_fault lookup_of looked_up found_name
-starts_open g e s found path plain most none unopened bounded answer failures refusals tells catalog = record {
+starts_open g e s found path most none unopened bounded answer failures refusals tells catalog = record {
   limits = refl;
   origins = refl;
   table = refl;
@@ -202,10 +200,10 @@ starts_open g e s found path plain most none unopened bounded answer failures re
   call = record { failures = failures; refusals = refusals; tells = tells; catalog = catalog };
   remains_output = λ _ _ telling.
       left_opened g.unread e s found most none unopened
-      ∙ sym (staged_plain g e path _ plain (answer telling)
+      ∙ sym (staged_found g e path _ (answer telling)
       ∙ ap (limited (output_fault found.path.bytes) e.limits.output_bytes)
-      (output_plain (staged_rules e.limits e.origins) e.table.macros e.limits.includes e.limits.conditions path
-      found.path.bytes (g.unread found.reader) (rules_plain e plain)));
+      (output_found (staged_rules e.limits e.origins) e.table.macros e.limits.includes e.limits.conditions path
+      found.path.bytes (g.unread found.reader)));
   bounded = bounded;
 }
 
@@ -237,7 +235,6 @@ starts_refused g e s kind path bounded failures refusals tells catalog told = re
 
 -- a start that the sources refuse
 pub starts_not_found : {S R : Type 0} (g : Ghosts S R) (e : EngineView S R) (s : S) (fault : SourceFault) (path : List ℕ)
-    → e.origins ≡ false
     → IsBounded e
     → (g.tells e.sources → Finds {R = R} g.unread ((g.catalog e.sources).top path) (Err fault))
     → Counts (is_device {A = Found R} (Err fault)) (g.failures e.sources) (g.failures s)
@@ -247,23 +244,13 @@ pub starts_not_found : {S R : Type 0} (g : Ghosts S R) (e : EngineView S R) (s :
     → Starts g e (unopened_engine (record e { sources = s }) (opening_fault (kind_of_source fault) path)) path
     (Some (opening_fault (kind_of_source fault) path))
 unfolding kind_of_source is_read_failed is_memory_kind lookup_of
-starts_not_found g e s source.Absent path plain bounded answer failures refusals tells catalog =
+starts_not_found g e s source.Absent path bounded answer failures refusals tells catalog =
     starts_refused g e s SourceNotFound path bounded failures refusals tells catalog
-    (λ _ _ telling. sym (staged_plain g e path _ plain (answer telling) ∙ looked_up-fails e path NoSource _ (output_missing _ _ _ _ _)))
-starts_not_found g e s source.PathTooLong path plain bounded answer failures refusals tells catalog =
+    (λ _ _ telling. sym (staged_found g e path _ (answer telling) ∙ looked_up-fails e path NoSource _ (output_missing _ _ _ _ _)))
+starts_not_found g e s source.PathTooLong path bounded answer failures refusals tells catalog =
     starts_refused g e s PathTooLong path bounded failures refusals tells catalog
-    (λ _ _ telling. sym (staged_plain g e path _ plain (answer telling) ∙ looked_up-fails e path LongPath _ (output_overlong _ _ _ _ _)))
-starts_not_found g e s source.Device path plain bounded answer failures refusals tells catalog =
+    (λ _ _ telling. sym (staged_found g e path _ (answer telling) ∙ looked_up-fails e path LongPath _ (output_overlong _ _ _ _ _)))
+starts_not_found g e s source.Device path bounded answer failures refusals tells catalog =
     starts_refused g e s ReadFailed path bounded failures refusals tells catalog (λ device _ _. cc)
-starts_not_found g e s source.NoMemory path plain bounded answer failures refusals tells catalog =
+starts_not_found g e s source.NoMemory path bounded answer failures refusals tells catalog =
     starts_refused g e s SourceMemory path bounded failures refusals tells catalog (λ _ memory _. cc)
-
--- a start with origin lines
-pub starts_unbuilt : {S R : Type 0} (g : Ghosts S R) (e : EngineView S R) (path : List ℕ)
-    → e.origins ≡ true
-    → IsBounded e
-    → Starts g e (unopened_engine e (opening_fault Unbuilt path)) path (Some (opening_fault Unbuilt path))
-unfolding is_read_failed is_memory_kind staged_output
-starts_unbuilt g e path origins bounded =
-    starts_refused g e e.sources Unbuilt path bounded refl refl (λ h. h) refl
-    (λ _ _ _. sym (cond-true _ _ _ origins))

@@ -1,5 +1,5 @@
 -- Pieces taken out of the texts that are owed.
-use Rattle.std.proofs.Common.{◌≡◌, ℕ, ◌+◌, ◌-◌, ◌≤◌, ◌<◌, List, [], ◌∷◌, ◌++◌, length, take, replicate, Option, None, Some, refl, sym, ap, ◌∙◌, append_assoc, arith}
+use Rattle.std.proofs.Common.{◌≡◌, ℕ, ◌+◌, ◌-◌, ◌≤◌, ◌<◌, List, ◌++◌, length, take, replicate, Option, Some, refl, sym, ap, ◌∙◌, append_assoc, arith}
 use Rattle.std.proofs.lemmas.List.{length-replicate, replicate-append-replicate, take-replicate, take_all}
 use Rattle.rdlpp_expand.specs.Owed.{OriginView, OwedView, TakesPiece, behind_piece, digits_of, first_piece, line_from, origin_bytes, origin_pieces, owed_bytes, owed_pieces, part_bytes, pieces_from}
 use Rattle.rdlpp_expand.specs.declared.owed.OwedPart.{OwedPart}

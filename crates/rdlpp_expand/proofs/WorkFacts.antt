@@ -1,5 +1,5 @@
 -- The work left falls where fewer bytes aren't used, and where fewer pieces are owed.
-use Rattle.std.proofs.Common.{◌≡◌, ℕ, zero, suc, lit<, ◌+◌, ◌-◌, ◌*◌, ◌^◌, ◌≤◌, ◌<◌, List, [], ◌∷◌, ◌++◌, length, take, drop, map, reverse, replicate, refl, sym, ap, subst, ◌∙◌, append_assoc, length-append, arith}
+use Rattle.std.proofs.Common.{◌≡◌, ℕ, zero, suc, lit<, ◌+◌, ◌-◌, ◌*◌, ◌^◌, ◌≤◌, ◌<◌, List, [], ◌∷◌, ◌++◌, length, take, drop, map, replicate, refl, sym, ap, ◌∙◌, append_assoc, length-append, arith}
 use Rattle.std.proofs.Math.Nat.{mul-le-mul_right, pow-suc}
 use Rattle.std.proofs.lemmas.List.{length-drop, length-take, reverse-append}
 use Rattle.rdlpp_scan.specs.declared.token.Mode.{Mode}
@@ -7,7 +7,7 @@ use Rattle.rdlpp_read.specs.Buffer.{BufferView, closed_buffer, entered_mode, hel
 use Rattle.rdlpp_read.specs.Files.{consumed_file, inner_buffer, source_digits, with_buffer, with_inner}
 use Rattle.rdlpp_read.specs.declared.files.File.{File}
 use Rattle.rdlpp_expand.specs.Engine.{EngineView}
-use Rattle.rdlpp_expand.specs.Owed.{OwedView, owed_pieces}
+use Rattle.rdlpp_expand.specs.Owed.{owed_pieces}
 use Rattle.rdlpp_expand.specs.Remaining.{work_left}
 use Rattle.rdlpp_expand.specs.Work.{number_of, padded, work_of}
 

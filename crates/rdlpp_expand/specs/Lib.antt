@@ -7,6 +7,7 @@ pub mod Held
 pub mod Remaining
 pub mod Steps
 pub mod Moves
+pub mod Lines
 pub mod Pieces
 pub mod Opening
 pub mod Run

@@ -1,6 +1,6 @@
 -- How an engine is made, and how its main text is opened.
 -- A definition that names no source is this project's own.
-use Rattle.std.specs.Prelude.{◌≡◌, ℕ, Bool, false, ◌+◌, List, [], ◌∷◌, Option, None, Some, Result, Ok, Err, if◌then◌else◌}
+use Rattle.std.specs.Prelude.{◌≡◌, ℕ, Bool, false, ◌+◌, List, [], ◌∷◌, Option, None, Some, Result, Ok, Err}
 use Rattle.rdlpp_expand.specs.Calls.{SourcesCalled}
 use Rattle.rdlpp_source.specs.Sources.{Answer, Missing, Overlong, Present}
 use Rattle.rdlpp_source.specs.declared.sources.Found.{Found}
@@ -11,13 +11,13 @@ use Rattle.rdlpp_table.specs.Limits.{limit_fault}
 use Rattle.rdlpp_table.specs.declared.limits.Limits.{Limits}
 use Rattle.rdlpp_meaning.specs.declared.fault.Fault.{Fault}
 use Rattle.rdlpp_meaning.specs.declared.fault.FaultKind.{FaultKind}
-use Rattle.rdlpp_meaning.specs.declared.fault.FaultKind.TheVariants.{SourceNotFound, PathTooLong, ReadFailed, SourceMemory, Unbuilt}
-use Rattle.rdlpp_meaning.specs.Outcome.{Told, told, Outcome, fails}
+use Rattle.rdlpp_meaning.specs.declared.fault.FaultKind.TheVariants.{SourceNotFound, PathTooLong, ReadFailed, SourceMemory}
+use Rattle.rdlpp_meaning.specs.Outcome.{Told, told, Outcome}
 use Rattle.rdlpp_meaning.specs.State.{Lookup, NoSource, LongPath, Source}
 use Rattle.rdlpp_meaning.specs.Output.{opening_fault, output}
 use Rattle.rdlpp_expand.specs.Engine.{EngineView}
 use Rattle.rdlpp_read.specs.Files.{entered_file}
-use Rattle.rdlpp_expand.specs.Owed.{nothing_owed}
+use Rattle.rdlpp_expand.specs.Owed.{nothing_owed, origin_owed}
 use Rattle.rdlpp_expand.specs.Held.{IsBounded}
 use Rattle.rdlpp_expand.specs.Remaining.{output_fault, staged_rules, left_of}
 use Rattle.rdlpp_meaning.specs.OutputLimit.{limited}
@@ -61,14 +61,14 @@ lookup_of Missing = NoSource
 lookup_of Overlong = LongPath
 lookup_of (Present path text) = Source path text
 
--- an engine whose main text was found
+-- an engine whose main text was found, before which its origin line is owed, where asked for
 unfoldable pub opened_engine : {S R : Type 0} → EngineView S R → Found R → EngineView S R
 opened_engine e found = record e {
   phase = Open;
   quota = e.limits.output_bytes;
   kept = None;
   main = found.path.bytes;
-  owed = nothing_owed;
+  owed = record { line_ends = 0; origin = origin_owed e.origins 1 };
   files = record e.files { nest = entered_file found e.limits.source_bytes e.files.line_bytes 0 0 ∷ e.files.nest };
 }
 
@@ -88,11 +88,9 @@ looked_up e path lookup =
     limited (output_fault (found_name path lookup)) e.limits.output_bytes
     (output (staged_rules e.limits e.origins) e.table.macros e.limits.includes e.limits.conditions path lookup)
 
--- the output of a main path, where no opening fails; origin lines aren't built yet (this project's profile)
+-- the output of a main path, where no opening fails (this project's profile)
 unfoldable pub staged_output : {S R : Type 0} → Ghosts S R → EngineView S R → List ℕ → Outcome
-staged_output g e path =
-    if e.origins then fails (opening_fault Unbuilt path)
-    else looked_up e path (lookup_of ((g.catalog e.sources).top path))
+staged_output g e path = looked_up e path (lookup_of ((g.catalog e.sources).top path))
 
 -- the fault that a start answers
 unfoldable pub start_fault : Result (Unit {0}) Fault → Option Told

@@ -1,6 +1,6 @@
 -- Texts that are owed: they are lent before anything that follows in the source.
 -- A definition that names no source is this project's own.
-use Rattle.std.specs.Prelude.{◌≡◌, ℕ, ◌+◌, ◌≤◌, ◌<◌, List, [], ◌∷◌, ◌++◌, Option, None, Some, codes, length, take, replicate}
+use Rattle.std.specs.Prelude.{◌≡◌, ℕ, ◌+◌, ◌≤◌, ◌<◌, Bool, List, [], ◌∷◌, ◌++◌, Option, None, Some, codes, decimal, length, take, replicate, if◌then◌else◌}
 use Rattle.rdlpp_expand.specs.declared.owed.OwedPart.{OwedPart}
 use Rattle.rdlpp_expand.specs.declared.owed.OwedPart.TheVariants.{LineEnds, Label, Name, Colon, Digits}
 use Rattle.rdlpp_expand.specs.declared.owed.OwedPiece.{OwedPiece}
@@ -70,6 +70,10 @@ nothing_owed = record { line_ends = 0; origin = None }
 -- so many LF bytes are owed, and no origin line
 unfoldable pub line_ends_owed : ℕ → OwedView
 line_ends_owed lines = record { line_ends = lines; origin = None }
+
+-- the origin line with a number, where origin lines are asked for (this project's profile)
+unfoldable pub origin_owed : Bool → ℕ → Option OriginView
+origin_owed origins line = if origins then Some (record { part = Label; digits = decimal line }) else None
 
 -- a piece with other bytes of its part
 unfoldable pub cut_to : OwedPiece → ℕ → OwedPiece

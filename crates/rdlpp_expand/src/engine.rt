@@ -26,6 +26,7 @@ ghost use Rattle.rdlpp_expand.specs.Run.{write_fault};
 ghost use Rattle.rdlpp_expand.specs.Steps.{IsStarted, Steps, Walks, is_write_failed};
 ghost use Rattle.rdlpp_expand.specs.contracts.engine.Engine.{the_row};
 
+mod line;
 mod opening;
 
 use crate::held::Held;
@@ -256,6 +257,7 @@ impl<S: Sources> Engine<S> {
             Front::Usage(len) => Some(self.expand(len)),
             Front::Define => self.define_line(),
             Front::Undef(argument) => self.undefine(argument),
+            Front::Line => self.take_line(),
             Front::Refused(kind) => Some(self.refuse(kind, ArrayString::new())),
         }
     }

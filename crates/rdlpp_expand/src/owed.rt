@@ -1,6 +1,6 @@
 // Texts that are owed: they are lent before anything that follows in the source.
-ghost use Rattle.std.specs.Prelude.{◌≡◌, ℕ, List, ◌+◌, ◌<◌, ◌≤◌, ◌^◌, IfNone, IfSome, Some, decimal, length, take};
-ghost use Rattle.rdlpp_expand.specs.Owed.{TakesPiece, behind_piece, cut_to, digits_of, first_piece, nothing_owed, part_bytes};
+ghost use Rattle.std.specs.Prelude.{◌≡◌, ℕ, List, ◌+◌, ◌<◌, ◌≤◌, ◌^◌, IfNone, IfSome, decimal, length, take};
+ghost use Rattle.rdlpp_expand.specs.Owed.{TakesPiece, behind_piece, cut_to, digits_of, first_piece, nothing_owed, origin_owed, part_bytes};
 
 use arrayvec::ArrayString;
 use itoa::Buffer;
@@ -154,11 +154,17 @@ impl Owed {
         self.line_ends += count;
     }
 
-    /// Owes the origin line with a number, under the name that is shown, in the place of any other.
-    pub(crate) fn owe_origin(&mut self, line: u64)
-        ensures { self.new ≡ record self.old { origin = Some (record { part = OwedPart.Label; digits = decimal line }) } }
+    /// Owes the origin line with a number, under the name that is shown, in the place of any other; or
+    /// none, where origin lines aren't asked for.
+    #[tactic(auto, unfolding(crate::specs::Owed::origin_owed))]
+    pub(crate) fn owe_origin(&mut self, asked: bool, line: u64)
+        ensures { self.new ≡ record self.old { origin = origin_owed asked line } }
     {
-        self.origin = Some(OriginLine::new(line));
+        self.origin = if asked {
+            Some(OriginLine::new(line))
+        } else {
+            None
+        };
     }
 
     /// Takes out the next piece, where a name of `name_len` bytes is shown.

@@ -73,22 +73,27 @@ pub undef_built : (held : List ℕ) → IsDirective Undef held → is_unbuilt he
 unfolding is_unbuilt_name unbuilt_names
 undef_built held is = directive_unbuilt Undef held is
 
--- the other names are those of what isn't built
-unbuilt_word : (d : Directive) → (d ≡ Define → ⊥) → (d ≡ Undef → ⊥) → is_unbuilt_name (drop 1 (word_of d)) ≡ true
+-- and so is a `line`
+pub line_built : (held : List ℕ) → IsDirective Line held → is_unbuilt held ≡ false
 unfolding is_unbuilt_name unbuilt_names
-unbuilt_word Define a b = absurd (a refl)
-unbuilt_word Undef a b = absurd (b refl)
-unbuilt_word Ifdef a b = refl
-unbuilt_word Ifndef a b = refl
-unbuilt_word Elsif a b = refl
-unbuilt_word Else a b = refl
-unbuilt_word Endif a b = refl
-unbuilt_word Include a b = refl
-unbuilt_word Line a b = refl
+line_built held is = directive_unbuilt Line held is
 
--- a directive other than `define` and `undef` isn't built
-pub other_unbuilt : (d : Directive) (held : List ℕ) → IsDirective d held → (d ≡ Define → ⊥) → (d ≡ Undef → ⊥) → is_unbuilt held ≡ true
-other_unbuilt d held is a b = directive_unbuilt d held is ∙ unbuilt_word d a b
+-- the other names are those of what isn't built
+unbuilt_word : (d : Directive) → (d ≡ Define → ⊥) → (d ≡ Undef → ⊥) → (d ≡ Line → ⊥) → is_unbuilt_name (drop 1 (word_of d)) ≡ true
+unfolding is_unbuilt_name unbuilt_names
+unbuilt_word Define a b c = absurd (a refl)
+unbuilt_word Undef a b c = absurd (b refl)
+unbuilt_word Ifdef a b c = refl
+unbuilt_word Ifndef a b c = refl
+unbuilt_word Elsif a b c = refl
+unbuilt_word Else a b c = refl
+unbuilt_word Endif a b c = refl
+unbuilt_word Include a b c = refl
+unbuilt_word Line a b c = absurd (c refl)
+
+-- a directive other than `define`, `undef` and `line` isn't built
+pub other_unbuilt : (d : Directive) (held : List ℕ) → IsDirective d held → (d ≡ Define → ⊥) → (d ≡ Undef → ⊥) → (d ≡ Line → ⊥) → is_unbuilt held ≡ true
+other_unbuilt d held is a b c = directive_unbuilt d held is ∙ unbuilt_word d a b c
 
 -- the first token of a directive is its word
 pub word_len : (d : Directive) (held : List ℕ) → 0 < length held → IsDirective d held → (token_of Plain held).len ≡ length (word_of d)

@@ -14,6 +14,7 @@ pub mod DirectiveMoves
 pub mod UndefLeft
 pub mod ConditionalLeft
 pub mod LineLeft
+pub mod LineGiven
 pub mod SkippedWords
 pub mod SkippedTokens
 pub mod IncludeLeft

@@ -14,7 +14,7 @@ use Rattle.rdlpp_meaning.specs.declared.fault.FaultKind.TheVariants as fault
 use Rattle.rdlpp_read.specs.Arguments.{NameGiven, NoName, NoString, StringGiven}
 use Rattle.rdlpp_front.specs.declared.front.Argument.{Argument}
 use Rattle.rdlpp_front.specs.declared.front.Front.{Front}
-use Rattle.rdlpp_front.specs.declared.front.Front.TheVariants.{Text, Usage, Define, Undef, Refused}
+use Rattle.rdlpp_front.specs.declared.front.Front.TheVariants.{Text, Usage, Define, Undef, Line, Refused}
 
 -- a kind of tokens that are copied, and may be copied in parts: strings and comments
 unfoldable pub is_text_kind : Kind → Bool
@@ -113,4 +113,5 @@ IsFront mode held (Text len next) = IsText mode held len next
 IsFront mode held (Usage len) = (mode ≡ Plain) × IsUsage held len
 IsFront mode held Define = (mode ≡ Plain) × IsDirective directive.Define held
 IsFront mode held (Undef given) = (mode ≡ Plain) × IsNamed directive.Undef held given
+IsFront mode held Line = (mode ≡ Plain) × IsDirective directive.Line held
 IsFront mode held (Refused kind) = IsRefused mode held kind

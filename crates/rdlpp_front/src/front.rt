@@ -30,6 +30,8 @@ pub enum Front {
     Define,
     /// An `undef`, and the name that it is given, where one stands behind it on its line.
     Undef(Option<Argument>),
+    /// A `line`.
+    Line,
     /// What ends the output.
     Refused(FaultKind),
 }
@@ -121,6 +123,7 @@ fn directive_front(held: &[u8], len: usize, directive: Directive) -> Front
     match directive {
         Directive::Define => Front::Define,
         Directive::Undef => Front::Undef(name_behind(held, len)),
+        Directive::Line => Front::Line,
         _ => Front::Refused(FaultKind::Unbuilt),
     }
 }

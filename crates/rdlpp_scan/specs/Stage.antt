@@ -26,7 +26,7 @@ begins_directive bytes = slice_index bytes 0 == 96 && is_reserved (name_behind b
 -- the names of the directives that aren't built yet
 unfoldable pub unbuilt_names : List (List ℕ)
 unbuilt_names =
-    codes "ifdef" ∷ codes "ifndef" ∷ codes "elsif" ∷ codes "else" ∷ codes "endif" ∷ codes "include" ∷ codes "line" ∷ []
+    codes "ifdef" ∷ codes "ifndef" ∷ codes "elsif" ∷ codes "else" ∷ codes "endif" ∷ codes "include" ∷ []
 
 -- whether the directive of a name isn't built yet
 unfoldable pub is_unbuilt_name : List ℕ → Bool

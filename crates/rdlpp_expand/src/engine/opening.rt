@@ -92,16 +92,13 @@ impl<S: Sources> Engine<S> {
     /// # Errors
     /// With the path, cut to 1,024 bytes or fewer at a character's boundary, and line 0: F28 where
     /// there is no such text, F31 where the path is too long, F32 where a device failed, F34 where
-    /// memory was refused; 99 where the engine writes origin lines, before anything is opened. The
-    /// fault is kept: every later call answers it. The rules are this project's.
+    /// memory was refused. The fault is kept: every later call answers it. The rules are this
+    /// project's.
     pub fn start(&mut self, path: &str) -> Result<(), Fault>
         requires { self.old.phase ≡ Phase.Fresh }
         ensures { Starts S.Sources self.old self.new path.now (start_fault result) }
     {
         self.facts();
-        if self.origins {
-            return Err(self.refuse_main(FaultKind::Unbuilt, path));
-        }
         match self.sources.top(path) {
             Ok(found) => {
                 self.open_main(found);
@@ -113,7 +110,7 @@ impl<S: Sources> Engine<S> {
     }
 
     // Opens the main text that was found.
-    #[tactic(auto, unfolding(crate::specs::Opening::opened_engine))]
+    #[tactic(auto, unfolding(crate::specs::Opening::opened_engine, crate::specs::Owed::nothing_owed))]
     fn open_main(&mut self, found: Found<S::Reader>)
         requires { self.old.phase ≡ Phase.Fresh }
         ensures { self.new ≡ opened_engine self.old found }
@@ -123,6 +120,7 @@ impl<S: Sources> Engine<S> {
         self.kept = None;
         self.main = found.path;
         self.owed = Owed::nothing();
+        self.owed.owe_origin(self.origins, 1);
         let source_bytes = self.limits.source_bytes;
         self.files.enter(found, source_bytes, 0, 0);
     }

@@ -1,4 +1,4 @@
-use Rattle.std.proofs.Common.{◌∙◌, false, true, not, Some, refl, sym, ap}
+use Rattle.std.proofs.Common.{false, true, not, Some, refl, sym, ap}
 use Rattle.rdlpp_expand.proofs.RunFacts.{wrote_at, flushes_as, runs_whole, runs_stopped, runs_unflushed, runs_broken, runs_unchanged}
 use Rattle.rdlpp_expand.proofs.writing.run.Goals as goal
 

@@ -1,4 +1,4 @@
-use Rattle.std.proofs.Common.{Some, sym, ap, ◌∙◌}
+use Rattle.std.proofs.Common.{sym}
 use Rattle.rdlpp_expand.proofs.RunFacts.{wrote_none, wrote_more, wrote_at, pull_falls}
 use Rattle.rdlpp_expand.proofs.writing.write_output.Goals as goal
 

@@ -10,4 +10,4 @@ returns-in-Undef c =
 
 pub returns-in_default : goal.returns-in_default
 returns-in_default c =
-    AtUnbuilt refl (other_unbuilt c.args.directive c.args.held.now c.requires.word c.in_default.not-Define c.in_default.not-Undef)
+    AtUnbuilt refl (other_unbuilt c.args.directive c.args.held.now c.requires.word c.in_default.not-Define c.in_default.not-Undef c.in_default.not-Line)

@@ -1,6 +1,6 @@
-use Rattle.std.proofs.Common.{◌≡◌, refl, sym, ap, ◌∙◌, arith}
+use Rattle.std.proofs.Common.{refl, sym, ap, ◌∙◌, arith}
 use Rattle.rdlpp_scan.specs.Front.{Breach}
-use Rattle.rdlpp_scan.specs.declared.token.Mode.TheVariants.{InStr, InBlock, Plain}
+use Rattle.rdlpp_scan.specs.declared.token.Mode.TheVariants.{InStr, InBlock}
 use Rattle.rdlpp_meaning.specs.State.{breach_kind}
 use Rattle.rdlpp_read.specs.Files.{inner_buffer}
 use Rattle.rdlpp_expand.proofs.Soundness.{inner_facts}

@@ -1,9 +1,6 @@
-use Rattle.std.proofs.Common.{◌≡◌, ◌≤◌, length, [], Some, ap, ◌∙◌, refl, arith}
-use Rattle.rdlpp_meaning.specs.State.{fault_at}
-use Rattle.rdlpp_meaning.specs.declared.fault.FaultKind.TheVariants.{ReadFailed}
+use Rattle.std.proofs.Common.{◌≡◌, ap, ◌∙◌, refl, arith}
 use Rattle.rdlpp_read.specs.Buffer.{held_of, reading_line_of}
 use Rattle.rdlpp_read.specs.Files.{inner_buffer}
-use Rattle.rdlpp_expand.specs.Remaining.{state_of}
 use Rattle.rdlpp_expand.proofs.Soundness.{inner_facts}
 use Rattle.rdlpp_expand.proofs.FrontSteps.{line_ends-le}
 use Rattle.rdlpp_expand.proofs.WorkFacts.{held_room}

@@ -1,5 +1,5 @@
-use Rattle.std.proofs.Common.{◌≡◌, ◌-◌, ℕ, List, Option, None, Some, refl, sym, ap, ◌∙◌, subst, length, arith}
-use Rattle.rdlpp_expand.specs.Owed.{OriginView, OwedView, TakesPiece, behind_piece, first_piece, nothing_owed}
+use Rattle.std.proofs.Common.{◌≡◌, ◌-◌, Option, refl, sym, ◌∙◌, subst, arith}
+use Rattle.rdlpp_expand.specs.Owed.{OriginView, OwedView, TakesPiece, nothing_owed}
 use Rattle.rdlpp_expand.specs.declared.owed.OwedPart.TheVariants.{LineEnds}
 use Rattle.rdlpp_expand.proofs.OwedPieces.{takes_first, takes_line_ends}
 use Rattle.rdlpp_expand.proofs.owed.Owed.take.Goals as goal

@@ -1,0 +1,42 @@
+use Rattle.std.proofs.Common.{◌≡◌, ◌+◌, length, take, ap, ◌∙◌, arith}
+use Rattle.std.proofs.lemmas.List.{length-take-le}
+use Rattle.rdlpp_scan.specs.SourceTokens.{line_ends}
+use Rattle.rdlpp_read.specs.Buffer.{held_of}
+use Rattle.rdlpp_read.specs.Files.{inner_buffer}
+use Rattle.rdlpp_expand.specs.Owed.{OwedView, nothing_owed, origin_owed}
+use Rattle.rdlpp_expand.proofs.FrontSteps.{line_ends-le, owing}
+use Rattle.rdlpp_expand.proofs.LineSteps.{renumbers_by}
+use Rattle.rdlpp_expand.proofs.engine.Engine.renumber.Goals as goal
+
+pub consume-requires-clause-lines : goal.consume-requires-clause-lines
+consume-requires-clause-lines g c =
+    let len = 5 + c.args.given.stop in
+    let held : c.held.result.now ≡ held_of (inner_buffer c.args.self.now.files.nest) = c.held.ensures.value ∙ ap held_of (c.file.ensures.buffer ∙ ap (λ e. inner_buffer e.files.nest) c.self.view_is) in
+    let few : length (take len c.held.result.now) ≡ len = length-take-le len c.held.result.now (rw held c.requires.inside) in
+    let most = line_ends-le (take len c.held.result.now) in
+    let count = c.line_ends_in-lines.ensures in
+    omega arith
+
+pub owe_line_ends-requires : goal.owe_line_ends-requires
+unfolding nothing_owed
+owe_line_ends-requires g c =
+    let none : c.self-2.inside.owed.line_ends ≡ 0 =
+    ap (λ e. e.owed.line_ends) c.self-2.view_is ∙ (ap (λ e. e.owed.line_ends) c.show.ensures ∙ (ap (λ e. e.owed.line_ends) c.consume.ensures.used
+    ∙ ap (λ o. o.line_ends) c.requires.nothing)) in
+    let few = c.line_ends_in-lines.type_inv in
+    omega arith
+
+pub returns : goal.returns
+returns g c =
+    let e = c.args.self.now in
+    let len = 5 + c.args.given.stop in
+    let buffer = c.file.ensures.buffer ∙ ap (λ e. inner_buffer e.files.nest) c.self.view_is in
+    let held : c.held.result.now ≡ held_of (inner_buffer e.files.nest) = c.held.ensures.value ∙ ap held_of buffer in
+    let counted : c.line_ends_in-lines.result ≡ line_ends (take len (held_of (inner_buffer e.files.nest))) = c.line_ends_in-lines.ensures ∙ ap (λ h. line_ends (take len h)) held in
+    let here : c.line-from.result + 1 ≡ (inner_buffer e.files.nest).line + 1 = ap (λ n. n + 1) (c.line-from.ensures ∙ ap (λ b. b.line) buffer) in
+    let grows : OwedView → OwedView = λ o. record o { line_ends = o.line_ends + c.line_ends_in-lines.result } in
+    renumbers_by c.args.given e c.consume.new.self c.show.new.self _ (c.line-from.result + 1) c.line_ends_in-lines.result c.owe_line_ends.new.self c.owe_origin.new.self
+    c.consume.ensures.used c.show.ensures (owing _ c.show.new.self c.owe_origin.new.self c.self-2.view_is)
+    (c.owe_line_ends.ensures ∙ ap grows (ap (λ e. e.owed) c.self-2.view_is))
+    (c.owe_origin.ensures ∙ ap (λ b. record c.owe_line_ends.new.self { origin = origin_owed b c.args.given.number }) (ap (λ e. e.origins) c.self-2.view_is))
+    c.requires.nothing here counted

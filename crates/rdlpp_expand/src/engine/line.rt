@@ -1,0 +1,82 @@
+// The directive `line` in the open sources.
+ghost use Rattle.std.specs.Prelude.{◌≡◌, ◌+◌, ◌<◌, ◌≤◌, ◌^◌, None, IfSome, drop, length};
+ghost use Rattle.rdlpp_scan.specs.declared.token.Directive.TheVariants.{Line};
+ghost use Rattle.rdlpp_read.specs.Buffer.{held_of};
+ghost use Rattle.rdlpp_read.specs.Arguments.{IsLineGiven};
+ghost use Rattle.rdlpp_read.specs.Files.{inner_buffer, with_inner};
+ghost use Rattle.rdlpp_front.specs.Fronts.{IsDirective};
+ghost use Rattle.rdlpp_expand.specs.Held.{IsBounded};
+ghost use Rattle.rdlpp_expand.specs.Lines.{Renumbers, renumbered_file};
+ghost use Rattle.rdlpp_expand.specs.Moves.{IsReady};
+ghost use Rattle.rdlpp_expand.specs.Owed.{nothing_owed};
+ghost use Rattle.rdlpp_expand.specs.Pieces.{IsPlaced, step_answer};
+ghost use Rattle.rdlpp_expand.specs.Steps.{Walks};
+
+use super::Engine;
+use crate::place::Place;
+use arrayvec::ArrayString;
+use rdlpp_meaning::FaultKind;
+use rdlpp_read::{GivenLine, given_line};
+use rdlpp_scan::{Mode, line_ends_in};
+use rdlpp_source::Sources;
+
+impl<S: Sources> Engine<S> {
+    // Takes the `line` with which the held bytes begin, and lends nothing; or refuses it.
+    pub(super) fn take_line(&mut self) -> Option<Place>
+        requires ready { IsReady self.old }
+        requires live { self.old.conditions.skipped ≡ None }
+        requires some { 0 < length (held_of (inner_buffer self.old.files.nest)) }
+        requires mode { (inner_buffer self.old.files.nest).mode ≡ Mode.Plain }
+        requires line { IsDirective Line (held_of (inner_buffer self.old.files.nest)) }
+        ensures place { IfSome result (IsPlaced self.new) }
+        ensures walks { IsBounded self.new → Walks S.Sources self.old self.new (step_answer self.new result) }
+    {
+        let file = self.files.file();
+        if !file.blanks {
+            return Some(self.refuse(FaultKind::BadLine, ArrayString::new()));
+        }
+        match line_argument(file.buffer.held()) {
+            None => Some(self.refuse(FaultKind::BadLine, ArrayString::new())),
+            Some(given) => {
+                self.renumber(given);
+                None
+            }
+        }
+    }
+
+    // Uses a `line` that is given a number and a name, and owes its LF byte and the origin line.
+    fn renumber(&mut self, given: GivenLine)
+        requires nest { 0 < length self.old.files.nest }
+        requires inside { 5 + given.stop ≤ length (held_of (inner_buffer self.old.files.nest)) }
+        requires few { 5 + given.stop < 2 ^ 63 }
+        requires number { given.number < 2 ^ 32 }
+        requires nothing { self.old.owed ≡ nothing_owed }
+        ensures { Renumbers given self.old self.new }
+    {
+        let len = 5 + given.stop;
+        let buffer = &self.files.file().buffer;
+        let lines = line_ends_in(&buffer.held()[..len]);
+        let from = buffer.line() + 1;
+        self.consume(len, lines);
+        self.show(from, given.number, given.name);
+        self.owed.owe_line_ends(lines);
+        self.owed.owe_origin(self.origins, given.number);
+    }
+
+    // Gives the innermost source another name to show, and from a physical line on other numbers.
+    fn show(&mut self, from: u64, number: u64, name: ArrayString<1024>)
+        requires some { 0 < length self.old.files.nest }
+        requires number { number < 2 ^ 32 }
+        ensures { self.new ≡ record self.old { files = record self.old.files { nest = with_inner (renumbered_file from number name) self.old.files.nest } } }
+    {
+        self.files.renumber(from, number, name);
+    }
+}
+
+// What a `line` with which held bytes begin is given behind its word.
+fn line_argument(held: &[u8]) -> Option<GivenLine>
+    requires { 5 ≤ length held.now }
+    ensures { IsLineGiven result (drop 5 held.now) }
+{
+    given_line(&held[5..])
+}
