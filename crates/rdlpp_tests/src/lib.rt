@@ -1,4 +1,4 @@
-//! Tests that cross crates: rows of a source with the output and the fault that it must give, readers
+//! Tests that cross crates: rows of a source with the output and the fault that it must give, also with origin comments, readers
 //! and writers that fail or never end, what an engine holds, the lines that report faults, sources over
 //! files, and the words of a command line.
 #![tactic(auto)]
@@ -11,6 +11,8 @@ mod engine_tests;
 mod failure_tests;
 #[cfg(test)]
 mod folder_tests;
+#[cfg(test)]
+mod line_tests;
 #[cfg(test)]
 mod report_tests;
 #[cfg(test)]

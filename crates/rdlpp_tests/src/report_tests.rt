@@ -172,7 +172,7 @@ fn reports_what_ended_a_run(rt: HostRuntime) -> Result<(), Fail> {
     Ok(())
 }
 
-// What comes of definitions from the options, and of origin comments, which aren't built yet.
+// What comes of definitions from the options, and of origin comments.
 #[test]
 fn takes_definitions_from_the_options(rt: HostRuntime) -> Result<(), Fail> {
     let long = [b'n'; 129];
@@ -212,7 +212,7 @@ fn takes_definitions_from_the_options(rt: HostRuntime) -> Result<(), Fail> {
         ),
         (&[("W", "f(x) \"s\" // c")], false, "f(x) \"s\"", ""),
         (&[("W", "`Q")], false, "", "m:1: error F99: not built yet\n"),
-        (&[("W", "8")], true, "", "m:0: error F99: not built yet\n"),
+        (&[("W", "8")], true, "// origin: m:1\n8", ""),
     ];
     for (defines, origins, output, line) in rows {
         let options = Options {
