@@ -57,9 +57,13 @@ module _ {S R : Type 0} (g : Ghosts S R) (old new : EngineView S R) where
     call = w.call;
     tells = λ own t. (let told = w.tells own t in (tells_end _ _ _ told.0, tells_end _ _ _ told.1));
     text = w.text;
+    reads = w.reads;
+    halts = w.halts;
     falls = w.falls;
     lends = λ bytes e. absurd (cc);
     quota = w.quota;
+    most_bytes = w.most_bytes;
+    most_macros = w.most_macros;
     bounded = w.bounded;
   }
 
@@ -81,9 +85,13 @@ module _ {S R : Type 0} (g : Ghosts S R) (old new : EngineView S R) where
     call = w.call;
     tells = λ own t. ap (limited (output_fault old.main) old.quota) (w.tells own t) ∙ limited-fails (output_fault old.main) old.quota f;
     text = w.text;
+    reads = w.reads;
+    halts = w.halts;
     falls = w.falls;
     lends = λ bytes e. absurd (cc);
     quota = w.quota;
+    most_bytes = w.most_bytes;
+    most_macros = w.most_macros;
     bounded = w.bounded;
   }
 
@@ -165,9 +173,13 @@ module _ {S R : Type 0} (g : Ghosts S R) (old mid new : EngineView S R) (xs : Li
               lent = part ∙ ap (take old.quota) piece.lent;
               text = piece.text ∙ ap (behind_bytes piece.piece) (sym (ap (text_of g.unread) becomes ∙ same_text g.unread mid new.phase new.quota));
             };
+        reads = λ met. absurd (let no : false ≡ true = rw free_old at met in cc);
+        halts = λ _ _. tt;
         falls = λ bytes e. (let less = w.falls xs refl in let same : work_left new ≡ work_left mid = ap work_left becomes ∙ same_work mid new.phase new.quota in omega arith);
         lends = λ bytes e. ((w.lends xs refl).0, opens);
         quota = quota;
+        most_bytes = ap (λ e. e.table.most_bytes) becomes ∙ w.most_bytes;
+        most_macros = ap (λ e. e.table.most_macros) becomes ∙ w.most_macros;
         bounded = subst IsBounded (sym becomes) (same_bound mid new.phase new.quota w.bounded);
       }
 

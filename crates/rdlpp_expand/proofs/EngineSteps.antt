@@ -13,13 +13,14 @@ use Rattle.rdlpp_meaning.proofs.Outputs.{outcome-behind_bytes}
 use Rattle.rdlpp_meaning.proofs.Passages.{outcome-leaves}
 use Rattle.rdlpp_read.specs.Buffer.{reading_line_of}
 use Rattle.rdlpp_read.specs.Calls.{SourcesRead}
-use Rattle.rdlpp_read.specs.Files.{inner_buffer}
+use Rattle.rdlpp_read.specs.Files.{inner_buffer, with_buffer}
 use Rattle.rdlpp_expand.specs.Calls.{SourcesCalled}
 use Rattle.rdlpp_expand.specs.Engine.{EngineView}
 use Rattle.rdlpp_expand.specs.Held.{IsBounded}
+use Rattle.rdlpp_expand.specs.Owed.{nothing_owed}
 use Rattle.rdlpp_expand.specs.Pieces.{kept_answer, lent_answer}
 use Rattle.rdlpp_expand.specs.Remaining.{uncut_of, kept_uncut, output_fault, phase_uncut, state_of, text_of, work_left}
-use Rattle.rdlpp_expand.specs.Steps.{EndsText, LendsText, StepsOver, TellsText, Walks, all_of, may_follow, no_len, Tells, IsOwn, IsStarted, has_failed, has_met, has_refused, is_memory_kind, is_read_failed, is_write_failed}
+use Rattle.rdlpp_expand.specs.Steps.{EndsText, Halts, LendsText, StepsOver, TellsText, Walks, all_of, may_follow, no_len, Tells, IsOwn, IsStarted, has_failed, has_met, has_refused, is_memory_kind, is_read_failed, is_write_failed}
 use Rattle.rdlpp_expand.specs.declared.phase.Phase.{Phase}
 use Rattle.rdlpp_expand.specs.declared.phase.Phase.TheVariants.{Fresh, Open, Passed, Closed}
 use Rattle.rdlpp_expand.specs.declared.place.Place.{Place}
@@ -57,9 +58,13 @@ steps_kept g e f started bounded kept = record {
   call = rw kept (not_called g e.sources);
   tells = λ own t. rw kept refl;
   text = λ none. absurd (let no : Some f ≡ None = sym kept ∙ none in cc);
+  reads = λ met. absurd (let no : false ≡ true = rw kept at met in cc);
+  halts = λ none. absurd (let no : Some f ≡ None = sym kept ∙ none in cc);
   falls = λ bytes no. absurd (cc);
   lends = λ bytes no. absurd (cc);
   quota = omega arith;
+  most_bytes = refl;
+  most_macros = refl;
   bounded = bounded;
 }
 
@@ -82,9 +87,13 @@ steps_ended g e started bounded free closed = record {
   call = rw free (not_called g e.sources);
   tells = λ own t. (rw (free, closed) refl, rw (free, closed) refl);
   text = λ none open_. absurd (let no : Closed ≡ Open = sym closed ∙ open_ in cc);
+  reads = λ met. absurd (let no : false ≡ true = rw free at met in cc);
+  halts = λ none open_. absurd (let no : Closed ≡ Open = sym closed ∙ open_ in cc);
   falls = λ bytes no. absurd (cc);
   lends = λ bytes no. absurd (cc);
   quota = omega arith;
+  most_bytes = refl;
+  most_macros = refl;
   bounded = bounded;
 }
 
@@ -92,11 +101,12 @@ steps_ended g e started bounded free closed = record {
 module _ {S R : Type 0} (g : Ghosts S R) (old new : EngineView S R) (free : old.kept ≡ None) (open_ : old.phase ≡ Open) (bounded : IsBounded new) where
   -- a piece was lent
   pub walks_lent : (bytes : List ℕ) → new ≡ record old { owed = new.owed; table = new.table; conditions = new.conditions; files = new.files; sources = new.sources }
+      → (new.table.most_bytes ≡ old.table.most_bytes) × (new.table.most_macros ≡ old.table.most_macros)
       → SourcesCalled g false false old.sources new.sources
       → (g.tells old.sources → text_of g.unread old ≡ behind_bytes bytes (text_of g.unread new))
       → work_left new < work_left old → Walks g old new (Ok (Some bytes))
   unfolding has_met no_len all_of may_follow
-  walks_lent bytes becomes call text falls =
+  walks_lent bytes becomes room call text falls =
       let still : new.phase ≡ Open = ap (λ e. e.phase) becomes ∙ open_ in
       let none : new.kept ≡ None = ap (λ e. e.kept) becomes ∙ free in
       record {
@@ -115,18 +125,36 @@ module _ {S R : Type 0} (g : Ghosts S R) (old new : EngineView S R) (free : old.
         call = rw free call;
         tells = λ _ t. left_open g.unread old free open_ ∙ (ap outcome (text t) ∙ (outcome-behind_bytes bytes (text_of g.unread new) ∙ rw (left_open g.unread new none still) refl));
         text = λ _ _ _ t. record { piece = bytes; lent = refl; text = text t };
+        reads = λ met. absurd (let no : false ≡ true = rw free at met in cc);
+        halts = λ _ _. tt;
         falls = λ _ _. falls;
         lends = λ _ _. (open_, ap may_follow still);
         quota = omega (arith, ap (λ e. e.quota) becomes);
+        most_bytes = room.0;
+        most_macros = room.1;
         bounded = bounded;
+      }
+
+  -- what a fault leaves, where nothing is owed
+  halts_at : (f : Told) → new ≡ record old { kept = Some f; files = new.files; sources = new.sources }
+      → new.files ≡ record old.files { nest = with_buffer (inner_buffer new.files.nest) old.files.nest } → old.owed ≡ nothing_owed → Halts g (Err f) old new
+  halts_at f becomes only unowed =
+      let keeps : Option Told → EngineView S R = λ k. record old { kept = k; files = new.files; sources = new.sources } in
+      record {
+        at = old;
+        text = λ t. refl;
+        unowed = unowed;
+        becomes = becomes ∙ ap keeps (sym (ap (λ e. e.kept) becomes));
+        only = only;
       }
 
   -- the text has a fault, which is kept
   pub walks_fault : (f : Told) → IsOwn f.kind → new ≡ record old { kept = Some f; files = new.files; sources = new.sources }
+      → new.files ≡ record old.files { nest = with_buffer (inner_buffer new.files.nest) old.files.nest } → old.owed ≡ nothing_owed
       → SourcesCalled g false false old.sources new.sources
       → (g.tells old.sources → text_of g.unread old ≡ leaves (fails f) (state_of new)) → Walks g old new (Err f)
   unfolding has_met no_len
-  walks_fault f own becomes call text =
+  walks_fault f own becomes only unowed call text =
       let still : new.phase ≡ Open = ap (λ e. e.phase) becomes ∙ open_ in
       record {
         limits = ap (λ e. e.limits) becomes;
@@ -144,18 +172,24 @@ module _ {S R : Type 0} (g : Ghosts S R) (old new : EngineView S R) (free : old.
         call = rw (free, own.read, own.memory) call;
         tells = λ _ t. left_open g.unread old free open_ ∙ (ap outcome (text t) ∙ outcome-leaves (fails f) (state_of new));
         text = λ _ _ _ t. text t;
+        reads = λ met. absurd (let no : false ≡ true = rw (free, own.read) at met in cc);
+        halts = λ _ _. halts_at f becomes only unowed;
         falls = λ bytes e. absurd (cc);
         lends = λ bytes e. absurd (cc);
         quota = omega (arith, ap (λ e. e.quota) becomes);
+        most_bytes = ap (λ e. e.table.most_bytes) becomes;
+        most_macros = ap (λ e. e.table.most_macros) becomes;
         bounded = bounded;
       }
 
   -- a read failed
   pub walks_failed : (f : Told) → f ≡ fault_at fault.ReadFailed (reading_line_of (inner_buffer new.files.nest)) [] (state_of new)
       → new ≡ record old { kept = Some f; files = new.files; sources = new.sources }
-      → SourcesCalled g true false old.sources new.sources → Walks g old new (Err f)
+      → new.files ≡ record old.files { nest = with_buffer (inner_buffer new.files.nest) old.files.nest } → old.owed ≡ nothing_owed
+      → SourcesCalled g true false old.sources new.sources
+      → (g.tells old.sources → text_of g.unread old ≡ text_of g.unread new) → Walks g old new (Err f)
   unfolding has_met no_len fault_at is_read_failed is_write_failed is_memory_kind
-  walks_failed f is becomes call =
+  walks_failed f is becomes only unowed call text =
       let still : new.phase ≡ Open = ap (λ e. e.phase) becomes ∙ open_ in
       let read : is_read_failed f.kind ≡ true = ap (λ t. is_read_failed t.kind) is in
       let write : is_write_failed f.kind ≡ false = ap (λ t. is_write_failed t.kind) is in
@@ -176,18 +210,22 @@ module _ {S R : Type 0} (g : Ghosts S R) (old new : EngineView S R) (free : old.
         call = rw (free, read, memory) call;
         tells = λ own t. absurd (let no : true ≡ false = sym (rw free read) ∙ own in cc);
         text = λ _ _ own t. absurd (let no : true ≡ false = sym (rw free read) ∙ own in cc);
+        reads = λ _. record { open_ = open_; still = still; text = text };
+        halts = λ _ _. halts_at f becomes only unowed;
         falls = λ bytes e. absurd (cc);
         lends = λ bytes e. absurd (cc);
         quota = omega (arith, ap (λ e. e.quota) becomes);
+        most_bytes = ap (λ e. e.table.most_bytes) becomes;
+        most_macros = ap (λ e. e.table.most_macros) becomes;
         bounded = bounded;
       }
 
   -- the text has ended
-  pub walks_end : new ≡ record old { phase = Closed; files = new.files; sources = new.sources }
+  pub walks_end : new ≡ record old { phase = Closed; files = new.files; sources = new.sources } → old.owed ≡ nothing_owed
       → SourcesCalled g false false old.sources new.sources
       → (g.tells old.sources → EndsText new (text_of g.unread old)) → Walks g old new (Ok None)
   unfolding has_met no_len uncut_of kept_uncut phase_uncut
-  walks_end becomes call text =
+  walks_end becomes unowed call text =
       let closed : new.phase ≡ Closed = ap (λ e. e.phase) becomes in
       let none : new.kept ≡ None = ap (λ e. e.kept) becomes ∙ free in
       record {
@@ -206,9 +244,13 @@ module _ {S R : Type 0} (g : Ghosts S R) (old new : EngineView S R) (free : old.
         call = rw free call;
         tells = λ _ t. (left_open g.unread old free open_ ∙ (ap outcome ((text t).text) ∙ outcome-leaves (gives []) (text t).last), rw (none, closed) refl);
         text = λ _ _ _ t. text t;
+        reads = λ met. absurd (let no : false ≡ true = rw free at met in cc);
+        halts = λ _ _. ap (λ e. e.owed) becomes ∙ unowed;
         falls = λ bytes e. absurd (cc);
         lends = λ bytes e. absurd (cc);
         quota = omega (arith, ap (λ e. e.quota) becomes);
+        most_bytes = ap (λ e. e.table.most_bytes) becomes;
+        most_macros = ap (λ e. e.table.most_macros) becomes;
         bounded = bounded;
       }
 
@@ -218,6 +260,8 @@ pub record IsSilent {S R : Type 0} (g : Ghosts S R) (old mid : EngineView S R) :
   pub origins : mid.origins ≡ old.origins
   pub main : mid.main ≡ old.main
   pub quota : mid.quota ≡ old.quota
+  pub most_bytes : mid.table.most_bytes ≡ old.table.most_bytes
+  pub most_macros : mid.table.most_macros ≡ old.table.most_macros
   pub free : old.kept ≡ None
   pub still : mid.kept ≡ None
   pub open_ : old.phase ≡ Open
@@ -271,6 +315,19 @@ silent_text : (quota : ℕ) (old new : Passage) → LendsText (all_of quota) [] 
 unfolding all_of behind_bytes
 silent_text quota old new lends = lends.text ∙ ap (λ (x : List ℕ). behind_bytes x new) (sym lends.lent)
 
+-- what an answer leaves, behind such a part
+halts_behind : {S R : Type 0} (g : Ghosts S R) (answer : Result (Option (List ℕ)) Told) (old mid new : EngineView S R) → (g.tells old.sources → text_of g.unread old ≡ text_of g.unread mid)
+    → (g.tells old.sources → g.tells mid.sources) → Halts g answer mid new → Halts g answer old new
+halts_behind g (Ok (Some bytes)) old mid new text tells halts = tt
+halts_behind g (Ok None) old mid new text tells halts = halts
+halts_behind g (Err f) old mid new text tells halts = record {
+  at = halts.at;
+  text = λ t. text t ∙ halts.text (tells t);
+  unowed = halts.unowed;
+  becomes = halts.becomes;
+  only = halts.only;
+}
+
 -- such a part, and then a step, are one step
 pub silent_then : {S R : Type 0} (g : Ghosts S R) (old mid new : EngineView S R) (answer : Result (Option (List ℕ)) Told) →
     IsSilent g old mid → Walks g mid new answer → Walks g old new answer
@@ -299,9 +356,15 @@ silent_then g old mid new answer first then_ =
       text = λ _ _ own t.
           subst (λ (p : Passage). TellsText (all_of old.quota) g.unread answer p new) (sym (first.text t))
           (told_over g.unread answer mid.quota old.quota (text_of g.unread mid) new (then_.text first.still first.stays (sym (same is_read_failed) ∙ own) (first.call.tells t)));
+      reads = λ met.
+          let reads = then_.reads (sym (same is_read_failed) ∙ met) in
+          record { open_ = first.open_; still = reads.still; text = λ t. first.text t ∙ reads.text (first.call.tells t) };
+      halts = λ _ _. halts_behind g answer old mid new first.text first.call.tells (then_.halts first.still first.stays);
       falls = λ bytes is. (let less = then_.falls bytes is in let most = first.work in omega arith);
       lends = λ bytes is. (first.open_, (then_.lends bytes is).1);
       quota = (let one = first.quota in let two = then_.quota in omega arith);
+      most_bytes = then_.most_bytes ∙ first.most_bytes;
+      most_macros = then_.most_macros ∙ first.most_macros;
       bounded = then_.bounded;
     }
 
@@ -325,6 +388,8 @@ silent_step g old mid w =
       origins = w.origins;
       main = w.main;
       quota = omega (arith, w.quota);
+      most_bytes = w.most_bytes;
+      most_macros = w.most_macros;
       free = free;
       still = w.free;
       open_ = lends.0;
@@ -400,9 +465,13 @@ steps_passed g old new free past bounded becomes =
       call = rw (free, becomes) (not_called g old.sources);
       tells = λ _ t. rw (free, past) refl;
       text = λ none open_. absurd (let no : Passed ≡ Open = sym past ∙ open_ in cc);
+      reads = λ met. absurd (let no : false ≡ true = rw free at met in cc);
+      halts = λ none open_. absurd (let no : Passed ≡ Open = sym past ∙ open_ in cc);
       falls = λ bytes e. absurd (cc);
       lends = λ bytes e. absurd (cc);
       quota = omega (arith, ap (λ e. e.quota) becomes);
+      most_bytes = ap (λ e. e.table.most_bytes) becomes;
+      most_macros = ap (λ e. e.table.most_macros) becomes;
       bounded = bounded;
     }
 

@@ -54,8 +54,8 @@ use Rattle.rdlpp_expand.specs.declared.phase.Phase.TheVariants.{Open, Closed}
 use Rattle.rdlpp_expand.specs.declared.place.Place.{Place}
 use Rattle.rdlpp_expand.specs.declared.place.Place.TheVariants.{Source, Body, Owed, End, Kept}
 use Rattle.rdlpp_expand.proofs.EngineSteps.{IsSilent, kept_at, not_called, walks_end, walks_failed, walks_fault, walks_lent}
-use Rattle.rdlpp_expand.proofs.NestLeft.{nest_body, nest_cut_define, nest_defined, nest_ended, nest_filled, nest_long_define, nest_long_line, nest_long_source, nest_nameless, nest_open, nest_refused, nest_refused_define, nest_reserved, nest_text, nest_unbuilt, nest_undef, nest_undefined}
-use Rattle.rdlpp_expand.proofs.Soundness.{inner_facts, with_inner-length}
+use Rattle.rdlpp_expand.proofs.NestLeft.{nest_body, nest_cut_define, nest_defined, nest_ended, nest_filled, nest_long_define, nest_long_line, nest_long_source, nest_nameless, nest_open, nest_refused, nest_refused_define, nest_reserved, nest_text, nest_unbuilt, nest_undef, nest_undefined, nest_unfilled, nest_unheld}
+use Rattle.rdlpp_expand.proofs.Soundness.{IsInner, inner_facts, with_inner-length}
 use Rattle.rdlpp_expand.proofs.WorkFacts.{IsUsed, entered_unused, held_room, owed_falls, used_after, used_bytes, work_falls, work_same}
 
 -- another buffer for the innermost source changes no state
@@ -159,7 +159,7 @@ pub lends_piece : {S R : Type 0} (g : Ghosts S R) (old : EngineView S R) (ready 
 unfolding text_of
 lends_piece g old ready bytes owed macros v nest sources bounded few used call law =
     let after = record old { owed = owed; table = record old.table { macros = macros }; conditions = v; files = record old.files { nest = nest }; sources = sources } in
-    walks_lent g old after ready.free ready.open_ bounded bytes refl call
+    walks_lent g old after ready.free ready.open_ bounded bytes refl (refl, refl) call
     (λ t. unowed_behind (inner_name old.files.nest) old.owed (left_by g.unread old old.table.macros old.conditions old.files.nest) ready.owed ∙ law t)
     (work_falls old after refl used few)
 
@@ -269,6 +269,31 @@ keeps_fault {S} {R} old mid new f r becomes =
     becomes ∙ (ap (λ (m : EngineView S R). record m { kept = Some f }) r.becomes
     ∙ (ap (λ (fs : FilesView R). keeps fs mid.sources) (sym files) ∙ ap (λ (s : S). keeps new.files s) (sym sources)))
 
+-- and the innermost buffer alone
+keeps_files : {S R : Type 0} (old mid new : EngineView S R) (f : Told) → IsRead old mid → new ≡ record mid { kept = Some f }
+    → new.files ≡ record old.files { nest = with_buffer (inner_buffer new.files.nest) old.files.nest }
+keeps_files {S} {R} old mid new f r becomes =
+    subst (λ (fs : FilesView R). fs ≡ record old.files { nest = with_buffer (inner_buffer fs.nest) old.files.nest }) (sym (ap (λ e. e.files) becomes)) r.only
+
+-- the text is the same where what remains of the open sources is
+read_text : {S R : Type 0} (unread : R → List ℕ) (old mid : EngineView S R) → old.owed ≡ nothing_owed → IsRead old mid
+    → left_by unread old old.table.macros old.conditions old.files.nest ≡ left_by unread old old.table.macros old.conditions (with_buffer (inner_buffer mid.files.nest) old.files.nest)
+    → text_of unread old ≡ text_of unread mid
+read_text {S} {R} unread old mid unowed r law =
+    let limits : mid.limits ≡ old.limits = ap (λ e. e.limits) r.becomes in
+    let origins : mid.origins ≡ old.origins = ap (λ e. e.origins) r.becomes in
+    let table : mid.table ≡ old.table = ap (λ e. e.table) r.becomes in
+    let owed : mid.owed ≡ old.owed = ap (λ e. e.owed) r.becomes in
+    let conditions : mid.conditions ≡ old.conditions = ap (λ e. e.conditions) r.becomes in
+    let nest : mid.files.nest ≡ with_buffer (inner_buffer mid.files.nest) old.files.nest = ap (λ f. f.nest) r.only in
+    text_unowed unread old unowed ∙ (law ∙ (ap (λ (ns : List (File R)). left_by unread old old.table.macros old.conditions ns) (sym nest)
+    ∙ (rw (limits, origins, table, conditions) refl ∙ sym (text_unowed unread mid (owed ∙ unowed)))))
+
+-- the fault that is kept is no part of the text
+kept_text : {S R : Type 0} (unread : R → List ℕ) (mid new : EngineView S R) (f : Told) → new ≡ record mid { kept = Some f } → text_of unread new ≡ text_of unread mid
+unfolding text_of
+kept_text unread mid new f becomes = ap (text_of unread) becomes
+
 -- the kind of a fault that is told
 told_kind : (kind : FaultKind) (line : ℕ) (word : List ℕ) (s : State) → IsOwn kind → IsOwn (fault_at kind line word s).kind
 unfolding fault_at
@@ -287,20 +312,22 @@ refuses {S} {R} g old mid new place kind line word ready r bounded is becomes ow
     let sources : new.sources ≡ mid.sources = ap (λ e. e.sources) becomes in
     let P : S → Type 0 = λ s. SourcesCalled g false false old.sources s in
     kept_at g old new place f is (ap (λ e. e.kept) becomes)
-    (walks_fault g old new ready.free ready.open_ bounded f (told_kind kind line word (state_of mid) own) (keeps_fault old mid new f r becomes) (subst P (sym sources) call)
+    (walks_fault g old new ready.free ready.open_ bounded f (told_kind kind line word (state_of mid) own) (keeps_fault old mid new f r becomes) (keeps_files old mid new f r becomes) ready.owed (subst P (sym sources) call)
     (λ t. text_unowed g.unread old ready.owed ∙ (law t ∙ (ap (λ (s : State). leaves (fails (fault_at kind line word s)) s) (sym same) ∙ ap (leaves (fails f)) (sym here)))))
 
 -- a failed read is kept
 pub fails_reading : {S R : Type 0} (g : Ghosts S R) (old mid new : EngineView S R) (place : Place) → IsReady old → IsRead old mid → IsBounded new
     → place ≡ Kept → new ≡ record mid { kept = Some (fault_at fault.ReadFailed (reading_line_of (inner_buffer mid.files.nest)) [] (state_of mid)) } → SourcesCalled g true false old.sources mid.sources
+    → (g.tells old.sources → left_by g.unread old old.table.macros old.conditions old.files.nest ≡ left_by g.unread old old.table.macros old.conditions (with_buffer (inner_buffer mid.files.nest) old.files.nest))
     → Walks g old new (lent_answer new place)
 unfolding state_of
-fails_reading {S} {R} g old mid new place ready r bounded is becomes call =
+fails_reading {S} {R} g old mid new place ready r bounded is becomes call law =
     let told : EngineView S R → Told = λ e. fault_at fault.ReadFailed (reading_line_of (inner_buffer e.files.nest)) [] (nest_state e.limits e.table.macros e.conditions e.files.nest) in
     let sources : new.sources ≡ mid.sources = ap (λ e. e.sources) becomes in
     let P : S → Type 0 = λ s. SourcesCalled g true false old.sources s in
     kept_at g old new place (told mid) is (ap (λ e. e.kept) becomes)
-    (walks_failed g old new ready.free ready.open_ bounded (told mid) (sym (ap told becomes)) (keeps_fault old mid new (told mid) r becomes) (subst P (sym sources) call))
+    (walks_failed g old new ready.free ready.open_ bounded (told mid) (sym (ap told becomes)) (keeps_fault old mid new (told mid) r becomes) (keeps_files old mid new (told mid) r becomes) ready.owed (subst P (sym sources) call)
+    (λ t. read_text g.unread old mid ready.owed r (law t) ∙ sym (kept_text g.unread mid new (told mid) becomes)))
 
 -- nothing changed
 pub read_nothing : {S R : Type 0} (e : EngineView S R) → IsRead e e
@@ -464,7 +491,7 @@ module _ {S R : Type 0} (g : Ghosts S R) (old mid new : EngineView S R) (ready :
       becomes ∙ (ap (λ (m : EngineView S R). record m { phase = Closed; files = files }) r.becomes
       ∙ (ap (λ (fs : FilesView R). closes fs mid.sources) (sym (ap (λ e. e.files) becomes)) ∙ ap (λ (s : S). closes new.files s) (sym sources))) in
       let P : S → Type 0 = λ s. SourcesCalled g false false old.sources s in
-      walks_end g old new ready.free ready.open_ bounded ends (subst P (sym sources) call)
+      walks_end g old new ready.free ready.open_ bounded ends ready.owed (subst P (sym sources) call)
       (λ t. record {
         last = nest_state old.limits old.table.macros old.conditions old.files.nest;
         text = text_unowed g.unread old ready.owed
@@ -511,7 +538,7 @@ take_owed {S} {R} g old new piece owed free open_ bounded takes becomes =
     let bytes = take piece.len (part_bytes piece.part name (digits_of owed.origin)) in
     let rest = left_by g.unread old old.table.macros old.conditions old.files.nest in
     subst (λ (e : EngineView S R). Walks g old e (lent_answer e (Owed piece))) (sym becomes)
-    (walks_lent g old after free open_ (subst IsBounded becomes bounded) bytes refl (not_called g old.sources)
+    (walks_lent g old after free open_ (subst IsBounded becomes bounded) bytes refl (refl, refl) (not_called g old.sources)
     (λ t. ap (λ (x : List ℕ). behind_bytes x rest) takes.bytes ∙ behind_twice bytes (owed_bytes name owed) rest)
     (owed_falls old after refl refl takes.fewer))
 
@@ -537,15 +564,15 @@ silent_fill {S} {R} g old mid ready r fills call =
       origins = origins;
       main = ap (λ e. e.main) r.becomes;
       quota = ap (λ e. e.quota) r.becomes;
+      most_bytes = ap (λ t. t.most_bytes) table;
+      most_macros = ap (λ t. t.most_macros) table;
       free = ready.free;
       still = ap (λ e. e.kept) r.becomes ∙ ready.free;
       open_ = ready.open_;
       stays = ap (λ e. e.phase) r.becomes ∙ ready.open_;
       call = call;
-      text = λ t. text_unowed g.unread old ready.owed
-          ∙ (nest_filled old.limits (staged_rules old.limits old.origins) g.unread old.table.macros old.conditions (g.tells old.sources) t old.files.nest b fills
-          ∙ (ap (λ (ns : List (File R)). nest_left old.limits (staged_rules old.limits old.origins) g.unread old.table.macros old.conditions ns) (sym nest)
-          ∙ (rw (limits, origins, table, conditions) refl ∙ sym (text_unowed g.unread mid (owed ∙ ready.owed)))));
+      text = λ t. read_text g.unread old mid ready.owed r
+          (nest_filled old.limits (staged_rules old.limits old.origins) g.unread old.table.macros old.conditions (g.tells old.sources) t old.files.nest b fills);
       work = (let same : work_left mid ≡ work_left old = work_same old mid b limits owed nest fills.unused in omega arith);
     }
 
@@ -618,6 +645,15 @@ module _ {S R : Type 0} (g : Ghosts S R) (old mid : EngineView S R) (ready : IsR
   left_long_source fills =
       nest_long_source old.limits (staged_rules old.limits old.origins) g.unread old.table.macros old.conditions (g.tells old.sources) t old.files.nest (inner_buffer mid.files.nest) ready.nest fills
       ∙ rw fills.line refl
+
+  -- where a read fails the same remains
+  pub left_unfilled : Fills (g.tells old.sources) g.unread fill.Failed (inner_buffer old.files.nest) (inner_buffer mid.files.nest)
+      → left_by g.unread old old.table.macros old.conditions old.files.nest ≡ left_by g.unread old old.table.macros old.conditions (with_buffer (inner_buffer mid.files.nest) old.files.nest)
+  left_unfilled fills = nest_unfilled old.limits (staged_rules old.limits old.origins) g.unread old.table.macros old.conditions (g.tells old.sources) t old.files.nest (inner_buffer mid.files.nest) fills
+
+  pub left_unheld : HoldsLine (g.tells old.sources) g.unread line.Failed (inner_buffer old.files.nest) (inner_buffer mid.files.nest)
+      → left_by g.unread old old.table.macros old.conditions old.files.nest ≡ left_by g.unread old old.table.macros old.conditions (with_buffer (inner_buffer mid.files.nest) old.files.nest)
+  left_unheld holds = nest_unheld old.limits (staged_rules old.limits old.origins) g.unread old.table.macros old.conditions (g.tells old.sources) t old.files.nest (inner_buffer mid.files.nest) holds
 
   -- or the logical line of a `define` does
   module _ (live : old.conditions.skipped ≡ None) (some : 0 < length (held_of (inner_buffer old.files.nest))) (plain : (inner_buffer old.files.nest).mode ≡ Plain) (define : IsDirective Define (held_of (inner_buffer old.files.nest))) where

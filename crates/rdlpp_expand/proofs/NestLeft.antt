@@ -1,5 +1,5 @@
 -- What remains of the open sources, as the innermost of them moves, where any others wait for it.
-use Rattle.std.proofs.Common.{◌≡◌, ℕ, ◌+◌, ◌≤◌, ◌<◌, Bool, true, false, not, List, [], ◌∷◌, ◌++◌, length, take, drop, None, Some, refl, sym, ap, subst, ◌∙◌, append_assoc, inl, arith}
+use Rattle.std.proofs.Common.{◌≡◌, ℕ, ◌+◌, ◌≤◌, ◌<◌, Bool, true, false, not, List, [], ◌∷◌, ◌++◌, length, take, drop, None, Some, refl, sym, ap, subst, ◌∙◌, append_assoc, inl, inr, arith}
 use Rattle.std.proofs.lemmas.List.{drop-drop, take-append-drop}
 use Rattle.rdlpp_scan.specs.Bytes.{is_line_end}
 use Rattle.rdlpp_scan.specs.Front.{Breach}
@@ -31,7 +31,7 @@ use Rattle.rdlpp_front.specs.Fronts.{HasName, IsDirective, IsRefused, IsText, Is
 use Rattle.rdlpp_front.specs.SourceLeft.{HoldsFront, source_left, with_file_buffer}
 use Rattle.rdlpp_front.proofs.DefineLeft.{define_cut_left, define_left, define_long_left, define_refused_left, holds_define}
 use Rattle.rdlpp_front.proofs.DirectiveFacts.{define_built, undef_built}
-use Rattle.rdlpp_front.proofs.EndLeft.{broken_left, ended_left, filled_left, refused_left}
+use Rattle.rdlpp_front.proofs.EndLeft.{broken_left, ended_left, filled_left, held_left, refused_left}
 use Rattle.rdlpp_front.proofs.SkippedWords.{skipped_broken_left}
 use Rattle.rdlpp_front.proofs.Stages.{is_unbuilt-stage}
 use Rattle.rdlpp_front.proofs.TextLeft.{text_left as text_law}
@@ -293,6 +293,26 @@ module _ {R : Type 0} (limits : Limits) (rules : Rules) (unread : R → List ℕ
           moved f (with_file_buffer new f) outer macros []
           (sym (filled_left rules is_unbuilt unread (around f outer) f (nest_state limits macros v (f ∷ outer)) tells (place_of f.conditions_below v) new fill.Held fills t (inl refl)))
           (ap (torn_after f.torn) (fills.text (λ e. cc) t)) refl refl
+
+      -- a read failed where bytes were to be filled in
+      pub nest_unfilled : (nest : List (File R)) (new : BufferView R) → Fills tells unread fill.Failed (inner_buffer nest) new
+          → nest_left limits rules unread macros v nest ≡ nest_left limits rules unread macros v (with_buffer new nest)
+      unfolding nest_state file_state behind_bytes
+      nest_unfilled [] new fills = refl
+      nest_unfilled (f ∷ outer) new fills =
+          moved f (with_file_buffer new f) outer macros []
+          (sym (filled_left rules is_unbuilt unread (around f outer) f (nest_state limits macros v (f ∷ outer)) tells (place_of f.conditions_below v) new fill.Failed fills t (inr refl)))
+          (ap (torn_after f.torn) (fills.text (λ e. cc) t)) refl refl
+
+      -- or where a logical line was to be taken in
+      pub nest_unheld : (nest : List (File R)) (new : BufferView R) → HoldsLine tells unread line.Failed (inner_buffer nest) new
+          → nest_left limits rules unread macros v nest ≡ nest_left limits rules unread macros v (with_buffer new nest)
+      unfolding nest_state file_state behind_bytes
+      nest_unheld [] new holds = refl
+      nest_unheld (f ∷ outer) new holds =
+          moved f (with_file_buffer new f) outer macros []
+          (sym (held_left rules is_unbuilt unread (around f outer) f (nest_state limits macros v (f ∷ outer)) tells (place_of f.conditions_below v) new line.Failed holds t (inr refl)))
+          (ap (torn_after f.torn) (holds.text (λ e. cc) t)) refl refl
 
       -- a line that is too long
       pub nest_long_line : (nest : List (File R)) (new : BufferView R) → 0 < length nest → Fills tells unread fill.LineLong (inner_buffer nest) new

@@ -8,17 +8,22 @@ use Rattle.rdlpp_source.specs.declared.sinks.Sink.{Ghosts as SinkGhosts}
 use Rattle.rdlpp_meaning.specs.declared.fault.FaultKind.{FaultKind}
 use Rattle.rdlpp_meaning.specs.declared.fault.FaultKind.TheVariants.{ReadFailed}
 use Rattle.rdlpp_meaning.specs.State.{fault_at}
+use Rattle.rdlpp_meaning.specs.Meaning.{outcome}
 use Rattle.rdlpp_meaning.specs.Outcome.{Told, Outcome, gives, fails, and_then}
+use Rattle.rdlpp_meaning.specs.OutputLimit.{limited}
 use Rattle.rdlpp_meaning.proofs.Outcomes.{and_then-gives_nil, and_then-gives, and_then-gives_gives, bytes-and_then_gives}
 use Rattle.rdlpp_expand.specs.Calls.{SourcesCalled}
 use Rattle.rdlpp_read.specs.Buffer.{reading_line_of}
 use Rattle.rdlpp_read.specs.Files.{inner_buffer}
 use Rattle.rdlpp_expand.specs.Engine.{EngineView, is_open}
 use Rattle.rdlpp_expand.specs.Held.{IsBounded, stores_of}
-use Rattle.rdlpp_expand.specs.Remaining.{left_of, state_of, work_left}
-use Rattle.rdlpp_expand.specs.Run.{Pulls, Wrote, WroteEnds, Going, Finishes, Stops, StopsAt, Breaks, Runs, Begins, Flushes, Unflushed, answered, is_fresh, is_kept, is_unwritten, write_fault}
-use Rattle.rdlpp_expand.specs.Steps.{Steps, Tells, IsStarted, has_met, lent_len, is_memory_kind, is_read_failed, is_write_failed}
-use Rattle.rdlpp_expand.proofs.EngineSteps.{called_after, free_before, not_called, ok_not_met}
+use Rattle.rdlpp_expand.specs.Owed.{nothing_owed}
+use Rattle.rdlpp_expand.specs.Remaining.{kept_uncut, left_of, output_fault, phase_uncut, state_of, text_of, uncut_of, work_left}
+use Rattle.rdlpp_expand.specs.Run.{Pulls, Wrote, WroteEnds, Going, Finishes, LeavesRest, Stops, StopsAt, Breaks, Runs, Begins, Flushes, Unflushed, answered, is_fresh, is_kept, is_unwritten, write_fault}
+use Rattle.rdlpp_expand.specs.Steps.{Steps, StopsReading, Tells, IsStarted, has_met, lent_len, is_memory_kind, is_read_failed, is_write_failed}
+use Rattle.rdlpp_expand.proofs.EngineSteps.{called_after, free_before, left_open, not_called, ok_not_met}
+use Rattle.rdlpp_expand.specs.declared.phase.Phase.{Phase}
+use Rattle.rdlpp_expand.specs.declared.phase.Phase.TheVariants.{Fresh, Open, Passed, Closed}
 use Rattle.rdlpp_expand.specs.declared.writing.Ending.{Ending}
 use Rattle.rdlpp_expand.specs.declared.writing.Ending.TheVariants.{Finished, Stopped, Unwritten}
 
@@ -119,17 +124,19 @@ wrote_none g h e w started = record {
   limits = refl;
   origins = refl;
   main = refl;
+  most_bytes = refl;
+  most_macros = refl;
   started = started;
-  ends = record { kept = refl; tells = λ t. sym (and_then-gives_nil (left_of g.unread e)); again = λ f k. (refl, refl) };
+  ends = record { kept = refl; open_ = inl refl; tells = λ t. sym (and_then-gives_nil (left_of g.unread e)); again = λ f k. (refl, refl) };
 }
 
 -- one pull more, where what it did to the engine is known
 pub wrote_with : {S R W : Type 0} (g : Ghosts S R) (h : SinkGhosts W) (old mid new : EngineView S R) (before between after : W) (n len : ℕ) (ending : Option Ending)
     (w : Wrote g h old mid before between n None) (p : Pulls g h mid new between after len ending)
     → SourcesCalled g (is_fresh is_read_failed old.kept (answered ending new.kept)) (is_fresh is_memory_kind old.kept (answered ending new.kept)) old.sources new.sources
-    → new.limits ≡ mid.limits → new.origins ≡ mid.origins → new.main ≡ mid.main → IsStarted new → WroteEnds g old new (w.bytes ++ p.bytes) ending
+    → new.limits ≡ mid.limits → new.origins ≡ mid.origins → new.main ≡ mid.main → new.table.most_bytes ≡ mid.table.most_bytes → new.table.most_macros ≡ mid.table.most_macros → IsStarted new → WroteEnds g old new (w.bytes ++ p.bytes) ending
     → Wrote g h old new before after (min (n + len) (2 ^ 64 - 1)) ending
-wrote_with g h old mid new before between after n len ending w p reads limits origins main started ends = record {
+wrote_with g h old mid new before between after n len ending w p reads limits origins main bytes count started ends = record {
   bytes = w.bytes ++ p.bytes;
   taken = appends_more _ _ _ w.bytes p.bytes _ w.taken p.taken refl;
   counted = counted_more n (length w.bytes) len (length p.bytes) _ w.counted p.count (length-append w.bytes p.bytes);
@@ -139,9 +146,47 @@ wrote_with g h old mid new before between after n len ending w p reads limits or
   limits = limits ∙ w.limits;
   origins = origins ∙ w.origins;
   main = main ∙ w.main;
+  most_bytes = bytes ∙ w.most_bytes;
+  most_macros = count ∙ w.most_macros;
   started = started;
   ends = ends;
 }
+
+-- what is left of an engine, but for the fault that it keeps, where its text is open
+left_but : {S R : Type 0} (unread : R → List ℕ) (e : EngineView S R) → e.phase ≡ Open → left_of unread (record e { kept = None }) ≡ limited (output_fault e.main) e.quota (outcome (text_of unread e))
+unfolding left_of uncut_of kept_uncut phase_uncut text_of
+left_but unread e open_ = rw open_ refl
+
+-- where a read failed, no fault was kept
+met_free : (test : FaultKind → Bool) (kept : Option Told) (f : Told) → has_met test kept (Err f) ≡ true → kept ≡ None
+unfolding has_met
+met_free test None f met = refl
+met_free test (Some k) f met = cc met
+
+-- where a read failed, what remains but for the fault is what remained
+failed_rest : {S R : Type 0} (g : Ghosts S R) (mid new : EngineView S R) (f : Told) → Steps g mid new (Err f) → has_met is_read_failed mid.kept (Err f) ≡ true → g.tells mid.sources
+    → left_of g.unread mid ≡ left_of g.unread (record new { kept = None })
+unfolding left_of lent_len
+failed_rest g mid new f s met t =
+    let reads = s.reads met in
+    let quota : mid.quota ≡ new.quota = (let q = s.quota in omega arith) in
+    ap (limited (output_fault mid.main) mid.quota) (left_open g.unread mid (met_free is_read_failed mid.kept f met) reads.open_ ∙ ap outcome (reads.text t))
+    ∙ (ap (λ (n : List ℕ). limited (output_fault n) mid.quota (outcome (text_of g.unread new))) (sym s.main)
+    ∙ (ap (λ (q : ℕ). limited (output_fault new.main) q (outcome (text_of g.unread new))) quota
+    ∙ sym (left_but g.unread new reads.still)))
+
+-- where an output ended that was open, nothing is owed
+end_unowed : {S R : Type 0} (g : Ghosts S R) (mid new : EngineView S R) (p : Phase) → mid.phase ≡ p → is_open p ≡ true → mid.kept ≡ None → Steps g mid new (Ok None) → new.owed ≡ nothing_owed
+unfolding is_open
+end_unowed g mid new Fresh phase open_ free s = cc open_
+end_unowed g mid new Open phase open_ free s = s.halts free phase
+end_unowed g mid new Passed phase open_ free s = absurd (let no : Ok None ≡ Err (output_fault mid.main) = (s.passed free phase).0 in cc)
+end_unowed g mid new Closed phase open_ free s = cc open_
+
+-- an open text is one of which bytes may follow
+open_phase : (p : Phase) → p ≡ Open → is_open p ≡ true
+unfolding is_open
+open_phase p e = ap is_open e
 
 -- a piece was written whole
 pub goes_on : {S R : Type 0} (g : Ghosts S R) (old mid new : EngineView S R) (xs ys : List ℕ) → (g.tells old.sources → g.tells mid.sources) → Going g old mid xs → Steps g mid new (Ok (Some ys)) → Going g old new (xs ++ ys)
@@ -149,6 +194,7 @@ goes_on g old mid new xs ys told w s =
     let free : old.kept ≡ None = sym w.kept ∙ free_before g (left_of g.unread) lent_len take is_open mid new mid.kept (Some ys) refl s in
     record {
       kept = s.free ∙ sym free;
+      open_ = inr (s.lends ys refl).1;
       tells = λ t. w.tells t ∙ ap (and_then (gives xs)) (ok_tells g mid new (Some ys) s (told t)) ∙ and_then-gives_gives xs ys (left_of g.unread new);
       again = λ f k. (let bad : ⊥ = cc (k, free) in absurd bad);
     }
@@ -162,6 +208,8 @@ finishes g old mid new xs ys told w s none =
       kept = (s.ends refl).0;
       closed = (s.ends refl).1;
       tells = λ t. w.tells t ∙ ap (and_then (gives xs)) ((ok_tells g mid new None s (told t)).0) ∙ and_then-gives xs [] ∙ ap (λ (zs : List ℕ). gives (xs ++ zs)) (sym none);
+      unowed = λ open_. (let was : is_open mid.phase ≡ true = elim w.open_ [ inl same ↦ open_phase mid.phase (ap (λ e. e.phase) same ∙ open_) | inr still ↦ still ] in
+          end_unowed g mid new mid.phase refl was (w.kept ∙ free) s);
       bounded = s.bounded;
     }
 
@@ -179,6 +227,8 @@ stops g old mid new xs ys told w stop =
       kept = s.keeps;
       own = ap (λ (k : Option Told). is_fresh is_write_failed k (Some f)) (sym w.kept) ∙ own;
       failed = λ fresh. (let same_fault : Err f ≡ Err (fault_at ReadFailed (reading_line_of (inner_buffer new.files.nest)) [] (state_of new)) = s.failed (met is_read_failed ∙ fresh) in cc);
+      rest = λ fresh t. w.tells t ∙ ap (and_then (gives xs)) (failed_rest g mid new f s (met is_read_failed ∙ fresh) (told t))
+          ∙ ap (λ (zs : List ℕ). and_then (gives zs) (left_of g.unread (record new { kept = None }))) same;
       begins = λ t. begins_of (xs ++ ys) (left_of g.unread mid) (left_of g.unread old) (w.tells t ∙ ap (λ (zs : List ℕ). and_then (gives zs) (left_of g.unread mid)) same);
       tells = λ fresh t. w.tells t ∙ ap (and_then (gives xs)) (s.tells (met is_read_failed ∙ fresh) (told t)) ∙ ap (λ (zs : List ℕ). and_then (gives zs) (fails f)) same;
       again = λ k e. (let was = w.again k e in let now = s.kept k (w.kept ∙ e) in (cc (now.0), sym same ∙ was.0, now.1 ∙ was.1));
@@ -206,13 +256,13 @@ wrote_more g h old mid new before between after n len None w p =
     let was = going_reads g old.kept _ _ w.reads in
     wrote_with g h old mid new before between after n len None w p
     (none_reads g old.kept _ _ (called_after g false false false false _ _ _ refl refl was (ok_reads g mid new (Some p.bytes) s)))
-    s.limits s.origins s.main s.started (goes_on g old mid new w.bytes p.bytes was.tells w.ends s)
+    s.limits s.origins s.main s.most_bytes s.most_macros s.started (goes_on g old mid new w.bytes p.bytes was.tells w.ends s)
 wrote_more g h old mid new before between after n len (Some Finished) w p =
     let s : Steps g mid new (Ok None) = p.ends.0 in
     let was = going_reads g old.kept _ _ w.reads in
     wrote_with g h old mid new before between after n len (Some Finished) w p
     (none_reads g old.kept _ _ (called_after g false false false false _ _ _ refl refl was (ok_reads g mid new None s)))
-    s.limits s.origins s.main s.started (finishes g old mid new w.bytes p.bytes was.tells w.ends s p.ends.1)
+    s.limits s.origins s.main s.most_bytes s.most_macros s.started (finishes g old mid new w.bytes p.bytes was.tells w.ends s p.ends.1)
 wrote_more g h old mid new before between after n len (Some Stopped) w p =
     let stop : StopsAt g mid new p.bytes = p.ends in
     let s = stop.steps in
@@ -221,13 +271,13 @@ wrote_more g h old mid new before between after n len (Some Stopped) w p =
     let reads : P old.kept new.kept = subst (λ (f : Option Told). P old.kept f) (sym s.keeps) (subst (λ (k : Option Told). P k (Some stop.fault)) w.ends.kept (err_reads g mid new stop.fault s)) in
     wrote_with g h old mid new before between after n len (Some Stopped) w p
     (called_after g false _ false _ _ _ _ refl refl was reads)
-    s.limits s.origins s.main s.started (stops g old mid new w.bytes p.bytes was.tells w.ends stop)
+    s.limits s.origins s.main s.most_bytes s.most_macros s.started (stops g old mid new w.bytes p.bytes was.tells w.ends stop)
 wrote_more g h old mid new before between after n len (Some Unwritten) w p =
     let s : Steps g mid new (Ok (Some (p.bytes ++ p.ends.0))) = p.ends.1 in
     let was = going_reads g old.kept _ _ w.reads in
     wrote_with g h old mid new before between after n len (Some Unwritten) w p
     (none_reads g old.kept _ _ (called_after g false false false false _ _ _ refl refl was (ok_reads g mid new (Some (p.bytes ++ p.ends.0)) s)))
-    s.limits s.origins s.main s.started (breaks g old mid new w.bytes p.bytes p.ends.0 was.tells w.ends s)
+    s.limits s.origins s.main s.most_bytes s.most_macros s.started (breaks g old mid new w.bytes p.bytes p.ends.0 was.tells w.ends s)
 
 -- a piece that was written whole is work done
 pub pull_falls : {S R W : Type 0} (g : Ghosts S R) (h : SinkGhosts W) (old new : EngineView S R) (before after : W) (len : ℕ) (ending : Option Ending) → Pulls g h old new before after len ending → ending ≡ None → work_left new < work_left old
@@ -374,6 +424,7 @@ runs_whole g h old new before between after n w flush =
       exact = λ r f t. gives_whole w.bytes _ (w.ends.tells t);
       reads = w.reads;
       read_failed = λ e. (let bad : ⊥ = cc (e, none_fresh is_read_failed old.kept) in absurd bad);
+      rest = λ e. (let bad : ⊥ = cc (e, none_fresh is_read_failed old.kept) in absurd bad);
       writes = flush.writes ∙ w.writes;
       failed_flushes = flush.failures ∙ w.quiet.failed_flushes;
       flushes = counts_after true _ _ _ w.quiet.flushes flush.asked;
@@ -385,9 +436,12 @@ runs_whole g h old new before between after n w flush =
       again = λ f k. (let bad : ⊥ = cc (k, free) in absurd bad);
       kept = w.ends.kept;
       closed = λ e. w.ends.closed;
+      unowed = λ e. w.ends.unowed;
       limits = w.limits;
       origins = w.origins;
       main = w.main;
+      most_bytes = w.most_bytes;
+      most_macros = w.most_macros;
       started = w.started;
       bounded = w.ends.bounded;
     }
@@ -419,6 +473,7 @@ module _ {S R W : Type 0} (g : Ghosts S R) (h : SinkGhosts W) (old new : EngineV
         exact = λ r x t. fails_whole w.bytes f _ (w.ends.tells (sym (same is_read_failed) ∙ r) t) ∙ ap (λ (k : Option Told). record { bytes = w.bytes; fault = k }) (sym told);
         reads = rw is stopped_reads;
         read_failed = λ e. told ∙ ap Some (w.ends.failed (sym (same is_read_failed) ∙ e));
+        rest = λ e. w.ends.rest (sym (same is_read_failed) ∙ e);
         writes = writes ∙ w.writes;
         failed_flushes = counts_after unflushed _ _ _ w.quiet.failed_flushes failed;
         flushes = counts_after asked _ _ _ w.quiet.flushes flushes;
@@ -430,9 +485,12 @@ module _ {S R W : Type 0} (g : Ghosts S R) (h : SinkGhosts W) (old new : EngineV
         again = λ k e. (let a = w.ends.again k e in (told ∙ ap Some (sym a.0), a.1, a.2));
         kept = sym is;
         closed = λ e. (let bad : ⊥ = cc (e, told) in absurd bad);
+        unowed = λ e. (let bad : ⊥ = cc (e, told) in absurd bad);
         limits = w.limits;
         origins = w.origins;
         main = w.main;
+        most_bytes = w.most_bytes;
+        most_macros = w.most_macros;
         started = w.started;
         bounded = w.ends.bounded;
       }
@@ -472,6 +530,7 @@ runs_unwritten {S} {R} g h old mid new before between after n fault ending unwri
       exact = λ r x t. (let bad : ⊥ = cc (x, fresh) in absurd bad);
       reads = rw (no_read, no_memory, sources) reads;
       read_failed = λ e. (let bad : ⊥ = cc (e, no_read) in absurd bad);
+      rest = λ e. (let bad : ⊥ = cc (e, no_read) in absurd bad);
       writes = writes;
       failed_flushes = counts_after unflushed _ _ _ w.quiet.failed_flushes failed;
       flushes = counts_after asked _ _ _ w.quiet.flushes flushes;
@@ -483,9 +542,12 @@ runs_unwritten {S} {R} g h old mid new before between after n fault ending unwri
       again = λ k e. (let bad : ⊥ = cc (e, free) in absurd bad);
       kept = sym is;
       closed = λ e. (let bad : ⊥ = cc (e, told) in absurd bad);
+      unowed = λ e. (let bad : ⊥ = cc (e, told) in absurd bad);
       limits = ap (λ e. e.limits) becomes ∙ w.limits;
       origins = ap (λ e. e.origins) becomes ∙ w.origins;
       main = ap (λ e. e.main) becomes ∙ w.main;
+      most_bytes = ap (λ e. e.table.most_bytes) becomes ∙ w.most_bytes;
+      most_macros = ap (λ e. e.table.most_macros) becomes ∙ w.most_macros;
       started = λ e. w.started (sym (ap (λ e. e.phase) becomes) ∙ e);
       bounded = subst IsBounded (sym becomes) (bounded_kept mid _ bounded);
     }

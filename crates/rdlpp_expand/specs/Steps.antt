@@ -1,6 +1,6 @@
 -- What a step of an engine does.
 -- A definition that names no source is this project's own.
-use Rattle.std.specs.Prelude.{◌≡◌, ℕ, ◌+◌, ◌<◌, Bool, true, false, List, [], Option, None, Some, Result, Ok, Err, IfErr, IfOk, length, take}
+use Rattle.std.specs.Prelude.{◌≡◌, ℕ, ◌+◌, ◌<◌, Bool, true, false, List, [], Option, None, Some, Result, Ok, Err, IfErr, IfOk, length, take, ⊤}
 use Rattle.rdlpp_source.specs.declared.sources.Sources.{Ghosts}
 use Rattle.rdlpp_meaning.specs.declared.fault.FaultKind.{FaultKind}
 use Rattle.rdlpp_meaning.specs.declared.fault.FaultKind.TheVariants.{ReadFailed, WriteFailed, SourceMemory, EmbeddedPerl}
@@ -8,10 +8,11 @@ use Rattle.rdlpp_meaning.specs.Meaning.{Passage, behind_bytes, leaves}
 use Rattle.rdlpp_meaning.specs.State.{State, fault_at}
 use Rattle.rdlpp_meaning.specs.Outcome.{Told, Outcome, gives, fails, and_then}
 use Rattle.rdlpp_read.specs.Buffer.{reading_line_of}
-use Rattle.rdlpp_read.specs.Files.{inner_buffer}
+use Rattle.rdlpp_read.specs.Files.{inner_buffer, with_buffer}
 use Rattle.rdlpp_expand.specs.Calls.{SourcesCalled}
 use Rattle.rdlpp_expand.specs.Engine.{EngineView, is_open}
 use Rattle.rdlpp_expand.specs.Held.{IsBounded}
+use Rattle.rdlpp_expand.specs.Owed.{nothing_owed}
 use Rattle.rdlpp_expand.specs.Remaining.{left_of, output_fault, uncut_of, state_of, text_of, work_left}
 use Rattle.rdlpp_expand.specs.declared.phase.Phase.{Phase}
 use Rattle.rdlpp_expand.specs.declared.phase.Phase.TheVariants.{Fresh, Open, Passed, Closed}
@@ -80,14 +81,36 @@ TellsText most unread (Ok (Some bytes)) old new = LendsText most bytes old (text
 TellsText most unread (Ok None) old new = EndsText new old
 TellsText most unread (Err f) old new = old ≡ leaves (fails f) (state_of new)
 
+-- a read that failed: the text is still open, and what remained of it remains
+pub record StopsReading {S R : Type 0} (g : Ghosts S R) (old new : EngineView S R) : Type 0 where
+  pub open_ : old.phase ≡ Open
+  pub still : new.phase ≡ Open
+  pub text : g.tells old.sources → text_of g.unread old ≡ text_of g.unread new
+
+-- a fault in an open text: it came to an engine of which the same text remained and that owed nothing; of that engine nothing
+-- changed but the fault that is kept and what is read of the innermost source, and no source was closed
+pub record HaltsAt {S R : Type 0} (g : Ghosts S R) (old new : EngineView S R) : Type 0 where
+  pub at : EngineView S R
+  pub text : g.tells old.sources → text_of g.unread old ≡ text_of g.unread at
+  pub unowed : at.owed ≡ nothing_owed
+  pub becomes : new ≡ record at { kept = new.kept; files = new.files; sources = new.sources }
+  pub only : new.files ≡ record at.files { nest = with_buffer (inner_buffer new.files.nest) at.files.nest }
+
+-- what an answer leaves of an open text: where it ended, nothing is owed; where a fault came, nothing else changed
+abbrev pub Halts : {S R : Type 0} → Ghosts S R → Result (Option (List ℕ)) Told → EngineView S R → EngineView S R → Type 0
+Halts g (Ok (Some bytes)) old new = ⊤
+Halts g (Ok None) old new = new.owed ≡ nothing_owed
+Halts g (Err f) old new = HaltsAt g old new
+
 -- an engine that was started
 abbrev pub IsStarted : {S R : Type 0} → EngineView S R → Type 0
 IsStarted e = e.phase ≡ Fresh → ⊥
 
 -- a step: a kept fault is answered again and changes nothing, and so is the end; a fault is kept, one of a write that failed
 -- comes only so, and bytes leave none kept; the main text's name; the counts of failures; the output that remained is what was lent
--- and then the output that remains; so it is with the text and the state behind it; the work left falls; bytes come of an open text
--- alone; what may still be lent; the bound holds
+-- and then the output that remains; so it is with the text and the state behind it; where a read failed, the same text remains; what
+-- is owed and what changed at the end and at a fault; the work left falls; bytes come of an open text alone; what may still be lent;
+-- the room of the table; the bound holds
 pub record StepsOver {S R : Type 0} (g : Ghosts S R) (left : EngineView S R → Outcome) (spent : Result (Option (List ℕ)) Told → ℕ)
     (most : ℕ → List ℕ → List ℕ) (goes_on : Phase → Bool) (old new : EngineView S R) (answer : Result (Option (List ℕ)) Told) : Type 0 where
   pub limits : new.limits ≡ old.limits
@@ -106,9 +129,13 @@ pub record StepsOver {S R : Type 0} (g : Ghosts S R) (left : EngineView S R → 
   pub tells : has_failed old.kept answer ≡ false → g.tells old.sources → Tells answer (left old) (left new)
   pub text : old.kept ≡ None → old.phase ≡ Open → has_failed old.kept answer ≡ false → g.tells old.sources
       → TellsText (most old.quota) g.unread answer (text_of g.unread old) new
+  pub reads : has_failed old.kept answer ≡ true → StopsReading g old new
+  pub halts : old.kept ≡ None → old.phase ≡ Open → Halts g answer old new
   pub falls : (bytes : List ℕ) → answer ≡ Ok (Some bytes) → work_left new < work_left old
   pub lends : (bytes : List ℕ) → answer ≡ Ok (Some bytes) → (old.phase ≡ Open) × (goes_on new.phase ≡ true)
   pub quota : new.quota + spent answer ≡ old.quota
+  pub most_bytes : new.table.most_bytes ≡ old.table.most_bytes
+  pub most_macros : new.table.most_macros ≡ old.table.most_macros
   pub bounded : IsBounded new
 
 -- how many bytes an answer lends

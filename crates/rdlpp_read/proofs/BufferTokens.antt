@@ -1,6 +1,6 @@
 -- The tokens that remain of an open source, as lines are read, accepted and used.
 use Rattle.std.proofs.Common.{◌≡◌, ℕ, ◌+◌, ◌-◌, ◌≤◌, ◌<◌, Bool, List, [], ◌++◌, length, take, drop, None, Some, refl, sym, ap, subst, ◌∙◌, append_assoc, arith, inl, inr}
-use Rattle.std.proofs.lemmas.List.{drop-drop, drop-take, length-append, length-drop, length-take-le}
+use Rattle.std.proofs.lemmas.List.{drop-drop, drop-take, length-append, length-drop, length-take-le, take-append-drop}
 use Rattle.rdlpp_scan.specs.declared.token.Mode.{Mode}
 use Rattle.rdlpp_scan.specs.declared.token.Mode.TheVariants.{Plain, InStr, InBlock}
 use Rattle.rdlpp_scan.specs.Front.{front, Break}
@@ -11,7 +11,8 @@ use Rattle.rdlpp_scan.proofs.WholeLines.{IsWholeLines-drop}
 use Rattle.rdlpp_scan.proofs.FrontLaws.{front-none, front-line_long, front-source_long}
 use Rattle.rdlpp_scan.proofs.RemainingLaws.{remaining-accept}
 use Rattle.rdlpp_read.specs.Buffer.{BufferView, EndsHeld, ahead_of, held_of, rest_of, text_left, tokens_left, unused_of}
-use Rattle.rdlpp_read.specs.Filling.{Fills, Grows, GrowsBy, HasBytes, Lengthens, Stays, TellsTokens, ended_tokens, only_broken}
+use Rattle.rdlpp_read.specs.Filling.{Fills, Grows, GrowsBy, HasBytes, IsExact, Lengthens, Stays, TellsTokens, ended_tokens, only_broken}
+use Rattle.rdlpp_read.proofs.Sliding.{slides-compact, slides-on, slides-same}
 use Rattle.rdlpp_read.specs.declared.buffer.filling.Fill.{Fill}
 use Rattle.rdlpp_read.specs.declared.buffer.filling.Fill.TheVariants.{Held, End, SourceLong, LineLong, Failed}
 
@@ -96,11 +97,14 @@ pub record Compacts {R : Type 0} (old new : BufferView R) : Type 0 where
   pub reader : new.reader ≡ old.reader
   pub held : held_of new ≡ held_of old
   pub ahead : ahead_of new ≡ ahead_of old
+  pub dropped : List ℕ
+  pub window : old.window ≡ dropped ++ new.window
+  pub used : length dropped + new.at ≡ old.at
 
 -- what isn't used was moved to the front
-pub compacts : {R : Type 0} (old new : BufferView R) → old.at ≤ old.accepted → new ≡ record old { window = drop old.at old.window; at = 0; accepted = old.accepted - old.at } → Compacts old new
+pub compacts : {R : Type 0} (old new : BufferView R) → old.at ≤ old.accepted → old.accepted ≤ length old.window → new ≡ record old { window = drop old.at old.window; at = 0; accepted = old.accepted - old.at } → Compacts old new
 unfolding unused_of held_of ahead_of
-compacts old new order becomes =
+compacts old new order inside becomes =
     let n = old.accepted - old.at in
     let whole : old.at + n ≡ old.accepted = omega arith in
     record {
@@ -113,6 +117,9 @@ compacts old new order becomes =
       reader = ap (λ f. f.reader) becomes;
       held = ap held_of becomes ∙ (sym (drop-take old.at n old.window) ∙ ap (λ k. drop old.at (take k old.window)) whole);
       ahead = ap ahead_of becomes ∙ (drop-drop n old.at old.window ∙ ap (λ k. drop k old.window) whole);
+      dropped = take old.at old.window;
+      window = sym (take-append-drop old.at old.window) ∙ ap (λ w. take old.at old.window ++ w) (sym (ap (λ f. f.window) becomes));
+      used = (let at = ap (λ f. f.at) becomes in omega (arith, length-take-le old.at old.window (omega arith)));
     }
 
 -- the text behind what is held stays
@@ -173,12 +180,13 @@ compacts-grows tells unread fill old mid new c g = record {
   mode = g.mode ∙ c.mode;
   open_token_line = g.open_token_line ∙ c.open_token_line;
   unused = g.unused ∙ c.unused;
+  slides = slides-on (IsExact fill × tells) tells (IsExact fill × tells) unread old mid new (λ x. x.1) (λ x. x) (slides-compact tells unread old mid c.dropped c.window c.used c.reader) g.slides;
   by = compacts-by tells unread fill old mid new c g.by;
 }
 
 -- what was found is what the source has, where nothing was held
 -- the text that isn't used stays, but where a byte too many was read
-pub grows-text : {R : Type 0} (tells : Type 0) (unread : R → List ℕ) (fill : Fill) (old new : BufferView R) → GrowsBy tells unread fill old new → (fill ≡ LineLong → ⊥) → tells → text_left unread new ≡ text_left unread old
+pub grows-text : {R : Type 0} (tells : Type 0) (unread : R → List ℕ) (fill : Fill) (old new : BufferView R) → GrowsBy tells unread fill old new → IsExact fill → tells → text_left unread new ≡ text_left unread old
 unfolding text_left
 grows-text tells unread Held old new by other t = let held = by.held in let rest = by.rest t in let join = append_assoc (held_of old) by.lines (rest_of unread new) in cc
 grows-text tells unread End old new by other t = let held = by.0.held in let rest = by.1 t in let none = by.2 in cc
@@ -195,6 +203,7 @@ grows-fills tells unread fill old new none g = record {
   open_token_line = g.open_token_line;
   bytes = grows-bytes tells unread fill old new none g.by;
   unused = g.unused;
+  slides = g.slides;
   text = grows-text tells unread fill old new g.by;
   tokens = grows-tokens tells unread fill old new none g;
 }
@@ -209,6 +218,7 @@ held-fills tells unread f some inside = record {
   open_token_line = refl;
   bytes = omega (arith, length-drop f.at (take f.accepted f.window), length-take-le f.accepted f.window inside);
   unused = refl;
+  slides = slides-same (IsExact Held × tells) unread f;
   text = λ other t. refl;
   tokens = λ u t. refl;
 }

@@ -14,20 +14,23 @@ use Rattle.rdlpp_scan.proofs.RemainingLaws.{remaining-end, remaining-opened}
 use Rattle.rdlpp_scan.proofs.RemainingSteps.{remaining-logical, remaining-logical_full, remaining-logical_last, remaining-logical_source}
 use Rattle.rdlpp_source.specs.declared.sources.Sources.{Ghosts}
 use Rattle.rdlpp_read.specs.Calls.{SourcesRead}
-use Rattle.rdlpp_read.specs.Buffer.{BufferView, EndsHeld, IsBuffer, ahead_of, consumed, held_of, rest_of, tokens_left}
-use Rattle.rdlpp_read.specs.Filling.{Grows, Stays, only_broken}
-use Rattle.rdlpp_read.specs.LogicalLines.{Continues, Extends, HoldsLine, SameTokens}
+use Rattle.rdlpp_read.specs.Buffer.{BufferView, EndsHeld, IsBuffer, Slides, ahead_of, consumed, held_of, rest_of, tokens_left}
+use Rattle.rdlpp_read.specs.Filling.{Grows, IsExact, Stays, only_broken}
+use Rattle.rdlpp_read.specs.LogicalLines.{Continues, Extends, HoldsLine, IsExactLine, SameTokens}
 use Rattle.rdlpp_read.specs.declared.buffer.filling.Fill.{Fill}
 use Rattle.rdlpp_read.specs.declared.buffer.filling.Fill.TheVariants.{Held, End, SourceLong, LineLong, Failed}
+use Rattle.rdlpp_read.specs.declared.buffer.extending.LogicalLine.{LogicalLine}
 use Rattle.rdlpp_read.specs.declared.buffer.extending.LogicalLine.TheVariants.{Whole, TooLong, SourceLong as LineCut, Failed as LineFailed}
 use Rattle.rdlpp_read.proofs.BufferTokens.{grows-text, lengthens-tokens, tokens-same}
 use Rattle.rdlpp_read.proofs.Growing.{calls-on, held-le}
+use Rattle.rdlpp_read.proofs.Sliding.{slides-on, slides-same}
 
 -- before the first line is taken in
 pub continues-starts : {S R : Type 0} (g : Ghosts S R) (sources : S) (f : BufferView R) → EndsHeld f → Continues g sources sources f f 0
 unfolding whole_lines_len logical_len
 continues-starts g sources f ends = record {
   extends = record { line = refl; line_bytes = refl; mode = refl; open_token_line = refl; unused = refl; more = []; held = sym (append-nil (held_of f)) };
+  slides = slides-same (g.tells sources) g.unread f;
   tokens = λ u t. refl;
   text = λ t. refl;
   define = λ u t h. h;
@@ -91,6 +94,12 @@ define-last u unread f plain holds none ended short =
 held-short : {R : Type 0} (f : BufferView R) → IsBuffer f → length (held_of f) ≤ f.line_bytes
 held-short f sound = let within = sound.within in omega (arith, held-le f)
 
+-- the window moved on, and then once more behind the last reading
+slides-behind : {S R : Type 0} (g : Ghosts S R) (first now : S) (fill : Fill) (answer : LogicalLine) (old mid new : BufferView R) (seen : ℕ) → Continues g first now old mid seen →
+    (IsExactLine answer → IsExact fill) → Grows (g.tells now) g.unread fill mid new → Slides (IsExactLine answer × g.tells first) g.unread old new
+slides-behind g first now fill answer old mid new seen c exact grows =
+    slides-on (IsExactLine answer × g.tells first) (g.tells first) (IsExact fill × g.tells now) g.unread old mid new (λ x. x.1) (λ x. (exact x.0, c.call.tells x.1)) c.slides grows.slides
+
 -- the logical line was found
 pub found-line : {S R : Type 0} (g : Ghosts S R) (first now : S) (old mid : BufferView R) (seen len : ℕ) → Continues g first now old mid seen → IsBuffer mid →
     logical_len 0 0 (take (length (held_of mid) - seen) (drop seen (held_of mid))) ≡ Some len → HoldsLine (g.tells first) g.unread (Whole (seen + len)) old mid
@@ -101,6 +110,7 @@ found-line g first now old mid seen len c sound some =
     record {
       extends = c.extends;
       has = (within.1, inl found, c.tokens);
+      slides = slides-on (IsExactLine (Whole (seen + len)) × g.tells first) (g.tells first) (g.tells first) g.unread old mid mid (λ x. x.1) (λ x. x.1) c.slides (slides-same (g.tells first) g.unread mid);
       text = λ other t. c.text t;
       define = λ u t plain holds. sym (c.tokens u t)
           ∙ (define-whole u g.unread mid (seen + len) (c.extends.mode ∙ plain) (c.define u t holds) found (held-short mid sound)
@@ -139,6 +149,7 @@ last-line g first now old mid new seen len c sound none all grows =
     record {
       extends = e;
       has = (omega arith, inr (none_now, size, λ t. grows.by.2), tokens);
+      slides = slides-behind g first now End (Whole len) old mid new seen c (λ x e. cc) grows;
       text = λ other t. grows-text (g.tells now) g.unread End mid new grows.by (λ e. cc) (c.call.tells t) ∙ c.text t;
       define = λ u t plain holds.
           let here : HoldsDefine u (held_of new) (rest_of g.unread new) = rw (held, grows.by.2) (rw (grows.by.1 (c.call.tells t)) at (c.define u t holds)) in
@@ -153,6 +164,7 @@ unfolding tokens_left
 long-line g first now old mid new seen c none grows = record {
   extends = extends-stays (g.tells now) g.unread LineLong old mid new c.extends grows grows.by.0;
   has = tt;
+  slides = slides-behind g first now LineLong TooLong old mid new seen c (λ x. absurd (x refl)) grows;
   text = λ other t. absurd (other refl);
   define = λ u t plain holds.
       sym (c.tokens u t) ∙ (ap (λ m. remaining_tokens u mid.line_bytes m mid.open_token_line mid.line (held_of mid) mid.bytes_left (rest_of g.unread mid)) (c.extends.mode ∙ plain)
@@ -167,6 +179,7 @@ unfolding tokens_left
 cut-line g first now old mid new seen c none grows = record {
   extends = extends-stays (g.tells now) g.unread SourceLong old mid new c.extends grows grows.by.0;
   has = stays-tokens g first now SourceLong old mid new seen c grows grows.by.0 grows.by.3;
+  slides = slides-behind g first now SourceLong LineCut old mid new seen c (λ x e. cc) grows;
   text = λ other t. grows-text (g.tells now) g.unread SourceLong mid new grows.by (λ e. cc) (c.call.tells t) ∙ c.text t;
   define = λ u t plain holds.
       sym (c.tokens u t) ∙ (ap (λ m. remaining_tokens u mid.line_bytes m mid.open_token_line mid.line (held_of mid) mid.bytes_left (rest_of g.unread mid)) (c.extends.mode ∙ plain)
@@ -180,6 +193,7 @@ pub failed-line : {S R : Type 0} (g : Ghosts S R) (first now : S) (old mid new :
 failed-line g first now old mid new seen c grows = record {
   extends = extends-stays (g.tells now) g.unread Failed old mid new c.extends grows grows.by.0;
   has = stays-tokens g first now Failed old mid new seen c grows grows.by.0 grows.by.1;
+  slides = slides-behind g first now Failed LineFailed old mid new seen c (λ x e. cc) grows;
   text = λ other t. grows-text (g.tells now) g.unread Failed mid new grows.by (λ e. cc) (c.call.tells t) ∙ c.text t;
   define = λ u t plain holds. tt;
 }
@@ -202,6 +216,7 @@ continues-on g first now after old mid new seen len c none all ends grows call =
         more = e.more ++ l.lines;
         held = l.held ∙ (ap (λ h. h ++ l.lines) e.held ∙ append_assoc (held_of old) e.more l.lines);
       };
+      slides = slides-on (g.tells first) (g.tells first) (IsExact Held × g.tells now) g.unread old mid new (λ t. t) (λ t. ((λ e. cc), c.call.tells t)) c.slides grows.slides;
       tokens = λ u t. lengthens-tokens (g.tells now) u g.unread mid new grows.line grows.line_bytes grows.mode grows.open_token_line l (c.call.tells t) ∙ c.tokens u t;
       text = λ t. grows-text (g.tells now) g.unread Held mid new grows.by (λ e. cc) (c.call.tells t) ∙ c.text t;
       define = λ u t holds.

@@ -9,17 +9,18 @@ use Rattle.rdlpp_scan.proofs.WholeLines.{IsWholeLines-append}
 use Rattle.rdlpp_source.specs.declared.sources.Sources.{Ghosts}
 use Rattle.rdlpp_read.specs.Ahead.{IsPast}
 use Rattle.rdlpp_read.specs.Calls.{SourcesRead}
-use Rattle.rdlpp_read.specs.Buffer.{BufferView, EndsHeld, IsBuffer, ahead_of, held_of, unread_of, rest_of, unused_of}
-use Rattle.rdlpp_read.specs.Filling.{Accepts, Finds, Grows, GrowsBy, Lengthens, ReadsOn, Seeks, Searches, Stays, Stops, turns_left}
+use Rattle.rdlpp_read.specs.Buffer.{BufferView, EndsHeld, IsBuffer, Slides, ahead_of, held_of, unread_of, rest_of, unused_of}
+use Rattle.rdlpp_read.specs.Filling.{Accepts, Finds, Grows, GrowsBy, IsExact, Lengthens, ReadsOn, Seeks, Searches, Stays, Stops, turns_left}
 use Rattle.rdlpp_read.specs.declared.buffer.filling.Fill.{Fill}
 use Rattle.rdlpp_read.specs.declared.buffer.filling.Fill.TheVariants.{Held, End, SourceLong, LineLong, Failed}
 use Rattle.rdlpp_read.proofs.FirstLines.{line-longer}
+use Rattle.rdlpp_read.proofs.Sliding.{slides-kept, slides-on, slides-same}
 
 -- before the first turn
 pub search-starts : {S R : Type 0} (g : Ghosts S R) (sources : S) (f : BufferView R) → f.accepted ≤ length f.window → EndsHeld f → Searches g sources sources f f 0
 unfolding whole_lines_len
 search-starts g sources f inside ends = record {
-  seeks = record { at = refl; accepted = refl; inside = inside; bytes_left = refl; line = refl; line_bytes = refl; mode = refl; open_token_line = refl; held = refl; text = λ t. refl };
+  seeks = record { at = refl; accepted = refl; inside = inside; bytes_left = refl; line = refl; line_bytes = refl; mode = refl; open_token_line = refl; held = refl; text = λ t. refl; slides = slides-same (g.tells sources) g.unread f };
   place = omega arith;
   none = refl;
   ends = ends;
@@ -44,6 +45,16 @@ reads-text told unread mid new inside reads t =
     let more = unread_of unread new.reader in
     ap (λ u. ahead_of mid ++ u) (reads.text t) ∙ (sym (append_assoc (ahead_of mid) reads.gained more) ∙ ap (λ w. w ++ more) (sym (reads-ahead told unread mid new inside reads)))
 
+-- what a turn adds came behind the window
+reads-slides : {R : Type 0} (told : Type 0) (unread : R → List ℕ) (mid new : BufferView R) → ReadsOn told unread mid new → Slides told unread mid new
+reads-slides told unread mid new reads = record {
+  dropped = [];
+  gained = reads.gained;
+  window = sym (ap (λ f. f.window) reads.becomes);
+  used = (let at = ap (λ f. f.at) reads.becomes in omega arith);
+  text = reads.text;
+}
+
 -- a turn that reads on keeps the text that remains
 seeks-on : {R : Type 0} (tells told : Type 0) (unread : R → List ℕ) (old mid new : BufferView R) → Seeks tells unread old mid → (tells → told) → ReadsOn told unread mid new → Seeks tells unread old new
 seeks-on tells told unread old mid new seeks tell reads =
@@ -62,6 +73,7 @@ seeks-on tells told unread old mid new seeks tell reads =
       open_token_line = ap (λ f. f.open_token_line) reads.becomes ∙ seeks.open_token_line;
       held = reads-held told unread mid new inside reads ∙ seeks.held;
       text = λ t. seeks.text t ∙ reads-text told unread mid new inside reads (tell t);
+      slides = slides-on tells tells told unread old mid new (λ t. t) tell seeks.slides (reads-slides told unread mid new reads);
     }
 
 -- two calls that read without a fault are one
@@ -287,6 +299,21 @@ finds-scalars SourceLong mid new f = same-scalars mid new f.0
 finds-scalars LineLong mid new f = absurd f
 finds-scalars Failed mid new f = absurd f
 
+-- what is found leaves the window
+finds-slides : {R : Type 0} (tells : Type 0) (unread : R → List ℕ) (fill : Fill) (mid new : BufferView R) → Finds fill mid new → Slides tells unread mid new
+finds-slides tells unread Held mid new f =
+    slides-kept tells unread mid new (ap (λ f. f.window) f.becomes) (ap (λ f. f.at) f.becomes) (λ t. ap (unread_of unread) (sym (ap (λ f. f.reader) f.becomes)))
+finds-slides tells unread End mid new f = subst (Slides tells unread mid) (sym f.0) (slides-same tells unread mid)
+finds-slides tells unread SourceLong mid new f = subst (Slides tells unread mid) (sym f.0) (slides-same tells unread mid)
+finds-slides tells unread LineLong mid new f = absurd f
+finds-slides tells unread Failed mid new f = absurd f
+
+-- what stops a reading leaves the window, and a read that failed leaves what is unread
+stops-slides : {R : Type 0} (told : Type 0) (unread : R → List ℕ) (fill : Fill) (mid new : BufferView R) → Stops told unread fill mid new → Slides (IsExact fill × told) unread mid new
+stops-slides told unread fill mid new stops =
+    slides-kept (IsExact fill × told) unread mid new (ap (λ f. f.window) stops.becomes) (ap (λ f. f.at) stops.becomes)
+    (λ x. elim stops.kind [ inl failed ↦ sym (stops.failed failed x.1) | inr long ↦ absurd (x.0 long) ])
+
 -- the search came to an end in the window
 pub found-grows : {R : Type 0} (tells : Type 0) (unread : R → List ℕ) (fill : Fill) (old mid new : BufferView R) → old.at ≡ 0 → Seeks tells unread old mid → EndsHeld mid → IsBuffer mid →
     Finds fill mid new → Grows tells unread fill old new
@@ -298,6 +325,7 @@ found-grows tells unread fill old mid new at seeks ends sound f =
       mode = same.mode ∙ seeks.mode;
       open_token_line = same.open_token_line ∙ seeks.open_token_line;
       unused = finds-unused fill mid new sound.used f ∙ seeks-unused tells unread old mid seeks;
+      slides = slides-on (IsExact fill × tells) tells tells unread old mid new (λ x. x.1) (λ x. x.1) seeks.slides (finds-slides tells unread fill mid new f);
       by = found-by tells unread fill old mid new at seeks ends sound.within f;
     }
 
@@ -351,6 +379,7 @@ stops-grows tells told unread fill old mid new at seeks tell none stops = record
   mode = ap (λ f. f.mode) stops.becomes ∙ seeks.mode;
   open_token_line = ap (λ f. f.open_token_line) stops.becomes ∙ seeks.open_token_line;
   unused = ap unused_of stops.becomes ∙ seeks-unused tells unread old mid seeks;
+  slides = slides-on (IsExact fill × tells) tells (IsExact fill × told) unread old mid new (λ x. x.1) (λ x. (x.0, tell x.1)) seeks.slides (stops-slides told unread fill mid new stops);
   by = stops-by tells told unread fill old mid new at seeks tell none stops;
 }
 

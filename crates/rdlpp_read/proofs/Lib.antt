@@ -2,6 +2,7 @@ pub mod Slices
 pub mod WholeLines
 pub mod FirstLines
 pub mod ReadFacts
+pub mod Sliding
 pub mod Growing
 pub mod BufferTokens
 pub mod Extending

@@ -47,6 +47,14 @@ unfoldable pub tokens_left : {R : Type 0} → (List ℕ → Bool) → (R → Lis
 tokens_left unbuilt unread f =
     remaining_tokens unbuilt f.line_bytes f.mode f.open_token_line f.line (held_of f) f.bytes_left (rest_of unread f)
 
+-- the window moved on over its text: bytes that were used went in front, and bytes that were unread came behind
+pub record Slides {R : Type 0} (tells : Type 0) (unread : R → List ℕ) (old new : BufferView R) : Type 0 where
+  pub dropped : List ℕ
+  pub gained : List ℕ
+  pub window : old.window ++ gained ≡ dropped ++ new.window
+  pub used : length dropped + new.at ≡ old.at
+  pub text : tells → unread_of unread old.reader ≡ gained ++ unread_of unread new.reader
+
 -- the bytes that the source may still give and that aren't used
 unfoldable pub unused_of : {R : Type 0} → BufferView R → ℕ
 unused_of f = f.bytes_left + (f.accepted - f.at)

@@ -10,7 +10,7 @@ use Rattle.rdlpp_scan.specs.Lines.{EndsLine, IsWholeLines, whole_lines_len}
 use Rattle.rdlpp_source.specs.declared.sources.Sources.{Ghosts}
 use Rattle.rdlpp_read.specs.Ahead.{AreLines, IsPast}
 use Rattle.rdlpp_read.specs.Calls.{SourcesRead}
-use Rattle.rdlpp_read.specs.Buffer.{BufferView, EndsHeld, ahead_of, held_of, unread_of, rest_of, text_left, tokens_left, unused_of}
+use Rattle.rdlpp_read.specs.Buffer.{BufferView, EndsHeld, Slides, ahead_of, held_of, unread_of, rest_of, text_left, tokens_left, unused_of}
 use Rattle.rdlpp_read.specs.declared.buffer.filling.Fill.{Fill}
 use Rattle.rdlpp_read.specs.declared.buffer.filling.Fill.TheVariants.{Held, End, SourceLong, LineLong, Failed}
 
@@ -74,6 +74,7 @@ pub record Seeks {R : Type 0} (tells : Type 0) (unread : R → List ℕ) (old ne
   pub open_token_line : new.open_token_line ≡ old.open_token_line
   pub held : held_of new ≡ held_of old
   pub text : tells → rest_of unread old ≡ rest_of unread new
+  pub slides : Slides tells unread old new
 
 -- how many turns of reading may still come
 unfoldable pub turns_left : {R : Type 0} → BufferView R → ℕ
@@ -116,6 +117,10 @@ GrowsBy tells unread LineLong old new =
     Stays old new × (tells → old.line_bytes < length (held_of old) + line_len (rest_of unread old)) × (tells → 0 < length (rest_of unread old))
 GrowsBy tells unread Failed old new = Stays old new × (tells → rest_of unread new ≡ rest_of unread old)
 
+-- no byte was read beyond the window, as it is where a line is too long
+abbrev pub IsExact : Fill → Type 0
+IsExact fill = fill ≡ LineLong → ⊥
+
 -- what is held of a source grew, by what stood behind it
 pub record Grows {R : Type 0} (tells : Type 0) (unread : R → List ℕ) (fill : Fill) (old new : BufferView R) : Type 0 where
   pub line : new.line ≡ old.line
@@ -123,6 +128,7 @@ pub record Grows {R : Type 0} (tells : Type 0) (unread : R → List ℕ) (fill :
   pub mode : new.mode ≡ old.mode
   pub open_token_line : new.open_token_line ≡ old.open_token_line
   pub unused : unused_of new ≡ unused_of old
+  pub slides : Slides (IsExact fill × tells) unread old new
   pub by : GrowsBy tells unread fill old new
 
 -- a list that is one broken token without bytes
@@ -151,8 +157,8 @@ HasBytes SourceLong f = held_of f ≡ []
 HasBytes LineLong f = held_of f ≡ []
 HasBytes Failed f = held_of f ≡ []
 
--- what a source has before its next byte: its text that isn't used stays the same, but where a byte too many was read, and its
--- tokens stay the same, or are told
+-- what a source has before its next byte: its window moved on over its text; its text that isn't used stays the same, but where
+-- a byte too many was read, and its tokens stay the same, or are told
 pub record Fills {R : Type 0} (tells : Type 0) (unread : R → List ℕ) (fill : Fill) (old new : BufferView R) : Type 0 where
   pub line : new.line ≡ old.line
   pub line_bytes : new.line_bytes ≡ old.line_bytes
@@ -160,5 +166,6 @@ pub record Fills {R : Type 0} (tells : Type 0) (unread : R → List ℕ) (fill :
   pub open_token_line : new.open_token_line ≡ old.open_token_line
   pub bytes : HasBytes fill new
   pub unused : unused_of new ≡ unused_of old
-  pub text : (fill ≡ LineLong → ⊥) → tells → text_left unread new ≡ text_left unread old
+  pub slides : Slides (IsExact fill × tells) unread old new
+  pub text : IsExact fill → tells → text_left unread new ≡ text_left unread old
   pub tokens : (unbuilt : List ℕ → Bool) → tells → TellsTokens fill old (tokens_left unbuilt unread old) (tokens_left unbuilt unread new)

@@ -8,7 +8,7 @@ use Rattle.rdlpp_scan.specs.Lines.{IsWholeLines}
 use Rattle.rdlpp_scan.specs.SourceTokens.{Definition, logical_len}
 use Rattle.rdlpp_source.specs.declared.sources.Sources.{Ghosts}
 use Rattle.rdlpp_read.specs.Calls.{SourcesRead}
-use Rattle.rdlpp_read.specs.Buffer.{BufferView, EndsHeld, consumed, held_of, rest_of, text_left, tokens_left, unused_of}
+use Rattle.rdlpp_read.specs.Buffer.{BufferView, EndsHeld, Slides, consumed, held_of, rest_of, text_left, tokens_left, unused_of}
 use Rattle.rdlpp_read.specs.Filling.{only_broken}
 use Rattle.rdlpp_read.specs.declared.buffer.extending.LogicalLine.{LogicalLine}
 use Rattle.rdlpp_read.specs.declared.buffer.extending.LogicalLine.TheVariants.{Whole, TooLong, SourceLong, Failed}
@@ -57,17 +57,23 @@ HasLine tells unread TooLong old new = ⊤
 HasLine tells unread SourceLong old new = SameTokens tells unread old new
 HasLine tells unread Failed old new = SameTokens tells unread old new
 
--- the logical line at the front of what is held is held whole, or the answer says why not
+-- no byte was read beyond the window, as it is where a line is too long
+abbrev pub IsExactLine : LogicalLine → Type 0
+IsExactLine answer = answer ≡ TooLong → ⊥
+
+-- the logical line at the front of what is held is held whole, or the answer says why not; the window moved on over its text
 pub record HoldsLine {R : Type 0} (tells : Type 0) (unread : R → List ℕ) (answer : LogicalLine) (old new : BufferView R) : Type 0 where
   pub extends : Extends old new
   pub has : HasLine tells unread answer old new
-  pub text : (answer ≡ TooLong → ⊥) → tells → text_left unread new ≡ text_left unread old
+  pub slides : Slides (IsExactLine answer × tells) unread old new
+  pub text : IsExactLine answer → tells → text_left unread new ≡ text_left unread old
   pub define : (unbuilt : List ℕ → Bool) → tells → old.mode ≡ Plain → HoldsDefine unbuilt (held_of old) (rest_of unread old)
       → TellsDefine unbuilt unread answer old new
 
 -- what the search for the end of the logical line has done so far: it doesn't end in the first `seen` bytes, which are whole lines
 pub record Continues {S R : Type 0} (g : Ghosts S R) (sources new_sources : S) (old new : BufferView R) (seen : ℕ) : Type 0 where
   pub extends : Extends old new
+  pub slides : Slides (g.tells sources) g.unread old new
   pub tokens : SameTokens (g.tells sources) g.unread old new
   pub text : g.tells sources → text_left g.unread new ≡ text_left g.unread old
   pub define : (unbuilt : List ℕ → Bool) → g.tells sources → HoldsDefine unbuilt (held_of old) (rest_of g.unread old)

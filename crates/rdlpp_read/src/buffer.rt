@@ -1,7 +1,7 @@
 // One open source: the part of its text that is held, by lines.
-ghost use Rattle.std.specs.Prelude.{◌≡◌, ℕ, ◌+◌, ◌-◌, ◌^◌, ◌≤◌, ◌<◌, [], length, take, drop, slice_range, Option, None, vec_len};
+ghost use Rattle.std.specs.Prelude.{◌≡◌, ℕ, ◌+◌, ◌-◌, ◌^◌, ◌≤◌, ◌<◌, [], length, take, drop, slice_range, Option, None, IfOk};
 ghost use Rattle.std.specs.Option.{is_none};
-ghost use Rattle.rdlpp_read.specs.Buffer.{EndsHeld, IsBuffer, ahead_of, entered_mode, held_of, reading_line_of};
+ghost use Rattle.rdlpp_read.specs.Buffer.{EndsHeld, IsBuffer, ahead_of, closed_buffer, entered_mode, held_of, reading_line_of};
 
 mod ahead;
 mod extending;
@@ -10,13 +10,16 @@ mod filling;
 pub use extending::{LogicalLine, hold_logical_line};
 pub use filling::{Fill, fill_buffer};
 use rdlpp_scan::{Mode, line_ends_in};
+use std::alloc::{AllocError, Global};
 use std::marker::Model;
 
 /// One open source.
 #[derive(Drop)]
 pub struct SourceBuffer<R> {
-    // as many bytes as a line may have, of which the first `filled` are the held part of the text
+    // of these the first `filled` are the held part of the text; there are none before the first read, and then as many
+    // as a line may have
     bytes: Vec<u8>,
+    line_bytes: usize,
     at: usize,
     accepted: usize,
     filled: usize,
@@ -30,6 +33,7 @@ pub struct SourceBuffer<R> {
 
 impl<R> Model for SourceBuffer<R> {
     ghost use Rattle.std.specs.Prelude.{◌+◌, ◌-◌, ◌^◌, ◌≤◌, take, vec_len};
+    ghost use Rattle.std.specs.Vec.{vec_capacity};
     ghost use Rattle.rdlpp_read.specs.Buffer.{BufferView, IsBuffer};
 
     ghost Value = { BufferView R };
@@ -41,23 +45,30 @@ impl<R> Model for SourceBuffer<R> {
       reader = f.reader;
       bytes_left = f.bytes_left;
       line = f.line;
-      line_bytes = vec_len f.bytes;
+      line_bytes = f.line_bytes;
       mode = f.mode;
       open_token_line = f.open_token_line;
     } };
 
     ghost invariant = { λ f. (f.at ≤ f.accepted) × (f.accepted ≤ f.filled) × (f.filled ≤ vec_len f.bytes)
         × (f.line + (f.bytes_left + (f.accepted - f.at)) ≤ 2 ^ 31)
-        × (f.open_token_line ≤ f.line) };
+        × (f.open_token_line ≤ f.line)
+        × (vec_len f.bytes ≤ f.line_bytes) × (f.line_bytes ≤ vec_capacity f.bytes) };
 }
 
 impl<R: Drop> SourceBuffer<R> {
-    /// A source that isn't open, with room for lines of as many bytes as `bytes` has.
-    pub fn new(bytes: Vec<u8>) -> Self
-        ensures { result ≡ record { window = []; at = 0; accepted = 0; reader = None; bytes_left = 0; line = 0; line_bytes = vec_len bytes; mode = Mode.Plain; open_token_line = 0 } }
+    /// A source that isn't open, with room for lines of `line_bytes` bytes: one growth, and no other call
+    /// takes memory. The room is reserved, and isn't touched before the first read.
+    ///
+    /// # Errors
+    ///
+    /// `AllocError` where the growth was refused.
+    pub fn new(alloc: Global, line_bytes: usize) -> Result<Self, AllocError>
+        ensures { IfOk result (λ buffer. buffer ≡ closed_buffer 0 line_bytes) }
     {
-        SourceBuffer {
-            bytes,
+        Ok(SourceBuffer {
+            bytes: Vec::with_capacity(alloc, line_bytes)?,
+            line_bytes,
             at: 0,
             accepted: 0,
             filled: 0,
@@ -66,7 +77,7 @@ impl<R: Drop> SourceBuffer<R> {
             line: 0,
             mode: Mode::Plain,
             open_token_line: 0,
-        }
+        })
     }
 
     /// Opens a source of at most `bytes_left` bytes, at its first line.

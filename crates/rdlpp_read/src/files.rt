@@ -1,8 +1,8 @@
 // The open sources of a run, each with its buffer.
-ghost use Rattle.std.specs.Prelude.{◌≡◌, ℕ, ◌+◌, ◌-◌, ◌*◌, ◌^◌, ◌==◌, ◌≤◌, ◌<◌, ◌∷◌, [], length, drop, take, IfOk, vec_len, false};
+ghost use Rattle.std.specs.Prelude.{◌≡◌, ℕ, ◌+◌, ◌-◌, ◌*◌, ◌^◌, ◌==◌, ◌≤◌, ◌<◌, ◌∷◌, [], length, drop, take, IfOk, false};
 ghost use Rattle.rdlpp_meaning.specs.State.{shown_line};
 ghost use Rattle.rdlpp_read.specs.Calls.{SourcesRead};
-ghost use Rattle.rdlpp_read.specs.Buffer.{EndsHeld, closed_buffer, entered_mode, held_of};
+ghost use Rattle.rdlpp_read.specs.Buffer.{EndsHeld, entered_mode, held_of};
 ghost use Rattle.rdlpp_read.specs.Filling.{Fills, is_failed};
 ghost use Rattle.rdlpp_read.specs.LogicalLines.{HoldsLine, is_failed_line};
 ghost use Rattle.rdlpp_read.specs.Files.{
@@ -94,13 +94,13 @@ impl<R> Model for Files<R> {
 }
 
 impl<R: Drop> File<R> {
-    // A slot without a source, with a buffer.
-    fn closed(bytes: Vec<u8>) -> Self
-        ensures buffer { result.buffer ≡ closed_buffer 0 (vec_len bytes) }
+    // A slot without a source, with its buffer.
+    fn closed(buffer: SourceBuffer<R>) -> Self
+        ensures buffer { result.buffer ≡ buffer }
         ensures shift { result.shift ≡ record { from = 0; number = 0 } }
     {
         File {
-            buffer: SourceBuffer::new(bytes),
+            buffer,
             path: ArrayString::new(),
             name: ArrayString::new(),
             shift: Shift { from: 0, number: 0 },
@@ -140,7 +140,7 @@ fn is_torn(torn: bool, bytes: &[u8]) -> bool
 
 impl<R: Drop> Files<R> {
     /// So many slots without a source, each with a buffer for lines of `line_bytes` bytes: one growth
-    /// for the list, and one for each buffer.
+    /// for the list, and one for each buffer, whose room isn't touched before its first read.
     ///
     /// # Errors
     ///
@@ -150,7 +150,7 @@ impl<R: Drop> Files<R> {
     {
         let mut list = Vec::with_capacity(alloc, slots)?;
         for _slot in 0..slots {
-            list.push_reserved(File::closed(vec![in alloc; 0u8; line_bytes]?));
+            list.push_reserved(File::closed(SourceBuffer::new(alloc, line_bytes)?));
         }
         Ok(Files {
             slots: list,

@@ -5,6 +5,7 @@ ghost use Rattle.rdlpp_source.specs.Counts.{Counts};
 ghost use Rattle.rdlpp_scan.specs.Lines.{whole_lines_len};
 ghost use Rattle.rdlpp_read.specs.Calls.{SourcesRead};
 ghost use Rattle.std.specs.Option.{is_none};
+ghost use Rattle.std.specs.Vec.{vec_capacity};
 ghost use Rattle.rdlpp_read.specs.Ahead.{AreLines};
 ghost use Rattle.rdlpp_read.specs.Buffer.{EndsHeld, IsBuffer, ahead_of};
 ghost use Rattle.rdlpp_read.specs.Filling.{Fills, Finds, Grows, Turns, is_failed, is_failed_turn};
@@ -57,6 +58,19 @@ impl<R: Drop> SourceBuffer<R> {
     }
 }
 
+// Fills the room of bytes with zeros, up to `len` bytes, in the memory that is reserved for them.
+fn fill_room(bytes: &mut Vec<u8>, len: usize)
+    requires inside { vec_len bytes.old ≤ len }
+    requires reserved { len ≤ vec_capacity bytes.old }
+    ensures len { vec_len bytes.new ≡ len }
+    ensures kept { (n : ℕ) → n ≤ vec_len bytes.old → take n bytes.new.items ≡ take n bytes.old.items }
+    ensures capacity { vec_capacity bytes.new ≡ vec_capacity bytes.old }
+{
+    for _byte in bytes.len()..len {
+        bytes.push_reserved(0);
+    }
+}
+
 // Reads into a buffer behind its first `filled` bytes.
 fn read_into<S: Sources>(
     sources: &mut S,
@@ -66,6 +80,7 @@ fn read_into<S: Sources>(
 ) -> Result<usize, SourceFault>
     requires { filled ≤ vec_len buffer.old }
     ensures len { vec_len buffer.new ≡ vec_len buffer.old }
+    ensures capacity { vec_capacity buffer.new ≡ vec_capacity buffer.old }
     ensures kept { take filled buffer.new.items ≡ take filled buffer.old.items }
     ensures bound { IfOk result (λ n. filled + n ≤ vec_len buffer.old) }
     ensures only { IfErr result (λ fault. fault ≡ SourceFault.Device) }
@@ -86,6 +101,7 @@ fn read_on<S: Sources>(buffer: &mut SourceBuffer<S::Reader>, sources: &mut S) ->
     ensures call { SourcesRead S.Sources (is_failed_turn result) sources.old sources.new }
 {
     let mut reader = buffer.reader.take().unwrap();
+    fill_room(&mut buffer.bytes, buffer.line_bytes);
     match read_into(sources, &mut reader, &mut buffer.bytes, buffer.filled) {
         Ok(0) => None,
         Ok(len) => {
@@ -128,7 +144,7 @@ fn read_more<S: Sources>(buffer: &mut SourceBuffer<S::Reader>, sources: &mut S) 
     ensures turn { Turns (S.tells sources.old) S.unread result buffer.old buffer.new }
     ensures call { SourcesRead S.Sources (is_failed_turn result) sources.old sources.new }
 {
-    if buffer.filled < buffer.bytes.len() {
+    if buffer.filled < buffer.line_bytes {
         read_on(buffer, sources)
     } else {
         probe_end(buffer, sources)

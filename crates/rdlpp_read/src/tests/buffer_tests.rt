@@ -17,7 +17,7 @@ fn opened<'a>(
     requires { source_bytes < 2 ^ 31 }
     ensures { IfOk result EndsHeld }
 {
-    let mut buffer = SourceBuffer::new(vec![in alloc; 0u8; 8]?);
+    let mut buffer = SourceBuffer::new(alloc, 8)?;
     buffer.open(DealtReader { left: text }, source_bytes);
     Ok(buffer)
 }

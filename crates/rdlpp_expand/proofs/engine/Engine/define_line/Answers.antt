@@ -3,7 +3,7 @@ use Rattle.rdlpp_meaning.specs.declared.fault.FaultKind.TheVariants as fault
 use Rattle.rdlpp_read.specs.Files.{inner_buffer}
 use Rattle.rdlpp_front.proofs.DefineLeft.{define_inside, define_rest_whole}
 use Rattle.rdlpp_expand.proofs.EngineSteps.{called}
-use Rattle.rdlpp_expand.proofs.FrontSteps.{IsRead, defined_placed, defined_steps, held_few, fails_reading, left_cut_define, left_long_define, line_kind, opened_phase, refuses, source_kind}
+use Rattle.rdlpp_expand.proofs.FrontSteps.{IsRead, defined_placed, defined_steps, held_few, fails_reading, left_cut_define, left_long_define, left_unheld, line_kind, opened_phase, refuses, source_kind}
 use Rattle.rdlpp_expand.proofs.engine.Engine.define_line.Goals as goal
 
 pub read_define-requires : goal.read_define-requires
@@ -53,3 +53,4 @@ returns-in-Failed-clause-walks g c = λ bounded.
     let r : IsRead c.args.self.now c.hold_line.new.self = record { becomes = e.becomes; only = e.only } in
     fails_reading g.S.Sources c.args.self.now c.hold_line.new.self c.refuse_read.new.self c.refuse_read.result c.requires.ready r bounded
     c.refuse_read.ensures.place c.refuse_read.ensures.kept (called g.S.Sources true _ _ e.call)
+    (λ t. left_unheld g.S.Sources c.args.self.now c.hold_line.new.self c.requires.ready t e.holds)

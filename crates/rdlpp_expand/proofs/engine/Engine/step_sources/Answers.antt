@@ -1,7 +1,7 @@
 use Rattle.std.proofs.Common.{false, true, []}
 use Rattle.rdlpp_meaning.specs.declared.fault.FaultKind.TheVariants as fault
 use Rattle.rdlpp_expand.proofs.EngineSteps.{called, silent_then}
-use Rattle.rdlpp_expand.proofs.FrontSteps.{IsRead, ended_placed, ended_steps, fails_reading, left_long_line, left_long_source, line_kind, ready_filled, refuses, silent_fill, source_kind}
+use Rattle.rdlpp_expand.proofs.FrontSteps.{IsRead, ended_placed, ended_steps, fails_reading, left_long_line, left_long_source, left_unfilled, line_kind, ready_filled, refuses, silent_fill, source_kind}
 use Rattle.rdlpp_expand.proofs.engine.Engine.step_sources.Goals as goal
 
 pub take_front-requires : goal.take_front-requires
@@ -42,3 +42,4 @@ returns-in-Failed-clause-walks g c = λ bounded.
     let r : IsRead c.args.self.now c.fill.new.self = record { becomes = c.in-Failed.ensures.becomes; only = c.in-Failed.ensures.only } in
     fails_reading g.S.Sources c.args.self.now c.fill.new.self c.refuse_read.new.self c.refuse_read.result c.requires r bounded
     c.refuse_read.ensures.place c.refuse_read.ensures.kept (called g.S.Sources true _ _ c.in-Failed.ensures.call)
+    (λ t. left_unfilled g.S.Sources c.args.self.now c.fill.new.self c.requires t c.in-Failed.ensures.fills)

@@ -11,4 +11,4 @@ invariant_of-self g c =
     let fits = lines.fits in
     let some : c.args.len ≤ c.self.inside.filled - c.self.inside.accepted =
     omega (arith, inside, length-drop c.self.inside.accepted (take c.self.inside.filled c.self.inside.bytes.items), length-take c.self.inside.filled c.self.inside.bytes.items) in
-    (omega arith, omega arith, c.self.invariant.2, omega arith, c.self.invariant.4)
+    (omega arith, omega arith, c.self.invariant.2, omega arith, c.self.invariant.4, c.self.invariant.5, c.self.invariant.6)

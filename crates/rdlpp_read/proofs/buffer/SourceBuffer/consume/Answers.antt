@@ -22,7 +22,7 @@ invariant_of-self g c =
     let inside = rw (← c.self.view_is) at c.requires.inside in
     let some : c.args.len ≤ c.self.inside.accepted - c.self.inside.at =
     omega (arith, inside, held_le c.self.inside.at c.self.inside.accepted c.self.inside.filled c.self.inside.bytes.items) in
-    (omega arith, c.self.invariant.1, c.self.invariant.2, omega arith, omega arith)
+    (omega arith, c.self.invariant.1, c.self.invariant.2, omega arith, omega arith, c.self.invariant.5, c.self.invariant.6)
 
 pub returns-clause-ends : goal.returns-clause-ends
 returns-clause-ends g c = rw (← c.self.view_is) (consumed_ends _ _ c.args.len _ refl)

@@ -23,17 +23,17 @@ returns-in-Some-clause-holds g c =
 
 pub take_lines-requires-clause-ends : goal.take_lines-requires-clause-ends
 take_lines-requires-clause-ends g c =
-    compacts-ends c.lines.buffer c.compact.new.self (compacts _ _ c.held-held.ensures.buffer.used c.compact.ensures.becomes) c.lines.invariant.ends
+    compacts-ends c.lines.buffer c.compact.new.self (compacts _ _ c.held-held.ensures.buffer.used c.held-held.ensures.buffer.lines c.compact.ensures.becomes) c.lines.invariant.ends
 
 pub lines-smaller : goal.lines-smaller
 lines-smaller g c =
-    let moved = compacts c.lines.buffer c.compact.new.self c.held-held.ensures.buffer.used c.compact.ensures.becomes in
+    let moved = compacts c.lines.buffer c.compact.new.self c.held-held.ensures.buffer.used c.held-held.ensures.buffer.lines c.compact.ensures.becomes in
     fewer-lines _ _ c.lines.buffer c.take_lines.new.buffer (compacts-grows _ _ _ c.lines.buffer c.compact.new.self c.take_lines.new.buffer moved c.in-Held.ensures.grows)
 
 pub lines-preserved : goal.lines-preserved
 lines-preserved g c =
     let v = c.lines.invariant in
-    let moved = compacts c.lines.buffer c.compact.new.self c.held-held.ensures.buffer.used c.compact.ensures.becomes in
+    let moved = compacts c.lines.buffer c.compact.new.self c.held-held.ensures.buffer.used c.held-held.ensures.buffer.lines c.compact.ensures.becomes in
     let unfound = rw c.held-held.ensures.value at (sym c.logical_line.ensures ∙ c.in_default.is) in
     let none = none-at (held_of c.lines.buffer) c.lines.seen v.place v.whole v.none unfound in
     continues-on g.S.Sources c.args.sources.now c.lines.sources c.take_lines.new.sources c.args.buffer.now c.lines.buffer c.take_lines.new.buffer c.lines.seen _ v none (ap length c.held-held.ensures.value)
@@ -42,7 +42,7 @@ lines-preserved g c =
 pub returns-in-End-clause-holds : goal.returns-in-End-clause-holds
 returns-in-End-clause-holds g c =
     let v = c.lines.invariant in
-    let moved = compacts c.lines.buffer c.compact.new.self c.held-held.ensures.buffer.used c.compact.ensures.becomes in
+    let moved = compacts c.lines.buffer c.compact.new.self c.held-held.ensures.buffer.used c.held-held.ensures.buffer.lines c.compact.ensures.becomes in
     let unfound = rw c.held-held.ensures.value at (sym c.logical_line.ensures ∙ c.in_default.is) in
     let none = none-at (held_of c.lines.buffer) c.lines.seen v.place v.whole v.none unfound in
     last-line g.S.Sources c.args.sources.now c.lines.sources c.args.buffer.now c.lines.buffer c.take_lines.new.buffer c.lines.seen _ v c.held-held.ensures.buffer none (ap length c.held-held.ensures.value)
@@ -51,7 +51,7 @@ returns-in-End-clause-holds g c =
 pub returns-in-LineLong-clause-holds : goal.returns-in-LineLong-clause-holds
 returns-in-LineLong-clause-holds g c =
     let v = c.lines.invariant in
-    let moved = compacts c.lines.buffer c.compact.new.self c.held-held.ensures.buffer.used c.compact.ensures.becomes in
+    let moved = compacts c.lines.buffer c.compact.new.self c.held-held.ensures.buffer.used c.held-held.ensures.buffer.lines c.compact.ensures.becomes in
     let unfound = rw c.held-held.ensures.value at (sym c.logical_line.ensures ∙ c.in_default.is) in
     let none = none-at (held_of c.lines.buffer) c.lines.seen v.place v.whole v.none unfound in
     long-line g.S.Sources c.args.sources.now c.lines.sources c.args.buffer.now c.lines.buffer c.take_lines.new.buffer c.lines.seen v none
@@ -60,7 +60,7 @@ returns-in-LineLong-clause-holds g c =
 pub returns-in-SourceLong-clause-holds : goal.returns-in-SourceLong-clause-holds
 returns-in-SourceLong-clause-holds g c =
     let v = c.lines.invariant in
-    let moved = compacts c.lines.buffer c.compact.new.self c.held-held.ensures.buffer.used c.compact.ensures.becomes in
+    let moved = compacts c.lines.buffer c.compact.new.self c.held-held.ensures.buffer.used c.held-held.ensures.buffer.lines c.compact.ensures.becomes in
     let unfound = rw c.held-held.ensures.value at (sym c.logical_line.ensures ∙ c.in_default.is) in
     let none = none-at (held_of c.lines.buffer) c.lines.seen v.place v.whole v.none unfound in
     cut-line g.S.Sources c.args.sources.now c.lines.sources c.args.buffer.now c.lines.buffer c.take_lines.new.buffer c.lines.seen v none
@@ -69,6 +69,6 @@ returns-in-SourceLong-clause-holds g c =
 pub returns-in-Failed-clause-holds : goal.returns-in-Failed-clause-holds
 returns-in-Failed-clause-holds g c =
     let v = c.lines.invariant in
-    let moved = compacts c.lines.buffer c.compact.new.self c.held-held.ensures.buffer.used c.compact.ensures.becomes in
+    let moved = compacts c.lines.buffer c.compact.new.self c.held-held.ensures.buffer.used c.held-held.ensures.buffer.lines c.compact.ensures.becomes in
     failed-line g.S.Sources c.args.sources.now c.lines.sources c.args.buffer.now c.lines.buffer c.take_lines.new.buffer c.lines.seen v
     (compacts-grows _ _ _ c.lines.buffer c.compact.new.self c.take_lines.new.buffer moved c.in-Failed.ensures.grows)

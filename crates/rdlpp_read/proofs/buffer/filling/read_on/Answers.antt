@@ -8,12 +8,13 @@ returns-in-Ok-eq0-clause-turn g c =
     let filled = c.buffer.inside.filled in
     let old = c.buffer.inside.bytes.items in
     let new = c.read_into.new.buffer.items in
-    let kept = c.read_into.ensures.kept in
-    let line_bytes = c.read_into.ensures.len in
+    let inside : filled ≤ vec_len c.buffer.inside.bytes = c.buffer.invariant.2 in
+    let kept : take filled new ≡ take filled old = c.read_into.ensures.kept ∙ c.fill_room.ensures.kept filled inside in
+    let line_bytes : vec_len c.read_into.new.buffer ≡ c.buffer.inside.line_bytes = c.read_into.ensures.len ∙ c.fill_room.ensures.len in
     let ended = c.take.ensures.after in
     let bytes_left = rw (← c.buffer.view_is) at c.requires.bytes_left in
     let whole : filled ≤ length old = search rules in
-    let size : length new ≡ vec_len c.buffer.inside.bytes = search rules in
+    let size : length new ≡ vec_len c.read_into.new.buffer = search rules in
     rw (← c.buffer.view_is) (ended_turn _ _ _ _ c.unwrap-reader.result
     (sym c.take.ensures.value ∙ c.unwrap-reader.ensures)
     (cc)
@@ -26,9 +27,10 @@ returns-in-Ok-clause-turn g c =
     let old = c.buffer.inside.bytes.items in
     let new = c.read_into.new.buffer.items in
     let gained = take c.in-Ok.len (drop filled new) in
-    let window = window_after filled c.in-Ok.len old new c.read_into.ensures.kept in
-    let line_bytes = c.read_into.ensures.len in
-    let size : length new ≡ vec_len c.buffer.inside.bytes = search rules in
+    let inside : filled ≤ vec_len c.buffer.inside.bytes = c.buffer.invariant.2 in
+    let window = window_after filled c.in-Ok.len old new (c.read_into.ensures.kept ∙ c.fill_room.ensures.kept filled inside) in
+    let line_bytes : vec_len c.read_into.new.buffer ≡ c.buffer.inside.line_bytes = c.read_into.ensures.len ∙ c.fill_room.ensures.len in
+    let size : length new ≡ vec_len c.read_into.new.buffer = search rules in
     let bound = c.in-Ok.ensures.bound in
     let some = c.in-Ok.len-test.1 in
     rw (← c.buffer.view_is) (gained_turn _ _ _ _ c.unwrap-reader.result c.read_into.new.reader gained
@@ -40,8 +42,9 @@ returns-in-Ok-clause-turn g c =
 
 pub returns-in-Err-clause-turn : goal.returns-in-Err-clause-turn
 returns-in-Err-clause-turn g c =
-    let kept = c.read_into.ensures.kept in
-    let line_bytes = c.read_into.ensures.len in
+    let filled = c.buffer.inside.filled in
+    let inside : filled ≤ vec_len c.buffer.inside.bytes = c.buffer.invariant.2 in
+    let kept : take filled c.read_into.new.buffer.items ≡ take filled c.buffer.inside.bytes.items = c.read_into.ensures.kept ∙ c.fill_room.ensures.kept filled inside in
     rw (← c.buffer.view_is) (failed_turn _ _ _ _ c.unwrap-reader.result c.read_into.new.reader
     (sym c.take.ensures.value ∙ c.unwrap-reader.ensures)
     (cc)

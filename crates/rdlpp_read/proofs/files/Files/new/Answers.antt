@@ -21,7 +21,7 @@ loop-slot-preserved g c =
     let old = c.loop-slot.list.items in
     let made = c.closed.result in
     let items = c.push_reserved.ensures.items in
-    let closed : made.buffer ≡ closed_buffer 0 c.args.line_bytes = c.closed.ensures.buffer ∙ ap (closed_buffer 0) c.in_ok-vec.ensures.len in
+    let closed : made.buffer ≡ closed_buffer 0 c.args.line_bytes = c.closed.ensures.buffer ∙ c.in_ok-new.ensures in
     let size : length c.push_reserved.new.self.items ≡ length old + 1 = ap length items ∙ length-append old (made ∷ []) in (
       omega (arith, v.0),
       omega (arith, v.1, c.push_reserved.ensures.capacity),

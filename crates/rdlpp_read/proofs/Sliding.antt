@@ -1,0 +1,41 @@
+-- How the window of a source moves on over its text.
+use Rattle.std.proofs.Common.{◌≡◌, ℕ, ◌+◌, List, [], ◌++◌, length, refl, sym, ap, ◌∙◌, append_assoc, arith}
+use Rattle.std.proofs.lemmas.List.{append-nil, length-append}
+use Rattle.rdlpp_read.specs.Buffer.{BufferView, Slides, unread_of}
+
+-- a window that stays
+pub slides-same : {R : Type 0} (tells : Type 0) (unread : R → List ℕ) (f : BufferView R) → Slides tells unread f f
+slides-same tells unread f = record { dropped = []; gained = []; window = append-nil f.window; used = omega arith; text = λ t. refl }
+
+-- a window that stays, where another thing changed
+pub slides-kept : {R : Type 0} (tells : Type 0) (unread : R → List ℕ) (old new : BufferView R) → new.window ≡ old.window → new.at ≡ old.at →
+    (tells → unread_of unread old.reader ≡ unread_of unread new.reader) → Slides tells unread old new
+slides-kept tells unread old new window at text = record { dropped = []; gained = []; window = append-nil old.window ∙ sym window; used = omega arith; text = text }
+
+-- the lists of two moves
+joined : (w x y a b c d : List ℕ) → w ++ a ≡ b ++ x → x ++ c ≡ d ++ y → w ++ (a ++ c) ≡ (b ++ d) ++ y
+joined w x y a b c d e f = sym (append_assoc w a c) ∙ (ap (λ v. v ++ c) e ∙ (append_assoc b x c ∙ (ap (λ v. b ++ v) f ∙ sym (append_assoc b d y))))
+
+-- two moves are one
+pub slides-on : {R : Type 0} (tells one two : Type 0) (unread : R → List ℕ) (old mid new : BufferView R) → (tells → one) → (tells → two) → Slides one unread old mid → Slides two unread mid new → Slides tells unread old new
+slides-on tells one two unread old mid new t u first then_ =
+    let used = first.used in
+    let more = then_.used in
+    record {
+      dropped = first.dropped ++ then_.dropped;
+      gained = first.gained ++ then_.gained;
+      window = joined old.window mid.window new.window first.gained first.dropped then_.gained then_.dropped first.window then_.window;
+      used = omega (arith, length-append first.dropped then_.dropped);
+      text = λ x. first.text (t x) ∙ (ap (λ v. first.gained ++ v) (then_.text (u x)) ∙ sym (append_assoc first.gained then_.gained (unread_of unread new.reader)));
+    }
+
+-- the window lost used bytes in front
+pub slides-compact : {R : Type 0} (tells : Type 0) (unread : R → List ℕ) (old new : BufferView R) (dropped : List ℕ) → old.window ≡ dropped ++ new.window → length dropped + new.at ≡ old.at →
+    new.reader ≡ old.reader → Slides tells unread old new
+slides-compact tells unread old new dropped window used reader = record {
+  dropped = dropped;
+  gained = [];
+  window = append-nil old.window ∙ window;
+  used = used;
+  text = λ t. ap (unread_of unread) (sym reader);
+}
