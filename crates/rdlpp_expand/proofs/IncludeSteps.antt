@@ -1,5 +1,5 @@
 -- Sources that are included, in the open ones: where one is opened, and where it ends.
-use Rattle.std.proofs.Common.{◌≡◌, ℕ, suc, ◌-◌, ◌<◌, Bool, true, false, not, ◌||◌, ◌==◌, List, [], ◌∷◌, ◌++◌, length, take, drop, None, refl, sym, ap, ◌∙◌, arith}
+use Rattle.std.proofs.Common.{◌≡◌, ℕ, suc, ◌-◌, ◌≤◌, ◌<◌, Bool, true, false, not, ◌||◌, ◌==◌, List, [], ◌∷◌, ◌++◌, length, take, drop, None, refl, sym, ap, ◌∙◌, arith}
 use Rattle.std.specs.Prelude.{if◌then◌else◌}
 use Rattle.std.specs.Str.{is_utf8}
 use Rattle.rdlpp_scan.specs.Bytes.{is_line_end}
@@ -10,20 +10,23 @@ use Rattle.rdlpp_table.specs.Table.{Macro}
 use Rattle.rdlpp_table.specs.declared.limits.Limits.{Limits}
 use Rattle.rdlpp_source.specs.declared.sources.Found.{Found}
 use Rattle.rdlpp_conditions.specs.Conditions.{ConditionsView, own_conditions, place_of}
-use Rattle.rdlpp_meaning.specs.Meaning.{Passage, Progress, added_end, at_start_of, back_in, behind_bytes, goes_on, origin_line}
+use Rattle.rdlpp_meaning.specs.declared.fault.FaultKind.TheVariants.{IncludeName, PathTooLong, SourceNotFound, TooManyIncludes}
+use Rattle.rdlpp_meaning.specs.Meaning.{Passage, Progress, added_end, at_start_of, back_in, behind_bytes, goes_on, leaves, origin_line}
 use Rattle.rdlpp_meaning.specs.Opened.{Waiting, all_resumed, unwound}
+use Rattle.rdlpp_meaning.specs.Outcome.{fails}
 use Rattle.rdlpp_meaning.specs.Resumed.{Live, Place, resumed}
-use Rattle.rdlpp_meaning.specs.State.{Rules, Source, State, no_shift, shown_line}
+use Rattle.rdlpp_meaning.specs.State.{LongPath, NoSource, Rules, Source, State, fault_at, no_shift, shown_line}
 use Rattle.rdlpp_meaning.proofs.AddedEnds.{added_end-in_line, in_line, line_end_if}
 use Rattle.rdlpp_read.specs.Buffer.{BufferView, EndsHeld, ahead_of, held_of, opened_buffer, rest_of, text_left, tokens_left, unread_of}
 use Rattle.rdlpp_read.specs.Files.{consumed_file, entered_file, shift_of, torn_after}
 use Rattle.rdlpp_read.specs.Filling.{Fills}
 use Rattle.rdlpp_read.specs.declared.buffer.filling.Fill.TheVariants as fill
 use Rattle.rdlpp_read.specs.declared.files.File.{File}
-use Rattle.rdlpp_front.specs.Fronts.{HasString}
+use Rattle.rdlpp_front.specs.Fronts.{HasString, LacksString}
 use Rattle.rdlpp_front.specs.SourceLeft.{source_left}
 use Rattle.rdlpp_front.proofs.EndLeft.{ended_left}
-use Rattle.rdlpp_front.proofs.IncludeLeft.{include_left, include_name, waiting_file}
+use Rattle.rdlpp_front.proofs.IncludeLeft.{include_absent_left, include_bad_left, include_deep_left, include_left, include_name, include_overlong_left, waiting_file}
+use Rattle.rdlpp_front.proofs.IncludeMissing.{include_nameless_left}
 use Rattle.rdlpp_front.proofs.Stages.{is_unbuilt-stage}
 use Rattle.rdlpp_expand.specs.OpenConditionals.{outer_open}
 use Rattle.rdlpp_expand.specs.Remaining.{ending_behind, file_state, nest_left, nest_state, waiting_around}
@@ -171,3 +174,56 @@ module _ {R : Type 0} (limits : Limits) (rules : Rules) (unread : R → List ℕ
       (include_left rules is_unbuilt unread (around limits rules unread macros v f outer) (own_conditions f.conditions_below v) f s
       (record { stage = is_unbuilt-stage; some = some; ends = ends }) plain built start stop has k found.path.bytes (unread found.reader) named left finds
       ∙ ap (behind_bytes (origin_line rules found.path.bytes 1)) (begins f outer found stop tokens))
+
+  module _ (f : File R) (outer : List (File R)) (some : 0 < length (held_of f.buffer)) (ends : EndsHeld f.buffer) (plain : f.buffer.mode ≡ Plain) (built : is_unbuilt (held_of f.buffer) ≡ false) where
+    -- an `include` behind which no string stands that closes on its line is a fault
+    pub nest_include_nameless : LacksString (held_of f.buffer)
+        → let s = nest_state limits macros v (f ∷ outer) in nest_left limits rules unread macros v (f ∷ outer) ≡ leaves (fails (fault_at IncludeName f.buffer.line [] s)) s
+    nest_include_nameless lacks =
+        let s = nest_state limits macros v (f ∷ outer) in
+        at_live limits rules unread macros v live f outer _
+        (include_nameless_left rules is_unbuilt unread (around limits rules unread macros v f outer) (own_conditions f.conditions_below v) f s
+        (record { stage = is_unbuilt-stage; some = some; ends = ends }) plain lacks built)
+
+    module _ (start stop : ℕ) (has : HasString (held_of f.buffer) start stop) where
+      -- so is one of an empty name, or of one that isn't UTF-8
+      pub nest_include_bad : (length (include_name (held_of f.buffer) start stop) == 0 || not (is_utf8 (include_name (held_of f.buffer) start stop))) ≡ true
+          → let s = nest_state limits macros v (f ∷ outer) in nest_left limits rules unread macros v (f ∷ outer) ≡ leaves (fails (fault_at IncludeName f.buffer.line [] s)) s
+      nest_include_bad name =
+          let s = nest_state limits macros v (f ∷ outer) in
+          at_live limits rules unread macros v live f outer _
+          (include_bad_left rules is_unbuilt unread (around limits rules unread macros v f outer) (own_conditions f.conditions_below v) f s
+          (record { stage = is_unbuilt-stage; some = some; ends = ends }) plain built start stop has name)
+
+      module _ (name : (length (include_name (held_of f.buffer) start stop) == 0 || not (is_utf8 (include_name (held_of f.buffer) start stop))) ≡ false) where
+        -- where no more sources may be opened, it is a fault, and nothing is searched for
+        pub nest_include_deep : limits.includes ≤ length outer
+            → let s = nest_state limits macros v (f ∷ outer) in nest_left limits rules unread macros v (f ∷ outer) ≡ leaves (fails (fault_at TooManyIncludes f.buffer.line [] s)) s
+        unfolding nest_state file_state
+        nest_include_deep full =
+            let s = nest_state limits macros v (f ∷ outer) in
+            at_live limits rules unread macros v live f outer _
+            (include_deep_left rules is_unbuilt unread (around limits rules unread macros v f outer) (own_conditions f.conditions_below v) f s
+            (record { stage = is_unbuilt-stage; some = some; ends = ends }) plain built start stop has name (omega arith))
+
+        -- where the search finds nothing, it is a fault
+        pub nest_include_absent : length outer < limits.includes → rules.find f.path.bytes (include_name (held_of f.buffer) start stop) ≡ NoSource
+            → let s = nest_state limits macros v (f ∷ outer) in nest_left limits rules unread macros v (f ∷ outer) ≡ leaves (fails (fault_at SourceNotFound f.buffer.line [] s)) s
+        unfolding nest_state file_state
+        nest_include_absent room finds =
+            let s = nest_state limits macros v (f ∷ outer) in
+            let left : limits.includes - length outer ≡ suc (limits.includes - length outer - 1) = omega arith in
+            at_live limits rules unread macros v live f outer _
+            (include_absent_left rules is_unbuilt unread (around limits rules unread macros v f outer) (own_conditions f.conditions_below v) f s
+            (record { stage = is_unbuilt-stage; some = some; ends = ends }) plain built start stop has (limits.includes - length outer - 1) name left finds)
+
+        -- and so where it comes to a path that is too long
+        pub nest_include_overlong : length outer < limits.includes → rules.find f.path.bytes (include_name (held_of f.buffer) start stop) ≡ LongPath
+            → let s = nest_state limits macros v (f ∷ outer) in nest_left limits rules unread macros v (f ∷ outer) ≡ leaves (fails (fault_at PathTooLong f.buffer.line [] s)) s
+        unfolding nest_state file_state
+        nest_include_overlong room finds =
+            let s = nest_state limits macros v (f ∷ outer) in
+            let left : limits.includes - length outer ≡ suc (limits.includes - length outer - 1) = omega arith in
+            at_live limits rules unread macros v live f outer _
+            (include_overlong_left rules is_unbuilt unread (around limits rules unread macros v f outer) (own_conditions f.conditions_below v) f s
+            (record { stage = is_unbuilt-stage; some = some; ends = ends }) plain built start stop has (limits.includes - length outer - 1) name left finds)
