@@ -20,7 +20,7 @@ use Rattle.rdlpp_expand.specs.Held.{IsBounded}
 use Rattle.rdlpp_expand.specs.Owed.{nothing_owed}
 use Rattle.rdlpp_expand.specs.Pieces.{kept_answer, lent_answer}
 use Rattle.rdlpp_expand.specs.Remaining.{uncut_of, kept_uncut, output_fault, phase_uncut, state_of, text_of, work_left}
-use Rattle.rdlpp_expand.specs.Steps.{EndsText, Halts, LendsText, StepsOver, TellsText, Walks, all_of, may_follow, no_len, Tells, IsOwn, IsStarted, has_failed, has_met, has_refused, is_memory_kind, is_read_failed, is_write_failed}
+use Rattle.rdlpp_expand.specs.Steps.{EndsText, Halts, LendsText, MovesOn, StepsOver, TellsText, Walks, all_of, may_follow, no_len, Tells, IsOwn, IsStarted, has_failed, has_met, has_refused, is_memory_kind, is_read_failed, is_write_failed}
 use Rattle.rdlpp_expand.specs.declared.phase.Phase.{Phase}
 use Rattle.rdlpp_expand.specs.declared.phase.Phase.TheVariants.{Fresh, Open, Passed, Closed}
 use Rattle.rdlpp_expand.specs.declared.place.Place.{Place}
@@ -137,8 +137,8 @@ module _ {S R : Type 0} (g : Ghosts S R) (old new : EngineView S R) (free : old.
 
   -- what a fault leaves, where nothing is owed
   halts_at : (f : Told) → new ≡ record old { kept = Some f; files = new.files; sources = new.sources }
-      → new.files ≡ record old.files { nest = with_buffer (inner_buffer new.files.nest) old.files.nest } → old.owed ≡ nothing_owed → Halts g (Err f) old new
-  halts_at f becomes only unowed =
+      → new.files ≡ record old.files { nest = with_buffer (inner_buffer new.files.nest) old.files.nest } → MovesOn (inner_buffer old.files.nest) (inner_buffer new.files.nest) → old.owed ≡ nothing_owed → Halts g (Err f) old new
+  halts_at f becomes only moves unowed =
       let keeps : Option Told → EngineView S R = λ k. record old { kept = k; files = new.files; sources = new.sources } in
       record {
         at = old;
@@ -146,15 +146,17 @@ module _ {S R : Type 0} (g : Ghosts S R) (old new : EngineView S R) (free : old.
         unowed = unowed;
         becomes = becomes ∙ ap keeps (sym (ap (λ e. e.kept) becomes));
         only = only;
+        moves = moves;
       }
 
   -- the text has a fault, which is kept
   pub walks_fault : (f : Told) → IsOwn f.kind → new ≡ record old { kept = Some f; files = new.files; sources = new.sources }
-      → new.files ≡ record old.files { nest = with_buffer (inner_buffer new.files.nest) old.files.nest } → old.owed ≡ nothing_owed
+      → new.files ≡ record old.files { nest = with_buffer (inner_buffer new.files.nest) old.files.nest }
+      → MovesOn (inner_buffer old.files.nest) (inner_buffer new.files.nest) → old.owed ≡ nothing_owed
       → SourcesCalled g false false old.sources new.sources
       → (g.tells old.sources → text_of g.unread old ≡ leaves (fails f) (state_of new)) → Walks g old new (Err f)
   unfolding has_met no_len
-  walks_fault f own becomes only unowed call text =
+  walks_fault f own becomes only moves unowed call text =
       let still : new.phase ≡ Open = ap (λ e. e.phase) becomes ∙ open_ in
       record {
         limits = ap (λ e. e.limits) becomes;
@@ -173,7 +175,7 @@ module _ {S R : Type 0} (g : Ghosts S R) (old new : EngineView S R) (free : old.
         tells = λ _ t. left_open g.unread old free open_ ∙ (ap outcome (text t) ∙ outcome-leaves (fails f) (state_of new));
         text = λ _ _ _ t. text t;
         reads = λ met. absurd (let no : false ≡ true = rw (free, own.read) at met in cc);
-        halts = λ _ _. halts_at f becomes only unowed;
+        halts = λ _ _. halts_at f becomes only moves unowed;
         falls = λ bytes e. absurd (cc);
         lends = λ bytes e. absurd (cc);
         quota = omega (arith, ap (λ e. e.quota) becomes);
@@ -185,11 +187,12 @@ module _ {S R : Type 0} (g : Ghosts S R) (old new : EngineView S R) (free : old.
   -- a read failed
   pub walks_failed : (f : Told) → f ≡ fault_at fault.ReadFailed (reading_line_of (inner_buffer new.files.nest)) [] (state_of new)
       → new ≡ record old { kept = Some f; files = new.files; sources = new.sources }
-      → new.files ≡ record old.files { nest = with_buffer (inner_buffer new.files.nest) old.files.nest } → old.owed ≡ nothing_owed
+      → new.files ≡ record old.files { nest = with_buffer (inner_buffer new.files.nest) old.files.nest }
+      → MovesOn (inner_buffer old.files.nest) (inner_buffer new.files.nest) → old.owed ≡ nothing_owed
       → SourcesCalled g true false old.sources new.sources
       → (g.tells old.sources → text_of g.unread old ≡ text_of g.unread new) → Walks g old new (Err f)
   unfolding has_met no_len fault_at is_read_failed is_write_failed is_memory_kind
-  walks_failed f is becomes only unowed call text =
+  walks_failed f is becomes only moves unowed call text =
       let still : new.phase ≡ Open = ap (λ e. e.phase) becomes ∙ open_ in
       let read : is_read_failed f.kind ≡ true = ap (λ t. is_read_failed t.kind) is in
       let write : is_write_failed f.kind ≡ false = ap (λ t. is_write_failed t.kind) is in
@@ -211,7 +214,7 @@ module _ {S R : Type 0} (g : Ghosts S R) (old new : EngineView S R) (free : old.
         tells = λ own t. absurd (let no : true ≡ false = sym (rw free read) ∙ own in cc);
         text = λ _ _ own t. absurd (let no : true ≡ false = sym (rw free read) ∙ own in cc);
         reads = λ _. record { open_ = open_; still = still; text = text };
-        halts = λ _ _. halts_at f becomes only unowed;
+        halts = λ _ _. halts_at f becomes only moves unowed;
         falls = λ bytes e. absurd (cc);
         lends = λ bytes e. absurd (cc);
         quota = omega (arith, ap (λ e. e.quota) becomes);
@@ -326,6 +329,7 @@ halts_behind g (Err f) old mid new text tells halts = record {
   unowed = halts.unowed;
   becomes = halts.becomes;
   only = halts.only;
+  moves = halts.moves;
 }
 
 -- such a part, and then a step, are one step

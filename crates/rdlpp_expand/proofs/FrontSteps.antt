@@ -1,5 +1,5 @@
 -- What is taken of the open sources, as steps of the engine.
-use Rattle.std.proofs.Common.{◌≡◌, ℕ, zero, suc, ◌+◌, ◌-◌, ◌^◌, ◌≤◌, ◌<◌, Bool, true, false, cond, List, [], ◌∷◌, ◌++◌, length, take, drop, replicate, append_assoc, append-nil, Option, None, Some, Ok, refl, sym, ap, ◌∙◌, subst, arith}
+use Rattle.std.proofs.Common.{◌≡◌, ℕ, zero, suc, ◌+◌, ◌-◌, ◌^◌, ◌≤◌, ◌<◌, Bool, true, false, cond, List, [], ◌∷◌, ◌++◌, length, take, drop, replicate, append_assoc, append-nil, Option, None, Some, Ok, refl, sym, ap, ◌∙◌, subst, arith, ◌⊎◌, Result, Err, inl, inr}
 use Rattle.std.specs.List.{slice_range}
 use Rattle.std.specs.Prelude.{min, IfSome}
 use Rattle.std.proofs.lemmas.List.{take-take, drop-take, length-drop, length-take, take_all, take_rest}
@@ -30,7 +30,7 @@ use Rattle.rdlpp_meaning.specs.Profile.{define_fault, rules_of, with_fault}
 use Rattle.rdlpp_meaning.specs.Stage.{is_unbuilt_macro}
 use Rattle.rdlpp_meaning.specs.State.{State, breach_kind, fault_at}
 use Rattle.rdlpp_meaning.proofs.OwedLineEnds.{line_ends_of-owed}
-use Rattle.rdlpp_read.specs.Buffer.{BufferView, entered_mode, held_of, reading_line_of}
+use Rattle.rdlpp_read.specs.Buffer.{BufferView, entered_mode, held_of, reading_line_of, EndsHeld, IsBuffer, Slides, closed_buffer, unused_of}
 use Rattle.rdlpp_read.specs.Files.{AreOpen, FilesView, consumed_file, inner_buffer, with_buffer, with_inner}
 use Rattle.rdlpp_read.specs.Filling.{Fills, ended_tokens, only_broken}
 use Rattle.rdlpp_read.specs.LogicalLines.{HoldsLine}
@@ -48,7 +48,7 @@ use Rattle.rdlpp_expand.specs.Owed.{OriginView, OwedView, TakesPiece, digits_of,
 use Rattle.rdlpp_expand.specs.declared.owed.OwedPiece.{OwedPiece}
 use Rattle.rdlpp_expand.specs.Pieces.{IsPlaced, lent_answer, step_answer}
 use Rattle.rdlpp_expand.specs.Remaining.{file_state, inner_name, nest_left, nest_state, staged_rules, state_of, text_of, work_left}
-use Rattle.rdlpp_expand.specs.Steps.{IsOwn, Walks, is_memory_kind, is_read_failed, is_write_failed}
+use Rattle.rdlpp_expand.specs.Steps.{IsOwn, Walks, is_memory_kind, is_read_failed, is_write_failed, EndsText, MovesOn}
 use Rattle.rdlpp_expand.specs.declared.phase.Phase.{Phase}
 use Rattle.rdlpp_expand.specs.declared.phase.Phase.TheVariants.{Open, Closed}
 use Rattle.rdlpp_expand.specs.declared.place.Place.{Place}
@@ -246,6 +246,11 @@ kept_cut {S} {R} old new kind line word name s becomes cut =
 pub record IsRead {S R : Type 0} (old mid : EngineView S R) : Type 0 where
   pub becomes : mid ≡ record old { files = mid.files; sources = mid.sources }
   pub only : mid.files ≡ record old.files { nest = with_buffer (inner_buffer mid.files.nest) old.files.nest }
+  pub moves : MovesOn (inner_buffer old.files.nest) (inner_buffer mid.files.nest)
+
+-- a window that moved on over its text
+pub slid : {R : Type 0} (tells : Type 0) (unread : R → List ℕ) (old new : BufferView R) → Slides tells unread old new → MovesOn old new
+slid tells unread old new slides = record { dropped = slides.dropped; gained = slides.gained; window = slides.window; used = slides.used }
 
 -- the state is the same then
 pub read_state : {S R : Type 0} (old mid : EngineView S R) → IsRead old mid → state_of mid ≡ state_of old
@@ -274,6 +279,12 @@ keeps_files : {S R : Type 0} (old mid new : EngineView S R) (f : Told) → IsRea
     → new.files ≡ record old.files { nest = with_buffer (inner_buffer new.files.nest) old.files.nest }
 keeps_files {S} {R} old mid new f r becomes =
     subst (λ (fs : FilesView R). fs ≡ record old.files { nest = with_buffer (inner_buffer fs.nest) old.files.nest }) (sym (ap (λ e. e.files) becomes)) r.only
+
+-- whose window moved on
+keeps_moves : {S R : Type 0} (old mid new : EngineView S R) (f : Told) → IsRead old mid → new ≡ record mid { kept = Some f }
+    → MovesOn (inner_buffer old.files.nest) (inner_buffer new.files.nest)
+keeps_moves {S} {R} old mid new f r becomes =
+    subst (λ (fs : FilesView R). MovesOn (inner_buffer old.files.nest) (inner_buffer fs.nest)) (sym (ap (λ e. e.files) becomes)) r.moves
 
 -- the text is the same where what remains of the open sources is
 read_text : {S R : Type 0} (unread : R → List ℕ) (old mid : EngineView S R) → old.owed ≡ nothing_owed → IsRead old mid
@@ -312,7 +323,7 @@ refuses {S} {R} g old mid new place kind line word ready r bounded is becomes ow
     let sources : new.sources ≡ mid.sources = ap (λ e. e.sources) becomes in
     let P : S → Type 0 = λ s. SourcesCalled g false false old.sources s in
     kept_at g old new place f is (ap (λ e. e.kept) becomes)
-    (walks_fault g old new ready.free ready.open_ bounded f (told_kind kind line word (state_of mid) own) (keeps_fault old mid new f r becomes) (keeps_files old mid new f r becomes) ready.owed (subst P (sym sources) call)
+    (walks_fault g old new ready.free ready.open_ bounded f (told_kind kind line word (state_of mid) own) (keeps_fault old mid new f r becomes) (keeps_files old mid new f r becomes) (keeps_moves old mid new f r becomes) ready.owed (subst P (sym sources) call)
     (λ t. text_unowed g.unread old ready.owed ∙ (law t ∙ (ap (λ (s : State). leaves (fails (fault_at kind line word s)) s) (sym same) ∙ ap (leaves (fails f)) (sym here)))))
 
 -- a failed read is kept
@@ -326,12 +337,18 @@ fails_reading {S} {R} g old mid new place ready r bounded is becomes call law =
     let sources : new.sources ≡ mid.sources = ap (λ e. e.sources) becomes in
     let P : S → Type 0 = λ s. SourcesCalled g true false old.sources s in
     kept_at g old new place (told mid) is (ap (λ e. e.kept) becomes)
-    (walks_failed g old new ready.free ready.open_ bounded (told mid) (sym (ap told becomes)) (keeps_fault old mid new (told mid) r becomes) (keeps_files old mid new (told mid) r becomes) ready.owed (subst P (sym sources) call)
+    (walks_failed g old new ready.free ready.open_ bounded (told mid) (sym (ap told becomes)) (keeps_fault old mid new (told mid) r becomes) (keeps_files old mid new (told mid) r becomes) (keeps_moves old mid new (told mid) r becomes) ready.owed (subst P (sym sources) call)
     (λ t. read_text g.unread old mid ready.owed r (law t) ∙ sym (kept_text g.unread mid new (told mid) becomes)))
 
 -- nothing changed
 pub read_nothing : {S R : Type 0} (e : EngineView S R) → IsRead e e
-read_nothing e = record { becomes = refl; only = ap (λ ns. record e.files { nest = ns }) (same_nest e.files.nest) }
+read_nothing e =
+    let b = inner_buffer e.files.nest in
+    record {
+      becomes = refl;
+      only = ap (λ ns. record e.files { nest = ns }) (same_nest e.files.nest);
+      moves = record { dropped = []; gained = []; window = append-nil b.window; used = omega arith };
+    }
 
 -- text that is copied is lent
 pub take_text : {S R : Type 0} (g : Ghosts S R) (old mid new : EngineView S R) (len lines from to : ℕ) (next : Mode) → IsReady old → old.conditions.skipped ≡ None → IsBounded new

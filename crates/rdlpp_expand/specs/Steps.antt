@@ -1,13 +1,13 @@
 -- What a step of an engine does.
 -- A definition that names no source is this project's own.
-use Rattle.std.specs.Prelude.{◌≡◌, ℕ, ◌+◌, ◌<◌, Bool, true, false, List, [], Option, None, Some, Result, Ok, Err, IfErr, IfOk, length, take, ⊤}
+use Rattle.std.specs.Prelude.{◌≡◌, ℕ, ◌+◌, ◌<◌, Bool, true, false, List, [], ◌++◌, Option, None, Some, Result, Ok, Err, IfErr, IfOk, length, take, ⊤}
 use Rattle.rdlpp_source.specs.declared.sources.Sources.{Ghosts}
 use Rattle.rdlpp_meaning.specs.declared.fault.FaultKind.{FaultKind}
 use Rattle.rdlpp_meaning.specs.declared.fault.FaultKind.TheVariants.{ReadFailed, WriteFailed, SourceMemory, EmbeddedPerl}
 use Rattle.rdlpp_meaning.specs.Meaning.{Passage, behind_bytes, leaves}
 use Rattle.rdlpp_meaning.specs.State.{State, fault_at}
 use Rattle.rdlpp_meaning.specs.Outcome.{Told, Outcome, gives, fails, and_then}
-use Rattle.rdlpp_read.specs.Buffer.{reading_line_of}
+use Rattle.rdlpp_read.specs.Buffer.{BufferView, reading_line_of}
 use Rattle.rdlpp_read.specs.Files.{inner_buffer, with_buffer}
 use Rattle.rdlpp_expand.specs.Calls.{SourcesCalled}
 use Rattle.rdlpp_expand.specs.Engine.{EngineView, is_open}
@@ -87,14 +87,22 @@ pub record StopsReading {S R : Type 0} (g : Ghosts S R) (old new : EngineView S 
   pub still : new.phase ≡ Open
   pub text : g.tells old.sources → text_of g.unread old ≡ text_of g.unread new
 
+-- a window moved on over its text: it dropped bytes in front, which were used, and gained bytes behind
+pub record MovesOn {R : Type 0} (old new : BufferView R) : Type 0 where
+  pub dropped : List ℕ
+  pub gained : List ℕ
+  pub window : old.window ++ gained ≡ dropped ++ new.window
+  pub used : length dropped + new.at ≡ old.at
+
 -- a fault in an open text: it came to an engine of which the same text remained and that owed nothing; of that engine nothing
--- changed but the fault that is kept and what is read of the innermost source, and no source was closed
+-- changed but the fault that is kept and what is read of the innermost source, whose window moved on, and no source was closed
 pub record HaltsAt {S R : Type 0} (g : Ghosts S R) (old new : EngineView S R) : Type 0 where
   pub at : EngineView S R
   pub text : g.tells old.sources → text_of g.unread old ≡ text_of g.unread at
   pub unowed : at.owed ≡ nothing_owed
   pub becomes : new ≡ record at { kept = new.kept; files = new.files; sources = new.sources }
   pub only : new.files ≡ record at.files { nest = with_buffer (inner_buffer new.files.nest) at.files.nest }
+  pub moves : MovesOn (inner_buffer at.files.nest) (inner_buffer new.files.nest)
 
 -- what an answer leaves of an open text: where it ended, nothing is owed; where a fault came, nothing else changed
 abbrev pub Halts : {S R : Type 0} → Ghosts S R → Result (Option (List ℕ)) Told → EngineView S R → EngineView S R → Type 0

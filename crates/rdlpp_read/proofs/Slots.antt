@@ -1,5 +1,5 @@
 -- The slots of the open sources, as one of them changes, opens or closes.
-use Rattle.std.proofs.Common.{◌≡◌, ℕ, suc, ◌+◌, ◌-◌, ◌*◌, ◌≤◌, ◌<◌, Bool, not, List, [], ◌∷◌, ◌++◌, length, take, drop, map, reverse, sum_by, get_or, refl, sym, ap, subst, ◌∙◌, add-one, arith}
+use Rattle.std.proofs.Common.{◌≡◌, ℕ, suc, ◌+◌, ◌-◌, ◌*◌, ◌^◌, ◌≤◌, ◌<◌, Bool, not, List, [], ◌∷◌, ◌++◌, length, take, drop, map, reverse, sum_by, get_or, refl, sym, ap, subst, ◌∙◌, add-one, arith}
 use Rattle.std.proofs.lemmas.List.{drop-set, length-drop, reverse-append, take-set, take_more_set, take-take}
 use Rattle.std.proofs.Math.ListN.{set, length-set}
 use Rattle.std.proofs.lemmas.List.Elements.{All-append, All-cons, All-drop, All-get_or, All-head, All-nil, All-same, All-set, All-tail, All-take}
@@ -8,10 +8,10 @@ use Rattle.std.proofs.Math.Nat.{mul-le-mul_right}
 use Rattle.std.specs.List.{All}
 use Rattle.rdlpp_scan.specs.Bytes.{is_line_end}
 use Rattle.rdlpp_scan.specs.declared.token.Mode.{Mode}
-use Rattle.rdlpp_read.specs.Buffer.{BufferView, EndsHeld, ahead_of, closed_buffer, entered_mode, held_of}
+use Rattle.rdlpp_read.specs.Buffer.{BufferView, EndsHeld, ahead_of, closed_buffer, entered_mode, held_of, unused_of}
 use Rattle.rdlpp_read.proofs.BufferTokens.{none_ends}
 use Rattle.rdlpp_read.specs.declared.files.File.{File}
-use Rattle.rdlpp_read.specs.Files.{AreOpen, AreSlots, FilesView, IsClosed, IsSlot, held_bytes, held_windows, torn_after}
+use Rattle.rdlpp_read.specs.Files.{AreOpen, AreSlots, FilesView, IsClosed, IsSlot, held_bytes, held_windows, source_digits, torn_after}
 
 -- an open slot changed
 pub slots-kept : {R : Type 0} (size first : ℕ) (slots : List (File R)) (f : File R) → AreSlots size first slots → IsSlot size f → AreSlots size first (set slots first f)
@@ -124,11 +124,27 @@ held-part {R} files items i f same open_ more is =
     let here : size f ≡ size (get_or items i f) = ap size is in
     omega arith
 
+-- what an open source may still give, and one more, is a digit
+digits-below : {R : Type 0} (size : ℕ) (nest : List (File R)) → All (IsSlot size) nest → All (λ (d : ℕ). d < 2 ^ 31) (source_digits nest)
+unfolding source_digits unused_of
+digits-below size [] each = All-nil (λ (d : ℕ). d < 2 ^ 31)
+digits-below {R} size (f ∷ outer) each =
+    let P : ℕ → Type 0 = λ d. d < 2 ^ 31 in
+    let digit : File R → ℕ = λ g. unused_of g.buffer + 1 in
+    let slot : IsSlot size f = All-head (IsSlot size) f outer each in
+    let counts = slot.buffer.counts in
+    let here : P (digit f) = omega arith in
+    let rest : All P (source_digits outer) = digits-below size outer (All-tail (IsSlot size) f outer each) in
+    let cut : source_digits (f ∷ outer) ≡ source_digits outer ++ digit f ∷ [] = reverse-append (digit f ∷ []) (map digit outer) in
+    All-same P (source_digits (f ∷ outer)) (source_digits outer ++ digit f ∷ []) cut
+    (All-append P (source_digits outer) (digit f ∷ []) rest (All-cons P (digit f) [] here (All-nil P)))
+
 -- the open ones of the slots
 pub slots-open : {R : Type 0} (size first : ℕ) (slots : List (File R)) → (n : ℕ) → n ≡ length slots → AreSlots size first slots → AreOpen (record { nest = drop first slots; slots = n; line_bytes = size })
 slots-open size first slots n all s = record {
   few = omega (arith, length-drop first slots);
   each = All-drop (IsSlot size) first slots s.each;
+  digits = digits-below size (drop first slots) (All-drop (IsSlot size) first slots s.each);
 }
 
 -- all that is held, by the parts of it, the outermost first

@@ -1,6 +1,6 @@
 -- What is held of an open source, and what remains of it.
 -- A definition that names no source is this project's own.
-use Rattle.std.specs.Prelude.{◌≡◌, ℕ, ◌+◌, ◌-◌, ◌^◌, ◌≤◌, Bool, List, [], ◌++◌, length, take, drop, Option, None, Some, ◌⊎◌}
+use Rattle.std.specs.Prelude.{◌≡◌, ℕ, ◌+◌, ◌-◌, ◌^◌, ◌≤◌, ◌<◌, Bool, List, [], ◌++◌, length, take, drop, Option, None, Some, ◌⊎◌}
 use Rattle.rdlpp_scan.specs.declared.token.Mode.{Mode}
 use Rattle.rdlpp_scan.specs.declared.token.Mode.TheVariants.{Plain}
 use Rattle.rdlpp_scan.specs.Resumed.{opening}
@@ -59,12 +59,13 @@ pub record Slides {R : Type 0} (tells : Type 0) (unread : R → List ℕ) (old n
 unfoldable pub unused_of : {R : Type 0} → BufferView R → ℕ
 unused_of f = f.bytes_left + (f.accepted - f.at)
 
--- the places in what is held are in order, the line can still be counted, and what is open didn't open behind it
+-- the places in what is held are in order; the line, what isn't used and one more are a digit of the work left together; and what
+-- is open didn't open behind the line
 pub record IsBuffer {R : Type 0} (f : BufferView R) : Type 0 where
   pub used : f.at ≤ f.accepted
   pub lines : f.accepted ≤ length f.window
   pub within : length f.window ≤ f.line_bytes
-  pub counts : f.line + (f.bytes_left + (f.accepted - f.at)) ≤ 2 ^ 31
+  pub counts : f.line + (f.bytes_left + (f.accepted - f.at)) + 1 < 2 ^ 31
   pub opened : f.open_token_line ≤ f.line
 
 -- a source that isn't open

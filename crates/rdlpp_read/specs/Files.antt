@@ -32,10 +32,16 @@ pub record AreSlots {R : Type 0} (line_bytes first : ℕ) (slots : List (File R)
   pub each : All (IsSlot line_bytes) slots
   pub closed : All IsClosed (take first slots)
 
--- what holds of the open sources
+-- what the open sources may still give, each and one more, the outermost first (this project's profile)
+unfoldable pub source_digits : {R : Type 0} → List (File R) → List ℕ
+source_digits nest = reverse (map (λ f. unused_of f.buffer + 1) nest)
+
+-- what holds of the open sources: each of what they may still give, and one more, is a digit in base 2,147,483,648 (this project's
+-- profile)
 pub record AreOpen {R : Type 0} (files : FilesView R) : Type 0 where
   pub few : length files.nest ≤ files.slots
   pub each : All (IsSlot files.line_bytes) files.nest
+  pub digits : All (λ (d : ℕ). d < 2 ^ 31) (source_digits files.nest)
 
 -- a source that was opened: nothing of it is read, and it shows its path and its own lines (this project's profile)
 abbrev pub entered_file : {R : Type 0} → Found R → ℕ → ℕ → ℕ → ℕ → File R
@@ -84,10 +90,6 @@ consumed_file len lines f = record f {
 -- what is held of the open sources, the outermost first (this project's profile)
 unfoldable pub held_windows : {R : Type 0} → List (File R) → List (List ℕ)
 held_windows nest = reverse (map (λ f. f.buffer.window) nest)
-
--- what the open sources may still give, each and one more, the outermost first (this project's profile)
-unfoldable pub source_digits : {R : Type 0} → List (File R) → List ℕ
-source_digits nest = reverse (map (λ f. unused_of f.buffer + 1) nest)
 
 -- how many bytes of the texts of the open sources are held
 abbrev pub held_bytes : {R : Type 0} → List (File R) → ℕ

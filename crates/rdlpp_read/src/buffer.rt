@@ -32,7 +32,7 @@ pub struct SourceBuffer<R> {
 }
 
 impl<R> Model for SourceBuffer<R> {
-    ghost use Rattle.std.specs.Prelude.{◌+◌, ◌-◌, ◌^◌, ◌≤◌, take, vec_len};
+    ghost use Rattle.std.specs.Prelude.{◌+◌, ◌-◌, ◌^◌, ◌≤◌, ◌<◌, take, vec_len};
     ghost use Rattle.std.specs.Vec.{vec_capacity};
     ghost use Rattle.rdlpp_read.specs.Buffer.{BufferView, IsBuffer};
 
@@ -51,7 +51,7 @@ impl<R> Model for SourceBuffer<R> {
     } };
 
     ghost invariant = { λ f. (f.at ≤ f.accepted) × (f.accepted ≤ f.filled) × (f.filled ≤ vec_len f.bytes)
-        × (f.line + (f.bytes_left + (f.accepted - f.at)) ≤ 2 ^ 31)
+        × (f.line + (f.bytes_left + (f.accepted - f.at)) + 1 < 2 ^ 31)
         × (f.open_token_line ≤ f.line)
         × (vec_len f.bytes ≤ f.line_bytes) × (f.line_bytes ≤ vec_capacity f.bytes) };
 }
@@ -80,9 +80,10 @@ impl<R: Drop> SourceBuffer<R> {
         })
     }
 
-    /// Opens a source of at most `bytes_left` bytes, at its first line.
+    /// Opens a source of at most `bytes_left` bytes, which are at most 1,073,741,824 (this project's
+    /// profile), at its first line.
     pub fn open(&mut self, reader: R, bytes_left: usize)
-        requires { bytes_left < 2 ^ 31 }
+        requires { bytes_left ≤ 2 ^ 30 }
         ensures opened { self.new ≡ record { window = []; at = 0; accepted = 0; reader = Option.Some reader; bytes_left = bytes_left; line = 1; line_bytes = self.old.line_bytes; mode = Mode.Plain; open_token_line = 1 } }
         ensures ends { EndsHeld self.new }
     {

@@ -1,4 +1,4 @@
-ghost use Rattle.std.specs.Prelude.{◌<◌, ◌^◌, IfOk};
+ghost use Rattle.std.specs.Prelude.{◌≤◌, ◌^◌, IfOk};
 ghost use Rattle.rdlpp_read.specs.Buffer.{EndsHeld};
 
 use super::devices::{After, DealtReader, DealtTexts};
@@ -14,7 +14,7 @@ fn opened<'a>(
     text: &'a [u8],
     source_bytes: usize,
 ) -> Result<SourceBuffer<DealtReader<'a>>, AllocError>
-    requires { source_bytes < 2 ^ 31 }
+    requires { source_bytes ≤ 2 ^ 30 }
     ensures { IfOk result EndsHeld }
 {
     let mut buffer = SourceBuffer::new(alloc, 8)?;
