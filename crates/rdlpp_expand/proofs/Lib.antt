@@ -4,6 +4,7 @@ pub mod Bounds
 pub mod CopiedMacros
 pub mod ConditionalPlaces
 pub mod NestLeft
+pub mod ConditionalSteps
 pub mod WorkFacts
 pub mod OpeningFacts
 pub mod EngineSteps

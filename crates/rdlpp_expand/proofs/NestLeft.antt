@@ -43,7 +43,7 @@ use Rattle.rdlpp_expand.proofs.ConditionalPlaces.{live_place, no_place}
 use Rattle.rdlpp_expand.specs.Remaining.{ending_behind, file_state, nest_left, nest_state, waiting_around}
 
 -- nothing is held where no source is open
-none_held : (R : Type 0) → 0 < length (held_of (inner_buffer {R = R} [])) → ⊥
+pub none_held : (R : Type 0) → 0 < length (held_of (inner_buffer {R = R} [])) → ⊥
 unfolding held_of closed_buffer
 none_held R some = omega arith
 
@@ -54,7 +54,7 @@ torn_after-append torn [] y = refl
 torn_after-append torn (b ∷ x) y = torn_after-append (not (is_line_end b)) x y
 
 -- a source of which bytes are used ends as it did
-torn_consumed : {R : Type 0} (unread : R → List ℕ) (f : File R) (len lines : ℕ)
+pub torn_consumed : {R : Type 0} (unread : R → List ℕ) (f : File R) (len lines : ℕ)
     → torn_after (consumed_file len lines f).torn (text_left unread (consumed_file len lines f).buffer) ≡ torn_after f.torn (text_left unread f.buffer)
 unfolding text_left held_of rest_of ahead_of
 torn_consumed unread f len lines =
@@ -66,13 +66,13 @@ torn_consumed unread f len lines =
     ∙ ap (torn_after f.torn) (sym (append_assoc (take len held) (drop len held) rest) ∙ ap (λ (h : List ℕ). h ++ rest) (take-append-drop len held))
 
 -- the text that isn't used is the same in each mode
-text_entered : {R : Type 0} (unread : R → List ℕ) (b : BufferView R) (next : Mode) → text_left unread (entered_mode b next) ≡ text_left unread b
+pub text_entered : {R : Type 0} (unread : R → List ℕ) (b : BufferView R) (next : Mode) → text_left unread (entered_mode b next) ≡ text_left unread b
 unfolding text_left held_of rest_of ahead_of entered_mode
 text_entered unread b next = refl
 
 module _ {R : Type 0} (limits : Limits) (rules : Rules) (unread : R → List ℕ) where
   -- the sources that wait are the same where the innermost ends as it did
-  waiting_same : (os : List Progress) (f g : File R) (outer : List (File R)) → torn_after g.torn (text_left unread g.buffer) ≡ torn_after f.torn (text_left unread f.buffer)
+  pub waiting_same : (os : List Progress) (f g : File R) (outer : List (File R)) → torn_after g.torn (text_left unread g.buffer) ≡ torn_after f.torn (text_left unread f.buffer)
       → g.include_line ≡ f.include_line → waiting_around limits rules unread os g outer ≡ waiting_around limits rules unread os f outer
   unfolding waiting_around ending_behind
   waiting_same os f g [] torn line = refl
@@ -80,7 +80,7 @@ module _ {R : Type 0} (limits : Limits) (rules : Rules) (unread : R → List ℕ
 
   module _ (macros : List Macro) (v : ConditionsView) where
     -- the sources that wait around one
-    abbrev around : File R → List (File R) → List Waiting
+    abbrev pub around : File R → List (File R) → List Waiting
     around f outer = waiting_around limits rules unread (outer_open f.conditions_below v.open_now) f outer
 
     -- what remains of the innermost source, where another one remains behind a move of it
@@ -117,7 +117,7 @@ module _ {R : Type 0} (limits : Limits) (rules : Rules) (unread : R → List ℕ
 
     module _ (live : v.skipped ≡ None) where
       -- what remains in live text
-      at_live : (f : File R) (outer : List (File R)) (p : Passage)
+      pub at_live : (f : File R) (outer : List (File R)) (p : Passage)
           → source_left rules is_unbuilt unread (around f outer) (Live (own_conditions f.conditions_below v)) f (nest_state limits macros v (f ∷ outer)) ≡ p
           → nest_left limits rules unread macros v (f ∷ outer) ≡ p
       unfolding nest_left
