@@ -1,9 +1,9 @@
 -- Where the innermost source stands among its conditionals.
-use Rattle.std.proofs.Common.{◌≡◌, ℕ, zero, suc, ◌-◌, ◌≤◌, ◌<◌, Bool, true, false, List, [], ◌∷◌, length, take, drop, Option, None, Some, refl, sym, ap, ◌∙◌, inl, inr, arith}
+use Rattle.std.proofs.Common.{◌≡◌, ℕ, zero, suc, ◌-◌, ◌≤◌, Bool, true, false, List, [], ◌∷◌, length, take, drop, Option, None, Some, refl, ap, ◌∙◌, inl, inr, arith}
 use Rattle.std.proofs.lemmas.Bool.{cases_lt}
 use Rattle.rdlpp_table.specs.declared.limits.Limits.{Limits}
 use Rattle.rdlpp_meaning.specs.Meaning.{Progress}
-use Rattle.rdlpp_meaning.specs.Resumed.{Place, Live, Skipped}
+use Rattle.rdlpp_meaning.specs.Resumed.{Live, Skipped}
 use Rattle.rdlpp_meaning.proofs.ConditionalMoves.{in_branch}
 use Rattle.rdlpp_conditions.specs.Moves.{skipped_by}
 use Rattle.rdlpp_read.specs.Files.{with_inner}

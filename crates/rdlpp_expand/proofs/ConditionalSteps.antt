@@ -1,5 +1,5 @@
 -- What remains of the open sources, as a directive of the innermost one opens, branches or closes a conditional.
-use Rattle.std.proofs.Common.{◌≡◌, ℕ, zero, suc, ◌+◌, ◌-◌, ◌≤◌, ◌<◌, Bool, true, false, ◌||◌, List, [], ◌∷◌, length, take, drop, Option, None, Some, refl, sym, ap, subst, ◌∙◌, arith}
+use Rattle.std.proofs.Common.{◌≡◌, ℕ, suc, ◌-◌, ◌≤◌, ◌<◌, Bool, true, false, List, [], ◌∷◌, length, take, drop, None, Some, refl, sym, ap, ◌∙◌, arith}
 use Rattle.rdlpp_scan.specs.Stage.{is_reserved, is_unbuilt}
 use Rattle.rdlpp_scan.specs.declared.token.Directive.{Directive}
 use Rattle.rdlpp_scan.specs.declared.token.Directive.TheVariants.{Elsif, Else, Endif}
@@ -8,27 +8,27 @@ use Rattle.rdlpp_table.specs.Table.{Macro}
 use Rattle.rdlpp_table.specs.declared.limits.Limits.{Limits}
 use Rattle.rdlpp_meaning.specs.declared.fault.FaultKind.{FaultKind}
 use Rattle.rdlpp_meaning.specs.declared.fault.FaultKind.TheVariants as fault
-use Rattle.rdlpp_meaning.specs.Meaning.{Holds, Passage, Progress, Stopped, behind_bytes, in_conditional, is_defined, is_else, leaves, macro_name, name_test, past_conditional}
+use Rattle.rdlpp_meaning.specs.Meaning.{Holds, Passage, Progress, Stopped, in_conditional, is_defined, is_else, leaves, macro_name, name_test, past_conditional}
 use Rattle.rdlpp_meaning.specs.Opened.{Waiting}
 use Rattle.rdlpp_meaning.specs.Outcome.{fails}
 use Rattle.rdlpp_meaning.specs.Resumed.{Place, Live, Skipped}
 use Rattle.rdlpp_meaning.specs.State.{Rules, State, fault_at, shown_line}
 use Rattle.rdlpp_meaning.proofs.ConditionalMoves.{branches_conditional, in_branch, opens_conditional}
 use Rattle.rdlpp_meaning.proofs.ConditionalTests.{named_test}
-use Rattle.rdlpp_read.specs.Buffer.{EndsHeld, held_of, text_left}
+use Rattle.rdlpp_read.specs.Buffer.{held_of, text_left}
 use Rattle.rdlpp_read.specs.Files.{consumed_file, shift_of, torn_after}
 use Rattle.rdlpp_read.specs.declared.files.File.{File}
 use Rattle.rdlpp_front.specs.Fronts.{HasName, IsDirective, LacksName, argument_name, word_of}
 use Rattle.rdlpp_front.specs.SourceLeft.{HoldsFront, source_left}
 use Rattle.rdlpp_front.proofs.BranchLeft.{Turns, decided_else_left, decided_elsif_left, decided_nameless_left, refused_branch_left, tested_elsif_left, tested_nameless_left, tested_reserved_left}
-use Rattle.rdlpp_front.proofs.ConditionalLeft.{branched, closed_left, opened_at, opened_left, opening_full_left, opening_nameless_left, opening_reserved_left, stray_branch_left, stray_end_left}
+use Rattle.rdlpp_front.proofs.ConditionalLeft.{branched, closed_left, opened_left, opening_full_left, opening_nameless_left, opening_reserved_left, stray_branch_left, stray_end_left}
 use Rattle.rdlpp_front.proofs.SkippedWords.{inner_branch_left, inner_end_left, skipped_opening_left}
 use Rattle.rdlpp_conditions.specs.Conditions.{ConditionsView, own_conditions, place_of}
 use Rattle.rdlpp_conditions.specs.Moves.{closed_one, opened_with, skipped_by, turned_open, turned_with, with_inner}
 use Rattle.rdlpp_expand.specs.OpenConditionals.{outer_open}
 use Rattle.rdlpp_expand.specs.Remaining.{file_state, nest_left, nest_state, waiting_around}
 use Rattle.rdlpp_expand.proofs.ConditionalPlaces.{live_place, outer_cons, place_inside, place_outside, place_skipped}
-use Rattle.rdlpp_expand.proofs.NestLeft.{at_live, torn_consumed, waiting_same}
+use Rattle.rdlpp_expand.proofs.NestLeft.{torn_consumed, waiting_same}
 
 module _ {R : Type 0} (limits : Limits) (rules : Rules) (unread : R → List ℕ) (macros : List Macro) (outer : List (File R)) where
   -- the sources that wait around one, by the open conditionals

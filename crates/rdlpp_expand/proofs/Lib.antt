@@ -5,6 +5,8 @@ pub mod CopiedMacros
 pub mod ConditionalPlaces
 pub mod NestLeft
 pub mod ConditionalSteps
+pub mod SkippedStretch
+pub mod SkippedSteps
 pub mod WorkFacts
 pub mod OpeningFacts
 pub mod EngineSteps
