@@ -13,14 +13,14 @@ unfolding stops_at
 stops_by mode bytes token stops is tells = tells ∙ ap (λ (t : Token). stops_skipping t (take t.len bytes)) is
 
 -- a stretch of ordinary text
-pub passes_stretch : (mode : Mode) (bytes : List ℕ) (len : ℕ) → mode ≡ Plain → 0 < len → len ≡ plain_len bytes → IsPassedOnce mode bytes len mode
-passes_stretch mode bytes len plain some is = Stretch plain some is plain
+pub passes_stretch : (mode : Mode) (bytes : List ℕ) (len : ℕ) → (0 < len → mode ≡ Plain) → 0 < len → (mode ≡ Plain → len ≡ plain_len bytes) → IsPassedOnce mode bytes len mode
+passes_stretch mode bytes len plain some is = Stretch (plain some) some (is (plain some)) (plain some)
 
 -- one token
-pub passes_token : (mode : Mode) (bytes : List ℕ) (token : Token) (stops : Bool) → token ≡ token_of mode bytes → stops ≡ stops_skipping token (take token.len bytes) → stops ≡ false
+pub passes_token : (mode : Mode) (bytes : List ℕ) (token : Token) (stops : Bool) → (mode ≡ Plain → plain_len bytes ≡ 0) → token ≡ token_of mode bytes → stops ≡ stops_skipping token (take token.len bytes) → stops ≡ false
     → IsPassedOnce mode bytes token.len token.next_mode
-passes_token mode bytes token stops is tells goes =
-    OneToken (sym (stops_by mode bytes token stops is tells) ∙ goes) (ap (λ (t : Token). t.len) is) (ap (λ (t : Token). t.next_mode) is)
+passes_token mode bytes token stops none is tells goes =
+    OneToken none (sym (stops_by mode bytes token stops is tells) ∙ goes) (ap (λ (t : Token). t.len) is) (ap (λ (t : Token). t.next_mode) is)
 
 -- one step more
 pub passes_onward : (mode mid next : Mode) (held : List ℕ) (from len : ℕ) → IsPassed mode held from mid → from < length held → IsPassedOnce mid (take (length held - from) (drop from held)) len next → IsPassed mode held (from + len) next

@@ -1,11 +1,13 @@
 // The passing of skipped text.
-ghost use Rattle.std.specs.Prelude.{◌≡◌, ◌≤◌, ◌<◌, length, take, drop, true, None, IfSome, IsTrue};
+ghost use Rattle.std.specs.Prelude.{◌≡◌, ◌≤◌, ◌<◌, length, take, drop, true, None, IfSome};
 ghost use Rattle.rdlpp_scan.specs.SourceTokens.{line_ends};
+ghost use Rattle.rdlpp_scan.specs.Tokens.{plain_len};
 ghost use Rattle.rdlpp_conditions.specs.SkippedText.{
   IsPassed,
   IsPassedOnce,
   counts_skipped,
   stops_at,
+  stops_closed,
   stops_skipping,
 };
 
@@ -16,14 +18,14 @@ use rdlpp_scan::{Kind, Mode, Token, first_token, line_ends_in, plain_text_len};
 pub struct SkippedText {
     /// How many bytes.
     pub len: usize,
-    /// Where the text stands behind them: in plain text, in a string or in a block comment.
+    /// Where the text stands behind them: in plain text, or as before them where there are none.
     pub mode: Mode,
     /// How many of them are LF, which are written.
     pub line_ends: usize,
 }
 
 /// Passes skipped text, which stands in `mode`, up to the next word that counts there, the next `<%`,
-/// or the end of `held`. The words that count are those of conditionals, and `define` and `line`, which
+/// the next string or comment that stays open, or the end of `held`. The words that count are those of conditionals, and `define` and `line`, which
 /// take their lines.
 ///
 /// `held` ends at a line end or where the text ends. Costs time linear in what is passed, most of it a
@@ -76,11 +78,9 @@ fn pass_once(mode: Mode, bytes: &[u8]) -> Option<Step>
     ensures some { IfSome result (λ step. IsPassedOnce mode bytes.now step.len step.mode) }
     ensures inside { IfSome result (λ step. (0 < step.len) × (step.len ≤ length bytes.now)) }
 {
-    if is_plain(mode) {
-        let len = plain_text_len(bytes);
-        if 0 < len {
-            return Some(Step { len, mode });
-        }
+    let len = ordinary_len(mode, bytes);
+    if 0 < len {
+        return Some(Step { len, mode });
     }
     let token = first_token(mode, bytes);
     if stops_skipping(token, &bytes[..token.len]) {
@@ -92,13 +92,15 @@ fn pass_once(mode: Mode, bytes: &[u8]) -> Option<Step>
     })
 }
 
-// Whether a text stands neither in a string nor in a block comment.
-fn is_plain(mode: Mode) -> bool
-    ensures { IsTrue result → mode ≡ Mode.Plain }
+// How many bytes of ordinary text a text begins with that stands in `mode`.
+fn ordinary_len(mode: Mode, bytes: &[u8]) -> usize
+    ensures plain { mode ≡ Mode.Plain → result ≡ plain_len bytes.now }
+    ensures some { 0 < result → mode ≡ Mode.Plain }
+    ensures inside { result ≤ length bytes.now }
 {
     match mode {
-        Mode::Plain => true,
-        _ => false,
+        Mode::Plain => plain_text_len(bytes),
+        _ => 0,
     }
 }
 
@@ -107,7 +109,18 @@ fn is_plain(mode: Mode) -> bool
 fn stops_skipping(token: Token, word: &[u8]) -> bool
     ensures { result ≡ stops_skipping token word.now }
 {
-    match token.kind {
+    match token.next_mode {
+        Mode::Plain => stops_closed(token.kind, word),
+        _ => true,
+    }
+}
+
+// Whether a token that is closed ends a stretch of skipped text, by its kind and its bytes.
+#[tactic(auto, unfolding(crate::specs::SkippedText::stops_closed))]
+fn stops_closed(kind: Kind, word: &[u8]) -> bool
+    ensures { result ≡ stops_closed kind word.now }
+{
+    match kind {
         Kind::Perl => true,
         Kind::Back => counts_skipped(word),
         _ => false,

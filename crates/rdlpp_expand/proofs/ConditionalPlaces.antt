@@ -1,12 +1,15 @@
 -- Where the innermost source stands among its conditionals.
-use Rattle.std.proofs.Common.{◌≡◌, ℕ, zero, suc, ◌-◌, List, [], ◌∷◌, ◌≤◌, length, take, Option, None, refl, ap, ◌∙◌}
+use Rattle.std.proofs.Common.{◌≡◌, ℕ, zero, suc, ◌-◌, ◌≤◌, Bool, true, false, List, [], ◌∷◌, length, take, drop, Option, None, Some, refl, ap, ◌∙◌, inl, inr, arith}
+use Rattle.std.proofs.lemmas.Bool.{cases_lt}
 use Rattle.rdlpp_table.specs.declared.limits.Limits.{Limits}
 use Rattle.rdlpp_meaning.specs.Meaning.{Progress}
-use Rattle.rdlpp_meaning.specs.Resumed.{Live}
+use Rattle.rdlpp_meaning.specs.Resumed.{Live, Skipped}
+use Rattle.rdlpp_meaning.proofs.ConditionalMoves.{in_branch}
+use Rattle.rdlpp_conditions.specs.Moves.{skipped_by}
 use Rattle.rdlpp_read.specs.Files.{with_inner}
 use Rattle.rdlpp_read.specs.declared.files.File.{File}
 use Rattle.rdlpp_conditions.specs.Conditions.{ConditionsView, own_conditions, place_by, place_of}
-use Rattle.rdlpp_expand.specs.OpenConditionals.{AreBelow, AreConditions}
+use Rattle.rdlpp_expand.specs.OpenConditionals.{AreBelow, AreConditions, outer_open}
 
 -- text that isn't skipped is live
 live_by : (os : List Progress) → place_by None os ≡ Live os
@@ -54,3 +57,70 @@ conditions_closed limits v s = record { limit = s.limit; few = s.few; below = tt
 pub conditions_opened : {R : Type 0} (limits : Limits) (v : ConditionsView) (f : File R) (nest : List (File R)) → f.conditions_below ≤ length v.open_now → AreBelow f.conditions_below nest
     → AreConditions limits v nest → AreConditions limits v (f ∷ nest)
 conditions_opened limits v f nest most below s = record { limit = s.limit; few = s.few; below = (most, below); unopened = s.unopened; live = s.live }
+
+-- the innermost source's own conditionals, of which the innermost is one
+own_cons : (below : ℕ) (o : Progress) (os : List Progress) → below ≤ length os → take (length (o ∷ os) - below) (o ∷ os) ≡ o ∷ take (length os - below) os
+own_cons below o os some =
+    let size : length (o ∷ os) - below ≡ suc (length os - below) = omega arith in
+    ap (λ (n : ℕ). take n (o ∷ os)) size
+
+-- those around it are the same without it
+pub outer_cons : (below : ℕ) (o : Progress) (os : List Progress) → below ≤ length os → outer_open below (o ∷ os) ≡ outer_open below os
+unfolding outer_open
+outer_cons below o os some =
+    let size : length (o ∷ os) - below ≡ suc (length os - below) = omega arith in
+    ap (λ (n : ℕ). drop n (o ∷ os)) size
+
+-- in a branch of its own innermost conditional
+place_in_branch : (live : Bool) (o : Progress) (os : List Progress) → place_by (skipped_by live) (o ∷ os) ≡ in_branch live o os
+unfolding place_by skipped_by in_branch
+place_in_branch true o os = refl
+place_in_branch false o os = refl
+
+-- the place by the open conditionals, where one is the innermost source's
+place_own : (below : ℕ) (v : ConditionsView) (o : Progress) (os : List Progress) → v.open_now ≡ o ∷ os → below ≤ length os → place_of below v ≡ place_by v.skipped (o ∷ take (length os - below) os)
+unfolding place_of own_conditions
+place_own below v o os is some =
+    ap (λ (x : List Progress). place_by v.skipped (take (length x - below) x)) is ∙ ap (place_by v.skipped) (own_cons below o os some)
+
+pub place_inside : (below : ℕ) (v : ConditionsView) (live : Bool) (o : Progress) (os : List Progress) → v.open_now ≡ o ∷ os → below ≤ length os → v.skipped ≡ skipped_by live
+    → place_of below v ≡ in_branch live o (take (length os - below) os)
+place_inside below v live o os is some skips =
+    place_own below v o os is some ∙ ap (λ (n : Option ℕ). place_by n (o ∷ take (length os - below) os)) skips ∙ place_in_branch live o (take (length os - below) os)
+
+pub place_skipped : (below : ℕ) (v : ConditionsView) (n : ℕ) (o : Progress) (os : List Progress) → v.open_now ≡ o ∷ os → below ≤ length os → v.skipped ≡ Some n
+    → place_of below v ≡ Skipped n o (take (length os - below) os)
+unfolding place_by
+place_skipped below v n o os is some skips =
+    place_own below v o os is some ∙ ap (λ (k : Option ℕ). place_by k (o ∷ take (length os - below) os)) skips
+
+-- where none is its own
+pub place_outside : (below : ℕ) (v : ConditionsView) → length v.open_now ≡ below → place_of below v ≡ Live []
+unfolding place_of own_conditions place_by
+place_outside below v same =
+    let none : length v.open_now - below ≡ 0 = omega arith in
+    ap (λ (n : ℕ). place_by v.skipped (take n v.open_now)) none
+
+-- where the innermost source stands: outside of all its conditionals, in a branch of its own innermost, or in conditionals that opened in skipped text
+pub data Standing (below : ℕ) (v : ConditionsView) : Type 0 where
+  Outside : length v.open_now ≡ below → Standing below v
+  Inside : (live : Bool) (o : Progress) (os : List Progress) → v.open_now ≡ o ∷ os → below ≤ length os → v.skipped ≡ skipped_by live → Standing below v
+  Deep : (n : ℕ) (o : Progress) (os : List Progress) → v.open_now ≡ o ∷ os → below ≤ length os → v.skipped ≡ Some (suc n) → Standing below v
+
+standing_own : (below : ℕ) (v : ConditionsView) (skipped : Option ℕ) (o : Progress) (os : List Progress) → v.skipped ≡ skipped → v.open_now ≡ o ∷ os → below ≤ length os → Standing below v
+unfolding skipped_by
+standing_own below v None o os skips is some = Inside true o os is some skips
+standing_own below v (Some zero) o os skips is some = Inside false o os is some skips
+standing_own below v (Some (suc n)) o os skips is some = Deep n o os is some skips
+
+standing_by : (below : ℕ) (v : ConditionsView) (open_now : List Progress) → v.open_now ≡ open_now → below ≤ length v.open_now → Standing below v
+standing_by below v [] is most = Outside (let none : length v.open_now ≡ 0 = ap length is in omega arith)
+standing_by below v (o ∷ os) is most =
+    let size : length v.open_now ≡ suc (length os) = ap length is in
+    elim (cases_lt below (length v.open_now)) [
+      | inl more ↦ standing_own below v v.skipped o os refl is (omega arith)
+      | inr all ↦ Outside (omega arith)
+    ]
+
+pub standing : (below : ℕ) (v : ConditionsView) → below ≤ length v.open_now → Standing below v
+standing below v most = standing_by below v v.open_now refl most

@@ -6,6 +6,9 @@ pub mod Bounds
 pub mod CopiedMacros
 pub mod ConditionalPlaces
 pub mod NestLeft
+pub mod ConditionalSteps
+pub mod SkippedStretch
+pub mod SkippedSteps
 pub mod WorkFacts
 pub mod OpeningFacts
 pub mod EngineSteps

@@ -66,7 +66,7 @@ torn_consumed unread f len lines =
     ∙ ap (torn_after f.torn) (sym (append_assoc (take len held) (drop len held) rest) ∙ ap (λ (h : List ℕ). h ++ rest) (take-append-drop len held))
 
 -- the text that isn't used is the same in each mode
-text_entered : {R : Type 0} (unread : R → List ℕ) (b : BufferView R) (next : Mode) → text_left unread (entered_mode b next) ≡ text_left unread b
+pub text_entered : {R : Type 0} (unread : R → List ℕ) (b : BufferView R) (next : Mode) → text_left unread (entered_mode b next) ≡ text_left unread b
 unfolding text_left held_of rest_of ahead_of entered_mode
 text_entered unread b next = refl
 

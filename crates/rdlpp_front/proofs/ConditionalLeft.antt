@@ -119,7 +119,7 @@ resumed_branch rules false o os d line first ts s b =
     skipped_branching rules o os d first (word_token d line) ts s (word_directive d line (branch_word d b)) (branching_piece d first (word_token d line) ts b)
 
 -- by its test
-resumed_turned : (rules : Rules) (live : Bool) (o : Progress) (os : List Progress) (d : Directive) (line : ℕ) (first : Bool) (ts : List SourceToken) (s : State) (t : Bool)
+pub resumed_turned : (rules : Rules) (live : Bool) (o : Progress) (os : List Progress) (d : Directive) (line : ℕ) (first : Bool) (ts : List SourceToken) (s : State) (t : Bool)
     → branches_conditional d ≡ true → turn o (command_in_front d first (word_token d line) ts) s ≡ Holds t
     → resumed rules (in_branch live o os) first (word_token d line ∷ ts) s
     ≡ behind rules (in_branch t (branched o t (is_else d)) os) d first (word_token d line) ts s
@@ -136,7 +136,7 @@ resumed_turned rules live o os d line first ts s false b e =
     ∙ ap (λ (x : Test). by_test x c s (λ u. behind rules (Live (turned o c true ∷ os)) d first tok ts u) (λ u. behind rules (Skipped 0 (turned o c false) os) d first tok ts u)) e
 
 -- one whose test is refused
-resumed_unturned : (rules : Rules) (live : Bool) (o : Progress) (os : List Progress) (d : Directive) (line : ℕ) (first : Bool) (ts : List SourceToken) (s : State) (kind : FaultKind) (word : List ℕ)
+pub resumed_unturned : (rules : Rules) (live : Bool) (o : Progress) (os : List Progress) (d : Directive) (line : ℕ) (first : Bool) (ts : List SourceToken) (s : State) (kind : FaultKind) (word : List ℕ)
     → branches_conditional d ≡ true → turn o (command_in_front d first (word_token d line) ts) s ≡ Stopped kind word
     → resumed rules (in_branch live o os) first (word_token d line ∷ ts) s ≡ refusal kind word (command_in_front d first (word_token d line) ts) s
 unfolding by_test
@@ -157,17 +157,17 @@ resumed_closed rules false o os line first ts s =
 
 module _ {R : Type 0} (rules : Rules) (unbuilt : List ℕ → Bool) (unread : R → List ℕ) (ws : List Waiting) (os : List Progress) (f : File R) (s : State) where
   -- what the name of a directive comes to
-  named_fine : (d : Directive) (start stop : ℕ) (i : NameInFront d unbuilt unread f.buffer start stop) → is_reserved (argument_name (held_of f.buffer) start stop) ≡ false
+  pub named_fine : (d : Directive) (start stop : ℕ) (i : NameInFront d unbuilt unread f.buffer start stop) → is_reserved (argument_name (held_of f.buffer) start stop) ≡ false
       → macro_name (command_in_front d f.blanks (word_token d f.buffer.line) i.tokens) ≡ Fine (argument_name (held_of f.buffer) start stop)
   named_fine d start stop i free =
       macro_name_given d f.blanks (word_token d f.buffer.line) i.tokens (argument_name (held_of f.buffer) start stop) i.given free
 
-  named_reserved : (d : Directive) (start stop : ℕ) (i : NameInFront d unbuilt unread f.buffer start stop) → is_reserved (argument_name (held_of f.buffer) start stop) ≡ true
+  pub named_reserved : (d : Directive) (start stop : ℕ) (i : NameInFront d unbuilt unread f.buffer start stop) → is_reserved (argument_name (held_of f.buffer) start stop) ≡ true
       → macro_name (command_in_front d f.blanks (word_token d f.buffer.line) i.tokens) ≡ Faulty ReservedName (argument_name (held_of f.buffer) start stop)
   named_reserved d start stop i taken =
       macro_name_reserved d f.blanks (word_token d f.buffer.line) i.tokens (argument_name (held_of f.buffer) start stop) i.given taken
 
-  named_none : (d : Directive) (i : NoNameInFront d unbuilt unread f.buffer)
+  pub named_none : (d : Directive) (i : NoNameInFront d unbuilt unread f.buffer)
       → macro_name (command_in_front d f.blanks (word_token d f.buffer.line) i.tokens) ≡ Faulty NameExpected []
   unfolding no_argument
   named_none d i = macro_name_missing d f.blanks (word_token d f.buffer.line) i.tokens (ap (λ (a : Argument). a.given) i.none)

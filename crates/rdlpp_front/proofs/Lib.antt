@@ -13,6 +13,7 @@ pub mod Insides
 pub mod DirectiveMoves
 pub mod UndefLeft
 pub mod ConditionalLeft
+pub mod BranchLeft
 pub mod LineLeft
 pub mod LineGiven
 pub mod SkippedWords

@@ -71,7 +71,7 @@ wants_word Elsif e = refl
 wants_word d e = cc
 
 -- a word has no LF
-word_line_ends : (d : Directive) → line_ends (word_of d) ≡ 0
+pub word_line_ends : (d : Directive) → line_ends (word_of d) ≡ 0
 unfolding line_ends is_line_end
 word_line_ends Define = refl
 word_line_ends Undef = refl

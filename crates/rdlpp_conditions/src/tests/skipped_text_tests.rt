@@ -19,9 +19,9 @@ fn passes_text_up_to_a_word_that_counts(rt: HostRuntime) {
     assert!(rt;
         in_string
             == SkippedText {
-                len: 7,
+                len: 0,
                 mode: Mode::InStr,
-                line_ends: 1
+                line_ends: 0
             }
     );
     let perl = skip_text(Mode::Plain, b"/* <% */ <% x");
