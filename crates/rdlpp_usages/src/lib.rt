@@ -1,0 +1,2 @@
+//! Usages of macros in a source: the call is read, its arguments are bound, and the body is opened.
+#![tactic(auto)]
