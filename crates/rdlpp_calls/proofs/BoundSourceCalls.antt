@@ -30,6 +30,7 @@ use Rattle.rdlpp_meaning.proofs.UnlinedCursors.{first-unlined}
 use Rattle.rdlpp_meaning.proofs.UnlinedTokens.{unlined_trimmed}
 use Rattle.rdlpp_calls.specs.declared.bindings.Range.{Range}
 use Rattle.rdlpp_calls.specs.BoundCalls.{range_part, ranges_tokens, actuals_of}
+use Rattle.rdlpp_calls.specs.SourceBound.{OpensBound}
 use Rattle.rdlpp_calls.proofs.BoundUsages.{usage_with_list}
 
 -- a call that has these parts, but for lines
@@ -106,15 +107,6 @@ usage_counted : (m : Macro) (fs : List Formal) (line : ℕ) (name : List ℕ) (f
 unfolding token_usage_of_call
 usage_counted m fs line name first further used right e =
     ap (λ (b : Bool). cond b (Opens m (map (trimmed token_role) (first ∷ further)) used) (Refuses ArgumentCount name line)) (sym e)
-
--- a usage in a source that opens a macro with these ranges of the kept bytes as actuals, but for lines, with the tokens behind it
-pub record OpensBound (rules : Rules) (line : ℕ) (name : List ℕ) (ts : List SourceToken) (m : Macro) (fs : List Formal) (bytes : List ℕ) (ranges : List Range)
-    (behind : List SourceToken) : Type 0 where
-  pub actuals : List (List SourceToken)
-  pub used : ℕ
-  pub opens : token_usage_of_formals kept rules line name (leading ts) m (Some fs) ≡ Opens m actuals used
-  pub same : map (map unlined) actuals ≡ ranges_tokens bytes ranges
-  pub rest : drop used ts ≡ behind
 
 -- a call that was read and bound opens its macro so
 pub source_bound : (rules : Rules) (line : ℕ) (name : List ℕ) (ts : List SourceToken) (m : Macro) (fs : List Formal) (bytes : List ℕ) (ranges : List Range) (behind : List SourceToken)

@@ -11,7 +11,8 @@ use Rattle.rdlpp_table.specs.Table.{Formal, Macro, macro_named}
 use Rattle.rdlpp_table.specs.View.{macro_at}
 use Rattle.rdlpp_calls.specs.BoundCalls.{range_part}
 use Rattle.rdlpp_calls.specs.declared.bindings.Range.{Range}
-use Rattle.rdlpp_calls.proofs.BoundSourceCalls.{OpensBound, first_open, resumed_open}
+use Rattle.rdlpp_calls.specs.SourceBound.{OpensBound}
+use Rattle.rdlpp_calls.proofs.BoundSourceCalls.{first_open, resumed_open}
 use Rattle.rdlpp_calls.proofs.BoundUsages.{usage_with_list}
 use Rattle.rdlpp_meaning.specs.Cursors.{Cursor, Opens, Refuses, TokenUsage, first_cursor, kept, left, token_usage_of, token_usage_of_formals, token_usage_of_macro}
 use Rattle.rdlpp_meaning.specs.Expansion.{bytes_of, usage_token}

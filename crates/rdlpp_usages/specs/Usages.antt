@@ -1,18 +1,44 @@
 -- What a usage in a source comes to: open texts, and then what remains of the source behind it, or a fault.
 -- A definition that names no source is this project's own.
-use Rattle.std.specs.Prelude.{◌≡◌, ℕ, Bool, false, List, [], ◌∷◌}
-use Rattle.rdlpp_table.specs.Table.{Macro}
-use Rattle.rdlpp_meaning.specs.Cursors.{left}
+use Rattle.std.specs.Prelude.{◌≡◌, ◌≢◌, ℕ, ◌+◌, ◌<◌, Bool, true, false, List, [], ◌∷◌, ◌++◌, length, map, Some}
+use Rattle.rdlpp_table.specs.Table.{Formal, Macro}
+use Rattle.rdlpp_table.specs.View.{macro_at}
+use Rattle.rdlpp_calls.specs.BoundCalls.{KeepsAll, actuals_of, range_part, ranges_tokens}
+use Rattle.rdlpp_calls.specs.SourceBound.{OpensBound}
+use Rattle.rdlpp_calls.specs.declared.bindings.Range.{Range}
+use Rattle.rdlpp_meaning.specs.Cursors.{Refuses, is_token_count, kept, left, token_usage_of_formals}
+use Rattle.rdlpp_meaning.specs.Expansion.{bytes_of}
 use Rattle.rdlpp_meaning.specs.Meaning.{Passage, Progress, goes_on, leaves}
 use Rattle.rdlpp_meaning.specs.Opened.{Waiting}
-use Rattle.rdlpp_meaning.specs.Opens.{Open, Texts, slots_of}
-use Rattle.rdlpp_meaning.specs.Outcome.{gives}
-use Rattle.rdlpp_meaning.specs.Resumed.{Live}
+use Rattle.rdlpp_meaning.specs.Opens.{Open, open_body, slots_of}
+use Rattle.rdlpp_meaning.specs.Outcome.{fails, gives}
+use Rattle.rdlpp_meaning.specs.Resumed.{Live, leading}
 use Rattle.rdlpp_meaning.specs.Slots.{cursors_of}
-use Rattle.rdlpp_meaning.specs.State.{Rules, State}
+use Rattle.rdlpp_meaning.specs.State.{Rules, State, fault_at}
+use Rattle.rdlpp_meaning.specs.Substitution.{body_tokens}
+use Rattle.rdlpp_meaning.specs.declared.fault.FaultKind.TheVariants.{ArgumentCount}
+use Rattle.rdlpp_read.specs.Buffer.{BufferView, tokens_left, unused_of}
+use Rattle.rdlpp_read.specs.Files.{inner_buffer}
 use Rattle.rdlpp_read.specs.declared.files.File.{File}
+use Rattle.rdlpp_arguments.specs.CallReads.{with_used}
 use Rattle.rdlpp_arguments.specs.Reads.{all_built}
+use Rattle.rdlpp_cursors.specs.Opened.{CursorsView}
+use Rattle.rdlpp_cursors.specs.Places.{texts_of}
 use Rattle.rdlpp_front.specs.SourceLeft.{source_left}
+use Rattle.rdlpp_usages.specs.declared.expansion.Opening.{Opening}
+use Rattle.rdlpp_usages.specs.declared.expansion.Opening.TheVariants.{Opened, Refused, Broken, Failed}
+
+-- the open texts of a usage in a source, the innermost first, the kept bytes of its call, and its line; how many texts may be open, and how many bytes may be kept
+pub record ExpansionView : Type 0 where
+  pub opens : List Open
+  pub arguments : List ℕ
+  pub line : ℕ
+  pub depth : ℕ
+  pub most : ℕ
+
+-- nothing is kept of a call where no text is open
+pub record IsExpansion (opens : List Open) (arguments : List ℕ) : Type 0 where
+  pub lets_go : opens ≡ [] → arguments ≡ []
 
 -- a run goes on with these macros, and with these limits on open texts and on kept bytes; all macros are built
 pub record IsRun (rules : Rules) (s : State) (macros : List Macro) (depth most : ℕ) : Type 0 where
@@ -26,6 +52,74 @@ unfoldable pub inner_left : {R : Type 0} → Rules → (R → List ℕ) → List
 inner_left rules unread ws os [] s = leaves (gives []) s
 inner_left rules unread ws os (f ∷ outer) s = source_left rules all_built unread ws (Live os) f s
 
--- what remains of open texts, of a usage at a line
-unfoldable pub texts_left : Rules → State → ℕ → Texts → List Open → Passage
-texts_left rules s line texts opens = leaves (left rules s line (cursors_of rules.depth (slots_of texts opens))) s
+-- what remains of open texts of a usage
+unfoldable pub texts_left : Rules → State → List Macro → ExpansionView → Passage
+texts_left rules s macros e = leaves (left rules s e.line (cursors_of e.depth (slots_of (texts_of macros e.arguments) e.opens))) s
+
+-- what a usage of a name at a line comes to in live text: its open texts and then what remains behind it, or a fault (IEEE 1364-2001, `define`)
+abbrev pub TellsUsage : {R : Type 0} → Rules → State → (R → List ℕ) → List Waiting → List Progress → List Macro → ℕ → List ℕ → Opening → ExpansionView → List (File R) → List (File R) → Type 0
+TellsUsage rules s unread ws os macros line name Opened e old new =
+    inner_left rules unread ws os old s ≡ goes_on (texts_left rules s macros e) (λ after. inner_left rules unread ws os new after)
+TellsUsage rules s unread ws os macros line name (Refused kind) e old new =
+    inner_left rules unread ws os old s ≡ leaves (fails (fault_at kind line name s)) s
+TellsUsage rules s unread ws os macros line name (Broken kind own) e old new =
+    inner_left rules unread ws os old s ≡ leaves (fails (fault_at kind own [] s)) s
+TellsUsage rules s unread ws os macros line name Failed e old new = Unit
+
+-- whether texts are open behind an answer
+abbrev pub is_opened : Opening → Bool
+is_opened Opened = true
+is_opened (Refused kind) = false
+is_opened (Broken kind line) = false
+is_opened Failed = false
+
+-- whether a read failed
+abbrev pub is_failed_opening : Opening → Bool
+is_failed_opening Opened = false
+is_failed_opening (Refused kind) = false
+is_failed_opening (Broken kind line) = false
+is_failed_opening Failed = true
+
+-- bytes of the innermost source were used, and nothing else of the sources changed
+pub record UsesSource {R : Type 0} (old new : List (File R)) : Type 0 where
+  pub used : List ℕ
+  pub some : 0 < length used
+  pub inner : new ≡ with_used (inner_buffer new) used old
+  pub unused : unused_of (inner_buffer new) + length used ≡ unused_of (inner_buffer old)
+
+-- what the call behind the name of a macro comes to, by the tokens that remain of the source in front of it and behind it: its body is open with
+-- ranges of the kept bytes as actuals; or the usage is refused (IEEE 1364-2001, `define`)
+abbrev pub TellsCallUsage : {R : Type 0} → Type 0 → (R → List ℕ) → ℕ → List Macro → ℕ → Opening → List Open → List ℕ → BufferView R → BufferView R → Type 0
+TellsCallUsage tells unread most macros id Opened opens bytes old new =
+    (ranges : List Range) × (opens ≡ open_body (texts_of macros bytes) id (map range_part ranges) 0 ∷ [])
+    × ((rules : Rules) (line : ℕ) (name : List ℕ) (fs : List Formal) → rules.argument_bytes ≡ most → (macro_at macros id).formals ≡ Some fs → tells
+    → OpensBound rules line name (tokens_left all_built unread old) (macro_at macros id) fs bytes ranges (tokens_left all_built unread new))
+TellsCallUsage tells unread most macros id (Refused kind) opens bytes old new =
+    (rules : Rules) (line : ℕ) (name : List ℕ) (fs : List Formal) → rules.argument_bytes ≡ most → (macro_at macros id).formals ≡ Some fs → tells
+    → token_usage_of_formals kept rules line name (leading (tokens_left all_built unread old)) (macro_at macros id) (Some fs) ≡ Refuses kind name line
+TellsCallUsage tells unread most macros id (Broken kind own) opens bytes old new =
+    (rules : Rules) (line : ℕ) (name : List ℕ) (fs : List Formal) → rules.argument_bytes ≡ most → (macro_at macros id).formals ≡ Some fs → tells
+    → token_usage_of_formals kept rules line name (leading (tokens_left all_built unread old)) (macro_at macros id) (Some fs) ≡ Refuses kind [] own
+TellsCallUsage tells unread most macros id Failed opens bytes old new = Unit
+
+-- bytes behind the name were used, and nothing else of the sources changed; where texts are open, the bytes that remained of the source are those and what
+-- remains
+pub record UsesCall {R : Type 0} (tells : Type 0) (unread : R → List ℕ) (opening : Opening) (old new : List (File R)) : Type 0 where
+  pub used : List ℕ
+  pub inner : new ≡ with_used (inner_buffer new) used old
+  pub unused : unused_of (inner_buffer new) + length used ≡ unused_of (inner_buffer old)
+  pub bytes : opening ≡ Opened → tells
+      → bytes_of (tokens_left all_built unread (inner_buffer old)) ≡ used ++ bytes_of (tokens_left all_built unread (inner_buffer new))
+
+-- a kept call was bound: its body is open with ranges of the kept bytes as actuals, which are as many as it wants; or nothing is open and kept (IEEE
+-- 1364-2001, `define`)
+abbrev pub BindsKept : List Macro → ℕ → ℕ → List ℕ → List ℕ → Opening → CursorsView → Type 0
+BindsKept macros id line bytes now Opened c =
+    (ranges : List Range) × (c.opens ≡ open_body (texts_of macros bytes) id (map range_part ranges) 0 ∷ [])
+    × (now ≡ bytes) × (c.line ≡ line) × (actuals_of bytes ≡ ranges_tokens bytes ranges)
+    × ((fs : List Formal) → (macro_at macros id).formals ≡ Some fs → is_token_count fs (actuals_of bytes) ≡ true)
+BindsKept macros id line bytes now (Refused kind) c =
+    (c.opens ≡ []) × (now ≡ []) × (kind ≡ ArgumentCount)
+    × (KeepsAll (body_tokens bytes) → (fs : List Formal) → (macro_at macros id).formals ≡ Some fs → is_token_count fs (actuals_of bytes) ≡ false)
+BindsKept macros id line bytes now (Broken kind own) c = ⊥
+BindsKept macros id line bytes now Failed c = ⊥
