@@ -1,1 +1,2 @@
 pub mod CallLeft
+pub mod UsageOpens

@@ -16,6 +16,7 @@ use Rattle.rdlpp_meaning.specs.Resumed.{Live, leading}
 use Rattle.rdlpp_meaning.specs.Slots.{cursors_of}
 use Rattle.rdlpp_meaning.specs.State.{Rules, State, fault_at}
 use Rattle.rdlpp_meaning.specs.Substitution.{body_tokens}
+use Rattle.rdlpp_meaning.specs.declared.fault.FaultKind.{FaultKind}
 use Rattle.rdlpp_meaning.specs.declared.fault.FaultKind.TheVariants.{ArgumentCount}
 use Rattle.rdlpp_read.specs.Buffer.{BufferView, tokens_left, unused_of}
 use Rattle.rdlpp_read.specs.Files.{inner_buffer}
@@ -87,19 +88,24 @@ pub record UsesSource {R : Type 0} (old new : List (File R)) : Type 0 where
   pub inner : new ≡ with_used (inner_buffer new) used old
   pub unused : unused_of (inner_buffer new) + length used ≡ unused_of (inner_buffer old)
 
--- what the call behind the name of a macro comes to, by the tokens that remain of the source in front of it and behind it: its body is open with
--- ranges of the kept bytes as actuals; or the usage is refused (IEEE 1364-2001, `define`)
+-- a call is refused by the tokens in front of it, about a name or none, in each run with that limit on kept bytes
+abbrev pub RefusesCall : {R : Type 0} → Type 0 → (R → List ℕ) → ℕ → List Macro → ℕ → FaultKind → (List ℕ → List ℕ) → (ℕ → ℕ) → BufferView R → Type 0
+RefusesCall tells unread most macros id kind word at old =
+    (rules : Rules) (line : ℕ) (name : List ℕ) (fs : List Formal) → rules.argument_bytes ≡ most → (macro_at macros id).formals ≡ Some fs → tells
+    → token_usage_of_formals kept rules line name (leading (tokens_left all_built unread old)) (macro_at macros id) (Some fs) ≡ Refuses kind (word name) (at line)
+
+-- a call opens the body of its macro with ranges of the kept bytes as actuals, in each run with that limit on kept bytes
+pub record OpensCall {R : Type 0} (tells : Type 0) (unread : R → List ℕ) (most : ℕ) (macros : List Macro) (id : ℕ) (opens : List Open) (bytes : List ℕ) (old new : BufferView R) : Type 0 where
+  pub ranges : List Range
+  pub body : opens ≡ open_body (texts_of macros bytes) id (map range_part ranges) 0 ∷ []
+  pub bound : (rules : Rules) (line : ℕ) (name : List ℕ) (fs : List Formal) → rules.argument_bytes ≡ most → (macro_at macros id).formals ≡ Some fs → tells
+      → OpensBound rules line name (tokens_left all_built unread old) (macro_at macros id) fs bytes ranges (tokens_left all_built unread new)
+
+-- what the call behind the name of a macro comes to, by the tokens that remain of the source in front of it and behind it (IEEE 1364-2001, `define`)
 abbrev pub TellsCallUsage : {R : Type 0} → Type 0 → (R → List ℕ) → ℕ → List Macro → ℕ → Opening → List Open → List ℕ → BufferView R → BufferView R → Type 0
-TellsCallUsage tells unread most macros id Opened opens bytes old new =
-    (ranges : List Range) × (opens ≡ open_body (texts_of macros bytes) id (map range_part ranges) 0 ∷ [])
-    × ((rules : Rules) (line : ℕ) (name : List ℕ) (fs : List Formal) → rules.argument_bytes ≡ most → (macro_at macros id).formals ≡ Some fs → tells
-    → OpensBound rules line name (tokens_left all_built unread old) (macro_at macros id) fs bytes ranges (tokens_left all_built unread new))
-TellsCallUsage tells unread most macros id (Refused kind) opens bytes old new =
-    (rules : Rules) (line : ℕ) (name : List ℕ) (fs : List Formal) → rules.argument_bytes ≡ most → (macro_at macros id).formals ≡ Some fs → tells
-    → token_usage_of_formals kept rules line name (leading (tokens_left all_built unread old)) (macro_at macros id) (Some fs) ≡ Refuses kind name line
-TellsCallUsage tells unread most macros id (Broken kind own) opens bytes old new =
-    (rules : Rules) (line : ℕ) (name : List ℕ) (fs : List Formal) → rules.argument_bytes ≡ most → (macro_at macros id).formals ≡ Some fs → tells
-    → token_usage_of_formals kept rules line name (leading (tokens_left all_built unread old)) (macro_at macros id) (Some fs) ≡ Refuses kind [] own
+TellsCallUsage tells unread most macros id Opened opens bytes old new = OpensCall tells unread most macros id opens bytes old new
+TellsCallUsage tells unread most macros id (Refused kind) opens bytes old new = RefusesCall tells unread most macros id kind (λ name. name) (λ line. line) old
+TellsCallUsage tells unread most macros id (Broken kind own) opens bytes old new = RefusesCall tells unread most macros id kind (λ name. []) (λ line. own) old
 TellsCallUsage tells unread most macros id Failed opens bytes old new = Unit
 
 -- bytes behind the name were used, and nothing else of the sources changed; where texts are open, the bytes that remained of the source are those and what
@@ -111,15 +117,25 @@ pub record UsesCall {R : Type 0} (tells : Type 0) (unread : R → List ℕ) (ope
   pub bytes : opening ≡ Opened → tells
       → bytes_of (tokens_left all_built unread (inner_buffer old)) ≡ used ++ bytes_of (tokens_left all_built unread (inner_buffer new))
 
--- a kept call was bound: its body is open with ranges of the kept bytes as actuals, which are as many as it wants; or nothing is open and kept (IEEE
--- 1364-2001, `define`)
+-- a kept call was bound: the body of its macro is open with ranges of the kept bytes as actuals, which are as many as it wants
+pub record Binds (macros : List Macro) (id line : ℕ) (bytes now : List ℕ) (c : CursorsView) : Type 0 where
+  pub ranges : List Range
+  pub body : c.opens ≡ open_body (texts_of macros bytes) id (map range_part ranges) 0 ∷ []
+  pub stays : now ≡ bytes
+  pub line_is : c.line ≡ line
+  pub actuals : actuals_of bytes ≡ ranges_tokens bytes ranges
+  pub count : (fs : List Formal) → (macro_at macros id).formals ≡ Some fs → is_token_count fs (actuals_of bytes) ≡ true
+
+-- a kept call has more or fewer actuals than its macro wants: nothing is open or kept
+pub record Unbinds (macros : List Macro) (id : ℕ) (bytes now : List ℕ) (kind : FaultKind) (c : CursorsView) : Type 0 where
+  pub none : c.opens ≡ []
+  pub lets_go : now ≡ []
+  pub kind_is : kind ≡ ArgumentCount
+  pub count : KeepsAll (body_tokens bytes) → (fs : List Formal) → (macro_at macros id).formals ≡ Some fs → is_token_count fs (actuals_of bytes) ≡ false
+
+-- what binding a kept call comes to (IEEE 1364-2001, `define`)
 abbrev pub BindsKept : List Macro → ℕ → ℕ → List ℕ → List ℕ → Opening → CursorsView → Type 0
-BindsKept macros id line bytes now Opened c =
-    (ranges : List Range) × (c.opens ≡ open_body (texts_of macros bytes) id (map range_part ranges) 0 ∷ [])
-    × (now ≡ bytes) × (c.line ≡ line) × (actuals_of bytes ≡ ranges_tokens bytes ranges)
-    × ((fs : List Formal) → (macro_at macros id).formals ≡ Some fs → is_token_count fs (actuals_of bytes) ≡ true)
-BindsKept macros id line bytes now (Refused kind) c =
-    (c.opens ≡ []) × (now ≡ []) × (kind ≡ ArgumentCount)
-    × (KeepsAll (body_tokens bytes) → (fs : List Formal) → (macro_at macros id).formals ≡ Some fs → is_token_count fs (actuals_of bytes) ≡ false)
+BindsKept macros id line bytes now Opened c = Binds macros id line bytes now c
+BindsKept macros id line bytes now (Refused kind) c = Unbinds macros id bytes now kind c
 BindsKept macros id line bytes now (Broken kind own) c = ⊥
 BindsKept macros id line bytes now Failed c = ⊥

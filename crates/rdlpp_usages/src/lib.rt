@@ -3,4 +3,4 @@
 
 mod expansion;
 
-pub use expansion::{Expansion, Opening};
+pub use expansion::Opening;
