@@ -11,9 +11,9 @@ ghost use Rattle.rdlpp_cursors.specs.Steps.{AreSound, IsStep};
 
 use crate::front::{Front, Look, look_at};
 use crate::place::{TextPlace, TextSource};
-use crate::range::Range;
 use crate::slot::{Slot, SlotKind};
 use crate::step::{CursorFault, CursorStep};
+use rdlpp_calls::Range;
 use rdlpp_meaning::FaultKind;
 use rdlpp_table::{MacroId, Table};
 use std::alloc::{AllocError, Global};
