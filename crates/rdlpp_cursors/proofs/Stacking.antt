@@ -174,7 +174,7 @@ room-first v first bindings inside room =
     omega (arith, n, h, inside, room)
 
 -- slots of which none is open
-pub stack-made : (v : Vec Slot Global) (first : ℕ) (bindings : Vec Range Global) → vec_len v ≡ first → bindings.items ≡ [] → vec_capacity bindings ≡ first * 255
+pub stack-made : (v : Vec Slot Global) (first : ℕ) (bindings : Vec Range Global) → vec_len v ≡ first → bindings.items ≡ [] → vec_capacity bindings ≡ (first + 1) * 255
     → IsStack v.items first bindings
 unfolding AreLaid
 stack-made v first bindings size none room =

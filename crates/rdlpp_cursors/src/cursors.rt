@@ -9,6 +9,8 @@ ghost use Rattle.rdlpp_cursors.specs.Opened.{bound_by, kept_by, moved_to, open_o
 ghost use Rattle.rdlpp_cursors.specs.Places.{texts_of};
 ghost use Rattle.rdlpp_cursors.specs.Steps.{AreSound, IsStep};
 
+mod call;
+
 use crate::front::{Front, Look, look_at};
 use crate::place::{TextPlace, TextSource};
 use crate::slot::{Slot, SlotKind};
@@ -73,7 +75,7 @@ impl Cursors {
             kind: SlotKind::Actual,
         };
         let slots = vec![in alloc; closed; depth]?;
-        let bindings = Vec::with_capacity(alloc, depth * 255)?;
+        let bindings = Vec::with_capacity(alloc, (depth + 1) * 255)?;
         Ok(Cursors {
             slots,
             first: depth,
