@@ -7,11 +7,12 @@ use Rattle.std.proofs.lemmas.List.{drop-set, drop_more, drop_all, length-drop, l
 use Rattle.std.proofs.Math.ListN.{set, length-set}
 use Rattle.rdlpp_scan.specs.declared.token.Mode.TheVariants.{Plain}
 use Rattle.rdlpp_meaning.specs.Opens.{Open, OpenBody}
-use Rattle.rdlpp_cursors.specs.declared.range.Range.{Range}
+use Rattle.rdlpp_calls.specs.BoundCalls.{range_part}
+use Rattle.rdlpp_calls.specs.declared.bindings.Range.{Range}
 use Rattle.rdlpp_cursors.specs.declared.slot.Slot.{Slot}
 use Rattle.rdlpp_cursors.specs.declared.slot.SlotKind.{SlotKind}
 use Rattle.rdlpp_cursors.specs.declared.slot.SlotKind.TheVariants as slot
-use Rattle.rdlpp_cursors.specs.Opened.{part_of, bindings_below, open_of, opens_of, AreLaid, IsStack, bound_by, moved_to, kept_by, IsNoBody, CursorsView}
+use Rattle.rdlpp_cursors.specs.Opened.{bindings_below, open_of, opens_of, AreLaid, IsStack, bound_by, moved_to, kept_by, IsNoBody, CursorsView}
 use Rattle.rdlpp_cursors.proofs.Scoping.{opens-length}
 
 -- the slot at a place, in front of those behind it
@@ -50,7 +51,7 @@ laid-bound (y ∷ ys) bindings h = by y.kind (laid-bound ys (bindings_below y.ki
     by : (kind : SlotKind) → length (bindings_below kind bindings) ≡ bound_by (opens_of ys (bindings_below kind bindings))
         → length bindings ≡ bound_by (open_of (record y { kind = kind }) bindings ∷ opens_of ys (bindings_below kind bindings))
     by (slot.Body id first) e =
-        let parts = length-map (drop first bindings) part_of in
+        let parts = length-map (drop first bindings) range_part in
         let rest = length-drop first bindings in
         let front = length-take first bindings in
         omega (arith, parts, rest, front, e)
@@ -141,7 +142,7 @@ pub body-opens : (slots : List Slot) (first : ℕ) (bindings : List Range) (id e
 unfolding opens_of
 body-opens slots first bindings id end home n some inside e =
     ap (λ (s : List Slot). opens_of s bindings) (entered slots first (record { from = 0; end = end; home = home; kind = slot.Body id n }) some inside)
-    ∙ ap (λ (bs : List Range). record { part = record { from = 0; end = end; mode = Plain }; home = home; kind = OpenBody id (map part_of bs) } ∷ opens_of (drop first slots) (take n bindings))
+    ∙ ap (λ (bs : List Range). record { part = record { from = 0; end = end; mode = Plain }; home = home; kind = OpenBody id (map range_part bs) } ∷ opens_of (drop first slots) (take n bindings))
     (drop_all n bindings (omega (arith, e)))
     ∙ ap (λ (bs : List Range). record { part = record { from = 0; end = end; mode = Plain }; home = home; kind = OpenBody id [] } ∷ opens_of (drop first slots) bs)
     (take_all n bindings (omega (arith, e)))

@@ -12,9 +12,9 @@ ghost use Rattle.rdlpp_cursors.specs.Steps.{AreSound, IsStep, StaysRefused};
 
 use crate::front::{Front, Look, look_at};
 use crate::place::TextPlace;
-use crate::range::Range;
 use crate::slot::{Slot, SlotKind};
 use crate::step::{CursorStep, wordless};
+use rdlpp_calls::Range;
 use rdlpp_meaning::FaultKind;
 use rdlpp_table::{MacroId, Table};
 use std::alloc::{AllocError, Global};
@@ -183,6 +183,7 @@ impl Cursors {
         ensures opens { self.new ≡ record { opens = open_body (texts_of table.now.macros []) id [] 0 ∷ []; line = line; depth = self.old.depth } }
         ensures sound { (arguments : List ℕ) → AreSound (texts_of table.now.macros arguments) self.new.opens }
     {
+        let _macros = table.len();
         self.line = line;
         self.push_body(id, table.body(id).len(), 0);
     }
