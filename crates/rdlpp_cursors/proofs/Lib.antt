@@ -7,3 +7,4 @@ pub mod Scoping
 pub mod Stacking
 pub mod Stepping
 pub mod Stopping
+pub mod Falling

@@ -5,3 +5,4 @@ pub mod Fronts
 pub mod Steps
 pub mod Usages
 pub mod Calls
+pub mod Digits
