@@ -4,18 +4,19 @@ ghost use Rattle.rdlpp_table.specs.View.{macro_at};
 ghost use Rattle.rdlpp_meaning.specs.Substitution.{body_tokens};
 ghost use Rattle.rdlpp_calls.specs.BoundCalls.{KeepsAll};
 ghost use Rattle.rdlpp_cursors.specs.Calls.{IsOpening};
+ghost use Rattle.rdlpp_cursors.specs.Digits.{IsFalling};
 ghost use Rattle.rdlpp_cursors.specs.Fronts.{IsLook};
 ghost use Rattle.rdlpp_cursors.specs.Places.{texts_of};
 ghost use Rattle.rdlpp_cursors.specs.Scopes.{front_scope};
-ghost use Rattle.rdlpp_cursors.specs.Steps.{AreSound, IsStep};
+ghost use Rattle.rdlpp_cursors.specs.Steps.{AreSound, IsStep, StaysRefused};
 ghost use Rattle.rdlpp_cursors.specs.Usages.{front_name, IsUsed};
 
 use crate::cursors::Cursors;
 use crate::front::{Front, Look};
-use crate::place::{TextPlace, TextSource};
+use crate::place::TextPlace;
 use crate::scopes::{front_scope, text_of};
 use crate::slot::{Slot, SlotKind};
-use crate::step::{CursorFault, CursorStep};
+use crate::step::{CursorFault, CursorStep, wordless};
 use rdlpp_calls::bind_call;
 use rdlpp_meaning::FaultKind;
 use rdlpp_table::{MacroId, Table};
@@ -99,6 +100,8 @@ impl Cursors {
         ensures step { IsStep self.old.line self.old.depth (texts_of table.now.macros arguments.now) self.old.opens result self.new.opens }
         ensures sound { AreSound (texts_of table.now.macros arguments.now) self.new.opens }
         ensures kept { (self.new.line ≡ self.old.line) × (self.new.depth ≡ self.old.depth) }
+        ensures digits { IsFalling self.old.opens result self.new.opens }
+        ensures refused { StaysRefused self.old result self.new }
     {
         let home = self.scope();
         let text = text_of(table, arguments, look.source);
@@ -113,14 +116,7 @@ impl Cursors {
                     end: at,
                 },
             }),
-            Opening::Deep => CursorStep::Refused(CursorFault {
-                kind: FaultKind::DepthPassed,
-                word: TextPlace {
-                    source: TextSource::Arguments,
-                    from: 0,
-                    end: 0,
-                },
-            }),
+            Opening::Deep => wordless(FaultKind::DepthPassed),
         }
     }
 }
