@@ -6,3 +6,4 @@ pub mod Scoping
 pub mod Stacking
 pub mod Stepping
 pub mod Stopping
+pub mod Usages

@@ -3,3 +3,4 @@ pub mod Scopes
 pub mod Places
 pub mod Fronts
 pub mod Steps
+pub mod Usages
