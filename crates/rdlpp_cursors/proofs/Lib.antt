@@ -8,4 +8,5 @@ pub mod Scoping
 pub mod Stacking
 pub mod Stepping
 pub mod Stopping
+pub mod Usages
 pub mod Falling
