@@ -140,14 +140,21 @@ all-open v first bindings none =
     let h = open-count v.items first bindings in
     omega (arith, n, h, none)
 
+-- one more may be where another slot is in front
+pub room-open : (v : Vec Slot Global) (first : ℕ) (bindings : List Range) → (first ≡ 0 → ⊥) → first < length v.items → length (opens_of (drop first v.items) bindings) < vec_len v
+room-open v first bindings some inside =
+    let n = slots-count v in
+    let h = open-count v.items first bindings in
+    omega (arith, n, h, some, inside)
+
 -- a call that is bound opens its body
 pub opening-opened : (macros : List Macro) (text body : List ℕ) (at end id home n : ℕ) (old new : CursorsView) (ranges : List Range) (behind : ℕ) (r : Result ℕ FaultKind)
     → r ≡ Ok behind → n ≡ length (formals_of (macro_at macros id)) → IsBoundCall text at end n ranges r → AreWithin at end ranges → (at ≤ behind) × (behind ≤ end)
-    → body ≡ (macro_at macros id).body
+    → body ≡ (macro_at macros id).body → length old.opens < old.depth
     → new ≡ record old { opens = record { part = record { from = 0; end = length body; mode = Plain }; home = home; kind = OpenBody id (map range_part ranges) } ∷ moved_to behind old.opens }
     → IsOpening macros text at end id home old Opened new
 unfolding IsOpening open_body
-opening-opened macros text body at end id home n old new ranges behind r e k b within place same is = record {
+opening-opened macros text body at end id home n old new ranges behind r e k b within place same room is = record {
   call = record {
     ranges = ranges;
     behind = behind;
@@ -155,6 +162,7 @@ opening-opened macros text body at end id home n old new ranges behind r e k b w
     place = place;
     bound = subst (λ (m : ℕ). IsBoundCall text at end m ranges (Ok behind)) k (subst (λ (x : Result ℕ FaultKind). IsBoundCall text at end n ranges x) e b);
   };
+  room = room;
   opens = is ∙ ap (λ (bytes : List ℕ). record old {
     opens = record { part = record { from = 0; end = length bytes; mode = Plain }; home = home; kind = OpenBody id (map range_part ranges) } ∷ moved_to behind old.opens;
   }) same;

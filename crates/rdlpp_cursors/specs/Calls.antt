@@ -1,6 +1,6 @@
 -- A call that is bound in open texts.
 -- A definition that names no source is this project's own.
-use Rattle.std.specs.Prelude.{◌≡◌, ℕ, ◌≤◌, List, [], ◌∷◌, map, length, Ok, Err}
+use Rattle.std.specs.Prelude.{◌≡◌, ℕ, ◌<◌, ◌≤◌, List, [], ◌∷◌, map, length, Ok, Err}
 use Rattle.rdlpp_table.specs.Table.{Macro}
 use Rattle.rdlpp_table.specs.View.{macro_at, formals_of}
 use Rattle.rdlpp_meaning.specs.Opens.{open_body}
@@ -24,6 +24,7 @@ pub record IsCallBound (macros : List Macro) (text : List ℕ) (at end id : ℕ)
 -- behind it
 pub record IsCallOpened (macros : List Macro) (text : List ℕ) (at end id home : ℕ) (old new : CursorsView) : Type 0 where
   pub call : IsCallBound macros text at end id
+  pub room : length old.opens < old.depth
   pub opens : new ≡ record old { opens = open_body (texts_of macros []) id (map range_part call.ranges) home ∷ moved_to call.behind old.opens }
 
 -- what a call in the innermost of open texts comes to: the body is opened; the call is refused for what it lacks, or since no

@@ -4,7 +4,7 @@ use Rattle.rdlpp_calls.specs.declared.bindings.Range.{Range}
 use Rattle.rdlpp_table.specs.View.{macro_at, formals_of}
 use Rattle.rdlpp_cursors.specs.Calls.{IsCallBound}
 use Rattle.rdlpp_cursors.specs.Opened.{opens_of}
-use Rattle.rdlpp_cursors.proofs.Binding.{all-open, arity-count, call-bound, call-room, called-opens, formals-few, opening-deep, opening-opened, opening-refused, stack-called, taken-back}
+use Rattle.rdlpp_cursors.proofs.Binding.{all-open, arity-count, call-bound, call-room, called-opens, formals-few, opening-deep, opening-opened, opening-refused, room-open, stack-called, taken-back}
 use Rattle.rdlpp_cursors.proofs.Stacking.{first-inside, ranges-count, some-open, view-is}
 use Rattle.rdlpp_cursors.proofs.cursors.Cursors.open_bound.Goals as goal
 
@@ -49,6 +49,7 @@ returns c =
     let some : 0 < c.self.inside.first = omega (arith, none) in
     rw (← c.self.view_is) (opening-opened _ _ c.body.result.now _ _ _ _ _ _ _ (added c.self.inside.bindings.items c.bind_call.new.bindings.items) c.in-Ok.behind c.bind_call.result
     c.in-Ok.is n (c.bind_call.ensures.call c.requires.keeps) c.bind_call.ensures.within c.in-Ok.ensures.place c.body.ensures
+    (room-open c.self.inside.slots c.self.inside.first c.self.inside.bindings.items none inside)
     (view-is _ _ _ _ _
     (called-opens c.self.inside.slots.items c.self.inside.first c.in-Ok.behind c.self.inside.bindings.items _ c.bind_call.new.bindings.items c.index_mut.result.now c.args.id (length c.body.result.now)
     c.args.home c.len-bound.result some inside c.index_mut.ensures.value (c.len-bound.ensures ∙ ranges-count c.self.inside.bindings) c.bind_call.ensures.whole) refl))
