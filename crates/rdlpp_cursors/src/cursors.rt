@@ -11,6 +11,7 @@ ghost use Rattle.rdlpp_cursors.specs.Places.{texts_of};
 ghost use Rattle.rdlpp_cursors.specs.Steps.{AreSound, IsStep, StaysRefused};
 
 mod call;
+mod usage;
 
 use crate::front::{Front, Look, look_at};
 use crate::place::TextPlace;

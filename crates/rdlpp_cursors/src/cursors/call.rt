@@ -7,14 +7,13 @@ ghost use Rattle.rdlpp_cursors.specs.Calls.{IsOpening};
 ghost use Rattle.rdlpp_cursors.specs.Digits.{IsFalling};
 ghost use Rattle.rdlpp_cursors.specs.Fronts.{IsLook};
 ghost use Rattle.rdlpp_cursors.specs.Places.{texts_of};
-ghost use Rattle.rdlpp_cursors.specs.Scopes.{front_scope};
 ghost use Rattle.rdlpp_cursors.specs.Steps.{AreSound, IsStep, StaysRefused};
 ghost use Rattle.rdlpp_cursors.specs.Usages.{front_name, IsUsed};
 
 use crate::cursors::Cursors;
+use crate::cursors::usage::word_of;
 use crate::front::{Front, Look};
-use crate::place::TextPlace;
-use crate::scopes::{front_scope, text_of};
+use crate::scopes::text_of;
 use crate::slot::{Slot, SlotKind};
 use crate::step::{CursorFault, CursorStep, wordless};
 use rdlpp_calls::bind_call;
@@ -32,15 +31,6 @@ enum Opening {
 }
 
 impl Cursors {
-    // The scope of the innermost text.
-    pub(super) fn scope(&self) -> usize
-        requires { 0 < length self.now.opens }
-        ensures { result ≡ front_scope self.now.opens }
-    {
-        let slots = self.slots.as_slice();
-        front_scope(&slots[self.first..])
-    }
-
     // Binds a call in the innermost text, from one place of that text up to another, goes on behind it, and opens the body of
     // the macro. Nothing changes where that isn't so.
     fn open_bound(
@@ -103,6 +93,7 @@ impl Cursors {
         ensures digits { IsFalling self.old.opens result self.new.opens }
         ensures refused { StaysRefused self.old result self.new }
     {
+        let _macros = table.len();
         let home = self.scope();
         let text = text_of(table, arguments, look.source);
         let at = look.from + len;
@@ -110,11 +101,7 @@ impl Cursors {
             Opening::Opened => CursorStep::Silent,
             Opening::Refused(kind) => CursorStep::Refused(CursorFault {
                 kind,
-                word: TextPlace {
-                    source: look.source,
-                    from: look.from + 1,
-                    end: at,
-                },
+                word: word_of(look, len),
             }),
             Opening::Deep => wordless(FaultKind::DepthPassed),
         }
