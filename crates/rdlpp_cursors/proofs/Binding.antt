@@ -3,7 +3,7 @@ use Rattle.std.proofs.Common.{◌≡◌, ℕ, ◌+◌, ◌-◌, ◌*◌, ◌<◌
 use Rattle.std.proofs.Common.{Global, Option, None, Some, unwrap_or, Ok, Err}
 use Rattle.std.specs.Prelude.{vec_capacity, vec_len, Vec, max, Result}
 use Rattle.std.specs.Option.{option_map}
-use Rattle.std.proofs.lemmas.List.{length-append, length-drop, take_all}
+use Rattle.std.proofs.lemmas.List.{length-append, length-drop}
 use Rattle.std.proofs.lemmas.List.Elements.{recursion_from_All}
 use Rattle.std.proofs.Math.ListN.{set, length-set}
 use Rattle.std.proofs.Math.Seq.{drop-append_seam, take-append_seam}
@@ -17,9 +17,8 @@ use Rattle.rdlpp_calls.specs.BoundCalls.{range_part, AreWithin, IsBoundCall}
 use Rattle.rdlpp_cursors.specs.declared.slot.Slot.{Slot}
 use Rattle.rdlpp_cursors.specs.declared.slot.SlotKind.TheVariants as slot
 use Rattle.rdlpp_cursors.specs.declared.cursors.call.Opening.TheVariants.{Opened, Refused, Deep}
-use Rattle.rdlpp_cursors.specs.Calls.{IsCallBound, IsCallOpened, IsOpening}
+use Rattle.rdlpp_cursors.specs.Calls.{IsCallBound, IsOpening}
 use Rattle.rdlpp_cursors.specs.Opened.{opens_of, AreLaid, IsStack, moved_to, CursorsView}
-use Rattle.rdlpp_cursors.specs.Places.{texts_of}
 use Rattle.rdlpp_cursors.proofs.Keeping.{at-each}
 use Rattle.rdlpp_cursors.proofs.Stacking.{entered, laid-few, moved-opens, moved-laid, open-count, ranges-count, slots-count}
 

@@ -1,31 +1,31 @@
 -- A usage of a macro with a list in open texts: its call is bound and its body opens, or it is refused.
-use Rattle.std.proofs.Common.{◌≡◌, ℕ, suc, ◌+◌, ◌-◌, ◌<◌, ◌≤◌, true, false, true≢false, List, [], ◌∷◌, map, length, take, drop, refl, sym, ap, subst, ◌∙◌, arith}
-use Rattle.std.proofs.Common.{Option, None, Some, is_some, unwrap_or, Ok, Err}
+use Rattle.std.proofs.Common.{◌≡◌, ℕ, suc, ◌+◌, ◌-◌, ◌<◌, ◌≤◌, true, false, true≢false, List, [], ◌∷◌, map, length, drop, refl, sym, ap, subst, ◌∙◌, arith}
+use Rattle.std.proofs.Common.{Option, None, Some, is_some, unwrap_or, Err}
 use Rattle.std.specs.Prelude.{slice_range}
 use Rattle.std.specs.List.{AllByRecursion}
 use Rattle.std.proofs.lemmas.List.{length-take, length-drop, length-map}
 use Rattle.rdlpp_scan.specs.declared.token.Kind.TheVariants.{Back}
 use Rattle.rdlpp_scan.specs.declared.token.Mode.TheVariants.{Plain}
 use Rattle.rdlpp_scan.specs.SourceTokens.{SourceToken}
-use Rattle.rdlpp_scan.specs.Tokens.{token_of}
 use Rattle.rdlpp_table.specs.Table.{Formal, Macro}
 use Rattle.rdlpp_table.specs.View.{TableView, IsSound, macro_at, formals_of}
 use Rattle.rdlpp_meaning.specs.declared.fault.FaultKind.{FaultKind}
 use Rattle.rdlpp_meaning.specs.declared.fault.FaultKind.TheVariants.{DepthPassed}
 use Rattle.rdlpp_meaning.specs.State.{Rules, State, fault_at}
-use Rattle.rdlpp_meaning.specs.Cursors.{not_kept, Refuses, Opens, token_usage_of_formals}
+use Rattle.rdlpp_meaning.specs.Cursors.{not_kept, token_usage_of_formals}
 use Rattle.rdlpp_meaning.specs.Slots.{SlotStops}
 use Rattle.rdlpp_meaning.specs.Substitution.{body_tokens}
-use Rattle.rdlpp_meaning.specs.Opens.{Part, OpenKind, OpenBody, OpenActual, OpenDefault, Open, Texts, part_tokens, own_text, scope_text, slot_of, slots_of, text_around, open_scope, open_bytes, open_behind, open_body}
+use Rattle.rdlpp_meaning.specs.Opens.{Part, OpenKind, OpenBody, OpenActual, OpenDefault, Open, Texts, part_tokens, own_text, scope_text, slot_of, text_around, open_scope, open_bytes, open_behind, open_body}
 use Rattle.rdlpp_meaning.proofs.OpenMoves.{first_behind, first_usage, open-refused, open-usage, open-usage_deep}
 use Rattle.rdlpp_meaning.proofs.OpenScopes.{part-whole, text-around}
 use Rattle.rdlpp_meaning.proofs.SlotScopes.{next_is}
 use Rattle.rdlpp_meaning.proofs.TextRanges.{body_text}
 use Rattle.rdlpp_calls.specs.declared.bindings.Range.{Range}
-use Rattle.rdlpp_calls.specs.BoundCalls.{range_part, ranges_tokens, usage_in, AreWithin, IsBoundAt, IsBoundCall, KeepsAll}
+use Rattle.rdlpp_calls.specs.BoundCalls.{range_part, ranges_tokens, usage_in, IsBoundAt, IsBoundCall, KeepsAll}
 use Rattle.rdlpp_calls.proofs.BoundUsages.{behind_part, parts_inside}
 use Rattle.rdlpp_cursors.specs.declared.front.Front.TheVariants as front
 use Rattle.rdlpp_cursors.specs.declared.front.Look.{Look}
+use Rattle.rdlpp_cursors.specs.declared.place.TextPlace.{TextPlace}
 use Rattle.rdlpp_cursors.specs.declared.place.TextSource.{TextSource}
 use Rattle.rdlpp_cursors.specs.declared.place.TextSource.TheVariants.{Arguments}
 use Rattle.rdlpp_cursors.specs.declared.step.CursorFault.{CursorFault}
@@ -47,7 +47,7 @@ use Rattle.rdlpp_cursors.proofs.Moving.{goes-by, ends-by}
 use Rattle.rdlpp_cursors.proofs.Passing.{no-word, IsPassed}
 use Rattle.rdlpp_cursors.proofs.Scoping.{source-around}
 use Rattle.rdlpp_cursors.proofs.Stepping.{kind-first, first-moved}
-use Rattle.rdlpp_cursors.proofs.Usages.{back-closes, first-used, front-is, moved-length, scope-inside, usage-place, usage-word}
+use Rattle.rdlpp_cursors.proofs.Usages.{back-closes, first-used, front-is, homes-out, scope-inside, usage-place, usage-word}
 
 -- the list of formals of a macro that has one
 has-list : {A : Type 0} (o : Option A) → is_some o ≡ true → (x : A) × (o ≡ Some x)
@@ -250,7 +250,7 @@ sound-called table arguments x below len id text at end c sound h p inside =
     let parts = map range_part c.ranges in
     let count = length-map c.ranges range_part in
     let many = b.many in
-    let scope = scope-inside texts (x ∷ below) h.are_open in
+    let scope = scope-inside (x ∷ below) (homes-out texts (x ∷ below) h.are_open) in
     let ends = ((h.are_inside).1).0 in
     let end_is = p.end_is in
     let fits : end ≤ length text = subst (λ (t : List ℕ). end ≤ length t) (sym p.text_is) (omega (arith, ends, end_is)) in
@@ -289,6 +289,7 @@ pub record IsCallInside (look : Look) (text : List ℕ) (at : ℕ) : Type 0 wher
 -- it stands so, by a look
 pub look-call : (texts : Texts) (opens : List Open) (look : Look) (len : ℕ) (text : List ℕ) (at : ℕ) → AreSound texts opens → IsLook texts opens look → look.front ≡ front.Usage len
     → text ≡ source_text texts look.source → at ≡ look.from + len → IsCallInside look text at
+unfolding IsLook
 look-call texts opens look len text at h l e is k =
     let place = usage-place texts opens look len h l e in
     let inside = place.inside in
@@ -313,11 +314,18 @@ pub record IsListUsed (texts : Texts) (opens : List Open) (look : Look) (len id 
   pub text_is : text ≡ source_text texts look.source
   pub at_is : at ≡ look.from + len
 
+-- that there is one
+pub list-used : (texts : Texts) (opens : List Open) (look : Look) (len id : ℕ) (text : List ℕ) (at : ℕ) → AreSound texts opens → IsLook texts opens look → look.front ≡ front.Usage len
+    → IsUsed texts opens (front_name texts opens len) id → is_some (macro_at texts.macros id).formals ≡ true → text ≡ source_text texts look.source → at ≡ look.from + len
+    → IsListUsed texts opens look len id text at
+list-used texts opens look len id text at h l e used list is k = record { sound = h; look_is = l; front_is = e; used = used; list = list; text_is = is; at_is = k }
+
 -- a call that is refused, by a look
 look-call_refused : (line depth : ℕ) (texts : Texts) (opens : List Open) (look : Look) (len id : ℕ) (text : List ℕ) (at from : ℕ) (kind : FaultKind)
     → IsListUsed texts opens look len id text at → from ≡ look.from + 1
     → IsBoundCall text at look.end (length (formals_of (macro_at texts.macros id))) [] (Err kind)
     → IsStep line depth texts opens (Refused (record { kind = kind; word = record { source = look.source; from = from; end = at } })) opens
+unfolding IsLook
 look-call_refused line depth texts [] look len id text at from kind h g b = absurd (h.look_is)
 look-call_refused line depth texts (x ∷ below) look len id text at from kind h g b =
     let place = call-place texts x below look len text at h.sound h.look_is h.front_is h.text_is h.at_is in
@@ -329,6 +337,7 @@ look-call_refused line depth texts (x ∷ below) look len id text at from kind h
 look-call_deep : (line depth : ℕ) (texts : Texts) (opens : List Open) (look : Look) (len id : ℕ) (text : List ℕ) (at : ℕ)
     → IsListUsed texts opens look len id text at → IsCallBound texts.macros text at look.end id → depth ≤ length opens
     → IsStep line depth texts opens (wordless DepthPassed) opens
+unfolding IsLook
 look-call_deep line depth texts [] look len id text at h c deep = absurd (h.look_is)
 look-call_deep line depth texts (x ∷ below) look len id text at h c deep =
     let place = call-place texts x below look len text at h.sound h.look_is h.front_is h.text_is h.at_is in
@@ -340,7 +349,7 @@ look-call_opened : (line depth : ℕ) (table : TableView) (arguments : List ℕ)
     → IsSound table → IsListUsed (texts_of table.macros arguments) opens look len id text at → length opens < depth
     → IsStep line depth (texts_of table.macros arguments) opens Silent (open_body (texts_of table.macros arguments) id (map range_part c.ranges) (front_scope opens) ∷ moved_to c.behind opens)
     × AreSound (texts_of table.macros arguments) (open_body (texts_of table.macros arguments) id (map range_part c.ranges) (front_scope opens) ∷ moved_to c.behind opens)
-unfolding front_scope
+unfolding front_scope IsLook
 look-call_opened line depth table arguments [] look len id text at c sound h room = absurd (h.look_is)
 look-call_opened line depth table arguments (x ∷ below) look len id text at c sound h room =
     let texts = texts_of table.macros arguments in
@@ -350,14 +359,16 @@ look-call_opened line depth table arguments (x ∷ below) look len id text at c 
     )
 
 -- a call that is refused
-pub pass-call_refused : (texts : Texts) (view new : CursorsView) (look : Look) (len id home : ℕ) (text : List ℕ) (at from : ℕ) (kind : FaultKind) (o : Opening)
-    → IsListUsed texts view.opens look len id text at → from ≡ look.from + 1 → o ≡ opening.Refused kind → IsOpening texts.macros text at look.end id home view o new
-    → IsPassed texts view new (Refused (record { kind = kind; word = record { source = look.source; from = from; end = at } }))
+pub pass-call_refused : (texts : Texts) (view new : CursorsView) (look : Look) (len id home : ℕ) (text : List ℕ) (at : ℕ) (kind : FaultKind) (o : Opening) (word : TextPlace)
+    → IsListUsed texts view.opens look len id text at → o ≡ opening.Refused kind → IsOpening texts.macros text at look.end id home view o new
+    → word ≡ record { source = look.source; from = look.from + 1; end = at }
+    → IsPassed texts view new (Refused (record { kind = kind; word = word }))
 unfolding IsOpening IsFalling StaysRefused
-pass-call_refused texts view new look len id home text at from kind o h g e b =
+pass-call_refused texts view new look len id home text at kind o word h e b w =
     let both = subst (λ (r : Opening). IsOpening texts.macros text at look.end id home view r new) e b in
-    subst (λ (v : CursorsView). IsPassed texts view v (Refused (record { kind = kind; word = record { source = look.source; from = from; end = at } }))) (sym both.0) (record {
-      is_step = look-call_refused view.line view.depth texts view.opens look len id text at from kind h g both.1;
+    subst (λ (v : CursorsView). IsPassed texts view v (Refused (record { kind = kind; word = word }))) (sym both.0) (record {
+      is_step = subst (λ (p : TextPlace). IsStep view.line view.depth texts view.opens (Refused (record { kind = kind; word = p })) view.opens) (sym w)
+          (look-call_refused view.line view.depth texts view.opens look len id text at (look.from + 1) kind h refl both.1);
       sound = h.sound;
       kept = (refl, refl);
       digits = tt;

@@ -1,8 +1,7 @@
-use Rattle.std.proofs.Common.{◌∙◌, ◌<◌, ◌≡◌, List, Option, unwrap_or, ℕ, length, drop, ap, refl, arith}
+use Rattle.std.proofs.Common.{◌∙◌, ◌<◌, List, Option, unwrap_or, ℕ, length, drop, ap, refl, arith}
 use Rattle.rdlpp_calls.specs.BoundCalls.{added}
 use Rattle.rdlpp_calls.specs.declared.bindings.Range.{Range}
-use Rattle.rdlpp_table.specs.View.{macro_at, formals_of}
-use Rattle.rdlpp_cursors.specs.Calls.{IsCallBound}
+use Rattle.rdlpp_table.specs.View.{macro_at}
 use Rattle.rdlpp_cursors.specs.Opened.{opens_of}
 use Rattle.rdlpp_cursors.proofs.Binding.{all-open, arity-count, call-bound, call-room, called-opens, formals-few, opening-deep, opening-opened, opening-refused, room-open, stack-called, taken-back}
 use Rattle.rdlpp_cursors.proofs.Stacking.{first-inside, ranges-count, some-open, view-is}
