@@ -1,3 +1,6 @@
+pub mod Binding
+pub mod Calling
+pub mod Keeping
 pub mod Looking
 pub mod Passing
 pub mod Moving
@@ -6,3 +9,5 @@ pub mod Scoping
 pub mod Stacking
 pub mod Stepping
 pub mod Stopping
+pub mod Usages
+pub mod Falling

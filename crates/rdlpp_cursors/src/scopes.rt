@@ -4,7 +4,7 @@ ghost use Rattle.std.specs.List.{list_any};
 ghost use Rattle.std.specs.Option.{option_map};
 ghost use Rattle.rdlpp_table.specs.View.{formal_at, formals_of, macro_at};
 ghost use Rattle.rdlpp_meaning.specs.Opens.{open_standing, part_at, Part};
-ghost use Rattle.rdlpp_cursors.specs.Opened.{is_body_of, open_of, opens_of, outer_of, part_of, slot_source, AreHomedSlots};
+ghost use Rattle.rdlpp_cursors.specs.Opened.{is_body_of, open_of, opens_of, outer_of, slot_source, AreHomedSlots};
 ghost use Rattle.rdlpp_cursors.specs.Places.{source_formals, source_text, texts_of, IsSource};
 ghost use Rattle.rdlpp_cursors.specs.Scopes.{
   found_source,
@@ -15,11 +15,12 @@ ghost use Rattle.rdlpp_cursors.specs.Scopes.{
   writer_ids,
   AreBound,
 };
-ghost use Rattle.rdlpp_cursors.specs.declared.range.Range.{Range as Bound};
+ghost use Rattle.rdlpp_calls.specs.BoundCalls.{range_part};
+ghost use Rattle.rdlpp_calls.specs.declared.bindings.Range.{Range as Bound};
 
 use crate::place::TextSource;
-use crate::range::Range;
 use crate::slot::{Slot, SlotKind};
+use rdlpp_calls::Range;
 use rdlpp_table::{MacroId, Table};
 
 // The bytes of a text.
@@ -113,7 +114,7 @@ fn standing_of(
 ) -> Slot
     requires id { id < length table.now.macros }
     requires place { place < length (formals_of (macro_at table.now.macros id)) }
-    ensures { (own : List Bound) (parts : List Part) → part_at parts place ≡ part_of range → open_of result own ≡ open_standing (formals_of (macro_at table.now.macros id)) id scope home parts place }
+    ensures { (own : List Bound) (parts : List Part) → part_at parts place ≡ range_part range → open_of result own ≡ open_standing (formals_of (macro_at table.now.macros id)) id scope home parts place }
 {
     let end = default_len(table, id, place, range);
     if end > 0 {
