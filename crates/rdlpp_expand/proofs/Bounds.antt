@@ -1,16 +1,16 @@
 -- The bytes that are held are within their bound.
-use Rattle.std.proofs.Common.{◌≡◌, ℕ, ◌+◌, ◌*◌, ◌^◌, ◌≤◌, ◌<◌, List, [], length, sum_by, ap, sym, ◌∙◌, arith}
+use Rattle.std.proofs.Common.{◌≡◌, ℕ, ◌+◌, ◌*◌, ◌^◌, ◌≤◌, ◌<◌, ap, ◌∙◌, arith}
 use Rattle.std.proofs.Math.Nat.{mul-le-mul_right}
 use Rattle.rdlpp_table.proofs.Sizes.{length_table_bytes}
 use Rattle.rdlpp_table.specs.Limits.{AreInRange}
 use Rattle.rdlpp_table.specs.declared.limits.Limits.{Limits}
 use Rattle.rdlpp_read.proofs.Slots.{held-bound, held_windows-len}
-use Rattle.rdlpp_read.specs.Files.{AreOpen, held_windows}
+use Rattle.rdlpp_read.specs.Files.{AreOpen}
 use Rattle.rdlpp_expand.specs.Engine.{EngineView, IsSoundEngine}
 use Rattle.rdlpp_expand.specs.Held.{IsBounded, stores_of, held_bytes, bound_of}
 
 -- an engine whose stores are within their limits is within the bound
-pub is_bounded : {S R : Type 0} (e : EngineView S R) → IsSoundEngine e.limits e.phase e.table e.files → AreOpen e.files → IsBounded e
+pub is_bounded : {S R : Type 0} (e : EngineView S R) → IsSoundEngine e.limits e.phase e.table e.files e.conditions → AreOpen e.files → IsBounded e
 unfolding IsBounded stores_of held_bytes bound_of
 is_bounded e sound files =
     let windows = held_windows-len e.files.nest in

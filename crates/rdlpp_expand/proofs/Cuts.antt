@@ -1,9 +1,9 @@
 -- A step cut to the bytes that may still be lent.
-use Rattle.std.proofs.Common.{◌≡◌, ℕ, ◌+◌, ◌-◌, ◌≤◌, ◌<◌, false, List, [], length, take, drop, replicate, Option, None, Some, Result, Ok, Err, refl, sym, ap, ◌∙◌, subst, inl, inr, arith, true}
+use Rattle.std.proofs.Common.{◌≡◌, ℕ, ◌+◌, ◌-◌, ◌≤◌, ◌<◌, false, List, [], length, take, drop, Option, None, Some, Result, Ok, Err, refl, sym, ap, ◌∙◌, subst, inl, inr, arith, true}
 use Rattle.std.specs.List.{slice_range}
 use Rattle.std.specs.Prelude.{IfOk}
 use Rattle.std.proofs.lemmas.Bool.{cases_lt}
-use Rattle.std.proofs.lemmas.List.{length-drop, length-replicate, length-take-le, take_all, take-replicate, take-take}
+use Rattle.std.proofs.lemmas.List.{length-drop, length-take-le, take_all, take-take}
 use Rattle.rdlpp_source.specs.declared.sources.Sources.{Ghosts}
 use Rattle.rdlpp_meaning.specs.Outcome.{Told, Outcome, gives, fails, and_then}
 use Rattle.rdlpp_meaning.specs.OutputLimit.{limited}
@@ -13,9 +13,11 @@ use Rattle.rdlpp_read.specs.Files.{inner_buffer}
 use Rattle.rdlpp_table.specs.View.{macro_at}
 use Rattle.rdlpp_expand.specs.Engine.{EngineView, is_open}
 use Rattle.rdlpp_expand.specs.Held.{IsBounded, stores_of}
-use Rattle.rdlpp_expand.specs.Pieces.{IsPlaced, kept_answer, lent_answer}
+use Rattle.rdlpp_expand.specs.Owed.{cut_to, digits_of, part_bytes}
+use Rattle.rdlpp_expand.specs.Pieces.{IsPlaced, kept_answer, lent_answer, owed_part}
+use Rattle.rdlpp_expand.specs.declared.owed.OwedPiece.{OwedPiece}
 use Rattle.rdlpp_expand.specs.declared.place.Place.TheVariants.{Source, Body, Owed}
-use Rattle.rdlpp_expand.specs.Remaining.{kept_uncut, left_of, output_fault, phase_uncut, text_of, uncut_of, work_left}
+use Rattle.rdlpp_expand.specs.Remaining.{inner_name, kept_uncut, left_of, output_fault, phase_uncut, text_of, uncut_of, work_left}
 use Rattle.rdlpp_expand.specs.Steps.{Steps, Tells, Walks, all_of, has_met, lent_len, may_follow, no_len, is_read_failed}
 use Rattle.rdlpp_expand.specs.declared.phase.Phase.{Phase}
 use Rattle.rdlpp_expand.specs.declared.phase.Phase.TheVariants.{Fresh, Open, Passed, Closed}
@@ -214,12 +216,13 @@ pub record IsPart {S R : Type 0} (mid new : EngineView S R) (n len : ℕ) : Type
   pub inside : len ≤ n
   pub files : new.files ≡ mid.files
   pub table : new.table ≡ mid.table
+  pub owed : new.owed ≡ mid.owed
 
 spent_part : {S R : Type 0} (mid new : EngineView S R) (n len : ℕ) → IsSpent mid new n len → IsPart mid new n len
 spent_part mid new n len spent =
     elim (cases_lt mid.quota n) [
-      | inl over ↦ (let p = spent.passes over in record { inside = omega (arith, p.0); files = ap (λ e. e.files) p.1; table = ap (λ e. e.table) p.1 })
-      | inr under ↦ (let p = spent.fits under in record { inside = omega (arith, p.0); files = ap (λ e. e.files) p.1; table = ap (λ e. e.table) p.1 })
+      | inl over ↦ (let p = spent.passes over in record { inside = omega (arith, p.0); files = ap (λ e. e.files) p.1; table = ap (λ e. e.table) p.1; owed = ap (λ e. e.owed) p.1 })
+      | inr under ↦ (let p = spent.fits under in record { inside = omega (arith, p.0); files = ap (λ e. e.files) p.1; table = ap (λ e. e.table) p.1; owed = ap (λ e. e.owed) p.1 })
     ]
 
 -- a piece, cut to what may still be lent
@@ -267,13 +270,32 @@ pub cut_kept : {S R : Type 0} (g : Ghosts S R) (old new : EngineView S R) (kept 
 cut_kept g old new None w = cut_end g old new w
 cut_kept g old new (Some f) w = cut_fault g old new f w
 
--- LF bytes that are owed, cut to what may still be lent
-pub cut_owed : {S R : Type 0} (g : Ghosts S R) (old mid new : EngineView S R) (n len : ℕ) → Walks g old mid (lent_answer mid (Owed n)) → IsSpent mid new n len → Steps g old new (lent_answer new (Owed len))
-cut_owed g old mid new n len w spent =
-    let part = spent_part mid new n len spent in
-    told_bytes g old new (take len (replicate n 10)) (replicate len 10) (sym (take-replicate len n 10 part.inside))
-    (cut_piece g old mid new (replicate n 10) n len w (length-replicate n 10) spent)
+-- the part is the same where only what may be lent and how far the engine is changed
+part_same : {S R : Type 0} (mid new : EngineView S R) (piece : OwedPiece) (n len k : ℕ) → IsPart mid new n len → owed_part new (cut_to piece k) ≡ owed_part mid piece
+unfolding cut_to
+part_same mid new piece n len k part =
+    ap (λ f. part_bytes piece.part (inner_name f.nest) (digits_of new.owed.origin)) part.files
+    ∙ ap (λ o. part_bytes piece.part (inner_name mid.files.nest) (digits_of o.origin)) part.owed
 
--- a part of what is owed is a place
-pub owed_placed : {S R : Type 0} (mid new : EngineView S R) (n len : ℕ) → IsPlaced mid (Owed n) → IsSpent mid new n len → IsPlaced new (Owed len)
-owed_placed mid new n len placed spent = let part = spent_part mid new n len spent in let inside = part.inside in omega arith
+-- a piece that is owed, cut to what may still be lent
+pub cut_owed : {S R : Type 0} (g : Ghosts S R) (old mid new : EngineView S R) (piece : OwedPiece) (len : ℕ) → Walks g old mid (lent_answer mid (Owed piece))
+    → IsPlaced mid (Owed piece) → IsSpent mid new piece.len len → Steps g old new (lent_answer new (Owed (cut_to piece len)))
+unfolding cut_to
+cut_owed g old mid new piece len w placed spent =
+    let part = spent_part mid new piece.len len spent in
+    let xs = owed_part mid piece in
+    told_bytes g old new (take len (take piece.len xs)) (take len (owed_part new (cut_to piece len)))
+    (ap (take len) (part_same mid new piece piece.len len len part) ∙ sym (take-take len piece.len xs part.inside))
+    (cut_piece g old mid new (take piece.len xs) piece.len len w (length-take-le piece.len xs placed.1) spent)
+
+-- such a piece is a place
+pub owed_placed : {S R : Type 0} (mid new : EngineView S R) (piece : OwedPiece) (len : ℕ) → IsPlaced mid (Owed piece) → IsSpent mid new piece.len len → IsPlaced new (Owed (cut_to piece len))
+unfolding cut_to
+owed_placed mid new piece len placed spent =
+    let part = spent_part mid new piece.len len spent in
+    let inside = part.inside in
+    let most = placed.1 in
+    let size : length (owed_part new (cut_to piece len)) ≡ length (owed_part mid piece) = ap length (part_same mid new piece piece.len len len part) in
+    let open_ : length new.files.nest ≡ length mid.files.nest = ap (λ f. length f.nest) part.files in
+    let some = placed.0 in
+    (omega arith, omega arith)

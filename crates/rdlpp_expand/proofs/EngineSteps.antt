@@ -1,5 +1,5 @@
 -- The steps of an engine, by what they met.
-use Rattle.std.proofs.Common.{◌≡◌, ◌⊎◌, inl, inr, ℕ, ◌+◌, ◌≤◌, ◌<◌, Bool, true, false, ◌&&◌, ◌||◌, List, [], Option, None, Some, Result, Ok, Err, refl, sym, ap, ◌∙◌, subst, arith}
+use Rattle.std.proofs.Common.{◌≡◌, ◌⊎◌, inl, inr, ℕ, ◌≤◌, ◌<◌, Bool, true, false, ◌&&◌, ◌||◌, List, [], Option, None, Some, Result, Ok, Err, refl, sym, ap, ◌∙◌, subst, arith}
 use Rattle.std.specs.Option.{is_some, option_map}
 use Rattle.rdlpp_source.specs.Counts.{Counts}
 use Rattle.rdlpp_source.specs.declared.sources.Sources.{Ghosts}
@@ -9,14 +9,13 @@ use Rattle.rdlpp_meaning.specs.declared.fault.FaultKind.TheVariants as fault
 use Rattle.rdlpp_meaning.specs.Meaning.{Passage, behind_bytes, leaves, outcome}
 use Rattle.rdlpp_meaning.specs.Outcome.{Told, told, Outcome, fails, gives}
 use Rattle.rdlpp_meaning.specs.State.{fault_at}
-use Rattle.rdlpp_meaning.proofs.Outcomes.{and_then-gives_nil}
 use Rattle.rdlpp_meaning.proofs.Outputs.{outcome-behind_bytes}
 use Rattle.rdlpp_meaning.proofs.Passages.{outcome-leaves}
 use Rattle.rdlpp_read.specs.Buffer.{reading_line_of}
 use Rattle.rdlpp_read.specs.Calls.{SourcesRead}
 use Rattle.rdlpp_read.specs.Files.{inner_buffer}
 use Rattle.rdlpp_expand.specs.Calls.{SourcesCalled}
-use Rattle.rdlpp_expand.specs.Engine.{EngineView, is_open}
+use Rattle.rdlpp_expand.specs.Engine.{EngineView}
 use Rattle.rdlpp_expand.specs.Held.{IsBounded}
 use Rattle.rdlpp_expand.specs.Pieces.{kept_answer, lent_answer}
 use Rattle.rdlpp_expand.specs.Remaining.{uncut_of, kept_uncut, output_fault, phase_uncut, state_of, text_of, work_left}
@@ -92,7 +91,7 @@ steps_ended g e started bounded free closed = record {
 -- an engine whose main text is open and that keeps no fault
 module _ {S R : Type 0} (g : Ghosts S R) (old new : EngineView S R) (free : old.kept ≡ None) (open_ : old.phase ≡ Open) (bounded : IsBounded new) where
   -- a piece was lent
-  pub walks_lent : (bytes : List ℕ) → new ≡ record old { owed = new.owed; table = new.table; files = new.files; sources = new.sources }
+  pub walks_lent : (bytes : List ℕ) → new ≡ record old { owed = new.owed; table = new.table; conditions = new.conditions; files = new.files; sources = new.sources }
       → SourcesCalled g false false old.sources new.sources
       → (g.tells old.sources → text_of g.unread old ≡ behind_bytes bytes (text_of g.unread new))
       → work_left new < work_left old → Walks g old new (Ok (Some bytes))

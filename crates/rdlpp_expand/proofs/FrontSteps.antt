@@ -1,17 +1,17 @@
 -- What is taken of the open sources, as steps of the engine.
-use Rattle.std.proofs.Common.{◌≡◌, ◌⊎◌, ℕ, zero, suc, ◌+◌, ◌-◌, ◌^◌, ◌≤◌, ◌<◌, Bool, true, false, cond, List, [], ◌∷◌, ◌++◌, length, take, drop, replicate, append_assoc, Option, None, Some, Result, Ok, Err, refl, sym, ap, ◌∙◌, subst, inl, inr, arith}
+use Rattle.std.proofs.Common.{◌≡◌, ℕ, zero, suc, ◌+◌, ◌-◌, ◌^◌, ◌≤◌, ◌<◌, Bool, true, false, cond, List, [], ◌∷◌, ◌++◌, length, take, drop, replicate, append_assoc, append-nil, Option, None, Some, Ok, refl, sym, ap, ◌∙◌, subst, arith}
 use Rattle.std.specs.List.{slice_range}
 use Rattle.std.specs.Prelude.{min, IfSome}
-use Rattle.std.proofs.lemmas.List.{take-take, drop-take, length-drop, length-take, replicate-append-replicate, take_all, take_rest}
+use Rattle.std.proofs.lemmas.List.{take-take, drop-take, length-drop, length-take, take_all, take_rest}
 use Rattle.std.proofs.Math.Seq.{drop-nil}
 use Rattle.rdlpp_source.specs.declared.sources.Sources.{Ghosts}
 use Rattle.rdlpp_scan.specs.Bytes.{is_line_end}
 use Rattle.rdlpp_scan.specs.Front.{Breach}
-use Rattle.rdlpp_scan.specs.SourceTokens.{line_ends, logical_len}
+use Rattle.rdlpp_scan.specs.SourceTokens.{line_ends}
 use Rattle.rdlpp_scan.specs.Stage.{is_reserved}
 use Rattle.rdlpp_scan.specs.declared.token.Directive.TheVariants.{Define, Undef}
 use Rattle.rdlpp_scan.specs.declared.token.Mode.{Mode}
-use Rattle.rdlpp_scan.specs.declared.token.Mode.TheVariants.{Plain, InStr, InBlock}
+use Rattle.rdlpp_scan.specs.declared.token.Mode.TheVariants.{Plain}
 use Rattle.rdlpp_scan.proofs.SourceLaws.{line_ends-cons}
 use Rattle.rdlpp_table.specs.Table.{Macro, macro_named, without}
 use Rattle.rdlpp_table.specs.View.{TableView, macro_at}
@@ -23,14 +23,14 @@ use Rattle.rdlpp_table.specs.declared.fault.DefineKind.TheVariants as define
 use Rattle.rdlpp_meaning.specs.declared.fault.FaultKind.{FaultKind}
 use Rattle.rdlpp_meaning.specs.declared.fault.FaultKind.TheVariants as fault
 use Rattle.rdlpp_meaning.specs.Meaning.{Passage, behind_bytes, leaves}
-use Rattle.rdlpp_meaning.specs.Outcome.{Told, fails, gives}
+use Rattle.rdlpp_meaning.specs.Outcome.{Told, fails}
 use Rattle.rdlpp_meaning.specs.Output.{start_state}
 use Rattle.rdlpp_meaning.specs.Parts.{line_ends_of}
 use Rattle.rdlpp_meaning.specs.Profile.{define_fault, rules_of, with_fault}
 use Rattle.rdlpp_meaning.specs.Stage.{is_unbuilt_macro}
 use Rattle.rdlpp_meaning.specs.State.{State, breach_kind, fault_at}
 use Rattle.rdlpp_meaning.proofs.OwedLineEnds.{line_ends_of-owed}
-use Rattle.rdlpp_read.specs.Buffer.{BufferView, EndsHeld, IsBuffer, closed_buffer, entered_mode, held_of, reading_line_of, unused_of}
+use Rattle.rdlpp_read.specs.Buffer.{BufferView, entered_mode, held_of, reading_line_of}
 use Rattle.rdlpp_read.specs.Files.{AreOpen, FilesView, consumed_file, inner_buffer, with_buffer, with_inner}
 use Rattle.rdlpp_read.specs.Filling.{Fills, ended_tokens, only_broken}
 use Rattle.rdlpp_read.specs.LogicalLines.{HoldsLine}
@@ -39,28 +39,31 @@ use Rattle.rdlpp_read.specs.declared.buffer.filling.Fill.TheVariants as fill
 use Rattle.rdlpp_read.specs.declared.files.File.{File}
 use Rattle.rdlpp_front.specs.Fronts.{AtBare, AtPerl, AtUnbuilt, HasName, IsDirective, IsRefused, IsText, IsUsage, LacksName, argument_name, usage_name}
 use Rattle.rdlpp_front.proofs.Insides.{name_inside, text_inside, usage_inside}
+use Rattle.rdlpp_conditions.specs.Conditions.{ConditionsView}
 use Rattle.rdlpp_expand.specs.Calls.{SourcesCalled}
 use Rattle.rdlpp_expand.specs.Engine.{EngineView, IsSoundEngine, is_open}
 use Rattle.rdlpp_expand.specs.Held.{IsBounded}
 use Rattle.rdlpp_expand.specs.Moves.{Defines, Ends, IsReady, ReadsDefine, RefusesDefine, StopsOpen, define_rest}
-use Rattle.rdlpp_expand.specs.Owed.{OwedView, nothing_owed, owed_bytes, owed_pieces}
+use Rattle.rdlpp_expand.specs.Owed.{OriginView, OwedView, TakesPiece, digits_of, line_ends_owed, nothing_owed, origin_bytes, origin_pieces, owed_bytes, owed_pieces, part_bytes}
+use Rattle.rdlpp_expand.specs.declared.owed.OwedPiece.{OwedPiece}
 use Rattle.rdlpp_expand.specs.Pieces.{IsPlaced, lent_answer, step_answer}
-use Rattle.rdlpp_expand.specs.Remaining.{file_state, nest_left, nest_state, staged_rules, state_of, text_of, work_left}
-use Rattle.rdlpp_expand.specs.Steps.{EndsText, IsOwn, Walks, is_memory_kind, is_read_failed, is_write_failed}
+use Rattle.rdlpp_expand.specs.Remaining.{file_state, inner_name, nest_left, nest_state, staged_rules, state_of, text_of, work_left}
+use Rattle.rdlpp_expand.specs.Steps.{IsOwn, Walks, is_memory_kind, is_read_failed, is_write_failed}
 use Rattle.rdlpp_expand.specs.declared.phase.Phase.{Phase}
 use Rattle.rdlpp_expand.specs.declared.phase.Phase.TheVariants.{Open, Closed}
 use Rattle.rdlpp_expand.specs.declared.place.Place.{Place}
 use Rattle.rdlpp_expand.specs.declared.place.Place.TheVariants.{Source, Body, Owed, End, Kept}
 use Rattle.rdlpp_expand.proofs.EngineSteps.{IsSilent, kept_at, not_called, walks_end, walks_failed, walks_fault, walks_lent}
 use Rattle.rdlpp_expand.proofs.NestLeft.{nest_body, nest_cut_define, nest_defined, nest_ended, nest_filled, nest_long_define, nest_long_line, nest_long_source, nest_nameless, nest_open, nest_refused, nest_refused_define, nest_reserved, nest_text, nest_unbuilt, nest_undef, nest_undefined}
-use Rattle.rdlpp_expand.proofs.Soundness.{IsInner, inner_facts, with_inner-length}
+use Rattle.rdlpp_expand.proofs.Soundness.{inner_facts, with_inner-length}
 use Rattle.rdlpp_expand.proofs.WorkFacts.{IsUsed, entered_unused, held_room, owed_falls, used_after, used_bytes, work_falls, work_same}
 
 -- another buffer for the innermost source changes no state
-pub same_state : {R : Type 0} (b : BufferView R) (limits : Limits) (macros : List Macro) (nest : List (File R)) → nest_state limits macros (with_buffer b nest) ≡ nest_state limits macros nest
+pub same_state : {R : Type 0} (b : BufferView R) (limits : Limits) (macros : List Macro) (v : ConditionsView) (nest : List (File R))
+    → nest_state limits macros v (with_buffer b nest) ≡ nest_state limits macros v nest
 unfolding nest_state file_state
-same_state b limits macros [] = refl
-same_state b limits macros (f ∷ outer) = refl
+same_state b limits macros v [] = refl
+same_state b limits macros v (f ∷ outer) = refl
 
 -- nor what is held of it
 pub buffer_given : {R : Type 0} (b : BufferView R) (nest : List (File R)) → 0 < length nest → inner_buffer (with_buffer b nest) ≡ b
@@ -119,47 +122,57 @@ line_ends-le (b ∷ bs) =
 
 -- what remains of the text where nothing is owed
 text_unowed : {S R : Type 0} (unread : R → List ℕ) (e : EngineView S R) → e.owed ≡ nothing_owed
-    → text_of unread e ≡ nest_left e.limits (staged_rules e.limits e.origins) unread e.table.macros e.files.nest
-unfolding text_of nothing_owed owed_bytes behind_bytes
+    → text_of unread e ≡ nest_left e.limits (staged_rules e.limits e.origins) unread e.table.macros e.conditions e.files.nest
+unfolding text_of nothing_owed owed_bytes origin_bytes behind_bytes
 text_unowed unread e none = rw none refl
 
 -- nothing that is owed is before nothing
-unowed_behind : (owed : OwedView) (p : Passage) → owed ≡ nothing_owed → behind_bytes (owed_bytes owed) p ≡ p
-unfolding nothing_owed owed_bytes behind_bytes
-unowed_behind owed p none = rw none refl
+unowed_behind : (name : List ℕ) (owed : OwedView) (p : Passage) → owed ≡ nothing_owed → behind_bytes (owed_bytes name owed) p ≡ p
+unfolding nothing_owed owed_bytes origin_bytes behind_bytes
+unowed_behind name owed p none = rw none refl
 
 -- nothing that is owed can be counted
 unowed_few : (owed : OwedView) → owed ≡ nothing_owed → owed_pieces owed < 2 ^ 31
-unfolding nothing_owed owed_pieces
+unfolding nothing_owed owed_pieces origin_pieces
 unowed_few owed none = rw none (omega arith)
 
--- what is left of the open sources of an engine, with other macros and others open
-abbrev pub left_by : {S R : Type 0} → (R → List ℕ) → EngineView S R → List Macro → List (File R) → Passage
-left_by unread e macros nest = nest_left e.limits (staged_rules e.limits e.origins) unread macros nest
+-- LF bytes alone that are owed
+pub owed_lines : (name : List ℕ) (lines : ℕ) → owed_bytes name (line_ends_owed lines) ≡ replicate lines 10
+unfolding line_ends_owed owed_bytes origin_bytes
+owed_lines name lines = append-nil (replicate lines 10)
+
+-- each of them is a piece
+pub lines_few : (lines n : ℕ) → lines < n → owed_pieces (line_ends_owed lines) < n
+unfolding line_ends_owed owed_pieces origin_pieces
+lines_few lines n few = omega arith
+
+-- what is left of the open sources of an engine, with other macros, other conditionals and others open
+abbrev pub left_by : {S R : Type 0} → (R → List ℕ) → EngineView S R → List Macro → ConditionsView → List (File R) → Passage
+left_by unread e macros v nest = nest_left e.limits (staged_rules e.limits e.origins) unread macros v nest
 
 -- bytes of the innermost source are used, and a piece is lent
-pub lends_piece : {S R : Type 0} (g : Ghosts S R) (old : EngineView S R) (ready : IsReady old) (bytes : List ℕ) (owed : OwedView) (macros : List Macro) (nest : List (File R)) (sources : S)
-    → let after = record old { owed = owed; table = record old.table { macros = macros }; files = record old.files { nest = nest }; sources = sources } in
+pub lends_piece : {S R : Type 0} (g : Ghosts S R) (old : EngineView S R) (ready : IsReady old) (bytes : List ℕ) (owed : OwedView) (macros : List Macro) (v : ConditionsView) (nest : List (File R)) (sources : S)
+    → let after = record old { owed = owed; table = record old.table { macros = macros }; conditions = v; files = record old.files { nest = nest }; sources = sources } in
     IsBounded after → owed_pieces owed < 2 ^ 31 → IsUsed old.files.nest nest → SourcesCalled g false false old.sources sources
-    → (g.tells old.sources → left_by g.unread old old.table.macros old.files.nest ≡ behind_bytes bytes (behind_bytes (owed_bytes owed) (left_by g.unread old macros nest)))
+    → (g.tells old.sources → left_by g.unread old old.table.macros old.conditions old.files.nest ≡ behind_bytes bytes (behind_bytes (owed_bytes (inner_name nest) owed) (left_by g.unread old macros v nest)))
     → Walks g old after (Ok (Some bytes))
 unfolding text_of
-lends_piece g old ready bytes owed macros nest sources bounded few used call law =
-    let after = record old { owed = owed; table = record old.table { macros = macros }; files = record old.files { nest = nest }; sources = sources } in
+lends_piece g old ready bytes owed macros v nest sources bounded few used call law =
+    let after = record old { owed = owed; table = record old.table { macros = macros }; conditions = v; files = record old.files { nest = nest }; sources = sources } in
     walks_lent g old after ready.free ready.open_ bounded bytes refl call
-    (λ t. unowed_behind old.owed (left_by g.unread old old.table.macros old.files.nest) ready.owed ∙ law t)
+    (λ t. unowed_behind (inner_name old.files.nest) old.owed (left_by g.unread old old.table.macros old.conditions old.files.nest) ready.owed ∙ law t)
     (work_falls old after refl used few)
 
 -- and nothing is owed
-pub lends_source : {S R : Type 0} (g : Ghosts S R) (old new : EngineView S R) (ready : IsReady old) (bytes : List ℕ) (macros : List Macro) (nest : List (File R))
-    → new ≡ record old { table = record old.table { macros = macros }; files = record old.files { nest = nest } }
+pub lends_source : {S R : Type 0} (g : Ghosts S R) (old new : EngineView S R) (ready : IsReady old) (bytes : List ℕ) (macros : List Macro) (v : ConditionsView) (nest : List (File R))
+    → new ≡ record old { table = record old.table { macros = macros }; conditions = v; files = record old.files { nest = nest } }
     → IsBounded new → IsUsed old.files.nest nest
-    → left_by g.unread old old.table.macros old.files.nest ≡ behind_bytes bytes (left_by g.unread old macros nest)
+    → left_by g.unread old old.table.macros old.conditions old.files.nest ≡ behind_bytes bytes (left_by g.unread old macros v nest)
     → Walks g old new (Ok (Some bytes))
-lends_source {S} {R} g old new ready bytes macros nest becomes bounded used law =
+lends_source {S} {R} g old new ready bytes macros v nest becomes bounded used law =
     subst (λ (e : EngineView S R). Walks g old e (Ok (Some bytes))) (sym becomes)
-    (lends_piece g old ready bytes old.owed macros nest old.sources (subst IsBounded becomes bounded) (unowed_few old.owed ready.owed) used (not_called g old.sources)
-    (λ t. law ∙ ap (behind_bytes bytes) (sym (unowed_behind old.owed (left_by g.unread old macros nest) ready.owed))))
+    (lends_piece g old ready bytes old.owed macros v nest old.sources (subst IsBounded becomes bounded) (unowed_few old.owed ready.owed) used (not_called g old.sources)
+    (λ t. law ∙ ap (behind_bytes bytes) (sym (unowed_behind (inner_name nest) old.owed (left_by g.unread old macros v nest) ready.owed))))
 
 -- what isn't built, refused or read isn't a failed read
 pub refused_kind : (mode : Mode) (held : List ℕ) (kind : FaultKind) → IsRefused mode held kind → IsOwn kind
@@ -240,10 +253,11 @@ unfolding state_of
 read_state {S} {R} old mid r =
     let limits : mid.limits ≡ old.limits = ap (λ e. e.limits) r.becomes in
     let table : mid.table ≡ old.table = ap (λ e. e.table) r.becomes in
+    let conditions : mid.conditions ≡ old.conditions = ap (λ e. e.conditions) r.becomes in
     let nest : mid.files.nest ≡ with_buffer (inner_buffer mid.files.nest) old.files.nest = ap (λ f. f.nest) r.only in
-    ap (λ (ns : List (File R)). nest_state mid.limits mid.table.macros ns) nest
-    ∙ (same_state (inner_buffer mid.files.nest) mid.limits mid.table.macros old.files.nest
-    ∙ rw (limits, table) refl)
+    ap (λ (ns : List (File R)). nest_state mid.limits mid.table.macros mid.conditions ns) nest
+    ∙ (same_state (inner_buffer mid.files.nest) mid.limits mid.table.macros mid.conditions old.files.nest
+    ∙ rw (limits, table, conditions) refl)
 
 -- what keeping a fault makes of an engine
 keeps_fault : {S R : Type 0} (old mid new : EngineView S R) (f : Told) → IsRead old mid → new ≡ record mid { kept = Some f }
@@ -263,13 +277,13 @@ told_kind kind line word s own = own
 -- a fault of the text is kept
 pub refuses : {S R : Type 0} (g : Ghosts S R) (old mid new : EngineView S R) (place : Place) (kind : FaultKind) (line : ℕ) (word : List ℕ) → IsReady old → IsRead old mid → IsBounded new
     → place ≡ Kept → new ≡ record mid { kept = Some (fault_at kind line word (state_of mid)) } → IsOwn kind → SourcesCalled g false false old.sources mid.sources
-    → (g.tells old.sources → left_by g.unread old old.table.macros old.files.nest ≡ leaves (fails (fault_at kind line word (state_of old))) (state_of old))
+    → (g.tells old.sources → left_by g.unread old old.table.macros old.conditions old.files.nest ≡ leaves (fails (fault_at kind line word (state_of old))) (state_of old))
     → Walks g old new (lent_answer new place)
 unfolding state_of
 refuses {S} {R} g old mid new place kind line word ready r bounded is becomes own call law =
     let f = fault_at kind line word (state_of mid) in
     let same : state_of mid ≡ state_of old = read_state old mid r in
-    let here : state_of new ≡ state_of mid = ap (λ (e : EngineView S R). nest_state e.limits e.table.macros e.files.nest) becomes in
+    let here : state_of new ≡ state_of mid = ap (λ (e : EngineView S R). nest_state e.limits e.table.macros e.conditions e.files.nest) becomes in
     let sources : new.sources ≡ mid.sources = ap (λ e. e.sources) becomes in
     let P : S → Type 0 = λ s. SourcesCalled g false false old.sources s in
     kept_at g old new place f is (ap (λ e. e.kept) becomes)
@@ -282,7 +296,7 @@ pub fails_reading : {S R : Type 0} (g : Ghosts S R) (old mid new : EngineView S 
     → Walks g old new (lent_answer new place)
 unfolding state_of
 fails_reading {S} {R} g old mid new place ready r bounded is becomes call =
-    let told : EngineView S R → Told = λ e. fault_at fault.ReadFailed (reading_line_of (inner_buffer e.files.nest)) [] (nest_state e.limits e.table.macros e.files.nest) in
+    let told : EngineView S R → Told = λ e. fault_at fault.ReadFailed (reading_line_of (inner_buffer e.files.nest)) [] (nest_state e.limits e.table.macros e.conditions e.files.nest) in
     let sources : new.sources ≡ mid.sources = ap (λ e. e.sources) becomes in
     let P : S → Type 0 = λ s. SourcesCalled g true false old.sources s in
     kept_at g old new place (told mid) is (ap (λ e. e.kept) becomes)
@@ -293,13 +307,13 @@ pub read_nothing : {S R : Type 0} (e : EngineView S R) → IsRead e e
 read_nothing e = record { becomes = refl; only = ap (λ ns. record e.files { nest = ns }) (same_nest e.files.nest) }
 
 -- text that is copied is lent
-pub take_text : {S R : Type 0} (g : Ghosts S R) (old mid new : EngineView S R) (len lines from to : ℕ) (next : Mode) → IsReady old → IsBounded new
+pub take_text : {S R : Type 0} (g : Ghosts S R) (old mid new : EngineView S R) (len lines from to : ℕ) (next : Mode) → IsReady old → old.conditions.skipped ≡ None → IsBounded new
     → 0 < length (held_of (inner_buffer old.files.nest)) → IsText (inner_buffer old.files.nest).mode (held_of (inner_buffer old.files.nest)) len next
     → lines ≡ line_ends (take len (held_of (inner_buffer old.files.nest)))
     → mid ≡ record old { files = record old.files { nest = with_buffer (entered_mode (inner_buffer old.files.nest) next) old.files.nest } }
     → new ≡ record mid { files = record mid.files { nest = with_inner (consumed_file len lines) mid.files.nest } }
     → from ≡ (inner_buffer old.files.nest).at → to ≡ from + len → Walks g old new (lent_answer new (Source from to))
-take_text {S} {R} g old mid new len lines from to next ready bounded some text counted enters uses begins stops =
+take_text {S} {R} g old mid new len lines from to next ready live bounded some text counted enters uses begins stops =
     let inner = inner_facts old.files ready.nest ready.files in
     let b = inner_buffer old.files.nest in
     let within = text_inside b.mode (held_of b) len next some text in
@@ -310,23 +324,23 @@ take_text {S} {R} g old mid new len lines from to next ready bounded some text c
     let part : slice_range (inner_buffer new.files.nest).window from to ≡ take len (held_of b) =
     rw (window, begins, stops) (rw begins (held_part b len inner.buffer.used within.1)) in
     subst (λ (xs : List ℕ). Walks g old new (Ok (Some xs))) (sym part)
-    (lends_source g old new ready (take len (held_of b)) old.table.macros nest becomes bounded
+    (lends_source g old new ready (take len (held_of b)) old.table.macros old.conditions nest becomes bounded
     (used_after old.files.nest (entered_mode b next) len lines ready.nest (entered_unused b next) within.0 (rw (held_entered b next) within.1))
-    (nest_text old.limits (staged_rules old.limits old.origins) g.unread old.table.macros old.files.nest len lines next some inner.ends text counted))
+    (nest_text old.limits (staged_rules old.limits old.origins) g.unread old.table.macros old.conditions live old.files.nest len lines next some inner.ends text counted))
 
 -- all of a text, as a part of it
 whole_part : (xs : List ℕ) (n : ℕ) → n ≡ length xs → slice_range xs 0 n ≡ xs
 whole_part xs n whole = let same : n - 0 ≡ length xs = omega arith in ap (λ k. take k xs) same ∙ take_all (length xs) xs (omega arith)
 
 -- a body is lent
-pub take_usage : {S R : Type 0} (g : Ghosts S R) (old new : EngineView S R) (len id end : ℕ) → IsReady old → IsBounded new
+pub take_usage : {S R : Type 0} (g : Ghosts S R) (old new : EngineView S R) (len id end : ℕ) → IsReady old → old.conditions.skipped ≡ None → IsBounded new
     → 0 < length (held_of (inner_buffer old.files.nest)) → (inner_buffer old.files.nest).mode ≡ Plain → IsUsage (held_of (inner_buffer old.files.nest)) len
     → macro_named old.table.macros (usage_name (held_of (inner_buffer old.files.nest)) len) ≡ Some (macro_at old.table.macros id)
     → is_unbuilt_macro (macro_at old.table.macros id) ≡ false
     → new ≡ record old { files = record old.files { nest = with_inner (consumed_file len 0) old.files.nest } }
     → end ≡ length (macro_at old.table.macros id).body → Walks g old new (lent_answer new (Body id 0 end))
 unfolding staged_rules rules_of
-take_usage {S} {R} g old new len id end ready bounded some plain usage named built becomes whole =
+take_usage {S} {R} g old new len id end ready live bounded some plain usage named built becomes whole =
     let inner = inner_facts old.files ready.nest ready.files in
     let held = held_of (inner_buffer old.files.nest) in
     let within = usage_inside held len some usage in
@@ -335,12 +349,12 @@ take_usage {S} {R} g old new len id end ready bounded some plain usage named bui
     ap (λ (e : EngineView S R). slice_range (macro_at e.table.macros id).body 0 end) becomes ∙ whole_part m.body end whole in
     let depth = ready.sound.in_range.depth.0 in
     subst (λ (xs : List ℕ). Walks g old new (Ok (Some xs))) (sym body)
-    (lends_source g old new ready m.body old.table.macros (with_inner (consumed_file len 0) old.files.nest) becomes bounded
+    (lends_source g old new ready m.body old.table.macros old.conditions (with_inner (consumed_file len 0) old.files.nest) becomes bounded
     (used_bytes old.files.nest len 0 within.0 within.1)
-    (nest_body old.limits (staged_rules old.limits old.origins) g.unread old.table.macros old.files.nest len m some inner.ends plain usage named refl built (omega arith)))
+    (nest_body old.limits (staged_rules old.limits old.origins) g.unread old.table.macros old.conditions live old.files.nest len m some inner.ends plain usage named refl built (omega arith)))
 
 -- a macro is taken out
-pub take_undef : {S R : Type 0} (g : Ghosts S R) (old new : EngineView S R) (start stop : ℕ) → IsReady old → IsBounded new
+pub take_undef : {S R : Type 0} (g : Ghosts S R) (old new : EngineView S R) (start stop : ℕ) → IsReady old → old.conditions.skipped ≡ None → IsBounded new
     → 0 < length (held_of (inner_buffer old.files.nest)) → (inner_buffer old.files.nest).mode ≡ Plain → HasName Undef (held_of (inner_buffer old.files.nest)) start stop
     → is_reserved (argument_name (held_of (inner_buffer old.files.nest)) start stop) ≡ false
     → new ≡ record old {
@@ -348,22 +362,22 @@ pub take_undef : {S R : Type 0} (g : Ghosts S R) (old new : EngineView S R) (sta
       files = record old.files { nest = with_inner (consumed_file stop 0) old.files.nest };
     } → Walks g old new (step_answer new None)
 unfolding behind_bytes
-take_undef g old new start stop ready bounded some plain named free becomes =
+take_undef g old new start stop ready live bounded some plain named free becomes =
     let inner = inner_facts old.files ready.nest ready.files in
     let held = held_of (inner_buffer old.files.nest) in
     let within = name_inside Undef held start stop named in
-    lends_source g old new ready [] (without (argument_name held start stop) old.table.macros) (with_inner (consumed_file stop 0) old.files.nest) becomes bounded
+    lends_source g old new ready [] (without (argument_name held start stop) old.table.macros) old.conditions (with_inner (consumed_file stop 0) old.files.nest) becomes bounded
     (used_bytes old.files.nest stop 0 (omega (arith, within.0, within.1)) within.2)
-    (nest_undef old.limits (staged_rules old.limits old.origins) g.unread old.table.macros old.files.nest start stop some inner.ends plain named free)
+    (nest_undef old.limits (staged_rules old.limits old.origins) g.unread old.table.macros old.conditions live old.files.nest start stop some inner.ends plain named free)
 
 -- a `define` whose logical line is held, and what it comes to
-module _ {S R : Type 0} (g : Ghosts S R) (old mid new : EngineView S R) (len : ℕ) (ready : IsReady old) (r : IsRead old mid) (bounded : IsBounded new)
+module _ {S R : Type 0} (g : Ghosts S R) (old mid new : EngineView S R) (len : ℕ) (ready : IsReady old) (live : old.conditions.skipped ≡ None) (r : IsRead old mid) (bounded : IsBounded new)
     (some : 0 < length (held_of (inner_buffer old.files.nest))) (plain : (inner_buffer old.files.nest).mode ≡ Plain) (define : IsDirective Define (held_of (inner_buffer old.files.nest)))
     (holds : HoldsLine (g.tells old.sources) g.unread (line.Whole len) (inner_buffer old.files.nest) (inner_buffer mid.files.nest))
     (call : SourcesCalled g false false old.sources mid.sources) where
   -- it is accepted
   accepted_steps : 7 ≤ len → len ≤ length (held_of (inner_buffer mid.files.nest)) → length (held_of (inner_buffer mid.files.nest)) < 2 ^ 31 → Defines len mid new → Walks g old new (step_answer new None)
-  unfolding staged_rules rules_of with_fault owed_bytes owed_pieces behind_bytes
+  unfolding staged_rules rules_of with_fault behind_bytes
   accepted_steps wide inside few d =
       let inner = inner_facts old.files ready.nest ready.files in
       let b = inner_buffer mid.files.nest in
@@ -376,20 +390,21 @@ module _ {S R : Type 0} (g : Ghosts S R) (old mid new : EngineView S R) (len : �
       let size = length-take len (held_of b) in
       let counted = d.counted in
       let makes : List (File R) → EngineView S R = λ ns.
-      record old { owed = record { line_ends = d.lines }; table = record old.table { macros = d.macros }; files = record old.files { nest = ns }; sources = mid.sources } in
+      record old { owed = line_ends_owed d.lines; table = record old.table { macros = d.macros }; files = record old.files { nest = ns }; sources = mid.sources } in
       let becomes : new ≡ makes after =
-      d.becomes ∙ (ap (λ (m : EngineView S R). record m { table = record m.table { macros = d.macros }; files = record m.files { nest = with_inner (consumed_file len d.lines) mid.files.nest }; owed = record { line_ends = d.lines } }) r.becomes
-      ∙ (ap (λ (fs : FilesView R). record old { owed = record { line_ends = d.lines }; table = record old.table { macros = d.macros }; files = record fs { nest = with_inner (consumed_file len d.lines) mid.files.nest }; sources = mid.sources }) r.only
+      d.becomes ∙ (ap (λ (m : EngineView S R). record m { table = record m.table { macros = d.macros }; files = record m.files { nest = with_inner (consumed_file len d.lines) mid.files.nest }; owed = line_ends_owed d.lines }) r.becomes
+      ∙ (ap (λ (fs : FilesView R). record old { owed = line_ends_owed d.lines; table = record old.table { macros = d.macros }; files = record fs { nest = with_inner (consumed_file len d.lines) mid.files.nest }; sources = mid.sources }) r.only
       ∙ ap (λ (ns : List (File R)). makes (with_inner (consumed_file len d.lines) ns)) nest)) in
       let accepted : define_of old.limits.definition_bytes old.limits.definitions old.table.macros (drop 7 w) ≡ table_define.Accepted d.macros =
       rw (← ready.sound.definition_bytes, ← ready.sound.definitions) (rw table at d.accepted) in
-      let owed : line_ends_of w ≡ replicate d.lines 10 = line_ends_of-owed w ∙ ap (λ n. replicate n 10) (sym counted) in
+      let owed : line_ends_of w ≡ owed_bytes (inner_name after) (line_ends_owed d.lines) =
+      line_ends_of-owed w ∙ (ap (λ n. replicate n 10) (sym counted) ∙ sym (owed_lines (inner_name after) d.lines)) in
       subst (λ (e : EngineView S R). Walks g old e (Ok (Some []))) (sym becomes)
-      (lends_piece g old ready [] (record { line_ends = d.lines }) d.macros after mid.sources (subst IsBounded becomes bounded) (omega arith)
+      (lends_piece g old ready [] (line_ends_owed d.lines) d.macros old.conditions after mid.sources (subst IsBounded becomes bounded) (lines_few d.lines _ (omega arith))
       (used_after old.files.nest b len d.lines ready.nest holds.extends.unused (omega arith) inside) call
-      (λ t. nest_defined old.limits (staged_rules old.limits old.origins) g.unread old.table.macros (g.tells old.sources) t old.files.nest b len d.lines d.macros
+      (λ t. nest_defined old.limits (staged_rules old.limits old.origins) g.unread old.table.macros old.conditions live (g.tells old.sources) t old.files.nest b len d.lines d.macros
       some inner.ends plain define holds (ap with_fault accepted) counted
-      ∙ ap (λ (x : List ℕ). behind_bytes x (left_by g.unread old d.macros after)) owed))
+      ∙ ap (λ (x : List ℕ). behind_bytes x (left_by g.unread old d.macros old.conditions after)) owed))
 
   -- it is refused
   refused_steps : (place : Place) → place ≡ Kept → RefusesDefine len mid new → Walks g old new (lent_answer new place)
@@ -402,7 +417,7 @@ module _ {S R : Type 0} (g : Ghosts S R) (old mid new : EngineView S R) (len : �
       let refused : define_of old.limits.definition_bytes old.limits.definitions old.table.macros (drop 7 (take len (held_of b))) ≡ table_define.Refused d.kind d.word =
       rw (← ready.sound.definition_bytes, ← ready.sound.definitions) (rw table at d.refused) in
       refuses g old mid new place (define_fault d.kind) b.line d.word ready r bounded is d.becomes (define_kind d.kind) call
-      (λ t. nest_refused_define old.limits (staged_rules old.limits old.origins) g.unread old.table.macros (g.tells old.sources) t old.files.nest b len (define_fault d.kind) d.word
+      (λ t. nest_refused_define old.limits (staged_rules old.limits old.origins) g.unread old.table.macros old.conditions live (g.tells old.sources) t old.files.nest b len (define_fault d.kind) d.word
       some inner.ends plain define holds (ap with_fault refused)
       ∙ rw here refl)
 
@@ -424,10 +439,10 @@ defined_placed len old new (Some (Owed n)) reads = absurd reads
 defined_placed len old new (Some End) reads = absurd reads
 
 -- the macros of a state are those that it is made of
-nest_macros : {R : Type 0} (limits : Limits) (macros : List Macro) (nest : List (File R)) → (nest_state limits macros nest).macros ≡ macros
+nest_macros : {R : Type 0} (limits : Limits) (macros : List Macro) (v : ConditionsView) (nest : List (File R)) → (nest_state limits macros v nest).macros ≡ macros
 unfolding nest_state file_state start_state
-nest_macros limits macros [] = refl
-nest_macros limits macros (f ∷ outer) = refl
+nest_macros limits macros v [] = refl
+nest_macros limits macros v (f ∷ outer) = refl
 
 -- bytes in front of bytes
 behind_twice : (x y : List ℕ) (p : Passage) → behind_bytes (x ++ y) p ≡ behind_bytes x (behind_bytes y p)
@@ -451,11 +466,11 @@ module _ {S R : Type 0} (g : Ghosts S R) (old mid new : EngineView S R) (ready :
       let P : S → Type 0 = λ s. SourcesCalled g false false old.sources s in
       walks_end g old new ready.free ready.open_ bounded ends (subst P (sym sources) call)
       (λ t. record {
-        last = nest_state old.limits old.table.macros old.files.nest;
+        last = nest_state old.limits old.table.macros old.conditions old.files.nest;
         text = text_unowed g.unread old ready.owed
-            ∙ nest_ended old.limits (staged_rules old.limits old.origins) g.unread old.table.macros (g.tells old.sources) t old.files.nest (inner_buffer mid.files.nest)
-            ready.nest ready.sound.alone fills (sym fills.mode ∙ plain);
-        macros = nest_macros old.limits old.table.macros old.files.nest ∙ ap (λ t. t.macros) (sym table);
+            ∙ nest_ended old.limits (staged_rules old.limits old.origins) g.unread old.table.macros old.conditions (g.tells old.sources) t old.files.nest (inner_buffer mid.files.nest)
+            ready.nest ready.sound.alone ready.sound.conditions_of.unopened fills (sym fills.mode ∙ plain);
+        macros = nest_macros old.limits old.table.macros old.conditions old.files.nest ∙ ap (λ t. t.macros) (sym table);
         closed = ap (λ e. e.files.nest) becomes;
       })
 
@@ -467,7 +482,7 @@ module _ {S R : Type 0} (g : Ghosts S R) (old mid new : EngineView S R) (ready :
       let tokens : ended_tokens before.mode before.open_token_line ≡ ended_tokens b.mode b.open_token_line =
       rw (fills.mode, fills.open_token_line) refl in
       refuses g old mid new Kept (breach_kind stops.breach) b.open_token_line [] ready r bounded refl stops.kept stops.own call
-      (λ t. nest_open old.limits (staged_rules old.limits old.origins) g.unread old.table.macros (g.tells old.sources) t old.files.nest b stops.breach ready.nest fills
+      (λ t. nest_open old.limits (staged_rules old.limits old.origins) g.unread old.table.macros old.conditions (g.tells old.sources) t old.files.nest b stops.breach ready.nest fills
       (tokens ∙ (stops.tokens ∙ ap (only_broken stops.breach) fills.open_token_line))
       ∙ rw fills.open_token_line refl)
 
@@ -487,18 +502,24 @@ ended_placed mid new End ends = tt
 ended_placed mid new Kept ends = tt
 
 -- what is owed is lent
-pub take_owed : {S R : Type 0} (g : Ghosts S R) (old new : EngineView S R) (len : ℕ) (owed : OwedView) → old.kept ≡ None → old.phase ≡ Open → IsBounded new
-    → 0 < len → old.owed.line_ends ≡ len + owed.line_ends → new ≡ record old { owed = owed } → Walks g old new (lent_answer new (Owed len))
-unfolding text_of owed_bytes owed_pieces
-take_owed {S} {R} g old new len owed free open_ bounded some split becomes =
+pub take_owed : {S R : Type 0} (g : Ghosts S R) (old new : EngineView S R) (piece : OwedPiece) (owed : OwedView) → old.kept ≡ None → old.phase ≡ Open → IsBounded new
+    → TakesPiece (inner_name old.files.nest) old.owed owed piece → new ≡ record old { owed = owed } → Walks g old new (lent_answer new (Owed piece))
+unfolding text_of
+take_owed {S} {R} g old new piece owed free open_ bounded takes becomes =
     let after = record old { owed = owed } in
-    let rest = left_by g.unread old old.table.macros old.files.nest in
-    let joined : replicate old.owed.line_ends 10 ≡ replicate len 10 ++ replicate owed.line_ends 10 =
-    ap (λ n. replicate n 10) split ∙ sym (replicate-append-replicate len owed.line_ends 10) in
-    subst (λ (e : EngineView S R). Walks g old e (Ok (Some (replicate len 10)))) (sym becomes)
-    (walks_lent g old after free open_ (subst IsBounded becomes bounded) (replicate len 10) refl (not_called g old.sources)
-    (λ t. ap (λ (x : List ℕ). behind_bytes x rest) joined ∙ behind_twice (replicate len 10) (replicate owed.line_ends 10) rest)
-    (owed_falls old after refl refl (omega arith)))
+    let name = inner_name old.files.nest in
+    let bytes = take piece.len (part_bytes piece.part name (digits_of owed.origin)) in
+    let rest = left_by g.unread old old.table.macros old.conditions old.files.nest in
+    subst (λ (e : EngineView S R). Walks g old e (lent_answer e (Owed piece))) (sym becomes)
+    (walks_lent g old after free open_ (subst IsBounded becomes bounded) bytes refl (not_called g old.sources)
+    (λ t. ap (λ (x : List ℕ). behind_bytes x rest) takes.bytes ∙ behind_twice bytes (owed_bytes name owed) rest)
+    (owed_falls old after refl refl takes.fewer))
+
+-- and it is a place
+pub owed_is_placed : {S R : Type 0} (old new : EngineView S R) (piece : OwedPiece) (owed : OwedView) → 0 < length old.files.nest
+    → TakesPiece (inner_name old.files.nest) old.owed owed piece → new ≡ record old { owed = owed } → IsPlaced new (Owed piece)
+owed_is_placed {S} {R} old new piece owed some takes becomes =
+    subst (λ (e : EngineView S R). IsPlaced e (Owed piece)) (sym becomes) (some, takes.inside)
 
 -- bytes are held that weren't, and nothing else changed
 pub silent_fill : {S R : Type 0} (g : Ghosts S R) (old mid : EngineView S R) → IsReady old → IsRead old mid
@@ -508,6 +529,7 @@ silent_fill {S} {R} g old mid ready r fills call =
     let limits : mid.limits ≡ old.limits = ap (λ e. e.limits) r.becomes in
     let origins : mid.origins ≡ old.origins = ap (λ e. e.origins) r.becomes in
     let table : mid.table ≡ old.table = ap (λ e. e.table) r.becomes in
+    let conditions : mid.conditions ≡ old.conditions = ap (λ e. e.conditions) r.becomes in
     let owed : mid.owed ≡ old.owed = ap (λ e. e.owed) r.becomes in
     let nest : mid.files.nest ≡ with_buffer b old.files.nest = ap (λ f. f.nest) r.only in
     record {
@@ -521,9 +543,9 @@ silent_fill {S} {R} g old mid ready r fills call =
       stays = ap (λ e. e.phase) r.becomes ∙ ready.open_;
       call = call;
       text = λ t. text_unowed g.unread old ready.owed
-          ∙ (nest_filled old.limits (staged_rules old.limits old.origins) g.unread old.table.macros (g.tells old.sources) t old.files.nest b fills
-          ∙ (ap (λ (ns : List (File R)). nest_left old.limits (staged_rules old.limits old.origins) g.unread old.table.macros ns) (sym nest)
-          ∙ (rw (limits, origins, table) refl ∙ sym (text_unowed g.unread mid (owed ∙ ready.owed)))));
+          ∙ (nest_filled old.limits (staged_rules old.limits old.origins) g.unread old.table.macros old.conditions (g.tells old.sources) t old.files.nest b fills
+          ∙ (ap (λ (ns : List (File R)). nest_left old.limits (staged_rules old.limits old.origins) g.unread old.table.macros old.conditions ns) (sym nest)
+          ∙ (rw (limits, origins, table, conditions) refl ∙ sym (text_unowed g.unread mid (owed ∙ ready.owed)))));
       work = (let same : work_left mid ≡ work_left old = work_same old mid b limits owed nest fills.unused in omega arith);
     }
 
@@ -533,7 +555,7 @@ unfolding is_open
 opened_phase p e = ap is_open e
 
 -- an engine that goes on still does where bytes were filled in
-pub ready_filled : {S R : Type 0} (old mid : EngineView S R) → IsReady old → IsRead old mid → IsSoundEngine mid.limits mid.phase mid.table mid.files → AreOpen mid.files → IsReady mid
+pub ready_filled : {S R : Type 0} (old mid : EngineView S R) → IsReady old → IsRead old mid → IsSoundEngine mid.limits mid.phase mid.table mid.files mid.conditions → AreOpen mid.files → IsReady mid
 ready_filled old mid ready r sound files = record {
   open_ = ap (λ e. e.phase) r.becomes ∙ ready.open_;
   free = ap (λ e. e.kept) r.becomes ∙ ready.free;
@@ -546,72 +568,72 @@ ready_filled old mid ready r sound files = record {
 -- what remains of an engine that goes on, where what it begins with ends the output
 module _ {S R : Type 0} (unread : R → List ℕ) (e : EngineView S R) where
   abbrev pub Fails : FaultKind → ℕ → List ℕ → Type 0
-  Fails kind line word = left_by unread e e.table.macros e.files.nest ≡ leaves (fails (fault_at kind line word (state_of e))) (state_of e)
+  Fails kind line word = left_by unread e e.table.macros e.conditions e.files.nest ≡ leaves (fails (fault_at kind line word (state_of e))) (state_of e)
 
   -- a usage of what isn't built
-  pub left_unbuilt : (len : ℕ) (m : Macro) → IsReady e → 0 < length (held_of (inner_buffer e.files.nest)) → (inner_buffer e.files.nest).mode ≡ Plain → IsUsage (held_of (inner_buffer e.files.nest)) len
+  pub left_unbuilt : (len : ℕ) (m : Macro) → IsReady e → e.conditions.skipped ≡ None → 0 < length (held_of (inner_buffer e.files.nest)) → (inner_buffer e.files.nest).mode ≡ Plain → IsUsage (held_of (inner_buffer e.files.nest)) len
       → macro_named e.table.macros (usage_name (held_of (inner_buffer e.files.nest)) len) ≡ Some m → is_unbuilt_macro m ≡ true → Fails fault.Unbuilt (inner_buffer e.files.nest).line []
   unfolding state_of staged_rules rules_of
-  left_unbuilt len m ready some plain usage named unbuilt =
-      nest_unbuilt e.limits (staged_rules e.limits e.origins) unread e.table.macros e.files.nest len m some (inner_facts e.files ready.nest ready.files).ends plain usage named unbuilt
+  left_unbuilt len m ready live some plain usage named unbuilt =
+      nest_unbuilt e.limits (staged_rules e.limits e.origins) unread e.table.macros e.conditions live e.files.nest len m some (inner_facts e.files ready.nest ready.files).ends plain usage named unbuilt
 
   -- a usage of what isn't defined
-  pub left_undefined : (len : ℕ) → IsReady e → 0 < length (held_of (inner_buffer e.files.nest)) → (inner_buffer e.files.nest).mode ≡ Plain → IsUsage (held_of (inner_buffer e.files.nest)) len
+  pub left_undefined : (len : ℕ) → IsReady e → e.conditions.skipped ≡ None → 0 < length (held_of (inner_buffer e.files.nest)) → (inner_buffer e.files.nest).mode ≡ Plain → IsUsage (held_of (inner_buffer e.files.nest)) len
       → macro_named e.table.macros (usage_name (held_of (inner_buffer e.files.nest)) len) ≡ None → Fails fault.UndefinedMacro (inner_buffer e.files.nest).line (usage_name (held_of (inner_buffer e.files.nest)) len)
   unfolding state_of
-  left_undefined len ready some plain usage none =
-      nest_undefined e.limits (staged_rules e.limits e.origins) unread e.table.macros e.files.nest len some (inner_facts e.files ready.nest ready.files).ends plain usage none
+  left_undefined len ready live some plain usage none =
+      nest_undefined e.limits (staged_rules e.limits e.origins) unread e.table.macros e.conditions live e.files.nest len some (inner_facts e.files ready.nest ready.files).ends plain usage none
 
   -- what is refused
-  pub left_refused : (kind : FaultKind) → IsReady e → 0 < length (held_of (inner_buffer e.files.nest)) → IsRefused (inner_buffer e.files.nest).mode (held_of (inner_buffer e.files.nest)) kind → Fails kind (inner_buffer e.files.nest).line []
+  pub left_refused : (kind : FaultKind) → IsReady e → e.conditions.skipped ≡ None → 0 < length (held_of (inner_buffer e.files.nest)) → IsRefused (inner_buffer e.files.nest).mode (held_of (inner_buffer e.files.nest)) kind → Fails kind (inner_buffer e.files.nest).line []
   unfolding state_of
-  left_refused kind ready some refused =
-      nest_refused e.limits (staged_rules e.limits e.origins) unread e.table.macros e.files.nest kind some (inner_facts e.files ready.nest ready.files).ends refused
+  left_refused kind ready live some refused =
+      nest_refused e.limits (staged_rules e.limits e.origins) unread e.table.macros e.conditions live e.files.nest kind some (inner_facts e.files ready.nest ready.files).ends refused
 
   -- an `undef` of a reserved name
-  pub left_reserved : (start stop : ℕ) → IsReady e → 0 < length (held_of (inner_buffer e.files.nest)) → (inner_buffer e.files.nest).mode ≡ Plain → HasName Undef (held_of (inner_buffer e.files.nest)) start stop
+  pub left_reserved : (start stop : ℕ) → IsReady e → e.conditions.skipped ≡ None → 0 < length (held_of (inner_buffer e.files.nest)) → (inner_buffer e.files.nest).mode ≡ Plain → HasName Undef (held_of (inner_buffer e.files.nest)) start stop
       → is_reserved (argument_name (held_of (inner_buffer e.files.nest)) start stop) ≡ true → Fails fault.ReservedName (inner_buffer e.files.nest).line (argument_name (held_of (inner_buffer e.files.nest)) start stop)
   unfolding state_of
-  left_reserved start stop ready some plain named taken =
-      nest_reserved e.limits (staged_rules e.limits e.origins) unread e.table.macros e.files.nest start stop some (inner_facts e.files ready.nest ready.files).ends plain named taken
+  left_reserved start stop ready live some plain named taken =
+      nest_reserved e.limits (staged_rules e.limits e.origins) unread e.table.macros e.conditions live e.files.nest start stop some (inner_facts e.files ready.nest ready.files).ends plain named taken
 
   -- an `undef` without a name
-  pub left_nameless : IsReady e → 0 < length (held_of (inner_buffer e.files.nest)) → (inner_buffer e.files.nest).mode ≡ Plain → LacksName Undef (held_of (inner_buffer e.files.nest)) → Fails fault.NameExpected (inner_buffer e.files.nest).line []
+  pub left_nameless : IsReady e → e.conditions.skipped ≡ None → 0 < length (held_of (inner_buffer e.files.nest)) → (inner_buffer e.files.nest).mode ≡ Plain → LacksName Undef (held_of (inner_buffer e.files.nest)) → Fails fault.NameExpected (inner_buffer e.files.nest).line []
   unfolding state_of
-  left_nameless ready some plain lacks =
-      nest_nameless e.limits (staged_rules e.limits e.origins) unread e.table.macros e.files.nest some (inner_facts e.files ready.nest ready.files).ends plain lacks
+  left_nameless ready live some plain lacks =
+      nest_nameless e.limits (staged_rules e.limits e.origins) unread e.table.macros e.conditions live e.files.nest some (inner_facts e.files ready.nest ready.files).ends plain lacks
 
 -- what remains where a line breaks the source
 module _ {S R : Type 0} (g : Ghosts S R) (old mid : EngineView S R) (ready : IsReady old) (t : g.tells old.sources) where
   pub left_long_line : Fills (g.tells old.sources) g.unread fill.LineLong (inner_buffer old.files.nest) (inner_buffer mid.files.nest)
-      → left_by g.unread old old.table.macros old.files.nest ≡ leaves (fails (fault_at fault.LineTooLong (inner_buffer mid.files.nest).line [] (state_of old))) (state_of old)
+      → left_by g.unread old old.table.macros old.conditions old.files.nest ≡ leaves (fails (fault_at fault.LineTooLong (inner_buffer mid.files.nest).line [] (state_of old))) (state_of old)
   unfolding state_of
   left_long_line fills =
-      nest_long_line old.limits (staged_rules old.limits old.origins) g.unread old.table.macros (g.tells old.sources) t old.files.nest (inner_buffer mid.files.nest) ready.nest fills
+      nest_long_line old.limits (staged_rules old.limits old.origins) g.unread old.table.macros old.conditions (g.tells old.sources) t old.files.nest (inner_buffer mid.files.nest) ready.nest fills
       ∙ rw fills.line refl
 
   pub left_long_source : Fills (g.tells old.sources) g.unread fill.SourceLong (inner_buffer old.files.nest) (inner_buffer mid.files.nest)
-      → left_by g.unread old old.table.macros old.files.nest ≡ leaves (fails (fault_at fault.SourceTooLong (inner_buffer mid.files.nest).line [] (state_of old))) (state_of old)
+      → left_by g.unread old old.table.macros old.conditions old.files.nest ≡ leaves (fails (fault_at fault.SourceTooLong (inner_buffer mid.files.nest).line [] (state_of old))) (state_of old)
   unfolding state_of
   left_long_source fills =
-      nest_long_source old.limits (staged_rules old.limits old.origins) g.unread old.table.macros (g.tells old.sources) t old.files.nest (inner_buffer mid.files.nest) ready.nest fills
+      nest_long_source old.limits (staged_rules old.limits old.origins) g.unread old.table.macros old.conditions (g.tells old.sources) t old.files.nest (inner_buffer mid.files.nest) ready.nest fills
       ∙ rw fills.line refl
 
   -- or the logical line of a `define` does
-  module _ (some : 0 < length (held_of (inner_buffer old.files.nest))) (plain : (inner_buffer old.files.nest).mode ≡ Plain) (define : IsDirective Define (held_of (inner_buffer old.files.nest))) where
+  module _ (live : old.conditions.skipped ≡ None) (some : 0 < length (held_of (inner_buffer old.files.nest))) (plain : (inner_buffer old.files.nest).mode ≡ Plain) (define : IsDirective Define (held_of (inner_buffer old.files.nest))) where
     pub left_long_define : HoldsLine (g.tells old.sources) g.unread line.TooLong (inner_buffer old.files.nest) (inner_buffer mid.files.nest)
-        → left_by g.unread old old.table.macros old.files.nest ≡ leaves (fails (fault_at fault.LineTooLong (inner_buffer mid.files.nest).line [] (state_of old))) (state_of old)
+        → left_by g.unread old old.table.macros old.conditions old.files.nest ≡ leaves (fails (fault_at fault.LineTooLong (inner_buffer mid.files.nest).line [] (state_of old))) (state_of old)
     unfolding state_of
     left_long_define holds =
-        nest_long_define old.limits (staged_rules old.limits old.origins) g.unread old.table.macros (g.tells old.sources) t old.files.nest (inner_buffer mid.files.nest)
+        nest_long_define old.limits (staged_rules old.limits old.origins) g.unread old.table.macros old.conditions live (g.tells old.sources) t old.files.nest (inner_buffer mid.files.nest)
         some (inner_facts old.files ready.nest ready.files).ends plain define holds
         ∙ rw holds.extends.line refl
 
     pub left_cut_define : HoldsLine (g.tells old.sources) g.unread line.SourceLong (inner_buffer old.files.nest) (inner_buffer mid.files.nest)
-        → left_by g.unread old old.table.macros old.files.nest ≡ leaves (fails (fault_at fault.SourceTooLong (inner_buffer mid.files.nest).line [] (state_of old))) (state_of old)
+        → left_by g.unread old old.table.macros old.conditions old.files.nest ≡ leaves (fails (fault_at fault.SourceTooLong (inner_buffer mid.files.nest).line [] (state_of old))) (state_of old)
     unfolding state_of
     left_cut_define holds =
-        nest_cut_define old.limits (staged_rules old.limits old.origins) g.unread old.table.macros (g.tells old.sources) t old.files.nest (inner_buffer mid.files.nest)
+        nest_cut_define old.limits (staged_rules old.limits old.origins) g.unread old.table.macros old.conditions live (g.tells old.sources) t old.files.nest (inner_buffer mid.files.nest)
         some (inner_facts old.files ready.nest ready.files).ends plain define holds
         ∙ rw holds.extends.line refl
 
@@ -632,7 +654,7 @@ stops_open {S} {R} old new place breach mode line is at_mode tokens own opened b
     })
 
 -- no more is held than a line may have
-pub held_few : {S R : Type 0} (e : EngineView S R) → IsSoundEngine e.limits e.phase e.table e.files → AreOpen e.files → 0 < length e.files.nest → length (held_of (inner_buffer e.files.nest)) < 2 ^ 31
+pub held_few : {S R : Type 0} (e : EngineView S R) → IsSoundEngine e.limits e.phase e.table e.files e.conditions → AreOpen e.files → 0 < length e.files.nest → length (held_of (inner_buffer e.files.nest)) < 2 ^ 31
 held_few e sound files some =
     let inner = inner_facts e.files some files in
     let room = held_room (inner_buffer e.files.nest) in
@@ -713,16 +735,18 @@ table_same old new bytes count = rw (← bytes, ← count) refl
 -- an accepted `define`
 pub defines_by : {S R : Type 0} (len : ℕ) (old now new : EngineView S R) (table : TableView) (owed : OwedView) (lines : ℕ)
     → now ≡ record old { table = table; files = record old.files { nest = with_inner (consumed_file len lines) old.files.nest } }
-    → new ≡ record now { owed = owed } → owed ≡ record { line_ends = now.owed.line_ends + lines } → old.owed ≡ nothing_owed
+    → new ≡ record now { owed = owed } → owed ≡ record now.owed { line_ends = now.owed.line_ends + lines } → old.owed ≡ nothing_owed
     → (table.most_bytes ≡ old.table.most_bytes) × (table.most_macros ≡ old.table.most_macros)
     → define_of old.table.most_bytes old.table.most_macros old.table.macros (define_rest old len) ≡ table_define.Accepted table.macros
     → lines ≡ line_ends (take len (held_of (inner_buffer old.files.nest))) → Defines len old new
-unfolding nothing_owed
+unfolding nothing_owed line_ends_owed
 defines_by {S} {R} len old now new table owed lines used owes adds nothing limits accepted counted =
     let files : FilesView R = record old.files { nest = with_inner (consumed_file len lines) old.files.nest } in
     let none : now.owed.line_ends ≡ 0 = ap (λ e. e.owed.line_ends) used ∙ ap (λ o. o.line_ends) nothing in
     let count : now.owed.line_ends + lines ≡ lines = omega arith in
-    let exact : owed ≡ record { line_ends = lines } = adds ∙ ap (λ (n : ℕ). record { line_ends = n }) count in
+    let empty : now.owed.origin ≡ None = ap (λ e. e.owed.origin) used ∙ ap (λ o. o.origin) nothing in
+    let owes_of : ℕ → Option OriginView → OwedView = λ n o. record { line_ends = n; origin = o } in
+    let exact : owed ≡ line_ends_owed lines = adds ∙ (ap (λ (n : ℕ). owes_of n now.owed.origin) count ∙ ap (owes_of lines) empty) in
     let makes : TableView → OwedView → EngineView S R = λ t o. record old { table = t; files = files; owed = o } in
     record {
       macros = table.macros;
@@ -730,12 +754,12 @@ defines_by {S} {R} len old now new table owed lines used owes adds nothing limit
       lines = lines;
       counted = counted;
       becomes = owes ∙ (ap (λ (e : EngineView S R). record e { owed = owed }) used
-          ∙ (ap (makes table) exact ∙ ap (λ (t : TableView). makes t (record { line_ends = lines })) (table_same old.table table limits.0 limits.1)));
+          ∙ (ap (makes table) exact ∙ ap (λ (t : TableView). makes t (line_ends_owed lines)) (table_same old.table table limits.0 limits.1)));
     }
 
 -- an engine of which nothing is owed goes on in its open sources
 pub ready_unowed : {S R : Type 0} (old new : EngineView S R) → old.phase ≡ Open → old.kept ≡ None → new ≡ record old { owed = nothing_owed }
-    → IsSoundEngine old.limits old.phase old.table old.files → AreOpen old.files → IsReady new
+    → IsSoundEngine old.limits old.phase old.table old.files old.conditions → AreOpen old.files → IsReady new
 ready_unowed old new open_ free becomes sound files = rw becomes (record {
   open_ = open_;
   free = free;

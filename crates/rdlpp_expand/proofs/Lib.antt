@@ -1,7 +1,9 @@
+pub mod OwedPieces
 pub mod WordFacts
 pub mod Soundness
 pub mod Bounds
 pub mod CopiedMacros
+pub mod ConditionalPlaces
 pub mod NestLeft
 pub mod WorkFacts
 pub mod OpeningFacts

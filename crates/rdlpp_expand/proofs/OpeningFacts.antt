@@ -20,13 +20,14 @@ use Rattle.rdlpp_meaning.specs.Output.{character_place, name_cut, opening_fault,
 use Rattle.rdlpp_meaning.proofs.Outputs.{output_plain, output_missing, output_overlong}
 use Rattle.rdlpp_expand.specs.Engine.{EngineView}
 use Rattle.rdlpp_scan.specs.SourceTokens.{SourceToken}
-use Rattle.rdlpp_meaning.specs.Meaning.{behind_bytes, outcome}
+use Rattle.rdlpp_meaning.specs.Meaning.{Progress, behind_bytes, outcome}
 use Rattle.rdlpp_meaning.specs.Opened.{all_resumed}
 use Rattle.rdlpp_meaning.proofs.Includes.{all_resumed_alone}
 use Rattle.rdlpp_read.specs.Buffer.{ahead_of, held_of, opened_buffer, rest_of, tokens_left, unread_of}
 use Rattle.rdlpp_front.specs.SourceLeft.{source_left}
+use Rattle.rdlpp_expand.proofs.ConditionalPlaces.{no_place}
 use Rattle.rdlpp_expand.specs.Held.{IsBounded, stores_of}
-use Rattle.rdlpp_expand.specs.Owed.{nothing_owed, owed_bytes}
+use Rattle.rdlpp_expand.specs.Owed.{nothing_owed, origin_bytes, owed_bytes}
 use Rattle.rdlpp_expand.specs.Remaining.{file_state, kept_uncut, left_of, nest_left, nest_state, output_fault, phase_uncut, staged_rules, text_of, uncut_of, waiting_around}
 use Rattle.rdlpp_meaning.specs.OutputLimit.{limited}
 use Rattle.rdlpp_meaning.proofs.OutputLimits.{limited-fails}
@@ -133,18 +134,19 @@ alone rules ts s = ap outcome (all_resumed_alone rules (Live []) true ts s)
 
 -- what remains of a main text that was opened
 left_opened : {S R : Type 0} (unread : R → List ℕ) (e : EngineView S R) (s : S) (found : Found R)
-    → e.files.line_bytes ≡ e.limits.line_bytes → e.files.nest ≡ []
+    → e.files.line_bytes ≡ e.limits.line_bytes → e.files.nest ≡ [] → e.conditions.open_now ≡ []
     → left_of unread (opened_engine (record e { sources = s }) found)
     ≡ limited (output_fault found.path.bytes) e.limits.output_bytes
     (remains (staged_rules e.limits e.origins) (Live []) true ((staged_rules e.limits e.origins).tokens (unread found.reader))
     (start_state e.table.macros e.limits.includes e.limits.conditions found.path.bytes))
-unfolding left_of uncut_of kept_uncut phase_uncut text_of nest_left waiting_around nest_state file_state source_left opened_engine nothing_owed owed_bytes opened_buffer tokens_left held_of rest_of ahead_of unread_of whole_tokens staged_rules rules_of start_state no_shift
-left_opened unread e s found most none =
+unfolding left_of uncut_of kept_uncut phase_uncut text_of nest_left waiting_around nest_state file_state source_left opened_engine nothing_owed owed_bytes origin_bytes opened_buffer tokens_left held_of rest_of ahead_of unread_of whole_tokens staged_rules rules_of start_state no_shift
+left_opened unread e s found most none unopened =
     let rules = staged_rules e.limits e.origins in
     let ts = whole_tokens is_unbuilt e.limits.line_bytes e.limits.source_bytes (unread found.reader) in
     let starts : ℕ → State = λ n. record (start_state e.table.macros e.limits.includes e.limits.conditions found.path.bytes) { sources_left = n } in
+    let count : e.limits.conditions - length {A = Progress} [] ≡ e.limits.conditions = omega arith in
     let all : e.limits.includes - 0 ≡ e.limits.includes = omega arith in
-    rw (none, most) (ap (limited (output_fault found.path.bytes) e.limits.output_bytes) (alone rules ts (starts (e.limits.includes - 0)))
+    rw (none, most, no_place 0 e.conditions unopened, unopened, count) (ap (limited (output_fault found.path.bytes) e.limits.output_bytes) (alone rules ts (starts (e.limits.includes - 0)))
     ∙ ap (λ (n : ℕ). limited (output_fault found.path.bytes) e.limits.output_bytes (remains rules (Live []) true ts (starts n))) all)
 
 -- what remains where no main text was opened
@@ -180,6 +182,7 @@ pub starts_open : {S R : Type 0} (g : Ghosts S R) (e : EngineView S R) (s : S) (
     → e.origins ≡ false
     → e.files.line_bytes ≡ e.limits.line_bytes
     → e.files.nest ≡ []
+    → e.conditions.open_now ≡ []
     → IsBounded (opened_engine (record e { sources = s }) found)
     → (g.tells e.sources → (g.catalog e.sources).top path ≡ Present found.path.bytes (g.unread found.reader))
     → g.failures s ≡ g.failures e.sources
@@ -188,7 +191,7 @@ pub starts_open : {S R : Type 0} (g : Ghosts S R) (e : EngineView S R) (s : S) (
     → g.catalog s ≡ g.catalog e.sources
     → Starts g e (opened_engine (record e { sources = s }) found) path None
 unfolding opened_engine is_device_fault is_memory_fault lookup_of looked_up found_name
-starts_open g e s found path plain most none bounded answer failures refusals tells catalog = record {
+starts_open g e s found path plain most none unopened bounded answer failures refusals tells catalog = record {
   limits = refl;
   origins = refl;
   table = refl;
@@ -198,7 +201,7 @@ starts_open g e s found path plain most none bounded answer failures refusals te
   refused = λ f is. absurd (cc is);
   call = record { failures = failures; refusals = refusals; tells = tells; catalog = catalog };
   remains_output = λ _ _ telling.
-      left_opened g.unread e s found most none
+      left_opened g.unread e s found most none unopened
       ∙ sym (staged_plain g e path _ plain (answer telling)
       ∙ ap (limited (output_fault found.path.bytes) e.limits.output_bytes)
       (output_plain (staged_rules e.limits e.origins) e.table.macros e.limits.includes e.limits.conditions path

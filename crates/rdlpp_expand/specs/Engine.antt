@@ -6,13 +6,15 @@ use Rattle.rdlpp_table.specs.Table.{table_size}
 use Rattle.rdlpp_table.specs.View.{TableView}
 use Rattle.rdlpp_table.specs.declared.limits.Limits.{Limits}
 use Rattle.rdlpp_meaning.specs.Outcome.{Told}
+use Rattle.rdlpp_conditions.specs.Conditions.{ConditionsView}
 use Rattle.rdlpp_read.specs.Files.{FilesView}
+use Rattle.rdlpp_expand.specs.OpenConditionals.{AreConditions}
 use Rattle.rdlpp_expand.specs.Owed.{OwedView}
 use Rattle.rdlpp_expand.specs.declared.phase.Phase.{Phase}
 use Rattle.rdlpp_expand.specs.declared.phase.Phase.TheVariants.{Fresh, Open, Passed, Closed}
 
 -- an engine: its limits, whether it writes origin lines, how far it is, how many bytes it may still lend, the fault that it keeps, the main
--- text's name, what it owes, its table, its sources, and those that are open
+-- text's name, what it owes, its table, the open conditionals, its sources, and those that are open
 pub record EngineView (S R : Type 0) : Type 0 where
   pub limits : Limits
   pub origins : Bool
@@ -22,6 +24,7 @@ pub record EngineView (S R : Type 0) : Type 0 where
   pub main : List ℕ
   pub owed : OwedView
   pub table : TableView
+  pub conditions : ConditionsView
   pub sources : S
   pub files : FilesView R
 
@@ -32,9 +35,9 @@ is_open Open = true
 is_open Passed = true
 is_open Closed = false
 
--- what always holds of an engine: its limits are in their ranges, its table and its slots are those of its limits, no source is included yet, and one is open
--- exactly where the main text is
-pub record IsSoundEngine {R : Type 0} (limits : Limits) (phase : Phase) (table : TableView) (files : FilesView R) : Type 0 where
+-- what always holds of an engine: its limits are in their ranges, its table, its slots and its conditionals are those of its limits, no source is included yet,
+-- and one is open exactly where the main text is
+pub record IsSoundEngine {R : Type 0} (limits : Limits) (phase : Phase) (table : TableView) (files : FilesView R) (conditions : ConditionsView) : Type 0 where
   pub in_range : AreInRange limits
   pub definition_bytes : table.most_bytes ≡ limits.definition_bytes
   pub definitions : table.most_macros ≡ limits.definitions
@@ -42,5 +45,6 @@ pub record IsSoundEngine {R : Type 0} (limits : Limits) (phase : Phase) (table :
   pub slots : files.slots ≡ limits.includes + 1
   pub line_bytes : files.line_bytes ≡ limits.line_bytes
   pub alone : length files.nest ≤ 1
+  pub conditions_of : AreConditions limits conditions files.nest
   pub open_ : is_open phase ≡ true → 0 < length files.nest
   pub closed : is_open phase ≡ false → files.nest ≡ []

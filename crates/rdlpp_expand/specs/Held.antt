@@ -42,6 +42,6 @@ held_told e = let s = stores_of e in record {
   buffers = sum_by length s.buffers;
   cursors = 0;
   bindings = 0;
-  conditions = 0;
+  conditions = length e.conditions.open_now;
   sources = length e.files.nest;
 }

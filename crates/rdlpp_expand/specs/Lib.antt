@@ -1,6 +1,7 @@
 pub mod Calls
 pub mod Work
 pub mod Owed
+pub mod OpenConditionals
 pub mod Engine
 pub mod Held
 pub mod Remaining

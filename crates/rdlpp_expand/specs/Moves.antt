@@ -13,7 +13,7 @@ use Rattle.rdlpp_read.specs.Buffer.{held_of}
 use Rattle.rdlpp_read.specs.Filling.{ended_tokens, only_broken}
 use Rattle.rdlpp_read.specs.Files.{AreOpen, consumed_file, inner_buffer, with_inner}
 use Rattle.rdlpp_expand.specs.Engine.{EngineView, IsSoundEngine}
-use Rattle.rdlpp_expand.specs.Owed.{nothing_owed}
+use Rattle.rdlpp_expand.specs.Owed.{line_ends_owed, nothing_owed}
 use Rattle.rdlpp_expand.specs.Remaining.{state_of}
 use Rattle.rdlpp_expand.specs.Steps.{IsOwn}
 use Rattle.rdlpp_expand.specs.declared.place.Place.{Place}
@@ -26,7 +26,7 @@ pub record IsReady {S R : Type 0} (e : EngineView S R) : Type 0 where
   pub free : e.kept ≡ None
   pub owed : e.owed ≡ nothing_owed
   pub nest : 0 < length e.files.nest
-  pub sound : IsSoundEngine e.limits e.phase e.table e.files
+  pub sound : IsSoundEngine e.limits e.phase e.table e.files e.conditions
   pub files : AreOpen e.files
 
 -- an engine whose text ended in a string or in a block comment: its fault is kept, at the line where that opened
@@ -57,7 +57,7 @@ pub record Defines {S R : Type 0} (len : ℕ) (old new : EngineView S R) : Type 
   pub becomes : new ≡ record old {
     table = record old.table { macros = macros };
     files = record old.files { nest = with_inner (consumed_file len lines) old.files.nest };
-    owed = record { line_ends = lines };
+    owed = line_ends_owed lines;
   }
 
 -- a `define` that was refused, whose fault is kept

@@ -1,6 +1,6 @@
 -- How an engine is made, and how its main text is opened.
 -- A definition that names no source is this project's own.
-use Rattle.std.specs.Prelude.{◌≡◌, ℕ, Bool, true, false, ◌+◌, List, [], ◌∷◌, Option, None, Some, Result, Ok, Err, if◌then◌else◌}
+use Rattle.std.specs.Prelude.{◌≡◌, ℕ, Bool, false, ◌+◌, List, [], ◌∷◌, Option, None, Some, Result, Ok, Err, if◌then◌else◌}
 use Rattle.rdlpp_expand.specs.Calls.{SourcesCalled}
 use Rattle.rdlpp_source.specs.Sources.{Answer, Missing, Overlong, Present}
 use Rattle.rdlpp_source.specs.declared.sources.Found.{Found}
@@ -11,7 +11,7 @@ use Rattle.rdlpp_table.specs.Limits.{limit_fault}
 use Rattle.rdlpp_table.specs.declared.limits.Limits.{Limits}
 use Rattle.rdlpp_meaning.specs.declared.fault.Fault.{Fault}
 use Rattle.rdlpp_meaning.specs.declared.fault.FaultKind.{FaultKind}
-use Rattle.rdlpp_meaning.specs.declared.fault.FaultKind.TheVariants.{EmbeddedPerl, SourceNotFound, PathTooLong, ReadFailed, SourceMemory, Unbuilt}
+use Rattle.rdlpp_meaning.specs.declared.fault.FaultKind.TheVariants.{SourceNotFound, PathTooLong, ReadFailed, SourceMemory, Unbuilt}
 use Rattle.rdlpp_meaning.specs.Outcome.{Told, told, Outcome, fails}
 use Rattle.rdlpp_meaning.specs.State.{Lookup, NoSource, LongPath, Source}
 use Rattle.rdlpp_meaning.specs.Output.{opening_fault, output}
@@ -26,7 +26,7 @@ use Rattle.rdlpp_expand.specs.declared.engine.NewFault.{NewFault}
 use Rattle.rdlpp_expand.specs.declared.engine.NewFault.TheVariants.{BadLimits, NoMemory}
 use Rattle.rdlpp_expand.specs.declared.phase.Phase.TheVariants.{Fresh, Open, Closed}
 
--- an engine that wasn't started: an empty table, and no open source (this project's profile)
+-- an engine that wasn't started: an empty table, no open conditional, and no open source (this project's profile)
 unfoldable pub fresh_engine : {S R : Type 0} → Limits → S → Bool → EngineView S R
 fresh_engine limits sources origins = record {
   limits = limits;
@@ -37,6 +37,7 @@ fresh_engine limits sources origins = record {
   main = [];
   owed = nothing_owed;
   table = record { macros = []; most_bytes = limits.definition_bytes; most_macros = limits.definitions };
+  conditions = record { open_now = []; skipped = None; limit = limits.conditions };
   sources = sources;
   files = record { nest = []; slots = limits.includes + 1; line_bytes = limits.line_bytes };
 }

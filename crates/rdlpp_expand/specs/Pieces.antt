@@ -1,34 +1,37 @@
 -- Pieces, and where they stand in the held stores.
 -- A definition that names no source is this project's own.
-use Rattle.std.specs.Prelude.{◌≡◌, ℕ, ◌≤◌, ◌<◌, List, [], length, slice_range, replicate, Option, None, Some, Result, Ok, Err, ⊤}
+use Rattle.std.specs.Prelude.{◌≡◌, ℕ, ◌≤◌, ◌<◌, List, [], length, take, slice_range, Option, None, Some, Result, Ok, Err, ⊤}
 use Rattle.std.specs.Borrow.{Bor}
 use Rattle.rdlpp_table.specs.View.{macro_at}
 use Rattle.rdlpp_meaning.specs.Outcome.{Told, told}
 use Rattle.rdlpp_meaning.specs.declared.fault.Fault.{Fault}
 use Rattle.rdlpp_read.specs.Files.{inner_buffer}
 use Rattle.rdlpp_expand.specs.Engine.{EngineView}
+use Rattle.rdlpp_expand.specs.Owed.{digits_of, part_bytes}
+use Rattle.rdlpp_expand.specs.Remaining.{inner_name}
+use Rattle.rdlpp_expand.specs.declared.owed.OwedPiece.{OwedPiece}
 use Rattle.rdlpp_expand.specs.declared.place.Place.{Place}
 use Rattle.rdlpp_expand.specs.declared.place.Place.TheVariants.{Source, Body, Owed, End, Kept}
 use Rattle.rdlpp_expand.specs.declared.place.Piece.{Piece}
 use Rattle.rdlpp_expand.specs.declared.place.Piece.TheVariants.{Bytes, Done}
 
--- how many LF bytes are lent at once at most
-abbrev pub most_line_ends : ℕ
-most_line_ends = 16
+-- the bytes of the part of which a piece that is owed is the beginning, under the name that is shown
+abbrev pub owed_part : {S R : Type 0} → EngineView S R → OwedPiece → List ℕ
+owed_part e piece = part_bytes piece.part (inner_name e.files.nest) (digits_of e.owed.origin)
 
--- a place lies in the held stores, or tells so many LF bytes
+-- a place lies in the held stores, or in what is owed
 abbrev pub IsPlaced : {S R : Type 0} → EngineView S R → Place → Type 0
 IsPlaced e (Source start end) = (0 < length e.files.nest) × (start ≤ end) × (end ≤ length (inner_buffer e.files.nest).window)
 IsPlaced e (Body id start end) = (id < length e.table.macros) × (start ≤ end) × (end ≤ length (macro_at e.table.macros id).body)
-IsPlaced e (Owed len) = len ≤ most_line_ends
+IsPlaced e (Owed piece) = (0 < length e.files.nest) × (piece.len ≤ length (owed_part e piece))
 IsPlaced e End = ⊤
 IsPlaced e Kept = ⊤
 
--- the bytes at a place: a part of the innermost source's buffer, or of a live body, or LF bytes; none at the end
+-- the bytes at a place: a part of the innermost source's buffer, or of a live body, or what is owed; none at the end
 abbrev pub bytes_at : {S R : Type 0} → EngineView S R → Place → Option (List ℕ)
 bytes_at e (Source start end) = Some (slice_range (inner_buffer e.files.nest).window start end)
 bytes_at e (Body id start end) = Some (slice_range (macro_at e.table.macros id).body start end)
-bytes_at e (Owed len) = Some (replicate len 10)
+bytes_at e (Owed piece) = Some (take piece.len (owed_part e piece))
 bytes_at e End = None
 bytes_at e Kept = None
 
@@ -51,11 +54,12 @@ kept_answer None = Ok None
 abbrev pub lent_answer : {S R : Type 0} → EngineView S R → Place → Result (Option (List ℕ)) Told
 lent_answer e (Source start end) = Ok (bytes_at e (Source start end))
 lent_answer e (Body id start end) = Ok (bytes_at e (Body id start end))
-lent_answer e (Owed len) = Ok (bytes_at e (Owed len))
+lent_answer e (Owed piece) = Ok (bytes_at e (Owed piece))
 lent_answer e End = Ok None
 lent_answer e Kept = kept_answer e.kept
 
--- what is answered is what stands at a place: a part of the innermost source's buffer, or of a live body, or a few LF bytes
+-- what is answered is what stands at a place: a part of the innermost source's buffer, or of a live body, a few LF bytes, or a piece of
+-- an origin line: a fixed text, the shown name, or decimal digits
 -- (source: this project's profile)
 pub record Lends {S R : Type 0} (e : EngineView S R) (answer : Result (Option (List ℕ)) Told) : Type 0 where
   pub place : Place

@@ -1,24 +1,25 @@
 -- What remains of an engine's output, and the work left.
 -- A definition that names no source is this project's own.
-use Rattle.std.specs.Prelude.{ℕ, ◌-◌, Bool, List, [], ◌∷◌, ◌++◌, length, Option, None, Some, if◌then◌else◌}
+use Rattle.std.specs.Prelude.{ℕ, ◌-◌, Bool, List, [], ◌∷◌, ◌++◌, length, take, Option, None, Some, if◌then◌else◌}
 use Rattle.rdlpp_scan.specs.Stage.{is_unbuilt}
 use Rattle.rdlpp_table.specs.Table.{Macro}
 use Rattle.rdlpp_table.specs.declared.limits.Limits.{Limits}
 use Rattle.rdlpp_meaning.specs.declared.fault.FaultKind.TheVariants.{OutputBytes}
-use Rattle.rdlpp_meaning.specs.Meaning.{Passage, behind_bytes, leaves, origin_line, outcome}
+use Rattle.rdlpp_meaning.specs.Meaning.{Passage, Progress, behind_bytes, leaves, origin_line, outcome}
 use Rattle.rdlpp_meaning.specs.Opened.{Waiting}
 use Rattle.rdlpp_meaning.specs.OutputLimit.{limited}
 use Rattle.rdlpp_meaning.specs.Outcome.{Told, Outcome, gives, fails}
 use Rattle.rdlpp_meaning.specs.State.{Rules, State, NoSource, shown_line}
 use Rattle.rdlpp_meaning.specs.Profile.{rules_of}
 use Rattle.rdlpp_meaning.specs.Stage.{is_unbuilt_macro}
-use Rattle.rdlpp_meaning.specs.Resumed.{Live}
 use Rattle.rdlpp_meaning.specs.Output.{start_state}
 use Rattle.rdlpp_read.specs.Buffer.{text_left, tokens_left}
 use Rattle.rdlpp_read.specs.Files.{shift_of, source_digits, torn_after}
 use Rattle.rdlpp_read.specs.declared.files.File.{File}
 use Rattle.rdlpp_front.specs.SourceLeft.{source_left}
+use Rattle.rdlpp_conditions.specs.Conditions.{ConditionsView, place_of}
 use Rattle.rdlpp_expand.specs.Engine.{EngineView}
+use Rattle.rdlpp_expand.specs.OpenConditionals.{outer_open}
 use Rattle.rdlpp_expand.specs.Owed.{owed_bytes, owed_pieces}
 use Rattle.rdlpp_expand.specs.Work.{work_of}
 use Rattle.rdlpp_expand.specs.declared.phase.Phase.{Phase}
@@ -28,21 +29,21 @@ use Rattle.rdlpp_expand.specs.declared.phase.Phase.TheVariants.{Fresh, Open, Pas
 unfoldable pub staged_rules : Limits → Bool → Rules
 staged_rules limits origins = rules_of limits is_unbuilt is_unbuilt_macro (λ path name. NoSource) origins
 
--- the state that the meaning goes on from in an open source, with macros and with so many sources open around it
-unfoldable pub file_state : {R : Type 0} → Limits → List Macro → ℕ → File R → State
-file_state limits macros around f = record {
+-- the state that the meaning goes on from in an open source, with macros, with so many conditionals open there, and with so many sources open around it
+unfoldable pub file_state : {R : Type 0} → Limits → List Macro → ℕ → ℕ → File R → State
+file_state limits macros open_count around f = record {
   macros = macros;
   path = f.path.bytes;
   name = f.name.bytes;
   shift = shift_of f.shift;
   sources_left = limits.includes - around;
-  conditions_left = limits.conditions;
+  conditions_left = limits.conditions - open_count;
 }
 
 -- the state that the meaning of open sources goes on from, the innermost first
-unfoldable pub nest_state : {R : Type 0} → Limits → List Macro → List (File R) → State
-nest_state limits macros [] = start_state macros limits.includes limits.conditions []
-nest_state limits macros (f ∷ outer) = file_state limits macros (length outer) f
+unfoldable pub nest_state : {R : Type 0} → Limits → List Macro → ConditionsView → List (File R) → State
+nest_state limits macros v [] = start_state macros limits.includes limits.conditions []
+nest_state limits macros v (f ∷ outer) = file_state limits macros (length v.open_now) (length outer) f
 
 -- what is written behind an open source, in the one around it: an LF where its text ends in mid-line, and the origin line of
 -- the `include`, where asked for (this project's profile)
@@ -51,30 +52,36 @@ ending_behind rules unread f around =
     (if torn_after f.torn (text_left unread f.buffer) then 10 ∷ [] else [])
     ++ origin_line rules around.name.bytes (shown_line (shift_of around.shift) f.include_line)
 
--- the sources around an open one, the innermost first, as the meaning has those that wait
-unfoldable pub waiting_around : {R : Type 0} → Limits → Rules → (R → List ℕ) → File R → List (File R) → List Waiting
-waiting_around limits rules unread f [] = []
-waiting_around limits rules unread f (around ∷ outer) = record {
-  open_conditionals = [];
+-- the sources around an open one, the innermost first, as the meaning has those that wait, by the conditionals that are open in them
+unfoldable pub waiting_around : {R : Type 0} → Limits → Rules → (R → List ℕ) → List Progress → File R → List (File R) → List Waiting
+waiting_around limits rules unread os f [] = []
+waiting_around limits rules unread os f (around ∷ outer) = record {
+  open_conditionals = take (length os - around.conditions_below) os;
   first = around.blanks;
   tokens = tokens_left is_unbuilt unread around.buffer;
-  state = file_state limits [] (length outer) around;
+  state = file_state limits [] (length os) (length outer) around;
   ending = ending_behind rules unread f around;
-} ∷ waiting_around limits rules unread around outer
+} ∷ waiting_around limits rules unread (outer_open around.conditions_below os) around outer
 
--- what remains of the open sources, the innermost first, from macros (this project's profile)
-unfoldable pub nest_left : {R : Type 0} → Limits → Rules → (R → List ℕ) → List Macro → List (File R) → Passage
-nest_left {R} limits rules unread macros [] = leaves (gives []) (nest_state {R = R} limits macros [])
-nest_left limits rules unread macros (f ∷ outer) =
-    source_left rules is_unbuilt unread (waiting_around limits rules unread f outer) (Live []) f (nest_state limits macros (f ∷ outer))
+-- what remains of the open sources, the innermost first, from macros and the open conditionals (this project's profile)
+unfoldable pub nest_left : {R : Type 0} → Limits → Rules → (R → List ℕ) → List Macro → ConditionsView → List (File R) → Passage
+nest_left {R} limits rules unread macros v [] = leaves (gives []) (nest_state {R = R} limits macros v [])
+nest_left limits rules unread macros v (f ∷ outer) =
+    source_left rules is_unbuilt unread (waiting_around limits rules unread (outer_open f.conditions_below v.open_now) f outer)
+    (place_of f.conditions_below v) f (nest_state limits macros v (f ∷ outer))
 
 -- the state that the meaning of what remains goes on from
 unfoldable pub state_of : {S R : Type 0} → EngineView S R → State
-state_of e = nest_state e.limits e.table.macros e.files.nest
+state_of e = nest_state e.limits e.table.macros e.conditions e.files.nest
+
+-- the name that the innermost open source shows; none where none is open
+abbrev pub inner_name : {R : Type 0} → List (File R) → List ℕ
+inner_name [] = []
+inner_name (f ∷ outer) = f.name.bytes
 
 -- what remains of the text: the bytes that are owed, and then what remains of the open sources (this project's profile)
 unfoldable pub text_of : {S R : Type 0} → (R → List ℕ) → EngineView S R → Passage
-text_of unread e = behind_bytes (owed_bytes e.owed) (nest_left e.limits (staged_rules e.limits e.origins) unread e.table.macros e.files.nest)
+text_of unread e = behind_bytes (owed_bytes (inner_name e.files.nest) e.owed) (nest_left e.limits (staged_rules e.limits e.origins) unread e.table.macros e.conditions e.files.nest)
 
 -- the fault of an output that has more bytes than it may have: under the main text's name, at line 0, about no word
 -- (this project's profile)

@@ -30,11 +30,12 @@ mod opening;
 
 use crate::held::Held;
 use crate::kinds::fault_kind;
-use crate::owed::{Owed, line_ends};
+use crate::owed::Owed;
 use crate::phase::Phase;
 use crate::place::{Piece, Place};
 use crate::texts::{copied, copied_fault, word_of};
 use arrayvec::ArrayString;
+use rdlpp_conditions::Conditions;
 use rdlpp_front::{Argument, Front, front_of};
 use rdlpp_meaning::{Fault, FaultKind};
 use rdlpp_read::{Files, Fill, LogicalLine};
@@ -66,6 +67,7 @@ pub struct Engine<S: Sources> {
     main: ArrayString<1024>,
     owed: Owed,
     table: Table,
+    conditions: Conditions,
     sources: S,
     files: Files<S::Reader>,
 }
@@ -86,11 +88,12 @@ impl<S: Sources> Model for Engine<S> {
       main = e.main.bytes;
       owed = e.owed;
       table = e.table;
+      conditions = e.conditions;
       sources = e.sources;
       files = e.files;
     } };
 
-    ghost invariant = { λ e. IsSoundEngine e.limits e.phase e.table e.files };
+    ghost invariant = { λ e. IsSoundEngine e.limits e.phase e.table e.files e.conditions };
 }
 
 impl<S: Sources> Engine<S> {
@@ -113,7 +116,7 @@ impl<S: Sources> Engine<S> {
             buffers: self.files.held_len(),
             cursors: 0,
             bindings: 0,
-            conditions: 0,
+            conditions: self.conditions.len(),
             sources: self.files.len(),
         }
     }
@@ -147,7 +150,10 @@ impl<S: Sources> Engine<S> {
                 let len = self.spend(end - start);
                 Place::Body(id, start, start + len)
             }
-            Place::Owed(len) => Place::Owed(self.spend(len)),
+            Place::Owed(piece) => {
+                let len = self.spend(piece.len);
+                Place::Owed(piece.cut(len))
+            }
             Place::End => Place::End,
             Place::Kept => Place::Kept,
         }
@@ -211,8 +217,9 @@ impl<S: Sources> Engine<S> {
         ensures walks { IsBounded self.new → Walks S.Sources self.old self.new (step_answer self.new result) }
     {
         self.facts();
-        match self.owed.take() {
-            Some(len) => Some(Place::Owed(len)),
+        let name_len = self.files.file().name.len();
+        match self.owed.take(name_len) {
+            Some(piece) => Some(Place::Owed(piece)),
             None => self.step_sources(),
         }
     }
@@ -238,6 +245,7 @@ impl<S: Sources> Engine<S> {
     // Takes what the held bytes begin with.
     fn take_front(&mut self) -> Option<Place>
         requires ready { IsReady self.old }
+        requires live { self.old.conditions.skipped ≡ None }
         requires some { 0 < length (held_of (inner_buffer self.old.files.nest)) }
         ensures place { IfSome result (IsPlaced self.new) }
         ensures walks { IsBounded self.new → Walks S.Sources self.old self.new (step_answer self.new result) }
@@ -255,6 +263,7 @@ impl<S: Sources> Engine<S> {
     // Lends `len` bytes of text that are copied, behind which the text stands in a mode.
     fn lend_text(&mut self, len: usize, next: Mode) -> Place
         requires ready { IsReady self.old }
+        requires live { self.old.conditions.skipped ≡ None }
         requires some { 0 < length (held_of (inner_buffer self.old.files.nest)) }
         requires text { IsText (inner_buffer self.old.files.nest).mode (held_of (inner_buffer self.old.files.nest)) len next }
         ensures place { IsPlaced self.new result }
@@ -269,6 +278,7 @@ impl<S: Sources> Engine<S> {
     // Expands the usage of `len` bytes with which the held bytes begin.
     fn expand(&mut self, len: usize) -> Place
         requires ready { IsReady self.old }
+        requires live { self.old.conditions.skipped ≡ None }
         requires some { 0 < length (held_of (inner_buffer self.old.files.nest)) }
         requires mode { (inner_buffer self.old.files.nest).mode ≡ Mode.Plain }
         requires usage { IsUsage (held_of (inner_buffer self.old.files.nest)) len }
@@ -288,6 +298,7 @@ impl<S: Sources> Engine<S> {
     // Lends the body of a macro, whose usage has `len` bytes.
     fn lend_body(&mut self, len: usize, id: MacroId) -> Place
         requires ready { IsReady self.old }
+        requires live { self.old.conditions.skipped ≡ None }
         requires some { 0 < length (held_of (inner_buffer self.old.files.nest)) }
         requires mode { (inner_buffer self.old.files.nest).mode ≡ Mode.Plain }
         requires usage { IsUsage (held_of (inner_buffer self.old.files.nest)) len }
@@ -307,6 +318,7 @@ impl<S: Sources> Engine<S> {
     // Takes in the logical line of the `define` with which the held bytes begin, and reads it.
     fn define_line(&mut self) -> Option<Place>
         requires ready { IsReady self.old }
+        requires live { self.old.conditions.skipped ≡ None }
         requires some { 0 < length (held_of (inner_buffer self.old.files.nest)) }
         requires mode { (inner_buffer self.old.files.nest).mode ≡ Mode.Plain }
         requires define { IsDirective Define (held_of (inner_buffer self.old.files.nest)) }
@@ -353,6 +365,7 @@ impl<S: Sources> Engine<S> {
     // Takes out the macro of an `undef`, which is given a name or none, and lends nothing.
     fn undefine(&mut self, argument: Option<Argument>) -> Option<Place>
         requires ready { IsReady self.old }
+        requires live { self.old.conditions.skipped ≡ None }
         requires some { 0 < length (held_of (inner_buffer self.old.files.nest)) }
         requires mode { (inner_buffer self.old.files.nest).mode ≡ Mode.Plain }
         requires undef { IsNamed Undef (held_of (inner_buffer self.old.files.nest)) argument }
@@ -368,6 +381,7 @@ impl<S: Sources> Engine<S> {
     // Takes out the macro of an `undef`, whose name stands from a place up to another.
     fn undefine_named(&mut self, start: usize, stop: usize) -> Option<Place>
         requires ready { IsReady self.old }
+        requires live { self.old.conditions.skipped ≡ None }
         requires some { 0 < length (held_of (inner_buffer self.old.files.nest)) }
         requires mode { (inner_buffer self.old.files.nest).mode ≡ Mode.Plain }
         requires undef { HasName Undef (held_of (inner_buffer self.old.files.nest)) start stop }
@@ -563,7 +577,9 @@ impl<S: Sources> Engine<S> {
         match place {
             Place::Source(start, end) => Piece::Bytes(self.files.file().buffer.part(start, end)),
             Place::Body(id, start, end) => Piece::Bytes(&self.table.body(id)[start..end]),
-            Place::Owed(len) => Piece::Bytes(line_ends(len)),
+            Place::Owed(piece) => Piece::Bytes(
+                self.owed.bytes(piece, self.files.file().name.as_str()),
+            ),
             Place::End | Place::Kept => Piece::Done,
         }
     }
@@ -571,7 +587,7 @@ impl<S: Sources> Engine<S> {
     // What always holds of it.
     fn facts(&self)
         ensures bounded { IsBounded self.now }
-        ensures sound { IsSoundEngine self.now.limits self.now.phase self.now.table self.now.files }
+        ensures sound { IsSoundEngine self.now.limits self.now.phase self.now.table self.now.files self.now.conditions }
         ensures files { AreOpen self.now.files }
     {
         self.files.facts();

@@ -1,5 +1,6 @@
 // Pieces of the output, and where they stand.
 
+use crate::owed::OwedPiece;
 use rdlpp_table::MacroId;
 
 /// A piece of the output, lent by the engine.
@@ -18,8 +19,8 @@ pub(crate) enum Place {
     Source(usize, usize),
     /// From a place up to another in a live body.
     Body(MacroId, usize, usize),
-    /// In the texts that are owed: so many LF bytes.
-    Owed(usize),
+    /// In the texts that are owed.
+    Owed(OwedPiece),
     /// At the end.
     End,
     /// In the fault that is kept.

@@ -11,6 +11,7 @@ use crate::owed::Owed;
 use crate::phase::Phase;
 use crate::texts::copied_fault;
 use arrayvec::ArrayString;
+use rdlpp_conditions::Conditions;
 use rdlpp_meaning::{Fault, FaultKind};
 use rdlpp_read::Files;
 use rdlpp_source::{Found, SourceFault, Sources};
@@ -20,8 +21,8 @@ use std::alloc::Global;
 impl<S: Sources> Engine<S> {
     /// A fresh engine with an empty table, which writes origin lines where `origins` says so.
     ///
-    /// All memory that it ever uses for itself is reserved here: the table's, and the buffers of as many sources as may
-    /// be open, each of one line.
+    /// All memory that it ever uses for itself is reserved here: the table's, that of the open conditionals, and the
+    /// buffers of as many sources as may be open, each of one line.
     ///
     /// # Errors
     /// `BadLimits` with the first limit, in the order of the fields, that is out of its range;
@@ -41,6 +42,9 @@ impl<S: Sources> Engine<S> {
         let Ok(table) = Table::new(alloc, &limits) else {
             return Err(NewFault::NoMemory);
         };
+        let Ok(conditions) = Conditions::new(alloc, limits.conditions) else {
+            return Err(NewFault::NoMemory);
+        };
         let Ok(files) = Files::new(alloc, limits.includes + 1, limits.line_bytes) else {
             return Err(NewFault::NoMemory);
         };
@@ -53,6 +57,7 @@ impl<S: Sources> Engine<S> {
             main: ArrayString::new(),
             owed: Owed::nothing(),
             table,
+            conditions,
             sources,
             files,
         })

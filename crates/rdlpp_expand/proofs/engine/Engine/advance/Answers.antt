@@ -15,12 +15,12 @@ returns-in-Body-clause-steps g c =
 
 pub returns-in-Owed-clause-steps : goal.returns-in-Owed-clause-steps
 returns-in-Owed-clause-steps g c =
-    cut_owed g.S.Sources c.args.self.now c.walk.new.self c.spend.new.self c.in-Owed.len c.spend.result
-    c.in-Owed.ensures.walks (record { fits = c.spend.ensures.fits; passes = c.spend.ensures.passes })
+    rw c.cut.ensures (cut_owed g.S.Sources c.args.self.now c.walk.new.self c.spend-len-in-Owed.new.self c.in-Owed.piece c.spend-len-in-Owed.result
+    c.in-Owed.ensures.walks c.in-Owed.ensures.place (record { fits = c.spend-len-in-Owed.ensures.fits; passes = c.spend-len-in-Owed.ensures.passes }))
 
 pub returns-in-Owed-clause-place : goal.returns-in-Owed-clause-place
 returns-in-Owed-clause-place g c =
-    owed_placed c.walk.new.self c.spend.new.self c.in-Owed.len c.spend.result c.in-Owed.ensures.place (record { fits = c.spend.ensures.fits; passes = c.spend.ensures.passes })
+    rw c.cut.ensures (owed_placed c.walk.new.self c.spend-len-in-Owed.new.self c.in-Owed.piece c.spend-len-in-Owed.result c.in-Owed.ensures.place (record { fits = c.spend-len-in-Owed.ensures.fits; passes = c.spend-len-in-Owed.ensures.passes }))
 
 pub returns-in-End-clause-steps : goal.returns-in-End-clause-steps
 returns-in-End-clause-steps g c = cut_end g.S.Sources c.args.self.now c.walk.new.self c.in-End.ensures.walks
@@ -34,5 +34,5 @@ spend-len-requires g c = follows _ (c.in-Source.ensures.walks.lends _ refl).1
 pub spend-len-requires-in-Body : goal.spend-len-requires-in-Body
 spend-len-requires-in-Body g c = follows _ (c.in-Body.ensures.walks.lends _ refl).1
 
-pub spend-requires : goal.spend-requires
-spend-requires g c = follows _ (c.in-Owed.ensures.walks.lends _ refl).1
+pub spend-len-requires-in-Owed : goal.spend-len-requires-in-Owed
+spend-len-requires-in-Owed g c = follows _ (c.in-Owed.ensures.walks.lends _ refl).1

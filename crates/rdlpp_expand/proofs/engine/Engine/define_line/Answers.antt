@@ -1,6 +1,5 @@
-use Rattle.std.proofs.Common.{◌≡◌, ◌<◌, ◌≤◌, ◌^◌, length, false, true, [], sym, ap, ◌∙◌, arith}
+use Rattle.std.proofs.Common.{false, true, [], ap, ◌∙◌}
 use Rattle.rdlpp_meaning.specs.declared.fault.FaultKind.TheVariants as fault
-use Rattle.rdlpp_read.specs.Buffer.{held_of}
 use Rattle.rdlpp_read.specs.Files.{inner_buffer}
 use Rattle.rdlpp_front.proofs.DefineLeft.{define_inside, define_rest_whole}
 use Rattle.rdlpp_expand.proofs.EngineSteps.{called}
@@ -29,7 +28,7 @@ returns-in-Whole-clause-walks g c = λ bounded.
     let has = e.holds.has in
     let wide = define_inside _ _ _ e.holds.extends.more (inner_buffer c.hold_line.new.self.files.nest) c.in-Whole.len c.requires.some c.requires.define e.holds.extends.held has.1 in
     let some = c.facts.ensures.sound.open_ (opened_phase _ (ap (λ e. e.phase) e.becomes ∙ c.requires.ready.open_)) in
-    defined_steps g.S.Sources c.args.self.now c.hold_line.new.self c.read_define.new.self c.in-Whole.len c.requires.ready r bounded c.requires.some c.requires.mode c.requires.define
+    defined_steps g.S.Sources c.args.self.now c.hold_line.new.self c.read_define.new.self c.in-Whole.len c.requires.ready c.requires.live r bounded c.requires.some c.requires.mode c.requires.define
     e.holds (called g.S.Sources false _ _ e.call) c.read_define.result wide has.0 (held_few c.hold_line.new.self c.facts.ensures.sound c.facts.ensures.files some) c.read_define.ensures.reads
 
 pub returns-in-TooLong-clause-walks : goal.returns-in-TooLong-clause-walks
@@ -38,7 +37,7 @@ returns-in-TooLong-clause-walks g c = λ bounded.
     let r : IsRead c.args.self.now c.hold_line.new.self = record { becomes = e.becomes; only = e.only } in
     refuses g.S.Sources c.args.self.now c.hold_line.new.self c.refuse.new.self c.refuse.result fault.LineTooLong _ [] c.requires.ready r bounded c.refuse.ensures.place
     (rw c.new.ensures at c.refuse.ensures.kept) line_kind (called g.S.Sources false _ _ e.call)
-    (λ t. left_long_define g.S.Sources c.args.self.now c.hold_line.new.self c.requires.ready t c.requires.some c.requires.mode c.requires.define e.holds)
+    (λ t. left_long_define g.S.Sources c.args.self.now c.hold_line.new.self c.requires.ready t c.requires.live c.requires.some c.requires.mode c.requires.define e.holds)
 
 pub returns-in-SourceLong-clause-walks : goal.returns-in-SourceLong-clause-walks
 returns-in-SourceLong-clause-walks g c = λ bounded.
@@ -46,7 +45,7 @@ returns-in-SourceLong-clause-walks g c = λ bounded.
     let r : IsRead c.args.self.now c.hold_line.new.self = record { becomes = e.becomes; only = e.only } in
     refuses g.S.Sources c.args.self.now c.hold_line.new.self c.refuse-in-SourceLong.new.self c.refuse-in-SourceLong.result fault.SourceTooLong _ [] c.requires.ready r bounded c.refuse-in-SourceLong.ensures.place
     (rw c.new-in-SourceLong.ensures at c.refuse-in-SourceLong.ensures.kept) source_kind (called g.S.Sources false _ _ e.call)
-    (λ t. left_cut_define g.S.Sources c.args.self.now c.hold_line.new.self c.requires.ready t c.requires.some c.requires.mode c.requires.define e.holds)
+    (λ t. left_cut_define g.S.Sources c.args.self.now c.hold_line.new.self c.requires.ready t c.requires.live c.requires.some c.requires.mode c.requires.define e.holds)
 
 pub returns-in-Failed-clause-walks : goal.returns-in-Failed-clause-walks
 returns-in-Failed-clause-walks g c = λ bounded.

@@ -1,4 +1,4 @@
-use Rattle.std.proofs.Common.{◌≡◌, length, sum_by, ap, ◌∙◌, sym, arith}
+use Rattle.std.proofs.Common.{◌≡◌, length, sum_by, ◌∙◌, sym}
 use Rattle.rdlpp_read.specs.Files.{held_windows}
 use Rattle.rdlpp_read.proofs.Slots.{held_windows-len}
 use Rattle.rdlpp_expand.specs.Held.{held_told, stores_of}
@@ -14,4 +14,5 @@ returns-clause-value g c =
     let bytes : c.held_len.result ≡ sum_by length (held_windows c.self.inside.files.nest) = c.held_len.ensures ∙ sym (held_windows-len c.self.inside.files.nest) in
     let definitions = c.bytes.ensures.value in
     let open_ = c.len.ensures in
+    let conditions = c.len-2.ensures in
     rw (← c.self.view_is) (cc)

@@ -1,10 +1,10 @@
-use Rattle.std.proofs.Common.{◌≡◌, ◌≤◌, ◌+◌, length, take, sym, ap, ◌∙◌, refl, arith}
+use Rattle.std.proofs.Common.{◌≡◌, ◌+◌, length, take, sym, ap, ◌∙◌, refl, arith}
 use Rattle.std.proofs.lemmas.List.{length-take-le}
 use Rattle.rdlpp_scan.specs.SourceTokens.{line_ends}
 use Rattle.rdlpp_read.specs.Buffer.{held_of}
 use Rattle.rdlpp_read.specs.Files.{inner_buffer}
 use Rattle.rdlpp_front.proofs.Insides.{text_inside}
-use Rattle.rdlpp_expand.proofs.FrontSteps.{IsRoom, entered_at, entered_holds, line_ends-le, room_of, take_text, text_placed}
+use Rattle.rdlpp_expand.proofs.FrontSteps.{entered_at, entered_holds, line_ends-le, room_of, take_text, text_placed}
 use Rattle.rdlpp_expand.proofs.engine.Engine.lend_text.Goals as goal
 
 pub slice_bounds-line_ends_in-end : goal.slice_bounds-line_ends_in-end
@@ -45,4 +45,4 @@ returns-clause-walks g c = λ bounded.
     c.line_ends_in-lines.ensures ∙ ap (λ h. line_ends (take c.args.len h)) held in
     let begins : c.consume-start.result ≡ (inner_buffer c.args.self.now.files.nest).at = c.consume-start.ensures.start ∙ (ap (λ e. (inner_buffer e.files.nest).at) c.enter_mode.ensures ∙ entered_at _ _) in
     take_text g.S.Sources c.args.self.now c.enter_mode.new.self c.consume-start.new.self c.args.len c.line_ends_in-lines.result c.consume-start.result (c.consume-start.result + c.args.len) c.args.next
-    c.requires.ready bounded c.requires.some c.requires.text counted c.enter_mode.ensures c.consume-start.ensures.used begins refl
+    c.requires.ready c.requires.live bounded c.requires.some c.requires.text counted c.enter_mode.ensures c.consume-start.ensures.used begins refl

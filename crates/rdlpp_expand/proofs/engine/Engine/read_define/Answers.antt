@@ -54,8 +54,8 @@ returns-in-Ok-clause-reads g c =
     let accepted : define_of e.table.most_bytes e.table.most_macros e.table.macros (define_rest e c.args.len) ≡ Accepted c.read_define.new.self.macros =
     rw (← c.self.view_is) (defined_same _ _ _ _ _ _ c.in-Ok.ensures.outcome (rest ∙ ap (λ h. drop 7 (take c.args.len h)) inside)) in
     let counted : c.line_ends_in-lines.result ≡ line_ends (take c.args.len (held_of (inner_buffer e.files.nest))) = c.line_ends_in-lines.ensures ∙ ap (λ h. line_ends (take c.args.len h)) held in
-    let grows : ℕ → OwedView = λ n. record { line_ends = n + c.line_ends_in-lines.result } in
+    let grows : OwedView → OwedView = λ o. record o { line_ends = o.line_ends + c.line_ends_in-lines.result } in
     defines_by c.args.len e c.consume.new.self _ c.read_define.new.self c.owe_line_ends.new.self c.line_ends_in-lines.result
     (rw (← c.self.view_is) c.consume.ensures.used) (owing _ c.consume.new.self c.owe_line_ends.new.self c.self-in-Ok.view_is)
-    (c.owe_line_ends.ensures ∙ ap grows (ap (λ e. e.owed.line_ends) c.self-in-Ok.view_is))
+    (c.owe_line_ends.ensures ∙ ap grows (ap (λ e. e.owed) c.self-in-Ok.view_is))
     c.requires.nothing (rw (← c.self.view_is) c.in-Ok.ensures.limits) accepted counted

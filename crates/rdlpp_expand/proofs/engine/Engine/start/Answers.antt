@@ -1,4 +1,3 @@
-use Rattle.std.proofs.Common.{arith}
 use Rattle.rdlpp_expand.specs.Opening.{start_fault}
 use Rattle.rdlpp_expand.proofs.OpeningFacts.{starts_open, starts_not_found, starts_unbuilt}
 use Rattle.rdlpp_expand.proofs.Soundness.{fresh_nest}
@@ -17,7 +16,7 @@ returns-in-Ok g c =
     let bounded = rw c.open_main.ensures at c.facts-in-Ok.ensures.bounded in
     rw (c.open_main.ensures, ← c.self.view_is)
     (starts_open g.S.Sources _ c.top.new.self c.in-Ok.found c.args.path.now c.if-self.false c.self.invariant.line_bytes
-    (fresh_nest _ _ _ _ c.self.invariant (rw (← c.self.view_is) at c.requires)) bounded
+    (fresh_nest _ _ _ _ _ c.self.invariant (rw (← c.self.view_is) at c.requires)) c.self.invariant.conditions_of.unopened bounded
     e.answer e.failures e.refusals e.tells e.catalog)
 
 pub returns-in-Err : goal.returns-in-Err

@@ -1,11 +1,30 @@
-use Rattle.std.proofs.Common.{sym, ap, ◌∙◌}
-use Rattle.rdlpp_expand.proofs.FrontSteps.{owing, owing_same, ready_unowed, take_owed}
+use Rattle.std.proofs.Common.{◌≡◌, ◌<◌, List, ℕ, length, sym, ap, ◌∙◌, subst, arith}
+use Rattle.rdlpp_expand.specs.Owed.{OwedView, TakesPiece}
+use Rattle.rdlpp_expand.specs.Remaining.{inner_name}
+use Rattle.rdlpp_expand.proofs.FrontSteps.{opened_phase, owed_is_placed, owing, owing_same, ready_unowed, take_owed}
 use Rattle.rdlpp_expand.proofs.engine.Engine.step_open.Goals as goal
+
+pub file-requires : goal.file-requires
+file-requires g c =
+    let some : 0 < length c.args.self.now.files.nest = c.facts.ensures.sound.open_ (opened_phase c.args.self.now.phase c.requires.open) in
+    let size : length c.self.inside.files.nest ≡ length c.args.self.now.files.nest = ap (λ e. length e.files.nest) c.self.view_is in
+    omega arith
 
 pub returns-in-Some-clause-walks : goal.returns-in-Some-clause-walks
 returns-in-Some-clause-walks g c = λ bounded.
-    take_owed g.S.Sources c.args.self.now _ c.in-Some.len c.take.new.self c.requires.free c.requires.open bounded c.in-Some.ensures.piece.0
-    (ap (λ e. e.owed.line_ends) (sym c.self.view_is) ∙ c.in-Some.ensures.piece.2) (owing _ c.args.self.now c.take.new.self c.self.view_is)
+    let name : List ℕ = inner_name c.args.self.now.files.nest in
+    let size : length name ≡ c.len-name_len.result = ap (λ ns. length (inner_name ns)) (ap (λ e. e.files.nest) (sym c.self.view_is) ∙ c.file.ensures.inner) ∙ sym c.len-name_len.ensures.value in
+    let owed : c.self.inside.owed ≡ c.args.self.now.owed = ap (λ e. e.owed) c.self.view_is in
+    take_owed g.S.Sources c.args.self.now _ c.in-Some.piece c.take.new.self c.requires.free c.requires.open bounded
+    (subst (λ (o : OwedView). TakesPiece name o c.take.new.self c.in-Some.piece) owed (c.in-Some.ensures.piece name size)) (owing _ c.args.self.now c.take.new.self c.self.view_is)
+
+pub returns-in-Some-clause-place : goal.returns-in-Some-clause-place
+returns-in-Some-clause-place g c =
+    let name : List ℕ = inner_name c.args.self.now.files.nest in
+    let size : length name ≡ c.len-name_len.result = ap (λ ns. length (inner_name ns)) (ap (λ e. e.files.nest) (sym c.self.view_is) ∙ c.file.ensures.inner) ∙ sym c.len-name_len.ensures.value in
+    let owed : c.self.inside.owed ≡ c.args.self.now.owed = ap (λ e. e.owed) c.self.view_is in
+    owed_is_placed c.args.self.now _ c.in-Some.piece c.take.new.self (c.facts.ensures.sound.open_ (opened_phase c.args.self.now.phase c.requires.open))
+    (subst (λ (o : OwedView). TakesPiece name o c.take.new.self c.in-Some.piece) owed (c.in-Some.ensures.piece name size)) (owing _ c.args.self.now c.take.new.self c.self.view_is)
 
 pub step_sources-requires : goal.step_sources-requires
 step_sources-requires g c =

@@ -1,4 +1,4 @@
-use Rattle.std.proofs.Common.{◌≡◌, refl, false, true, [], ap, sym, ◌∙◌}
+use Rattle.std.proofs.Common.{false, true, []}
 use Rattle.rdlpp_meaning.specs.declared.fault.FaultKind.TheVariants as fault
 use Rattle.rdlpp_expand.proofs.EngineSteps.{called, silent_then}
 use Rattle.rdlpp_expand.proofs.FrontSteps.{IsRead, ended_placed, ended_steps, fails_reading, left_long_line, left_long_source, line_kind, ready_filled, refuses, silent_fill, source_kind}
@@ -7,7 +7,7 @@ use Rattle.rdlpp_expand.proofs.engine.Engine.step_sources.Goals as goal
 pub take_front-requires : goal.take_front-requires
 take_front-requires g c =
     let r : IsRead c.args.self.now c.fill.new.self = record { becomes = c.in-Held.ensures.becomes; only = c.in-Held.ensures.only } in
-    record { ready = ready_filled _ _ c.requires r c.facts.ensures.sound c.facts.ensures.files; some = c.in-Held.ensures.fills.bytes }
+    record { ready = ready_filled _ _ c.requires r c.facts.ensures.sound c.facts.ensures.files; live = c.facts.ensures.sound.conditions_of.live; some = c.in-Held.ensures.fills.bytes }
 
 pub returns-in-Held-clause-walks : goal.returns-in-Held-clause-walks
 returns-in-Held-clause-walks g c = λ bounded.

@@ -26,7 +26,7 @@ returns-then-is_some-clause-walks g c = λ bounded.
     let word : c.word_of-word.result.bytes ≡ take 128 (argument_name h c.args.start c.args.stop) = c.word_of-word.ensures ∙ ap (λ x. take 128 (argument_name x c.args.start c.args.stop)) held in
     refuses g.S.Sources e e c.refuse.new.self c.refuse.result fault.ReservedName _ (argument_name h c.args.start c.args.stop) c.requires.ready (read_nothing e) bounded
     c.refuse.ensures.place (kept_cut e c.refuse.new.self _ _ _ _ _ c.refuse.ensures.kept word) reserved_kind (not_called g.S.Sources e.sources)
-    (λ t. left_reserved g.S.Sources.unread e c.args.start c.args.stop c.requires.ready c.requires.some c.requires.mode c.requires.undef taken)
+    (λ t. left_reserved g.S.Sources.unread e c.args.start c.args.stop c.requires.ready c.requires.live c.requires.some c.requires.mode c.requires.undef taken)
 
 pub consume-requires-clause-inside : goal.consume-requires-clause-inside
 consume-requires-clause-inside g c = rw (← c.self.view_is) at (name_inside Undef _ _ _ c.requires.undef).2
@@ -40,5 +40,5 @@ returns-clause-walks g c = λ bounded.
     ap (λ x. is_reserved (argument_name x c.args.start c.args.stop)) (sym held) ∙ (sym c.reserved.ensures.reserved ∙ (sym c.is_some.ensures ∙ c.if-is_some.false)) in
     let table : c.remove-found.new.self ≡ record e.table { macros = without (argument_name h c.args.start c.args.stop) e.table.macros } =
     rw (← held, ← c.self.view_is) c.remove-found.ensures.table in
-    take_undef g.S.Sources e c.consume.new.self c.args.start c.args.stop c.requires.ready bounded c.requires.some c.requires.mode c.requires.undef free
+    take_undef g.S.Sources e c.consume.new.self c.args.start c.args.stop c.requires.ready c.requires.live bounded c.requires.some c.requires.mode c.requires.undef free
     ((rw (← c.self.view_is) c.consume.ensures.used) ∙ ap (λ t. record e { table = t; files = record e.files { nest = with_inner (consumed_file c.args.stop 0) e.files.nest } }) table)
