@@ -17,34 +17,36 @@ use Rattle.rdlpp_scan.specs.TokenKinds.{opens_mode}
 use Rattle.rdlpp_scan.specs.Tokens.{token_of}
 use Rattle.rdlpp_scan.proofs.TokenLens.{IsPart, token_of-part}
 use Rattle.rdlpp_table.specs.Table.{Macro, macro_named}
-use Rattle.rdlpp_table.specs.View.{TableView, IsSound, macro_at, place_named}
+use Rattle.rdlpp_table.specs.View.{TableView, IsSound, IsSoundMacro, no_macro, macro_at, place_named}
 use Rattle.rdlpp_table.proofs.Places.{place_of_name}
 use Rattle.rdlpp_meaning.specs.declared.fault.FaultKind.{FaultKind}
 use Rattle.rdlpp_meaning.specs.declared.fault.FaultKind.TheVariants.{UndefinedMacro, RecursiveMacro, DirectiveInText, DepthPassed}
 use Rattle.rdlpp_meaning.specs.State.{Rules, State, fault_at}
 use Rattle.rdlpp_meaning.specs.Cursors.{not_kept, TokenUsage, Refuses, Opens, token_usage_of_formals, token_usage_of_macro, token_usage_of}
 use Rattle.rdlpp_meaning.specs.Slots.{SlotStops}
-use Rattle.rdlpp_meaning.specs.Opens.{OpenKind, OpenBody, OpenActual, OpenDefault, Open, Texts, slot_of, slots_of, text_around, open_scope, open_bytes, open_behind, open_body, own_writers, writers_at}
+use Rattle.rdlpp_meaning.specs.Opens.{OpenKind, OpenBody, OpenActual, OpenDefault, Open, Texts, slot_of, slots_of, text_around, open_scope, open_bytes, open_behind, open_body, own_text, own_writers, writers_at, AreOpen}
 use Rattle.rdlpp_meaning.proofs.OpenMoves.{first_kind, first_bytes, first_behind, first_usage, open-refused, open-usage, open-usage_deep, open-writers}
+use Rattle.rdlpp_calls.specs.declared.bindings.Range.{Range}
 use Rattle.rdlpp_cursors.specs.declared.front.Front.{Front}
 use Rattle.rdlpp_cursors.specs.declared.front.Front.TheVariants as front
 use Rattle.rdlpp_cursors.specs.declared.front.Look.{Look}
 use Rattle.rdlpp_cursors.specs.declared.place.TextPlace.{TextPlace}
 use Rattle.rdlpp_cursors.specs.declared.place.TextSource.{TextSource}
+use Rattle.rdlpp_cursors.specs.declared.slot.Slot.{Slot}
 use Rattle.rdlpp_cursors.specs.declared.step.CursorFault.{CursorFault}
 use Rattle.rdlpp_cursors.specs.declared.step.CursorStep.TheVariants.{Silent, Refused}
 use Rattle.rdlpp_cursors.specs.Fronts.{IsFront, IsLook}
-use Rattle.rdlpp_cursors.specs.Opened.{moved_to}
-use Rattle.rdlpp_cursors.specs.Places.{place_bytes, source_text, source_formals, IsSource}
+use Rattle.rdlpp_cursors.specs.Opened.{bindings_below, opens_of, moved_to, AreHomedSlots, CursorsView}
+use Rattle.rdlpp_cursors.specs.Places.{texts_of, place_bytes, source_text, source_formals, IsSource}
 use Rattle.rdlpp_cursors.specs.Scopes.{front_scope, front_source, own_ids, writer_ids}
 use Rattle.rdlpp_cursors.specs.Steps.{IsKnown, AreInside, AreSound, IsStep, StepsTo, Goes}
 use Rattle.rdlpp_cursors.specs.Usages.{front_name, unknown_kind, IsUsed}
 use Rattle.rdlpp_cursors.proofs.Looking.{source-known, source-inside}
 use Rattle.rdlpp_cursors.proofs.Moving.{goes-by, ends-by}
-use Rattle.rdlpp_cursors.proofs.Passing.{same-front}
+use Rattle.rdlpp_cursors.proofs.Passing.{same-front, no-formals, no-word, IsPassed}
 use Rattle.rdlpp_cursors.proofs.Runs.{slice-behind}
-use Rattle.rdlpp_cursors.proofs.Scoping.{source-around}
-use Rattle.rdlpp_cursors.proofs.Stepping.{kind-first, bytes-first, first-moved}
+use Rattle.rdlpp_cursors.proofs.Scoping.{source-around, opens-length}
+use Rattle.rdlpp_cursors.proofs.Stepping.{kind-first, bytes-first, first-moved, sound-moved}
 
 -- where a usage lies in its text: it has its backquote, and ends in what is left of the open text, which ends in its text
 pub record IsUsageInside (texts : Texts) (look : Look) (len : ℕ) : Type 0 where
@@ -276,3 +278,150 @@ writers-ids texts (x ∷ below) k id name h alone =
         ≡ list_any (λ j. id == j) (if here then own_ids x.kind (writer_ids below x.home) else writer_ids below k)
     by true a b = a
     by false a b = b
+
+-- the macro at the place of a name has it
+name-at : (table : TableView) (name : List ℕ) (id : ℕ) → IsSound table → place_named table.macros name ≡ Some id → id < length table.macros
+    → name ≡ (macro_at table.macros id).name
+name-at table name id h e inside =
+    (bytes_eq-Decides name (macro_at table.macros id).name).0 (place_of_name table.macros name id id h.distinct e inside ∙ eq-eqb id id refl)
+
+-- a name of a table is no directive's
+pub table-unreserved : (table : TableView) (name : List ℕ) (id : ℕ) → IsSound table → place_named table.macros name ≡ Some id → id < length table.macros
+    → is_reserved name ≡ false
+table-unreserved table name id h e inside =
+    ap (λ (n : List ℕ). is_reserved n) (name-at table name id h e inside) ∙ (All-get_or IsSoundMacro table.macros id no_macro inside h.each).unreserved
+
+-- a name stands in the text of its macro where its scope is in that of the macro at its place
+pub table-writers : (table : TableView) (arguments : List ℕ) (opens : List Open) (name : List ℕ) (id : ℕ) (written : Bool) → IsSound table
+    → AreInside (texts_of table.macros arguments) opens → place_named table.macros name ≡ Some id
+    → written ≡ list_any (λ own. id == own) (writer_ids opens (front_scope opens))
+    → list_any (bytes_eq name) (writers_at (texts_of table.macros arguments) opens (front_scope opens)) ≡ written
+table-writers table arguments opens name id written h inside e w =
+    writers-ids (texts_of table.macros arguments) opens (front_scope opens) id name inside (λ j l. place_of_name table.macros name id j h.distinct e l) ∙ sym w
+
+-- what a search in a table tells of a name in open texts, by whether its scope is in the text of the macro
+pub table-used : (table : TableView) (arguments : List ℕ) (opens : List Open) (name : List ℕ) (id : ℕ) → IsSound table
+    → AreInside (texts_of table.macros arguments) opens → place_named table.macros name ≡ Some id → id < length table.macros
+    → macro_named table.macros name ≡ Some (macro_at table.macros id)
+    → false ≡ list_any (λ own. id == own) (writer_ids opens (front_scope opens))
+    → IsUsed (texts_of table.macros arguments) opens name id
+table-used table arguments opens name id h inside e l m w = record {
+  inside = l;
+  named = m;
+  unreserved = table-unreserved table name id h e l;
+  apart = table-writers table arguments opens name id false h inside e w;
+}
+
+-- and it is refused where that is so
+pub table-recursive : (table : TableView) (arguments : List ℕ) (opens : List Open) (name : List ℕ) (id : ℕ) → IsSound table
+    → AreInside (texts_of table.macros arguments) opens → place_named table.macros name ≡ Some id → id < length table.macros
+    → macro_named table.macros name ≡ Some (macro_at table.macros id)
+    → true ≡ list_any (λ own. id == own) (writer_ids opens (front_scope opens))
+    → IsRefused (texts_of table.macros arguments) opens name RecursiveMacro
+table-recursive table arguments opens name id h inside e l m w =
+    recursive-refused (texts_of table.macros arguments) opens name id (table-unreserved table name id h e l) m
+    (table-writers table arguments opens name id true h inside e w)
+
+-- the homes of open texts are those of their slots
+pub slots-homed : (texts : Texts) (slots : List Slot) (bindings : List Range) → AreOpen texts (opens_of slots bindings) → AreHomedSlots slots
+unfolding opens_of
+slots-homed texts [] bindings h = tt
+slots-homed texts (slot ∷ below) bindings h =
+    (let home : slot.home ≤ length (opens_of below (bindings_below slot.kind bindings)) = h.0 in
+    let n = opens-length below (bindings_below slot.kind bindings) in omega (arith, home, n),
+      slots-homed texts below (bindings_below slot.kind bindings) (h.1).1)
+
+-- the scope of the innermost open text is one of the open texts
+pub scope-inside : (texts : Texts) (opens : List Open) → AreOpen texts opens → front_scope opens ≤ length opens
+unfolding front_scope open_scope
+scope-inside texts [] h = omega arith
+scope-inside texts (x ∷ below) h = by x.kind
+  where
+    by : (kind : OpenKind) → elim kind [ OpenActual ↦ x.home | _ ↦ suc (length below) ] ≤ suc (length below)
+    by (OpenBody id parts) = omega arith
+    by OpenActual = let home : x.home ≤ length below = h.0 in omega (arith, home)
+    by (OpenDefault id place) = omega arith
+
+-- the body of a macro without a list is sound in front of sound open texts that go on
+pub sound-used : (texts : Texts) (opens : List Open) (id at : ℕ) → AreSound texts opens → id < length texts.macros → (macro_at texts.macros id).formals ≡ None
+    → AreSound texts (open_body texts id [] (front_scope opens) ∷ moved_to at opens)
+unfolding open_body text_around own_text
+sound-used texts opens id at h inside none =
+    let moved = sound-moved texts opens at h in
+    let scope = scope-inside texts opens h.are_open in
+    let n = moved-length opens at in
+    record {
+      are_open = (omega (arith, scope, n), ((no-formals (macro_at texts.macros id).formals (ap (λ o. option_map (λ fs. length fs) o) none), tt), moved.are_open));
+      are_inside = (inside, (omega arith, (refl, moved.are_inside)));
+    }
+  where
+    moved-length : (opens : List Open) (at : ℕ) → length (moved_to at opens) ≡ length opens
+    unfolding moved_to
+    moved-length [] at = refl
+    moved-length (x ∷ below) at = refl
+
+-- by a look: a usage that is refused
+pub pass-refused : (texts : Texts) (view : CursorsView) (look : Look) (len from end : ℕ) (kind own : FaultKind) → AreSound texts view.opens → IsLook texts view.opens look
+    → look.front ≡ front.Usage len → from ≡ look.from + 1 → end ≡ look.from + len → own ≡ kind
+    → IsRefused texts view.opens (front_name texts view.opens len) kind
+    → IsPassed texts view view (Refused (record { kind = own; word = record { source = look.source; from = from; end = end } }))
+pass-refused texts view look len from end kind own h l e f g k r = record {
+  is_step = by view.opens h l r;
+  sound = h;
+  kept = (refl, refl);
+}
+  where
+    fault : CursorFault
+    fault = record { kind = own; word = record { source = look.source; from = from; end = end } }
+
+    by : (opens : List Open) → AreSound texts opens → IsLook texts opens look → IsRefused texts opens (front_name texts opens len) kind
+        → IsStep view.line view.depth texts opens (Refused fault) opens
+    unfolding IsLook
+    by [] h l r = absurd l
+    by (x ∷ below) h l r =
+        step-refused view.line view.depth texts x below len kind (x ∷ below) fault h (front-is texts x below look len e l.3) r k
+        (usage-word texts (x ∷ below) look len from end h l e f g)
+
+-- a body for which there is no slot left
+pub pass-deep : (texts : Texts) (view : CursorsView) (look : Look) (len id : ℕ) (source : TextSource) → AreSound texts view.opens → IsLook texts view.opens look
+    → look.front ≡ front.Usage len → IsUsed texts view.opens (front_name texts view.opens len) id → (macro_at texts.macros id).formals ≡ None
+    → view.depth ≤ length view.opens
+    → IsPassed texts view view (Refused (record { kind = DepthPassed; word = record { source = source; from = 0; end = 0 } }))
+pass-deep texts view look len id source h l e used none deep = record {
+  is_step = by view.opens h l used deep;
+  sound = h;
+  kept = (refl, refl);
+}
+  where
+    fault : CursorFault
+    fault = record { kind = DepthPassed; word = record { source = source; from = 0; end = 0 } }
+
+    by : (opens : List Open) → AreSound texts opens → IsLook texts opens look → IsUsed texts opens (front_name texts opens len) id → view.depth ≤ length opens
+        → IsStep view.line view.depth texts opens (Refused fault) opens
+    unfolding IsLook
+    by [] h l used deep = absurd l
+    by (x ∷ below) h l used deep =
+        step-opened_deep view.line view.depth texts x below len id (x ∷ below) fault h (front-is texts x below look len e l.3) used none deep refl
+        (no-word texts source)
+
+-- a body that is opened
+pub pass-opened : (texts : Texts) (view new : CursorsView) (look : Look) (len id at : ℕ) → AreSound texts view.opens → IsLook texts view.opens look
+    → look.front ≡ front.Usage len → IsUsed texts view.opens (front_name texts view.opens len) id → (macro_at texts.macros id).formals ≡ None
+    → length view.opens < view.depth → at ≡ look.from + len
+    → new ≡ record { opens = open_body texts id [] (front_scope view.opens) ∷ moved_to at view.opens; line = view.line; depth = view.depth }
+    → IsPassed texts view new Silent
+pass-opened texts view new look len id at h l e used none room k is =
+    subst (λ (v : CursorsView). IsPassed texts view v Silent) (sym is) (record {
+      is_step = by view.opens h l used room;
+      sound = sound-used texts view.opens id at h used.inside none;
+      kept = (refl, refl);
+    })
+  where
+    by : (opens : List Open) → AreSound texts opens → IsLook texts opens look → IsUsed texts opens (front_name texts opens len) id → length opens < view.depth
+        → IsStep view.line view.depth texts opens Silent (open_body texts id [] (front_scope opens) ∷ moved_to at opens)
+    unfolding IsLook front_scope
+    by [] h l used room = absurd l
+    by (x ∷ below) h l used room =
+        let place : at ≡ x.part.from + len = k ∙ ap (λ (n : ℕ). n + len) l.1 in
+        subst (λ (n : ℕ). IsStep view.line view.depth texts (x ∷ below) Silent (open_body texts id [] (open_scope x below) ∷ moved_to n (x ∷ below))) (sym place)
+        (step-opened view.line view.depth texts x below len id h (front-is texts x below look len e l.3) used none room)
