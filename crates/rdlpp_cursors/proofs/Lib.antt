@@ -1,3 +1,4 @@
+pub mod Keeping
 pub mod Looking
 pub mod Passing
 pub mod Moving

@@ -4,10 +4,13 @@ use Rattle.std.proofs.Common.{Option, None, Some, unwrap_or}
 use Rattle.std.specs.Prelude.{slice_range}
 use Rattle.std.specs.Option.{option_map}
 use Rattle.std.proofs.lemmas.List.{length-take, length-drop, take-take}
-use Rattle.rdlpp_table.specs.Table.{Formal, Macro}
-use Rattle.rdlpp_table.specs.View.{macro_at}
+use Rattle.rdlpp_scan.specs.SourceTokens.{SourceToken}
+use Rattle.rdlpp_table.specs.Table.{Formal}
+use Rattle.rdlpp_table.specs.View.{TableView, IsSound, macro_at}
 use Rattle.rdlpp_meaning.specs.declared.fault.FaultKind.TheVariants.{BareBackquote as NoName}
 use Rattle.rdlpp_meaning.specs.Opens.{Open, Texts, own_text, text_around, open_bytes, open_body}
+use Rattle.rdlpp_meaning.proofs.OpenScopes.{part-whole}
+use Rattle.rdlpp_calls.specs.BoundCalls.{KeepsAll}
 use Rattle.rdlpp_cursors.specs.declared.front.Front.{Front}
 use Rattle.rdlpp_cursors.specs.declared.front.Front.TheVariants as front
 use Rattle.rdlpp_cursors.specs.declared.front.Look.{Look}
@@ -21,8 +24,9 @@ use Rattle.rdlpp_cursors.specs.Opened.{moved_to, CursorsView}
 use Rattle.rdlpp_cursors.specs.Places.{texts_of, place_bytes, source_text, source_formals}
 use Rattle.rdlpp_cursors.specs.Scopes.{front_source}
 use Rattle.rdlpp_cursors.specs.Steps.{AreSound, IsStep}
+use Rattle.rdlpp_cursors.proofs.Keeping.{body-keeps, run-sound}
 use Rattle.rdlpp_cursors.proofs.Scoping.{source-around}
-use Rattle.rdlpp_cursors.proofs.Stepping.{step-run, step-bare, look-ended, sound-moved}
+use Rattle.rdlpp_cursors.proofs.Stepping.{step-run, step-bare, look-ended}
 
 -- the first bytes of a range of a text are those of a range of another one, which is the same if it has a byte
 pub same-front : (text other : List ℕ) (from end n : ℕ) → 0 < n → n ≤ length (slice_range text from end) → (0 < length text → other ≡ text)
@@ -54,6 +58,17 @@ look-run line depth texts (x ∷ below) look n end h l e k =
     (subst (λ (m : ℕ). IsStep line depth texts (x ∷ below) (Lends (record { source = front_source (x ∷ below); from = m; end = end })) (moved_to end (x ∷ below))) (sym l.1)
     (subst (λ (m : ℕ). IsStep line depth texts (x ∷ below) (Lends (record { source = front_source (x ∷ below); from = x.part.from; end = m })) (moved_to m (x ∷ below))) (sym at) step))
 
+-- behind a run the open texts are sound
+pub look-passed : (texts : Texts) (opens : List Open) (look : Look) (n end : ℕ) → AreSound texts opens → IsLook texts opens look → look.front ≡ front.Run n → end ≡ look.from + n
+    → AreSound texts (moved_to end opens)
+unfolding IsLook IsFront
+look-passed texts [] look n end h l e k = absurd l
+look-passed texts (x ∷ below) look n end h l e k =
+    let f = subst (λ (f : Front). IsFront (source_formals texts (front_source (x ∷ below))) (open_bytes texts x below) f) e l.3 in
+    let at : end ≡ x.part.from + n = k ∙ ap (λ (m : ℕ). m + n) l.1 in
+    subst (λ (m : ℕ). AreSound texts (moved_to m (x ∷ below))) (sym at)
+    (run-sound texts (source_formals texts (front_source (x ∷ below))) x below n h f.1 f.2)
+
 -- a lone backquote is a fault
 pub look-bare : (line depth : ℕ) (texts : Texts) (opens new : List Open) (look : Look) (fault : CursorFault) → AreSound texts opens → IsLook texts opens look → look.front ≡ front.Bare
     → fault.kind ≡ NoName → place_bytes texts fault.word ≡ [] → IsStep line depth texts opens (Refused fault) new
@@ -79,22 +94,25 @@ no-formals None e = omega arith
 no-formals (Some fs) e = absurd (cc)
 
 -- the body of a macro without a list, whose usage stands in a source, is sound
-pub sound-body : (macros : List Macro) (arguments : List ℕ) (id : ℕ) → id < length macros
-    → option_map (λ (fs : List Formal). length fs) (macro_at macros id).formals ≡ None
-    → AreSound (texts_of macros arguments) (open_body (texts_of macros []) id [] 0 ∷ [])
+pub sound-body : (table : TableView) (arguments : List ℕ) (id : ℕ) → IsSound table → id < length table.macros
+    → option_map (λ (fs : List Formal). length fs) (macro_at table.macros id).formals ≡ None
+    → AreSound (texts_of table.macros arguments) (open_body (texts_of table.macros []) id [] 0 ∷ [])
 unfolding open_body text_around own_text
-sound-body macros arguments id h e = record {
-  are_open = (omega arith, ((no-formals (macro_at macros id).formals e, tt), tt));
-  are_inside = (h, (omega arith, (refl, tt)));
-}
+sound-body table arguments id sound h e =
+    let body = (macro_at table.macros id).body in
+    record {
+      are_open = (omega arith, ((no-formals (macro_at table.macros id).formals e, tt), tt));
+      are_inside = (h, (omega arith, (refl, tt)));
+      are_kept = (subst (λ (ts : List SourceToken). KeepsAll ts) (sym (part-whole body)) (body-keeps table id sound h), (tt, tt));
+    }
 
 -- it is so whatever is seen of it
-pub sound-opened : (macros : List Macro) (arguments : List ℕ) (id line depth : ℕ) (view : CursorsView) → id < length macros
-    → option_map (λ (fs : List Formal). length fs) (macro_at macros id).formals ≡ None
-    → view ≡ record { opens = open_body (texts_of macros []) id [] 0 ∷ []; line = line; depth = depth }
-    → AreSound (texts_of macros arguments) view.opens
-sound-opened macros arguments id line depth view h e is =
-    subst (λ (v : CursorsView). AreSound (texts_of macros arguments) v.opens) (sym is) (sound-body macros arguments id h e)
+pub sound-opened : (table : TableView) (arguments : List ℕ) (id line depth : ℕ) (view : CursorsView) → IsSound table → id < length table.macros
+    → option_map (λ (fs : List Formal). length fs) (macro_at table.macros id).formals ≡ None
+    → view ≡ record { opens = open_body (texts_of table.macros []) id [] 0 ∷ []; line = line; depth = depth }
+    → AreSound (texts_of table.macros arguments) view.opens
+sound-opened table arguments id line depth view sound h e is =
+    subst (λ (v : CursorsView). AreSound (texts_of table.macros arguments) v.opens) (sym is) (sound-body table arguments id sound h e)
 
 -- what a step has left: it is one, and what is open is sound, at the same line and for as many texts
 pub record IsPassed (texts : Texts) (view new : CursorsView) (step : CursorStep) : Type 0 where
@@ -117,7 +135,7 @@ pub pass-run : (texts : Texts) (view new : CursorsView) (look : Look) (n end : �
 pass-run texts view new look n end h l e k is =
     subst (λ (v : CursorsView). IsPassed texts view v (Lends (record { source = look.source; from = look.from; end = end }))) (sym is) (record {
       is_step = look-run view.line view.depth texts view.opens look n end h l e k;
-      sound = sound-moved texts view.opens end h;
+      sound = look-passed texts view.opens look n end h l e k;
       kept = (refl, refl);
     })
 

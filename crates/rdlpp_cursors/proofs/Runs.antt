@@ -85,7 +85,7 @@ holds-fails : {A : Type 0} (b : Bool) → b ≡ true → b ≡ false → A
 holds-fails b h k = absurd (true≢false (sym h ∙ k))
 
 -- a token that is a stop is read in plain text
-stop-plain : (formals : List Formal) (at : ℕ) (m : Mode) (text bytes : List ℕ)
+pub stop-plain : (formals : List Formal) (at : ℕ) (m : Mode) (text bytes : List ℕ)
     → is_none (stop_at formals at (token_of m text) bytes) ≡ false → m ≡ Plain
 unfolding token_of
 stop-plain formals at Plain text bytes e = refl
@@ -212,7 +212,7 @@ run-more rules s line depth texts formals x below n h f some e r =
     fits a b xs ys e p q = let l = length-drop a ys in let k = ap (λ (zs : List ℕ). length zs) e in omega (arith, l, k, p, q)
 
 -- an empty text has the same tokens in each mode
-nil-same : (m : Mode) (bytes : List ℕ) → tokens_from m 0 bytes ≡ [] → text_tokens m bytes ≡ text_tokens Plain bytes
+pub nil-same : (m : Mode) (bytes : List ℕ) → tokens_from m 0 bytes ≡ [] → text_tokens m bytes ≡ text_tokens Plain bytes
 nil-same m [] e = text_nil m ∙ sym (text_nil Plain)
 nil-same m (b ∷ bs) e =
     let some : 0 < length (b ∷ bs) = omega arith in

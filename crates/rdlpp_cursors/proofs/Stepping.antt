@@ -1,5 +1,5 @@
 -- One step of open texts, by what stands at the front of the innermost.
-use Rattle.std.proofs.Common.{◌≡◌, ℕ, ◌+◌, ◌-◌, ◌<◌, ◌≤◌, false, List, [], ◌∷◌, length, take, drop, refl, sym, ap, subst, ◌∙◌, arith, Some}
+use Rattle.std.proofs.Common.{◌≡◌, ℕ, ◌+◌, ◌-◌, ◌<◌, ◌≤◌, false, List, [], ◌∷◌, length, take, drop, sym, ap, subst, ◌∙◌, arith, Some}
 use Rattle.std.proofs.lemmas.List.{length-take}
 use Rattle.rdlpp_scan.specs.declared.token.Kind.{Kind}
 use Rattle.rdlpp_scan.specs.declared.token.Kind.TheVariants.{Name, BareBackquote}
@@ -126,14 +126,7 @@ step-formal_deep line depth texts x below len place new fault h f deep k w rules
 
 -- the texts around the innermost are sound
 pub sound-tail : (texts : Texts) (x : Open) (below : List Open) → AreSound texts (x ∷ below) → AreSound texts below
-sound-tail texts x below h = record { are_open = ((h.are_open).1).1; are_inside = (((h.are_inside).1).1).1 }
-
--- so are open texts of which the innermost goes on at a place
-pub sound-moved : (texts : Texts) (opens : List Open) (at : ℕ) → AreSound texts opens → AreSound texts (moved_to at opens)
-unfolding moved_to
-sound-moved texts [] at h = h
-sound-moved texts (x ∷ below) at h =
-    record { are_open = h.are_open; are_inside = ((h.are_inside).0, (((h.are_inside).1).0, (refl, (((h.are_inside).1).1).1))) }
+sound-tail texts x below h = record { are_open = ((h.are_open).1).1; are_inside = (((h.are_inside).1).1).1; are_kept = ((h.are_kept).1).1 }
 
 -- a step by a look: nothing is left
 pub look-ended : (line depth : ℕ) (texts : Texts) (opens : List Open) (look : Look) → AreSound texts opens → IsLook texts opens look → look.front ≡ front.Ended

@@ -10,7 +10,8 @@ use Rattle.rdlpp_meaning.specs.State.{Rules, State, fault_at}
 use Rattle.rdlpp_meaning.specs.Cursors.{left}
 use Rattle.rdlpp_meaning.specs.CursorWork.{cursors_work, IsCountedMacro, IsCountedCursor}
 use Rattle.rdlpp_meaning.specs.Slots.{cursors_of}
-use Rattle.rdlpp_meaning.specs.Opens.{OpenKind, OpenBody, OpenActual, OpenDefault, Open, Texts, text_around, slots_of, AreOpen}
+use Rattle.rdlpp_meaning.specs.Opens.{OpenKind, OpenBody, OpenActual, OpenDefault, Open, Texts, scope_text, text_around, part_tokens, slots_of, AreOpen}
+use Rattle.rdlpp_calls.specs.BoundCalls.{KeepsAll}
 use Rattle.rdlpp_cursors.specs.Places.{place_bytes}
 use Rattle.rdlpp_cursors.specs.declared.step.CursorStep.{CursorStep}
 use Rattle.rdlpp_cursors.specs.declared.step.CursorStep.TheVariants.{Lends, Silent, Refused}
@@ -50,7 +51,21 @@ AreInside texts [] = Unit
 AreInside texts (x ∷ below) =
     IsKnown texts.macros x.kind × ((x.part.end ≤ length (text_around texts x.kind x.home below)) × ((x.part.mode ≡ Plain) × AreInside texts below))
 
--- what holds of open texts between steps: their homes are further out, their parts lie in their texts, and so do they
+-- no call in the actuals of a body, which lie in a text, drops a token
+abbrev pub KeepActuals : List ℕ → OpenKind → Type 0
+KeepActuals text (OpenBody id parts) = AllByRecursion (λ part. KeepsAll (part_tokens text part)) parts
+KeepActuals text OpenActual = Unit
+KeepActuals text (OpenDefault id place) = Unit
+
+-- no call in what is left of an open text drops a token, nor one in its actuals (source: this project's profile)
+abbrev pub AreKept : Texts → List Open → Type 0
+AreKept texts [] = Unit
+AreKept texts (x ∷ below) =
+    KeepsAll (part_tokens (text_around texts x.kind x.home below) x.part) × (KeepActuals (scope_text texts below x.home) x.kind × AreKept texts below)
+
+-- what holds of open texts between steps: their homes are further out, their parts lie in their texts, and so do they, and no
+-- call in them drops a token
 pub record AreSound (texts : Texts) (opens : List Open) : Type 0 where
   pub are_open : AreOpen texts opens
   pub are_inside : AreInside texts opens
+  pub are_kept : AreKept texts opens

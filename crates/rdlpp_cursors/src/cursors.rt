@@ -175,6 +175,7 @@ impl Cursors {
         ensures opens { self.new ≡ record { opens = open_body (texts_of table.now.macros []) id [] 0 ∷ []; line = line; depth = self.old.depth } }
         ensures sound { (arguments : List ℕ) → AreSound (texts_of table.now.macros arguments) self.new.opens }
     {
+        let _macros = table.len();
         self.line = line;
         self.push_body(id, table.body(id).len(), 0);
     }
