@@ -16,6 +16,7 @@ use Rattle.rdlpp_cursors.specs.declared.front.Front.TheVariants as front
 use Rattle.rdlpp_cursors.specs.declared.front.Look.{Look}
 use Rattle.rdlpp_cursors.specs.declared.place.TextPlace.{TextPlace}
 use Rattle.rdlpp_cursors.specs.declared.place.TextSource.{TextSource}
+use Rattle.rdlpp_cursors.specs.declared.place.TextSource.TheVariants.{Arguments}
 use Rattle.rdlpp_cursors.specs.declared.step.CursorFault.{CursorFault}
 use Rattle.rdlpp_cursors.specs.declared.step.CursorStep.{CursorStep}
 use Rattle.rdlpp_cursors.specs.declared.step.CursorStep.TheVariants.{Lends, Silent, Refused}
@@ -23,10 +24,12 @@ use Rattle.rdlpp_cursors.specs.Fronts.{IsFront, IsLook, IsHeld, holds}
 use Rattle.rdlpp_cursors.specs.Opened.{moved_to, CursorsView}
 use Rattle.rdlpp_cursors.specs.Places.{texts_of, place_bytes, source_text, source_formals}
 use Rattle.rdlpp_cursors.specs.Scopes.{front_source}
-use Rattle.rdlpp_cursors.specs.Steps.{AreSound, IsStep}
+use Rattle.rdlpp_cursors.specs.Steps.{AreSound, IsStep, StaysRefused, wordless}
+use Rattle.rdlpp_cursors.specs.Digits.{IsFalling}
+use Rattle.rdlpp_cursors.proofs.Falling.{falls-drop, look-moves}
 use Rattle.rdlpp_cursors.proofs.Keeping.{body-keeps, run-sound}
 use Rattle.rdlpp_cursors.proofs.Scoping.{source-around}
-use Rattle.rdlpp_cursors.proofs.Stepping.{step-run, step-bare, look-ended}
+use Rattle.rdlpp_cursors.proofs.Stepping.{step-run, step-bare, look-ended, look-inside}
 
 -- the first bytes of a range of a text are those of a range of another one, which is the same if it has a byte
 pub same-front : (text other : List ℕ) (from end n : ℕ) → 0 < n → n ≤ length (slice_range text from end) → (0 < length text → other ≡ text)
@@ -114,39 +117,65 @@ pub sound-opened : (table : TableView) (arguments : List ℕ) (id line depth : �
 sound-opened table arguments id line depth view sound h e is =
     subst (λ (v : CursorsView). AreSound (texts_of table.macros arguments) v.opens) (sym is) (sound-body table arguments id sound h e)
 
--- what a step has left: it is one, and what is open is sound, at the same line and for as many texts
+-- what a step has left: it is one, and what is open is sound, at the same line and for as many texts; the digits of the work left
+-- fall, unless it is refused, where nothing changes
 pub record IsPassed (texts : Texts) (view new : CursorsView) (step : CursorStep) : Type 0 where
   pub is_step : IsStep view.line view.depth texts view.opens step new.opens
   pub sound : AreSound texts new.opens
   pub kept : (new.line ≡ view.line) × (new.depth ≡ view.depth)
+  pub digits : IsFalling view.opens step new.opens
+  pub refused : StaysRefused view step new
 
 -- the innermost is closed
 pub pass-ended : (texts : Texts) (view new : CursorsView) (look : Look) → AreSound texts view.opens → IsLook texts view.opens look → look.front ≡ front.Ended
     → new ≡ record { opens = drop 1 view.opens; line = view.line; depth = view.depth } → IsPassed texts view new Silent
+unfolding IsFalling StaysRefused
 pass-ended texts view new look h l e is =
     let p = look-ended view.line view.depth texts view.opens look h l e in
-    subst (λ (v : CursorsView). IsPassed texts view v Silent) (sym is) (record { is_step = p.0; sound = p.1; kept = (refl, refl) })
+    subst (λ (v : CursorsView). IsPassed texts view v Silent) (sym is) (record {
+      is_step = p.0;
+      sound = p.1;
+      kept = (refl, refl);
+      digits = falls-drop texts view.opens look l;
+      refused = tt;
+    })
+
+-- a run has a byte
+run-some : (texts : Texts) (opens : List Open) (look : Look) (n : ℕ) → IsLook texts opens look → look.front ≡ front.Run n → 0 < n
+unfolding IsLook IsFront
+run-some texts [] look n l e = absurd l
+run-some texts (x ∷ below) look n l e =
+    (subst (λ (f : Front). IsFront (source_formals texts (front_source (x ∷ below))) (open_bytes texts x below) f) e l.3).0
 
 -- a run is lent
 pub pass-run : (texts : Texts) (view new : CursorsView) (look : Look) (n end : ℕ) → AreSound texts view.opens → IsLook texts view.opens look → look.front ≡ front.Run n
     → end ≡ look.from + n
     → new ≡ record { opens = moved_to end view.opens; line = view.line; depth = view.depth }
     → IsPassed texts view new (Lends (record { source = look.source; from = look.from; end = end }))
+unfolding IsFalling StaysRefused
 pass-run texts view new look n end h l e k is =
+    let some = run-some texts view.opens look n l e in
+    let inside = look-inside texts view.opens look n l e in
     subst (λ (v : CursorsView). IsPassed texts view v (Lends (record { source = look.source; from = look.from; end = end }))) (sym is) (record {
       is_step = look-run view.line view.depth texts view.opens look n end h l e k;
       sound = look-passed texts view.opens look n end h l e k;
       kept = (refl, refl);
+      digits = look-moves texts view.opens look end l (omega (arith, some, k)) (omega (arith, inside, k));
+      refused = tt;
     })
 
 -- a lone backquote is a fault
-pub pass-bare : (texts : Texts) (view : CursorsView) (look : Look) (source : TextSource) → AreSound texts view.opens → IsLook texts view.opens look → look.front ≡ front.Bare
-    → IsPassed texts view view (Refused (record { kind = NoName; word = record { source = source; from = 0; end = 0 } }))
-pass-bare texts view look source h l e = record {
-  is_step = look-bare view.line view.depth texts view.opens view.opens look (record { kind = NoName; word = record { source = source; from = 0; end = 0 } }) h l e refl (no-word texts source);
-  sound = h;
-  kept = (refl, refl);
-}
+pub pass-bare : (texts : Texts) (view : CursorsView) (look : Look) (step : CursorStep) → AreSound texts view.opens → IsLook texts view.opens look → look.front ≡ front.Bare
+    → step ≡ wordless NoName → IsPassed texts view view step
+unfolding IsFalling StaysRefused
+pass-bare texts view look step h l e is =
+    subst (λ (s : CursorStep). IsPassed texts view view s) (sym is) (record {
+      is_step = look-bare view.line view.depth texts view.opens view.opens look (record { kind = NoName; word = record { source = Arguments; from = 0; end = 0 } }) h l e refl (no-word texts Arguments);
+      sound = h;
+      kept = (refl, refl);
+      digits = tt;
+      refused = refl;
+    })
 
 -- what is neither an end, a run nor a lone backquote is held
 pub front-holds : (f : Front) → (f ≡ front.Ended → ⊥) → ((n : ℕ) → f ≡ front.Run n → ⊥) → (f ≡ front.Bare → ⊥) → holds f ≡ true

@@ -1,7 +1,8 @@
 -- The slots of open texts and the ranges that they have bound, as one text moves, opens or closes.
 use Rattle.std.proofs.Common.{◌≡◌, ℕ, ◌+◌, ◌-◌, ◌*◌, ◌<◌, ◌≤◌, List, [], ◌∷◌, map, length, take, drop, get_or, refl, sym, ap, subst, ◌∙◌, arith}
-use Rattle.std.proofs.Common.{rules, Global}
-use Rattle.std.specs.Prelude.{vec_capacity, vec_len, Vec}
+use Rattle.std.proofs.Common.{rules, Global, Bool, true, false}
+use Rattle.std.proofs.lemmas.Bool.{eqb-true, eqb-false, le-leb, lt-leb}
+use Rattle.std.specs.Prelude.{vec_capacity, vec_len, Vec, ◌==◌, nat_le}
 use Rattle.std.proofs.lemmas.List.{drop-set, drop_more, drop_all, length-drop, length-take, length-map, take_all}
 use Rattle.std.proofs.Math.ListN.{set, length-set}
 use Rattle.rdlpp_scan.specs.declared.token.Mode.TheVariants.{Plain}
@@ -221,3 +222,23 @@ stack-pushed slots first bindings new some same h =
       laid = pushed-laid slots first bindings.items new some inside same h.laid;
       room = omega (arith, n, room);
     }
+
+-- as many texts are open as there are slots where none is in front of the open ones
+pub full-first : (v : Vec Slot Global) (first : ℕ) (bindings : List Range) → first ≤ length v.items
+    → (first == 0) ≡ nat_le (vec_len v) (length (opens_of (drop first v.items) bindings))
+full-first v first bindings inside =
+    by (first == 0) refl
+  where
+    n : vec_len v ≡ length v.items
+    n = slots-count v
+
+    h : length (opens_of (drop first v.items) bindings) ≡ length v.items - first
+    h = open-count v.items first bindings
+
+    by : (none : Bool) → (first == 0) ≡ none → (first == 0) ≡ nat_le (vec_len v) (length (opens_of (drop first v.items) bindings))
+    by true e =
+        let zeroth : first ≡ 0 = eqb-true first 0 e in
+        e ∙ sym (le-leb (vec_len v) (length (opens_of (drop first v.items) bindings)) (omega (arith, n, h, zeroth)))
+    by false e =
+        let some : first ≡ 0 → ⊥ = eqb-false first 0 e in
+        e ∙ sym (lt-leb (vec_len v) (length (opens_of (drop first v.items) bindings)) (omega (arith, n, h, some, inside)))

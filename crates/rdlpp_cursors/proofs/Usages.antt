@@ -16,7 +16,7 @@ use Rattle.rdlpp_scan.specs.Stage.{is_reserved}
 use Rattle.rdlpp_scan.specs.TokenKinds.{opens_mode}
 use Rattle.rdlpp_scan.specs.Tokens.{token_of}
 use Rattle.rdlpp_scan.proofs.TokenLens.{IsPart, token_of-part}
-use Rattle.rdlpp_table.specs.Table.{Macro, macro_named}
+use Rattle.rdlpp_table.specs.Table.{Formal, Macro, macro_named}
 use Rattle.rdlpp_table.specs.View.{TableView, IsSound, IsSoundMacro, no_macro, macro_at, place_named}
 use Rattle.rdlpp_table.proofs.Places.{place_of_name}
 use Rattle.rdlpp_meaning.specs.declared.fault.FaultKind.{FaultKind}
@@ -26,27 +26,34 @@ use Rattle.rdlpp_meaning.specs.Cursors.{not_kept, TokenUsage, Refuses, Opens, to
 use Rattle.rdlpp_meaning.specs.Slots.{SlotStops}
 use Rattle.rdlpp_meaning.specs.Opens.{OpenKind, OpenBody, OpenActual, OpenDefault, Open, Texts, slot_of, slots_of, text_around, open_scope, open_bytes, open_behind, open_body, own_text, own_writers, writers_at, AreOpen}
 use Rattle.rdlpp_meaning.proofs.OpenMoves.{first_kind, first_bytes, first_behind, first_usage, open-refused, open-usage, open-usage_deep, open-writers}
+use Rattle.rdlpp_calls.specs.BoundCalls.{KeepsAll}
 use Rattle.rdlpp_calls.specs.declared.bindings.Range.{Range}
 use Rattle.rdlpp_cursors.specs.declared.front.Front.{Front}
 use Rattle.rdlpp_cursors.specs.declared.front.Front.TheVariants as front
 use Rattle.rdlpp_cursors.specs.declared.front.Look.{Look}
 use Rattle.rdlpp_cursors.specs.declared.place.TextPlace.{TextPlace}
 use Rattle.rdlpp_cursors.specs.declared.place.TextSource.{TextSource}
+use Rattle.rdlpp_meaning.proofs.OpenScopes.{part-whole}
+use Rattle.rdlpp_cursors.specs.declared.place.TextSource.TheVariants.{Arguments}
 use Rattle.rdlpp_cursors.specs.declared.slot.Slot.{Slot}
 use Rattle.rdlpp_cursors.specs.declared.step.CursorFault.{CursorFault}
+use Rattle.rdlpp_cursors.specs.declared.step.CursorStep.{CursorStep}
 use Rattle.rdlpp_cursors.specs.declared.step.CursorStep.TheVariants.{Silent, Refused}
+use Rattle.rdlpp_cursors.specs.Digits.{IsFalling}
 use Rattle.rdlpp_cursors.specs.Fronts.{IsFront, IsLook}
 use Rattle.rdlpp_cursors.specs.Opened.{bindings_below, opens_of, moved_to, AreHomedSlots, CursorsView}
 use Rattle.rdlpp_cursors.specs.Places.{texts_of, place_bytes, source_text, source_formals, IsSource}
 use Rattle.rdlpp_cursors.specs.Scopes.{front_scope, front_source, own_ids, writer_ids}
-use Rattle.rdlpp_cursors.specs.Steps.{IsKnown, AreInside, AreSound, IsStep, StepsTo, Goes}
+use Rattle.rdlpp_cursors.specs.Steps.{IsKnown, AreInside, AreSound, IsStep, StepsTo, Goes, StaysRefused, wordless}
 use Rattle.rdlpp_cursors.specs.Usages.{front_name, unknown_kind, IsUsed}
+use Rattle.rdlpp_cursors.proofs.Falling.{look-opens, usage-inside as falls-inside}
+use Rattle.rdlpp_cursors.proofs.Keeping.{body-keeps, first-sound}
 use Rattle.rdlpp_cursors.proofs.Looking.{source-known, source-inside}
 use Rattle.rdlpp_cursors.proofs.Moving.{goes-by, ends-by}
 use Rattle.rdlpp_cursors.proofs.Passing.{same-front, no-formals, no-word, IsPassed}
 use Rattle.rdlpp_cursors.proofs.Runs.{slice-behind}
 use Rattle.rdlpp_cursors.proofs.Scoping.{source-around, opens-length}
-use Rattle.rdlpp_cursors.proofs.Stepping.{kind-first, bytes-first, first-moved, sound-moved}
+use Rattle.rdlpp_cursors.proofs.Stepping.{kind-first, bytes-first, first-moved}
 
 -- where a usage lies in its text: it has its backquote, and ends in what is left of the open text, which ends in its text
 pub record IsUsageInside (texts : Texts) (look : Look) (len : ℕ) : Type 0 where
@@ -72,11 +79,11 @@ usage-some texts x below len f =
     (subst (λ (n : ℕ). 0 < n) e part.not_empty, subst (λ (n : ℕ). n ≤ length (open_bytes texts x below)) e part.inside)
 
 -- a usage lies there
-pub usage-inside : (texts : Texts) (opens : List Open) (look : Look) (len : ℕ) → AreSound texts opens → IsLook texts opens look → look.front ≡ front.Usage len
+pub usage-place : (texts : Texts) (opens : List Open) (look : Look) (len : ℕ) → AreSound texts opens → IsLook texts opens look → look.front ≡ front.Usage len
     → IsUsageInside texts look len
 unfolding IsLook open_bytes
-usage-inside texts [] look len h l e = absurd l
-usage-inside texts (x ∷ below) look len h l e =
+usage-place texts [] look len h l e = absurd l
+usage-place texts (x ∷ below) look len h l e =
     let s = usage-some texts x below len (front-is texts x below look len e l.3) in
     let size = length-take (x.part.end - x.part.from) (drop x.part.from (text_around texts x.kind x.home below)) in
     let from : look.from ≡ x.part.from = l.1 in
@@ -106,7 +113,7 @@ unfolding IsLook front_name place_bytes open_bytes
 usage-word texts [] look len from end h l e f g = absurd l
 usage-word texts (x ∷ below) look len from end h l e f g =
     let s = usage-some texts x below len (front-is texts x below look len e l.3) in
-    let within = usage-inside texts (x ∷ below) look len h l e in
+    let within = usage-place texts (x ∷ below) look len h l e in
     let inside = within.inside in
     let ends = within.within in
     let at : look.from ≡ x.part.from = l.1 in
@@ -326,10 +333,11 @@ table-recursive table arguments opens name id h inside e l m w =
 pub slots-homed : (texts : Texts) (slots : List Slot) (bindings : List Range) → AreOpen texts (opens_of slots bindings) → AreHomedSlots slots
 unfolding opens_of
 slots-homed texts [] bindings h = tt
-slots-homed texts (slot ∷ below) bindings h =
-    (let home : slot.home ≤ length (opens_of below (bindings_below slot.kind bindings)) = h.0 in
-    let n = opens-length below (bindings_below slot.kind bindings) in omega (arith, home, n),
-      slots-homed texts below (bindings_below slot.kind bindings) (h.1).1)
+slots-homed texts (slot ∷ below) bindings h = (
+  let home : slot.home ≤ length (opens_of below (bindings_below slot.kind bindings)) = h.0 in
+      let n = opens-length below (bindings_below slot.kind bindings) in omega (arith, home, n),
+  slots-homed texts below (bindings_below slot.kind bindings) (h.1).1,
+)
 
 -- the scope of the innermost open text is one of the open texts
 pub scope-inside : (texts : Texts) (opens : List Open) → AreOpen texts opens → front_scope opens ≤ length opens
@@ -342,86 +350,115 @@ scope-inside texts (x ∷ below) h = by x.kind
     by OpenActual = let home : x.home ≤ length below = h.0 in omega (arith, home)
     by (OpenDefault id place) = omega arith
 
+-- open texts that go on are as many
+moved-length : (opens : List Open) (at : ℕ) → length (moved_to at opens) ≡ length opens
+unfolding moved_to
+moved-length [] at = refl
+moved-length (x ∷ below) at = refl
+
+-- behind a usage open texts are sound
+pub sound-behind : (texts : Texts) (opens : List Open) (look : Look) (len at : ℕ) → AreSound texts opens → IsLook texts opens look → look.front ≡ front.Usage len
+    → at ≡ look.from + len → AreSound texts (moved_to at opens)
+unfolding IsLook IsFront
+sound-behind texts [] look len at h l e k = absurd l
+sound-behind texts (x ∷ below) look len at h l e k =
+    let f = front-is texts x below look len e l.3 in
+    let place : at ≡ x.part.from + len = k ∙ ap (λ (n : ℕ). n + len) l.1 in
+    subst (λ (n : ℕ). AreSound texts (moved_to n (x ∷ below))) (sym place) (first-sound texts x below len h f.0 (back-closes _ f.1) f.2)
+
 -- the body of a macro without a list is sound in front of sound open texts that go on
-pub sound-used : (texts : Texts) (opens : List Open) (id at : ℕ) → AreSound texts opens → id < length texts.macros → (macro_at texts.macros id).formals ≡ None
-    → AreSound texts (open_body texts id [] (front_scope opens) ∷ moved_to at opens)
+pub sound-used : (table : TableView) (arguments : List ℕ) (opens : List Open) (id at : ℕ) → IsSound table → AreSound (texts_of table.macros arguments) (moved_to at opens)
+    → front_scope opens ≤ length opens → id < length table.macros → (macro_at table.macros id).formals ≡ None
+    → AreSound (texts_of table.macros arguments) (open_body (texts_of table.macros arguments) id [] (front_scope opens) ∷ moved_to at opens)
 unfolding open_body text_around own_text
-sound-used texts opens id at h inside none =
-    let moved = sound-moved texts opens at h in
-    let scope = scope-inside texts opens h.are_open in
+sound-used table arguments opens id at sound moved scope inside none =
+    let body = (macro_at table.macros id).body in
     let n = moved-length opens at in
     record {
-      are_open = (omega (arith, scope, n), ((no-formals (macro_at texts.macros id).formals (ap (λ o. option_map (λ fs. length fs) o) none), tt), moved.are_open));
+      are_open = (omega (arith, scope, n), ((no-formals (macro_at table.macros id).formals (ap (λ (fs : Option (List Formal)). option_map (λ (xs : List Formal). length xs) fs) none), tt), moved.are_open));
       are_inside = (inside, (omega arith, (refl, moved.are_inside)));
+      are_kept = (subst (λ (ts : List SourceToken). KeepsAll ts) (sym (part-whole body)) (body-keeps table id sound inside), (tt, moved.are_kept));
     }
-  where
-    moved-length : (opens : List Open) (at : ℕ) → length (moved_to at opens) ≡ length opens
-    unfolding moved_to
-    moved-length [] at = refl
-    moved-length (x ∷ below) at = refl
 
 -- by a look: a usage that is refused
+look-refused : (line depth : ℕ) (texts : Texts) (opens : List Open) (look : Look) (len from end : ℕ) (kind own : FaultKind) → AreSound texts opens → IsLook texts opens look
+    → look.front ≡ front.Usage len → from ≡ look.from + 1 → end ≡ look.from + len → own ≡ kind
+    → IsRefused texts opens (front_name texts opens len) kind
+    → IsStep line depth texts opens (Refused (record { kind = own; word = record { source = look.source; from = from; end = end } })) opens
+unfolding IsLook
+look-refused line depth texts [] look len from end kind own h l e f g k r = absurd l
+look-refused line depth texts (x ∷ below) look len from end kind own h l e f g k r =
+    step-refused line depth texts x below len kind (x ∷ below) (record { kind = own; word = record { source = look.source; from = from; end = end } }) h
+    (front-is texts x below look len e l.3) r k (usage-word texts (x ∷ below) look len from end h l e f g)
+
+-- a body for which there is no slot left
+look-deep : (line depth : ℕ) (texts : Texts) (opens : List Open) (look : Look) (len id : ℕ) → AreSound texts opens → IsLook texts opens look
+    → look.front ≡ front.Usage len → IsUsed texts opens (front_name texts opens len) id → (macro_at texts.macros id).formals ≡ None → depth ≤ length opens
+    → IsStep line depth texts opens (wordless DepthPassed) opens
+unfolding IsLook
+look-deep line depth texts [] look len id h l e used none deep = absurd l
+look-deep line depth texts (x ∷ below) look len id h l e used none deep =
+    step-opened_deep line depth texts x below len id (x ∷ below) (record { kind = DepthPassed; word = record { source = Arguments; from = 0; end = 0 } }) h
+    (front-is texts x below look len e l.3) used none deep refl (no-word texts Arguments)
+
+-- a body that is opened
+look-opened : (line depth : ℕ) (texts : Texts) (opens : List Open) (look : Look) (len id at : ℕ) → AreSound texts opens → IsLook texts opens look
+    → look.front ≡ front.Usage len → IsUsed texts opens (front_name texts opens len) id → (macro_at texts.macros id).formals ≡ None → length opens < depth
+    → at ≡ look.from + len
+    → IsStep line depth texts opens Silent (open_body texts id [] (front_scope opens) ∷ moved_to at opens)
+unfolding IsLook front_scope
+look-opened line depth texts [] look len id at h l e used none room k = absurd l
+look-opened line depth texts (x ∷ below) look len id at h l e used none room k =
+    let place : at ≡ x.part.from + len = k ∙ ap (λ (n : ℕ). n + len) l.1 in
+    subst (λ (n : ℕ). IsStep line depth texts (x ∷ below) Silent (open_body texts id [] (open_scope x below) ∷ moved_to n (x ∷ below))) (sym place)
+    (step-opened line depth texts x below len id h (front-is texts x below look len e l.3) used none room)
+
+-- a usage that is refused
 pub pass-refused : (texts : Texts) (view : CursorsView) (look : Look) (len from end : ℕ) (kind own : FaultKind) → AreSound texts view.opens → IsLook texts view.opens look
     → look.front ≡ front.Usage len → from ≡ look.from + 1 → end ≡ look.from + len → own ≡ kind
     → IsRefused texts view.opens (front_name texts view.opens len) kind
     → IsPassed texts view view (Refused (record { kind = own; word = record { source = look.source; from = from; end = end } }))
+unfolding IsFalling StaysRefused
 pass-refused texts view look len from end kind own h l e f g k r = record {
-  is_step = by view.opens h l r;
+  is_step = look-refused view.line view.depth texts view.opens look len from end kind own h l e f g k r;
   sound = h;
   kept = (refl, refl);
+  digits = tt;
+  refused = refl;
 }
-  where
-    fault : CursorFault
-    fault = record { kind = own; word = record { source = look.source; from = from; end = end } }
-
-    by : (opens : List Open) → AreSound texts opens → IsLook texts opens look → IsRefused texts opens (front_name texts opens len) kind
-        → IsStep view.line view.depth texts opens (Refused fault) opens
-    unfolding IsLook
-    by [] h l r = absurd l
-    by (x ∷ below) h l r =
-        step-refused view.line view.depth texts x below len kind (x ∷ below) fault h (front-is texts x below look len e l.3) r k
-        (usage-word texts (x ∷ below) look len from end h l e f g)
 
 -- a body for which there is no slot left
-pub pass-deep : (texts : Texts) (view : CursorsView) (look : Look) (len id : ℕ) (source : TextSource) → AreSound texts view.opens → IsLook texts view.opens look
+pub pass-deep : (texts : Texts) (view : CursorsView) (look : Look) (len id : ℕ) (step : CursorStep) → AreSound texts view.opens → IsLook texts view.opens look
     → look.front ≡ front.Usage len → IsUsed texts view.opens (front_name texts view.opens len) id → (macro_at texts.macros id).formals ≡ None
-    → view.depth ≤ length view.opens
-    → IsPassed texts view view (Refused (record { kind = DepthPassed; word = record { source = source; from = 0; end = 0 } }))
-pass-deep texts view look len id source h l e used none deep = record {
-  is_step = by view.opens h l used deep;
-  sound = h;
-  kept = (refl, refl);
-}
-  where
-    fault : CursorFault
-    fault = record { kind = DepthPassed; word = record { source = source; from = 0; end = 0 } }
-
-    by : (opens : List Open) → AreSound texts opens → IsLook texts opens look → IsUsed texts opens (front_name texts opens len) id → view.depth ≤ length opens
-        → IsStep view.line view.depth texts opens (Refused fault) opens
-    unfolding IsLook
-    by [] h l used deep = absurd l
-    by (x ∷ below) h l used deep =
-        step-opened_deep view.line view.depth texts x below len id (x ∷ below) fault h (front-is texts x below look len e l.3) used none deep refl
-        (no-word texts source)
+    → view.depth ≤ length view.opens → step ≡ wordless DepthPassed
+    → IsPassed texts view view step
+unfolding IsFalling StaysRefused
+pass-deep texts view look len id step h l e used none deep is =
+    subst (λ (s : CursorStep). IsPassed texts view view s) (sym is) (record {
+      is_step = look-deep view.line view.depth texts view.opens look len id h l e used none deep;
+      sound = h;
+      kept = (refl, refl);
+      digits = tt;
+      refused = refl;
+    })
 
 -- a body that is opened
-pub pass-opened : (texts : Texts) (view new : CursorsView) (look : Look) (len id at : ℕ) → AreSound texts view.opens → IsLook texts view.opens look
-    → look.front ≡ front.Usage len → IsUsed texts view.opens (front_name texts view.opens len) id → (macro_at texts.macros id).formals ≡ None
-    → length view.opens < view.depth → at ≡ look.from + len
-    → new ≡ record { opens = open_body texts id [] (front_scope view.opens) ∷ moved_to at view.opens; line = view.line; depth = view.depth }
-    → IsPassed texts view new Silent
-pass-opened texts view new look len id at h l e used none room k is =
+pub pass-opened : (table : TableView) (arguments : List ℕ) (view new : CursorsView) (look : Look) (len id at : ℕ) → IsSound table
+    → AreSound (texts_of table.macros arguments) view.opens → IsLook (texts_of table.macros arguments) view.opens look
+    → look.front ≡ front.Usage len → IsUsed (texts_of table.macros arguments) view.opens (front_name (texts_of table.macros arguments) view.opens len) id
+    → (macro_at table.macros id).formals ≡ None → length view.opens < view.depth → at ≡ look.from + len
+    → new ≡ record { opens = open_body (texts_of table.macros arguments) id [] (front_scope view.opens) ∷ moved_to at view.opens; line = view.line; depth = view.depth }
+    → IsPassed (texts_of table.macros arguments) view new Silent
+unfolding IsFalling StaysRefused
+pass-opened table arguments view new look len id at sound h l e used none room k is =
+    let texts = texts_of table.macros arguments in
+    let further = falls-inside texts view.opens look len l e in
+    let less = further.0 in
+    let inside = further.1 in
     subst (λ (v : CursorsView). IsPassed texts view v Silent) (sym is) (record {
-      is_step = by view.opens h l used room;
-      sound = sound-used texts view.opens id at h used.inside none;
+      is_step = look-opened view.line view.depth texts view.opens look len id at h l e used none room k;
+      sound = sound-used table arguments view.opens id at sound (sound-behind texts view.opens look len at h l e k) (scope-inside texts view.opens h.are_open) used.inside none;
       kept = (refl, refl);
+      digits = look-opens texts view.opens look at (open_body texts id [] (front_scope view.opens)) l (omega (arith, less, k)) (omega (arith, inside, k));
+      refused = tt;
     })
-  where
-    by : (opens : List Open) → AreSound texts opens → IsLook texts opens look → IsUsed texts opens (front_name texts opens len) id → length opens < view.depth
-        → IsStep view.line view.depth texts opens Silent (open_body texts id [] (front_scope opens) ∷ moved_to at opens)
-    unfolding IsLook front_scope
-    by [] h l used room = absurd l
-    by (x ∷ below) h l used room =
-        let place : at ≡ x.part.from + len = k ∙ ap (λ (n : ℕ). n + len) l.1 in
-        subst (λ (n : ℕ). IsStep view.line view.depth texts (x ∷ below) Silent (open_body texts id [] (open_scope x below) ∷ moved_to n (x ∷ below))) (sym place)
-        (step-opened view.line view.depth texts x below len id h (front-is texts x below look len e l.3) used none room)

@@ -4,3 +4,4 @@ pub mod Places
 pub mod Fronts
 pub mod Steps
 pub mod Usages
+pub mod Digits

@@ -5,6 +5,7 @@ use Rattle.std.specs.List.{AllByRecursion}
 use Rattle.rdlpp_scan.specs.declared.token.Mode.TheVariants.{Plain}
 use Rattle.rdlpp_table.specs.Table.{Macro}
 use Rattle.rdlpp_table.specs.View.{macro_at, formals_of}
+use Rattle.rdlpp_meaning.specs.declared.fault.FaultKind.{FaultKind}
 use Rattle.rdlpp_meaning.specs.Outcome.{gives, fails, and_then}
 use Rattle.rdlpp_meaning.specs.State.{Rules, State, fault_at}
 use Rattle.rdlpp_meaning.specs.Cursors.{left}
@@ -12,9 +13,15 @@ use Rattle.rdlpp_meaning.specs.CursorWork.{cursors_work, IsCountedMacro, IsCount
 use Rattle.rdlpp_meaning.specs.Slots.{cursors_of}
 use Rattle.rdlpp_meaning.specs.Opens.{OpenKind, OpenBody, OpenActual, OpenDefault, Open, Texts, scope_text, text_around, part_tokens, slots_of, AreOpen}
 use Rattle.rdlpp_calls.specs.BoundCalls.{KeepsAll}
+use Rattle.rdlpp_cursors.specs.Opened.{CursorsView}
 use Rattle.rdlpp_cursors.specs.Places.{place_bytes}
+use Rattle.rdlpp_cursors.specs.declared.place.TextSource.TheVariants.{Arguments}
 use Rattle.rdlpp_cursors.specs.declared.step.CursorStep.{CursorStep}
 use Rattle.rdlpp_cursors.specs.declared.step.CursorStep.TheVariants.{Lends, Silent, Refused}
+
+-- a fault without a word
+abbrev pub wordless : FaultKind → CursorStep
+wordless kind = Refused (record { kind = kind; word = record { source = Arguments; from = 0; end = 0 } })
 
 -- open texts go on to others over some bytes: what remained is the bytes and what remains, and the work left, in which each text
 -- has a digit, falls in any base that has the digits
@@ -69,3 +76,9 @@ pub record AreSound (texts : Texts) (opens : List Open) : Type 0 where
   pub are_open : AreOpen texts opens
   pub are_inside : AreInside texts opens
   pub are_kept : AreKept texts opens
+
+-- nothing has opened or moved behind a fault
+unfoldable pub StaysRefused : CursorsView → CursorStep → CursorsView → Type 0
+StaysRefused old (Lends place) new = Unit
+StaysRefused old Silent new = Unit
+StaysRefused old (Refused fault) new = new ≡ old

@@ -1,18 +1,19 @@
 // The stack of open texts.
-ghost use Rattle.std.specs.Prelude.{[], length, IfOk, MatchOption, List, None, ℕ, ◌==◌, ◌<◌, ◌≡◌, ◌≤◌, ◌∷◌, ◌^◌, drop};
+ghost use Rattle.std.specs.Prelude.{[], length, IfOk, MatchOption, List, None, ℕ, ◌==◌, ◌<◌, ◌≡◌, ◌≤◌, ◌∷◌, ◌^◌, drop, nat_le};
 ghost use Rattle.rdlpp_scan.specs.declared.token.Mode.TheVariants.{Plain};
 ghost use Rattle.std.specs.Option.{option_map};
 ghost use Rattle.rdlpp_table.specs.View.{macro_at};
 ghost use Rattle.rdlpp_meaning.specs.Opens.{open_body, OpenBody};
+ghost use Rattle.rdlpp_cursors.specs.Digits.{IsFalling};
 ghost use Rattle.rdlpp_cursors.specs.Fronts.{IsHeld, IsLook};
 ghost use Rattle.rdlpp_cursors.specs.Opened.{bound_by, kept_by, moved_to, open_of, IsNoBody};
 ghost use Rattle.rdlpp_cursors.specs.Places.{texts_of};
-ghost use Rattle.rdlpp_cursors.specs.Steps.{AreSound, IsStep};
+ghost use Rattle.rdlpp_cursors.specs.Steps.{AreSound, IsStep, StaysRefused};
 
 use crate::front::{Front, Look, look_at};
-use crate::place::{TextPlace, TextSource};
+use crate::place::TextPlace;
 use crate::slot::{Slot, SlotKind};
-use crate::step::{CursorFault, CursorStep};
+use crate::step::{CursorStep, wordless};
 use rdlpp_calls::Range;
 use rdlpp_meaning::FaultKind;
 use rdlpp_table::{MacroId, Table};
@@ -104,6 +105,13 @@ impl Cursors {
         self.bindings.len()
     }
 
+    // Whether as many texts are open as there are slots.
+    fn is_full(&self) -> bool
+        ensures { result ≡ nat_le self.now.depth (length self.now.opens) }
+    {
+        self.first == 0
+    }
+
     // Closes the innermost text, with the ranges that its call has bound.
     fn close(&mut self)
         requires { 0 < length self.old.opens }
@@ -191,6 +199,8 @@ impl Cursors {
         ensures step { MatchOption result ((self.new ≡ self.old) × IsHeld (texts_of table.now.macros arguments.now) self.old.opens) (λ step. IsStep self.old.line self.old.depth (texts_of table.now.macros arguments.now) self.old.opens step self.new.opens) }
         ensures sound { AreSound (texts_of table.now.macros arguments.now) self.new.opens }
         ensures kept { (self.new.line ≡ self.old.line) × (self.new.depth ≡ self.old.depth) }
+        ensures digits { MatchOption result Unit (λ step. IsFalling self.old.opens step self.new.opens) }
+        ensures refused { MatchOption result Unit (λ step. StaysRefused self.old step self.new) }
     {
         let look = self.look(table, arguments);
         match look.front {
@@ -207,14 +217,7 @@ impl Cursors {
                     end,
                 }))
             }
-            Front::Bare => Some(CursorStep::Refused(CursorFault {
-                kind: FaultKind::BareBackquote,
-                word: TextPlace {
-                    source: TextSource::Arguments,
-                    from: 0,
-                    end: 0,
-                },
-            })),
+            Front::Bare => Some(wordless(FaultKind::BareBackquote)),
             _ => None,
         }
     }

@@ -1,6 +1,5 @@
 use Rattle.std.proofs.Common.{arith, refl}
 use Rattle.rdlpp_cursors.specs.Places.{texts_of}
-use Rattle.rdlpp_cursors.specs.declared.place.TextSource.TheVariants.{Arguments}
 use Rattle.rdlpp_cursors.proofs.Passing.{front-holds, look-held, pass-bare, pass-ended, pass-run}
 use Rattle.rdlpp_cursors.proofs.Stepping.{look-inside}
 use Rattle.rdlpp_cursors.proofs.cursors.Cursors.pass.Goals as goal
@@ -29,7 +28,7 @@ returns-in-Run-clause-sound c =
 
 pub returns-in-Bare-clause-step : goal.returns-in-Bare-clause-step
 returns-in-Bare-clause-step c =
-    (pass-bare (texts_of c.args.table.now.macros c.args.arguments.now) c.args.self.now c.look-look.result Arguments c.requires.sound c.look-look.ensures.look c.in-Bare.is).is_step
+    (pass-bare (texts_of c.args.table.now.macros c.args.arguments.now) c.args.self.now c.look-look.result c.wordless.result c.requires.sound c.look-look.ensures.look c.in-Bare.is c.wordless.ensures).is_step
 
 pub returns-in_default-clause-step : goal.returns-in_default-clause-step
 returns-in_default-clause-step c = (
@@ -37,3 +36,27 @@ returns-in_default-clause-step c = (
   look-held (texts_of c.args.table.now.macros c.args.arguments.now) c.args.self.now.opens c.look-look.result c.look-look.ensures.look
       (front-holds c.look-look.result.front c.in_default.not-Ended c.in_default.not-Run c.in_default.not-Bare),
 )
+
+pub returns-in-Ended-clause-digits : goal.returns-in-Ended-clause-digits
+returns-in-Ended-clause-digits c =
+    (pass-ended (texts_of c.args.table.now.macros c.args.arguments.now) c.args.self.now c.close.new.self c.look-look.result c.requires.sound c.look-look.ensures.look c.in-Ended.is c.close.ensures).digits
+
+pub returns-in-Ended-clause-refused : goal.returns-in-Ended-clause-refused
+returns-in-Ended-clause-refused c =
+    (pass-ended (texts_of c.args.table.now.macros c.args.arguments.now) c.args.self.now c.close.new.self c.look-look.result c.requires.sound c.look-look.ensures.look c.in-Ended.is c.close.ensures).refused
+
+pub returns-in-Run-clause-digits : goal.returns-in-Run-clause-digits
+returns-in-Run-clause-digits c =
+    (pass-run (texts_of c.args.table.now.macros c.args.arguments.now) c.args.self.now c.move_to.new.self c.look-look.result c.in-Run.len _ c.requires.sound c.look-look.ensures.look c.in-Run.is refl c.move_to.ensures).digits
+
+pub returns-in-Run-clause-refused : goal.returns-in-Run-clause-refused
+returns-in-Run-clause-refused c =
+    (pass-run (texts_of c.args.table.now.macros c.args.arguments.now) c.args.self.now c.move_to.new.self c.look-look.result c.in-Run.len _ c.requires.sound c.look-look.ensures.look c.in-Run.is refl c.move_to.ensures).refused
+
+pub returns-in-Bare-clause-digits : goal.returns-in-Bare-clause-digits
+returns-in-Bare-clause-digits c =
+    (pass-bare (texts_of c.args.table.now.macros c.args.arguments.now) c.args.self.now c.look-look.result c.wordless.result c.requires.sound c.look-look.ensures.look c.in-Bare.is c.wordless.ensures).digits
+
+pub returns-in-Bare-clause-refused : goal.returns-in-Bare-clause-refused
+returns-in-Bare-clause-refused c =
+    (pass-bare (texts_of c.args.table.now.macros c.args.arguments.now) c.args.self.now c.look-look.result c.wordless.result c.requires.sound c.look-look.ensures.look c.in-Bare.is c.wordless.ensures).refused
