@@ -10,6 +10,8 @@ ghost use Rattle.rdlpp_cursors.specs.Opened.{bound_by, kept_by, moved_to, open_o
 ghost use Rattle.rdlpp_cursors.specs.Places.{texts_of};
 ghost use Rattle.rdlpp_cursors.specs.Steps.{AreSound, IsStep, StaysRefused};
 
+mod usage;
+
 use crate::front::{Front, Look, look_at};
 use crate::place::TextPlace;
 use crate::slot::{Slot, SlotKind};

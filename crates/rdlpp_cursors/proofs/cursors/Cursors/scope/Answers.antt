@@ -1,0 +1,8 @@
+use Rattle.std.proofs.Common.{◌<◌, ◌≡◌, ◌-◌, length, take, drop, ap, arith, List}
+use Rattle.rdlpp_cursors.specs.declared.slot.Slot.{Slot}
+use Rattle.rdlpp_cursors.proofs.Stacking.{open-count}
+use Rattle.rdlpp_cursors.proofs.Usages.{rest-some}
+use Rattle.rdlpp_cursors.proofs.cursors.Cursors.scope.Goals as goal
+
+pub front_scope-requires : goal.front_scope-requires
+front_scope-requires c = rest-some _ _ _ c.self.inside.bindings.items c.as_slice-slots.ensures.value (rw (← c.self.view_is) at c.requires)
