@@ -1,10 +1,11 @@
 // Usages in open texts: their names, their faults, and the bodies of macros without a list.
-ghost use Rattle.std.specs.Prelude.{◌≡◌, ◌==◌, ◌∷◌, ◌+◌, ◌<◌, ◌≤◌, ◌^◌, [], length};
+ghost use Rattle.std.specs.Prelude.{MatchOption, ◌≡◌, ◌==◌, ◌∷◌, ◌+◌, ◌<◌, ◌≤◌, ◌^◌, [], length};
 ghost use Rattle.std.specs.List.{list_any};
 ghost use Rattle.std.specs.Result.{MatchResult};
 ghost use Rattle.rdlpp_scan.specs.Stage.{is_reserved};
 ghost use Rattle.rdlpp_table.specs.View.{macro_at};
 ghost use Rattle.rdlpp_meaning.specs.Opens.{open_body};
+ghost use Rattle.rdlpp_cursors.specs.Digits.{IsFalling};
 ghost use Rattle.rdlpp_cursors.specs.Fronts.{IsLook};
 ghost use Rattle.rdlpp_cursors.specs.Opened.{moved_to};
 ghost use Rattle.rdlpp_cursors.specs.Places.{place_bytes, source_text, texts_of, IsSource};
@@ -114,5 +115,43 @@ impl Cursors {
             return Err(FaultKind::RecursiveMacro);
         }
         Ok(id)
+    }
+
+    // One step at a usage of so many bytes, which stands at the front of the innermost text. `None`, and nothing changes, where
+    // its macro has a list.
+    pub(super) fn usage(
+        &mut self,
+        table: &Table,
+        arguments: &[u8],
+        look: &Look,
+        len: usize,
+    ) -> Option<CursorStep>
+        requires some { 0 < length self.old.opens }
+        requires sound { AreSound (texts_of table.now.macros arguments.now) self.old.opens }
+        requires look { IsLook (texts_of table.now.macros arguments.now) self.old.opens look.now }
+        requires short { look.now.end < 2 ^ 64 }
+        requires front { look.now.front ≡ Front.Usage len }
+        ensures step { MatchOption result (self.new ≡ self.old) (λ step. IsStep self.old.line self.old.depth (texts_of table.now.macros arguments.now) self.old.opens step self.new.opens) }
+        ensures sound { AreSound (texts_of table.now.macros arguments.now) self.new.opens }
+        ensures kept { (self.new.line ≡ self.old.line) × (self.new.depth ≡ self.old.depth) }
+        ensures digits { MatchOption result Unit (λ step. IsFalling self.old.opens step self.new.opens) }
+        ensures refused { MatchOption result Unit (λ step. StaysRefused self.old step self.new) }
+    {
+        let _macros = table.len();
+        let id = match self.used_macro(table, arguments, look, len) {
+            Ok(id) => id,
+            Err(kind) => {
+                let word = word_of(look, len);
+                return Some(CursorStep::Refused(CursorFault { kind, word }));
+            }
+        };
+        if table.arity(id).is_some() {
+            return None;
+        }
+        if self.is_full() {
+            return Some(wordless(FaultKind::DepthPassed));
+        }
+        self.enter(table, id, look.from + len);
+        Some(CursorStep::Silent)
     }
 }
