@@ -8,3 +8,4 @@ pub mod Stacking
 pub mod Stepping
 pub mod Stopping
 pub mod Falling
+pub mod Standing
