@@ -7,5 +7,6 @@ pub mod Scoping
 pub mod Stacking
 pub mod Stepping
 pub mod Stopping
+pub mod Usages
 pub mod Falling
 pub mod Standing

@@ -32,7 +32,7 @@ use Rattle.rdlpp_cursors.proofs.Scoping.{source-around}
 use Rattle.rdlpp_cursors.proofs.Stepping.{step-run, step-bare, look-ended, look-inside}
 
 -- the first bytes of a range of a text are those of a range of another one, which is the same if it has a byte
-same-front : (text other : List ℕ) (from end n : ℕ) → 0 < n → n ≤ length (slice_range text from end) → (0 < length text → other ≡ text)
+pub same-front : (text other : List ℕ) (from end n : ℕ) → 0 < n → n ≤ length (slice_range text from end) → (0 < length text → other ≡ text)
     → take n (slice_range text from end) ≡ slice_range other from (from + n)
 same-front text other from end n some inside e =
     let size = length-take (end - from) (drop from text) in
@@ -92,7 +92,7 @@ look-held texts [] look l e = l
 look-held texts (x ∷ below) look l e = (look.front, e, l.3)
 
 -- what a list that isn't there has
-no-formals : (formals : Option (List Formal)) → option_map (λ (fs : List Formal). length fs) formals ≡ None → length (unwrap_or formals []) ≤ 0
+pub no-formals : (formals : Option (List Formal)) → option_map (λ (fs : List Formal). length fs) formals ≡ None → length (unwrap_or formals []) ≤ 0
 no-formals None e = omega arith
 no-formals (Some fs) e = absurd (cc)
 

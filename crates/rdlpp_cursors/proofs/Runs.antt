@@ -96,7 +96,7 @@ stop-plain formals at InBlock text bytes e =
     holds-fails (is_none (stop_at formals at (block_token 0 text) bytes)) (block-none formals at 0 text bytes) e
 
 -- a part of a text behind some of its bytes
-slice-behind : (text : List ℕ) (from to n : ℕ) → n ≤ length (slice_range text from to) → slice_range text (from + n) to ≡ drop n (slice_range text from to)
+pub slice-behind : (text : List ℕ) (from to n : ℕ) → n ≤ length (slice_range text from to) → slice_range text (from + n) to ≡ drop n (slice_range text from to)
 slice-behind text from to n h =
     let size : n ≤ to - from = (let l = length-take (to - from) (drop from text) in omega (arith, l, h)) in
     let rest : to - from ≡ n + (to - (from + n)) = omega (arith, size) in

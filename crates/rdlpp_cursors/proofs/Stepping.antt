@@ -49,7 +49,7 @@ step-run line depth texts x below n place h f p rules s m u =
     (ap (λ (md : Mode). run_len (source_formals texts (front_source (x ∷ below))) (tokens_from md 0 (open_bytes texts x below)) (open_bytes texts x below)) mode ∙ f.2) f.0)
 
 -- the kind of the first token
-kind-first : (texts : Texts) (x : Open) (below : List Open) (kind : Kind) → x.part.mode ≡ Plain → (token_of Plain (open_bytes texts x below)).kind ≡ kind
+pub kind-first : (texts : Texts) (x : Open) (below : List Open) (kind : Kind) → x.part.mode ≡ Plain → (token_of Plain (open_bytes texts x below)).kind ≡ kind
     → first_kind texts x below ≡ kind
 unfolding first_kind
 kind-first texts x below kind m e = ap (λ (md : Mode). (token_of md (open_bytes texts x below)).kind) m ∙ e
@@ -66,7 +66,7 @@ step-bare line depth texts x below new fault h f k w rules s m u =
     ∙ sym (ap (λ c. SlotStops [] (fault_at c line (place_bytes texts fault.word) s)) k ∙ ap (λ (bytes : List ℕ). SlotStops [] (fault_at NoName line bytes s)) w))
 
 -- the bytes of the first token
-bytes-first : (texts : Texts) (x : Open) (below : List Open) (len : ℕ) → x.part.mode ≡ Plain → (token_of Plain (open_bytes texts x below)).len ≡ len
+pub bytes-first : (texts : Texts) (x : Open) (below : List Open) (len : ℕ) → x.part.mode ≡ Plain → (token_of Plain (open_bytes texts x below)).len ≡ len
     → first_bytes texts x below ≡ take len (open_bytes texts x below)
 unfolding first_bytes
 bytes-first texts x below len m e =
@@ -74,7 +74,7 @@ bytes-first texts x below len m e =
     ∙ ap (λ (n : ℕ). take n (open_bytes texts x below)) e
 
 -- behind a first token of a kind that closes, the open text goes on as plain text
-first-moved : (texts : Texts) (x : Open) (below : List Open) (len : ℕ) → x.part.mode ≡ Plain → opens_mode (token_of Plain (open_bytes texts x below)).kind ≡ false
+pub first-moved : (texts : Texts) (x : Open) (below : List Open) (len : ℕ) → x.part.mode ≡ Plain → opens_mode (token_of Plain (open_bytes texts x below)).kind ≡ false
     → (token_of Plain (open_bytes texts x below)).len ≡ len → first_behind texts x below ≡ open_behind x len Plain
 unfolding first_behind
 first-moved texts x below len m k e =

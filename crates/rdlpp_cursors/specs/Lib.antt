@@ -3,4 +3,5 @@ pub mod Scopes
 pub mod Places
 pub mod Fronts
 pub mod Steps
+pub mod Usages
 pub mod Digits
