@@ -22,6 +22,8 @@ use rdlpp_table::{MacroId, Table};
 use std::alloc::{AllocError, Global};
 use std::marker::Model;
 
+mod formal;
+
 /// The open texts of a usage in a source, the innermost first: bodies, actuals and default texts, as ranges of bytes.
 ///
 /// No call but `new` takes memory.
