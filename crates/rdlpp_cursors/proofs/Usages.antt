@@ -1,7 +1,7 @@
 -- A usage at the front of the innermost open text: its name, and what it comes to.
 use Rattle.std.proofs.Common.{◌≡◌, ℕ, suc, ◌+◌, ◌-◌, ◌<◌, ◌≤◌, Bool, true, false, true≢false, List, [], ◌∷◌, length, take, drop, refl, sym, ap, subst, ◌∙◌, arith, Option, None, Some}
 use Rattle.std.specs.Prelude.{if◌then◌else◌, ◌==◌, ◌||◌, bytes_eq, slice_range, is_some}
-use Rattle.std.specs.List.{list_any, IsDistinct}
+use Rattle.std.specs.List.{list_any}
 use Rattle.std.specs.Option.{option_map}
 use Rattle.std.proofs.lemmas.Bool.{eq-eqb}
 use Rattle.std.proofs.lemmas.List.Elements.{All-get_or}
@@ -9,7 +9,6 @@ use Rattle.std.proofs.lemmas.List.{length-take, length-drop, take_rest}
 use Rattle.std.proofs.lemmas.Slice.Eq.{bytes_eq-Decides}
 use Rattle.rdlpp_scan.specs.declared.token.Kind.{Kind}
 use Rattle.rdlpp_scan.specs.declared.token.Kind.TheVariants.{Back}
-use Rattle.rdlpp_scan.specs.declared.token.Mode.{Mode}
 use Rattle.rdlpp_scan.specs.declared.token.Mode.TheVariants.{Plain}
 use Rattle.rdlpp_scan.specs.SourceTokens.{SourceToken}
 use Rattle.rdlpp_scan.specs.Stage.{is_reserved}
@@ -22,10 +21,10 @@ use Rattle.rdlpp_table.proofs.Places.{place_of_name}
 use Rattle.rdlpp_meaning.specs.declared.fault.FaultKind.{FaultKind}
 use Rattle.rdlpp_meaning.specs.declared.fault.FaultKind.TheVariants.{UndefinedMacro, RecursiveMacro, DirectiveInText, DepthPassed}
 use Rattle.rdlpp_meaning.specs.State.{Rules, State, fault_at}
-use Rattle.rdlpp_meaning.specs.Cursors.{not_kept, TokenUsage, Refuses, Opens, token_usage_of_formals, token_usage_of_macro, token_usage_of}
+use Rattle.rdlpp_meaning.specs.Cursors.{not_kept, Refuses, Opens, token_usage_of_formals, token_usage_of_macro, token_usage_of}
 use Rattle.rdlpp_meaning.specs.Slots.{SlotStops}
-use Rattle.rdlpp_meaning.specs.Opens.{OpenKind, OpenBody, OpenActual, OpenDefault, Open, Texts, slot_of, slots_of, text_around, open_scope, open_bytes, open_behind, open_body, own_text, own_writers, writers_at, AreOpen}
-use Rattle.rdlpp_meaning.proofs.OpenMoves.{first_kind, first_bytes, first_behind, first_usage, open-refused, open-usage, open-usage_deep, open-writers}
+use Rattle.rdlpp_meaning.specs.Opens.{OpenKind, OpenBody, OpenActual, OpenDefault, Open, Texts, slot_of, text_around, open_scope, open_bytes, open_behind, open_body, own_text, own_writers, writers_at, AreOpen}
+use Rattle.rdlpp_meaning.proofs.OpenMoves.{first_bytes, first_behind, first_usage, open-refused, open-usage, open-usage_deep, open-writers}
 use Rattle.rdlpp_calls.specs.BoundCalls.{KeepsAll}
 use Rattle.rdlpp_calls.specs.declared.bindings.Range.{Range}
 use Rattle.rdlpp_cursors.specs.declared.front.Front.{Front}
@@ -44,7 +43,7 @@ use Rattle.rdlpp_cursors.specs.Fronts.{IsFront, IsLook}
 use Rattle.rdlpp_cursors.specs.Opened.{bindings_below, opens_of, moved_to, AreHomedSlots, CursorsView}
 use Rattle.rdlpp_cursors.specs.Places.{texts_of, place_bytes, source_text, source_formals, IsSource}
 use Rattle.rdlpp_cursors.specs.Scopes.{front_scope, front_source, own_ids, writer_ids, AreFurtherOut}
-use Rattle.rdlpp_cursors.specs.Steps.{IsKnown, AreInside, AreSound, IsStep, StepsTo, Goes, StaysRefused, wordless}
+use Rattle.rdlpp_cursors.specs.Steps.{IsKnown, AreInside, AreSound, IsStep, StepsTo, StaysRefused, wordless}
 use Rattle.rdlpp_cursors.specs.Usages.{front_name, unknown_kind, IsRefused, IsUsed}
 use Rattle.rdlpp_cursors.proofs.Falling.{look-opens, usage-inside as falls-inside}
 use Rattle.rdlpp_cursors.proofs.Keeping.{body-keeps, first-sound}

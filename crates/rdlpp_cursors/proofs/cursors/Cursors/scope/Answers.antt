@@ -1,6 +1,3 @@
-use Rattle.std.proofs.Common.{◌<◌, ◌≡◌, ◌-◌, length, take, drop, ap, arith, List}
-use Rattle.rdlpp_cursors.specs.declared.slot.Slot.{Slot}
-use Rattle.rdlpp_cursors.proofs.Stacking.{open-count}
 use Rattle.rdlpp_cursors.proofs.Usages.{rest-some}
 use Rattle.rdlpp_cursors.proofs.cursors.Cursors.scope.Goals as goal
 

@@ -1,4 +1,4 @@
-use Rattle.std.proofs.Common.{◌≡◌, ◌+◌, ◌<◌, ◌≤◌, List, ℕ, sym, ◌∙◌, subst, arith}
+use Rattle.std.proofs.Common.{List, ℕ, sym, ◌∙◌, subst, arith}
 use Rattle.rdlpp_meaning.specs.declared.fault.FaultKind.TheVariants.{RecursiveMacro}
 use Rattle.rdlpp_cursors.specs.Places.{texts_of}
 use Rattle.rdlpp_cursors.specs.Usages.{IsRefused, IsUsed}
