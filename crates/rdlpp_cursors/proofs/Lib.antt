@@ -11,3 +11,4 @@ pub mod Stepping
 pub mod Stopping
 pub mod Usages
 pub mod Falling
+pub mod Standing
