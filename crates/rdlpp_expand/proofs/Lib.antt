@@ -11,3 +11,4 @@ pub mod EngineSteps
 pub mod FrontSteps
 pub mod Cuts
 pub mod RunFacts
+pub mod CursorWork
