@@ -97,9 +97,17 @@ impl Cursors {
 
     /// How many texts are open.
     pub fn len(&self) -> usize
-        ensures { result ≡ length self.now.opens }
+        ensures value { result ≡ length self.now.opens }
+        ensures few { length self.now.opens ≤ self.now.depth }
     {
         self.slots.len() - self.first
+    }
+
+    /// The line of the usage in the source that opened them.
+    pub fn line(&self) -> u64
+        ensures { result ≡ self.now.line }
+    {
+        self.line
     }
 
     /// How many ranges the calls of the open bodies have bound.

@@ -1,6 +1,6 @@
 -- What a usage in a source comes to: open texts, and then what remains of the source behind it, or a fault.
 -- A definition that names no source is this project's own.
-use Rattle.std.specs.Prelude.{◌≡◌, ◌≢◌, ℕ, ◌+◌, ◌<◌, Bool, true, false, List, [], ◌∷◌, ◌++◌, length, map, Some}
+use Rattle.std.specs.Prelude.{◌≡◌, ◌≢◌, ℕ, ◌+◌, ◌<◌, Bool, true, false, List, [], ◌∷◌, ◌++◌, ◌⊎◌, length, map, Some}
 use Rattle.rdlpp_table.specs.Table.{Formal, Macro}
 use Rattle.rdlpp_table.specs.View.{macro_at}
 use Rattle.rdlpp_calls.specs.BoundCalls.{KeepsAll, actuals_of, range_part, ranges_tokens}
@@ -25,6 +25,8 @@ use Rattle.rdlpp_arguments.specs.CallReads.{with_used}
 use Rattle.rdlpp_arguments.specs.Reads.{all_built}
 use Rattle.rdlpp_cursors.specs.Opened.{CursorsView}
 use Rattle.rdlpp_cursors.specs.Places.{texts_of}
+use Rattle.rdlpp_cursors.specs.declared.step.CursorStep.{CursorStep}
+use Rattle.rdlpp_cursors.specs.declared.step.CursorStep.TheVariants.{Lends, Silent, Refused as Fault}
 use Rattle.rdlpp_front.specs.SourceLeft.{source_left}
 use Rattle.rdlpp_usages.specs.declared.expansion.Opening.{Opening}
 use Rattle.rdlpp_usages.specs.declared.expansion.Opening.TheVariants.{Opened, Refused, Broken, Failed}
@@ -139,3 +141,16 @@ BindsKept macros id line bytes now Opened c = Binds macros id line bytes now c
 BindsKept macros id line bytes now (Refused kind) c = Unbinds macros id bytes now kind c
 BindsKept macros id line bytes now (Broken kind own) c = ⊥
 BindsKept macros id line bytes now Failed c = ⊥
+
+-- open texts went on: the line and the limits stay, and so do the kept bytes, until no text is open
+pub record StaysOpen (old new : ExpansionView) : Type 0 where
+  pub line : new.line ≡ old.line
+  pub depth : new.depth ≡ old.depth
+  pub most : new.most ≡ old.most
+  pub arguments : (new.arguments ≡ old.arguments) ⊎ ((new.opens ≡ []) × (new.arguments ≡ []))
+
+-- nothing has changed behind a fault
+unfoldable pub StaysAt : ExpansionView → CursorStep → ExpansionView → Type 0
+StaysAt old (Lends place) new = Unit
+StaysAt old Silent new = Unit
+StaysAt old (Fault fault) new = new ≡ old

@@ -3,4 +3,4 @@
 
 mod expansion;
 
-pub use expansion::Opening;
+pub use expansion::{Expansion, Opening};
