@@ -1,2 +1,4 @@
 pub mod CallLeft
+pub mod KeptTokens
 pub mod UsageOpens
+pub mod UsageSteps

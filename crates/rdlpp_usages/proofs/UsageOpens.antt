@@ -1,6 +1,7 @@
 -- A call that is read and bound, as a usage in a source.
 use Rattle.std.proofs.Common.{◌≡◌, ◌≢◌, ℕ, zero, suc, ◌+◌, ◌-◌, ◌<◌, ◌≤◌, Bool, true, false, List, [], ◌∷◌, ◌++◌, map, length, take, drop, Option, None, Some, refl, sym, ap, ◌∙◌, subst, arith}
-use Rattle.std.proofs.lemmas.Bool.{false≢true}
+use Rattle.std.proofs.lemmas.Bool.{eqb-true, false≢true}
+use Rattle.std.specs.Prelude.{◌==◌}
 use Rattle.rdlpp_scan.specs.SourceTokens.{SourceToken}
 use Rattle.rdlpp_scan.specs.declared.token.Mode.TheVariants.{Plain}
 use Rattle.rdlpp_table.specs.Table.{Formal, Macro, macro_named}
@@ -9,7 +10,9 @@ use Rattle.rdlpp_calls.specs.BoundCalls.{KeepsAll, actuals_of, range_part, range
 use Rattle.rdlpp_calls.specs.SourceBound.{OpensBound}
 use Rattle.rdlpp_calls.specs.declared.bindings.Range.{Range}
 use Rattle.rdlpp_calls.proofs.BoundSourceCalls.{source_bound, source_breaks, source_counted, source_lacks}
+use Rattle.std.proofs.lemmas.List.Sums.{AllPass-from_list_all, list_all-from_AllPass}
 use Rattle.rdlpp_meaning.specs.Actuals.{call_of, token_role}
+use Rattle.rdlpp_meaning.specs.CallScan.{is_kept}
 use Rattle.rdlpp_meaning.specs.Cursors.{Refuses, is_token_count, kept, left, token_usage_of_formals}
 use Rattle.rdlpp_meaning.specs.Meaning.{Passage, Progress, goes_on, leaves}
 use Rattle.rdlpp_meaning.specs.Opened.{Waiting}
@@ -28,14 +31,19 @@ use Rattle.rdlpp_read.specs.Files.{consumed_file, inner_buffer, with_inner}
 use Rattle.rdlpp_read.specs.declared.files.File.{File}
 use Rattle.rdlpp_arguments.specs.CallReads.{IsCallOf, MeansCall, ReadsCall, with_used}
 use Rattle.rdlpp_arguments.specs.Reads.{SparesCalls, all_built}
+use Rattle.rdlpp_arguments.specs.Store.{StoreView}
 use Rattle.rdlpp_arguments.specs.declared.reading.CallRead.TheVariants as call
 use Rattle.rdlpp_cursors.specs.Opened.{CursorsView}
 use Rattle.rdlpp_cursors.specs.Places.{texts_of}
+use Rattle.rdlpp_cursors.specs.Steps.{StaysRefused}
+use Rattle.rdlpp_cursors.specs.declared.step.CursorStep.{CursorStep}
+use Rattle.rdlpp_cursors.specs.declared.step.CursorStep.TheVariants.{Lends, Silent, Refused as Fault}
 use Rattle.rdlpp_front.specs.Fronts.{IsUsage, usage_name}
 use Rattle.rdlpp_front.specs.SourceLeft.{HoldsFront}
 use Rattle.rdlpp_front.proofs.Insides.{usage_inside}
 use Rattle.rdlpp_front.proofs.Stages.{nothing-stage}
-use Rattle.rdlpp_usages.specs.Usages.{BindsKept, ExpansionView, IsRun, RefusesCall, TellsCallUsage, TellsUsage, UsesCall, UsesSource, inner_left, texts_left}
+use Rattle.rdlpp_usages.specs.Kept.{keeps_tokens}
+use Rattle.rdlpp_usages.specs.Usages.{BindsKept, ExpansionView, IsRun, RefusesCall, StaysAt, TellsCallUsage, TellsUsage, UsesCall, UsesSource, inner_left, texts_left}
 use Rattle.rdlpp_usages.specs.declared.expansion.Opening.{Opening}
 use Rattle.rdlpp_usages.specs.declared.expansion.Opening.TheVariants.{Opened, Refused, Broken, Failed}
 use Rattle.rdlpp_usages.proofs.CallLeft.{IsBehind, body_opens, call_opens, call_refused}
@@ -165,3 +173,47 @@ module _ {R : Type 0} (rules : Rules) (unread : R → List ℕ) (ws : List Waiti
       call_refused rules unread ws os f s len holds plain usage (macro_at macros id) fs kind (word own) (at f.buffer.line)
       (run_named rules s macros depth most own (macro_at macros id) run found) (run.built (macro_at macros id)) formals
       (refuses rules f.buffer.line own fs run.most_is formals t)
+
+-- open texts of a cursor stack with kept bytes, as they are seen
+abbrev pub seen_of : CursorsView → StoreView → ExpansionView
+seen_of c arguments = record { opens = c.opens; arguments = arguments.bytes; line = c.line; depth = c.depth; most = arguments.most }
+
+-- behind a fault as many texts are open as before, so that there are some
+pub stays_empty : (step : CursorStep) (old new : ExpansionView) (c now : CursorsView) → StaysRefused c step now → c.opens ≡ old.opens → 0 < length old.opens
+    → (length now.opens == 0) ≡ true → StaysAt old step new
+unfolding StaysRefused StaysAt
+stays_empty (Lends place) old new c now stays same some empty = tt
+stays_empty Silent old new c now stays same some empty = tt
+stays_empty (Fault fault) old new c now stays same some empty =
+    let count : length now.opens ≡ length old.opens = ap (λ (v : CursorsView). length v.opens) stays ∙ ap length same in
+    let none = eqb-true (length now.opens) 0 empty in
+    absurd (omega arith)
+
+-- and nothing has changed
+pub stays_open : (step : CursorStep) (old new : ExpansionView) (c now : CursorsView) → StaysRefused c step now → (arguments : StoreView) → seen_of c arguments ≡ old
+    → new ≡ seen_of now arguments → StaysAt old step new
+unfolding StaysRefused StaysAt
+stays_open (Lends place) old new c now stays arguments is becomes = tt
+stays_open Silent old new c now stays arguments is becomes = tt
+stays_open (Fault fault) old new c now stays arguments is becomes = becomes ∙ ap (λ (v : CursorsView). seen_of v arguments) stays ∙ is
+
+-- a text of which a call keeps all tokens
+pub all_kept : (text : List ℕ) → keeps_tokens text ≡ true → KeepsAll (body_tokens text)
+unfolding keeps_tokens
+all_kept text e = AllPass-from_list_all (λ (t : SourceToken). is_kept (token_role t)) (body_tokens text) e
+
+-- one of which it doesn't
+pub not_all_kept : (text : List ℕ) → keeps_tokens text ≡ false → KeepsAll (body_tokens text) → ⊥
+unfolding keeps_tokens
+not_all_kept text e all = false≢true (sym e ∙ list_all-from_AllPass (λ (t : SourceToken). is_kept (token_role t)) (body_tokens text) all)
+
+-- a kept text of which a call doesn't keep all tokens is let go
+pub lets_go_unkept : (macros : List Macro) (id line : ℕ) (bytes : List ℕ) (old now : StoreView) (opening : Opening) (c : CursorsView) → c.opens ≡ []
+    → opening ≡ Refused ArgumentCount → now ≡ record old { bytes = [] } → keeps_tokens bytes ≡ false → BindsKept macros id line bytes now.bytes opening c
+lets_go_unkept macros id line bytes old now opening c closed is cleared unkept =
+    rw is (record {
+      none = closed;
+      lets_go = ap (λ s. s.bytes) cleared;
+      kind_is = refl;
+      count = λ all. absurd (not_all_kept bytes unkept all);
+    })

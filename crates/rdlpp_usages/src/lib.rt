@@ -2,5 +2,6 @@
 #![tactic(auto)]
 
 mod expansion;
+mod kept;
 
 pub use expansion::{Expansion, Opening};
