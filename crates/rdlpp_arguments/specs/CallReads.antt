@@ -13,6 +13,7 @@ use Rattle.rdlpp_meaning.specs.Resumed.{leading}
 use Rattle.rdlpp_meaning.specs.Substitution.{body_tokens}
 use Rattle.rdlpp_meaning.specs.TextTokens.{unlined}
 use Rattle.rdlpp_meaning.specs.Parts.{only_blanks}
+use Rattle.rdlpp_calls.specs.BoundCalls.{KeepsAll}
 use Rattle.rdlpp_read.specs.Buffer.{BufferView, entered_mode, held_of, tokens_left, unused_of}
 use Rattle.rdlpp_read.specs.Files.{inner_buffer, torn_after, with_inner}
 use Rattle.rdlpp_read.specs.Filling.{ended_tokens}
@@ -91,11 +92,12 @@ IsEndOfText at room f (Broken kind line) = read at (is_open f.mode) room (ended_
 IsEndOfText at room f Failed = ⊥
 
 -- a call that was read is that of the definition: the parts of its kept bytes are its parts, but for the lines of tokens that
--- aren't broken, and behind it are the tokens that remain (source: this project's profile)
+-- aren't broken, and behind it are the tokens that remain; no call in the kept bytes drops a token (source: this project's profile)
 pub record IsCallOf (room : ℕ) (ts : List SourceToken) (bytes : List ℕ) (behind : List SourceToken) : Type 0 where
   pub used : ℕ
   pub call : map_call unlined (call_of token_role kept_token room (leading ts)) ≡ call_of_scan token_role 0 (scan.Closed (body_tokens bytes) used)
   pub rest : drop used ts ≡ behind
+  pub keeps : KeepsAll (body_tokens bytes)
 
 -- the call that the definition has there (source: this project's profile)
 abbrev pub MeansCall : {R : Type 0} → Type 0 → (R → List ℕ) → ℕ → List ℕ → BufferView R → BufferView R → CallRead → Type 0

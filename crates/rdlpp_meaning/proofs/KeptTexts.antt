@@ -2,7 +2,7 @@
 use Rattle.std.proofs.Common.{◌≡◌, ℕ, zero, suc, ◌+◌, Bool, true, false, not, cond, List, [], ◌∷◌, ◌++◌, map, filter, length, take, drop, All, refl, sym, ap, ◌∙◌, subst, append_assoc}
 use Rattle.std.specs.List.{concat}
 use Rattle.std.proofs.lemmas.Bool.{cond_both, false≢true}
-use Rattle.std.proofs.lemmas.List.Elements.{All-nil, All-cons, All-append, All-weaker}
+use Rattle.std.proofs.lemmas.List.Elements.{All-nil, All-cons, All-append, All-weaker, filter_passes}
 use Rattle.rdlpp_scan.specs.Comments.{is_line_comment, other_tokens, token_texts, other_texts, without_line_comments}
 use Rattle.rdlpp_scan.specs.declared.token.Directive.{Directive}
 use Rattle.rdlpp_scan.specs.declared.token.Kind.{Kind}
@@ -180,3 +180,13 @@ kept_call_text c m opened line bs ts ks used e closed =
     ∙ ap (λ (vs : List SourceToken). text_tokens Plain (bytes_of vs)) (sym same)
     ∙ kept_text Plain (bytes_of us) us cut.front
     ∙ same
+
+-- no call in those bytes drops a token
+pub kept_call_keeps : (c : Course) (m : Mode) (opened line : ℕ) (bs : List ℕ) (ts ks : List SourceToken) (used : ℕ)
+    → source_tokens c m opened line 0 bs ≡ ts → IsClosed source_role ts ks used → All (λ t. is_kept (token_role t) ≡ true) (body_tokens (bytes_of ks))
+kept_call_keeps c m opened line bs ts ks used e closed =
+    let p : SourceToken → Bool = λ t. is_kept (token_role t) in
+    let us : List SourceToken = map unlined closed.inner in
+    let same : filter p us ≡ map unlined ks =
+    kept-map token_role token_role unlined unlined_role closed.inner ∙ ap (map unlined) (sym (closed.keeps ∙ kept_same closed.inner)) in
+    subst (λ (vs : List SourceToken). All (λ t. p t ≡ true) vs) (same ∙ sym (kept_call_text c m opened line bs ts ks used e closed)) (filter_passes p us)
