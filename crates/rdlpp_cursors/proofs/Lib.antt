@@ -12,3 +12,4 @@ pub mod Stepping
 pub mod Stopping
 pub mod Usages
 pub mod Falling
+pub mod Standing

@@ -93,7 +93,7 @@ unfolding scope_open
 scope-around x below k h = rw (not_next k (length below) h) refl
 
 -- where the innermost open text lies is where its scope does
-source-scope : (x : Open) (below : List Open) → x.home ≤ length below
+pub source-scope : (x : Open) (below : List Open) → x.home ≤ length below
     → front_source (x ∷ below) ≡ found_source (scope_open (x ∷ below) (open_scope x below))
 unfolding front_source open_scope
 source-scope x below h = by x.kind refl

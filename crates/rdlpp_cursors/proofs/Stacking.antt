@@ -242,3 +242,23 @@ full-first v first bindings inside =
     by false e =
         let some : first ≡ 0 → ⊥ = eqb-false first 0 e in
         e ∙ sym (lt-leb (vec_len v) (length (opens_of (drop first v.items) bindings)) (omega (arith, n, h, some, inside)))
+
+-- the open slots as they are lent
+pub lent-opens : (slots lent : List Slot) (first : ℕ) (bindings own : List Range) → lent ≡ slots → own ≡ bindings
+    → opens_of (take (length lent - first) (drop first lent)) own ≡ opens_of (drop first slots) bindings
+lent-opens slots lent first bindings own e f =
+    let size = length-drop first lent in
+    ap (λ (s : List Slot). opens_of s own) (take_all (length lent - first) (drop first lent) (omega (arith, size)))
+    ∙ ap (λ (s : List Slot). opens_of (drop first s) own) e
+    ∙ ap (λ (bs : List Range). opens_of (drop first slots) bs) f
+
+-- some slot is lent where some text is open
+pub lent-some : (slots lent : List Slot) (first : ℕ) (bindings : List Range) → lent ≡ slots → 0 < length (opens_of (drop first slots) bindings)
+    → 0 < length (take (length lent - first) (drop first lent))
+lent-some slots lent first bindings e some =
+    let n = opens-length (drop first slots) bindings in
+    let size = length-drop first lent in
+    let own = length-drop first slots in
+    let same : length lent ≡ length slots = ap (λ (s : List Slot). length s) e in
+    let all = length-take (length lent - first) (drop first lent) in
+    omega (arith, n, size, own, same, all, some)

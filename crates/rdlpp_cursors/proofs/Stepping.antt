@@ -84,7 +84,7 @@ first-moved texts x below len m k e =
     ∙ ap (λ (n : ℕ). open_behind x n Plain) e
 
 -- a name closes
-name-closes : (kind : Kind) → kind ≡ Name → opens_mode kind ≡ false
+pub name-closes : (kind : Kind) → kind ≡ Name → opens_mode kind ≡ false
 unfolding opens_mode
 name-closes kind e = ap (λ (k : Kind). opens_mode k) e
 

@@ -1,6 +1,6 @@
 -- A usage at the front of the innermost open text: its name, and what it comes to.
-use Rattle.std.proofs.Common.{◌≡◌, ℕ, suc, ◌+◌, ◌-◌, ◌<◌, ◌≤◌, Bool, true, false, List, [], ◌∷◌, length, take, drop, refl, sym, ap, subst, ◌∙◌, arith, Option, None, Some}
-use Rattle.std.specs.Prelude.{if◌then◌else◌, ◌==◌, ◌||◌, bytes_eq, slice_range}
+use Rattle.std.proofs.Common.{◌≡◌, ℕ, suc, ◌+◌, ◌-◌, ◌<◌, ◌≤◌, Bool, true, false, true≢false, List, [], ◌∷◌, length, take, drop, refl, sym, ap, subst, ◌∙◌, arith, Option, None, Some}
+use Rattle.std.specs.Prelude.{if◌then◌else◌, ◌==◌, ◌||◌, bytes_eq, slice_range, is_some}
 use Rattle.std.specs.List.{list_any}
 use Rattle.std.specs.Option.{option_map}
 use Rattle.std.proofs.lemmas.Bool.{eq-eqb}
@@ -412,18 +412,19 @@ look-opened line depth texts (x ∷ below) look len id at h l e used none room k
     (step-opened line depth texts x below len id h (front-is texts x below look len e l.3) used none room)
 
 -- a usage that is refused
-pub pass-refused : (texts : Texts) (view : CursorsView) (look : Look) (len from end : ℕ) (kind own : FaultKind) → AreSound texts view.opens → IsLook texts view.opens look
-    → look.front ≡ front.Usage len → from ≡ look.from + 1 → end ≡ look.from + len → own ≡ kind
+pub pass-refused : (texts : Texts) (view : CursorsView) (look : Look) (len : ℕ) (kind : FaultKind) (word : TextPlace) → AreSound texts view.opens → IsLook texts view.opens look
+    → look.front ≡ front.Usage len → word ≡ record { source = look.source; from = look.from + 1; end = look.from + len }
     → IsRefused texts view.opens (front_name texts view.opens len) kind
-    → IsPassed texts view view (Refused (record { kind = own; word = record { source = look.source; from = from; end = end } }))
+    → IsPassed texts view view (Refused (record { kind = kind; word = word }))
 unfolding IsFalling StaysRefused
-pass-refused texts view look len from end kind own h l e f g k r = record {
-  is_step = look-refused view.line view.depth texts view.opens look len from end kind own h l e f g k r;
-  sound = h;
-  kept = (refl, refl);
-  digits = tt;
-  refused = refl;
-}
+pass-refused texts view look len kind word h l e w r =
+    subst (λ (place : TextPlace). IsPassed texts view view (Refused (record { kind = kind; word = place }))) (sym w) (record {
+      is_step = look-refused view.line view.depth texts view.opens look len (look.from + 1) (look.from + len) kind kind h l e refl refl refl r;
+      sound = h;
+      kept = (refl, refl);
+      digits = tt;
+      refused = refl;
+    })
 
 -- a body for which there is no slot left
 pub pass-deep : (texts : Texts) (view : CursorsView) (look : Look) (len id : ℕ) (step : CursorStep) → AreSound texts view.opens → IsLook texts view.opens look
@@ -536,3 +537,15 @@ pub unknown-given : (texts : Texts) (opens : List Open) (name given : List ℕ) 
 unknown-given texts opens name given kind e none k =
     subst (λ (n : List ℕ). IsRefused texts opens n kind) e
     (subst (λ (f : FaultKind). IsRefused texts opens given f) (sym k) (unknown-refused texts opens given (is_reserved given) none refl))
+
+-- a macro has no list where it has no count of formals
+pub no-list : (formals : Option (List Formal)) (count : Option ℕ) (some : Bool) → count ≡ option_map (λ (fs : List Formal). length fs) formals → some ≡ is_some count
+    → some ≡ false → formals ≡ None
+no-list None count some e s f = refl
+no-list (Some fs) count some e s f = absurd (true≢false (sym (s ∙ ap (λ (o : Option ℕ). is_some o) e) ∙ f))
+
+-- and it has one where it has a count
+pub has-list : (formals : Option (List Formal)) (count : Option ℕ) (some : Bool) → count ≡ option_map (λ (fs : List Formal). length fs) formals → some ≡ is_some count
+    → some ≡ true → is_some formals ≡ true
+has-list None count some e s f = absurd (true≢false (sym f ∙ s ∙ ap (λ (o : Option ℕ). is_some o) e))
+has-list (Some fs) count some e s f = refl

@@ -5,6 +5,7 @@ ghost use Rattle.std.specs.Result.{MatchResult};
 ghost use Rattle.rdlpp_scan.specs.Stage.{is_reserved};
 ghost use Rattle.rdlpp_table.specs.View.{macro_at};
 ghost use Rattle.rdlpp_meaning.specs.Opens.{open_body};
+ghost use Rattle.rdlpp_cursors.specs.Digits.{IsFalling};
 ghost use Rattle.rdlpp_cursors.specs.Fronts.{IsLook};
 ghost use Rattle.rdlpp_cursors.specs.Opened.{moved_to};
 ghost use Rattle.rdlpp_cursors.specs.Places.{place_bytes, source_text, texts_of, IsSource};
@@ -114,5 +115,43 @@ impl Cursors {
             return Err(FaultKind::RecursiveMacro);
         }
         Ok(id)
+    }
+
+    // One step at a usage of so many bytes, which stands at the front of the innermost text: it opens the body of its macro, or
+    // is refused (IEEE 1364-2001, `define`), and nothing changes then.
+    pub(super) fn usage(
+        &mut self,
+        table: &Table,
+        arguments: &[u8],
+        look: &Look,
+        len: usize,
+    ) -> CursorStep
+        requires some { 0 < length self.old.opens }
+        requires sound { AreSound (texts_of table.now.macros arguments.now) self.old.opens }
+        requires look { IsLook (texts_of table.now.macros arguments.now) self.old.opens look.now }
+        requires short { look.now.end < 2 ^ 64 }
+        requires front { look.now.front ≡ Front.Usage len }
+        ensures step { IsStep self.old.line self.old.depth (texts_of table.now.macros arguments.now) self.old.opens result self.new.opens }
+        ensures sound { AreSound (texts_of table.now.macros arguments.now) self.new.opens }
+        ensures kept { (self.new.line ≡ self.old.line) × (self.new.depth ≡ self.old.depth) }
+        ensures digits { IsFalling self.old.opens result self.new.opens }
+        ensures refused { StaysRefused self.old result self.new }
+    {
+        let _macros = table.len();
+        let id = match self.used_macro(table, arguments, look, len) {
+            Ok(id) => id,
+            Err(kind) => {
+                let word = word_of(look, len);
+                return CursorStep::Refused(CursorFault { kind, word });
+            }
+        };
+        if table.arity(id).is_some() {
+            return self.call(table, arguments, look, len, id);
+        }
+        if self.is_full() {
+            return wordless(FaultKind::DepthPassed);
+        }
+        self.enter(table, id, look.from + len);
+        CursorStep::Silent
     }
 }

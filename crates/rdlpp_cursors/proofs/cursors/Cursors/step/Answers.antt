@@ -1,8 +1,8 @@
 use Rattle.std.proofs.Common.{arith, refl}
 use Rattle.rdlpp_cursors.specs.Places.{texts_of}
-use Rattle.rdlpp_cursors.proofs.Passing.{front-holds, look-held, pass-bare, pass-ended, pass-run}
+use Rattle.rdlpp_cursors.proofs.Passing.{pass-bare, pass-ended, pass-run}
 use Rattle.rdlpp_cursors.proofs.Stepping.{look-inside}
-use Rattle.rdlpp_cursors.proofs.cursors.Cursors.pass.Goals as goal
+use Rattle.rdlpp_cursors.proofs.cursors.Cursors.step.Goals as goal
 
 pub overflow_add-end : goal.overflow_add-end
 overflow_add-end c =
@@ -29,13 +29,6 @@ returns-in-Run-clause-sound c =
 pub returns-in-Bare-clause-step : goal.returns-in-Bare-clause-step
 returns-in-Bare-clause-step c =
     (pass-bare (texts_of c.args.table.now.macros c.args.arguments.now) c.args.self.now c.look-look.result c.wordless.result c.requires.sound c.look-look.ensures.look c.in-Bare.is c.wordless.ensures).is_step
-
-pub returns-in_default-clause-step : goal.returns-in_default-clause-step
-returns-in_default-clause-step c = (
-  refl,
-  look-held (texts_of c.args.table.now.macros c.args.arguments.now) c.args.self.now.opens c.look-look.result c.look-look.ensures.look
-      (front-holds c.look-look.result.front c.in_default.not-Ended c.in_default.not-Run c.in_default.not-Bare),
-)
 
 pub returns-in-Ended-clause-digits : goal.returns-in-Ended-clause-digits
 returns-in-Ended-clause-digits c =
