@@ -174,7 +174,7 @@ resumed_bound rules os first name line ts s d m fs bytes ranges behind b reserve
     ∙ ap (λ (rest : List SourceToken). goes_on (leaves (left rules s line (first_cursor m (ranges_tokens bytes ranges) d ∷ [])) s) (further rest)) b.rest
 
 -- a body that a usage in a source opens with ranges of the kept text as actuals, as a slot
-first_open : (texts : Texts) (id : ℕ) (ranges : List Range)
+pub first_open : (texts : Texts) (id : ℕ) (ranges : List Range)
     → slots_of texts (open_body texts id (map range_part ranges) 0 ∷ []) ≡ first_slot (macro_at texts.macros id) (ranges_tokens texts.arguments ranges) ∷ []
 unfolding slots_of slot_of text_around slot_kind own_text scope_text open_body first_slot body_slot
 first_open texts id ranges =

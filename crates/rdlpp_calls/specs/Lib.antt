@@ -1,3 +1,4 @@
 pub mod CallTokens
 pub mod CallParts
 pub mod BoundCalls
+pub mod KeptTexts

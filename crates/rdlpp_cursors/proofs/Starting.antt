@@ -1,5 +1,5 @@
 -- A call in a source, whose kept text is bound, opens the body of its macro.
-use Rattle.std.proofs.Common.{◌≡◌, ℕ, ◌-◌, ◌<◌, ◌≤◌, Bool, true, false, List, [], ◌∷◌, map, length, take, drop, refl, sym, ap, subst, ◌∙◌, arith}
+use Rattle.std.proofs.Common.{◌≡◌, ℕ, ◌-◌, ◌<◌, ◌≤◌, Bool, true, false, true≢false, List, [], ◌∷◌, map, length, take, drop, refl, sym, ap, subst, ◌∙◌, arith}
 use Rattle.std.proofs.Common.{Global}
 use Rattle.std.specs.Prelude.{slice_range, vec_len, Vec}
 use Rattle.std.specs.List.{AllByRecursion}
@@ -17,6 +17,8 @@ use Rattle.rdlpp_meaning.specs.Substitution.{body_tokens}
 use Rattle.rdlpp_meaning.proofs.OpenScopes.{part-whole}
 use Rattle.rdlpp_calls.specs.declared.bindings.Range.{Range}
 use Rattle.rdlpp_calls.specs.BoundCalls.{range_part, ranges_tokens, actuals_of, AreWithin, KeepsAll}
+use Rattle.rdlpp_calls.specs.KeptTexts.{keeps_each}
+use Rattle.rdlpp_calls.proofs.KeptTexts.{each_kept, kept_each}
 use Rattle.rdlpp_calls.proofs.BoundActuals.{actuals_keep, count_many, ranges_keep}
 use Rattle.rdlpp_calls.proofs.BoundUsages.{parts_inside}
 use Rattle.rdlpp_cursors.specs.declared.slot.Slot.{Slot}
@@ -63,7 +65,7 @@ parts-counted arguments to n own right e k count = count own (sym k) ∙ ap (λ 
 
 -- a call whose parts are bound opens its body
 pub call-started : (table : TableView) (arguments : List ℕ) (id line to : ℕ) (ranges : List Range) (old new : CursorsView) → IsSound table → id < length table.macros
-    → KeepsAll (body_tokens arguments) → to ≡ length arguments
+    → keeps_each (body_tokens arguments) ≡ true → to ≡ length arguments
     → actuals_of (slice_range arguments 0 to) ≡ ranges_tokens arguments ranges → true ≡ is_token_count (formals_of (macro_at table.macros id)) (actuals_of arguments)
     → AreWithin 0 to ranges
     → new ≡ record { opens = open_body (texts_of table.macros arguments) id (map range_part ranges) 0 ∷ []; line = line; depth = old.depth }
@@ -76,13 +78,19 @@ call-started table arguments id line to ranges old new sound inside keeps e toke
       counted = sym counted;
       opens = is;
       sound = subst (λ (v : CursorsView). AreSound (texts_of table.macros arguments) v.opens) (sym is)
-          (sound-started table arguments id ranges sound inside keeps same counted (subst (λ (n : ℕ). AreWithin 0 n ranges) e within));
+          (sound-started table arguments id ranges sound inside (each_kept (body_tokens arguments) keeps) same counted (subst (λ (n : ℕ). AreWithin 0 n ranges) e within));
     }
 
 -- a call with more or fewer parts
 pub call-miscounted : (table : TableView) (arguments : List ℕ) (id : ℕ) (kind : FaultKind) (old new : CursorsView) → kind ≡ ArgumentCount
     → false ≡ is_token_count (formals_of (macro_at table.macros id)) (actuals_of arguments) → new ≡ old → IsCallMiscounted (texts_of table.macros arguments) id kind old new
-call-miscounted table arguments id kind old new k counted same = record { kind_is = k; same = same; counted = sym counted }
+call-miscounted table arguments id kind old new k counted same = record { kind_is = k; same = same; counted = λ keeps. sym counted }
+
+-- a text in which a call drops a token is kept of no call
+pub call-dropped : (table : TableView) (arguments : List ℕ) (id : ℕ) (kind : FaultKind) (old new : CursorsView) → kind ≡ ArgumentCount
+    → keeps_each (body_tokens arguments) ≡ false → new ≡ old → IsCallMiscounted (texts_of table.macros arguments) id kind old new
+call-dropped table arguments id kind old new k dropped same =
+    record { kind_is = k; same = same; counted = λ keeps. absurd (true≢false (sym (kept_each (body_tokens arguments) keeps) ∙ dropped)) }
 
 -- a slot is in front where none is open and there is room
 pub room-closed : (v : Vec Slot Global) (first : ℕ) (bindings : List Range) → first ≤ length v.items → opens_of (drop first v.items) bindings ≡ [] → 0 < vec_len v → 0 < first

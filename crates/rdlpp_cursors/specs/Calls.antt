@@ -7,8 +7,9 @@ use Rattle.rdlpp_meaning.specs.declared.fault.FaultKind.{FaultKind}
 use Rattle.rdlpp_meaning.specs.declared.fault.FaultKind.TheVariants.{ArgumentCount}
 use Rattle.rdlpp_meaning.specs.Cursors.{is_token_count}
 use Rattle.rdlpp_meaning.specs.Opens.{Texts, open_body}
+use Rattle.rdlpp_meaning.specs.Substitution.{body_tokens}
 use Rattle.rdlpp_calls.specs.declared.bindings.Range.{Range}
-use Rattle.rdlpp_calls.specs.BoundCalls.{range_part, ranges_tokens, actuals_of, AreWithin, IsBoundCall}
+use Rattle.rdlpp_calls.specs.BoundCalls.{range_part, ranges_tokens, actuals_of, AreWithin, IsBoundCall, KeepsAll}
 use Rattle.rdlpp_cursors.specs.Opened.{moved_to, CursorsView}
 use Rattle.rdlpp_cursors.specs.Places.{texts_of}
 use Rattle.rdlpp_cursors.specs.Steps.{AreSound}
@@ -49,9 +50,9 @@ pub record IsCallStarted (texts : Texts) (id line : ℕ) (old new : CursorsView)
   pub opens : new ≡ record { opens = open_body texts id (map range_part ranges) 0 ∷ []; line = line; depth = old.depth }
   pub sound : AreSound texts new.opens
 
--- a call in a source with more or fewer actuals than formals is refused for that, and nothing changes (source: this project's
--- profile)
+-- a call in a source with more or fewer actuals than formals is refused for that, and nothing changes; what is kept of a call has
+-- no `//` comment (source: this project's profile)
 pub record IsCallMiscounted (texts : Texts) (id : ℕ) (kind : FaultKind) (old new : CursorsView) : Type 0 where
   pub kind_is : kind ≡ ArgumentCount
   pub same : new ≡ old
-  pub counted : is_token_count (formals_of (macro_at texts.macros id)) (actuals_of texts.arguments) ≡ false
+  pub counted : KeepsAll (body_tokens texts.arguments) → is_token_count (formals_of (macro_at texts.macros id)) (actuals_of texts.arguments) ≡ false

@@ -16,7 +16,7 @@ use crate::front::{Front, Look};
 use crate::scopes::text_of;
 use crate::slot::{Slot, SlotKind};
 use crate::step::{CursorFault, CursorStep, wordless};
-use rdlpp_calls::{bind_call, bind_parts};
+use rdlpp_calls::{bind_call, bind_parts, keeps_each};
 use rdlpp_meaning::FaultKind;
 use rdlpp_table::{MacroId, Table};
 
@@ -108,12 +108,13 @@ impl Cursors {
     }
 
     /// Opens the body of a macro with a list of formals for a call that stands in a source at a line. `arguments` is what is
-    /// kept of the text between the parentheses of the call, of which no call in it drops a token (IEEE 1364-2001, `define`;
-    /// what a call may hold is this project's profile).
+    /// kept of the text between the parentheses of the call, without its `//` comments (IEEE 1364-2001, `define`; what a call
+    /// may hold is this project's profile).
     ///
     /// # Errors
     ///
-    /// [`FaultKind::ArgumentCount`] where the call has more or fewer parts than the macro has formals. Nothing changes then.
+    /// [`FaultKind::ArgumentCount`] where the call has more or fewer parts than the macro has formals, or where a `//` comment
+    /// stands in what is kept of it, as it does of no call that was read. Nothing changes then.
     pub fn open_call(
         &mut self,
         table: &Table,
@@ -123,7 +124,6 @@ impl Cursors {
     ) -> Result<(), FaultKind>
         requires id { id < length table.now.macros }
         requires list { is_some (macro_at table.now.macros id).formals ≡ true }
-        requires keeps { KeepsAll (body_tokens arguments.now) }
         requires closed { self.old.opens ≡ [] }
         requires room { 0 < self.old.depth }
         ensures opens { IfOk result (λ _. IsCallStarted (texts_of table.now.macros arguments.now) id line self.old self.new) }
@@ -132,6 +132,9 @@ impl Cursors {
         let _macros = table.len();
         let formals = table.arity(id).unwrap_or(0);
         let bound = self.bindings.len();
+        if !keeps_each(arguments) {
+            return Err(FaultKind::ArgumentCount);
+        }
         bind_parts(arguments, 0, arguments.len(), formals, &mut self.bindings)?;
         let first = self.first - 1;
         self.slots[first] = Slot {

@@ -1,4 +1,4 @@
-use Rattle.std.proofs.Common.{◌∙◌, List, Option, unwrap_or, ℕ, length, drop, ap, refl, arith}
+use Rattle.std.proofs.Common.{◌∙◌, List, Option, unwrap_or, ℕ, length, drop, ap, refl, sym, arith}
 use Rattle.std.proofs.lemmas.Result.{err_from_is_err_and}
 use Rattle.rdlpp_calls.specs.BoundCalls.{added}
 use Rattle.rdlpp_calls.specs.declared.bindings.Range.{Range}
@@ -6,7 +6,7 @@ use Rattle.rdlpp_table.specs.View.{macro_at, formals_of}
 use Rattle.rdlpp_cursors.specs.Opened.{opens_of, CursorsView}
 use Rattle.rdlpp_cursors.proofs.Binding.{arity-count, call-room, entered-opens, formals-few, stack-entered}
 use Rattle.rdlpp_cursors.proofs.Stacking.{ranges-count, view-is}
-use Rattle.rdlpp_cursors.proofs.Starting.{call-miscounted, call-started, parts-counted, room-closed, started-opens}
+use Rattle.rdlpp_cursors.proofs.Starting.{call-dropped, call-miscounted, call-started, parts-counted, room-closed, started-opens}
 use Rattle.rdlpp_cursors.proofs.cursors.Cursors.open_call.Goals as goal
 
 pub bind_parts-requires-clause-room : goal.bind_parts-requires-clause-room
@@ -41,7 +41,7 @@ returns-clause-opens c =
     let n = c.unwrap_or-formals.ensures ∙ ap (λ (o : Option ℕ). unwrap_or o 0) c.arity.ensures ∙ arity-count (macro_at c.args.table.now.macros c.args.id).formals in
     let some = room-closed c.self.inside.slots c.self.inside.first c.self.inside.bindings.items c.self.invariant.inside (rw (← c.self.view_is) at c.requires.closed) (rw (← c.self.view_is) at c.requires.room) in
     call-started c.args.table.now c.args.arguments.now c.args.id c.args.line _ (added c.self.inside.bindings.items c.bind_parts.new.bindings.items) _ _ c.len-macros.ensures.sound c.requires.id
-    c.requires.keeps refl c.in_ok-bind_parts.ensures.actuals
+    (sym c.keeps_each.ensures ∙ c.if-not-keeps_each.false) refl c.in_ok-bind_parts.ensures.actuals
     (parts-counted c.args.arguments.now _ c.unwrap_or-formals.result (formals_of (macro_at c.args.table.now.macros c.args.id)) _ refl n c.in_ok-bind_parts.ensures.count)
     c.bind_parts.ensures.within
     (view-is _ _ _ _ _
@@ -50,3 +50,7 @@ returns-clause-opens c =
     ∙ started-opens c.args.table.now c.args.arguments.now c.args.id (added c.self.inside.bindings.items c.bind_parts.new.bindings.items) c.body.result.now _ c.body.ensures
     (rw (← c.self.view_is) at c.requires.closed))
     (ap (λ (v : CursorsView). v.depth) c.self.view_is))
+
+pub returns-then-not-keeps_each-clause-refused : goal.returns-then-not-keeps_each-clause-refused
+returns-then-not-keeps_each-clause-refused c =
+    call-dropped c.args.table.now c.args.arguments.now c.args.id _ _ _ refl (sym c.keeps_each.ensures ∙ c.if-not-keeps_each.true) c.self.view_is
