@@ -53,4 +53,4 @@ returns-clause-opens c =
 
 pub returns-then-not-keeps_each-clause-refused : goal.returns-then-not-keeps_each-clause-refused
 returns-then-not-keeps_each-clause-refused c =
-    call-dropped c.args.table.now c.args.arguments.now c.args.id _ _ _ refl (sym c.keeps_each.ensures ∙ c.if-not-keeps_each.true) c.self.view_is
+    call-dropped c.args.table.now c.args.arguments.now c.args.id _ _ _ refl (sym c.keeps_each.ensures ∙ c.if-not-keeps_each.true) refl
