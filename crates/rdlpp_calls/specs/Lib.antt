@@ -2,3 +2,4 @@ pub mod CallTokens
 pub mod CallParts
 pub mod BoundCalls
 pub mod SourceBound
+pub mod KeptTexts

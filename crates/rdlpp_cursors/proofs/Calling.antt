@@ -224,7 +224,7 @@ step-call_opened line depth texts x below len id text at end c h p f used list r
     (call-left texts x below len text at end (length (formals_of own)) c.ranges c.behind b h p f low) room))
 
 -- parts of a text keep all where its ranges do
-parts-keep : (text : List ℕ) (ranges : List Range) → AllByRecursion (λ r. KeepsAll (part_tokens text (range_part r))) ranges
+pub parts-keep : (text : List ℕ) (ranges : List Range) → AllByRecursion (λ r. KeepsAll (part_tokens text (range_part r))) ranges
     → AllByRecursion (λ part. KeepsAll (part_tokens text part)) (map range_part ranges)
 parts-keep text [] all = tt
 parts-keep text (r ∷ rs) all = (all.0, parts-keep text rs all.1)

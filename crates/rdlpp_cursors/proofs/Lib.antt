@@ -1,5 +1,6 @@
 pub mod Binding
 pub mod Calling
+pub mod Starting
 pub mod Keeping
 pub mod Looking
 pub mod Passing

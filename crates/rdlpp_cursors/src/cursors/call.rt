@@ -1,9 +1,9 @@
 // Usages of macros with a list in an open text.
-ghost use Rattle.std.specs.Prelude.{is_some, length, slice_range, true, ◌<◌, ◌≡◌, ◌≤◌};
+ghost use Rattle.std.specs.Prelude.{[], IfErr, IfOk, is_some, length, slice_range, true, ◌<◌, ◌≡◌, ◌≤◌};
 ghost use Rattle.rdlpp_table.specs.View.{macro_at};
 ghost use Rattle.rdlpp_meaning.specs.Substitution.{body_tokens};
 ghost use Rattle.rdlpp_calls.specs.BoundCalls.{KeepsAll};
-ghost use Rattle.rdlpp_cursors.specs.Calls.{IsOpening};
+ghost use Rattle.rdlpp_cursors.specs.Calls.{IsCallMiscounted, IsCallStarted, IsOpening};
 ghost use Rattle.rdlpp_cursors.specs.Digits.{IsFalling};
 ghost use Rattle.rdlpp_cursors.specs.Fronts.{IsLook};
 ghost use Rattle.rdlpp_cursors.specs.Places.{texts_of};
@@ -16,7 +16,7 @@ use crate::front::{Front, Look};
 use crate::scopes::text_of;
 use crate::slot::{Slot, SlotKind};
 use crate::step::{CursorFault, CursorStep, wordless};
-use rdlpp_calls::bind_call;
+use rdlpp_calls::{bind_call, bind_parts, keeps_each};
 use rdlpp_meaning::FaultKind;
 use rdlpp_table::{MacroId, Table};
 
@@ -105,5 +105,46 @@ impl Cursors {
             }),
             Opening::Deep => wordless(FaultKind::DepthPassed),
         }
+    }
+
+    /// Opens the body of a macro with a list of formals for a call that stands in a source at a line. `arguments` is what is
+    /// kept of the text between the parentheses of the call, without its `//` comments (IEEE 1364-2001, `define`; what a call
+    /// may hold is this project's profile).
+    ///
+    /// # Errors
+    ///
+    /// [`FaultKind::ArgumentCount`] where the call has more or fewer parts than the macro has formals, or where a `//` comment
+    /// stands in what is kept of it, as it does of no call that was read. Nothing changes then.
+    pub fn open_call(
+        &mut self,
+        table: &Table,
+        arguments: &[u8],
+        id: MacroId,
+        line: u64,
+    ) -> Result<(), FaultKind>
+        requires id { id < length table.now.macros }
+        requires list { is_some (macro_at table.now.macros id).formals ≡ true }
+        requires closed { self.old.opens ≡ [] }
+        requires room { 0 < self.old.depth }
+        ensures opens { IfOk result (λ _. IsCallStarted (texts_of table.now.macros arguments.now) id line self.old self.new) }
+        ensures refused { IfErr result (λ kind. IsCallMiscounted (texts_of table.now.macros arguments.now) id kind self.old self.new) }
+    {
+        let _macros = table.len();
+        let formals = table.arity(id).unwrap_or(0);
+        let bound = self.bindings.len();
+        if !keeps_each(arguments) {
+            return Err(FaultKind::ArgumentCount);
+        }
+        bind_parts(arguments, 0, arguments.len(), formals, &mut self.bindings)?;
+        let first = self.first - 1;
+        self.slots[first] = Slot {
+            from: 0,
+            end: table.body(id).len(),
+            home: 0,
+            kind: SlotKind::Body { id, first: bound },
+        };
+        self.first = first;
+        self.line = line;
+        Ok(())
     }
 }
