@@ -2,7 +2,7 @@ ghost use Rattle.std.specs.Prelude.{[], length, ◌<◌};
 ghost use Rattle.rdlpp_cursors.specs.Places.{texts_of};
 ghost use Rattle.rdlpp_cursors.specs.Steps.{AreSound};
 
-use crate::{CursorFault, CursorStep, Cursors, TextPlace, TextSource};
+use crate::{CursorFault, CursorStep, Cursors, TextPlace, TextSource, text_at};
 use rdlpp_meaning::FaultKind;
 use rdlpp_table::{Limits, MacroId, Table};
 use std::process::Abort;
@@ -80,6 +80,16 @@ fn wordless(kind: FaultKind) -> CursorStep {
 fn a_body_is_lent_in_one_piece_and_closed(rt: HostRuntime) -> Result<(), Fail> {
     let table = table_of(&rt, &[(b"A".as_slice(), b"x = \"`B\"; // y".as_slice())]);
     let id = id_of(&rt, &table, b"A".as_slice());
+    let lent_text = TextPlace {
+        source: TextSource::Body(id),
+        from: 0,
+        end: 9,
+    };
+    assert_eq!(&rt; table.body(id).len(), 9);
+    assert_eq!(&rt;
+        text_at(&table, b"".as_slice(), lent_text),
+        b"x = \"`B\";".as_slice()
+    );
     let mut cursors = opened(&rt, &table, b"A".as_slice(), 4);
     assert_eq!(&rt; cursors.len(), 1);
     expect_step(&rt, &mut cursors, &table, lent(id, 0, 9));
