@@ -10,6 +10,7 @@ mod step;
 
 pub use cursors::Cursors;
 pub use place::{TextPlace, TextSource};
+pub use scopes::text_at;
 pub use step::{CursorFault, CursorStep};
 
 #[cfg(test)]

@@ -10,13 +10,13 @@ ghost use Rattle.rdlpp_cursors.specs.Fronts.{IsLook};
 ghost use Rattle.rdlpp_cursors.specs.Opened.{moved_to};
 ghost use Rattle.rdlpp_cursors.specs.Places.{place_bytes, source_text, texts_of, IsSource};
 ghost use Rattle.rdlpp_cursors.specs.Scopes.{front_scope, writer_ids, AreFurtherOut};
-ghost use Rattle.rdlpp_cursors.specs.Steps.{AreSound, IsStep, StaysRefused};
+ghost use Rattle.rdlpp_cursors.specs.Steps.{AreSound, IsStep, StaysRefused, IsPlacedStep};
 ghost use Rattle.rdlpp_cursors.specs.Usages.{front_name, unknown_kind, IsRefused, IsUsed};
 
 use crate::cursors::Cursors;
 use crate::front::{Front, Look};
 use crate::place::TextPlace;
-use crate::scopes::{front_scope, is_written_in, text_of};
+use crate::scopes::{front_scope, is_written_in, text_at};
 use crate::step::{CursorFault, CursorStep, wordless};
 use rdlpp_meaning::FaultKind;
 use rdlpp_scan::reserved;
@@ -44,18 +44,6 @@ pub(super) fn word_of(look: &Look, len: usize) -> TextPlace
         from: look.from + 1,
         end: look.from + len,
     }
-}
-
-// The bytes at a place of a text.
-#[tactic(auto, unfolding(crate::specs::Places::place_bytes))]
-fn bytes_at<'a>(table: &'a Table, arguments: &'a [u8], place: TextPlace) -> &'a [u8]
-    requires source { IsSource (texts_of table.now.macros arguments.now) place.source }
-    requires order { place.from ≤ place.end }
-    requires inside { place.end ≤ length (source_text (texts_of table.now.macros arguments.now) place.source) }
-    ensures { result.now ≡ place_bytes (texts_of table.now.macros arguments.now) place }
-{
-    let text = text_of(table, arguments, place.source);
-    &text[place.from..place.end]
 }
 
 impl Cursors {
@@ -107,7 +95,7 @@ impl Cursors {
         ensures { MatchResult result (λ id. IsUsed (texts_of table.now.macros arguments.now) self.now.opens (front_name (texts_of table.now.macros arguments.now) self.now.opens len) id) (λ kind. IsRefused (texts_of table.now.macros arguments.now) self.now.opens (front_name (texts_of table.now.macros arguments.now) self.now.opens len) kind) }
     {
         let word = word_of(look, len);
-        let name = bytes_at(table, arguments, word);
+        let name = text_at(table, arguments, word);
         let Some(id) = table.find(name) else {
             return Err(unknown_kind(name));
         };
@@ -136,6 +124,7 @@ impl Cursors {
         ensures kept { (self.new.line ≡ self.old.line) × (self.new.depth ≡ self.old.depth) }
         ensures digits { IsFalling self.old.opens result self.new.opens }
         ensures refused { StaysRefused self.old result self.new }
+        ensures placed { IsPlacedStep (texts_of table.now.macros arguments.now) result }
     {
         let _macros = table.len();
         let id = match self.used_macro(table, arguments, look, len) {
