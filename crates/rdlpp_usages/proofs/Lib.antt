@@ -1,4 +1,3 @@
 pub mod CallLeft
-pub mod KeptTokens
 pub mod UsageOpens
 pub mod UsageSteps

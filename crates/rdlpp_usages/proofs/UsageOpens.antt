@@ -10,9 +10,7 @@ use Rattle.rdlpp_calls.specs.BoundCalls.{KeepsAll, actuals_of, range_part, range
 use Rattle.rdlpp_calls.specs.SourceBound.{OpensBound}
 use Rattle.rdlpp_calls.specs.declared.bindings.Range.{Range}
 use Rattle.rdlpp_calls.proofs.BoundSourceCalls.{source_bound, source_breaks, source_counted, source_lacks}
-use Rattle.std.proofs.lemmas.List.Sums.{AllPass-from_list_all, list_all-from_AllPass}
 use Rattle.rdlpp_meaning.specs.Actuals.{call_of, token_role}
-use Rattle.rdlpp_meaning.specs.CallScan.{is_kept}
 use Rattle.rdlpp_meaning.specs.Cursors.{Refuses, is_token_count, kept, left, token_usage_of_formals}
 use Rattle.rdlpp_meaning.specs.Meaning.{Passage, Progress, goes_on, leaves}
 use Rattle.rdlpp_meaning.specs.Opened.{Waiting}
@@ -42,7 +40,6 @@ use Rattle.rdlpp_front.specs.Fronts.{IsUsage, usage_name}
 use Rattle.rdlpp_front.specs.SourceLeft.{HoldsFront}
 use Rattle.rdlpp_front.proofs.Insides.{usage_inside}
 use Rattle.rdlpp_front.proofs.Stages.{nothing-stage}
-use Rattle.rdlpp_usages.specs.Kept.{keeps_tokens}
 use Rattle.rdlpp_usages.specs.Usages.{BindsKept, ExpansionView, IsRun, RefusesCall, StaysAt, TellsCallUsage, TellsUsage, UsesCall, UsesSource, inner_left, texts_left}
 use Rattle.rdlpp_usages.specs.declared.expansion.Opening.{Opening}
 use Rattle.rdlpp_usages.specs.declared.expansion.Opening.TheVariants.{Opened, Refused, Broken, Failed}
@@ -196,24 +193,3 @@ unfolding StaysRefused StaysAt
 stays_open (Lends place) old new c now stays arguments is becomes = tt
 stays_open Silent old new c now stays arguments is becomes = tt
 stays_open (Fault fault) old new c now stays arguments is becomes = becomes ∙ ap (λ (v : CursorsView). seen_of v arguments) stays ∙ is
-
--- a text of which a call keeps all tokens
-pub all_kept : (text : List ℕ) → keeps_tokens text ≡ true → KeepsAll (body_tokens text)
-unfolding keeps_tokens
-all_kept text e = AllPass-from_list_all (λ (t : SourceToken). is_kept (token_role t)) (body_tokens text) e
-
--- one of which it doesn't
-pub not_all_kept : (text : List ℕ) → keeps_tokens text ≡ false → KeepsAll (body_tokens text) → ⊥
-unfolding keeps_tokens
-not_all_kept text e all = false≢true (sym e ∙ list_all-from_AllPass (λ (t : SourceToken). is_kept (token_role t)) (body_tokens text) all)
-
--- a kept text of which a call doesn't keep all tokens is let go
-pub lets_go_unkept : (macros : List Macro) (id line : ℕ) (bytes : List ℕ) (old now : StoreView) (opening : Opening) (c : CursorsView) → c.opens ≡ []
-    → opening ≡ Refused ArgumentCount → now ≡ record old { bytes = [] } → keeps_tokens bytes ≡ false → BindsKept macros id line bytes now.bytes opening c
-lets_go_unkept macros id line bytes old now opening c closed is cleared unkept =
-    rw is (record {
-      none = closed;
-      lets_go = ap (λ s. s.bytes) cleared;
-      kind_is = refl;
-      count = λ all. absurd (not_all_kept bytes unkept all);
-    })

@@ -16,7 +16,6 @@ ghost use Rattle.rdlpp_cursors.specs.Steps.{AreSound, IsStep};
 ghost use Rattle.rdlpp_front.specs.Fronts.{IsUsage, usage_name};
 ghost use Rattle.rdlpp_usages.specs.Usages.{BindsKept, IsRun, StaysAt, StaysOpen, TellsCallUsage, TellsUsage, UsesCall, UsesSource, is_failed_opening, is_opened};
 
-use crate::kept::keeps_tokens;
 use rdlpp_arguments::{ArgumentStore, CallRead, read_call};
 use rdlpp_cursors::{CursorStep, Cursors};
 use rdlpp_meaning::FaultKind;
@@ -225,9 +224,6 @@ fn bind_kept(
     ensures lets_go { is_opened result ≡ false → (cursors.new.opens ≡ []) × (arguments.new.bytes ≡ []) }
     ensures sound { AreSound (texts_of table.now.macros arguments.new.bytes) cursors.new.opens }
 {
-    if !keeps_tokens(arguments.bytes()) {
-        return refuse(arguments, Opening::Refused(FaultKind::ArgumentCount));
-    }
     match cursors.open_call(table, arguments.bytes(), usage.id, usage.line) {
         Ok(()) => Opening::Opened,
         Err(kind) => refuse(arguments, Opening::Refused(kind)),

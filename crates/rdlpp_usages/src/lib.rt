@@ -2,6 +2,5 @@
 #![tactic(auto)]
 
 mod expansion;
-mod kept;
 
 pub use expansion::{Expansion, Opening};
