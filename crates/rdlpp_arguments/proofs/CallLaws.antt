@@ -27,7 +27,7 @@ closed_call u unread room f bytes behind e =
     let c =
     read_closed (course u f.line_bytes f.bytes_left (rest_of unread f)) f.mode f.open_token_line f.line (held_of f ++ (front f.line_bytes f.bytes_left (rest_of unread f)).text)
     room (tokens_left u unread f) bytes behind refl e in
-    record { used = c.used; call = c.call; rest = c.rest }
+    record { used = c.used; call = c.call; rest = c.rest; keeps = c.keeps }
 
 -- each answer
 pub means : {R : Type 0} (tells : Type 0) (unread : R → List ℕ) (room : ℕ) (bytes used : List ℕ) (old new : BufferView R) (result : CallRead) → old.mode ≡ Plain

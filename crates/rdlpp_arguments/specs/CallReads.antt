@@ -1,13 +1,13 @@
 -- What reading a call did: the answer, the kept bytes, and the innermost source behind it.
 -- A definition that names no source is this project's own.
-use Rattle.std.specs.Prelude.{◌≡◌, ◌≢◌, ℕ, ◌+◌, ◌<◌, ◌≤◌, Bool, true, false, List, [], ◌++◌, length, take, drop}
+use Rattle.std.specs.Prelude.{◌≡◌, ◌≢◌, ℕ, ◌+◌, ◌<◌, ◌≤◌, Bool, true, false, All, List, [], ◌++◌, length, take, drop}
 use Rattle.rdlpp_scan.specs.declared.token.Mode.{Mode}
 use Rattle.rdlpp_scan.specs.declared.token.Mode.TheVariants.{InStr}
 use Rattle.rdlpp_scan.specs.SourceTokens.{SourceToken, line_ends}
 use Rattle.rdlpp_meaning.specs.Actuals.{Broke, Lacking, call_of, map_call, token_role}
 use Rattle.rdlpp_meaning.specs.CallReading.{ReadRefused, ReadStopped, read}
 use Rattle.rdlpp_meaning.specs.CallScan as scan
-use Rattle.rdlpp_meaning.specs.CallScan.{Before, Stand, call_of_scan}
+use Rattle.rdlpp_meaning.specs.CallScan.{Before, Stand, call_of_scan, is_kept}
 use Rattle.rdlpp_meaning.specs.Cursors.{kept as kept_token}
 use Rattle.rdlpp_meaning.specs.Resumed.{leading}
 use Rattle.rdlpp_meaning.specs.Substitution.{body_tokens}
@@ -91,11 +91,12 @@ IsEndOfText at room f (Broken kind line) = read at (is_open f.mode) room (ended_
 IsEndOfText at room f Failed = ⊥
 
 -- a call that was read is that of the definition: the parts of its kept bytes are its parts, but for the lines of tokens that
--- aren't broken, and behind it are the tokens that remain (source: this project's profile)
+-- aren't broken, none of their tokens is dropped, and behind it are the tokens that remain (source: this project's profile)
 pub record IsCallOf (room : ℕ) (ts : List SourceToken) (bytes : List ℕ) (behind : List SourceToken) : Type 0 where
   pub used : ℕ
   pub call : map_call unlined (call_of token_role kept_token room (leading ts)) ≡ call_of_scan token_role 0 (scan.Closed (body_tokens bytes) used)
   pub rest : drop used ts ≡ behind
+  pub keeps : All (λ t. is_kept (token_role t) ≡ true) (body_tokens bytes)
 
 -- the call that the definition has there (source: this project's profile)
 abbrev pub MeansCall : {R : Type 0} → Type 0 → (R → List ℕ) → ℕ → List ℕ → BufferView R → BufferView R → CallRead → Type 0

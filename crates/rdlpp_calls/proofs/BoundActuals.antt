@@ -64,7 +64,7 @@ parts_keep P [] all = tt
 parts_keep P (x ∷ xs) all = (trimmed_keeps P x all.0, parts_keep P xs all.1)
 
 -- the actuals of a text keep all, where it does
-actuals_keep : (text : List ℕ) → KeepsAll (body_tokens text) → AllByRecursion KeepsAll (actuals_of text)
+pub actuals_keep : (text : List ℕ) → KeepsAll (body_tokens text) → AllByRecursion KeepsAll (actuals_of text)
 unfolding actuals_of all_parts
 actuals_keep text all =
     let P : SourceToken → Type 0 = λ t. is_kept (token_role t) ≡ true in
@@ -72,12 +72,12 @@ actuals_keep text all =
     parts_keep P (all_parts (split token_role 0 (body_tokens text))) (s.0, s.1)
 
 -- tokens of ranges that keep all are those of ranges that do
-ranges_keep : (text : List ℕ) (ranges : List Range) → AllByRecursion KeepsAll (ranges_tokens text ranges) → AllByRecursion (λ r. KeepsAll (part_tokens text (range_part r))) ranges
+pub ranges_keep : (text : List ℕ) (ranges : List Range) → AllByRecursion KeepsAll (ranges_tokens text ranges) → AllByRecursion (λ r. KeepsAll (part_tokens text (range_part r))) ranges
 ranges_keep text [] all = tt
 ranges_keep text (r ∷ rs) all = (all.0, ranges_keep text rs all.1)
 
 -- where as many actuals as formals are bound, none lacks
-count_many : (fs : List Formal) (actuals : List (List SourceToken)) → true ≡ is_token_count fs actuals → length fs ≤ length actuals
+pub count_many : (fs : List Formal) (actuals : List (List SourceToken)) → true ≡ is_token_count fs actuals → length fs ≤ length actuals
 unfolding is_token_count
 count_many [] actuals e = omega arith
 count_many (f ∷ fs) actuals e = let n = eqb-true (length actuals) (length (f ∷ fs)) (sym e) in omega (arith, n)

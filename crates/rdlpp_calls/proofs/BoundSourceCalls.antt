@@ -30,6 +30,7 @@ use Rattle.rdlpp_meaning.proofs.UnlinedCursors.{first-unlined}
 use Rattle.rdlpp_meaning.proofs.UnlinedTokens.{unlined_trimmed}
 use Rattle.rdlpp_calls.specs.declared.bindings.Range.{Range}
 use Rattle.rdlpp_calls.specs.BoundCalls.{range_part, ranges_tokens, actuals_of}
+use Rattle.rdlpp_calls.specs.SourceBound.{OpensBound}
 use Rattle.rdlpp_calls.proofs.BoundUsages.{usage_with_list}
 
 -- a call that has these parts, but for lines
@@ -107,15 +108,6 @@ unfolding token_usage_of_call
 usage_counted m fs line name first further used right e =
     ap (λ (b : Bool). cond b (Opens m (map (trimmed token_role) (first ∷ further)) used) (Refuses ArgumentCount name line)) (sym e)
 
--- a usage in a source that opens a macro with these ranges of the kept bytes as actuals, but for lines, with the tokens behind it
-pub record OpensBound (rules : Rules) (line : ℕ) (name : List ℕ) (ts : List SourceToken) (m : Macro) (fs : List Formal) (bytes : List ℕ) (ranges : List Range)
-    (behind : List SourceToken) : Type 0 where
-  pub actuals : List (List SourceToken)
-  pub used : ℕ
-  pub opens : token_usage_of_formals kept rules line name (leading ts) m (Some fs) ≡ Opens m actuals used
-  pub same : map (map unlined) actuals ≡ ranges_tokens bytes ranges
-  pub rest : drop used ts ≡ behind
-
 -- a call that was read and bound opens its macro so
 pub source_bound : (rules : Rules) (line : ℕ) (name : List ℕ) (ts : List SourceToken) (m : Macro) (fs : List Formal) (bytes : List ℕ) (ranges : List Range) (behind : List SourceToken)
     → IsReadCall rules.argument_bytes ts bytes behind → true ≡ is_token_count fs (actuals_of bytes) → actuals_of bytes ≡ ranges_tokens bytes ranges
@@ -174,7 +166,7 @@ resumed_bound rules os first name line ts s d m fs bytes ranges behind b reserve
     ∙ ap (λ (rest : List SourceToken). goes_on (leaves (left rules s line (first_cursor m (ranges_tokens bytes ranges) d ∷ [])) s) (further rest)) b.rest
 
 -- a body that a usage in a source opens with ranges of the kept text as actuals, as a slot
-first_open : (texts : Texts) (id : ℕ) (ranges : List Range)
+pub first_open : (texts : Texts) (id : ℕ) (ranges : List Range)
     → slots_of texts (open_body texts id (map range_part ranges) 0 ∷ []) ≡ first_slot (macro_at texts.macros id) (ranges_tokens texts.arguments ranges) ∷ []
 unfolding slots_of slot_of text_around slot_kind own_text scope_text open_body first_slot body_slot
 first_open texts id ranges =

@@ -9,3 +9,4 @@ pub mod PartCounts
 pub mod BoundActuals
 pub mod BoundUsages
 pub mod BoundSourceCalls
+pub mod KeptTexts

@@ -1,3 +1,5 @@
 pub mod CallTokens
 pub mod CallParts
 pub mod BoundCalls
+pub mod SourceBound
+pub mod KeptTexts

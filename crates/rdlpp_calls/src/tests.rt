@@ -151,3 +151,9 @@ fn the_parts_between_two_places_are_bound(rt: HostRuntime) {
     );
     assert_eq!(&rt; bindings.len(), 3);
 }
+
+#[test]
+fn a_text_without_line_comments_keeps_each_token(rt: HostRuntime) {
+    assert!(&rt; keeps_each(b"a, \"//\" /* // */ / /"));
+    assert!(&rt; !keeps_each(b"a, b // c"));
+}

@@ -1,3 +1,7 @@
+pub mod Binding
+pub mod Calling
+pub mod Starting
+pub mod Keeping
 pub mod Looking
 pub mod Passing
 pub mod Moving
@@ -6,3 +10,7 @@ pub mod Scoping
 pub mod Stacking
 pub mod Stepping
 pub mod Stopping
+pub mod Usages
+pub mod Falling
+pub mod Standing
+pub mod ShortTexts

@@ -5,7 +5,7 @@ use Rattle.rdlpp_meaning.specs.Opens.{OpenKind, OpenBody, OpenActual, OpenDefaul
 use Rattle.rdlpp_cursors.specs.declared.front.Front.{Front}
 use Rattle.rdlpp_cursors.specs.declared.front.Look.{Look}
 use Rattle.rdlpp_cursors.specs.declared.place.TextSource.{TextSource}
-use Rattle.rdlpp_cursors.specs.declared.range.Range.{Range}
+use Rattle.rdlpp_calls.specs.declared.bindings.Range.{Range}
 use Rattle.rdlpp_cursors.specs.declared.slot.Slot.{Slot}
 use Rattle.rdlpp_cursors.specs.Fronts.{IsFront, IsLook}
 use Rattle.rdlpp_cursors.specs.Opened.{bindings_below, open_of, opens_of}

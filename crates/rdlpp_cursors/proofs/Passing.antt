@@ -1,31 +1,38 @@
 -- A step of open texts where neither a formal nor a usage stands at the front of the innermost.
-use Rattle.std.proofs.Common.{◌≡◌, ℕ, ◌+◌, ◌-◌, ◌<◌, ◌≤◌, true, List, [], ◌∷◌, length, take, drop, refl, sym, ap, subst, ◌∙◌, arith}
+use Rattle.std.proofs.Common.{◌≡◌, ℕ, ◌+◌, ◌-◌, ◌<◌, ◌≤◌, List, [], ◌∷◌, length, take, drop, refl, sym, ap, subst, ◌∙◌, arith}
 use Rattle.std.proofs.Common.{Option, None, Some, unwrap_or}
 use Rattle.std.specs.Prelude.{slice_range}
 use Rattle.std.specs.Option.{option_map}
 use Rattle.std.proofs.lemmas.List.{length-take, length-drop, take-take}
-use Rattle.rdlpp_table.specs.Table.{Formal, Macro}
-use Rattle.rdlpp_table.specs.View.{macro_at}
+use Rattle.rdlpp_scan.specs.SourceTokens.{SourceToken}
+use Rattle.rdlpp_table.specs.Table.{Formal}
+use Rattle.rdlpp_table.specs.View.{TableView, IsSound, macro_at}
 use Rattle.rdlpp_meaning.specs.declared.fault.FaultKind.TheVariants.{BareBackquote as NoName}
 use Rattle.rdlpp_meaning.specs.Opens.{Open, Texts, own_text, text_around, open_bytes, open_body}
+use Rattle.rdlpp_meaning.proofs.OpenScopes.{part-whole}
+use Rattle.rdlpp_calls.specs.BoundCalls.{KeepsAll}
 use Rattle.rdlpp_cursors.specs.declared.front.Front.{Front}
 use Rattle.rdlpp_cursors.specs.declared.front.Front.TheVariants as front
 use Rattle.rdlpp_cursors.specs.declared.front.Look.{Look}
 use Rattle.rdlpp_cursors.specs.declared.place.TextPlace.{TextPlace}
 use Rattle.rdlpp_cursors.specs.declared.place.TextSource.{TextSource}
+use Rattle.rdlpp_cursors.specs.declared.place.TextSource.TheVariants.{Arguments}
 use Rattle.rdlpp_cursors.specs.declared.step.CursorFault.{CursorFault}
 use Rattle.rdlpp_cursors.specs.declared.step.CursorStep.{CursorStep}
 use Rattle.rdlpp_cursors.specs.declared.step.CursorStep.TheVariants.{Lends, Silent, Refused}
-use Rattle.rdlpp_cursors.specs.Fronts.{IsFront, IsLook, IsHeld, holds}
+use Rattle.rdlpp_cursors.specs.Fronts.{IsFront, IsLook}
 use Rattle.rdlpp_cursors.specs.Opened.{moved_to, CursorsView}
 use Rattle.rdlpp_cursors.specs.Places.{texts_of, place_bytes, source_text, source_formals}
 use Rattle.rdlpp_cursors.specs.Scopes.{front_source}
-use Rattle.rdlpp_cursors.specs.Steps.{AreSound, IsStep}
+use Rattle.rdlpp_cursors.specs.Steps.{AreSound, IsStep, StaysRefused, wordless}
+use Rattle.rdlpp_cursors.specs.Digits.{IsFalling}
+use Rattle.rdlpp_cursors.proofs.Falling.{falls-drop, look-moves}
+use Rattle.rdlpp_cursors.proofs.Keeping.{body-keeps, run-sound}
 use Rattle.rdlpp_cursors.proofs.Scoping.{source-around}
-use Rattle.rdlpp_cursors.proofs.Stepping.{step-run, step-bare, look-ended, sound-moved}
+use Rattle.rdlpp_cursors.proofs.Stepping.{step-run, step-bare, look-ended, look-inside}
 
 -- the first bytes of a range of a text are those of a range of another one, which is the same if it has a byte
-same-front : (text other : List ℕ) (from end n : ℕ) → 0 < n → n ≤ length (slice_range text from end) → (0 < length text → other ≡ text)
+pub same-front : (text other : List ℕ) (from end n : ℕ) → 0 < n → n ≤ length (slice_range text from end) → (0 < length text → other ≡ text)
     → take n (slice_range text from end) ≡ slice_range other from (from + n)
 same-front text other from end n some inside e =
     let size = length-take (end - from) (drop from text) in
@@ -54,6 +61,17 @@ look-run line depth texts (x ∷ below) look n end h l e k =
     (subst (λ (m : ℕ). IsStep line depth texts (x ∷ below) (Lends (record { source = front_source (x ∷ below); from = m; end = end })) (moved_to end (x ∷ below))) (sym l.1)
     (subst (λ (m : ℕ). IsStep line depth texts (x ∷ below) (Lends (record { source = front_source (x ∷ below); from = x.part.from; end = m })) (moved_to m (x ∷ below))) (sym at) step))
 
+-- behind a run the open texts are sound
+pub look-passed : (texts : Texts) (opens : List Open) (look : Look) (n end : ℕ) → AreSound texts opens → IsLook texts opens look → look.front ≡ front.Run n → end ≡ look.from + n
+    → AreSound texts (moved_to end opens)
+unfolding IsLook IsFront
+look-passed texts [] look n end h l e k = absurd l
+look-passed texts (x ∷ below) look n end h l e k =
+    let f = subst (λ (f : Front). IsFront (source_formals texts (front_source (x ∷ below))) (open_bytes texts x below) f) e l.3 in
+    let at : end ≡ x.part.from + n = k ∙ ap (λ (m : ℕ). m + n) l.1 in
+    subst (λ (m : ℕ). AreSound texts (moved_to m (x ∷ below))) (sym at)
+    (run-sound texts (source_formals texts (front_source (x ∷ below))) x below n h f.1 f.2)
+
 -- a lone backquote is a fault
 pub look-bare : (line depth : ℕ) (texts : Texts) (opens new : List Open) (look : Look) (fault : CursorFault) → AreSound texts opens → IsLook texts opens look → look.front ≡ front.Bare
     → fault.kind ≡ NoName → place_bytes texts fault.word ≡ [] → IsStep line depth texts opens (Refused fault) new
@@ -67,73 +85,88 @@ pub no-word : (texts : Texts) (source : TextSource) → place_bytes texts (recor
 unfolding place_bytes
 no-word texts source = refl
 
--- a formal or a usage stands at the front
-pub look-held : (texts : Texts) (opens : List Open) (look : Look) → IsLook texts opens look → holds look.front ≡ true → IsHeld texts opens
-unfolding IsLook IsHeld
-look-held texts [] look l e = l
-look-held texts (x ∷ below) look l e = (look.front, e, l.3)
-
 -- what a list that isn't there has
-no-formals : (formals : Option (List Formal)) → option_map (λ (fs : List Formal). length fs) formals ≡ None → length (unwrap_or formals []) ≤ 0
+pub no-formals : (formals : Option (List Formal)) → option_map (λ (fs : List Formal). length fs) formals ≡ None → length (unwrap_or formals []) ≤ 0
 no-formals None e = omega arith
 no-formals (Some fs) e = absurd (cc)
 
 -- the body of a macro without a list, whose usage stands in a source, is sound
-pub sound-body : (macros : List Macro) (arguments : List ℕ) (id : ℕ) → id < length macros
-    → option_map (λ (fs : List Formal). length fs) (macro_at macros id).formals ≡ None
-    → AreSound (texts_of macros arguments) (open_body (texts_of macros []) id [] 0 ∷ [])
+pub sound-body : (table : TableView) (arguments : List ℕ) (id : ℕ) → IsSound table → id < length table.macros
+    → option_map (λ (fs : List Formal). length fs) (macro_at table.macros id).formals ≡ None
+    → AreSound (texts_of table.macros arguments) (open_body (texts_of table.macros []) id [] 0 ∷ [])
 unfolding open_body text_around own_text
-sound-body macros arguments id h e = record {
-  are_open = (omega arith, ((no-formals (macro_at macros id).formals e, tt), tt));
-  are_inside = (h, (omega arith, (refl, tt)));
-}
+sound-body table arguments id sound h e =
+    let body = (macro_at table.macros id).body in
+    record {
+      are_open = (omega arith, ((no-formals (macro_at table.macros id).formals e, tt), tt));
+      are_inside = (h, (omega arith, (refl, tt)));
+      are_kept = (subst (λ (ts : List SourceToken). KeepsAll ts) (sym (part-whole body)) (body-keeps table id sound h), (tt, tt));
+    }
 
 -- it is so whatever is seen of it
-pub sound-opened : (macros : List Macro) (arguments : List ℕ) (id line depth : ℕ) (view : CursorsView) → id < length macros
-    → option_map (λ (fs : List Formal). length fs) (macro_at macros id).formals ≡ None
-    → view ≡ record { opens = open_body (texts_of macros []) id [] 0 ∷ []; line = line; depth = depth }
-    → AreSound (texts_of macros arguments) view.opens
-sound-opened macros arguments id line depth view h e is =
-    subst (λ (v : CursorsView). AreSound (texts_of macros arguments) v.opens) (sym is) (sound-body macros arguments id h e)
+pub sound-opened : (table : TableView) (arguments : List ℕ) (id line depth : ℕ) (view : CursorsView) → IsSound table → id < length table.macros
+    → option_map (λ (fs : List Formal). length fs) (macro_at table.macros id).formals ≡ None
+    → view ≡ record { opens = open_body (texts_of table.macros []) id [] 0 ∷ []; line = line; depth = depth }
+    → AreSound (texts_of table.macros arguments) view.opens
+sound-opened table arguments id line depth view sound h e is =
+    subst (λ (v : CursorsView). AreSound (texts_of table.macros arguments) v.opens) (sym is) (sound-body table arguments id sound h e)
 
--- what a step has left: it is one, and what is open is sound, at the same line and for as many texts
+-- what a step has left: it is one, and what is open is sound, at the same line and for as many texts; the digits of the work left
+-- fall, unless it is refused, where nothing changes
 pub record IsPassed (texts : Texts) (view new : CursorsView) (step : CursorStep) : Type 0 where
   pub is_step : IsStep view.line view.depth texts view.opens step new.opens
   pub sound : AreSound texts new.opens
   pub kept : (new.line ≡ view.line) × (new.depth ≡ view.depth)
+  pub digits : IsFalling view.opens step new.opens
+  pub refused : StaysRefused view step new
 
 -- the innermost is closed
 pub pass-ended : (texts : Texts) (view new : CursorsView) (look : Look) → AreSound texts view.opens → IsLook texts view.opens look → look.front ≡ front.Ended
     → new ≡ record { opens = drop 1 view.opens; line = view.line; depth = view.depth } → IsPassed texts view new Silent
+unfolding IsFalling StaysRefused
 pass-ended texts view new look h l e is =
     let p = look-ended view.line view.depth texts view.opens look h l e in
-    subst (λ (v : CursorsView). IsPassed texts view v Silent) (sym is) (record { is_step = p.0; sound = p.1; kept = (refl, refl) })
+    subst (λ (v : CursorsView). IsPassed texts view v Silent) (sym is) (record {
+      is_step = p.0;
+      sound = p.1;
+      kept = (refl, refl);
+      digits = falls-drop texts view.opens look l;
+      refused = tt;
+    })
+
+-- a run has a byte
+run-some : (texts : Texts) (opens : List Open) (look : Look) (n : ℕ) → IsLook texts opens look → look.front ≡ front.Run n → 0 < n
+unfolding IsLook IsFront
+run-some texts [] look n l e = absurd l
+run-some texts (x ∷ below) look n l e =
+    (subst (λ (f : Front). IsFront (source_formals texts (front_source (x ∷ below))) (open_bytes texts x below) f) e l.3).0
 
 -- a run is lent
 pub pass-run : (texts : Texts) (view new : CursorsView) (look : Look) (n end : ℕ) → AreSound texts view.opens → IsLook texts view.opens look → look.front ≡ front.Run n
     → end ≡ look.from + n
     → new ≡ record { opens = moved_to end view.opens; line = view.line; depth = view.depth }
     → IsPassed texts view new (Lends (record { source = look.source; from = look.from; end = end }))
+unfolding IsFalling StaysRefused
 pass-run texts view new look n end h l e k is =
+    let some = run-some texts view.opens look n l e in
+    let inside = look-inside texts view.opens look n l e in
     subst (λ (v : CursorsView). IsPassed texts view v (Lends (record { source = look.source; from = look.from; end = end }))) (sym is) (record {
       is_step = look-run view.line view.depth texts view.opens look n end h l e k;
-      sound = sound-moved texts view.opens end h;
+      sound = look-passed texts view.opens look n end h l e k;
       kept = (refl, refl);
+      digits = look-moves texts view.opens look end l (omega (arith, some, k)) (omega (arith, inside, k));
+      refused = tt;
     })
 
 -- a lone backquote is a fault
-pub pass-bare : (texts : Texts) (view : CursorsView) (look : Look) (source : TextSource) → AreSound texts view.opens → IsLook texts view.opens look → look.front ≡ front.Bare
-    → IsPassed texts view view (Refused (record { kind = NoName; word = record { source = source; from = 0; end = 0 } }))
-pass-bare texts view look source h l e = record {
-  is_step = look-bare view.line view.depth texts view.opens view.opens look (record { kind = NoName; word = record { source = source; from = 0; end = 0 } }) h l e refl (no-word texts source);
-  sound = h;
-  kept = (refl, refl);
-}
-
--- what is neither an end, a run nor a lone backquote is held
-pub front-holds : (f : Front) → (f ≡ front.Ended → ⊥) → ((n : ℕ) → f ≡ front.Run n → ⊥) → (f ≡ front.Bare → ⊥) → holds f ≡ true
-front-holds front.Ended ended run bare = absurd (ended refl)
-front-holds (front.Run n) ended run bare = absurd (run n refl)
-front-holds (front.Formal len place) ended run bare = refl
-front-holds (front.Usage len) ended run bare = refl
-front-holds front.Bare ended run bare = absurd (bare refl)
+pub pass-bare : (texts : Texts) (view : CursorsView) (look : Look) (step : CursorStep) → AreSound texts view.opens → IsLook texts view.opens look → look.front ≡ front.Bare
+    → step ≡ wordless NoName → IsPassed texts view view step
+unfolding IsFalling StaysRefused
+pass-bare texts view look step h l e is =
+    subst (λ (s : CursorStep). IsPassed texts view view s) (sym is) (record {
+      is_step = look-bare view.line view.depth texts view.opens view.opens look (record { kind = NoName; word = record { source = Arguments; from = 0; end = 0 } }) h l e refl (no-word texts Arguments);
+      sound = h;
+      kept = (refl, refl);
+      digits = tt;
+      refused = refl;
+    })

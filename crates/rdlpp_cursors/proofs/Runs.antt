@@ -85,7 +85,7 @@ holds-fails : {A : Type 0} (b : Bool) → b ≡ true → b ≡ false → A
 holds-fails b h k = absurd (true≢false (sym h ∙ k))
 
 -- a token that is a stop is read in plain text
-stop-plain : (formals : List Formal) (at : ℕ) (m : Mode) (text bytes : List ℕ)
+pub stop-plain : (formals : List Formal) (at : ℕ) (m : Mode) (text bytes : List ℕ)
     → is_none (stop_at formals at (token_of m text) bytes) ≡ false → m ≡ Plain
 unfolding token_of
 stop-plain formals at Plain text bytes e = refl
@@ -96,7 +96,7 @@ stop-plain formals at InBlock text bytes e =
     holds-fails (is_none (stop_at formals at (block_token 0 text) bytes)) (block-none formals at 0 text bytes) e
 
 -- a part of a text behind some of its bytes
-slice-behind : (text : List ℕ) (from to n : ℕ) → n ≤ length (slice_range text from to) → slice_range text (from + n) to ≡ drop n (slice_range text from to)
+pub slice-behind : (text : List ℕ) (from to n : ℕ) → n ≤ length (slice_range text from to) → slice_range text (from + n) to ≡ drop n (slice_range text from to)
 slice-behind text from to n h =
     let size : n ≤ to - from = (let l = length-take (to - from) (drop from text) in omega (arith, l, h)) in
     let rest : to - from ≡ n + (to - (from + n)) = omega (arith, size) in
@@ -212,7 +212,7 @@ run-more rules s line depth texts formals x below n h f some e r =
     fits a b xs ys e p q = let l = length-drop a ys in let k = ap (λ (zs : List ℕ). length zs) e in omega (arith, l, k, p, q)
 
 -- an empty text has the same tokens in each mode
-nil-same : (m : Mode) (bytes : List ℕ) → tokens_from m 0 bytes ≡ [] → text_tokens m bytes ≡ text_tokens Plain bytes
+pub nil-same : (m : Mode) (bytes : List ℕ) → tokens_from m 0 bytes ≡ [] → text_tokens m bytes ≡ text_tokens Plain bytes
 nil-same m [] e = text_nil m ∙ sym (text_nil Plain)
 nil-same m (b ∷ bs) e =
     let some : 0 < length (b ∷ bs) = omega arith in

@@ -11,12 +11,13 @@ use Rattle.rdlpp_table.specs.Table.{Formal, Macro}
 use Rattle.rdlpp_table.specs.View.{macro_at, formals_of, formal_at, formal_named}
 use Rattle.rdlpp_meaning.specs.Opens.{Part, part_at, OpenKind, OpenBody, OpenActual, OpenDefault, Open, Texts, own_text, scope_text, text_around, open_standing, own_open, open_at, open_scope}
 use Rattle.rdlpp_meaning.proofs.SlotScopes.{not_next, next_is}
-use Rattle.rdlpp_cursors.specs.declared.range.Range.{Range}
+use Rattle.rdlpp_calls.specs.BoundCalls.{range_part}
+use Rattle.rdlpp_calls.specs.declared.bindings.Range.{Range}
 use Rattle.rdlpp_cursors.specs.declared.place.TextSource.{TextSource}
 use Rattle.rdlpp_cursors.specs.declared.slot.Slot.{Slot}
 use Rattle.rdlpp_cursors.specs.declared.slot.SlotKind.{SlotKind}
 use Rattle.rdlpp_cursors.specs.declared.slot.SlotKind.TheVariants as slot
-use Rattle.rdlpp_cursors.specs.Opened.{part_of, kind_of, bindings_below, open_of, opens_of, slot_source, is_body_of, kind_outer, outer_of, AreHomedSlots}
+use Rattle.rdlpp_cursors.specs.Opened.{kind_of, bindings_below, open_of, opens_of, slot_source, is_body_of, kind_outer, outer_of, AreHomedSlots}
 use Rattle.rdlpp_cursors.proofs.Runs.{HasFormals}
 use Rattle.rdlpp_cursors.specs.Places.{texts_of, source_text, source_formals}
 use Rattle.rdlpp_cursors.specs.Scopes.{scope_open, kind_source, found_source, own_source, front_source, front_scope, kind_standing, found_standing, own_ids, writer_ids, IsBound, AreBound}
@@ -92,7 +93,7 @@ unfolding scope_open
 scope-around x below k h = rw (not_next k (length below) h) refl
 
 -- where the innermost open text lies is where its scope does
-source-scope : (x : Open) (below : List Open) → x.home ≤ length below
+pub source-scope : (x : Open) (below : List Open) → x.home ≤ length below
     → front_source (x ∷ below) ≡ found_source (scope_open (x ∷ below) (open_scope x below))
 unfolding front_source open_scope
 source-scope x below h = by x.kind refl
@@ -361,11 +362,11 @@ range-inside macros slots bindings scope own id first place bound some inside e 
     let a = at-scope slots bindings scope own (omega (arith, some)) inside e in
     let found : scope_open (opens_of slots bindings) scope ≡ Some (open_of (record own { kind = slot.Body id first }) (take a.kept bindings)) =
     a.found ∙ ap (λ (c : SlotKind). Some (open_of (record own { kind = c }) (take a.kept bindings))) k in
-    let b : (id < length macros) × (length (formals_of (macro_at macros id)) ≤ length (map part_of (drop first (take a.kept bindings)))) =
+    let b : (id < length macros) × (length (formals_of (macro_at macros id)) ≤ length (map range_part (drop first (take a.kept bindings)))) =
     bound-scope macros (opens_of slots bindings) scope (open_of (record own { kind = slot.Body id first }) (take a.kept bindings)) bound found in
     let place_in : place < length (formals_of (macro_at macros id)) =
     subst (λ (o : Option Open). place < length (source_formals (texts_of macros []) (found_source o))) found h in
-    let parts = length-map (drop first (take a.kept bindings)) part_of in
+    let parts = length-map (drop first (take a.kept bindings)) range_part in
     let dropped = length-drop first (take a.kept bindings) in
     let kept = length-take a.kept bindings in
     let many = b.1 in
@@ -377,15 +378,15 @@ range-inside macros slots bindings scope own id first place bound some inside e 
 
 -- the part that the formal at a place of a body has
 part-kept : (bindings : List Range) (kept first place : ℕ) (range : Range) → range ≡ get_or bindings (first + place) range
-    → place < length (map part_of (drop first (take kept bindings)))
-    → part_at (map part_of (drop first (take kept bindings))) place ≡ part_of range
+    → place < length (map range_part (drop first (take kept bindings)))
+    → part_at (map range_part (drop first (take kept bindings))) place ≡ range_part range
 part-kept bindings kept first place range e h =
-    let parts = length-map (drop first (take kept bindings)) part_of in
+    let parts = length-map (drop first (take kept bindings)) range_part in
     let dropped = length-drop first (take kept bindings) in
     let size = length-take kept bindings in
     let less : first + place < kept = omega (arith, parts, dropped, size, h) in
-    get_or-map part_of (drop first (take kept bindings)) place range (record { from = 0; end = 0; mode = Plain }) (omega (arith, parts, h))
-    ∙ ap (λ (r : Range). part_of r) (get_or-drop first (take kept bindings) place range ∙ get_or-take kept bindings (first + place) range less ∙ sym e)
+    get_or-map range_part (drop first (take kept bindings)) place range (record { from = 0; end = 0; mode = Plain }) (omega (arith, parts, h))
+    ∙ ap (λ (r : Range). range_part r) (get_or-drop first (take kept bindings) place range ∙ get_or-take kept bindings (first + place) range less ∙ sym e)
 
 -- the text that the formal at a place of a scope stands for, where it is a body
 pub standing-body : (macros : List Macro) (slots : List Slot) (bindings : List Range) (scope : ℕ) (own : Slot) (id first place : ℕ) (range : Range) (new : Slot) (bound : List Range)
@@ -393,19 +394,19 @@ pub standing-body : (macros : List Macro) (slots : List Slot) (bindings : List R
     → own.kind ≡ slot.Body id first
     → place < length (source_formals (texts_of macros []) (found_source (scope_open (opens_of slots bindings) scope)))
     → range ≡ get_or bindings (first + place) range
-    → ((parts : List Part) → part_at parts place ≡ part_of range → open_of new bound ≡ open_standing (formals_of (macro_at macros id)) id scope own.home parts place)
+    → ((parts : List Part) → part_at parts place ≡ range_part range → open_of new bound ≡ open_standing (formals_of (macro_at macros id)) id scope own.home parts place)
     → Some (open_of new bound) ≡ found_standing macros (scope_open (opens_of slots bindings) scope) scope place
 unfolding source_formals
 standing-body macros slots bindings scope own id first place range new bound are some inside e k h r s =
     let a = at-scope slots bindings scope own (omega (arith, some)) inside e in
     let found : scope_open (opens_of slots bindings) scope ≡ Some (open_of (record own { kind = slot.Body id first }) (take a.kept bindings)) =
     a.found ∙ ap (λ (c : SlotKind). Some (open_of (record own { kind = c }) (take a.kept bindings))) k in
-    let b : (id < length macros) × (length (formals_of (macro_at macros id)) ≤ length (map part_of (drop first (take a.kept bindings)))) =
+    let b : (id < length macros) × (length (formals_of (macro_at macros id)) ≤ length (map range_part (drop first (take a.kept bindings)))) =
     bound-scope macros (opens_of slots bindings) scope (open_of (record own { kind = slot.Body id first }) (take a.kept bindings)) are found in
     let place_in : place < length (formals_of (macro_at macros id)) =
     subst (λ (o : Option Open). place < length (source_formals (texts_of macros []) (found_source o))) found h in
     let many = b.1 in
-    ap (λ (x : Open). Some x) (s (map part_of (drop first (take a.kept bindings))) (part-kept bindings a.kept first place range r (omega (arith, place_in, many))))
+    ap (λ (x : Open). Some x) (s (map range_part (drop first (take a.kept bindings))) (part-kept bindings a.kept first place range r (omega (arith, place_in, many))))
     ∙ sym (ap (λ (o : Option Open). found_standing macros o scope place) found)
 
 -- it stands for nothing where it is none
@@ -435,7 +436,7 @@ actual_open home part = record { part = part; home = home; kind = OpenActual }
 -- a default stands for a formal whose part is empty and that has one
 pub standing-default : (formals : List Formal) (id place scope home end : ℕ) (range : Range) (parts : List Part) → 0 < end
     → end ≡ (if nat_le range.to range.from then length (formal_at formals place).text else 0)
-    → part_at parts place ≡ part_of range
+    → part_at parts place ≡ range_part range
     → default_open id place scope end ≡ open_standing formals id scope home parts place
 unfolding open_standing
 standing-default formals id place scope home end range parts some e p =
@@ -457,16 +458,16 @@ standing-default formals id place scope home end range parts some e p =
         else actual_open home q) p
         ∙ ap (λ (b : Bool). if b && not (length (formal_at formals place).text == 0)
         then default_open id place scope (length (formal_at formals place).text)
-        else actual_open home (part_of range)) none
+        else actual_open home (range_part range)) none
         ∙ ap (λ (b : Bool). if not b
         then default_open id place scope (length (formal_at formals place).text)
-        else actual_open home (part_of range)) has)
+        else actual_open home (range_part range)) has)
 
 -- and its part does else
 pub standing-actual : (formals : List Formal) (id place scope home end : ℕ) (range : Range) (parts : List Part) → end ≤ 0
     → end ≡ (if nat_le range.to range.from then length (formal_at formals place).text else 0)
-    → part_at parts place ≡ part_of range
-    → actual_open home (part_of range) ≡ open_standing formals id scope home parts place
+    → part_at parts place ≡ range_part range
+    → actual_open home (range_part range) ≡ open_standing formals id scope home parts place
 unfolding open_standing
 standing-actual formals id place scope home end range parts none e p =
     sym (ap (λ (q : Part). if (q.end - q.from == 0) && not (length (formal_at formals place).text == 0)
@@ -474,7 +475,7 @@ standing-actual formals id place scope home end range parts none e p =
     else actual_open home q) p
     ∙ ap (λ (b : Bool). if b
     then default_open id place scope (length (formal_at formals place).text)
-    else actual_open home (part_of range)) (by (nat_le range.to range.from) refl e))
+    else actual_open home (range_part range)) (by (nat_le range.to range.from) refl e))
   where
     and-false : (b c : Bool) → c ≡ false → (b && c) ≡ false
     and-false true c e = e

@@ -1,16 +1,18 @@
 -- The slots of open texts and the ranges that they have bound, as one text moves, opens or closes.
 use Rattle.std.proofs.Common.{◌≡◌, ℕ, ◌+◌, ◌-◌, ◌*◌, ◌<◌, ◌≤◌, List, [], ◌∷◌, map, length, take, drop, get_or, refl, sym, ap, subst, ◌∙◌, arith}
-use Rattle.std.proofs.Common.{rules, Global}
-use Rattle.std.specs.Prelude.{vec_capacity, vec_len, Vec}
+use Rattle.std.proofs.Common.{rules, Global, Bool, true, false}
+use Rattle.std.proofs.lemmas.Bool.{eqb-true, eqb-false, le-leb, lt-leb}
+use Rattle.std.specs.Prelude.{vec_capacity, vec_len, Vec, ◌==◌, nat_le}
 use Rattle.std.proofs.lemmas.List.{drop-set, drop_more, drop_all, length-drop, length-take, length-map, take_all}
 use Rattle.std.proofs.Math.ListN.{set, length-set}
 use Rattle.rdlpp_scan.specs.declared.token.Mode.TheVariants.{Plain}
 use Rattle.rdlpp_meaning.specs.Opens.{Open, OpenBody}
-use Rattle.rdlpp_cursors.specs.declared.range.Range.{Range}
+use Rattle.rdlpp_calls.specs.BoundCalls.{range_part}
+use Rattle.rdlpp_calls.specs.declared.bindings.Range.{Range}
 use Rattle.rdlpp_cursors.specs.declared.slot.Slot.{Slot}
 use Rattle.rdlpp_cursors.specs.declared.slot.SlotKind.{SlotKind}
 use Rattle.rdlpp_cursors.specs.declared.slot.SlotKind.TheVariants as slot
-use Rattle.rdlpp_cursors.specs.Opened.{part_of, bindings_below, open_of, opens_of, AreLaid, IsStack, bound_by, moved_to, kept_by, IsNoBody, CursorsView}
+use Rattle.rdlpp_cursors.specs.Opened.{bindings_below, open_of, opens_of, AreLaid, IsStack, bound_by, moved_to, kept_by, IsNoBody, CursorsView}
 use Rattle.rdlpp_cursors.proofs.Scoping.{opens-length}
 
 -- the slot at a place, in front of those behind it
@@ -35,7 +37,7 @@ unfolding opens_of
 none-open slots first bindings h = ap (λ (s : List Slot). opens_of s bindings) (drop_all first slots h)
 
 -- ranges that are laid are few
-laid-few : (slots : List Slot) (bindings : List Range) → AreLaid slots bindings → length bindings ≤ 255 * length slots
+pub laid-few : (slots : List Slot) (bindings : List Range) → AreLaid slots bindings → length bindings ≤ 255 * length slots
 unfolding AreLaid
 laid-few [] bindings h = omega (arith, h)
 laid-few (y ∷ ys) bindings h = h.0
@@ -49,7 +51,7 @@ laid-bound (y ∷ ys) bindings h = by y.kind (laid-bound ys (bindings_below y.ki
     by : (kind : SlotKind) → length (bindings_below kind bindings) ≡ bound_by (opens_of ys (bindings_below kind bindings))
         → length bindings ≡ bound_by (open_of (record y { kind = kind }) bindings ∷ opens_of ys (bindings_below kind bindings))
     by (slot.Body id first) e =
-        let parts = length-map (drop first bindings) part_of in
+        let parts = length-map (drop first bindings) range_part in
         let rest = length-drop first bindings in
         let front = length-take first bindings in
         omega (arith, parts, rest, front, e)
@@ -97,7 +99,7 @@ moved-laid slots first at bindings own inside e laid =
     subst (λ (s : List Slot). AreLaid s bindings) (sym (drop-set slots first (record own { from = at }) inside)) both
 
 -- the slots where one more is opened
-entered : (slots : List Slot) (first : ℕ) (new : Slot) → 0 < first → first ≤ length slots → drop (first - 1) (set slots (first - 1) new) ≡ new ∷ drop first slots
+pub entered : (slots : List Slot) (first : ℕ) (new : Slot) → 0 < first → first ≤ length slots → drop (first - 1) (set slots (first - 1) new) ≡ new ∷ drop first slots
 entered slots first new some inside =
     let more : first - 1 < length slots = omega (arith, some, inside) in
     let back : first - 1 + 1 ≡ first = omega (arith, some) in
@@ -140,7 +142,7 @@ pub body-opens : (slots : List Slot) (first : ℕ) (bindings : List Range) (id e
 unfolding opens_of
 body-opens slots first bindings id end home n some inside e =
     ap (λ (s : List Slot). opens_of s bindings) (entered slots first (record { from = 0; end = end; home = home; kind = slot.Body id n }) some inside)
-    ∙ ap (λ (bs : List Range). record { part = record { from = 0; end = end; mode = Plain }; home = home; kind = OpenBody id (map part_of bs) } ∷ opens_of (drop first slots) (take n bindings))
+    ∙ ap (λ (bs : List Range). record { part = record { from = 0; end = end; mode = Plain }; home = home; kind = OpenBody id (map range_part bs) } ∷ opens_of (drop first slots) (take n bindings))
     (drop_all n bindings (omega (arith, e)))
     ∙ ap (λ (bs : List Range). record { part = record { from = 0; end = end; mode = Plain }; home = home; kind = OpenBody id [] } ∷ opens_of (drop first slots) bs)
     (take_all n bindings (omega (arith, e)))
@@ -173,7 +175,7 @@ room-first v first bindings inside room =
     omega (arith, n, h, inside, room)
 
 -- slots of which none is open
-pub stack-made : (v : Vec Slot Global) (first : ℕ) (bindings : Vec Range Global) → vec_len v ≡ first → bindings.items ≡ [] → vec_capacity bindings ≡ first * 255
+pub stack-made : (v : Vec Slot Global) (first : ℕ) (bindings : Vec Range Global) → vec_len v ≡ first → bindings.items ≡ [] → vec_capacity bindings ≡ (first + 1) * 255
     → IsStack v.items first bindings
 unfolding AreLaid
 stack-made v first bindings size none room =
@@ -220,3 +222,43 @@ stack-pushed slots first bindings new some same h =
       laid = pushed-laid slots first bindings.items new some inside same h.laid;
       room = omega (arith, n, room);
     }
+
+-- as many texts are open as there are slots where none is in front of the open ones
+pub full-first : (v : Vec Slot Global) (first : ℕ) (bindings : List Range) → first ≤ length v.items
+    → (first == 0) ≡ nat_le (vec_len v) (length (opens_of (drop first v.items) bindings))
+full-first v first bindings inside =
+    by (first == 0) refl
+  where
+    n : vec_len v ≡ length v.items
+    n = slots-count v
+
+    h : length (opens_of (drop first v.items) bindings) ≡ length v.items - first
+    h = open-count v.items first bindings
+
+    by : (none : Bool) → (first == 0) ≡ none → (first == 0) ≡ nat_le (vec_len v) (length (opens_of (drop first v.items) bindings))
+    by true e =
+        let zeroth : first ≡ 0 = eqb-true first 0 e in
+        e ∙ sym (le-leb (vec_len v) (length (opens_of (drop first v.items) bindings)) (omega (arith, n, h, zeroth)))
+    by false e =
+        let some : first ≡ 0 → ⊥ = eqb-false first 0 e in
+        e ∙ sym (lt-leb (vec_len v) (length (opens_of (drop first v.items) bindings)) (omega (arith, n, h, some, inside)))
+
+-- the open slots as they are lent
+pub lent-opens : (slots lent : List Slot) (first : ℕ) (bindings own : List Range) → lent ≡ slots → own ≡ bindings
+    → opens_of (take (length lent - first) (drop first lent)) own ≡ opens_of (drop first slots) bindings
+lent-opens slots lent first bindings own e f =
+    let size = length-drop first lent in
+    ap (λ (s : List Slot). opens_of s own) (take_all (length lent - first) (drop first lent) (omega (arith, size)))
+    ∙ ap (λ (s : List Slot). opens_of (drop first s) own) e
+    ∙ ap (λ (bs : List Range). opens_of (drop first slots) bs) f
+
+-- some slot is lent where some text is open
+pub lent-some : (slots lent : List Slot) (first : ℕ) (bindings : List Range) → lent ≡ slots → 0 < length (opens_of (drop first slots) bindings)
+    → 0 < length (take (length lent - first) (drop first lent))
+lent-some slots lent first bindings e some =
+    let n = opens-length (drop first slots) bindings in
+    let size = length-drop first lent in
+    let own = length-drop first slots in
+    let same : length lent ≡ length slots = ap (λ (s : List Slot). length s) e in
+    let all = length-take (length lent - first) (drop first lent) in
+    omega (arith, n, size, own, same, all, some)

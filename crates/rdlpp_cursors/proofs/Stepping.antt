@@ -1,5 +1,5 @@
 -- One step of open texts, by what stands at the front of the innermost.
-use Rattle.std.proofs.Common.{◌≡◌, ℕ, ◌+◌, ◌-◌, ◌<◌, ◌≤◌, false, List, [], ◌∷◌, length, take, drop, refl, sym, ap, subst, ◌∙◌, arith, Some}
+use Rattle.std.proofs.Common.{◌≡◌, ℕ, ◌+◌, ◌-◌, ◌<◌, ◌≤◌, false, List, [], ◌∷◌, length, take, drop, sym, ap, subst, ◌∙◌, arith, Some}
 use Rattle.std.proofs.lemmas.List.{length-take}
 use Rattle.rdlpp_scan.specs.declared.token.Kind.{Kind}
 use Rattle.rdlpp_scan.specs.declared.token.Kind.TheVariants.{Name, BareBackquote}
@@ -49,7 +49,7 @@ step-run line depth texts x below n place h f p rules s m u =
     (ap (λ (md : Mode). run_len (source_formals texts (front_source (x ∷ below))) (tokens_from md 0 (open_bytes texts x below)) (open_bytes texts x below)) mode ∙ f.2) f.0)
 
 -- the kind of the first token
-kind-first : (texts : Texts) (x : Open) (below : List Open) (kind : Kind) → x.part.mode ≡ Plain → (token_of Plain (open_bytes texts x below)).kind ≡ kind
+pub kind-first : (texts : Texts) (x : Open) (below : List Open) (kind : Kind) → x.part.mode ≡ Plain → (token_of Plain (open_bytes texts x below)).kind ≡ kind
     → first_kind texts x below ≡ kind
 unfolding first_kind
 kind-first texts x below kind m e = ap (λ (md : Mode). (token_of md (open_bytes texts x below)).kind) m ∙ e
@@ -66,7 +66,7 @@ step-bare line depth texts x below new fault h f k w rules s m u =
     ∙ sym (ap (λ c. SlotStops [] (fault_at c line (place_bytes texts fault.word) s)) k ∙ ap (λ (bytes : List ℕ). SlotStops [] (fault_at NoName line bytes s)) w))
 
 -- the bytes of the first token
-bytes-first : (texts : Texts) (x : Open) (below : List Open) (len : ℕ) → x.part.mode ≡ Plain → (token_of Plain (open_bytes texts x below)).len ≡ len
+pub bytes-first : (texts : Texts) (x : Open) (below : List Open) (len : ℕ) → x.part.mode ≡ Plain → (token_of Plain (open_bytes texts x below)).len ≡ len
     → first_bytes texts x below ≡ take len (open_bytes texts x below)
 unfolding first_bytes
 bytes-first texts x below len m e =
@@ -74,7 +74,7 @@ bytes-first texts x below len m e =
     ∙ ap (λ (n : ℕ). take n (open_bytes texts x below)) e
 
 -- behind a first token of a kind that closes, the open text goes on as plain text
-first-moved : (texts : Texts) (x : Open) (below : List Open) (len : ℕ) → x.part.mode ≡ Plain → opens_mode (token_of Plain (open_bytes texts x below)).kind ≡ false
+pub first-moved : (texts : Texts) (x : Open) (below : List Open) (len : ℕ) → x.part.mode ≡ Plain → opens_mode (token_of Plain (open_bytes texts x below)).kind ≡ false
     → (token_of Plain (open_bytes texts x below)).len ≡ len → first_behind texts x below ≡ open_behind x len Plain
 unfolding first_behind
 first-moved texts x below len m k e =
@@ -84,7 +84,7 @@ first-moved texts x below len m k e =
     ∙ ap (λ (n : ℕ). open_behind x n Plain) e
 
 -- a name closes
-name-closes : (kind : Kind) → kind ≡ Name → opens_mode kind ≡ false
+pub name-closes : (kind : Kind) → kind ≡ Name → opens_mode kind ≡ false
 unfolding opens_mode
 name-closes kind e = ap (λ (k : Kind). opens_mode k) e
 
@@ -126,14 +126,7 @@ step-formal_deep line depth texts x below len place new fault h f deep k w rules
 
 -- the texts around the innermost are sound
 pub sound-tail : (texts : Texts) (x : Open) (below : List Open) → AreSound texts (x ∷ below) → AreSound texts below
-sound-tail texts x below h = record { are_open = ((h.are_open).1).1; are_inside = (((h.are_inside).1).1).1 }
-
--- so are open texts of which the innermost goes on at a place
-pub sound-moved : (texts : Texts) (opens : List Open) (at : ℕ) → AreSound texts opens → AreSound texts (moved_to at opens)
-unfolding moved_to
-sound-moved texts [] at h = h
-sound-moved texts (x ∷ below) at h =
-    record { are_open = h.are_open; are_inside = ((h.are_inside).0, (((h.are_inside).1).0, (refl, (((h.are_inside).1).1).1))) }
+sound-tail texts x below h = record { are_open = ((h.are_open).1).1; are_inside = (((h.are_inside).1).1).1; are_kept = ((h.are_kept).1).1 }
 
 -- a step by a look: nothing is left
 pub look-ended : (line depth : ℕ) (texts : Texts) (opens : List Open) (look : Look) → AreSound texts opens → IsLook texts opens look → look.front ≡ front.Ended

@@ -2,21 +2,18 @@
 -- A definition that names no source is this project's own.
 use Rattle.std.specs.Prelude.{◌≡◌, ℕ, ◌+◌, ◌*◌, ◌≤◌, ◌==◌, Bool, false, List, [], ◌∷◌, map, length, take, drop, vec_capacity, Vec}
 use Rattle.rdlpp_scan.specs.declared.token.Mode.TheVariants.{Plain}
-use Rattle.rdlpp_meaning.specs.Opens.{Part, OpenKind, OpenBody, OpenActual, OpenDefault, Open}
-use Rattle.rdlpp_cursors.specs.declared.range.Range.{Range}
+use Rattle.rdlpp_meaning.specs.Opens.{OpenKind, OpenBody, OpenActual, OpenDefault, Open}
+use Rattle.rdlpp_calls.specs.BoundCalls.{range_part}
+use Rattle.rdlpp_calls.specs.declared.bindings.Range.{Range}
 use Rattle.rdlpp_cursors.specs.declared.place.TextSource.{TextSource}
 use Rattle.rdlpp_cursors.specs.declared.place.TextSource.TheVariants as source
 use Rattle.rdlpp_cursors.specs.declared.slot.Slot.{Slot}
 use Rattle.rdlpp_cursors.specs.declared.slot.SlotKind.{SlotKind}
 use Rattle.rdlpp_cursors.specs.declared.slot.SlotKind.TheVariants.{Body, Actual, Default}
 
--- a range as a part of a text that is read as plain text
-abbrev pub part_of : Range → Part
-part_of r = record { from = r.from; end = r.to; mode = Plain }
-
 -- what a slot's text is, where these ranges are bound when it is the innermost: those from its first one on are its own
 abbrev pub kind_of : SlotKind → List Range → OpenKind
-kind_of (Body id first) bindings = OpenBody id (map part_of (drop first bindings))
+kind_of (Body id first) bindings = OpenBody id (map range_part (drop first bindings))
 kind_of Actual bindings = OpenActual
 kind_of (Default id place) bindings = OpenDefault id place
 
@@ -63,12 +60,12 @@ unfoldable pub bound_by : List Open → ℕ
 bound_by [] = 0
 bound_by (x ∷ below) = bound_in x.kind + bound_by below
 
--- how the slots and the ranges lie: the open texts stand from `first` on, and there is room for the ranges of as many bodies
--- as there are slots (source: this project's profile)
+-- how the slots and the ranges lie: the open texts stand from `first` on, and there is room for the ranges of one body more than
+-- there are slots, since a call is bound before a slot is sought (source: this project's profile)
 pub record IsStack {A : Type 0} (slots : List Slot) (first : ℕ) (bindings : Vec Range A) : Type 0 where
   pub inside : first ≤ length slots
   pub laid : AreLaid (drop first slots) bindings.items
-  pub room : 255 * length slots ≤ vec_capacity bindings
+  pub room : 255 * (length slots + 1) ≤ vec_capacity bindings
 
 -- what is no body
 abbrev pub IsNoBody : SlotKind → Type 0

@@ -5,15 +5,23 @@ use Rattle.std.specs.List.{AllByRecursion}
 use Rattle.rdlpp_scan.specs.declared.token.Mode.TheVariants.{Plain}
 use Rattle.rdlpp_table.specs.Table.{Macro}
 use Rattle.rdlpp_table.specs.View.{macro_at, formals_of}
+use Rattle.rdlpp_meaning.specs.declared.fault.FaultKind.{FaultKind}
 use Rattle.rdlpp_meaning.specs.Outcome.{gives, fails, and_then}
 use Rattle.rdlpp_meaning.specs.State.{Rules, State, fault_at}
 use Rattle.rdlpp_meaning.specs.Cursors.{left}
 use Rattle.rdlpp_meaning.specs.CursorWork.{cursors_work, IsCountedMacro, IsCountedCursor}
 use Rattle.rdlpp_meaning.specs.Slots.{cursors_of}
-use Rattle.rdlpp_meaning.specs.Opens.{OpenKind, OpenBody, OpenActual, OpenDefault, Open, Texts, text_around, slots_of, AreOpen}
-use Rattle.rdlpp_cursors.specs.Places.{place_bytes}
+use Rattle.rdlpp_meaning.specs.Opens.{OpenKind, OpenBody, OpenActual, OpenDefault, Open, Texts, scope_text, text_around, part_tokens, slots_of, AreOpen}
+use Rattle.rdlpp_calls.specs.BoundCalls.{KeepsAll}
+use Rattle.rdlpp_cursors.specs.Opened.{CursorsView}
+use Rattle.rdlpp_cursors.specs.Places.{place_bytes, IsPlaced}
+use Rattle.rdlpp_cursors.specs.declared.place.TextSource.TheVariants.{Arguments}
 use Rattle.rdlpp_cursors.specs.declared.step.CursorStep.{CursorStep}
 use Rattle.rdlpp_cursors.specs.declared.step.CursorStep.TheVariants.{Lends, Silent, Refused}
+
+-- a fault without a word
+abbrev pub wordless : FaultKind → CursorStep
+wordless kind = Refused (record { kind = kind; word = record { source = Arguments; from = 0; end = 0 } })
 
 -- open texts go on to others over some bytes: what remained is the bytes and what remains, and the work left, in which each text
 -- has a digit, falls in any base that has the digits
@@ -50,7 +58,33 @@ AreInside texts [] = Unit
 AreInside texts (x ∷ below) =
     IsKnown texts.macros x.kind × ((x.part.end ≤ length (text_around texts x.kind x.home below)) × ((x.part.mode ≡ Plain) × AreInside texts below))
 
--- what holds of open texts between steps: their homes are further out, their parts lie in their texts, and so do they
+-- no call in the actuals of a body, which lie in a text, drops a token
+abbrev pub KeepActuals : List ℕ → OpenKind → Type 0
+KeepActuals text (OpenBody id parts) = AllByRecursion (λ part. KeepsAll (part_tokens text part)) parts
+KeepActuals text OpenActual = Unit
+KeepActuals text (OpenDefault id place) = Unit
+
+-- no call in what is left of an open text drops a token, nor one in its actuals (source: this project's profile)
+abbrev pub AreKept : Texts → List Open → Type 0
+AreKept texts [] = Unit
+AreKept texts (x ∷ below) =
+    KeepsAll (part_tokens (text_around texts x.kind x.home below) x.part) × (KeepActuals (scope_text texts below x.home) x.kind × AreKept texts below)
+
+-- what holds of open texts between steps: their homes are further out, their parts lie in their texts, and so do they, and no
+-- call in them drops a token
 pub record AreSound (texts : Texts) (opens : List Open) : Type 0 where
   pub are_open : AreOpen texts opens
   pub are_inside : AreInside texts opens
+  pub are_kept : AreKept texts opens
+
+-- nothing has opened or moved behind a fault
+unfoldable pub StaysRefused : CursorsView → CursorStep → CursorsView → Type 0
+StaysRefused old (Lends place) new = Unit
+StaysRefused old Silent new = Unit
+StaysRefused old (Refused fault) new = new ≡ old
+
+-- the bytes that a step lends lie in their text, and so does the word of its fault
+unfoldable pub IsPlacedStep : Texts → CursorStep → Type 0
+IsPlacedStep texts (Lends place) = IsPlaced texts place
+IsPlacedStep texts Silent = Unit
+IsPlacedStep texts (Refused fault) = IsPlaced texts fault.word

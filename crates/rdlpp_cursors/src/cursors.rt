@@ -1,23 +1,29 @@
 // The stack of open texts.
-ghost use Rattle.std.specs.Prelude.{[], length, IfOk, MatchOption, List, None, ℕ, ◌==◌, ◌<◌, ◌≡◌, ◌≤◌, ◌∷◌, ◌^◌, drop};
+ghost use Rattle.std.specs.Prelude.{[], length, IfOk, List, None, ℕ, ◌==◌, ◌<◌, ◌≡◌, ◌≤◌, ◌∷◌, ◌^◌, drop, nat_le};
 ghost use Rattle.rdlpp_scan.specs.declared.token.Mode.TheVariants.{Plain};
 ghost use Rattle.std.specs.Option.{option_map};
 ghost use Rattle.rdlpp_table.specs.View.{macro_at};
 ghost use Rattle.rdlpp_meaning.specs.Opens.{open_body, OpenBody};
-ghost use Rattle.rdlpp_cursors.specs.Fronts.{IsHeld, IsLook};
+ghost use Rattle.rdlpp_cursors.specs.Digits.{IsFalling};
+ghost use Rattle.rdlpp_cursors.specs.Fronts.{IsLook};
 ghost use Rattle.rdlpp_cursors.specs.Opened.{bound_by, kept_by, moved_to, open_of, IsNoBody};
 ghost use Rattle.rdlpp_cursors.specs.Places.{texts_of};
-ghost use Rattle.rdlpp_cursors.specs.Steps.{AreSound, IsStep};
+ghost use Rattle.rdlpp_cursors.specs.Steps.{AreSound, IsStep, StaysRefused, IsPlacedStep};
+
+mod call;
+mod usage;
 
 use crate::front::{Front, Look, look_at};
-use crate::place::{TextPlace, TextSource};
-use crate::range::Range;
+use crate::place::TextPlace;
 use crate::slot::{Slot, SlotKind};
-use crate::step::{CursorFault, CursorStep};
+use crate::step::{CursorStep, wordless};
+use rdlpp_calls::Range;
 use rdlpp_meaning::FaultKind;
 use rdlpp_table::{MacroId, Table};
 use std::alloc::{AllocError, Global};
 use std::marker::Model;
+
+mod formal;
 
 /// The open texts of a usage in a source, the innermost first: bodies, actuals and default texts, as ranges of bytes.
 ///
@@ -73,7 +79,7 @@ impl Cursors {
             kind: SlotKind::Actual,
         };
         let slots = vec![in alloc; closed; depth]?;
-        let bindings = Vec::with_capacity(alloc, depth * 255)?;
+        let bindings = Vec::with_capacity(alloc, (depth + 1) * 255)?;
         Ok(Cursors {
             slots,
             first: depth,
@@ -91,9 +97,17 @@ impl Cursors {
 
     /// How many texts are open.
     pub fn len(&self) -> usize
-        ensures { result ≡ length self.now.opens }
+        ensures value { result ≡ length self.now.opens }
+        ensures few { length self.now.opens ≤ self.now.depth }
     {
         self.slots.len() - self.first
+    }
+
+    /// The line of the usage in the source that opened them.
+    pub fn line(&self) -> u64
+        ensures { result ≡ self.now.line }
+    {
+        self.line
     }
 
     /// How many ranges the calls of the open bodies have bound.
@@ -102,6 +116,13 @@ impl Cursors {
     {
         let _first = self.first;
         self.bindings.len()
+    }
+
+    // Whether as many texts are open as there are slots.
+    fn is_full(&self) -> bool
+        ensures { result ≡ nat_le self.now.depth (length self.now.opens) }
+    {
+        self.first == 0
     }
 
     // Closes the innermost text, with the ranges that its call has bound.
@@ -175,46 +196,55 @@ impl Cursors {
         ensures opens { self.new ≡ record { opens = open_body (texts_of table.now.macros []) id [] 0 ∷ []; line = line; depth = self.old.depth } }
         ensures sound { (arguments : List ℕ) → AreSound (texts_of table.now.macros arguments) self.new.opens }
     {
+        let _macros = table.len();
         self.line = line;
         self.push_body(id, table.body(id).len(), 0);
     }
 
-    /// One step of the innermost text, unless the name of a formal or a usage stands at its front: it lends the longest run
-    /// of bytes that are copied, in one piece as they lie, or closes a text of which nothing is left. `arguments` is what is
-    /// kept of the call in the source. `None`, and nothing changes, where the name of a formal or a usage stands there.
+    /// One step of the innermost text, by what stands at its front. `arguments` is what is kept of the call in the source.
     ///
-    /// A backquote without a name is a fault (`BareBackquote`), and nothing changes then.
-    pub fn pass(&mut self, table: &Table, arguments: &[u8]) -> Option<CursorStep>
+    /// It lends the longest run of bytes that are copied, in one piece as they lie. It opens the actual of a formal, its default
+    /// where the actual is empty, or the body of a macro, and goes on behind the name or the call. Or it closes a text of which
+    /// nothing is left.
+    ///
+    /// # Faults
+    /// They are told at the line of the usage in the source. Nothing changes then, and the same fault comes again.
+    /// - `BareBackquote` for a backquote without a name (this project's profile).
+    /// - `DirectiveInText` for the name of a directive, with that name as its word (this project's profile).
+    /// - `UndefinedMacro` for a name that no macro has, with that name (IEEE 1364-2001, `define`).
+    /// - `RecursiveMacro` for a usage that is written in the body of its own macro, or in a text that is written there, with that
+    ///   name (IEEE 1364-2001, `define`); an actual is written where its call is.
+    /// - `ArgumentsMissing`, `ArgumentsOpen` and `ArgumentCount` for a call of a macro with a list, with that name
+    ///   (IEEE 1364-2001, `define`).
+    /// - `DepthPassed` where as many texts are open as there is room for, without a word (this project's profile).
+    pub fn step(&mut self, table: &Table, arguments: &[u8]) -> CursorStep
         requires some { 0 < length self.old.opens }
         requires sound { AreSound (texts_of table.now.macros arguments.now) self.old.opens }
-        ensures step { MatchOption result ((self.new ≡ self.old) × IsHeld (texts_of table.now.macros arguments.now) self.old.opens) (λ step. IsStep self.old.line self.old.depth (texts_of table.now.macros arguments.now) self.old.opens step self.new.opens) }
+        ensures step { IsStep self.old.line self.old.depth (texts_of table.now.macros arguments.now) self.old.opens result self.new.opens }
         ensures sound { AreSound (texts_of table.now.macros arguments.now) self.new.opens }
         ensures kept { (self.new.line ≡ self.old.line) × (self.new.depth ≡ self.old.depth) }
+        ensures digits { IsFalling self.old.opens result self.new.opens }
+        ensures refused { StaysRefused self.old result self.new }
+        ensures placed { IsPlacedStep (texts_of table.now.macros arguments.now) result }
     {
         let look = self.look(table, arguments);
         match look.front {
             Front::Ended => {
                 self.close();
-                Some(CursorStep::Silent)
+                CursorStep::Silent
             }
             Front::Run(len) => {
                 let end = look.from + len;
                 self.move_to(end);
-                Some(CursorStep::Lends(TextPlace {
+                CursorStep::Lends(TextPlace {
                     source: look.source,
                     from: look.from,
                     end,
-                }))
+                })
             }
-            Front::Bare => Some(CursorStep::Refused(CursorFault {
-                kind: FaultKind::BareBackquote,
-                word: TextPlace {
-                    source: TextSource::Arguments,
-                    from: 0,
-                    end: 0,
-                },
-            })),
-            _ => None,
+            Front::Formal { len, place } => self.formal(table, arguments, &look, len, place),
+            Front::Usage(len) => self.usage(table, arguments, &look, len),
+            Front::Bare => wordless(FaultKind::BareBackquote),
         }
     }
 }

@@ -9,9 +9,9 @@ ghost use Rattle.rdlpp_cursors.specs.Places.{source_formals, source_text, texts_
 ghost use Rattle.rdlpp_cursors.specs.Steps.{AreSound};
 
 use crate::place::TextSource;
-use crate::range::Range;
 use crate::scopes::{front_source, text_of};
 use crate::slot::Slot;
+use rdlpp_calls::Range;
 use rdlpp_scan::{Kind, Mode, first_token};
 use rdlpp_table::{Stop, Table};
 

@@ -4,14 +4,13 @@
 mod cursors;
 mod front;
 mod place;
-mod range;
 mod scopes;
 mod slot;
 mod step;
 
 pub use cursors::Cursors;
 pub use place::{TextPlace, TextSource};
-pub use range::Range;
+pub use scopes::text_at;
 pub use step::{CursorFault, CursorStep};
 
 #[cfg(test)]

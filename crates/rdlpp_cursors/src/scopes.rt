@@ -4,8 +4,8 @@ ghost use Rattle.std.specs.List.{list_any};
 ghost use Rattle.std.specs.Option.{option_map};
 ghost use Rattle.rdlpp_table.specs.View.{formal_at, formals_of, macro_at};
 ghost use Rattle.rdlpp_meaning.specs.Opens.{open_standing, part_at, Part};
-ghost use Rattle.rdlpp_cursors.specs.Opened.{is_body_of, open_of, opens_of, outer_of, part_of, slot_source, AreHomedSlots};
-ghost use Rattle.rdlpp_cursors.specs.Places.{source_formals, source_text, texts_of, IsSource};
+ghost use Rattle.rdlpp_cursors.specs.Opened.{is_body_of, open_of, opens_of, outer_of, slot_source, AreHomedSlots};
+ghost use Rattle.rdlpp_cursors.specs.Places.{place_bytes, source_formals, source_text, texts_of, IsPlaced, IsSource};
 ghost use Rattle.rdlpp_cursors.specs.Scopes.{
   found_source,
   found_standing,
@@ -15,11 +15,12 @@ ghost use Rattle.rdlpp_cursors.specs.Scopes.{
   writer_ids,
   AreBound,
 };
-ghost use Rattle.rdlpp_cursors.specs.declared.range.Range.{Range as Bound};
+ghost use Rattle.rdlpp_calls.specs.BoundCalls.{range_part};
+ghost use Rattle.rdlpp_calls.specs.declared.bindings.Range.{Range as Bound};
 
-use crate::place::TextSource;
-use crate::range::Range;
+use crate::place::{TextPlace, TextSource};
 use crate::slot::{Slot, SlotKind};
+use rdlpp_calls::Range;
 use rdlpp_table::{MacroId, Table};
 
 // The bytes of a text.
@@ -33,6 +34,17 @@ pub(crate) fn text_of<'a>(table: &'a Table, arguments: &'a [u8], source: TextSou
         TextSource::Body(id) => table.body(id),
         TextSource::Default { id, place } => table.default_text(id, place),
     }
+}
+
+/// The bytes at a place of a text, as a step lends them or tells the word of a fault. `arguments` is what is kept of the call in
+/// the source.
+#[tactic(auto, unfolding(crate::specs::Places::place_bytes))]
+pub fn text_at<'a>(table: &'a Table, arguments: &'a [u8], place: TextPlace) -> &'a [u8]
+    requires { IsPlaced (texts_of table.now.macros arguments.now) place }
+    ensures { result.now ≡ place_bytes (texts_of table.now.macros arguments.now) place }
+{
+    let text = text_of(table, arguments, place.source);
+    &text[place.from..place.end]
 }
 
 // The scope of what is written in the innermost open text: an actual is no scope of its own.
@@ -113,7 +125,7 @@ fn standing_of(
 ) -> Slot
     requires id { id < length table.now.macros }
     requires place { place < length (formals_of (macro_at table.now.macros id)) }
-    ensures { (own : List Bound) (parts : List Part) → part_at parts place ≡ part_of range → open_of result own ≡ open_standing (formals_of (macro_at table.now.macros id)) id scope home parts place }
+    ensures { (own : List Bound) (parts : List Part) → part_at parts place ≡ range_part range → open_of result own ≡ open_standing (formals_of (macro_at table.now.macros id)) id scope home parts place }
 {
     let end = default_len(table, id, place, range);
     if end > 0 {

@@ -1,6 +1,8 @@
 // What one step of open texts comes to.
+ghost use Rattle.std.specs.Prelude.{◌≡◌};
+ghost use Rattle.rdlpp_cursors.specs.Steps.{wordless};
 
-use crate::place::TextPlace;
+use crate::place::{TextPlace, TextSource};
 use rdlpp_meaning::FaultKind;
 
 /// A fault in an open text, which is told at the line of the usage in the source.
@@ -21,4 +23,18 @@ pub enum CursorStep {
     Silent,
     /// A fault ends the texts.
     Refused(CursorFault),
+}
+
+// A fault without a word.
+pub(crate) fn wordless(kind: FaultKind) -> CursorStep
+    ensures { result ≡ wordless kind }
+{
+    CursorStep::Refused(CursorFault {
+        kind,
+        word: TextPlace {
+            source: TextSource::Arguments,
+            from: 0,
+            end: 0,
+        },
+    })
 }

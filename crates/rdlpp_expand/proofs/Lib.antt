@@ -17,3 +17,4 @@ pub mod LineSteps
 pub mod IncludeSteps
 pub mod Cuts
 pub mod RunFacts
+pub mod CursorWork

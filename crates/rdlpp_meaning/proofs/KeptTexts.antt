@@ -2,7 +2,7 @@
 use Rattle.std.proofs.Common.{◌≡◌, ℕ, zero, suc, ◌+◌, Bool, true, false, not, cond, List, [], ◌∷◌, ◌++◌, map, filter, length, take, drop, All, refl, sym, ap, ◌∙◌, subst, append_assoc}
 use Rattle.std.specs.List.{concat}
 use Rattle.std.proofs.lemmas.Bool.{cond_both, false≢true}
-use Rattle.std.proofs.lemmas.List.Elements.{All-nil, All-cons, All-append, All-weaker}
+use Rattle.std.proofs.lemmas.List.Elements.{All-nil, All-cons, All-append, All-map, All-weaker, filter_passes}
 use Rattle.rdlpp_scan.specs.Comments.{is_line_comment, other_tokens, token_texts, other_texts, without_line_comments}
 use Rattle.rdlpp_scan.specs.declared.token.Directive.{Directive}
 use Rattle.rdlpp_scan.specs.declared.token.Kind.{Kind}
@@ -180,3 +180,10 @@ kept_call_text c m opened line bs ts ks used e closed =
     ∙ ap (λ (vs : List SourceToken). text_tokens Plain (bytes_of vs)) (sym same)
     ∙ kept_text Plain (bytes_of us) us cut.front
     ∙ same
+
+-- and each of them is kept
+pub kept_call_keeps : (ts ks : List SourceToken) (used : ℕ) → IsClosed source_role ts ks used → All (λ t. is_kept (token_role t) ≡ true) (map unlined ks)
+kept_call_keeps ts ks used closed =
+    let P : SourceToken → Type 0 = λ t. is_kept (token_role t) ≡ true in
+    let all : All P ks = subst (All P) (sym (closed.keeps ∙ kept_same closed.inner)) (filter_passes (λ (t : SourceToken). is_kept (token_role t)) closed.inner) in
+    All-map P unlined ks (All-weaker P (λ t. P (unlined t)) (λ t e. ap is_kept (unlined_role t) ∙ e) ks all)

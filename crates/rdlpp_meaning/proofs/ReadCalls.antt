@@ -1,6 +1,6 @@
 -- A call in a source that was read token by token is the call of the definition, with the parts of the kept bytes.
 use Rattle.std.proofs.Common.{◌≡◌, ◌≤◌, ℕ, zero, suc, ◌+◌, ◌-◌, Bool, true, false, List, [], ◌∷◌, ◌++◌, map, length, drop, refl, sym, ap, ◌∙◌, subst, arith}
-use Rattle.std.specs.Prelude.{nat_le}
+use Rattle.std.specs.Prelude.{All, nat_le}
 use Rattle.std.proofs.lemmas.List.{length-append}
 use Rattle.std.proofs.lemmas.Bool.{false≢true}
 use Rattle.rdlpp_scan.specs.declared.token.Mode.{Mode}
@@ -8,7 +8,7 @@ use Rattle.rdlpp_scan.specs.SourceTokens.{SourceToken, Course, source_tokens}
 use Rattle.rdlpp_meaning.specs.declared.fault.FaultKind.{FaultKind}
 use Rattle.rdlpp_meaning.specs.Actuals.{Role, Call, Lacking, Broke, map_call, call_of, token_role}
 use Rattle.rdlpp_meaning.specs.CallReading.{Reading, ReadRefused, ReadStopped, ReadClosed, read, reading_of}
-use Rattle.rdlpp_meaning.specs.CallScan.{Before, Scanned, Refused, Stopped, Closed, scan, call_of_scan, source_role}
+use Rattle.rdlpp_meaning.specs.CallScan.{Before, Scanned, Refused, Stopped, Closed, scan, call_of_scan, is_kept, source_role}
 use Rattle.rdlpp_meaning.specs.Cursors.{kept}
 use Rattle.rdlpp_meaning.specs.Expansion.{bytes_of}
 use Rattle.rdlpp_meaning.specs.Resumed.{leading}
@@ -16,7 +16,7 @@ use Rattle.rdlpp_meaning.specs.Substitution.{body_tokens}
 use Rattle.rdlpp_meaning.specs.TextTokens.{unlined}
 use Rattle.rdlpp_meaning.proofs.CallReadings.{read_is_scan}
 use Rattle.rdlpp_meaning.proofs.ClosedScans.{closed_scan}
-use Rattle.rdlpp_meaning.proofs.KeptTexts.{kept_call_text}
+use Rattle.rdlpp_meaning.proofs.KeptTexts.{kept_call_keeps, kept_call_text}
 use Rattle.rdlpp_meaning.proofs.SourceScans.{call_of_source}
 use Rattle.rdlpp_meaning.proofs.UnlinedTokens.{unlined_role, closed_call-map}
 
@@ -57,12 +57,13 @@ read_stopped room ts f line e =
     call_of_source kept room ts
     ∙ stopped_reading ts (scan source_role kept Before room ts) f line (sym (read_is_scan ts Before room) ∙ e)
 
--- a call in a source whose reading closed: the kept bytes have its parts, but for lines, and behind it are the tokens behind
--- those that it took
+-- a call in a source whose reading closed: the kept bytes have its parts, but for lines, a call keeps all their tokens, and behind it
+-- are the tokens behind those that it took
 pub record IsReadCall (room : ℕ) (ts : List SourceToken) (bytes : List ℕ) (behind : List SourceToken) : Type 0 where
   pub used : ℕ
   pub call : map_call unlined (call_of token_role kept room (leading ts)) ≡ call_of_scan token_role 0 (Closed (body_tokens bytes) used)
   pub rest : drop used ts ≡ behind
+  pub keeps : All (λ t. is_kept (token_role t) ≡ true) (body_tokens bytes)
 
 -- where reading closes, the parts of the call are those of the kept bytes, but for lines
 pub read_closed : (c : Course) (m : Mode) (opened line : ℕ) (bs : List ℕ) (room : ℕ) (ts : List SourceToken) (bytes : List ℕ) (behind : List SourceToken)
@@ -83,4 +84,5 @@ read_closed c m opened line bs room ts bytes behind source e =
           ∙ sym (closed_call-map token_role token_role unlined unlined_role 0 ks used)
           ∙ ap (λ (us : List SourceToken). call_of_scan token_role 0 (Closed us used)) (sym text);
       rest = p.1.1.1.1;
+      keeps = subst (All (λ (t : SourceToken). is_kept (token_role t) ≡ true)) (sym text) (kept_call_keeps ts ks used closed);
     }

@@ -1,7 +1,7 @@
 use Rattle.std.proofs.Common.{◌≤◌, ◌≡◌, length, List}
 use Rattle.std.specs.List.{list_any}
 use Rattle.std.specs.Prelude.{◌==◌}
-use Rattle.rdlpp_cursors.specs.declared.range.Range.{Range}
+use Rattle.rdlpp_calls.specs.declared.bindings.Range.{Range}
 use Rattle.rdlpp_cursors.specs.Opened.{opens_of}
 use Rattle.rdlpp_cursors.specs.Scopes.{writer_ids}
 use Rattle.rdlpp_cursors.proofs.scopes.is_written_in.Given as goal

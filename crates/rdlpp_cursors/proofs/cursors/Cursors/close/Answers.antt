@@ -1,5 +1,5 @@
 use Rattle.std.proofs.Common.{◌<◌, ◌+◌, List, ℕ, length, drop, ap, refl, ◌∙◌, arith}
-use Rattle.rdlpp_cursors.specs.declared.range.Range.{Range}
+use Rattle.rdlpp_calls.specs.declared.bindings.Range.{Range}
 use Rattle.rdlpp_cursors.specs.Opened.{kept_by, opens_of}
 use Rattle.rdlpp_cursors.proofs.Stacking.{closed-opens, first-inside, ranges-count, some-open, stack-closed, view-is}
 use Rattle.rdlpp_cursors.proofs.cursors.Cursors.close.Goals as goal

@@ -17,4 +17,4 @@ returns-clause-opens c =
     (ap (λ (v : CursorsView). v.depth) c.self.view_is)
 
 pub returns-clause-sound : goal.returns-clause-sound
-returns-clause-sound c arguments = sound-opened _ arguments _ _ _ _ c.requires.id c.requires.plain (returns-clause-opens c)
+returns-clause-sound c arguments = sound-opened _ arguments _ _ _ _ c.len-macros.ensures.sound c.requires.id c.requires.plain (returns-clause-opens c)

@@ -1,0 +1,3 @@
+pub mod CallLeft
+pub mod UsageOpens
+pub mod UsageSteps

@@ -1,0 +1,195 @@
+-- A call that is read and bound, as a usage in a source.
+use Rattle.std.proofs.Common.{◌≡◌, ◌≢◌, ℕ, zero, suc, ◌+◌, ◌-◌, ◌<◌, ◌≤◌, Bool, true, false, List, [], ◌∷◌, ◌++◌, map, length, take, drop, Option, None, Some, refl, sym, ap, ◌∙◌, subst, arith}
+use Rattle.std.proofs.lemmas.Bool.{eqb-true, false≢true}
+use Rattle.std.specs.Prelude.{◌==◌}
+use Rattle.rdlpp_scan.specs.SourceTokens.{SourceToken}
+use Rattle.rdlpp_scan.specs.declared.token.Mode.TheVariants.{Plain}
+use Rattle.rdlpp_table.specs.Table.{Formal, Macro, macro_named}
+use Rattle.rdlpp_table.specs.View.{macro_at}
+use Rattle.rdlpp_calls.specs.BoundCalls.{KeepsAll, actuals_of, range_part, ranges_tokens}
+use Rattle.rdlpp_calls.specs.SourceBound.{OpensBound}
+use Rattle.rdlpp_calls.specs.declared.bindings.Range.{Range}
+use Rattle.rdlpp_calls.proofs.BoundSourceCalls.{source_bound, source_breaks, source_counted, source_lacks}
+use Rattle.rdlpp_meaning.specs.Actuals.{call_of, token_role}
+use Rattle.rdlpp_meaning.specs.Cursors.{Refuses, is_token_count, kept, left, token_usage_of_formals}
+use Rattle.rdlpp_meaning.specs.Meaning.{Passage, Progress, goes_on, leaves}
+use Rattle.rdlpp_meaning.specs.Opened.{Waiting}
+use Rattle.rdlpp_meaning.specs.Opens.{Open, open_body, slots_of}
+use Rattle.rdlpp_meaning.specs.Parts.{only_blanks}
+use Rattle.rdlpp_meaning.specs.Resumed.{leading}
+use Rattle.rdlpp_meaning.specs.State.{Rules, State, fault_at}
+use Rattle.rdlpp_meaning.specs.Slots.{cursors_of}
+use Rattle.rdlpp_meaning.specs.Outcome.{fails}
+use Rattle.rdlpp_meaning.specs.Substitution.{body_tokens}
+use Rattle.rdlpp_meaning.specs.declared.fault.FaultKind.{FaultKind}
+use Rattle.rdlpp_meaning.specs.declared.fault.FaultKind.TheVariants.{ArgumentCount}
+use Rattle.rdlpp_meaning.proofs.ReadCalls.{IsReadCall}
+use Rattle.rdlpp_read.specs.Buffer.{BufferView, EndsHeld, held_of, tokens_left, unused_of}
+use Rattle.rdlpp_read.specs.Files.{consumed_file, inner_buffer, with_inner}
+use Rattle.rdlpp_read.specs.declared.files.File.{File}
+use Rattle.rdlpp_arguments.specs.CallReads.{IsCallOf, MeansCall, ReadsCall, with_used}
+use Rattle.rdlpp_arguments.specs.Reads.{SparesCalls, all_built}
+use Rattle.rdlpp_arguments.specs.Store.{StoreView}
+use Rattle.rdlpp_arguments.specs.declared.reading.CallRead.TheVariants as call
+use Rattle.rdlpp_cursors.specs.Opened.{CursorsView}
+use Rattle.rdlpp_cursors.specs.Places.{texts_of}
+use Rattle.rdlpp_cursors.specs.Steps.{StaysRefused}
+use Rattle.rdlpp_cursors.specs.declared.step.CursorStep.{CursorStep}
+use Rattle.rdlpp_cursors.specs.declared.step.CursorStep.TheVariants.{Lends, Silent, Refused as Fault}
+use Rattle.rdlpp_front.specs.Fronts.{IsUsage, usage_name}
+use Rattle.rdlpp_front.specs.SourceLeft.{HoldsFront}
+use Rattle.rdlpp_front.proofs.Insides.{usage_inside}
+use Rattle.rdlpp_front.proofs.Stages.{nothing-stage}
+use Rattle.rdlpp_usages.specs.Usages.{BindsKept, ExpansionView, IsRun, RefusesCall, StaysAt, TellsCallUsage, TellsUsage, UsesCall, UsesSource, inner_left, texts_left}
+use Rattle.rdlpp_usages.specs.declared.expansion.Opening.{Opening}
+use Rattle.rdlpp_usages.specs.declared.expansion.Opening.TheVariants.{Opened, Refused, Broken, Failed}
+use Rattle.rdlpp_usages.proofs.CallLeft.{IsBehind, body_opens, call_opens, call_refused}
+
+-- where all is built, no call meets what isn't
+spares_all : SparesCalls all_built
+spares_all = λ bytes e. absurd (false≢true e)
+
+-- a call that was read, in a run with that limit on kept bytes
+read_call : (rules : Rules) (most : ℕ) (ts : List SourceToken) (bytes : List ℕ) (behind : List SourceToken) → rules.argument_bytes ≡ most
+    → IsCallOf most ts bytes behind → IsReadCall rules.argument_bytes ts bytes behind
+read_call rules most ts bytes behind limit c =
+    subst (λ (n : ℕ). IsReadCall n ts bytes behind) (sym limit) (record { used = c.used; call = c.call; rest = c.rest; keeps = c.keeps })
+
+-- a call that was read and bound opens its body
+pub kept_bound : {R : Type 0} (tells : Type 0) (unread : R → List ℕ) (most : ℕ) (macros : List Macro) (id line : ℕ) (bytes now : List ℕ) (c : CursorsView) (old new : BufferView R)
+    → MeansCall tells unread most bytes old new call.Closed → BindsKept macros id line bytes now Opened c
+    → TellsCallUsage tells unread most macros id Opened c.opens now old new
+kept_bound tells unread most macros id line bytes now c old new means binds =
+    record {
+      ranges = binds.ranges;
+      body = subst (λ (bs : List ℕ). c.opens ≡ open_body (texts_of macros bs) id (map range_part binds.ranges) 0 ∷ []) (sym binds.stays) binds.body;
+      bound = λ rules at name fs limit formals t.
+          let ts = tokens_left all_built unread old in
+          let behind = tokens_left all_built unread new in
+          subst (λ (bs : List ℕ). OpensBound rules at name ts (macro_at macros id) fs bs binds.ranges behind) (sym binds.stays)
+          (source_bound rules at name ts (macro_at macros id) fs bytes binds.ranges behind
+          (read_call rules most ts bytes behind limit (means all_built spares_all t)) (sym (binds.count fs formals)) binds.actuals);
+    }
+
+-- one that was read and isn't bound is refused
+pub kept_unbound : {R : Type 0} (tells : Type 0) (unread : R → List ℕ) (most : ℕ) (macros : List Macro) (id line : ℕ) (bytes now : List ℕ) (kind : FaultKind) (c : CursorsView) (old new : BufferView R)
+    → MeansCall tells unread most bytes old new call.Closed → BindsKept macros id line bytes now (Refused kind) c
+    → TellsCallUsage tells unread most macros id (Refused kind) c.opens now old new
+kept_unbound tells unread most macros id line bytes now kind c old new means binds =
+    λ rules at name fs limit formals t.
+    let ts = tokens_left all_built unread old in
+    let behind = tokens_left all_built unread new in
+    let m = macro_at macros id in
+    let read = means all_built spares_all t in
+    source_counted rules at name ts m fs bytes behind (read_call rules most ts bytes behind limit read) (sym (binds.count read.keeps fs formals))
+    ∙ ap (λ (k : FaultKind). Refuses k name at) (sym binds.kind_is)
+
+-- one that lacks something is refused
+pub call_lacks : {R : Type 0} (tells : Type 0) (unread : R → List ℕ) (most : ℕ) (macros : List Macro) (id : ℕ) (bytes now : List ℕ) (kind : FaultKind) (opens : List Open) (old new : BufferView R)
+    → MeansCall tells unread most bytes old new (call.Refused kind) → TellsCallUsage tells unread most macros id (Refused kind) opens now old new
+call_lacks tells unread most macros id bytes now kind opens old new means =
+    λ rules at name fs limit formals t.
+    let ts = tokens_left all_built unread old in
+    source_lacks rules at name ts (macro_at macros id) fs kind
+    (ap (λ (n : ℕ). call_of token_role kept n (leading ts)) limit ∙ means t)
+
+-- one with a broken token is refused for that
+pub call_breaks : {R : Type 0} (tells : Type 0) (unread : R → List ℕ) (most : ℕ) (macros : List Macro) (id : ℕ) (bytes now : List ℕ) (kind : FaultKind) (own : ℕ) (opens : List Open) (old new : BufferView R)
+    → MeansCall tells unread most bytes old new (call.Broken kind own) → TellsCallUsage tells unread most macros id (Broken kind own) opens now old new
+call_breaks tells unread most macros id bytes now kind own opens old new means =
+    λ rules at name fs limit formals t.
+    let ts = tokens_left all_built unread old in
+    source_breaks rules at name ts (macro_at macros id) fs kind own
+    (ap (λ (n : ℕ). call_of token_role kept n (leading ts)) limit ∙ means all_built spares_all t)
+
+-- the number of open texts that there may be
+deeper : (n : ℕ) → 0 < n → (d : ℕ) × (n ≡ suc d)
+deeper zero some = absurd (omega arith)
+deeper (suc d) some = (d, refl)
+
+-- a source of which a usage was used without a call
+pub behind_usage : {R : Type 0} (unread : R → List ℕ) (f : File R) (len : ℕ) → IsBehind unread f (consumed_file len 0 f) len []
+unfolding only_blanks
+behind_usage unread f len = record { blanks = refl; bytes = refl }
+
+-- what remains of open texts, in the terms of what is seen of them
+texts_same : (rules : Rules) (s : State) (macros : List Macro) (e : ExpansionView) (opens : List Open) (line d depth : ℕ) (next : State → Passage)
+    → e.opens ≡ opens → e.line ≡ line → e.depth ≡ depth → depth ≡ suc d
+    → goes_on (leaves (left rules s line (cursors_of (suc d) (slots_of (texts_of macros e.arguments) opens))) s) next ≡ goes_on (texts_left rules s macros e) next
+unfolding texts_left
+texts_same rules s macros e opens line d depth next o l same deep =
+    let remains : ℕ → ℕ → List Open → Passage = λ at n xs. goes_on (leaves (left rules s at (cursors_of n (slots_of (texts_of macros e.arguments) xs))) s) next in
+    ap (λ (n : ℕ). remains line n opens) (sym (same ∙ deep)) ∙ ap (λ (at : ℕ). remains at e.depth opens) (sym l) ∙ ap (λ (xs : List Open). remains e.line e.depth xs) (sym o)
+
+-- the macros of a run
+run_named : (rules : Rules) (s : State) (macros : List Macro) (depth most : ℕ) (name : List ℕ) (m : Macro) → IsRun rules s macros depth most → macro_named macros name ≡ Some m
+    → macro_named s.macros name ≡ Some m
+run_named rules s macros depth most name m run found = ap (λ (ms : List Macro). macro_named ms name) run.macros_are ∙ found
+
+module _ {R : Type 0} (rules : Rules) (unread : R → List ℕ) (ws : List Waiting) (os : List Progress) (s : State) (macros : List Macro) (depth most id len : ℕ) (f : File R) (outer : List (File R)) where
+  -- a usage without a list opens its body
+  pub usage_opens_body : (e : ExpansionView) (name : List ℕ)
+      → HoldsFront all_built f.buffer → f.buffer.mode ≡ Plain → IsUsage (held_of f.buffer) len → IsRun rules s macros depth most → 0 < depth
+      → macro_named macros (usage_name (held_of f.buffer) len) ≡ Some (macro_at macros id) → (macro_at macros id).formals ≡ None
+      → e.opens ≡ open_body (texts_of macros []) id [] 0 ∷ [] → e.line ≡ f.buffer.line → e.depth ≡ depth
+      → TellsUsage rules s unread ws os macros f.buffer.line name Opened e (f ∷ outer) (consumed_file len 0 f ∷ outer)
+  unfolding inner_left open_body
+  usage_opens_body e name holds plain usage run some found formals opens line same =
+      let d = deeper depth some in
+      let texts = texts_of macros e.arguments in
+      body_opens rules unread ws os f s len holds plain usage d.0 texts id (run.depth_is ∙ d.1)
+      (run_named rules s macros depth most (usage_name (held_of f.buffer) len) (macro_at macros id) run found) (run.built (macro_at macros id)) formals
+      ∙ texts_same rules s macros e (open_body texts id [] 0 ∷ []) f.buffer.line d.0 depth _ opens line same d.1
+
+  -- a call that is bound opens its body
+  pub usage_opens_call : (new : File R) (used : List ℕ) (e : ExpansionView) (tells : Type 0) (name : List ℕ) (fs : List Formal)
+      → HoldsFront all_built f.buffer → f.buffer.mode ≡ Plain → IsUsage (held_of f.buffer) len → IsRun rules s macros depth most → 0 < depth
+      → macro_named macros (usage_name (held_of f.buffer) len) ≡ Some (macro_at macros id) → (macro_at macros id).formals ≡ Some fs
+      → TellsCallUsage tells unread most macros id Opened e.opens e.arguments (consumed_file len 0 f).buffer new.buffer → IsBehind unread f new len used → tells
+      → e.line ≡ f.buffer.line → e.depth ≡ depth
+      → TellsUsage rules s unread ws os macros f.buffer.line name Opened e (f ∷ outer) (new ∷ outer)
+  unfolding inner_left
+  usage_opens_call new used e tells name fs holds plain usage run some found formals opens behind t line same =
+      let d = deeper depth some in
+      let texts = texts_of macros e.arguments in
+      let own = usage_name (held_of f.buffer) len in
+      call_opens rules unread ws os f s len holds plain usage d.0 texts id fs opens.ranges new used (run.depth_is ∙ d.1)
+      (run_named rules s macros depth most own (macro_at macros id) run found) (run.built (macro_at macros id)) formals
+      (opens.bound rules f.buffer.line own fs run.most_is formals t) behind
+      ∙ texts_same rules s macros e (open_body texts id (map range_part opens.ranges) 0 ∷ []) f.buffer.line d.0 depth _ opens.body line same d.1
+
+  -- a call that isn't is a fault
+  pub usage_refused : (kind : FaultKind) (word : List ℕ → List ℕ) (at : ℕ → ℕ) (tells : Type 0) (fs : List Formal)
+      → HoldsFront all_built f.buffer → f.buffer.mode ≡ Plain → IsUsage (held_of f.buffer) len → IsRun rules s macros depth most
+      → macro_named macros (usage_name (held_of f.buffer) len) ≡ Some (macro_at macros id) → (macro_at macros id).formals ≡ Some fs
+      → RefusesCall tells unread most macros id kind word at (consumed_file len 0 f).buffer → tells
+      → inner_left rules unread ws os (f ∷ outer) s ≡ leaves (fails (fault_at kind (at f.buffer.line) (word (usage_name (held_of f.buffer) len)) s)) s
+  unfolding inner_left
+  usage_refused kind word at tells fs holds plain usage run found formals refuses t =
+      let own = usage_name (held_of f.buffer) len in
+      call_refused rules unread ws os f s len holds plain usage (macro_at macros id) fs kind (word own) (at f.buffer.line)
+      (run_named rules s macros depth most own (macro_at macros id) run found) (run.built (macro_at macros id)) formals
+      (refuses rules f.buffer.line own fs run.most_is formals t)
+
+-- open texts of a cursor stack with kept bytes, as they are seen
+abbrev pub seen_of : CursorsView → StoreView → ExpansionView
+seen_of c arguments = record { opens = c.opens; arguments = arguments.bytes; line = c.line; depth = c.depth; most = arguments.most }
+
+-- behind a fault as many texts are open as before, so that there are some
+pub stays_empty : (step : CursorStep) (old new : ExpansionView) (c now : CursorsView) → StaysRefused c step now → c.opens ≡ old.opens → 0 < length old.opens
+    → (length now.opens == 0) ≡ true → StaysAt old step new
+unfolding StaysRefused StaysAt
+stays_empty (Lends place) old new c now stays same some empty = tt
+stays_empty Silent old new c now stays same some empty = tt
+stays_empty (Fault fault) old new c now stays same some empty =
+    let count : length now.opens ≡ length old.opens = ap (λ (v : CursorsView). length v.opens) stays ∙ ap length same in
+    let none = eqb-true (length now.opens) 0 empty in
+    absurd (omega arith)
+
+-- and nothing has changed
+pub stays_open : (step : CursorStep) (old new : ExpansionView) (c now : CursorsView) → StaysRefused c step now → (arguments : StoreView) → seen_of c arguments ≡ old
+    → new ≡ seen_of now arguments → StaysAt old step new
+unfolding StaysRefused StaysAt
+stays_open (Lends place) old new c now stays arguments is becomes = tt
+stays_open Silent old new c now stays arguments is becomes = tt
+stays_open (Fault fault) old new c now stays arguments is becomes = becomes ∙ ap (λ (v : CursorsView). seen_of v arguments) stays ∙ is

@@ -1,0 +1,45 @@
+use Rattle.std.proofs.Common.{◌≡◌, ◌<◌, ◌≤◌, ℕ, List, Bool, not, length, refl, sym, ap, ◌∙◌, subst}
+use Rattle.std.specs.Prelude.{is_some}
+use Rattle.rdlpp_read.specs.Buffer.{EndsHeld}
+use Rattle.rdlpp_front.proofs.Insides.{usage_inside}
+use Rattle.rdlpp_usages.specs.Usages.{is_opened}
+use Rattle.rdlpp_usages.proofs.UsageSteps.{body_means, call_means_by, is_list, no_list, uses_more, uses_name}
+use Rattle.rdlpp_usages.proofs.expansion.Expansion.open_usage.Goals as goal
+
+pub consume-requires-clause-inside : goal.consume-requires-clause-inside
+consume-requires-clause-inside g c = (usage_inside _ _ c.requires.held c.requires.usage).1
+
+pub returns-then-is_none-clause-uses : goal.returns-then-is_none-clause-uses
+returns-then-is_none-clause-uses g c =
+    let inside = usage_inside _ _ c.requires.held c.requires.usage in
+    rw c.consume.ensures.used (uses_name c.args.files.now.nest c.args.len c.requires.some inside.0 inside.1)
+
+pub returns-then-is_none-clause-sound : goal.returns-then-is_none-clause-sound
+returns-then-is_none-clause-sound g c = c.open_body.ensures.sound _
+
+pub returns-then-is_none-clause-means : goal.returns-then-is_none-clause-means
+returns-then-is_none-clause-means g c =
+    λ rules s ws os run t.
+    rw c.consume.ensures.used
+    (body_means rules g.S.Sources.unread ws os s c.args.table.now.macros c.args.self.now.depth c.args.self.now.most c.args.id c.args.len c.args.files.now.nest _ c.requires.some
+    (subst EndsHeld c.file.ensures.buffer c.file.ensures.ends) c.requires.held c.requires.plain c.requires.usage run c.requires.room c.requires.named
+    (no_list _ (ap is_some (sym c.arity.ensures) ∙ c.is_none.ensures ∙ ap (λ (b : Bool). not b) c.if-is_none.true))
+    (ap (λ v. v.opens) c.open_body.ensures.opens) (ap (λ v. v.line) c.open_body.ensures.opens ∙ c.line-line.ensures ∙ ap (λ b. b.line) c.file.ensures.buffer)
+    (ap (λ v. v.depth) c.open_body.ensures.opens ∙ ap (λ e. e.depth) c.self.view_is))
+
+pub returns-clause-uses : goal.returns-clause-uses
+returns-clause-uses g c =
+    let inside = usage_inside _ _ c.requires.held c.requires.usage in
+    uses_more _ _ c.open_call.result c.args.files.now.nest c.consume.new.self.nest c.open_call.new.files.nest
+    (rw c.consume.ensures.used (uses_name c.args.files.now.nest c.args.len c.requires.some inside.0 inside.1)) c.open_call.ensures.uses
+
+pub returns-clause-means : goal.returns-clause-means
+returns-clause-means g c =
+    λ rules s ws os run t.
+    call_means_by rules g.S.Sources.unread ws os s c.args.table.now.macros c.args.self.now.depth c.args.self.now.most c.args.id c.args.len _ c.open_call.result
+    c.args.files.now.nest c.consume.new.self.nest c.open_call.new.files.nest _ c.self.inside.arguments.most (ap (λ e. e.most) c.self.view_is) (ap (λ fs. fs.nest) c.consume.ensures.used) c.requires.some
+    (subst EndsHeld c.file.ensures.buffer c.file.ensures.ends) c.requires.held c.requires.plain c.requires.usage run c.requires.room c.requires.named
+    (is_list _ (ap is_some (sym c.arity.ensures) ∙ c.is_none.ensures ∙ ap (λ (b : Bool). not b) c.if-is_none.false))
+    c.open_call.ensures.tells c.open_call.ensures.uses t
+    (λ o. c.open_call.ensures.line (ap is_opened o) ∙ c.line-line.ensures ∙ ap (λ b. b.line) c.file.ensures.buffer)
+    (c.open_call.ensures.limits.0 ∙ ap (λ e. e.depth) c.self.view_is)

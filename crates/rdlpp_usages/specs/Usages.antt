@@ -1,0 +1,156 @@
+-- What a usage in a source comes to: open texts, and then what remains of the source behind it, or a fault.
+-- A definition that names no source is this project's own.
+use Rattle.std.specs.Prelude.{◌≡◌, ◌≢◌, ℕ, ◌+◌, ◌<◌, Bool, true, false, List, [], ◌∷◌, ◌++◌, ◌⊎◌, length, map, Some}
+use Rattle.rdlpp_table.specs.Table.{Formal, Macro}
+use Rattle.rdlpp_table.specs.View.{macro_at}
+use Rattle.rdlpp_calls.specs.BoundCalls.{KeepsAll, actuals_of, range_part, ranges_tokens}
+use Rattle.rdlpp_calls.specs.SourceBound.{OpensBound}
+use Rattle.rdlpp_calls.specs.declared.bindings.Range.{Range}
+use Rattle.rdlpp_meaning.specs.Cursors.{Refuses, is_token_count, kept, left, token_usage_of_formals}
+use Rattle.rdlpp_meaning.specs.Expansion.{bytes_of}
+use Rattle.rdlpp_meaning.specs.Meaning.{Passage, Progress, goes_on, leaves}
+use Rattle.rdlpp_meaning.specs.Opened.{Waiting}
+use Rattle.rdlpp_meaning.specs.Opens.{Open, open_body, slots_of}
+use Rattle.rdlpp_meaning.specs.Outcome.{fails, gives}
+use Rattle.rdlpp_meaning.specs.Resumed.{Live, leading}
+use Rattle.rdlpp_meaning.specs.Slots.{cursors_of}
+use Rattle.rdlpp_meaning.specs.State.{Rules, State, fault_at}
+use Rattle.rdlpp_meaning.specs.Substitution.{body_tokens}
+use Rattle.rdlpp_meaning.specs.declared.fault.FaultKind.{FaultKind}
+use Rattle.rdlpp_meaning.specs.declared.fault.FaultKind.TheVariants.{ArgumentCount}
+use Rattle.rdlpp_read.specs.Buffer.{BufferView, tokens_left, unused_of}
+use Rattle.rdlpp_read.specs.Files.{inner_buffer}
+use Rattle.rdlpp_read.specs.declared.files.File.{File}
+use Rattle.rdlpp_arguments.specs.CallReads.{with_used}
+use Rattle.rdlpp_arguments.specs.Reads.{all_built}
+use Rattle.rdlpp_cursors.specs.Opened.{CursorsView}
+use Rattle.rdlpp_cursors.specs.Places.{texts_of}
+use Rattle.rdlpp_cursors.specs.declared.step.CursorStep.{CursorStep}
+use Rattle.rdlpp_cursors.specs.declared.step.CursorStep.TheVariants.{Lends, Silent, Refused as Fault}
+use Rattle.rdlpp_front.specs.SourceLeft.{source_left}
+use Rattle.rdlpp_usages.specs.declared.expansion.Opening.{Opening}
+use Rattle.rdlpp_usages.specs.declared.expansion.Opening.TheVariants.{Opened, Refused, Broken, Failed}
+
+-- the open texts of a usage in a source, the innermost first, the kept bytes of its call, and its line; how many texts may be open, and how many bytes may be kept
+pub record ExpansionView : Type 0 where
+  pub opens : List Open
+  pub arguments : List ℕ
+  pub line : ℕ
+  pub depth : ℕ
+  pub most : ℕ
+
+-- nothing is kept of a call where no text is open
+pub record IsExpansion (opens : List Open) (arguments : List ℕ) : Type 0 where
+  pub lets_go : opens ≡ [] → arguments ≡ []
+
+-- a run goes on with these macros, and with these limits on open texts and on kept bytes; all macros are built
+pub record IsRun (rules : Rules) (s : State) (macros : List Macro) (depth most : ℕ) : Type 0 where
+  pub macros_are : s.macros ≡ macros
+  pub depth_is : rules.depth ≡ depth
+  pub most_is : rules.argument_bytes ≡ most
+  pub built : (m : Macro) → rules.unbuilt_macro m ≡ false
+
+-- what remains of the innermost source in live text, with these conditionals open in it, and then of those that wait
+unfoldable pub inner_left : {R : Type 0} → Rules → (R → List ℕ) → List Waiting → List Progress → List (File R) → State → Passage
+inner_left rules unread ws os [] s = leaves (gives []) s
+inner_left rules unread ws os (f ∷ outer) s = source_left rules all_built unread ws (Live os) f s
+
+-- what remains of open texts of a usage
+unfoldable pub texts_left : Rules → State → List Macro → ExpansionView → Passage
+texts_left rules s macros e = leaves (left rules s e.line (cursors_of e.depth (slots_of (texts_of macros e.arguments) e.opens))) s
+
+-- what a usage of a name at a line comes to in live text: its open texts and then what remains behind it, or a fault (IEEE 1364-2001, `define`)
+abbrev pub TellsUsage : {R : Type 0} → Rules → State → (R → List ℕ) → List Waiting → List Progress → List Macro → ℕ → List ℕ → Opening → ExpansionView → List (File R) → List (File R) → Type 0
+TellsUsage rules s unread ws os macros line name Opened e old new =
+    inner_left rules unread ws os old s ≡ goes_on (texts_left rules s macros e) (λ after. inner_left rules unread ws os new after)
+TellsUsage rules s unread ws os macros line name (Refused kind) e old new =
+    inner_left rules unread ws os old s ≡ leaves (fails (fault_at kind line name s)) s
+TellsUsage rules s unread ws os macros line name (Broken kind own) e old new =
+    inner_left rules unread ws os old s ≡ leaves (fails (fault_at kind own [] s)) s
+TellsUsage rules s unread ws os macros line name Failed e old new = Unit
+
+-- whether texts are open behind an answer
+abbrev pub is_opened : Opening → Bool
+is_opened Opened = true
+is_opened (Refused kind) = false
+is_opened (Broken kind line) = false
+is_opened Failed = false
+
+-- whether a read failed
+abbrev pub is_failed_opening : Opening → Bool
+is_failed_opening Opened = false
+is_failed_opening (Refused kind) = false
+is_failed_opening (Broken kind line) = false
+is_failed_opening Failed = true
+
+-- bytes of the innermost source were used, and nothing else of the sources changed
+pub record UsesSource {R : Type 0} (old new : List (File R)) : Type 0 where
+  pub used : List ℕ
+  pub some : 0 < length used
+  pub inner : new ≡ with_used (inner_buffer new) used old
+  pub unused : unused_of (inner_buffer new) + length used ≡ unused_of (inner_buffer old)
+
+-- a call is refused by the tokens in front of it, about a name or none, in each run with that limit on kept bytes
+abbrev pub RefusesCall : {R : Type 0} → Type 0 → (R → List ℕ) → ℕ → List Macro → ℕ → FaultKind → (List ℕ → List ℕ) → (ℕ → ℕ) → BufferView R → Type 0
+RefusesCall tells unread most macros id kind word at old =
+    (rules : Rules) (line : ℕ) (name : List ℕ) (fs : List Formal) → rules.argument_bytes ≡ most → (macro_at macros id).formals ≡ Some fs → tells
+    → token_usage_of_formals kept rules line name (leading (tokens_left all_built unread old)) (macro_at macros id) (Some fs) ≡ Refuses kind (word name) (at line)
+
+-- a call opens the body of its macro with ranges of the kept bytes as actuals, in each run with that limit on kept bytes
+pub record OpensCall {R : Type 0} (tells : Type 0) (unread : R → List ℕ) (most : ℕ) (macros : List Macro) (id : ℕ) (opens : List Open) (bytes : List ℕ) (old new : BufferView R) : Type 0 where
+  pub ranges : List Range
+  pub body : opens ≡ open_body (texts_of macros bytes) id (map range_part ranges) 0 ∷ []
+  pub bound : (rules : Rules) (line : ℕ) (name : List ℕ) (fs : List Formal) → rules.argument_bytes ≡ most → (macro_at macros id).formals ≡ Some fs → tells
+      → OpensBound rules line name (tokens_left all_built unread old) (macro_at macros id) fs bytes ranges (tokens_left all_built unread new)
+
+-- what the call behind the name of a macro comes to, by the tokens that remain of the source in front of it and behind it (IEEE 1364-2001, `define`)
+abbrev pub TellsCallUsage : {R : Type 0} → Type 0 → (R → List ℕ) → ℕ → List Macro → ℕ → Opening → List Open → List ℕ → BufferView R → BufferView R → Type 0
+TellsCallUsage tells unread most macros id Opened opens bytes old new = OpensCall tells unread most macros id opens bytes old new
+TellsCallUsage tells unread most macros id (Refused kind) opens bytes old new = RefusesCall tells unread most macros id kind (λ name. name) (λ line. line) old
+TellsCallUsage tells unread most macros id (Broken kind own) opens bytes old new = RefusesCall tells unread most macros id kind (λ name. []) (λ line. own) old
+TellsCallUsage tells unread most macros id Failed opens bytes old new = Unit
+
+-- bytes behind the name were used, and nothing else of the sources changed; where texts are open, the bytes that remained of the source are those and what
+-- remains
+pub record UsesCall {R : Type 0} (tells : Type 0) (unread : R → List ℕ) (opening : Opening) (old new : List (File R)) : Type 0 where
+  pub used : List ℕ
+  pub inner : new ≡ with_used (inner_buffer new) used old
+  pub unused : unused_of (inner_buffer new) + length used ≡ unused_of (inner_buffer old)
+  pub bytes : opening ≡ Opened → tells
+      → bytes_of (tokens_left all_built unread (inner_buffer old)) ≡ used ++ bytes_of (tokens_left all_built unread (inner_buffer new))
+
+-- a kept call was bound: the body of its macro is open with ranges of the kept bytes as actuals, which are as many as it wants
+pub record Binds (macros : List Macro) (id line : ℕ) (bytes now : List ℕ) (c : CursorsView) : Type 0 where
+  pub ranges : List Range
+  pub body : c.opens ≡ open_body (texts_of macros bytes) id (map range_part ranges) 0 ∷ []
+  pub stays : now ≡ bytes
+  pub line_is : c.line ≡ line
+  pub actuals : actuals_of bytes ≡ ranges_tokens bytes ranges
+  pub count : (fs : List Formal) → (macro_at macros id).formals ≡ Some fs → is_token_count fs (actuals_of bytes) ≡ true
+
+-- a kept call has more or fewer actuals than its macro wants: nothing is open or kept
+pub record Unbinds (macros : List Macro) (id : ℕ) (bytes now : List ℕ) (kind : FaultKind) (c : CursorsView) : Type 0 where
+  pub none : c.opens ≡ []
+  pub lets_go : now ≡ []
+  pub kind_is : kind ≡ ArgumentCount
+  pub count : KeepsAll (body_tokens bytes) → (fs : List Formal) → (macro_at macros id).formals ≡ Some fs → is_token_count fs (actuals_of bytes) ≡ false
+
+-- what binding a kept call comes to (IEEE 1364-2001, `define`)
+abbrev pub BindsKept : List Macro → ℕ → ℕ → List ℕ → List ℕ → Opening → CursorsView → Type 0
+BindsKept macros id line bytes now Opened c = Binds macros id line bytes now c
+BindsKept macros id line bytes now (Refused kind) c = Unbinds macros id bytes now kind c
+BindsKept macros id line bytes now (Broken kind own) c = ⊥
+BindsKept macros id line bytes now Failed c = ⊥
+
+-- open texts went on: the line and the limits stay, and so do the kept bytes, until no text is open
+pub record StaysOpen (old new : ExpansionView) : Type 0 where
+  pub line : new.line ≡ old.line
+  pub depth : new.depth ≡ old.depth
+  pub most : new.most ≡ old.most
+  pub arguments : (new.arguments ≡ old.arguments) ⊎ ((new.opens ≡ []) × (new.arguments ≡ []))
+
+-- nothing has changed behind a fault
+unfoldable pub StaysAt : ExpansionView → CursorStep → ExpansionView → Type 0
+StaysAt old (Lends place) new = Unit
+StaysAt old Silent new = Unit
+StaysAt old (Fault fault) new = new ≡ old

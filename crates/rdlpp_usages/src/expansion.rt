@@ -1,0 +1,263 @@
+// The expansion of a usage in a source.
+ghost use Rattle.std.specs.Prelude.{◌≡◌, ◌<◌, ◌≤◌, ◌==◌, List, [], length, IfOk, Some, is_some, true, false};
+ghost use Rattle.rdlpp_scan.specs.declared.token.Mode.TheVariants.{Plain};
+ghost use Rattle.rdlpp_table.specs.Table.{macro_named};
+ghost use Rattle.rdlpp_table.specs.View.{macro_at};
+ghost use Rattle.rdlpp_meaning.specs.Meaning.{Progress};
+ghost use Rattle.rdlpp_meaning.specs.Opened.{Waiting};
+ghost use Rattle.rdlpp_meaning.specs.State.{Rules, State};
+ghost use Rattle.rdlpp_read.specs.Buffer.{held_of};
+ghost use Rattle.rdlpp_read.specs.Calls.{SourcesRead};
+ghost use Rattle.rdlpp_read.specs.Files.{inner_buffer};
+ghost use Rattle.rdlpp_cursors.specs.Digits.{IsFalling};
+ghost use Rattle.rdlpp_cursors.specs.Opened.{bound_by};
+ghost use Rattle.rdlpp_cursors.specs.Places.{texts_of};
+ghost use Rattle.rdlpp_cursors.specs.Steps.{AreSound, IsStep};
+ghost use Rattle.rdlpp_front.specs.Fronts.{IsUsage, usage_name};
+ghost use Rattle.rdlpp_usages.specs.Usages.{BindsKept, IsRun, StaysAt, StaysOpen, TellsCallUsage, TellsUsage, UsesCall, UsesSource, is_failed_opening, is_opened};
+
+use rdlpp_arguments::{ArgumentStore, CallRead, read_call};
+use rdlpp_cursors::{CursorStep, Cursors};
+use rdlpp_meaning::FaultKind;
+use rdlpp_read::Files;
+use rdlpp_source::Sources;
+use rdlpp_table::{MacroId, Table};
+use std::alloc::{AllocError, Global};
+use std::marker::Model;
+
+/// What opening a usage comes to.
+#[derive(Clone, Copy, Debug, PartialEq, Eq)]
+pub enum Opening {
+    /// The body of its macro is open.
+    Opened,
+    /// The usage is refused, at its line and about its name.
+    Refused(FaultKind),
+    /// Its call is broken by embedded Perl, by a string or a comment that isn't closed, or by a line or
+    /// a source that is too long; and the physical line of that.
+    Broken(FaultKind, u64),
+    /// A read failed.
+    Failed,
+}
+
+/// The expansion of a usage in a source: the kept bytes of its call, and the texts that are open in it.
+///
+/// No call but `new` takes memory.
+#[derive(Drop)]
+pub struct Expansion {
+    arguments: ArgumentStore,
+    cursors: Cursors,
+}
+
+impl Model for Expansion {
+    ghost use Rattle.rdlpp_usages.specs.Usages.{ExpansionView, IsExpansion};
+
+    ghost Value = { ExpansionView };
+
+    ghost view = { λ e. record {
+      opens = e.cursors.opens;
+      arguments = e.arguments.bytes;
+      line = e.cursors.line;
+      depth = e.cursors.depth;
+      most = e.arguments.most;
+    } };
+
+    ghost invariant = { λ e. IsExpansion e.cursors.opens e.arguments.bytes };
+}
+
+impl Expansion {
+    /// Nothing that is open, with room for `depth` open texts, each with 255 actuals, and for
+    /// `argument_bytes` kept bytes: three growths.
+    ///
+    /// # Errors
+    ///
+    /// `AllocError` where a growth was refused.
+    pub fn new(alloc: Global, depth: usize, argument_bytes: usize) -> Result<Self, AllocError>
+        requires { depth ≤ 1024 }
+        ensures { IfOk result (λ e. e ≡ record { opens = []; arguments = []; line = 0; depth = depth; most = argument_bytes }) }
+    {
+        let arguments = ArgumentStore::new(alloc, argument_bytes)?;
+        let cursors = Cursors::new(alloc, depth)?;
+        Ok(Expansion { arguments, cursors })
+    }
+
+    /// Whether no text is open.
+    pub fn is_empty(&self) -> bool
+        ensures { result ≡ (length self.now.opens == 0) }
+    {
+        self.cursors.is_empty()
+    }
+
+    /// How many texts are open.
+    pub fn len(&self) -> usize
+        ensures { result ≡ length self.now.opens }
+    {
+        self.cursors.len()
+    }
+
+    /// How many actuals are bound in them.
+    pub fn bound(&self) -> usize
+        ensures { result ≡ bound_by self.now.opens }
+    {
+        self.cursors.bound()
+    }
+
+    /// The kept bytes of the call.
+    pub fn arguments(&self) -> &[u8]
+        ensures value { result.now ≡ self.now.arguments }
+        ensures fits { length self.now.arguments ≤ self.now.most }
+    {
+        self.arguments.bytes()
+    }
+
+    /// The line of the usage.
+    pub fn line(&self) -> u64
+        ensures { result ≡ self.now.line }
+    {
+        self.cursors.line()
+    }
+
+    /// Takes one step in the innermost text, as `Cursors::step` does. Behind the last open text nothing is
+    /// kept of the call.
+    ///
+    /// # Faults
+    ///
+    /// Those of `Cursors::step`. Nothing changes then.
+    pub fn step(&mut self, table: &Table) -> CursorStep
+        requires some { 0 < length self.old.opens }
+        requires sound { AreSound (texts_of table.now.macros self.old.arguments) self.old.opens }
+        ensures step { IsStep self.old.line self.old.depth (texts_of table.now.macros self.old.arguments) self.old.opens result self.new.opens }
+        ensures sound { AreSound (texts_of table.now.macros self.new.arguments) self.new.opens }
+        ensures stays { StaysOpen self.old self.new }
+        ensures digits { IsFalling self.old.opens result self.new.opens }
+        ensures refused { StaysAt self.old result self.new }
+    {
+        let step = self.cursors.step(table, self.arguments.bytes());
+        if self.cursors.is_empty() {
+            self.arguments.clear();
+        }
+        step
+    }
+
+    /// Opens the usage of `len` bytes that stands at the front of what is held of the innermost source:
+    /// its backquote and the name of the macro `id`. Where that has a list of formals, its call is read
+    /// from the source, over any number of lines, and its arguments are bound. The source goes on behind
+    /// it. Nothing may be open.
+    ///
+    /// Behind a usage that isn't opened nothing is open or kept; what was read of the source stays used.
+    ///
+    /// # Rules
+    ///
+    /// IEEE 1364-2001, `define`; what a call may hold, and the order of its faults, are this project's
+    /// profile.
+    pub fn open_usage<S: Sources>(
+        &mut self,
+        files: &mut Files<S::Reader>,
+        sources: &mut S,
+        table: &Table,
+        len: usize,
+        id: MacroId,
+    ) -> Opening
+        requires some { 0 < length files.old.nest }
+        requires held { 0 < length (held_of (inner_buffer files.old.nest)) }
+        requires plain { (inner_buffer files.old.nest).mode ≡ Plain }
+        requires usage { IsUsage (held_of (inner_buffer files.old.nest)) len }
+        requires inside { id < length table.now.macros }
+        requires named { macro_named table.now.macros (usage_name (held_of (inner_buffer files.old.nest)) len) ≡ Some (macro_at table.now.macros id) }
+        requires closed { self.old.opens ≡ [] }
+        requires room { 0 < self.old.depth }
+        ensures limits { (self.new.depth ≡ self.old.depth) × (self.new.most ≡ self.old.most) }
+        ensures only { files.new ≡ record files.old { nest = files.new.nest } }
+        ensures call { SourcesRead S.Sources (is_failed_opening result) sources.old sources.new }
+        ensures uses { UsesSource files.old.nest files.new.nest }
+        ensures sound { AreSound (texts_of table.now.macros self.new.arguments) self.new.opens }
+        ensures lets_go { is_opened result ≡ false → self.new.opens ≡ [] }
+        ensures means { (rules : Rules) (s : State) (ws : List Waiting) (os : List Progress) → IsRun rules s table.now.macros self.old.depth self.old.most → S.tells sources.old → TellsUsage rules s S.unread ws os table.now.macros (inner_buffer files.old.nest).line (usage_name (held_of (inner_buffer files.old.nest)) len) result self.new files.old.nest files.new.nest }
+    {
+        let line = files.file().buffer.line();
+        files.consume(len, 0);
+        if table.arity(id).is_none() {
+            self.cursors.open_body(table, id, line);
+            return Opening::Opened;
+        }
+        let usage = Usage { id, line };
+        open_call(
+            files,
+            sources,
+            table,
+            &mut self.arguments,
+            &mut self.cursors,
+            usage,
+        )
+    }
+}
+
+// A usage in a source: the macro, and the line.
+#[derive(Clone, Copy)]
+struct Usage {
+    id: MacroId,
+    line: u64,
+}
+
+// Lets go of what is kept of a call that isn't opened.
+fn refuse(arguments: &mut ArgumentStore, opening: Opening) -> Opening
+    ensures same { result ≡ opening }
+    ensures cleared { arguments.new ≡ record arguments.old { bytes = [] } }
+{
+    arguments.clear();
+    opening
+}
+
+// Binds the kept call of a usage, and opens the body of its macro.
+fn bind_kept(
+    table: &Table,
+    arguments: &mut ArgumentStore,
+    cursors: &mut Cursors,
+    usage: Usage,
+) -> Opening
+    requires inside { usage.id < length table.now.macros }
+    requires listed { is_some (macro_at table.now.macros usage.id).formals ≡ true }
+    requires closed { cursors.old.opens ≡ [] }
+    requires room { 0 < cursors.old.depth }
+    ensures most { arguments.new.most ≡ arguments.old.most }
+    ensures depth { cursors.new.depth ≡ cursors.old.depth }
+    ensures binds { BindsKept table.now.macros usage.id usage.line arguments.old.bytes arguments.new.bytes result cursors.new }
+    ensures lets_go { is_opened result ≡ false → (cursors.new.opens ≡ []) × (arguments.new.bytes ≡ []) }
+    ensures sound { AreSound (texts_of table.now.macros arguments.new.bytes) cursors.new.opens }
+{
+    match cursors.open_call(table, arguments.bytes(), usage.id, usage.line) {
+        Ok(()) => Opening::Opened,
+        Err(kind) => refuse(arguments, Opening::Refused(kind)),
+    }
+}
+
+// Reads the call behind the name of a macro with a list from the innermost source, binds it, and opens the body.
+fn open_call<S: Sources>(
+    files: &mut Files<S::Reader>,
+    sources: &mut S,
+    table: &Table,
+    arguments: &mut ArgumentStore,
+    cursors: &mut Cursors,
+    usage: Usage,
+) -> Opening
+    requires some { 0 < length files.old.nest }
+    requires plain { (inner_buffer files.old.nest).mode ≡ Plain }
+    requires inside { usage.id < length table.now.macros }
+    requires listed { is_some (macro_at table.now.macros usage.id).formals ≡ true }
+    requires closed { cursors.old.opens ≡ [] }
+    requires room { 0 < cursors.old.depth }
+    ensures limits { (cursors.new.depth ≡ cursors.old.depth) × (arguments.new.most ≡ arguments.old.most) }
+    ensures only { files.new ≡ record files.old { nest = files.new.nest } }
+    ensures call { SourcesRead S.Sources (is_failed_opening result) sources.old sources.new }
+    ensures uses { UsesCall (S.tells sources.old) S.unread result files.old.nest files.new.nest }
+    ensures sound { AreSound (texts_of table.now.macros arguments.new.bytes) cursors.new.opens }
+    ensures line { is_opened result ≡ true → cursors.new.line ≡ usage.line }
+    ensures lets_go { is_opened result ≡ false → (cursors.new.opens ≡ []) × (arguments.new.bytes ≡ []) }
+    ensures tells { TellsCallUsage (S.tells sources.old) S.unread arguments.old.most table.now.macros usage.id result cursors.new.opens arguments.new.bytes (inner_buffer files.old.nest) (inner_buffer files.new.nest) }
+{
+    match read_call(files, sources, arguments) {
+        CallRead::Closed => bind_kept(table, arguments, cursors, usage),
+        CallRead::Refused(kind) => refuse(arguments, Opening::Refused(kind)),
+        CallRead::Broken(kind, own) => refuse(arguments, Opening::Broken(kind, own)),
+        CallRead::Failed => refuse(arguments, Opening::Failed),
+    }
+}
