@@ -2,7 +2,7 @@
 use Rattle.std.proofs.Common.{◌≡◌, ℕ, ◌+◌, ◌-◌, ◌<◌, ◌≤◌, true, List, [], ◌∷◌, length, take, drop, refl, sym, ap, subst, ◌∙◌, arith}
 use Rattle.std.proofs.Common.{Option, None, Some, unwrap_or}
 use Rattle.std.specs.Prelude.{slice_range}
-use Rattle.std.specs.Option.{option_map}
+use Rattle.std.specs.Option.{option_map, MatchOption}
 use Rattle.std.proofs.lemmas.List.{length-take, length-drop, take-take}
 use Rattle.rdlpp_scan.specs.SourceTokens.{SourceToken}
 use Rattle.rdlpp_table.specs.Table.{Formal}
@@ -177,10 +177,11 @@ pass-bare texts view look step h l e is =
       refused = refl;
     })
 
--- what is neither an end, a run nor a lone backquote is held
-pub front-holds : (f : Front) → (f ≡ front.Ended → ⊥) → ((n : ℕ) → f ≡ front.Run n → ⊥) → (f ≡ front.Bare → ⊥) → holds f ≡ true
-front-holds front.Ended ended run bare = absurd (ended refl)
-front-holds (front.Run n) ended run bare = absurd (run n refl)
-front-holds (front.Formal len place) ended run bare = refl
-front-holds (front.Usage len) ended run bare = refl
-front-holds front.Bare ended run bare = absurd (bare refl)
+-- a usage is held
+pub usage-holds : (f : Front) (n : ℕ) → f ≡ front.Usage n → holds f ≡ true
+usage-holds f n e = ap (λ (g : Front). holds g) e
+
+-- what holds where there is no value holds with more
+pub held-or : {T : Type 0} (A B : Type 0) (P : T → Type 0) (r : Option T) → B → MatchOption r A P → MatchOption r (A × B) P
+held-or A B P None b h = (h, b)
+held-or A B P (Some x) b h = h

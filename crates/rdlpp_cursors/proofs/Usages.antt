@@ -1,15 +1,14 @@
 -- A usage at the front of the innermost open text: its name, and what it comes to.
-use Rattle.std.proofs.Common.{◌≡◌, ℕ, suc, ◌+◌, ◌-◌, ◌<◌, ◌≤◌, Bool, true, false, List, [], ◌∷◌, length, take, drop, refl, sym, ap, subst, ◌∙◌, arith, Option, None, Some}
-use Rattle.std.specs.Prelude.{if◌then◌else◌, ◌==◌, ◌||◌, bytes_eq, slice_range}
-use Rattle.std.specs.List.{list_any, IsDistinct}
+use Rattle.std.proofs.Common.{◌≡◌, ℕ, suc, ◌+◌, ◌-◌, ◌<◌, ◌≤◌, Bool, true, false, true≢false, List, [], ◌∷◌, length, take, drop, refl, sym, ap, subst, ◌∙◌, arith, Option, None, Some}
+use Rattle.std.specs.Prelude.{if◌then◌else◌, ◌==◌, ◌||◌, bytes_eq, slice_range, is_some}
+use Rattle.std.specs.List.{list_any}
 use Rattle.std.specs.Option.{option_map}
 use Rattle.std.proofs.lemmas.Bool.{eq-eqb}
 use Rattle.std.proofs.lemmas.List.Elements.{All-get_or}
-use Rattle.std.proofs.lemmas.List.{length-take, length-drop, length-map}
+use Rattle.std.proofs.lemmas.List.{length-take, length-drop, take_rest}
 use Rattle.std.proofs.lemmas.Slice.Eq.{bytes_eq-Decides}
 use Rattle.rdlpp_scan.specs.declared.token.Kind.{Kind}
 use Rattle.rdlpp_scan.specs.declared.token.Kind.TheVariants.{Back}
-use Rattle.rdlpp_scan.specs.declared.token.Mode.{Mode}
 use Rattle.rdlpp_scan.specs.declared.token.Mode.TheVariants.{Plain}
 use Rattle.rdlpp_scan.specs.SourceTokens.{SourceToken}
 use Rattle.rdlpp_scan.specs.Stage.{is_reserved}
@@ -22,10 +21,10 @@ use Rattle.rdlpp_table.proofs.Places.{place_of_name}
 use Rattle.rdlpp_meaning.specs.declared.fault.FaultKind.{FaultKind}
 use Rattle.rdlpp_meaning.specs.declared.fault.FaultKind.TheVariants.{UndefinedMacro, RecursiveMacro, DirectiveInText, DepthPassed}
 use Rattle.rdlpp_meaning.specs.State.{Rules, State, fault_at}
-use Rattle.rdlpp_meaning.specs.Cursors.{not_kept, TokenUsage, Refuses, Opens, token_usage_of_formals, token_usage_of_macro, token_usage_of}
+use Rattle.rdlpp_meaning.specs.Cursors.{not_kept, Refuses, Opens, token_usage_of_formals, token_usage_of_macro, token_usage_of}
 use Rattle.rdlpp_meaning.specs.Slots.{SlotStops}
-use Rattle.rdlpp_meaning.specs.Opens.{OpenKind, OpenBody, OpenActual, OpenDefault, Open, Texts, slot_of, slots_of, text_around, open_scope, open_bytes, open_behind, open_body, own_text, own_writers, writers_at, AreOpen}
-use Rattle.rdlpp_meaning.proofs.OpenMoves.{first_kind, first_bytes, first_behind, first_usage, open-refused, open-usage, open-usage_deep, open-writers}
+use Rattle.rdlpp_meaning.specs.Opens.{OpenKind, OpenBody, OpenActual, OpenDefault, Open, Texts, slot_of, text_around, open_scope, open_bytes, open_behind, open_body, own_text, own_writers, writers_at, AreOpen}
+use Rattle.rdlpp_meaning.proofs.OpenMoves.{first_bytes, first_behind, first_usage, open-refused, open-usage, open-usage_deep, open-writers}
 use Rattle.rdlpp_calls.specs.BoundCalls.{KeepsAll}
 use Rattle.rdlpp_calls.specs.declared.bindings.Range.{Range}
 use Rattle.rdlpp_cursors.specs.declared.front.Front.{Front}
@@ -43,9 +42,9 @@ use Rattle.rdlpp_cursors.specs.Digits.{IsFalling}
 use Rattle.rdlpp_cursors.specs.Fronts.{IsFront, IsLook}
 use Rattle.rdlpp_cursors.specs.Opened.{bindings_below, opens_of, moved_to, AreHomedSlots, CursorsView}
 use Rattle.rdlpp_cursors.specs.Places.{texts_of, place_bytes, source_text, source_formals, IsSource}
-use Rattle.rdlpp_cursors.specs.Scopes.{front_scope, front_source, own_ids, writer_ids}
-use Rattle.rdlpp_cursors.specs.Steps.{IsKnown, AreInside, AreSound, IsStep, StepsTo, Goes, StaysRefused, wordless}
-use Rattle.rdlpp_cursors.specs.Usages.{front_name, unknown_kind, IsUsed}
+use Rattle.rdlpp_cursors.specs.Scopes.{front_scope, front_source, own_ids, writer_ids, AreFurtherOut}
+use Rattle.rdlpp_cursors.specs.Steps.{IsKnown, AreInside, AreSound, IsStep, StepsTo, StaysRefused, wordless}
+use Rattle.rdlpp_cursors.specs.Usages.{front_name, unknown_kind, IsRefused, IsUsed}
 use Rattle.rdlpp_cursors.proofs.Falling.{look-opens, usage-inside as falls-inside}
 use Rattle.rdlpp_cursors.proofs.Keeping.{body-keeps, first-sound}
 use Rattle.rdlpp_cursors.proofs.Looking.{source-known, source-inside}
@@ -164,12 +163,6 @@ apart-is : (size : SourceToken → ℕ) (rules : Rules) (line : ℕ) (o : List (
     → token_usage_of_macro size rules line o name ts m ≡ token_usage_of_formals size rules line name ts m m.formals
 unfolding token_usage_of_macro
 apart-is size rules line o name ts m u e = rw (u, e) refl
-
--- each run refuses a name in open texts with a fault
-unfoldable pub IsRefused : Texts → List Open → List ℕ → FaultKind → Type 0
-IsRefused texts opens name kind =
-    (rules : Rules) (s : State) (line : ℕ) (ts : List SourceToken) → s.macros ≡ texts.macros → ((m : Macro) → rules.unbuilt_macro m ≡ false)
-    → token_usage_of not_kept rules s line (writers_at texts opens (front_scope opens)) name ts ≡ Refuses kind name line
 
 -- a name that no macro has is refused
 pub unknown-refused : (texts : Texts) (opens : List Open) (name : List ℕ) (reserved : Bool) → macro_named texts.macros name ≡ None → is_reserved name ≡ reserved
@@ -329,21 +322,26 @@ table-recursive table arguments opens name id h inside e l m w =
     recursive-refused (texts_of table.macros arguments) opens name id (table-unreserved table name id h e l) m
     (table-writers table arguments opens name id true h inside e w)
 
+-- the homes of open texts are further out
+pub homes-out : (texts : Texts) (opens : List Open) → AreOpen texts opens → AreFurtherOut opens
+homes-out texts [] h = tt
+homes-out texts (x ∷ below) h = (h.0, homes-out texts below (h.1).1)
+
 -- the homes of open texts are those of their slots
-pub slots-homed : (texts : Texts) (slots : List Slot) (bindings : List Range) → AreOpen texts (opens_of slots bindings) → AreHomedSlots slots
+pub slots-homed : (slots : List Slot) (bindings : List Range) → AreFurtherOut (opens_of slots bindings) → AreHomedSlots slots
 unfolding opens_of
-slots-homed texts [] bindings h = tt
-slots-homed texts (slot ∷ below) bindings h = (
+slots-homed [] bindings h = tt
+slots-homed (slot ∷ below) bindings h = (
   let home : slot.home ≤ length (opens_of below (bindings_below slot.kind bindings)) = h.0 in
       let n = opens-length below (bindings_below slot.kind bindings) in omega (arith, home, n),
-  slots-homed texts below (bindings_below slot.kind bindings) (h.1).1,
+  slots-homed below (bindings_below slot.kind bindings) h.1,
 )
 
 -- the scope of the innermost open text is one of the open texts
-pub scope-inside : (texts : Texts) (opens : List Open) → AreOpen texts opens → front_scope opens ≤ length opens
+pub scope-inside : (opens : List Open) → AreFurtherOut opens → front_scope opens ≤ length opens
 unfolding front_scope open_scope
-scope-inside texts [] h = omega arith
-scope-inside texts (x ∷ below) h = by x.kind
+scope-inside [] h = omega arith
+scope-inside (x ∷ below) h = by x.kind
   where
     by : (kind : OpenKind) → elim kind [ OpenActual ↦ x.home | _ ↦ suc (length below) ] ≤ suc (length below)
     by (OpenBody id parts) = omega arith
@@ -414,18 +412,19 @@ look-opened line depth texts (x ∷ below) look len id at h l e used none room k
     (step-opened line depth texts x below len id h (front-is texts x below look len e l.3) used none room)
 
 -- a usage that is refused
-pub pass-refused : (texts : Texts) (view : CursorsView) (look : Look) (len from end : ℕ) (kind own : FaultKind) → AreSound texts view.opens → IsLook texts view.opens look
-    → look.front ≡ front.Usage len → from ≡ look.from + 1 → end ≡ look.from + len → own ≡ kind
+pub pass-refused : (texts : Texts) (view : CursorsView) (look : Look) (len : ℕ) (kind : FaultKind) (word : TextPlace) → AreSound texts view.opens → IsLook texts view.opens look
+    → look.front ≡ front.Usage len → word ≡ record { source = look.source; from = look.from + 1; end = look.from + len }
     → IsRefused texts view.opens (front_name texts view.opens len) kind
-    → IsPassed texts view view (Refused (record { kind = own; word = record { source = look.source; from = from; end = end } }))
+    → IsPassed texts view view (Refused (record { kind = kind; word = word }))
 unfolding IsFalling StaysRefused
-pass-refused texts view look len from end kind own h l e f g k r = record {
-  is_step = look-refused view.line view.depth texts view.opens look len from end kind own h l e f g k r;
-  sound = h;
-  kept = (refl, refl);
-  digits = tt;
-  refused = refl;
-}
+pass-refused texts view look len kind word h l e w r =
+    subst (λ (place : TextPlace). IsPassed texts view view (Refused (record { kind = kind; word = place }))) (sym w) (record {
+      is_step = look-refused view.line view.depth texts view.opens look len (look.from + 1) (look.from + len) kind kind h l e refl refl refl r;
+      sound = h;
+      kept = (refl, refl);
+      digits = tt;
+      refused = refl;
+    })
 
 -- a body for which there is no slot left
 pub pass-deep : (texts : Texts) (view : CursorsView) (look : Look) (len id : ℕ) (step : CursorStep) → AreSound texts view.opens → IsLook texts view.opens look
@@ -447,9 +446,9 @@ pub pass-opened : (table : TableView) (arguments : List ℕ) (view new : Cursors
     → AreSound (texts_of table.macros arguments) view.opens → IsLook (texts_of table.macros arguments) view.opens look
     → look.front ≡ front.Usage len → IsUsed (texts_of table.macros arguments) view.opens (front_name (texts_of table.macros arguments) view.opens len) id
     → (macro_at table.macros id).formals ≡ None → length view.opens < view.depth → at ≡ look.from + len
-    → new ≡ record { opens = open_body (texts_of table.macros arguments) id [] (front_scope view.opens) ∷ moved_to at view.opens; line = view.line; depth = view.depth }
+    → new ≡ record { opens = open_body (texts_of table.macros []) id [] (front_scope view.opens) ∷ moved_to at view.opens; line = view.line; depth = view.depth }
     → IsPassed (texts_of table.macros arguments) view new Silent
-unfolding IsFalling StaysRefused
+unfolding IsFalling StaysRefused open_body
 pass-opened table arguments view new look len id at sound h l e used none room k is =
     let texts = texts_of table.macros arguments in
     let further = falls-inside texts view.opens look len l e in
@@ -457,8 +456,90 @@ pass-opened table arguments view new look len id at sound h l e used none room k
     let inside = further.1 in
     subst (λ (v : CursorsView). IsPassed texts view v Silent) (sym is) (record {
       is_step = look-opened view.line view.depth texts view.opens look len id at h l e used none room k;
-      sound = sound-used table arguments view.opens id at sound (sound-behind texts view.opens look len at h l e k) (scope-inside texts view.opens h.are_open) used.inside none;
+      sound = sound-used table arguments view.opens id at sound (sound-behind texts view.opens look len at h l e k) (scope-inside view.opens (homes-out texts view.opens h.are_open)) used.inside none;
       kept = (refl, refl);
       digits = look-opens texts view.opens look at (open_body texts id [] (front_scope view.opens)) l (omega (arith, less, k)) (omega (arith, inside, k));
       refused = tt;
     })
+
+-- the slots from a place on
+pub tail-is : (part items : List Slot) (first : ℕ) → part ≡ items → take (length part - first) (drop first part) ≡ drop first items
+tail-is part items first e = take_rest part first ∙ ap (λ (slots : List Slot). drop first slots) e
+
+-- the body of a macro is opened in front of open texts that go on
+pub entered : (macros : List Macro) (id end home at : ℕ) (view mid new : CursorsView) → end ≡ length (macro_at macros id).body → home ≡ front_scope view.opens
+    → mid ≡ record { opens = moved_to at view.opens; line = view.line; depth = view.depth }
+    → new ≡ record { opens = record { part = record { from = 0; end = end; mode = Plain }; home = home; kind = OpenBody id [] } ∷ mid.opens; line = mid.line; depth = mid.depth }
+    → new ≡ record { opens = open_body (texts_of macros []) id [] (front_scope view.opens) ∷ moved_to at view.opens; line = view.line; depth = view.depth }
+unfolding open_body
+entered macros id end home at view mid new e h m n =
+    n
+    ∙ ap (λ (v : CursorsView). record { opens = record { part = record { from = 0; end = end; mode = Plain }; home = home; kind = OpenBody id [] } ∷ v.opens; line = v.line; depth = v.depth }) m
+    ∙ ap (λ (k : ℕ). record { opens = record { part = record { from = 0; end = k; mode = Plain }; home = home; kind = OpenBody id [] } ∷ moved_to at view.opens; line = view.line; depth = view.depth }) e
+    ∙ ap (λ (k : ℕ). record { opens = record { part = record { from = 0; end = length (macro_at macros id).body; mode = Plain }; home = k; kind = OpenBody id [] } ∷ moved_to at view.opens; line = view.line; depth = view.depth }) h
+
+-- open texts that go on leave as much room
+pub moved-room : (view new : CursorsView) (at : ℕ) → new ≡ record { opens = moved_to at view.opens; line = view.line; depth = view.depth } → length view.opens < view.depth
+    → length new.opens < new.depth
+moved-room view new at e room =
+    subst (λ (v : CursorsView). length v.opens < v.depth) (sym e) (let n = moved-length view.opens at in omega (arith, n, room))
+
+-- a slot is open where an open text is
+pub rest-some : (part items : List Slot) (first : ℕ) (bindings : List Range) → part ≡ items → 0 < length (opens_of (drop first items) bindings)
+    → 0 < length (take (length part - first) (drop first part))
+rest-some part items first bindings e some =
+    subst (λ (slots : List Slot). 0 < length slots) (sym (tail-is part items first e))
+    (let n = opens-length (drop first items) bindings in omega (arith, n, some))
+
+-- the scope of the innermost open text is one of the slots
+pub rest-scope : (part items : List Slot) (first scope : ℕ) (bindings : List Range) → part ≡ items → AreFurtherOut (opens_of (drop first items) bindings)
+    → scope ≡ front_scope (opens_of (drop first items) bindings) → scope ≤ length (take (length part - first) (drop first part))
+rest-scope part items first scope bindings e homed is =
+    subst (λ (slots : List Slot). scope ≤ length slots) (sym (tail-is part items first e))
+    (let n = opens-length (drop first items) bindings in let inside = scope-inside (opens_of (drop first items) bindings) homed in omega (arith, n, inside, is))
+
+-- the homes of the slots are further out
+pub rest-homed : (part items : List Slot) (first : ℕ) (bindings : List Range) → part ≡ items → AreFurtherOut (opens_of (drop first items) bindings)
+    → AreHomedSlots (take (length part - first) (drop first part))
+rest-homed part items first bindings e homed =
+    subst (λ (slots : List Slot). AreHomedSlots slots) (sym (tail-is part items first e)) (slots-homed (drop first items) bindings homed)
+
+-- the place of the name of a usage lies in its text
+pub record IsWordInside (texts : Texts) (word : TextPlace) : Type 0 where
+  pub source : IsSource texts word.source
+  pub order : word.from ≤ word.end
+  pub inside : word.end ≤ length (source_text texts word.source)
+
+-- it does
+pub word-inside : (texts : Texts) (opens : List Open) (look : Look) (len : ℕ) (word : TextPlace) → AreSound texts opens → IsLook texts opens look → look.front ≡ front.Usage len
+    → word ≡ record { source = look.source; from = look.from + 1; end = look.from + len } → IsWordInside texts word
+word-inside texts opens look len word h l e is =
+    let place = usage-place texts opens look len h l e in
+    let some = place.some in
+    let inside = place.inside in
+    let within = place.within in
+    subst (λ (w : TextPlace). IsWordInside texts w) (sym is) (record {
+      source = place.source;
+      order = omega (arith, some);
+      inside = omega (arith, inside, within);
+    })
+
+-- its bytes are the name
+pub word-is : (texts : Texts) (opens : List Open) (look : Look) (len : ℕ) (word : TextPlace) (name : List ℕ) → AreSound texts opens → IsLook texts opens look
+    → look.front ≡ front.Usage len → word ≡ record { source = look.source; from = look.from + 1; end = look.from + len } → name ≡ place_bytes texts word
+    → name ≡ front_name texts opens len
+word-is texts opens look len word name h l e is bytes =
+    bytes ∙ ap (λ (w : TextPlace). place_bytes texts w) is ∙ usage-word texts opens look len (look.from + 1) (look.from + len) h l e refl refl
+
+-- a name that a table hasn't is refused
+pub unknown-given : (texts : Texts) (opens : List Open) (name given : List ℕ) (kind : FaultKind) → given ≡ name → macro_named texts.macros given ≡ None
+    → kind ≡ unknown_kind (is_reserved given) → IsRefused texts opens name kind
+unknown-given texts opens name given kind e none k =
+    subst (λ (n : List ℕ). IsRefused texts opens n kind) e
+    (subst (λ (f : FaultKind). IsRefused texts opens given f) (sym k) (unknown-refused texts opens given (is_reserved given) none refl))
+
+-- a macro has no list where it has no count of formals
+pub no-list : (formals : Option (List Formal)) (count : Option ℕ) (some : Bool) → count ≡ option_map (λ (fs : List Formal). length fs) formals → some ≡ is_some count
+    → some ≡ false → formals ≡ None
+no-list None count some e s f = refl
+no-list (Some fs) count some e s f = absurd (true≢false (sym (s ∙ ap (λ (o : Option ℕ). is_some o) e) ∙ f))

@@ -73,3 +73,8 @@ IsBound macros (OpenDefault id place) = (id < length macros) × (place < length 
 abbrev pub AreBound : List Macro → List Open → Type 0
 AreBound macros [] = Unit
 AreBound macros (x ∷ below) = (x.home ≤ length below) × (IsBound macros x.kind × AreBound macros below)
+
+-- each home is a scope further out
+abbrev pub AreFurtherOut : List Open → Type 0
+AreFurtherOut [] = Unit
+AreFurtherOut (x ∷ below) = (x.home ≤ length below) × AreFurtherOut below

@@ -2,11 +2,14 @@
 -- A definition that names no source is this project's own.
 use Rattle.std.specs.Prelude.{◌≡◌, ℕ, ◌<◌, Bool, false, List, [], ◌∷◌, length, take, drop, bytes_eq, Some, if◌then◌else◌}
 use Rattle.std.specs.List.{list_any}
+use Rattle.rdlpp_scan.specs.SourceTokens.{SourceToken}
 use Rattle.rdlpp_scan.specs.Stage.{is_reserved}
-use Rattle.rdlpp_table.specs.Table.{macro_named}
+use Rattle.rdlpp_table.specs.Table.{Macro, macro_named}
 use Rattle.rdlpp_table.specs.View.{macro_at}
 use Rattle.rdlpp_meaning.specs.declared.fault.FaultKind.{FaultKind}
 use Rattle.rdlpp_meaning.specs.declared.fault.FaultKind.TheVariants.{UndefinedMacro, DirectiveInText}
+use Rattle.rdlpp_meaning.specs.Cursors.{not_kept, Refuses, token_usage_of}
+use Rattle.rdlpp_meaning.specs.State.{Rules, State}
 use Rattle.rdlpp_meaning.specs.Opens.{Open, Texts, open_bytes, writers_at}
 use Rattle.rdlpp_cursors.specs.Scopes.{front_scope}
 
@@ -27,3 +30,9 @@ pub record IsUsed (texts : Texts) (opens : List Open) (name : List ℕ) (id : �
 -- the fault of a usage whose name no macro has (source: this project's profile)
 abbrev pub unknown_kind : Bool → FaultKind
 unknown_kind reserved = if reserved then DirectiveInText else UndefinedMacro
+
+-- each run refuses a name in open texts with a fault, told under that name
+unfoldable pub IsRefused : Texts → List Open → List ℕ → FaultKind → Type 0
+IsRefused texts opens name kind =
+    (rules : Rules) (s : State) (line : ℕ) (ts : List SourceToken) → s.macros ≡ texts.macros → ((m : Macro) → rules.unbuilt_macro m ≡ false)
+    → token_usage_of not_kept rules s line (writers_at texts opens (front_scope opens)) name ts ≡ Refuses kind name line

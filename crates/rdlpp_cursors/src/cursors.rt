@@ -10,6 +10,8 @@ ghost use Rattle.rdlpp_cursors.specs.Opened.{bound_by, kept_by, moved_to, open_o
 ghost use Rattle.rdlpp_cursors.specs.Places.{texts_of};
 ghost use Rattle.rdlpp_cursors.specs.Steps.{AreSound, IsStep, StaysRefused};
 
+mod usage;
+
 use crate::front::{Front, Look, look_at};
 use crate::place::TextPlace;
 use crate::slot::{Slot, SlotKind};
@@ -190,12 +192,21 @@ impl Cursors {
         self.push_body(id, table.body(id).len(), 0);
     }
 
-    /// One step of the innermost text, unless the name of a formal or a usage stands at its front: it lends the longest run
-    /// of bytes that are copied, in one piece as they lie, or closes a text of which nothing is left. `arguments` is what is
-    /// kept of the call in the source. `None`, and nothing changes, where the name of a formal or a usage stands there.
+    /// One step of the innermost text, by what stands at its front. `arguments` is what is kept of the call in the source.
     ///
-    /// A backquote without a name is a fault (`BareBackquote`), and nothing changes then.
-    pub fn pass(&mut self, table: &Table, arguments: &[u8]) -> Option<CursorStep>
+    /// It lends the longest run of bytes that are copied, in one piece as they lie; it opens the actual of a formal, its default
+    /// where the actual is empty, or the body of a macro without a list, and goes on behind the name; or it closes a text of
+    /// which nothing is left. `None`, and nothing changes, where a usage of a macro with a list stands there.
+    ///
+    /// # Faults
+    /// Told at the line of the usage in the source; nothing changes then, and the same fault comes again:
+    /// - `BareBackquote` for a backquote without a name (this project's profile);
+    /// - `DirectiveInText` for the name of a directive (this project's profile), with that name as its word;
+    /// - `UndefinedMacro` for a name that no macro has (IEEE 1364-2001, `define`), with that name;
+    /// - `RecursiveMacro` for a usage in the text of its own macro, be it the body, a default or an actual that is written there
+    ///   (IEEE 1364-2001, `define`), with that name;
+    /// - `DepthPassed` where as many texts are open as there is room for, without a word (this project's profile).
+    pub fn step(&mut self, table: &Table, arguments: &[u8]) -> Option<CursorStep>
         requires some { 0 < length self.old.opens }
         requires sound { AreSound (texts_of table.now.macros arguments.now) self.old.opens }
         ensures step { MatchOption result ((self.new ≡ self.old) × IsHeld (texts_of table.now.macros arguments.now) self.old.opens) (λ step. IsStep self.old.line self.old.depth (texts_of table.now.macros arguments.now) self.old.opens step self.new.opens) }
@@ -219,8 +230,11 @@ impl Cursors {
                     end,
                 }))
             }
+            Front::Formal { len, place } => {
+                Some(self.formal(table, arguments, &look, len, place))
+            }
+            Front::Usage(len) => self.usage(table, arguments, &look, len),
             Front::Bare => Some(wordless(FaultKind::BareBackquote)),
-            _ => None,
         }
     }
 }

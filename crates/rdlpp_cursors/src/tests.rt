@@ -22,7 +22,7 @@ fn a_body_is_lent_in_one_piece_and_closed(rt: HostRuntime) -> Result<(), Fail> {
     cursors.open_body(&table, id, 7);
     assert_eq!(&rt; cursors.len(), 1);
     assert_eq!(&rt;
-        cursors.pass(&table, b"".as_slice()),
+        cursors.step(&table, b"".as_slice()),
         Some(CursorStep::Lends(TextPlace {
             source: TextSource::Body(id),
             from: 0,
@@ -31,7 +31,7 @@ fn a_body_is_lent_in_one_piece_and_closed(rt: HostRuntime) -> Result<(), Fail> {
     );
     assert!(&rt; !cursors.is_empty());
     assert_eq!(&rt;
-        cursors.pass(&table, b"".as_slice()),
+        cursors.step(&table, b"".as_slice()),
         Some(CursorStep::Silent)
     );
     assert!(&rt; cursors.is_empty());

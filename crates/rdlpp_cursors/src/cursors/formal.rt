@@ -1,5 +1,5 @@
 // The opening of what a formal stands for.
-ghost use Rattle.std.specs.Prelude.{[], length, List, ℕ, ◌+◌, ◌<◌, ◌≡◌, ◌≤◌};
+ghost use Rattle.std.specs.Prelude.{[], length, ◌+◌, ◌<◌, ◌≡◌, ◌≤◌};
 ghost use Rattle.std.specs.Option.{option_map};
 ghost use Rattle.rdlpp_cursors.specs.Digits.{IsFalling};
 ghost use Rattle.rdlpp_cursors.specs.Fronts.{IsLook};
@@ -36,23 +36,24 @@ impl Cursors {
     pub(super) fn formal(
         &mut self,
         table: &Table,
+        arguments: &[u8],
         look: &Look,
         len: usize,
         place: usize,
     ) -> CursorStep
-        ghost arguments: { List ℕ }
         requires some { 0 < length self.old.opens }
-        requires sound { AreSound (texts_of table.now.macros arguments) self.old.opens }
-        requires look { IsLook (texts_of table.now.macros arguments) self.old.opens look.now }
+        requires sound { AreSound (texts_of table.now.macros arguments.now) self.old.opens }
+        requires look { IsLook (texts_of table.now.macros arguments.now) self.old.opens look.now }
         requires front { look.now.front ≡ Front.Formal len place }
-        ensures step { IsStep self.old.line self.old.depth (texts_of table.now.macros arguments) self.old.opens result self.new.opens }
-        ensures sound { AreSound (texts_of table.now.macros arguments) self.new.opens }
+        ensures step { IsStep self.old.line self.old.depth (texts_of table.now.macros arguments.now) self.old.opens result self.new.opens }
+        ensures sound { AreSound (texts_of table.now.macros arguments.now) self.new.opens }
         ensures kept { (self.new.line ≡ self.old.line) × (self.new.depth ≡ self.old.depth) }
         ensures digits { IsFalling self.old.opens result self.new.opens }
         ensures refused { StaysRefused self.old result self.new }
     {
         let look = *look;
         let _macros = table.len();
+        let _arguments = arguments.len();
         if self.is_full() {
             return wordless(FaultKind::DepthPassed);
         }

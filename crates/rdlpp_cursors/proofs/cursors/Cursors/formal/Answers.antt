@@ -5,71 +5,71 @@ use Rattle.rdlpp_cursors.proofs.Standing.{formal-place, formal-text, pass-deep, 
 use Rattle.rdlpp_cursors.proofs.cursors.Cursors.formal.Goals as goal
 
 pub standing-requires-clause-bound : goal.standing-requires-clause-bound
-standing-requires-clause-bound g c = sound-bound (texts_of c.args.table.now.macros g.arguments) c.args.self.now.opens c.requires.1.0
+standing-requires-clause-bound c = sound-bound (texts_of c.args.table.now.macros c.args.arguments.now) c.args.self.now.opens c.requires.sound
 
 pub standing-requires-clause-place : goal.standing-requires-clause-place
-standing-requires-clause-place g c =
-    formal-place (texts_of c.args.table.now.macros g.arguments) c.args.self.now.opens c.args.look.now c.args.len c.args.place c.requires.1.0 c.requires.1.1.0 c.requires.1.1.1
+standing-requires-clause-place c =
+    formal-place (texts_of c.args.table.now.macros c.args.arguments.now) c.args.self.now.opens c.args.look.now c.args.len c.args.place c.requires.sound c.requires.look c.requires.front
 
 pub overflow_add-look : goal.overflow_add-look
-overflow_add-look g c =
-    let inside = (formal-inside (texts_of c.args.table.now.macros g.arguments) c.args.self.now.opens c.args.look.now c.args.len c.args.place c.requires.1.1.0 c.requires.1.1.1).1 in
+overflow_add-look c =
+    let inside = (formal-inside (texts_of c.args.table.now.macros c.args.arguments.now) c.args.self.now.opens c.args.look.now c.args.len c.args.place c.requires.look c.requires.front).1 in
     omega (arith, inside)
 
 pub push_text-requires-clause-text : goal.push_text-requires-clause-text
-push_text-requires-clause-text g c =
-    formal-text c.args.table.now (texts_of c.args.table.now.macros g.arguments) c.args.self.now.opens c.args.look.now c.args.len c.args.place c.in-Some.new c.len-macros.ensures.sound refl c.requires.1.0 c.requires.1.1.0 c.requires.1.1.1
+push_text-requires-clause-text c =
+    formal-text c.args.table.now (texts_of c.args.table.now.macros c.args.arguments.now) c.args.self.now.opens c.args.look.now c.args.len c.args.place c.in-Some.new c.len-macros.ensures.sound refl c.requires.sound c.requires.look c.requires.front
     (c.in-Some.ensures)
 
 pub returns-then-is_full-clause-step : goal.returns-then-is_full-clause-step
-returns-then-is_full-clause-step g c =
-    (pass-deep (texts_of c.args.table.now.macros g.arguments) c.args.self.now c.args.look.now c.args.len c.args.place c.wordless.result c.requires.1.0 c.requires.1.1.0 c.requires.1.1.1
+returns-then-is_full-clause-step c =
+    (pass-deep (texts_of c.args.table.now.macros c.args.arguments.now) c.args.self.now c.args.look.now c.args.len c.args.place c.wordless.result c.requires.sound c.requires.look c.requires.front
     (sym c.is_full.ensures ∙ c.if-is_full.true) c.wordless.ensures).is_step
 
 pub returns-in_default-clause-step : goal.returns-in_default-clause-step
-returns-in_default-clause-step g c =
-    (pass-nothing (texts_of c.args.table.now.macros g.arguments) c.args.self.now c.args.look.now c.args.len c.args.place _ c.requires.1.0 c.requires.1.1.0 c.requires.1.1.1
+returns-in_default-clause-step c =
+    (pass-nothing (texts_of c.args.table.now.macros c.args.arguments.now) c.args.self.now c.args.look.now c.args.len c.args.place _ c.requires.sound c.requires.look c.requires.front
     c.in_default.ensures).is_step
 
 pub returns-then-is_full-clause-digits : goal.returns-then-is_full-clause-digits
-returns-then-is_full-clause-digits g c =
-    (pass-deep (texts_of c.args.table.now.macros g.arguments) c.args.self.now c.args.look.now c.args.len c.args.place c.wordless.result c.requires.1.0 c.requires.1.1.0 c.requires.1.1.1
+returns-then-is_full-clause-digits c =
+    (pass-deep (texts_of c.args.table.now.macros c.args.arguments.now) c.args.self.now c.args.look.now c.args.len c.args.place c.wordless.result c.requires.sound c.requires.look c.requires.front
     (sym c.is_full.ensures ∙ c.if-is_full.true) c.wordless.ensures).digits
 
 pub returns-in_default-clause-digits : goal.returns-in_default-clause-digits
-returns-in_default-clause-digits g c =
-    (pass-nothing (texts_of c.args.table.now.macros g.arguments) c.args.self.now c.args.look.now c.args.len c.args.place _ c.requires.1.0 c.requires.1.1.0 c.requires.1.1.1
+returns-in_default-clause-digits c =
+    (pass-nothing (texts_of c.args.table.now.macros c.args.arguments.now) c.args.self.now c.args.look.now c.args.len c.args.place _ c.requires.sound c.requires.look c.requires.front
     c.in_default.ensures).digits
 
 pub returns-then-is_full-clause-refused : goal.returns-then-is_full-clause-refused
-returns-then-is_full-clause-refused g c =
-    (pass-deep (texts_of c.args.table.now.macros g.arguments) c.args.self.now c.args.look.now c.args.len c.args.place c.wordless.result c.requires.1.0 c.requires.1.1.0 c.requires.1.1.1
+returns-then-is_full-clause-refused c =
+    (pass-deep (texts_of c.args.table.now.macros c.args.arguments.now) c.args.self.now c.args.look.now c.args.len c.args.place c.wordless.result c.requires.sound c.requires.look c.requires.front
     (sym c.is_full.ensures ∙ c.if-is_full.true) c.wordless.ensures).refused
 
 pub returns-in_default-clause-refused : goal.returns-in_default-clause-refused
-returns-in_default-clause-refused g c =
-    (pass-nothing (texts_of c.args.table.now.macros g.arguments) c.args.self.now c.args.look.now c.args.len c.args.place _ c.requires.1.0 c.requires.1.1.0 c.requires.1.1.1
+returns-in_default-clause-refused c =
+    (pass-nothing (texts_of c.args.table.now.macros c.args.arguments.now) c.args.self.now c.args.look.now c.args.len c.args.place _ c.requires.sound c.requires.look c.requires.front
     c.in_default.ensures).refused
 
 pub returns-clause-step : goal.returns-clause-step
-returns-clause-step g c =
-    (pass-formal c.args.table.now (texts_of c.args.table.now.macros g.arguments) c.args.self.now c.move_to.new.self c.push_text.new.self c.args.look.now c.args.len c.args.place _ c.in-Some.new
-    c.len-macros.ensures.sound refl c.requires.1.0 c.requires.1.1.0 c.requires.1.1.1 c.in-Some.ensures (sym c.is_full.ensures ∙ c.if-is_full.false) refl c.move_to.ensures c.push_text.ensures).is_step
+returns-clause-step c =
+    (pass-formal c.args.table.now (texts_of c.args.table.now.macros c.args.arguments.now) c.args.self.now c.move_to.new.self c.push_text.new.self c.args.look.now c.args.len c.args.place _ c.in-Some.new
+    c.len-macros.ensures.sound refl c.requires.sound c.requires.look c.requires.front c.in-Some.ensures (sym c.is_full.ensures ∙ c.if-is_full.false) refl c.move_to.ensures c.push_text.ensures).is_step
 
 pub returns-clause-sound : goal.returns-clause-sound
-returns-clause-sound g c =
-    (pass-formal c.args.table.now (texts_of c.args.table.now.macros g.arguments) c.args.self.now c.move_to.new.self c.push_text.new.self c.args.look.now c.args.len c.args.place _ c.in-Some.new
-    c.len-macros.ensures.sound refl c.requires.1.0 c.requires.1.1.0 c.requires.1.1.1 c.in-Some.ensures (sym c.is_full.ensures ∙ c.if-is_full.false) refl c.move_to.ensures c.push_text.ensures).sound
+returns-clause-sound c =
+    (pass-formal c.args.table.now (texts_of c.args.table.now.macros c.args.arguments.now) c.args.self.now c.move_to.new.self c.push_text.new.self c.args.look.now c.args.len c.args.place _ c.in-Some.new
+    c.len-macros.ensures.sound refl c.requires.sound c.requires.look c.requires.front c.in-Some.ensures (sym c.is_full.ensures ∙ c.if-is_full.false) refl c.move_to.ensures c.push_text.ensures).sound
 
 pub returns-clause-digits : goal.returns-clause-digits
-returns-clause-digits g c =
-    (pass-formal c.args.table.now (texts_of c.args.table.now.macros g.arguments) c.args.self.now c.move_to.new.self c.push_text.new.self c.args.look.now c.args.len c.args.place _ c.in-Some.new
-    c.len-macros.ensures.sound refl c.requires.1.0 c.requires.1.1.0 c.requires.1.1.1 c.in-Some.ensures (sym c.is_full.ensures ∙ c.if-is_full.false) refl c.move_to.ensures c.push_text.ensures).digits
+returns-clause-digits c =
+    (pass-formal c.args.table.now (texts_of c.args.table.now.macros c.args.arguments.now) c.args.self.now c.move_to.new.self c.push_text.new.self c.args.look.now c.args.len c.args.place _ c.in-Some.new
+    c.len-macros.ensures.sound refl c.requires.sound c.requires.look c.requires.front c.in-Some.ensures (sym c.is_full.ensures ∙ c.if-is_full.false) refl c.move_to.ensures c.push_text.ensures).digits
 
 pub returns-clause-refused : goal.returns-clause-refused
-returns-clause-refused g c =
-    (pass-formal c.args.table.now (texts_of c.args.table.now.macros g.arguments) c.args.self.now c.move_to.new.self c.push_text.new.self c.args.look.now c.args.len c.args.place _ c.in-Some.new
-    c.len-macros.ensures.sound refl c.requires.1.0 c.requires.1.1.0 c.requires.1.1.1 c.in-Some.ensures (sym c.is_full.ensures ∙ c.if-is_full.false) refl c.move_to.ensures c.push_text.ensures).refused
+returns-clause-refused c =
+    (pass-formal c.args.table.now (texts_of c.args.table.now.macros c.args.arguments.now) c.args.self.now c.move_to.new.self c.push_text.new.self c.args.look.now c.args.len c.args.place _ c.in-Some.new
+    c.len-macros.ensures.sound refl c.requires.sound c.requires.look c.requires.front c.in-Some.ensures (sym c.is_full.ensures ∙ c.if-is_full.false) refl c.move_to.ensures c.push_text.ensures).refused
 
 pub push_text-requires-clause-room : goal.push_text-requires-clause-room
-push_text-requires-clause-room g c = room-moved c.args.self.now c.move_to.new.self _ (sym c.is_full.ensures ∙ c.if-is_full.false) c.move_to.ensures
+push_text-requires-clause-room c = room-moved c.args.self.now c.move_to.new.self _ (sym c.is_full.ensures ∙ c.if-is_full.false) c.move_to.ensures

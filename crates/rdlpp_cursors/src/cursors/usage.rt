@@ -1,0 +1,157 @@
+// Usages in open texts: their names, their faults, and the bodies of macros without a list.
+ghost use Rattle.std.specs.Prelude.{MatchOption, ◌≡◌, ◌==◌, ◌∷◌, ◌+◌, ◌<◌, ◌≤◌, ◌^◌, [], length};
+ghost use Rattle.std.specs.List.{list_any};
+ghost use Rattle.std.specs.Result.{MatchResult};
+ghost use Rattle.rdlpp_scan.specs.Stage.{is_reserved};
+ghost use Rattle.rdlpp_table.specs.View.{macro_at};
+ghost use Rattle.rdlpp_meaning.specs.Opens.{open_body};
+ghost use Rattle.rdlpp_cursors.specs.Digits.{IsFalling};
+ghost use Rattle.rdlpp_cursors.specs.Fronts.{IsLook};
+ghost use Rattle.rdlpp_cursors.specs.Opened.{moved_to};
+ghost use Rattle.rdlpp_cursors.specs.Places.{place_bytes, source_text, texts_of, IsSource};
+ghost use Rattle.rdlpp_cursors.specs.Scopes.{front_scope, writer_ids, AreFurtherOut};
+ghost use Rattle.rdlpp_cursors.specs.Steps.{AreSound, IsStep, StaysRefused};
+ghost use Rattle.rdlpp_cursors.specs.Usages.{front_name, unknown_kind, IsRefused, IsUsed};
+
+use crate::cursors::Cursors;
+use crate::front::{Front, Look};
+use crate::place::TextPlace;
+use crate::scopes::{front_scope, is_written_in, text_of};
+use crate::step::{CursorFault, CursorStep, wordless};
+use rdlpp_meaning::FaultKind;
+use rdlpp_scan::reserved;
+use rdlpp_table::{MacroId, Table};
+
+// The fault of a usage whose name no macro has.
+fn unknown_kind(name: &[u8]) -> FaultKind
+    ensures { result ≡ unknown_kind (is_reserved name.now) }
+{
+    if reserved(name).is_some() {
+        FaultKind::DirectiveInText
+    } else {
+        FaultKind::UndefinedMacro
+    }
+}
+
+// Where the name of a usage stands: behind its backquote.
+fn word_of(look: &Look, len: usize) -> TextPlace
+    requires short { look.now.from + len < 2 ^ 64 }
+    requires some { 0 < len }
+    ensures { result ≡ record { source = look.now.source; from = look.now.from + 1; end = look.now.from + len } }
+{
+    TextPlace {
+        source: look.source,
+        from: look.from + 1,
+        end: look.from + len,
+    }
+}
+
+// The bytes at a place of a text.
+#[tactic(auto, unfolding(crate::specs::Places::place_bytes))]
+fn bytes_at<'a>(table: &'a Table, arguments: &'a [u8], place: TextPlace) -> &'a [u8]
+    requires source { IsSource (texts_of table.now.macros arguments.now) place.source }
+    requires order { place.from ≤ place.end }
+    requires inside { place.end ≤ length (source_text (texts_of table.now.macros arguments.now) place.source) }
+    ensures { result.now ≡ place_bytes (texts_of table.now.macros arguments.now) place }
+{
+    let text = text_of(table, arguments, place.source);
+    &text[place.from..place.end]
+}
+
+impl Cursors {
+    // The scope of the innermost text.
+    pub(super) fn scope(&self) -> usize
+        requires { 0 < length self.now.opens }
+        ensures { result ≡ front_scope self.now.opens }
+    {
+        let slots = self.slots.as_slice();
+        front_scope(&slots[self.first..])
+    }
+
+    // Whether the innermost text is in the text of a macro.
+    fn is_inside(&self, id: MacroId) -> bool
+        requires some { 0 < length self.now.opens }
+        requires homed { AreFurtherOut self.now.opens }
+        ensures { result ≡ list_any (λ own. id == own) (writer_ids self.now.opens (front_scope self.now.opens)) }
+    {
+        let scope = self.scope();
+        let slots = self.slots.as_slice();
+        is_written_in(&slots[self.first..], scope, id)
+    }
+
+    // Opens the body of a macro without a list in front of the innermost text, which goes on at a place.
+    fn enter(&mut self, table: &Table, id: MacroId, at: usize)
+        requires some { 0 < length self.old.opens }
+        requires room { length self.old.opens < self.old.depth }
+        requires id { id < length table.now.macros }
+        ensures { self.new ≡ record self.old { opens = open_body (texts_of table.now.macros []) id [] (front_scope self.old.opens) ∷ moved_to at self.old.opens } }
+    {
+        let home = self.scope();
+        self.move_to(at);
+        self.push_body(id, table.body(id).len(), home);
+    }
+
+    // The macro of the usage at the front of the innermost text, or why it is refused.
+    fn used_macro(
+        &self,
+        table: &Table,
+        arguments: &[u8],
+        look: &Look,
+        len: usize,
+    ) -> Result<MacroId, FaultKind>
+        requires some { 0 < length self.now.opens }
+        requires sound { AreSound (texts_of table.now.macros arguments.now) self.now.opens }
+        requires look { IsLook (texts_of table.now.macros arguments.now) self.now.opens look.now }
+        requires short { look.now.end < 2 ^ 64 }
+        requires front { look.now.front ≡ Front.Usage len }
+        ensures { MatchResult result (λ id. IsUsed (texts_of table.now.macros arguments.now) self.now.opens (front_name (texts_of table.now.macros arguments.now) self.now.opens len) id) (λ kind. IsRefused (texts_of table.now.macros arguments.now) self.now.opens (front_name (texts_of table.now.macros arguments.now) self.now.opens len) kind) }
+    {
+        let word = word_of(look, len);
+        let name = bytes_at(table, arguments, word);
+        let Some(id) = table.find(name) else {
+            return Err(unknown_kind(name));
+        };
+        if self.is_inside(id) {
+            return Err(FaultKind::RecursiveMacro);
+        }
+        Ok(id)
+    }
+
+    // One step at a usage of so many bytes, which stands at the front of the innermost text. `None`, and nothing changes, where
+    // its macro has a list.
+    pub(super) fn usage(
+        &mut self,
+        table: &Table,
+        arguments: &[u8],
+        look: &Look,
+        len: usize,
+    ) -> Option<CursorStep>
+        requires some { 0 < length self.old.opens }
+        requires sound { AreSound (texts_of table.now.macros arguments.now) self.old.opens }
+        requires look { IsLook (texts_of table.now.macros arguments.now) self.old.opens look.now }
+        requires short { look.now.end < 2 ^ 64 }
+        requires front { look.now.front ≡ Front.Usage len }
+        ensures step { MatchOption result (self.new ≡ self.old) (λ step. IsStep self.old.line self.old.depth (texts_of table.now.macros arguments.now) self.old.opens step self.new.opens) }
+        ensures sound { AreSound (texts_of table.now.macros arguments.now) self.new.opens }
+        ensures kept { (self.new.line ≡ self.old.line) × (self.new.depth ≡ self.old.depth) }
+        ensures digits { MatchOption result Unit (λ step. IsFalling self.old.opens step self.new.opens) }
+        ensures refused { MatchOption result Unit (λ step. StaysRefused self.old step self.new) }
+    {
+        let _macros = table.len();
+        let id = match self.used_macro(table, arguments, look, len) {
+            Ok(id) => id,
+            Err(kind) => {
+                let word = word_of(look, len);
+                return Some(CursorStep::Refused(CursorFault { kind, word }));
+            }
+        };
+        if table.arity(id).is_some() {
+            return None;
+        }
+        if self.is_full() {
+            return Some(wordless(FaultKind::DepthPassed));
+        }
+        self.enter(table, id, look.from + len);
+        Some(CursorStep::Silent)
+    }
+}
