@@ -1,3 +1,5 @@
+pub mod Binding
+pub mod Calling
 pub mod Keeping
 pub mod Looking
 pub mod Passing

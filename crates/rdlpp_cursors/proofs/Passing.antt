@@ -1,8 +1,8 @@
 -- A step of open texts where neither a formal nor a usage stands at the front of the innermost.
-use Rattle.std.proofs.Common.{◌≡◌, ℕ, ◌+◌, ◌-◌, ◌<◌, ◌≤◌, true, List, [], ◌∷◌, length, take, drop, refl, sym, ap, subst, ◌∙◌, arith}
+use Rattle.std.proofs.Common.{◌≡◌, ℕ, ◌+◌, ◌-◌, ◌<◌, ◌≤◌, List, [], ◌∷◌, length, take, drop, refl, sym, ap, subst, ◌∙◌, arith}
 use Rattle.std.proofs.Common.{Option, None, Some, unwrap_or}
 use Rattle.std.specs.Prelude.{slice_range}
-use Rattle.std.specs.Option.{option_map, MatchOption}
+use Rattle.std.specs.Option.{option_map}
 use Rattle.std.proofs.lemmas.List.{length-take, length-drop, take-take}
 use Rattle.rdlpp_scan.specs.SourceTokens.{SourceToken}
 use Rattle.rdlpp_table.specs.Table.{Formal}
@@ -20,7 +20,7 @@ use Rattle.rdlpp_cursors.specs.declared.place.TextSource.TheVariants.{Arguments}
 use Rattle.rdlpp_cursors.specs.declared.step.CursorFault.{CursorFault}
 use Rattle.rdlpp_cursors.specs.declared.step.CursorStep.{CursorStep}
 use Rattle.rdlpp_cursors.specs.declared.step.CursorStep.TheVariants.{Lends, Silent, Refused}
-use Rattle.rdlpp_cursors.specs.Fronts.{IsFront, IsLook, IsHeld, holds}
+use Rattle.rdlpp_cursors.specs.Fronts.{IsFront, IsLook}
 use Rattle.rdlpp_cursors.specs.Opened.{moved_to, CursorsView}
 use Rattle.rdlpp_cursors.specs.Places.{texts_of, place_bytes, source_text, source_formals}
 use Rattle.rdlpp_cursors.specs.Scopes.{front_source}
@@ -84,12 +84,6 @@ look-bare line depth texts (x ∷ below) new look fault h l e k w =
 pub no-word : (texts : Texts) (source : TextSource) → place_bytes texts (record { source = source; from = 0; end = 0 }) ≡ []
 unfolding place_bytes
 no-word texts source = refl
-
--- a formal or a usage stands at the front
-pub look-held : (texts : Texts) (opens : List Open) (look : Look) → IsLook texts opens look → holds look.front ≡ true → IsHeld texts opens
-unfolding IsLook IsHeld
-look-held texts [] look l e = l
-look-held texts (x ∷ below) look l e = (look.front, e, l.3)
 
 -- what a list that isn't there has
 pub no-formals : (formals : Option (List Formal)) → option_map (λ (fs : List Formal). length fs) formals ≡ None → length (unwrap_or formals []) ≤ 0
@@ -176,12 +170,3 @@ pass-bare texts view look step h l e is =
       digits = tt;
       refused = refl;
     })
-
--- a usage is held
-pub usage-holds : (f : Front) (n : ℕ) → f ≡ front.Usage n → holds f ≡ true
-usage-holds f n e = ap (λ (g : Front). holds g) e
-
--- what holds where there is no value holds with more
-pub held-or : {T : Type 0} (A B : Type 0) (P : T → Type 0) (r : Option T) → B → MatchOption r A P → MatchOption r (A × B) P
-held-or A B P None b h = (h, b)
-held-or A B P (Some x) b h = h

@@ -37,7 +37,7 @@ unfolding opens_of
 none-open slots first bindings h = ap (λ (s : List Slot). opens_of s bindings) (drop_all first slots h)
 
 -- ranges that are laid are few
-laid-few : (slots : List Slot) (bindings : List Range) → AreLaid slots bindings → length bindings ≤ 255 * length slots
+pub laid-few : (slots : List Slot) (bindings : List Range) → AreLaid slots bindings → length bindings ≤ 255 * length slots
 unfolding AreLaid
 laid-few [] bindings h = omega (arith, h)
 laid-few (y ∷ ys) bindings h = h.0
@@ -99,7 +99,7 @@ moved-laid slots first at bindings own inside e laid =
     subst (λ (s : List Slot). AreLaid s bindings) (sym (drop-set slots first (record own { from = at }) inside)) both
 
 -- the slots where one more is opened
-entered : (slots : List Slot) (first : ℕ) (new : Slot) → 0 < first → first ≤ length slots → drop (first - 1) (set slots (first - 1) new) ≡ new ∷ drop first slots
+pub entered : (slots : List Slot) (first : ℕ) (new : Slot) → 0 < first → first ≤ length slots → drop (first - 1) (set slots (first - 1) new) ≡ new ∷ drop first slots
 entered slots first new some inside =
     let more : first - 1 < length slots = omega (arith, some, inside) in
     let back : first - 1 + 1 ≡ first = omega (arith, some) in
@@ -175,7 +175,7 @@ room-first v first bindings inside room =
     omega (arith, n, h, inside, room)
 
 -- slots of which none is open
-pub stack-made : (v : Vec Slot Global) (first : ℕ) (bindings : Vec Range Global) → vec_len v ≡ first → bindings.items ≡ [] → vec_capacity bindings ≡ first * 255
+pub stack-made : (v : Vec Slot Global) (first : ℕ) (bindings : Vec Range Global) → vec_len v ≡ first → bindings.items ≡ [] → vec_capacity bindings ≡ (first + 1) * 255
     → IsStack v.items first bindings
 unfolding AreLaid
 stack-made v first bindings size none room =

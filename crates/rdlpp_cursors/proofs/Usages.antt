@@ -62,7 +62,7 @@ pub record IsUsageInside (texts : Texts) (look : Look) (len : ℕ) : Type 0 wher
   pub within : look.end ≤ length (source_text texts look.source)
 
 -- the front of a look at a usage
-front-is : (texts : Texts) (x : Open) (below : List Open) (look : Look) (len : ℕ) → look.front ≡ front.Usage len
+pub front-is : (texts : Texts) (x : Open) (below : List Open) (look : Look) (len : ℕ) → look.front ≡ front.Usage len
     → IsFront (source_formals texts (front_source (x ∷ below))) (open_bytes texts x below) look.front
     → IsFront (source_formals texts (front_source (x ∷ below))) (open_bytes texts x below) (front.Usage len)
 front-is texts x below look len e f = subst (λ (f : Front). IsFront (source_formals texts (front_source (x ∷ below))) (open_bytes texts x below) f) e f
@@ -218,7 +218,7 @@ unfolding token_usage_of_formals
 plain-opens size rules line name ts m e = rw e refl
 
 -- a backquote with a name closes
-back-closes : (kind : Kind) → kind ≡ Back → opens_mode kind ≡ false
+pub back-closes : (kind : Kind) → kind ≡ Back → opens_mode kind ≡ false
 unfolding opens_mode
 back-closes kind e = ap (λ (k : Kind). opens_mode k) e
 
@@ -349,7 +349,7 @@ scope-inside (x ∷ below) h = by x.kind
     by (OpenDefault id place) = omega arith
 
 -- open texts that go on are as many
-moved-length : (opens : List Open) (at : ℕ) → length (moved_to at opens) ≡ length opens
+pub moved-length : (opens : List Open) (at : ℕ) → length (moved_to at opens) ≡ length opens
 unfolding moved_to
 moved-length [] at = refl
 moved-length (x ∷ below) at = refl
@@ -543,3 +543,9 @@ pub no-list : (formals : Option (List Formal)) (count : Option ℕ) (some : Bool
     → some ≡ false → formals ≡ None
 no-list None count some e s f = refl
 no-list (Some fs) count some e s f = absurd (true≢false (sym (s ∙ ap (λ (o : Option ℕ). is_some o) e) ∙ f))
+
+-- and it has one where it has a count
+pub has-list : (formals : Option (List Formal)) (count : Option ℕ) (some : Bool) → count ≡ option_map (λ (fs : List Formal). length fs) formals → some ≡ is_some count
+    → some ≡ true → is_some formals ≡ true
+has-list None count some e s f = absurd (true≢false (sym f ∙ s ∙ ap (λ (o : Option ℕ). is_some o) e))
+has-list (Some fs) count some e s f = refl

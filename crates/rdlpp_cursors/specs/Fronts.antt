@@ -45,17 +45,3 @@ IsLook texts [] look = ⊥
 IsLook texts (x ∷ below) look =
     (look.source ≡ front_source (x ∷ below)) × (look.from ≡ x.part.from) × (look.end ≡ x.part.end)
     × IsFront (source_formals texts (front_source (x ∷ below))) (open_bytes texts x below) look.front
-
--- whether the name of a formal or a usage stands at a front
-abbrev pub holds : Front → Bool
-holds Ended = false
-holds (Run len) = false
-holds (FormalName len place) = true
-holds (Usage len) = true
-holds Bare = false
-
--- the name of a formal or a usage stands at the front of the innermost open text
-unfoldable pub IsHeld : Texts → List Open → Type 0
-IsHeld texts [] = ⊥
-IsHeld texts (x ∷ below) =
-    (f : Front) × (holds f ≡ true) × IsFront (source_formals texts (front_source (x ∷ below))) (open_bytes texts x below) f

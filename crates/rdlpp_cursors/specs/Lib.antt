@@ -4,4 +4,5 @@ pub mod Places
 pub mod Fronts
 pub mod Steps
 pub mod Usages
+pub mod Calls
 pub mod Digits

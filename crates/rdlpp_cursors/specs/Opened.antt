@@ -60,12 +60,12 @@ unfoldable pub bound_by : List Open → ℕ
 bound_by [] = 0
 bound_by (x ∷ below) = bound_in x.kind + bound_by below
 
--- how the slots and the ranges lie: the open texts stand from `first` on, and there is room for the ranges of as many bodies
--- as there are slots (source: this project's profile)
+-- how the slots and the ranges lie: the open texts stand from `first` on, and there is room for the ranges of one body more than
+-- there are slots, since a call is bound before a slot is sought (source: this project's profile)
 pub record IsStack {A : Type 0} (slots : List Slot) (first : ℕ) (bindings : Vec Range A) : Type 0 where
   pub inside : first ≤ length slots
   pub laid : AreLaid (drop first slots) bindings.items
-  pub room : 255 * length slots ≤ vec_capacity bindings
+  pub room : 255 * (length slots + 1) ≤ vec_capacity bindings
 
 -- what is no body
 abbrev pub IsNoBody : SlotKind → Type 0

@@ -1,15 +1,16 @@
 // The stack of open texts.
-ghost use Rattle.std.specs.Prelude.{[], length, IfOk, MatchOption, List, None, ℕ, ◌==◌, ◌<◌, ◌≡◌, ◌≤◌, ◌∷◌, ◌^◌, drop, nat_le};
+ghost use Rattle.std.specs.Prelude.{[], length, IfOk, List, None, ℕ, ◌==◌, ◌<◌, ◌≡◌, ◌≤◌, ◌∷◌, ◌^◌, drop, nat_le};
 ghost use Rattle.rdlpp_scan.specs.declared.token.Mode.TheVariants.{Plain};
 ghost use Rattle.std.specs.Option.{option_map};
 ghost use Rattle.rdlpp_table.specs.View.{macro_at};
 ghost use Rattle.rdlpp_meaning.specs.Opens.{open_body, OpenBody};
 ghost use Rattle.rdlpp_cursors.specs.Digits.{IsFalling};
-ghost use Rattle.rdlpp_cursors.specs.Fronts.{IsHeld, IsLook};
+ghost use Rattle.rdlpp_cursors.specs.Fronts.{IsLook};
 ghost use Rattle.rdlpp_cursors.specs.Opened.{bound_by, kept_by, moved_to, open_of, IsNoBody};
 ghost use Rattle.rdlpp_cursors.specs.Places.{texts_of};
 ghost use Rattle.rdlpp_cursors.specs.Steps.{AreSound, IsStep, StaysRefused};
 
+mod call;
 mod usage;
 
 use crate::front::{Front, Look, look_at};
@@ -78,7 +79,7 @@ impl Cursors {
             kind: SlotKind::Actual,
         };
         let slots = vec![in alloc; closed; depth]?;
-        let bindings = Vec::with_capacity(alloc, depth * 255)?;
+        let bindings = Vec::with_capacity(alloc, (depth + 1) * 255)?;
         Ok(Cursors {
             slots,
             first: depth,
@@ -194,47 +195,47 @@ impl Cursors {
 
     /// One step of the innermost text, by what stands at its front. `arguments` is what is kept of the call in the source.
     ///
-    /// It lends the longest run of bytes that are copied, in one piece as they lie; it opens the actual of a formal, its default
-    /// where the actual is empty, or the body of a macro without a list, and goes on behind the name; or it closes a text of
-    /// which nothing is left. `None`, and nothing changes, where a usage of a macro with a list stands there.
+    /// It lends the longest run of bytes that are copied, in one piece as they lie. It opens the actual of a formal, its default
+    /// where the actual is empty, or the body of a macro, and goes on behind the name or the call. Or it closes a text of which
+    /// nothing is left.
     ///
     /// # Faults
-    /// Told at the line of the usage in the source; nothing changes then, and the same fault comes again:
-    /// - `BareBackquote` for a backquote without a name (this project's profile);
-    /// - `DirectiveInText` for the name of a directive (this project's profile), with that name as its word;
-    /// - `UndefinedMacro` for a name that no macro has (IEEE 1364-2001, `define`), with that name;
-    /// - `RecursiveMacro` for a usage in the text of its own macro, be it the body, a default or an actual that is written there
-    ///   (IEEE 1364-2001, `define`), with that name;
+    /// They are told at the line of the usage in the source. Nothing changes then, and the same fault comes again.
+    /// - `BareBackquote` for a backquote without a name (this project's profile).
+    /// - `DirectiveInText` for the name of a directive, with that name as its word (this project's profile).
+    /// - `UndefinedMacro` for a name that no macro has, with that name (IEEE 1364-2001, `define`).
+    /// - `RecursiveMacro` for a usage that is written in the body of its own macro, or in a text that is written there, with that
+    ///   name (IEEE 1364-2001, `define`); an actual is written where its call is.
+    /// - `ArgumentsMissing`, `ArgumentsOpen` and `ArgumentCount` for a call of a macro with a list, with that name
+    ///   (IEEE 1364-2001, `define`).
     /// - `DepthPassed` where as many texts are open as there is room for, without a word (this project's profile).
-    pub fn step(&mut self, table: &Table, arguments: &[u8]) -> Option<CursorStep>
+    pub fn step(&mut self, table: &Table, arguments: &[u8]) -> CursorStep
         requires some { 0 < length self.old.opens }
         requires sound { AreSound (texts_of table.now.macros arguments.now) self.old.opens }
-        ensures step { MatchOption result ((self.new ≡ self.old) × IsHeld (texts_of table.now.macros arguments.now) self.old.opens) (λ step. IsStep self.old.line self.old.depth (texts_of table.now.macros arguments.now) self.old.opens step self.new.opens) }
+        ensures step { IsStep self.old.line self.old.depth (texts_of table.now.macros arguments.now) self.old.opens result self.new.opens }
         ensures sound { AreSound (texts_of table.now.macros arguments.now) self.new.opens }
         ensures kept { (self.new.line ≡ self.old.line) × (self.new.depth ≡ self.old.depth) }
-        ensures digits { MatchOption result Unit (λ step. IsFalling self.old.opens step self.new.opens) }
-        ensures refused { MatchOption result Unit (λ step. StaysRefused self.old step self.new) }
+        ensures digits { IsFalling self.old.opens result self.new.opens }
+        ensures refused { StaysRefused self.old result self.new }
     {
         let look = self.look(table, arguments);
         match look.front {
             Front::Ended => {
                 self.close();
-                Some(CursorStep::Silent)
+                CursorStep::Silent
             }
             Front::Run(len) => {
                 let end = look.from + len;
                 self.move_to(end);
-                Some(CursorStep::Lends(TextPlace {
+                CursorStep::Lends(TextPlace {
                     source: look.source,
                     from: look.from,
                     end,
-                }))
+                })
             }
-            Front::Formal { len, place } => {
-                Some(self.formal(table, arguments, &look, len, place))
-            }
+            Front::Formal { len, place } => self.formal(table, arguments, &look, len, place),
             Front::Usage(len) => self.usage(table, arguments, &look, len),
-            Front::Bare => Some(wordless(FaultKind::BareBackquote)),
+            Front::Bare => wordless(FaultKind::BareBackquote),
         }
     }
 }

@@ -1,5 +1,5 @@
 // Usages in open texts: their names, their faults, and the bodies of macros without a list.
-ghost use Rattle.std.specs.Prelude.{MatchOption, ◌≡◌, ◌==◌, ◌∷◌, ◌+◌, ◌<◌, ◌≤◌, ◌^◌, [], length};
+ghost use Rattle.std.specs.Prelude.{◌≡◌, ◌==◌, ◌∷◌, ◌+◌, ◌<◌, ◌≤◌, ◌^◌, [], length};
 ghost use Rattle.std.specs.List.{list_any};
 ghost use Rattle.std.specs.Result.{MatchResult};
 ghost use Rattle.rdlpp_scan.specs.Stage.{is_reserved};
@@ -34,7 +34,7 @@ fn unknown_kind(name: &[u8]) -> FaultKind
 }
 
 // Where the name of a usage stands: behind its backquote.
-fn word_of(look: &Look, len: usize) -> TextPlace
+pub(super) fn word_of(look: &Look, len: usize) -> TextPlace
     requires short { look.now.from + len < 2 ^ 64 }
     requires some { 0 < len }
     ensures { result ≡ record { source = look.now.source; from = look.now.from + 1; end = look.now.from + len } }
@@ -117,41 +117,41 @@ impl Cursors {
         Ok(id)
     }
 
-    // One step at a usage of so many bytes, which stands at the front of the innermost text. `None`, and nothing changes, where
-    // its macro has a list.
+    // One step at a usage of so many bytes, which stands at the front of the innermost text: it opens the body of its macro, or
+    // is refused (IEEE 1364-2001, `define`), and nothing changes then.
     pub(super) fn usage(
         &mut self,
         table: &Table,
         arguments: &[u8],
         look: &Look,
         len: usize,
-    ) -> Option<CursorStep>
+    ) -> CursorStep
         requires some { 0 < length self.old.opens }
         requires sound { AreSound (texts_of table.now.macros arguments.now) self.old.opens }
         requires look { IsLook (texts_of table.now.macros arguments.now) self.old.opens look.now }
         requires short { look.now.end < 2 ^ 64 }
         requires front { look.now.front ≡ Front.Usage len }
-        ensures step { MatchOption result (self.new ≡ self.old) (λ step. IsStep self.old.line self.old.depth (texts_of table.now.macros arguments.now) self.old.opens step self.new.opens) }
+        ensures step { IsStep self.old.line self.old.depth (texts_of table.now.macros arguments.now) self.old.opens result self.new.opens }
         ensures sound { AreSound (texts_of table.now.macros arguments.now) self.new.opens }
         ensures kept { (self.new.line ≡ self.old.line) × (self.new.depth ≡ self.old.depth) }
-        ensures digits { MatchOption result Unit (λ step. IsFalling self.old.opens step self.new.opens) }
-        ensures refused { MatchOption result Unit (λ step. StaysRefused self.old step self.new) }
+        ensures digits { IsFalling self.old.opens result self.new.opens }
+        ensures refused { StaysRefused self.old result self.new }
     {
         let _macros = table.len();
         let id = match self.used_macro(table, arguments, look, len) {
             Ok(id) => id,
             Err(kind) => {
                 let word = word_of(look, len);
-                return Some(CursorStep::Refused(CursorFault { kind, word }));
+                return CursorStep::Refused(CursorFault { kind, word });
             }
         };
         if table.arity(id).is_some() {
-            return None;
+            return self.call(table, arguments, look, len, id);
         }
         if self.is_full() {
-            return Some(wordless(FaultKind::DepthPassed));
+            return wordless(FaultKind::DepthPassed);
         }
         self.enter(table, id, look.from + len);
-        Some(CursorStep::Silent)
+        CursorStep::Silent
     }
 }

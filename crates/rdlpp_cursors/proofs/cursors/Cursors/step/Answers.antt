@@ -1,9 +1,6 @@
-use Rattle.std.proofs.Common.{◌≡◌, arith, refl}
-use Rattle.rdlpp_cursors.specs.Fronts.{IsHeld}
-use Rattle.rdlpp_cursors.specs.Steps.{IsStep}
-use Rattle.rdlpp_cursors.specs.declared.step.CursorStep.{CursorStep}
+use Rattle.std.proofs.Common.{arith, refl}
 use Rattle.rdlpp_cursors.specs.Places.{texts_of}
-use Rattle.rdlpp_cursors.proofs.Passing.{held-or, look-held, pass-bare, pass-ended, pass-run, usage-holds}
+use Rattle.rdlpp_cursors.proofs.Passing.{pass-bare, pass-ended, pass-run}
 use Rattle.rdlpp_cursors.proofs.Stepping.{look-inside}
 use Rattle.rdlpp_cursors.proofs.cursors.Cursors.step.Goals as goal
 
@@ -32,13 +29,6 @@ returns-in-Run-clause-sound c =
 pub returns-in-Bare-clause-step : goal.returns-in-Bare-clause-step
 returns-in-Bare-clause-step c =
     (pass-bare (texts_of c.args.table.now.macros c.args.arguments.now) c.args.self.now c.look-look.result c.wordless.result c.requires.sound c.look-look.ensures.look c.in-Bare.is c.wordless.ensures).is_step
-
-pub returns-in-Usage-clause-step : goal.returns-in-Usage-clause-step
-returns-in-Usage-clause-step c =
-    let texts = texts_of c.args.table.now.macros c.args.arguments.now in
-    let old = c.args.self.now in
-    held-or (c.usage.new.self ≡ old) (IsHeld texts old.opens) (λ (step : CursorStep). IsStep old.line old.depth texts old.opens step c.usage.new.self.opens) c.usage.result
-    (look-held (texts_of c.args.table.now.macros c.args.arguments.now) c.args.self.now.opens c.look-look.result c.look-look.ensures.look (usage-holds _ _ c.in-Usage.is)) c.usage.ensures.step
 
 pub returns-in-Ended-clause-digits : goal.returns-in-Ended-clause-digits
 returns-in-Ended-clause-digits c =

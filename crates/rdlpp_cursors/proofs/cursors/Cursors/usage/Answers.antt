@@ -3,7 +3,7 @@ use Rattle.std.proofs.lemmas.Bool.{leb-true, leb-false}
 use Rattle.rdlpp_cursors.specs.Places.{texts_of}
 use Rattle.rdlpp_cursors.specs.declared.step.CursorStep.TheVariants.{Silent, Refused}
 use Rattle.rdlpp_cursors.proofs.Passing.{IsPassed}
-use Rattle.rdlpp_cursors.proofs.Usages.{no-list, pass-deep, pass-opened, pass-refused, usage-place}
+use Rattle.rdlpp_cursors.proofs.Usages.{has-list, no-list, pass-deep, pass-opened, pass-refused, usage-place}
 use Rattle.rdlpp_cursors.proofs.cursors.Cursors.usage.Goals as goal
 
 pub word_of-word-requires-clause-short : goal.word_of-word-requires-clause-short
@@ -28,6 +28,9 @@ returns-in-Err-clause-digits c = (refused c).digits
 
 pub returns-in-Err-clause-refused : goal.returns-in-Err-clause-refused
 returns-in-Err-clause-refused c = (refused c).refused
+
+pub call-requires-clause-list : goal.call-requires-clause-list
+call-requires-clause-list c = has-list _ _ _ c.arity.ensures c.is_some.ensures c.if-is_some.true
 
 deep : (c : goal.After-wordless) → IsPassed (texts_of c.args.table.now.macros c.args.arguments.now) c.args.self.now c.args.self.now c.wordless.result
 deep c =

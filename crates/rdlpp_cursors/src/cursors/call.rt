@@ -1,0 +1,109 @@
+// Usages of macros with a list in an open text.
+ghost use Rattle.std.specs.Prelude.{is_some, length, slice_range, true, ◌<◌, ◌≡◌, ◌≤◌};
+ghost use Rattle.rdlpp_table.specs.View.{macro_at};
+ghost use Rattle.rdlpp_meaning.specs.Substitution.{body_tokens};
+ghost use Rattle.rdlpp_calls.specs.BoundCalls.{KeepsAll};
+ghost use Rattle.rdlpp_cursors.specs.Calls.{IsOpening};
+ghost use Rattle.rdlpp_cursors.specs.Digits.{IsFalling};
+ghost use Rattle.rdlpp_cursors.specs.Fronts.{IsLook};
+ghost use Rattle.rdlpp_cursors.specs.Places.{texts_of};
+ghost use Rattle.rdlpp_cursors.specs.Steps.{AreSound, IsStep, StaysRefused};
+ghost use Rattle.rdlpp_cursors.specs.Usages.{front_name, IsUsed};
+
+use crate::cursors::Cursors;
+use crate::cursors::usage::word_of;
+use crate::front::{Front, Look};
+use crate::scopes::text_of;
+use crate::slot::{Slot, SlotKind};
+use crate::step::{CursorFault, CursorStep, wordless};
+use rdlpp_calls::bind_call;
+use rdlpp_meaning::FaultKind;
+use rdlpp_table::{MacroId, Table};
+
+// What a call in an open text comes to.
+enum Opening {
+    // The body is opened.
+    Opened,
+    // The call is refused.
+    Refused(FaultKind),
+    // The call is bound, and no further text may be open.
+    Deep,
+}
+
+impl Cursors {
+    // Binds a call in the innermost text, from one place of that text up to another, goes on behind it, and opens the body of
+    // the macro. Nothing changes where that isn't so.
+    fn open_bound(
+        &mut self,
+        table: &Table,
+        text: &[u8],
+        at: usize,
+        end: usize,
+        id: MacroId,
+        home: usize,
+    ) -> Opening
+        requires some { 0 < length self.old.opens }
+        requires range { (at ≤ end) × (end ≤ length text.now) }
+        requires keeps { KeepsAll (body_tokens (slice_range text.now at end)) }
+        requires id { id < length table.now.macros }
+        ensures { IsOpening table.now.macros text.now at end id home self.old result self.new }
+    {
+        let _macros = table.len();
+        let formals = table.arity(id).unwrap_or(0);
+        let first = self.first;
+        let bound = self.bindings.len();
+        let behind = match bind_call(text, at, end, formals, &mut self.bindings) {
+            Ok(behind) => behind,
+            Err(kind) => return Opening::Refused(kind),
+        };
+        if first == 0 {
+            self.bindings.truncate(bound);
+            return Opening::Deep;
+        }
+        self.slots[first].from = behind;
+        self.slots[first - 1] = Slot {
+            from: 0,
+            end: table.body(id).len(),
+            home,
+            kind: SlotKind::Body { id, first: bound },
+        };
+        self.first = first - 1;
+        Opening::Opened
+    }
+
+    // The usage, with so many bytes, of a macro with a list at the front of the innermost text: it opens the body, or is
+    // refused (IEEE 1364-2001, `define`), and nothing changes then.
+    pub(super) fn call(
+        &mut self,
+        table: &Table,
+        arguments: &[u8],
+        look: &Look,
+        len: usize,
+        id: MacroId,
+    ) -> CursorStep
+        requires some { 0 < length self.old.opens }
+        requires sound { AreSound (texts_of table.now.macros arguments.now) self.old.opens }
+        requires look { IsLook (texts_of table.now.macros arguments.now) self.old.opens look.now }
+        requires front { look.now.front ≡ Front.Usage len }
+        requires used { IsUsed (texts_of table.now.macros arguments.now) self.old.opens (front_name (texts_of table.now.macros arguments.now) self.old.opens len) id }
+        requires list { is_some (macro_at table.now.macros id).formals ≡ true }
+        ensures step { IsStep self.old.line self.old.depth (texts_of table.now.macros arguments.now) self.old.opens result self.new.opens }
+        ensures sound { AreSound (texts_of table.now.macros arguments.now) self.new.opens }
+        ensures kept { (self.new.line ≡ self.old.line) × (self.new.depth ≡ self.old.depth) }
+        ensures digits { IsFalling self.old.opens result self.new.opens }
+        ensures refused { StaysRefused self.old result self.new }
+    {
+        let _macros = table.len();
+        let home = self.scope();
+        let text = text_of(table, arguments, look.source);
+        let at = look.from + len;
+        match self.open_bound(table, text, at, look.end, id, home) {
+            Opening::Opened => CursorStep::Silent,
+            Opening::Refused(kind) => CursorStep::Refused(CursorFault {
+                kind,
+                word: word_of(look, len),
+            }),
+            Opening::Deep => wordless(FaultKind::DepthPassed),
+        }
+    }
+}
