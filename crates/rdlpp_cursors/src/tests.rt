@@ -34,7 +34,7 @@ fn id_of<R: Abort>(rt: &R, table: &Table, name: &[u8]) -> MacroId
 
 // Open texts, of which the first is the body of the macro of a name.
 fn opened<R: Abort + AllocGlobal>(rt: &R, table: &Table, name: &[u8], depth: usize) -> Cursors
-    ensures sound { AreSound (texts_of table.now.macros []) result.opens }
+    ensures { AreSound (texts_of table.now.macros []) result.opens }
 {
     assert!(rt; 0 < depth && depth <= 16);
     let id = id_of(rt, table, name);
@@ -48,8 +48,8 @@ fn opened<R: Abort + AllocGlobal>(rt: &R, table: &Table, name: &[u8], depth: usi
 
 // One step comes to what is expected.
 fn expect_step<R: Abort>(rt: &R, cursors: &mut Cursors, table: &Table, expected: CursorStep)
-    requires sound { AreSound (texts_of table.now.macros []) cursors.old.opens }
-    ensures sound { AreSound (texts_of table.now.macros []) cursors.new.opens }
+    requires { AreSound (texts_of table.now.macros []) cursors.old.opens }
+    ensures { AreSound (texts_of table.now.macros []) cursors.new.opens }
 {
     assert!(rt; !cursors.is_empty());
     assert_eq!(rt; cursors.step(table, b"".as_slice()), expected);
@@ -115,7 +115,7 @@ fn a_usage_opens_a_body_and_goes_on_behind_its_name(rt: HostRuntime) -> Result<(
     Ok(())
 }
 
-// A usage in the body of a macro A is refused; nothing changes, and the same fault comes again.
+// A usage in the body of a macro A is refused.
 fn expect_refused<R: Abort + AllocGlobal>(
     rt: &R,
     body: &[u8],
@@ -127,13 +127,11 @@ fn expect_refused<R: Abort + AllocGlobal>(
         &[(b"A".as_slice(), body), (b"B".as_slice(), b"z".as_slice())],
     );
     let id = id_of(rt, &table, b"A".as_slice());
-    let fault = match word {
-        Some((from, end)) => refused(kind, id, from, end),
-        None => wordless(kind),
-    };
     let mut cursors = opened(rt, &table, b"A".as_slice(), 1);
-    expect_step(rt, &mut cursors, &table, fault);
-    expect_step(rt, &mut cursors, &table, fault);
+    match word {
+        Some((from, end)) => expect_step(rt, &mut cursors, &table, refused(kind, id, from, end)),
+        None => expect_step(rt, &mut cursors, &table, wordless(kind)),
+    }
 }
 
 #[test]
