@@ -37,13 +37,13 @@ use Rattle.rdlpp_cursors.specs.declared.place.TextSource.TheVariants.{Arguments}
 use Rattle.rdlpp_cursors.specs.declared.slot.Slot.{Slot}
 use Rattle.rdlpp_cursors.specs.declared.step.CursorFault.{CursorFault}
 use Rattle.rdlpp_cursors.specs.declared.step.CursorStep.{CursorStep}
-use Rattle.rdlpp_cursors.specs.declared.step.CursorStep.TheVariants.{Silent, Refused}
+use Rattle.rdlpp_cursors.specs.declared.step.CursorStep.TheVariants.{Lends, Silent, Refused}
 use Rattle.rdlpp_cursors.specs.Digits.{IsFalling}
 use Rattle.rdlpp_cursors.specs.Fronts.{IsFront, IsLook}
 use Rattle.rdlpp_cursors.specs.Opened.{bindings_below, opens_of, moved_to, AreHomedSlots, CursorsView}
-use Rattle.rdlpp_cursors.specs.Places.{texts_of, place_bytes, source_text, source_formals, IsSource}
+use Rattle.rdlpp_cursors.specs.Places.{texts_of, place_bytes, source_text, source_formals, IsSource, IsPlaced}
 use Rattle.rdlpp_cursors.specs.Scopes.{front_scope, front_source, own_ids, writer_ids, AreFurtherOut}
-use Rattle.rdlpp_cursors.specs.Steps.{IsKnown, AreInside, AreSound, IsStep, StepsTo, StaysRefused, wordless}
+use Rattle.rdlpp_cursors.specs.Steps.{IsKnown, AreInside, AreSound, IsStep, StepsTo, StaysRefused, IsPlacedStep, wordless}
 use Rattle.rdlpp_cursors.specs.Usages.{front_name, unknown_kind, IsRefused, IsUsed}
 use Rattle.rdlpp_cursors.proofs.Falling.{look-opens, usage-inside as falls-inside}
 use Rattle.rdlpp_cursors.proofs.Keeping.{body-keeps, first-sound}
@@ -52,7 +52,7 @@ use Rattle.rdlpp_cursors.proofs.Moving.{goes-by, ends-by}
 use Rattle.rdlpp_cursors.proofs.Passing.{same-front, no-formals, no-word, IsPassed}
 use Rattle.rdlpp_cursors.proofs.Runs.{slice-behind}
 use Rattle.rdlpp_cursors.proofs.Scoping.{source-around, opens-length}
-use Rattle.rdlpp_cursors.proofs.Stepping.{kind-first, bytes-first, first-moved}
+use Rattle.rdlpp_cursors.proofs.Stepping.{kind-first, bytes-first, first-moved, look-inside}
 
 -- where a usage lies in its text: it has its backquote, and ends in what is left of the open text, which ends in its text
 pub record IsUsageInside (texts : Texts) (look : Look) (len : ℕ) : Type 0 where
@@ -505,20 +505,14 @@ rest-homed part items first bindings e homed =
     subst (λ (slots : List Slot). AreHomedSlots slots) (sym (tail-is part items first e)) (slots-homed (drop first items) bindings homed)
 
 -- the place of the name of a usage lies in its text
-pub record IsWordInside (texts : Texts) (word : TextPlace) : Type 0 where
-  pub source : IsSource texts word.source
-  pub order : word.from ≤ word.end
-  pub inside : word.end ≤ length (source_text texts word.source)
-
--- it does
 pub word-inside : (texts : Texts) (opens : List Open) (look : Look) (len : ℕ) (word : TextPlace) → AreSound texts opens → IsLook texts opens look → look.front ≡ front.Usage len
-    → word ≡ record { source = look.source; from = look.from + 1; end = look.from + len } → IsWordInside texts word
+    → word ≡ record { source = look.source; from = look.from + 1; end = look.from + len } → IsPlaced texts word
 word-inside texts opens look len word h l e is =
     let place = usage-place texts opens look len h l e in
     let some = place.some in
     let inside = place.inside in
     let within = place.within in
-    subst (λ (w : TextPlace). IsWordInside texts w) (sym is) (record {
+    subst (λ (w : TextPlace). IsPlaced texts w) (sym is) (record {
       source = place.source;
       order = omega (arith, some);
       inside = omega (arith, inside, within);
@@ -549,3 +543,37 @@ pub has-list : (formals : Option (List Formal)) (count : Option ℕ) (some : Boo
     → some ≡ true → is_some formals ≡ true
 has-list None count some e s f = absurd (true≢false (sym f ∙ s ∙ ap (λ (o : Option ℕ). is_some o) e))
 has-list (Some fs) count some e s f = refl
+
+-- a fault under the name of a usage is placed
+pub placed-word : (texts : Texts) (opens : List Open) (look : Look) (len : ℕ) (kind : FaultKind) (word : TextPlace) → AreSound texts opens → IsLook texts opens look
+    → look.front ≡ front.Usage len → word ≡ record { source = look.source; from = look.from + 1; end = look.from + len }
+    → IsPlacedStep texts (Refused (record { kind = kind; word = word }))
+unfolding IsPlacedStep
+placed-word texts opens look len kind word h l e is = word-inside texts opens look len word h l e is
+
+-- so is one without a word
+pub placed-wordless : (texts : Texts) (kind : FaultKind) (step : CursorStep) → step ≡ wordless kind → IsPlacedStep texts step
+unfolding IsPlacedStep
+placed-wordless texts kind step is =
+    subst (λ (s : CursorStep). IsPlacedStep texts s) (sym is) (record { source = tt; order = omega arith; inside = omega arith })
+
+-- a step that lends nothing and refuses nothing is
+pub placed-silent : (texts : Texts) → IsPlacedStep texts Silent
+unfolding IsPlacedStep
+placed-silent texts = tt
+
+-- a run that is lent is placed
+pub placed-run : (texts : Texts) (opens : List Open) (look : Look) (n end : ℕ) → AreSound texts opens → IsLook texts opens look → look.front ≡ front.Run n
+    → end ≡ look.from + n → IsPlacedStep texts (Lends (record { source = look.source; from = look.from; end = end }))
+unfolding IsLook IsPlacedStep
+placed-run texts [] look n end h l e k = absurd l
+placed-run texts (x ∷ below) look n end h l e k =
+    let inside = look-inside texts (x ∷ below) look n l e in
+    let own : look.end ≤ length (source_text texts look.source) =
+    subst (λ (t : TextSource). look.end ≤ length (source_text texts t)) (sym l.0)
+    (subst (λ (m : ℕ). m ≤ length (source_text texts (front_source (x ∷ below)))) (sym l.2) (source-inside texts x below h.are_inside)) in
+    record {
+      source = subst (λ (t : TextSource). IsSource texts t) (sym l.0) (source-known texts x below h.are_inside);
+      order = omega (arith, k);
+      inside = omega (arith, k, inside, own);
+    }

@@ -1,6 +1,6 @@
 -- Where texts lie, and their bytes.
 -- A definition that names no source is this project's own.
-use Rattle.std.specs.Prelude.{ℕ, ◌<◌, List, [], length, slice_range}
+use Rattle.std.specs.Prelude.{ℕ, ◌<◌, ◌≤◌, List, [], length, slice_range}
 use Rattle.rdlpp_table.specs.Table.{Formal, Macro}
 use Rattle.rdlpp_table.specs.View.{macro_at, formals_of, formal_at}
 use Rattle.rdlpp_meaning.specs.Opens.{Texts}
@@ -33,3 +33,9 @@ abbrev pub IsSource : Texts → TextSource → Type 0
 IsSource texts Arguments = Unit
 IsSource texts (Body id) = id < length texts.macros
 IsSource texts (Default id place) = (id < length texts.macros) × (place < length (formals_of (macro_at texts.macros id)))
+
+-- a place that lies in a text that there is
+pub record IsPlaced (texts : Texts) (place : TextPlace) : Type 0 where
+  pub source : IsSource texts place.source
+  pub order : place.from ≤ place.end
+  pub inside : place.end ≤ length (source_text texts place.source)

@@ -14,7 +14,7 @@ use Rattle.rdlpp_meaning.specs.Slots.{cursors_of}
 use Rattle.rdlpp_meaning.specs.Opens.{OpenKind, OpenBody, OpenActual, OpenDefault, Open, Texts, scope_text, text_around, part_tokens, slots_of, AreOpen}
 use Rattle.rdlpp_calls.specs.BoundCalls.{KeepsAll}
 use Rattle.rdlpp_cursors.specs.Opened.{CursorsView}
-use Rattle.rdlpp_cursors.specs.Places.{place_bytes}
+use Rattle.rdlpp_cursors.specs.Places.{place_bytes, IsPlaced}
 use Rattle.rdlpp_cursors.specs.declared.place.TextSource.TheVariants.{Arguments}
 use Rattle.rdlpp_cursors.specs.declared.step.CursorStep.{CursorStep}
 use Rattle.rdlpp_cursors.specs.declared.step.CursorStep.TheVariants.{Lends, Silent, Refused}
@@ -82,3 +82,9 @@ unfoldable pub StaysRefused : CursorsView → CursorStep → CursorsView → Typ
 StaysRefused old (Lends place) new = Unit
 StaysRefused old Silent new = Unit
 StaysRefused old (Refused fault) new = new ≡ old
+
+-- the bytes that a step lends lie in their text, and so does the word of its fault
+unfoldable pub IsPlacedStep : Texts → CursorStep → Type 0
+IsPlacedStep texts (Lends place) = IsPlaced texts place
+IsPlacedStep texts Silent = Unit
+IsPlacedStep texts (Refused fault) = IsPlaced texts fault.word

@@ -7,7 +7,7 @@ ghost use Rattle.rdlpp_cursors.specs.Calls.{IsCallMiscounted, IsCallStarted, IsO
 ghost use Rattle.rdlpp_cursors.specs.Digits.{IsFalling};
 ghost use Rattle.rdlpp_cursors.specs.Fronts.{IsLook};
 ghost use Rattle.rdlpp_cursors.specs.Places.{texts_of};
-ghost use Rattle.rdlpp_cursors.specs.Steps.{AreSound, IsStep, StaysRefused};
+ghost use Rattle.rdlpp_cursors.specs.Steps.{AreSound, IsStep, StaysRefused, IsPlacedStep};
 ghost use Rattle.rdlpp_cursors.specs.Usages.{front_name, IsUsed};
 
 use crate::cursors::Cursors;
@@ -92,6 +92,7 @@ impl Cursors {
         ensures kept { (self.new.line ≡ self.old.line) × (self.new.depth ≡ self.old.depth) }
         ensures digits { IsFalling self.old.opens result self.new.opens }
         ensures refused { StaysRefused self.old result self.new }
+        ensures placed { IsPlacedStep (texts_of table.now.macros arguments.now) result }
     {
         let _macros = table.len();
         let home = self.scope();

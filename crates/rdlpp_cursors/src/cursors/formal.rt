@@ -6,7 +6,7 @@ ghost use Rattle.rdlpp_cursors.specs.Fronts.{IsLook};
 ghost use Rattle.rdlpp_cursors.specs.Opened.{open_of};
 ghost use Rattle.rdlpp_cursors.specs.Places.{source_formals, texts_of};
 ghost use Rattle.rdlpp_cursors.specs.Scopes.{found_source, found_standing, front_scope, scope_open, AreBound};
-ghost use Rattle.rdlpp_cursors.specs.Steps.{AreSound, IsStep, StaysRefused};
+ghost use Rattle.rdlpp_cursors.specs.Steps.{AreSound, IsStep, StaysRefused, IsPlacedStep};
 
 use crate::cursors::Cursors;
 use crate::front::{Front, Look};
@@ -50,6 +50,7 @@ impl Cursors {
         ensures kept { (self.new.line ≡ self.old.line) × (self.new.depth ≡ self.old.depth) }
         ensures digits { IsFalling self.old.opens result self.new.opens }
         ensures refused { StaysRefused self.old result self.new }
+        ensures placed { IsPlacedStep (texts_of table.now.macros arguments.now) result }
     {
         let look = *look;
         let _macros = table.len();

@@ -1,7 +1,7 @@
 use Rattle.std.proofs.Common.{arith, refl}
 use Rattle.rdlpp_cursors.specs.Places.{texts_of}
 use Rattle.rdlpp_cursors.proofs.Calling.{list-used, look-call, pass-call_deep, pass-call_opened, pass-call_refused}
-use Rattle.rdlpp_cursors.proofs.Usages.{usage-place}
+use Rattle.rdlpp_cursors.proofs.Usages.{placed-silent, placed-word, placed-wordless, usage-place}
 use Rattle.rdlpp_cursors.proofs.cursors.Cursors.call.Goals as goal
 
 pub text_of-text-requires : goal.text_of-text-requires
@@ -109,3 +109,12 @@ word_of-requires-clause-short c =
 
 pub word_of-requires-clause-some : goal.word_of-requires-clause-some
 word_of-requires-clause-some c = (usage-place (texts_of c.args.table.now.macros c.args.arguments.now) c.args.self.now.opens c.args.look.now c.args.len c.requires.sound c.requires.look c.requires.front).some
+
+pub returns-in-Opened-clause-placed : goal.returns-in-Opened-clause-placed
+returns-in-Opened-clause-placed c = placed-silent _
+
+pub returns-in-Refused-clause-placed : goal.returns-in-Refused-clause-placed
+returns-in-Refused-clause-placed c = placed-word _ _ c.args.look.now c.args.len _ _ c.requires.sound c.requires.look c.requires.front c.word_of.ensures
+
+pub returns-in-Deep-clause-placed : goal.returns-in-Deep-clause-placed
+returns-in-Deep-clause-placed c = placed-wordless _ _ _ c.wordless.ensures

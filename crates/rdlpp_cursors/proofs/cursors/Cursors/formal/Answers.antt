@@ -2,6 +2,7 @@ use Rattle.std.proofs.Common.{◌∙◌, refl, sym, arith}
 use Rattle.rdlpp_cursors.specs.Places.{texts_of}
 use Rattle.rdlpp_cursors.proofs.Falling.{formal-inside}
 use Rattle.rdlpp_cursors.proofs.Standing.{formal-place, formal-text, pass-deep, pass-formal, pass-nothing, room-moved, sound-bound}
+use Rattle.rdlpp_cursors.proofs.Usages.{placed-silent, placed-wordless}
 use Rattle.rdlpp_cursors.proofs.cursors.Cursors.formal.Goals as goal
 
 pub standing-requires-clause-bound : goal.standing-requires-clause-bound
@@ -73,3 +74,12 @@ returns-clause-refused c =
 
 pub push_text-requires-clause-room : goal.push_text-requires-clause-room
 push_text-requires-clause-room c = room-moved c.args.self.now c.move_to.new.self _ (sym c.is_full.ensures ∙ c.if-is_full.false) c.move_to.ensures
+
+pub returns-then-is_full-clause-placed : goal.returns-then-is_full-clause-placed
+returns-then-is_full-clause-placed c = placed-wordless _ _ _ c.wordless.ensures
+
+pub returns-in_default-clause-placed : goal.returns-in_default-clause-placed
+returns-in_default-clause-placed c = placed-wordless _ _ _ c.wordless-in_default.ensures
+
+pub returns-clause-placed : goal.returns-clause-placed
+returns-clause-placed c = placed-silent _

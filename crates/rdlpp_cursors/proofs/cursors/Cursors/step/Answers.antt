@@ -2,6 +2,7 @@ use Rattle.std.proofs.Common.{arith, refl}
 use Rattle.rdlpp_cursors.specs.Places.{texts_of}
 use Rattle.rdlpp_cursors.proofs.Passing.{pass-bare, pass-ended, pass-run}
 use Rattle.rdlpp_cursors.proofs.Stepping.{look-inside}
+use Rattle.rdlpp_cursors.proofs.Usages.{placed-run, placed-silent, placed-wordless}
 use Rattle.rdlpp_cursors.proofs.cursors.Cursors.step.Goals as goal
 
 pub overflow_add-end : goal.overflow_add-end
@@ -53,3 +54,13 @@ returns-in-Bare-clause-digits c =
 pub returns-in-Bare-clause-refused : goal.returns-in-Bare-clause-refused
 returns-in-Bare-clause-refused c =
     (pass-bare (texts_of c.args.table.now.macros c.args.arguments.now) c.args.self.now c.look-look.result c.wordless.result c.requires.sound c.look-look.ensures.look c.in-Bare.is c.wordless.ensures).refused
+
+pub returns-in-Ended-clause-placed : goal.returns-in-Ended-clause-placed
+returns-in-Ended-clause-placed c = placed-silent _
+
+pub returns-in-Run-clause-placed : goal.returns-in-Run-clause-placed
+returns-in-Run-clause-placed c =
+    placed-run (texts_of c.args.table.now.macros c.args.arguments.now) c.args.self.now.opens c.look-look.result c.in-Run.len _ c.requires.sound c.look-look.ensures.look c.in-Run.is refl
+
+pub returns-in-Bare-clause-placed : goal.returns-in-Bare-clause-placed
+returns-in-Bare-clause-placed c = placed-wordless _ _ _ c.wordless.ensures

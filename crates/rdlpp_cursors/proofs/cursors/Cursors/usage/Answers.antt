@@ -3,7 +3,7 @@ use Rattle.std.proofs.lemmas.Bool.{leb-true, leb-false}
 use Rattle.rdlpp_cursors.specs.Places.{texts_of}
 use Rattle.rdlpp_cursors.specs.declared.step.CursorStep.TheVariants.{Silent, Refused}
 use Rattle.rdlpp_cursors.proofs.Passing.{IsPassed}
-use Rattle.rdlpp_cursors.proofs.Usages.{has-list, no-list, pass-deep, pass-opened, pass-refused, usage-place}
+use Rattle.rdlpp_cursors.proofs.Usages.{has-list, no-list, pass-deep, pass-opened, pass-refused, placed-silent, placed-word, placed-wordless, usage-place}
 use Rattle.rdlpp_cursors.proofs.cursors.Cursors.usage.Goals as goal
 
 pub word_of-word-requires-clause-short : goal.word_of-word-requires-clause-short
@@ -69,3 +69,12 @@ returns-clause-digits c = (opened c).digits
 
 pub returns-clause-refused : goal.returns-clause-refused
 returns-clause-refused c = (opened c).refused
+
+pub returns-in-Err-clause-placed : goal.returns-in-Err-clause-placed
+returns-in-Err-clause-placed c = placed-word _ _ c.args.look.now c.args.len _ _ c.requires.sound c.requires.look c.requires.front c.word_of-word.ensures
+
+pub returns-then-is_full-clause-placed : goal.returns-then-is_full-clause-placed
+returns-then-is_full-clause-placed c = placed-wordless _ _ _ c.wordless.ensures
+
+pub returns-clause-placed : goal.returns-clause-placed
+returns-clause-placed c = placed-silent _
