@@ -13,3 +13,4 @@ pub mod Stopping
 pub mod Usages
 pub mod Falling
 pub mod Standing
+pub mod ShortTexts

@@ -8,6 +8,8 @@ use rdlpp_table::{Limits, MacroId, Table};
 use std::process::Abort;
 use std::test::Fail;
 
+mod formals;
+
 // A table of macros without lists.
 fn table_of<R: Abort + AllocGlobal>(rt: &R, macros: &[(&[u8], &[u8])]) -> Table {
     let mut table = match Table::new(rt.alloc(), &Limits::standard()) {

@@ -9,3 +9,4 @@ pub mod EngineSteps
 pub mod FrontSteps
 pub mod Cuts
 pub mod RunFacts
+pub mod CursorWork

@@ -55,12 +55,12 @@ impl Cursors {
         let look = *look;
         let _macros = table.len();
         let _arguments = arguments.len();
-        if self.is_full() {
-            return wordless(FaultKind::DepthPassed);
-        }
         let Some(new) = self.standing(table, place) else {
             return wordless(FaultKind::DepthPassed);
         };
+        if self.is_full() {
+            return wordless(FaultKind::DepthPassed);
+        }
         self.move_to(look.from + len);
         self.push_text(new);
         CursorStep::Silent

@@ -24,8 +24,8 @@ push_text-requires-clause-text c =
 
 pub returns-then-is_full-clause-step : goal.returns-then-is_full-clause-step
 returns-then-is_full-clause-step c =
-    (pass-deep (texts_of c.args.table.now.macros c.args.arguments.now) c.args.self.now c.args.look.now c.args.len c.args.place c.wordless.result c.requires.sound c.requires.look c.requires.front
-    (sym c.is_full.ensures ∙ c.if-is_full.true) c.wordless.ensures).is_step
+    (pass-deep (texts_of c.args.table.now.macros c.args.arguments.now) c.args.self.now c.args.look.now c.args.len c.args.place c.wordless-then-is_full.result c.requires.sound c.requires.look c.requires.front
+    (sym c.is_full.ensures ∙ c.if-is_full.true) c.wordless-then-is_full.ensures).is_step
 
 pub returns-in_default-clause-step : goal.returns-in_default-clause-step
 returns-in_default-clause-step c =
@@ -34,8 +34,8 @@ returns-in_default-clause-step c =
 
 pub returns-then-is_full-clause-digits : goal.returns-then-is_full-clause-digits
 returns-then-is_full-clause-digits c =
-    (pass-deep (texts_of c.args.table.now.macros c.args.arguments.now) c.args.self.now c.args.look.now c.args.len c.args.place c.wordless.result c.requires.sound c.requires.look c.requires.front
-    (sym c.is_full.ensures ∙ c.if-is_full.true) c.wordless.ensures).digits
+    (pass-deep (texts_of c.args.table.now.macros c.args.arguments.now) c.args.self.now c.args.look.now c.args.len c.args.place c.wordless-then-is_full.result c.requires.sound c.requires.look c.requires.front
+    (sym c.is_full.ensures ∙ c.if-is_full.true) c.wordless-then-is_full.ensures).digits
 
 pub returns-in_default-clause-digits : goal.returns-in_default-clause-digits
 returns-in_default-clause-digits c =
@@ -44,8 +44,8 @@ returns-in_default-clause-digits c =
 
 pub returns-then-is_full-clause-refused : goal.returns-then-is_full-clause-refused
 returns-then-is_full-clause-refused c =
-    (pass-deep (texts_of c.args.table.now.macros c.args.arguments.now) c.args.self.now c.args.look.now c.args.len c.args.place c.wordless.result c.requires.sound c.requires.look c.requires.front
-    (sym c.is_full.ensures ∙ c.if-is_full.true) c.wordless.ensures).refused
+    (pass-deep (texts_of c.args.table.now.macros c.args.arguments.now) c.args.self.now c.args.look.now c.args.len c.args.place c.wordless-then-is_full.result c.requires.sound c.requires.look c.requires.front
+    (sym c.is_full.ensures ∙ c.if-is_full.true) c.wordless-then-is_full.ensures).refused
 
 pub returns-in_default-clause-refused : goal.returns-in_default-clause-refused
 returns-in_default-clause-refused c =
