@@ -76,10 +76,10 @@ pub push_text-requires-clause-room : goal.push_text-requires-clause-room
 push_text-requires-clause-room c = room-moved c.args.self.now c.move_to.new.self _ (sym c.is_full.ensures ∙ c.if-is_full.false) c.move_to.ensures
 
 pub returns-then-is_full-clause-placed : goal.returns-then-is_full-clause-placed
-returns-then-is_full-clause-placed c = placed-wordless _ _ _ c.wordless.ensures
+returns-then-is_full-clause-placed c = placed-wordless _ _ _ c.wordless-then-is_full.ensures
 
 pub returns-in_default-clause-placed : goal.returns-in_default-clause-placed
-returns-in_default-clause-placed c = placed-wordless _ _ _ c.wordless-in_default.ensures
+returns-in_default-clause-placed c = placed-wordless _ _ _ c.wordless.ensures
 
 pub returns-clause-placed : goal.returns-clause-placed
 returns-clause-placed c = placed-silent _
