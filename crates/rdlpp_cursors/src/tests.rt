@@ -8,6 +8,7 @@ use rdlpp_table::{Limits, MacroId, Table};
 use std::process::Abort;
 use std::test::Fail;
 
+mod calls;
 mod formals;
 
 // A table of macros without lists.
