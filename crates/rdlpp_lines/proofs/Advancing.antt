@@ -43,10 +43,10 @@ unfolding left_in tokens_from
 left_end l mode text e = ap (left_in l mode) e
 
 -- what is left by the first token
-abbrev by_first : Option ℕ → Token → List ℕ → Cleared
+abbrev pub by_first : Option ℕ → Token → List ℕ → Cleared
 by_first l u text = cond (is_perl u.kind) (Unsound Perl) (cond (stops_token l u.kind (get_or text 0 0)) (Sound [] text) (onto (kept_of u.kind (take u.len text)) (left_in (level_by l u.kind) u.next_mode (drop u.len text))))
 
-left_first : (l : Option ℕ) (mode : Mode) (text : List ℕ) → 0 < length text → left_in l mode text ≡ by_first l (token_of mode text) text
+pub left_first : (l : Option ℕ) (mode : Mode) (text : List ℕ) → 0 < length text → left_in l mode text ≡ by_first l (token_of mode text) text
 unfolding left_in
 left_first l mode text h = ap (λ ts. read_by l mode ts text) (tokens_from-step mode text h (token_of-part mode text h).not_empty)
 

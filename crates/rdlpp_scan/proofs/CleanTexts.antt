@@ -15,14 +15,14 @@ use Rattle.rdlpp_scan.specs.Tokens.{whole, string_token, plain_token, token_of, 
 use Rattle.rdlpp_scan.specs.Pieces.{mode_behind, tokens_len}
 use Rattle.rdlpp_scan.specs.TokenKinds.{opens_mode}
 use Rattle.rdlpp_scan.specs.LexFaults.{fault_of_tokens, is_perl, lex_fault_from, open_fault}
-use Rattle.rdlpp_scan.specs.Comments.{is_line_comment, other_texts, other_tokens, without_line_comments}
+use Rattle.rdlpp_scan.specs.Comments.{is_line_comment, other_texts, other_tokens, token_texts, without_line_comments}
 use Rattle.rdlpp_scan.specs.CleanTexts.{IsCleanText, IsCleanToken, AreSpaces}
 use Rattle.rdlpp_scan.proofs.TokenLens.{token_of-part}
 use Rattle.rdlpp_scan.proofs.TokenLists.{tokens_from-step, fault-perl, fault-next, fault-end}
 use Rattle.rdlpp_scan.proofs.Seams.{Seam, Closed, BeforePerl, OpenString, OpenComment, token_of-seam}
 use Rattle.rdlpp_scan.proofs.RangeLaws.{tokens_from-behind_some, tokens_from-first, tokens_from-front}
 use Rattle.rdlpp_scan.proofs.StopKinds.{string_token-kind, block_token-kind}
-use Rattle.rdlpp_scan.proofs.CommentLaws.{without-tokens, without-fault}
+use Rattle.rdlpp_scan.proofs.CommentLaws.{without-tokens, without-texts, without-fault}
 use Rattle.rdlpp_scan.proofs.TokenEnds.{Ending, InBlanks, InLine, InOther, token-ends}
 
 -- the fault of what stands behind a token
@@ -141,14 +141,14 @@ blank-first b bs h =
     (λ e. subst P (sym (eqb-true b 11 e)) refl) (or_cases _ _ h4))
     (λ e. subst P (sym (eqb-true b 12 e)) refl) (or_cases _ _ h)
 
-blank-step : (b : ℕ) (bs : List ℕ) → is_blank b ≡ true → tokens_from Plain 0 (b ∷ bs) ≡ whole Blank (prefix_len is_blank (b ∷ bs)) ∷ tokens_from Plain 0 (drop (prefix_len is_blank (b ∷ bs)) (b ∷ bs))
+pub blank-step : (b : ℕ) (bs : List ℕ) → is_blank b ≡ true → tokens_from Plain 0 (b ∷ bs) ≡ whole Blank (prefix_len is_blank (b ∷ bs)) ∷ tokens_from Plain 0 (drop (prefix_len is_blank (b ∷ bs)) (b ∷ bs))
 unfolding whole
 blank-step b bs h =
     let some : 0 < length (b ∷ bs) = omega arith in
     tokens_from-step Plain (b ∷ bs) some (token_of-part Plain (b ∷ bs) some).not_empty ∙ ap (λ (u : Token). u ∷ tokens_from u.next_mode 0 (drop u.len (b ∷ bs))) (blank-first b bs h)
 
 -- an LF is one token
-line-step : (b : ℕ) (bs : List ℕ) → is_line_end b ≡ true → tokens_from Plain 0 (b ∷ bs) ≡ whole LineEnd 1 ∷ tokens_from Plain 0 bs
+pub line-step : (b : ℕ) (bs : List ℕ) → is_line_end b ≡ true → tokens_from Plain 0 (b ∷ bs) ≡ whole LineEnd 1 ∷ tokens_from Plain 0 bs
 unfolding token_of plain_token begins_perl is_line_end whole
 line-step b bs h =
     let P : ℕ → Type 0 = λ n. tokens_from Plain 0 (n ∷ bs) ≡ whole LineEnd 1 ∷ tokens_from Plain 0 bs in
@@ -278,8 +278,13 @@ cut_clean class are (suc fuel) (b ∷ bs) le all =
       | AtOther k len other ↦ cut_behind class T t step_plain part.inside c k len other
     ]
 
--- a place of a text up to which it is clean, behind which spaces alone stand, and before which none does
+-- a place of a text up to which it is clean, behind which spaces alone stand, and before which none does; it stands behind some of
+-- the text's tokens
 pub record IsCleanTo (class : ℕ → Bool) (text : List ℕ) (n : ℕ) : Type 0 where
+  pub front : List Token
+  pub back : List Token
+  pub is : tokens_from Plain 0 text ≡ front ++ back
+  pub len : n ≡ tokens_len front
   pub clean : IsCleanText (take n text)
   pub inside : n ≤ length text
   pub spaces : (k : ℕ) → n ≤ k → k < length text → class (get_or text k 0) ≡ true
@@ -297,6 +302,10 @@ clean_to class are text clean =
     let C : List Token → Type 0 = λ ts. AreClean ts in (
       tokens_len c.front,
       record {
+        front = c.front;
+        back = c.back;
+        is = c.is;
+        len = refl;
         clean = clean_front c.front c.back text c.is (clean_part c.front c.back (subst C c.is all));
         inside = c.inside;
         spaces = c.spaces;
@@ -329,6 +338,25 @@ texts-front (t ∷ ts) n text le =
     let own : take t.len (take n text) ≡ take t.len text = take-take t.len n text (omega arith) in
     let later : other_texts ts (drop t.len (take n text)) ≡ other_texts ts (drop t.len text) = ap (other_texts ts) behind ∙ texts-front ts (n - t.len) (drop t.len text) (omega arith) in
     ap (λ z. cond (is_line_comment t.kind) z (take t.len (take n text) ∷ z)) later ∙ ap (λ x. cond (is_line_comment t.kind) (other_texts ts (drop t.len text)) (x ∷ other_texts ts (drop t.len text))) own
+
+-- what is left of some tokens of a text without `//` comments has the other ones, with their bytes
+pub record IsLeftOf (ts : List Token) (text left : List ℕ) : Type 0 where
+  pub tokens : tokens_from Plain 0 left ≡ other_tokens ts
+  pub texts : token_texts (other_tokens ts) left ≡ other_texts ts text
+
+pub left_of : (ts us : List Token) (text : List ℕ) → tokens_from Plain 0 text ≡ ts ++ us → IsLeftOf ts text (concat (other_texts ts text))
+unfolding without_line_comments
+left_of ts us text e =
+    let front = take (tokens_len ts) text in
+    let left = concat (other_texts ts text) in
+    let own : tokens_from Plain 0 front ≡ ts = tokens_from-front ts us Plain text e in
+    let texts : other_texts (tokens_from Plain 0 front) front ≡ other_texts ts text = ap (λ us. other_texts us front) own ∙ texts-front ts (tokens_len ts) text (omega arith) in
+    let same : without_line_comments Plain front ≡ left = ap concat texts in
+    let tokens : tokens_from Plain 0 left ≡ other_tokens ts = ap (tokens_from Plain 0) (sym same) ∙ (without-tokens Plain front ∙ ap other_tokens own) in
+    record {
+      tokens = tokens;
+      texts = ap (λ us. token_texts us left) (sym tokens) ∙ (ap (λ x. token_texts (tokens_from Plain 0 x) x) (sym same) ∙ (without-texts Plain front ∙ texts));
+    }
 
 -- the tokens of a text before one that is neither a string, a comment nor `<%` are, without `//` comments, a clean text, where
 -- none of them is `<%`

@@ -41,7 +41,7 @@ run-stays p (x ∷ xs) ys lt =
     elim (p x) as P [ true ↦ at_true | false ↦ at_false ] lt
 
 -- a string that stops before a text's end
-string_stop-stays : (s : Bool) (xs ys : List ℕ) → string_stop s xs < length xs → string_stop s (xs ++ ys) ≡ string_stop s xs
+pub string_stop-stays : (s : Bool) (xs ys : List ℕ) → string_stop s xs < length xs → string_stop s (xs ++ ys) ≡ string_stop s xs
 unfolding string_stop
 string_stop-stays s [] ys lt = absurd (omega arith)
 string_stop-stays true (b ∷ xs) ys lt = ap suc (string_stop-stays false xs ys (omega arith))
@@ -58,7 +58,7 @@ string_stop-stays false (b ∷ xs) ys lt =
     elim (eqb b 34 || begins_perl (b ∷ xs)) as P [ true ↦ at_true | false ↦ at_false ] refl lt
 
 -- a comment that ends before a text's end
-comment_stop-stays : (xs ys : List ℕ) → first_place ends_block_comment xs < length xs → first_place ends_block_comment (xs ++ ys) ≡ first_place ends_block_comment xs
+pub comment_stop-stays : (xs ys : List ℕ) → first_place ends_block_comment xs < length xs → first_place ends_block_comment (xs ++ ys) ≡ first_place ends_block_comment xs
 unfolding first_place
 comment_stop-stays [] ys lt = absurd (omega arith)
 comment_stop-stays (b ∷ []) ys lt =

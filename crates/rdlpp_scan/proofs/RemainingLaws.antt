@@ -8,14 +8,14 @@ use Rattle.rdlpp_scan.specs.declared.token.Mode.{Mode}
 use Rattle.rdlpp_scan.specs.declared.token.Mode.TheVariants.{Plain}
 use Rattle.rdlpp_scan.specs.Tokens.{plain_len, token_of}
 use Rattle.rdlpp_scan.specs.Front.{LineLong, SourceLong, PerlFound, Unbuilt, Break, Front, front, onto_front}
-use Rattle.rdlpp_scan.specs.SourceTokens.{SourceToken, Course, Ordinary, Definition, Broken, line_ends, line_len, source_end, source_tokens, remaining_tokens}
-use Rattle.rdlpp_scan.specs.Lines.{EndsLine, IsWholeLines, line_continues}
+use Rattle.rdlpp_scan.specs.SourceTokens.{SourceToken, Course, Ordinary, Broken, line_ends, line_len, source_end, source_tokens, remaining_tokens}
+use Rattle.rdlpp_scan.specs.Lines.{EndsLine, IsWholeLines}
 use Rattle.rdlpp_scan.specs.Ordinary.{IsOrdinary, IsPlainToken, SparesOrdinary}
 use Rattle.rdlpp_scan.proofs.SourceLaws.{source_tokens-opened}
 use Rattle.rdlpp_scan.proofs.OrdinaryLaws.{ordinary_text}
 use Rattle.rdlpp_scan.proofs.OrdinaryFronts.{ordinary_front, plain_len-append}
 use Rattle.rdlpp_scan.proofs.FrontLaws.{front-accept, front-none, front-line_long, front-source_long}
-use Rattle.rdlpp_scan.proofs.StepLaws.{step-unbuilt, step-perl, step-bare, step-back, step-define}
+use Rattle.rdlpp_scan.proofs.StepLaws.{step-unbuilt, step-perl, step-bare, step-back}
 
 -- what breaks or ends a source behind the text that is held
 pub record IsBehind (held rest more : List ℕ) (break : Option Break) : Type 0 where
@@ -146,14 +146,3 @@ remaining-back u most o l held room rest some ends built is other also =
     let more = (front most room rest).text in
     let b = behind most room held rest ends in
     step-back (course u most room rest) o l held more some b.ends (built more b.ends) is other also
-
--- a `define` whose physical line isn't continued
-pub remaining-define : (u : List ℕ → Bool) (most o l : ℕ) (held : List ℕ) (room : ℕ) (rest : List ℕ) → 0 < length held → EndsLine held rest → ((more : List ℕ) → EndsLine held more → u (held ++ more) ≡ false) → (token_of Plain held).kind ≡ Back
-    → bytes_eq (take (token_of Plain held).len held) (codes "`define") ≡ true → line_continues 0 0 held ≡ false → line_len held ≤ most
-    → remaining_tokens u most Plain o l held room rest
-    ≡ record { sort = Definition; bytes = take (line_len held) held; line = l } ∷ remaining_tokens u most Plain l (l + line_ends (take (line_len held) held)) (drop (line_len held) held) room rest
-unfolding remaining_tokens
-remaining-define u most o l held room rest some ends built is define plain fits =
-    let more = (front most room rest).text in
-    let b = behind most room held rest ends in
-    step-define (course u most room rest) o l held more some b.last (built more b.ends) is define plain fits

@@ -2,10 +2,8 @@
 use Rattle.std.proofs.Common.{◌≡◌, ◌⊎◌, ℕ, suc, ◌+◌, ◌<◌, ◌≤◌, Bool, true, false, cond, eqb, ltb, List, [], ◌∷◌, ◌++◌, Option, Some, None, length, take, drop, get_or, refl, sym, ap, ◌∙◌, subst, inl, inr, ⊎_elim, arith}
 use Rattle.std.specs.Prelude.{codes, bytes_eq}
 use Rattle.std.specs.List.{prefix_len}
-use Rattle.std.specs.Option.{option_map, unwrap_or}
-use Rattle.std.proofs.Math.Seq.{take-length}
 use Rattle.std.proofs.lemmas.Bool.{eqb-true, false≢true, le-ltb}
-use Rattle.std.proofs.lemmas.List.{append-nil, take-append-le, drop-append-le, length-take-le, length-append}
+use Rattle.std.proofs.lemmas.List.{take-append-le, drop-append-le, length-take-le, length-append}
 use Rattle.rdlpp_scan.specs.declared.token.Kind.{Kind}
 use Rattle.rdlpp_scan.specs.declared.token.Kind.TheVariants.{Back, BareBackquote, Perl}
 use Rattle.rdlpp_scan.specs.declared.token.Mode.TheVariants.{Plain}
@@ -13,17 +11,14 @@ use Rattle.rdlpp_scan.specs.declared.token.Token.{Token}
 use Rattle.rdlpp_scan.specs.Bytes.{is_line_end, is_word, is_letter, is_digit}
 use Rattle.rdlpp_scan.specs.Tokens.{token_of, whole}
 use Rattle.rdlpp_scan.specs.Front.{PerlFound, DefineLong, DefineCut, Unbuilt, Break}
-use Rattle.rdlpp_scan.specs.SourceTokens.{SourceToken, Course, Step, Last, Next, Ordinary, Definition, Broken, broken, back_step, define_step, line_ends, line_len, line_step, logical_len, source_step, source_tokens, step_by}
-use Rattle.rdlpp_scan.specs.Lines.{EndsLine, IsWholeLines, ended_line_len, line_continues}
+use Rattle.rdlpp_scan.specs.SourceTokens.{SourceToken, Course, Step, Last, Next, Ordinary, Definition, Broken, broken, back_step, define_step, line_ends, line_step, logical_len, source_step, source_tokens, step_by}
+use Rattle.rdlpp_scan.specs.Lines.{EndsLine}
 use Rattle.rdlpp_scan.specs.Ordinary.{is_plain_kind}
 use Rattle.rdlpp_scan.proofs.Searches.{false_since}
 use Rattle.rdlpp_scan.proofs.Seams.{line_end-ten}
 use Rattle.rdlpp_scan.proofs.TokenLens.{token_of-part}
 use Rattle.rdlpp_scan.proofs.SourceLaws.{line_ends-cons, source_tokens-next, source_tokens-last}
 use Rattle.rdlpp_scan.proofs.OrdinaryLaws.{source_step-built}
-use Rattle.rdlpp_scan.proofs.LineLaws.{line_len-some, line_continues-logical, logical_len-append, none_suc}
-use Rattle.rdlpp_scan.proofs.WholeLines.{IsWholeLines-rest, IsWholeLines-one}
-use Rattle.rdlpp_scan.proofs.LogicalLines.{line_len-le, line_len-ended}
 use Rattle.rdlpp_scan.proofs.Locality.{token_of-append}
 use Rattle.rdlpp_scan.proofs.StopKinds.{Row, AtPerl, AtLineComment, AtBlockComment, AtString, AtBack, AtBare, AtPlain, token_of-row}
 
@@ -205,19 +200,6 @@ step-back c o l held more some ends built is other also =
     let lines : l + line_ends (take t.len held) ≡ l = omega (arith, back-line_ends held t.len row.byte row.len) in
     next_held c o l held more tok t.len part.not_empty part.inside refl step ∙ ap (λ k. tok ∷ source_tokens c Plain l k 0 (drop t.len held ++ more)) lines
 
--- whole lines have an LF
-whole-ended : (bs : List ℕ) → 0 < length bs → IsWholeLines bs → ended_line_len bs ≡ None → ⊥
-unfolding ended_line_len
-whole-ended [] some whole h = absurd (omega arith)
-whole-ended (b ∷ []) some whole h =
-    let e : ended_line_len (b ∷ []) ≡ Some 1 = ap (λ t. cond t (Some 1) None) (IsWholeLines-one b whole) in
-    cc
-whole-ended (b ∷ c ∷ cs) some whole h =
-    let P : Bool → Type 0 = λ t. cond t (Some 1) (option_map suc (ended_line_len (c ∷ cs))) ≡ None → ended_line_len (c ∷ cs) ≡ None in
-    let at_true : P true = λ e. absurd (cc) in
-    let at_false : P false = λ e. none_suc (ended_line_len (c ∷ cs)) e in
-    whole-ended (c ∷ cs) (omega arith) (IsWholeLines-rest b (c ∷ cs) whole) (elim (is_line_end b) as P [ true ↦ at_true | false ↦ at_false ] h)
-
 -- a `define` whose logical line ends
 pub define_step-some : (c : Course) (l : ℕ) (bs : List ℕ) (n : ℕ) → logical_len 0 0 bs ≡ Some n → n ≤ c.most → define_step c l bs ≡ Next (record { sort = Definition; bytes = take n bs; line = l })
 unfolding define_step
@@ -245,41 +227,3 @@ define_step-none c l bs is last fits =
       | Some m ↦ cond (ltb c.most m) (broken DefineLong [] l) (Next (record { sort = Definition; bytes = take m bs; line = l }))
       | None ↦ at_end c.break
     ]) is ∙ ap at_end last ∙ ap (λ t. cond t (broken DefineLong [] l) (Next tok)) (le-ltb c.most (length bs) fits)
-
--- a `define` whose physical line isn't continued takes that line
-define_line : (c : Course) (l : ℕ) (held more : List ℕ) → 0 < length held → IsWholeLines held ⊎ ((more ≡ []) × (c.break ≡ None))
-    → line_continues 0 0 held ≡ false → line_len held ≤ c.most → define_step c l (held ++ more) ≡ Next (record { sort = Definition; bytes = take (line_len held) held; line = l })
-define_line c l held more some ends plain fits =
-    let n = line_len held in
-    let bs = held ++ more in
-    let le = line_len-le held in
-    let made : List ℕ → Step = λ z. Next (record { sort = Definition; bytes = z; line = l }) in
-    let P : Option ℕ → Type 0 = λ o. ended_line_len held ≡ o → define_step c l bs ≡ made (take n held) in
-    let ended : (m : ℕ) → P (Some m) = λ m e.
-    let same : m ≡ n = ap (λ o. unwrap_or o (length held)) (sym e) ∙ line_len-ended held in
-    let logical : logical_len 0 0 held ≡ Some n = line_continues-logical 0 0 held plain ∙ e ∙ ap Some same in
-    define_step-some c l bs n (logical_len-append 0 0 held more n logical) fits ∙ ap made (take-append-le n held more le) in
-    let last : P None = λ e.
-    let all : length held ≡ n = ap (λ o. unwrap_or o (length held)) (sym e) ∙ line_len-ended held in
-    ⊎_elim (λ whole. absurd (whole-ended held some whole e)) (λ none.
-    let same : bs ≡ held = ap (λ z. held ++ z) none.0 ∙ append-nil held in
-    let size : length bs ≡ n = ap length same ∙ all in
-    let full : take n held ≡ held = ap (λ i. take i held) (sym all) ∙ take-length held in
-    define_step-none c l bs (ap (logical_len 0 0) same ∙ line_continues-logical 0 0 held plain ∙ e) none.1 (omega arith) ∙ ap made (same ∙ sym full)) ends in
-    elim (ended_line_len held) as P [ Some m ↦ ended m | None ↦ last ] refl
-
--- a `define` whose physical line isn't continued: its logical line is that line
-pub step-define : (c : Course) (o l : ℕ) (held more : List ℕ) → 0 < length held → IsWholeLines held ⊎ ((more ≡ []) × (c.break ≡ None)) → c.unbuilt (held ++ more) ≡ false → (token_of Plain held).kind ≡ Back
-    → bytes_eq (take (token_of Plain held).len held) (codes "`define") ≡ true → line_continues 0 0 held ≡ false → line_len held ≤ c.most
-    → source_tokens c Plain o l 0 (held ++ more)
-    ≡ record { sort = Definition; bytes = take (line_len held) held; line = l } ∷ source_tokens c Plain l (l + line_ends (take (line_len held) held)) 0 (drop (line_len held) held ++ more)
-step-define c o l held more some ends built is define plain fits =
-    let t = token_of Plain held in
-    let n = line_len held in
-    let bs = held ++ more in
-    let at_line : EndsLine held more = ⊎_elim (λ whole. inl whole) (λ none. inr none.0) ends in
-    let tok : SourceToken = record { sort = Definition; bytes = take n held; line = l } in
-    let other = cond (bytes_eq (take t.len held) (codes "`line")) (line_step l bs) (Next (record { sort = Ordinary Back; bytes = take t.len held; line = l })) in
-    let step : source_step c Plain o l bs ≡ Next tok =
-    back_held c o l held more some at_line built is ∙ ap (λ b. cond b (define_step c l bs) other) define ∙ define_line c l held more some ends plain fits in
-    next_held c o l held more tok n (line_len-some held some) (line_len-le held) refl step

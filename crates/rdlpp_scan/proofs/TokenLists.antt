@@ -1,7 +1,9 @@
 -- The tokens of a text, step by step.
-use Rattle.std.proofs.Common.{◌≡◌, ℕ, zero, suc, ◌-◌, ◌<◌, ◌≤◌, true, false, cond, Some, List, [], ◌∷◌, length, drop, refl, ap, ◌∙◌, arith}
+use Rattle.std.proofs.Common.{◌≡◌, ℕ, zero, suc, ◌-◌, ◌<◌, ◌≤◌, true, false, cond, Some, List, [], ◌∷◌, length, drop, refl, sym, ap, ◌∙◌, subst, arith}
 use Rattle.rdlpp_scan.specs.declared.token.Mode.{Mode}
-use Rattle.std.proofs.lemmas.List.{drop_all}
+use Rattle.rdlpp_scan.specs.declared.token.Token.{Token}
+use Rattle.std.specs.List.{AllByRecursion}
+use Rattle.std.proofs.lemmas.List.{drop_all, length-drop}
 use Rattle.rdlpp_scan.specs.Tokens.{token_of, tokens_from}
 use Rattle.rdlpp_scan.specs.declared.token.LexFault.TheVariants.{Perl as PerlFault}
 use Rattle.rdlpp_scan.specs.LexFaults.{fault_of_tokens, is_perl, open_fault}
@@ -26,6 +28,21 @@ tokens_from-step m [] some long = absurd (omega arith)
 tokens_from-step m (b ∷ bs) some long =
     let t = token_of m (b ∷ bs) in
     ap (λ ts. t ∷ ts) (tokens_from-behind t.next_mode t.len b bs long)
+
+some_within : (k : ℕ) (m : Mode) (bs : List ℕ) → length bs ≤ k → AllByRecursion (λ t. 0 < t.len) (tokens_from m 0 bs)
+unfolding tokens_from
+some_within k m [] le = tt
+some_within zero m (b ∷ bs) le = absurd (omega arith)
+some_within (suc k) m (b ∷ bs) le =
+    let t = token_of m (b ∷ bs) in
+    let some = (token_of-part m (b ∷ bs) (omega arith)).not_empty in
+    let rest = drop t.len (b ∷ bs) in
+    let A : List Token → Type 0 = λ ts. AllByRecursion (λ t. 0 < t.len) ts in
+    subst A (sym (tokens_from-step m (b ∷ bs) (omega arith) some)) (some, some_within k t.next_mode rest (omega (arith, length-drop t.len (b ∷ bs))))
+
+-- each token of a text has a byte
+pub tokens-some : (m : Mode) (bs : List ℕ) → AllByRecursion (λ t. 0 < t.len) (tokens_from m 0 bs)
+tokens-some m bs = some_within (length bs) m bs (omega arith)
 
 -- a text that begins with `<%`, outside a comment
 pub fault-perl : (m : Mode) (bs : List ℕ) → 0 < length bs → is_perl (token_of m bs).kind ≡ true → fault_of_tokens m (tokens_from m 0 bs) ≡ Some PerlFault

@@ -1,6 +1,6 @@
 -- Lines of a text by their length.
 -- A definition that names no source is this project's own.
-use Rattle.std.specs.Prelude.{◌≡◌, ◌⊎◌, ℕ, zero, suc, Bool, false, List, [], ◌∷◌, length, Option, None, Some, if◌then◌else◌}
+use Rattle.std.specs.Prelude.{◌≡◌, ◌⊎◌, ℕ, zero, suc, Bool, List, [], ◌∷◌, length, Option, None, Some, if◌then◌else◌}
 use Rattle.std.specs.Option.{option_map}
 use Rattle.rdlpp_scan.specs.Bytes.{is_line_end}
 use Rattle.rdlpp_scan.specs.SourceTokens.{is_continued}
@@ -24,12 +24,6 @@ whole_lines_len (b ∷ bs) = onto_whole_lines b (whole_lines_len bs)
 unfoldable pub ends_continued : ℕ → ℕ → List ℕ → Bool
 ends_continued x y [] = is_continued x y
 ends_continued x y (b ∷ bs) = ends_continued y b bs
-
--- whether the first physical line of a text ends in a continuation; x and y are the two bytes before the text
--- (IEEE 1364-2001, `define`)
-unfoldable pub line_continues : ℕ → ℕ → List ℕ → Bool
-line_continues x y [] = false
-line_continues x y (b ∷ bs) = if is_line_end b then is_continued x y else line_continues y b bs
 
 -- a text of whole lines: it is empty or ends in LF
 abbrev pub IsWholeLines : List ℕ → Type 0

@@ -1,29 +1,22 @@
 -- A default text that was read: by its tokens, and as it is read back from a table's bytes.
-use Rattle.std.proofs.Common.{◌≡◌, ℕ, zero, suc, ◌+◌, ◌-◌, ◌<◌, Bool, true, false, cond, not, ◌&&◌, List, [], ◌∷◌, ◌++◌, length, take, drop, get_or, eqb, Option, Some, None, Ok, Err, Result, option_map, refl, ap, sym, ◌∙◌, subst, arith}
-use Rattle.std.specs.List.{prefix_len}
-use Rattle.std.proofs.lemmas.Bool.{cond-true, cond-false, and_from, eqb-true, false≢true, ne_eqb}
+use Rattle.std.proofs.Common.{◌≡◌, ℕ, zero, suc, ◌+◌, ◌-◌, ◌<◌, Bool, true, false, cond, ◌&&◌, List, [], ◌∷◌, ◌++◌, length, take, drop, get_or, eqb, Option, Some, None, Ok, Err, Result, option_map, refl, ap, sym, ◌∙◌, arith}
+use Rattle.std.proofs.lemmas.Bool.{cond-true, cond-false, ne_eqb}
 use Rattle.rdlpp_scan.specs.declared.token.Kind.{Kind}
 use Rattle.rdlpp_scan.specs.declared.token.Kind.TheVariants.{Name, Word, Back, Blank, LineEnd, Str, LineComment, BlockComment, Opener, Closer, Comma, Other, Perl as PerlKind, BareBackquote}
 use Rattle.rdlpp_scan.specs.declared.token.Mode.{Mode}
 use Rattle.rdlpp_scan.specs.declared.token.Mode.TheVariants.{Plain, InStr, InBlock}
 use Rattle.rdlpp_scan.specs.declared.token.Token.{Token}
 use Rattle.rdlpp_scan.specs.declared.token.LexFault.{LexFault}
-use Rattle.rdlpp_scan.specs.Bytes.{is_line_end, is_opener, is_closer, begins_perl, begins_line_comment, begins_block_comment}
 use Rattle.rdlpp_scan.specs.Tokens.{token_of, tokens_from}
-use Rattle.rdlpp_scan.specs.LexFaults.{is_perl, open_fault}
+use Rattle.rdlpp_scan.specs.LexFaults.{fault_of_tokens, is_perl, lex_fault_from, open_fault}
 use Rattle.rdlpp_scan.proofs.TokenLens.{token_of-part}
-use Rattle.rdlpp_table.specs.Insides.{byte_cleared, Inside}
-use Rattle.rdlpp_table.specs.Insides.{byte_cleared, Text, Remark, Opening, Comment, Closing, Quoted, Taken}
 use Rattle.rdlpp_table.specs.Table.{default_size}
-use Rattle.rdlpp_table.specs.Define.{DefaultText, default_in, default_of_tokens, ends_default, is_space, level_behind, onto_default, trimmed_default, trimmed_of, without_end}
+use Rattle.rdlpp_table.specs.Define.{DefaultText, default_in, default_of_tokens, ends_default, level_behind, onto_default, trimmed_default, trimmed_of, without_end}
 use Rattle.rdlpp_lines.specs.Texts.{Cleared, Sound, Unsound, onto, cleared, start_level, text_behind, trimmed_left, trimmed_len, trims}
-use Rattle.rdlpp_table.specs.Insides.{level_after, minds_perl, keeps_first, behind_first, stops_at, ends_at}
 use Rattle.rdlpp_table.specs.Formals.{IsDefault, default_behind, default_left}
-use Rattle.rdlpp_table.specs.Store.{is_default, is_filled}
-use Rattle.rdlpp_table.proofs.Clears.{IsFree, free_ends, free_level}
+use Rattle.rdlpp_table.specs.Store.{fills, is_clean, is_default}
 use Rattle.rdlpp_lines.specs.Texts.{told, read_by, left_in, kept_bytes}
-use Rattle.rdlpp_table.proofs.Agrees.{by_bytes}
-use Rattle.rdlpp_table.proofs.Filled.{Stops, Drops, Keeps, turn, nothing_read, next_of, plain_of, stop_is, heads, IsAgain, Heads, again, whole_again, filled_byte, filled_end, remark_begins, front_filled, end_filled}
+use Rattle.rdlpp_table.proofs.CleanParts.{default_behind_plain}
 
 -- the default text of what is left
 abbrev found : Cleared → Option DefaultText
@@ -157,126 +150,12 @@ unfolding trimmed_len trimmed_left
 left_len (Sound rest last) len e = cc
 left_len (Unsound fault) len e = absurd (cc)
 
-slash_free : (b : ℕ) → b ≡ 47 → IsFree b
-unfolding is_opener is_closer
-slash_free b e = subst (λ (x : ℕ). IsFree x) (sym e) (record { opener = refl; closer = refl; comma = refl })
-
-remark_on : (b c : ℕ) → b ≡ 47 → c ≡ 47 → (eqb b 47 && eqb c 47) ≡ true
-remark_on b c e f = and_from _ _ (ap (λ (x : ℕ). eqb x 47) e) (ap (λ (x : ℕ). eqb x 47) f)
-
--- the state behind a byte, of the text and of what is kept of it
-dropped_state : (l : Option ℕ) (i : Inside) (b c : ℕ) → keeps_first i (b ∷ c ∷ []) ≡ false → (level_after l i b ≡ l) × (plain_of (behind_first i (b ∷ c ∷ [])) ≡ plain_of i)
-unfolding keeps_first behind_first level_after begins_line_comment begins_block_comment is_line_end is_opener is_closer
-dropped_state l Text b c k =
-    let e = remark_begins b c k in
-    (free_level l b (slash_free b e.0), ap (λ (t : Bool). plain_of (cond t Remark (cond (eqb b 47 && eqb c 42) Opening (cond (eqb b 34) Quoted Text)))) (remark_on b c e.0 e.1))
-dropped_state l Remark b c k = (refl, ap (λ (t : Bool). plain_of (cond t Text Remark)) k)
-dropped_state l Opening b c k = absurd (false≢true (sym k))
-dropped_state l Comment b c k = absurd (false≢true (sym k))
-dropped_state l Closing b c k = absurd (false≢true (sym k))
-dropped_state l Quoted b c k = absurd (false≢true (sym k))
-dropped_state l Taken b c k = absurd (false≢true (sym k))
-
-no_remark_text : (r o q : Bool) → not r ≡ true → cond r Remark (cond o Opening (cond q Quoted Text)) ≡ Remark → ⊥
-no_remark_text true o q k e = false≢true k
-no_remark_text false true q k e = absurd (cc)
-no_remark_text false false true k e = absurd (cc)
-no_remark_text false false false k e = absurd (cc)
-
-no_remark_comment : (t : Bool) → cond t Closing Comment ≡ Remark → ⊥
-no_remark_comment true e = absurd (cc)
-no_remark_comment false e = absurd (cc)
-
-no_remark_quoted : (p q : Bool) → cond p Text (cond q Taken Quoted) ≡ Remark → ⊥
-no_remark_quoted true q e = absurd (cc)
-no_remark_quoted false true e = absurd (cc)
-no_remark_quoted false false e = absurd (cc)
-
-plain_same : (j : Inside) → (j ≡ Remark → ⊥) → plain_of j ≡ j
-plain_same Text n = refl
-plain_same Remark n = absurd (n refl)
-plain_same Opening n = refl
-plain_same Comment n = refl
-plain_same Closing n = refl
-plain_same Quoted n = refl
-plain_same Taken n = refl
-
-line_end_is : (b : ℕ) → is_line_end b ≡ true → eqb b 10 ≡ true
-unfolding is_line_end
-line_end_is b e = e
-
--- a kept byte, read from where the kept bytes stand
-record IsKeptStep (l : Option ℕ) (i : Inside) (b c : ℕ) : Type 0 where
-  goes_on : stops_at l (plain_of i) b ≡ false
-  no_perl : (minds_perl (plain_of i) && begins_perl (b ∷ c ∷ [])) ≡ false
-  keeps : keeps_first (plain_of i) (b ∷ c ∷ []) ≡ true
-  level : level_after l (plain_of i) b ≡ level_after l i b
-  behind : behind_first (plain_of i) (b ∷ c ∷ []) ≡ behind_first i (b ∷ c ∷ [])
-  no_remark : behind_first i (b ∷ c ∷ []) ≡ Remark → ⊥
-
-remark_step : (l : Option ℕ) (b c : ℕ) → b ≡ 10 → IsKeptStep l Remark b c
-unfolding keeps_first behind_first stops_at ends_at minds_perl level_after begins_perl begins_line_comment begins_block_comment is_line_end is_opener is_closer
-remark_step l b c e = subst (λ (x : ℕ). IsKeptStep l Remark x c) (sym e) (record {
-  goes_on = free_ends l 10 (record { opener = refl; closer = refl; comma = refl });
-  no_perl = refl;
-  keeps = refl;
-  level = free_level l 10 (record { opener = refl; closer = refl; comma = refl });
-  behind = refl;
-  no_remark = λ f. absurd (cc);
-})
-
-kept_step : (l : Option ℕ) (i : Inside) (b c : ℕ) → stops_at l i b ≡ false → (minds_perl i && begins_perl (b ∷ c ∷ [])) ≡ false → keeps_first i (b ∷ c ∷ []) ≡ true → IsKeptStep l i b c
-unfolding keeps_first behind_first stops_at minds_perl level_after
-kept_step l Text b c s p k = record { goes_on = s; no_perl = p; keeps = k; level = refl; behind = refl; no_remark = no_remark_text _ _ _ k }
-kept_step l Remark b c s p k = remark_step l b c (eqb-true b 10 (line_end_is b k))
-kept_step l Opening b c s p k = record { goes_on = s; no_perl = p; keeps = k; level = refl; behind = refl; no_remark = λ e. absurd (cc) }
-kept_step l Comment b c s p k = record { goes_on = s; no_perl = p; keeps = k; level = refl; behind = refl; no_remark = no_remark_comment _ }
-kept_step l Closing b c s p k = record { goes_on = s; no_perl = p; keeps = k; level = refl; behind = refl; no_remark = λ e. absurd (cc) }
-kept_step l Quoted b c s p k = record { goes_on = s; no_perl = p; keeps = k; level = refl; behind = refl; no_remark = no_remark_quoted _ _ }
-kept_step l Taken b c s p k = record { goes_on = s; no_perl = p; keeps = k; level = refl; behind = refl; no_remark = λ e. absurd (cc) }
-
-stop_again : (l : Option ℕ) (i : Inside) (b : ℕ) → stops_at l i b ≡ true → stops_at l (plain_of i) 44 ≡ true
-unfolding stops_at
-stop_again l Text b s = (stop_is l b s).1
-stop_again l Remark b s = absurd (false≢true s)
-stop_again l Opening b s = absurd (false≢true s)
-stop_again l Comment b s = absurd (false≢true s)
-stop_again l Closing b s = absurd (false≢true s)
-stop_again l Quoted b s = absurd (false≢true s)
-stop_again l Taken b s = absurd (false≢true s)
-
--- what is left of a text up to its end is read whole
-kept_filled : (ds : List ℕ) (l : Option ℕ) (i : Inside) (kept : List ℕ) (t : ℕ) (ts : List ℕ) → byte_cleared l i ds ≡ Sound kept (t ∷ ts) → is_filled l (plain_of i) kept ≡ true
-kept_filled [] l i kept t ts e = absurd (nothing_read l i kept t ts e)
-kept_filled (b ∷ bs) l i kept t ts e = elim (turn l i b bs kept (t ∷ ts) e) [
-  | Stops s k ↦ ap (is_filled l (plain_of i)) k ∙ (filled_end l (plain_of i) ∙ stop_again l i b s)
-  | Drops s k r ↦
-      let d = dropped_state l i b (get_or bs 0 0) k in
-      ap (λ (m : Option ℕ). is_filled m (plain_of i) kept) (sym d.0)
-      ∙ (ap (λ (j : Inside). is_filled (level_after l i b) j kept) (sym d.1)
-      ∙ kept_filled bs (level_after l i b) (behind_first i (b ∷ get_or bs 0 0 ∷ [])) kept t ts r)
-  | Keeps s p k o ↦
-      let c : ℕ = get_or bs 0 0 in
-      let j : Inside = behind_first i (b ∷ c ∷ []) in
-      let w : IsKeptStep l i b c = kept_step l i b c s p k in
-      let h : is_filled (level_after l i b) (plain_of j) o.more ≡ true = kept_filled bs (level_after l i b) j o.more t ts o.is in
-      let r : is_filled (level_after l (plain_of i) b) (behind_first (plain_of i) (b ∷ c ∷ [])) o.more ≡ true =
-      ap (λ (m : Option ℕ). is_filled m (behind_first (plain_of i) (b ∷ c ∷ [])) o.more) w.level
-      ∙ (ap (λ (x : Inside). is_filled (level_after l i b) x o.more) (w.behind ∙ sym (plain_same j w.no_remark)) ∙ h) in
-      let a : IsAgain (plain_of i) b c (next_of o.more) = again (plain_of i) b c (next_of o.more) w.no_perl w.keeps (subst (λ (x : Inside). Heads x c (next_of o.more)) (sym w.behind) (heads bs (level_after l i b) j o.more t ts w.no_remark o.is)) in
-      ap (is_filled l (plain_of i)) o.kept_is ∙ filled_byte l (plain_of i) b o.more (whole_again l (plain_of i) b c (next_of o.more) o.more w.goes_on a r)
-]
-
-left_filled : (c : Cleared) (b : ℕ) (bs : List ℕ) → text_behind c ≡ b ∷ bs → ((kept : List ℕ) → c ≡ Sound kept (b ∷ bs) → is_filled (Some 0) Text kept ≡ true) → is_default (trimmed_left (trims true) c) ≡ true
-unfolding text_behind trimmed_left trimmed_of trims
-left_filled (Sound rest last) b bs e f =
-    end_filled (drop (prefix_len is_space rest) rest) (Some 0) Text tt (front_filled rest (Some 0) (f rest (ap (Sound rest) e)))
-left_filled (Unsound fault) b bs e f = absurd (cc)
-
 -- a default text that was read is read back
 pub default_plain : (text : List ℕ) (b : ℕ) (bs : List ℕ) → text_behind (cleared (start_level true) text) ≡ b ∷ bs → is_default (default_left text) ≡ true
 unfolding start_level default_left
-default_plain text b bs e = left_filled (cleared (Some 0) text) b bs e (λ kept k. kept_filled text (Some 0) Text kept b bs (sym (by_bytes text (Some 0)) ∙ k))
+default_plain text b bs e =
+    let c : Cleared = cleared (Some 0) text in
+    default_behind_plain text (record { text = trimmed_left (trims true) c; behind = text_behind c }) (default_is text ∙ sound_found c b bs e)
 
 abbrev ok_len : ℕ → Result ℕ LexFault
 ok_len n = Ok n
@@ -306,7 +185,7 @@ unfolding cleared left_in tokens_from open_fault trimmed_len trimmed_of without_
 none_len = refl
 
 none_plain : is_default [] ≡ true
-unfolding is_filled stops_at ends_at
+unfolding is_default is_clean fills lex_fault_from fault_of_tokens open_fault tokens_from
 none_plain = refl
 
 no_default_in : (text : List ℕ) → eqb (get_or text 0 0) 61 ≡ false → IsDefault (default_in text) [] text 0

@@ -1,389 +1,244 @@
--- Default texts as they are read back from a table's bytes.
-use Rattle.std.proofs.Common.{◌≡◌, ℕ, suc, ◌+◌, Bool, true, false, cond, not, ◌&&◌, ◌||◌, ◌⊎◌, List, [], ◌∷◌, ◌++◌, drop, get_or, eqb, one-add, Option, Some, None, refl, ap, sym, ◌∙◌, subst, inl, inr}
-use Rattle.std.specs.List.{prefix_len}
-use Rattle.std.proofs.lemmas.Bool.{cases_Bool, cond-true, cond-false, and_parts, and_from, and_left, and_right, eqb-true, not-true, false≢true}
-use Rattle.rdlpp_scan.specs.Bytes.{is_blank, is_line_end, begins_perl, begins_line_comment, begins_block_comment, ends_block_comment}
-use Rattle.rdlpp_scan.specs.declared.token.LexFault.TheVariants.{Perl}
-use Rattle.rdlpp_table.specs.Insides.{Inside}
-use Rattle.rdlpp_table.specs.Insides.{Text, Remark, Opening, Comment, Closing, Quoted, Taken}
-use Rattle.rdlpp_table.specs.Define.{is_space, onto_trimmed, without_end}
-use Rattle.rdlpp_lines.specs.Texts.{Cleared, Sound, Unsound, onto}
-use Rattle.rdlpp_table.specs.Insides.{at_end, ends_at, stops_at, level_after, minds_perl, keeps_first, behind_first, byte_cleared}
-use Rattle.rdlpp_table.specs.Store.{is_filled}
-use Rattle.rdlpp_table.proofs.Clears.{IsFree, free_level}
-use Rattle.rdlpp_table.proofs.Agrees.{class_free, apart}
-use Rattle.rdlpp_table.proofs.BodySteps.{IsPassed, kept_on, dropped_on, step_stop, step_cut, end_left}
+-- Default texts as they are read back from a table's bytes: the levels of their tokens, without `//` comments and without spaces at
+-- both ends, and with a `,` behind them.
+use Rattle.std.proofs.Common.{◌≡◌, ℕ, zero, suc, ◌+◌, ◌-◌, ◌<◌, ◌≤◌, Bool, true, false, cond, not, ◌&&◌, List, [], ◌∷◌, ◌++◌, length, take, drop, get_or, eqb, Option, Some, None, is_none, refl, ap, sym, ◌∙◌, subst, ⊎_elim, arith}
+use Rattle.std.specs.List.{AllByRecursion, list_all, prefix_len}
+use Rattle.std.proofs.lemmas.Bool.{cases_Bool, cond-true, cond-false, and_parts, and_from, and_right, not-true, or_cases, false≢true}
+use Rattle.std.proofs.lemmas.List.{drop-append-le, drop-take, get_or-drop, length-drop, take-append-drop, take-append-le}
+use Rattle.rdlpp_scan.specs.declared.token.Kind.{Kind}
+use Rattle.rdlpp_scan.specs.declared.token.Kind.TheVariants.{Blank, LineEnd, LineComment, Comma}
+use Rattle.rdlpp_scan.specs.declared.token.LexFault.{LexFault}
+use Rattle.rdlpp_scan.specs.declared.token.Mode.{Mode}
+use Rattle.rdlpp_scan.specs.declared.token.Mode.TheVariants.{Plain}
+use Rattle.rdlpp_scan.specs.declared.token.Token.{Token}
+use Rattle.rdlpp_scan.specs.Bytes.{is_blank, is_line_end, is_letter, is_digit, is_opener, is_closer, takes_word, begins_perl, begins_line_comment, begins_block_comment}
+use Rattle.rdlpp_scan.specs.CleanTexts.{IsCleanText, IsCleanToken, AreSpaces}
+use Rattle.rdlpp_scan.specs.Comments.{is_line_comment, other_texts, other_tokens, token_texts}
+use Rattle.rdlpp_scan.specs.LexFaults.{is_perl, lex_fault_from}
+use Rattle.rdlpp_scan.specs.Pieces.{tokens_len}
+use Rattle.rdlpp_scan.specs.Tokens.{whole, plain_token, token_of, tokens_from}
+use Rattle.rdlpp_scan.proofs.CleanTexts.{IsCleanTo, blank-step, clean_tokens, line-step}
+use Rattle.rdlpp_scan.proofs.CommaBehind.{clean_before_comma}
+use Rattle.rdlpp_scan.proofs.RangeLaws.{tokens_from-first, tokens_from-front}
+use Rattle.rdlpp_scan.proofs.TokenLens.{token_of-part}
+use Rattle.rdlpp_scan.proofs.TokenLists.{tokens_from-step, tokens-some}
+use Rattle.rdlpp_lines.specs.LineTokens.{kept_of}
+use Rattle.rdlpp_lines.specs.Texts.{Sound, onto, cleared, ends_default, left_in, level_behind}
+use Rattle.rdlpp_lines.proofs.Advancing.{by_first, left_first}
+use Rattle.rdlpp_table.specs.Store.{fills, is_clean, is_default}
 
--- the byte behind the first one, with a comma behind a text
-abbrev pub next_of : List ℕ → ℕ
-next_of bs = get_or (bs ++ 44 ∷ []) 0 0
+-- a text that is read whole
+none_is : (o : Option LexFault) → is_none o ≡ true → o ≡ None
+none_is None h = refl
+none_is (Some f) h = absurd (false≢true h)
 
--- a byte of a text that is read whole
-pub record IsWholeByte (l : Option ℕ) (i : Inside) (b c : ℕ) (bs : List ℕ) : Type 0 where
-  pub goes_on : stops_at l i b ≡ false
-  pub no_perl : (minds_perl i && begins_perl (b ∷ c ∷ [])) ≡ false
-  pub keeps : keeps_first i (b ∷ c ∷ []) ≡ true
-  pub rest : is_filled (level_after l i b) (behind_first i (b ∷ c ∷ [])) bs ≡ true
+kept_each : (ts : List Token) → list_all (λ t. not (is_line_comment t.kind)) ts ≡ true → AllByRecursion (λ t. is_line_comment t.kind ≡ false) ts
+kept_each [] h = tt
+kept_each (t ∷ ts) h = let p = and_parts (not (is_line_comment t.kind)) _ h in (not-true _ p.0, kept_each ts p.1)
 
-pub whole_byte : (l : Option ℕ) (i : Inside) (b : ℕ) (bs : List ℕ) → is_filled l i (b ∷ bs) ≡ true → IsWholeByte l i b (next_of bs) bs
-unfolding is_filled
-whole_byte l i b bs h =
-    let c = next_of bs in
-    let p = and_parts (not (stops_at l i b)) (not (minds_perl i && begins_perl (b ∷ c ∷ [])) && (keeps_first i (b ∷ c ∷ []) && is_filled (level_after l i b) (behind_first i (b ∷ c ∷ [])) bs)) h in
-    let q = and_parts (not (minds_perl i && begins_perl (b ∷ c ∷ []))) (keeps_first i (b ∷ c ∷ []) && is_filled (level_after l i b) (behind_first i (b ∷ c ∷ [])) bs) p.1 in
-    let r = and_parts (keeps_first i (b ∷ c ∷ [])) (is_filled (level_after l i b) (behind_first i (b ∷ c ∷ [])) bs) q.1 in
-    record { goes_on = not-true _ p.0; no_perl = not-true _ q.0; keeps = r.0; rest = r.1 }
+each_kept : (ts : List Token) → AllByRecursion (λ t. is_line_comment t.kind ≡ false) ts → list_all (λ t. not (is_line_comment t.kind)) ts ≡ true
+each_kept [] all = refl
+each_kept (t ∷ ts) all = and_from _ _ (ap not all.0) (each_kept ts all.1)
 
-pub filled_byte : (l : Option ℕ) (i : Inside) (b : ℕ) (bs : List ℕ) → IsWholeByte l i b (next_of bs) bs → is_filled l i (b ∷ bs) ≡ true
-unfolding is_filled
-filled_byte l i b bs w = and_from _ _ (ap not w.goes_on) (and_from _ _ (ap not w.no_perl) (and_from _ _ w.keeps w.rest))
+clean_text : (text : List ℕ) → is_clean text ≡ true → IsCleanText text
+unfolding is_clean
+clean_text text h = let p = and_parts (is_none (lex_fault_from Plain text)) _ h in record { faultless = none_is _ p.0; uncommented = kept_each _ p.1 }
 
-pub filled_end : (l : Option ℕ) (i : Inside) → is_filled l i [] ≡ stops_at l i 44
-unfolding is_filled
-filled_end l i = refl
+text_clean : (text : List ℕ) → IsCleanText text → is_clean text ≡ true
+unfolding is_clean
+text_clean text c = and_from _ _ (ap is_none c.faultless) (each_kept _ c.uncommented)
 
-same_next : (bs rest : List ℕ) → next_of bs ≡ get_or (bs ++ 44 ∷ rest) 0 0
-same_next [] rest = refl
-same_next (b ∷ bs) rest = refl
+pub default_from : (text : List ℕ) → IsCleanText text → fills 0 (tokens_from Plain 0 text) text ≡ true → is_default text ≡ true
+unfolding is_default
+default_from text c h = and_from _ _ (text_clean text c) h
 
--- a text that is read whole is read back up to a comma behind it
-pub filled_read : (xs : List ℕ) (l : Option ℕ) (i : Inside) (rest : List ℕ) → is_filled l i xs ≡ true → byte_cleared l i (xs ++ 44 ∷ rest) ≡ Sound xs (44 ∷ rest)
-unfolding onto
-filled_read [] l i rest h = step_stop l i (44 ∷ rest) 44 rest refl (sym (filled_end l i) ∙ h)
-filled_read (b ∷ bs) l i rest h =
-    let w : IsWholeByte l i b (next_of bs) bs = whole_byte l i b bs h in
-    kept_on l (level_after l i b) i (behind_first i (b ∷ next_of bs ∷ [])) (b ∷ bs ++ 44 ∷ rest) (bs ++ 44 ∷ rest) b (next_of bs)
-    (record { text_is = refl; goes_on = w.goes_on; next_is = same_next bs rest; no_perl = w.no_perl; level_is = refl; inside_is = refl }) w.keeps
-    ∙ ap (onto (b ∷ [])) (filled_read bs (level_after l i b) (behind_first i (b ∷ next_of bs ∷ [])) rest w.rest)
+-- a token that neither ends a default text nor changes its level
+quiet_fill : (l : ℕ) (t : Token) (ts : List Token) (text : List ℕ) → ends_default t.kind (get_or text 0 0) ≡ false → level_behind t.kind l ≡ l → fills l (t ∷ ts) text ≡ fills l ts (drop t.len text)
+unfolding fills
+quiet_fill l t ts text e f =
+    ap (λ b. not b && fills (level_behind t.kind l) ts (drop t.len text)) (and_right (eqb l 0) _ e) ∙ ap (λ n. fills n ts (drop t.len text)) f
 
--- inside of what the kept bytes go on
-abbrev pub plain_of : Inside → Inside
-plain_of Remark = Text
-plain_of Text = Text
-plain_of Opening = Opening
-plain_of Comment = Comment
-plain_of Closing = Closing
-plain_of Quoted = Quoted
-plain_of Taken = Taken
+blank_fill : (l n : ℕ) (ts : List Token) (text : List ℕ) → fills l (whole Blank n ∷ ts) text ≡ fills l ts (drop n text)
+unfolding whole ends_default level_behind
+blank_fill l n ts text = quiet_fill l (whole Blank n) ts text refl refl
 
--- what is left, where its first byte was kept
-pub record IsOnto (b : ℕ) (c : Cleared) (kept tail : List ℕ) : Type 0 where
-  pub more : List ℕ
-  pub is : c ≡ Sound more tail
-  pub kept_is : kept ≡ b ∷ more
+line_fill : (l : ℕ) (ts : List Token) (text : List ℕ) → fills l (whole LineEnd 1 ∷ ts) text ≡ fills l ts (drop 1 text)
+unfolding whole ends_default level_behind
+line_fill l ts text = quiet_fill l (whole LineEnd 1) ts text refl refl
 
-pub onto_is : (b : ℕ) (c : Cleared) (kept tail : List ℕ) → onto (b ∷ []) c ≡ Sound kept tail → IsOnto b c kept tail
-unfolding onto
-onto_is b (Sound more last) kept tail e =
-    let t : last ≡ tail = cc in
-    record { more = more; is = ap (Sound more) t; kept_is = cc }
-onto_is b (Unsound fault) kept tail e = absurd (cc)
+-- whether a text fills a level up
+abbrev fills_text : ℕ → List ℕ → Bool
+fills_text l text = fills l (tokens_from Plain 0 text) text
 
--- the byte behind a kept one, in the text and among the kept bytes: the same, or both of little account
-pub record IsOther (j : Inside) (c d : ℕ) : Type 0 where
-  pub text : j ≡ Text
-  pub percent : eqb d 37 ≡ false
-  pub slash : eqb d 47 ≡ false
-  pub star : eqb d 42 ≡ false
-  pub no_star : eqb c 42 ≡ false
+blank_run : (l b : ℕ) (bs : List ℕ) → is_blank b ≡ true → fills_text l (b ∷ bs) ≡ fills_text l (drop (prefix_len is_blank (b ∷ bs)) (b ∷ bs))
+blank_run l b bs h = ap (λ ts. fills l ts (b ∷ bs)) (blank-step b bs h) ∙ blank_fill l (prefix_len is_blank (b ∷ bs)) _ (b ∷ bs)
 
-abbrev pub Heads : Inside → ℕ → ℕ → Type 0
-Heads j c d = (c ≡ d) ⊎ IsOther j c d
+run_before : (l : ℕ) (bs : List ℕ) → fills_text l bs ≡ fills_text l (drop (prefix_len is_blank bs) bs)
+run_before l [] = refl
+run_before l (b ∷ bs) =
+    ⊎_elim (blank_run l b bs) (λ h. ap (λ t. fills_text l (drop (cond t (1 + prefix_len is_blank bs) 0) (b ∷ bs))) (sym h)) (cases_Bool (is_blank b))
 
--- a byte is read as before with the other byte behind it
-pub record IsAgain (i : Inside) (b c d : ℕ) : Type 0 where
-  pub no_perl : (minds_perl i && begins_perl (b ∷ d ∷ [])) ≡ false
-  pub keeps : keeps_first i (b ∷ d ∷ []) ≡ true
-  pub behind : behind_first i (b ∷ d ∷ []) ≡ behind_first i (b ∷ c ∷ [])
+-- spaces in front don't change the level
+module _ (class : ℕ → Bool) (are : AreSpaces class) where
+  one_space : (l b : ℕ) (bs : List ℕ) → class b ≡ true → fills_text l (b ∷ bs) ≡ fills_text l bs
+  one_space l b bs is =
+      let n = prefix_len is_blank bs in
+      let one : 1 + n ≡ suc n = omega arith in
+      ⊎_elim
+      (λ h. blank_run l b bs h ∙ ap (λ i. fills_text l (drop i (b ∷ bs))) (ap (λ t. cond t (1 + n) 0) h ∙ one) ∙ sym (run_before l bs))
+      (λ h. ap (λ ts. fills l ts (b ∷ bs)) (line-step b bs h) ∙ line_fill l _ (b ∷ bs)) (or_cases (is_blank b) (is_line_end b) (are.alone b is))
 
-again_same : (i : Inside) (b c d : ℕ) → (minds_perl i && begins_perl (b ∷ c ∷ [])) ≡ false → keeps_first i (b ∷ c ∷ []) ≡ true → c ≡ d → IsAgain i b c d
-again_same i b c d p k e = record {
-  no_perl = ap (λ (x : ℕ). minds_perl i && begins_perl (b ∷ x ∷ [])) (sym e) ∙ p;
-  keeps = ap (λ (x : ℕ). keeps_first i (b ∷ x ∷ [])) (sym e) ∙ k;
-  behind = ap (λ (x : ℕ). behind_first i (b ∷ x ∷ [])) (sym e);
-}
+  pub behind_spaces_fill : (l : ℕ) (text : List ℕ) → fills_text l (drop (prefix_len class text) text) ≡ fills_text l text
+  behind_spaces_fill l [] = refl
+  behind_spaces_fill l (b ∷ bs) =
+      let n = prefix_len class bs in
+      let one : 1 + n ≡ suc n = omega arith in
+      ⊎_elim
+      (λ h. ap (λ i. fills_text l (drop i (b ∷ bs))) (ap (λ t. cond t (1 + n) 0) h ∙ one) ∙ behind_spaces_fill l bs ∙ sym (one_space l b bs h))
+      (λ h. ap (λ t. fills_text l (drop (cond t (1 + n) 0) (b ∷ bs))) h) (cases_Bool (class b))
 
-no_text : (t : Bool) → cond t Closing Comment ≡ Text → ⊥
-no_text true e = absurd (cc)
-no_text false e = absurd (cc)
+  all_spaces : (l : ℕ) (text : List ℕ) → ((k : ℕ) → k < length text → class (get_or text k 0) ≡ true) → fills_text l text ≡ eqb l 0
+  unfolding tokens_from fills
+  all_spaces l [] all = refl
+  all_spaces l (b ∷ bs) all = one_space l b bs (all 0 (omega arith)) ∙ all_spaces l bs (λ k lt. all (suc k) (omega arith))
 
-again_other : (i : Inside) (b c d : ℕ) → keeps_first i (b ∷ c ∷ []) ≡ true → IsOther (behind_first i (b ∷ c ∷ [])) c d → IsAgain i b c d
-unfolding minds_perl keeps_first behind_first begins_perl begins_line_comment begins_block_comment ends_block_comment
-again_other Text b c d k o =
-    let s : (eqb b 47 && eqb d 47) ≡ false = and_right (eqb b 47) _ o.slash in
-    record {
-      no_perl = and_right (eqb b 60) _ o.percent;
-      keeps = ap not s;
-      behind =
-          ap (λ (t : Bool). cond t Remark (cond (eqb b 47 && eqb d 42) Opening (cond (eqb b 34) Quoted Text))) s
-          ∙ (ap (λ (t : Bool). cond t Opening (cond (eqb b 34) Quoted Text)) (and_right (eqb b 47) _ o.star)
-          ∙ (sym (ap (λ (t : Bool). cond t Opening (cond (eqb b 34) Quoted Text)) (and_right (eqb b 47) _ o.no_star))
-          ∙ sym (ap (λ (t : Bool). cond t Remark (cond (eqb b 47 && eqb c 42) Opening (cond (eqb b 34) Quoted Text))) (not-true _ k))));
-    }
-again_other Remark b c d k o = record { no_perl = refl; keeps = k; behind = refl }
-again_other Opening b c d k o = record { no_perl = refl; keeps = refl; behind = refl }
-again_other Comment b c d k o = absurd (no_text (eqb b 42 && eqb c 47) o.text)
-again_other Closing b c d k o = record { no_perl = refl; keeps = refl; behind = refl }
-again_other Quoted b c d k o = record { no_perl = and_right (eqb b 60) _ o.percent; keeps = refl; behind = refl }
-again_other Taken b c d k o = record { no_perl = refl; keeps = refl; behind = refl }
+  -- tokens behind which spaces alone stand
+  front_fill : (ts us : List Token) (l : ℕ) (text : List ℕ) → tokens_from Plain 0 text ≡ ts ++ us → AllByRecursion IsCleanToken ts
+      → ((k : ℕ) → tokens_len ts ≤ k → k < length text → class (get_or text k 0) ≡ true) → fills l (ts ++ us) text ≡ true → fills l ts text ≡ true
+  unfolding fills tokens_len
+  front_fill [] us l text e all spaces h = sym (all_spaces l text (λ k lt. spaces k (omega arith) lt)) ∙ (ap (λ ts. fills l ts text) e ∙ h)
+  front_fill (t ∷ ts) us l text e all spaces h =
+      let p = tokens_from-first Plain text t (ts ++ us) e in
+      let q = and_parts (not (eqb l 0 && ends_default t.kind (get_or text 0 0))) (fills (level_behind t.kind l) (ts ++ us) (drop t.len text)) h in
+      let later : tokens_from Plain 0 (drop t.len text) ≡ ts ++ us = ap (λ (m : Mode). tokens_from m 0 (drop t.len text)) (sym all.0.next) ∙ p.1.1 in
+      let behind : (k : ℕ) → tokens_len ts ≤ k → k < length (drop t.len text) → class (get_or (drop t.len text) k 0) ≡ true = λ k le lt. ap class (get_or-drop t.len text k 0) ∙ spaces (t.len + k) (omega arith) (omega (arith, length-drop t.len text)) in
+      and_from _ _ q.0 (front_fill ts us (level_behind t.kind l) (drop t.len text) later all.1 behind q.1)
 
-pub again : (i : Inside) (b c d : ℕ) → (minds_perl i && begins_perl (b ∷ c ∷ [])) ≡ false → keeps_first i (b ∷ c ∷ []) ≡ true → Heads (behind_first i (b ∷ c ∷ [])) c d → IsAgain i b c d
-again i b c d p k h = elim h [ inl e ↦ again_same i b c d p k e | inr o ↦ again_other i b c d k o ]
+-- the first byte of a front
+first_of : (n : ℕ) (text : List ℕ) → 0 < n → get_or (take n text) 0 0 ≡ get_or text 0 0
+first_of zero text h = absurd (omega arith)
+first_of (suc n) [] h = refl
+first_of (suc n) (b ∷ bs) h = refl
 
--- a byte is read whole with the other byte behind it
-pub whole_again : (l : Option ℕ) (i : Inside) (b c d : ℕ) (bs : List ℕ) → stops_at l i b ≡ false → IsAgain i b c d → is_filled (level_after l i b) (behind_first i (b ∷ c ∷ [])) bs ≡ true → IsWholeByte l i b d bs
-whole_again l i b c d bs s a r = record {
-  goes_on = s;
-  no_perl = a.no_perl;
-  keeps = a.keeps;
-  rest = ap (λ (j : Inside). is_filled (level_after l i b) j bs) a.behind ∙ r;
-}
+-- tokens in the front of a text
+taken_fill : (ts : List Token) (l n : ℕ) (text : List ℕ) → AllByRecursion (λ t. 0 < t.len) ts → tokens_len ts ≤ n → fills l ts (take n text) ≡ fills l ts text
+unfolding fills tokens_len
+taken_fill [] l n text some le = refl
+taken_fill (t ∷ ts) l n text some le =
+    let split : t.len + (n - t.len) ≡ n = omega arith in
+    let behind : drop t.len (take n text) ≡ take (n - t.len) (drop t.len text) = ap (λ i. drop t.len (take i text)) (sym split) ∙ drop-take t.len (n - t.len) text in
+    let first : Bool = not (eqb l 0 && ends_default t.kind (get_or text 0 0)) in
+    ap (λ b. not (eqb l 0 && ends_default t.kind b) && fills (level_behind t.kind l) ts (drop t.len (take n text))) (first_of n text (omega (arith, some.0)))
+    ∙ ap (λ x. first && x) (ap (fills (level_behind t.kind l) ts) behind ∙ taken_fill ts (level_behind t.kind l) (n - t.len) (drop t.len text) some.1 (omega arith))
 
-pub space_free : (b : ℕ) → is_space b ≡ true → IsFree b
-unfolding is_space is_blank is_line_end
-space_free b e = class_free is_space b e refl refl refl refl refl refl refl
+-- the spaces at the end go
+pub before_spaces_fill : (class : ℕ → Bool) → AreSpaces class → (l : ℕ) (text : List ℕ) (n : ℕ) → IsCleanTo class text n → fills_text l text ≡ true → fills_text l (take n text) ≡ true
+before_spaces_fill class are l text n c h =
+    let own : tokens_from Plain 0 (take n text) ≡ c.front = ap (λ i. tokens_from Plain 0 (take i text)) c.len ∙ tokens_from-front c.front c.back Plain text c.is in
+    let C : List Token → Type 0 = λ ts. AllByRecursion IsCleanToken ts in
+    let S : List Token → Type 0 = λ ts. AllByRecursion (λ t. 0 < t.len) ts in
+    let clean : C c.front = subst C own (clean_tokens (take n text) c.clean) in
+    let some : S c.front = subst S own (tokens-some Plain (take n text)) in
+    ap (λ ts. fills l ts (take n text)) own
+    ∙ (taken_fill c.front l n text some (omega (arith, c.len))
+    ∙ front_fill class are c.front c.back l text c.is clean (λ k le lt. c.spaces k (omega (arith, c.len)) lt) (ap (λ ts. fills l ts text) (sym c.is) ∙ h))
 
-space_not : (b k : ℕ) → is_space b ≡ true → is_space k ≡ false → eqb b k ≡ false
-space_not b k e f = apart is_space b k e f
+-- the same by the bytes of each token
+unfoldable fills_by : ℕ → List Token → List (List ℕ) → Bool
+fills_by l [] texts = eqb l 0
+fills_by l (t ∷ ts) [] = eqb l 0
+fills_by l (t ∷ ts) (x ∷ texts) = not (eqb l 0 && ends_default t.kind (get_or x 0 0)) && fills_by (level_behind t.kind l) ts texts
 
--- white space in plain text
-space_step : (l : Option ℕ) (b c : ℕ) → is_space b ≡ true → (level_after l Text b ≡ l) × (behind_first Text (b ∷ c ∷ []) ≡ Text)
-unfolding level_after behind_first begins_line_comment begins_block_comment is_space is_blank is_line_end
-space_step l b c e = (
-  free_level l b (space_free b e),
-  ap (λ (t : Bool). cond t Remark (cond (eqb b 47 && eqb c 42) Opening (cond (eqb b 34) Quoted Text))) (and_left (eqb b 47) _ (space_not b 47 e refl))
-      ∙ (ap (λ (t : Bool). cond t Opening (cond (eqb b 34) Quoted Text)) (and_left (eqb b 47) _ (space_not b 47 e refl))
-      ∙ ap (λ (t : Bool). cond t Quoted Text) (space_not b 34 e refl)),
-)
+by_texts : (ts : List Token) (l : ℕ) (text : List ℕ) → AllByRecursion (λ t. 0 < t.len) ts → fills l ts text ≡ fills_by l ts (token_texts ts text)
+unfolding fills fills_by token_texts
+by_texts [] l text some = refl
+by_texts (t ∷ ts) l text some =
+    let first : Bool = not (eqb l 0 && ends_default t.kind (get_or (take t.len text) 0 0)) in
+    ap (λ b. not (eqb l 0 && ends_default t.kind b) && fills (level_behind t.kind l) ts (drop t.len text)) (sym (first_of t.len text some.0))
+    ∙ ap (λ x. first && x) (by_texts ts (level_behind t.kind l) (drop t.len text) some.1)
 
--- the white space at the front goes
-pub front_filled : (xs : List ℕ) (l : Option ℕ) → is_filled l Text xs ≡ true → is_filled l Text (drop (prefix_len is_space xs) xs) ≡ true
-front_filled [] l h = h
-front_filled (b ∷ bs) l h =
-    elim (cases_Bool (is_space b)) [
-      | inl e ↦
-          let w : IsWholeByte l Text b (next_of bs) bs = whole_byte l Text b bs h in
-          let s = space_step l b (next_of bs) e in
-          let n : prefix_len is_space (b ∷ bs) ≡ suc (prefix_len is_space bs) = ap (λ (t : Bool). cond t (1 + prefix_len is_space bs) 0) e ∙ one-add (prefix_len is_space bs) in
-          let r : is_filled l Text bs ≡ true = ap (λ (m : Option ℕ). is_filled m Text bs) (sym s.0) ∙ (ap (λ (j : Inside). is_filled (level_after l Text b) j bs) (sym s.1) ∙ w.rest) in
-          ap (λ (k : ℕ). is_filled l Text (drop k (b ∷ bs))) n ∙ front_filled bs l r
-      | inr e ↦ ap (λ (k : ℕ). is_filled l Text (drop k (b ∷ bs))) (cond-false (is_space b) (1 + prefix_len is_space bs) 0 e) ∙ h
-    ]
+-- a `//` comment does neither
+comment_quiet : (k : Kind) (l b : ℕ) → is_line_comment k ≡ true → (ends_default k b ≡ false) × (level_behind k l ≡ l)
+unfolding is_line_comment ends_default level_behind
+comment_quiet LineComment l b h = (refl, refl)
+comment_quiet _ l b h = absurd (false≢true h)
 
--- inside of what a text that is read whole may begin
-abbrev Fit : Inside → List ℕ → Type 0
-Fit Remark xs = ⊥
-Fit Closing xs = next_of xs ≡ 47
-Fit Text xs = Unit {0}
-Fit Opening xs = Unit {0}
-Fit Comment xs = Unit {0}
-Fit Quoted xs = Unit {0}
-Fit Taken xs = Unit {0}
+others_fill : (ts : List Token) (l : ℕ) (text : List ℕ) → fills_by l (other_tokens ts) (other_texts ts text) ≡ fills_by l ts (token_texts ts text)
+unfolding other_tokens other_texts token_texts fills_by
+others_fill [] l text = refl
+others_fill (t ∷ ts) l text =
+    let kept = other_tokens ts in
+    let own = take t.len text in
+    let texts = other_texts ts (drop t.len text) in
+    let all = token_texts ts (drop t.len text) in
+    let first : Bool = not (eqb l 0 && ends_default t.kind (get_or own 0 0)) in
+    let P : Bool → Type 0 = λ c. is_line_comment t.kind ≡ c → fills_by l (cond (not c) (t ∷ kept) kept) (cond c texts (own ∷ texts)) ≡ (first && fills_by (level_behind t.kind l) ts all) in
+    let at_comment : P true = λ h.
+    let q = comment_quiet t.kind l (get_or own 0 0) h in
+    others_fill ts l (drop t.len text)
+    ∙ sym (ap (λ b. not b && fills_by (level_behind t.kind l) ts all) (and_right (eqb l 0) _ q.0) ∙ ap (λ n. fills_by n ts all) q.1) in
+    let at_other : P false = λ _. ap (λ x. first && x) (others_fill ts (level_behind t.kind l) (drop t.len text)) in
+    elim (is_line_comment t.kind) as P [ true ↦ at_comment | false ↦ at_other ] refl
 
-fit_text : (r o q : Bool) (bs : List ℕ) → not r ≡ true → Fit (cond r Remark (cond o Opening (cond q Quoted Text))) bs
-fit_text true o q bs k = absurd (false≢true k)
-fit_text false true q bs k = tt
-fit_text false false true bs k = tt
-fit_text false false false bs k = tt
+-- tokens fill a level up as what is left of them without `//` comments does
+pub left_fill : (ts : List Token) (l : ℕ) (text left : List ℕ) → AllByRecursion (λ t. 0 < t.len) ts → tokens_from Plain 0 left ≡ other_tokens ts
+    → token_texts (other_tokens ts) left ≡ other_texts ts text → fills_text l left ≡ fills l ts text
+left_fill ts l text left some tokens texts =
+    by_texts (tokens_from Plain 0 left) l left (tokens-some Plain left)
+    ∙ (ap (λ us. fills_by l us (token_texts us left)) tokens
+    ∙ (ap (fills_by l (other_tokens ts)) texts
+    ∙ (others_fill ts l text ∙ sym (by_texts ts l text some))))
 
-fit_comment : (t : Bool) (bs : List ℕ) → (t ≡ true → next_of bs ≡ 47) → Fit (cond t Closing Comment) bs
-fit_comment true bs k = k refl
-fit_comment false bs k = tt
+-- a `,` at level 0
+comma_token : (rest : List ℕ) → token_of Plain (44 ∷ rest) ≡ whole Comma 1
+unfolding token_of plain_token begins_perl is_line_end is_blank begins_line_comment begins_block_comment is_letter is_digit takes_word is_opener is_closer
+comma_token rest = refl
 
-fit_quoted : (p q : Bool) (bs : List ℕ) → Fit (cond p Text (cond q Taken Quoted)) bs
-fit_quoted true q bs = tt
-fit_quoted false true bs = tt
-fit_quoted false false bs = tt
+comma_read : (l : ℕ) (rest : List ℕ) → eqb l 0 ≡ true → left_in (Some l) Plain (44 ∷ rest) ≡ Sound [] (44 ∷ rest)
+unfolding whole is_perl ends_default
+comma_read l rest e =
+    left_first (Some l) Plain (44 ∷ rest) (omega arith) ∙ (ap (λ (t : Token). by_first (Some l) t (44 ∷ rest)) (comma_token rest) ∙ cond-true _ _ _ (and_from (eqb l 0) true e refl))
 
-fit_next : (i : Inside) (b : ℕ) (bs : List ℕ) → Fit i (b ∷ bs) → keeps_first i (b ∷ next_of bs ∷ []) ≡ true → Fit (behind_first i (b ∷ next_of bs ∷ [])) bs
-unfolding keeps_first behind_first ends_block_comment
-fit_next Text b bs f k = fit_text _ _ _ bs k
-fit_next Remark b bs f k = absurd f
-fit_next Opening b bs f k = tt
-fit_next Comment b bs f k = fit_comment (eqb b 42 && eqb (next_of bs) 47) bs (λ e. eqb-true _ 47 (and_parts (eqb b 42) _ e).1)
-fit_next Closing b bs f k = tt
-fit_next Quoted b bs f k = fit_quoted (eqb b 34) (eqb b 92) bs
-fit_next Taken b bs f k = tt
+kept_own : (k : Kind) (xs : List ℕ) → is_line_comment k ≡ false → kept_of k xs ≡ xs
+unfolding is_line_comment
+kept_own LineComment xs h = absurd (false≢true (sym h))
+kept_own _ xs h = refl
 
--- plain text alone may end
-text_ends : (l : Option ℕ) (i : Inside) (b : ℕ) → stops_at l i b ≡ true → i ≡ Text
-unfolding stops_at
-text_ends l Text b e = refl
-text_ends l Remark b e = absurd (false≢true e)
-text_ends l Opening b e = absurd (false≢true e)
-text_ends l Comment b e = absurd (false≢true e)
-text_ends l Closing b e = absurd (false≢true e)
-text_ends l Quoted b e = absurd (false≢true e)
-text_ends l Taken b e = absurd (false≢true e)
+-- a text that fills a level up is read up to a `,` behind it
+fills_read : (fuel l : ℕ) (xs rest : List ℕ) → length xs ≤ fuel → AllByRecursion IsCleanToken (tokens_from Plain 0 xs) → fills_text l xs ≡ true → left_in (Some l) Plain (xs ++ 44 ∷ rest) ≡ Sound xs (44 ∷ rest)
+unfolding tokens_from fills onto
+fills_read fuel l [] rest le all h = comma_read l rest h
+fills_read zero l (b ∷ bs) rest le all h = absurd (omega arith)
+fills_read (suc fuel) l (b ∷ bs) rest le all h =
+    let T = b ∷ bs in
+    let ys = 44 ∷ rest in
+    let t = token_of Plain T in
+    let m = level_behind t.kind l in
+    let some : 0 < length T = omega arith in
+    let part = token_of-part Plain T some in
+    let after = drop t.len T in
+    let C : List Token → Type 0 = λ ts. AllByRecursion IsCleanToken ts in
+    let step : tokens_from Plain 0 T ≡ t ∷ tokens_from t.next_mode 0 after = tokens_from-step Plain T some part.not_empty in
+    let each : C (t ∷ tokens_from t.next_mode 0 after) = subst C step all in
+    let next : t.next_mode ≡ Plain = each.0.next in
+    let each_after : C (tokens_from Plain 0 after) = subst (λ (v : Mode). C (tokens_from v 0 after)) next each.1 in
+    let fill = and_parts (not (eqb l 0 && ends_default t.kind b)) (fills m (tokens_from t.next_mode 0 after) after) (sym (ap (λ ts. fills l ts T) step) ∙ h) in
+    let fill_after : fills_text m after ≡ true = subst (λ (v : Mode). fills m (tokens_from v 0 after) after ≡ true) next fill.1 in
+    let read : left_in (Some m) Plain (after ++ ys) ≡ Sound after ys = fills_read fuel m after rest (omega (arith, length-drop t.len T, part.not_empty)) each_after fill_after in
+    let same : token_of Plain (T ++ ys) ≡ t = clean_before_comma T rest some each.0 in
+    let own : kept_of t.kind (take t.len (T ++ ys)) ≡ take t.len T = kept_own t.kind _ each.0.kept ∙ take-append-le t.len T ys part.inside in
+    let behind : drop t.len (T ++ ys) ≡ after ++ ys = drop-append-le t.len T ys part.inside in
+    left_first (Some l) Plain (T ++ ys) (omega arith)
+    ∙ (ap (λ (u : Token). by_first (Some l) u (T ++ ys)) same
+    ∙ (cond-false _ _ _ each.0.sound
+    ∙ (cond-false _ _ _ (not-true _ fill.0)
+    ∙ (ap (λ x. onto x (left_in (Some m) t.next_mode (drop t.len (T ++ ys)))) own
+    ∙ (ap (λ x. onto (take t.len T) (left_in (Some m) t.next_mode x)) behind
+    ∙ (ap (λ (v : Mode). onto (take t.len T) (left_in (Some m) v (after ++ ys))) next
+    ∙ (ap (onto (take t.len T)) read ∙ ap (λ x. Sound x ys) (take-append-drop t.len T))))))))
 
-quoted_space : (b : ℕ) → is_space b ≡ true → cond (eqb b 34) Text (cond (eqb b 92) Taken Quoted) ≡ Quoted
-unfolding is_space is_blank is_line_end
-quoted_space b e =
-    ap (λ (t : Bool). cond t Text (cond (eqb b 92) Taken Quoted)) (space_not b 34 e refl)
-    ∙ ap (λ (t : Bool). cond t Taken Quoted) (space_not b 92 e refl)
-
-space_is : (b : ℕ) → b ≡ 47 → is_space b ≡ true → ⊥
-unfolding is_space is_blank is_line_end
-space_is b f e = absurd (false≢true (sym (ap is_space f) ∙ e))
-
--- where only white space is left before the end, the text may end before it
-ends_before : (l : Option ℕ) (i : Inside) (b : ℕ) (bs : List ℕ) → Fit i (b ∷ bs) → is_space b ≡ true → stops_at (level_after l i b) (behind_first i (b ∷ next_of bs ∷ [])) 44 ≡ true → stops_at l i 44 ≡ true
-unfolding stops_at level_after behind_first ends_block_comment
-ends_before l Text b bs f e h =
-    let s = space_step l b (next_of bs) e in
-    ap (λ (m : Option ℕ). stops_at m Text 44) (sym s.0) ∙ (ap (λ (j : Inside). stops_at (level_after l Text b) j 44) (sym s.1) ∙ h)
-ends_before l Remark b bs f e h = absurd f
-ends_before l Opening b bs f e h = absurd (false≢true h)
-ends_before l Comment b bs f e h = absurd (no_text _ (text_ends l (cond (eqb b 42 && eqb (next_of bs) 47) Closing Comment) 44 h))
-ends_before l Closing b bs f e h = absurd (space_is b f e)
-ends_before l Quoted b bs f e h = absurd (false≢true (sym (ap (λ (j : Inside). stops_at l j 44) (quoted_space b e)) ∙ h))
-ends_before l Taken b bs f e h = absurd (false≢true h)
-
-comma_heads : (j : Inside) (c : ℕ) → j ≡ Text → eqb c 42 ≡ false → Heads j c 44
-comma_heads j c e f = inr (record { text = e; percent = refl; slash = refl; star = refl; no_star = f })
-
--- the first byte of a text that is white space is white space, or the comma behind it
-nothing_ends : (b : ℕ) (ws : List ℕ) → onto_trimmed is_space b ws ≡ [] → is_space b ≡ true
-unfolding onto_trimmed
-nothing_ends b [] e = elim (cases_Bool (is_space b)) [
-  | inl t ↦ t
-  | inr f ↦ let k : b ∷ [] ≡ [] = sym (cond-false _ _ _ f) ∙ e in absurd (cc)
-]
-nothing_ends b (w ∷ ws) e = absurd (cc)
-
-blank_head : (bs : List ℕ) → without_end is_space bs ≡ [] → eqb (next_of bs) 42 ≡ false
-unfolding without_end is_space is_blank is_line_end
-blank_head [] e = refl
-blank_head (b ∷ bs) e = space_not b 42 (nothing_ends b (without_end is_space bs) e) refl
-
-same_head : (b w : ℕ) (ws vs : List ℕ) → onto_trimmed is_space b vs ≡ w ∷ ws → b ≡ w
-unfolding onto_trimmed
-same_head b w ws [] e = elim (cases_Bool (is_space b)) [
-  | inl t ↦ let k : [] ≡ w ∷ ws = sym (cond-true _ _ _ t) ∙ e in absurd (cc)
-  | inr f ↦ let k : b ∷ [] ≡ w ∷ ws = sym (cond-false _ _ _ f) ∙ e in cc
-]
-same_head b w ws (v ∷ vs) e = cc
-
-kept_head : (bs : List ℕ) (w : ℕ) (ws : List ℕ) → without_end is_space bs ≡ w ∷ ws → next_of bs ≡ w
-unfolding without_end
-kept_head [] w ws e = absurd (cc)
-kept_head (b ∷ bs) w ws e = same_head b w ws (without_end is_space bs) e
-
--- by what is left behind the first byte
-by_rest : (l : Option ℕ) (i : Inside) (b : ℕ) (bs ws : List ℕ) → without_end is_space bs ≡ ws → Fit i (b ∷ bs) → IsWholeByte l i b (next_of bs) bs → is_filled (level_after l i b) (behind_first i (b ∷ next_of bs ∷ [])) ws ≡ true → is_filled l i (onto_trimmed is_space b ws) ≡ true
-unfolding onto_trimmed
-by_rest l i b bs [] e f w h =
-    let j : Inside = behind_first i (b ∷ next_of bs ∷ []) in
-    let ends : stops_at (level_after l i b) j 44 ≡ true = sym (filled_end (level_after l i b) j) ∙ h in
-    elim (cases_Bool (is_space b)) [
-      | inl t ↦ ap (is_filled l i) (cond-true _ _ _ t) ∙ (filled_end l i ∙ ends_before l i b bs f t ends)
-      | inr t ↦
-          ap (is_filled l i) (cond-false _ _ _ t)
-          ∙ filled_byte l i b [] (whole_again l i b (next_of bs) 44 [] w.goes_on (again i b (next_of bs) 44 w.no_perl w.keeps (comma_heads j (next_of bs) (text_ends (level_after l i b) j 44 ends) (blank_head bs e))) h)
-    ]
-by_rest l i b bs (v ∷ vs) e f w h =
-    filled_byte l i b (v ∷ vs) (whole_again l i b (next_of bs) v (v ∷ vs) w.goes_on (again_same i b (next_of bs) v w.no_perl w.keeps (kept_head bs v vs e)) h)
-
--- the white space at the end goes
-pub end_filled : (xs : List ℕ) (l : Option ℕ) (i : Inside) → Fit i xs → is_filled l i xs ≡ true → is_filled l i (without_end is_space xs) ≡ true
-unfolding without_end
-end_filled [] l i f h = h
-end_filled (b ∷ bs) l i f h =
-    let w : IsWholeByte l i b (next_of bs) bs = whole_byte l i b bs h in
-    by_rest l i b bs (without_end is_space bs) refl f w (end_filled bs (level_after l i b) (behind_first i (b ∷ next_of bs ∷ [])) (fit_next i b bs f w.keeps) w.rest)
-
--- what is left of a default text is read whole
-
-pub no_end : (i : Inside) (kept : List ℕ) (t : ℕ) (ts : List ℕ) → at_end i ≡ Sound kept (t ∷ ts) → ⊥
-unfolding at_end
-no_end Text kept t ts e = absurd (cc)
-no_end Remark kept t ts e = absurd (cc)
-no_end Opening kept t ts e = absurd (cc)
-no_end Comment kept t ts e = absurd (cc)
-no_end Closing kept t ts e = absurd (cc)
-no_end Quoted kept t ts e = absurd (cc)
-no_end Taken kept t ts e = absurd (cc)
-
-pub nothing_read : (l : Option ℕ) (i : Inside) (kept : List ℕ) (t : ℕ) (ts : List ℕ) → byte_cleared l i [] ≡ Sound kept (t ∷ ts) → ⊥
-nothing_read l i kept t ts e = no_end i kept t ts (sym (end_left l i [] refl) ∙ e)
-
--- one byte of a text that is read to its end
-pub data Turn (l : Option ℕ) (i : Inside) (b : ℕ) (bs kept tail : List ℕ) : Type 0 where
-  Stops : stops_at l i b ≡ true → kept ≡ [] → Turn l i b bs kept tail
-  Drops : stops_at l i b ≡ false → keeps_first i (b ∷ get_or bs 0 0 ∷ []) ≡ false → byte_cleared (level_after l i b) (behind_first i (b ∷ get_or bs 0 0 ∷ [])) bs ≡ Sound kept tail → Turn l i b bs kept tail
-  Keeps : stops_at l i b ≡ false → (minds_perl i && begins_perl (b ∷ get_or bs 0 0 ∷ [])) ≡ false → keeps_first i (b ∷ get_or bs 0 0 ∷ []) ≡ true → IsOnto b (byte_cleared (level_after l i b) (behind_first i (b ∷ get_or bs 0 0 ∷ [])) bs) kept tail → Turn l i b bs kept tail
-
-pub turn : (l : Option ℕ) (i : Inside) (b : ℕ) (bs kept tail : List ℕ) → byte_cleared l i (b ∷ bs) ≡ Sound kept tail → Turn l i b bs kept tail
-turn l i b bs kept tail e =
-    let c : ℕ = get_or bs 0 0 in
-    elim (cases_Bool (stops_at l i b)) [
-      | inl s ↦ let k : Sound [] (b ∷ bs) ≡ Sound kept tail = sym (step_stop l i (b ∷ bs) b bs refl s) ∙ e in Stops s (cc)
-      | inr s ↦ elim (cases_Bool (minds_perl i && begins_perl (b ∷ c ∷ []))) [
-        | inl p ↦ let k : Unsound Perl ≡ Sound kept tail = sym (step_cut l i (b ∷ bs) b bs c refl s refl p) ∙ e in absurd (cc)
-        | inr p ↦
-            let passed : IsPassed l (level_after l i b) i (behind_first i (b ∷ c ∷ [])) (b ∷ bs) bs b c = record { text_is = refl; goes_on = s; next_is = refl; no_perl = p; level_is = refl; inside_is = refl } in
-            elim (cases_Bool (keeps_first i (b ∷ c ∷ []))) [
-              | inl k ↦ Keeps s p k (onto_is b _ kept tail (sym (kept_on l _ i _ (b ∷ bs) bs b c passed k) ∙ e))
-              | inr k ↦ Drops s k (sym (dropped_on l _ i _ (b ∷ bs) bs b c passed k) ∙ e)
-            ]
-      ]
-    ]
-
--- a `//` comment is read up to LF
-remark_head : (bs : List ℕ) (l : Option ℕ) (kept : List ℕ) (t : ℕ) (ts : List ℕ) → byte_cleared l Remark bs ≡ Sound kept (t ∷ ts) → next_of kept ≡ 10
-unfolding stops_at level_after keeps_first behind_first is_line_end
-remark_head [] l kept t ts e = absurd (nothing_read l Remark kept t ts e)
-remark_head (b ∷ bs) l kept t ts e = elim (turn l Remark b bs kept (t ∷ ts) e) [
-  | Stops s k ↦ absurd (false≢true s)
-  | Drops s k r ↦
-      let j : cond (eqb b 10) Text Remark ≡ Remark = cond-false _ _ _ k in
-      remark_head bs l kept t ts (ap (λ (x : Inside). byte_cleared l x bs) (sym j) ∙ r)
-  | Keeps s p k o ↦ ap next_of o.kept_is ∙ eqb-true b 10 k
-]
-
-pub remark_begins : (b c : ℕ) → not (begins_line_comment (b ∷ c ∷ [])) ≡ false → (b ≡ 47) × (c ≡ 47)
-unfolding begins_line_comment
-remark_begins b c e =
-    let p = and_parts (eqb b 47) (eqb c 47) (elim (cases_Bool (eqb b 47 && eqb c 47)) [ inl t ↦ t | inr t ↦ absurd (false≢true (sym (e) ∙ ap not t)) ]) in
-    (eqb-true b 47 p.0, eqb-true c 47 p.1)
-
--- a stop is a comma or a `)`
-pub stop_is : (l : Option ℕ) (b : ℕ) → ends_at l b ≡ true → (eqb b 42 ≡ false) × (ends_at l 44 ≡ true)
-unfolding ends_at
-stop_is None b e = absurd (false≢true e)
-stop_is (Some n) b e =
-    let p = and_parts (eqb n 0) (eqb b 44 || eqb b 41) e in
-    (apart (λ x. eqb x 44 || eqb x 41) b 42 p.1 refl, and_from (eqb n 0) true p.0 refl)
-
-stop_heads : (l : Option ℕ) (j : Inside) (d : ℕ) (kept : List ℕ) → stops_at l j d ≡ true → kept ≡ [] → Heads j d (next_of kept)
-unfolding stops_at
-stop_heads l Text d kept s k = subst (λ (x : List ℕ). Heads Text d (next_of x)) (sym k) (comma_heads Text d refl (stop_is l d s).0)
-stop_heads l Remark d kept s k = absurd (false≢true s)
-stop_heads l Opening d kept s k = absurd (false≢true s)
-stop_heads l Comment d kept s k = absurd (false≢true s)
-stop_heads l Closing d kept s k = absurd (false≢true s)
-stop_heads l Quoted d kept s k = absurd (false≢true s)
-stop_heads l Taken d kept s k = absurd (false≢true s)
-
-drop_heads : (l : Option ℕ) (j : Inside) (d : ℕ) (ds kept : List ℕ) (t : ℕ) (ts : List ℕ) → (j ≡ Remark → ⊥) → keeps_first j (d ∷ get_or ds 0 0 ∷ []) ≡ false → byte_cleared (level_after l j d) (behind_first j (d ∷ get_or ds 0 0 ∷ [])) ds ≡ Sound kept (t ∷ ts) → Heads j d (next_of kept)
-unfolding keeps_first behind_first begins_line_comment
-drop_heads l Text d ds kept t ts n k r =
-    let c : ℕ = get_or ds 0 0 in
-    let b = remark_begins d c k in
-    let on : (eqb d 47 && eqb c 47) ≡ true = and_from _ _ (ap (λ (x : ℕ). eqb x 47) b.0) (ap (λ (x : ℕ). eqb x 47) b.1) in
-    let at : next_of kept ≡ 10 = remark_head ds (level_after l Text d) kept t ts (ap (λ (x : Inside). byte_cleared (level_after l Text d) x ds) (sym (cond-true _ _ _ on)) ∙ r) in
-    inr (record { text = refl; percent = ap (λ (x : ℕ). eqb x 37) at; slash = ap (λ (x : ℕ). eqb x 47) at; star = ap (λ (x : ℕ). eqb x 42) at; no_star = ap (λ (x : ℕ). eqb x 42) b.0 })
-drop_heads l Remark d ds kept t ts n k r = absurd (n refl)
-drop_heads l Opening d ds kept t ts n k r = absurd (false≢true (sym k))
-drop_heads l Comment d ds kept t ts n k r = absurd (false≢true (sym k))
-drop_heads l Closing d ds kept t ts n k r = absurd (false≢true (sym k))
-drop_heads l Quoted d ds kept t ts n k r = absurd (false≢true (sym k))
-drop_heads l Taken d ds kept t ts n k r = absurd (false≢true (sym k))
-
-pub heads : (ds : List ℕ) (l : Option ℕ) (j : Inside) (kept : List ℕ) (t : ℕ) (ts : List ℕ) → (j ≡ Remark → ⊥) → byte_cleared l j ds ≡ Sound kept (t ∷ ts) → Heads j (get_or ds 0 0) (next_of kept)
-heads [] l j kept t ts n e = absurd (nothing_read l j kept t ts e)
-heads (d ∷ ds) l j kept t ts n e = elim (turn l j d ds kept (t ∷ ts) e) [
-  | Stops s k ↦ stop_heads l j d kept s k
-  | Drops s k r ↦ drop_heads l j d ds kept t ts n k r
-  | Keeps s p k o ↦ inl (sym (ap next_of o.kept_is))
-]
+-- a default text is read back up to the `,` behind it
+pub default_read_back : (text rest : List ℕ) → is_default text ≡ true → cleared (Some 0) (text ++ 44 ∷ rest) ≡ Sound text (44 ∷ rest)
+unfolding is_default cleared
+default_read_back text rest h =
+    let p = and_parts (is_clean text) (fills_text 0 text) h in
+    fills_read (length text) 0 text rest (omega arith) (clean_tokens text (clean_text text p.0)) p.1

@@ -1,14 +1,13 @@
 -- A formal list as it is read, one formal after another.
 use Rattle.std.proofs.Common.{◌≡◌, ℕ, zero, suc, ◌+◌, ◌-◌, ◌<◌, Bool, true, false, cond, not, ◌||◌, List, [], ◌∷◌, ◌++◌, length, map, take, drop, get_or, eqb, ltb, leb, bytes_eq, sum_by, unwrap_or, length-append, Option, Some, None, refl, ap, sym, ◌∙◌, arith, inl, inr, ◌⊎◌, one-add}
 use Rattle.std.specs.List.{list_any, list_all, prefix_len}
-use Rattle.std.proofs.lemmas.Bool.{cases_Bool, cond-false, and_from, leb-true, leb-false}
+use Rattle.std.proofs.lemmas.Bool.{both_ways, cases_Bool, cond-false, and_from, eqb-true, false_from_ne_true, leb-true, leb-false}
 use Rattle.std.proofs.lemmas.List.{map-append, length-map}
 use Rattle.std.proofs.lemmas.List.Folds.{list_all-append}
 use Rattle.std.proofs.lemmas.List.Sums.{sum_by-cons, sum_by-append}
 use Rattle.rdlpp_scan.specs.Bytes.{is_letter, is_digit, is_word}
 use Rattle.rdlpp_table.specs.Table.{Formal, default_size, formal_size}
 use Rattle.rdlpp_table.specs.Define.{FormalList, Listed, Unlisted, OneFormal, Good, Bad, DefaultText, after_space, behind_name, default_in, formal_fault, formal_in, formal_name, formals_in, formals_of_list, is_nothing, leading_name, with_default}
-use Rattle.rdlpp_table.proofs.Agrees.{apart}
 use Rattle.rdlpp_table.specs.Store.{is_default, is_name_byte, is_plain_formal}
 use Rattle.rdlpp_table.specs.Formals.{IsDefault, IsPart, IsRead, default_left, fault_behind}
 use Rattle.rdlpp_table.specs.declared.fault.DefineKind.{DefineKind}
@@ -196,6 +195,10 @@ taken_by text rest names slice size name tail from behind counted t =
 pub read_other : (text rest : List ℕ) (names slice : List (List ℕ)) (size : ℕ) (name tail from behind : List ℕ) (counted : ℕ) → IsTaken text rest names slice size name tail from behind counted → eqb (get_or behind 0 0) 44 ≡ false → eqb (get_or behind 0 0) 41 ≡ false → formals_in 255 [] text ≡ Unlisted kind.BadFormals
 read_other text rest names slice size name tail from behind counted t a b =
     taken_by text rest names slice size name tail from behind counted t ∙ (cond-false _ _ _ a ∙ cond-false _ _ _ b)
+
+-- a byte of a class isn't one that the class doesn't have
+apart : (test : ℕ → Bool) (b k : ℕ) → test b ≡ true → test k ≡ false → eqb b k ≡ false
+apart test b k t f = false_from_ne_true (eqb b k) (λ h. both_ways (test k) f (ap test (sym (eqb-true b k h)) ∙ t))
 
 -- a name's bytes
 word_name : (b : ℕ) → is_word b ≡ true → is_name_byte b ≡ true

@@ -6,10 +6,8 @@ use Rattle.std.proofs.lemmas.Bool.{and_parts, cond-true, cond-false}
 use Rattle.rdlpp_table.specs.declared.entry.Entry.{Entry}
 use Rattle.rdlpp_table.specs.Table.{Formal, Macro, default_bytes, formal_bytes, formal_size, macro_bytes, macro_size, table_bytes}
 use Rattle.rdlpp_table.specs.Store.{entry_of, entries_of, entry_end, body_start, list_start, list_size, name_of, list_of, body_of, macro_in, macros_in, StoredFormal, behind_stored, formal_behind, formal_read, formals_read, is_name_byte, is_default, is_plain_formal, is_plain_macro, IsStored}
-use Rattle.rdlpp_table.specs.Insides.{Text}
 use Rattle.rdlpp_lines.specs.Texts.{text_behind}
-use Rattle.rdlpp_table.proofs.Agrees.{by_bytes}
-use Rattle.rdlpp_table.proofs.Filled.{filled_read}
+use Rattle.rdlpp_table.proofs.Filled.{default_read_back}
 use Rattle.rdlpp_table.proofs.Sizes.{length_list_bytes, length_macro_bytes}
 
 -- a part of a text between two others
@@ -35,7 +33,7 @@ named_read name rest h e =
 
 stored_behind : (text rest : List ℕ) → is_default text ≡ true → behind_stored (text ++ 44 ∷ rest) ≡ 44 ∷ rest
 unfolding behind_stored text_behind
-stored_behind text rest h = ap text_behind (by_bytes (text ++ 44 ∷ rest) (Some 0) ∙ filled_read text (Some 0) Text rest h)
+stored_behind text rest h = ap text_behind (default_read_back text rest h)
 
 default_read : (name text rest : List ℕ) → is_default text ≡ true → formal_behind name (61 ∷ text ++ 44 ∷ rest) ≡ record { formal = record { name = name; text = text }; behind = rest }
 unfolding formal_behind

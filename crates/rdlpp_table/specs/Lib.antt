@@ -4,7 +4,6 @@ pub mod Stops
 pub mod Limits
 pub mod Words
 pub mod Define
-pub mod Insides
 pub mod Store
 pub mod Entries
 pub mod Index

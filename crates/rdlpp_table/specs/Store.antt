@@ -1,12 +1,13 @@
 -- How a table lies in its two lists: the bytes of its macros one after another, and an entry for each.
 -- A definition that names no source is this project's own.
-use Rattle.std.specs.Prelude.{◌≡◌, ℕ, zero, suc, ◌+◌, ◌-◌, Bool, true, not, ◌&&◌, ◌||◌, ◌==◌, List, [], ◌∷◌, ◌++◌, length, take, drop, map, slice_index, slice_range, sum_by, Option, Some, option_map, unwrap_or, if◌then◌else◌}
+use Rattle.std.specs.Prelude.{◌≡◌, ℕ, zero, suc, ◌+◌, ◌-◌, Bool, true, not, ◌&&◌, ◌||◌, ◌==◌, List, [], ◌∷◌, length, take, drop, map, slice_index, slice_range, sum_by, Some, option_map, unwrap_or, is_none, if◌then◌else◌}
 use Rattle.std.specs.List.{prefix_len, list_all}
-use Rattle.rdlpp_scan.specs.Bytes.{begins_perl}
-use Rattle.rdlpp_table.specs.Insides.{Inside}
-use Rattle.rdlpp_table.specs.Insides.{Text}
-use Rattle.rdlpp_lines.specs.Texts.{cleared, text_behind}
-use Rattle.rdlpp_table.specs.Insides.{behind_first, keeps_first, level_after, minds_perl, stops_at}
+use Rattle.rdlpp_scan.specs.declared.token.Mode.TheVariants.{Plain}
+use Rattle.rdlpp_scan.specs.declared.token.Token.{Token}
+use Rattle.rdlpp_scan.specs.Comments.{is_line_comment}
+use Rattle.rdlpp_scan.specs.LexFaults.{lex_fault_from}
+use Rattle.rdlpp_scan.specs.Tokens.{tokens_from}
+use Rattle.rdlpp_lines.specs.Texts.{cleared, ends_default, level_behind, text_behind}
 use Rattle.rdlpp_table.specs.Table.{Formal, Macro, macro_size, table_bytes, formal_size}
 use Rattle.rdlpp_table.specs.Stops.{is_copied}
 use Rattle.rdlpp_table.specs.declared.entry.Entry.{Entry}
@@ -85,19 +86,18 @@ macro_in bytes e = record { name = name_of bytes e; formals = option_map (λ n. 
 unfoldable pub macros_in : List ℕ → List Entry → List Macro
 macros_in bytes entries = map (macro_in bytes) entries
 
--- whether a text that begins inside something, at a level, is read whole up to a `,` behind it: without a fault or a `//` comment,
--- without a `,` or `)` at level 0, and at level 0 at its end
-unfoldable pub is_filled : Option ℕ → Inside → List ℕ → Bool
-is_filled level inside [] = stops_at level inside 44
-is_filled level inside (b ∷ bs) =
-    let c = slice_index (bs ++ 44 ∷ []) 0 in
-    not (stops_at level inside b)
-    && (not (minds_perl inside && begins_perl (b ∷ c ∷ []))
-    && (keeps_first inside (b ∷ c ∷ []) && is_filled (level_after level inside b) (behind_first inside (b ∷ c ∷ [])) bs))
+-- whether tokens of a text go on from a level up to its end and are at level 0 there, and none of them ends a default text before
+unfoldable pub fills : ℕ → List Token → List ℕ → Bool
+fills level [] text = level == 0
+fills level (t ∷ ts) text = not (level == 0 && ends_default t.kind (slice_index text 0)) && fills (level_behind t.kind level) ts (drop t.len text)
+
+-- whether a text is read whole: no lexical fault, and no `//` comment
+unfoldable pub is_clean : List ℕ → Bool
+is_clean text = is_none (lex_fault_from Plain text) && list_all (λ t. not (is_line_comment t.kind)) (tokens_from Plain 0 text)
 
 -- whether a default text is read back up to the `,` behind it
-abbrev pub is_default : List ℕ → Bool
-is_default text = is_filled (Some 0) Text text
+unfoldable pub is_default : List ℕ → Bool
+is_default text = is_clean text && fills 0 (tokens_from Plain 0 text) text
 
 -- whether a formal can be told from its bytes: its name has neither `,` nor `=`, and its default text is read back
 unfoldable pub is_plain_formal : Formal → Bool
