@@ -34,3 +34,4 @@ pub mod OrdinaryTokens
 pub mod LineTokens
 pub mod TokenEnds
 pub mod CleanTexts
+pub mod LineEndCounts
