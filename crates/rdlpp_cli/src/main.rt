@@ -13,8 +13,9 @@ use std::io::{BufWriter, Write};
 use std::process::ExitCode;
 use words::read_invocation;
 
-// The bytes of the buffer in front of the output.
-const OUTPUT_BYTES: usize = 65_536;
+// The bytes of the buffer in front of the output, past which longer pieces go: half a line of the standard limit, so that a
+// buffer of whole lines is written as it lies.
+const OUTPUT_BYTES: usize = 32_768;
 
 // The bytes of the buffer in front of the line that reports a fault, which is never longer.
 const LINE_BYTES: usize = 2_048;

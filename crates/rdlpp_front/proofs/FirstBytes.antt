@@ -90,16 +90,17 @@ pub token_at_backquote : (bs : List ℕ) → slice_index bs 0 ≡ 96 → token_o
 unfolding token_of plain_token begins_perl is_line_end is_blank begins_line_comment begins_block_comment is_letter is_digit takes_word
 token_at_backquote bs e = rw e refl
 
--- a token at a backquote without a name, by its kind
-bare_by : (t : Bool) (n : ℕ) → (cond t (whole Back n) (whole BareBackquote 1)).kind ≢ Back → (cond t (whole Back n) (whole BareBackquote 1)).kind ≡ BareBackquote
+-- a letter behind a backquote begins a name
+pub back_at_letter : (bs : List ℕ) → slice_index bs 0 ≡ 96 → is_letter (slice_index bs 1) ≡ true → (token_of Plain bs).kind ≡ Back
 unfolding whole
-bare_by true n h = absurd (h refl)
-bare_by false n h = refl
+back_at_letter bs e letter =
+    ap (λ (t : Token). t.kind) (token_at_backquote bs e ∙ ap (λ t. cond t (whole Back (suc (prefix_len is_word (drop 1 bs)))) (whole BareBackquote 1)) letter)
 
--- a token at a backquote that has no name is a lone backquote
-pub bare_at_front : (bs : List ℕ) → slice_index bs 0 ≡ 96 → (token_of Plain bs).kind ≢ Back → (token_of Plain bs).kind ≡ BareBackquote
-bare_at_front bs e h =
-    rw (token_at_backquote bs e) (bare_by (is_letter (slice_index bs 1)) (suc (prefix_len is_word (drop 1 bs))) (rw (token_at_backquote bs e) at h))
+-- without a letter behind it a backquote is alone
+pub bare_at_other : (bs : List ℕ) → slice_index bs 0 ≡ 96 → is_letter (slice_index bs 1) ≡ false → (token_of Plain bs).kind ≡ BareBackquote
+unfolding whole
+bare_at_other bs e other =
+    ap (λ (t : Token). t.kind) (token_at_backquote bs e ∙ ap (λ t. cond t (whole Back (suc (prefix_len is_word (drop 1 bs)))) (whole BareBackquote 1)) other)
 
 -- how long a token at a backquote with a name is, by its kind
 back_by : (t : Bool) (n : ℕ) → (cond t (whole Back n) (whole BareBackquote 1)).kind ≡ Back → (cond t (whole Back n) (whole BareBackquote 1)).len ≡ n

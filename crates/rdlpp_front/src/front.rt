@@ -7,7 +7,9 @@ ghost use Rattle.rdlpp_front.specs.Fronts.{IsDirective, IsFront, IsNameBehind};
 
 use rdlpp_meaning::FaultKind;
 use rdlpp_read::given_name;
-use rdlpp_scan::{Directive, Kind, Mode, first_token, plain_text_len, reserved};
+use rdlpp_scan::{
+    Directive, Kind, Mode, byte_at, first_token, is_letter, plain_text_len, reserved, word_bytes,
+};
 
 /// Where what a directive is given stands in held bytes that begin with the directive.
 #[derive(Clone, Copy, Debug, PartialEq, Eq)]
@@ -61,14 +63,14 @@ fn plain_front(held: &[u8]) -> Front
     requires { 0 < length held.now }
     ensures { IsFront Plain held.now result }
 {
+    if held[0] == b'`' {
+        return backquote_front(held);
+    }
     let len = plain_text_len(held);
     if len > 0 {
         return Front::Text(len, Mode::Plain);
     }
-    match held[0] {
-        b'`' => backquote_front(held),
-        _ => token_front(Mode::Plain, held),
-    }
+    token_front(Mode::Plain, held)
 }
 
 // What held bytes begin with that begin with a string, a comment or `<%`.
@@ -90,10 +92,10 @@ fn backquote_front(held: &[u8]) -> Front
     requires backquote { slice_index held.now 0 ≡ 96 }
     ensures { IsFront Plain held.now result }
 {
-    let token = first_token(Mode::Plain, held);
-    match token.kind {
-        Kind::Back => name_front(held, token.len),
-        _ => Front::Refused(FaultKind::BareBackquote),
+    if is_letter(byte_at(held, 1)) {
+        name_front(held, 1 + word_bytes(&held[1..]))
+    } else {
+        Front::Refused(FaultKind::BareBackquote)
     }
 }
 

@@ -35,3 +35,4 @@ pub mod LineTokens
 pub mod TokenEnds
 pub mod CleanTexts
 pub mod CommaBehind
+pub mod LineEndCounts

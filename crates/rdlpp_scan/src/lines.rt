@@ -1,12 +1,14 @@
 // Physical lines and logical lines of a text.
 ghost use Rattle.std.specs.Prelude.{◌≡◌, ◌+◌, ◌-◌, ◌<◌, ◌≤◌, ◌∷◌, not, length, slice_index};
 ghost use Rattle.std.specs.List.{prefix_len};
-ghost use Rattle.memchr.specs.Find.{places};
 ghost use Rattle.rdlpp_scan.specs.Bytes.{is_line_end};
 ghost use Rattle.rdlpp_scan.specs.SourceTokens.{is_continued, line_ends, line_len, logical_len};
 ghost use Rattle.rdlpp_scan.specs.Lines.{ended_line_len, ends_continued, whole_lines_len};
 
-use memchr::{memchr, memchr_iter, memrchr};
+use memchr::{memchr, memrchr};
+
+// The bytes of a short text: whole vectors, and no more LF bytes than a byte counts.
+const SHORT_BYTES: usize = 192;
 
 // How many bytes stand before the first LF.
 pub(crate) fn before_line_end(bytes: &[u8]) -> usize
@@ -46,13 +48,34 @@ pub fn last_line_end(bytes: &[u8]) -> usize
     }
 }
 
+// How many LF bytes a short text has: one byte counts them, so that a vector counts as many as it has bytes.
+fn short_line_ends(bytes: &[u8]) -> u8
+    requires { length bytes.now ≤ 255 }
+    ensures { result ≡ line_ends bytes.now }
+{
+    let mut count = 0;
+    for at in 0..bytes.len() {
+        if bytes[at] == b'\n' {
+            count += 1;
+        }
+    }
+    count
+}
+
 /// How many LF bytes `bytes` has.
 ///
 /// Costs time linear in the length.
 pub fn line_ends_in(bytes: &[u8]) -> usize
     ensures { result ≡ line_ends bytes.now }
 {
-    memchr_iter(b'\n', bytes).count()
+    let mut count = 0;
+    let mut at = 0;
+    while at < bytes.len() {
+        let end = at + (bytes.len() - at).min(SHORT_BYTES);
+        count += short_line_ends(&bytes[at..end]) as usize;
+        at = end;
+    }
+    count
 }
 
 // The byte that stands one or two before the end, or 0 where there is none.

@@ -1,5 +1,6 @@
 // A name that is looked up, and the count of its comparisons.
-ghost use Rattle.std.specs.Prelude.{◌≡◌, ◌+◌, ℕ, ◌∷◌, length};
+ghost use Rattle.std.specs.Prelude.{◌≡◌, ◌+◌, ◌≤◌, ℕ, ◌∷◌, length, take};
+ghost use Rattle.std.specs.Slice.Scan.{big_endian};
 ghost use Rattle.rdlpp_table.specs.Index.{name_order};
 
 use boxcar::tag::{Names, Tag};
@@ -62,6 +63,33 @@ impl<'a> Sought<'a> {
         ensures step { steps.new ≡ steps.old + 1 }
     {
         steps.tick();
-        other.cmp(self.name)
+        order_of(other, self.name)
     }
+}
+
+// The first eight bytes of a name as one number, the first byte the highest.
+fn front_number(name: &[u8]) -> u64
+    requires { 8 ≤ length name.now }
+    ensures { result ≡ big_endian 0 (take 8 name.now) }
+{
+    u64::from_be_bytes([
+        name[0], name[1], name[2], name[3], name[4], name[5], name[6], name[7],
+    ])
+}
+
+// How a name stands to another one, byte by byte; eight bytes are compared as one number.
+fn order_of(name: &[u8], other: &[u8]) -> Ordering
+    ensures { result ≡ name_order name.now other.now }
+{
+    let mut left = name;
+    let mut right = other;
+    while left.len() >= 8 && right.len() >= 8 {
+        let order = front_number(left).cmp(&front_number(right));
+        if order.is_ne() {
+            return order;
+        }
+        left = &left[8..];
+        right = &right[8..];
+    }
+    left.cmp(right)
 }

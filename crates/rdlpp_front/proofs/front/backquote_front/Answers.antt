@@ -1,9 +1,27 @@
-use Rattle.std.proofs.Common.{◌∙◌, ap, refl}
-use Rattle.rdlpp_scan.specs.declared.token.Token.{Token}
+use Rattle.std.proofs.Common.{◌≡◌, ◌∙◌, ◌-◌, true, false, slice_index, length, take, drop, sym, refl, ap, arith}
+use Rattle.std.specs.List.{prefix_len}
+use Rattle.std.proofs.lemmas.List.{length-drop, take_all}
+use Rattle.rdlpp_scan.specs.Bytes.{is_letter, is_word}
 use Rattle.rdlpp_front.specs.Fronts.{AtBare}
-use Rattle.rdlpp_front.proofs.FirstBytes.{bare_at_front}
+use Rattle.rdlpp_front.proofs.FirstBytes.{back_at_letter, back_len, bare_at_other}
 use Rattle.rdlpp_front.proofs.front.backquote_front.Goals as goal
 
-pub returns-in_default : goal.returns-in_default
-returns-in_default c =
-    AtBare refl (bare_at_front c.args.held.now c.requires.backquote (λ e. c.in_default.not-Back (ap (λ (t : Token). t.kind) c.first_token-token.ensures.value ∙ e)))
+pub name_front-requires-clause-kind : goal.name_front-requires-clause-kind
+name_front-requires-clause-kind c =
+    let held = c.args.held.now in
+    let letter : is_letter (slice_index held 1) ≡ true = sym (c.if-is_letter.ensures ∙ ap is_letter c.byte_at.ensures.value) in
+    back_at_letter held c.requires.backquote letter
+
+pub name_front-requires-clause-whole : goal.name_front-requires-clause-whole
+name_front-requires-clause-whole c =
+    let held = c.args.held.now in
+    let letter : is_letter (slice_index held 1) ≡ true = sym (c.if-is_letter.ensures ∙ ap is_letter c.byte_at.ensures.value) in
+    let all : take (length held - 1) (drop 1 held) ≡ drop 1 held = take_all _ _ (omega (arith, length-drop 1 held)) in
+    let word = c.word_bytes.ensures.value ∙ ap (prefix_len is_word) all in
+    omega (arith, word, back_len held c.requires.backquote (back_at_letter held c.requires.backquote letter))
+
+pub returns-else-is_letter : goal.returns-else-is_letter
+returns-else-is_letter c =
+    let held = c.args.held.now in
+    let other : is_letter (slice_index held 1) ≡ false = sym (c.if-is_letter.ensures ∙ ap is_letter c.byte_at.ensures.value) in
+    AtBare refl (bare_at_other held c.requires.backquote other)

@@ -1,10 +1,33 @@
-use Rattle.std.proofs.Common.{length, ap, ◌∙◌}
-use Rattle.memchr.specs.Find.{is_byte}
-use Rattle.memchr.proofs.lemmas.CallerLemmas.{length-places}
-use Rattle.rdlpp_scan.specs.Bytes.{is_line_end}
+use Rattle.std.proofs.Common.{rules, ◌+◌, ◌∙◌, ap, refl, arith}
 use Rattle.rdlpp_scan.specs.SourceTokens.{line_ends}
+use Rattle.rdlpp_scan.proofs.LineEndCounts.{line_ends-most, line_ends-part}
 use Rattle.rdlpp_scan.proofs.lines.line_ends_in.Goals as goal
 
-pub returns : goal.returns
-unfolding line_ends is_line_end
-returns c = c.count.ensures ∙ ap length c.memchr_iter.ensures.value ∙ length-places (is_byte 10) c.args.bytes.now
+pub loop-at-init : goal.loop-at-init
+unfolding line_ends
+loop-at-init c = (omega arith, refl)
+
+pub overflow_add-count : goal.overflow_add-count
+overflow_add-count c =
+    let bs = c.args.bytes.now in
+    let at = c.loop-at.at in
+    let n = c.min.result in
+    let old = c.loop-at.invariant in
+    let before = line_ends-most bs at in
+    let part = line_ends-part bs at n in
+    let both = line_ends-most bs (at + n) in
+    let new = c.short_line_ends.ensures in
+    let inside = c.loop-at-test.true in
+    let least = c.min.ensures in
+    let fits = c.type_inv.bytes in
+    search rules
+
+pub loop-at-preserved : goal.loop-at-preserved
+loop-at-preserved c =
+    let bs = c.args.bytes.now in
+    let at = c.loop-at.at in
+    let n = c.min.result in
+    let part = line_ends-part bs at n in (
+      omega (arith, c.loop-at-test.true, c.min.ensures),
+      omega (arith, c.short_line_ends.ensures, c.loop-at.invariant.1, part),
+    )
