@@ -1,4 +1,4 @@
-ghost use Rattle.std.specs.Prelude.{[], length, ◌<◌};
+ghost use Rattle.std.specs.Prelude.{[], length, ◌<◌, ◌≤◌};
 ghost use Rattle.rdlpp_cursors.specs.Places.{texts_of};
 ghost use Rattle.rdlpp_cursors.specs.Steps.{AreSound};
 
@@ -56,6 +56,15 @@ fn expect_step<R: Abort>(rt: &R, cursors: &mut Cursors, table: &Table, expected:
     assert_eq!(rt; cursors.step(table, b"".as_slice()), expected);
 }
 
+// A range of what is kept of a call.
+fn kept<'a>(table: &'a Table, arguments: &'a [u8], from: usize, end: usize) -> &'a [u8]
+    requires order { from ≤ end }
+    requires inside { end ≤ length arguments.now }
+{
+    let source = TextSource::Arguments;
+    text_at(table, arguments, TextPlace { source, from, end })
+}
+
 // Bytes of a body, as they are lent.
 fn lent(id: MacroId, from: usize, end: usize) -> CursorStep {
     let source = TextSource::Body(id);
@@ -83,16 +92,6 @@ fn wordless(kind: FaultKind) -> CursorStep {
 fn a_body_is_lent_in_one_piece_and_closed(rt: HostRuntime) -> Result<(), Fail> {
     let table = table_of(&rt, &[(b"A".as_slice(), b"x = \"`B\"; // y".as_slice())]);
     let id = id_of(&rt, &table, b"A".as_slice());
-    let lent_text = TextPlace {
-        source: TextSource::Body(id),
-        from: 0,
-        end: 9,
-    };
-    assert_eq!(&rt; table.body(id).len(), 9);
-    assert_eq!(&rt;
-        text_at(&table, b"".as_slice(), lent_text),
-        b"x = \"`B\";".as_slice()
-    );
     let mut cursors = opened(&rt, &table, b"A".as_slice(), 4);
     assert_eq!(&rt; cursors.len(), 1);
     expect_step(&rt, &mut cursors, &table, lent(id, 0, 9));
@@ -100,6 +99,13 @@ fn a_body_is_lent_in_one_piece_and_closed(rt: HostRuntime) -> Result<(), Fail> {
     expect_step(&rt, &mut cursors, &table, CursorStep::Silent);
     assert!(&rt; cursors.is_empty());
     assert_eq!(&rt; cursors.bound(), 0);
+    Ok(())
+}
+
+#[test]
+fn the_bytes_at_a_place_are_those_of_its_text(rt: HostRuntime) -> Result<(), Fail> {
+    let table = table_of(&rt, &[]);
+    assert_eq!(&rt; kept(&table, b"(a, bc)".as_slice(), 4, 6), b"bc".as_slice());
     Ok(())
 }
 
