@@ -78,8 +78,7 @@ fn an_empty_actual_needs_a_slot(rt: HostRuntime) -> Result<(), Fail> {
     let table = table_of(&rt, b"`F(,)".as_slice());
     let mut cursors = opened(&rt, &table, b"A".as_slice(), 2);
     expect_step(&rt, &mut cursors, &table, CursorStep::Silent);
-    let deep = wordless(FaultKind::DepthPassed);
-    expect_step(&rt, &mut cursors, &table, deep);
-    expect_step(&rt, &mut cursors, &table, deep);
+    expect_step(&rt, &mut cursors, &table, wordless(FaultKind::DepthPassed));
+    expect_step(&rt, &mut cursors, &table, wordless(FaultKind::DepthPassed));
     Ok(())
 }
