@@ -8,7 +8,6 @@ use rdlpp_table::{Limits, MacroId, Table};
 use std::process::Abort;
 use std::test::Fail;
 
-mod calls;
 mod formals;
 
 // A table of macros without lists.

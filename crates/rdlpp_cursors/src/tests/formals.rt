@@ -7,7 +7,7 @@ use std::process::Abort;
 use std::test::Fail;
 
 // Reads a definition, of which the logical line is whole.
-pub(super) fn define<R: Abort>(rt: &R, table: &mut Table, rest: &[u8]) {
+fn define<R: Abort>(rt: &R, table: &mut Table, rest: &[u8]) {
     let is_whole = match logical_line(rest) {
         Some(len) => len == rest.len(),
         None => true,
