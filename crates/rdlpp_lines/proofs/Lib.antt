@@ -3,3 +3,4 @@ pub mod SideBySide
 pub mod JoinedTokens
 pub mod Measures
 pub mod Advancing
+pub mod OnePiece

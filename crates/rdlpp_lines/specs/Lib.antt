@@ -2,3 +2,4 @@ pub mod Continuations
 pub mod LineTokens
 pub mod Texts
 pub mod Reading
+pub mod OnePiece

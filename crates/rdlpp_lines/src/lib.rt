@@ -2,6 +2,7 @@
 #![tactic(auto)]
 
 mod first;
+mod piece;
 mod reading;
 mod tokens;
 

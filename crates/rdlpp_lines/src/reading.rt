@@ -3,6 +3,7 @@ ghost use Rattle.std.specs.Prelude.{
   [],
   false,
   length,
+  true,
   unwrap_or,
   vec_capacity,
   vec_len,
@@ -23,6 +24,7 @@ ghost use Rattle.std.specs.Prelude.{
 };
 ghost use Rattle.rdlpp_lines.specs.Continuations.{joined};
 ghost use Rattle.rdlpp_lines.specs.LineTokens.{kept_of};
+ghost use Rattle.rdlpp_lines.specs.OnePiece.{is_one_piece};
 ghost use Rattle.rdlpp_lines.specs.Reading.{left, unread, IsAdvanced, LevelFits};
 ghost use Rattle.rdlpp_lines.specs.Texts.{
   begun,
@@ -41,8 +43,9 @@ ghost use Rattle.rdlpp_lines.specs.Texts.{
 };
 
 use crate::first::split_first;
+use crate::piece::{append_part, is_one_piece, trimmed};
 use crate::tokens::line_token;
-use rdlpp_scan::{Kind, LexFault, Mode, is_blank, is_perl, open_fault};
+use rdlpp_scan::{Kind, LexFault, Mode, is_blank, is_perl, lex_fault, open_fault};
 
 /// Whether a byte is white space of a header: a blank or an LF (this project's profile).
 #[tactic(auto, unfolding(crate::specs::Texts::is_space, rdlpp_scan::specs::Bytes::is_line_end))]
@@ -112,7 +115,7 @@ fn start_level(is_default: bool) -> Option<usize>
 
 // Whether a byte goes at both ends: a blank, and of a default text LF too.
 #[tactic(auto, unfolding(crate::specs::Texts::trims))]
-fn trims(is_default: bool, b: u8) -> bool
+pub(crate) fn trims(is_default: bool, b: u8) -> bool
     ensures { result ≡ trims is_default b }
 {
     if is_default { is_space(b) } else { is_blank(b) }
@@ -265,6 +268,34 @@ pub fn trimmed_len(
     ensures behind { IfOk result (λ measured. text_behind (cleared (start_level is_default) (joined is_logical text.now)) ≡ joined is_logical measured.behind.now) }
     ensures inside { IfOk result (λ measured. measured.len + length measured.behind.now ≤ length text.now) }
 {
+    if !is_default && is_one_piece(text) {
+        return piece_len(text, is_logical);
+    }
+    kept_len(text, is_logical, is_default)
+}
+
+// Measures a body in one piece.
+fn piece_len(text: &[u8], is_logical: bool) -> Result<Measured<'_>, LexFault>
+    requires { is_one_piece text.now ≡ true }
+    ensures len { MatchResult result (λ measured. trimmed_len (trims false) (cleared None (joined is_logical text.now)) ≡ Ok measured.len) (λ fault. trimmed_len (trims false) (cleared None (joined is_logical text.now)) ≡ Err fault) }
+    ensures behind { IfOk result (λ measured. text_behind (cleared None (joined is_logical text.now)) ≡ joined is_logical measured.behind.now) }
+    ensures inside { IfOk result (λ measured. measured.len + length measured.behind.now ≤ length text.now) }
+{
+    match lex_fault(text) {
+        Some(fault) => Err(fault),
+        None => Ok(Measured {
+            len: trimmed(text).len(),
+            behind: &[],
+        }),
+    }
+}
+
+// Measures a text by the bytes that are kept, one after another.
+fn kept_len(text: &[u8], is_logical: bool, is_default: bool) -> Result<Measured<'_>, LexFault>
+    ensures len { MatchResult result (λ measured. trimmed_len (trims is_default) (cleared (start_level is_default) (joined is_logical text.now)) ≡ Ok measured.len) (λ fault. trimmed_len (trims is_default) (cleared (start_level is_default) (joined is_logical text.now)) ≡ Err fault) }
+    ensures behind { IfOk result (λ measured. text_behind (cleared (start_level is_default) (joined is_logical text.now)) ≡ joined is_logical measured.behind.now) }
+    ensures inside { IfOk result (λ measured. measured.len + length measured.behind.now ≤ length text.now) }
+{
     let mut bytes = KeptBytes::new(text, is_logical, is_default);
     match bytes.next_untrimmed(is_default) {
         Ok(Some(_)) => {}
@@ -298,6 +329,20 @@ pub fn trimmed_len(
 ///
 /// Costs time linear in the text's length.
 pub fn append_trimmed(to: &mut Vec<u8>, text: &[u8], is_logical: bool, is_default: bool, len: usize)
+    requires len { trimmed_len (trims is_default) (cleared (start_level is_default) (joined is_logical text.now)) ≡ Ok len }
+    requires room { vec_len to.old + len ≤ vec_capacity to.old }
+    ensures items { to.new.items ≡ to.old.items ++ trimmed_left (trims is_default) (cleared (start_level is_default) (joined is_logical text.now)) }
+    ensures capacity { vec_capacity to.new ≡ vec_capacity to.old }
+{
+    if !is_default && is_one_piece(text) {
+        append_part(to, trimmed(text));
+    } else {
+        append_kept(to, text, is_logical, is_default, len);
+    }
+}
+
+// Appends a text by the bytes that are kept, one after another.
+fn append_kept(to: &mut Vec<u8>, text: &[u8], is_logical: bool, is_default: bool, len: usize)
     requires len { trimmed_len (trims is_default) (cleared (start_level is_default) (joined is_logical text.now)) ≡ Ok len }
     requires room { vec_len to.old + len ≤ vec_capacity to.old }
     ensures items { to.new.items ≡ to.old.items ++ trimmed_left (trims is_default) (cleared (start_level is_default) (joined is_logical text.now)) }

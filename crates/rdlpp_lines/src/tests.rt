@@ -50,6 +50,28 @@ fn a_body_is_measured_and_appended(rt: HostRuntime) {
 }
 
 #[test]
+fn a_body_in_one_piece_loses_the_blanks_at_both_ends(rt: HostRuntime) {
+    let text = b"\t a \"b\" , c \r".as_slice();
+    match trimmed_len(text, true, false) {
+        Ok(measured) => {
+            assert_eq!(rt; measured.len, 9);
+            assert_eq!(rt; measured.behind.len(), 0);
+            let mut body: Vec<u8> = match Vec::with_capacity(rt.alloc(), 9) {
+                Ok(bytes) => bytes,
+                Err(_) => panic!(rt; "no memory for a body"),
+            };
+            append_trimmed(&mut body, text, true, false, 9);
+            assert_eq!(rt; body.as_slice(), b"a \"b\" , c".as_slice());
+        }
+        Err(fault) => panic!(rt; "refused: {fault:?}"),
+    }
+    match trimmed_len(b"a <% b".as_slice(), true, false) {
+        Ok(_) => panic!(rt; "embedded Perl is measured"),
+        Err(fault) => assert_eq!(rt; fault, LexFault::Perl),
+    }
+}
+
+#[test]
 fn a_default_ends_at_level_0(rt: HostRuntime) {
     let text = b" f([1, 2), \")\"] /* , */ , y)".as_slice();
     match trimmed_len(text, false, true) {

@@ -1,32 +1,27 @@
-use Rattle.std.proofs.Common.{◌≡◌, ◌-◌, ◌∙◌, arith, refl}
-use Rattle.rdlpp_lines.specs.Reading.{left}
-use Rattle.rdlpp_lines.specs.Texts.{trims}
-use Rattle.rdlpp_lines.proofs.Measures.{copied_same, copied_start, copied_more, copied_short, found_is, found_some, found_none, sound_len, sound_behind}
+use Rattle.std.proofs.Common.{◌≡◌, ◌++◌, ◌∙◌, Bool, false, true, List, ℕ, Ok, length, sym, subst, ap, arith}
+use Rattle.std.specs.Prelude.{None}
+use Rattle.rdlpp_lines.specs.Continuations.{joined}
+use Rattle.rdlpp_lines.specs.OnePiece.{is_one_piece}
+use Rattle.rdlpp_lines.specs.Texts.{cleared, start_level, trimmed_left, trimmed_len, trims}
+use Rattle.rdlpp_lines.proofs.OnePiece.{measured_part, part_len}
 use Rattle.rdlpp_lines.proofs.reading.append_trimmed.Goals as goal
 
-pub loop-init : goal.loop-init
-loop-init c =
-    let n : c.args.len - 0 ≡ c.args.len = omega arith in
-    let found = found_is _ _ _ _ c.next_untrimmed.ensures.next (sound_len (trims c.args.is_default) _ _ _ c.requires.len c.new-bytes.ensures.left) c.unwrap_or-found.ensures in
-    let start = copied_start (trims c.args.is_default) c.args.to.now.items c.args.len _ _ _ c.requires.len c.new-bytes.ensures.left found in
-    record {
-      copied = copied_same _ _ _ _ _ _ _ refl n start;
-      count = omega arith;
-      room = refl;
-      fits = c.next_untrimmed.ensures.fits;
-    }
+pub append_part-requires : goal.append_part-requires
+unfolding start_level
+append_part-requires c =
+    let one : is_one_piece c.args.text.now ≡ true = sym c.is_one_piece.ensures ∙ c.if-is_one_piece.true in
+    let P : Bool → Type 0 = λ d. trimmed_len (trims d) (cleared (start_level d) (joined c.args.is_logical c.args.text.now)) ≡ Ok c.args.len in
+    let measured : P false = subst P c.if-not-is_default.true c.requires.len in
+    let size : length c.trimmed.result.now ≡ c.args.len = part_len c.args.is_logical c.args.text.now c.trimmed.result.now c.args.len one measured c.trimmed.ensures.value in
+    omega (arith, size, c.requires.room)
 
-pub returns-in_default-clause-items : goal.returns-in_default-clause-items
-returns-in_default-clause-items c = copied_short _ _ _ _ _ (found_none _ _ c.in_default.is) c.loop.invariant.copied
-
-pub loop-preserved : goal.loop-preserved
-loop-preserved c =
-    let some = found_some _ _ (left c.loop.bytes) c.in-Some.is in
-    let found = found_is _ _ _ _ c.next.ensures.next (sound_behind _ _ _ some c.loop.invariant.copied.sound) c.unwrap_or-found-in-loop.ensures in
-    let more = copied_more _ _ _ c.args.len c.loop.counter c.in-Some.b _ _ _ c.loop-test.true c.loop.invariant.copied some found in
-    record {
-      copied = copied_same _ _ _ _ _ _ _ c.push_reserved.ensures.items refl more;
-      count = omega (arith, c.loop.invariant.count, c.push_reserved.ensures.len);
-      room = c.push_reserved.ensures.capacity ∙ c.loop.invariant.room;
-      fits = c.next.ensures.fits;
-    }
+pub returns-then-is_one_piece-clause-items : goal.returns-then-is_one_piece-clause-items
+unfolding start_level
+returns-then-is_one_piece-clause-items c =
+    let one : is_one_piece c.args.text.now ≡ true = sym c.is_one_piece.ensures ∙ c.if-is_one_piece.true in
+    let P : Bool → Type 0 = λ d. trimmed_len (trims d) (cleared (start_level d) (joined c.args.is_logical c.args.text.now)) ≡ Ok c.args.len in
+    let Q : Bool → Type 0 = λ d. c.append_part.new.to.items ≡ c.args.to.now.items ++ trimmed_left (trims d) (cleared (start_level d) (joined c.args.is_logical c.args.text.now)) in
+    let measured : P false = subst P c.if-not-is_default.true c.requires.len in
+    let left = measured_part c.args.is_logical c.args.text.now c.args.len one measured in
+    let part : c.trimmed.result.now ≡ trimmed_left (trims false) (cleared None (joined c.args.is_logical c.args.text.now)) = c.trimmed.ensures.value ∙ sym left in
+    subst Q (sym c.if-not-is_default.true) (c.append_part.ensures.items ∙ ap (λ (xs : List ℕ). c.args.to.now.items ++ xs) part)

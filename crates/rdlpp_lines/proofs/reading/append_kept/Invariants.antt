@@ -1,9 +1,9 @@
 use Rattle.std.proofs.Common.{◌≡◌, ◌+◌, ◌-◌, vec_len, vec_capacity}
 use Rattle.rdlpp_lines.specs.Texts.{cleared, found_left, start_level, trimmed_left, trims}
 use Rattle.rdlpp_lines.specs.Continuations.{joined}
-use Rattle.rdlpp_lines.specs.Reading.{left, unread, LevelFits}
+use Rattle.rdlpp_lines.specs.Reading.{left, LevelFits}
 use Rattle.rdlpp_lines.proofs.Measures.{IsCopied}
-use Rattle.rdlpp_lines.proofs.reading.append_trimmed.Given as goal
+use Rattle.rdlpp_lines.proofs.reading.append_kept.Given as goal
 
 abbrev pub invariant-loop : goal.invariant-loop
 invariant-loop l = record {

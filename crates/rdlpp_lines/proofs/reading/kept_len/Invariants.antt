@@ -2,7 +2,7 @@ use Rattle.std.proofs.Common.{◌≡◌, ◌≤◌, ◌+◌, length}
 use Rattle.rdlpp_lines.specs.Texts.{cleared, ended_len, start_level, text_behind, trimmed_len, trims}
 use Rattle.rdlpp_lines.specs.Continuations.{joined}
 use Rattle.rdlpp_lines.specs.Reading.{left, unread, LevelFits}
-use Rattle.rdlpp_lines.proofs.reading.trimmed_len.Given as goal
+use Rattle.rdlpp_lines.proofs.reading.kept_len.Given as goal
 
 abbrev pub invariant-loop-b : goal.invariant-loop-b
 invariant-loop-b l = record {
