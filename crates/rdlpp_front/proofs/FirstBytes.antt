@@ -102,6 +102,17 @@ unfolding whole
 bare_at_other bs e other =
     ap (λ (t : Token). t.kind) (token_at_backquote bs e ∙ ap (λ t. cond t (whole Back (suc (prefix_len is_word (drop 1 bs)))) (whole BareBackquote 1)) other)
 
+-- a token at a backquote without a name, by its kind
+bare_by : (t : Bool) (n : ℕ) → (cond t (whole Back n) (whole BareBackquote 1)).kind ≢ Back → (cond t (whole Back n) (whole BareBackquote 1)).kind ≡ BareBackquote
+unfolding whole
+bare_by true n h = absurd (h refl)
+bare_by false n h = refl
+
+-- a token at a backquote that has no name is a lone backquote
+pub bare_at_front : (bs : List ℕ) → slice_index bs 0 ≡ 96 → (token_of Plain bs).kind ≢ Back → (token_of Plain bs).kind ≡ BareBackquote
+bare_at_front bs e h =
+    rw (token_at_backquote bs e) (bare_by (is_letter (slice_index bs 1)) (suc (prefix_len is_word (drop 1 bs))) (rw (token_at_backquote bs e) at h))
+
 -- how long a token at a backquote with a name is, by its kind
 back_by : (t : Bool) (n : ℕ) → (cond t (whole Back n) (whole BareBackquote 1)).kind ≡ Back → (cond t (whole Back n) (whole BareBackquote 1)).len ≡ n
 unfolding whole
