@@ -12,7 +12,7 @@ use Rattle.rdlpp_expand.specs.Run.{Begins, Runs, count_of, fault_of, is_fresh}
 use Rattle.rdlpp_expand.specs.declared.writing.RunFault.{RunFault}
 use Rattle.rdlpp_expand.proofs.RunFacts.{appends_none}
 use Rattle.rdlpp_expand.specs.Engine.{EngineView}
-use Rattle.rdlpp_expand.specs.Steps.{is_read_failed, is_write_failed}
+use Rattle.rdlpp_expand.specs.Steps.{is_call_failed, is_memory_kind, is_read_failed, is_write_failed}
 use Rattle.rdlpp.specs.Definitions.{Pair, Given, Taken, Declined, given, given_in, with_macros}
 use Rattle.rdlpp.specs.Preprocess.{Follows, RunsFresh, WritesOutput, engine_with, is_failure, output_given}
 
@@ -30,10 +30,13 @@ is_fresh-false test (Some k) fault h = refl
 is_fresh-false test None None h = refl
 is_fresh-false test None (Some f) h = h
 
-not_read_failed : (fault : Option Told) → is_failure fault ≡ false → IfSome fault (λ f. is_read_failed f.kind ≡ false)
-unfolding is_device_fault
-not_read_failed None e = tt
-not_read_failed (Some f) e = or_left _ _ e
+not_call_failed : (fault : Option Told) → is_failure fault ≡ false → IfSome fault (λ f. is_call_failed f.kind ≡ false)
+unfolding is_device_fault is_memory_fault is_call_failed
+not_call_failed None e = tt
+not_call_failed (Some f) e =
+    let read : is_read_failed f.kind ≡ false = or_left _ _ e in
+    let memory : is_memory_kind f.kind ≡ false = or_left _ (is_write_failed f.kind) (or_right (is_read_failed f.kind) _ e) in
+    rw (read, memory) refl
 
 not_write_failed : (fault : Option Told) → is_failure fault ≡ false → IfSome fault (λ f. is_write_failed f.kind ≡ false)
 not_write_failed None e = tt
@@ -72,15 +75,15 @@ writes_output g h fresh path before after count fault r tells =
     let again : (f : Told) → r.opening ≡ Some f → fault ≡ Some f = λ f e. (r.runs.again f (r.starts.keeps ∙ e)).0 in
     let none : (f : Told) → r.opening ≡ Some f → r.runs.bytes ≡ [] = λ f e. (r.runs.again f (r.starts.keeps ∙ e)).1 in
     let told : g.tells r.started.sources = r.starts.call.tells tells in
-    let remains : is_device_fault r.opening ≡ false → is_memory_fault r.opening ≡ false → left_of g.unread r.started ≡ staged_output g fresh path = λ d m. r.starts.remains_output d m tells in
+    let remains : is_device_fault r.opening ≡ false → is_memory_fault r.opening ≡ false → left_of g r.started ≡ staged_output g fresh path = λ d m. r.starts.remains_output d m tells in
     record {
       bytes = r.runs.bytes;
       taken = r.runs.taken;
       counted = r.runs.counted;
-      begins = begins_output r.runs.bytes r.opening (left_of g.unread r.started) _ none
+      begins = begins_output r.runs.bytes r.opening (left_of g r.started) _ none
           (λ e. remains (ap is_device_fault e) (ap is_memory_fault e)) (r.runs.begins told);
       exact = λ e. sym (remains (device_fault-false r.opening fault again e) (memory_fault-false r.opening fault again e))
-          ∙ r.runs.exact (is_fresh-false is_read_failed r.started.kept fault (not_read_failed fault e))
+          ∙ r.runs.exact (is_fresh-false is_call_failed r.started.kept fault (not_call_failed fault e))
           (is_fresh-false is_write_failed r.started.kept fault (not_write_failed fault e)) told;
     }
 

@@ -10,22 +10,23 @@ use Rattle.rdlpp_meaning.specs.State.{breach_kind}
 use Rattle.rdlpp_meaning.specs.CallReading.{ReadRefused, ReadStopped, is_part_breach, read}
 use Rattle.rdlpp_meaning.specs.CallScan.{Before, Stand, fault_at_end}
 use Rattle.rdlpp_meaning.specs.Parts.{only_blanks}
-use Rattle.rdlpp_read.specs.Buffer.{BufferView, EndsHeld, entered_mode, held_of, tokens_left, unused_of}
+use Rattle.rdlpp_read.specs.Buffer.{BufferView, EndsHeld, MovesOver, entered_mode, held_of, text_left, tokens_left, unused_of}
 use Rattle.rdlpp_read.specs.Calls.{SourcesRead}
 use Rattle.rdlpp_read.specs.Files.{FilesView, inner_buffer, torn_after, with_buffer}
 use Rattle.rdlpp_read.specs.Filling.{ended_tokens, only_broken}
 use Rattle.rdlpp_read.specs.declared.files.File.{File}
 use Rattle.rdlpp_read.proofs.Growing.{calls-on}
+use Rattle.rdlpp_read.proofs.Sliding.{moves-on, moves-past, text-on}
 use Rattle.rdlpp_source.specs.declared.sources.Sources.{Ghosts}
-use Rattle.rdlpp_arguments.specs.CallReads.{IsEndOfText, IsEnded, IsTaken, ReadsCall, TellsCall, is_failed_call, used_buffer, with_used}
-use Rattle.rdlpp_arguments.specs.Reads.{Closes, GoesOn, all_built, is_open, reading}
+use Rattle.rdlpp_arguments.specs.CallReads.{IsEndOfText, IsEnded, IsExactCall, IsTaken, ReadsCall, TellsCall, is_failed_call, used_buffer, with_used}
+use Rattle.rdlpp_arguments.specs.Reads.{Closes, GoesOn, is_open, reading}
 use Rattle.rdlpp_arguments.specs.Store.{StoreView}
 use Rattle.rdlpp_arguments.specs.Taking.{IsClose, IsTaking, IsUse, kept_of, level_in, stand_meant}
 use Rattle.rdlpp_arguments.specs.declared.taking.Taking.TheVariants.{Refused as RefusedTaking, Perl}
 use Rattle.rdlpp_arguments.specs.declared.taking.Use.{Use}
 use Rattle.rdlpp_arguments.specs.declared.reading.CallRead.{CallRead}
 use Rattle.rdlpp_arguments.specs.declared.reading.CallRead.TheVariants.{Closed, Refused, Broken, Failed}
-use Rattle.rdlpp_arguments.proofs.GoingOn.{close_closes, fill_goes_on, goes_on_told, goes_on_twice, taking_broken, taking_refused, token_goes_on, tells_behind, tells_told, used_inner, used_length, used_none, used_twice}
+use Rattle.rdlpp_arguments.proofs.GoingOn.{close_closes, fill_goes_on, goes_on_told, goes_on_twice, taking_broken, taking_refused, token_goes_on, tells_behind, tells_told, used_inner, used_length, used_moves, used_none, used_text, used_twice}
 use Rattle.rdlpp_arguments.proofs.Halts.{broken_reads}
 
 -- a call of which some was read: the store has what is kept of the used bytes, and reading goes on where it stands
@@ -37,6 +38,8 @@ pub record IsReading {S R : Type 0} (g : Ghosts S R) (failed : Bool) (first now 
   pub room : store.most ≡ most
   pub level : level_in at ≤ length store.bytes
   pub lead : at ≡ Before → (inner_buffer new.nest).mode ≢ InStr
+  pub moves : MovesOver used (inner_buffer old.nest) (inner_buffer new.nest)
+  pub text : g.tells first → text_left g.unread (inner_buffer old.nest) ≡ used ++ text_left g.unread (inner_buffer new.nest)
   pub call : SourcesRead g failed first now
 
 -- sources of which nothing was used
@@ -44,6 +47,10 @@ same_used : {R : Type 0} (nest : List (File R)) → nest ≡ with_used (inner_bu
 unfolding only_blanks torn_after
 same_used [] = refl
 same_used (f ∷ outer) = refl
+
+-- a window that stays
+same_moves : {R : Type 0} (f : BufferView R) → MovesOver [] f f
+same_moves f = moves-past [] f f refl (omega arith)
 
 -- sources that weren't asked
 not_asked : {S R : Type 0} (g : Ghosts S R) (s : S) → SourcesRead g false s s
@@ -59,10 +66,12 @@ reading_starts g s files most store none room plain =
       only = refl;
       inner = same_used files.nest;
       goes_on = subst (λ (k : List ℕ). GoesOn (g.tells s) g.unread Before Before most k [] (inner_buffer files.nest) (inner_buffer files.nest)) (sym none)
-          (fill_goes_on (g.tells s) g.unread Before most (inner_buffer files.nest) (inner_buffer files.nest) refl refl (λ u t. refl));
+          (fill_goes_on (g.tells s) g.unread Before most (inner_buffer files.nest) (inner_buffer files.nest) refl refl (λ t. refl));
       room = room;
       level = omega arith;
       lead = λ _ open_. (let no : Plain ≡ InStr = sym plain ∙ open_ in cc);
+      moves = same_moves (inner_buffer files.nest);
+      text = λ t. refl;
       call = not_asked g s;
     }
 
@@ -83,10 +92,12 @@ pub filled : {S R : Type 0} (g : Ghosts S R) (failed : Bool) (first now after : 
     → IsReading g false first now old mid most store at
     → new ≡ record mid { nest = with_buffer (inner_buffer new.nest) mid.nest }
     → unused_of (inner_buffer new.nest) ≡ unused_of (inner_buffer mid.nest) → (inner_buffer new.nest).mode ≡ (inner_buffer mid.nest).mode
-    → ((u : List ℕ → Bool) → g.tells now → tokens_left u g.unread (inner_buffer new.nest) ≡ tokens_left u g.unread (inner_buffer mid.nest))
+    → (g.tells now → tokens_left g.unread (inner_buffer new.nest) ≡ tokens_left g.unread (inner_buffer mid.nest))
+    → MovesOver [] (inner_buffer mid.nest) (inner_buffer new.nest)
+    → (g.tells now → text_left g.unread (inner_buffer new.nest) ≡ text_left g.unread (inner_buffer mid.nest))
     → SourcesRead g failed now after
     → IsReading g failed first after old new most store at
-filled g failed first now after old mid new most store at r only unused mode tokens call =
+filled g failed first now after old mid new most store at r only unused mode tokens moves text call =
     let nest : new.nest ≡ with_used (inner_buffer new.nest) [] mid.nest = ap (λ f. f.nest) only ∙ used_none (inner_buffer new.nest) mid.nest in
     record {
       used = r.used ++ [];
@@ -94,10 +105,14 @@ filled g failed first now after old mid new most store at r only unused mode tok
       inner = used_on old.nest mid.nest new.nest r.used [] r.inner nest;
       goes_on = subst (λ (k : List ℕ). GoesOn (g.tells first) g.unread Before at most k (r.used ++ []) (inner_buffer old.nest) (inner_buffer new.nest)) (append-nil store.bytes)
           (goes_on_twice (g.tells first) g.unread Before at at most store.bytes [] r.used [] (inner_buffer old.nest) (inner_buffer mid.nest) (inner_buffer new.nest) r.goes_on
-          (fill_goes_on (g.tells first) g.unread at (most - length store.bytes) (inner_buffer mid.nest) (inner_buffer new.nest) unused mode (λ u t. tokens u (r.call.tells t))));
+          (fill_goes_on (g.tells first) g.unread at (most - length store.bytes) (inner_buffer mid.nest) (inner_buffer new.nest) unused mode (λ t. tokens (r.call.tells t))));
       room = r.room;
       level = r.level;
       lead = λ before open_. r.lead before (sym mode ∙ open_);
+      moves = moves-on r.used [] (inner_buffer old.nest) (inner_buffer mid.nest) (inner_buffer new.nest) r.moves moves;
+      text = λ t.
+          text-on r.used [] (text_left g.unread (inner_buffer old.nest)) (text_left g.unread (inner_buffer mid.nest)) (text_left g.unread (inner_buffer new.nest))
+          (r.text t) (sym (text (r.call.tells t)));
       call = calls-on g failed first now after r.call call;
     }
 
@@ -122,6 +137,10 @@ taken {R = R} g first now old mid new most store after at to r only room t =
       room = room ∙ r.room;
       level = omega arith;
       lead = t.lead;
+      moves = moves-on r.used t.used (inner_buffer old.nest) (inner_buffer mid.nest) (inner_buffer new.nest) r.moves t.moves;
+      text = λ told.
+          text-on r.used t.used (text_left g.unread (inner_buffer old.nest)) (text_left g.unread (inner_buffer mid.nest)) (text_left g.unread (inner_buffer new.nest))
+          (r.text told) (t.text g.unread);
       call = r.call;
     }
 
@@ -129,14 +148,20 @@ taken {R = R} g first now old mid new most store after at to r only room t =
 pub answered : {S R : Type 0} (g : Ghosts S R) (first now : S) (old mid : FilesView R) (new : List (File R)) (most : ℕ) (store : StoreView) (at : Stand) (used : List ℕ) (result : CallRead)
     → IsReading g false first now old mid most store at
     → new ≡ with_used (inner_buffer new) used mid.nest → unused_of (inner_buffer new) + length used ≡ unused_of (inner_buffer mid.nest)
+    → MovesOver used (inner_buffer mid.nest) (inner_buffer new)
+    → (IsExactCall result → g.tells first → text_left g.unread (inner_buffer mid.nest) ≡ used ++ text_left g.unread (inner_buffer new))
     → TellsCall (g.tells first) g.unread at (most - length store.bytes) [] used (inner_buffer mid.nest) (inner_buffer new) result
     → ReadsCall (g.tells first) g.unread Before most store.bytes result old.nest new
-answered g first now old mid new most store at used result r inner unused tells =
+answered g first now old mid new most store at used result r inner unused moves text tells =
     let on = r.goes_on.unused in
     record {
       used = r.used ++ used;
       inner = used_on old.nest mid.nest new r.used used r.inner inner;
       unused = omega (arith, length-append r.used used);
+      moves = moves-on r.used used (inner_buffer old.nest) (inner_buffer mid.nest) (inner_buffer new) r.moves moves;
+      text = λ exact t.
+          text-on r.used used (text_left g.unread (inner_buffer old.nest)) (text_left g.unread (inner_buffer mid.nest)) (text_left g.unread (inner_buffer new))
+          (r.text t) (text exact t);
       answer = subst (λ (k : List ℕ). TellsCall (g.tells first) g.unread Before most k (r.used ++ used) (inner_buffer old.nest) (inner_buffer new) result) (append-nil store.bytes)
           (tells_behind (g.tells first) g.unread Before at most store.bytes [] r.used used (inner_buffer old.nest) (inner_buffer mid.nest) (inner_buffer new) result r.goes_on tells);
     }
@@ -149,7 +174,7 @@ pub answered_token : {S R : Type 0} (g : Ghosts S R) (first now : S) (old mid : 
 answered_token g first now old mid new most store after at result r e =
     let c = e.reads g.unread in
     subst (λ (k : List ℕ). ReadsCall (g.tells first) g.unread Before most k result old.nest new) (sym e.bytes)
-    (answered g first now old mid new most store at c.used result r c.inner c.unused
+    (answered g first now old mid new most store at c.used result r c.inner c.unused c.moves (λ exact t. c.text exact tt)
     (tells_told (g.tells first) g.unread at (most - length store.bytes) [] c.used (inner_buffer mid.nest) (inner_buffer new) result
     (subst (λ n. TellsCall Unit g.unread at (n - length store.bytes) [] c.used (inner_buffer mid.nest) (inner_buffer new) result) r.room c.answer)))
 
@@ -157,32 +182,34 @@ answered_token g first now old mid new most store after at result r e =
 pub answered_unfilled : {S R : Type 0} (g : Ghosts S R) (first now : S) (old mid new : FilesView R) (most : ℕ) (store : StoreView) (at : Stand) (result : CallRead)
     → IsReading g false first now old mid most store at
     → new ≡ record mid { nest = with_buffer (inner_buffer new.nest) mid.nest } → unused_of (inner_buffer new.nest) ≡ unused_of (inner_buffer mid.nest)
+    → MovesOver [] (inner_buffer mid.nest) (inner_buffer new.nest)
+    → (IsExactCall result → g.tells now → text_left g.unread (inner_buffer new.nest) ≡ text_left g.unread (inner_buffer mid.nest))
     → TellsCall (g.tells first) g.unread at (most - length store.bytes) [] [] (inner_buffer mid.nest) (inner_buffer new.nest) result
     → ReadsCall (g.tells first) g.unread Before most store.bytes result old.nest new.nest
-answered_unfilled g first now old mid new most store at result r only unused tells =
+answered_unfilled g first now old mid new most store at result r only unused moves text tells =
     answered g first now old mid new.nest most store at [] result r
-    (ap (λ f. f.nest) only ∙ used_none (inner_buffer new.nest) mid.nest) (omega (arith, unused)) tells
+    (ap (λ f. f.nest) only ∙ used_none (inner_buffer new.nest) mid.nest) (omega (arith, unused)) moves (λ exact t. sym (text exact (r.call.tells t))) tells
 
 -- a read failed behind what was read
 pub answered_failed : {S R : Type 0} (g : Ghosts S R) (first now : S) (old new : FilesView R) (most : ℕ) (store : StoreView) (at : Stand)
     → IsReading g true first now old new most store at
     → ReadsCall (g.tells first) g.unread Before most store.bytes Failed old.nest new.nest
 answered_failed g first now old new most store at r =
-    record { used = r.used; inner = r.inner; unused = r.goes_on.unused; answer = record { to = at; goes_on = r.goes_on } }
+    record { used = r.used; inner = r.inner; unused = r.goes_on.unused; moves = r.moves; text = λ exact t. r.text t; answer = record { to = at; goes_on = r.goes_on } }
 
 -- what an answer at the end of a text tells
 pub end_tells : {R : Type 0} (tells : Type 0) (unread : R → List ℕ) (at : Stand) (room : ℕ) (old new : BufferView R) (result : CallRead)
     → IsEndOfText at room new result → new.mode ≡ old.mode → new.open_token_line ≡ old.open_token_line
-    → ((u : List ℕ → Bool) → tells → tokens_left u unread old ≡ ended_tokens old.mode old.open_token_line)
+    → (tells → tokens_left unread old ≡ ended_tokens old.mode old.open_token_line)
     → TellsCall tells unread at room [] [] old new result
 unfolding reading
 end_tells tells unread at room old new (Refused kind) e mode opened tokens =
-    λ t. ap (read at (is_open old.mode) room) (tokens all_built t)
+    λ t. ap (read at (is_open old.mode) room) (tokens t)
     ∙ sym (ap (λ (m : Mode). read at (is_open m) room (ended_tokens m old.open_token_line)) mode)
     ∙ sym (ap (λ n. read at (is_open new.mode) room (ended_tokens new.mode n)) opened)
     ∙ e
 end_tells tells unread at room old new (Broken kind line) e mode opened tokens =
-    λ u spares t. ap (read at (is_open old.mode) room) (tokens u t)
+    λ t. ap (read at (is_open old.mode) room) (tokens t)
     ∙ sym (ap (λ (m : Mode). read at (is_open m) room (ended_tokens m old.open_token_line)) mode)
     ∙ sym (ap (λ n. read at (is_open new.mode) room (ended_tokens new.mode n)) opened)
     ∙ e
@@ -197,11 +224,11 @@ end_read at room f Failed e = absurd e
 
 -- what a line that breaks the text tells
 pub break_tells : {R : Type 0} (tells : Type 0) (unread : R → List ℕ) (at : Stand) (room : ℕ) (old new : BufferView R) (b : Breach) (line : ℕ)
-    → is_part_breach b ≡ true → line ≡ old.line → ((u : List ℕ → Bool) → tells → tokens_left u unread old ≡ only_broken b old.line)
+    → is_part_breach b ≡ true → line ≡ old.line → (tells → tokens_left unread old ≡ only_broken b old.line)
     → TellsCall tells unread at room [] [] old new (Broken (breach_kind b) line)
 unfolding reading
-break_tells tells unread at room old new b line part same tokens u spares t =
-    ap (read at (is_open old.mode) room) (tokens u t) ∙ broken_reads at (is_open old.mode) room b old.line part ∙ ap (ReadStopped (breach_kind b)) (sym same)
+break_tells tells unread at room old new b line part same tokens t =
+    ap (read at (is_open old.mode) room) (tokens t) ∙ broken_reads at (is_open old.mode) room b old.line part ∙ ap (ReadStopped (breach_kind b)) (sym same)
 
 -- what stands at the end of a text, in plain text, in a string and in a comment
 pub end_plain : {R : Type 0} (at : Stand) (room : ℕ) (f : BufferView R) → f.mode ≡ Plain → read at (is_open f.mode) room (ended_tokens f.mode f.open_token_line) ≡ ReadRefused (fault_at_end at)
@@ -242,6 +269,8 @@ token_used {R = R} at m room most held kept bytes after old new u some ends mode
       inner = uses ∙ ap (λ (b : BufferView R). with_used b used old) (sym inner);
       level = own.level;
       lead = λ before open_. own.lead before (sym (ap (λ (b : BufferView R). b.mode) inner) ∙ open_);
+      moves = subst (λ (b : BufferView R). MovesOver used f b) (sym inner) (used_moves f u.len u.next_mode own.inside);
+      text = λ unread. used_text unread f u.len u.next_mode ∙ ap (λ (b : BufferView R). used ++ text_left unread b) (sym inner);
       goes_on = λ unread.
           subst (λ (b : BufferView R). GoesOn Unit unread at (stand_meant u.stand) (most - length bytes) (kept_of u.is_kept used) used f b) (sym inner)
           (token_goes_on unread at (most - length bytes) f u ends own);
@@ -269,6 +298,8 @@ token_closed {R = R} at m room most held bytes old new some ends there mode text
             used = used;
             inner = uses ∙ ap (λ (b : BufferView R). with_used b used old) (sym inner);
             unused = ap (λ (b : BufferView R). unused_of b + length used) inner ∙ closes.unused;
+            moves = subst (λ (b : BufferView R). MovesOver used f b) (sym inner) (used_moves f 1 Plain there);
+            text = λ exact t. used_text unread f 1 Plain ∙ ap (λ (b : BufferView R). used ++ text_left unread b) (sym inner);
             answer = subst (λ (b : BufferView R). Closes Unit unread at (most - length bytes) [] used f b) (sym inner) closes;
           };
     }
@@ -276,7 +307,7 @@ token_closed {R = R} at m room most held bytes old new some ends there mode text
 -- nothing was used
 nothing_used : {R : Type 0} (unread : R → List ℕ) (at : Stand) (room : ℕ) (nest : List (File R)) (result : CallRead)
     → TellsCall Unit unread at room [] [] (inner_buffer nest) (inner_buffer nest) result → ReadsCall Unit unread at room [] result nest nest
-nothing_used unread at room nest result tells = record { used = []; inner = same_used nest; unused = omega arith; answer = tells }
+nothing_used unread at room nest result tells = record { used = []; inner = same_used nest; unused = omega arith; moves = same_moves (inner_buffer nest); text = λ exact t. refl; answer = tells }
 
 -- a call that is refused at a token
 pub token_refused : {R : Type 0} (at : Stand) (m : Mode) (room most : ℕ) (held bytes : List ℕ) (nest : List (File R)) (kind : FaultKind)
@@ -307,7 +338,7 @@ token_perl at m room most line held bytes nest ends mode text left where_ law =
       answers = refl;
       reads = λ unread.
           nothing_used unread at (most - length bytes) nest (Broken EmbeddedPerl line)
-          (λ u spares _. taking_broken unread at (most - length bytes) f EmbeddedPerl ends own u spares ∙ ap (ReadStopped EmbeddedPerl) (sym where_));
+          (λ _. taking_broken unread at (most - length bytes) f EmbeddedPerl ends own ∙ ap (ReadStopped EmbeddedPerl) (sym where_));
     }
 
 -- a token uses bytes

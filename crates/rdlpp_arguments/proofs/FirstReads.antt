@@ -14,7 +14,7 @@ use Rattle.rdlpp_scan.specs.Resumed.{onto_tokens, opening, with_part, line_with}
 use Rattle.rdlpp_scan.specs.SourceTokens.{SourceToken, Ordinary, Broken, line_ends, remaining_tokens}
 use Rattle.rdlpp_scan.specs.Tokens.{token_of, whole}
 use Rattle.rdlpp_scan.proofs.RemainingLaws.{remaining-opened}
-use Rattle.rdlpp_scan.proofs.RemainingSteps.{IsBuiltAt, remaining-closed, remaining-open_string, remaining-open_comment, remaining-cut_string}
+use Rattle.rdlpp_scan.proofs.RemainingSteps.{remaining-closed, remaining-open_string, remaining-open_comment, remaining-cut_string}
 use Rattle.rdlpp_scan.proofs.ResumedTokens.{remaining-perl_in_string}
 use Rattle.rdlpp_scan.specs.Ordinary.{is_plain_kind}
 use Rattle.rdlpp_scan.proofs.Seams.{Seam, Closed, BeforePerl, OpenString, OpenComment}
@@ -69,14 +69,14 @@ head_read at p room t ts r n next role size plain =
 -- a token that is whole in held bytes
 pub whole_first : (at : Stand) (m : Mode) (room : ℕ) (held : List ℕ) (t : Token) (r : Role) (a : Around)
     → length (take t.len held) ≡ t.len → t.next_mode ≡ Plain → role_in (is_open m) (own_token t held a.line) ≡ r
-    → tokens_at a m held ≡ own_token t held a.line ∷ remaining_tokens a.unbuilt a.most Plain a.line (a.line + line_ends (take t.len held)) (drop t.len held) a.left a.rest
+    → tokens_at a m held ≡ own_token t held a.line ∷ remaining_tokens a.most Plain a.line (a.line + line_ends (take t.len held)) (drop t.len held) a.left a.rest
     → IsFirst at m room held t r a
 whole_first at m room held t r a size closed role e =
     let own = take t.len held in
     let T = own_token t held a.line in
     let us = tokens_behind a m held t.len t.next_mode in
-    let behind : remaining_tokens a.unbuilt a.most Plain a.line (a.line + line_ends own) (drop t.len held) a.left a.rest ≡ us =
-    remaining-opened a.unbuilt a.most a.line (opening m a.opened a.line) (a.line + line_ends own) (drop t.len held) a.left a.rest
+    let behind : remaining_tokens a.most Plain a.line (a.line + line_ends own) (drop t.len held) a.left a.rest ≡ us =
+    remaining-opened a.most a.line (opening m a.opened a.line) (a.line + line_ends own) (drop t.len held) a.left a.rest
     ∙ ap (λ (n : Mode). tokens_behind a m held t.len n) (sym closed) in
     let all : tokens_at a m held ≡ T ∷ us = e ∙ ap (λ ts. T ∷ ts) behind in
     record {
@@ -85,14 +85,13 @@ whole_first at m room held t r a size closed role e =
     }
 
 -- a token that is closed in held bytes
-closed_first : (at : Stand) (m : Mode) (room : ℕ) (held : List ℕ) (a : Around) → IsAround held a → 0 < length held → IsBuiltAt a.unbuilt m held
-    → is_kept_kind (token_of m held).kind ≡ true → (token_of m held).next_mode ≡ Plain
+closed_first : (at : Stand) (m : Mode) (room : ℕ) (held : List ℕ) (a : Around) → IsAround held a → 0 < length held → is_kept_kind (token_of m held).kind ≡ true → (token_of m held).next_mode ≡ Plain
     → IsFirst at m room held (token_of m held) (kind_role (token_of m held).kind (take (token_of m held).len held)) a
-closed_first at m room held a around some built kept closed =
+closed_first at m room held a around some kept closed =
     let t = token_of m held in
     let own = take t.len held in
     whole_first at m room held t (kind_role t.kind own) a (length-take-le t.len held (token_of-part m held some).inside) closed (kept_role m t.kind own a.line kept)
-    (remaining-closed a.unbuilt a.most m a.opened a.line held a.left a.rest some around.ends built kept closed)
+    (remaining-closed a.most m a.opened a.line held a.left a.rest some around.ends kept closed)
 
 -- a part that is kept, by what the scan does with it
 part_by_turn : (fits : Bool) (t : SourceToken) (ts : List SourceToken) (rest : Reading) → part_kept fits t.bytes rest ≡ read_by (turn_fitting fits Keeps) t ts rest
@@ -232,27 +231,26 @@ none_behind held n e = drop_all n held (omega (arith, e))
 
 -- a part that is all of held bytes, in front of what remains of its token
 whole_part : (m next : Mode) (held : List ℕ) (n : ℕ) (a : Around) (mode : Mode) → n ≡ length held → mode ≡ next
-    → tokens_at a m held ≡ onto_tokens held a.line (remaining_tokens a.unbuilt a.most next (opening m a.opened a.line) (a.line + line_ends held) [] a.left a.rest)
+    → tokens_at a m held ≡ onto_tokens held a.line (remaining_tokens a.most next (opening m a.opened a.line) (a.line + line_ends held) [] a.left a.rest)
     → tokens_at a m held ≡ onto_tokens (take n held) a.line (tokens_behind a m held n mode)
 whole_part m next held n a mode len is e =
     let F : List ℕ → List ℕ → Mode → List SourceToken =
-    λ own left d. onto_tokens own a.line (remaining_tokens a.unbuilt a.most d (opening m a.opened a.line) (a.line + line_ends own) left a.left a.rest) in
+    λ own left d. onto_tokens own a.line (remaining_tokens a.most d (opening m a.opened a.line) (a.line + line_ends own) left a.left a.rest) in
     e ∙ ap (λ own. F own [] next) (sym (all_held held n len)) ∙ ap (λ left. F (take n held) left next) (sym (none_behind held n len))
     ∙ ap (F (take n held) (drop n held)) (sym is)
 
 -- a string that `<%` cuts, in front of what remains behind its part
-cut_part : (m : Mode) (held : List ℕ) (a : Around) → IsAround held a → 0 < length held → IsBuiltAt a.unbuilt m held
-    → (token_of m held).kind ≡ Str → (token_of m held).next_mode ≡ InStr → (token_of m held).len < length held → begins_perl (drop (token_of m held).len held) ≡ true
+cut_part : (m : Mode) (held : List ℕ) (a : Around) → IsAround held a → 0 < length held → (token_of m held).kind ≡ Str → (token_of m held).next_mode ≡ InStr → (token_of m held).len < length held → begins_perl (drop (token_of m held).len held) ≡ true
     → tokens_at a m held ≡ onto_tokens (take (token_of m held).len held) a.line (tokens_behind a m held (token_of m held).len (token_of m held).next_mode)
 unfolding onto_tokens with_part line_with
-cut_part m held a around some built kind mode lt perl =
+cut_part m held a around some kind mode lt perl =
     let t = token_of m held in
     let own = take t.len held in
     let left = drop t.len held in
     let there : 0 < length left = omega (arith, length-drop t.len held) in
     let rest : tokens_behind a m held t.len InStr ≡ record { sort = Broken PerlFound; bytes = []; line = a.line + line_ends own } ∷ [] =
-    remaining-perl_in_string a.unbuilt a.most (opening m a.opened a.line) (a.line + line_ends own) left a.left a.rest there perl in
-    remaining-cut_string a.unbuilt a.most m a.opened a.line held a.left a.rest some around.ends built kind mode lt
+    remaining-perl_in_string a.most (opening m a.opened a.line) (a.line + line_ends own) left a.left a.rest there perl in
+    remaining-cut_string a.most m a.opened a.line held a.left a.rest some around.ends kind mode lt
     ∙ ap (λ (z : List ℕ). record { sort = Broken PerlFound; bytes = z; line = a.line + line_ends own } ∷ []) (sym (append-nil own))
     ∙ ap (onto_tokens own a.line) (sym rest)
     ∙ ap (λ (d : Mode). onto_tokens own a.line (tokens_behind a m held t.len d)) (sym mode)
@@ -266,14 +264,14 @@ unfolding turn turn_before turn_inside read_by level_behind kept_size is_open
 string_by (Inside k) m room held t a some long inside lead quote mode e =
     let rest : IsRest Str (tokens_behind a m held t.len t.next_mode) =
     subst (λ (d : Mode). IsRest Str (tokens_behind a m held t.len d)) (sym mode)
-    (string_remains a.unbuilt a.most (opening m a.opened a.line) (a.line + line_ends (take t.len held)) (drop t.len held) a.left a.rest) in
+    (string_remains a.most (opening m a.opened a.line) (a.line + line_ends (take t.len held)) (drop t.len held) a.left a.rest) in
     open_inside k m room held t Text a inside (λ fits. refl) refl refl (ap is_open mode) (string_head (tokens_behind a m held t.len t.next_mode) rest) e
 string_by Before m room held t a some long inside lead quote mode e =
     let own = take t.len held in
     let us = tokens_behind a m held t.len t.next_mode in
     let rest : IsRest Str us =
     subst (λ (d : Mode). IsRest Str (tokens_behind a m held t.len d)) (sym mode)
-    (string_remains a.unbuilt a.most (opening m a.opened a.line) (a.line + line_ends own) (drop t.len held) a.left a.rest) in
+    (string_remains a.most (opening m a.opened a.line) (a.line + line_ends own) (drop t.len held) a.left a.rest) in
     let size : length own ≡ t.len = length-take-le t.len held inside in
     let plain = lead refl in
     let first : (slice_index own 0 == 34) ≡ true = ap (λ (z : ℕ). z == 34) (front_byte t.len held long) ∙ quote plain in
@@ -294,14 +292,14 @@ unfolding turn turn_before turn_inside read_by level_behind kept_size is_open st
 comment_by (Inside k) m room held t a some long inside slash mode e =
     let rest : IsRest BlockComment (tokens_behind a m held t.len t.next_mode) =
     subst (λ (d : Mode). IsRest BlockComment (tokens_behind a m held t.len d)) (sym mode)
-    (comment_remains a.unbuilt a.most (opening m a.opened a.line) (a.line + line_ends (take t.len held)) (drop t.len held) a.left a.rest) in
+    (comment_remains a.most (opening m a.opened a.line) (a.line + line_ends (take t.len held)) (drop t.len held) a.left a.rest) in
     open_inside k m room held t Remark a inside (λ fits. refl) refl refl (ap is_open mode) (comment_head (tokens_behind a m held t.len t.next_mode) rest) e
 comment_by Before m room held t a some long inside slash mode e =
     let own = take t.len held in
     let us = tokens_behind a m held t.len t.next_mode in
     let rest : IsRest BlockComment us =
     subst (λ (d : Mode). IsRest BlockComment (tokens_behind a m held t.len d)) (sym mode)
-    (comment_remains a.unbuilt a.most (opening m a.opened a.line) (a.line + line_ends own) (drop t.len held) a.left a.rest) in
+    (comment_remains a.most (opening m a.opened a.line) (a.line + line_ends own) (drop t.len held) a.left a.rest) in
     let size : length own ≡ t.len = length-take-le t.len held inside in
     let first : is_open m ≡ false → (slice_index own 0 == 34) ≡ false = λ h. ap (λ (z : ℕ). z == 34) (front_byte t.len held long) ∙ slash h in
     record {
@@ -340,20 +338,19 @@ unfolding kind_role
 comment_role k bytes is = sym (ap (λ (x : Kind). kind_role x bytes) is)
 
 -- the first token of held bytes, or the part of it that is held
-pub token_first : (at : Stand) (m : Mode) (room : ℕ) (held : List ℕ) (a : Around) → IsAround held a → 0 < length held → IsBuiltAt a.unbuilt m held
-    → is_kept_kind (token_of m held).kind ≡ true → (at ≡ Before → m ≢ InStr)
+pub token_first : (at : Stand) (m : Mode) (room : ℕ) (held : List ℕ) (a : Around) → IsAround held a → 0 < length held → is_kept_kind (token_of m held).kind ≡ true → (at ≡ Before → m ≢ InStr)
     → Seam held [] (token_of m held) (token_of m (held ++ []))
     → IsFirst at m room held (token_of m held) (kind_role (token_of m held).kind (take (token_of m held).len held)) a
-token_first at m room held a around some built kept lead (Closed e closed) = closed_first at m room held a around some built kept closed
-token_first at m room held a around some built kept lead (BeforePerl e is lt perl) =
+token_first at m room held a around some kept lead (Closed e closed) = closed_first at m room held a around some kept closed
+token_first at m room held a around some kept lead (BeforePerl e is lt perl) =
     let t = token_of m held in
     let kind = ap (λ (v : Token). v.kind) is in
     let mode = ap (λ (v : Token). v.next_mode) is in
     let part = token_of-part m held some in
     subst (λ (r : Role). IsFirst at m room held t r a) (string_role t.kind (take t.len held) kind)
     (string_by at m room held t a some part.not_empty part.inside (string_mode at m held kind lead) (string_begins m held kind) mode
-    (cut_part m held a around some built kind mode lt perl))
-token_first at m room held a around some built kept lead (OpenString is e) =
+    (cut_part m held a around some kind mode lt perl))
+token_first at m room held a around some kept lead (OpenString is e) =
     let t = token_of m held in
     let kind = ap (λ (v : Token). v.kind) is in
     let mode = ap (λ (v : Token). v.next_mode) is in
@@ -362,8 +359,8 @@ token_first at m room held a around some built kept lead (OpenString is e) =
     subst (λ (r : Role). IsFirst at m room held t r a) (string_role t.kind (take t.len held) kind)
     (string_by at m room held t a some part.not_empty part.inside (string_mode at m held kind lead) (string_begins m held kind) mode
     (whole_part m InStr held t.len a t.next_mode len mode
-    (remaining-open_string a.unbuilt a.most m a.opened a.line held a.left a.rest some around.ends built mode len)))
-token_first at m room held a around some built kept lead (OpenComment is e) =
+    (remaining-open_string a.most m a.opened a.line held a.left a.rest some around.ends mode len)))
+token_first at m room held a around some kept lead (OpenComment is e) =
     let t = token_of m held in
     let kind = ap (λ (v : Token). v.kind) is in
     let mode = ap (λ (v : Token). v.next_mode) is in
@@ -372,4 +369,4 @@ token_first at m room held a around some built kept lead (OpenComment is e) =
     subst (λ (r : Role). IsFirst at m room held t r a) (comment_role t.kind (take t.len held) kind)
     (comment_by at m room held t a some part.not_empty part.inside (comment_begins m held kind) mode
     (whole_part m InBlock held t.len a t.next_mode len mode
-    (remaining-open_comment a.unbuilt a.most m a.opened a.line held a.left a.rest some around.ends built mode)))
+    (remaining-open_comment a.most m a.opened a.line held a.left a.rest some around.ends mode)))

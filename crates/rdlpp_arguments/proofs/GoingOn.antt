@@ -13,19 +13,20 @@ use Rattle.rdlpp_meaning.specs.Expansion.{bytes_of}
 use Rattle.rdlpp_meaning.specs.Parts.{only_blanks}
 use Rattle.rdlpp_meaning.proofs.CallReadings.{onto_kept-append, onto_kept-nil}
 use Rattle.rdlpp_meaning.proofs.TokenWrites.{only_blanks-append}
-use Rattle.rdlpp_read.specs.Buffer.{BufferView, EndsHeld, ahead_of, entered_mode, held_of, rest_of, tokens_left, unread_of, unused_of}
+use Rattle.rdlpp_read.specs.Buffer.{BufferView, EndsHeld, MovesOver, ahead_of, entered_mode, held_of, rest_of, text_left, tokens_left, unread_of, unused_of}
 use Rattle.rdlpp_read.specs.Files.{FilesView, consumed_file, inner_buffer, torn_after, with_buffer, with_inner}
 use Rattle.rdlpp_read.specs.declared.files.File.{File}
+use Rattle.rdlpp_read.proofs.Sliding.{moves-past, text-past}
 use Rattle.rdlpp_arguments.specs.CallReads.{TellsCall, used_buffer, with_used}
-use Rattle.rdlpp_arguments.specs.Reads.{Closes, GoesOn, SparesCalls, all_built, is_open, reading}
+use Rattle.rdlpp_arguments.specs.Reads.{Closes, GoesOn, is_open, reading}
 use Rattle.rdlpp_arguments.specs.Taking.{Around, IsAround, IsClose, IsUse, kept_of, stand_meant, tokens_at, tokens_behind}
 use Rattle.rdlpp_arguments.specs.declared.reading.CallRead.{CallRead}
 use Rattle.rdlpp_arguments.specs.declared.reading.CallRead.TheVariants.{Closed, Refused, Broken as BrokenCall, Failed}
 use Rattle.rdlpp_arguments.specs.declared.taking.Use.{Use}
 
 -- what the held bytes of a source stand in
-abbrev around_of : {R : Type 0} → (List ℕ → Bool) → (R → List ℕ) → BufferView R → Around
-around_of u unread f = record { unbuilt = u; most = f.line_bytes; opened = f.open_token_line; line = f.line; left = f.bytes_left; rest = rest_of unread f }
+abbrev around_of : {R : Type 0} → (R → List ℕ) → BufferView R → Around
+around_of unread f = record { most = f.line_bytes; opened = f.open_token_line; line = f.line; left = f.bytes_left; rest = rest_of unread f }
 
 -- what is held ends at a line end, or with the text
 ends_line : {R : Type 0} (unread : R → List ℕ) (f : BufferView R) → EndsHeld f → EndsLine (held_of f) (rest_of unread f)
@@ -33,14 +34,24 @@ unfolding rest_of unread_of ahead_of
 ends_line unread f (inl whole) = inl whole
 ends_line unread f (inr none) = inr (rw (none.0, none.1) refl)
 
-is_around : {R : Type 0} (u : List ℕ → Bool) (unread : R → List ℕ) (f : BufferView R) → EndsHeld f → SparesCalls u → IsAround (held_of f) (around_of u unread f)
-is_around u unread f ends spares = record { ends = ends_line unread f ends; spares = spares }
+is_around : {R : Type 0} (unread : R → List ℕ) (f : BufferView R) → EndsHeld f → IsAround (held_of f) (around_of unread f)
+is_around unread f ends = record { ends = ends_line unread f ends }
 
 -- the tokens behind used bytes
-behind_used : {R : Type 0} (u : List ℕ → Bool) (unread : R → List ℕ) (f : BufferView R) (len : ℕ) (next : Mode)
-    → tokens_behind (around_of u unread f) f.mode (held_of f) len next ≡ tokens_left u unread (used_buffer f len next)
+behind_used : {R : Type 0} (unread : R → List ℕ) (f : BufferView R) (len : ℕ) (next : Mode)
+    → tokens_behind (around_of unread f) f.mode (held_of f) len next ≡ tokens_left unread (used_buffer f len next)
 unfolding tokens_left rest_of ahead_of held_of entered_mode
-behind_used u unread f len next = rw (drop-drop len f.at (take f.accepted f.window)) refl
+behind_used unread f len next = rw (drop-drop len f.at (take f.accepted f.window)) refl
+
+-- what is held behind used bytes
+behind_held : {R : Type 0} (f : BufferView R) (len : ℕ) (next : Mode) → held_of (used_buffer f len next) ≡ drop len (held_of f)
+unfolding held_of entered_mode
+behind_held f len next = sym (drop-drop len f.at (take f.accepted f.window))
+
+-- and what isn't held
+behind_rest : {R : Type 0} (unread : R → List ℕ) (f : BufferView R) (len : ℕ) (next : Mode) → rest_of unread (used_buffer f len next) ≡ rest_of unread f
+unfolding rest_of ahead_of entered_mode
+behind_rest unread f len next = refl
 
 -- what isn't used behind used bytes
 less_unused : {R : Type 0} (f : BufferView R) (len : ℕ) (next : Mode) → len ≤ length (held_of f)
@@ -49,6 +60,16 @@ unfolding unused_of entered_mode held_of
 less_unused f len next inside =
     let size = length-take-le len (drop f.at (take f.accepted f.window)) inside in
     omega (arith, size, length-drop f.at (take f.accepted f.window), length-take f.accepted f.window)
+
+-- a window of which the first held bytes are used
+pub used_moves : {R : Type 0} (f : BufferView R) (len : ℕ) (next : Mode) → len ≤ length (held_of f) → MovesOver (take len (held_of f)) f (used_buffer f len next)
+unfolding entered_mode
+used_moves f len next inside =
+    moves-past (take len (held_of f)) f (used_buffer f len next) refl (ap (λ n. f.at + n) (sym (length-take-le len (held_of f) inside)))
+
+-- the text behind them
+pub used_text : {R : Type 0} (unread : R → List ℕ) (f : BufferView R) (len : ℕ) (next : Mode) → text_left unread f ≡ take len (held_of f) ++ text_left unread (used_buffer f len next)
+used_text unread f len next = text-past unread f (used_buffer f len next) len (behind_held f len next) (behind_rest unread f len next)
 
 -- a token that is used
 pub token_goes_on : {R : Type 0} (unread : R → List ℕ) (at : Stand) (room : ℕ) (f : BufferView R) (u : Use) → EndsHeld f → IsUse at f.mode room (held_of f) u
@@ -59,12 +80,12 @@ token_goes_on unread at room f u ends how =
     record {
       unused = less_unused f u.len u.next_mode how.inside;
       fits = how.fits;
-      reads = λ b spares _.
-          how.reads (around_of b unread f) (is_around b unread f ends spares)
-          ∙ ap (λ ts. onto_kept kept (read (stand_meant u.stand) (is_open u.next_mode) (room - length kept) ts)) (behind_used b unread f u.len u.next_mode);
-      bytes = λ b spares _.
-          how.bytes (around_of b unread f) (is_around b unread f ends spares)
-          ∙ ap (λ ts. take u.len (held_of f) ++ bytes_of ts) (behind_used b unread f u.len u.next_mode);
+      reads = λ _.
+          how.reads (around_of unread f) (is_around unread f ends)
+          ∙ ap (λ ts. onto_kept kept (read (stand_meant u.stand) (is_open u.next_mode) (room - length kept) ts)) (behind_used unread f u.len u.next_mode);
+      bytes = λ _.
+          how.bytes (around_of unread f) (is_around unread f ends)
+          ∙ ap (λ ts. take u.len (held_of f) ++ bytes_of ts) (behind_used unread f u.len u.next_mode);
     }
 
 -- the `)`
@@ -76,46 +97,42 @@ close_closes unread at room f ends some close =
       unused = less_unused f 1 Plain (omega arith);
       fits = omega arith;
       plain = refl;
-      reads = λ b spares _.
-          close.reads (around_of b unread f) (is_around b unread f ends spares) ∙ ap (ReadClosed []) (behind_used b unread f 1 Plain);
-      bytes = λ b spares _.
-          close.bytes (around_of b unread f) (is_around b unread f ends spares)
-          ∙ ap (λ ts. take 1 (held_of f) ++ bytes_of ts) (behind_used b unread f 1 Plain);
+      reads = λ _.
+          close.reads (around_of unread f) (is_around unread f ends) ∙ ap (ReadClosed []) (behind_used unread f 1 Plain);
+      bytes = λ _.
+          close.bytes (around_of unread f) (is_around unread f ends)
+          ∙ ap (λ ts. take 1 (held_of f) ++ bytes_of ts) (behind_used unread f 1 Plain);
     }
-
--- nothing is held back where all is built
-spares_all : SparesCalls all_built
-spares_all bytes h = absurd (cc)
 
 -- a refusal at a token
 pub taking_refused : {R : Type 0} (unread : R → List ℕ) (at : Stand) (room : ℕ) (f : BufferView R) (kind : FaultKind) → EndsHeld f
-    → ((a : Around) → IsAround (held_of f) a → a.unbuilt ≡ all_built → read at (is_open f.mode) room (tokens_at a f.mode (held_of f)) ≡ ReadRefused kind)
-    → reading all_built unread at room f ≡ ReadRefused kind
+    → ((a : Around) → IsAround (held_of f) a → read at (is_open f.mode) room (tokens_at a f.mode (held_of f)) ≡ ReadRefused kind)
+    → reading unread at room f ≡ ReadRefused kind
 unfolding reading tokens_left
-taking_refused unread at room f kind ends law = law (around_of all_built unread f) (is_around all_built unread f ends spares_all) refl
+taking_refused unread at room f kind ends law = law (around_of unread f) (is_around unread f ends)
 
 -- a break at a token
 pub taking_broken : {R : Type 0} (unread : R → List ℕ) (at : Stand) (room : ℕ) (f : BufferView R) (kind : FaultKind) → EndsHeld f
     → ((a : Around) → IsAround (held_of f) a → read at (is_open f.mode) room (tokens_at a f.mode (held_of f)) ≡ ReadStopped kind a.line)
-    → (u : List ℕ → Bool) → SparesCalls u → reading u unread at room f ≡ ReadStopped kind f.line
+    → reading unread at room f ≡ ReadStopped kind f.line
 unfolding reading tokens_left
-taking_broken unread at room f kind ends law u spares = law (around_of u unread f) (is_around u unread f ends spares)
+taking_broken unread at room f kind ends law = law (around_of unread f) (is_around unread f ends)
 
 -- nothing was used, and the tokens stay
 pub fill_goes_on : {R : Type 0} (tells : Type 0) (unread : R → List ℕ) (at : Stand) (room : ℕ) (old new : BufferView R)
-    → unused_of new ≡ unused_of old → new.mode ≡ old.mode → ((u : List ℕ → Bool) → tells → tokens_left u unread new ≡ tokens_left u unread old)
+    → unused_of new ≡ unused_of old → new.mode ≡ old.mode → (tells → tokens_left unread new ≡ tokens_left unread old)
     → GoesOn tells unread at at room [] [] old new
 unfolding reading
 fill_goes_on tells unread at room old new unused mode tokens =
     record {
       unused = omega (arith, unused);
       fits = omega arith;
-      reads = λ u spares t.
-          ap (λ ts. read at (is_open old.mode) room ts) (sym (tokens u t))
-          ∙ ap (λ (m : Mode). read at (is_open m) room (tokens_left u unread new)) (sym mode)
-          ∙ ap (λ n. read at (is_open new.mode) n (tokens_left u unread new)) (let same : room ≡ room - 0 = omega arith in same)
-          ∙ sym (onto_kept-nil (read at (is_open new.mode) (room - 0) (tokens_left u unread new)));
-      bytes = λ u spares t. ap bytes_of (sym (tokens u t));
+      reads = λ t.
+          ap (λ ts. read at (is_open old.mode) room ts) (sym (tokens t))
+          ∙ ap (λ (m : Mode). read at (is_open m) room (tokens_left unread new)) (sym mode)
+          ∙ ap (λ n. read at (is_open new.mode) n (tokens_left unread new)) (let same : room ≡ room - 0 = omega arith in same)
+          ∙ sym (onto_kept-nil (read at (is_open new.mode) (room - 0) (tokens_left unread new)));
+      bytes = λ t. ap bytes_of (sym (tokens t));
     }
 
 -- less room, twice
@@ -131,12 +148,12 @@ goes_on_twice tells unread at to last room k l u v f g h a b =
     record {
       unused = omega (arith, a.unused, b.unused, length-append u v);
       fits = omega (arith, a.fits, b.fits, size);
-      reads = λ x spares t.
-          a.reads x spares t ∙ ap (onto_kept k) (b.reads x spares t)
-          ∙ sym (onto_kept-append k l (read last (is_open h.mode) ((room - length k) - length l) (tokens_left x unread h)))
-          ∙ ap (λ n. onto_kept (k ++ l) (read last (is_open h.mode) n (tokens_left x unread h))) (less_room room (length k) (length l) (length (k ++ l)) size);
-      bytes = λ x spares t.
-          a.bytes x spares t ∙ ap (λ z. u ++ z) (b.bytes x spares t) ∙ sym (append_assoc u v (bytes_of (tokens_left x unread h)));
+      reads = λ t.
+          a.reads t ∙ ap (onto_kept k) (b.reads t)
+          ∙ sym (onto_kept-append k l (read last (is_open h.mode) ((room - length k) - length l) (tokens_left unread h)))
+          ∙ ap (λ n. onto_kept (k ++ l) (read last (is_open h.mode) n (tokens_left unread h))) (less_room room (length k) (length l) (length (k ++ l)) size);
+      bytes = λ t.
+          a.bytes t ∙ ap (λ z. u ++ z) (b.bytes t) ∙ sym (append_assoc u v (bytes_of (tokens_left unread h)));
     }
 
 -- reading went on, and then came to an answer
@@ -148,12 +165,12 @@ tells_behind tells unread at to room k l u v f g h Closed a b =
       unused = omega (arith, a.unused, b.unused, length-append u v);
       fits = omega (arith, a.fits, b.fits, length-append k l);
       plain = b.plain;
-      reads = λ x spares t. a.reads x spares t ∙ ap (onto_kept k) (b.reads x spares t);
-      bytes = λ x spares t.
-          a.bytes x spares t ∙ ap (λ z. u ++ z) (b.bytes x spares t) ∙ sym (append_assoc u v (bytes_of (tokens_left x unread h)));
+      reads = λ t. a.reads t ∙ ap (onto_kept k) (b.reads t);
+      bytes = λ t.
+          a.bytes t ∙ ap (λ z. u ++ z) (b.bytes t) ∙ sym (append_assoc u v (bytes_of (tokens_left unread h)));
     }
-tells_behind tells unread at to room k l u v f g h (Refused kind) a b = λ t. a.reads all_built spares_all t ∙ ap (onto_kept k) (b t)
-tells_behind tells unread at to room k l u v f g h (BrokenCall kind line) a b = λ x spares t. a.reads x spares t ∙ ap (onto_kept k) (b x spares t)
+tells_behind tells unread at to room k l u v f g h (Refused kind) a b = λ t. a.reads t ∙ ap (onto_kept k) (b t)
+tells_behind tells unread at to room k l u v f g h (BrokenCall kind line) a b = λ t. a.reads t ∙ ap (onto_kept k) (b t)
 tells_behind tells unread at to room k l u v f g h Failed a b =
     record { to = b.to; goes_on = goes_on_twice tells unread at to b.to room k l u v f g h a b.goes_on }
 
@@ -161,14 +178,14 @@ tells_behind tells unread at to room k l u v f g h Failed a b =
 pub goes_on_told : {R : Type 0} (tells : Type 0) (unread : R → List ℕ) (at to : Stand) (room : ℕ) (k u : List ℕ) (f g : BufferView R)
     → GoesOn Unit unread at to room k u f g → GoesOn tells unread at to room k u f g
 goes_on_told tells unread at to room k u f g a =
-    record { unused = a.unused; fits = a.fits; reads = λ x spares t. a.reads x spares tt; bytes = λ x spares t. a.bytes x spares tt }
+    record { unused = a.unused; fits = a.fits; reads = λ t. a.reads tt; bytes = λ t. a.bytes tt }
 
 pub tells_told : {R : Type 0} (tells : Type 0) (unread : R → List ℕ) (at : Stand) (room : ℕ) (k u : List ℕ) (f g : BufferView R) (result : CallRead)
     → TellsCall Unit unread at room k u f g result → TellsCall tells unread at room k u f g result
 tells_told tells unread at room k u f g Closed a =
-    record { unused = a.unused; fits = a.fits; plain = a.plain; reads = λ x spares t. a.reads x spares tt; bytes = λ x spares t. a.bytes x spares tt }
+    record { unused = a.unused; fits = a.fits; plain = a.plain; reads = λ t. a.reads tt; bytes = λ t. a.bytes tt }
 tells_told tells unread at room k u f g (Refused kind) a = λ t. a tt
-tells_told tells unread at room k u f g (BrokenCall kind line) a = λ x spares t. a x spares tt
+tells_told tells unread at room k u f g (BrokenCall kind line) a = λ t. a tt
 tells_told tells unread at room k u f g Failed a = record { to = a.to; goes_on = goes_on_told tells unread at a.to room k u f g a.goes_on }
 
 -- whether the last byte isn't LF, behind bytes and then bytes

@@ -13,10 +13,9 @@ use Rattle.rdlpp_scan.specs.Bytes.{begins_perl}
 use Rattle.rdlpp_scan.specs.Front.{Breach, PerlFound, DefineLong, DefineCut, Break, front}
 use Rattle.rdlpp_scan.specs.Ordinary.{is_plain_kind}
 use Rattle.rdlpp_scan.specs.SourceTokens.{SourceToken, Course, Step, Last, Next, Ordinary, Broken, Definition, broken, define_step, line_step, logical_len, line_ends, remaining_tokens, source_tokens, source_step}
-use Rattle.rdlpp_scan.specs.Stage.{is_reserved, reserved_names}
+use Rattle.rdlpp_scan.specs.Reserved.{is_reserved, reserved_names}
 use Rattle.rdlpp_scan.specs.Tokens.{token_of, whole, string_token}
 use Rattle.rdlpp_scan.proofs.RemainingLaws.{behind, course, remaining-perl}
-use Rattle.rdlpp_scan.proofs.RemainingSteps.{IsBuiltAt}
 use Rattle.rdlpp_scan.proofs.ResumedTokens.{after_step, tokens_step, remaining-perl_in_string}
 use Rattle.rdlpp_scan.proofs.StepLaws.{back_held, next_held}
 use Rattle.rdlpp_scan.proofs.StopKinds.{Row, AtPerl, AtLineComment, AtBlockComment, AtString, AtBack, AtBare, AtPlain, token_of-row, string_token-kind, block_token-kind}
@@ -30,7 +29,7 @@ use Rattle.rdlpp_meaning.specs.Expansion.{usage_token}
 use Rattle.rdlpp_meaning.specs.Parts.{directive_named, directive_of}
 use Rattle.rdlpp_meaning.proofs.SourceScans.{source_role_directive, source_role_text}
 use Rattle.rdlpp_meaning.proofs.TokenWrites.{usage_text}
-use Rattle.rdlpp_arguments.specs.Reads.{all_built, is_open}
+use Rattle.rdlpp_arguments.specs.Reads.{is_open}
 use Rattle.rdlpp_arguments.specs.Taking.{Around, IsAround, tokens_at}
 use Rattle.rdlpp_arguments.proofs.FirstReads.{IsFirst, own_token, whole_first}
 
@@ -64,19 +63,19 @@ perl_in_string bs is =
     elim (begins_perl bs) as P [ true ↦ at_true | false ↦ at_false ] is
 
 -- what remains at embedded Perl
-perl_tokens : (m : Mode) (held : List ℕ) (a : Around) → IsAround held a → 0 < length held → IsBuiltAt a.unbuilt m held → (token_of m held).kind ≡ Perl
+perl_tokens : (m : Mode) (held : List ℕ) (a : Around) → IsAround held a → 0 < length held → (token_of m held).kind ≡ Perl
     → tokens_at a m held ≡ record { sort = Broken PerlFound; bytes = []; line = a.line } ∷ []
 unfolding token_of
-perl_tokens Plain held a around some built is = remaining-perl a.unbuilt a.most a.opened a.line held a.left a.rest some around.ends (built refl) is
-perl_tokens InStr held a around some built is = remaining-perl_in_string a.unbuilt a.most a.opened a.line held a.left a.rest some (perl_in_string held is)
-perl_tokens InBlock held a around some built is = let k = block_token-kind 0 held in absurd (cc)
+perl_tokens Plain held a around some is = remaining-perl a.most a.opened a.line held a.left a.rest some around.ends is
+perl_tokens InStr held a around some is = remaining-perl_in_string a.most a.opened a.line held a.left a.rest some (perl_in_string held is)
+perl_tokens InBlock held a around some is = let k = block_token-kind 0 held in absurd (cc)
 
 -- embedded Perl breaks a call
-pub perl_reads : (at : Stand) (m : Mode) (room : ℕ) (held : List ℕ) (a : Around) → IsAround held a → 0 < length held → IsBuiltAt a.unbuilt m held → (token_of m held).kind ≡ Perl
+pub perl_reads : (at : Stand) (m : Mode) (room : ℕ) (held : List ℕ) (a : Around) → IsAround held a → 0 < length held → (token_of m held).kind ≡ Perl
     → read at (is_open m) room (tokens_at a m held) ≡ ReadStopped EmbeddedPerl a.line
 unfolding is_part_breach breach_kind
-perl_reads at m room held a around some built is =
-    ap (read at (is_open m) room) (perl_tokens m held a around some built is) ∙ broken_by at (is_open m) room PerlFound a.line refl
+perl_reads at m room held a around some is =
+    ap (read at (is_open m) room) (perl_tokens m held a around some is) ∙ broken_by at (is_open m) room PerlFound a.line refl
 
 -- a halt ends a call
 halt_reads : (at : Stand) (room : ℕ) (t : SourceToken) (ts : List SourceToken) → source_role t ≡ Halt → read at false room (t ∷ ts) ≡ ReadRefused (fault_at_end at)
@@ -189,21 +188,20 @@ pub back_bytes : (bs : List ℕ) → (token_of Plain bs).kind ≡ Back → 0 < l
 back_bytes bs is some = back_by bs (token_of Plain bs) (token_of-row bs) is some
 
 -- a directive halts a call
-pub directive_reads : (at : Stand) (room : ℕ) (held : List ℕ) (a : Around) → IsAround held a → a.unbuilt ≡ all_built → 0 < length held → (token_of Plain held).kind ≡ Back
+pub directive_reads : (at : Stand) (room : ℕ) (held : List ℕ) (a : Around) → IsAround held a → 0 < length held → (token_of Plain held).kind ≡ Back
     → is_reserved (take ((token_of Plain held).len - 1) (drop 1 held)) ≡ true
     → read at false room (tokens_at a Plain held) ≡ ReadRefused (fault_at_end at)
 unfolding remaining_tokens Halts
-directive_reads at room held a around built some is reserved =
+directive_reads at room held a around some is reserved =
     let t = token_of Plain held in
     let own = take t.len held in
     let name = take (t.len - 1) (drop 1 held) in
     let more = (front a.most a.left a.rest).text in
     let b = behind a.most a.left held a.rest around.ends in
-    let c = course a.unbuilt a.most a.left a.rest in
+    let c = course a.most a.left a.rest in
     let bs = held ++ more in
     let text : own ≡ 96 ∷ name = back_bytes held is some in
     let size = length-append held more in
-    let here : c.unbuilt bs ≡ false = ap (λ (u : List ℕ → Bool). u bs) built in
     let T : SourceToken = record { sort = Ordinary Back; bytes = own; line = a.line } in
     let P : Step → Type 0 = Halts in
     let halts : Halts (cond (bytes_eq own (codes "`define")) (define_step c a.line bs) (cond (bytes_eq own (codes "`line")) (line_step a.line bs) (Next T))) =
@@ -212,7 +210,7 @@ directive_reads at room held a around built some is reserved =
     ap (λ (z : List ℕ). source_role (record { sort = Ordinary Back; bytes = z; line = a.line })) text
     ∙ name_halts name a.line reserved (sym (ap (λ (z : List ℕ). bytes_eq z (codes "`define")) text) ∙ other) (sym (ap (λ (z : List ℕ). bytes_eq z (codes "`line")) text) ∙ also))) in
     halted_tokens c at room a.opened a.line bs (omega (arith, size))
-    (subst P (sym (back_held c a.opened a.line held more some b.ends here is)) halts)
+    (subst P (sym (back_held c a.opened a.line held more some b.ends is)) halts)
 
 -- a name that isn't reserved is neither word
 not_word : (name : List ℕ) → is_reserved name ≡ false → (bytes_eq (96 ∷ name) (codes "`define") ≡ false) × (bytes_eq (96 ∷ name) (codes "`line") ≡ false)
@@ -230,17 +228,17 @@ not_word name free =
     (a.0, i.0)
 
 -- a backquoted name that isn't reserved is text of a call
-pub name_first : (at : Stand) (room : ℕ) (held : List ℕ) (a : Around) → IsAround held a → 0 < length held → IsBuiltAt a.unbuilt Plain held → (token_of Plain held).kind ≡ Back
+pub name_first : (at : Stand) (room : ℕ) (held : List ℕ) (a : Around) → IsAround held a → 0 < length held → (token_of Plain held).kind ≡ Back
     → (token_of Plain held).next_mode ≡ Plain → is_reserved (take ((token_of Plain held).len - 1) (drop 1 held)) ≡ false
     → IsFirst at Plain room held (token_of Plain held) Text a
 unfolding remaining_tokens role_in is_open token_role kind_role
-name_first at room held a around some built is closed free =
+name_first at room held a around some is closed free =
     let t = token_of Plain held in
     let own = take t.len held in
     let name = take (t.len - 1) (drop 1 held) in
     let more = (front a.most a.left a.rest).text in
     let b = behind a.most a.left held a.rest around.ends in
-    let c = course a.unbuilt a.most a.left a.rest in
+    let c = course a.most a.left a.rest in
     let bs = held ++ more in
     let part = token_of-part Plain held some in
     let text : own ≡ 96 ∷ name = back_bytes held is some in
@@ -250,7 +248,7 @@ name_first at room held a around some built is closed free =
     let T : SourceToken = record { sort = Ordinary Back; bytes = own; line = a.line } in
     let line = bytes_eq own (codes "`line") in
     let step : source_step c Plain a.opened a.line bs ≡ Next T =
-    back_held c a.opened a.line held more some b.ends (built refl more b.ends) is
+    back_held c a.opened a.line held more some b.ends is
     ∙ ap (λ x. cond x (define_step c a.line bs) (cond line (line_step a.line bs) (Next T))) other ∙ ap (λ x. cond x (line_step a.line bs) (Next T)) also in
     let same : own_token t held a.line ≡ T = ap (λ k. record { sort = Ordinary k; bytes = own; line = a.line }) is in
     let role : source_role (own_token t held a.line) ≡ Text =

@@ -5,3 +5,4 @@ pub mod Turns
 pub mod GoingOn
 pub mod CallLoop
 pub mod CallLaws
+pub mod Faults

@@ -10,17 +10,15 @@ use Rattle.rdlpp_scan.specs.declared.token.Mode.TheVariants.{Plain, InStr, InBlo
 use Rattle.rdlpp_scan.specs.declared.token.Token.{Token}
 use Rattle.rdlpp_scan.specs.Ordinary.{is_plain_kind}
 use Rattle.rdlpp_scan.specs.SourceTokens.{SourceToken}
-use Rattle.rdlpp_scan.specs.Stage.{is_reserved, is_unbuilt}
+use Rattle.rdlpp_scan.specs.Reserved.{is_reserved}
 use Rattle.rdlpp_scan.specs.TokenKinds.{opens_mode, is_one_byte}
 use Rattle.rdlpp_scan.specs.Bytes.{begins_perl}
 use Rattle.rdlpp_scan.specs.Tokens.{token_of, whole, string_token}
 use Rattle.rdlpp_scan.proofs.StopKinds.{string_token-kind, block_token-kind}
 use Rattle.rdlpp_scan.proofs.ClosedKinds.{closed_kind_plain, one_byte_len}
 use Rattle.rdlpp_scan.proofs.FirstTokens.{plain_kind-no_directive}
-use Rattle.rdlpp_scan.proofs.Locality.{is_unbuilt-append}
-use Rattle.rdlpp_scan.proofs.RemainingSteps.{IsBuiltAt}
 use Rattle.rdlpp_scan.proofs.Seams.{Seam, Closed, BeforePerl, OpenString, OpenComment, token_of-seam}
-use Rattle.rdlpp_scan.proofs.StageLaws.{built_without_directive, directive-string, directive-line_comment, directive-block_comment, directive-perl, directive-bare, directive-back}
+use Rattle.rdlpp_scan.proofs.DirectiveStarts.{directive-string, directive-line_comment, directive-block_comment, directive-perl, directive-bare, directive-back}
 use Rattle.rdlpp_scan.proofs.TokenLens.{token_of-part}
 use Rattle.rdlpp_scan.proofs.TokenSteps.{is_kept_kind}
 use Rattle.rdlpp_meaning.specs.declared.fault.FaultKind.{FaultKind}
@@ -30,41 +28,13 @@ use Rattle.rdlpp_meaning.specs.CallScan.{Stand, Before, Inside, Turn, Keeps, Pas
 use Rattle.rdlpp_meaning.specs.Expansion.{bytes_of}
 use Rattle.rdlpp_meaning.proofs.CallReadings.{onto_kept-nil}
 use Rattle.rdlpp_calls.proofs.FirstTokens.{first_byte, front_byte}
-use Rattle.rdlpp_arguments.specs.Reads.{SparesCalls, all_built, is_open}
+use Rattle.rdlpp_arguments.specs.Reads.{is_open}
 use Rattle.rdlpp_arguments.specs.Taking.{Answers, Around, IsAround, IsClose, IsStep, IsTaking, IsUse, kept_len, kept_of, level_in, stand_meant, tokens_at, tokens_behind}
 use Rattle.rdlpp_arguments.specs.declared.taking.Taking.{Taking}
 use Rattle.rdlpp_arguments.specs.declared.taking.Taking.TheVariants.{Uses, Closes as ClosesCall, Refused, Perl as PerlFound}
 use Rattle.rdlpp_arguments.specs.declared.taking.Use.{Use}
 use Rattle.rdlpp_arguments.proofs.FirstReads.{IsFirst, own_token, token_first}
 use Rattle.rdlpp_arguments.proofs.Halts.{directive_reads, name_first, perl_reads}
-
--- a place that is built where what isn't is directives alone
-pub built_at : (u : List ℕ → Bool) (m : Mode) (held : List ℕ) → SparesCalls u → 0 < length held → (m ≡ Plain → is_unbuilt held ≡ false) → IsBuiltAt u m held
-built_at u m held spares some built plain more ends =
-    let same : is_unbuilt (held ++ more) ≡ false = is_unbuilt-append held more some ends ∙ built plain in
-    let at_true : u (held ++ more) ≡ true → u (held ++ more) ≡ false = λ h. absurd (false≢true (sym same ∙ spares (held ++ more) h)) in
-    ⊎_elim at_true (λ h. h) (cases_Bool (u (held ++ more)))
-
--- a token of a kind that stands in the list as it is, is built
-kind_built_by : (k : Kind) (bs : List ℕ) → (token_of Plain bs).kind ≡ k → is_kept_kind k ≡ true → is_unbuilt bs ≡ false
-unfolding is_kept_kind is_plain_kind
-kind_built_by Str bs e h = built_without_directive bs (directive-string bs e)
-kind_built_by LineComment bs e h = built_without_directive bs (directive-line_comment bs e)
-kind_built_by BlockComment bs e h = built_without_directive bs (directive-block_comment bs e)
-kind_built_by BareBackquote bs e h = built_without_directive bs (directive-bare bs e)
-kind_built_by Back bs e h = absurd (false≢true h)
-kind_built_by Perl bs e h = absurd (false≢true h)
-kind_built_by k bs e h = built_without_directive bs (plain_kind-no_directive bs (ap is_plain_kind e))
-
-kind_built : (m : Mode) (bs : List ℕ) → is_kept_kind (token_of m bs).kind ≡ true → m ≡ Plain → is_unbuilt bs ≡ false
-kind_built Plain bs h is = kind_built_by (token_of Plain bs).kind bs refl h
-kind_built InStr bs h is = absurd (cc)
-kind_built InBlock bs h is = absurd (cc)
-
-perl_built : (m : Mode) (bs : List ℕ) → (token_of m bs).kind ≡ Perl → m ≡ Plain → is_unbuilt bs ≡ false
-perl_built Plain bs h is = built_without_directive bs (directive-perl bs h)
-perl_built InStr bs h is = absurd (cc)
-perl_built InBlock bs h is = absurd (cc)
 
 -- a token that is kept or passed
 read_used : (b : Bool) (t : SourceToken) (us : List SourceToken) (rest : Reading) → read_by (cond b Keeps Passes) t us rest ≡ onto_kept (cond b t.bytes []) rest
@@ -154,9 +124,9 @@ closes_taken at m room held t r one plain first closes =
 -- a token at which the call is refused
 refused_taken : (at : Stand) (m : Mode) (room : ℕ) (held : List ℕ) (t : Token) (r : Role) (f : FaultKind)
     → ((a : Around) → IsAround held a → IsFirst at m room held t r a) → turn at r (nat_le t.len room) ≡ Refuses f
-    → (a : Around) → IsAround held a → a.unbuilt ≡ all_built → read at (is_open m) room (tokens_at a m held) ≡ ReadRefused f
+    → (a : Around) → IsAround held a → read at (is_open m) room (tokens_at a m held) ≡ ReadRefused f
 unfolding read_by
-refused_taken at m room held t r f first refuses a around built =
+refused_taken at m room held t r f first refuses a around =
     let us = tokens_behind a m held t.len t.next_mode in
     (first a around).reads
     ∙ ap (λ (w : Turn). read_by w (own_token t held a.line) us (read (stand_behind at r) (is_open t.next_mode) (room_behind at room r t.len) us)) refuses
@@ -212,7 +182,7 @@ role_taken at m room held t r x some is kept lead role answer =
     taken_by at m room held v (kind_role v.kind own) x part.not_empty part.inside
     (λ before b turns. no_string at m held (nat_le v.len room) b own seam before turns)
     ending
-    (λ a around. token_first at m room held a around some (built_at a.unbuilt m held around.spares some (kind_built m held keeps)) keeps lead seam)
+    (λ a around. token_first at m room held a around some keeps lead seam)
     (subst (λ (w : Token). Answers at (kind_role v.kind own) room w x) is (subst (λ (q : Role). Answers at q room t x) (sym text) answer))
 
 -- a backquoted name that isn't reserved
@@ -225,25 +195,24 @@ name_taken at room held t x some is back free answer =
     let kind : v.kind ≡ Back = ap (λ (w : Token). w.kind) (sym is) ∙ back in
     let name : is_reserved (take (v.len - 1) (drop 1 held)) ≡ false = ap (λ (w : Token). is_reserved (take (w.len - 1) (drop 1 held))) (sym is) ∙ free in
     let closed : v.next_mode ≡ Plain = closed_kind_plain Plain held (ap opens_mode kind) in
-    let built : is_unbuilt held ≡ false = built_without_directive held (directive-back held kind ∙ name) in
     taken_by at Plain room held v Text x part.not_empty part.inside
     (λ before b turns open_. (let no : Plain ≡ InStr = sym closed ∙ open_ in cc))
     (λ e. absurd (cc))
-    (λ a around. name_first at room held a around some (built_at a.unbuilt Plain held around.spares some (λ _. built)) kind closed name)
+    (λ a around. name_first at room held a around some kind closed name)
     (subst (λ (w : Token). Answers at Text room w x) is answer)
 
 -- a directive
 pub directive_taken : (at : Stand) (room : ℕ) (held : List ℕ) (t : Token) → 0 < length held → t ≡ token_of Plain held → t.kind ≡ Back
     → is_reserved (take (t.len - 1) (drop 1 held)) ≡ true → IsTaking at Plain room held (Refused (fault_at_end at))
 unfolding is_open
-directive_taken at room held t some is back reserved a around built =
-    directive_reads at room held a around built some (ap (λ (w : Token). w.kind) (sym is) ∙ back)
+directive_taken at room held t some is back reserved a around =
+    directive_reads at room held a around some (ap (λ (w : Token). w.kind) (sym is) ∙ back)
     (ap (λ (w : Token). is_reserved (take (w.len - 1) (drop 1 held))) (sym is) ∙ reserved)
 
 -- embedded Perl
 pub perl_taken : (at : Stand) (m : Mode) (room : ℕ) (held : List ℕ) → 0 < length held → (token_of m held).kind ≡ Perl → IsTaking at m room held PerlFound
 perl_taken at m room held some is a around =
-    perl_reads at m room held a around some (built_at a.unbuilt m held around.spares some (perl_built m held is)) is
+    perl_reads at m room held a around some is
 
 -- a backquoted name stands in plain text
 pub back_mode : (m : Mode) (held : List ℕ) → (token_of m held).kind ≡ Back → m ≡ Plain

@@ -1,9 +1,11 @@
 -- What reading a call did: the answer, the kept bytes, and the innermost source behind it.
 -- A definition that names no source is this project's own.
-use Rattle.std.specs.Prelude.{◌≡◌, ◌≢◌, ℕ, ◌+◌, ◌<◌, ◌≤◌, Bool, true, false, All, List, [], ◌++◌, length, take, drop}
+use Rattle.std.specs.Prelude.{◌≡◌, ◌≢◌, ℕ, ◌+◌, ◌^◌, ◌<◌, ◌≤◌, Bool, true, false, All, List, [], ◌++◌, length, take, drop}
 use Rattle.rdlpp_scan.specs.declared.token.Mode.{Mode}
 use Rattle.rdlpp_scan.specs.declared.token.Mode.TheVariants.{InStr}
 use Rattle.rdlpp_scan.specs.SourceTokens.{SourceToken, line_ends}
+use Rattle.rdlpp_meaning.specs.declared.fault.FaultKind.{FaultKind}
+use Rattle.rdlpp_meaning.specs.declared.fault.FaultKind.TheVariants.{ArgumentsMissing, ArgumentsOpen, ArgumentBytes, EmbeddedPerl, OpenString, OpenComment, LineTooLong, SourceTooLong}
 use Rattle.rdlpp_meaning.specs.Actuals.{Broke, Lacking, call_of, map_call, token_role}
 use Rattle.rdlpp_meaning.specs.CallReading.{ReadRefused, ReadStopped, read}
 use Rattle.rdlpp_meaning.specs.CallScan as scan
@@ -13,11 +15,11 @@ use Rattle.rdlpp_meaning.specs.Resumed.{leading}
 use Rattle.rdlpp_meaning.specs.Substitution.{body_tokens}
 use Rattle.rdlpp_meaning.specs.TextTokens.{unlined}
 use Rattle.rdlpp_meaning.specs.Parts.{only_blanks}
-use Rattle.rdlpp_read.specs.Buffer.{BufferView, entered_mode, held_of, tokens_left, unused_of}
+use Rattle.rdlpp_read.specs.Buffer.{BufferView, MovesOver, entered_mode, held_of, text_left, tokens_left, unused_of}
 use Rattle.rdlpp_read.specs.Files.{inner_buffer, torn_after, with_inner}
 use Rattle.rdlpp_read.specs.Filling.{ended_tokens}
 use Rattle.rdlpp_read.specs.declared.files.File.{File}
-use Rattle.rdlpp_arguments.specs.Reads.{Closes, GoesOn, SparesCalls, all_built, is_open, reading}
+use Rattle.rdlpp_arguments.specs.Reads.{Closes, GoesOn, is_open, reading}
 use Rattle.rdlpp_arguments.specs.Taking.{level_in, stand_meant}
 use Rattle.rdlpp_arguments.specs.declared.reading.CallRead.{CallRead}
 use Rattle.rdlpp_arguments.specs.declared.reading.CallRead.TheVariants.{Closed, Refused, Broken, Failed}
@@ -42,9 +44,9 @@ pub record Pauses {R : Type 0} (tells : Type 0) (unread : R → List ℕ) (at : 
 -- what the answer says of the call, from where its reading stands (source: this project's profile)
 abbrev pub TellsCall : {R : Type 0} → Type 0 → (R → List ℕ) → Stand → ℕ → List ℕ → List ℕ → BufferView R → BufferView R → CallRead → Type 0
 TellsCall tells unread at room kept used old new Closed = Closes tells unread at room kept used old new
-TellsCall tells unread at room kept used old new (Refused f) = tells → reading all_built unread at room old ≡ ReadRefused f
+TellsCall tells unread at room kept used old new (Refused f) = tells → reading unread at room old ≡ ReadRefused f
 TellsCall tells unread at room kept used old new (Broken f line) =
-    (unbuilt : List ℕ → Bool) → SparesCalls unbuilt → tells → reading unbuilt unread at room old ≡ ReadStopped f line
+    tells → reading unread at room old ≡ ReadStopped f line
 TellsCall tells unread at room kept used old new Failed = Pauses tells unread at room kept used old new
 
 -- whether a read failed
@@ -54,11 +56,18 @@ is_failed_call (Refused f) = false
 is_failed_call (Broken f line) = false
 is_failed_call Failed = true
 
--- a call was read: bytes of the innermost source were used, and nothing else of the sources changed
+-- no byte was read beyond the window, as it is where a line is too long
+abbrev pub IsExactCall : CallRead → Type 0
+IsExactCall result = (line : ℕ) → result ≡ Broken LineTooLong line → ⊥
+
+-- a call was read: bytes of the innermost source were used, and nothing else of the sources changed; its window moved on over its
+-- text, which is what was used and what remains
 pub record ReadsCall {R : Type 0} (tells : Type 0) (unread : R → List ℕ) (at : Stand) (room : ℕ) (kept : List ℕ) (result : CallRead) (old new : List (File R)) : Type 0 where
   pub used : List ℕ
   pub inner : new ≡ with_used (inner_buffer new) used old
   pub unused : unused_of (inner_buffer new) + length used ≡ unused_of (inner_buffer old)
+  pub moves : MovesOver used (inner_buffer old) (inner_buffer new)
+  pub text : IsExactCall result → tells → text_left unread (inner_buffer old) ≡ used ++ text_left unread (inner_buffer new)
   pub answer : TellsCall tells unread at room kept used (inner_buffer old) (inner_buffer new) result
 
 -- a token was taken, or the part of it that was held, and the call goes on
@@ -70,6 +79,8 @@ pub record IsTaken {R : Type 0} (at to : Stand) (room : ℕ) (old_bytes new_byte
   pub inner : new ≡ with_used (inner_buffer new) used old
   pub level : level_in to ≤ level_in at + length kept
   pub lead : to ≡ Before → (inner_buffer new).mode ≢ InStr
+  pub moves : MovesOver used (inner_buffer old) (inner_buffer new)
+  pub text : (unread : R → List ℕ) → text_left unread (inner_buffer old) ≡ used ++ text_left unread (inner_buffer new)
   pub goes_on : (unread : R → List ℕ) → GoesOn Unit unread at to room kept used (inner_buffer old) (inner_buffer new)
 
 -- the reading ended at a token
@@ -101,8 +112,45 @@ pub record IsCallOf (room : ℕ) (ts : List SourceToken) (bytes : List ℕ) (beh
 -- the call that the definition has there (source: this project's profile)
 abbrev pub MeansCall : {R : Type 0} → Type 0 → (R → List ℕ) → ℕ → List ℕ → BufferView R → BufferView R → CallRead → Type 0
 MeansCall tells unread room bytes old new Closed =
-    (unbuilt : List ℕ → Bool) → SparesCalls unbuilt → tells → IsCallOf room (tokens_left unbuilt unread old) bytes (tokens_left unbuilt unread new)
-MeansCall tells unread room bytes old new (Refused f) = tells → call_of token_role kept_token room (leading (tokens_left all_built unread old)) ≡ Lacking f
+    tells → IsCallOf room (tokens_left unread old) bytes (tokens_left unread new)
+MeansCall tells unread room bytes old new (Refused f) = tells → call_of token_role kept_token room (leading (tokens_left unread old)) ≡ Lacking f
 MeansCall tells unread room bytes old new (Broken f line) =
-    (unbuilt : List ℕ → Bool) → SparesCalls unbuilt → tells → call_of token_role kept_token room (leading (tokens_left unbuilt unread old)) ≡ Broke f line
+    tells → call_of token_role kept_token room (leading (tokens_left unread old)) ≡ Broke f line
 MeansCall tells unread room bytes old new Failed = Unit
+
+-- whether reading a call ends with a fault: what the call lacks, too many kept bytes, or a broken token (source: this project's
+-- profile)
+unfoldable pub is_read_fault : FaultKind → Bool
+is_read_fault ArgumentsMissing = true
+is_read_fault ArgumentsOpen = true
+is_read_fault ArgumentBytes = true
+is_read_fault EmbeddedPerl = true
+is_read_fault OpenString = true
+is_read_fault OpenComment = true
+is_read_fault LineTooLong = true
+is_read_fault SourceTooLong = true
+is_read_fault kind = false
+
+-- a call that is refused or broken is so for one of those
+abbrev pub IsReadFault : CallRead → Type 0
+IsReadFault Closed = Unit
+IsReadFault (Refused kind) = is_read_fault kind ≡ true
+IsReadFault (Broken kind line) = is_read_fault kind ≡ true
+IsReadFault Failed = Unit
+
+-- so is one that ends at a token
+abbrev pub IsNextFault : Next → Type 0
+IsNextFault (Goes to) = Unit
+IsNextFault (Ends result) = IsReadFault result
+
+-- the physical line at which a call is broken is small enough to be shown with another number
+abbrev pub IsReadLine : CallRead → Type 0
+IsReadLine Closed = Unit
+IsReadLine (Refused kind) = Unit
+IsReadLine (Broken kind line) = line < 2 ^ 63
+IsReadLine Failed = Unit
+
+-- so is that of one that ends at a token
+abbrev pub IsNextLine : Next → Type 0
+IsNextLine (Goes to) = Unit
+IsNextLine (Ends result) = IsReadLine result

@@ -13,7 +13,7 @@ use Rattle.rdlpp_meaning.specs.CallReading.{ReadRefused, ReadStopped, ReadClosed
 use Rattle.rdlpp_meaning.specs.CallScan as scan
 use Rattle.rdlpp_meaning.specs.CallScan.{Keeps, Passes, turn, stand_behind, room_behind}
 use Rattle.rdlpp_meaning.specs.Expansion.{bytes_of}
-use Rattle.rdlpp_arguments.specs.Reads.{SparesCalls, all_built, is_open}
+use Rattle.rdlpp_arguments.specs.Reads.{is_open}
 use Rattle.rdlpp_arguments.specs.declared.taking.Stand.{Stand}
 use Rattle.rdlpp_arguments.specs.declared.taking.Stand.TheVariants.{Before, Inside}
 use Rattle.rdlpp_arguments.specs.declared.taking.Use.{Use}
@@ -30,29 +30,27 @@ unfoldable pub level_in : scan.Stand → ℕ
 level_in scan.Before = 0
 level_in (scan.Inside level) = level
 
--- what held bytes stand in: what isn't built, the most bytes of a line, the line on which an open string or comment began, the
+-- what held bytes stand in: the most bytes of a line, the line on which an open string or comment began, the
 -- line of the first held byte, how many bytes the source may still have behind them, and the text behind them
 pub record Around : Type 0 where
-  pub unbuilt : List ℕ → Bool
   pub most : ℕ
   pub opened : ℕ
   pub line : ℕ
   pub left : ℕ
   pub rest : List ℕ
 
--- held bytes end at a line end or with the text, and what isn't built is directives alone
+-- held bytes end at a line end or with the text
 pub record IsAround (held : List ℕ) (a : Around) : Type 0 where
   pub ends : EndsLine held a.rest
-  pub spares : SparesCalls a.unbuilt
 
 -- the tokens from held bytes on
 abbrev pub tokens_at : Around → Mode → List ℕ → List SourceToken
-tokens_at a mode held = remaining_tokens a.unbuilt a.most mode a.opened a.line held a.left a.rest
+tokens_at a mode held = remaining_tokens a.most mode a.opened a.line held a.left a.rest
 
 -- the tokens behind the first `len` of held bytes, where a text stands in a mode
 abbrev pub tokens_behind : Around → Mode → List ℕ → ℕ → Mode → List SourceToken
 tokens_behind a mode held len next =
-    remaining_tokens a.unbuilt a.most next (opening mode a.opened a.line) (a.line + line_ends (take len held)) (drop len held) a.left a.rest
+    remaining_tokens a.most next (opening mode a.opened a.line) (a.line + line_ends (take len held)) (drop len held) a.left a.rest
 
 -- how many of so many bytes are kept
 abbrev pub kept_len : Bool → ℕ → ℕ
@@ -104,7 +102,7 @@ pub record IsClose (at : scan.Stand) (mode : Mode) (room : ℕ) (held : List ℕ
 abbrev pub IsTaking : scan.Stand → Mode → ℕ → List ℕ → Taking → Type 0
 IsTaking at mode room held (Uses u) = IsUse at mode room held u
 IsTaking at mode room held Closes = IsClose at mode room held
-IsTaking at mode room held (Refused f) = (a : Around) → IsAround held a → a.unbuilt ≡ all_built
+IsTaking at mode room held (Refused f) = (a : Around) → IsAround held a
     → read at (is_open mode) room (tokens_at a mode held) ≡ ReadRefused f
 IsTaking at mode room held Perl = (a : Around) → IsAround held a
     → read at (is_open mode) room (tokens_at a mode held) ≡ ReadStopped EmbeddedPerl a.line

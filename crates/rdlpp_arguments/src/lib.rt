@@ -5,8 +5,6 @@
 mod reading;
 mod store;
 mod taking;
-#[cfg(test)]
-mod tests;
 
 pub use reading::{CallRead, read_call};
 pub use store::ArgumentStore;

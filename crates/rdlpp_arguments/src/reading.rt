@@ -1,5 +1,5 @@
 // The reading of a call, token by token, over any number of refills.
-ghost use Rattle.std.specs.Prelude.{◌≡◌, ◌≢◌, ℕ, ◌+◌, ◌-◌, ◌≤◌, ◌<◌, [], length, take};
+ghost use Rattle.std.specs.Prelude.{◌≡◌, ◌≢◌, ℕ, ◌+◌, ◌-◌, ◌^◌, ◌≤◌, ◌<◌, [], length, take};
 ghost use Rattle.rdlpp_scan.specs.declared.token.Mode.TheVariants.{InStr, Plain};
 ghost use Rattle.rdlpp_meaning.specs.CallScan.{Before};
 ghost use Rattle.rdlpp_read.specs.Buffer.{held_of};
@@ -7,6 +7,10 @@ ghost use Rattle.rdlpp_read.specs.Calls.{SourcesRead};
 ghost use Rattle.rdlpp_read.specs.Files.{inner_buffer};
 ghost use Rattle.rdlpp_arguments.specs.CallReads.{
   IsEndOfText,
+  IsNextFault,
+  IsNextLine,
+  IsReadFault,
+  IsReadLine,
   MeansCall,
   ReadsCall,
   TakesToken,
@@ -78,6 +82,8 @@ fn take_token<R: Drop>(files: &mut Files<R>, store: &mut ArgumentStore, stand: S
     ensures only { files.new ≡ record files.old { nest = files.new.nest } }
     ensures room { store.new.most ≡ store.old.most }
     ensures takes { TakesToken (stand_meant stand) (store.old.most - length store.old.bytes) store.old.bytes store.new.bytes files.old.nest files.new.nest result }
+    ensures fault { IsNextFault result }
+    ensures line { IsNextLine result }
 {
     let buffer = &files.file().buffer;
     let (held, line) = (buffer.held(), buffer.line());
@@ -96,12 +102,26 @@ fn take_token<R: Drop>(files: &mut Files<R>, store: &mut ArgumentStore, stand: S
     }
 }
 
+// The physical line of the next byte of the innermost source.
+fn inner_line<R: Drop>(files: &Files<R>) -> u64
+    requires { 0 < length files.now.nest }
+    ensures line { result ≡ (inner_buffer files.now.nest).line }
+    ensures few { result < 2 ^ 63 }
+{
+    let buffer = &files.file().buffer;
+    buffer.facts();
+    buffer.line()
+}
+
 // What a call comes to where the text of the innermost source has ended.
 fn end_of_text<R: Drop>(files: &Files<R>, stand: Stand) -> CallRead
     requires { 0 < length files.now.nest }
-    ensures { (room : ℕ) → IsEndOfText (stand_meant stand) room (inner_buffer files.now.nest) result }
+    ensures text { (room : ℕ) → IsEndOfText (stand_meant stand) room (inner_buffer files.now.nest) result }
+    ensures fault { IsReadFault result }
+    ensures line { IsReadLine result }
 {
     let buffer = &files.file().buffer;
+    buffer.facts();
     match buffer.mode() {
         Mode::Plain => CallRead::Refused(stand.fault_at_end()),
         Mode::InStr => CallRead::Broken(FaultKind::OpenString, buffer.open_token_line()),
@@ -121,6 +141,8 @@ fn read_tokens<S: Sources>(
     ensures room { store.new.most ≡ store.old.most }
     ensures call { SourcesRead S.Sources (is_failed_call result) sources.old sources.new }
     ensures reads { ReadsCall (S.tells sources.old) S.unread Before store.old.most store.new.bytes result files.old.nest files.new.nest }
+    ensures fault { IsReadFault result }
+    ensures line { IsReadLine result }
 {
     store.clear();
     let mut stand = Stand::Before;
@@ -132,10 +154,10 @@ fn read_tokens<S: Sources>(
             },
             Fill::End => return end_of_text(files, stand),
             Fill::SourceLong => {
-                return CallRead::Broken(FaultKind::SourceTooLong, files.file().buffer.line());
+                return CallRead::Broken(FaultKind::SourceTooLong, inner_line(files));
             }
             Fill::LineLong => {
-                return CallRead::Broken(FaultKind::LineTooLong, files.file().buffer.line());
+                return CallRead::Broken(FaultKind::LineTooLong, inner_line(files));
             }
             Fill::Failed => return CallRead::Failed,
         }
@@ -167,6 +189,8 @@ pub fn read_call<S: Sources>(
     ensures room { store.new.most ≡ store.old.most }
     ensures call { SourcesRead S.Sources (is_failed_call result) sources.old sources.new }
     ensures reads { ReadsCall (S.tells sources.old) S.unread Before store.old.most store.new.bytes result files.old.nest files.new.nest }
+    ensures fault { IsReadFault result }
+    ensures line { IsReadLine result }
     ensures means { MeansCall (S.tells sources.old) S.unread store.old.most store.new.bytes (inner_buffer files.old.nest) (inner_buffer files.new.nest) result }
 {
     read_tokens(files, sources, store)

@@ -1,11 +1,12 @@
 -- The actuals of a call as ranges of the text in which the call stands.
 -- A definition that names no source is this project's own.
-use Rattle.std.specs.Prelude.{◌≡◌, ℕ, ◌≤◌, true, List, map, length, drop, slice_range, All, Some, Result, Ok, Err}
+use Rattle.std.specs.Prelude.{◌≡◌, ℕ, ◌≤◌, Bool, true, false, List, map, length, drop, slice_range, All, Some, Result, Ok, Err}
 use Rattle.std.specs.List.{AllByRecursion}
 use Rattle.rdlpp_scan.specs.declared.token.Mode.TheVariants.{Plain}
 use Rattle.rdlpp_scan.specs.SourceTokens.{SourceToken}
 use Rattle.rdlpp_table.specs.Table.{Formal, Macro}
 use Rattle.rdlpp_meaning.specs.declared.fault.FaultKind.{FaultKind}
+use Rattle.rdlpp_meaning.specs.declared.fault.FaultKind.TheVariants.{ArgumentsMissing, ArgumentsOpen, ArgumentCount}
 use Rattle.rdlpp_meaning.specs.State.{Rules}
 use Rattle.rdlpp_meaning.specs.Actuals.{trimmed, token_role}
 use Rattle.rdlpp_meaning.specs.CallScan.{split, all_parts, is_kept}
@@ -65,3 +66,10 @@ IsBoundCall text at end formals ranges (Ok behind) = IsBoundAt text at end forma
 IsBoundCall text at end formals ranges (Err kind) =
     (rules : Rules) (line : ℕ) (name : List ℕ) (m : Macro) (fs : List Formal) → length fs ≡ formals
     → usage_in rules line name m fs text at end ≡ Refuses kind name line
+
+-- whether a call is refused for a fault: for its arguments, or how many they are (source: this project's profile)
+unfoldable pub is_call_fault : FaultKind → Bool
+is_call_fault ArgumentsMissing = true
+is_call_fault ArgumentsOpen = true
+is_call_fault ArgumentCount = true
+is_call_fault kind = false

@@ -4,7 +4,7 @@ ghost use Rattle.rdlpp_meaning.specs.Cursors.{is_token_count};
 ghost use Rattle.rdlpp_meaning.specs.Substitution.{body_tokens};
 ghost use Rattle.rdlpp_meaning.specs.declared.fault.FaultKind.TheVariants.{ArgumentCount};
 ghost use Rattle.rdlpp_table.specs.Table.{Formal};
-ghost use Rattle.rdlpp_calls.specs.BoundCalls.{actuals_of, first_actual, added, ranges_tokens, AreWithin, IsBoundCall, KeepsAll};
+ghost use Rattle.rdlpp_calls.specs.BoundCalls.{actuals_of, first_actual, added, is_call_fault, ranges_tokens, AreWithin, IsBoundCall, KeepsAll};
 
 use crate::parts::{Part, arguments_of, next_part};
 use rdlpp_meaning::FaultKind;
@@ -127,6 +127,7 @@ pub fn bind_call(
     ensures len { vec_len bindings.new ≤ vec_len bindings.old + max formals 1 }
     ensures capacity { vec_capacity bindings.new ≡ vec_capacity bindings.old }
     ensures refused { IfErr result (λ _. bindings.new.items ≡ bindings.old.items) }
+    ensures kind { IfErr result (λ kind. is_call_fault kind ≡ true) }
     ensures place { IfOk result (λ behind. (at ≤ behind) × (behind ≤ end)) }
     ensures call { KeepsAll (body_tokens (slice_range text.now at end)) → IsBoundCall text.now at end formals (added bindings.old.items bindings.new.items) result }
 {

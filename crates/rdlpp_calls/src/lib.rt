@@ -11,6 +11,3 @@ pub use bindings::{Range, bind_call, bind_parts};
 pub use kept::keeps_each;
 pub use parts::{Arguments, CallFault, Part, arguments_of, call_end, call_start, next_part};
 pub use tokens::{CallRole, ends_call, level_behind, role_of};
-
-#[cfg(test)]
-mod tests;

@@ -13,7 +13,7 @@ use Rattle.rdlpp_conditions.specs.declared.conditions.Progress.{Progress as Stor
 use Rattle.rdlpp_conditions.specs.declared.conditions.Branch.{Branch}
 use Rattle.rdlpp_conditions.specs.declared.conditions.Branch.TheVariants.{Inner, Refused, Decided, Named}
 use Rattle.rdlpp_conditions.specs.Conditions.{ConditionsView, conditions_left, own_conditions, place_by, place_of, progress_of, seen_of}
-use Rattle.rdlpp_conditions.specs.Moves.{Closes, IsBranch, IsTurn, IsUnclosed, branch_test, closed_one, turned_open, with_inner}
+use Rattle.rdlpp_conditions.specs.Moves.{Closes, IsBranch, IsTurn, IsUnclosed, closed_one, turned_open, with_inner}
 
 -- as many are seen as are stored
 pub seen-length : (stored : List StoredProgress) → length (seen_of stored) ≡ length stored
@@ -157,23 +157,23 @@ unclosed_some (Some n) o os line is = ap Some is
 
 -- a branch behind an `else`
 pub turn_refused : (o : Progress) (word : Directive) → o.closing ≡ true → IsTurn o word (Refused BranchAfterElse)
-unfolding turn branch_test
-turn_refused o word closing = λ c s is. rw closing refl
+unfolding turn
+turn_refused o word closing = (refl, λ c s is. rw closing refl)
 
 -- an `else`
 pub turn_else : (o : Progress) (word : Directive) (holds : Bool) → o.closing ≡ false → is_else word ≡ true → holds ≡ not o.taken → IsTurn o word (Decided holds)
-unfolding turn branch_test
+unfolding turn
 turn_else o word holds closing last is = λ c s w. rw (closing, w, last, is) refl
 
 -- a branch behind one that was taken
 pub turn_taken : (o : Progress) (word : Directive) → o.closing ≡ false → is_else word ≡ false → o.taken ≡ true → IsTurn o word (Decided false)
-unfolding turn branch_test
+unfolding turn
 turn_taken o word closing other taken = λ c s w. rw (closing, w, other, taken) refl
 
 -- a branch whose name decides
 pub turn_named : (o : Progress) (word : Directive) → o.closing ≡ false → is_else word ≡ false → o.taken ≡ false → IsTurn o word Named
-unfolding turn branch_test
-turn_named o word closing other taken = λ c s w. rw (closing, w, other, taken) refl
+unfolding turn
+turn_named o word closing other taken = (other, λ c s w. rw (closing, w, other, taken) refl)
 
 -- where no more may be opened
 pub opens_none : (v : ConditionsView) (holds : Bool) → length v.open_now ≡ v.limit → opening_within (conditions_left v) (Holds holds) ≡ Stopped TooManyConditionals []

@@ -3,7 +3,7 @@
 use Rattle.std.specs.Prelude.{◌≡◌, ℕ, suc, zero, Bool, true, false, ◌||◌, List, [], ◌∷◌, drop, Option, None, Some, Result, Ok, Err}
 use Rattle.rdlpp_scan.specs.declared.token.Directive.{Directive}
 use Rattle.rdlpp_meaning.specs.declared.fault.FaultKind.{FaultKind}
-use Rattle.rdlpp_meaning.specs.declared.fault.FaultKind.TheVariants.{StrayBranch}
+use Rattle.rdlpp_meaning.specs.declared.fault.FaultKind.TheVariants.{BranchAfterElse, StrayBranch}
 use Rattle.rdlpp_meaning.specs.State.{State}
 use Rattle.rdlpp_meaning.specs.Parts.{Command}
 use Rattle.rdlpp_meaning.specs.Meaning.{Progress, Test, Stopped, Holds, is_else, macro_name, name_test, opening_within, turn}
@@ -39,16 +39,17 @@ pub record Opens {A : Type 0} (result : Result A FaultKind) (line : ℕ) (holds 
   pub test : opening_within (conditions_left old) (Holds holds) ≡ opening_answer result holds
   pub becomes : new ≡ after_opening result line holds old
 
--- the test of a branch, by what is told of it (IEEE 1364-2001, `elsif`, `else`)
-unfoldable pub branch_test : Branch → Command → State → Test
-branch_test Inner c s = Holds false
-branch_test (Refused kind) c s = Stopped kind []
-branch_test (Decided holds) c s = Holds holds
-branch_test Named c s = name_test true (macro_name c) s
+-- each branch of a word at an open conditional has a test (IEEE 1364-2001, `elsif`, `else`)
+abbrev pub HasTest : Progress → Directive → (Command → State → Test) → Type 0
+HasTest o word test = (c : Command) (s : State) → c.word ≡ word → turn o c s ≡ test c s
 
--- what is told of a branch of an open conditional is its test (IEEE 1364-2001, `elsif`, `else`)
+-- what is told of a branch of an open conditional is its test: it is refused behind an `else`, or it is decided, or its name decides, if
+-- it isn't an `else` (IEEE 1364-2001, `elsif`, `else`)
 abbrev pub IsTurn : Progress → Directive → Branch → Type 0
-IsTurn o word branch = (c : Command) (s : State) → c.word ≡ word → turn o c s ≡ branch_test branch c s
+IsTurn o word Inner = ⊥
+IsTurn o word (Refused kind) = (kind ≡ BranchAfterElse) × HasTest o word (λ c s. Stopped kind [])
+IsTurn o word (Decided holds) = HasTest o word (λ c s. Holds holds)
+IsTurn o word Named = (is_else word ≡ false) × HasTest o word (λ c s. name_test true (macro_name c) s)
 
 -- what is told of a branch, by the place where it stands (this project's profile)
 abbrev pub IsBranch : Place → Directive → Branch → Type 0

@@ -6,6 +6,3 @@ mod skipped_text;
 
 pub use conditions::{Branch, Conditions};
 pub use skipped_text::{SkippedText, skip_text};
-
-#[cfg(test)]
-mod tests;

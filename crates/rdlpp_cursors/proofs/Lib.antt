@@ -14,3 +14,4 @@ pub mod Usages
 pub mod Falling
 pub mod Standing
 pub mod ShortTexts
+pub mod Words

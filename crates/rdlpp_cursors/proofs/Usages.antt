@@ -11,7 +11,7 @@ use Rattle.rdlpp_scan.specs.declared.token.Kind.{Kind}
 use Rattle.rdlpp_scan.specs.declared.token.Kind.TheVariants.{Back}
 use Rattle.rdlpp_scan.specs.declared.token.Mode.TheVariants.{Plain}
 use Rattle.rdlpp_scan.specs.SourceTokens.{SourceToken}
-use Rattle.rdlpp_scan.specs.Stage.{is_reserved}
+use Rattle.rdlpp_scan.specs.Reserved.{is_reserved}
 use Rattle.rdlpp_scan.specs.TokenKinds.{opens_mode}
 use Rattle.rdlpp_scan.specs.Tokens.{token_of}
 use Rattle.rdlpp_scan.proofs.TokenLens.{IsPart, token_of-part}
@@ -19,13 +19,13 @@ use Rattle.rdlpp_table.specs.Table.{Formal, Macro, macro_named}
 use Rattle.rdlpp_table.specs.View.{TableView, IsSound, IsSoundMacro, no_macro, macro_at, place_named}
 use Rattle.rdlpp_table.proofs.Places.{place_of_name}
 use Rattle.rdlpp_meaning.specs.declared.fault.FaultKind.{FaultKind}
-use Rattle.rdlpp_meaning.specs.declared.fault.FaultKind.TheVariants.{UndefinedMacro, RecursiveMacro, DirectiveInText, DepthPassed}
+use Rattle.rdlpp_meaning.specs.declared.fault.FaultKind.TheVariants.{BareBackquote, UndefinedMacro, RecursiveMacro, DirectiveInText, ArgumentsMissing, ArgumentsOpen, ArgumentCount, DepthPassed}
 use Rattle.rdlpp_meaning.specs.State.{Rules, State, fault_at}
 use Rattle.rdlpp_meaning.specs.Cursors.{not_kept, Refuses, Opens, token_usage_of_formals, token_usage_of_macro, token_usage_of}
 use Rattle.rdlpp_meaning.specs.Slots.{SlotStops}
 use Rattle.rdlpp_meaning.specs.Opens.{OpenKind, OpenBody, OpenActual, OpenDefault, Open, Texts, slot_of, text_around, open_scope, open_bytes, open_behind, open_body, own_text, own_writers, writers_at, AreOpen}
 use Rattle.rdlpp_meaning.proofs.OpenMoves.{first_bytes, first_behind, first_usage, open-refused, open-usage, open-usage_deep, open-writers}
-use Rattle.rdlpp_calls.specs.BoundCalls.{KeepsAll}
+use Rattle.rdlpp_calls.specs.BoundCalls.{is_call_fault, KeepsAll}
 use Rattle.rdlpp_calls.specs.declared.bindings.Range.{Range}
 use Rattle.rdlpp_cursors.specs.declared.front.Front.{Front}
 use Rattle.rdlpp_cursors.specs.declared.front.Front.TheVariants as front
@@ -43,8 +43,8 @@ use Rattle.rdlpp_cursors.specs.Fronts.{IsFront, IsLook}
 use Rattle.rdlpp_cursors.specs.Opened.{bindings_below, opens_of, moved_to, AreHomedSlots, CursorsView}
 use Rattle.rdlpp_cursors.specs.Places.{texts_of, place_bytes, source_text, source_formals, IsSource, IsPlaced}
 use Rattle.rdlpp_cursors.specs.Scopes.{front_scope, front_source, own_ids, writer_ids, AreFurtherOut}
-use Rattle.rdlpp_cursors.specs.Steps.{IsKnown, AreInside, AreSound, IsStep, StepsTo, StaysRefused, IsPlacedStep, wordless}
-use Rattle.rdlpp_cursors.specs.Usages.{front_name, unknown_kind, IsRefused, IsUsed}
+use Rattle.rdlpp_cursors.specs.Steps.{IsKnown, AreInside, AreSound, IsStep, StepsTo, StaysRefused, KeepsOpen, IsPlacedStep, wordless}
+use Rattle.rdlpp_cursors.specs.Usages.{front_name, is_text_fault, unknown_kind, IsRefused, IsTextFault, IsUsed}
 use Rattle.rdlpp_cursors.proofs.Falling.{look-opens, usage-inside as falls-inside}
 use Rattle.rdlpp_cursors.proofs.Keeping.{body-keeps, first-sound}
 use Rattle.rdlpp_cursors.proofs.Looking.{source-known, source-inside}
@@ -577,3 +577,45 @@ placed-run texts (x ∷ below) look n end h l e k =
       order = omega (arith, k);
       inside = omega (arith, k, inside, own);
     }
+
+-- a text stays open behind a run that is lent
+pub open-run : (old new : CursorsView) (at : ℕ) → 0 < length old.opens → new ≡ record { opens = moved_to at old.opens; line = old.line; depth = old.depth } → 0 < length new.opens
+open-run old new at some e = subst (λ (v : CursorsView). 0 < length v.opens) (sym e) (let n = moved-length old.opens at in omega (arith, n, some))
+
+-- a fault without a word lends nothing
+pub open-wordless : (kind : FaultKind) (step : CursorStep) (new : List Open) → step ≡ wordless kind → KeepsOpen step new
+open-wordless kind step new is = subst (λ (s : CursorStep). KeepsOpen s new) (sym is) tt
+
+-- an unknown name is a fault of a text
+pub fault-unknown : (reserved : Bool) (kind : FaultKind) → kind ≡ unknown_kind reserved → is_text_fault kind ≡ true
+unfolding is_text_fault
+fault-unknown true kind e = ap (λ (k : FaultKind). is_text_fault k) e
+fault-unknown false kind e = ap (λ (k : FaultKind). is_text_fault k) e
+
+-- so is a recursive one
+pub fault-recursive : is_text_fault RecursiveMacro ≡ true
+unfolding is_text_fault
+fault-recursive = refl
+
+-- so is a fault of a call
+pub fault-call : (kind : FaultKind) → is_call_fault kind ≡ true → is_text_fault kind ≡ true
+unfolding is_text_fault is_call_fault
+fault-call ArgumentsMissing e = refl
+fault-call ArgumentsOpen e = refl
+fault-call ArgumentCount e = refl
+fault-call BareBackquote e = refl
+fault-call UndefinedMacro e = refl
+fault-call RecursiveMacro e = refl
+fault-call DirectiveInText e = refl
+fault-call DepthPassed e = refl
+fault-call kind e = absurd (true≢false (sym e))
+
+-- so is one without a word
+pub fault-deep : (step : CursorStep) → step ≡ wordless DepthPassed → IsTextFault step
+unfolding is_text_fault
+fault-deep step e = subst (λ (s : CursorStep). IsTextFault s) (sym e) refl
+
+-- and so is a lone backquote
+pub fault-bare : (step : CursorStep) → step ≡ wordless BareBackquote → IsTextFault step
+unfolding is_text_fault
+fault-bare step e = subst (λ (s : CursorStep). IsTextFault s) (sym e) refl

@@ -9,7 +9,7 @@ use Rattle.rdlpp_meaning.specs.Cursors.{is_token_count}
 use Rattle.rdlpp_meaning.specs.Opens.{Texts, open_body}
 use Rattle.rdlpp_meaning.specs.Substitution.{body_tokens}
 use Rattle.rdlpp_calls.specs.declared.bindings.Range.{Range}
-use Rattle.rdlpp_calls.specs.BoundCalls.{range_part, ranges_tokens, actuals_of, AreWithin, IsBoundCall, KeepsAll}
+use Rattle.rdlpp_calls.specs.BoundCalls.{range_part, ranges_tokens, actuals_of, is_call_fault, AreWithin, IsBoundCall, KeepsAll}
 use Rattle.rdlpp_cursors.specs.Opened.{moved_to, CursorsView}
 use Rattle.rdlpp_cursors.specs.Places.{texts_of}
 use Rattle.rdlpp_cursors.specs.Steps.{AreSound}
@@ -56,3 +56,9 @@ pub record IsCallMiscounted (texts : Texts) (id : ℕ) (kind : FaultKind) (old n
   pub kind_is : kind ≡ ArgumentCount
   pub same : new ≡ old
   pub counted : KeepsAll (body_tokens texts.arguments) → is_token_count (formals_of (macro_at texts.macros id)) (actuals_of texts.arguments) ≡ false
+
+-- a call in an open text is refused for a fault of a call
+abbrev pub IsCallFault : Opening → Type 0
+IsCallFault Opened = Unit
+IsCallFault (Refused kind) = is_call_fault kind ≡ true
+IsCallFault Deep = Unit

@@ -1,7 +1,8 @@
 -- One step of open texts: what it lends, and what remains behind it.
 -- A definition that names no source is this project's own.
-use Rattle.std.specs.Prelude.{◌≡◌, ℕ, ◌<◌, ◌≤◌, false, List, [], ◌∷◌, length}
-use Rattle.std.specs.List.{AllByRecursion}
+use Rattle.std.specs.Prelude.{◌≡◌, ℕ, ◌<◌, ◌≤◌, true, false, List, [], ◌∷◌, length}
+use Rattle.std.specs.List.{AllByRecursion, list_all}
+use Rattle.rdlpp_scan.specs.Bytes.{is_word}
 use Rattle.rdlpp_scan.specs.declared.token.Mode.TheVariants.{Plain}
 use Rattle.rdlpp_table.specs.Table.{Macro}
 use Rattle.rdlpp_table.specs.View.{macro_at, formals_of}
@@ -88,3 +89,15 @@ unfoldable pub IsPlacedStep : Texts → CursorStep → Type 0
 IsPlacedStep texts (Lends place) = IsPlaced texts place
 IsPlacedStep texts Silent = Unit
 IsPlacedStep texts (Refused fault) = IsPlaced texts fault.word
+
+-- a text stays open behind bytes that a step lends
+abbrev pub KeepsOpen : CursorStep → List Open → Type 0
+KeepsOpen (Lends place) new = 0 < length new
+KeepsOpen Silent new = Unit
+KeepsOpen (Refused fault) new = Unit
+
+-- the word of a fault is letters, digits and `_`, or empty
+abbrev pub NamesWord : Texts → CursorStep → Type 0
+NamesWord texts (Lends place) = Unit
+NamesWord texts Silent = Unit
+NamesWord texts (Refused fault) = list_all is_word (place_bytes texts fault.word) ≡ true

@@ -1,17 +1,19 @@
 -- Usages in open texts: the name that stands there, and the macro that is used.
 -- A definition that names no source is this project's own.
-use Rattle.std.specs.Prelude.{◌≡◌, ℕ, ◌<◌, Bool, false, List, [], ◌∷◌, length, take, drop, bytes_eq, Some, if◌then◌else◌}
+use Rattle.std.specs.Prelude.{◌≡◌, ℕ, ◌<◌, Bool, true, false, List, [], ◌∷◌, length, take, drop, bytes_eq, Some, if◌then◌else◌}
 use Rattle.std.specs.List.{list_any}
 use Rattle.rdlpp_scan.specs.SourceTokens.{SourceToken}
-use Rattle.rdlpp_scan.specs.Stage.{is_reserved}
+use Rattle.rdlpp_scan.specs.Reserved.{is_reserved}
 use Rattle.rdlpp_table.specs.Table.{Macro, macro_named}
 use Rattle.rdlpp_table.specs.View.{macro_at}
 use Rattle.rdlpp_meaning.specs.declared.fault.FaultKind.{FaultKind}
-use Rattle.rdlpp_meaning.specs.declared.fault.FaultKind.TheVariants.{UndefinedMacro, DirectiveInText}
+use Rattle.rdlpp_meaning.specs.declared.fault.FaultKind.TheVariants.{BareBackquote, UndefinedMacro, RecursiveMacro, DirectiveInText, ArgumentsMissing, ArgumentsOpen, ArgumentCount, DepthPassed}
 use Rattle.rdlpp_meaning.specs.Cursors.{not_kept, Refuses, token_usage_of}
 use Rattle.rdlpp_meaning.specs.State.{Rules, State}
 use Rattle.rdlpp_meaning.specs.Opens.{Open, Texts, open_bytes, writers_at}
 use Rattle.rdlpp_cursors.specs.Scopes.{front_scope}
+use Rattle.rdlpp_cursors.specs.declared.step.CursorStep.{CursorStep}
+use Rattle.rdlpp_cursors.specs.declared.step.CursorStep.TheVariants.{Lends, Silent, Refused}
 
 -- the name of a usage of so many bytes at the front of the innermost open text: what stands behind its backquote (source: IEEE
 -- 1364-2001, usages of macros)
@@ -36,3 +38,21 @@ unfoldable pub IsRefused : Texts → List Open → List ℕ → FaultKind → Ty
 IsRefused texts opens name kind =
     (rules : Rules) (s : State) (line : ℕ) (ts : List SourceToken) → s.macros ≡ texts.macros → ((m : Macro) → rules.unbuilt_macro m ≡ false)
     → token_usage_of not_kept rules s line (writers_at texts opens (front_scope opens)) name ts ≡ Refuses kind name line
+
+-- whether open texts end with a fault: for what stands in them, or since no further text may be open (source: this project's profile)
+unfoldable pub is_text_fault : FaultKind → Bool
+is_text_fault BareBackquote = true
+is_text_fault UndefinedMacro = true
+is_text_fault RecursiveMacro = true
+is_text_fault DirectiveInText = true
+is_text_fault ArgumentsMissing = true
+is_text_fault ArgumentsOpen = true
+is_text_fault ArgumentCount = true
+is_text_fault DepthPassed = true
+is_text_fault kind = false
+
+-- a step is refused for one of those
+abbrev pub IsTextFault : CursorStep → Type 0
+IsTextFault (Lends place) = Unit
+IsTextFault Silent = Unit
+IsTextFault (Refused fault) = is_text_fault fault.kind ≡ true

@@ -8,7 +8,8 @@ ghost use Rattle.rdlpp_cursors.specs.Digits.{IsFalling};
 ghost use Rattle.rdlpp_cursors.specs.Fronts.{IsLook};
 ghost use Rattle.rdlpp_cursors.specs.Opened.{bound_by, kept_by, moved_to, open_of, IsNoBody};
 ghost use Rattle.rdlpp_cursors.specs.Places.{texts_of};
-ghost use Rattle.rdlpp_cursors.specs.Steps.{AreSound, IsStep, StaysRefused, IsPlacedStep};
+ghost use Rattle.rdlpp_cursors.specs.Usages.{IsTextFault};
+ghost use Rattle.rdlpp_cursors.specs.Steps.{AreSound, IsStep, KeepsOpen, StaysRefused, IsPlacedStep, NamesWord};
 
 mod call;
 mod usage;
@@ -226,6 +227,9 @@ impl Cursors {
         ensures digits { IsFalling self.old.opens result self.new.opens }
         ensures refused { StaysRefused self.old result self.new }
         ensures placed { IsPlacedStep (texts_of table.now.macros arguments.now) result }
+        ensures lends { KeepsOpen result self.new.opens }
+        ensures fault { IsTextFault result }
+        ensures word { NamesWord (texts_of table.now.macros arguments.now) result }
     {
         let look = self.look(table, arguments);
         match look.front {

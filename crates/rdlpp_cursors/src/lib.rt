@@ -12,6 +12,3 @@ pub use cursors::Cursors;
 pub use place::{TextPlace, TextSource};
 pub use scopes::text_at;
 pub use step::{CursorFault, CursorStep};
-
-#[cfg(test)]
-mod tests;

@@ -6,17 +6,21 @@ use Rattle.rdlpp_table.specs.Limits.{AreInRange}
 use Rattle.rdlpp_table.specs.declared.limits.Limits.{Limits}
 use Rattle.rdlpp_read.proofs.Slots.{held-bound, held_windows-len}
 use Rattle.rdlpp_read.specs.Files.{AreOpen}
-use Rattle.rdlpp_expand.specs.Engine.{EngineView, IsSoundEngine}
+use Rattle.rdlpp_usages.specs.Usages.{IsRoomy}
+use Rattle.rdlpp_expand.specs.Engine.{AreOpenTexts, EngineView, IsSoundEngine}
 use Rattle.rdlpp_expand.specs.Held.{IsBounded, stores_of, held_bytes, bound_of}
 
 -- an engine whose stores are within their limits is within the bound
-pub is_bounded : {S R : Type 0} (e : EngineView S R) → IsSoundEngine e.limits e.phase e.table e.files e.conditions → AreOpen e.files → IsBounded e
+pub is_bounded : {S R : Type 0} (e : EngineView S R) → IsSoundEngine e.limits e.phase e.table e.files e.conditions → AreOpen e.files
+    → AreOpenTexts e.limits e.phase e.table.macros e.expansion → IsRoomy e.expansion → IsBounded e
 unfolding IsBounded stores_of held_bytes bound_of
-is_bounded e sound files =
+is_bounded e sound files texts room =
     let windows = held_windows-len e.files.nest in
     let most = held-bound e.files files in
-    let room : e.files.slots * e.files.line_bytes ≡ (e.limits.includes + 1) * e.limits.line_bytes =
+    let slots : e.files.slots * e.files.line_bytes ≡ (e.limits.includes + 1) * e.limits.line_bytes =
     ap (λ (n : ℕ). n * e.files.line_bytes) sound.slots ∙ ap (λ (n : ℕ). (e.limits.includes + 1) * n) sound.line_bytes in
+    let kept = room.fits in
+    let most_kept = texts.most_is in
     let size = sound.size in
     let bytes = sound.definition_bytes in
     omega (arith, length_table_bytes e.table.macros)

@@ -1,15 +1,17 @@
 -- Where the innermost source stands among its conditionals.
-use Rattle.std.proofs.Common.{◌≡◌, ℕ, zero, suc, ◌-◌, ◌≤◌, Bool, true, false, List, [], ◌∷◌, length, take, drop, Option, None, Some, refl, ap, ◌∙◌, inl, inr, arith}
+use Rattle.std.proofs.Common.{◌≡◌, ℕ, zero, suc, ◌-◌, ◌^◌, ◌≤◌, ◌<◌, Bool, true, false, List, [], ◌∷◌, length, take, drop, Option, None, Some, refl, sym, ap, subst, ◌∙◌, inl, inr, arith}
+use Rattle.std.proofs.lemmas.List.{nil_from_length}
 use Rattle.std.proofs.lemmas.Bool.{cases_lt}
 use Rattle.rdlpp_table.specs.declared.limits.Limits.{Limits}
 use Rattle.rdlpp_meaning.specs.Meaning.{Progress}
 use Rattle.rdlpp_meaning.specs.Resumed.{Live, Skipped}
 use Rattle.rdlpp_meaning.proofs.ConditionalMoves.{in_branch}
 use Rattle.rdlpp_conditions.specs.Moves.{skipped_by}
-use Rattle.rdlpp_read.specs.Files.{with_inner}
+use Rattle.rdlpp_read.specs.Buffer.{closed_buffer, unused_of}
+use Rattle.rdlpp_read.specs.Files.{inner_buffer, with_inner}
 use Rattle.rdlpp_read.specs.declared.files.File.{File}
 use Rattle.rdlpp_conditions.specs.Conditions.{ConditionsView, own_conditions, place_by, place_of}
-use Rattle.rdlpp_expand.specs.OpenConditionals.{AreBelow, AreConditions, outer_open}
+use Rattle.rdlpp_expand.specs.OpenConditionals.{AreBelow, AreConditions, inner_below, outer_open}
 
 -- text that isn't skipped is live
 live_by : (os : List Progress) → place_by None os ≡ Live os
@@ -20,6 +22,11 @@ live_by (o ∷ os) = refl
 pub live_place : (below : ℕ) (v : ConditionsView) → v.skipped ≡ None → place_of below v ≡ Live (own_conditions below v)
 unfolding place_of
 live_place below v live = ap (λ (n : Option ℕ). place_by n (own_conditions below v)) live ∙ live_by (own_conditions below v)
+
+-- text is live unless it is skipped
+live_unless : (skipped : Option ℕ) → ((n : ℕ) → skipped ≡ Some n → ⊥) → skipped ≡ None
+live_unless None never = refl
+live_unless (Some n) never = absurd (never n refl)
 
 -- no part of nothing
 take_nothing : (n : ℕ) → take {A = Progress} n [] ≡ []
@@ -36,27 +43,67 @@ no_place below v none =
 -- of the sources, a change of the innermost changes none that is around it
 below_inner : {R : Type 0} (most : ℕ) (change : File R → File R) (nest : List (File R)) → ((f : File R) → (change f).conditions_below ≡ f.conditions_below)
     → AreBelow most nest → AreBelow most (with_inner change nest)
-below_inner most change [] same below = tt
+below_inner most change [] same below = below
 below_inner most change (f ∷ outer) same below = rw (same f) below
 
+-- nor how many conditionals are open around it
+pub inner_below-same : {R : Type 0} (change : File R → File R) (nest : List (File R)) → ((f : File R) → (change f).conditions_below ≡ f.conditions_below)
+    → inner_below (with_inner change nest) ≡ inner_below nest
+inner_below-same change [] same = refl
+inner_below-same change (f ∷ outer) same = same f
+
+-- the innermost source changes, of which no more bytes aren't used
 pub conditions_inner : {R : Type 0} (limits : Limits) (v : ConditionsView) (change : File R → File R) (nest : List (File R)) → ((f : File R) → (change f).conditions_below ≡ f.conditions_below)
-    → AreConditions limits v nest → AreConditions limits v (with_inner change nest)
-conditions_inner limits v change nest same s = record {
+    → unused_of (inner_buffer (with_inner change nest)) ≤ unused_of (inner_buffer nest) → AreConditions limits v nest → AreConditions limits v (with_inner change nest)
+conditions_inner limits v change nest same less s = record {
   limit = s.limit;
   few = s.few;
   below = below_inner (length v.open_now) change nest same s.below;
-  unopened = s.unopened;
-  live = s.live;
+  own = λ n e. (let some = s.own n e in let around = inner_below-same change nest same in omega arith);
+  counted = (let few = s.counted in omega arith);
 }
 
--- where no source is open
-pub conditions_closed : {R : Type 0} (limits : Limits) (v : ConditionsView) {nest : List (File R)} → AreConditions limits v nest → AreConditions {R = R} limits v []
-conditions_closed limits v s = record { limit = s.limit; few = s.few; below = tt; unopened = s.unopened; live = s.live }
+-- where no source is open, no conditional is
+pub conditions_none : {R : Type 0} (limits : Limits) (v : ConditionsView) (nest : List (File R)) → nest ≡ [] → AreConditions limits v nest → v.open_now ≡ []
+conditions_none {R} limits v nest none s =
+    let below : AreBelow {R = R} (length v.open_now) [] = subst (λ (ns : List (File R)). AreBelow (length v.open_now) ns) none s.below in
+    nil_from_length v.open_now below
 
--- where one more source is opened
-pub conditions_opened : {R : Type 0} (limits : Limits) (v : ConditionsView) (f : File R) (nest : List (File R)) → f.conditions_below ≤ length v.open_now → AreBelow f.conditions_below nest
-    → AreConditions limits v nest → AreConditions limits v (f ∷ nest)
-conditions_opened limits v f nest most below s = record { limit = s.limit; few = s.few; below = (most, below); unopened = s.unopened; live = s.live }
+-- where a source has no conditional of its own that is open, text is live
+pub conditions_live : {R : Type 0} (limits : Limits) (v : ConditionsView) (nest : List (File R)) → length v.open_now ≡ inner_below nest → AreConditions limits v nest → v.skipped ≡ None
+conditions_live limits v nest alone s = live_unless v.skipped (λ n e. let some = s.own n e in omega arith)
+
+-- where the innermost source ends, with no conditional of its own open
+pub conditions_left : {R : Type 0} (limits : Limits) (v : ConditionsView) (f : File R) (outer : List (File R)) → length v.open_now ≡ f.conditions_below
+    → unused_of (inner_buffer outer) < 2 ^ 31 → AreConditions limits v (f ∷ outer) → AreConditions limits v outer
+conditions_left limits v f outer alone few s =
+    let live = conditions_live limits v (f ∷ outer) alone s in
+    record {
+      limit = s.limit;
+      few = s.few;
+      below = rw alone s.below.1;
+      own = λ n e. absurd (let no : None ≡ Some n = sym live ∙ e in cc);
+      counted = rw live (omega arith);
+    }
+
+-- where the main text has ended, with no conditional open
+pub conditions_closed : {R : Type 0} (limits : Limits) (v : ConditionsView) (nest : List (File R)) → 0 < length nest → length nest ≤ 1 → length v.open_now ≡ inner_below nest
+    → AreConditions limits v nest → AreConditions {R = R} limits v []
+unfolding unused_of closed_buffer
+conditions_closed limits v [] some few alone s = absurd (omega arith)
+conditions_closed limits v (f ∷ []) some few alone s = conditions_left limits v f [] alone (omega arith) s
+conditions_closed limits v (f ∷ g ∷ outer) some few alone s = absurd (omega arith)
+
+-- where one more source is opened in live text
+pub conditions_opened : {R : Type 0} (limits : Limits) (v : ConditionsView) (f : File R) (nest : List (File R)) → v.skipped ≡ None → f.conditions_below ≤ length v.open_now → AreBelow f.conditions_below nest
+    → unused_of f.buffer < 2 ^ 31 → AreConditions limits v nest → AreConditions limits v (f ∷ nest)
+conditions_opened limits v f nest live most below few s = record {
+  limit = s.limit;
+  few = s.few;
+  below = (most, below);
+  own = λ n e. absurd (let no : None ≡ Some n = sym live ∙ e in cc);
+  counted = rw live (omega arith);
+}
 
 -- the innermost source's own conditionals, of which the innermost is one
 own_cons : (below : ℕ) (o : Progress) (os : List Progress) → below ≤ length os → take (length (o ∷ os) - below) (o ∷ os) ≡ o ∷ take (length os - below) os

@@ -1,6 +1,6 @@
 -- What remains of the open sources, as a directive of the innermost one opens, branches or closes a conditional.
 use Rattle.std.proofs.Common.{◌≡◌, ℕ, suc, ◌-◌, ◌≤◌, ◌<◌, Bool, true, false, List, [], ◌∷◌, length, take, drop, None, Some, refl, sym, ap, ◌∙◌, arith}
-use Rattle.rdlpp_scan.specs.Stage.{is_reserved, is_unbuilt}
+use Rattle.rdlpp_scan.specs.Reserved.{is_reserved}
 use Rattle.rdlpp_scan.specs.declared.token.Directive.{Directive}
 use Rattle.rdlpp_scan.specs.declared.token.Directive.TheVariants.{Elsif, Else, Endif}
 use Rattle.rdlpp_scan.specs.declared.token.Mode.TheVariants.{Plain}
@@ -37,7 +37,7 @@ module _ {R : Type 0} (limits : Limits) (rules : Rules) (unread : R → List ℕ
 
   -- what remains of the innermost source at a place, from the state that open conditionals make
   abbrev pub left_at : ConditionsView → Place → ConditionsView → File R → File R → Passage
-  left_at v place w f g = source_left rules is_unbuilt unread (around v f) place g (nest_state limits macros w (g ∷ outer))
+  left_at v place w f g = source_left rules unread (around v f) place g (nest_state limits macros w (g ∷ outer))
 
   -- the source's own conditionals, where the innermost is closed
   own_closed : (below : ℕ) (v : ConditionsView) (os : List Progress) → drop 1 v.open_now ≡ os → own_conditions below (closed_one v) ≡ take (length os - below) os
@@ -54,7 +54,7 @@ module _ {R : Type 0} (limits : Limits) (rules : Rules) (unread : R → List ℕ
   unfolding nest_left
   turned_nest v w f g law same torn line below =
       let s = nest_state limits macros w (g ∷ outer) in
-      let at : ℕ → List Waiting → Passage = λ n ws. source_left rules is_unbuilt unread ws (place_of n w) g s in
+      let at : ℕ → List Waiting → Passage = λ n ws. source_left rules unread ws (place_of n w) g s in
       law
       ∙ ap (at f.conditions_below) (sym (waiting_same limits rules unread (outer_open f.conditions_below v.open_now) f g outer torn line))
       ∙ ap (λ (os : List Progress). at f.conditions_below (waiting_around limits rules unread os g outer)) (sym same)
@@ -88,7 +88,7 @@ module _ {R : Type 0} (limits : Limits) (rules : Rules) (unread : R → List ℕ
       ∙ ap (λ (k : ℕ). record (nest_state limits macros v (g ∷ outer)) { conditions_left = k }) more
 
   -- a directive in front, which is built
-  module _ (v : ConditionsView) (f : File R) (holds : HoldsFront is_unbuilt f.buffer) (mode : f.buffer.mode ≡ Plain) (built : is_unbuilt (held_of f.buffer) ≡ false) where
+  module _ (v : ConditionsView) (f : File R) (holds : HoldsFront f.buffer) (mode : f.buffer.mode ≡ Plain) where
     -- the state that the meaning goes on from
     abbrev here : State
     here = nest_state limits macros v (f ∷ outer)
@@ -105,15 +105,15 @@ module _ {R : Type 0} (limits : Limits) (rules : Rules) (unread : R → List ℕ
     goes_on_at : (w : ConditionsView) (len : ℕ) (place new : Place) (t : State) → place_of f.conditions_below v ≡ place → place_of f.conditions_below w ≡ new
         → t ≡ nest_state limits macros w (consumed_file len 0 f ∷ outer)
         → outer_open f.conditions_below w.open_now ≡ outer_open f.conditions_below v.open_now
-        → source_left rules is_unbuilt unread (around v f) place f here ≡ source_left rules is_unbuilt unread (around v f) new (consumed_file len 0 f) t
+        → source_left rules unread (around v f) place f here ≡ source_left rules unread (around v f) new (consumed_file len 0 f) t
         → GoesOn w len
     goes_on_at w len place new t is becomes state same law =
         let g = consumed_file len 0 f in
         turned_nest v w f g
-        (ap (λ (x : Place). source_left rules is_unbuilt unread (around v f) x f here) is
+        (ap (λ (x : Place). source_left rules unread (around v f) x f here) is
         ∙ law
-        ∙ ap (λ (x : Place). source_left rules is_unbuilt unread (around v f) x g t) (sym becomes)
-        ∙ ap (λ (u : State). source_left rules is_unbuilt unread (around v f) (place_of f.conditions_below w) g u) state)
+        ∙ ap (λ (x : Place). source_left rules unread (around v f) x g t) (sym becomes)
+        ∙ ap (λ (u : State). source_left rules unread (around v f) (place_of f.conditions_below w) g u) state)
         same (torn_consumed unread f len 0) refl refl
 
     module _ (live : v.skipped ≡ None) (d : Directive) (opens : opens_conditional d ≡ true) where
@@ -136,7 +136,7 @@ module _ {R : Type 0} (limits : Limits) (rules : Rules) (unread : R → List ℕ
           (place_inside f.conditions_below w t o os refl below refl)
           (opened_state v line t f (consumed_file stop 0 f) refl)
           (outer_cons f.conditions_below o os below)
-          (opened_left rules is_unbuilt unread (around v f) own f here d start stop k opens holds mode has built free left)
+          (opened_left rules unread (around v f) own f here d start stop k opens holds mode has free left)
 
       -- where none may be opened, it is a fault
       pub nest_full : (start stop : ℕ) → HasName d (held_of f.buffer) start stop → is_reserved (argument_name (held_of f.buffer) start stop) ≡ false
@@ -145,32 +145,32 @@ module _ {R : Type 0} (limits : Limits) (rules : Rules) (unread : R → List ℕ
       nest_full start stop has free full =
           let none : limits.conditions - length v.open_now ≡ 0 = omega arith in
           fails_nest v f (Live (own_conditions f.conditions_below v)) _ (live_place f.conditions_below v live)
-          (opening_full_left rules is_unbuilt unread (around v f) (own_conditions f.conditions_below v) f here d start stop opens holds mode has built free none)
+          (opening_full_left rules unread (around v f) (own_conditions f.conditions_below v) f here d start stop opens holds mode has free none)
 
       -- and so it is with a reserved name
       pub nest_opening_reserved : (start stop : ℕ) → HasName d (held_of f.buffer) start stop → is_reserved (argument_name (held_of f.buffer) start stop) ≡ true
           → Refuses fault.ReservedName (argument_name (held_of f.buffer) start stop)
       nest_opening_reserved start stop has taken =
           fails_nest v f (Live (own_conditions f.conditions_below v)) _ (live_place f.conditions_below v live)
-          (opening_reserved_left rules is_unbuilt unread (around v f) (own_conditions f.conditions_below v) f here d start stop opens holds mode has built taken)
+          (opening_reserved_left rules unread (around v f) (own_conditions f.conditions_below v) f here d start stop opens holds mode has taken)
 
       -- and without one
       pub nest_opening_nameless : LacksName d (held_of f.buffer) → Refuses fault.NameExpected []
       nest_opening_nameless lacks =
           fails_nest v f (Live (own_conditions f.conditions_below v)) _ (live_place f.conditions_below v live)
-          (opening_nameless_left rules is_unbuilt unread (around v f) (own_conditions f.conditions_below v) f here d opens holds mode lacks built)
+          (opening_nameless_left rules unread (around v f) (own_conditions f.conditions_below v) f here d opens holds mode lacks)
 
     -- a branch, or an end, where no conditional of its source is open
     module _ (alone : length v.open_now ≡ f.conditions_below) where
       pub nest_stray_branch : (d : Directive) → branches_conditional d ≡ true → IsDirective d (held_of f.buffer) → Refuses fault.StrayBranch []
       nest_stray_branch d branches is =
           fails_nest v f (Live []) _ (place_outside f.conditions_below v alone)
-          (stray_branch_left rules is_unbuilt unread (around v f) f here d branches holds mode is built)
+          (stray_branch_left rules unread (around v f) f here d branches holds mode is)
 
       pub nest_stray_end : IsDirective Endif (held_of f.buffer) → Refuses fault.StrayBranch []
       nest_stray_end is =
           fails_nest v f (Live []) _ (place_outside f.conditions_below v alone)
-          (stray_end_left rules is_unbuilt unread (around v f) f here holds mode is built)
+          (stray_end_left rules unread (around v f) f here holds mode is)
 
     -- in a branch of the innermost conditional, which is its own
     module _ (live : Bool) (o : Progress) (os : List Progress) (is_open : v.open_now ≡ o ∷ os) (below : f.conditions_below ≤ length os) (skips : v.skipped ≡ skipped_by live) where
@@ -202,7 +202,7 @@ module _ {R : Type 0} (limits : Limits) (rules : Rules) (unread : R → List ℕ
 
       -- a branch that is taken, or skipped
       turns_at : (d : Directive) (t : Bool) (len : ℕ)
-          → source_left rules is_unbuilt unread (around v f) (in_branch live o own) f here ≡ source_left rules is_unbuilt unread (around v f) (in_branch t (branched o t (is_else d)) own) (consumed_file len 0 f) here
+          → source_left rules unread (around v f) (in_branch live o own) f here ≡ source_left rules unread (around v f) (in_branch t (branched o t (is_else d)) own) (consumed_file len 0 f) here
           → GoesOn (turned_with d t v) len
       turns_at d t len law =
           goes_on_at (turned_with d t v) len (in_branch live o own) (in_branch t (branched o t (is_else d)) own) here stands (turned_place d t) (turned_state d t len) (turned_outer d t) law
@@ -210,24 +210,24 @@ module _ {R : Type 0} (limits : Limits) (rules : Rules) (unread : R → List ℕ
       -- a branch that is refused
       pub nest_refused_branch : (d : Directive) (kind : FaultKind) → branches_conditional d ≡ true → IsDirective d (held_of f.buffer) → Turns o d (λ c t. Stopped kind []) → Refuses kind []
       nest_refused_branch d kind branches is turns =
-          fails_nest v f (in_branch live o own) _ stands (refused_branch_left rules is_unbuilt unread (around v f) own f here live o d kind branches holds mode is built turns)
+          fails_nest v f (in_branch live o own) _ stands (refused_branch_left rules unread (around v f) own f here live o d kind branches holds mode is turns)
 
       -- a decided `else`
       pub nest_else : (t : Bool) → IsDirective Else (held_of f.buffer) → Turns o Else (λ c u. Holds t) → GoesOn (turned_with Else t v) (length (word_of Else))
       unfolding is_else
       nest_else t is turns =
-          turns_at Else t (length (word_of Else)) (decided_else_left rules is_unbuilt unread (around v f) own f here live o t holds mode is built turns)
+          turns_at Else t (length (word_of Else)) (decided_else_left rules unread (around v f) own f here live o t holds mode is turns)
 
       -- a decided `elsif`, with a name and without one
       pub nest_elsif_decided : (t : Bool) (start stop : ℕ) → HasName Elsif (held_of f.buffer) start stop → Turns o Elsif (λ c u. Holds t) → GoesOn (turned_with Elsif t v) stop
       unfolding is_else
       nest_elsif_decided t start stop has turns =
-          turns_at Elsif t stop (decided_elsif_left rules is_unbuilt unread (around v f) own f here live o t start stop holds mode has built turns)
+          turns_at Elsif t stop (decided_elsif_left rules unread (around v f) own f here live o t start stop holds mode has turns)
 
       pub nest_elsif_passed : (t : Bool) → LacksName Elsif (held_of f.buffer) → Turns o Elsif (λ c u. Holds t) → GoesOn (turned_with Elsif t v) (length (word_of Elsif))
       unfolding is_else
       nest_elsif_passed t lacks turns =
-          turns_at Elsif t (length (word_of Elsif)) (decided_nameless_left rules is_unbuilt unread (around v f) own f here live o t holds mode lacks built turns)
+          turns_at Elsif t (length (word_of Elsif)) (decided_nameless_left rules unread (around v f) own f here live o t holds mode lacks turns)
 
       -- an `elsif` whose name decides
       module _ (turns : Turns o Elsif (λ c t. name_test true (macro_name c) t)) where
@@ -236,16 +236,16 @@ module _ {R : Type 0} (limits : Limits) (rules : Rules) (unread : R → List ℕ
         unfolding is_else
         nest_elsif start stop has free =
             turns_at Elsif (is_defined here (argument_name (held_of f.buffer) start stop)) stop
-            (tested_elsif_left rules is_unbuilt unread (around v f) own f here live o turns start stop holds mode has built free)
+            (tested_elsif_left rules unread (around v f) own f here live o turns start stop holds mode has free)
 
         pub nest_elsif_reserved : (start stop : ℕ) → HasName Elsif (held_of f.buffer) start stop → is_reserved (argument_name (held_of f.buffer) start stop) ≡ true
             → Refuses fault.ReservedName (argument_name (held_of f.buffer) start stop)
         nest_elsif_reserved start stop has taken =
-            fails_nest v f (in_branch live o own) _ stands (tested_reserved_left rules is_unbuilt unread (around v f) own f here live o turns start stop holds mode has built taken)
+            fails_nest v f (in_branch live o own) _ stands (tested_reserved_left rules unread (around v f) own f here live o turns start stop holds mode has taken)
 
         pub nest_elsif_nameless : LacksName Elsif (held_of f.buffer) → Refuses fault.NameExpected []
         nest_elsif_nameless lacks =
-            fails_nest v f (in_branch live o own) _ stands (tested_nameless_left rules is_unbuilt unread (around v f) own f here live o turns holds mode lacks built)
+            fails_nest v f (in_branch live o own) _ stands (tested_nameless_left rules unread (around v f) own f here live o turns holds mode lacks)
 
       -- an `endif`
       pub nest_closed : IsDirective Endif (held_of f.buffer) → length v.open_now ≤ limits.conditions → GoesOn (closed_one v) (length (word_of Endif))
@@ -257,7 +257,7 @@ module _ {R : Type 0} (limits : Limits) (rules : Rules) (unread : R → List ℕ
           (live_place f.conditions_below (closed_one v) refl ∙ ap Live (own_closed f.conditions_below v os rest))
           (closed_state v o os f (consumed_file len 0 f) is_open few refl)
           (ap (outer_open f.conditions_below) rest ∙ sym (outer_cons f.conditions_below o os below) ∙ sym (ap (outer_open f.conditions_below) is_open))
-          (closed_left rules is_unbuilt unread (around v f) own f here live o holds mode is built)
+          (closed_left rules unread (around v f) own f here live o holds mode is)
 
     -- in skipped text, in so many conditionals that opened there
     module _ (n : ℕ) (o : Progress) (os : List Progress) (is_open : v.open_now ≡ o ∷ os) (below : f.conditions_below ≤ length os) where
@@ -266,7 +266,7 @@ module _ {R : Type 0} (limits : Limits) (rules : Rules) (unread : R → List ℕ
 
       -- the count of the conditionals that opened there changes alone
       counts_at : (k m len : ℕ) → v.skipped ≡ Some k
-          → source_left rules is_unbuilt unread (around v f) (Skipped k o around_open) f here ≡ source_left rules is_unbuilt unread (around v f) (Skipped m o around_open) (consumed_file len 0 f) here
+          → source_left rules unread (around v f) (Skipped k o around_open) f here ≡ source_left rules unread (around v f) (Skipped m o around_open) (consumed_file len 0 f) here
           → GoesOn (with_inner m v) len
       unfolding nest_state file_state
       counts_at k m len skips law =
@@ -276,14 +276,14 @@ module _ {R : Type 0} (limits : Limits) (rules : Rules) (unread : R → List ℕ
       -- a conditional that opens there
       pub nest_skipped_opening : (d : Directive) → opens_conditional d ≡ true → v.skipped ≡ Some n → IsDirective d (held_of f.buffer) → GoesOn (with_inner (suc n) v) (length (word_of d))
       nest_skipped_opening d opens skips is =
-          counts_at n (suc n) (length (word_of d)) skips (skipped_opening_left rules is_unbuilt unread (around v f) o around_open f here d n opens holds mode is built)
+          counts_at n (suc n) (length (word_of d)) skips (skipped_opening_left rules unread (around v f) o around_open f here d n opens holds mode is)
 
       -- a branch of one that opened there
       pub nest_inner_branch : (d : Directive) → branches_conditional d ≡ true → v.skipped ≡ Some (suc n) → IsDirective d (held_of f.buffer) → GoesOn (with_inner (suc n) v) (length (word_of d))
       nest_inner_branch d branches skips is =
-          counts_at (suc n) (suc n) (length (word_of d)) skips (inner_branch_left rules is_unbuilt unread (around v f) o around_open f here d n branches holds mode is built)
+          counts_at (suc n) (suc n) (length (word_of d)) skips (inner_branch_left rules unread (around v f) o around_open f here d n branches holds mode is)
 
       -- the end of one that opened there
       pub nest_inner_end : v.skipped ≡ Some (suc n) → IsDirective Endif (held_of f.buffer) → GoesOn (with_inner n v) (length (word_of Endif))
       nest_inner_end skips is =
-          counts_at (suc n) n (length (word_of Endif)) skips (inner_end_left rules is_unbuilt unread (around v f) o around_open f here n holds mode is built)
+          counts_at (suc n) n (length (word_of Endif)) skips (inner_end_left rules unread (around v f) o around_open f here n holds mode is)

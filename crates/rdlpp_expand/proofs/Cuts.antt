@@ -13,11 +13,13 @@ use Rattle.rdlpp_table.specs.View.{macro_at}
 use Rattle.rdlpp_expand.specs.Engine.{EngineView, is_open}
 use Rattle.rdlpp_expand.specs.Held.{IsBounded, stores_of}
 use Rattle.rdlpp_expand.specs.Owed.{cut_to, digits_of, part_bytes}
-use Rattle.rdlpp_expand.specs.Pieces.{IsPlaced, kept_answer, lent_answer, owed_part}
+use Rattle.rdlpp_cursors.specs.Places.{IsPlaced as IsTextPlaced, place_bytes, source_text, texts_of}
+use Rattle.rdlpp_cursors.specs.declared.place.TextPlace.{TextPlace}
+use Rattle.rdlpp_expand.specs.Pieces.{held_texts, IsPlaced, kept_answer, lent_answer, owed_part}
 use Rattle.rdlpp_expand.specs.declared.owed.OwedPiece.{OwedPiece}
-use Rattle.rdlpp_expand.specs.declared.place.Place.TheVariants.{Source, Body, Owed}
-use Rattle.rdlpp_expand.specs.Remaining.{inner_name, kept_uncut, left_of, output_fault, phase_uncut, text_of, uncut_of, work_left}
-use Rattle.rdlpp_expand.specs.Steps.{Steps, Walks, all_of, has_met, lent_len, may_follow, no_len, is_read_failed}
+use Rattle.rdlpp_expand.specs.declared.place.Place.TheVariants.{Source, Body, Text, Owed}
+use Rattle.rdlpp_expand.specs.Remaining.{inner_name, kept_uncut, left_of, output_fault, phase_uncut, state_of, text_of, uncut_of, work_left}
+use Rattle.rdlpp_expand.specs.Steps.{Steps, Walks, all_of, has_met, lent_len, may_follow, no_len, is_call_failed}
 use Rattle.rdlpp_expand.specs.declared.phase.Phase.{Phase}
 use Rattle.rdlpp_expand.specs.declared.phase.Phase.TheVariants.{Fresh, Open, Passed, Closed}
 use Rattle.rdlpp_expand.proofs.EngineSteps.{free_before, ok_not_met}
@@ -96,20 +98,20 @@ module _ {S R : Type 0} (g : Ghosts S R) (old new : EngineView S R) where
   }
 
 -- what remains without the limit doesn't hang on what may still be lent
-module _ {S R : Type 0} (unread : R → List ℕ) (e : EngineView S R) (quota : ℕ) where
-  phase_same : (phase : Phase) → phase_uncut unread phase (record e { quota = quota }) ≡ phase_uncut unread phase e
-  unfolding phase_uncut text_of
+module _ {S R : Type 0} (g : Ghosts S R) (e : EngineView S R) (quota : ℕ) where
+  phase_same : (phase : Phase) → phase_uncut g phase (record e { quota = quota }) ≡ phase_uncut g phase e
+  unfolding phase_uncut text_of state_of
   phase_same Fresh = refl
   phase_same Open = refl
   phase_same Passed = refl
   phase_same Closed = refl
 
-  kept_same : (kept : Option Told) → kept_uncut unread kept (record e { quota = quota }) ≡ kept_uncut unread kept e
+  kept_same : (kept : Option Told) → kept_uncut g kept (record e { quota = quota }) ≡ kept_uncut g kept e
   unfolding kept_uncut
   kept_same None = phase_same e.phase
   kept_same (Some f) = refl
 
-  uncut_same : uncut_of unread (record e { quota = quota }) ≡ uncut_of unread e
+  uncut_same : uncut_of g (record e { quota = quota }) ≡ uncut_of g e
   unfolding uncut_of
   uncut_same = kept_same e.kept
 
@@ -122,9 +124,9 @@ follows_open Passed h = cc h
 follows_open Closed h = cc h
 
 -- the text, the work left and what is held don't hang on how far an engine is, nor on what may still be lent
-same_text : {S R : Type 0} (unread : R → List ℕ) (e : EngineView S R) (phase : Phase) (quota : ℕ) → text_of unread (record e { phase = phase; quota = quota }) ≡ text_of unread e
-unfolding text_of
-same_text unread e phase quota = refl
+same_text : {S R : Type 0} (g : Ghosts S R) (e : EngineView S R) (phase : Phase) (quota : ℕ) → text_of g (record e { phase = phase; quota = quota }) ≡ text_of g e
+unfolding text_of state_of
+same_text g e phase quota = refl
 
 same_work : {S R : Type 0} (e : EngineView S R) (phase : Phase) (quota : ℕ) → work_left (record e { phase = phase; quota = quota }) ≡ work_left e
 unfolding work_left
@@ -137,20 +139,20 @@ same_bound e phase quota bounded = bounded
 -- what a walk that lent bytes says of what remains
 module _ {S R : Type 0} (g : Ghosts S R) (old mid new : EngineView S R) (xs : List ℕ) (w : Walks g old mid (Ok (Some xs))) where
   free_old : old.kept ≡ None
-  free_old = free_before g (uncut_of g.unread) no_len all_of may_follow old mid old.kept (Some xs) refl w
+  free_old = free_before g (uncut_of g) no_len all_of may_follow old mid old.kept (Some xs) refl w
 
-  uncut_tells : g.tells old.sources → uncut_of g.unread old ≡ and_then (gives xs) (uncut_of g.unread mid)
-  uncut_tells t = w.tells (ok_not_met is_read_failed old.kept (Some xs)) t
+  uncut_tells : g.tells old.sources → uncut_of g old ≡ and_then (gives xs) (uncut_of g mid)
+  uncut_tells t = w.tells (ok_not_met is_call_failed old.kept (Some xs)) t
 
   -- a walk that lent bytes, and then only what may be lent and how far the engine is changed
   lent_step : (ys : List ℕ) → new ≡ record mid { phase = new.phase; quota = new.quota } → (new.phase ≡ Fresh → ⊥) → is_open new.phase ≡ true
-      → (g.tells old.sources → left_of g.unread old ≡ and_then (gives ys) (left_of g.unread new)) → ys ≡ take old.quota xs → new.quota + length ys ≡ old.quota
+      → (g.tells old.sources → left_of g old ≡ and_then (gives ys) (left_of g new)) → ys ≡ take old.quota xs → new.quota + length ys ≡ old.quota
       → Steps g old new (Ok (Some ys))
   unfolding has_met lent_len all_of
   lent_step ys becomes started opens tells part quota =
       let limits : new.limits ≡ mid.limits = ap (λ e. e.limits) becomes in
       let sources : new.sources ≡ mid.sources = ap (λ e. e.sources) becomes in
-      let none : has_met is_read_failed old.kept (Ok (Some xs)) ≡ false = ok_not_met is_read_failed old.kept (Some xs) in
+      let none : has_met is_call_failed old.kept (Ok (Some xs)) ≡ false = ok_not_met is_call_failed old.kept (Some xs) in
       record {
         limits = limits ∙ w.limits;
         origins = ap (λ e. e.origins) becomes ∙ w.origins;
@@ -171,7 +173,7 @@ module _ {S R : Type 0} (g : Ghosts S R) (old mid new : EngineView S R) (xs : Li
             record {
               piece = piece.piece;
               lent = part ∙ ap (take old.quota) piece.lent;
-              text = piece.text ∙ ap (behind_bytes piece.piece) (sym (ap (text_of g.unread) becomes ∙ same_text g.unread mid new.phase new.quota));
+              text = piece.text ∙ ap (behind_bytes piece.piece) (sym (ap (text_of g) becomes ∙ same_text g mid new.phase new.quota));
             };
         reads = λ met. absurd (let no : false ≡ true = rw free_old at met in cc);
         halts = λ _ _. tt;
@@ -193,11 +195,11 @@ module _ {S R : Type 0} (g : Ghosts S R) (old mid new : EngineView S R) (xs : Li
       let changes : Phase → ℕ → EngineView S R = λ p q. record mid { phase = p; quota = q } in
       lent_step xs (becomes ∙ (ap (changes mid.phase) (sym spent) ∙ ap (λ p. changes p new.quota) (sym phase))) (λ e. w.started (sym phase ∙ e)) (ap is_open phase ∙ follows_open mid.phase (w.lends xs refl).1)
       (λ t. ap (limited (output_fault old.main) old.quota) (uncut_tells t)
-      ∙ limited-gives (output_fault old.main) old.quota xs (uncut_of g.unread mid) fits
-      ∙ ap (λ (n : List ℕ). and_then (gives xs) (limited (output_fault n) (old.quota - length xs) (uncut_of g.unread mid))) (sym w.main)
-      ∙ ap (λ (q : ℕ). and_then (gives xs) (limited (output_fault mid.main) (q - length xs) (uncut_of g.unread mid))) (sym quota)
-      ∙ ap (λ (o : Outcome). and_then (gives xs) (limited (output_fault mid.main) (mid.quota - length xs) o)) (sym (uncut_same g.unread mid (mid.quota - length xs)))
-      ∙ ap (λ (e : EngineView S R). and_then (gives xs) (left_of g.unread e)) (sym becomes))
+      ∙ limited-gives (output_fault old.main) old.quota xs (uncut_of g mid) fits
+      ∙ ap (λ (n : List ℕ). and_then (gives xs) (limited (output_fault n) (old.quota - length xs) (uncut_of g mid))) (sym w.main)
+      ∙ ap (λ (q : ℕ). and_then (gives xs) (limited (output_fault mid.main) (q - length xs) (uncut_of g mid))) (sym quota)
+      ∙ ap (λ (o : Outcome). and_then (gives xs) (limited (output_fault mid.main) (mid.quota - length xs) o)) (sym (uncut_same g mid (mid.quota - length xs)))
+      ∙ ap (λ (e : EngineView S R). and_then (gives xs) (left_of g e)) (sym becomes))
       (sym (take_all old.quota xs fits)) (omega arith)
 
   -- a part of the piece may be lent
@@ -208,11 +210,11 @@ module _ {S R : Type 0} (g : Ghosts S R) (old mid new : EngineView S R) (xs : Li
       let none : new.quota ≡ 0 = ap (λ e. e.quota) becomes in
       let changes : Phase → ℕ → EngineView S R = λ p q. record mid { phase = p; quota = q } in
       let size : length (take old.quota xs) ≡ old.quota = length-take-le old.quota xs (omega arith) in
-      let over : left_of g.unread new ≡ fails (output_fault mid.main) =
-      ap (left_of g.unread) becomes ∙ rw w.free (limited-fails (output_fault mid.main) 0 (output_fault mid.main)) in
+      let over : left_of g new ≡ fails (output_fault mid.main) =
+      ap (left_of g) becomes ∙ rw w.free (limited-fails (output_fault mid.main) 0 (output_fault mid.main)) in
       lent_step (take old.quota xs) (becomes ∙ (ap (changes Passed) (sym none) ∙ ap (λ p. changes p new.quota) (sym phase))) (λ e. (let no : Passed ≡ Fresh = sym phase ∙ e in cc)) (ap is_open phase)
       (λ t. ap (limited (output_fault old.main) old.quota) (uncut_tells t)
-      ∙ limited-past (output_fault old.main) old.quota xs (uncut_of g.unread mid) passes
+      ∙ limited-past (output_fault old.main) old.quota xs (uncut_of g mid) passes
       ∙ ap (λ (n : List ℕ). and_then (gives (take old.quota xs)) (fails (output_fault n))) (sym w.main)
       ∙ ap (λ (o : Outcome). and_then (gives (take old.quota xs)) o) (sym over))
       refl (omega arith)
@@ -228,12 +230,13 @@ pub record IsPart {S R : Type 0} (mid new : EngineView S R) (n len : ℕ) : Type
   pub files : new.files ≡ mid.files
   pub table : new.table ≡ mid.table
   pub owed : new.owed ≡ mid.owed
+  pub expansion : new.expansion ≡ mid.expansion
 
 spent_part : {S R : Type 0} (mid new : EngineView S R) (n len : ℕ) → IsSpent mid new n len → IsPart mid new n len
 spent_part mid new n len spent =
     elim (cases_lt mid.quota n) [
-      | inl over ↦ (let p = spent.passes over in record { inside = omega (arith, p.0); files = ap (λ e. e.files) p.1; table = ap (λ e. e.table) p.1; owed = ap (λ e. e.owed) p.1 })
-      | inr under ↦ (let p = spent.fits under in record { inside = omega (arith, p.0); files = ap (λ e. e.files) p.1; table = ap (λ e. e.table) p.1; owed = ap (λ e. e.owed) p.1 })
+      | inl over ↦ (let p = spent.passes over in record { inside = omega (arith, p.0); files = ap (λ e. e.files) p.1; table = ap (λ e. e.table) p.1; owed = ap (λ e. e.owed) p.1; expansion = ap (λ e. e.expansion) p.1 })
+      | inr under ↦ (let p = spent.fits under in record { inside = omega (arith, p.0); files = ap (λ e. e.files) p.1; table = ap (λ e. e.table) p.1; owed = ap (λ e. e.owed) p.1; expansion = ap (λ e. e.expansion) p.1 })
     ]
 
 -- a piece, cut to what may still be lent
@@ -275,6 +278,43 @@ cut_body {S} {R} g old mid new id from to len w placed spent =
     told_bytes g old new (take len (slice_range body from to)) (slice_range (macro_at new.table.macros id).body from (from + len))
     (ap (λ t. slice_range (macro_at t.macros id).body from (from + len)) part.table ∙ part_cut body from to len part.inside)
     (cut_piece g old mid new (slice_range body from to) (to - from) len w (part_len body from to placed.1 placed.2) spent)
+
+-- the beginning of a place of an open text
+abbrev pub cut_place : TextPlace → ℕ → TextPlace
+cut_place place len = record { source = place.source; from = place.from; end = place.from + len }
+
+-- the texts are the same
+texts_same : {S R : Type 0} (mid new : EngineView S R) (n len : ℕ) → IsPart mid new n len → held_texts new ≡ held_texts mid
+texts_same mid new n len part = ap (λ t. texts_of t.macros new.expansion.arguments) part.table ∙ ap (λ x. texts_of mid.table.macros x.arguments) part.expansion
+
+-- a part of an open text, cut to what may still be lent
+pub cut_text : {S R : Type 0} (g : Ghosts S R) (old mid new : EngineView S R) (place : TextPlace) (len : ℕ) → Walks g old mid (lent_answer mid (Text place))
+    → IsPlaced mid (Text place) → IsSpent mid new (place.end - place.from) len → Steps g old new (lent_answer new (Text (cut_place place len)))
+unfolding place_bytes
+cut_text {S} {R} g old mid new place len w placed spent =
+    let part = spent_part mid new (place.end - place.from) len spent in
+    let text = source_text (held_texts mid) place.source in
+    told_bytes g old new (take len (slice_range text place.from place.end)) (slice_range (source_text (held_texts new) place.source) place.from (place.from + len))
+    (ap (λ ts. slice_range (source_text ts place.source) place.from (place.from + len)) (texts_same mid new (place.end - place.from) len part) ∙ part_cut text place.from place.end len part.inside)
+    (cut_piece g old mid new (slice_range text place.from place.end) (place.end - place.from) len w (part_len text place.from place.end placed.order placed.inside) spent)
+
+-- it lies in that text
+pub text_cut_placed : {S R : Type 0} (mid new : EngineView S R) (place : TextPlace) (len : ℕ) → IsPlaced mid (Text place) → IsSpent mid new (place.end - place.from) len → IsPlaced new (Text (cut_place place len))
+text_cut_placed {S} {R} mid new place len placed spent =
+    let part = spent_part mid new (place.end - place.from) len spent in
+    let less = part.inside in
+    let order = placed.order in
+    let inside = placed.inside in
+    subst (λ ts. IsTextPlaced ts (cut_place place len)) (sym (texts_same mid new (place.end - place.from) len part))
+    (record { source = placed.source; order = omega arith; inside = omega arith })
+
+-- a place that is cut ends where it may
+pub text_cut_fits : {S R : Type 0} (mid new : EngineView S R) (place : TextPlace) (len : ℕ) → IsPlaced mid (Text place) → IsSpent mid new (place.end - place.from) len → place.from + len ≤ place.end
+text_cut_fits mid new place len placed spent =
+    let part = spent_part mid new (place.end - place.from) len spent in
+    let less = part.inside in
+    let order = placed.order in
+    omega arith
 
 -- the fault that is kept, or the end where none is
 pub cut_kept : {S R : Type 0} (g : Ghosts S R) (old new : EngineView S R) (kept : Option Told) → Walks g old new (kept_answer kept) → Steps g old new (kept_answer kept)

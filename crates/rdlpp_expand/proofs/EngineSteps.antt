@@ -20,7 +20,7 @@ use Rattle.rdlpp_expand.specs.Held.{IsBounded}
 use Rattle.rdlpp_expand.specs.Owed.{nothing_owed}
 use Rattle.rdlpp_expand.specs.Pieces.{kept_answer, lent_answer}
 use Rattle.rdlpp_expand.specs.Remaining.{uncut_of, kept_uncut, output_fault, phase_uncut, state_of, text_of, work_left}
-use Rattle.rdlpp_expand.specs.Steps.{EndsText, Halts, LendsText, MovesOn, StepsOver, TellsText, Walks, all_of, may_follow, no_len, Tells, IsOwn, IsStarted, has_failed, has_met, has_refused, is_memory_kind, is_read_failed, is_write_failed}
+use Rattle.rdlpp_expand.specs.Steps.{EndsText, FailsAt, OnRead, Halts, HaltsAt, AtFront, Itself, LendsText, MovesOn, StopsReading, StepsOver, TellsText, Walks, all_of, may_follow, no_len, Tells, IsOwn, IsStarted, has_failed, has_met, has_refused, is_call_failed, is_memory_kind, is_read_failed, is_write_failed}
 use Rattle.rdlpp_expand.specs.declared.phase.Phase.{Phase}
 use Rattle.rdlpp_expand.specs.declared.phase.Phase.TheVariants.{Fresh, Open, Passed, Closed}
 use Rattle.rdlpp_expand.specs.declared.place.Place.{Place}
@@ -35,9 +35,9 @@ pub called : {S R : Type 0} (g : Ghosts S R) (failed : Bool) (old new : S) → S
 called g failed old new read = record { failures = read.failures; refusals = read.refusals; tells = read.tells; catalog = read.catalog }
 
 -- what remains of an engine whose main text is open
-pub left_open : {S R : Type 0} (unread : R → List ℕ) (e : EngineView S R) → e.kept ≡ None → e.phase ≡ Open → uncut_of unread e ≡ outcome (text_of unread e)
+pub left_open : {S R : Type 0} (g : Ghosts S R) (e : EngineView S R) → e.kept ≡ None → e.phase ≡ Open → uncut_of g e ≡ outcome (text_of g e)
 unfolding uncut_of kept_uncut phase_uncut
-left_open unread e free open_ = rw (free, open_) refl
+left_open g e free open_ = rw (free, open_) refl
 
 -- a kept fault
 pub steps_kept : {S R : Type 0} (g : Ghosts S R) (e : EngineView S R) (f : Told) → IsStarted e → IsBounded e → e.kept ≡ Some f → Walks g e e (Err f)
@@ -100,10 +100,10 @@ steps_ended g e started bounded free closed = record {
 -- an engine whose main text is open and that keeps no fault
 module _ {S R : Type 0} (g : Ghosts S R) (old new : EngineView S R) (free : old.kept ≡ None) (open_ : old.phase ≡ Open) (bounded : IsBounded new) where
   -- a piece was lent
-  pub walks_lent : (bytes : List ℕ) → new ≡ record old { owed = new.owed; table = new.table; conditions = new.conditions; files = new.files; sources = new.sources }
+  pub walks_lent : (bytes : List ℕ) → new ≡ record old { owed = new.owed; table = new.table; conditions = new.conditions; files = new.files; sources = new.sources; expansion = new.expansion }
       → (new.table.most_bytes ≡ old.table.most_bytes) × (new.table.most_macros ≡ old.table.most_macros)
       → SourcesCalled g false false old.sources new.sources
-      → (g.tells old.sources → text_of g.unread old ≡ behind_bytes bytes (text_of g.unread new))
+      → (g.tells old.sources → text_of g old ≡ behind_bytes bytes (text_of g new))
       → work_left new < work_left old → Walks g old new (Ok (Some bytes))
   unfolding has_met no_len all_of may_follow
   walks_lent bytes becomes room call text falls =
@@ -123,7 +123,7 @@ module _ {S R : Type 0} (g : Ghosts S R) (old new : EngineView S R) (free : old.
         ends = λ e. absurd (cc);
         failed = λ met. absurd (let no : false ≡ true = rw free at met in cc);
         call = rw free call;
-        tells = λ _ t. left_open g.unread old free open_ ∙ (ap outcome (text t) ∙ (outcome-behind_bytes bytes (text_of g.unread new) ∙ rw (left_open g.unread new none still) refl));
+        tells = λ _ t. left_open g old free open_ ∙ (ap outcome (text t) ∙ (outcome-behind_bytes bytes (text_of g new) ∙ rw (left_open g new none still) refl));
         text = λ _ _ _ t. record { piece = bytes; lent = refl; text = text t };
         reads = λ met. absurd (let no : false ≡ true = rw free at met in cc);
         halts = λ _ _. tt;
@@ -137,26 +137,26 @@ module _ {S R : Type 0} (g : Ghosts S R) (old new : EngineView S R) (free : old.
 
   -- what a fault leaves, where nothing is owed
   halts_at : (f : Told) → new ≡ record old { kept = Some f; files = new.files; sources = new.sources }
-      → new.files ≡ record old.files { nest = with_buffer (inner_buffer new.files.nest) old.files.nest } → MovesOn (inner_buffer old.files.nest) (inner_buffer new.files.nest) → old.owed ≡ nothing_owed → Halts g (Err f) old new
+      → new.files ≡ record old.files { nest = with_buffer (inner_buffer new.files.nest) old.files.nest } → MovesOn (inner_buffer old.files.nest) (inner_buffer new.files.nest) → old.owed ≡ nothing_owed → HaltsAt g old new
   halts_at f becomes only moves unowed =
       let keeps : Option Told → EngineView S R = λ k. record old { kept = k; files = new.files; sources = new.sources } in
       record {
         at = old;
         text = λ t. refl;
         unowed = unowed;
-        becomes = becomes ∙ ap keeps (sym (ap (λ e. e.kept) becomes));
-        only = only;
-        moves = moves;
+        stopped = AtFront (record {
+          becomes = becomes ∙ ap keeps (sym (ap (λ e. e.kept) becomes));
+          only = only;
+          moves = moves;
+        });
       }
 
-  -- the text has a fault, which is kept
-  pub walks_fault : (f : Told) → IsOwn f.kind → new ≡ record old { kept = Some f; files = new.files; sources = new.sources }
-      → new.files ≡ record old.files { nest = with_buffer (inner_buffer new.files.nest) old.files.nest }
-      → MovesOn (inner_buffer old.files.nest) (inner_buffer new.files.nest) → old.owed ≡ nothing_owed
+  -- the text has a fault, which is kept, wherever that came
+  pub walks_kept : (f : Told) → IsOwn f.kind → new ≡ record old { kept = Some f; files = new.files; sources = new.sources } → HaltsAt g old new
       → SourcesCalled g false false old.sources new.sources
-      → (g.tells old.sources → text_of g.unread old ≡ leaves (fails f) (state_of new)) → Walks g old new (Err f)
-  unfolding has_met no_len
-  walks_fault f own becomes only moves unowed call text =
+      → (g.tells old.sources → text_of g old ≡ leaves (fails f) (state_of new)) → Walks g old new (Err f)
+  unfolding has_met no_len is_call_failed
+  walks_kept f own becomes halts call text =
       let still : new.phase ≡ Open = ap (λ e. e.phase) becomes ∙ open_ in
       record {
         limits = ap (λ e. e.limits) becomes;
@@ -170,12 +170,12 @@ module _ {S R : Type 0} (g : Ghosts S R) (old new : EngineView S R) (free : old.
         free = tt;
         own = λ _. own.write;
         ends = λ e. absurd (cc);
-        failed = λ met. absurd (let no : false ≡ true = rw (free, own.read) at met in cc);
+        failed = λ met. absurd (let no : false ≡ true = rw (free, own.read, own.memory) at met in cc);
         call = rw (free, own.read, own.memory) call;
-        tells = λ _ t. left_open g.unread old free open_ ∙ (ap outcome (text t) ∙ outcome-leaves (fails f) (state_of new));
+        tells = λ _ t. left_open g old free open_ ∙ (ap outcome (text t) ∙ outcome-leaves (fails f) (state_of new));
         text = λ _ _ _ t. text t;
-        reads = λ met. absurd (let no : false ≡ true = rw (free, own.read) at met in cc);
-        halts = λ _ _. halts_at f becomes only moves unowed;
+        reads = λ met. absurd (let no : false ≡ true = rw (free, own.read, own.memory) at met in cc);
+        halts = λ _ _. halts;
         falls = λ bytes e. absurd (cc);
         lends = λ bytes e. absurd (cc);
         quota = omega (arith, ap (λ e. e.quota) becomes);
@@ -184,19 +184,22 @@ module _ {S R : Type 0} (g : Ghosts S R) (old new : EngineView S R) (free : old.
         bounded = bounded;
       }
 
-  -- a read failed
-  pub walks_failed : (f : Told) → f ≡ fault_at fault.ReadFailed (reading_line_of (inner_buffer new.files.nest)) [] (state_of new)
-      → new ≡ record old { kept = Some f; files = new.files; sources = new.sources }
+  -- a fault at the front of what is held
+  pub walks_fault : (f : Told) → IsOwn f.kind → new ≡ record old { kept = Some f; files = new.files; sources = new.sources }
       → new.files ≡ record old.files { nest = with_buffer (inner_buffer new.files.nest) old.files.nest }
       → MovesOn (inner_buffer old.files.nest) (inner_buffer new.files.nest) → old.owed ≡ nothing_owed
-      → SourcesCalled g true false old.sources new.sources
-      → (g.tells old.sources → text_of g.unread old ≡ text_of g.unread new) → Walks g old new (Err f)
-  unfolding has_met no_len fault_at is_read_failed is_write_failed is_memory_kind
-  walks_failed f is becomes only moves unowed call text =
+      → SourcesCalled g false false old.sources new.sources
+      → (g.tells old.sources → text_of g old ≡ leaves (fails f) (state_of new)) → Walks g old new (Err f)
+  walks_fault f own becomes only moves unowed call text =
+      walks_kept f own becomes (halts_at f becomes only moves unowed) call text
+
+  -- a read or a search failed, wherever that was
+  pub walks_ceased : (f : Told) → FailsAt new f → is_call_failed f.kind ≡ true → is_write_failed f.kind ≡ false
+      → new ≡ record old { kept = Some f; files = new.files; sources = new.sources } → HaltsAt g old new → StopsReading g old new
+      → SourcesCalled g (is_read_failed f.kind) (is_memory_kind f.kind) old.sources new.sources → Walks g old new (Err f)
+  unfolding has_met no_len
+  walks_ceased f fails met write becomes halts reads call =
       let still : new.phase ≡ Open = ap (λ e. e.phase) becomes ∙ open_ in
-      let read : is_read_failed f.kind ≡ true = ap (λ t. is_read_failed t.kind) is in
-      let write : is_write_failed f.kind ≡ false = ap (λ t. is_write_failed t.kind) is in
-      let memory : is_memory_kind f.kind ≡ false = ap (λ t. is_memory_kind t.kind) is in
       record {
         limits = ap (λ e. e.limits) becomes;
         origins = ap (λ e. e.origins) becomes;
@@ -209,12 +212,12 @@ module _ {S R : Type 0} (g : Ghosts S R) (old new : EngineView S R) (free : old.
         free = tt;
         own = λ _. write;
         ends = λ e. absurd (cc);
-        failed = λ met. ap Err is;
-        call = rw (free, read, memory) call;
-        tells = λ own t. absurd (let no : true ≡ false = sym (rw free read) ∙ own in cc);
-        text = λ _ _ own t. absurd (let no : true ≡ false = sym (rw free read) ∙ own in cc);
-        reads = λ _. record { open_ = open_; still = still; text = text };
-        halts = λ _ _. halts_at f becomes only moves unowed;
+        failed = λ _. fails;
+        call = rw free call;
+        tells = λ own t. absurd (let no : true ≡ false = sym (rw free met) ∙ own in cc);
+        text = λ _ _ own t. absurd (let no : true ≡ false = sym (rw free met) ∙ own in cc);
+        reads = λ _. reads;
+        halts = λ _ _. halts;
         falls = λ bytes e. absurd (cc);
         lends = λ bytes e. absurd (cc);
         quota = omega (arith, ap (λ e. e.quota) becomes);
@@ -223,10 +226,36 @@ module _ {S R : Type 0} (g : Ghosts S R) (old new : EngineView S R) (free : old.
         bounded = bounded;
       }
 
+  -- at the front of what is held
+  pub walks_stopped : (f : Told) → FailsAt new f → is_call_failed f.kind ≡ true → is_write_failed f.kind ≡ false
+      → new ≡ record old { kept = Some f; files = new.files; sources = new.sources }
+      → new.files ≡ record old.files { nest = with_buffer (inner_buffer new.files.nest) old.files.nest }
+      → MovesOn (inner_buffer old.files.nest) (inner_buffer new.files.nest) → old.owed ≡ nothing_owed
+      → SourcesCalled g (is_read_failed f.kind) (is_memory_kind f.kind) old.sources new.sources
+      → (g.tells old.sources → text_of g old ≡ text_of g new) → Walks g old new (Err f)
+  walks_stopped f fails met write becomes only moves unowed call text =
+      let still : new.phase ≡ Open = ap (λ e. e.phase) becomes ∙ open_ in
+      walks_ceased f fails met write becomes (halts_at f becomes only moves unowed)
+      (record { open_ = open_; still = still; at = new; stood = Itself refl; text = text }) call
+
+  -- a read failed
+  pub walks_failed : (f : Told) → f ≡ fault_at fault.ReadFailed (reading_line_of (inner_buffer new.files.nest)) [] (state_of new)
+      → new ≡ record old { kept = Some f; files = new.files; sources = new.sources }
+      → new.files ≡ record old.files { nest = with_buffer (inner_buffer new.files.nest) old.files.nest }
+      → MovesOn (inner_buffer old.files.nest) (inner_buffer new.files.nest) → old.owed ≡ nothing_owed
+      → SourcesCalled g true false old.sources new.sources
+      → (g.tells old.sources → text_of g old ≡ text_of g new) → Walks g old new (Err f)
+  unfolding fault_at is_read_failed is_write_failed is_memory_kind is_call_failed
+  walks_failed f is becomes only moves unowed call text =
+      let read : is_read_failed f.kind ≡ true = ap (λ t. is_read_failed t.kind) is in
+      let write : is_write_failed f.kind ≡ false = ap (λ t. is_write_failed t.kind) is in
+      let memory : is_memory_kind f.kind ≡ false = ap (λ t. is_memory_kind t.kind) is in
+      walks_stopped f (OnRead is) (ap (λ t. is_call_failed t.kind) is) write becomes only moves unowed (rw (read, memory) call) text
+
   -- the text has ended
   pub walks_end : new ≡ record old { phase = Closed; files = new.files; sources = new.sources } → old.owed ≡ nothing_owed
       → SourcesCalled g false false old.sources new.sources
-      → (g.tells old.sources → EndsText new (text_of g.unread old)) → Walks g old new (Ok None)
+      → (g.tells old.sources → EndsText new (text_of g old)) → Walks g old new (Ok None)
   unfolding has_met no_len uncut_of kept_uncut phase_uncut
   walks_end becomes unowed call text =
       let closed : new.phase ≡ Closed = ap (λ e. e.phase) becomes in
@@ -245,7 +274,7 @@ module _ {S R : Type 0} (g : Ghosts S R) (old new : EngineView S R) (free : old.
         ends = λ e. (none, closed);
         failed = λ met. absurd (let no : false ≡ true = rw free at met in cc);
         call = rw free call;
-        tells = λ _ t. (left_open g.unread old free open_ ∙ (ap outcome ((text t).text) ∙ outcome-leaves (gives []) (text t).last), rw (none, closed) refl);
+        tells = λ _ t. (left_open g old free open_ ∙ (ap outcome ((text t).text) ∙ outcome-leaves (gives []) (text t).last), rw (none, closed) refl);
         text = λ _ _ _ t. text t;
         reads = λ met. absurd (let no : false ≡ true = rw free at met in cc);
         halts = λ _ _. ap (λ e. e.owed) becomes ∙ unowed;
@@ -270,7 +299,7 @@ pub record IsSilent {S R : Type 0} (g : Ghosts S R) (old mid : EngineView S R) :
   pub open_ : old.phase ≡ Open
   pub stays : mid.phase ≡ Open
   pub call : SourcesCalled g false false old.sources mid.sources
-  pub text : g.tells old.sources → text_of g.unread old ≡ text_of g.unread mid
+  pub text : g.tells old.sources → text_of g old ≡ text_of g mid
   pub work : work_left mid ≤ work_left old
 
 -- what a step says of the fault that is kept, where it answers none: none was kept
@@ -306,12 +335,12 @@ called_after g a b c d old mid new e f first then_ = record {
 }
 
 -- all of a piece is lent, whatever may still be
-told_over : {S R : Type 0} (unread : R → List ℕ) (answer : Result (Option (List ℕ)) Told) (a b : ℕ) (p : Passage) (new : EngineView S R)
-    → TellsText (all_of a) unread answer p new → TellsText (all_of b) unread answer p new
+told_over : {S R : Type 0} (g : Ghosts S R) (answer : Result (Option (List ℕ)) Told) (a b : ℕ) (p : Passage) (new : EngineView S R)
+    → TellsText (all_of a) g answer p new → TellsText (all_of b) g answer p new
 unfolding all_of
-told_over unread (Ok (Some bytes)) a b p new tells = record { piece = tells.piece; lent = tells.lent; text = tells.text }
-told_over unread (Ok None) a b p new tells = tells
-told_over unread (Err f) a b p new tells = tells
+told_over g (Ok (Some bytes)) a b p new tells = record { piece = tells.piece; lent = tells.lent; text = tells.text }
+told_over g (Ok None) a b p new tells = tells
+told_over g (Err f) a b p new tells = tells
 
 -- where no byte was lent, the same remains
 silent_text : (quota : ℕ) (old new : Passage) → LendsText (all_of quota) [] old new → old ≡ new
@@ -319,7 +348,7 @@ unfolding all_of behind_bytes
 silent_text quota old new lends = lends.text ∙ ap (λ (x : List ℕ). behind_bytes x new) (sym lends.lent)
 
 -- what an answer leaves, behind such a part
-halts_behind : {S R : Type 0} (g : Ghosts S R) (answer : Result (Option (List ℕ)) Told) (old mid new : EngineView S R) → (g.tells old.sources → text_of g.unread old ≡ text_of g.unread mid)
+halts_behind : {S R : Type 0} (g : Ghosts S R) (answer : Result (Option (List ℕ)) Told) (old mid new : EngineView S R) → (g.tells old.sources → text_of g old ≡ text_of g mid)
     → (g.tells old.sources → g.tells mid.sources) → Halts g answer mid new → Halts g answer old new
 halts_behind g (Ok (Some bytes)) old mid new text tells halts = tt
 halts_behind g (Ok None) old mid new text tells halts = halts
@@ -327,9 +356,7 @@ halts_behind g (Err f) old mid new text tells halts = record {
   at = halts.at;
   text = λ t. text t ∙ halts.text (tells t);
   unowed = halts.unowed;
-  becomes = halts.becomes;
-  only = halts.only;
-  moves = halts.moves;
+  stopped = halts.stopped;
 }
 
 -- such a part, and then a step, are one step
@@ -350,19 +377,19 @@ silent_then g old mid new answer first then_ =
       free = then_.free;
       own = λ none. then_.own first.still;
       ends = then_.ends;
-      failed = λ met. then_.failed (sym (same is_read_failed) ∙ met);
+      failed = λ met. then_.failed (sym (same is_call_failed) ∙ met);
       call = rw (same is_read_failed, same is_memory_kind)
           (called_after g false (has_failed mid.kept answer) false (has_refused mid.kept answer) _ _ _ refl refl first.call then_.call);
       tells = λ own t.
-          let left : uncut_of g.unread mid ≡ uncut_of g.unread old =
-          left_open g.unread mid first.still first.stays ∙ (sym (ap outcome (first.text t)) ∙ sym (left_open g.unread old first.free first.open_)) in
-          subst (λ (o : Outcome). Tells answer o (uncut_of g.unread new)) left (then_.tells (sym (same is_read_failed) ∙ own) (first.call.tells t));
+          let left : uncut_of g mid ≡ uncut_of g old =
+          left_open g mid first.still first.stays ∙ (sym (ap outcome (first.text t)) ∙ sym (left_open g old first.free first.open_)) in
+          subst (λ (o : Outcome). Tells answer o (uncut_of g new)) left (then_.tells (sym (same is_call_failed) ∙ own) (first.call.tells t));
       text = λ _ _ own t.
-          subst (λ (p : Passage). TellsText (all_of old.quota) g.unread answer p new) (sym (first.text t))
-          (told_over g.unread answer mid.quota old.quota (text_of g.unread mid) new (then_.text first.still first.stays (sym (same is_read_failed) ∙ own) (first.call.tells t)));
+          subst (λ (p : Passage). TellsText (all_of old.quota) g answer p new) (sym (first.text t))
+          (told_over g answer mid.quota old.quota (text_of g mid) new (then_.text first.still first.stays (sym (same is_call_failed) ∙ own) (first.call.tells t)));
       reads = λ met.
-          let reads = then_.reads (sym (same is_read_failed) ∙ met) in
-          record { open_ = first.open_; still = reads.still; text = λ t. first.text t ∙ reads.text (first.call.tells t) };
+          let reads = then_.reads (sym (same is_call_failed) ∙ met) in
+          record { open_ = first.open_; still = reads.still; at = reads.at; stood = reads.stood; text = λ t. first.text t ∙ reads.text (first.call.tells t) };
       halts = λ _ _. halts_behind g answer old mid new first.text first.call.tells (then_.halts first.still first.stays);
       falls = λ bytes is. (let less = then_.falls bytes is in let most = first.work in omega arith);
       lends = λ bytes is. (first.open_, (then_.lends bytes is).1);
@@ -384,7 +411,7 @@ follows Closed h = cc h
 silent_step : {S R : Type 0} (g : Ghosts S R) (old mid : EngineView S R) → Walks g old mid (Ok (Some [])) → IsSilent g old mid
 unfolding no_len all_of
 silent_step g old mid w =
-    let free : old.kept ≡ None = free_before g (uncut_of g.unread) no_len all_of may_follow old mid old.kept (Some []) refl w in
+    let free : old.kept ≡ None = free_before g (uncut_of g) no_len all_of may_follow old mid old.kept (Some []) refl w in
     let lends = w.lends [] refl in
     let none : (test : FaultKind → Bool) → has_met test old.kept (Ok (Some [])) ≡ false = λ test. ok_not_met test old.kept (Some []) in
     record {
@@ -399,7 +426,7 @@ silent_step g old mid w =
       open_ = lends.0;
       stays = follows mid.phase lends.1;
       call = rw (none is_read_failed, none is_memory_kind) at w.call;
-      text = λ t. silent_text old.quota (text_of g.unread old) (text_of g.unread mid) (w.text free lends.0 (none is_read_failed) t);
+      text = λ t. silent_text old.quota (text_of g old) (text_of g mid) (w.text free lends.0 (none is_call_failed) t);
       work = (let less = w.falls [] refl in omega arith);
     }
 
@@ -450,7 +477,7 @@ write_failed_by f t e = ap (λ (x : Told). is_write_failed x.kind) (let same : t
 -- more bytes are due than the output may have
 pub steps_passed : {S R : Type 0} (g : Ghosts S R) (old new : EngineView S R) →
     old.kept ≡ None → old.phase ≡ Passed → IsBounded new → new ≡ record old { kept = Some (output_fault old.main) } → Walks g old new (Err (output_fault old.main))
-unfolding has_met uncut_of kept_uncut phase_uncut no_len output_fault is_read_failed is_write_failed is_memory_kind
+unfolding has_met uncut_of kept_uncut phase_uncut no_len output_fault is_call_failed is_read_failed is_write_failed is_memory_kind
 steps_passed g old new free past bounded becomes =
     let still : new.phase ≡ Passed = ap (λ e. e.phase) becomes ∙ past in
     record {

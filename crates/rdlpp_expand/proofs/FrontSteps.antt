@@ -1,14 +1,14 @@
 -- What is taken of the open sources, as steps of the engine.
-use Rattle.std.proofs.Common.{◌≡◌, ℕ, zero, suc, ◌+◌, ◌-◌, ◌^◌, ◌≤◌, ◌<◌, Bool, true, false, cond, List, [], ◌∷◌, ◌++◌, length, take, drop, replicate, append_assoc, append-nil, Option, None, Some, Ok, refl, sym, ap, ◌∙◌, subst, arith, ◌⊎◌, Result, Err, inl, inr}
+use Rattle.std.proofs.Common.{◌≡◌, ℕ, zero, suc, ◌+◌, ◌-◌, ◌^◌, ◌≤◌, ◌<◌, Bool, true, false, cond, List, [], ◌∷◌, ◌++◌, length, take, drop, replicate, append_assoc, append-nil, Option, None, Some, Ok, refl, sym, ap, ◌∙◌, subst, arith}
 use Rattle.std.specs.List.{slice_range}
 use Rattle.std.specs.Prelude.{min, IfSome}
 use Rattle.std.proofs.lemmas.List.{take-take, drop-take, length-drop, length-take, take_all, take_rest}
 use Rattle.std.proofs.Math.Seq.{drop-nil}
+use Rattle.rdlpp_source.specs.Sources.{Catalog}
 use Rattle.rdlpp_source.specs.declared.sources.Sources.{Ghosts}
 use Rattle.rdlpp_scan.specs.Bytes.{is_line_end}
-use Rattle.rdlpp_scan.specs.Front.{Breach}
 use Rattle.rdlpp_scan.specs.SourceTokens.{line_ends}
-use Rattle.rdlpp_scan.specs.Stage.{is_reserved}
+use Rattle.rdlpp_scan.specs.Reserved.{is_reserved}
 use Rattle.rdlpp_scan.specs.declared.token.Directive.TheVariants.{Define, Undef}
 use Rattle.rdlpp_scan.specs.declared.token.Mode.{Mode}
 use Rattle.rdlpp_scan.specs.declared.token.Mode.TheVariants.{Plain}
@@ -22,40 +22,41 @@ use Rattle.rdlpp_table.specs.declared.fault.DefineKind.{DefineKind}
 use Rattle.rdlpp_table.specs.declared.fault.DefineKind.TheVariants as define
 use Rattle.rdlpp_meaning.specs.declared.fault.FaultKind.{FaultKind}
 use Rattle.rdlpp_meaning.specs.declared.fault.FaultKind.TheVariants as fault
-use Rattle.rdlpp_meaning.specs.Meaning.{Passage, behind_bytes, leaves}
+use Rattle.rdlpp_meaning.specs.Meaning.{Passage, behind_bytes, goes_on, leaves}
 use Rattle.rdlpp_meaning.specs.Outcome.{Told, fails}
-use Rattle.rdlpp_meaning.specs.Output.{start_state}
 use Rattle.rdlpp_meaning.specs.Parts.{line_ends_of}
 use Rattle.rdlpp_meaning.specs.Profile.{define_fault, rules_of, with_fault}
 use Rattle.rdlpp_meaning.specs.Stage.{is_unbuilt_macro}
-use Rattle.rdlpp_meaning.specs.State.{State, breach_kind, fault_at}
+use Rattle.rdlpp_meaning.specs.State.{State, fault_at}
 use Rattle.rdlpp_meaning.proofs.OwedLineEnds.{line_ends_of-owed}
-use Rattle.rdlpp_read.specs.Buffer.{BufferView, entered_mode, held_of, reading_line_of, EndsHeld, IsBuffer, Slides, closed_buffer, unused_of}
+use Rattle.rdlpp_read.specs.Buffer.{BufferView, entered_mode, held_of, reading_line_of, Slides}
 use Rattle.rdlpp_read.specs.Files.{AreOpen, FilesView, consumed_file, inner_buffer, with_buffer, with_inner}
-use Rattle.rdlpp_read.specs.Filling.{Fills, ended_tokens, only_broken}
+use Rattle.rdlpp_read.specs.Filling.{Fills}
 use Rattle.rdlpp_read.specs.LogicalLines.{HoldsLine}
 use Rattle.rdlpp_read.specs.declared.buffer.extending.LogicalLine.TheVariants as line
 use Rattle.rdlpp_read.specs.declared.buffer.filling.Fill.TheVariants as fill
 use Rattle.rdlpp_read.specs.declared.files.File.{File}
-use Rattle.rdlpp_front.specs.Fronts.{AtBare, AtPerl, AtUnbuilt, HasName, IsDirective, IsRefused, IsText, IsUsage, LacksName, argument_name, usage_name}
+use Rattle.rdlpp_front.specs.Fronts.{AtBare, AtPerl, HasName, IsDirective, IsRefused, IsText, IsUsage, LacksName, argument_name, usage_name}
 use Rattle.rdlpp_front.proofs.Insides.{name_inside, text_inside, usage_inside}
 use Rattle.rdlpp_conditions.specs.Conditions.{ConditionsView}
 use Rattle.rdlpp_expand.specs.Calls.{SourcesCalled}
 use Rattle.rdlpp_expand.specs.Engine.{EngineView, IsSoundEngine, is_open}
 use Rattle.rdlpp_expand.specs.Held.{IsBounded}
-use Rattle.rdlpp_expand.specs.Moves.{Defines, Ends, IsReady, ReadsDefine, RefusesDefine, StopsOpen, define_rest}
+use Rattle.rdlpp_expand.specs.Moves.{Defines, IsReady, IsUnowed, ReadsDefine, RefusesDefine, define_rest}
 use Rattle.rdlpp_expand.specs.Owed.{OriginView, OwedView, TakesPiece, digits_of, line_ends_owed, nothing_owed, origin_bytes, origin_pieces, owed_bytes, owed_pieces, part_bytes}
 use Rattle.rdlpp_expand.specs.declared.owed.OwedPiece.{OwedPiece}
 use Rattle.rdlpp_expand.specs.Pieces.{IsPlaced, lent_answer, step_answer}
-use Rattle.rdlpp_expand.specs.Remaining.{file_state, inner_name, nest_left, nest_state, staged_rules, state_of, text_of, work_left}
-use Rattle.rdlpp_expand.specs.Steps.{IsOwn, Walks, is_memory_kind, is_read_failed, is_write_failed, EndsText, MovesOn}
+use Rattle.rdlpp_expand.specs.Remaining.{file_state, inner_name, nest_left, nest_state, run_rules, staged_rules, state_of, text_of, work_left}
+use Rattle.rdlpp_expand.specs.Steps.{IsOwn, Walks, is_memory_kind, is_read_failed, is_write_failed, MovesOn}
 use Rattle.rdlpp_expand.specs.declared.phase.Phase.{Phase}
-use Rattle.rdlpp_expand.specs.declared.phase.Phase.TheVariants.{Open, Closed}
+use Rattle.rdlpp_expand.specs.declared.phase.Phase.TheVariants.{Open}
 use Rattle.rdlpp_expand.specs.declared.place.Place.{Place}
-use Rattle.rdlpp_expand.specs.declared.place.Place.TheVariants.{Source, Body, Owed, End, Kept}
-use Rattle.rdlpp_expand.proofs.EngineSteps.{IsSilent, kept_at, not_called, walks_end, walks_failed, walks_fault, walks_lent}
-use Rattle.rdlpp_expand.proofs.NestLeft.{nest_body, nest_cut_define, nest_defined, nest_ended, nest_filled, nest_long_define, nest_long_line, nest_long_source, nest_nameless, nest_open, nest_refused, nest_refused_define, nest_reserved, nest_text, nest_unbuilt, nest_undef, nest_undefined, nest_unfilled, nest_unheld}
-use Rattle.rdlpp_expand.proofs.Soundness.{IsInner, inner_facts, with_inner-length}
+use Rattle.rdlpp_expand.specs.declared.place.Place.TheVariants.{Source, Body, Text, Owed, End, Kept}
+use Rattle.rdlpp_usages.specs.Usages.{texts_left}
+use Rattle.rdlpp_expand.proofs.IdleTexts.{text_idle}
+use Rattle.rdlpp_expand.proofs.EngineSteps.{IsSilent, kept_at, not_called, walks_failed, walks_fault, walks_lent}
+use Rattle.rdlpp_expand.proofs.NestLeft.{nest_body, nest_cut_define, nest_defined, nest_filled, nest_long_define, nest_long_line, nest_long_source, nest_nameless, nest_refused, nest_refused_define, nest_reserved, nest_text, nest_undef, nest_undefined, nest_unfilled, nest_unheld}
+use Rattle.rdlpp_expand.proofs.Soundness.{inner_facts, with_inner-length}
 use Rattle.rdlpp_expand.proofs.WorkFacts.{IsUsed, entered_unused, held_room, owed_falls, used_after, used_bytes, work_falls, work_same}
 
 -- another buffer for the innermost source changes no state
@@ -71,7 +72,7 @@ buffer_given b [] some = absurd (omega arith)
 buffer_given b (f ∷ outer) some = refl
 
 -- the innermost source with its own buffer
-same_nest : {R : Type 0} (nest : List (File R)) → nest ≡ with_buffer (inner_buffer nest) nest
+pub same_nest : {R : Type 0} (nest : List (File R)) → nest ≡ with_buffer (inner_buffer nest) nest
 same_nest [] = refl
 same_nest (f ∷ outer) = refl
 
@@ -120,19 +121,20 @@ line_ends-le (b ∷ bs) =
     let tail = line_ends-le bs in
     rw line_ends-cons (one_more (is_line_end b) (line_ends bs) (length bs) tail)
 
--- what remains of the text where nothing is owed
-text_unowed : {S R : Type 0} (unread : R → List ℕ) (e : EngineView S R) → e.owed ≡ nothing_owed
-    → text_of unread e ≡ nest_left e.limits (staged_rules e.limits e.origins) unread e.table.macros e.conditions e.files.nest
-unfolding text_of nothing_owed owed_bytes origin_bytes behind_bytes
-text_unowed unread e none = rw none refl
-
 -- nothing that is owed is before nothing
-unowed_behind : (name : List ℕ) (owed : OwedView) (p : Passage) → owed ≡ nothing_owed → behind_bytes (owed_bytes name owed) p ≡ p
+pub unowed_behind : (name : List ℕ) (owed : OwedView) (p : Passage) → owed ≡ nothing_owed → behind_bytes (owed_bytes name owed) p ≡ p
 unfolding nothing_owed owed_bytes origin_bytes behind_bytes
 unowed_behind name owed p none = rw none refl
 
+-- what remains of the text where nothing is owed
+pub text_unowed : {S R : Type 0} (g : Ghosts S R) (e : EngineView S R) → e.owed ≡ nothing_owed → e.expansion.opens ≡ []
+    → text_of g e ≡ nest_left e.limits (run_rules g e) g.unread e.table.macros e.conditions e.files.nest
+text_unowed g e none idle =
+    text_idle g e idle
+    ∙ unowed_behind (inner_name e.files.nest) e.owed (nest_left e.limits (run_rules g e) g.unread e.table.macros e.conditions e.files.nest) none
+
 -- nothing that is owed can be counted
-unowed_few : (owed : OwedView) → owed ≡ nothing_owed → owed_pieces owed < 2 ^ 31
+pub unowed_few : (owed : OwedView) → owed ≡ nothing_owed → owed_pieces owed < 2 ^ 31
 unfolding nothing_owed owed_pieces origin_pieces
 unowed_few owed none = rw none (omega arith)
 
@@ -147,39 +149,49 @@ unfolding line_ends_owed owed_pieces origin_pieces
 lines_few lines n few = omega arith
 
 -- what is left of the open sources of an engine, with other macros, other conditionals and others open
-abbrev pub left_by : {S R : Type 0} → (R → List ℕ) → EngineView S R → List Macro → ConditionsView → List (File R) → Passage
-left_by unread e macros v nest = nest_left e.limits (staged_rules e.limits e.origins) unread macros v nest
+abbrev pub left_by : {S R : Type 0} → Ghosts S R → EngineView S R → List Macro → ConditionsView → List (File R) → Passage
+left_by g e macros v nest = nest_left e.limits (run_rules g e) g.unread macros v nest
+
+-- the work left falls, and a piece is lent
+pub lends_by : {S R : Type 0} (g : Ghosts S R) (old : EngineView S R) (ready : IsReady old) (bytes : List ℕ) (owed : OwedView) (macros : List Macro) (v : ConditionsView) (nest : List (File R)) (sources : S)
+    → let after = record old { owed = owed; table = record old.table { macros = macros }; conditions = v; files = record old.files { nest = nest }; sources = sources } in
+    IsBounded after → work_left after < work_left old → SourcesCalled g false false old.sources sources
+    → (g.tells old.sources → left_by g old old.table.macros old.conditions old.files.nest ≡ behind_bytes bytes (behind_bytes (owed_bytes (inner_name nest) owed) (left_by g old macros v nest)))
+    → Walks g old after (Ok (Some bytes))
+lends_by g old ready bytes owed macros v nest sources bounded falls call law =
+    let after = record old { owed = owed; table = record old.table { macros = macros }; conditions = v; files = record old.files { nest = nest }; sources = sources } in
+    walks_lent g old after ready.free ready.open_ bounded bytes refl (refl, refl) call
+    (λ t. text_unowed g old ready.owed ready.idle
+    ∙ (law t ∙ (ap (λ (c : Catalog). behind_bytes bytes (behind_bytes (owed_bytes (inner_name nest) owed) (nest_left old.limits (staged_rules c old.limits old.origins) g.unread macros v nest))) (sym call.catalog)
+    ∙ ap (behind_bytes bytes) (sym (text_idle g after ready.idle)))))
+    falls
 
 -- bytes of the innermost source are used, and a piece is lent
 pub lends_piece : {S R : Type 0} (g : Ghosts S R) (old : EngineView S R) (ready : IsReady old) (bytes : List ℕ) (owed : OwedView) (macros : List Macro) (v : ConditionsView) (nest : List (File R)) (sources : S)
     → let after = record old { owed = owed; table = record old.table { macros = macros }; conditions = v; files = record old.files { nest = nest }; sources = sources } in
     IsBounded after → owed_pieces owed < 2 ^ 31 → IsUsed old.files.nest nest → SourcesCalled g false false old.sources sources
-    → (g.tells old.sources → left_by g.unread old old.table.macros old.conditions old.files.nest ≡ behind_bytes bytes (behind_bytes (owed_bytes (inner_name nest) owed) (left_by g.unread old macros v nest)))
+    → (g.tells old.sources → left_by g old old.table.macros old.conditions old.files.nest ≡ behind_bytes bytes (behind_bytes (owed_bytes (inner_name nest) owed) (left_by g old macros v nest)))
     → Walks g old after (Ok (Some bytes))
-unfolding text_of
 lends_piece g old ready bytes owed macros v nest sources bounded few used call law =
     let after = record old { owed = owed; table = record old.table { macros = macros }; conditions = v; files = record old.files { nest = nest }; sources = sources } in
-    walks_lent g old after ready.free ready.open_ bounded bytes refl (refl, refl) call
-    (λ t. unowed_behind (inner_name old.files.nest) old.owed (left_by g.unread old old.table.macros old.conditions old.files.nest) ready.owed ∙ law t)
-    (work_falls old after refl used few)
+    lends_by g old ready bytes owed macros v nest sources bounded (work_falls old after refl used ready.idle ready.idle few) call law
 
 -- and nothing is owed
 pub lends_source : {S R : Type 0} (g : Ghosts S R) (old new : EngineView S R) (ready : IsReady old) (bytes : List ℕ) (macros : List Macro) (v : ConditionsView) (nest : List (File R))
     → new ≡ record old { table = record old.table { macros = macros }; conditions = v; files = record old.files { nest = nest } }
     → IsBounded new → IsUsed old.files.nest nest
-    → left_by g.unread old old.table.macros old.conditions old.files.nest ≡ behind_bytes bytes (left_by g.unread old macros v nest)
+    → left_by g old old.table.macros old.conditions old.files.nest ≡ behind_bytes bytes (left_by g old macros v nest)
     → Walks g old new (Ok (Some bytes))
 lends_source {S} {R} g old new ready bytes macros v nest becomes bounded used law =
     subst (λ (e : EngineView S R). Walks g old e (Ok (Some bytes))) (sym becomes)
     (lends_piece g old ready bytes old.owed macros v nest old.sources (subst IsBounded becomes bounded) (unowed_few old.owed ready.owed) used (not_called g old.sources)
-    (λ t. law ∙ ap (behind_bytes bytes) (sym (unowed_behind (inner_name nest) old.owed (left_by g.unread old macros v nest) ready.owed))))
+    (λ t. law ∙ ap (behind_bytes bytes) (sym (unowed_behind (inner_name nest) old.owed (left_by g old macros v nest) ready.owed))))
 
 -- what isn't built, refused or read isn't a failed read
 pub refused_kind : (mode : Mode) (held : List ℕ) (kind : FaultKind) → IsRefused mode held kind → IsOwn kind
 unfolding is_read_failed is_write_failed is_memory_kind
 refused_kind mode held kind (AtPerl h) = record { read = refl; write = refl; memory = refl }
 refused_kind mode held kind (AtBare plain h) = record { read = refl; write = refl; memory = refl }
-refused_kind mode held kind (AtUnbuilt plain h) = record { read = refl; write = refl; memory = refl }
 
 -- nor is a refused definition
 pub define_kind : (kind : DefineKind) → IsOwn (define_fault kind)
@@ -201,10 +213,6 @@ pub undefined_kind : IsOwn fault.UndefinedMacro
 unfolding is_read_failed is_write_failed is_memory_kind
 undefined_kind = record { read = refl; write = refl; memory = refl }
 
-pub unbuilt_kind : IsOwn fault.Unbuilt
-unfolding is_read_failed is_write_failed is_memory_kind
-unbuilt_kind = record { read = refl; write = refl; memory = refl }
-
 pub nameless_kind : IsOwn fault.NameExpected
 unfolding is_read_failed is_write_failed is_memory_kind
 nameless_kind = record { read = refl; write = refl; memory = refl }
@@ -224,6 +232,26 @@ source_kind = record { read = refl; write = refl; memory = refl }
 pub string_kind : IsOwn fault.OpenString
 unfolding is_read_failed is_write_failed is_memory_kind
 string_kind = record { read = refl; write = refl; memory = refl }
+
+pub stray_kind : IsOwn fault.StrayBranch
+unfolding is_read_failed is_write_failed is_memory_kind
+stray_kind = record { read = refl; write = refl; memory = refl }
+
+pub late_branch_kind : IsOwn fault.BranchAfterElse
+unfolding is_read_failed is_write_failed is_memory_kind
+late_branch_kind = record { read = refl; write = refl; memory = refl }
+
+pub many_conditionals_kind : IsOwn fault.TooManyConditionals
+unfolding is_read_failed is_write_failed is_memory_kind
+many_conditionals_kind = record { read = refl; write = refl; memory = refl }
+
+pub unclosed_kind : IsOwn fault.OpenConditional
+unfolding is_read_failed is_write_failed is_memory_kind
+unclosed_kind = record { read = refl; write = refl; memory = refl }
+
+pub perl_kind : IsOwn fault.EmbeddedPerl
+unfolding is_read_failed is_write_failed is_memory_kind
+perl_kind = record { read = refl; write = refl; memory = refl }
 
 pub comment_kind : IsOwn fault.OpenComment
 unfolding is_read_failed is_write_failed is_memory_kind
@@ -265,7 +293,7 @@ read_state {S} {R} old mid r =
     ∙ rw (limits, table, conditions) refl)
 
 -- what keeping a fault makes of an engine
-keeps_fault : {S R : Type 0} (old mid new : EngineView S R) (f : Told) → IsRead old mid → new ≡ record mid { kept = Some f }
+pub keeps_fault : {S R : Type 0} (old mid new : EngineView S R) (f : Told) → IsRead old mid → new ≡ record mid { kept = Some f }
     → new ≡ record old { kept = Some f; files = new.files; sources = new.sources }
 keeps_fault {S} {R} old mid new f r becomes =
     let files : new.files ≡ mid.files = ap (λ e. e.files) becomes in
@@ -275,61 +303,69 @@ keeps_fault {S} {R} old mid new f r becomes =
     ∙ (ap (λ (fs : FilesView R). keeps fs mid.sources) (sym files) ∙ ap (λ (s : S). keeps new.files s) (sym sources)))
 
 -- and the innermost buffer alone
-keeps_files : {S R : Type 0} (old mid new : EngineView S R) (f : Told) → IsRead old mid → new ≡ record mid { kept = Some f }
+pub keeps_files : {S R : Type 0} (old mid new : EngineView S R) (f : Told) → IsRead old mid → new ≡ record mid { kept = Some f }
     → new.files ≡ record old.files { nest = with_buffer (inner_buffer new.files.nest) old.files.nest }
 keeps_files {S} {R} old mid new f r becomes =
     subst (λ (fs : FilesView R). fs ≡ record old.files { nest = with_buffer (inner_buffer fs.nest) old.files.nest }) (sym (ap (λ e. e.files) becomes)) r.only
 
 -- whose window moved on
-keeps_moves : {S R : Type 0} (old mid new : EngineView S R) (f : Told) → IsRead old mid → new ≡ record mid { kept = Some f }
+pub keeps_moves : {S R : Type 0} (old mid new : EngineView S R) (f : Told) → IsRead old mid → new ≡ record mid { kept = Some f }
     → MovesOn (inner_buffer old.files.nest) (inner_buffer new.files.nest)
 keeps_moves {S} {R} old mid new f r becomes =
     subst (λ (fs : FilesView R). MovesOn (inner_buffer old.files.nest) (inner_buffer fs.nest)) (sym (ap (λ e. e.files) becomes)) r.moves
 
 -- the text is the same where what remains of the open sources is
-read_text : {S R : Type 0} (unread : R → List ℕ) (old mid : EngineView S R) → old.owed ≡ nothing_owed → IsRead old mid
-    → left_by unread old old.table.macros old.conditions old.files.nest ≡ left_by unread old old.table.macros old.conditions (with_buffer (inner_buffer mid.files.nest) old.files.nest)
-    → text_of unread old ≡ text_of unread mid
-read_text {S} {R} unread old mid unowed r law =
+pub read_text : {S R : Type 0} (g : Ghosts S R) (old mid : EngineView S R) → old.owed ≡ nothing_owed → old.expansion.opens ≡ [] → IsRead old mid → g.catalog mid.sources ≡ g.catalog old.sources
+    → left_by g old old.table.macros old.conditions old.files.nest ≡ left_by g old old.table.macros old.conditions (with_buffer (inner_buffer mid.files.nest) old.files.nest)
+    → text_of g old ≡ text_of g mid
+read_text {S} {R} g old mid unowed idle r catalog law =
     let limits : mid.limits ≡ old.limits = ap (λ e. e.limits) r.becomes in
     let origins : mid.origins ≡ old.origins = ap (λ e. e.origins) r.becomes in
     let table : mid.table ≡ old.table = ap (λ e. e.table) r.becomes in
     let owed : mid.owed ≡ old.owed = ap (λ e. e.owed) r.becomes in
     let conditions : mid.conditions ≡ old.conditions = ap (λ e. e.conditions) r.becomes in
     let nest : mid.files.nest ≡ with_buffer (inner_buffer mid.files.nest) old.files.nest = ap (λ f. f.nest) r.only in
-    text_unowed unread old unowed ∙ (law ∙ (ap (λ (ns : List (File R)). left_by unread old old.table.macros old.conditions ns) (sym nest)
-    ∙ (rw (limits, origins, table, conditions) refl ∙ sym (text_unowed unread mid (owed ∙ unowed)))))
+    text_unowed g old unowed idle ∙ (law ∙ (ap (λ (ns : List (File R)). left_by g old old.table.macros old.conditions ns) (sym nest)
+    ∙ (rw (limits, origins, table, conditions, catalog) refl ∙ sym (text_unowed g mid (owed ∙ unowed) (ap (λ e. e.expansion.opens) r.becomes ∙ idle)))))
 
 -- the fault that is kept is no part of the text
-kept_text : {S R : Type 0} (unread : R → List ℕ) (mid new : EngineView S R) (f : Told) → new ≡ record mid { kept = Some f } → text_of unread new ≡ text_of unread mid
-unfolding text_of
-kept_text unread mid new f becomes = ap (text_of unread) becomes
+pub kept_text : {S R : Type 0} (g : Ghosts S R) (mid new : EngineView S R) (f : Told) → new ≡ record mid { kept = Some f } → text_of g new ≡ text_of g mid
+unfolding text_of state_of
+kept_text g mid new f becomes = ap (text_of g) becomes
 
 -- the kind of a fault that is told
-told_kind : (kind : FaultKind) (line : ℕ) (word : List ℕ) (s : State) → IsOwn kind → IsOwn (fault_at kind line word s).kind
+pub told_kind : (kind : FaultKind) (line : ℕ) (word : List ℕ) (s : State) → IsOwn kind → IsOwn (fault_at kind line word s).kind
 unfolding fault_at
 told_kind kind line word s own = own
 
--- a fault of the text is kept
-pub refuses : {S R : Type 0} (g : Ghosts S R) (old mid new : EngineView S R) (place : Place) (kind : FaultKind) (line : ℕ) (word : List ℕ) → IsReady old → IsRead old mid → IsBounded new
-    → place ≡ Kept → new ≡ record mid { kept = Some (fault_at kind line word (state_of mid)) } → IsOwn kind → SourcesCalled g false false old.sources mid.sources
-    → (g.tells old.sources → left_by g.unread old old.table.macros old.conditions old.files.nest ≡ leaves (fails (fault_at kind line word (state_of old))) (state_of old))
+-- a fault of the text is kept, as it is told in the state that the text goes on from
+pub refuses_by : {S R : Type 0} (g : Ghosts S R) (old mid new : EngineView S R) (place : Place) (tell : State → Told) → ((s : State) → IsOwn (tell s).kind) → IsReady old → IsRead old mid → IsBounded new
+    → place ≡ Kept → new ≡ record mid { kept = Some (tell (state_of mid)) } → SourcesCalled g false false old.sources mid.sources
+    → (g.tells old.sources → left_by g old old.table.macros old.conditions old.files.nest ≡ leaves (fails (tell (state_of old))) (state_of old))
     → Walks g old new (lent_answer new place)
 unfolding state_of
-refuses {S} {R} g old mid new place kind line word ready r bounded is becomes own call law =
-    let f = fault_at kind line word (state_of mid) in
+refuses_by {S} {R} g old mid new place tell own ready r bounded is becomes call law =
+    let f = tell (state_of mid) in
     let same : state_of mid ≡ state_of old = read_state old mid r in
     let here : state_of new ≡ state_of mid = ap (λ (e : EngineView S R). nest_state e.limits e.table.macros e.conditions e.files.nest) becomes in
     let sources : new.sources ≡ mid.sources = ap (λ e. e.sources) becomes in
     let P : S → Type 0 = λ s. SourcesCalled g false false old.sources s in
     kept_at g old new place f is (ap (λ e. e.kept) becomes)
-    (walks_fault g old new ready.free ready.open_ bounded f (told_kind kind line word (state_of mid) own) (keeps_fault old mid new f r becomes) (keeps_files old mid new f r becomes) (keeps_moves old mid new f r becomes) ready.owed (subst P (sym sources) call)
-    (λ t. text_unowed g.unread old ready.owed ∙ (law t ∙ (ap (λ (s : State). leaves (fails (fault_at kind line word s)) s) (sym same) ∙ ap (leaves (fails f)) (sym here)))))
+    (walks_fault g old new ready.free ready.open_ bounded f (own (state_of mid)) (keeps_fault old mid new f r becomes) (keeps_files old mid new f r becomes) (keeps_moves old mid new f r becomes) ready.owed (subst P (sym sources) call)
+    (λ t. text_unowed g old ready.owed ready.idle ∙ (law t ∙ (ap (λ (s : State). leaves (fails (tell s)) s) (sym same) ∙ ap (leaves (fails f)) (sym here)))))
+
+-- a fault at a line of the source is kept
+pub refuses : {S R : Type 0} (g : Ghosts S R) (old mid new : EngineView S R) (place : Place) (kind : FaultKind) (line : ℕ) (word : List ℕ) → IsReady old → IsRead old mid → IsBounded new
+    → place ≡ Kept → new ≡ record mid { kept = Some (fault_at kind line word (state_of mid)) } → IsOwn kind → SourcesCalled g false false old.sources mid.sources
+    → (g.tells old.sources → left_by g old old.table.macros old.conditions old.files.nest ≡ leaves (fails (fault_at kind line word (state_of old))) (state_of old))
+    → Walks g old new (lent_answer new place)
+refuses g old mid new place kind line word ready r bounded is becomes own call law =
+    refuses_by g old mid new place (λ s. fault_at kind line word s) (λ s. told_kind kind line word s own) ready r bounded is becomes call law
 
 -- a failed read is kept
 pub fails_reading : {S R : Type 0} (g : Ghosts S R) (old mid new : EngineView S R) (place : Place) → IsReady old → IsRead old mid → IsBounded new
     → place ≡ Kept → new ≡ record mid { kept = Some (fault_at fault.ReadFailed (reading_line_of (inner_buffer mid.files.nest)) [] (state_of mid)) } → SourcesCalled g true false old.sources mid.sources
-    → (g.tells old.sources → left_by g.unread old old.table.macros old.conditions old.files.nest ≡ left_by g.unread old old.table.macros old.conditions (with_buffer (inner_buffer mid.files.nest) old.files.nest))
+    → (g.tells old.sources → left_by g old old.table.macros old.conditions old.files.nest ≡ left_by g old old.table.macros old.conditions (with_buffer (inner_buffer mid.files.nest) old.files.nest))
     → Walks g old new (lent_answer new place)
 unfolding state_of
 fails_reading {S} {R} g old mid new place ready r bounded is becomes call law =
@@ -338,7 +374,7 @@ fails_reading {S} {R} g old mid new place ready r bounded is becomes call law =
     let P : S → Type 0 = λ s. SourcesCalled g true false old.sources s in
     kept_at g old new place (told mid) is (ap (λ e. e.kept) becomes)
     (walks_failed g old new ready.free ready.open_ bounded (told mid) (sym (ap told becomes)) (keeps_fault old mid new (told mid) r becomes) (keeps_files old mid new (told mid) r becomes) (keeps_moves old mid new (told mid) r becomes) ready.owed (subst P (sym sources) call)
-    (λ t. read_text g.unread old mid ready.owed r (law t) ∙ sym (kept_text g.unread mid new (told mid) becomes)))
+    (λ t. read_text g old mid ready.owed ready.idle r call.catalog (law t) ∙ sym (kept_text g mid new (told mid) becomes)))
 
 -- nothing changed
 pub read_nothing : {S R : Type 0} (e : EngineView S R) → IsRead e e
@@ -370,7 +406,7 @@ take_text {S} {R} g old mid new len lines from to next ready live bounded some t
     subst (λ (xs : List ℕ). Walks g old new (Ok (Some xs))) (sym part)
     (lends_source g old new ready (take len (held_of b)) old.table.macros old.conditions nest becomes bounded
     (used_after old.files.nest (entered_mode b next) len lines ready.nest (entered_unused b next) within.0 (rw (held_entered b next) within.1))
-    (nest_text old.limits (staged_rules old.limits old.origins) g.unread old.table.macros old.conditions live old.files.nest len lines next some inner.ends text counted))
+    (nest_text old.limits (run_rules g old) g.unread old.table.macros old.conditions live old.files.nest len lines next some inner.ends text counted))
 
 -- all of a text, as a part of it
 whole_part : (xs : List ℕ) (n : ℕ) → n ≡ length xs → slice_range xs 0 n ≡ xs
@@ -395,7 +431,7 @@ take_usage {S} {R} g old new len id end ready live bounded some plain usage name
     subst (λ (xs : List ℕ). Walks g old new (Ok (Some xs))) (sym body)
     (lends_source g old new ready m.body old.table.macros old.conditions (with_inner (consumed_file len 0) old.files.nest) becomes bounded
     (used_bytes old.files.nest len 0 within.0 within.1)
-    (nest_body old.limits (staged_rules old.limits old.origins) g.unread old.table.macros old.conditions live old.files.nest len m some inner.ends plain usage named refl built (omega arith)))
+    (nest_body old.limits (run_rules g old) g.unread old.table.macros old.conditions live old.files.nest len m some inner.ends plain usage named (sym built) built (omega arith)))
 
 -- a macro is taken out
 pub take_undef : {S R : Type 0} (g : Ghosts S R) (old new : EngineView S R) (start stop : ℕ) → IsReady old → old.conditions.skipped ≡ None → IsBounded new
@@ -412,7 +448,7 @@ take_undef g old new start stop ready live bounded some plain named free becomes
     let within = name_inside Undef held start stop named in
     lends_source g old new ready [] (without (argument_name held start stop) old.table.macros) old.conditions (with_inner (consumed_file stop 0) old.files.nest) becomes bounded
     (used_bytes old.files.nest stop 0 (omega (arith, within.0, within.1)) within.2)
-    (nest_undef old.limits (staged_rules old.limits old.origins) g.unread old.table.macros old.conditions live old.files.nest start stop some inner.ends plain named free)
+    (nest_undef old.limits (run_rules g old) g.unread old.table.macros old.conditions live old.files.nest start stop some inner.ends plain named free)
 
 -- a `define` whose logical line is held, and what it comes to
 module _ {S R : Type 0} (g : Ghosts S R) (old mid new : EngineView S R) (len : ℕ) (ready : IsReady old) (live : old.conditions.skipped ≡ None) (r : IsRead old mid) (bounded : IsBounded new)
@@ -446,9 +482,9 @@ module _ {S R : Type 0} (g : Ghosts S R) (old mid new : EngineView S R) (len : �
       subst (λ (e : EngineView S R). Walks g old e (Ok (Some []))) (sym becomes)
       (lends_piece g old ready [] (line_ends_owed d.lines) d.macros old.conditions after mid.sources (subst IsBounded becomes bounded) (lines_few d.lines _ (omega arith))
       (used_after old.files.nest b len d.lines ready.nest holds.extends.unused (omega arith) inside) call
-      (λ t. nest_defined old.limits (staged_rules old.limits old.origins) g.unread old.table.macros old.conditions live (g.tells old.sources) t old.files.nest b len d.lines d.macros
+      (λ t. nest_defined old.limits (run_rules g old) g.unread old.table.macros old.conditions live (g.tells old.sources) t old.files.nest b len d.lines d.macros
       some inner.ends plain define holds (ap with_fault accepted) counted
-      ∙ ap (λ (x : List ℕ). behind_bytes x (left_by g.unread old d.macros old.conditions after)) owed))
+      ∙ ap (λ (x : List ℕ). behind_bytes x (left_by g old d.macros old.conditions after)) owed))
 
   -- it is refused
   refused_steps : (place : Place) → place ≡ Kept → RefusesDefine len mid new → Walks g old new (lent_answer new place)
@@ -461,7 +497,7 @@ module _ {S R : Type 0} (g : Ghosts S R) (old mid new : EngineView S R) (len : �
       let refused : define_of old.limits.definition_bytes old.limits.definitions old.table.macros (drop 7 (take len (held_of b))) ≡ table_define.Refused d.kind d.word =
       rw (← ready.sound.definition_bytes, ← ready.sound.definitions) (rw table at d.refused) in
       refuses g old mid new place (define_fault d.kind) b.line d.word ready r bounded is d.becomes (define_kind d.kind) call
-      (λ t. nest_refused_define old.limits (staged_rules old.limits old.origins) g.unread old.table.macros old.conditions live (g.tells old.sources) t old.files.nest b len (define_fault d.kind) d.word
+      (λ t. nest_refused_define old.limits (run_rules g old) g.unread old.table.macros old.conditions live (g.tells old.sources) t old.files.nest b len (define_fault d.kind) d.word
       some inner.ends plain define holds (ap with_fault refused)
       ∙ rw here refl)
 
@@ -470,6 +506,7 @@ module _ {S R : Type 0} (g : Ghosts S R) (old mid new : EngineView S R) (len : �
   defined_steps (Some Kept) wide inside few reads = refused_steps Kept refl reads
   defined_steps (Some (Source start end)) wide inside few reads = absurd reads
   defined_steps (Some (Body id start end)) wide inside few reads = absurd reads
+  defined_steps (Some (Text p)) wide inside few reads = absurd reads
   defined_steps (Some (Owed n)) wide inside few reads = absurd reads
   defined_steps (Some End) wide inside few reads = absurd reads
 
@@ -479,85 +516,28 @@ defined_placed len old new None reads = tt
 defined_placed len old new (Some Kept) reads = tt
 defined_placed len old new (Some (Source start end)) reads = absurd reads
 defined_placed len old new (Some (Body id start end)) reads = absurd reads
+defined_placed len old new (Some (Text p)) reads = absurd reads
 defined_placed len old new (Some (Owed n)) reads = absurd reads
 defined_placed len old new (Some End) reads = absurd reads
 
--- the macros of a state are those that it is made of
-nest_macros : {R : Type 0} (limits : Limits) (macros : List Macro) (v : ConditionsView) (nest : List (File R)) → (nest_state limits macros v nest).macros ≡ macros
-unfolding nest_state file_state start_state
-nest_macros limits macros v [] = refl
-nest_macros limits macros v (f ∷ outer) = refl
-
 -- bytes in front of bytes
-behind_twice : (x y : List ℕ) (p : Passage) → behind_bytes (x ++ y) p ≡ behind_bytes x (behind_bytes y p)
+pub behind_twice : (x y : List ℕ) (p : Passage) → behind_bytes (x ++ y) p ≡ behind_bytes x (behind_bytes y p)
 unfolding behind_bytes
 behind_twice x y p = ap (λ (xs : List ℕ). record { bytes = xs; fault = p.fault; after = p.after }) (append_assoc x y p.bytes)
-
--- the end of the main text
-module _ {S R : Type 0} (g : Ghosts S R) (old mid new : EngineView S R) (ready : IsReady old) (r : IsRead old mid) (bounded : IsBounded new)
-    (fills : Fills (g.tells old.sources) g.unread fill.End (inner_buffer old.files.nest) (inner_buffer mid.files.nest))
-    (call : SourcesCalled g false false old.sources mid.sources) where
-  ended_text : (inner_buffer mid.files.nest).mode ≡ Plain → new ≡ record mid { phase = Closed; files = record mid.files { nest = [] } } → Walks g old new (Ok None)
-  unfolding state_of
-  ended_text plain becomes =
-      let files : FilesView R = record mid.files { nest = [] } in
-      let table : new.table ≡ old.table = ap (λ e. e.table) becomes ∙ ap (λ e. e.table) r.becomes in
-      let sources : new.sources ≡ mid.sources = ap (λ e. e.sources) becomes in
-      let closes : FilesView R → S → EngineView S R = λ fs s. record old { phase = Closed; files = fs; sources = s } in
-      let ends : new ≡ record old { phase = Closed; files = new.files; sources = new.sources } =
-      becomes ∙ (ap (λ (m : EngineView S R). record m { phase = Closed; files = files }) r.becomes
-      ∙ (ap (λ (fs : FilesView R). closes fs mid.sources) (sym (ap (λ e. e.files) becomes)) ∙ ap (λ (s : S). closes new.files s) (sym sources))) in
-      let P : S → Type 0 = λ s. SourcesCalled g false false old.sources s in
-      walks_end g old new ready.free ready.open_ bounded ends ready.owed (subst P (sym sources) call)
-      (λ t. record {
-        last = nest_state old.limits old.table.macros old.conditions old.files.nest;
-        text = text_unowed g.unread old ready.owed
-            ∙ nest_ended old.limits (staged_rules old.limits old.origins) g.unread old.table.macros old.conditions (g.tells old.sources) t old.files.nest (inner_buffer mid.files.nest)
-            ready.nest ready.sound.alone ready.sound.conditions_of.unopened fills (sym fills.mode ∙ plain);
-        macros = nest_macros old.limits old.table.macros old.conditions old.files.nest ∙ ap (λ t. t.macros) (sym table);
-        closed = ap (λ e. e.files.nest) becomes;
-      })
-
-  ended_open : StopsOpen mid new → Walks g old new (lent_answer new Kept)
-  unfolding state_of
-  ended_open stops =
-      let b = inner_buffer mid.files.nest in
-      let before = inner_buffer old.files.nest in
-      let tokens : ended_tokens before.mode before.open_token_line ≡ ended_tokens b.mode b.open_token_line =
-      rw (fills.mode, fills.open_token_line) refl in
-      refuses g old mid new Kept (breach_kind stops.breach) b.open_token_line [] ready r bounded refl stops.kept stops.own call
-      (λ t. nest_open old.limits (staged_rules old.limits old.origins) g.unread old.table.macros old.conditions (g.tells old.sources) t old.files.nest b stops.breach ready.nest fills
-      (tokens ∙ (stops.tokens ∙ ap (only_broken stops.breach) fills.open_token_line))
-      ∙ rw fills.open_token_line refl)
-
-  pub ended_steps : (place : Place) → Ends mid new place → Walks g old new (lent_answer new place)
-  ended_steps (Source start end) ends = absurd ends
-  ended_steps (Body id start end) ends = absurd ends
-  ended_steps (Owed n) ends = absurd ends
-  ended_steps End ends = ended_text ends.0 ends.1
-  ended_steps Kept ends = ended_open ends
-
--- the end is a place
-pub ended_placed : {S R : Type 0} (mid new : EngineView S R) (place : Place) → Ends mid new place → IsPlaced new place
-ended_placed mid new (Source start end) ends = absurd ends
-ended_placed mid new (Body id start end) ends = absurd ends
-ended_placed mid new (Owed n) ends = absurd ends
-ended_placed mid new End ends = tt
-ended_placed mid new Kept ends = tt
 
 -- what is owed is lent
 pub take_owed : {S R : Type 0} (g : Ghosts S R) (old new : EngineView S R) (piece : OwedPiece) (owed : OwedView) → old.kept ≡ None → old.phase ≡ Open → IsBounded new
     → TakesPiece (inner_name old.files.nest) old.owed owed piece → new ≡ record old { owed = owed } → Walks g old new (lent_answer new (Owed piece))
-unfolding text_of
+unfolding text_of state_of
 take_owed {S} {R} g old new piece owed free open_ bounded takes becomes =
     let after = record old { owed = owed } in
     let name = inner_name old.files.nest in
     let bytes = take piece.len (part_bytes piece.part name (digits_of owed.origin)) in
-    let rest = left_by g.unread old old.table.macros old.conditions old.files.nest in
+    let rest = goes_on (texts_left (run_rules g old) (state_of old) old.table.macros old.expansion) (λ after. left_by g old old.table.macros old.conditions old.files.nest) in
     subst (λ (e : EngineView S R). Walks g old e (lent_answer e (Owed piece))) (sym becomes)
     (walks_lent g old after free open_ (subst IsBounded becomes bounded) bytes refl (refl, refl) (not_called g old.sources)
     (λ t. ap (λ (x : List ℕ). behind_bytes x rest) takes.bytes ∙ behind_twice bytes (owed_bytes name owed) rest)
-    (owed_falls old after refl refl takes.fewer))
+    (owed_falls old after refl refl refl takes.fewer))
 
 -- and it is a place
 pub owed_is_placed : {S R : Type 0} (old new : EngineView S R) (piece : OwedPiece) (owed : OwedView) → 0 < length old.files.nest
@@ -588,9 +568,9 @@ silent_fill {S} {R} g old mid ready r fills call =
       open_ = ready.open_;
       stays = ap (λ e. e.phase) r.becomes ∙ ready.open_;
       call = call;
-      text = λ t. read_text g.unread old mid ready.owed r
-          (nest_filled old.limits (staged_rules old.limits old.origins) g.unread old.table.macros old.conditions (g.tells old.sources) t old.files.nest b fills);
-      work = (let same : work_left mid ≡ work_left old = work_same old mid b limits owed nest fills.unused in omega arith);
+      text = λ t. read_text g old mid ready.owed ready.idle r call.catalog
+          (nest_filled old.limits (run_rules g old) g.unread old.table.macros old.conditions (g.tells old.sources) t old.files.nest b fills);
+      work = (let same : work_left mid ≡ work_left old = work_same old mid b limits owed (ap (λ e. e.expansion) r.becomes) nest fills.unused in omega arith);
     }
 
 -- the main text is open
@@ -604,107 +584,85 @@ ready_filled old mid ready r sound files = record {
   open_ = ap (λ e. e.phase) r.becomes ∙ ready.open_;
   free = ap (λ e. e.kept) r.becomes ∙ ready.free;
   owed = ap (λ e. e.owed) r.becomes ∙ ready.owed;
+  idle = ap (λ e. e.expansion.opens) r.becomes ∙ ready.idle;
   nest = sound.open_ (opened_phase mid.phase (ap (λ e. e.phase) r.becomes ∙ ready.open_));
   sound = sound;
   files = files;
 }
 
 -- what remains of an engine that goes on, where what it begins with ends the output
-module _ {S R : Type 0} (unread : R → List ℕ) (e : EngineView S R) where
+module _ {S R : Type 0} (g : Ghosts S R) (e : EngineView S R) where
   abbrev pub Fails : FaultKind → ℕ → List ℕ → Type 0
-  Fails kind line word = left_by unread e e.table.macros e.conditions e.files.nest ≡ leaves (fails (fault_at kind line word (state_of e))) (state_of e)
-
-  -- a usage of what isn't built
-  pub left_unbuilt : (len : ℕ) (m : Macro) → IsReady e → e.conditions.skipped ≡ None → 0 < length (held_of (inner_buffer e.files.nest)) → (inner_buffer e.files.nest).mode ≡ Plain → IsUsage (held_of (inner_buffer e.files.nest)) len
-      → macro_named e.table.macros (usage_name (held_of (inner_buffer e.files.nest)) len) ≡ Some m → is_unbuilt_macro m ≡ true → Fails fault.Unbuilt (inner_buffer e.files.nest).line []
-  unfolding state_of staged_rules rules_of
-  left_unbuilt len m ready live some plain usage named unbuilt =
-      nest_unbuilt e.limits (staged_rules e.limits e.origins) unread e.table.macros e.conditions live e.files.nest len m some (inner_facts e.files ready.nest ready.files).ends plain usage named unbuilt
+  Fails kind line word = left_by g e e.table.macros e.conditions e.files.nest ≡ leaves (fails (fault_at kind line word (state_of e))) (state_of e)
 
   -- a usage of what isn't defined
   pub left_undefined : (len : ℕ) → IsReady e → e.conditions.skipped ≡ None → 0 < length (held_of (inner_buffer e.files.nest)) → (inner_buffer e.files.nest).mode ≡ Plain → IsUsage (held_of (inner_buffer e.files.nest)) len
       → macro_named e.table.macros (usage_name (held_of (inner_buffer e.files.nest)) len) ≡ None → Fails fault.UndefinedMacro (inner_buffer e.files.nest).line (usage_name (held_of (inner_buffer e.files.nest)) len)
   unfolding state_of
   left_undefined len ready live some plain usage none =
-      nest_undefined e.limits (staged_rules e.limits e.origins) unread e.table.macros e.conditions live e.files.nest len some (inner_facts e.files ready.nest ready.files).ends plain usage none
+      nest_undefined e.limits (run_rules g e) g.unread e.table.macros e.conditions live e.files.nest len some (inner_facts e.files ready.nest ready.files).ends plain usage none
 
   -- what is refused
   pub left_refused : (kind : FaultKind) → IsReady e → e.conditions.skipped ≡ None → 0 < length (held_of (inner_buffer e.files.nest)) → IsRefused (inner_buffer e.files.nest).mode (held_of (inner_buffer e.files.nest)) kind → Fails kind (inner_buffer e.files.nest).line []
   unfolding state_of
   left_refused kind ready live some refused =
-      nest_refused e.limits (staged_rules e.limits e.origins) unread e.table.macros e.conditions live e.files.nest kind some (inner_facts e.files ready.nest ready.files).ends refused
+      nest_refused e.limits (run_rules g e) g.unread e.table.macros e.conditions live e.files.nest kind some (inner_facts e.files ready.nest ready.files).ends refused
 
   -- an `undef` of a reserved name
   pub left_reserved : (start stop : ℕ) → IsReady e → e.conditions.skipped ≡ None → 0 < length (held_of (inner_buffer e.files.nest)) → (inner_buffer e.files.nest).mode ≡ Plain → HasName Undef (held_of (inner_buffer e.files.nest)) start stop
       → is_reserved (argument_name (held_of (inner_buffer e.files.nest)) start stop) ≡ true → Fails fault.ReservedName (inner_buffer e.files.nest).line (argument_name (held_of (inner_buffer e.files.nest)) start stop)
   unfolding state_of
   left_reserved start stop ready live some plain named taken =
-      nest_reserved e.limits (staged_rules e.limits e.origins) unread e.table.macros e.conditions live e.files.nest start stop some (inner_facts e.files ready.nest ready.files).ends plain named taken
+      nest_reserved e.limits (run_rules g e) g.unread e.table.macros e.conditions live e.files.nest start stop some (inner_facts e.files ready.nest ready.files).ends plain named taken
 
   -- an `undef` without a name
   pub left_nameless : IsReady e → e.conditions.skipped ≡ None → 0 < length (held_of (inner_buffer e.files.nest)) → (inner_buffer e.files.nest).mode ≡ Plain → LacksName Undef (held_of (inner_buffer e.files.nest)) → Fails fault.NameExpected (inner_buffer e.files.nest).line []
   unfolding state_of
   left_nameless ready live some plain lacks =
-      nest_nameless e.limits (staged_rules e.limits e.origins) unread e.table.macros e.conditions live e.files.nest some (inner_facts e.files ready.nest ready.files).ends plain lacks
+      nest_nameless e.limits (run_rules g e) g.unread e.table.macros e.conditions live e.files.nest some (inner_facts e.files ready.nest ready.files).ends plain lacks
 
 -- what remains where a line breaks the source
 module _ {S R : Type 0} (g : Ghosts S R) (old mid : EngineView S R) (ready : IsReady old) (t : g.tells old.sources) where
   pub left_long_line : Fills (g.tells old.sources) g.unread fill.LineLong (inner_buffer old.files.nest) (inner_buffer mid.files.nest)
-      → left_by g.unread old old.table.macros old.conditions old.files.nest ≡ leaves (fails (fault_at fault.LineTooLong (inner_buffer mid.files.nest).line [] (state_of old))) (state_of old)
+      → left_by g old old.table.macros old.conditions old.files.nest ≡ leaves (fails (fault_at fault.LineTooLong (inner_buffer mid.files.nest).line [] (state_of old))) (state_of old)
   unfolding state_of
   left_long_line fills =
-      nest_long_line old.limits (staged_rules old.limits old.origins) g.unread old.table.macros old.conditions (g.tells old.sources) t old.files.nest (inner_buffer mid.files.nest) ready.nest fills
+      nest_long_line old.limits (run_rules g old) g.unread old.table.macros old.conditions (g.tells old.sources) t old.files.nest (inner_buffer mid.files.nest) ready.nest fills
       ∙ rw fills.line refl
 
   pub left_long_source : Fills (g.tells old.sources) g.unread fill.SourceLong (inner_buffer old.files.nest) (inner_buffer mid.files.nest)
-      → left_by g.unread old old.table.macros old.conditions old.files.nest ≡ leaves (fails (fault_at fault.SourceTooLong (inner_buffer mid.files.nest).line [] (state_of old))) (state_of old)
+      → left_by g old old.table.macros old.conditions old.files.nest ≡ leaves (fails (fault_at fault.SourceTooLong (inner_buffer mid.files.nest).line [] (state_of old))) (state_of old)
   unfolding state_of
   left_long_source fills =
-      nest_long_source old.limits (staged_rules old.limits old.origins) g.unread old.table.macros old.conditions (g.tells old.sources) t old.files.nest (inner_buffer mid.files.nest) ready.nest fills
+      nest_long_source old.limits (run_rules g old) g.unread old.table.macros old.conditions (g.tells old.sources) t old.files.nest (inner_buffer mid.files.nest) ready.nest fills
       ∙ rw fills.line refl
 
   -- where a read fails the same remains
   pub left_unfilled : Fills (g.tells old.sources) g.unread fill.Failed (inner_buffer old.files.nest) (inner_buffer mid.files.nest)
-      → left_by g.unread old old.table.macros old.conditions old.files.nest ≡ left_by g.unread old old.table.macros old.conditions (with_buffer (inner_buffer mid.files.nest) old.files.nest)
-  left_unfilled fills = nest_unfilled old.limits (staged_rules old.limits old.origins) g.unread old.table.macros old.conditions (g.tells old.sources) t old.files.nest (inner_buffer mid.files.nest) fills
+      → left_by g old old.table.macros old.conditions old.files.nest ≡ left_by g old old.table.macros old.conditions (with_buffer (inner_buffer mid.files.nest) old.files.nest)
+  left_unfilled fills = nest_unfilled old.limits (run_rules g old) g.unread old.table.macros old.conditions (g.tells old.sources) t old.files.nest (inner_buffer mid.files.nest) fills
 
   pub left_unheld : HoldsLine (g.tells old.sources) g.unread line.Failed (inner_buffer old.files.nest) (inner_buffer mid.files.nest)
-      → left_by g.unread old old.table.macros old.conditions old.files.nest ≡ left_by g.unread old old.table.macros old.conditions (with_buffer (inner_buffer mid.files.nest) old.files.nest)
-  left_unheld holds = nest_unheld old.limits (staged_rules old.limits old.origins) g.unread old.table.macros old.conditions (g.tells old.sources) t old.files.nest (inner_buffer mid.files.nest) holds
+      → left_by g old old.table.macros old.conditions old.files.nest ≡ left_by g old old.table.macros old.conditions (with_buffer (inner_buffer mid.files.nest) old.files.nest)
+  left_unheld holds = nest_unheld old.limits (run_rules g old) g.unread old.table.macros old.conditions (g.tells old.sources) t old.files.nest (inner_buffer mid.files.nest) holds
 
   -- or the logical line of a `define` does
   module _ (live : old.conditions.skipped ≡ None) (some : 0 < length (held_of (inner_buffer old.files.nest))) (plain : (inner_buffer old.files.nest).mode ≡ Plain) (define : IsDirective Define (held_of (inner_buffer old.files.nest))) where
     pub left_long_define : HoldsLine (g.tells old.sources) g.unread line.TooLong (inner_buffer old.files.nest) (inner_buffer mid.files.nest)
-        → left_by g.unread old old.table.macros old.conditions old.files.nest ≡ leaves (fails (fault_at fault.LineTooLong (inner_buffer mid.files.nest).line [] (state_of old))) (state_of old)
+        → left_by g old old.table.macros old.conditions old.files.nest ≡ leaves (fails (fault_at fault.LineTooLong (inner_buffer mid.files.nest).line [] (state_of old))) (state_of old)
     unfolding state_of
     left_long_define holds =
-        nest_long_define old.limits (staged_rules old.limits old.origins) g.unread old.table.macros old.conditions live (g.tells old.sources) t old.files.nest (inner_buffer mid.files.nest)
+        nest_long_define old.limits (run_rules g old) g.unread old.table.macros old.conditions live (g.tells old.sources) t old.files.nest (inner_buffer mid.files.nest)
         some (inner_facts old.files ready.nest ready.files).ends plain define holds
         ∙ rw holds.extends.line refl
 
     pub left_cut_define : HoldsLine (g.tells old.sources) g.unread line.SourceLong (inner_buffer old.files.nest) (inner_buffer mid.files.nest)
-        → left_by g.unread old old.table.macros old.conditions old.files.nest ≡ leaves (fails (fault_at fault.SourceTooLong (inner_buffer mid.files.nest).line [] (state_of old))) (state_of old)
+        → left_by g old old.table.macros old.conditions old.files.nest ≡ leaves (fails (fault_at fault.SourceTooLong (inner_buffer mid.files.nest).line [] (state_of old))) (state_of old)
     unfolding state_of
     left_cut_define holds =
-        nest_cut_define old.limits (staged_rules old.limits old.origins) g.unread old.table.macros old.conditions live (g.tells old.sources) t old.files.nest (inner_buffer mid.files.nest)
+        nest_cut_define old.limits (run_rules g old) g.unread old.table.macros old.conditions live (g.tells old.sources) t old.files.nest (inner_buffer mid.files.nest)
         some (inner_facts old.files ready.nest ready.files).ends plain define holds
         ∙ rw holds.extends.line refl
-
--- a text that ended in a mode in which its end is a fault, at a place
-pub stops_open : {S R : Type 0} (old new : EngineView S R) (place : Place) (breach : Breach) (mode : Mode) (line : ℕ) →
-    place ≡ Kept → (inner_buffer old.files.nest).mode ≡ mode
-    → ended_tokens mode (inner_buffer old.files.nest).open_token_line ≡ only_broken breach (inner_buffer old.files.nest).open_token_line
-    → IsOwn (breach_kind breach) → line ≡ (inner_buffer old.files.nest).open_token_line →
-    new ≡ record old { kept = Some (fault_at (breach_kind breach) line [] (state_of old)) } → Ends old new place
-stops_open {S} {R} old new place breach mode line is at_mode tokens own opened becomes =
-    let b = inner_buffer old.files.nest in
-    let keeps : ℕ → EngineView S R = λ n. record old { kept = Some (fault_at (breach_kind breach) n [] (state_of old)) } in
-    subst (λ (p : Place). Ends old new p) (sym is) (record {
-      breach = breach;
-      tokens = ap (λ (m : Mode). ended_tokens m b.open_token_line) at_mode ∙ tokens;
-      own = own;
-      kept = becomes ∙ ap keeps opened;
-    })
 
 -- no more is held than a line may have
 pub held_few : {S R : Type 0} (e : EngineView S R) → IsSoundEngine e.limits e.phase e.table e.files e.conditions → AreOpen e.files → 0 < length e.files.nest → length (held_of (inner_buffer e.files.nest)) < 2 ^ 31
@@ -810,17 +768,21 @@ defines_by {S} {R} len old now new table owed lines used owes adds nothing limit
           ∙ (ap (makes table) exact ∙ ap (λ (t : TableView). makes t (line_ends_owed lines)) (table_same old.table table limits.0 limits.1)));
     }
 
--- an engine of which nothing is owed goes on in its open sources
-pub ready_unowed : {S R : Type 0} (old new : EngineView S R) → old.phase ≡ Open → old.kept ≡ None → new ≡ record old { owed = nothing_owed }
-    → IsSoundEngine old.limits old.phase old.table old.files old.conditions → AreOpen old.files → IsReady new
-ready_unowed old new open_ free becomes sound files = rw becomes (record {
-  open_ = open_;
-  free = free;
-  owed = refl;
-  nest = sound.open_ (opened_phase old.phase open_);
+-- an engine of which nothing is owed any more
+pub unowed_by : {S R : Type 0} (old new : EngineView S R) → old.phase ≡ Open → old.kept ≡ None → new ≡ record old { owed = nothing_owed } → IsUnowed new
+unowed_by old new open_ free becomes = rw becomes (record { open_ = open_; free = free; owed = refl })
+
+-- it goes on in its open sources where no text of a usage is open
+pub ready_idle : {S R : Type 0} (e : EngineView S R) → IsUnowed e → e.expansion.opens ≡ [] → IsSoundEngine e.limits e.phase e.table e.files e.conditions → AreOpen e.files → IsReady e
+ready_idle e unowed idle sound files = record {
+  open_ = unowed.open_;
+  free = unowed.free;
+  owed = unowed.owed;
+  idle = idle;
+  nest = sound.open_ (opened_phase e.phase unowed.open_);
   sound = sound;
   files = files;
-})
+}
 
 -- the same engine, with something else owed
 pub owing : {S R : Type 0} (a b : EngineView S R) (owed : OwedView) → a ≡ b → record a { owed = owed } ≡ record b { owed = owed }

@@ -4,7 +4,6 @@ use Rattle.std.specs.Prelude.{if◌then◌else◌}
 use Rattle.std.specs.Str.{is_utf8}
 use Rattle.rdlpp_scan.specs.Bytes.{is_line_end}
 use Rattle.rdlpp_scan.specs.SourceTokens.{SourceToken, whole_tokens}
-use Rattle.rdlpp_scan.specs.Stage.{is_unbuilt}
 use Rattle.rdlpp_scan.specs.declared.token.Mode.TheVariants.{Plain}
 use Rattle.rdlpp_table.specs.Table.{Macro}
 use Rattle.rdlpp_table.specs.declared.limits.Limits.{Limits}
@@ -27,7 +26,6 @@ use Rattle.rdlpp_front.specs.SourceLeft.{source_left}
 use Rattle.rdlpp_front.proofs.EndLeft.{ended_left}
 use Rattle.rdlpp_front.proofs.IncludeLeft.{include_absent_left, include_bad_left, include_deep_left, include_left, include_name, include_overlong_left, waiting_file}
 use Rattle.rdlpp_front.proofs.IncludeMissing.{include_nameless_left}
-use Rattle.rdlpp_front.proofs.Stages.{is_unbuilt-stage}
 use Rattle.rdlpp_expand.specs.OpenConditionals.{outer_open}
 use Rattle.rdlpp_expand.specs.Remaining.{ending_behind, file_state, nest_left, nest_state, waiting_around}
 use Rattle.rdlpp_expand.proofs.ConditionalPlaces.{live_place}
@@ -69,7 +67,7 @@ module _ {R : Type 0} (limits : Limits) (rules : Rules) (unread : R → List ℕ
       let s = nest_state limits macros v (g ∷ outer) in
       let ws = waiting_around limits rules unread (outer_open g.conditions_below v.open_now) g outer in
       let next : Place → Passage = λ here.
-      behind_bytes (ending_behind rules unread f g) (goes_on (resumed rules here g.blanks (tokens_left is_unbuilt unread g.buffer) s) (λ after. unwound rules ws after)) in
+      behind_bytes (ending_behind rules unread f g) (goes_on (resumed rules here g.blanks (tokens_left unread g.buffer) s) (λ after. unwound rules ws after)) in
       rw e (ap next (sym (live_place g.conditions_below v live)))
 
   -- an included source has ended: what is written behind it, and then what remains of the one around it, where it has no open conditional of its own
@@ -82,8 +80,8 @@ module _ {R : Type 0} (limits : Limits) (rules : Rules) (unread : R → List ℕ
       let os = outer_open f.conditions_below v.open_now in
       let ws = waiting_around limits rules unread os f (g ∷ outer) in
       let place : place_of f.conditions_below v ≡ Live [] = live_place f.conditions_below v live ∙ ap Live (none_own v f.conditions_below own) in
-      ap (λ (here : Place). source_left rules is_unbuilt unread ws here f s) place
-      ∙ (ended_left rules is_unbuilt unread ws f s tells new fills t plain
+      ap (λ (here : Place). source_left rules unread ws here f s) place
+      ∙ (ended_left rules unread ws f s tells new fills t plain
       ∙ unwinds f g outer os (all_own v.open_now f.conditions_below own))
 
   -- a source as it is included: nothing of it is read, and the conditionals that are open are around it
@@ -97,11 +95,11 @@ module _ {R : Type 0} (limits : Limits) (rules : Rules) (unread : R → List ℕ
       let w : Waiting = record {
         open_conditionals = own_conditions f.conditions_below v;
         first = g.blanks;
-        tokens = tokens_left is_unbuilt unread g.buffer;
+        tokens = tokens_left unread g.buffer;
         state = file_state limits [] (length v.open_now) (length outer) g;
         ending = ending_behind rules unread (included_file found f) g;
       } in
-      waiting_file rules is_unbuilt unread (own_conditions f.conditions_below v) stop f s (unread found.reader) ≡ record w { state = record w.state { macros = macros } }
+      waiting_file rules unread (own_conditions f.conditions_below v) stop f s (unread found.reader) ≡ record w { state = record w.state { macros = macros } }
   unfolding nest_state file_state ending_behind text_left held_of rest_of ahead_of unread_of opened_buffer
   waits_as f outer found stop =
       let s = nest_state limits macros v (f ∷ outer) in
@@ -109,7 +107,7 @@ module _ {R : Type 0} (limits : Limits) (rules : Rules) (unread : R → List ℕ
       let makes : List ℕ → Waiting = λ x. record {
         open_conditionals = own_conditions f.conditions_below v;
         first = g.blanks;
-        tokens = tokens_left is_unbuilt unread g.buffer;
+        tokens = tokens_left unread g.buffer;
         state = s;
         ending = x ++ origin_line rules f.name.bytes (shown_line (shift_of f.shift) f.buffer.line);
       } in
@@ -127,9 +125,9 @@ module _ {R : Type 0} (limits : Limits) (rules : Rules) (unread : R → List ℕ
 
   -- what remains of it, and then of those around it
   begins : (f : File R) (outer : List (File R)) (found : Found R) (stop : ℕ)
-      → rules.tokens (unread found.reader) ≡ whole_tokens is_unbuilt limits.line_bytes limits.source_bytes (unread found.reader)
+      → rules.tokens (unread found.reader) ≡ whole_tokens limits.line_bytes limits.source_bytes (unread found.reader)
       → let s = nest_state limits macros v (f ∷ outer) in
-      all_resumed rules (waiting_file rules is_unbuilt unread (own_conditions f.conditions_below v) stop f s (unread found.reader) ∷ around limits rules unread macros v f outer)
+      all_resumed rules (waiting_file rules unread (own_conditions f.conditions_below v) stop f s (unread found.reader) ∷ around limits rules unread macros v f outer)
       (Live []) true (rules.tokens (unread found.reader)) (at_start_of found.path.bytes s)
       ≡ nest_left limits rules unread macros v (included_file found f ∷ consumed_file stop 0 f ∷ outer)
   unfolding nest_left source_left waiting_around tokens_left held_of rest_of ahead_of unread_of opened_buffer whole_tokens own_conditions
@@ -142,12 +140,12 @@ module _ {R : Type 0} (limits : Limits) (rules : Rules) (unread : R → List ℕ
       let w : Waiting = record {
         open_conditionals = own_conditions f.conditions_below v;
         first = g.blanks;
-        tokens = tokens_left is_unbuilt unread g.buffer;
+        tokens = tokens_left unread g.buffer;
         state = file_state limits [] n (length outer) g;
         ending = ending_behind rules unread (included_file found f) g;
       } in
       let all : List Waiting → Place → List SourceToken → State → Passage = λ us here ts u. all_resumed rules us here true ts u in
-      let whole = whole_tokens is_unbuilt limits.line_bytes limits.source_bytes text in
+      let whole = whole_tokens limits.line_bytes limits.source_bytes text in
       let after = nest_state limits macros v (included_file found f ∷ g ∷ outer) in
       let place : place_of n v ≡ Live [] = live_place n v live ∙ ap Live (none_own v n refl) in
       let inner : List Progress → List Waiting = λ os. waiting_around limits rules unread os (included_file found f) (g ∷ outer) in
@@ -160,30 +158,30 @@ module _ {R : Type 0} (limits : Limits) (rules : Rules) (unread : R → List ℕ
 
   -- an `include` that finds a source: its origin line, where asked for, and then what remains with that source open inside of the others
   pub nest_included : (f : File R) (outer : List (File R)) (found : Found R) (start stop k : ℕ) → 0 < length (held_of f.buffer) → EndsHeld f.buffer → f.buffer.mode ≡ Plain
-      → is_unbuilt (held_of f.buffer) ≡ false → HasString (held_of f.buffer) start stop
+      → HasString (held_of f.buffer) start stop
       → (length (include_name (held_of f.buffer) start stop) == 0 || not (is_utf8 (include_name (held_of f.buffer) start stop))) ≡ false
       → limits.includes - length outer ≡ suc k
       → rules.find f.path.bytes (include_name (held_of f.buffer) start stop) ≡ Source found.path.bytes (unread found.reader)
-      → rules.tokens (unread found.reader) ≡ whole_tokens is_unbuilt limits.line_bytes limits.source_bytes (unread found.reader)
+      → rules.tokens (unread found.reader) ≡ whole_tokens limits.line_bytes limits.source_bytes (unread found.reader)
       → nest_left limits rules unread macros v (f ∷ outer)
       ≡ behind_bytes (origin_line rules found.path.bytes 1) (nest_left limits rules unread macros v (included_file found f ∷ consumed_file stop 0 f ∷ outer))
   unfolding nest_state file_state
-  nest_included f outer found start stop k some ends plain built has named left finds tokens =
+  nest_included f outer found start stop k some ends plain has named left finds tokens =
       let s = nest_state limits macros v (f ∷ outer) in
       at_live limits rules unread macros v live f outer _
-      (include_left rules is_unbuilt unread (around limits rules unread macros v f outer) (own_conditions f.conditions_below v) f s
-      (record { stage = is_unbuilt-stage; some = some; ends = ends }) plain built start stop has k found.path.bytes (unread found.reader) named left finds
+      (include_left rules unread (around limits rules unread macros v f outer) (own_conditions f.conditions_below v) f s
+      (record { some = some; ends = ends }) plain start stop has k found.path.bytes (unread found.reader) named left finds
       ∙ ap (behind_bytes (origin_line rules found.path.bytes 1)) (begins f outer found stop tokens))
 
-  module _ (f : File R) (outer : List (File R)) (some : 0 < length (held_of f.buffer)) (ends : EndsHeld f.buffer) (plain : f.buffer.mode ≡ Plain) (built : is_unbuilt (held_of f.buffer) ≡ false) where
+  module _ (f : File R) (outer : List (File R)) (some : 0 < length (held_of f.buffer)) (ends : EndsHeld f.buffer) (plain : f.buffer.mode ≡ Plain) where
     -- an `include` behind which no string stands that closes on its line is a fault
     pub nest_include_nameless : LacksString (held_of f.buffer)
         → let s = nest_state limits macros v (f ∷ outer) in nest_left limits rules unread macros v (f ∷ outer) ≡ leaves (fails (fault_at IncludeName f.buffer.line [] s)) s
     nest_include_nameless lacks =
         let s = nest_state limits macros v (f ∷ outer) in
         at_live limits rules unread macros v live f outer _
-        (include_nameless_left rules is_unbuilt unread (around limits rules unread macros v f outer) (own_conditions f.conditions_below v) f s
-        (record { stage = is_unbuilt-stage; some = some; ends = ends }) plain lacks built)
+        (include_nameless_left rules unread (around limits rules unread macros v f outer) (own_conditions f.conditions_below v) f s
+        (record { some = some; ends = ends }) plain lacks)
 
     module _ (start stop : ℕ) (has : HasString (held_of f.buffer) start stop) where
       -- so is one of an empty name, or of one that isn't UTF-8
@@ -192,8 +190,8 @@ module _ {R : Type 0} (limits : Limits) (rules : Rules) (unread : R → List ℕ
       nest_include_bad name =
           let s = nest_state limits macros v (f ∷ outer) in
           at_live limits rules unread macros v live f outer _
-          (include_bad_left rules is_unbuilt unread (around limits rules unread macros v f outer) (own_conditions f.conditions_below v) f s
-          (record { stage = is_unbuilt-stage; some = some; ends = ends }) plain built start stop has name)
+          (include_bad_left rules unread (around limits rules unread macros v f outer) (own_conditions f.conditions_below v) f s
+          (record { some = some; ends = ends }) plain start stop has name)
 
       module _ (name : (length (include_name (held_of f.buffer) start stop) == 0 || not (is_utf8 (include_name (held_of f.buffer) start stop))) ≡ false) where
         -- where no more sources may be opened, it is a fault, and nothing is searched for
@@ -203,8 +201,8 @@ module _ {R : Type 0} (limits : Limits) (rules : Rules) (unread : R → List ℕ
         nest_include_deep full =
             let s = nest_state limits macros v (f ∷ outer) in
             at_live limits rules unread macros v live f outer _
-            (include_deep_left rules is_unbuilt unread (around limits rules unread macros v f outer) (own_conditions f.conditions_below v) f s
-            (record { stage = is_unbuilt-stage; some = some; ends = ends }) plain built start stop has name (omega arith))
+            (include_deep_left rules unread (around limits rules unread macros v f outer) (own_conditions f.conditions_below v) f s
+            (record { some = some; ends = ends }) plain start stop has name (omega arith))
 
         -- where the search finds nothing, it is a fault
         pub nest_include_absent : length outer < limits.includes → rules.find f.path.bytes (include_name (held_of f.buffer) start stop) ≡ NoSource
@@ -214,8 +212,8 @@ module _ {R : Type 0} (limits : Limits) (rules : Rules) (unread : R → List ℕ
             let s = nest_state limits macros v (f ∷ outer) in
             let left : limits.includes - length outer ≡ suc (limits.includes - length outer - 1) = omega arith in
             at_live limits rules unread macros v live f outer _
-            (include_absent_left rules is_unbuilt unread (around limits rules unread macros v f outer) (own_conditions f.conditions_below v) f s
-            (record { stage = is_unbuilt-stage; some = some; ends = ends }) plain built start stop has (limits.includes - length outer - 1) name left finds)
+            (include_absent_left rules unread (around limits rules unread macros v f outer) (own_conditions f.conditions_below v) f s
+            (record { some = some; ends = ends }) plain start stop has (limits.includes - length outer - 1) name left finds)
 
         -- and so where it comes to a path that is too long
         pub nest_include_overlong : length outer < limits.includes → rules.find f.path.bytes (include_name (held_of f.buffer) start stop) ≡ LongPath
@@ -225,5 +223,5 @@ module _ {R : Type 0} (limits : Limits) (rules : Rules) (unread : R → List ℕ
             let s = nest_state limits macros v (f ∷ outer) in
             let left : limits.includes - length outer ≡ suc (limits.includes - length outer - 1) = omega arith in
             at_live limits rules unread macros v live f outer _
-            (include_overlong_left rules is_unbuilt unread (around limits rules unread macros v f outer) (own_conditions f.conditions_below v) f s
-            (record { stage = is_unbuilt-stage; some = some; ends = ends }) plain built start stop has (limits.includes - length outer - 1) name left finds)
+            (include_overlong_left rules unread (around limits rules unread macros v f outer) (own_conditions f.conditions_below v) f s
+            (record { some = some; ends = ends }) plain start stop has (limits.includes - length outer - 1) name left finds)

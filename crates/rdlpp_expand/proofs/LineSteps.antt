@@ -4,7 +4,6 @@ use Rattle.std.proofs.lemmas.List.{length-take-le}
 use Rattle.arrayvec.specs.declared.array_string.ArrayString.{ArrayString}
 use Rattle.rdlpp_source.specs.declared.sources.Sources.{Ghosts}
 use Rattle.rdlpp_scan.specs.SourceTokens.{line_ends, line_len}
-use Rattle.rdlpp_scan.specs.Stage.{is_unbuilt}
 use Rattle.rdlpp_scan.specs.declared.token.Directive.TheVariants.{Line}
 use Rattle.rdlpp_scan.specs.declared.token.Mode.TheVariants.{Plain}
 use Rattle.rdlpp_table.specs.Table.{Macro}
@@ -23,17 +22,15 @@ use Rattle.rdlpp_read.specs.declared.arguments.line.GivenLine.{GivenLine}
 use Rattle.rdlpp_read.specs.declared.files.File.{File}
 use Rattle.rdlpp_front.specs.Fronts.{IsDirective}
 use Rattle.rdlpp_front.specs.SourceLeft.{source_left}
-use Rattle.rdlpp_front.proofs.DirectiveFacts.{line_built}
 use Rattle.rdlpp_front.proofs.LineGiven.{given_text, line_behind}
 use Rattle.rdlpp_front.proofs.LineLeft.{bad_line_left, late_line_left, line_text, renumbered_left}
-use Rattle.rdlpp_front.proofs.Stages.{is_unbuilt-stage}
 use Rattle.rdlpp_expand.specs.Engine.{EngineView, IsSoundEngine}
 use Rattle.rdlpp_expand.specs.Held.{IsBounded}
 use Rattle.rdlpp_expand.specs.Lines.{Renumbers, inner_blanks, renumbered_file}
 use Rattle.rdlpp_expand.specs.Moves.{IsReady}
 use Rattle.rdlpp_expand.specs.Owed.{OwedView, nothing_owed, origin_owed, owed_bytes}
 use Rattle.rdlpp_expand.specs.Pieces.{step_answer}
-use Rattle.rdlpp_expand.specs.Remaining.{file_state, inner_name, nest_left, nest_state, staged_rules, state_of}
+use Rattle.rdlpp_expand.specs.Remaining.{file_state, inner_name, nest_left, nest_state, run_rules, state_of}
 use Rattle.rdlpp_expand.specs.Steps.{IsOwn, Walks, is_memory_kind, is_read_failed, is_write_failed}
 use Rattle.rdlpp_expand.proofs.EngineSteps.{not_called}
 use Rattle.rdlpp_expand.proofs.FrontSteps.{Fails, left_by, lends_piece, line_ends-le}
@@ -60,11 +57,11 @@ module _ {R : Type 0} (limits : Limits) (rules : Rules) (unread : R → List ℕ
       let value : renumbered (drop 5 (line_text held)) ≡ Some r = ap renumbered (given_text held some is) ∙ has.value in
       let ws = around limits rules unread macros v f outer in
       let os = own_conditions f.conditions_below v in
-      let after : ℕ → ℕ → ℕ → Passage = λ n k m. source_left rules is_unbuilt unread ws (Live os) (renumbered_file m given.number given.name (consumed_file n k f))
+      let after : ℕ → ℕ → ℕ → Passage = λ n k m. source_left rules unread ws (Live os) (renumbered_file m given.number given.name (consumed_file n k f))
       (nest_state limits macros v (renumbered_file m given.number given.name (consumed_file n k f) ∷ outer)) in
       let text : ℕ → List ℕ = λ n. line_ends_of (take n held) ++ origin_line rules given.name.bytes given.number in
       moved_live limits rules unread macros v live f (renumbered_file from given.number given.name (consumed_file (5 + given.stop) lines f)) outer macros (text (5 + given.stop))
-      (renumbered_left rules is_unbuilt unread ws os f s (record { stage = is_unbuilt-stage; some = some; ends = ends }) plain is (line_built held is) r first value
+      (renumbered_left rules unread ws os f s (record { some = some; ends = ends }) plain is r first value
       ∙ (ap (λ (n : ℕ). behind_bytes (text n) (after n (line_ends (take n held)) (suc f.buffer.line))) whole
       ∙ (ap (λ (k : ℕ). behind_bytes (text (5 + given.stop)) (after (5 + given.stop) k (suc f.buffer.line))) (sym counted)
       ∙ ap (λ (m : ℕ). behind_bytes (text (5 + given.stop)) (after (5 + given.stop) lines m)) (sym here))))
@@ -79,8 +76,8 @@ module _ {R : Type 0} (limits : Limits) (rules : Rules) (unread : R → List ℕ
   nest_bad_line (f ∷ outer) some ends plain is bad =
       let held = held_of f.buffer in
       at_live limits rules unread macros v live f outer _
-      (bad_line_left rules is_unbuilt unread (around limits rules unread macros v f outer) (own_conditions f.conditions_below v) f (nest_state limits macros v (f ∷ outer))
-      (record { stage = is_unbuilt-stage; some = some; ends = ends }) plain is (line_built held is) (ap renumbered (given_text held some is) ∙ bad))
+      (bad_line_left rules unread (around limits rules unread macros v f outer) (own_conditions f.conditions_below v) f (nest_state limits macros v (f ∷ outer))
+      (record { some = some; ends = ends }) plain is (ap renumbered (given_text held some is) ∙ bad))
 
   -- a `line` behind anything but blanks
   pub nest_late_line : (nest : List (File R)) → 0 < length (held_of (inner_buffer nest)) → EndsHeld (inner_buffer nest)
@@ -90,8 +87,8 @@ module _ {R : Type 0} (limits : Limits) (rules : Rules) (unread : R → List ℕ
   nest_late_line (f ∷ outer) some ends plain is late =
       let held = held_of f.buffer in
       at_live limits rules unread macros v live f outer _
-      (late_line_left rules is_unbuilt unread (around limits rules unread macros v f outer) (own_conditions f.conditions_below v) f (nest_state limits macros v (f ∷ outer))
-      (record { stage = is_unbuilt-stage; some = some; ends = ends }) plain is (line_built held is) late)
+      (late_line_left rules unread (around limits rules unread macros v f outer) (own_conditions f.conditions_below v) f (nest_state limits macros v (f ∷ outer))
+      (record { some = some; ends = ends }) plain is late)
 
 -- a bad `line` is a fault of the text
 pub bad_line_kind : IsOwn BadLine
@@ -146,27 +143,27 @@ take_renumbered {S} {R} g old new given ready live bounded some plain is first h
     let size = length-take-le len held inside in
     let lines : d.lines ≤ len = omega arith in
     let name : inner_name nest ≡ given.name.bytes = named_inner from given.number given.name used (some_inner (consumed_file len d.lines) old.files.nest ready.nest) in
-    let bytes : owed_bytes (inner_name nest) owed ≡ line_ends_of w ++ origin_line (staged_rules old.limits old.origins) given.name.bytes given.number =
-    ap (λ (n : List ℕ). owed_bytes n owed) name ∙ owed_with_origin old.limits old.origins given.name.bytes w d.lines given.number d.counted in
+    let bytes : owed_bytes (inner_name nest) owed ≡ line_ends_of w ++ origin_line (run_rules g old) given.name.bytes given.number =
+    ap (λ (n : List ℕ). owed_bytes n owed) name ∙ owed_with_origin (g.catalog old.sources) old.limits old.origins given.name.bytes w d.lines given.number d.counted in
     subst (λ (e : EngineView S R). Walks g old e (Ok (Some []))) (sym d.becomes)
     (lends_piece g old ready [] owed old.table.macros old.conditions nest old.sources (subst IsBounded d.becomes bounded) (owed_few old.origins d.lines given.number (omega arith))
     (shown_used old.files.nest used (renumbered_file from given.number given.name) (λ f. refl) (used_bytes old.files.nest len d.lines (omega arith) inside))
     (not_called g old.sources)
-    (λ t. nest_line old.limits (staged_rules old.limits old.origins) g.unread old.table.macros old.conditions live old.files.nest given from d.lines some inner.ends plain is first has (omega arith) d.counted
-    ∙ ap (λ (x : List ℕ). behind_bytes x (left_by g.unread old old.table.macros old.conditions nest)) (sym bytes)))
+    (λ t. nest_line old.limits (run_rules g old) g.unread old.table.macros old.conditions live old.files.nest given from d.lines some inner.ends plain is first has (omega arith) d.counted
+    ∙ ap (λ (x : List ℕ). behind_bytes x (left_by g old old.table.macros old.conditions nest)) (sym bytes)))
 
 -- what remains at a bad `line`
-module _ {S R : Type 0} (unread : R → List ℕ) (e : EngineView S R) (ready : IsReady e) (live : e.conditions.skipped ≡ None) (some : 0 < length (held_of (inner_buffer e.files.nest)))
+module _ {S R : Type 0} (g : Ghosts S R) (e : EngineView S R) (ready : IsReady e) (live : e.conditions.skipped ≡ None) (some : 0 < length (held_of (inner_buffer e.files.nest)))
     (plain : (inner_buffer e.files.nest).mode ≡ Plain) (is : IsDirective Line (held_of (inner_buffer e.files.nest))) where
-  pub left_bad_line : renumbered (take (line_len (drop 5 (held_of (inner_buffer e.files.nest)))) (drop 5 (held_of (inner_buffer e.files.nest)))) ≡ None → Fails unread e BadLine (inner_buffer e.files.nest).line []
+  pub left_bad_line : renumbered (take (line_len (drop 5 (held_of (inner_buffer e.files.nest)))) (drop 5 (held_of (inner_buffer e.files.nest)))) ≡ None → Fails g e BadLine (inner_buffer e.files.nest).line []
   unfolding state_of
   left_bad_line bad =
-      nest_bad_line e.limits (staged_rules e.limits e.origins) unread e.table.macros e.conditions live e.files.nest some (inner_facts e.files ready.nest ready.files).ends plain is bad
+      nest_bad_line e.limits (run_rules g e) g.unread e.table.macros e.conditions live e.files.nest some (inner_facts e.files ready.nest ready.files).ends plain is bad
 
-  pub left_late_line : inner_blanks e.files.nest ≡ false → Fails unread e BadLine (inner_buffer e.files.nest).line []
+  pub left_late_line : inner_blanks e.files.nest ≡ false → Fails g e BadLine (inner_buffer e.files.nest).line []
   unfolding state_of
   left_late_line late =
-      nest_late_line e.limits (staged_rules e.limits e.origins) unread e.table.macros e.conditions live e.files.nest some (inner_facts e.files ready.nest ready.files).ends plain is late
+      nest_late_line e.limits (run_rules g e) g.unread e.table.macros e.conditions live e.files.nest some (inner_facts e.files ready.nest ready.files).ends plain is late
 
 -- a `line` that was used, and what is owed behind it
 pub renumbers_by : {S R : Type 0} (given : GivenLine) (old used shown new : EngineView S R) (from lines : ℕ) (owed then_owed : OwedView)

@@ -5,7 +5,6 @@ use Rattle.std.proofs.lemmas.Bool.{cases_lt, cond-true, cond-false}
 use Rattle.std.proofs.lemmas.Bool.Decides.{nat_tests}
 use Rattle.std.proofs.lemmas.List.{take_all, get_or_past}
 use Rattle.rdlpp_scan.specs.SourceTokens.{whole_tokens}
-use Rattle.rdlpp_scan.specs.Stage.{is_unbuilt}
 use Rattle.rdlpp_source.specs.Counts.{Counts}
 use Rattle.rdlpp_source.specs.Sources.{Answer, Present, Finds, is_device, is_no_memory}
 use Rattle.rdlpp_source.specs.declared.sources.Found.{Found}
@@ -26,16 +25,18 @@ use Rattle.rdlpp_meaning.proofs.Includes.{all_resumed_alone}
 use Rattle.rdlpp_read.specs.Buffer.{ahead_of, held_of, opened_buffer, rest_of, tokens_left, unread_of}
 use Rattle.rdlpp_front.specs.SourceLeft.{source_left}
 use Rattle.rdlpp_expand.proofs.ConditionalPlaces.{no_place}
+use Rattle.rdlpp_expand.proofs.IdleTexts.{text_idle}
 use Rattle.rdlpp_expand.proofs.OwedOrigins.{owed_origin}
 use Rattle.rdlpp_expand.specs.Held.{IsBounded, stores_of}
 use Rattle.rdlpp_expand.specs.Owed.{origin_owed, owed_bytes}
-use Rattle.rdlpp_expand.specs.Remaining.{file_state, kept_uncut, left_of, nest_left, nest_state, output_fault, phase_uncut, staged_rules, text_of, uncut_of, waiting_around}
+use Rattle.rdlpp_expand.specs.Remaining.{file_state, kept_uncut, left_of, lookup_of, nest_left, nest_state, output_fault, phase_uncut, run_rules, staged_rules, uncut_of, waiting_around, inner_name}
 use Rattle.rdlpp_meaning.specs.OutputLimit.{limited}
 use Rattle.rdlpp_meaning.proofs.OutputLimits.{limited-fails}
 use Rattle.rdlpp_meaning.specs.State.{Lookup, NoSource, LongPath, Rules, State, no_shift}
 use Rattle.rdlpp_meaning.specs.Profile.{rules_of}
 use Rattle.rdlpp_expand.specs.Steps.{is_memory_kind, is_read_failed}
-use Rattle.rdlpp_expand.specs.Opening.{kind_of_source, lookup_of, opened_engine, unopened_engine, found_name, looked_up, staged_output, is_device_fault, is_memory_fault, Starts}
+use Rattle.rdlpp_expand.specs.Includes.{kind_of_source}
+use Rattle.rdlpp_expand.specs.Opening.{opened_engine, unopened_engine, found_name, looked_up, staged_output, is_device_fault, is_memory_fault, Starts}
 
 -- whether the byte at a place goes on with a character
 goes_on : List ℕ → ℕ → Bool
@@ -135,45 +136,55 @@ alone rules x ts s =
     outcome-behind_bytes x (all_resumed rules [] (Live []) true ts s)
     ∙ ap (λ (p : Passage). and_then (gives x) (outcome p)) (all_resumed_alone rules (Live []) true ts s)
 
+-- what remains of a main text that was opened, where no text of a usage is
+left_idle : {S R : Type 0} (g : Ghosts S R) (e : EngineView S R) (s : S) (found : Found R) → e.expansion.opens ≡ []
+    → let o = opened_engine (record e { sources = s }) found in
+    left_of g o ≡ limited (output_fault found.path.bytes) e.limits.output_bytes
+    (outcome (behind_bytes (owed_bytes (inner_name o.files.nest) o.owed) (nest_left o.limits (run_rules g o) g.unread o.table.macros o.conditions o.files.nest)))
+unfolding left_of uncut_of kept_uncut phase_uncut opened_engine
+left_idle g e s found idle =
+    ap (λ (p : Passage). limited (output_fault found.path.bytes) e.limits.output_bytes (outcome p)) (text_idle g (opened_engine (record e { sources = s }) found) idle)
+
 -- what remains of a main text that was opened
-left_opened : {S R : Type 0} (unread : R → List ℕ) (e : EngineView S R) (s : S) (found : Found R)
-    → e.files.line_bytes ≡ e.limits.line_bytes → e.files.nest ≡ [] → e.conditions.open_now ≡ []
-    → left_of unread (opened_engine (record e { sources = s }) found)
+left_opened : {S R : Type 0} (g : Ghosts S R) (e : EngineView S R) (s : S) (found : Found R)
+    → e.files.line_bytes ≡ e.limits.line_bytes → e.files.nest ≡ [] → e.conditions.open_now ≡ [] → e.expansion.opens ≡ [] → g.catalog s ≡ g.catalog e.sources
+    → left_of g (opened_engine (record e { sources = s }) found)
     ≡ limited (output_fault found.path.bytes) e.limits.output_bytes
-    (and_then (gives (origin_line (staged_rules e.limits e.origins) found.path.bytes 1))
-    (remains (staged_rules e.limits e.origins) (Live []) true ((staged_rules e.limits e.origins).tokens (unread found.reader))
+    (and_then (gives (origin_line (run_rules g e) found.path.bytes 1))
+    (remains (run_rules g e) (Live []) true ((run_rules g e).tokens (g.unread found.reader))
     (start_state e.table.macros e.limits.includes e.limits.conditions found.path.bytes)))
-unfolding left_of uncut_of kept_uncut phase_uncut text_of nest_left waiting_around nest_state file_state source_left opened_engine opened_buffer tokens_left held_of rest_of ahead_of unread_of whole_tokens staged_rules rules_of start_state no_shift
-left_opened unread e s found most none unopened =
-    let rules = staged_rules e.limits e.origins in
-    let ts = whole_tokens is_unbuilt e.limits.line_bytes e.limits.source_bytes (unread found.reader) in
+unfolding nest_left waiting_around nest_state file_state source_left opened_engine opened_buffer tokens_left held_of rest_of ahead_of unread_of whole_tokens staged_rules rules_of start_state no_shift
+left_opened g e s found most none unopened idle catalog =
+    let rules = run_rules g e in
+    let ts = whole_tokens e.limits.line_bytes e.limits.source_bytes (g.unread found.reader) in
     let starts : ℕ → State = λ n. record (start_state e.table.macros e.limits.includes e.limits.conditions found.path.bytes) { sources_left = n } in
     let count : e.limits.conditions - length {A = Progress} [] ≡ e.limits.conditions = omega arith in
     let all : e.limits.includes - 0 ≡ e.limits.includes = omega arith in
     let x = owed_bytes found.path.bytes (record { line_ends = 0; origin = origin_owed e.origins 1 }) in
     let cuts : List ℕ → ℕ → Outcome = λ y n. limited (output_fault found.path.bytes) e.limits.output_bytes (and_then (gives y) (remains rules (Live []) true ts (starts n))) in
-    rw (none, most, no_place 0 e.conditions unopened, unopened, count) (ap (limited (output_fault found.path.bytes) e.limits.output_bytes) (alone rules x ts (starts (e.limits.includes - 0)))
-    ∙ (ap (cuts x) all ∙ ap (λ (y : List ℕ). cuts y e.limits.includes) (owed_origin e.limits e.origins found.path.bytes 1)))
+    left_idle g e s found idle
+    ∙ rw (none, most, catalog, no_place 0 e.conditions unopened, unopened, count) (ap (limited (output_fault found.path.bytes) e.limits.output_bytes) (alone rules x ts (starts (e.limits.includes - 0)))
+    ∙ (ap (cuts x) all ∙ ap (λ (y : List ℕ). cuts y e.limits.includes) (owed_origin (g.catalog e.sources) e.limits e.origins found.path.bytes 1)))
 
 -- what remains where no main text was opened
-left_unopened : {S R : Type 0} (unread : R → List ℕ) (e : EngineView S R) (s : S) (kind : FaultKind) (path : List ℕ)
-    → left_of unread (unopened_engine (record e { sources = s }) (opening_fault kind path)) ≡ fails (opening_fault kind path)
+left_unopened : {S R : Type 0} (g : Ghosts S R) (e : EngineView S R) (s : S) (kind : FaultKind) (path : List ℕ)
+    → left_of g (unopened_engine (record e { sources = s }) (opening_fault kind path)) ≡ fails (opening_fault kind path)
 unfolding left_of uncut_of kept_uncut unopened_engine
-left_unopened unread e s kind path = limited-fails (output_fault e.main) e.quota (opening_fault kind path)
+left_unopened g e s kind path = limited-fails (output_fault e.main) e.quota (opening_fault kind path)
 
 -- the output is that of what is found at the main path
 staged_found : {S R : Type 0} (g : Ghosts S R) (e : EngineView S R) (path : List ℕ) (answer : Answer)
     → (g.catalog e.sources).top path ≡ answer
-    → staged_output g e path ≡ looked_up e path (lookup_of answer)
+    → staged_output g e path ≡ looked_up g e path (lookup_of answer)
 unfolding staged_output
-staged_found g e path answer found = ap (λ (a : Answer). looked_up e path (lookup_of a)) found
+staged_found g e path answer found = ap (λ (a : Answer). looked_up g e path (lookup_of a)) found
 
 -- the output of a main path that is no text
-looked_up-fails : {S R : Type 0} (e : EngineView S R) (path : List ℕ) (lookup : Lookup) (f : Told)
-    → output (staged_rules e.limits e.origins) e.table.macros e.limits.includes e.limits.conditions path lookup ≡ fails f
-    → looked_up e path lookup ≡ fails f
+looked_up-fails : {S R : Type 0} (g : Ghosts S R) (e : EngineView S R) (path : List ℕ) (lookup : Lookup) (f : Told)
+    → output (run_rules g e) e.table.macros e.limits.includes e.limits.conditions path lookup ≡ fails f
+    → looked_up g e path lookup ≡ fails f
 unfolding looked_up
-looked_up-fails e path lookup f is =
+looked_up-fails g e path lookup f is =
     ap (limited (output_fault (found_name path lookup)) e.limits.output_bytes) is ∙ limited-fails (output_fault (found_name path lookup)) e.limits.output_bytes f
 
 -- a start that finds its main text
@@ -181,6 +192,7 @@ pub starts_open : {S R : Type 0} (g : Ghosts S R) (e : EngineView S R) (s : S) (
     → e.files.line_bytes ≡ e.limits.line_bytes
     → e.files.nest ≡ []
     → e.conditions.open_now ≡ []
+    → e.expansion.opens ≡ []
     → IsBounded (opened_engine (record e { sources = s }) found)
     → (g.tells e.sources → (g.catalog e.sources).top path ≡ Present found.path.bytes (g.unread found.reader))
     → g.failures s ≡ g.failures e.sources
@@ -189,7 +201,7 @@ pub starts_open : {S R : Type 0} (g : Ghosts S R) (e : EngineView S R) (s : S) (
     → g.catalog s ≡ g.catalog e.sources
     → Starts g e (opened_engine (record e { sources = s }) found) path None
 unfolding opened_engine is_device_fault is_memory_fault lookup_of looked_up found_name
-starts_open g e s found path most none unopened bounded answer failures refusals tells catalog = record {
+starts_open g e s found path most none unopened idle bounded answer failures refusals tells catalog = record {
   limits = refl;
   origins = refl;
   table = refl;
@@ -199,10 +211,10 @@ starts_open g e s found path most none unopened bounded answer failures refusals
   refused = λ f is. absurd (cc is);
   call = record { failures = failures; refusals = refusals; tells = tells; catalog = catalog };
   remains_output = λ _ _ telling.
-      left_opened g.unread e s found most none unopened
+      left_opened g e s found most none unopened idle catalog
       ∙ sym (staged_found g e path _ (answer telling)
       ∙ ap (limited (output_fault found.path.bytes) e.limits.output_bytes)
-      (output_found (staged_rules e.limits e.origins) e.table.macros e.limits.includes e.limits.conditions path
+      (output_found (run_rules g e) e.table.macros e.limits.includes e.limits.conditions path
       found.path.bytes (g.unread found.reader)));
   bounded = bounded;
 }
@@ -229,7 +241,7 @@ starts_refused g e s kind path bounded failures refusals tells catalog told = re
       let same : opening_fault kind path ≡ f = cc is in
       (sym same ∙ ap (λ (t : Told). opening_fault t.kind path) same, ap (unopened_engine (record e { sources = s })) same);
   call = record { failures = failures; refusals = refusals; tells = tells; catalog = catalog };
-  remains_output = λ device memory telling. left_unopened g.unread e s kind path ∙ told device memory telling;
+  remains_output = λ device memory telling. left_unopened g e s kind path ∙ told device memory telling;
   bounded = bounded;
 }
 
@@ -246,10 +258,10 @@ pub starts_not_found : {S R : Type 0} (g : Ghosts S R) (e : EngineView S R) (s :
 unfolding kind_of_source is_read_failed is_memory_kind lookup_of
 starts_not_found g e s source.Absent path bounded answer failures refusals tells catalog =
     starts_refused g e s SourceNotFound path bounded failures refusals tells catalog
-    (λ _ _ telling. sym (staged_found g e path _ (answer telling) ∙ looked_up-fails e path NoSource _ (output_missing _ _ _ _ _)))
+    (λ _ _ telling. sym (staged_found g e path _ (answer telling) ∙ looked_up-fails g e path NoSource _ (output_missing _ _ _ _ _)))
 starts_not_found g e s source.PathTooLong path bounded answer failures refusals tells catalog =
     starts_refused g e s PathTooLong path bounded failures refusals tells catalog
-    (λ _ _ telling. sym (staged_found g e path _ (answer telling) ∙ looked_up-fails e path LongPath _ (output_overlong _ _ _ _ _)))
+    (λ _ _ telling. sym (staged_found g e path _ (answer telling) ∙ looked_up-fails g e path LongPath _ (output_overlong _ _ _ _ _)))
 starts_not_found g e s source.Device path bounded answer failures refusals tells catalog =
     starts_refused g e s ReadFailed path bounded failures refusals tells catalog (λ device _ _. cc)
 starts_not_found g e s source.NoMemory path bounded answer failures refusals tells catalog =

@@ -1,26 +1,22 @@
 -- Pulls in a row, and the run that they are.
-use Rattle.std.proofs.Common.{◌≡◌, ◌≢◌, ℕ, ◌+◌, ◌-◌, ◌^◌, ◌≤◌, ◌<◌, ◌==◌, min, Bool, true, false, ◌&&◌, ◌||◌, not, List, [], ◌++◌, length, take, drop, Option, None, Some, Result, Ok, Err, refl, sym, ap, subst, ◌∙◌, append_assoc, append-nil, length-append, ne_eqb, arith, inl, inr}
+use Rattle.std.proofs.Common.{◌≡◌, ◌≢◌, ℕ, ◌+◌, ◌-◌, ◌^◌, ◌≤◌, ◌<◌, ◌==◌, min, Bool, true, false, ◌&&◌, ◌||◌, not, List, [], ◌++◌, length, take, drop, Option, None, Some, Result, Ok, Err, IfSome, refl, sym, ap, subst, ◌∙◌, append_assoc, append-nil, length-append, ne_eqb, arith, inl, inr}
 use Rattle.std.proofs.lemmas.List.{take_all, length-take-le, take-append-drop}
 use Rattle.std.specs.Io.KnownBytes.{Appends, Keeps}
 use Rattle.rdlpp_source.specs.Counts.{Counts}
 use Rattle.rdlpp_source.specs.declared.sources.Sources.{Ghosts}
 use Rattle.rdlpp_source.specs.declared.sinks.Sink.{Ghosts as SinkGhosts}
 use Rattle.rdlpp_meaning.specs.declared.fault.FaultKind.{FaultKind}
-use Rattle.rdlpp_meaning.specs.declared.fault.FaultKind.TheVariants.{ReadFailed}
-use Rattle.rdlpp_meaning.specs.State.{fault_at}
 use Rattle.rdlpp_meaning.specs.Meaning.{outcome}
 use Rattle.rdlpp_meaning.specs.Outcome.{Told, Outcome, gives, fails, and_then}
 use Rattle.rdlpp_meaning.specs.OutputLimit.{limited}
 use Rattle.rdlpp_meaning.proofs.Outcomes.{and_then-gives_nil, and_then-gives, and_then-gives_gives, bytes-and_then_gives}
 use Rattle.rdlpp_expand.specs.Calls.{SourcesCalled}
-use Rattle.rdlpp_read.specs.Buffer.{reading_line_of}
-use Rattle.rdlpp_read.specs.Files.{inner_buffer}
 use Rattle.rdlpp_expand.specs.Engine.{EngineView, is_open}
 use Rattle.rdlpp_expand.specs.Held.{IsBounded, stores_of}
 use Rattle.rdlpp_expand.specs.Owed.{nothing_owed}
 use Rattle.rdlpp_expand.specs.Remaining.{kept_uncut, left_of, output_fault, phase_uncut, state_of, text_of, uncut_of, work_left}
-use Rattle.rdlpp_expand.specs.Run.{Pulls, Wrote, WroteEnds, Going, Finishes, LeavesRest, Stops, StopsAt, Breaks, Runs, Begins, Flushes, Unflushed, answered, is_fresh, is_kept, is_unwritten, write_fault}
-use Rattle.rdlpp_expand.specs.Steps.{Steps, StopsReading, Tells, IsStarted, has_met, lent_len, is_memory_kind, is_read_failed, is_write_failed}
+use Rattle.rdlpp_expand.specs.Run.{Pulls, Wrote, WroteEnds, Going, Finishes, Stops, StopsAt, Breaks, Runs, Begins, Flushes, Unflushed, answered, is_fresh, is_kept, is_unwritten, write_fault}
+use Rattle.rdlpp_expand.specs.Steps.{Steps, StopsReading, Stood, Itself, BeforeCall, Tells, IsStarted, has_met, lent_len, FailsAt, is_call_failed, is_memory_kind, is_read_failed, is_write_failed}
 use Rattle.rdlpp_expand.proofs.EngineSteps.{called_after, free_before, left_open, not_called, ok_not_met}
 use Rattle.rdlpp_expand.specs.declared.phase.Phase.{Phase}
 use Rattle.rdlpp_expand.specs.declared.phase.Phase.TheVariants.{Fresh, Open, Passed, Closed}
@@ -85,8 +81,8 @@ pub err_reads : {S R : Type 0} (g : Ghosts S R) (old new : EngineView S R) (f : 
 err_reads g old new f s = rw (err_met is_read_failed old.kept f, err_met is_memory_kind old.kept f) at s.call
 
 -- what a step that answers no fault tells
-pub ok_tells : {S R : Type 0} (g : Ghosts S R) (old new : EngineView S R) (lent : Option (List ℕ)) → Steps g old new (Ok lent) → g.tells old.sources → Tells (Ok lent) (left_of g.unread old) (left_of g.unread new)
-ok_tells g old new lent s told = s.tells (ok_not_met is_read_failed old.kept lent) told
+pub ok_tells : {S R : Type 0} (g : Ghosts S R) (old new : EngineView S R) (lent : Option (List ℕ)) → Steps g old new (Ok lent) → g.tells old.sources → Tells (Ok lent) (left_of g old) (left_of g new)
+ok_tells g old new lent s told = s.tells (ok_not_met is_call_failed old.kept lent) told
 
 -- a fault that wasn't kept isn't that of a write
 pub own_of : {S R : Type 0} (g : Ghosts S R) (old new : EngineView S R) (f : Told) (kept : Option Told) → old.kept ≡ kept → Steps g old new (Err f) → is_fresh is_write_failed kept (Some f) ≡ false
@@ -127,7 +123,7 @@ wrote_none g h e w started = record {
   most_bytes = refl;
   most_macros = refl;
   started = started;
-  ends = record { kept = refl; open_ = inl refl; tells = λ t. sym (and_then-gives_nil (left_of g.unread e)); again = λ f k. (refl, refl) };
+  ends = record { kept = refl; open_ = inl refl; tells = λ t. sym (and_then-gives_nil (left_of g e)); again = λ f k. (refl, refl) };
 }
 
 -- one pull more, where what it did to the engine is known
@@ -153,9 +149,9 @@ wrote_with g h old mid new before between after n len ending w p reads limits or
 }
 
 -- what is left of an engine, but for the fault that it keeps, where its text is open
-left_but : {S R : Type 0} (unread : R → List ℕ) (e : EngineView S R) → e.phase ≡ Open → left_of unread (record e { kept = None }) ≡ limited (output_fault e.main) e.quota (outcome (text_of unread e))
-unfolding left_of uncut_of kept_uncut phase_uncut text_of
-left_but unread e open_ = rw open_ refl
+left_but : {S R : Type 0} (g : Ghosts S R) (e : EngineView S R) → e.phase ≡ Open → left_of g (record e { kept = None }) ≡ limited (output_fault e.main) e.quota (outcome (text_of g e))
+unfolding left_of uncut_of kept_uncut phase_uncut text_of state_of
+left_but g e open_ = rw open_ refl
 
 -- where a read failed, no fault was kept
 met_free : (test : FaultKind → Bool) (kept : Option Told) (f : Told) → has_met test kept (Err f) ≡ true → kept ≡ None
@@ -163,17 +159,27 @@ unfolding has_met
 met_free test None f met = refl
 met_free test (Some k) f met = cc met
 
+-- an engine that stopped, and the one whose text remains, have these in common
+record IsAlike {S R : Type 0} (at new : EngineView S R) : Type 0 where
+  main : new.main ≡ at.main
+  quota : new.quota ≡ at.quota
+  phase : new.phase ≡ at.phase
+
+alike : {S R : Type 0} (g : Ghosts S R) (at new : EngineView S R) → Stood g at new → IsAlike at new
+alike g at new (Itself same) = record { main = sym (ap (λ e. e.main) same); quota = sym (ap (λ e. e.quota) same); phase = sym (ap (λ e. e.phase) same) }
+alike g at new (BeforeCall c) = record { main = ap (λ e. e.main) c.becomes; quota = ap (λ e. e.quota) c.becomes; phase = ap (λ e. e.phase) c.becomes }
+
 -- where a read failed, what remains but for the fault is what remained
-failed_rest : {S R : Type 0} (g : Ghosts S R) (mid new : EngineView S R) (f : Told) → Steps g mid new (Err f) → has_met is_read_failed mid.kept (Err f) ≡ true → g.tells mid.sources
-    → left_of g.unread mid ≡ left_of g.unread (record new { kept = None })
+failed_rest : {S R : Type 0} (g : Ghosts S R) (mid new : EngineView S R) (f : Told) → Steps g mid new (Err f) → has_met is_call_failed mid.kept (Err f) ≡ true → (reads : StopsReading g mid new) → g.tells mid.sources
+    → left_of g mid ≡ left_of g (record reads.at { kept = None })
 unfolding left_of lent_len
-failed_rest g mid new f s met t =
-    let reads = s.reads met in
-    let quota : mid.quota ≡ new.quota = (let q = s.quota in omega arith) in
-    ap (limited (output_fault mid.main) mid.quota) (left_open g.unread mid (met_free is_read_failed mid.kept f met) reads.open_ ∙ ap outcome (reads.text t))
-    ∙ (ap (λ (n : List ℕ). limited (output_fault n) mid.quota (outcome (text_of g.unread new))) (sym s.main)
-    ∙ (ap (λ (q : ℕ). limited (output_fault new.main) q (outcome (text_of g.unread new))) quota
-    ∙ sym (left_but g.unread new reads.still)))
+failed_rest g mid new f s met reads t =
+    let same = alike g reads.at new reads.stood in
+    let quota : mid.quota ≡ reads.at.quota = (let q = s.quota in let p = same.quota in omega arith) in
+    ap (limited (output_fault mid.main) mid.quota) (left_open g mid (met_free is_call_failed mid.kept f met) reads.open_ ∙ ap outcome (reads.text t))
+    ∙ (ap (λ (n : List ℕ). limited (output_fault n) mid.quota (outcome (text_of g reads.at))) (sym s.main ∙ same.main)
+    ∙ (ap (λ (q : ℕ). limited (output_fault reads.at.main) q (outcome (text_of g reads.at))) quota
+    ∙ sym (left_but g reads.at (sym same.phase ∙ reads.still))))
 
 -- where an output ended that was open, nothing is owed
 end_unowed : {S R : Type 0} (g : Ghosts S R) (mid new : EngineView S R) (p : Phase) → mid.phase ≡ p → is_open p ≡ true → mid.kept ≡ None → Steps g mid new (Ok None) → new.owed ≡ nothing_owed
@@ -191,18 +197,18 @@ open_phase p e = ap is_open e
 -- a piece was written whole
 pub goes_on : {S R : Type 0} (g : Ghosts S R) (old mid new : EngineView S R) (xs ys : List ℕ) → (g.tells old.sources → g.tells mid.sources) → Going g old mid xs → Steps g mid new (Ok (Some ys)) → Going g old new (xs ++ ys)
 goes_on g old mid new xs ys told w s =
-    let free : old.kept ≡ None = sym w.kept ∙ free_before g (left_of g.unread) lent_len take is_open mid new mid.kept (Some ys) refl s in
+    let free : old.kept ≡ None = sym w.kept ∙ free_before g (left_of g) lent_len take is_open mid new mid.kept (Some ys) refl s in
     record {
       kept = s.free ∙ sym free;
       open_ = inr (s.lends ys refl).1;
-      tells = λ t. w.tells t ∙ ap (and_then (gives xs)) (ok_tells g mid new (Some ys) s (told t)) ∙ and_then-gives_gives xs ys (left_of g.unread new);
+      tells = λ t. w.tells t ∙ ap (and_then (gives xs)) (ok_tells g mid new (Some ys) s (told t)) ∙ and_then-gives_gives xs ys (left_of g new);
       again = λ f k. (let bad : ⊥ = cc (k, free) in absurd bad);
     }
 
 -- nothing was left
 pub finishes : {S R : Type 0} (g : Ghosts S R) (old mid new : EngineView S R) (xs ys : List ℕ) → (g.tells old.sources → g.tells mid.sources) → Going g old mid xs → Steps g mid new (Ok None) → ys ≡ [] → Finishes g old new (xs ++ ys)
 finishes g old mid new xs ys told w s none =
-    let free : old.kept ≡ None = sym w.kept ∙ free_before g (left_of g.unread) lent_len take is_open mid new mid.kept None refl s in
+    let free : old.kept ≡ None = sym w.kept ∙ free_before g (left_of g) lent_len take is_open mid new mid.kept None refl s in
     record {
       free = free;
       kept = (s.ends refl).0;
@@ -226,11 +232,17 @@ stops g old mid new xs ys told w stop =
       fault = f;
       kept = s.keeps;
       own = ap (λ (k : Option Told). is_fresh is_write_failed k (Some f)) (sym w.kept) ∙ own;
-      failed = λ fresh. (let same_fault : Err f ≡ Err (fault_at ReadFailed (reading_line_of (inner_buffer new.files.nest)) [] (state_of new)) = s.failed (met is_read_failed ∙ fresh) in cc);
-      rest = λ fresh t. w.tells t ∙ ap (and_then (gives xs)) (failed_rest g mid new f s (met is_read_failed ∙ fresh) (told t))
-          ∙ ap (λ (zs : List ℕ). and_then (gives zs) (left_of g.unread (record new { kept = None }))) same;
-      begins = λ t. begins_of (xs ++ ys) (left_of g.unread mid) (left_of g.unread old) (w.tells t ∙ ap (λ (zs : List ℕ). and_then (gives zs) (left_of g.unread mid)) same);
-      tells = λ fresh t. w.tells t ∙ ap (and_then (gives xs)) (s.tells (met is_read_failed ∙ fresh) (told t)) ∙ ap (λ (zs : List ℕ). and_then (gives zs) (fails f)) same;
+      failed = λ fresh. s.failed (met is_call_failed ∙ fresh);
+      rest = λ fresh.
+          let reads = s.reads (met is_call_failed ∙ fresh) in
+          record {
+            at = reads.at;
+            stood = reads.stood;
+            rest = λ t. w.tells t ∙ ap (and_then (gives xs)) (failed_rest g mid new f s (met is_call_failed ∙ fresh) reads (told t))
+                ∙ ap (λ (zs : List ℕ). and_then (gives zs) (left_of g (record reads.at { kept = None }))) same;
+          };
+      begins = λ t. begins_of (xs ++ ys) (left_of g mid) (left_of g old) (w.tells t ∙ ap (λ (zs : List ℕ). and_then (gives zs) (left_of g mid)) same);
+      tells = λ fresh t. w.tells t ∙ ap (and_then (gives xs)) (s.tells (met is_call_failed ∙ fresh) (told t)) ∙ ap (λ (zs : List ℕ). and_then (gives zs) (fails f)) same;
       again = λ k e. (let was = w.again k e in let now = s.kept k (w.kept ∙ e) in (cc (now.0), sym same ∙ was.0, now.1 ∙ was.1));
       bounded = s.bounded;
     }
@@ -238,12 +250,12 @@ stops g old mid new xs ys told w stop =
 -- a piece was written in part
 pub breaks : {S R : Type 0} (g : Ghosts S R) (old mid new : EngineView S R) (xs ys rest : List ℕ) → (g.tells old.sources → g.tells mid.sources) → Going g old mid xs → Steps g mid new (Ok (Some (ys ++ rest))) → Breaks g old new (xs ++ ys)
 breaks g old mid new xs ys rest told w s =
-    let left = left_of g.unread new in
-    let free : old.kept ≡ None = sym w.kept ∙ free_before g (left_of g.unread) lent_len take is_open mid new mid.kept (Some (ys ++ rest)) refl s in
+    let left = left_of g new in
+    let free : old.kept ≡ None = sym w.kept ∙ free_before g (left_of g) lent_len take is_open mid new mid.kept (Some (ys ++ rest)) refl s in
     record {
       free = free;
       kept = s.free;
-      begins = λ t. begins_of (xs ++ ys) (and_then (gives rest) left) (left_of g.unread old)
+      begins = λ t. begins_of (xs ++ ys) (and_then (gives rest) left) (left_of g old)
           (w.tells t ∙ ap (and_then (gives xs)) (ok_tells g mid new (Some (ys ++ rest)) s (told t) ∙ sym (and_then-gives_gives ys rest left)) ∙ and_then-gives_gives xs ys (and_then (gives rest) left));
       bounded = s.bounded;
     }
@@ -386,6 +398,12 @@ unfolding is_fresh write_fault is_memory_kind
 write_no_memory None name f p = ap (λ (x : Told). is_memory_kind x.kind) p
 write_no_memory (Some k) name f p = refl
 
+-- so it is no call that failed
+pub write_no_call : (kept : Option Told) (name : List ℕ) (f : Told) → f ≡ write_fault name → is_fresh is_call_failed kept (Some f) ≡ false
+unfolding is_fresh write_fault is_call_failed is_read_failed is_memory_kind
+write_no_call None name f p = ap (λ (x : Told). is_call_failed x.kind) p
+write_no_call (Some k) name f p = refl
+
 -- or with nothing behind it
 or_false : (b : Bool) → (b || false) ≡ b
 or_false true = refl
@@ -423,8 +441,8 @@ runs_whole g h old new before between after n w flush =
       begins = λ t. begins_all w.bytes _ (w.ends.tells t);
       exact = λ r f t. gives_whole w.bytes _ (w.ends.tells t);
       reads = w.reads;
-      read_failed = λ e. (let bad : ⊥ = cc (e, none_fresh is_read_failed old.kept) in absurd bad);
-      rest = λ e. (let bad : ⊥ = cc (e, none_fresh is_read_failed old.kept) in absurd bad);
+      failed = λ e. (let bad : ⊥ = cc (e, none_fresh is_call_failed old.kept) in absurd bad);
+      rest = λ e. (let bad : ⊥ = cc (e, none_fresh is_call_failed old.kept) in absurd bad);
       writes = flush.writes ∙ w.writes;
       failed_flushes = flush.failures ∙ w.quiet.failed_flushes;
       flushes = counts_after true _ _ _ w.quiet.flushes flush.asked;
@@ -470,10 +488,10 @@ module _ {S R W : Type 0} (g : Ghosts S R) (h : SinkGhosts W) (old new : EngineV
         taken = appends_kept _ _ _ w.bytes w.taken keeps;
         counted = w.counted;
         begins = w.ends.begins;
-        exact = λ r x t. fails_whole w.bytes f _ (w.ends.tells (sym (same is_read_failed) ∙ r) t) ∙ ap (λ (k : Option Told). record { bytes = w.bytes; fault = k }) (sym told);
+        exact = λ r x t. fails_whole w.bytes f _ (w.ends.tells (sym (same is_call_failed) ∙ r) t) ∙ ap (λ (k : Option Told). record { bytes = w.bytes; fault = k }) (sym told);
         reads = rw is stopped_reads;
-        read_failed = λ e. told ∙ ap Some (w.ends.failed (sym (same is_read_failed) ∙ e));
-        rest = λ e. w.ends.rest (sym (same is_read_failed) ∙ e);
+        failed = λ e. subst (λ (k : Option Told). IfSome k (FailsAt new)) (sym told) (w.ends.failed (sym (same is_call_failed) ∙ e));
+        rest = λ e. w.ends.rest (sym (same is_call_failed) ∙ e);
         writes = writes ∙ w.writes;
         failed_flushes = counts_after unflushed _ _ _ w.quiet.failed_flushes failed;
         flushes = counts_after asked _ _ _ w.quiet.flushes flushes;
@@ -505,7 +523,7 @@ module _ {S R W : Type 0} (g : Ghosts S R) (h : SinkGhosts W) (old new : EngineV
 
 -- a write or the flush failed, and no fault came before
 pub runs_unwritten : {S R W : Type 0} (g : Ghosts S R) (h : SinkGhosts W) (old mid new : EngineView S R) (before between after : W) (n : ℕ) (fault : Option Told) (ending : Option Ending)
-    (unwritten unflushed asked : Bool) (w : Wrote g h old mid before between n ending) → answered ending mid.kept ≡ None → old.kept ≡ None → (g.tells old.sources → Begins w.bytes (left_of g.unread old)) → IsBounded mid
+    (unwritten unflushed asked : Bool) (w : Wrote g h old mid before between n ending) → answered ending mid.kept ≡ None → old.kept ≡ None → (g.tells old.sources → Begins w.bytes (left_of g old)) → IsBounded mid
     → Keeps (h.taken between) (h.taken after) → Counts unwritten (h.failed_writes before) (h.failed_writes after)
     → Counts unflushed (h.failed_flushes between) (h.failed_flushes after) → Counts asked (h.flushes between) (h.flushes after)
     → (unwritten || unflushed) ≡ true → asked ≡ not unwritten → (unflushed ≡ true → asked ≡ true)
@@ -517,6 +535,7 @@ runs_unwritten {S} {R} g h old mid new before between after n fault ending unwri
     let P : Option Told → Type 0 = λ k. SourcesCalled g (is_fresh is_read_failed old.kept k) (is_fresh is_memory_kind old.kept k) old.sources mid.sources in
     let reads : SourcesCalled g false false old.sources mid.sources = going_reads g old.kept _ _ (subst P quiet w.reads) in
     let no_read : is_fresh is_read_failed old.kept fault ≡ false = ap (is_fresh is_read_failed old.kept) told ∙ write_no_read old.kept mid.main f refl in
+    let no_call : is_fresh is_call_failed old.kept fault ≡ false = ap (is_fresh is_call_failed old.kept) told ∙ write_no_call old.kept mid.main f refl in
     let no_memory : is_fresh is_memory_kind old.kept fault ≡ false = ap (is_fresh is_memory_kind old.kept) told ∙ write_no_memory old.kept mid.main f refl in
     let sources : new.sources ≡ mid.sources = ap (λ e. e.sources) becomes in
     record {
@@ -529,8 +548,8 @@ runs_unwritten {S} {R} g h old mid new before between after n fault ending unwri
       begins = begins;
       exact = λ r x t. (let bad : ⊥ = cc (x, fresh) in absurd bad);
       reads = rw (no_read, no_memory, sources) reads;
-      read_failed = λ e. (let bad : ⊥ = cc (e, no_read) in absurd bad);
-      rest = λ e. (let bad : ⊥ = cc (e, no_read) in absurd bad);
+      failed = λ e. (let bad : ⊥ = cc (e, no_call) in absurd bad);
+      rest = λ e. (let bad : ⊥ = cc (e, no_call) in absurd bad);
       writes = writes;
       failed_flushes = counts_after unflushed _ _ _ w.quiet.failed_flushes failed;
       flushes = counts_after asked _ _ _ w.quiet.flushes flushes;

@@ -1,7 +1,6 @@
 -- What remains of the open sources, as skipped text of the innermost one is passed, and where it ends with a conditional open.
 use Rattle.std.proofs.Common.{◌≡◌, ℕ, ◌-◌, ◌≤◌, ◌<◌, Bool, true, false, List, [], ◌∷◌, length, take, Some, refl, sym, ap, ◌∙◌}
 use Rattle.rdlpp_scan.specs.SourceTokens.{line_ends}
-use Rattle.rdlpp_scan.specs.Stage.{is_unbuilt}
 use Rattle.rdlpp_scan.specs.declared.token.Directive.{Directive}
 use Rattle.rdlpp_scan.specs.declared.token.Mode.{Mode}
 use Rattle.rdlpp_scan.specs.declared.token.Mode.TheVariants.{Plain}
@@ -55,21 +54,20 @@ module _ {R : Type 0} (limits : Limits) (rules : Rules) (unread : R → List ℕ
     own = take (length os - f.conditions_below) os
 
     -- a stretch of skipped text is passed, and its LF bytes are written
-    pub nest_stretch : (n len : ℕ) (next : Mode) → v.skipped ≡ Some n → HoldsFront is_unbuilt f.buffer
-        → ((d : Directive) (held : List ℕ) → stands_by_itself d ≡ true → has_own_token d ≡ false → IsDirective d held → is_unbuilt held ≡ false)
+    pub nest_stretch : (n len : ℕ) (next : Mode) → v.skipped ≡ Some n → HoldsFront f.buffer
         → IsPassed f.buffer.mode (held_of f.buffer) len next → 0 < len
         → nest_left limits rules unread macros v (f ∷ outer)
         ≡ behind_bytes (line_ends_of (take len (held_of f.buffer)))
         (nest_left limits rules unread macros v (consumed_file len (line_ends (take len (held_of f.buffer))) (with_file_buffer (entered_mode f.buffer Plain) f) ∷ outer))
     unfolding nest_left nest_state file_state
-    nest_stretch n len next skips holds words passes some =
+    nest_stretch n len next skips holds passes some =
         let w = take len (held_of f.buffer) in
         let entered = with_file_buffer (entered_mode f.buffer Plain) f in
         let g = consumed_file len (line_ends w) entered in
         let place = place_skipped f.conditions_below v n o os is_open below skips in
-        let left : Place → List Waiting → File R → Passage = λ p ws x. source_left rules is_unbuilt unread ws p x here in
+        let left : Place → List Waiting → File R → Passage = λ p ws x. source_left rules unread ws p x here in
         ap (λ (p : Place). left p around f) place
-        ∙ (stretch_passes rules is_unbuilt unread around n o own here words f len next holds passes some).0
+        ∙ (stretch_passes rules unread around n o own here f len next holds passes some).0
         ∙ ap (λ (p : Place). behind_bytes (line_ends_of w) (left p around g)) (sym place)
         ∙ ap (λ (ws : List Waiting). behind_bytes (line_ends_of w) (left (place_of f.conditions_below v) ws g))
         (sym (waiting_same limits rules unread (outer_open f.conditions_below v.open_now) f g outer
@@ -82,14 +80,14 @@ module _ {R : Type 0} (limits : Limits) (rules : Rules) (unread : R → List ℕ
       unfolding in_branch
       nest_unclosed true skips =
           fails_nest limits rules unread macros outer v f (in_branch true o own) _ (place_inside f.conditions_below v true o os is_open below skips)
-          (unclosed_left rules is_unbuilt unread around own f here o tells new fills t plain)
+          (unclosed_left rules unread around own f here o tells new fills t plain)
       nest_unclosed false skips =
           fails_nest limits rules unread macros outer v f (in_branch false o own) _ (place_inside f.conditions_below v false o os is_open below skips)
-          (skipped_unclosed_left rules is_unbuilt unread around o own f here 0 tells new fills t plain)
+          (skipped_unclosed_left rules unread around o own f here 0 tells new fills t plain)
 
       -- and so it is where more conditionals opened in skipped text
       pub nest_unclosed_inner : (n : ℕ) → v.skipped ≡ Some n
           → nest_left limits rules unread macros v (f ∷ outer) ≡ leaves (fails (unclosed_fault o)) here
       nest_unclosed_inner n skips =
           fails_nest limits rules unread macros outer v f (Skipped n o own) _ (place_skipped f.conditions_below v n o os is_open below skips)
-          (skipped_unclosed_left rules is_unbuilt unread around o own f here n tells new fills t plain)
+          (skipped_unclosed_left rules unread around o own f here n tells new fills t plain)

@@ -9,7 +9,7 @@ use Rattle.std.proofs.Math.Seq.{take-add}
 use Rattle.rdlpp_scan.specs.Bytes.{is_digit, is_letter, is_line_end, is_word}
 use Rattle.rdlpp_scan.specs.Names.{directive_named}
 use Rattle.rdlpp_scan.specs.SourceTokens.{SourceToken, line_ends}
-use Rattle.rdlpp_scan.specs.Stage.{is_reserved, reserved_names}
+use Rattle.rdlpp_scan.specs.Reserved.{is_reserved, reserved_names}
 use Rattle.rdlpp_scan.specs.Tokens.{plain_len, token_of, whole}
 use Rattle.rdlpp_scan.specs.Resumed.{opening}
 use Rattle.rdlpp_scan.specs.declared.token.Directive.{Directive}
@@ -135,6 +135,28 @@ unfolding line_ends is_line_end
 one_byte [] e = refl
 one_byte (b ∷ bs) e = let is : b ≡ 96 = e in ap (λ (x : ℕ). line_ends (x ∷ [])) is
 
+-- words in front have no line ends: a lone backquote
+pub bare_ends : (held : List ℕ) → (token_of Plain held).kind ≡ BareBackquote → line_ends (take 1 held) ≡ 0
+bare_ends held kind = one_byte held (bare_is held (token_of Plain held) (token_of-row held) kind).1
+
+-- a usage
+front_ends : (held : List ℕ) → (token_of Plain held).kind ≡ Back → is_reserved (take ((token_of Plain held).len - 1) (drop 1 held)) ≡ false → line_ends (take (token_of Plain held).len held) ≡ 0
+front_ends held kind free =
+    let len = (token_of Plain held).len in
+    let name = take (len - 1) (drop 1 held) in
+    let usage : IsUsage held len = record { kind = kind; whole = refl; free = free } in
+    ap line_ends (back_text held (back_front held kind) kind) ∙ backquote_ends name (word_ends name (usage_word held len usage))
+
+pub usage_ends : (held : List ℕ) (len : ℕ) → IsUsage held len → line_ends (take len held) ≡ 0
+usage_ends held len usage =
+    subst (λ (k : ℕ). line_ends (take k held) ≡ 0) (sym usage.whole)
+    (front_ends held usage.kind (subst (λ (k : ℕ). is_reserved (take (k - 1) (drop 1 held)) ≡ false) usage.whole usage.free))
+
+-- the word of a directive
+pub directive_ends : (d : Directive) (held : List ℕ) → 0 < length held → IsDirective d held → line_ends (take (length (word_of d)) held) ≡ 0
+directive_ends d held some is =
+    ap (λ (k : ℕ). line_ends (take k held)) (sym (word_len d held some is)) ∙ ap line_ends is.word ∙ word_line_ends d
+
 -- what is held ends as before in each mode
 same_ends : {R : Type 0} (b : BufferView R) → EndsHeld b → EndsHeld (entered_mode b Plain)
 unfolding held_of entered_mode ahead_of
@@ -151,181 +173,180 @@ case_of Back = IsBack refl
 case_of BareBackquote = IsBare refl
 case_of kind = IsOther (λ e. cc) (λ e. cc)
 
-module _ {R : Type 0} (rules : Rules) (unbuilt : List ℕ → Bool) (unread : R → List ℕ) (ws : List Waiting) (n : ℕ) (p : Progress) (os : List Progress) (s : State)
-    (words : (d : Directive) (held : List ℕ) → stands_by_itself d ≡ true → has_own_token d ≡ false → IsDirective d held → unbuilt held ≡ false) where
-  -- what remains of a source in skipped text
-  abbrev left : File R → Passage
-  left f = source_left rules unbuilt unread ws (Skipped n p os) f s
+module _ {R : Type 0} (rules : Rules) (unread : R → List ℕ) (ws : List Waiting) (n : ℕ) (p : Progress) (os : List Progress) (s : State)
+  where
+    -- what remains of a source in skipped text
+    abbrev left : File R → Passage
+    left f = source_left rules unread ws (Skipped n p os) f s
 
-  -- a source of which so many bytes are passed, behind which plain text stands
-  abbrev pub passed : File R → ℕ → File R
-  passed f len = consumed_file len (line_ends (take len (held_of f.buffer))) (with_file_buffer (entered_mode f.buffer Plain) f)
+    -- a source of which so many bytes are passed, behind which plain text stands
+    abbrev pub passed : File R → ℕ → File R
+    passed f len = consumed_file len (line_ends (take len (held_of f.buffer))) (with_file_buffer (entered_mode f.buffer Plain) f)
 
-  -- the LF bytes of what is passed, and then what remains
-  abbrev pub Passes : File R → ℕ → Type 0
-  Passes f len = left f ≡ behind_bytes (line_ends_of (take len (held_of f.buffer))) (left (passed f len))
+    -- the LF bytes of what is passed, and then what remains
+    abbrev pub Passes : File R → ℕ → Type 0
+    Passes f len = left f ≡ behind_bytes (line_ends_of (take len (held_of f.buffer))) (left (passed f len))
 
-  -- a word without line ends
-  word_passes : (f : File R) (len : ℕ) → f.buffer.mode ≡ Plain → line_ends (take len (held_of f.buffer)) ≡ 0
-      → left f ≡ behind_bytes (line_ends_of (take len (held_of f.buffer))) (left (consumed_file len 0 f)) → Passes f len
-  unfolding source_left entered_mode held_of
-  word_passes f len mode none law =
-      let b = f.buffer in
-      let w = take len (held_of b) in
-      let at : BufferView R → Passage = λ x. all_resumed rules ws (Skipped n p os) (only_blanks f.blanks w) (tokens_left unbuilt unread x) s in
-      let same : tokens_left unbuilt unread (used_buffer b len 0) ≡ tokens_left unbuilt unread (used_buffer (entered_mode b Plain) len 0) =
-      sym (tokens_used unbuilt unread b len 0 (opening b.mode b.open_token_line b.line) mode) ∙ tokens_entered unbuilt unread b len 0 Plain in
-      law
-      ∙ ap (λ (ts : List SourceToken). behind_bytes (line_ends_of w) (all_resumed rules ws (Skipped n p os) (only_blanks f.blanks w) ts s)) same
-      ∙ ap (λ (k : ℕ). behind_bytes (line_ends_of w) (at (used_buffer (entered_mode b Plain) len k))) (sym none)
+    -- a word without line ends
+    word_passes : (f : File R) (len : ℕ) → f.buffer.mode ≡ Plain → line_ends (take len (held_of f.buffer)) ≡ 0
+        → left f ≡ behind_bytes (line_ends_of (take len (held_of f.buffer))) (left (consumed_file len 0 f)) → Passes f len
+    unfolding source_left entered_mode held_of
+    word_passes f len mode none law =
+        let b = f.buffer in
+        let w = take len (held_of b) in
+        let at : BufferView R → Passage = λ x. all_resumed rules ws (Skipped n p os) (only_blanks f.blanks w) (tokens_left unread x) s in
+        let same : tokens_left unread (used_buffer b len 0) ≡ tokens_left unread (used_buffer (entered_mode b Plain) len 0) =
+        sym (tokens_used unread b len 0 (opening b.mode b.open_token_line b.line) mode) ∙ tokens_entered unread b len 0 Plain in
+        law
+        ∙ ap (λ (ts : List SourceToken). behind_bytes (line_ends_of w) (all_resumed rules ws (Skipped n p os) (only_blanks f.blanks w) ts s)) same
+        ∙ ap (λ (k : ℕ). behind_bytes (line_ends_of w) (at (used_buffer (entered_mode b Plain) len k))) (sym none)
 
-  -- a usage, or the word of a directive that doesn't count
-  back_passes : (f : File R) → HoldsFront unbuilt f.buffer → f.buffer.mode ≡ Plain → (token_of Plain (held_of f.buffer)).kind ≡ Back
-      → counts_skipped (take (token_of Plain (held_of f.buffer)).len (held_of f.buffer)) ≡ false
-      → (named : Option Directive) → directive_named (take ((token_of Plain (held_of f.buffer)).len - 1) (drop 1 (held_of f.buffer))) ≡ named
-      → Passes f (token_of Plain (held_of f.buffer)).len
-  back_passes f holds mode kind counts None named =
-      let held = held_of f.buffer in
-      let len = (token_of Plain held).len in
-      let name = take (len - 1) (drop 1 held) in
-      let usage : IsUsage held len = record { kind = kind; whole = refl; free = unreserved name named } in
-      let text : take len held ≡ 96 ∷ name = back_text held (back_front held kind) kind in
-      word_passes f len mode (ap line_ends text ∙ backquote_ends name (word_ends name (usage_word held len usage))) (skipped_usage_left rules unbuilt unread ws n p os f s len holds mode usage)
-  back_passes f holds mode kind counts (Some d) named =
-      let held = held_of f.buffer in
-      let len = (token_of Plain held).len in
-      let name = take (len - 1) (drop 1 held) in
-      let text : take len held ≡ word_of d = back_text held (back_front held kind) kind ∙ named_word name d named in
-      let is : IsDirective d held = record { kind = kind; word = text } in
-      let own = uncounted d (ap counts_skipped (sym text) ∙ counts) in
-      subst (λ (k : ℕ). Passes f k) (sym (word_len d held holds.some is))
-      (word_passes f (length (word_of d)) mode
-      (ap (λ (k : ℕ). line_ends (take k held)) (sym (word_len d held holds.some is)) ∙ ap line_ends text ∙ word_line_ends d)
-      (skipped_word_left rules unbuilt unread ws n p os f s d own.1 own.0 holds mode is (words d held own.0 own.1 is)))
+    -- a usage, or the word of a directive that doesn't count
+    back_passes : (f : File R) → HoldsFront f.buffer → f.buffer.mode ≡ Plain → (token_of Plain (held_of f.buffer)).kind ≡ Back
+        → counts_skipped (take (token_of Plain (held_of f.buffer)).len (held_of f.buffer)) ≡ false
+        → (named : Option Directive) → directive_named (take ((token_of Plain (held_of f.buffer)).len - 1) (drop 1 (held_of f.buffer))) ≡ named
+        → Passes f (token_of Plain (held_of f.buffer)).len
+    back_passes f holds mode kind counts None named =
+        let held = held_of f.buffer in
+        let len = (token_of Plain held).len in
+        let name = take (len - 1) (drop 1 held) in
+        let usage : IsUsage held len = record { kind = kind; whole = refl; free = unreserved name named } in
+        let text : take len held ≡ 96 ∷ name = back_text held (back_front held kind) kind in
+        word_passes f len mode (ap line_ends text ∙ backquote_ends name (word_ends name (usage_word held len usage))) (skipped_usage_left rules unread ws n p os f s len holds mode usage)
+    back_passes f holds mode kind counts (Some d) named =
+        let held = held_of f.buffer in
+        let len = (token_of Plain held).len in
+        let name = take (len - 1) (drop 1 held) in
+        let text : take len held ≡ word_of d = back_text held (back_front held kind) kind ∙ named_word name d named in
+        let is : IsDirective d held = record { kind = kind; word = text } in
+        let own = uncounted d (ap counts_skipped (sym text) ∙ counts) in
+        subst (λ (k : ℕ). Passes f k) (sym (word_len d held holds.some is))
+        (word_passes f (length (word_of d)) mode
+        (ap (λ (k : ℕ). line_ends (take k held)) (sym (word_len d held holds.some is)) ∙ ap line_ends text ∙ word_line_ends d)
+        (skipped_word_left rules unread ws n p os f s d own.1 own.0 holds mode is))
 
-  -- a lone backquote
-  bare_passes : (f : File R) → HoldsFront unbuilt f.buffer → f.buffer.mode ≡ Plain → (token_of Plain (held_of f.buffer)).kind ≡ BareBackquote → Passes f (token_of Plain (held_of f.buffer)).len
-  bare_passes f holds mode kind =
-      let held = held_of f.buffer in
-      let is = bare_is held (token_of Plain held) (token_of-row held) kind in
-      subst (λ (k : ℕ). Passes f k) (sym is.0)
-      (word_passes f 1 mode (one_byte held is.1) (skipped_bare_left rules unbuilt unread ws n p os f s holds mode kind))
+    -- a lone backquote
+    bare_passes : (f : File R) → HoldsFront f.buffer → f.buffer.mode ≡ Plain → (token_of Plain (held_of f.buffer)).kind ≡ BareBackquote → Passes f (token_of Plain (held_of f.buffer)).len
+    bare_passes f holds mode kind =
+        let held = held_of f.buffer in
+        let is = bare_is held (token_of Plain held) (token_of-row held) kind in
+        subst (λ (k : ℕ). Passes f k) (sym is.0)
+        (word_passes f 1 mode (one_byte held is.1) (skipped_bare_left rules unread ws n p os f s holds mode kind))
 
-  -- a string or a comment
-  text_passes : (f : File R) → HoldsFront unbuilt f.buffer → let t = token_of f.buffer.mode (held_of f.buffer) in
-      is_text_kind t.kind ≡ true → t.next_mode ≡ Plain → Passes f t.len
-  text_passes f holds text closed =
-      let t = token_of f.buffer.mode (held_of f.buffer) in
-      let w = take t.len (held_of f.buffer) in
-      skipped_text_left rules unbuilt unread ws n p os f s t.len (line_ends w) t.next_mode holds (AtToken text refl refl) refl
-      ∙ ap (λ (m : Mode). behind_bytes (line_ends_of w) (left (consumed_file t.len (line_ends w) (with_file_buffer (entered_mode f.buffer m) f)))) closed
+    -- a string or a comment
+    text_passes : (f : File R) → HoldsFront f.buffer → let t = token_of f.buffer.mode (held_of f.buffer) in
+        is_text_kind t.kind ≡ true → t.next_mode ≡ Plain → Passes f t.len
+    text_passes f holds text closed =
+        let t = token_of f.buffer.mode (held_of f.buffer) in
+        let w = take t.len (held_of f.buffer) in
+        skipped_text_left rules unread ws n p os f s t.len (line_ends w) t.next_mode holds (AtToken text refl refl) refl
+        ∙ ap (λ (m : Mode). behind_bytes (line_ends_of w) (left (consumed_file t.len (line_ends w) (with_file_buffer (entered_mode f.buffer m) f)))) closed
 
-  -- what stands in front, in a mode
-  abbrev Front : File R → Mode → Type 0
-  Front f m = let t = token_of m (held_of f.buffer) in Goes t.kind t.next_mode (take t.len (held_of f.buffer))
+    -- what stands in front, in a mode
+    abbrev Front : File R → Mode → Type 0
+    Front f m = let t = token_of m (held_of f.buffer) in Goes t.kind t.next_mode (take t.len (held_of f.buffer))
 
-  -- one token of plain text that doesn't stop, where no ordinary text stands in front
-  plain_passes : (f : File R) → f.buffer.mode ≡ Plain → HoldsFront unbuilt f.buffer → plain_len (held_of f.buffer) ≡ 0 → Front f Plain
-      → Case (token_of Plain (held_of f.buffer)).kind → Passes f (token_of Plain (held_of f.buffer)).len
-  plain_passes f mode holds none goes (IsBack kind) = back_passes f holds mode kind (goes.back kind) _ refl
-  plain_passes f mode holds none goes (IsBare kind) = bare_passes f holds mode kind
-  plain_passes f mode holds none goes (IsOther back bare) =
-      let held = held_of f.buffer in
-      let text : is_text_kind (token_of Plain held).kind ≡ true =
-      text_at_front Plain held (λ e. (stops_at_front held holds.some none, λ backquote. bare (bare_at_front held backquote back))) goes.perl in
-      subst (λ (m : Mode). is_text_kind (token_of m held).kind ≡ true → (token_of m held).next_mode ≡ Plain → Passes f (token_of m held).len) mode (text_passes f holds) text goes.closed
+    -- one token of plain text that doesn't stop, where no ordinary text stands in front
+    plain_passes : (f : File R) → f.buffer.mode ≡ Plain → HoldsFront f.buffer → plain_len (held_of f.buffer) ≡ 0 → Front f Plain
+        → Case (token_of Plain (held_of f.buffer)).kind → Passes f (token_of Plain (held_of f.buffer)).len
+    plain_passes f mode holds none goes (IsBack kind) = back_passes f holds mode kind (goes.back kind) _ refl
+    plain_passes f mode holds none goes (IsBare kind) = bare_passes f holds mode kind
+    plain_passes f mode holds none goes (IsOther back bare) =
+        let held = held_of f.buffer in
+        let text : is_text_kind (token_of Plain held).kind ≡ true =
+        text_at_front Plain held (λ e. (stops_at_front held holds.some none, λ backquote. bare (bare_at_front held backquote back))) goes.perl in
+        subst (λ (m : Mode). is_text_kind (token_of m held).kind ≡ true → (token_of m held).next_mode ≡ Plain → Passes f (token_of m held).len) mode (text_passes f holds) text goes.closed
 
-  -- one token that doesn't stop, by the mode
-  token_passes : (f : File R) (m : Mode) → f.buffer.mode ≡ m → HoldsFront unbuilt f.buffer → (m ≡ Plain → plain_len (held_of f.buffer) ≡ 0) → Front f m → Passes f (token_of m (held_of f.buffer)).len
-  token_passes f Plain mode holds none goes = plain_passes f mode holds (none refl) goes (case_of (token_of Plain (held_of f.buffer)).kind)
-  token_passes f InStr mode holds none goes =
-      subst (λ (m : Mode). is_text_kind (token_of m (held_of f.buffer)).kind ≡ true → (token_of m (held_of f.buffer)).next_mode ≡ Plain → Passes f (token_of m (held_of f.buffer)).len) mode (text_passes f holds)
-      (text_at_front InStr (held_of f.buffer) (λ e. absurd (cc)) goes.perl) goes.closed
-  token_passes f InBlock mode holds none goes =
-      subst (λ (m : Mode). is_text_kind (token_of m (held_of f.buffer)).kind ≡ true → (token_of m (held_of f.buffer)).next_mode ≡ Plain → Passes f (token_of m (held_of f.buffer)).len) mode (text_passes f holds)
-      (text_at_front InBlock (held_of f.buffer) (λ e. absurd (cc)) goes.perl) goes.closed
+    -- one token that doesn't stop, by the mode
+    token_passes : (f : File R) (m : Mode) → f.buffer.mode ≡ m → HoldsFront f.buffer → (m ≡ Plain → plain_len (held_of f.buffer) ≡ 0) → Front f m → Passes f (token_of m (held_of f.buffer)).len
+    token_passes f Plain mode holds none goes = plain_passes f mode holds (none refl) goes (case_of (token_of Plain (held_of f.buffer)).kind)
+    token_passes f InStr mode holds none goes =
+        subst (λ (m : Mode). is_text_kind (token_of m (held_of f.buffer)).kind ≡ true → (token_of m (held_of f.buffer)).next_mode ≡ Plain → Passes f (token_of m (held_of f.buffer)).len) mode (text_passes f holds)
+        (text_at_front InStr (held_of f.buffer) (λ e. absurd (cc)) goes.perl) goes.closed
+    token_passes f InBlock mode holds none goes =
+        subst (λ (m : Mode). is_text_kind (token_of m (held_of f.buffer)).kind ≡ true → (token_of m (held_of f.buffer)).next_mode ≡ Plain → Passes f (token_of m (held_of f.buffer)).len) mode (text_passes f holds)
+        (text_at_front InBlock (held_of f.buffer) (λ e. absurd (cc)) goes.perl) goes.closed
 
-  -- one step
-  once_passes : (f : File R) (m : Mode) (held : List ℕ) (len : ℕ) (next : Mode) → f.buffer.mode ≡ m → held_of f.buffer ≡ held → HoldsFront unbuilt f.buffer → IsPassedOnce m held len next
-      → Passes f len × (next ≡ Plain)
-  unfolding stops_at stops_skipping
-  once_passes f m held len next mode is holds (Stretch plain some whole behind) =
-      (skipped_text_left rules unbuilt unread ws n p os f s len (line_ends (take len (held_of f.buffer))) Plain holds (AtOrdinary (mode ∙ plain) refl some (whole ∙ ap plain_len (sym is))) refl, behind)
-  once_passes f m held len next mode is holds (OneToken none goes whole behind) =
-      let t = token_of m held in
-      let front : Goes t.kind t.next_mode (take t.len held) = goes_by t.kind t.next_mode (take t.len held) goes in (
-        subst (λ (k : ℕ). Passes f k) (ap (λ (h : List ℕ). (token_of m h).len) is ∙ sym whole)
-            (token_passes f m mode holds (λ e. ap plain_len is ∙ none e) (subst (λ (h : List ℕ). Goes (token_of m h).kind (token_of m h).next_mode (take (token_of m h).len h)) (sym is) front)),
-        behind ∙ front.closed,
-      )
+    -- one step
+    once_passes : (f : File R) (m : Mode) (held : List ℕ) (len : ℕ) (next : Mode) → f.buffer.mode ≡ m → held_of f.buffer ≡ held → HoldsFront f.buffer → IsPassedOnce m held len next
+        → Passes f len × (next ≡ Plain)
+    unfolding stops_at stops_skipping
+    once_passes f m held len next mode is holds (Stretch plain some whole behind) =
+        (skipped_text_left rules unread ws n p os f s len (line_ends (take len (held_of f.buffer))) Plain holds (AtOrdinary (mode ∙ plain) refl some (whole ∙ ap plain_len (sym is))) refl, behind)
+    once_passes f m held len next mode is holds (OneToken none goes whole behind) =
+        let t = token_of m held in
+        let front : Goes t.kind t.next_mode (take t.len held) = goes_by t.kind t.next_mode (take t.len held) goes in (
+          subst (λ (k : ℕ). Passes f k) (ap (λ (h : List ℕ). (token_of m h).len) is ∙ sym whole)
+              (token_passes f m mode holds (λ e. ap plain_len is ∙ none e) (subst (λ (h : List ℕ). Goes (token_of m h).kind (token_of m h).next_mode (take (token_of m h).len h)) (sym is) front)),
+          behind ∙ front.closed,
+        )
 
-  -- a part and then one more are one
-  passed_twice : (f : File R) (from len : ℕ) → left (passed (passed f from) len) ≡ left (passed f (from + len))
-  unfolding source_left entered_mode held_of rest_of ahead_of
-  passed_twice f from len =
-      let b = f.buffer in
-      let held = held_of b in
-      let one = passed f from in
-      let two = passed one len in
-      let both = passed f (from + len) in
-      let rest : held_of one.buffer ≡ drop from held = held_used (entered_mode b Plain) from (line_ends (take from held)) in
-      let text : take from held ++ take len (held_of one.buffer) ≡ take (from + len) held = ap (λ (h : List ℕ). take from held ++ take len h) rest ∙ sym (take-add from len held) in
-      let blanks : two.blanks ≡ both.blanks = sym (only_blanks-append f.blanks (take from held) (take len (held_of one.buffer))) ∙ ap (only_blanks f.blanks) text in
-      let lines : b.line + line_ends (take from held) + line_ends (take len (held_of one.buffer)) ≡ b.line + line_ends (take (from + len) held) =
-      omega (arith, line_ends-append (take from held) (take len (held_of one.buffer)), ap line_ends text) in
-      let at : b.at + from + len ≡ b.at + (from + len) = omega arith in
-      let makes : ℕ → ℕ → BufferView R = λ k l. record (entered_mode b Plain) { at = k; line = l } in
-      let tokens : tokens_left unbuilt unread two.buffer ≡ tokens_left unbuilt unread both.buffer =
-      tokens_plain unbuilt unread two.buffer refl
-      ∙ sym (tokens_plain unbuilt unread (makes (b.at + from + len) (b.line + line_ends (take from held) + line_ends (take len (held_of one.buffer)))) refl)
-      ∙ ap (λ (k : ℕ). tokens_left unbuilt unread (makes k (b.line + line_ends (take from held) + line_ends (take len (held_of one.buffer))))) at
-      ∙ ap (λ (l : ℕ). tokens_left unbuilt unread (makes (b.at + (from + len)) l)) lines in
-      ap (λ (first : Bool). all_resumed rules ws (Skipped n p os) first (tokens_left unbuilt unread two.buffer) s) blanks
-      ∙ ap (λ (ts : List SourceToken). all_resumed rules ws (Skipped n p os) both.blanks ts s) tokens
+    -- a part and then one more are one
+    passed_twice : (f : File R) (from len : ℕ) → left (passed (passed f from) len) ≡ left (passed f (from + len))
+    unfolding source_left entered_mode held_of rest_of ahead_of
+    passed_twice f from len =
+        let b = f.buffer in
+        let held = held_of b in
+        let one = passed f from in
+        let two = passed one len in
+        let both = passed f (from + len) in
+        let rest : held_of one.buffer ≡ drop from held = held_used (entered_mode b Plain) from (line_ends (take from held)) in
+        let text : take from held ++ take len (held_of one.buffer) ≡ take (from + len) held = ap (λ (h : List ℕ). take from held ++ take len h) rest ∙ sym (take-add from len held) in
+        let blanks : two.blanks ≡ both.blanks = sym (only_blanks-append f.blanks (take from held) (take len (held_of one.buffer))) ∙ ap (only_blanks f.blanks) text in
+        let lines : b.line + line_ends (take from held) + line_ends (take len (held_of one.buffer)) ≡ b.line + line_ends (take (from + len) held) =
+        omega (arith, line_ends-append (take from held) (take len (held_of one.buffer)), ap line_ends text) in
+        let at : b.at + from + len ≡ b.at + (from + len) = omega arith in
+        let makes : ℕ → ℕ → BufferView R = λ k l. record (entered_mode b Plain) { at = k; line = l } in
+        let tokens : tokens_left unread two.buffer ≡ tokens_left unread both.buffer =
+        tokens_plain unread two.buffer refl
+        ∙ sym (tokens_plain unread (makes (b.at + from + len) (b.line + line_ends (take from held) + line_ends (take len (held_of one.buffer)))) refl)
+        ∙ ap (λ (k : ℕ). tokens_left unread (makes k (b.line + line_ends (take from held) + line_ends (take len (held_of one.buffer))))) at
+        ∙ ap (λ (l : ℕ). tokens_left unread (makes (b.at + (from + len)) l)) lines in
+        ap (λ (first : Bool). all_resumed rules ws (Skipped n p os) first (tokens_left unread two.buffer) s) blanks
+        ∙ ap (λ (ts : List SourceToken). all_resumed rules ws (Skipped n p os) both.blanks ts s) tokens
 
-  -- bytes are held behind what is passed
-  holds_behind : (f : File R) (from : ℕ) → HoldsFront unbuilt f.buffer → from < length (held_of f.buffer) → HoldsFront unbuilt (passed f from).buffer
-  unfolding entered_mode held_of
-  holds_behind f from holds inside =
-      let b = f.buffer in
-      let lines = line_ends (take from (held_of b)) in
-      let rest : held_of (passed f from).buffer ≡ drop from (held_of b) = held_used (entered_mode b Plain) from lines in
-      record {
-        stage = holds.stage;
-        some = omega (arith, ap length rest, length-drop from (held_of b));
-        ends = consumed_ends (entered_mode b Plain) (used_buffer (entered_mode b Plain) from lines) from (b.line + lines) refl (same_ends b holds.ends);
-      }
+    -- bytes are held behind what is passed
+    holds_behind : (f : File R) (from : ℕ) → HoldsFront f.buffer → from < length (held_of f.buffer) → HoldsFront (passed f from).buffer
+    unfolding entered_mode held_of
+    holds_behind f from holds inside =
+        let b = f.buffer in
+        let lines = line_ends (take from (held_of b)) in
+        let rest : held_of (passed f from).buffer ≡ drop from (held_of b) = held_used (entered_mode b Plain) from lines in
+        record {
+          some = omega (arith, ap length rest, length-drop from (held_of b));
+          ends = consumed_ends (entered_mode b Plain) (used_buffer (entered_mode b Plain) from lines) from (b.line + lines) refl (same_ends b holds.ends);
+        }
 
-  -- a part, and one step more
-  one_more : (f : File R) (from len : ℕ) (mid next : Mode) → HoldsFront unbuilt f.buffer → Passes f from × (mid ≡ Plain) → from < length (held_of f.buffer)
-      → IsPassedOnce mid (drop from (held_of f.buffer)) len next → Passes f (from + len) × (next ≡ Plain)
-  unfolding entered_mode held_of
-  one_more f from len mid next holds so_far inside once =
-      let b = f.buffer in
-      let held = held_of b in
-      let g = passed f from in
-      let rest : held_of g.buffer ≡ drop from held = held_used (entered_mode b Plain) from (line_ends (take from held)) in
-      let then_ = once_passes g mid (drop from held) len next (sym so_far.1) rest (holds_behind f from holds inside) once in
-      let text : take from held ++ take len (held_of g.buffer) ≡ take (from + len) held = ap (λ (h : List ℕ). take from held ++ take len h) rest ∙ sym (take-add from len held) in
-      let all : line_ends_of (take from held) ++ line_ends_of (take len (held_of g.buffer)) ≡ line_ends_of (take (from + len) held) =
-      sym (line_ends_of-append (take from held) (take len (held_of g.buffer))) ∙ ap line_ends_of text in (
-        so_far.0
-            ∙ ap (behind_bytes (line_ends_of (take from held))) (then_.0 ∙ ap (behind_bytes (line_ends_of (take len (held_of g.buffer)))) (passed_twice f from len))
-            ∙ behind_bytes-twice (line_ends_of (take from held)) (line_ends_of (take len (held_of g.buffer))) (left (passed f (from + len)))
-            ∙ ap (λ (x : List ℕ). behind_bytes x (left (passed f (from + len)))) all,
-        then_.1,
-      )
+    -- a part, and one step more
+    one_more : (f : File R) (from len : ℕ) (mid next : Mode) → HoldsFront f.buffer → Passes f from × (mid ≡ Plain) → from < length (held_of f.buffer)
+        → IsPassedOnce mid (drop from (held_of f.buffer)) len next → Passes f (from + len) × (next ≡ Plain)
+    unfolding entered_mode held_of
+    one_more f from len mid next holds so_far inside once =
+        let b = f.buffer in
+        let held = held_of b in
+        let g = passed f from in
+        let rest : held_of g.buffer ≡ drop from held = held_used (entered_mode b Plain) from (line_ends (take from held)) in
+        let then_ = once_passes g mid (drop from held) len next (sym so_far.1) rest (holds_behind f from holds inside) once in
+        let text : take from held ++ take len (held_of g.buffer) ≡ take (from + len) held = ap (λ (h : List ℕ). take from held ++ take len h) rest ∙ sym (take-add from len held) in
+        let all : line_ends_of (take from held) ++ line_ends_of (take len (held_of g.buffer)) ≡ line_ends_of (take (from + len) held) =
+        sym (line_ends_of-append (take from held) (take len (held_of g.buffer))) ∙ ap line_ends_of text in (
+          so_far.0
+              ∙ ap (behind_bytes (line_ends_of (take from held))) (then_.0 ∙ ap (behind_bytes (line_ends_of (take len (held_of g.buffer)))) (passed_twice f from len))
+              ∙ behind_bytes-twice (line_ends_of (take from held)) (line_ends_of (take len (held_of g.buffer))) (left (passed f (from + len)))
+              ∙ ap (λ (x : List ℕ). behind_bytes x (left (passed f (from + len)))) all,
+          then_.1,
+        )
 
-  -- a stretch behind which one step more is passed
-  stretch_by : (f : File R) (from len : ℕ) (mid next : Mode) → HoldsFront unbuilt f.buffer → IsPassed f.buffer.mode (held_of f.buffer) from mid → from < length (held_of f.buffer)
-      → IsPassedOnce mid (drop from (held_of f.buffer)) len next → Passes f (from + len) × (next ≡ Plain)
-  stretch_by f from len mid next holds Begins inside once =
-      let same : len ≡ 0 + len = omega arith in
-      subst (λ (k : ℕ). Passes f k × (next ≡ Plain)) same (once_passes f f.buffer.mode (held_of f.buffer) len next refl refl holds once)
-  stretch_by f from len mid next holds (Onward at more m behind before within step) inside once =
-      one_more f from len mid next holds (stretch_by f at more m behind holds before within step) inside once
+    -- a stretch behind which one step more is passed
+    stretch_by : (f : File R) (from len : ℕ) (mid next : Mode) → HoldsFront f.buffer → IsPassed f.buffer.mode (held_of f.buffer) from mid → from < length (held_of f.buffer)
+        → IsPassedOnce mid (drop from (held_of f.buffer)) len next → Passes f (from + len) × (next ≡ Plain)
+    stretch_by f from len mid next holds Begins inside once =
+        let same : len ≡ 0 + len = omega arith in
+        subst (λ (k : ℕ). Passes f k × (next ≡ Plain)) same (once_passes f f.buffer.mode (held_of f.buffer) len next refl refl holds once)
+    stretch_by f from len mid next holds (Onward at more m behind before within step) inside once =
+        one_more f from len mid next holds (stretch_by f at more m behind holds before within step) inside once
 
-  -- a stretch
-  pub stretch_passes : (f : File R) (len : ℕ) (next : Mode) → HoldsFront unbuilt f.buffer → IsPassed f.buffer.mode (held_of f.buffer) len next → 0 < len → Passes f len × (next ≡ Plain)
-  stretch_passes f len next holds Begins some = absurd (omega arith)
-  stretch_passes f len next holds (Onward from more mid behind before inside once) some = stretch_by f from more mid behind holds before inside once
+    -- a stretch
+    pub stretch_passes : (f : File R) (len : ℕ) (next : Mode) → HoldsFront f.buffer → IsPassed f.buffer.mode (held_of f.buffer) len next → 0 < len → Passes f len × (next ≡ Plain)
+    stretch_passes f len next holds Begins some = absurd (omega arith)
+    stretch_passes f len next holds (Onward from more mid behind before inside once) some = stretch_by f from more mid behind holds before inside once

@@ -1,9 +1,10 @@
 -- The held stores, and their bound.
 -- A definition that names no source is this project's own.
-use Rattle.std.specs.Prelude.{ℕ, ◌+◌, ◌*◌, ◌≤◌, List, [], length, sum_by}
+use Rattle.std.specs.Prelude.{ℕ, ◌+◌, ◌*◌, ◌≤◌, List, length, sum_by}
 use Rattle.rdlpp_table.specs.Table.{table_bytes}
 use Rattle.rdlpp_table.specs.declared.limits.Limits.{Limits}
 use Rattle.rdlpp_read.specs.Files.{held_windows}
+use Rattle.rdlpp_cursors.specs.Opened.{bound_by}
 use Rattle.rdlpp_expand.specs.Engine.{EngineView}
 use Rattle.rdlpp_expand.specs.declared.held.Held.{Held}
 
@@ -18,7 +19,7 @@ pub record Stores : Type 0 where
 unfoldable pub stores_of : {S R : Type 0} → EngineView S R → Stores
 stores_of e = record {
   definitions = table_bytes e.table.macros;
-  arguments = [];
+  arguments = e.expansion.arguments;
   buffers = held_windows e.files.nest;
 }
 
@@ -40,8 +41,8 @@ held_told e = let s = stores_of e in record {
   definitions = length s.definitions;
   arguments = length s.arguments;
   buffers = sum_by length s.buffers;
-  cursors = 0;
-  bindings = 0;
+  cursors = length e.expansion.opens;
+  bindings = bound_by e.expansion.opens;
   conditions = length e.conditions.open_now;
   sources = length e.files.nest;
 }

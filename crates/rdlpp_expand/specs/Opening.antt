@@ -2,16 +2,12 @@
 -- A definition that names no source is this project's own.
 use Rattle.std.specs.Prelude.{◌≡◌, ℕ, Bool, false, ◌+◌, List, [], ◌∷◌, Option, None, Some, Result, Ok, Err}
 use Rattle.rdlpp_expand.specs.Calls.{SourcesCalled}
-use Rattle.rdlpp_source.specs.Sources.{Answer, Missing, Overlong, Present}
+use Rattle.rdlpp_source.specs.Sources.{Present}
 use Rattle.rdlpp_source.specs.declared.sources.Found.{Found}
-use Rattle.rdlpp_source.specs.declared.sources.SourceFault.{SourceFault}
-use Rattle.rdlpp_source.specs.declared.sources.SourceFault.TheVariants as source
 use Rattle.rdlpp_source.specs.declared.sources.Sources.{Ghosts}
 use Rattle.rdlpp_table.specs.Limits.{limit_fault}
 use Rattle.rdlpp_table.specs.declared.limits.Limits.{Limits}
 use Rattle.rdlpp_meaning.specs.declared.fault.Fault.{Fault}
-use Rattle.rdlpp_meaning.specs.declared.fault.FaultKind.{FaultKind}
-use Rattle.rdlpp_meaning.specs.declared.fault.FaultKind.TheVariants.{SourceNotFound, PathTooLong, ReadFailed, SourceMemory}
 use Rattle.rdlpp_meaning.specs.Outcome.{Told, told, Outcome}
 use Rattle.rdlpp_meaning.specs.State.{Lookup, NoSource, LongPath, Source}
 use Rattle.rdlpp_meaning.specs.Output.{opening_fault, output}
@@ -19,14 +15,14 @@ use Rattle.rdlpp_expand.specs.Engine.{EngineView}
 use Rattle.rdlpp_read.specs.Files.{entered_file}
 use Rattle.rdlpp_expand.specs.Owed.{nothing_owed, origin_owed}
 use Rattle.rdlpp_expand.specs.Held.{IsBounded}
-use Rattle.rdlpp_expand.specs.Remaining.{output_fault, staged_rules, left_of}
+use Rattle.rdlpp_expand.specs.Remaining.{left_of, lookup_of, output_fault, run_rules}
 use Rattle.rdlpp_meaning.specs.OutputLimit.{limited}
 use Rattle.rdlpp_expand.specs.Steps.{IsStarted, is_memory_kind, is_read_failed}
 use Rattle.rdlpp_expand.specs.declared.engine.NewFault.{NewFault}
 use Rattle.rdlpp_expand.specs.declared.engine.NewFault.TheVariants.{BadLimits, NoMemory}
 use Rattle.rdlpp_expand.specs.declared.phase.Phase.TheVariants.{Fresh, Open, Closed}
 
--- an engine that wasn't started: an empty table, no open conditional, and no open source (this project's profile)
+-- an engine that wasn't started: an empty table, no open conditional, no open source, and no open text of a usage (this project's profile)
 unfoldable pub fresh_engine : {S R : Type 0} → Limits → S → Bool → EngineView S R
 fresh_engine limits sources origins = record {
   limits = limits;
@@ -40,6 +36,7 @@ fresh_engine limits sources origins = record {
   conditions = record { open_now = []; skipped = None; limit = limits.conditions };
   sources = sources;
   files = record { nest = []; slots = limits.includes + 1; line_bytes = limits.line_bytes };
+  expansion = record { opens = []; arguments = []; line = 0; depth = limits.depth; most = limits.argument_bytes };
 }
 
 -- a new engine is fresh, and a limit out of its range is told exactly where there is one (this project's profile)
@@ -47,19 +44,6 @@ abbrev pub Makes : {S R : Type 0} → Limits → S → Bool → Result (EngineVi
 Makes limits sources origins (Ok engine) = (limit_fault limits ≡ None) × (engine ≡ fresh_engine limits sources origins)
 Makes limits sources origins (Err (BadLimits fault)) = limit_fault limits ≡ Some fault
 Makes limits sources origins (Err NoMemory) = limit_fault limits ≡ None
-
--- the kind of fault that a source's refusal is told as (this project's profile)
-unfoldable pub kind_of_source : SourceFault → FaultKind
-kind_of_source source.Absent = SourceNotFound
-kind_of_source source.PathTooLong = PathTooLong
-kind_of_source source.Device = ReadFailed
-kind_of_source source.NoMemory = SourceMemory
-
--- what a search answers, as the meaning of a source has it
-unfoldable pub lookup_of : Answer → Lookup
-lookup_of Missing = NoSource
-lookup_of Overlong = LongPath
-lookup_of (Present path text) = Source path text
 
 -- an engine whose main text was found, before which its origin line is owed, where asked for
 unfoldable pub opened_engine : {S R : Type 0} → EngineView S R → Found R → EngineView S R
@@ -83,14 +67,14 @@ found_name path LongPath = path
 found_name path (Source found text) = found
 
 -- the output of a main path by what the search for it comes to, with at most as many bytes as the limit says
-unfoldable pub looked_up : {S R : Type 0} → EngineView S R → List ℕ → Lookup → Outcome
-looked_up e path lookup =
+unfoldable pub looked_up : {S R : Type 0} → Ghosts S R → EngineView S R → List ℕ → Lookup → Outcome
+looked_up g e path lookup =
     limited (output_fault (found_name path lookup)) e.limits.output_bytes
-    (output (staged_rules e.limits e.origins) e.table.macros e.limits.includes e.limits.conditions path lookup)
+    (output (run_rules g e) e.table.macros e.limits.includes e.limits.conditions path lookup)
 
 -- the output of a main path, where no opening fails (this project's profile)
 unfoldable pub staged_output : {S R : Type 0} → Ghosts S R → EngineView S R → List ℕ → Outcome
-staged_output g e path = looked_up e path (lookup_of ((g.catalog e.sources).top path))
+staged_output g e path = looked_up g e path (lookup_of ((g.catalog e.sources).top path))
 
 -- the fault that a start answers
 unfoldable pub start_fault : Result (Unit {0}) Fault → Option Told
@@ -126,5 +110,5 @@ pub record Starts {S R : Type 0} (g : Ghosts S R) (old new : EngineView S R) (pa
   pub refused : (f : Told) → answer ≡ Some f → (f ≡ opening_fault f.kind path) × (new ≡ unopened_engine (record old { sources = new.sources }) f)
   pub call : SourcesCalled g (is_device_fault answer) (is_memory_fault answer) old.sources new.sources
   pub remains_output : is_device_fault answer ≡ false → is_memory_fault answer ≡ false → g.tells old.sources
-      → left_of g.unread new ≡ staged_output g old path
+      → left_of g new ≡ staged_output g old path
   pub bounded : IsBounded new

@@ -1,22 +1,19 @@
 -- What a run writes, and how it ends.
 -- A definition that names no source is this project's own.
-use Rattle.std.specs.Prelude.{◌≡◌, ℕ, ◌-◌, ◌^◌, ◌⊎◌, min, Bool, true, false, not, ◌||◌, List, [], ◌++◌, length, Option, None, Some, Result, Ok, Err, IsSomeAnd}
+use Rattle.std.specs.Prelude.{◌≡◌, ℕ, ◌-◌, ◌^◌, ◌⊎◌, min, Bool, true, false, not, ◌||◌, List, [], ◌++◌, length, Option, None, Some, Result, Ok, Err, IfSome, IsSomeAnd}
 use Rattle.std.specs.Io.KnownBytes.{Appends, Keeps}
 use Rattle.rdlpp_source.specs.Counts.{Counts}
 use Rattle.rdlpp_source.specs.declared.sources.Sources.{Ghosts}
 use Rattle.rdlpp_source.specs.declared.sinks.Sink.{Ghosts as SinkGhosts}
 use Rattle.rdlpp_meaning.specs.declared.fault.FaultKind.{FaultKind}
-use Rattle.rdlpp_meaning.specs.declared.fault.FaultKind.TheVariants.{ReadFailed, WriteFailed}
+use Rattle.rdlpp_meaning.specs.declared.fault.FaultKind.TheVariants.{WriteFailed}
 use Rattle.rdlpp_meaning.specs.Outcome.{Told, told, Outcome, gives, fails, and_then}
 use Rattle.rdlpp_expand.specs.Calls.{SourcesCalled}
 use Rattle.rdlpp_expand.specs.Engine.{EngineView, is_open}
-use Rattle.rdlpp_meaning.specs.State.{fault_at}
-use Rattle.rdlpp_read.specs.Buffer.{reading_line_of}
-use Rattle.rdlpp_read.specs.Files.{inner_buffer}
 use Rattle.rdlpp_expand.specs.Held.{IsBounded}
 use Rattle.rdlpp_expand.specs.Owed.{nothing_owed}
-use Rattle.rdlpp_expand.specs.Remaining.{left_of, state_of}
-use Rattle.rdlpp_expand.specs.Steps.{Steps, IsStarted, is_memory_kind, is_read_failed, is_write_failed}
+use Rattle.rdlpp_expand.specs.Remaining.{left_of}
+use Rattle.rdlpp_expand.specs.Steps.{Steps, FailsAt, IsStarted, Stood, is_call_failed, is_memory_kind, is_read_failed, is_write_failed}
 use Rattle.rdlpp_expand.specs.declared.phase.Phase.TheVariants.{Open, Closed}
 use Rattle.rdlpp_expand.specs.declared.writing.Ending.{Ending}
 use Rattle.rdlpp_expand.specs.declared.writing.Ending.TheVariants.{Finished, Stopped, Unwritten}
@@ -91,17 +88,19 @@ pub record Pulls {S R W : Type 0} (g : Ghosts S R) (h : SinkGhosts W) (old new :
   pub quiet : Unflushed h before after
   pub ends : PullEnds g old new bytes ending
 
--- where a read failed, what was written and then what remains, but for the fault that is kept, is what remained (source: this
--- project's profile)
-abbrev pub LeavesRest : {S R : Type 0} → Ghosts S R → EngineView S R → EngineView S R → List ℕ → Type 0
-LeavesRest g old new bytes = g.tells old.sources → left_of g.unread old ≡ and_then (gives bytes) (left_of g.unread (record new { kept = None }))
+-- where a read or a search failed, what was written and then what remains, but for the fault that is kept, is what remained; where a read failed in the
+-- call of a usage, what remains is that before the usage (source: this project's profile)
+pub record LeavesRest {S R : Type 0} (g : Ghosts S R) (old new : EngineView S R) (bytes : List ℕ) : Type 0 where
+  pub at : EngineView S R
+  pub stood : Stood g at new
+  pub rest : g.tells old.sources → left_of g old ≡ and_then (gives bytes) (left_of g (record at { kept = None }))
 
 -- pieces were written, and the output goes on: a fault is kept only where one was kept at first, and then nothing was
 -- written (source: this project's profile)
 pub record Going {S R : Type 0} (g : Ghosts S R) (old new : EngineView S R) (bytes : List ℕ) : Type 0 where
   pub kept : new.kept ≡ old.kept
   pub open_ : (new ≡ old) ⊎ (is_open new.phase ≡ true)
-  pub tells : g.tells old.sources → left_of g.unread old ≡ and_then (gives bytes) (left_of g.unread new)
+  pub tells : g.tells old.sources → left_of g old ≡ and_then (gives bytes) (left_of g new)
   pub again : (f : Told) → old.kept ≡ Some f → (bytes ≡ []) × (new ≡ old)
 
 -- the whole output was written (source: this project's profile)
@@ -109,7 +108,7 @@ pub record Finishes {S R : Type 0} (g : Ghosts S R) (old new : EngineView S R) (
   pub free : old.kept ≡ None
   pub kept : new.kept ≡ None
   pub closed : new.phase ≡ Closed
-  pub tells : g.tells old.sources → left_of g.unread old ≡ gives bytes
+  pub tells : g.tells old.sources → left_of g old ≡ gives bytes
   pub unowed : old.phase ≡ Open → new.owed ≡ nothing_owed
   pub bounded : IsBounded new
 
@@ -118,10 +117,10 @@ pub record Stops {S R : Type 0} (g : Ghosts S R) (old new : EngineView S R) (byt
   pub fault : Told
   pub kept : new.kept ≡ Some fault
   pub own : is_fresh is_write_failed old.kept (Some fault) ≡ false
-  pub failed : is_fresh is_read_failed old.kept (Some fault) ≡ true → fault ≡ fault_at ReadFailed (reading_line_of (inner_buffer new.files.nest)) [] (state_of new)
-  pub rest : is_fresh is_read_failed old.kept (Some fault) ≡ true → LeavesRest g old new bytes
-  pub begins : g.tells old.sources → Begins bytes (left_of g.unread old)
-  pub tells : is_fresh is_read_failed old.kept (Some fault) ≡ false → g.tells old.sources → left_of g.unread old ≡ and_then (gives bytes) (fails fault)
+  pub failed : is_fresh is_call_failed old.kept (Some fault) ≡ true → FailsAt new fault
+  pub rest : is_fresh is_call_failed old.kept (Some fault) ≡ true → LeavesRest g old new bytes
+  pub begins : g.tells old.sources → Begins bytes (left_of g old)
+  pub tells : is_fresh is_call_failed old.kept (Some fault) ≡ false → g.tells old.sources → left_of g old ≡ and_then (gives bytes) (fails fault)
   pub again : (k : Told) → old.kept ≡ Some k → (k ≡ fault) × (bytes ≡ []) × (new ≡ old)
   pub bounded : IsBounded new
 
@@ -129,7 +128,7 @@ pub record Stops {S R : Type 0} (g : Ghosts S R) (old new : EngineView S R) (byt
 pub record Breaks {S R : Type 0} (g : Ghosts S R) (old new : EngineView S R) (bytes : List ℕ) : Type 0 where
   pub free : old.kept ≡ None
   pub kept : new.kept ≡ None
-  pub begins : g.tells old.sources → Begins bytes (left_of g.unread old)
+  pub begins : g.tells old.sources → Begins bytes (left_of g old)
   pub bounded : IsBounded new
 
 -- how far the output was written, by how it ended (source: this project's profile)
@@ -167,10 +166,12 @@ fault_of (Err f) = Some (told f.fault)
 
 -- a run: the bytes that the writer took in this call and their count, up to `u64::MAX`; and whether a write failed, a flush
 -- failed, and a flush was asked for. Where the sources tell their texts the bytes are the output that remained, or its first
--- bytes; and where no device failed they are that output whole, and its end is the answer. A fault of a read that failed
--- comes, unless it was kept, where the count of the sources' failures rose, and always there, and it tells the line that was
--- read, under the shown name, and the bytes and then what remains but for that fault are what remained; so it is with memory that
--- was refused, by its own count. Where the output ended, nothing is owed. A fault of a write that failed comes
+-- bytes; and where no device failed and no memory was refused they are that output whole, and its end is the answer. A fault of
+-- a read or of a search that failed comes, unless it was kept, where the count of the sources' failures rose, and always there,
+-- and so with memory that was refused, by its own count; it tells the line that was read, or that of the `include` that asked for
+-- the search, under the shown name, and the bytes and then what remains but for that fault are what remained, or what remains before
+-- the usage in whose call a read failed. Where the output
+-- ended, nothing is owed. A fault of a write that failed comes
 -- where the writer's count of failed writes or of failed flushes rose; and always where that of failed writes rose; and
 -- where that of failed flushes rose, the answer is such a fault, or the one that came before the flush. A flush is asked for
 -- once, unless a write failed, now or before. A kept fault is answered again, and then nothing is written and the engine
@@ -182,11 +183,11 @@ pub record Runs {S R W : Type 0} (g : Ghosts S R) (h : SinkGhosts W) (old new : 
   pub asked : Bool
   pub taken : Appends (h.taken before) (h.taken after) bytes
   pub counted : count ≡ min (length bytes) (2 ^ 64 - 1)
-  pub begins : g.tells old.sources → Begins bytes (left_of g.unread old)
-  pub exact : is_fresh is_read_failed old.kept fault ≡ false → is_fresh is_write_failed old.kept fault ≡ false → g.tells old.sources → left_of g.unread old ≡ record { bytes = bytes; fault = fault }
+  pub begins : g.tells old.sources → Begins bytes (left_of g old)
+  pub exact : is_fresh is_call_failed old.kept fault ≡ false → is_fresh is_write_failed old.kept fault ≡ false → g.tells old.sources → left_of g old ≡ record { bytes = bytes; fault = fault }
   pub reads : SourcesCalled g (is_fresh is_read_failed old.kept fault) (is_fresh is_memory_kind old.kept fault) old.sources new.sources
-  pub read_failed : is_fresh is_read_failed old.kept fault ≡ true → fault ≡ Some (fault_at ReadFailed (reading_line_of (inner_buffer new.files.nest)) [] (state_of new))
-  pub rest : is_fresh is_read_failed old.kept fault ≡ true → LeavesRest g old new bytes
+  pub failed : is_fresh is_call_failed old.kept fault ≡ true → IfSome fault (FailsAt new)
+  pub rest : is_fresh is_call_failed old.kept fault ≡ true → LeavesRest g old new bytes
   pub writes : Counts unwritten (h.failed_writes before) (h.failed_writes after)
   pub failed_flushes : Counts unflushed (h.failed_flushes before) (h.failed_flushes after)
   pub flushes : Counts asked (h.flushes before) (h.flushes after)

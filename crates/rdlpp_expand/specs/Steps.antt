@@ -1,17 +1,22 @@
 -- What a step of an engine does.
 -- A definition that names no source is this project's own.
-use Rattle.std.specs.Prelude.{◌≡◌, ℕ, ◌+◌, ◌<◌, Bool, true, false, List, [], ◌++◌, Option, None, Some, Result, Ok, Err, IfErr, IfOk, length, take, ⊤}
+use Rattle.std.specs.Prelude.{◌≡◌, ℕ, ◌+◌, ◌<◌, Bool, true, false, List, [], ◌++◌, ◌||◌, Option, None, Some, Result, Ok, Err, IfErr, IfOk, length, take, ⊤}
+use Rattle.rdlpp_scan.specs.declared.token.Mode.TheVariants.{Plain}
 use Rattle.rdlpp_source.specs.declared.sources.Sources.{Ghosts}
 use Rattle.rdlpp_meaning.specs.declared.fault.FaultKind.{FaultKind}
 use Rattle.rdlpp_meaning.specs.declared.fault.FaultKind.TheVariants.{ReadFailed, WriteFailed, SourceMemory, EmbeddedPerl}
 use Rattle.rdlpp_meaning.specs.Meaning.{Passage, behind_bytes, leaves}
 use Rattle.rdlpp_meaning.specs.State.{State, fault_at}
 use Rattle.rdlpp_meaning.specs.Outcome.{Told, Outcome, gives, fails, and_then}
-use Rattle.rdlpp_read.specs.Buffer.{BufferView, reading_line_of}
+use Rattle.rdlpp_read.specs.Buffer.{BufferView, held_of, reading_line_of}
 use Rattle.rdlpp_read.specs.Files.{inner_buffer, with_buffer}
+use Rattle.rdlpp_front.specs.Fronts.{IsUsage}
+use Rattle.rdlpp_usages.specs.Usages.{UsesSource, is_opened}
+use Rattle.rdlpp_usages.specs.declared.expansion.Opening.{Opening}
 use Rattle.rdlpp_expand.specs.Calls.{SourcesCalled}
 use Rattle.rdlpp_expand.specs.Engine.{EngineView, is_open}
 use Rattle.rdlpp_expand.specs.Held.{IsBounded}
+use Rattle.rdlpp_expand.specs.Includes.{IsSearch}
 use Rattle.rdlpp_expand.specs.Owed.{nothing_owed}
 use Rattle.rdlpp_expand.specs.Remaining.{left_of, output_fault, uncut_of, state_of, text_of, work_left}
 use Rattle.rdlpp_expand.specs.declared.phase.Phase.{Phase}
@@ -35,6 +40,10 @@ is_memory_kind EmbeddedPerl = false
 is_memory_kind SourceMemory = true
 is_memory_kind _ = false
 
+-- whether a kind is that of a source that couldn't be read or searched for: a device failed, or memory was refused
+unfoldable pub is_call_failed : FaultKind → Bool
+is_call_failed kind = is_read_failed kind || is_memory_kind kind
+
 -- whether an answer is a fault of such a kind, and none was kept before the call
 unfoldable pub has_met : (FaultKind → Bool) → Option Told → Result (Option (List ℕ)) Told → Bool
 has_met test (Some f) answer = false
@@ -48,6 +57,10 @@ has_failed kept answer = has_met is_read_failed kept answer
 -- whether an answer is memory that was refused in this call
 abbrev pub has_refused : Option Told → Result (Option (List ℕ)) Told → Bool
 has_refused kept answer = has_met is_memory_kind kept answer
+
+-- whether an answer is a read or a search that failed in this call, at a device or for memory
+abbrev pub has_stopped : Option Told → Result (Option (List ℕ)) Told → Bool
+has_stopped kept answer = has_met is_call_failed kept answer
 
 -- a kind of fault that is a text's own: none of a device or of memory
 pub record IsOwn (kind : FaultKind) : Type 0 where
@@ -76,16 +89,16 @@ pub record LendsText (most : List ℕ → List ℕ) (bytes : List ℕ) (old new 
 
 -- what an answer says of what remained of the text, with the state behind it: a piece and then what remains now; the end; or the
 -- fault, in the state that the engine stands in
-abbrev pub TellsText : {S R : Type 0} → (List ℕ → List ℕ) → (R → List ℕ) → Result (Option (List ℕ)) Told → Passage → EngineView S R → Type 0
-TellsText most unread (Ok (Some bytes)) old new = LendsText most bytes old (text_of unread new)
-TellsText most unread (Ok None) old new = EndsText new old
-TellsText most unread (Err f) old new = old ≡ leaves (fails f) (state_of new)
+abbrev pub TellsText : {S R : Type 0} → (List ℕ → List ℕ) → Ghosts S R → Result (Option (List ℕ)) Told → Passage → EngineView S R → Type 0
+TellsText most g (Ok (Some bytes)) old new = LendsText most bytes old (text_of g new)
+TellsText most g (Ok None) old new = EndsText new old
+TellsText most g (Err f) old new = old ≡ leaves (fails f) (state_of new)
 
--- a read that failed: the text is still open, and what remained of it remains
-pub record StopsReading {S R : Type 0} (g : Ghosts S R) (old new : EngineView S R) : Type 0 where
-  pub open_ : old.phase ≡ Open
-  pub still : new.phase ≡ Open
-  pub text : g.tells old.sources → text_of g.unread old ≡ text_of g.unread new
+-- the fault of a read that failed, at the line that is read; or that of a search that failed, at the line of the `include` that
+-- asked for it
+pub data FailsAt {S R : Type 0} (e : EngineView S R) (f : Told) : Type 0 where
+  OnRead : f ≡ fault_at ReadFailed (reading_line_of (inner_buffer e.files.nest)) [] (state_of e) → FailsAt e f
+  OnSearch : IsSearch e → (kind : FaultKind) → is_call_failed kind ≡ true → f ≡ fault_at kind (inner_buffer e.files.nest).line [] (state_of e) → FailsAt e f
 
 -- a window moved on over its text: it dropped bytes in front, which were used, and gained bytes behind
 pub record MovesOn {R : Type 0} (old new : BufferView R) : Type 0 where
@@ -94,15 +107,50 @@ pub record MovesOn {R : Type 0} (old new : BufferView R) : Type 0 where
   pub window : old.window ++ gained ≡ dropped ++ new.window
   pub used : length dropped + new.at ≡ old.at
 
--- a fault in an open text: it came to an engine of which the same text remained and that owed nothing; of that engine nothing
--- changed but the fault that is kept and what is read of the innermost source, whose window moved on, and no source was closed
-pub record HaltsAt {S R : Type 0} (g : Ghosts S R) (old new : EngineView S R) : Type 0 where
+-- an engine that stopped in the call of a usage, before which another one stood: no text of a usage is open, and of the one before it nothing changed but
+-- the fault that is kept and what is read and used of the innermost source
+pub record StopsInCall {S R : Type 0} (g : Ghosts S R) (at new : EngineView S R) : Type 0 where
+  pub len : ℕ
+  pub mode : (inner_buffer at.files.nest).mode ≡ Plain
+  pub usage : IsUsage (held_of (inner_buffer at.files.nest)) len
+  pub idle : at.expansion.opens ≡ []
+  pub becomes : new ≡ record at { kept = new.kept; files = new.files; sources = new.sources }
+  pub only : new.files ≡ record at.files { nest = new.files.nest }
+  pub opening : Opening
+  pub unopened : is_opened opening ≡ false
+  pub uses : UsesSource (g.tells at.sources) g.unread opening at.files.nest new.files.nest
+
+-- which engine it is whose text remains where a read or a search failed: the one that stopped, or the one before the usage in whose call that is
+pub data Stood {S R : Type 0} (g : Ghosts S R) (at new : EngineView S R) : Type 0 where
+  Itself : at ≡ new → Stood g at new
+  BeforeCall : StopsInCall g at new → Stood g at new
+
+-- a read or a search that failed: the text is still open, and what remained of it remains; where a read failed in the call of a usage, it remains before that
+pub record StopsReading {S R : Type 0} (g : Ghosts S R) (old new : EngineView S R) : Type 0 where
+  pub open_ : old.phase ≡ Open
+  pub still : new.phase ≡ Open
   pub at : EngineView S R
-  pub text : g.tells old.sources → text_of g.unread old ≡ text_of g.unread at
-  pub unowed : at.owed ≡ nothing_owed
+  pub stood : Stood g at new
+  pub text : g.tells old.sources → text_of g old ≡ text_of g at
+
+-- an engine that stopped at the front of what is held: nothing changed but the fault that is kept and what is read of the innermost source, whose window
+-- moved on, and no source was closed
+pub record StopsAtFront {S R : Type 0} (at new : EngineView S R) : Type 0 where
   pub becomes : new ≡ record at { kept = new.kept; files = new.files; sources = new.sources }
   pub only : new.files ≡ record at.files { nest = with_buffer (inner_buffer new.files.nest) at.files.nest }
   pub moves : MovesOn (inner_buffer at.files.nest) (inner_buffer new.files.nest)
+
+-- where a fault comes: at the front of what is held, or in the call of a usage that stands there
+pub data Halted {S R : Type 0} (g : Ghosts S R) (at new : EngineView S R) : Type 0 where
+  AtFront : StopsAtFront at new → Halted g at new
+  InCall : StopsInCall g at new → Halted g at new
+
+-- a fault in an open text: it came to an engine of which the same text remained and that owed nothing
+pub record HaltsAt {S R : Type 0} (g : Ghosts S R) (old new : EngineView S R) : Type 0 where
+  pub at : EngineView S R
+  pub text : g.tells old.sources → text_of g old ≡ text_of g at
+  pub unowed : at.owed ≡ nothing_owed
+  pub stopped : Halted g at new
 
 -- what an answer leaves of an open text: where it ended, nothing is owed; where a fault came, nothing else changed
 abbrev pub Halts : {S R : Type 0} → Ghosts S R → Result (Option (List ℕ)) Told → EngineView S R → EngineView S R → Type 0
@@ -116,7 +164,7 @@ IsStarted e = e.phase ≡ Fresh → ⊥
 
 -- a step: a kept fault is answered again and changes nothing, and so is the end; a fault is kept, one of a write that failed
 -- comes only so, and bytes leave none kept; the main text's name; the counts of failures; the output that remained is what was lent
--- and then the output that remains; so it is with the text and the state behind it; where a read failed, the same text remains; what
+-- and then the output that remains; so it is with the text and the state behind it; where a read or a search failed, the same text remains; what
 -- is owed and what changed at the end and at a fault; the work left falls; bytes come of an open text alone; what may still be lent;
 -- the room of the table; the bound holds
 pub record StepsOver {S R : Type 0} (g : Ghosts S R) (left : EngineView S R → Outcome) (spent : Result (Option (List ℕ)) Told → ℕ)
@@ -132,12 +180,12 @@ pub record StepsOver {S R : Type 0} (g : Ghosts S R) (left : EngineView S R → 
   pub free : IfOk answer (λ lent. new.kept ≡ None)
   pub own : old.kept ≡ None → IfErr answer (λ f. is_write_failed f.kind ≡ false)
   pub ends : answer ≡ Ok None → (new.kept ≡ None) × (new.phase ≡ Closed)
-  pub failed : has_failed old.kept answer ≡ true → answer ≡ Err (fault_at ReadFailed (reading_line_of (inner_buffer new.files.nest)) [] (state_of new))
+  pub failed : has_stopped old.kept answer ≡ true → IfErr answer (FailsAt new)
   pub call : SourcesCalled g (has_failed old.kept answer) (has_refused old.kept answer) old.sources new.sources
-  pub tells : has_failed old.kept answer ≡ false → g.tells old.sources → Tells answer (left old) (left new)
-  pub text : old.kept ≡ None → old.phase ≡ Open → has_failed old.kept answer ≡ false → g.tells old.sources
-      → TellsText (most old.quota) g.unread answer (text_of g.unread old) new
-  pub reads : has_failed old.kept answer ≡ true → StopsReading g old new
+  pub tells : has_stopped old.kept answer ≡ false → g.tells old.sources → Tells answer (left old) (left new)
+  pub text : old.kept ≡ None → old.phase ≡ Open → has_stopped old.kept answer ≡ false → g.tells old.sources
+      → TellsText (most old.quota) g answer (text_of g old) new
+  pub reads : has_stopped old.kept answer ≡ true → StopsReading g old new
   pub halts : old.kept ≡ None → old.phase ≡ Open → Halts g answer old new
   pub falls : (bytes : List ℕ) → answer ≡ Ok (Some bytes) → work_left new < work_left old
   pub lends : (bytes : List ℕ) → answer ≡ Ok (Some bytes) → (old.phase ≡ Open) × (goes_on new.phase ≡ true)
@@ -170,8 +218,8 @@ may_follow Closed = false
 -- a step over what remains of the output, in which the lent bytes count: no more are lent of a piece than may be (this project's
 -- profile)
 abbrev pub Steps : {S R : Type 0} → Ghosts S R → EngineView S R → EngineView S R → Result (Option (List ℕ)) Told → Type 0
-Steps g old new answer = StepsOver g (left_of g.unread) lent_len take is_open old new answer
+Steps g old new answer = StepsOver g (left_of g) lent_len take is_open old new answer
 
 -- a step over what remains without the limit on the output
 abbrev pub Walks : {S R : Type 0} → Ghosts S R → EngineView S R → EngineView S R → Result (Option (List ℕ)) Told → Type 0
-Walks g old new answer = StepsOver g (uncut_of g.unread) no_len all_of may_follow old new answer
+Walks g old new answer = StepsOver g (uncut_of g) no_len all_of may_follow old new answer

@@ -8,26 +8,34 @@ ghost use Rattle.rdlpp_scan.specs.declared.token.Directive.TheVariants.{Define, 
 ghost use Rattle.rdlpp_table.specs.Table.{macro_named};
 ghost use Rattle.rdlpp_table.specs.View.{macro_at};
 ghost use Rattle.rdlpp_meaning.specs.Outcome.{Told, told};
-ghost use Rattle.rdlpp_meaning.specs.Stage.{is_unbuilt_macro};
 ghost use Rattle.rdlpp_meaning.specs.State.{fault_at};
 ghost use Rattle.rdlpp_read.specs.Buffer.{entered_mode, held_of, reading_line_of};
 ghost use Rattle.rdlpp_read.specs.Calls.{SourcesRead};
 ghost use Rattle.rdlpp_read.specs.Files.{AreOpen, consumed_file, inner_buffer, with_buffer, with_inner};
 ghost use Rattle.rdlpp_read.specs.Filling.{Fills, is_failed};
 ghost use Rattle.rdlpp_read.specs.LogicalLines.{HoldsLine, is_failed_line};
+ghost use Rattle.rdlpp_cursors.specs.Places.{IsPlaced as IsTextPlaced, place_bytes};
+ghost use Rattle.rdlpp_front.specs.Names.{IsWordBytes};
 ghost use Rattle.rdlpp_front.specs.Fronts.{HasName, IsDirective, IsNamed, IsText, IsUsage, usage_name};
-ghost use Rattle.rdlpp_expand.specs.Engine.{IsSoundEngine};
+ghost use Rattle.rdlpp_usages.specs.Usages.{IsRoomy};
+ghost use Rattle.rdlpp_expand.specs.Conditionals.{unclosed_fault};
+ghost use Rattle.rdlpp_expand.specs.Engine.{AreOpenTexts, IsSoundEngine};
 ghost use Rattle.rdlpp_expand.specs.Held.{IsBounded, held_told};
-ghost use Rattle.rdlpp_expand.specs.Moves.{Ends, IsReady, ReadsDefine};
+ghost use Rattle.rdlpp_expand.specs.Moves.{Ends, IsReady, IsUnowed, ReadsDefine};
+ghost use Rattle.rdlpp_expand.specs.OpenConditionals.{inner_below};
 ghost use Rattle.rdlpp_expand.specs.Owed.{nothing_owed};
-ghost use Rattle.rdlpp_expand.specs.Pieces.{IsPlaced, Lends, answer_of, bytes_at, lent_answer, piece_bytes, step_answer};
+ghost use Rattle.rdlpp_expand.specs.Pieces.{IsPlaced, Lends, answer_of, bytes_at, held_texts, lent_answer, piece_bytes, step_answer};
 ghost use Rattle.rdlpp_expand.specs.Remaining.{output_fault, state_of};
 ghost use Rattle.rdlpp_expand.specs.Run.{write_fault};
 ghost use Rattle.rdlpp_expand.specs.Steps.{IsStarted, Steps, Walks, is_write_failed};
 ghost use Rattle.rdlpp_expand.specs.contracts.engine.Engine.{the_row};
 
+mod conditional;
+mod include;
 mod line;
 mod opening;
+mod skipping;
+mod usage;
 
 use crate::held::Held;
 use crate::kinds::fault_kind;
@@ -37,12 +45,14 @@ use crate::place::{Piece, Place};
 use crate::texts::{copied, copied_fault, word_of};
 use arrayvec::ArrayString;
 use rdlpp_conditions::Conditions;
+use rdlpp_cursors::{CursorFault, CursorStep, TextPlace, text_at};
 use rdlpp_front::{Argument, Front, front_of};
 use rdlpp_meaning::{Fault, FaultKind};
 use rdlpp_read::{Files, Fill, LogicalLine};
 use rdlpp_scan::{Mode, line_ends_in, reserved};
 use rdlpp_source::Sources;
 use rdlpp_table::{LimitFault, Limits, MacroId, Table};
+use rdlpp_usages::Expansion;
 use std::alloc::Global;
 use std::marker::Model;
 
@@ -71,12 +81,13 @@ pub struct Engine<S: Sources> {
     conditions: Conditions,
     sources: S,
     files: Files<S::Reader>,
+    expansion: Expansion,
 }
 
 impl<S: Sources> Model for Engine<S> {
     ghost use Rattle.std.specs.Option.{option_map};
     ghost use Rattle.rdlpp_meaning.specs.Outcome.{told};
-    ghost use Rattle.rdlpp_expand.specs.Engine.{EngineView, IsSoundEngine};
+    ghost use Rattle.rdlpp_expand.specs.Engine.{EngineView, IsWholeEngine};
 
     ghost Value = { EngineView S S.Reader };
 
@@ -92,9 +103,10 @@ impl<S: Sources> Model for Engine<S> {
       conditions = e.conditions;
       sources = e.sources;
       files = e.files;
+      expansion = e.expansion;
     } };
 
-    ghost invariant = { λ e. IsSoundEngine e.limits e.phase e.table e.files e.conditions };
+    ghost invariant = { λ e. IsWholeEngine e.limits e.phase e.table e.files e.conditions e.expansion };
 }
 
 impl<S: Sources> Engine<S> {
@@ -113,10 +125,10 @@ impl<S: Sources> Engine<S> {
         self.facts();
         Held {
             definitions: self.table.bytes().len(),
-            arguments: 0,
+            arguments: self.expansion.arguments().len(),
             buffers: self.files.held_len(),
-            cursors: 0,
-            bindings: 0,
+            cursors: self.expansion.len(),
+            bindings: self.expansion.bound(),
             conditions: self.conditions.len(),
             sources: self.files.len(),
         }
@@ -150,6 +162,14 @@ impl<S: Sources> Engine<S> {
             Place::Body(id, start, end) => {
                 let len = self.spend(end - start);
                 Place::Body(id, start, start + len)
+            }
+            Place::Text(place) => {
+                let len = self.spend(place.end - place.from);
+                Place::Text(TextPlace {
+                    source: place.source,
+                    from: place.from,
+                    end: place.from + len,
+                })
             }
             Place::Owed(piece) => {
                 let len = self.spend(piece.len);
@@ -221,7 +241,38 @@ impl<S: Sources> Engine<S> {
         let name_len = self.files.file().name.len();
         match self.owed.take(name_len) {
             Some(piece) => Some(Place::Owed(piece)),
-            None => self.step_sources(),
+            None => self.step_unowed(),
+        }
+    }
+
+    // Takes one step where nothing is owed: over the open texts of a usage, where there are any, and else over the
+    // open sources.
+    fn step_unowed(&mut self) -> Option<Place>
+        requires { IsUnowed self.old }
+        ensures place { IfSome result (IsPlaced self.new) }
+        ensures walks { IsBounded self.new → Walks S.Sources self.old self.new (step_answer self.new result) }
+    {
+        self.facts();
+        if self.expansion.is_empty() {
+            return self.step_sources();
+        }
+        self.step_text()
+    }
+
+    // Takes one step over the open texts of a usage.
+    fn step_text(&mut self) -> Option<Place>
+        requires unowed { IsUnowed self.old }
+        requires some { 0 < length self.old.expansion.opens }
+        ensures place { IfSome result (IsPlaced self.new) }
+        ensures walks { IsBounded self.new → Walks S.Sources self.old self.new (step_answer self.new result) }
+    {
+        self.facts();
+        let step = self.expansion.step(&self.table);
+        self.expansion.facts();
+        match step {
+            CursorStep::Lends(place) => Some(Place::Text(place)),
+            CursorStep::Silent => None,
+            CursorStep::Refused(fault) => Some(self.refuse_text(fault)),
         }
     }
 
@@ -234,12 +285,26 @@ impl<S: Sources> Engine<S> {
         match self.fill() {
             Fill::Held => {
                 self.facts();
-                self.take_front()
+                self.take_held()
             }
-            Fill::End => Some(self.end()),
+            Fill::End => self.end(),
             Fill::SourceLong => Some(self.refuse(FaultKind::SourceTooLong, ArrayString::new())),
             Fill::LineLong => Some(self.refuse(FaultKind::LineTooLong, ArrayString::new())),
             Fill::Failed => Some(self.refuse_read()),
+        }
+    }
+
+    // Takes what the held bytes begin with, or passes skipped text.
+    fn take_held(&mut self) -> Option<Place>
+        requires ready { IsReady self.old }
+        requires some { 0 < length (held_of (inner_buffer self.old.files.nest)) }
+        ensures place { IfSome result (IsPlaced self.new) }
+        ensures walks { IsBounded self.new → Walks S.Sources self.old self.new (step_answer self.new result) }
+    {
+        if self.conditions.is_live() {
+            self.take_front()
+        } else {
+            self.skip_front()
         }
     }
 
@@ -254,9 +319,15 @@ impl<S: Sources> Engine<S> {
         let buffer = &self.files.file().buffer;
         match front_of(buffer.mode(), buffer.held()) {
             Front::Text(len, next) => Some(self.lend_text(len, next)),
-            Front::Usage(len) => Some(self.expand(len)),
+            Front::Usage(len) => self.expand(len),
             Front::Define => self.define_line(),
             Front::Undef(argument) => self.undefine(argument),
+            Front::Ifdef(argument) => self.open_conditional(true, argument),
+            Front::Ifndef(argument) => self.open_conditional(false, argument),
+            Front::Elsif(argument) => self.take_elsif(argument),
+            Front::Else => self.take_else(),
+            Front::Endif => self.take_endif(),
+            Front::Include(argument) => self.take_include(argument),
             Front::Line => self.take_line(),
             Front::Refused(kind) => Some(self.refuse(kind, ArrayString::new())),
         }
@@ -275,46 +346,6 @@ impl<S: Sources> Engine<S> {
         self.enter_mode(next);
         let start = self.consume(len, lines);
         Place::Source(start, start + len)
-    }
-
-    // Expands the usage of `len` bytes with which the held bytes begin.
-    fn expand(&mut self, len: usize) -> Place
-        requires ready { IsReady self.old }
-        requires live { self.old.conditions.skipped ≡ None }
-        requires some { 0 < length (held_of (inner_buffer self.old.files.nest)) }
-        requires mode { (inner_buffer self.old.files.nest).mode ≡ Mode.Plain }
-        requires usage { IsUsage (held_of (inner_buffer self.old.files.nest)) len }
-        ensures place { IsPlaced self.new result }
-        ensures walks { IsBounded self.new → Walks S.Sources self.old self.new (lent_answer self.new result) }
-    {
-        let name = name_of(self.files.file().buffer.held(), len);
-        match self.table.find(name) {
-            None => {
-                let word = word_of(name);
-                self.refuse(FaultKind::UndefinedMacro, word)
-            }
-            Some(id) => self.lend_body(len, id),
-        }
-    }
-
-    // Lends the body of a macro, whose usage has `len` bytes.
-    fn lend_body(&mut self, len: usize, id: MacroId) -> Place
-        requires ready { IsReady self.old }
-        requires live { self.old.conditions.skipped ≡ None }
-        requires some { 0 < length (held_of (inner_buffer self.old.files.nest)) }
-        requires mode { (inner_buffer self.old.files.nest).mode ≡ Mode.Plain }
-        requires usage { IsUsage (held_of (inner_buffer self.old.files.nest)) len }
-        requires inside { id < length self.old.table.macros }
-        requires named { macro_named self.old.table.macros (usage_name (held_of (inner_buffer self.old.files.nest)) len) ≡ Some (macro_at self.old.table.macros id) }
-        ensures place { IsPlaced self.new result }
-        ensures walks { IsBounded self.new → Walks S.Sources self.old self.new (lent_answer self.new result) }
-    {
-        if !is_built(&self.table, id) {
-            return self.refuse(FaultKind::Unbuilt, ArrayString::new());
-        }
-        let end = self.table.body(id).len();
-        self.consume(len, 0);
-        Place::Body(id, 0, end)
     }
 
     // Takes in the logical line of the `define` with which the held bytes begin, and reads it.
@@ -347,6 +378,7 @@ impl<S: Sources> Engine<S> {
         requires inside { len ≤ length (held_of (inner_buffer self.old.files.nest)) }
         requires line { IfSome (logical_len 0 0 (drop 7 (take len (held_of (inner_buffer self.old.files.nest))))) (λ n. n ≡ length (drop 7 (take len (held_of (inner_buffer self.old.files.nest))))) }
         requires nothing { self.old.owed ≡ nothing_owed }
+        requires idle { self.old.expansion.opens ≡ [] }
         requires files { AreOpen self.old.files }
         ensures place { IfSome result (IsPlaced self.new) }
         ensures reads { ReadsDefine len self.old self.new result }
@@ -401,28 +433,70 @@ impl<S: Sources> Engine<S> {
         None
     }
 
-    // Ends the main text, which has no more bytes; a string or a comment that is open is a fault.
-    fn end(&mut self) -> Place
+    // Ends the innermost source, which has no more bytes; a string, a comment or a conditional that is open
+    // is a fault.
+    fn end(&mut self) -> Option<Place>
         requires open { self.old.phase ≡ Phase.Open }
         requires some { 0 < length self.old.files.nest }
+        requires nothing { self.old.owed ≡ nothing_owed }
+        requires idle { self.old.expansion.opens ≡ [] }
         ensures { Ends self.old self.new result }
     {
         self.files.facts();
         let buffer = &self.files.file().buffer;
         let opened = buffer.open_token_line();
         match buffer.mode() {
-            Mode::Plain => {
-                self.close();
-                Place::End
-            }
-            Mode::InStr => self.refuse_at(FaultKind::OpenString, opened, ArrayString::new()),
-            Mode::InBlock => self.refuse_at(FaultKind::OpenComment, opened, ArrayString::new()),
+            Mode::Plain => self.end_plain(),
+            Mode::InStr => Some(self.refuse_at(FaultKind::OpenString, opened, ArrayString::new())),
+            Mode::InBlock => Some(self.refuse_at(
+                FaultKind::OpenComment,
+                opened,
+                ArrayString::new(),
+            )),
         }
+    }
+
+    // Ends the innermost source, in which no string and no comment is open; a conditional that is open is a
+    // fault.
+    fn end_plain(&mut self) -> Option<Place>
+        requires open { self.old.phase ≡ Phase.Open }
+        requires some { 0 < length self.old.files.nest }
+        requires nothing { self.old.owed ≡ nothing_owed }
+        requires idle { self.old.expansion.opens ≡ [] }
+        requires mode { (inner_buffer self.old.files.nest).mode ≡ Mode.Plain }
+        ensures { Ends self.old self.new result }
+    {
+        let below = self.files.file().conditions_below;
+        match self.conditions.unclosed(below) {
+            None => self.end_whole(),
+            Some(line) => Some(self.refuse_unclosed(line)),
+        }
+    }
+
+    // Ends the innermost source, in which nothing is open: closes the main text, or leaves an included source.
+    fn end_whole(&mut self) -> Option<Place>
+        requires open { self.old.phase ≡ Phase.Open }
+        requires some { 0 < length self.old.files.nest }
+        requires nothing { self.old.owed ≡ nothing_owed }
+        requires idle { self.old.expansion.opens ≡ [] }
+        requires mode { (inner_buffer self.old.files.nest).mode ≡ Mode.Plain }
+        requires ended { length self.old.conditions.open_now ≡ inner_below self.old.files.nest }
+        ensures { Ends self.old self.new result }
+    {
+        if self.files.len() > 1 {
+            self.leave();
+            return None;
+        }
+        self.close();
+        Some(Place::End)
     }
 
     // Closes the main text, which has ended.
     fn close(&mut self)
-        requires { 0 < length self.old.files.nest }
+        requires some { 0 < length self.old.files.nest }
+        requires alone { length self.old.files.nest ≤ 1 }
+        requires idle { self.old.expansion.opens ≡ [] }
+        requires ended { length self.old.conditions.open_now ≡ inner_below self.old.files.nest }
         ensures { self.new ≡ record self.old { phase = Phase.Closed; files = record self.old.files { nest = [] } } }
     {
         self.phase = Phase::Closed;
@@ -481,6 +555,20 @@ impl<S: Sources> Engine<S> {
         self.refuse_at(kind, line, word)
     }
 
+    // Keeps a fault of the open texts of a usage, at the line of the usage in the source.
+    fn refuse_text(&mut self, fault: CursorFault) -> Place
+        requires nest { 0 < length self.old.files.nest }
+        requires line { self.old.expansion.line < 2 ^ 63 }
+        requires placed { IsTextPlaced (held_texts self.old) fault.word }
+        requires word { IsWordBytes (place_bytes (held_texts self.old) fault.word) }
+        ensures place { result ≡ Place.Kept }
+        ensures kept { self.new ≡ record self.old { kept = Some (fault_at fault.kind self.old.expansion.line (place_bytes (held_texts self.old) fault.word) (state_of self.old)) } }
+    {
+        let word = word_of(text_at(&self.table, self.expansion.arguments(), fault.word));
+        let line = self.expansion.line();
+        self.refuse_at(fault.kind, line, word)
+    }
+
     // Keeps that a read failed, at the line that is read.
     fn refuse_read(&mut self) -> Place
         requires { 0 < length self.old.files.nest }
@@ -507,6 +595,21 @@ impl<S: Sources> Engine<S> {
             name: copied(&file.name),
             line: file.shift.shown_line(line),
             word,
+        });
+        Place::Kept
+    }
+
+    // Keeps that a conditional is open where its source ends, at the line that the conditional showed.
+    fn refuse_unclosed(&mut self, line: u64) -> Place
+        requires { 0 < length self.old.files.nest }
+        ensures place { result ≡ Place.Kept }
+        ensures kept { self.new ≡ record self.old { kept = Some (unclosed_fault line (state_of self.old)) } }
+    {
+        self.kept = Some(Fault {
+            kind: FaultKind::OpenConditional,
+            name: copied(&self.files.file().name),
+            line,
+            word: ArrayString::new(),
         });
         Place::Kept
     }
@@ -579,6 +682,11 @@ impl<S: Sources> Engine<S> {
         match place {
             Place::Source(start, end) => Piece::Bytes(self.files.file().buffer.part(start, end)),
             Place::Body(id, start, end) => Piece::Bytes(&self.table.body(id)[start..end]),
+            Place::Text(place) => Piece::Bytes(text_at(
+                &self.table,
+                self.expansion.arguments(),
+                place,
+            )),
             Place::Owed(piece) => Piece::Bytes(
                 self.owed.bytes(piece, self.files.file().name.as_str()),
             ),
@@ -591,26 +699,12 @@ impl<S: Sources> Engine<S> {
         ensures bounded { IsBounded self.now }
         ensures sound { IsSoundEngine self.now.limits self.now.phase self.now.table self.now.files self.now.conditions }
         ensures files { AreOpen self.now.files }
+        ensures texts { AreOpenTexts self.now.limits self.now.phase self.now.table.macros self.now.expansion }
+        ensures room { IsRoomy self.now.expansion }
     {
         self.files.facts();
+        self.expansion.facts();
     }
-}
-
-// The name in a usage of `len` bytes.
-fn name_of(held: &[u8], len: usize) -> &[u8]
-    requires some { 0 < len }
-    requires inside { len ≤ length held.now }
-    ensures { result.now ≡ usage_name held.now len }
-{
-    &held[1..len]
-}
-
-// Whether usages of a macro are built.
-fn is_built(table: &Table, id: MacroId) -> bool
-    requires { id < length table.now.macros }
-    ensures { result ≡ not (is_unbuilt_macro (macro_at table.now.macros id)) }
-{
-    table.arity(id).is_none() && table.is_copied(id)
 }
 
 // Whether a kind is that of a write that failed.

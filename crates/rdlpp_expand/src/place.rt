@@ -1,6 +1,7 @@
 // Pieces of the output, and where they stand.
 
 use crate::owed::OwedPiece;
+use rdlpp_cursors::TextPlace;
 use rdlpp_table::MacroId;
 
 /// A piece of the output, lent by the engine.
@@ -19,6 +20,8 @@ pub(crate) enum Place {
     Source(usize, usize),
     /// From a place up to another in a live body.
     Body(MacroId, usize, usize),
+    /// In a text that is open in a usage.
+    Text(TextPlace),
     /// In the texts that are owed.
     Owed(OwedPiece),
     /// At the end.

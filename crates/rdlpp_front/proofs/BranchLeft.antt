@@ -3,7 +3,7 @@ use Rattle.std.proofs.Common.{◌≡◌, ℕ, Bool, true, false, List, [], lengt
 use Rattle.rdlpp_scan.specs.declared.token.Directive.{Directive}
 use Rattle.rdlpp_scan.specs.declared.token.Directive.TheVariants.{Elsif, Else}
 use Rattle.rdlpp_scan.specs.declared.token.Mode.TheVariants.{Plain}
-use Rattle.rdlpp_scan.specs.Stage.{is_reserved}
+use Rattle.rdlpp_scan.specs.Reserved.{is_reserved}
 use Rattle.rdlpp_meaning.specs.declared.fault.FaultKind.{FaultKind}
 use Rattle.rdlpp_meaning.specs.declared.fault.FaultKind.TheVariants.{NameExpected, ReservedName}
 use Rattle.rdlpp_meaning.specs.Outcome.{fails}
@@ -53,93 +53,86 @@ faulty_test kind word s x e = ap (λ (y : Checked). name_test true y s) e
 abbrev pub Turns : Progress → Directive → (Command → State → Test) → Type 0
 Turns o d test = (c : Command) (t : State) → c.word ≡ d → turn o c t ≡ test c t
 
-module _ {R : Type 0} (rules : Rules) (unbuilt : List ℕ → Bool) (unread : R → List ℕ) (ws : List Waiting) (os : List Progress) (f : File R) (s : State) (live : Bool) (o : Progress) where
+module _ {R : Type 0} (rules : Rules) (unread : R → List ℕ) (ws : List Waiting) (os : List Progress) (f : File R) (s : State) (live : Bool) (o : Progress) where
   -- a branch that is refused
   pub refused_branch_left : (d : Directive) (kind : FaultKind) → branches_conditional d ≡ true
-      → HoldsFront unbuilt f.buffer → f.buffer.mode ≡ Plain → IsDirective d (held_of f.buffer) → unbuilt (held_of f.buffer) ≡ false
-      → Turns o d (λ c t. Stopped kind [])
-      → source_left rules unbuilt unread ws (in_branch live o os) f s ≡ leaves (fails (fault_at kind f.buffer.line [] s)) s
+      → HoldsFront f.buffer → f.buffer.mode ≡ Plain → IsDirective d (held_of f.buffer) → Turns o d (λ c t. Stopped kind [])
+      → source_left rules unread ws (in_branch live o os) f s ≡ leaves (fails (fault_at kind f.buffer.line [] s)) s
   unfolding command_of
-  refused_branch_left d kind b holds mode is built turns =
-      let ts = tokens_left unbuilt unread (consumed_file (length (word_of d)) 0 f).buffer in
-      refused_move rules unbuilt unread ws f s d ts (in_branch live o os) kind [] (word_tokens d unbuilt unread f.buffer (branch_word d b) holds mode is built)
+  refused_branch_left d kind b holds mode is turns =
+      let ts = tokens_left unread (consumed_file (length (word_of d)) 0 f).buffer in
+      refused_move rules unread ws f s d ts (in_branch live o os) kind [] (word_tokens d unread f.buffer (branch_word d b) holds mode is)
       (resumed_unturned rules live o os d f.buffer.line f.blanks ts s kind [] b (turns (command_in_front d f.blanks (word_token d f.buffer.line) ts) s refl))
 
   -- an `else` that is decided
   pub decided_else_left : (t : Bool)
-      → HoldsFront unbuilt f.buffer → f.buffer.mode ≡ Plain → IsDirective Else (held_of f.buffer) → unbuilt (held_of f.buffer) ≡ false
-      → Turns o Else (λ c u. Holds t)
-      → source_left rules unbuilt unread ws (in_branch live o os) f s
-      ≡ source_left rules unbuilt unread ws (in_branch t (branched o t true) os) (consumed_file (length (word_of Else)) 0 f) s
+      → HoldsFront f.buffer → f.buffer.mode ≡ Plain → IsDirective Else (held_of f.buffer) → Turns o Else (λ c u. Holds t)
+      → source_left rules unread ws (in_branch live o os) f s
+      ≡ source_left rules unread ws (in_branch t (branched o t true) os) (consumed_file (length (word_of Else)) 0 f) s
   unfolding command_of is_else
-  decided_else_left t holds mode is built turns =
-      let i = bare_in_front rules unbuilt unread ws f s Else holds mode built else_bare is in
-      bare_move rules unbuilt unread ws f s Else holds mode built is i (in_branch live o os) (in_branch t (branched o t true) os) s
+  decided_else_left t holds mode is turns =
+      let i = bare_in_front rules unread ws f s Else holds mode else_bare is in
+      bare_move rules unread ws f s Else holds mode is i (in_branch live o os) (in_branch t (branched o t true) os) s
       (resumed_turned rules live o os Else f.buffer.line f.blanks i.tokens s t else_branches (turns (command_in_front Else f.blanks (word_token Else f.buffer.line) i.tokens) s refl))
 
   -- an `elsif` with a name that is decided, whatever the name
   pub decided_elsif_left : (t : Bool) (start stop : ℕ)
-      → HoldsFront unbuilt f.buffer → f.buffer.mode ≡ Plain → HasName Elsif (held_of f.buffer) start stop → unbuilt (held_of f.buffer) ≡ false
-      → Turns o Elsif (λ c u. Holds t)
-      → source_left rules unbuilt unread ws (in_branch live o os) f s
-      ≡ source_left rules unbuilt unread ws (in_branch t (branched o t false) os) (consumed_file stop 0 f) s
+      → HoldsFront f.buffer → f.buffer.mode ≡ Plain → HasName Elsif (held_of f.buffer) start stop → Turns o Elsif (λ c u. Holds t)
+      → source_left rules unread ws (in_branch live o os) f s
+      ≡ source_left rules unread ws (in_branch t (branched o t false) os) (consumed_file stop 0 f) s
   unfolding command_of is_else
-  decided_elsif_left t start stop holds mode has built turns =
-      let i = name_in_front_of Elsif unbuilt unread f.buffer elsif_wants holds mode built start stop has in
-      named_move rules unbuilt unread ws f s Elsif start stop i (in_branch live o os) (in_branch t (branched o t false) os) s
+  decided_elsif_left t start stop holds mode has turns =
+      let i = name_in_front_of Elsif unread f.buffer elsif_wants holds mode start stop has in
+      named_move rules unread ws f s Elsif start stop i (in_branch live o os) (in_branch t (branched o t false) os) s
       (resumed_turned rules live o os Elsif f.buffer.line f.blanks i.tokens s t elsif_branches (turns (command_in_front Elsif f.blanks (word_token Elsif f.buffer.line) i.tokens) s refl))
 
   -- and one without
   pub decided_nameless_left : (t : Bool)
-      → HoldsFront unbuilt f.buffer → f.buffer.mode ≡ Plain → LacksName Elsif (held_of f.buffer) → unbuilt (held_of f.buffer) ≡ false
-      → Turns o Elsif (λ c u. Holds t)
-      → source_left rules unbuilt unread ws (in_branch live o os) f s
-      ≡ source_left rules unbuilt unread ws (in_branch t (branched o t false) os) (consumed_file (length (word_of Elsif)) 0 f) s
+      → HoldsFront f.buffer → f.buffer.mode ≡ Plain → LacksName Elsif (held_of f.buffer) → Turns o Elsif (λ c u. Holds t)
+      → source_left rules unread ws (in_branch live o os) f s
+      ≡ source_left rules unread ws (in_branch t (branched o t false) os) (consumed_file (length (word_of Elsif)) 0 f) s
   unfolding command_of is_else
-  decided_nameless_left t holds mode lacks built turns =
-      let i = no_name_in_front_of Elsif unbuilt unread f.buffer elsif_wants holds mode built lacks in
-      bare_move rules unbuilt unread ws f s Elsif holds mode built lacks.word i (in_branch live o os) (in_branch t (branched o t false) os) s
+  decided_nameless_left t holds mode lacks turns =
+      let i = no_name_in_front_of Elsif unread f.buffer elsif_wants holds mode lacks in
+      bare_move rules unread ws f s Elsif holds mode lacks.word i (in_branch live o os) (in_branch t (branched o t false) os) s
       (resumed_turned rules live o os Elsif f.buffer.line f.blanks i.tokens s t elsif_branches (turns (command_in_front Elsif f.blanks (word_token Elsif f.buffer.line) i.tokens) s refl))
 
   module _ (turns : Turns o Elsif (λ c t. name_test true (macro_name c) t)) where
     -- an `elsif` whose name decides
     pub tested_elsif_left : (start stop : ℕ)
-        → HoldsFront unbuilt f.buffer → f.buffer.mode ≡ Plain → HasName Elsif (held_of f.buffer) start stop → unbuilt (held_of f.buffer) ≡ false
-        → is_reserved (argument_name (held_of f.buffer) start stop) ≡ false
+        → HoldsFront f.buffer → f.buffer.mode ≡ Plain → HasName Elsif (held_of f.buffer) start stop → is_reserved (argument_name (held_of f.buffer) start stop) ≡ false
         → let t = is_defined s (argument_name (held_of f.buffer) start stop) in
-        source_left rules unbuilt unread ws (in_branch live o os) f s
-        ≡ source_left rules unbuilt unread ws (in_branch t (branched o t false) os) (consumed_file stop 0 f) s
+        source_left rules unread ws (in_branch live o os) f s
+        ≡ source_left rules unread ws (in_branch t (branched o t false) os) (consumed_file stop 0 f) s
     unfolding command_of is_else
-    tested_elsif_left start stop holds mode has built free =
+    tested_elsif_left start stop holds mode has free =
         let name = argument_name (held_of f.buffer) start stop in
         let t = is_defined s name in
-        let i = name_in_front_of Elsif unbuilt unread f.buffer elsif_wants holds mode built start stop has in
+        let i = name_in_front_of Elsif unread f.buffer elsif_wants holds mode start stop has in
         let c = command_in_front Elsif f.blanks (word_token Elsif f.buffer.line) i.tokens in
-        named_move rules unbuilt unread ws f s Elsif start stop i (in_branch live o os) (in_branch t (branched o t false) os) s
+        named_move rules unread ws f s Elsif start stop i (in_branch live o os) (in_branch t (branched o t false) os) s
         (resumed_turned rules live o os Elsif f.buffer.line f.blanks i.tokens s t elsif_branches
-        (turns c s refl ∙ fine_test name s (macro_name c) (named_fine rules unbuilt unread ws os f s Elsif start stop i free)))
+        (turns c s refl ∙ fine_test name s (macro_name c) (named_fine rules unread ws os f s Elsif start stop i free)))
 
     -- one whose name is reserved
     pub tested_reserved_left : (start stop : ℕ)
-        → HoldsFront unbuilt f.buffer → f.buffer.mode ≡ Plain → HasName Elsif (held_of f.buffer) start stop → unbuilt (held_of f.buffer) ≡ false
-        → is_reserved (argument_name (held_of f.buffer) start stop) ≡ true
-        → source_left rules unbuilt unread ws (in_branch live o os) f s ≡ leaves (fails (fault_at ReservedName f.buffer.line (argument_name (held_of f.buffer) start stop) s)) s
+        → HoldsFront f.buffer → f.buffer.mode ≡ Plain → HasName Elsif (held_of f.buffer) start stop → is_reserved (argument_name (held_of f.buffer) start stop) ≡ true
+        → source_left rules unread ws (in_branch live o os) f s ≡ leaves (fails (fault_at ReservedName f.buffer.line (argument_name (held_of f.buffer) start stop) s)) s
     unfolding command_of
-    tested_reserved_left start stop holds mode has built taken =
+    tested_reserved_left start stop holds mode has taken =
         let name = argument_name (held_of f.buffer) start stop in
-        let i = name_in_front_of Elsif unbuilt unread f.buffer elsif_wants holds mode built start stop has in
+        let i = name_in_front_of Elsif unread f.buffer elsif_wants holds mode start stop has in
         let c = command_in_front Elsif f.blanks (word_token Elsif f.buffer.line) i.tokens in
-        refused_move rules unbuilt unread ws f s Elsif i.tokens (in_branch live o os) ReservedName name i.all
+        refused_move rules unread ws f s Elsif i.tokens (in_branch live o os) ReservedName name i.all
         (resumed_unturned rules live o os Elsif f.buffer.line f.blanks i.tokens s ReservedName name elsif_branches
-        (turns c s refl ∙ faulty_test ReservedName name s (macro_name c) (named_reserved rules unbuilt unread ws os f s Elsif start stop i taken)))
+        (turns c s refl ∙ faulty_test ReservedName name s (macro_name c) (named_reserved rules unread ws os f s Elsif start stop i taken)))
 
     -- one without a name
-    pub tested_nameless_left : HoldsFront unbuilt f.buffer → f.buffer.mode ≡ Plain → LacksName Elsif (held_of f.buffer) → unbuilt (held_of f.buffer) ≡ false
-        → source_left rules unbuilt unread ws (in_branch live o os) f s ≡ leaves (fails (fault_at NameExpected f.buffer.line [] s)) s
+    pub tested_nameless_left : HoldsFront f.buffer → f.buffer.mode ≡ Plain → LacksName Elsif (held_of f.buffer) → source_left rules unread ws (in_branch live o os) f s ≡ leaves (fails (fault_at NameExpected f.buffer.line [] s)) s
     unfolding command_of
-    tested_nameless_left holds mode lacks built =
-        let i = no_name_in_front_of Elsif unbuilt unread f.buffer elsif_wants holds mode built lacks in
+    tested_nameless_left holds mode lacks =
+        let i = no_name_in_front_of Elsif unread f.buffer elsif_wants holds mode lacks in
         let c = command_in_front Elsif f.blanks (word_token Elsif f.buffer.line) i.tokens in
-        refused_move rules unbuilt unread ws f s Elsif i.tokens (in_branch live o os) NameExpected [] i.all
+        refused_move rules unread ws f s Elsif i.tokens (in_branch live o os) NameExpected [] i.all
         (resumed_unturned rules live o os Elsif f.buffer.line f.blanks i.tokens s NameExpected [] elsif_branches
-        (turns c s refl ∙ faulty_test NameExpected [] s (macro_name c) (named_none rules unbuilt unread ws os f s Elsif i)))
+        (turns c s refl ∙ faulty_test NameExpected [] s (macro_name c) (named_none rules unread ws os f s Elsif i)))

@@ -4,7 +4,7 @@ use Rattle.rdlpp_scan.specs.declared.token.Directive.{Directive}
 use Rattle.rdlpp_scan.specs.declared.token.Directive.TheVariants.{Ifdef, Ifndef, Elsif, Else, Endif}
 use Rattle.rdlpp_scan.specs.declared.token.Mode.TheVariants.{Plain}
 use Rattle.rdlpp_scan.specs.SourceTokens.{SourceToken}
-use Rattle.rdlpp_scan.specs.Stage.{is_reserved}
+use Rattle.rdlpp_scan.specs.Reserved.{is_reserved}
 use Rattle.rdlpp_meaning.specs.declared.fault.FaultKind.{FaultKind}
 use Rattle.rdlpp_meaning.specs.declared.fault.FaultKind.TheVariants.{BranchAfterElse, NameExpected, ReservedName, StrayBranch, TooManyConditionals}
 use Rattle.rdlpp_meaning.specs.Outcome.{fails}
@@ -155,186 +155,174 @@ resumed_closed rules true o os line first ts s =
 resumed_closed rules false o os line first ts s =
     skipped_closing rules o os Endif first (word_token Endif line) ts s (word_directive Endif line refl) (closing_piece first (word_token Endif line) ts)
 
-module _ {R : Type 0} (rules : Rules) (unbuilt : List ℕ → Bool) (unread : R → List ℕ) (ws : List Waiting) (os : List Progress) (f : File R) (s : State) where
+module _ {R : Type 0} (rules : Rules) (unread : R → List ℕ) (ws : List Waiting) (os : List Progress) (f : File R) (s : State) where
   -- what the name of a directive comes to
-  pub named_fine : (d : Directive) (start stop : ℕ) (i : NameInFront d unbuilt unread f.buffer start stop) → is_reserved (argument_name (held_of f.buffer) start stop) ≡ false
+  pub named_fine : (d : Directive) (start stop : ℕ) (i : NameInFront d unread f.buffer start stop) → is_reserved (argument_name (held_of f.buffer) start stop) ≡ false
       → macro_name (command_in_front d f.blanks (word_token d f.buffer.line) i.tokens) ≡ Fine (argument_name (held_of f.buffer) start stop)
   named_fine d start stop i free =
       macro_name_given d f.blanks (word_token d f.buffer.line) i.tokens (argument_name (held_of f.buffer) start stop) i.given free
 
-  pub named_reserved : (d : Directive) (start stop : ℕ) (i : NameInFront d unbuilt unread f.buffer start stop) → is_reserved (argument_name (held_of f.buffer) start stop) ≡ true
+  pub named_reserved : (d : Directive) (start stop : ℕ) (i : NameInFront d unread f.buffer start stop) → is_reserved (argument_name (held_of f.buffer) start stop) ≡ true
       → macro_name (command_in_front d f.blanks (word_token d f.buffer.line) i.tokens) ≡ Faulty ReservedName (argument_name (held_of f.buffer) start stop)
   named_reserved d start stop i taken =
       macro_name_reserved d f.blanks (word_token d f.buffer.line) i.tokens (argument_name (held_of f.buffer) start stop) i.given taken
 
-  pub named_none : (d : Directive) (i : NoNameInFront d unbuilt unread f.buffer)
+  pub named_none : (d : Directive) (i : NoNameInFront d unread f.buffer)
       → macro_name (command_in_front d f.blanks (word_token d f.buffer.line) i.tokens) ≡ Faulty NameExpected []
   unfolding no_argument
   named_none d i = macro_name_missing d f.blanks (word_token d f.buffer.line) i.tokens (ap (λ (a : Argument). a.given) i.none)
 
   -- an `ifdef` or `ifndef` of a name opens a conditional, where one more may be opened, in live or in skipped text
   pub opened_left : (d : Directive) (start stop k : ℕ) → opens_conditional d ≡ true
-      → HoldsFront unbuilt f.buffer → f.buffer.mode ≡ Plain → HasName d (held_of f.buffer) start stop → unbuilt (held_of f.buffer) ≡ false
-      → is_reserved (argument_name (held_of f.buffer) start stop) ≡ false → s.conditions_left ≡ suc k
+      → HoldsFront f.buffer → f.buffer.mode ≡ Plain → HasName d (held_of f.buffer) start stop → is_reserved (argument_name (held_of f.buffer) start stop) ≡ false → s.conditions_left ≡ suc k
       → let t = named_test d s (argument_name (held_of f.buffer) start stop) in
-      source_left rules unbuilt unread ws (Live os) f s
-      ≡ source_left rules unbuilt unread ws (in_branch t (opened_at s f.buffer.line t) os) (consumed_file stop 0 f) (in_conditional s)
-  opened_left d start stop k o holds mode has built free left =
+      source_left rules unread ws (Live os) f s
+      ≡ source_left rules unread ws (in_branch t (opened_at s f.buffer.line t) os) (consumed_file stop 0 f) (in_conditional s)
+  opened_left d start stop k o holds mode has free left =
       let name = argument_name (held_of f.buffer) start stop in
       let t = named_test d s name in
       let wants = opening_wants d o in
-      let i = name_in_front_of d unbuilt unread f.buffer wants holds mode built start stop has in
-      named_move rules unbuilt unread ws f s d start stop i (Live os) (in_branch t (opened_at s f.buffer.line t) os) (in_conditional s)
+      let i = name_in_front_of d unread f.buffer wants holds mode start stop has in
+      named_move rules unread ws f s d start stop i (Live os) (in_branch t (opened_at s f.buffer.line t) os) (in_conditional s)
       (resumed_opened rules os d f.buffer.line f.blanks i.tokens s t o
       (opening-held d f.blanks (word_token d f.buffer.line) i.tokens s name k (named_fine d start stop i free) left))
 
   -- where none may be opened, it is a fault
   pub opening_full_left : (d : Directive) (start stop : ℕ) → opens_conditional d ≡ true
-      → HoldsFront unbuilt f.buffer → f.buffer.mode ≡ Plain → HasName d (held_of f.buffer) start stop → unbuilt (held_of f.buffer) ≡ false
-      → is_reserved (argument_name (held_of f.buffer) start stop) ≡ false → s.conditions_left ≡ 0
-      → source_left rules unbuilt unread ws (Live os) f s ≡ leaves (fails (fault_at TooManyConditionals f.buffer.line [] s)) s
-  opening_full_left d start stop o holds mode has built free left =
-      let i = name_in_front_of d unbuilt unread f.buffer (opening_wants d o) holds mode built start stop has in
-      refused_move rules unbuilt unread ws f s d i.tokens (Live os) TooManyConditionals [] i.all
+      → HoldsFront f.buffer → f.buffer.mode ≡ Plain → HasName d (held_of f.buffer) start stop → is_reserved (argument_name (held_of f.buffer) start stop) ≡ false → s.conditions_left ≡ 0
+      → source_left rules unread ws (Live os) f s ≡ leaves (fails (fault_at TooManyConditionals f.buffer.line [] s)) s
+  opening_full_left d start stop o holds mode has free left =
+      let i = name_in_front_of d unread f.buffer (opening_wants d o) holds mode start stop has in
+      refused_move rules unread ws f s d i.tokens (Live os) TooManyConditionals [] i.all
       (resumed_unopened rules os d f.buffer.line f.blanks i.tokens s TooManyConditionals [] o
       (opening-full d f.blanks (word_token d f.buffer.line) i.tokens s (argument_name (held_of f.buffer) start stop) (named_fine d start stop i free) left))
 
   -- and so it is with a reserved name
   pub opening_reserved_left : (d : Directive) (start stop : ℕ) → opens_conditional d ≡ true
-      → HoldsFront unbuilt f.buffer → f.buffer.mode ≡ Plain → HasName d (held_of f.buffer) start stop → unbuilt (held_of f.buffer) ≡ false
-      → is_reserved (argument_name (held_of f.buffer) start stop) ≡ true
-      → source_left rules unbuilt unread ws (Live os) f s ≡ leaves (fails (fault_at ReservedName f.buffer.line (argument_name (held_of f.buffer) start stop) s)) s
-  opening_reserved_left d start stop o holds mode has built taken =
+      → HoldsFront f.buffer → f.buffer.mode ≡ Plain → HasName d (held_of f.buffer) start stop → is_reserved (argument_name (held_of f.buffer) start stop) ≡ true
+      → source_left rules unread ws (Live os) f s ≡ leaves (fails (fault_at ReservedName f.buffer.line (argument_name (held_of f.buffer) start stop) s)) s
+  opening_reserved_left d start stop o holds mode has taken =
       let name = argument_name (held_of f.buffer) start stop in
-      let i = name_in_front_of d unbuilt unread f.buffer (opening_wants d o) holds mode built start stop has in
-      refused_move rules unbuilt unread ws f s d i.tokens (Live os) ReservedName name i.all
+      let i = name_in_front_of d unread f.buffer (opening_wants d o) holds mode start stop has in
+      refused_move rules unread ws f s d i.tokens (Live os) ReservedName name i.all
       (resumed_unopened rules os d f.buffer.line f.blanks i.tokens s ReservedName name o
       (opening-faulty d f.blanks (word_token d f.buffer.line) i.tokens s ReservedName name (named_reserved d start stop i taken)))
 
   -- and without one
   pub opening_nameless_left : (d : Directive) → opens_conditional d ≡ true
-      → HoldsFront unbuilt f.buffer → f.buffer.mode ≡ Plain → LacksName d (held_of f.buffer) → unbuilt (held_of f.buffer) ≡ false
-      → source_left rules unbuilt unread ws (Live os) f s ≡ leaves (fails (fault_at NameExpected f.buffer.line [] s)) s
-  opening_nameless_left d o holds mode lacks built =
-      let i = no_name_in_front_of d unbuilt unread f.buffer (opening_wants d o) holds mode built lacks in
-      refused_move rules unbuilt unread ws f s d i.tokens (Live os) NameExpected [] i.all
+      → HoldsFront f.buffer → f.buffer.mode ≡ Plain → LacksName d (held_of f.buffer) → source_left rules unread ws (Live os) f s ≡ leaves (fails (fault_at NameExpected f.buffer.line [] s)) s
+  opening_nameless_left d o holds mode lacks =
+      let i = no_name_in_front_of d unread f.buffer (opening_wants d o) holds mode lacks in
+      refused_move rules unread ws f s d i.tokens (Live os) NameExpected [] i.all
       (resumed_unopened rules os d f.buffer.line f.blanks i.tokens s NameExpected [] o
       (opening-faulty d f.blanks (word_token d f.buffer.line) i.tokens s NameExpected [] (named_none d i)))
 
   -- an `elsif` of a name, where no branch was taken
   pub elsif_left : (live : Bool) (o : Progress) (start stop : ℕ)
-      → HoldsFront unbuilt f.buffer → f.buffer.mode ≡ Plain → HasName Elsif (held_of f.buffer) start stop → unbuilt (held_of f.buffer) ≡ false
-      → is_reserved (argument_name (held_of f.buffer) start stop) ≡ false → o.closing ≡ false → o.taken ≡ false
+      → HoldsFront f.buffer → f.buffer.mode ≡ Plain → HasName Elsif (held_of f.buffer) start stop → is_reserved (argument_name (held_of f.buffer) start stop) ≡ false → o.closing ≡ false → o.taken ≡ false
       → let t = is_defined s (argument_name (held_of f.buffer) start stop) in
-      source_left rules unbuilt unread ws (in_branch live o os) f s
-      ≡ source_left rules unbuilt unread ws (in_branch t (branched o t false) os) (consumed_file stop 0 f) s
+      source_left rules unread ws (in_branch live o os) f s
+      ≡ source_left rules unread ws (in_branch t (branched o t false) os) (consumed_file stop 0 f) s
   unfolding is_else
-  elsif_left live o start stop holds mode has built free open_ untaken =
+  elsif_left live o start stop holds mode has free open_ untaken =
       let name = argument_name (held_of f.buffer) start stop in
       let t = is_defined s name in
-      let i = name_in_front_of Elsif unbuilt unread f.buffer elsif_wants holds mode built start stop has in
-      named_move rules unbuilt unread ws f s Elsif start stop i (in_branch live o os) (in_branch t (branched o t false) os) s
+      let i = name_in_front_of Elsif unread f.buffer elsif_wants holds mode start stop has in
+      named_move rules unread ws f s Elsif start stop i (in_branch live o os) (in_branch t (branched o t false) os) s
       (resumed_turned rules live o os Elsif f.buffer.line f.blanks i.tokens s t elsif_branches
       (turn-named o f.blanks (word_token Elsif f.buffer.line) i.tokens s name open_ untaken (named_fine Elsif start stop i free)))
 
   -- an `elsif` with a name behind a branch that was taken is skipped, whatever the name
   pub elsif_passed_left : (live : Bool) (o : Progress) (start stop : ℕ)
-      → HoldsFront unbuilt f.buffer → f.buffer.mode ≡ Plain → HasName Elsif (held_of f.buffer) start stop → unbuilt (held_of f.buffer) ≡ false
-      → o.closing ≡ false → o.taken ≡ true
-      → source_left rules unbuilt unread ws (in_branch live o os) f s
-      ≡ source_left rules unbuilt unread ws (Skipped 0 (branched o false false) os) (consumed_file stop 0 f) s
+      → HoldsFront f.buffer → f.buffer.mode ≡ Plain → HasName Elsif (held_of f.buffer) start stop → o.closing ≡ false → o.taken ≡ true
+      → source_left rules unread ws (in_branch live o os) f s
+      ≡ source_left rules unread ws (Skipped 0 (branched o false false) os) (consumed_file stop 0 f) s
   unfolding is_else in_branch
-  elsif_passed_left live o start stop holds mode has built open_ taken =
-      let i = name_in_front_of Elsif unbuilt unread f.buffer elsif_wants holds mode built start stop has in
-      named_move rules unbuilt unread ws f s Elsif start stop i (in_branch live o os) (Skipped 0 (branched o false false) os) s
+  elsif_passed_left live o start stop holds mode has open_ taken =
+      let i = name_in_front_of Elsif unread f.buffer elsif_wants holds mode start stop has in
+      named_move rules unread ws f s Elsif start stop i (in_branch live o os) (Skipped 0 (branched o false false) os) s
       (resumed_turned rules live o os Elsif f.buffer.line f.blanks i.tokens s false elsif_branches
       (turn-taken o f.blanks (word_token Elsif f.buffer.line) i.tokens s open_ taken))
 
   -- and so is one without a name
   pub elsif_passed_nameless_left : (live : Bool) (o : Progress)
-      → HoldsFront unbuilt f.buffer → f.buffer.mode ≡ Plain → LacksName Elsif (held_of f.buffer) → unbuilt (held_of f.buffer) ≡ false
-      → o.closing ≡ false → o.taken ≡ true
-      → source_left rules unbuilt unread ws (in_branch live o os) f s
-      ≡ source_left rules unbuilt unread ws (Skipped 0 (branched o false false) os) (consumed_file (length (word_of Elsif)) 0 f) s
+      → HoldsFront f.buffer → f.buffer.mode ≡ Plain → LacksName Elsif (held_of f.buffer) → o.closing ≡ false → o.taken ≡ true
+      → source_left rules unread ws (in_branch live o os) f s
+      ≡ source_left rules unread ws (Skipped 0 (branched o false false) os) (consumed_file (length (word_of Elsif)) 0 f) s
   unfolding is_else in_branch
-  elsif_passed_nameless_left live o holds mode lacks built open_ taken =
-      let i = no_name_in_front_of Elsif unbuilt unread f.buffer elsif_wants holds mode built lacks in
-      bare_move rules unbuilt unread ws f s Elsif holds mode built lacks.word i (in_branch live o os) (Skipped 0 (branched o false false) os) s
+  elsif_passed_nameless_left live o holds mode lacks open_ taken =
+      let i = no_name_in_front_of Elsif unread f.buffer elsif_wants holds mode lacks in
+      bare_move rules unread ws f s Elsif holds mode lacks.word i (in_branch live o os) (Skipped 0 (branched o false false) os) s
       (resumed_turned rules live o os Elsif f.buffer.line f.blanks i.tokens s false elsif_branches
       (turn-taken o f.blanks (word_token Elsif f.buffer.line) i.tokens s open_ taken))
 
   -- where no branch was taken, an `elsif` of a reserved name is a fault
   pub elsif_reserved_left : (live : Bool) (o : Progress) (start stop : ℕ)
-      → HoldsFront unbuilt f.buffer → f.buffer.mode ≡ Plain → HasName Elsif (held_of f.buffer) start stop → unbuilt (held_of f.buffer) ≡ false
-      → is_reserved (argument_name (held_of f.buffer) start stop) ≡ true → o.closing ≡ false → o.taken ≡ false
-      → source_left rules unbuilt unread ws (in_branch live o os) f s ≡ leaves (fails (fault_at ReservedName f.buffer.line (argument_name (held_of f.buffer) start stop) s)) s
-  elsif_reserved_left live o start stop holds mode has built reserved open_ untaken =
+      → HoldsFront f.buffer → f.buffer.mode ≡ Plain → HasName Elsif (held_of f.buffer) start stop → is_reserved (argument_name (held_of f.buffer) start stop) ≡ true → o.closing ≡ false → o.taken ≡ false
+      → source_left rules unread ws (in_branch live o os) f s ≡ leaves (fails (fault_at ReservedName f.buffer.line (argument_name (held_of f.buffer) start stop) s)) s
+  elsif_reserved_left live o start stop holds mode has reserved open_ untaken =
       let name = argument_name (held_of f.buffer) start stop in
-      let i = name_in_front_of Elsif unbuilt unread f.buffer elsif_wants holds mode built start stop has in
-      refused_move rules unbuilt unread ws f s Elsif i.tokens (in_branch live o os) ReservedName name i.all
+      let i = name_in_front_of Elsif unread f.buffer elsif_wants holds mode start stop has in
+      refused_move rules unread ws f s Elsif i.tokens (in_branch live o os) ReservedName name i.all
       (resumed_unturned rules live o os Elsif f.buffer.line f.blanks i.tokens s ReservedName name elsif_branches
       (turn-faulty o f.blanks (word_token Elsif f.buffer.line) i.tokens s ReservedName name open_ untaken (named_reserved Elsif start stop i reserved)))
 
   -- and one without a name
   pub elsif_nameless_left : (live : Bool) (o : Progress)
-      → HoldsFront unbuilt f.buffer → f.buffer.mode ≡ Plain → LacksName Elsif (held_of f.buffer) → unbuilt (held_of f.buffer) ≡ false
-      → o.closing ≡ false → o.taken ≡ false
-      → source_left rules unbuilt unread ws (in_branch live o os) f s ≡ leaves (fails (fault_at NameExpected f.buffer.line [] s)) s
-  elsif_nameless_left live o holds mode lacks built open_ untaken =
-      let i = no_name_in_front_of Elsif unbuilt unread f.buffer elsif_wants holds mode built lacks in
-      refused_move rules unbuilt unread ws f s Elsif i.tokens (in_branch live o os) NameExpected [] i.all
+      → HoldsFront f.buffer → f.buffer.mode ≡ Plain → LacksName Elsif (held_of f.buffer) → o.closing ≡ false → o.taken ≡ false
+      → source_left rules unread ws (in_branch live o os) f s ≡ leaves (fails (fault_at NameExpected f.buffer.line [] s)) s
+  elsif_nameless_left live o holds mode lacks open_ untaken =
+      let i = no_name_in_front_of Elsif unread f.buffer elsif_wants holds mode lacks in
+      refused_move rules unread ws f s Elsif i.tokens (in_branch live o os) NameExpected [] i.all
       (resumed_unturned rules live o os Elsif f.buffer.line f.blanks i.tokens s NameExpected [] elsif_branches
       (turn-faulty o f.blanks (word_token Elsif f.buffer.line) i.tokens s NameExpected [] open_ untaken (named_none Elsif i)))
 
   -- an `else` goes on in live text where no branch was taken
   pub else_left : (live : Bool) (o : Progress)
-      → HoldsFront unbuilt f.buffer → f.buffer.mode ≡ Plain → IsDirective Else (held_of f.buffer) → unbuilt (held_of f.buffer) ≡ false → o.closing ≡ false
-      → source_left rules unbuilt unread ws (in_branch live o os) f s
-      ≡ source_left rules unbuilt unread ws (in_branch (not o.taken) (branched o (not o.taken) true) os) (consumed_file (length (word_of Else)) 0 f) s
+      → HoldsFront f.buffer → f.buffer.mode ≡ Plain → IsDirective Else (held_of f.buffer) → o.closing ≡ false
+      → source_left rules unread ws (in_branch live o os) f s
+      ≡ source_left rules unread ws (in_branch (not o.taken) (branched o (not o.taken) true) os) (consumed_file (length (word_of Else)) 0 f) s
   unfolding is_else
-  else_left live o holds mode is built open_ =
-      let i = bare_in_front rules unbuilt unread ws f s Else holds mode built else_bare is in
-      bare_move rules unbuilt unread ws f s Else holds mode built is i (in_branch live o os) (in_branch (not o.taken) (branched o (not o.taken) true) os) s
+  else_left live o holds mode is open_ =
+      let i = bare_in_front rules unread ws f s Else holds mode else_bare is in
+      bare_move rules unread ws f s Else holds mode is i (in_branch live o os) (in_branch (not o.taken) (branched o (not o.taken) true) os) s
       (resumed_turned rules live o os Else f.buffer.line f.blanks i.tokens s (not o.taken) else_branches
       (turn-else o f.blanks (word_token Else f.buffer.line) i.tokens s open_))
 
   -- a branch behind an `else` is a fault
   pub late_branch_left : (d : Directive) (live : Bool) (o : Progress) → branches_conditional d ≡ true
-      → HoldsFront unbuilt f.buffer → f.buffer.mode ≡ Plain → IsDirective d (held_of f.buffer) → unbuilt (held_of f.buffer) ≡ false → o.closing ≡ true
-      → source_left rules unbuilt unread ws (in_branch live o os) f s ≡ leaves (fails (fault_at BranchAfterElse f.buffer.line [] s)) s
-  late_branch_left d live o b holds mode is built closed =
-      let ts = tokens_left unbuilt unread (consumed_file (length (word_of d)) 0 f).buffer in
-      refused_move rules unbuilt unread ws f s d ts (in_branch live o os) BranchAfterElse [] (word_tokens d unbuilt unread f.buffer (branch_word d b) holds mode is built)
+      → HoldsFront f.buffer → f.buffer.mode ≡ Plain → IsDirective d (held_of f.buffer) → o.closing ≡ true
+      → source_left rules unread ws (in_branch live o os) f s ≡ leaves (fails (fault_at BranchAfterElse f.buffer.line [] s)) s
+  late_branch_left d live o b holds mode is closed =
+      let ts = tokens_left unread (consumed_file (length (word_of d)) 0 f).buffer in
+      refused_move rules unread ws f s d ts (in_branch live o os) BranchAfterElse [] (word_tokens d unread f.buffer (branch_word d b) holds mode is)
       (resumed_unturned rules live o os d f.buffer.line f.blanks ts s BranchAfterElse [] b
       (turn-closing o d f.blanks (word_token d f.buffer.line) ts s closed))
 
   -- an `endif` goes on in live text
   pub closed_left : (live : Bool) (o : Progress)
-      → HoldsFront unbuilt f.buffer → f.buffer.mode ≡ Plain → IsDirective Endif (held_of f.buffer) → unbuilt (held_of f.buffer) ≡ false
-      → source_left rules unbuilt unread ws (in_branch live o os) f s
-      ≡ source_left rules unbuilt unread ws (Live os) (consumed_file (length (word_of Endif)) 0 f) (past_conditional s)
-  closed_left live o holds mode is built =
-      let i = bare_in_front rules unbuilt unread ws f s Endif holds mode built end_bare is in
-      bare_move rules unbuilt unread ws f s Endif holds mode built is i (in_branch live o os) (Live os) (past_conditional s)
+      → HoldsFront f.buffer → f.buffer.mode ≡ Plain → IsDirective Endif (held_of f.buffer) → source_left rules unread ws (in_branch live o os) f s
+      ≡ source_left rules unread ws (Live os) (consumed_file (length (word_of Endif)) 0 f) (past_conditional s)
+  closed_left live o holds mode is =
+      let i = bare_in_front rules unread ws f s Endif holds mode end_bare is in
+      bare_move rules unread ws f s Endif holds mode is i (in_branch live o os) (Live os) (past_conditional s)
       (resumed_closed rules live o os f.buffer.line f.blanks i.tokens s)
 
-module _ {R : Type 0} (rules : Rules) (unbuilt : List ℕ → Bool) (unread : R → List ℕ) (ws : List Waiting) (f : File R) (s : State) where
+module _ {R : Type 0} (rules : Rules) (unread : R → List ℕ) (ws : List Waiting) (f : File R) (s : State) where
   -- a branch without an open conditional in its source is a fault
   pub stray_branch_left : (d : Directive) → branches_conditional d ≡ true
-      → HoldsFront unbuilt f.buffer → f.buffer.mode ≡ Plain → IsDirective d (held_of f.buffer) → unbuilt (held_of f.buffer) ≡ false
-      → source_left rules unbuilt unread ws (Live []) f s ≡ leaves (fails (fault_at StrayBranch f.buffer.line [] s)) s
-  stray_branch_left d b holds mode is built =
-      let ts = tokens_left unbuilt unread (consumed_file (length (word_of d)) 0 f).buffer in
+      → HoldsFront f.buffer → f.buffer.mode ≡ Plain → IsDirective d (held_of f.buffer) → source_left rules unread ws (Live []) f s ≡ leaves (fails (fault_at StrayBranch f.buffer.line [] s)) s
+  stray_branch_left d b holds mode is =
+      let ts = tokens_left unread (consumed_file (length (word_of d)) 0 f).buffer in
       let tok = word_token d f.buffer.line in
-      refused_move rules unbuilt unread ws f s d ts (Live []) StrayBranch [] (word_tokens d unbuilt unread f.buffer (branch_word d b) holds mode is built)
+      refused_move rules unread ws f s d ts (Live []) StrayBranch [] (word_tokens d unread f.buffer (branch_word d b) holds mode is)
       (live_stray_branch rules d f.blanks tok ts s (word_directive d f.buffer.line (branch_word d b)) (branching_piece d f.blanks tok ts b))
 
   -- and so is an `endif`
-  pub stray_end_left : HoldsFront unbuilt f.buffer → f.buffer.mode ≡ Plain → IsDirective Endif (held_of f.buffer) → unbuilt (held_of f.buffer) ≡ false
-      → source_left rules unbuilt unread ws (Live []) f s ≡ leaves (fails (fault_at StrayBranch f.buffer.line [] s)) s
+  pub stray_end_left : HoldsFront f.buffer → f.buffer.mode ≡ Plain → IsDirective Endif (held_of f.buffer) → source_left rules unread ws (Live []) f s ≡ leaves (fails (fault_at StrayBranch f.buffer.line [] s)) s
   unfolding has_own_token
-  stray_end_left holds mode is built =
-      let ts = tokens_left unbuilt unread (consumed_file (length (word_of Endif)) 0 f).buffer in
+  stray_end_left holds mode is =
+      let ts = tokens_left unread (consumed_file (length (word_of Endif)) 0 f).buffer in
       let tok = word_token Endif f.buffer.line in
-      refused_move rules unbuilt unread ws f s Endif ts (Live []) StrayBranch [] (word_tokens Endif unbuilt unread f.buffer refl holds mode is built)
+      refused_move rules unread ws f s Endif ts (Live []) StrayBranch [] (word_tokens Endif unread f.buffer refl holds mode is)
       (live_stray_end rules Endif f.blanks tok ts s (word_directive Endif f.buffer.line refl) (closing_piece f.blanks tok ts))

@@ -33,16 +33,13 @@ use Rattle.rdlpp_front.specs.SourceLeft.{HoldsFront, source_left, with_file_buff
 use Rattle.rdlpp_front.proofs.DirectiveFacts.{word_len}
 use Rattle.rdlpp_front.proofs.SourceFacts.{ends_line, used_buffer}
 use Rattle.rdlpp_front.proofs.SourcePassages.{all_resumed_bad_define, all_resumed_defined, all_resumed_only_broken}
-use Rattle.rdlpp_front.proofs.Stages.{stage_built}
 
 -- a `define` in front that is built
-pub holds_define : {R : Type 0} (unbuilt : List ℕ → Bool) (unread : R → List ℕ) (f : File R)
-    → HoldsFront unbuilt f.buffer → IsDirective Define (held_of f.buffer) → unbuilt (held_of f.buffer) ≡ false
-    → HoldsDefine unbuilt (held_of f.buffer) (rest_of unread f.buffer)
-holds_define unbuilt unread f holds is built = record {
+pub holds_define : {R : Type 0} (unread : R → List ℕ) (f : File R)
+    → HoldsFront f.buffer → IsDirective Define (held_of f.buffer) → HoldsDefine (held_of f.buffer) (rest_of unread f.buffer)
+holds_define unread f holds is = record {
   some = holds.some;
   ends = ends_line unread f.buffer holds.ends;
-  built = stage_built unbuilt (held_of f.buffer) holds.stage holds.some built;
   kind = is.kind;
   word = rw is.word refl;
 }
@@ -52,50 +49,50 @@ pub consumed_used : {R : Type 0} (b : BufferView R) (len lines : ℕ) → lines 
 unfolding consumed
 consumed_used b len lines e = ap (λ (n : ℕ). used_buffer b len n) (sym e)
 
-module _ {R : Type 0} (rules : Rules) (unbuilt : List ℕ → Bool) (unread : R → List ℕ) (ws : List Waiting) (os : List Progress) (f : File R) (s : State)
+module _ {R : Type 0} (rules : Rules) (unread : R → List ℕ) (ws : List Waiting) (os : List Progress) (f : File R) (s : State)
     (tells : Type 0) (new : BufferView R) where
   -- a `define` that is accepted gives its LF bytes and changes the macros
   pub define_left : (len lines : ℕ) (macros : List Macro) → HoldsLine tells unread (Whole len) f.buffer new → tells → f.buffer.mode ≡ Plain
-      → HoldsDefine unbuilt (held_of f.buffer) (rest_of unread f.buffer)
+      → HoldsDefine (held_of f.buffer) (rest_of unread f.buffer)
       → rules.define s.macros (drop 7 (take len (held_of new))) ≡ Accepted macros → lines ≡ line_ends (take len (held_of new))
-      → source_left rules unbuilt unread ws (Live os) f s
+      → source_left rules unread ws (Live os) f s
       ≡ behind_bytes (line_ends_of (take len (held_of new)))
-      (source_left rules unbuilt unread ws (Live os) (consumed_file len lines (with_file_buffer new f)) (record s { macros = macros }))
+      (source_left rules unread ws (Live os) (consumed_file len lines (with_file_buffer new f)) (record s { macros = macros }))
   unfolding source_left
   define_left len lines macros line t mode holds e count =
       let w = take len (held_of new) in
       let after = record s { macros = macros } in
-      ap (λ (ts : List SourceToken). all_resumed rules ws (Live os) f.blanks ts s) (line.define unbuilt t mode holds)
-      ∙ all_resumed_defined rules ws os f.blanks w f.buffer.line (tokens_left unbuilt unread (consumed new len)) s macros e
-      ∙ ap (λ (b : BufferView R). behind_bytes (line_ends_of w) (all_resumed rules ws (Live os) (only_blanks f.blanks w) (tokens_left unbuilt unread b) after))
+      ap (λ (ts : List SourceToken). all_resumed rules ws (Live os) f.blanks ts s) (line.define t mode holds)
+      ∙ all_resumed_defined rules ws os f.blanks w f.buffer.line (tokens_left unread (consumed new len)) s macros e
+      ∙ ap (λ (b : BufferView R). behind_bytes (line_ends_of w) (all_resumed rules ws (Live os) (only_blanks f.blanks w) (tokens_left unread b) after))
       (consumed_used new len lines count)
 
   -- a `define` that is refused is a fault
   pub define_refused_left : (len : ℕ) (kind : FaultKind) (word : List ℕ) → HoldsLine tells unread (Whole len) f.buffer new → tells → f.buffer.mode ≡ Plain
-      → HoldsDefine unbuilt (held_of f.buffer) (rest_of unread f.buffer)
+      → HoldsDefine (held_of f.buffer) (rest_of unread f.buffer)
       → rules.define s.macros (drop 7 (take len (held_of new))) ≡ Refused kind word
-      → source_left rules unbuilt unread ws (Live os) f s ≡ leaves (fails (fault_at kind f.buffer.line word s)) s
+      → source_left rules unread ws (Live os) f s ≡ leaves (fails (fault_at kind f.buffer.line word s)) s
   unfolding source_left
   define_refused_left len kind word line t mode holds e =
-      ap (λ (ts : List SourceToken). all_resumed rules ws (Live os) f.blanks ts s) (line.define unbuilt t mode holds)
-      ∙ all_resumed_bad_define rules ws os f.blanks (take len (held_of new)) f.buffer.line (tokens_left unbuilt unread (consumed new len)) s kind word e
+      ap (λ (ts : List SourceToken). all_resumed rules ws (Live os) f.blanks ts s) (line.define t mode holds)
+      ∙ all_resumed_bad_define rules ws os f.blanks (take len (held_of new)) f.buffer.line (tokens_left unread (consumed new len)) s kind word e
 
   -- a `define` whose logical line has too many bytes is a fault
   pub define_long_left : HoldsLine tells unread TooLong f.buffer new → tells → f.buffer.mode ≡ Plain
-      → HoldsDefine unbuilt (held_of f.buffer) (rest_of unread f.buffer)
-      → source_left rules unbuilt unread ws (Live os) f s ≡ leaves (fails (fault_at LineTooLong f.buffer.line [] s)) s
+      → HoldsDefine (held_of f.buffer) (rest_of unread f.buffer)
+      → source_left rules unread ws (Live os) f s ≡ leaves (fails (fault_at LineTooLong f.buffer.line [] s)) s
   unfolding source_left breach_kind
   define_long_left line t mode holds =
-      ap (λ (ts : List SourceToken). all_resumed rules ws (Live os) f.blanks ts s) (line.define unbuilt t mode holds)
+      ap (λ (ts : List SourceToken). all_resumed rules ws (Live os) f.blanks ts s) (line.define t mode holds)
       ∙ all_resumed_only_broken rules ws os f.blanks DefineLong f.buffer.line [] s
 
   -- a `define` that the limit of its source cuts is a fault
   pub define_cut_left : HoldsLine tells unread SourceLong f.buffer new → tells → f.buffer.mode ≡ Plain
-      → HoldsDefine unbuilt (held_of f.buffer) (rest_of unread f.buffer)
-      → source_left rules unbuilt unread ws (Live os) f s ≡ leaves (fails (fault_at SourceTooLong f.buffer.line [] s)) s
+      → HoldsDefine (held_of f.buffer) (rest_of unread f.buffer)
+      → source_left rules unread ws (Live os) f s ≡ leaves (fails (fault_at SourceTooLong f.buffer.line [] s)) s
   unfolding source_left breach_kind
   define_cut_left line t mode holds =
-      ap (λ (ts : List SourceToken). all_resumed rules ws (Live os) f.blanks ts s) (line.define unbuilt t mode holds)
+      ap (λ (ts : List SourceToken). all_resumed rules ws (Live os) f.blanks ts s) (line.define t mode holds)
       ∙ all_resumed_only_broken rules ws os f.blanks DefineCut f.buffer.line [] s
 
 -- a logical line is that of its own bytes

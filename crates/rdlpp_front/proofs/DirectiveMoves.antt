@@ -42,12 +42,12 @@ bare_word Else e = refl
 bare_word Endif e = refl
 bare_word d e = cc
 
-module _ {R : Type 0} (rules : Rules) (unbuilt : List ℕ → Bool) (unread : R → List ℕ) (ws : List Waiting) (f : File R) (s : State) (d : Directive)
-    (holds : HoldsFront unbuilt f.buffer) (mode : f.buffer.mode ≡ Plain) (built : unbuilt (held_of f.buffer) ≡ false) where
+module _ {R : Type 0} (rules : Rules) (unread : R → List ℕ) (ws : List Waiting) (f : File R) (s : State) (d : Directive)
+    (holds : HoldsFront f.buffer) (mode : f.buffer.mode ≡ Plain) where
   -- a directive that is given nothing
-  pub bare_move : IsDirective d (held_of f.buffer) → (i : NoNameInFront d unbuilt unread f.buffer) (place new : Place) (t : State)
+  pub bare_move : IsDirective d (held_of f.buffer) → (i : NoNameInFront d unread f.buffer) (place new : Place) (t : State)
       → resumed rules place f.blanks (word_token d f.buffer.line ∷ i.tokens) s ≡ behind rules new d f.blanks (word_token d f.buffer.line) i.tokens t
-      → source_left rules unbuilt unread ws place f s ≡ source_left rules unbuilt unread ws new (consumed_file (length (word_of d)) 0 f) t
+      → source_left rules unread ws place f s ≡ source_left rules unread ws new (consumed_file (length (word_of d)) 0 f) t
   unfolding source_left command_of no_argument
   bare_move is i place new t e =
       let tok = word_token d f.buffer.line in
@@ -63,33 +63,33 @@ module _ {R : Type 0} (rules : Rules) (unbuilt : List ℕ → Bool) (unread : R 
       ∙ ap (λ (ts : List SourceToken). all_resumed rules ws new (only_blanks f.blanks (take (length (word_of d)) held)) ts t) (rest ∙ i.behind)
 
   -- a directive that takes nothing but its word in front
-  pub bare_in_front : stands_bare d ≡ true → IsDirective d (held_of f.buffer) → NoNameInFront d unbuilt unread f.buffer
+  pub bare_in_front : stands_bare d ≡ true → IsDirective d (held_of f.buffer) → NoNameInFront d unread f.buffer
   bare_in_front bare is = record {
-    tokens = tokens_left unbuilt unread (consumed_file (length (word_of d)) 0 f).buffer;
-    all = word_tokens d unbuilt unread f.buffer (bare_word d bare) holds mode is built;
-    none = bare_takes d (tokens_left unbuilt unread (consumed_file (length (word_of d)) 0 f).buffer) bare;
+    tokens = tokens_left unread (consumed_file (length (word_of d)) 0 f).buffer;
+    all = word_tokens d unread f.buffer (bare_word d bare) holds mode is;
+    none = bare_takes d (tokens_left unread (consumed_file (length (word_of d)) 0 f).buffer) bare;
     behind = refl;
   }
 
-module _ {R : Type 0} (rules : Rules) (unbuilt : List ℕ → Bool) (unread : R → List ℕ) (ws : List Waiting) (f : File R) (s : State) (d : Directive) where
+module _ {R : Type 0} (rules : Rules) (unread : R → List ℕ) (ws : List Waiting) (f : File R) (s : State) (d : Directive) where
   -- a directive that is refused
   pub refused_move : (tokens : List SourceToken) (place : Place) (kind : FaultKind) (word : List ℕ)
-      → tokens_left unbuilt unread f.buffer ≡ word_token d f.buffer.line ∷ tokens
+      → tokens_left unread f.buffer ≡ word_token d f.buffer.line ∷ tokens
       → resumed rules place f.blanks (word_token d f.buffer.line ∷ tokens) s ≡ refusal kind word (command_in_front d f.blanks (word_token d f.buffer.line) tokens) s
-      → source_left rules unbuilt unread ws place f s ≡ leaves (fails (fault_at kind f.buffer.line word s)) s
+      → source_left rules unread ws place f s ≡ leaves (fails (fault_at kind f.buffer.line word s)) s
   unfolding source_left command_of
   refused_move tokens place kind word all e =
       ap (λ (ts : List SourceToken). all_resumed rules ws place f.blanks ts s) all
       ∙ all_resumed_refused rules ws place f.blanks (word_token d f.buffer.line ∷ tokens) s kind word (command_in_front d f.blanks (word_token d f.buffer.line) tokens) e
 
   -- a directive that is given something and that changes the place or the state
-  pub named_move : (start stop : ℕ) (i : NameInFront d unbuilt unread f.buffer start stop) (place new : Place) (t : State)
+  pub named_move : (start stop : ℕ) (i : NameInFront d unread f.buffer start stop) (place new : Place) (t : State)
       → resumed rules place f.blanks (word_token d f.buffer.line ∷ i.tokens) s ≡ behind rules new d f.blanks (word_token d f.buffer.line) i.tokens t
-      → source_left rules unbuilt unread ws place f s ≡ source_left rules unbuilt unread ws new (consumed_file stop 0 f) t
+      → source_left rules unread ws place f s ≡ source_left rules unread ws new (consumed_file stop 0 f) t
   unfolding source_left
   named_move start stop i place new t e =
       let tok = word_token d f.buffer.line in
       let c = command_in_front d f.blanks tok i.tokens in
       ap (λ (ts : List SourceToken). all_resumed rules ws place f.blanks ts s) i.all
       ∙ all_resumed_move rules ws place new f.blanks (only_blanks f.blanks c.text) (tok ∷ i.tokens) (behind_directive d i.tokens) s t e
-      ∙ behind_name d unbuilt unread f.buffer rules ws new f.blanks t start stop i
+      ∙ behind_name d unread f.buffer rules ws new f.blanks t start stop i

@@ -9,11 +9,10 @@ use Rattle.rdlpp_scan.specs.Front.{Breach, CommentOpen, PerlFound, StringOpen}
 use Rattle.rdlpp_scan.specs.Front as breach
 use Rattle.rdlpp_scan.specs.Lines.{EndsLine}
 use Rattle.rdlpp_scan.specs.SourceTokens.{SourceToken, remaining_tokens}
-use Rattle.rdlpp_scan.specs.Stage.{is_unbuilt}
 use Rattle.rdlpp_scan.specs.Tokens.{string_token, token_of, whole}
-use Rattle.rdlpp_scan.proofs.RemainingLaws.{remaining-bare, remaining-perl, remaining-unbuilt}
+use Rattle.rdlpp_scan.proofs.RemainingLaws.{remaining-bare, remaining-perl}
 use Rattle.rdlpp_scan.proofs.ResumedTokens.{remaining-perl_in_string}
-use Rattle.rdlpp_scan.proofs.StageLaws.{directive-bare, directive-perl}
+use Rattle.rdlpp_scan.proofs.DirectiveStarts.{directive-bare, directive-perl}
 use Rattle.rdlpp_scan.proofs.StopKinds.{string_token-kind, block_token-kind}
 use Rattle.rdlpp_meaning.specs.declared.fault.FaultKind.{FaultKind}
 use Rattle.rdlpp_meaning.specs.declared.fault.FaultKind.TheVariants.{LineTooLong, OpenComment, OpenConditional, OpenString, SourceTooLong}
@@ -34,11 +33,10 @@ use Rattle.rdlpp_read.specs.declared.files.File.{File}
 use Rattle.rdlpp_read.specs.Buffer.{BufferView, held_of, rest_of, tokens_left}
 use Rattle.rdlpp_read.specs.Filling.{Fills, ended_tokens, only_broken}
 use Rattle.rdlpp_read.specs.LogicalLines.{HoldsLine}
-use Rattle.rdlpp_front.specs.Fronts.{AtBare, AtPerl, AtUnbuilt, IsRefused}
-use Rattle.rdlpp_front.specs.SourceLeft.{HoldsFront, IsStage, source_left, with_file_buffer}
+use Rattle.rdlpp_front.specs.Fronts.{AtBare, AtPerl, IsRefused}
+use Rattle.rdlpp_front.specs.SourceLeft.{HoldsFront, source_left, with_file_buffer}
 use Rattle.rdlpp_front.proofs.SourceFacts.{ends_line, tokens_plain}
 use Rattle.rdlpp_front.proofs.SourcePassages.{all_resumed_bare, all_resumed_only_broken}
-use Rattle.rdlpp_front.proofs.Stages.{stage_built}
 
 -- a string is no `<%`, which is told by its bytes
 perl_of_string : (held : List ℕ) → (token_of InStr held).kind ≡ Perl → begins_perl held ≡ true
@@ -55,24 +53,24 @@ unfolding token_of
 no_perl_in_comment held is = cc (block_token-kind 0 held)
 
 -- `<%` is all that remains, by the mode
-perl_by_mode : (u : List ℕ → Bool) (most : ℕ) (m : Mode) (o l : ℕ) (held : List ℕ) (room : ℕ) (rest : List ℕ) → IsStage u → 0 < length held → EndsLine held rest → (token_of m held).kind ≡ Perl
-    → remaining_tokens u most m o l held room rest ≡ only_broken PerlFound l
-perl_by_mode u most Plain o l held room rest stage some ends is =
-    remaining-perl u most o l held room rest some ends (stage_built u held stage some (stage.spares held (directive-perl held is))) is
-perl_by_mode u most InStr o l held room rest stage some ends is = remaining-perl_in_string u most o l held room rest some (perl_of_string held is)
-perl_by_mode u most InBlock o l held room rest stage some ends is = absurd (no_perl_in_comment held is)
+perl_by_mode : (most : ℕ) (m : Mode) (o l : ℕ) (held : List ℕ) (room : ℕ) (rest : List ℕ) → 0 < length held → EndsLine held rest → (token_of m held).kind ≡ Perl
+    → remaining_tokens most m o l held room rest ≡ only_broken PerlFound l
+perl_by_mode most Plain o l held room rest some ends is =
+    remaining-perl most o l held room rest some ends is
+perl_by_mode most InStr o l held room rest some ends is = remaining-perl_in_string most o l held room rest some (perl_of_string held is)
+perl_by_mode most InBlock o l held room rest some ends is = absurd (no_perl_in_comment held is)
 
 -- `<%` is all that remains
-perl_tokens : {R : Type 0} (u : List ℕ → Bool) (unread : R → List ℕ) (b : BufferView R) → HoldsFront u b → (token_of b.mode (held_of b)).kind ≡ Perl
-    → tokens_left u unread b ≡ only_broken PerlFound b.line
+pub perl_tokens : {R : Type 0} (unread : R → List ℕ) (b : BufferView R) → HoldsFront b → (token_of b.mode (held_of b)).kind ≡ Perl
+    → tokens_left unread b ≡ only_broken PerlFound b.line
 unfolding tokens_left
-perl_tokens u unread b holds is =
-    perl_by_mode u b.line_bytes b.mode b.open_token_line b.line (held_of b) b.bytes_left (rest_of unread b) holds.stage holds.some (ends_line unread b holds.ends) is
+perl_tokens unread b holds is =
+    perl_by_mode b.line_bytes b.mode b.open_token_line b.line (held_of b) b.bytes_left (rest_of unread b) holds.some (ends_line unread b holds.ends) is
 
-module _ {R : Type 0} (rules : Rules) (unbuilt : List ℕ → Bool) (unread : R → List ℕ) (ws : List Waiting) (os : List Progress) (f : File R) (s : State) where
+module _ {R : Type 0} (rules : Rules) (unread : R → List ℕ) (ws : List Waiting) (os : List Progress) (f : File R) (s : State) where
   -- one broken token without bytes is a fault
-  pub broken_left : (b : Breach) (line : ℕ) → tokens_left unbuilt unread f.buffer ≡ only_broken b line
-      → source_left rules unbuilt unread ws (Live os) f s ≡ leaves (fails (fault_at (breach_kind b) line [] s)) s
+  pub broken_left : (b : Breach) (line : ℕ) → tokens_left unread f.buffer ≡ only_broken b line
+      → source_left rules unread ws (Live os) f s ≡ leaves (fails (fault_at (breach_kind b) line [] s)) s
   unfolding source_left
   broken_left b line e =
       ap (λ (ts : List SourceToken). all_resumed rules ws (Live os) f.blanks ts s) e
@@ -80,36 +78,36 @@ module _ {R : Type 0} (rules : Rules) (unbuilt : List ℕ → Bool) (unread : R 
 
   -- a line that is too long is a fault
   pub line_long_left : (tells : Type 0) (new : BufferView R) → Fills tells unread fill.LineLong f.buffer new → tells
-      → source_left rules unbuilt unread ws (Live os) f s ≡ leaves (fails (fault_at LineTooLong f.buffer.line [] s)) s
+      → source_left rules unread ws (Live os) f s ≡ leaves (fails (fault_at LineTooLong f.buffer.line [] s)) s
   unfolding breach_kind
-  line_long_left tells new fills t = broken_left breach.LineLong f.buffer.line (fills.tokens unbuilt t)
+  line_long_left tells new fills t = broken_left breach.LineLong f.buffer.line (fills.tokens t)
 
   -- and so is a line with which the source is too long
   pub source_long_left : (tells : Type 0) (new : BufferView R) → Fills tells unread fill.SourceLong f.buffer new → tells
-      → source_left rules unbuilt unread ws (Live os) f s ≡ leaves (fails (fault_at SourceTooLong f.buffer.line [] s)) s
+      → source_left rules unread ws (Live os) f s ≡ leaves (fails (fault_at SourceTooLong f.buffer.line [] s)) s
   unfolding breach_kind
-  source_long_left tells new fills t = broken_left breach.SourceLong f.buffer.line (fills.tokens unbuilt t)
+  source_long_left tells new fills t = broken_left breach.SourceLong f.buffer.line (fills.tokens t)
 
   -- the end of a text is told by its mode
   ended_by : (tells : Type 0) (new : BufferView R) (m : Mode) → Fills tells unread fill.End f.buffer new → tells → f.buffer.mode ≡ m
-      → tokens_left unbuilt unread f.buffer ≡ ended_tokens m f.buffer.open_token_line
-  ended_by tells new m fills t mode = fills.tokens unbuilt t ∙ ap (λ (n : Mode). ended_tokens n f.buffer.open_token_line) mode
+      → tokens_left unread f.buffer ≡ ended_tokens m f.buffer.open_token_line
+  ended_by tells new m fills t mode = fills.tokens t ∙ ap (λ (n : Mode). ended_tokens n f.buffer.open_token_line) mode
 
   -- a string that is open at the end is a fault
   pub open_string_left : (tells : Type 0) (new : BufferView R) → Fills tells unread fill.End f.buffer new → tells → f.buffer.mode ≡ InStr
-      → source_left rules unbuilt unread ws (Live os) f s ≡ leaves (fails (fault_at OpenString f.buffer.open_token_line [] s)) s
+      → source_left rules unread ws (Live os) f s ≡ leaves (fails (fault_at OpenString f.buffer.open_token_line [] s)) s
   unfolding breach_kind
   open_string_left tells new fills t mode = broken_left StringOpen f.buffer.open_token_line (ended_by tells new InStr fills t mode)
 
   -- and so is a comment
   pub open_comment_left : (tells : Type 0) (new : BufferView R) → Fills tells unread fill.End f.buffer new → tells → f.buffer.mode ≡ InBlock
-      → source_left rules unbuilt unread ws (Live os) f s ≡ leaves (fails (fault_at OpenComment f.buffer.open_token_line [] s)) s
+      → source_left rules unread ws (Live os) f s ≡ leaves (fails (fault_at OpenComment f.buffer.open_token_line [] s)) s
   unfolding breach_kind
   open_comment_left tells new fills t mode = broken_left CommentOpen f.buffer.open_token_line (ended_by tells new InBlock fills t mode)
 
   -- an open conditional at the end of its source is a fault
   pub unclosed_left : (o : Progress) (tells : Type 0) (new : BufferView R) → Fills tells unread fill.End f.buffer new → tells → f.buffer.mode ≡ Plain
-      → source_left rules unbuilt unread ws (Live (o ∷ os)) f s
+      → source_left rules unread ws (Live (o ∷ os)) f s
       ≡ leaves (fails (record { kind = OpenConditional; name = s.name; line = o.line; word = [] })) s
   unfolding source_left unclosed
   unclosed_left o tells new fills t mode =
@@ -122,28 +120,28 @@ nothing_left : (rules : Rules) (ws : List Waiting) (first : Bool) (s : State) �
 unfolding all_resumed resumed resume pieces
 nothing_left rules ws first s = goes_on-nil s (λ after. unwound rules ws after)
 
-module _ {R : Type 0} (rules : Rules) (unbuilt : List ℕ → Bool) (unread : R → List ℕ) (ws : List Waiting) (f : File R) (s : State) where
+module _ {R : Type 0} (rules : Rules) (unread : R → List ℕ) (ws : List Waiting) (f : File R) (s : State) where
   -- at the end of the innermost source, the next goes on
   pub ended_left : (tells : Type 0) (new : BufferView R) → Fills tells unread fill.End f.buffer new → tells → f.buffer.mode ≡ Plain
-      → source_left rules unbuilt unread ws (Live []) f s ≡ unwound rules ws s
+      → source_left rules unread ws (Live []) f s ≡ unwound rules ws s
   unfolding source_left
   ended_left tells new fills t mode =
       ap (λ (ts : List SourceToken). all_resumed rules ws (Live []) f.blanks ts s)
-      (fills.tokens unbuilt t ∙ ap (λ (n : Mode). ended_tokens n f.buffer.open_token_line) mode)
+      (fills.tokens t ∙ ap (λ (n : Mode). ended_tokens n f.buffer.open_token_line) mode)
       ∙ nothing_left rules ws f.blanks s
 
   -- with the same tokens the same remains
-  pub same_left : (place : Place) (new : BufferView R) → tokens_left unbuilt unread new ≡ tokens_left unbuilt unread f.buffer
-      → source_left rules unbuilt unread ws place (with_file_buffer new f) s ≡ source_left rules unbuilt unread ws place f s
+  pub same_left : (place : Place) (new : BufferView R) → tokens_left unread new ≡ tokens_left unread f.buffer
+      → source_left rules unread ws place (with_file_buffer new f) s ≡ source_left rules unread ws place f s
   unfolding source_left
   same_left place new e = ap (λ (ts : List SourceToken). all_resumed rules ws place f.blanks ts s) e
 
   -- a buffer that was filled, or where a read failed
   pub filled_left : (tells : Type 0) (place : Place) (new : BufferView R) (answer : Fill) → Fills tells unread answer f.buffer new → tells
       → (answer ≡ fill.Held) ⊎ (answer ≡ fill.Failed)
-      → source_left rules unbuilt unread ws place (with_file_buffer new f) s ≡ source_left rules unbuilt unread ws place f s
-  filled_left tells place new fill.Held fills t which = same_left place new (fills.tokens unbuilt t)
-  filled_left tells place new fill.Failed fills t which = same_left place new (fills.tokens unbuilt t)
+      → source_left rules unread ws place (with_file_buffer new f) s ≡ source_left rules unread ws place f s
+  filled_left tells place new fill.Held fills t which = same_left place new (fills.tokens t)
+  filled_left tells place new fill.Failed fills t which = same_left place new (fills.tokens t)
   filled_left tells place new fill.End fills t (inl e) = cc
   filled_left tells place new fill.End fills t (inr e) = cc
   filled_left tells place new fill.SourceLong fills t (inl e) = cc
@@ -154,9 +152,9 @@ module _ {R : Type 0} (rules : Rules) (unbuilt : List ℕ → Bool) (unread : R 
   -- a buffer in which a logical line was sought, and the source is too long or a read failed
   pub held_left : (tells : Type 0) (place : Place) (new : BufferView R) (answer : LogicalLine) → HoldsLine tells unread answer f.buffer new → tells
       → (answer ≡ line.SourceLong) ⊎ (answer ≡ line.Failed)
-      → source_left rules unbuilt unread ws place (with_file_buffer new f) s ≡ source_left rules unbuilt unread ws place f s
-  held_left tells place new line.SourceLong holds t which = same_left place new (holds.has unbuilt t)
-  held_left tells place new line.Failed holds t which = same_left place new (holds.has unbuilt t)
+      → source_left rules unread ws place (with_file_buffer new f) s ≡ source_left rules unread ws place f s
+  held_left tells place new line.SourceLong holds t which = same_left place new (holds.has t)
+  held_left tells place new line.Failed holds t which = same_left place new (holds.has t)
   held_left tells place new (line.Whole len) holds t (inl e) = cc
   held_left tells place new (line.Whole len) holds t (inr e) = cc
   held_left tells place new line.TooLong holds t (inl e) = cc
@@ -164,25 +162,17 @@ module _ {R : Type 0} (rules : Rules) (unbuilt : List ℕ → Bool) (unread : R 
 
 module _ {R : Type 0} (rules : Rules) (unread : R → List ℕ) (ws : List Waiting) (os : List Progress) (f : File R) (s : State) where
   -- what is refused in front is a fault
-  pub refused_left : (kind : FaultKind) → HoldsFront is_unbuilt f.buffer → IsRefused f.buffer.mode (held_of f.buffer) kind
-      → source_left rules is_unbuilt unread ws (Live os) f s ≡ leaves (fails (fault_at kind f.buffer.line [] s)) s
+  pub refused_left : (kind : FaultKind) → HoldsFront f.buffer → IsRefused f.buffer.mode (held_of f.buffer) kind
+      → source_left rules unread ws (Live os) f s ≡ leaves (fails (fault_at kind f.buffer.line [] s)) s
   unfolding source_left breach_kind
   refused_left kind holds (AtPerl is) =
-      broken_left rules is_unbuilt unread ws os f s PerlFound f.buffer.line (perl_tokens is_unbuilt unread f.buffer holds is)
+      broken_left rules unread ws os f s PerlFound f.buffer.line (perl_tokens unread f.buffer holds is)
   refused_left kind holds (AtBare mode is) =
       let b = f.buffer in
       let held = held_of b in
       let rest = rest_of unread b in
       ap (λ (ts : List SourceToken). all_resumed rules ws (Live os) f.blanks ts s)
-      (tokens_plain is_unbuilt unread b mode
-      ∙ remaining-bare is_unbuilt b.line_bytes b.line b.line held b.bytes_left rest holds.some (ends_line unread b holds.ends)
-      (stage_built is_unbuilt held holds.stage holds.some (holds.stage.spares held (directive-bare held is))) is)
-      ∙ all_resumed_bare rules ws os f.blanks (take 1 held) b.line (remaining_tokens is_unbuilt b.line_bytes Plain b.line b.line (drop 1 held) b.bytes_left rest) s
-  refused_left kind holds (AtUnbuilt mode is) =
-      let b = f.buffer in
-      let held = held_of b in
-      let rest = rest_of unread b in
-      broken_left rules is_unbuilt unread ws os f s breach.Unbuilt b.line
-      (tokens_plain is_unbuilt unread b mode
-      ∙ remaining-unbuilt is_unbuilt b.line_bytes b.line b.line held b.bytes_left rest holds.some
-      (λ more e. holds.stage.by_lines held more holds.some e ∙ is) (ends_line unread b holds.ends))
+      (tokens_plain unread b mode
+      ∙ remaining-bare b.line_bytes b.line b.line held b.bytes_left rest holds.some (ends_line unread b holds.ends)
+      is)
+      ∙ all_resumed_bare rules ws os f.blanks (take 1 held) b.line (remaining_tokens b.line_bytes Plain b.line b.line (drop 1 held) b.bytes_left rest) s

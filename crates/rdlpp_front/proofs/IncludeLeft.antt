@@ -17,7 +17,7 @@ use Rattle.rdlpp_scan.specs.Tokens.{token_of}
 use Rattle.rdlpp_scan.proofs.LineLaws.{none_suc}
 use Rattle.rdlpp_scan.proofs.RemainingSteps.{remaining-closed}
 use Rattle.rdlpp_scan.proofs.SourceLaws.{line_ends-cons}
-use Rattle.rdlpp_scan.proofs.StageLaws.{directive-string}
+use Rattle.rdlpp_scan.proofs.DirectiveStarts.{directive-string}
 use Rattle.rdlpp_scan.proofs.TokenSteps.{is_kept_kind}
 use Rattle.rdlpp_scan.proofs.WholeLines.{EndsLine-drop}
 use Rattle.rdlpp_meaning.specs.declared.fault.FaultKind.TheVariants.{IncludeName, PathTooLong, SourceNotFound, TooManyIncludes}
@@ -36,7 +36,7 @@ use Rattle.rdlpp_read.specs.Arguments.{ClosesString, Closes, IsClosedString, IsL
 use Rattle.rdlpp_read.specs.Buffer.{BufferView, held_of, rest_of, tokens_left}
 use Rattle.rdlpp_read.specs.Files.{consumed_file}
 use Rattle.rdlpp_front.specs.Fronts.{HasString, argument_name, word_of}
-use Rattle.rdlpp_front.specs.SourceLeft.{HoldsFront, IsStage, source_left}
+use Rattle.rdlpp_front.specs.SourceLeft.{HoldsFront, source_left}
 use Rattle.rdlpp_front.proofs.DefineLeft.{not_counted}
 use Rattle.rdlpp_front.proofs.DirectiveMoves.{refused_move}
 use Rattle.rdlpp_front.proofs.NamedDirectives.{IsGiven, NameInFront, blank_lead, given_of, word_at, word_directive, word_token, word_tokens}
@@ -66,21 +66,20 @@ pub include_word : has_own_token Include ≡ false
 unfolding has_own_token
 include_word = refl
 
-module _ (u : List ℕ → Bool) (stage : IsStage u) (most l room : ℕ) (rest : List ℕ) where
+module _ (most l room : ℕ) (rest : List ℕ) where
   -- the tokens of what is held and behind it, on the line of the directive
   abbrev tokens_of : List ℕ → List SourceToken
-  tokens_of z = remaining_tokens u most Plain l l z room rest
+  tokens_of z = remaining_tokens most Plain l l z room rest
 
   -- a string in front that closes on its line
   string_lead : (z : List ℕ) (n : ℕ) → EndsLine z rest → ClosesString z n → tokens_of z ≡ string_token (take n z) l ∷ tokens_of (drop n z)
   unfolding is_kept_kind
   string_lead z n ends c =
       let t = token_of Plain z in
-      let built : u z ≡ false = stage.spares z (directive-string z c.kind) in
       let none : line_ends (take t.len z) ≡ 0 = ap (λ (k : ℕ). line_ends (take k z)) (sym c.whole) ∙ (no_line_end (take n z) c.line).0 in
       let line : l + line_ends (take t.len z) ≡ l = omega (arith, none) in
-      remaining-closed u most Plain l l z room rest c.some ends (λ _ more e. stage.by_lines z more c.some e ∙ built) (ap is_kept_kind c.kind) c.closed
-      ∙ ap (λ (m : ℕ). record { sort = Ordinary t.kind; bytes = take t.len z; line = l } ∷ remaining_tokens u most Plain l m (drop t.len z) room rest) line
+      remaining-closed most Plain l l z room rest c.some ends (ap is_kept_kind c.kind) c.closed
+      ∙ ap (λ (m : ℕ). record { sort = Ordinary t.kind; bytes = take t.len z; line = l } ∷ remaining_tokens most Plain l m (drop t.len z) room rest) line
       ∙ ap (λ (m : Kind). record { sort = Ordinary m; bytes = take t.len z; line = l } ∷ tokens_of (drop t.len z)) c.kind
       ∙ ap (λ (m : ℕ). string_token (take m z) l ∷ tokens_of (drop m z)) (sym c.whole)
 
@@ -90,7 +89,7 @@ module _ (u : List ℕ → Bool) (stage : IsStage u) (most l room : ℕ) (rest :
   string_given r bl n ends (Leads some is len) c =
       let z = drop bl r in
       let e : tokens_of r ≡ blank_token (take bl r) l ∷ string_token (take n z) l ∷ tokens_of (drop n z) =
-      blank_lead u stage most l room rest r bl ends some is len ∙ ap (λ (ts : List SourceToken). blank_token (take bl r) l ∷ ts) (string_lead z n (EndsLine-drop bl r rest ends) c) in
+      blank_lead most l room rest r bl ends some is len ∙ ap (λ (ts : List SourceToken). blank_token (take bl r) l ∷ ts) (string_lead z n (EndsLine-drop bl r rest ends) c) in
       subst (λ (ts : List SourceToken). IsGiven Include ts (take n z) (take bl r ++ take n z) (tokens_of (drop n z))) (sym e)
       (given_of Include _ (take n z) (take bl r ++ take n z) (tokens_of (drop n z)) 2
       (takes_string_behind_blanks (take bl r) (take n z) l l (tokens_of (drop n z)) (no_line_end (take n z) c.line).1) refl)
@@ -102,9 +101,8 @@ module _ (u : List ℕ → Bool) (stage : IsStage u) (most l room : ℕ) (rest :
       subst P (sym zero_is) at_zero c
 
 -- an `include` with its string in front
-pub string_in_front_of : {R : Type 0} (u : List ℕ → Bool) (unread : R → List ℕ) (b : BufferView R) → HoldsFront u b → b.mode ≡ Plain → u (held_of b) ≡ false
-    → (start stop : ℕ) → HasString (held_of b) start stop → NameInFront Include u unread b start stop
-string_in_front_of u unread b holds mode built start stop has =
+pub string_in_front_of : {R : Type 0} (unread : R → List ℕ) (b : BufferView R) → HoldsFront b → b.mode ≡ Plain → (start stop : ℕ) → HasString (held_of b) start stop → NameInFront Include unread b start stop
+string_in_front_of unread b holds mode start stop has =
     let held = held_of b in
     let rest = rest_of unread b in
     let n = length (word_of Include) in
@@ -117,9 +115,9 @@ string_in_front_of u unread b holds mode built start stop has =
     let stops = has.stops in
     let some_string : 0 < k = omega (arith, g.some) in
     let line : b.line ≡ b.line + 0 = omega arith in
-    let used : (i : ℕ) → remaining_tokens u b.line_bytes Plain b.line b.line (drop i held) b.bytes_left rest ≡ tokens_left u unread (used_buffer b i 0) =
-    λ i. ap (λ (m : ℕ). remaining_tokens u b.line_bytes Plain b.line m (drop i held) b.bytes_left rest) line ∙ tokens_used u unread b i 0 b.line mode in
-    let a = string_given u holds.stage b.line_bytes b.line b.bytes_left rest r bl k (EndsLine-drop n held rest ends) g.space (closed_string (drop bl r) k g.string some_string) in
+    let used : (i : ℕ) → remaining_tokens b.line_bytes Plain b.line b.line (drop i held) b.bytes_left rest ≡ tokens_left unread (used_buffer b i 0) =
+    λ i. ap (λ (m : ℕ). remaining_tokens b.line_bytes Plain b.line m (drop i held) b.bytes_left rest) line ∙ tokens_used unread b i 0 b.line mode in
+    let a = string_given b.line_bytes b.line b.bytes_left rest r bl k (EndsLine-drop n held rest ends) g.space (closed_string (drop bl r) k g.string some_string) in
     let at : drop bl r ≡ drop start held = drop-drop bl n held ∙ ap (λ (i : ℕ). drop i held) (sym starts) in
     let size : k ≡ stop - start = omega (arith, g.some) in
     let more : bl + k ≡ has.to = omega (arith, g.some) in
@@ -129,23 +127,23 @@ string_in_front_of u unread b holds mode built start stop has =
     ∙ sym (take-add n has.to held) ∙ ap (λ (i : ℕ). take i held) (sym stops) in
     let end : start + k ≡ stop = omega (arith, g.some) in
     record {
-      tokens = remaining_tokens u b.line_bytes Plain b.line b.line r b.bytes_left rest;
-      all = word_tokens Include u unread b include_word holds mode has.word built ∙ ap (λ (ts : List SourceToken). word_token Include b.line ∷ ts) (sym (used n));
+      tokens = remaining_tokens b.line_bytes Plain b.line b.line r b.bytes_left rest;
+      all = word_tokens Include unread b include_word holds mode has.word ∙ ap (λ (ts : List SourceToken). word_token Include b.line ∷ ts) (sym (used n));
       given = a.given ∙ ap Some (ap (take k) at ∙ ap (λ (i : ℕ). take i (drop start held)) size);
       text = ap (λ (z : List ℕ). word_of Include ++ z) (a.taken ∙ taken) ∙ whole;
       behind =
           a.rest
-          ∙ ap (λ (z : List ℕ). remaining_tokens u b.line_bytes Plain b.line b.line z b.bytes_left rest)
+          ∙ ap (λ (z : List ℕ). remaining_tokens b.line_bytes Plain b.line b.line z b.bytes_left rest)
           (ap (drop k) at ∙ drop-drop k start held ∙ ap (λ (i : ℕ). drop i held) end)
           ∙ used stop;
     }
 
 -- a source that waits for the text that its `include` has found, as a file of which the directive is used
-abbrev pub waiting_file : {R : Type 0} → Rules → (List ℕ → Bool) → (R → List ℕ) → List Progress → ℕ → File R → State → List ℕ → Waiting
-waiting_file rules unbuilt unread os stop f s text = record {
+abbrev pub waiting_file : {R : Type 0} → Rules → (R → List ℕ) → List Progress → ℕ → File R → State → List ℕ → Waiting
+waiting_file rules unread os stop f s text = record {
   open_conditionals = os;
   first = (consumed_file stop 0 f).blanks;
-  tokens = tokens_left unbuilt unread (consumed_file stop 0 f).buffer;
+  tokens = tokens_left unread (consumed_file stop 0 f).buffer;
   state = s;
   ending = added_end text ++ origin_line rules s.name (shown_line s.shift f.buffer.line);
 }
@@ -154,16 +152,16 @@ waiting_file rules unbuilt unread os stop f s text = record {
 abbrev pub include_name : List ℕ → ℕ → ℕ → List ℕ
 include_name held start stop = unquoted (argument_name held start stop)
 
-module _ {R : Type 0} (rules : Rules) (unbuilt : List ℕ → Bool) (unread : R → List ℕ) (ws : List Waiting) (os : List Progress) (f : File R) (s : State)
-    (holds : HoldsFront unbuilt f.buffer) (mode : f.buffer.mode ≡ Plain) (built : unbuilt (held_of f.buffer) ≡ false)
+module _ {R : Type 0} (rules : Rules) (unread : R → List ℕ) (ws : List Waiting) (os : List Progress) (f : File R) (s : State)
+    (holds : HoldsFront f.buffer) (mode : f.buffer.mode ≡ Plain)
     (start stop : ℕ) (has : HasString (held_of f.buffer) start stop) where
   -- the tokens at the `include`
-  abbrev front : NameInFront Include unbuilt unread f.buffer start stop
-  front = string_in_front_of unbuilt unread f.buffer holds mode built start stop has
+  abbrev front : NameInFront Include unread f.buffer start stop
+  front = string_in_front_of unread f.buffer holds mode start stop has
 
   -- the source that stood innermost waits
-  waits : (i : NameInFront Include unbuilt unread f.buffer start stop) (text : List ℕ)
-      → waiting rules os f.blanks (word_token Include f.buffer.line) i.tokens s text ≡ waiting_file rules unbuilt unread os stop f s text
+  waits : (i : NameInFront Include unread f.buffer start stop) (text : List ℕ)
+      → waiting rules os f.blanks (word_token Include f.buffer.line) i.tokens s text ≡ waiting_file rules unread os stop f s text
   unfolding waiting command_of
   waits i text =
       let w : Bool → List SourceToken → Waiting = λ first ts. record {
@@ -180,9 +178,9 @@ module _ {R : Type 0} (rules : Rules) (unbuilt : List ℕ → Bool) (unread : R 
   pub include_left : (k : ℕ) (path text : List ℕ)
       → (length (include_name (held_of f.buffer) start stop) == 0 || not (is_utf8 (include_name (held_of f.buffer) start stop))) ≡ false → s.sources_left ≡ suc k
       → rules.find s.path (include_name (held_of f.buffer) start stop) ≡ Source path text
-      → source_left rules unbuilt unread ws (Live os) f s
+      → source_left rules unread ws (Live os) f s
       ≡ behind_bytes (origin_line rules path 1)
-      (all_resumed rules (waiting_file rules unbuilt unread os stop f s text ∷ ws) (Live []) true (rules.tokens text) (at_start_of path s))
+      (all_resumed rules (waiting_file rules unread os stop f s text ∷ ws) (Live []) true (rules.tokens text) (at_start_of path s))
   unfolding source_left
   include_left k path text name left found =
       ap (λ (ts : List SourceToken). all_resumed rules ws (Live os) f.blanks ts s) front.all
@@ -192,34 +190,34 @@ module _ {R : Type 0} (rules : Rules) (unbuilt : List ℕ → Bool) (unread : R 
 
   -- an `include` of an empty name, or of one that isn't UTF-8, is a fault
   pub include_bad_left : (length (include_name (held_of f.buffer) start stop) == 0 || not (is_utf8 (include_name (held_of f.buffer) start stop))) ≡ true
-      → source_left rules unbuilt unread ws (Live os) f s ≡ leaves (fails (fault_at IncludeName f.buffer.line [] s)) s
+      → source_left rules unread ws (Live os) f s ≡ leaves (fails (fault_at IncludeName f.buffer.line [] s)) s
   include_bad_left name =
-      refused_move rules unbuilt unread ws f s Include front.tokens (Live os) IncludeName [] front.all
+      refused_move rules unread ws f s Include front.tokens (Live os) IncludeName [] front.all
       (include_bad_name rules os f.blanks (word_token Include f.buffer.line) front.tokens s (argument_name (held_of f.buffer) start stop)
       (word_directive Include f.buffer.line include_word) front.given name)
 
   -- where no more sources may be opened, it is a fault
   pub include_deep_left : (length (include_name (held_of f.buffer) start stop) == 0 || not (is_utf8 (include_name (held_of f.buffer) start stop))) ≡ false → s.sources_left ≡ 0
-      → source_left rules unbuilt unread ws (Live os) f s ≡ leaves (fails (fault_at TooManyIncludes f.buffer.line [] s)) s
+      → source_left rules unread ws (Live os) f s ≡ leaves (fails (fault_at TooManyIncludes f.buffer.line [] s)) s
   include_deep_left name left =
-      refused_move rules unbuilt unread ws f s Include front.tokens (Live os) TooManyIncludes [] front.all
+      refused_move rules unread ws f s Include front.tokens (Live os) TooManyIncludes [] front.all
       (include_too_deep rules os f.blanks (word_token Include f.buffer.line) front.tokens s (argument_name (held_of f.buffer) start stop)
       (word_directive Include f.buffer.line include_word) front.given name left)
 
   -- and where the search finds nothing
   pub include_absent_left : (k : ℕ) → (length (include_name (held_of f.buffer) start stop) == 0 || not (is_utf8 (include_name (held_of f.buffer) start stop))) ≡ false
       → s.sources_left ≡ suc k → rules.find s.path (include_name (held_of f.buffer) start stop) ≡ NoSource
-      → source_left rules unbuilt unread ws (Live os) f s ≡ leaves (fails (fault_at SourceNotFound f.buffer.line [] s)) s
+      → source_left rules unread ws (Live os) f s ≡ leaves (fails (fault_at SourceNotFound f.buffer.line [] s)) s
   include_absent_left k name left found =
-      refused_move rules unbuilt unread ws f s Include front.tokens (Live os) SourceNotFound [] front.all
+      refused_move rules unread ws f s Include front.tokens (Live os) SourceNotFound [] front.all
       (include_not_found rules os f.blanks (word_token Include f.buffer.line) front.tokens s (argument_name (held_of f.buffer) start stop) k
       (word_directive Include f.buffer.line include_word) front.given name left found)
 
   -- or a path that is too long
   pub include_overlong_left : (k : ℕ) → (length (include_name (held_of f.buffer) start stop) == 0 || not (is_utf8 (include_name (held_of f.buffer) start stop))) ≡ false
       → s.sources_left ≡ suc k → rules.find s.path (include_name (held_of f.buffer) start stop) ≡ LongPath
-      → source_left rules unbuilt unread ws (Live os) f s ≡ leaves (fails (fault_at PathTooLong f.buffer.line [] s)) s
+      → source_left rules unread ws (Live os) f s ≡ leaves (fails (fault_at PathTooLong f.buffer.line [] s)) s
   include_overlong_left k name left found =
-      refused_move rules unbuilt unread ws f s Include front.tokens (Live os) PathTooLong [] front.all
+      refused_move rules unread ws f s Include front.tokens (Live os) PathTooLong [] front.all
       (include_long_path rules os f.blanks (word_token Include f.buffer.line) front.tokens s (argument_name (held_of f.buffer) start stop) k
       (word_directive Include f.buffer.line include_word) front.given name left found)

@@ -16,11 +16,11 @@ use Rattle.rdlpp_scan.specs.Tokens.{token_of}
 use Rattle.rdlpp_scan.proofs.FirstTokens.{FirstToken, is_ordinary, remaining-first, whole-line_ends}
 use Rattle.rdlpp_scan.proofs.FrontLaws.{front-none}
 use Rattle.rdlpp_scan.proofs.LineLaws.{some_suc}
-use Rattle.rdlpp_scan.proofs.RemainingSteps.{IsBuiltAt, remaining-closed, remaining-cut_string, remaining-open_string}
+use Rattle.rdlpp_scan.proofs.RemainingSteps.{remaining-closed, remaining-cut_string, remaining-open_string}
 use Rattle.rdlpp_scan.proofs.ResumedTokens.{Breaks, Copies, Resumes, remaining-in_string}
 use Rattle.rdlpp_scan.proofs.Seams.{BeforePerl, Closed, OpenComment, OpenString, Seam, token_of-seam}
 use Rattle.rdlpp_scan.proofs.SourceLaws.{line_ends-append, line_ends-cons}
-use Rattle.rdlpp_scan.proofs.StageLaws.{directive-string}
+use Rattle.rdlpp_scan.proofs.DirectiveStarts.{directive-string}
 use Rattle.rdlpp_scan.proofs.TokenLens.{token_of-part}
 use Rattle.rdlpp_scan.proofs.TokenSteps.{is_kept_kind}
 use Rattle.rdlpp_scan.proofs.WholeLines.{EndsLine-drop}
@@ -38,7 +38,7 @@ use Rattle.rdlpp_read.specs.Arguments.{Closes, ClosesString, IsClosedString, IsL
 use Rattle.rdlpp_read.specs.Buffer.{held_of, rest_of, tokens_left}
 use Rattle.rdlpp_read.specs.Filling.{only_broken}
 use Rattle.rdlpp_front.specs.Fronts.{LacksString, word_of}
-use Rattle.rdlpp_front.specs.SourceLeft.{HoldsFront, IsStage, source_left}
+use Rattle.rdlpp_front.specs.SourceLeft.{HoldsFront, source_left}
 use Rattle.rdlpp_front.proofs.DefineLeft.{counted, not_counted}
 use Rattle.rdlpp_front.proofs.DirectiveMoves.{refused_move}
 use Rattle.rdlpp_front.proofs.IncludeLeft.{include_word}
@@ -104,10 +104,10 @@ unfolding string_in_front
 long_string bytes line ts some = rw (any_line_end bytes some) refl
 
 -- a string that is open where the text ends
-open_at_end : (u : List ℕ → Bool) (most o l room : ℕ) → remaining_tokens u most InStr o l [] room [] ≡ only_broken StringOpen o
+open_at_end : (most o l room : ℕ) → remaining_tokens most InStr o l [] room [] ≡ only_broken StringOpen o
 unfolding remaining_tokens source_tokens source_end open_end broken
-open_at_end u most o l room =
-    ap (λ (g : Front). source_tokens (record { unbuilt = u; most = most; break = g.break }) InStr o l 0 g.text) (front-none most room)
+open_at_end most o l room =
+    ap (λ (g : Front). source_tokens (record { most = most; break = g.break }) InStr o l 0 g.text) (front-none most room)
 
 -- the rest of a string behind a part of it that has an LF, or behind which the text ends
 resumed_string : (part : List ℕ) (l : ℕ) (ts : List SourceToken) (o : ℕ) → (0 < line_ends part) ⊎ (ts ≡ only_broken StringOpen o) → Resumes ts
@@ -125,13 +125,10 @@ resumed_string part l ts o (inr ended) (Copies k bytes line more open_ is) =
 resumed_string part l ts o h (Breaks k bytes line is) =
     ap (λ (us : List SourceToken). string_in_front (onto_tokens part l us)) is
 
-module _ (u : List ℕ → Bool) (stage : IsStage u) (most l room : ℕ) (rest : List ℕ) where
+module _ (most l room : ℕ) (rest : List ℕ) where
   -- the tokens of what is held and behind it, on the line of the directive
   abbrev tokens_of : List ℕ → List SourceToken
-  tokens_of z = remaining_tokens u most Plain l l z room rest
-
-  built_string : (z : List ℕ) → 0 < length z → (token_of Plain z).kind ≡ Str → IsBuiltAt u Plain z
-  built_string z some is plain more e = stage.by_lines z more some e ∙ stage.spares z (directive-string z is)
+  tokens_of z = remaining_tokens most Plain l l z room rest
 
   -- a string that closes, but not on its line
   closed_long : (z : List ℕ) → EndsLine z rest → 0 < length z → (token_of Plain z).kind ≡ Str → (token_of Plain z).next_mode ≡ Plain
@@ -144,8 +141,8 @@ module _ (u : List ℕ → Bool) (stage : IsStage u) (most l room : ℕ) (rest :
       let at_none : P None = λ e. absurd (none t.len (record { some = some; kind = is; closed = closed; whole = refl; line = e })) in
       let at_some : (n : ℕ) → P (Some n) = λ n e. ended_some w n e in
       let has : 0 < line_ends w = elim (ended_line_len w) as P [ None ↦ at_none | Some n ↦ at_some n ] refl in
-      let behind = remaining_tokens u most Plain l (l + line_ends w) (drop t.len z) room rest in
-      ap string_in_front (remaining-closed u most Plain l l z room rest some ends (built_string z some is) (ap is_kept_kind is) closed)
+      let behind = remaining_tokens most Plain l (l + line_ends w) (drop t.len z) room rest in
+      ap string_in_front (remaining-closed most Plain l l z room rest some ends (ap is_kept_kind is) closed)
       ∙ ap (λ (k : Kind). string_in_front (record { sort = Ordinary k; bytes = w; line = l } ∷ behind)) is
       ∙ long_string w l behind has
 
@@ -155,24 +152,24 @@ module _ (u : List ℕ → Bool) (stage : IsStage u) (most l room : ℕ) (rest :
   unfolding string_in_front opening
   string_by_seam z v (Closed e closed) ends some is none = closed_long z ends some is closed none
   string_by_seam z v (BeforePerl e at lt perl) ends some is none =
-      ap string_in_front (remaining-cut_string u most Plain l l z room rest some ends (built_string z some is) is (ap (λ (t : Token). t.next_mode) at) lt)
+      ap string_in_front (remaining-cut_string most Plain l l z room rest some ends is (ap (λ (t : Token). t.next_mode) at) lt)
   string_by_seam z v (OpenString at e) ends some is none =
-      let ts = remaining_tokens u most InStr l (l + line_ends z) [] room rest in
+      let ts = remaining_tokens most InStr l (l + line_ends z) [] room rest in
       let ended : (0 < line_ends z) ⊎ (ts ≡ only_broken StringOpen l) =
       ⊎_elim (λ whole. inl (whole-line_ends z some whole))
-      (λ gone. inr (ap (λ (r : List ℕ). remaining_tokens u most InStr l (l + line_ends z) [] room r) gone ∙ open_at_end u most l (l + line_ends z) room)) ends in
-      ap string_in_front (remaining-open_string u most Plain l l z room rest some ends (built_string z some is) (ap (λ (t : Token). t.next_mode) at) (ap (λ (t : Token). t.len) at))
-      ∙ resumed_string z l ts l ended (remaining-in_string u most l (l + line_ends z) [] room rest)
+      (λ gone. inr (ap (λ (r : List ℕ). remaining_tokens most InStr l (l + line_ends z) [] room r) gone ∙ open_at_end most l (l + line_ends z) room)) ends in
+      ap string_in_front (remaining-open_string most Plain l l z room rest some ends (ap (λ (t : Token). t.next_mode) at) (ap (λ (t : Token). t.len) at))
+      ∙ resumed_string z l ts l ended (remaining-in_string most l (l + line_ends z) [] room rest)
   string_by_seam z v (OpenComment at e) ends some is none = absurd (let block = ap (λ (t : Token). t.kind) at in cc)
 
   -- no string in front that closes on its line
   no_string : (z : List ℕ) → EndsLine z rest → (z ≡ [] → rest ≡ []) → ((n : ℕ) → ClosesString z n → ⊥) → string_in_front (tokens_of z) ≡ no_argument
   unfolding string_in_front
-  no_string [] ends gone none = ap string_in_front (nothing_tokens u stage most l room rest (gone refl))
+  no_string [] ends gone none = ap string_in_front (nothing_tokens most l room rest (gone refl))
   no_string (b ∷ w) ends gone none =
       let z = b ∷ w in
       let some : 0 < length z = omega arith in
-      let f : FirstToken (token_of Plain z).kind (tokens_of z) = remaining-first u most l l z room rest some ends in
+      let f : FirstToken (token_of Plain z).kind (tokens_of z) = remaining-first most l l z room rest some ends in
       ⊎_elim (λ is. string_by_seam z (token_of Plain (z ++ [])) (token_of-seam Plain z [] some (inl refl)) ends some is none)
       (λ other. ap string_in_front f.is ∙ no_string_by f.first.sort f.first.bytes f.first.line f.more (token_of Plain z).kind f.kind other)
       (kind_case (token_of Plain z).kind)
@@ -185,9 +182,9 @@ module _ (u : List ℕ → Bool) (stage : IsStage u) (most l room : ℕ) (rest :
   -- no blanks in front
   lacks_blank : (z : List ℕ) → EndsLine z rest → (z ≡ [] → rest ≡ []) → (0 < length z → (token_of Plain z).kind ≡ Blank → ⊥) → past_blanks string_in_front (tokens_of z) ≡ string_in_front (tokens_of z)
   unfolding string_in_front past_blanks
-  lacks_blank [] ends none other = let e = nothing_tokens u stage most l room rest (none refl) in ap (past_blanks string_in_front) e ∙ sym (ap string_in_front e)
+  lacks_blank [] ends none other = let e = nothing_tokens most l room rest (none refl) in ap (past_blanks string_in_front) e ∙ sym (ap string_in_front e)
   lacks_blank (b ∷ w) ends none other =
-      let f : FirstToken (token_of Plain (b ∷ w)).kind (tokens_of (b ∷ w)) = remaining-first u most l l (b ∷ w) room rest (omega arith) ends in
+      let f : FirstToken (token_of Plain (b ∷ w)).kind (tokens_of (b ∷ w)) = remaining-first most l l (b ∷ w) room rest (omega arith) ends in
       ap (past_blanks string_in_front) f.is ∙ no_blank_by f.first.sort f.first.bytes f.first.line f.more (token_of Plain (b ∷ w)).kind f.kind (other (omega arith)) ∙ sym (ap string_in_front f.is)
 
   -- behind the word: no string
@@ -195,18 +192,17 @@ module _ (u : List ℕ → Bool) (stage : IsStage u) (most l room : ℕ) (rest :
       → argument_of Include (tokens_of r) ≡ no_argument
   unfolding argument_of past_blanks behind_blanks no_argument
   string_missing r bl ends none gone (Leads some is len) closed =
-      ap (past_blanks string_in_front) (blank_lead u stage most l room rest r bl ends some is len)
+      ap (past_blanks string_in_front) (blank_lead most l room rest r bl ends some is len)
       ∙ ap (behind_blanks (blank_token (take bl r) l)) (lacks_string (drop bl r) (EndsLine-drop bl r rest ends) gone closed)
   string_missing r bl ends none gone (Lacks lacks zero_is) closed =
       let at_zero : IsClosedString r 0 = subst (λ (m : ℕ). IsClosedString (drop m r) 0) zero_is closed in
       lacks_blank r ends none lacks ∙ lacks_string r ends none at_zero
 
-module _ {R : Type 0} (rules : Rules) (unbuilt : List ℕ → Bool) (unread : R → List ℕ) (ws : List Waiting) (os : List Progress) (f : File R) (s : State) where
+module _ {R : Type 0} (rules : Rules) (unread : R → List ℕ) (ws : List Waiting) (os : List Progress) (f : File R) (s : State) where
   -- an `include` without a string on its line is a fault
-  pub include_nameless_left : HoldsFront unbuilt f.buffer → f.buffer.mode ≡ Plain → LacksString (held_of f.buffer) → unbuilt (held_of f.buffer) ≡ false
-      → source_left rules unbuilt unread ws (Live os) f s ≡ leaves (fails (fault_at IncludeName f.buffer.line [] s)) s
+  pub include_nameless_left : HoldsFront f.buffer → f.buffer.mode ≡ Plain → LacksString (held_of f.buffer) → source_left rules unread ws (Live os) f s ≡ leaves (fails (fault_at IncludeName f.buffer.line [] s)) s
   unfolding no_argument
-  include_nameless_left holds mode lacks built =
+  include_nameless_left holds mode lacks =
       let b = f.buffer in
       let held = held_of b in
       let rest = rest_of unread b in
@@ -214,15 +210,15 @@ module _ {R : Type 0} (rules : Rules) (unbuilt : List ℕ → Bool) (unread : R 
       let r = drop n held in
       let ends = ends_line unread b holds.ends in
       let bl = lacks.none.start in
-      let ts = remaining_tokens unbuilt b.line_bytes Plain b.line b.line r b.bytes_left rest in
+      let ts = remaining_tokens b.line_bytes Plain b.line b.line r b.bytes_left rest in
       let line : b.line ≡ b.line + 0 = omega arith in
-      let used : ts ≡ tokens_left unbuilt unread (used_buffer b n 0) =
-      ap (λ (m : ℕ). remaining_tokens unbuilt b.line_bytes Plain b.line m r b.bytes_left rest) line ∙ tokens_used unbuilt unread b n 0 b.line mode in
-      let all : tokens_left unbuilt unread b ≡ word_token Include b.line ∷ ts =
-      word_tokens Include unbuilt unread b include_word holds mode lacks.word built ∙ ap (λ (us : List SourceToken). word_token Include b.line ∷ us) (sym used) in
+      let used : ts ≡ tokens_left unread (used_buffer b n 0) =
+      ap (λ (m : ℕ). remaining_tokens b.line_bytes Plain b.line m r b.bytes_left rest) line ∙ tokens_used unread b n 0 b.line mode in
+      let all : tokens_left unread b ≡ word_token Include b.line ∷ ts =
+      word_tokens Include unread b include_word holds mode lacks.word ∙ ap (λ (us : List SourceToken). word_token Include b.line ∷ us) (sym used) in
       let given : argument_of Include ts ≡ no_argument =
-      string_missing unbuilt holds.stage b.line_bytes b.line b.bytes_left rest r bl (EndsLine-drop n held rest ends)
+      string_missing b.line_bytes b.line b.bytes_left rest r bl (EndsLine-drop n held rest ends)
       (gone_word Include held rest holds.some ends lacks.word) (gone_blanks Include held rest holds.some ends lacks.word bl lacks.none.space)
       lacks.none.space lacks.none.none in
-      refused_move rules unbuilt unread ws f s Include ts (Live os) IncludeName [] all
+      refused_move rules unread ws f s Include ts (Live os) IncludeName [] all
       (include_nameless rules os f.blanks (word_token Include b.line) ts s (word_directive Include b.line include_word) (ap (λ (a : Argument). a.given) given))

@@ -1,6 +1,5 @@
 pub mod FirstBytes
 pub mod DirectiveFacts
-pub mod Stages
 pub mod SourceFacts
 pub mod SourcePassages
 pub mod WrittenTexts

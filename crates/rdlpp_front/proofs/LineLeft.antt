@@ -23,7 +23,6 @@ use Rattle.rdlpp_read.specs.Files.{consumed_file}
 use Rattle.rdlpp_front.specs.Fronts.{IsDirective}
 use Rattle.rdlpp_front.specs.SourceLeft.{HoldsFront, source_left}
 use Rattle.rdlpp_front.proofs.SourceFacts.{ends_line, tokens_plain, tokens_used, used_buffer}
-use Rattle.rdlpp_front.proofs.Stages.{stage_built}
 
 -- the bytes of a `line` with its physical line
 abbrev pub line_text : List ℕ → List ℕ
@@ -34,35 +33,34 @@ pub line_inside : (held : List ℕ) → 0 < length held → (0 < line_len held) 
 line_inside held some = (line_len-some held some, line_len-le held)
 
 -- the tokens at a `line`
-pub line_buffer : {R : Type 0} (u : List ℕ → Bool) (unread : R → List ℕ) (b : BufferView R)
-    → HoldsFront u b → b.mode ≡ Plain → IsDirective Line (held_of b) → u (held_of b) ≡ false
-    → tokens_left u unread b ≡ line_token (line_text (held_of b)) b.line ∷ tokens_left u unread (used_buffer b (line_len (held_of b)) (line_ends (line_text (held_of b))))
-line_buffer u unread b holds mode is built =
+pub line_buffer : {R : Type 0} (unread : R → List ℕ) (b : BufferView R)
+    → HoldsFront b → b.mode ≡ Plain → IsDirective Line (held_of b) → tokens_left unread b ≡ line_token (line_text (held_of b)) b.line ∷ tokens_left unread (used_buffer b (line_len (held_of b)) (line_ends (line_text (held_of b))))
+line_buffer unread b holds mode is =
     let held = held_of b in
     let n = line_len held in
     let other : bytes_eq (take (token_of Plain held).len held) (codes "`define") ≡ false = rw is.word refl in
     let also : bytes_eq (take (token_of Plain held).len held) (codes "`line") ≡ true = rw is.word refl in
-    tokens_plain u unread b mode
-    ∙ remaining-line u b.line_bytes b.line b.line held b.bytes_left (rest_of unread b) holds.some (ends_line unread b holds.ends)
-    (λ _. stage_built u held holds.stage holds.some built) is.kind other also
-    ∙ ap (λ (ts : List SourceToken). line_token (line_text held) b.line ∷ ts) (tokens_used u unread b n (line_ends (line_text held)) b.line mode)
+    tokens_plain unread b mode
+    ∙ remaining-line b.line_bytes b.line b.line held b.bytes_left (rest_of unread b) holds.some (ends_line unread b holds.ends)
+    is.kind other also
+    ∙ ap (λ (ts : List SourceToken). line_token (line_text held) b.line ∷ ts) (tokens_used unread b n (line_ends (line_text held)) b.line mode)
 
-module _ {R : Type 0} (rules : Rules) (unbuilt : List ℕ → Bool) (unread : R → List ℕ) (ws : List Waiting) (os : List Progress) (f : File R) (s : State)
-    (holds : HoldsFront unbuilt f.buffer) (mode : f.buffer.mode ≡ Plain) (is : IsDirective Line (held_of f.buffer)) (built : unbuilt (held_of f.buffer) ≡ false) where
+module _ {R : Type 0} (rules : Rules) (unread : R → List ℕ) (ws : List Waiting) (os : List Progress) (f : File R) (s : State)
+    (holds : HoldsFront f.buffer) (mode : f.buffer.mode ≡ Plain) (is : IsDirective Line (held_of f.buffer)) where
   -- the tokens behind a `line`
   abbrev more : List SourceToken
-  more = tokens_left unbuilt unread (used_buffer f.buffer (line_len (held_of f.buffer)) (line_ends (line_text (held_of f.buffer))))
+  more = tokens_left unread (used_buffer f.buffer (line_len (held_of f.buffer)) (line_ends (line_text (held_of f.buffer))))
 
   -- what remains at a `line`
-  line_here : source_left rules unbuilt unread ws (Live os) f s ≡ all_resumed rules ws (Live os) f.blanks (line_token (line_text (held_of f.buffer)) f.buffer.line ∷ more) s
+  line_here : source_left rules unread ws (Live os) f s ≡ all_resumed rules ws (Live os) f.blanks (line_token (line_text (held_of f.buffer)) f.buffer.line ∷ more) s
   unfolding source_left
-  line_here = ap (λ (ts : List SourceToken). all_resumed rules ws (Live os) f.blanks ts s) (line_buffer unbuilt unread f.buffer holds mode is built)
+  line_here = ap (λ (ts : List SourceToken). all_resumed rules ws (Live os) f.blanks ts s) (line_buffer unread f.buffer holds mode is)
 
   -- a `line` before which only blanks stand, and which gives a number and a name
   pub renumbered_left : (r : Renumbered) → f.blanks ≡ true → renumbered (drop 5 (line_text (held_of f.buffer))) ≡ Some r
-      → source_left rules unbuilt unread ws (Live os) f s
+      → source_left rules unread ws (Live os) f s
       ≡ behind_bytes (line_ends_of (line_text (held_of f.buffer)) ++ origin_line rules r.name r.number)
-      (source_left rules unbuilt unread ws (Live os) (consumed_file (line_len (held_of f.buffer)) (line_ends (line_text (held_of f.buffer))) f) (renumbered_state s r f.buffer.line))
+      (source_left rules unread ws (Live os) (consumed_file (line_len (held_of f.buffer)) (line_ends (line_text (held_of f.buffer))) f) (renumbered_state s r f.buffer.line))
   unfolding source_left
   renumbered_left r first e =
       let w = line_text (held_of f.buffer) in
@@ -76,7 +74,7 @@ module _ {R : Type 0} (rules : Rules) (unbuilt : List ℕ → Bool) (unread : R 
 
   -- a `line` that gives none is a fault
   pub bad_line_left : renumbered (drop 5 (line_text (held_of f.buffer))) ≡ None
-      → source_left rules unbuilt unread ws (Live os) f s ≡ leaves (fails (fault_at BadLine f.buffer.line [] s)) s
+      → source_left rules unread ws (Live os) f s ≡ leaves (fails (fault_at BadLine f.buffer.line [] s)) s
   bad_line_left e =
       let w = line_text (held_of f.buffer) in
       line_here
@@ -85,7 +83,7 @@ module _ {R : Type 0} (rules : Rules) (unbuilt : List ℕ → Bool) (unread : R 
 
   -- and so is one behind anything but blanks
   pub late_line_left : f.blanks ≡ false
-      → source_left rules unbuilt unread ws (Live os) f s ≡ leaves (fails (fault_at BadLine f.buffer.line [] s)) s
+      → source_left rules unread ws (Live os) f s ≡ leaves (fails (fault_at BadLine f.buffer.line [] s)) s
   late_line_left late =
       let w = line_text (held_of f.buffer) in
       line_here

@@ -29,7 +29,7 @@ use Rattle.rdlpp_meaning.proofs.Undefining.{blank_token, name_token, takes_name,
 use Rattle.rdlpp_read.specs.Arguments.{IsLead, Leads, Lacks}
 use Rattle.rdlpp_read.specs.Buffer.{BufferView, held_of, rest_of, tokens_left}
 use Rattle.rdlpp_front.specs.Fronts.{HasName, IsDirective, LacksName, argument_name, word_of}
-use Rattle.rdlpp_front.specs.SourceLeft.{HoldsFront, IsStage}
+use Rattle.rdlpp_front.specs.SourceLeft.{HoldsFront}
 use Rattle.rdlpp_front.proofs.DirectiveFacts.{word_len}
 use Rattle.rdlpp_front.proofs.SourceFacts.{ends_line, tokens_used, used_buffer}
 use Rattle.rdlpp_front.proofs.UsageLeft.{back_tokens}
@@ -84,16 +84,15 @@ word_line_ends Include = refl
 word_line_ends Line = refl
 
 -- the tokens at a directive whose word is a token
-pub word_tokens : {R : Type 0} (d : Directive) (u : List ℕ → Bool) (unread : R → List ℕ) (b : BufferView R) → has_own_token d ≡ false
-    → HoldsFront u b → b.mode ≡ Plain → IsDirective d (held_of b) → u (held_of b) ≡ false
-    → tokens_left u unread b ≡ word_token d b.line ∷ tokens_left u unread (used_buffer b (length (word_of d)) 0)
-word_tokens d u unread b word holds mode is built =
+pub word_tokens : {R : Type 0} (d : Directive) (unread : R → List ℕ) (b : BufferView R) → has_own_token d ≡ false
+    → HoldsFront b → b.mode ≡ Plain → IsDirective d (held_of b) → tokens_left unread b ≡ word_token d b.line ∷ tokens_left unread (used_buffer b (length (word_of d)) 0)
+word_tokens d unread b word holds mode is =
     let held = held_of b in
     let len = (token_of Plain held).len in
     let alone = word_alone d word in
-    back_tokens u unread b holds mode built is.kind (rw is.word alone.other) (rw is.word alone.also)
-    ∙ ap (λ (xs : List ℕ). record { sort = Ordinary Back; bytes = xs; line = b.line } ∷ tokens_left u unread (used_buffer b len 0)) is.word
-    ∙ ap (λ (n : ℕ). word_token d b.line ∷ tokens_left u unread (used_buffer b n 0)) (word_len d held holds.some is)
+    back_tokens unread b holds mode is.kind (rw is.word alone.other) (rw is.word alone.also)
+    ∙ ap (λ (xs : List ℕ). record { sort = Ordinary Back; bytes = xs; line = b.line } ∷ tokens_left unread (used_buffer b len 0)) is.word
+    ∙ ap (λ (n : ℕ). word_token d b.line ∷ tokens_left unread (used_buffer b n 0)) (word_len d held holds.some is)
 
 -- a token of such a kind isn't a name
 no_name_by : (sort : Sort) (bytes : List ℕ) (line : ℕ) (ts : List SourceToken) → (k : Kind) → (sort ≡ Ordinary k) ⊎ (is_ordinary (record { sort = sort; bytes = bytes; line = line }) ≡ false) → (k ≡ Name → ⊥)
@@ -137,10 +136,10 @@ given_of d ts name text behind used e h = record {
   rest = ap (λ (a : Argument). drop a.used ts) e ∙ h;
 }
 
-module _ (u : List ℕ → Bool) (stage : IsStage u) (most l room : ℕ) (rest : List ℕ) where
+module _ (most l room : ℕ) (rest : List ℕ) where
   -- the tokens of what is held and behind it, on the line of the directive
   abbrev tokens_of : List ℕ → List SourceToken
-  tokens_of z = remaining_tokens u most Plain l l z room rest
+  tokens_of z = remaining_tokens most Plain l l z room rest
 
   -- blanks or a name in front
   lead_tokens : (z : List ℕ) (k : Kind) (n : ℕ) → EndsLine z rest → 0 < length z → (token_of Plain z).kind ≡ k → n ≡ (token_of Plain z).len
@@ -148,10 +147,9 @@ module _ (u : List ℕ → Bool) (stage : IsStage u) (most l room : ℕ) (rest :
       → tokens_of z ≡ record { sort = Ordinary k; bytes = take n z; line = l } ∷ tokens_of (drop n z)
   lead_tokens z k n ends some is len plain kept closed none =
       let t = token_of Plain z in
-      let built : u z ≡ false = stage.spares z (plain_kind-no_directive z (ap is_plain_kind is ∙ plain)) in
       let line : l + line_ends (take t.len z) ≡ l = omega (arith, none) in
-      remaining-closed u most Plain l l z room rest some ends (λ _ more e. stage.by_lines z more some e ∙ built) (ap is_kept_kind is ∙ kept) closed
-      ∙ ap (λ (m : ℕ). record { sort = Ordinary t.kind; bytes = take t.len z; line = l } ∷ remaining_tokens u most Plain l m (drop t.len z) room rest) line
+      remaining-closed most Plain l l z room rest some ends (ap is_kept_kind is ∙ kept) closed
+      ∙ ap (λ (m : ℕ). record { sort = Ordinary t.kind; bytes = take t.len z; line = l } ∷ remaining_tokens most Plain l m (drop t.len z) room rest) line
       ∙ ap (λ (m : Kind). record { sort = Ordinary m; bytes = take t.len z; line = l } ∷ tokens_of (drop t.len z)) is
       ∙ ap (λ (m : ℕ). record { sort = Ordinary k; bytes = take m z; line = l } ∷ tokens_of (drop m z)) (sym len)
 
@@ -167,21 +165,21 @@ module _ (u : List ℕ → Bool) (stage : IsStage u) (most l room : ℕ) (rest :
 
   -- where nothing is held
   pub nothing_tokens : rest ≡ [] → tokens_of [] ≡ []
-  nothing_tokens none = ap (λ (r : List ℕ). remaining_tokens u most Plain l l [] room r) none ∙ remaining-end u most l l room
+  nothing_tokens none = ap (λ (r : List ℕ). remaining_tokens most Plain l l [] room r) none ∙ remaining-end most l l room
 
   -- no name in front
   lacks_name : (z : List ℕ) → EndsLine z rest → (z ≡ [] → rest ≡ []) → (0 < length z → (token_of Plain z).kind ≡ Name → ⊥) → name_in_front (tokens_of z) ≡ no_argument
   unfolding name_in_front
   lacks_name [] ends none other = ap name_in_front (nothing_tokens (none refl))
   lacks_name (b ∷ w) ends none other =
-      no_name (token_of Plain (b ∷ w)).kind (tokens_of (b ∷ w)) (remaining-first u most l l (b ∷ w) room rest (omega arith) ends) (other (omega arith))
+      no_name (token_of Plain (b ∷ w)).kind (tokens_of (b ∷ w)) (remaining-first most l l (b ∷ w) room rest (omega arith) ends) (other (omega arith))
 
   -- no blanks in front
   lacks_blank : (z : List ℕ) → EndsLine z rest → (z ≡ [] → rest ≡ []) → (0 < length z → (token_of Plain z).kind ≡ Blank → ⊥) → past_blanks name_in_front (tokens_of z) ≡ name_in_front (tokens_of z)
   unfolding name_in_front past_blanks
   lacks_blank [] ends none other = let e = nothing_tokens (none refl) in ap (past_blanks name_in_front) e ∙ sym (ap name_in_front e)
   lacks_blank (b ∷ w) ends none other =
-      no_blank (token_of Plain (b ∷ w)).kind (tokens_of (b ∷ w)) (remaining-first u most l l (b ∷ w) room rest (omega arith) ends) (other (omega arith))
+      no_blank (token_of Plain (b ∷ w)).kind (tokens_of (b ∷ w)) (remaining-first most l l (b ∷ w) room rest (omega arith) ends) (other (omega arith))
 
   -- behind the word: blanks, and then a name
   behind_given : (d : Directive) → wants_name d ≡ true → (r : List ℕ) (bl n : ℕ) → EndsLine r rest → (r ≡ [] → rest ≡ []) → IsLead Blank r bl
@@ -260,41 +258,41 @@ module _ (d : Directive) (held rest : List ℕ) (some : 0 < length held) (ends :
       ended_behind held rest (n + bl) some ends none (sym (drop-drop bl n held) ∙ gone)
 
 -- a directive with what it is given in front: the tokens behind its word, what it takes of them, and what remains behind that
-pub record NameInFront {R : Type 0} (d : Directive) (u : List ℕ → Bool) (unread : R → List ℕ) (b : BufferView R) (start stop : ℕ) : Type 0 where
+pub record NameInFront {R : Type 0} (d : Directive) (unread : R → List ℕ) (b : BufferView R) (start stop : ℕ) : Type 0 where
   pub tokens : List SourceToken
-  pub all : tokens_left u unread b ≡ word_token d b.line ∷ tokens
+  pub all : tokens_left unread b ≡ word_token d b.line ∷ tokens
   pub given : (argument_of d tokens).given ≡ Some (argument_name (held_of b) start stop)
   pub text : word_of d ++ (argument_of d tokens).text ≡ take stop (held_of b)
-  pub behind : behind_directive d tokens ≡ tokens_left u unread (used_buffer b stop 0)
+  pub behind : behind_directive d tokens ≡ tokens_left unread (used_buffer b stop 0)
 
 -- a directive without a name in front
-pub record NoNameInFront {R : Type 0} (d : Directive) (u : List ℕ → Bool) (unread : R → List ℕ) (b : BufferView R) : Type 0 where
+pub record NoNameInFront {R : Type 0} (d : Directive) (unread : R → List ℕ) (b : BufferView R) : Type 0 where
   pub tokens : List SourceToken
-  pub all : tokens_left u unread b ≡ word_token d b.line ∷ tokens
+  pub all : tokens_left unread b ≡ word_token d b.line ∷ tokens
   pub none : argument_of d tokens ≡ no_argument
-  pub behind : tokens ≡ tokens_left u unread (used_buffer b (length (word_of d)) 0)
+  pub behind : tokens ≡ tokens_left unread (used_buffer b (length (word_of d)) 0)
 
-module _ {R : Type 0} (d : Directive) (u : List ℕ → Bool) (unread : R → List ℕ) (b : BufferView R) (wants : wants_name d ≡ true)
-    (holds : HoldsFront u b) (mode : b.mode ≡ Plain) (built : u (held_of b) ≡ false) where
+module _ {R : Type 0} (d : Directive) (unread : R → List ℕ) (b : BufferView R) (wants : wants_name d ≡ true)
+    (holds : HoldsFront b) (mode : b.mode ≡ Plain) where
   -- the tokens behind a place, on the line of the directive
   abbrev tokens_at : ℕ → List SourceToken
-  tokens_at n = remaining_tokens u b.line_bytes Plain b.line b.line (drop n (held_of b)) b.bytes_left (rest_of unread b)
+  tokens_at n = remaining_tokens b.line_bytes Plain b.line b.line (drop n (held_of b)) b.bytes_left (rest_of unread b)
 
   -- they are those that remain where so many bytes are used
-  at_used : (n : ℕ) → tokens_at n ≡ tokens_left u unread (used_buffer b n 0)
+  at_used : (n : ℕ) → tokens_at n ≡ tokens_left unread (used_buffer b n 0)
   at_used n =
       let line : b.line ≡ b.line + 0 = omega arith in
-      ap (λ (k : ℕ). remaining_tokens u b.line_bytes Plain b.line k (drop n (held_of b)) b.bytes_left (rest_of unread b)) line
-      ∙ tokens_used u unread b n 0 b.line mode
+      ap (λ (k : ℕ). remaining_tokens b.line_bytes Plain b.line k (drop n (held_of b)) b.bytes_left (rest_of unread b)) line
+      ∙ tokens_used unread b n 0 b.line mode
 
   -- the word in front
-  at_word : IsDirective d (held_of b) → tokens_left u unread b ≡ word_token d b.line ∷ tokens_at (length (word_of d))
+  at_word : IsDirective d (held_of b) → tokens_left unread b ≡ word_token d b.line ∷ tokens_at (length (word_of d))
   at_word is =
-      word_tokens d u unread b (wants_word d wants) holds mode is built
+      word_tokens d unread b (wants_word d wants) holds mode is
       ∙ ap (λ (ts : List SourceToken). word_token d b.line ∷ ts) (sym (at_used (length (word_of d))))
 
   -- a directive with its name
-  pub name_in_front_of : (start stop : ℕ) → HasName d (held_of b) start stop → NameInFront d u unread b start stop
+  pub name_in_front_of : (start stop : ℕ) → HasName d (held_of b) start stop → NameInFront d unread b start stop
   name_in_front_of start stop has =
       let held = held_of b in
       let rest = rest_of unread b in
@@ -308,7 +306,7 @@ module _ {R : Type 0} (d : Directive) (u : List ℕ → Bool) (unread : R → Li
       let stops = has.name.stops in
       let some_name : 0 < k = omega (arith, g.some) in
       let lead = lead_name (drop bl r) k g.name some_name in
-      let a = behind_given u holds.stage b.line_bytes b.line b.bytes_left rest d wants r bl k (EndsLine-drop n held rest ends)
+      let a = behind_given b.line_bytes b.line b.bytes_left rest d wants r bl k (EndsLine-drop n held rest ends)
       (gone_word d held rest holds.some ends has.word) g.space lead.0 lead.1 lead.2 in
       let at : drop bl r ≡ drop start held = drop-drop bl n held ∙ ap (λ (i : ℕ). drop i held) (sym starts) in
       let size : k ≡ stop - start = omega (arith, g.some) in
@@ -325,13 +323,13 @@ module _ {R : Type 0} (d : Directive) (u : List ℕ → Bool) (unread : R → Li
         text = ap (λ (z : List ℕ). word_of d ++ z) (a.taken ∙ taken) ∙ whole;
         behind =
             a.rest
-            ∙ ap (λ (z : List ℕ). remaining_tokens u b.line_bytes Plain b.line b.line z b.bytes_left rest)
+            ∙ ap (λ (z : List ℕ). remaining_tokens b.line_bytes Plain b.line b.line z b.bytes_left rest)
             (ap (drop k) at ∙ drop-drop k start held ∙ ap (λ (i : ℕ). drop i held) end)
             ∙ at_used stop;
       }
 
   -- a directive without one
-  pub no_name_in_front_of : LacksName d (held_of b) → NoNameInFront d u unread b
+  pub no_name_in_front_of : LacksName d (held_of b) → NoNameInFront d unread b
   no_name_in_front_of lacks =
       let held = held_of b in
       let rest = rest_of unread b in
@@ -342,18 +340,18 @@ module _ {R : Type 0} (d : Directive) (u : List ℕ → Bool) (unread : R → Li
         tokens = tokens_at n;
         all = at_word lacks.word;
         none =
-            behind_missing u holds.stage b.line_bytes b.line b.bytes_left rest d wants r lacks.none.start (EndsLine-drop n held rest ends)
+            behind_missing b.line_bytes b.line b.bytes_left rest d wants r lacks.none.start (EndsLine-drop n held rest ends)
             (gone_word d held rest holds.some ends lacks.word) (gone_blanks d held rest holds.some ends lacks.word lacks.none.start lacks.none.space)
             lacks.none.space (lead_none (drop lacks.none.start r) 0 lacks.none.none refl);
         behind = at_used n;
       }
 
 -- what remains behind a directive and what it is given
-pub behind_name : {R : Type 0} (d : Directive) (u : List ℕ → Bool) (unread : R → List ℕ) (b : BufferView R) (rules : Rules) (ws : List Waiting) (place : Place) (first : Bool) (s : State)
-    (start stop : ℕ) (i : NameInFront d u unread b start stop)
+pub behind_name : {R : Type 0} (d : Directive) (unread : R → List ℕ) (b : BufferView R) (rules : Rules) (ws : List Waiting) (place : Place) (first : Bool) (s : State)
+    (start stop : ℕ) (i : NameInFront d unread b start stop)
     → all_resumed rules ws place (only_blanks first (command_in_front d first (word_token d b.line) i.tokens).text) (behind_directive d i.tokens) s
-    ≡ all_resumed rules ws place (only_blanks first (take stop (held_of b))) (tokens_left u unread (used_buffer b stop 0)) s
+    ≡ all_resumed rules ws place (only_blanks first (take stop (held_of b))) (tokens_left unread (used_buffer b stop 0)) s
 unfolding command_of
-behind_name d u unread b rules ws place first s start stop i =
+behind_name d unread b rules ws place first s start stop i =
     ap (λ (z : List ℕ). all_resumed rules ws place (only_blanks first z) (behind_directive d i.tokens) s) i.text
     ∙ ap (λ (ts : List SourceToken). all_resumed rules ws place (only_blanks first (take stop (held_of b))) ts s) i.behind

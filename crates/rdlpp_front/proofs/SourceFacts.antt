@@ -30,27 +30,27 @@ unfolding held_of entered_mode
 held_entered b next = refl
 
 -- the tokens in plain text, wherever something opened before
-pub tokens_plain : {R : Type 0} (u : List ℕ → Bool) (unread : R → List ℕ) (b : BufferView R) → b.mode ≡ Plain
-    → tokens_left u unread b ≡ remaining_tokens u b.line_bytes Plain b.line b.line (held_of b) b.bytes_left (rest_of unread b)
+pub tokens_plain : {R : Type 0} (unread : R → List ℕ) (b : BufferView R) → b.mode ≡ Plain
+    → tokens_left unread b ≡ remaining_tokens b.line_bytes Plain b.line b.line (held_of b) b.bytes_left (rest_of unread b)
 unfolding tokens_left
-tokens_plain u unread b mode =
-    ap (λ (m : Mode). remaining_tokens u b.line_bytes m b.open_token_line b.line (held_of b) b.bytes_left (rest_of unread b)) mode
-    ∙ remaining-opened u b.line_bytes b.open_token_line b.line b.line (held_of b) b.bytes_left (rest_of unread b)
+tokens_plain unread b mode =
+    ap (λ (m : Mode). remaining_tokens b.line_bytes m b.open_token_line b.line (held_of b) b.bytes_left (rest_of unread b)) mode
+    ∙ remaining-opened b.line_bytes b.open_token_line b.line b.line (held_of b) b.bytes_left (rest_of unread b)
 
 -- the tokens behind bytes that are used
-pub tokens_used : {R : Type 0} (u : List ℕ → Bool) (unread : R → List ℕ) (b : BufferView R) (n l o : ℕ) → b.mode ≡ Plain
-    → remaining_tokens u b.line_bytes Plain o (b.line + l) (drop n (held_of b)) b.bytes_left (rest_of unread b) ≡ tokens_left u unread (used_buffer b n l)
+pub tokens_used : {R : Type 0} (unread : R → List ℕ) (b : BufferView R) (n l o : ℕ) → b.mode ≡ Plain
+    → remaining_tokens b.line_bytes Plain o (b.line + l) (drop n (held_of b)) b.bytes_left (rest_of unread b) ≡ tokens_left unread (used_buffer b n l)
 unfolding rest_of ahead_of
-tokens_used u unread b n l o mode =
-    remaining-opened u b.line_bytes o (b.line + l) (b.line + l) (drop n (held_of b)) b.bytes_left (rest_of unread b)
-    ∙ ap (λ (held : List ℕ). remaining_tokens u b.line_bytes Plain (b.line + l) (b.line + l) held b.bytes_left (rest_of unread b)) (sym (held_used b n l))
-    ∙ sym (tokens_plain u unread (used_buffer b n l) mode)
+tokens_used unread b n l o mode =
+    remaining-opened b.line_bytes o (b.line + l) (b.line + l) (drop n (held_of b)) b.bytes_left (rest_of unread b)
+    ∙ ap (λ (held : List ℕ). remaining_tokens b.line_bytes Plain (b.line + l) (b.line + l) held b.bytes_left (rest_of unread b)) (sym (held_used b n l))
+    ∙ sym (tokens_plain unread (used_buffer b n l) mode)
 
 -- the tokens behind bytes that are used, in the mode that stands there
-pub tokens_entered : {R : Type 0} (u : List ℕ → Bool) (unread : R → List ℕ) (b : BufferView R) (n l : ℕ) (next : Mode)
-    → remaining_tokens u b.line_bytes next (opening b.mode b.open_token_line b.line) (b.line + l) (drop n (held_of b)) b.bytes_left (rest_of unread b)
-    ≡ tokens_left u unread (used_buffer (entered_mode b next) n l)
+pub tokens_entered : {R : Type 0} (unread : R → List ℕ) (b : BufferView R) (n l : ℕ) (next : Mode)
+    → remaining_tokens b.line_bytes next (opening b.mode b.open_token_line b.line) (b.line + l) (drop n (held_of b)) b.bytes_left (rest_of unread b)
+    ≡ tokens_left unread (used_buffer (entered_mode b next) n l)
 unfolding tokens_left entered_mode rest_of ahead_of
-tokens_entered u unread b n l next =
-    ap (λ (held : List ℕ). remaining_tokens u b.line_bytes next (opening b.mode b.open_token_line b.line) (b.line + l) held b.bytes_left (rest_of unread b))
+tokens_entered unread b n l next =
+    ap (λ (held : List ℕ). remaining_tokens b.line_bytes next (opening b.mode b.open_token_line b.line) (b.line + l) held b.bytes_left (rest_of unread b))
     (sym (held_used (entered_mode b next) n l ∙ ap (drop n) (held_entered b next)))

@@ -7,10 +7,10 @@ use Rattle.std.proofs.lemmas.Bool.{or_parts}
 use Rattle.rdlpp_scan.specs.declared.token.Kind.TheVariants.{Back}
 use Rattle.rdlpp_scan.specs.declared.token.Mode.TheVariants.{Plain}
 use Rattle.rdlpp_scan.specs.SourceTokens.{SourceToken, Ordinary, remaining_tokens}
-use Rattle.rdlpp_scan.specs.Stage.{is_reserved, reserved_names}
+use Rattle.rdlpp_scan.specs.Reserved.{is_reserved, reserved_names}
 use Rattle.rdlpp_scan.specs.Tokens.{token_of}
 use Rattle.rdlpp_scan.proofs.RemainingLaws.{remaining-back}
-use Rattle.rdlpp_scan.proofs.StageLaws.{directive-back, front_name}
+use Rattle.rdlpp_scan.proofs.DirectiveStarts.{directive-back, front_name}
 use Rattle.rdlpp_table.specs.Table.{Macro, macro_named}
 use Rattle.rdlpp_meaning.specs.declared.fault.FaultKind.TheVariants.{UndefinedMacro, Unbuilt}
 use Rattle.rdlpp_meaning.specs.Outcome.{fails}
@@ -26,31 +26,30 @@ use Rattle.rdlpp_read.specs.declared.files.File.{File}
 use Rattle.rdlpp_read.specs.Buffer.{BufferView, held_of, rest_of, tokens_left}
 use Rattle.rdlpp_read.specs.Files.{consumed_file}
 use Rattle.rdlpp_front.specs.Fronts.{IsUsage, usage_name}
-use Rattle.rdlpp_front.specs.SourceLeft.{HoldsFront, IsStage, source_left}
+use Rattle.rdlpp_front.specs.SourceLeft.{HoldsFront, source_left}
 use Rattle.rdlpp_front.proofs.FirstBytes.{back_front, back_text}
 use Rattle.rdlpp_front.proofs.SourceFacts.{ends_line, tokens_plain, tokens_used, used_buffer}
 use Rattle.rdlpp_front.proofs.SourcePassages.{all_resumed_copied_body, all_resumed_unbuilt, all_resumed_undefined}
-use Rattle.rdlpp_front.proofs.Stages.{stage_built}
 
 -- the tokens at a backquote with a name that is neither `define` nor `line`
-pub back_tokens : {R : Type 0} (u : List ℕ → Bool) (unread : R → List ℕ) (b : BufferView R)
-    → HoldsFront u b → b.mode ≡ Plain → u (held_of b) ≡ false → (token_of Plain (held_of b)).kind ≡ Back
+pub back_tokens : {R : Type 0} (unread : R → List ℕ) (b : BufferView R)
+    → HoldsFront b → b.mode ≡ Plain → (token_of Plain (held_of b)).kind ≡ Back
     → bytes_eq (take (token_of Plain (held_of b)).len (held_of b)) (codes "`define") ≡ false
     → bytes_eq (take (token_of Plain (held_of b)).len (held_of b)) (codes "`line") ≡ false
-    → tokens_left u unread b
+    → tokens_left unread b
     ≡ record { sort = Ordinary Back; bytes = take (token_of Plain (held_of b)).len (held_of b); line = b.line }
-    ∷ tokens_left u unread (used_buffer b (token_of Plain (held_of b)).len 0)
-back_tokens u unread b holds mode built kind other also =
+    ∷ tokens_left unread (used_buffer b (token_of Plain (held_of b)).len 0)
+back_tokens unread b holds mode kind other also =
     let held = held_of b in
     let rest = rest_of unread b in
     let len = (token_of Plain held).len in
     let line : b.line ≡ b.line + 0 = omega arith in
-    let behind : remaining_tokens u b.line_bytes Plain b.line b.line (drop len held) b.bytes_left rest ≡ tokens_left u unread (used_buffer b len 0) =
-    ap (λ (k : ℕ). remaining_tokens u b.line_bytes Plain b.line k (drop len held) b.bytes_left rest) line
-    ∙ tokens_used u unread b len 0 b.line mode in
-    tokens_plain u unread b mode
-    ∙ remaining-back u b.line_bytes b.line b.line held b.bytes_left rest holds.some (ends_line unread b holds.ends)
-    (stage_built u held holds.stage holds.some built) kind other also
+    let behind : remaining_tokens b.line_bytes Plain b.line b.line (drop len held) b.bytes_left rest ≡ tokens_left unread (used_buffer b len 0) =
+    ap (λ (k : ℕ). remaining_tokens b.line_bytes Plain b.line k (drop len held) b.bytes_left rest) line
+    ∙ tokens_used unread b len 0 b.line mode in
+    tokens_plain unread b mode
+    ∙ remaining-back b.line_bytes b.line b.line held b.bytes_left rest holds.some (ends_line unread b holds.ends)
+    kind other also
     ∙ ap (λ (ts : List SourceToken). record { sort = Ordinary Back; bytes = take len held; line = b.line } ∷ ts) behind
 
 -- a name that is none of some words is none of each
@@ -81,70 +80,64 @@ usage_text held len usage =
     subst (λ (k : ℕ). take k held ≡ 96 ∷ take (k - 1) (drop 1 held)) (sym usage.whole)
     (back_text held (back_front held usage.kind) usage.kind)
 
--- a usage begins no directive, and is built
-usage_built : (u : List ℕ → Bool) (held : List ℕ) (len : ℕ) → IsStage u → IsUsage held len → u held ≡ false
-usage_built u held len stage usage =
-    let front : front_name held ≡ usage_name held len = ap (λ (k : ℕ). take (k - 1) (drop 1 held)) (sym usage.whole) in
-    stage.spares held (directive-back held usage.kind ∙ ap is_reserved front ∙ usage.free)
-
 -- the tokens at a usage
-usage_buffer : {R : Type 0} (u : List ℕ → Bool) (unread : R → List ℕ) (b : BufferView R) (len : ℕ)
-    → HoldsFront u b → b.mode ≡ Plain → IsUsage (held_of b) len
-    → tokens_left u unread b ≡ usage_token (usage_name (held_of b) len) b.line ∷ tokens_left u unread (used_buffer b len 0)
-usage_buffer u unread b len holds mode usage =
+usage_buffer : {R : Type 0} (unread : R → List ℕ) (b : BufferView R) (len : ℕ)
+    → HoldsFront b → b.mode ≡ Plain → IsUsage (held_of b) len
+    → tokens_left unread b ≡ usage_token (usage_name (held_of b) len) b.line ∷ tokens_left unread (used_buffer b len 0)
+usage_buffer unread b len holds mode usage =
     let held = held_of b in
     let k = (token_of Plain held).len in
     let name = usage_name held len in
     let text : take k held ≡ 96 ∷ name = ap (λ (i : ℕ). take i held) (sym usage.whole) ∙ usage_text held len usage in
     let other : bytes_eq (take k held) (codes "`define") ≡ false = rw text (not_define name usage.free) in
     let also : bytes_eq (take k held) (codes "`line") ≡ false = rw text (not_line name usage.free) in
-    back_tokens u unread b holds mode (usage_built u held len holds.stage usage) usage.kind other also
-    ∙ ap (λ (xs : List ℕ). record { sort = Ordinary Back; bytes = xs; line = b.line } ∷ tokens_left u unread (used_buffer b k 0)) text
-    ∙ ap (λ (i : ℕ). usage_token name b.line ∷ tokens_left u unread (used_buffer b i 0)) (sym usage.whole)
+    back_tokens unread b holds mode usage.kind other also
+    ∙ ap (λ (xs : List ℕ). record { sort = Ordinary Back; bytes = xs; line = b.line } ∷ tokens_left unread (used_buffer b k 0)) text
+    ∙ ap (λ (i : ℕ). usage_token name b.line ∷ tokens_left unread (used_buffer b i 0)) (sym usage.whole)
 
-module _ {R : Type 0} (unbuilt : List ℕ → Bool) (unread : R → List ℕ) (f : File R) (len : ℕ) where
+module _ {R : Type 0} (unread : R → List ℕ) (f : File R) (len : ℕ) where
   -- the tokens at a usage, and behind it
-  pub usage_tokens : HoldsFront unbuilt f.buffer → f.buffer.mode ≡ Plain → IsUsage (held_of f.buffer) len
-      → tokens_left unbuilt unread f.buffer
-      ≡ usage_token (usage_name (held_of f.buffer) len) f.buffer.line ∷ tokens_left unbuilt unread (consumed_file len 0 f).buffer
-  usage_tokens holds mode usage = usage_buffer unbuilt unread f.buffer len holds mode usage
+  pub usage_tokens : HoldsFront f.buffer → f.buffer.mode ≡ Plain → IsUsage (held_of f.buffer) len
+      → tokens_left unread f.buffer
+      ≡ usage_token (usage_name (held_of f.buffer) len) f.buffer.line ∷ tokens_left unread (consumed_file len 0 f).buffer
+  usage_tokens holds mode usage = usage_buffer unread f.buffer len holds mode usage
 
-module _ {R : Type 0} (rules : Rules) (unbuilt : List ℕ → Bool) (unread : R → List ℕ) (ws : List Waiting) (os : List Progress) (f : File R) (s : State) where
+module _ {R : Type 0} (rules : Rules) (unread : R → List ℕ) (ws : List Waiting) (os : List Progress) (f : File R) (s : State) where
   -- what remains at a usage is what the run gives for its token in front of the tokens behind it
-  pub usage_left : (len : ℕ) → HoldsFront unbuilt f.buffer → f.buffer.mode ≡ Plain → IsUsage (held_of f.buffer) len
-      → source_left rules unbuilt unread ws (Live os) f s
-      ≡ all_resumed rules ws (Live os) f.blanks (usage_token (usage_name (held_of f.buffer) len) f.buffer.line ∷ tokens_left unbuilt unread (consumed_file len 0 f).buffer) s
+  pub usage_left : (len : ℕ) → HoldsFront f.buffer → f.buffer.mode ≡ Plain → IsUsage (held_of f.buffer) len
+      → source_left rules unread ws (Live os) f s
+      ≡ all_resumed rules ws (Live os) f.blanks (usage_token (usage_name (held_of f.buffer) len) f.buffer.line ∷ tokens_left unread (consumed_file len 0 f).buffer) s
   unfolding source_left
   usage_left len holds mode usage =
-      ap (λ (ts : List SourceToken). all_resumed rules ws (Live os) f.blanks ts s) (usage_tokens unbuilt unread f len holds mode usage)
+      ap (λ (ts : List SourceToken). all_resumed rules ws (Live os) f.blanks ts s) (usage_tokens unread f len holds mode usage)
 
   -- a usage of a name that isn't defined is a fault
-  pub undefined_left : (len : ℕ) → HoldsFront unbuilt f.buffer → f.buffer.mode ≡ Plain → IsUsage (held_of f.buffer) len
+  pub undefined_left : (len : ℕ) → HoldsFront f.buffer → f.buffer.mode ≡ Plain → IsUsage (held_of f.buffer) len
       → macro_named s.macros (usage_name (held_of f.buffer) len) ≡ None
-      → source_left rules unbuilt unread ws (Live os) f s
+      → source_left rules unread ws (Live os) f s
       ≡ leaves (fails (fault_at UndefinedMacro f.buffer.line (usage_name (held_of f.buffer) len) s)) s
   undefined_left len holds mode usage none =
       usage_left len holds mode usage
-      ∙ all_resumed_undefined rules ws os f.blanks (usage_name (held_of f.buffer) len) f.buffer.line (tokens_left unbuilt unread (consumed_file len 0 f).buffer) s usage.free none
+      ∙ all_resumed_undefined rules ws os f.blanks (usage_name (held_of f.buffer) len) f.buffer.line (tokens_left unread (consumed_file len 0 f).buffer) s usage.free none
 
   -- a usage of a macro that isn't built is a fault
-  pub unbuilt_left : (len : ℕ) (m : Macro) → HoldsFront unbuilt f.buffer → f.buffer.mode ≡ Plain → IsUsage (held_of f.buffer) len
+  pub unbuilt_left : (len : ℕ) (m : Macro) → HoldsFront f.buffer → f.buffer.mode ≡ Plain → IsUsage (held_of f.buffer) len
       → macro_named s.macros (usage_name (held_of f.buffer) len) ≡ Some m → rules.unbuilt_macro m ≡ true
-      → source_left rules unbuilt unread ws (Live os) f s ≡ leaves (fails (fault_at Unbuilt f.buffer.line [] s)) s
+      → source_left rules unread ws (Live os) f s ≡ leaves (fails (fault_at Unbuilt f.buffer.line [] s)) s
   unbuilt_left len m holds mode usage named is =
       usage_left len holds mode usage
-      ∙ all_resumed_unbuilt rules ws os f.blanks (usage_name (held_of f.buffer) len) f.buffer.line (tokens_left unbuilt unread (consumed_file len 0 f).buffer) s m usage.free named is
+      ∙ all_resumed_unbuilt rules ws os f.blanks (usage_name (held_of f.buffer) len) f.buffer.line (tokens_left unread (consumed_file len 0 f).buffer) s m usage.free named is
 
   -- a usage of a macro that is built at this stage of the project gives its body
-  pub body_left : (len : ℕ) (m : Macro) → HoldsFront unbuilt f.buffer → f.buffer.mode ≡ Plain → IsUsage (held_of f.buffer) len
+  pub body_left : (len : ℕ) (m : Macro) → HoldsFront f.buffer → f.buffer.mode ≡ Plain → IsUsage (held_of f.buffer) len
       → macro_named s.macros (usage_name (held_of f.buffer) len) ≡ Some m
       → rules.unbuilt_macro m ≡ is_unbuilt_macro m → is_unbuilt_macro m ≡ false → 0 < rules.depth
-      → source_left rules unbuilt unread ws (Live os) f s
-      ≡ behind_bytes m.body (source_left rules unbuilt unread ws (Live os) (consumed_file len 0 f) s)
+      → source_left rules unread ws (Live os) f s
+      ≡ behind_bytes m.body (source_left rules unread ws (Live os) (consumed_file len 0 f) s)
   unfolding source_left
   body_left len m holds mode usage named same built depth =
       let name = usage_name (held_of f.buffer) len in
-      let more = tokens_left unbuilt unread (consumed_file len 0 f).buffer in
+      let more = tokens_left unread (consumed_file len 0 f).buffer in
       usage_left len holds mode usage
       ∙ all_resumed_copied_body rules ws os f.blanks name f.buffer.line more s m depth usage.free named (same ∙ built) (built_formals m built) (built_body m built)
       ∙ ap (λ (xs : List ℕ). behind_bytes m.body (all_resumed rules ws (Live os) (only_blanks f.blanks xs) more s)) (sym (usage_text (held_of f.buffer) len usage))

@@ -8,13 +8,13 @@ use Rattle.rdlpp_scan.specs.declared.token.Kind.TheVariants.{Back, BareBackquote
 use Rattle.rdlpp_scan.specs.declared.token.Directive.{Directive}
 use Rattle.rdlpp_scan.specs.declared.token.Directive.TheVariants as directive
 use Rattle.rdlpp_scan.specs.Tokens.{token_of, plain_len}
-use Rattle.rdlpp_scan.specs.Stage.{is_reserved, is_unbuilt}
+use Rattle.rdlpp_scan.specs.Reserved.{is_reserved}
 use Rattle.rdlpp_meaning.specs.declared.fault.FaultKind.{FaultKind}
 use Rattle.rdlpp_meaning.specs.declared.fault.FaultKind.TheVariants as fault
 use Rattle.rdlpp_read.specs.Arguments.{NameGiven, NoName, NoString, StringGiven}
 use Rattle.rdlpp_front.specs.declared.front.Argument.{Argument}
 use Rattle.rdlpp_front.specs.declared.front.Front.{Front}
-use Rattle.rdlpp_front.specs.declared.front.Front.TheVariants.{Text, Usage, Define, Undef, Line, Refused}
+use Rattle.rdlpp_front.specs.declared.front.Front.TheVariants.{Text, Usage, Define, Undef, Ifdef, Ifndef, Elsif, Else, Endif, Include, Line, Refused}
 
 -- a kind of tokens that are copied, and may be copied in parts: strings and comments
 unfoldable pub is_text_kind : Kind → Bool
@@ -83,6 +83,19 @@ abbrev pub IsNamed : Directive → List ℕ → Option Argument → Type 0
 IsNamed d held None = LacksName d held
 IsNamed d held (Some a) = HasName d held a.start a.stop
 
+-- behind the word of a directive, which has so many bytes, a string stands that closes on its line, from a place up to another
+pub record StringBehind (word_len : ℕ) (held : List ℕ) (start stop : ℕ) : Type 0 where
+  pub from : ℕ
+  pub to : ℕ
+  pub given : StringGiven (drop word_len held) from to
+  pub starts : start ≡ word_len + from
+  pub stops : stop ≡ word_len + to
+
+-- the string behind the word of a directive, if one stands there
+abbrev pub IsStringBehind : ℕ → List ℕ → Option Argument → Type 0
+IsStringBehind word_len held None = NoString (drop word_len held)
+IsStringBehind word_len held (Some a) = StringBehind word_len held a.start a.stop
+
 -- an `include` with its string, which stands from a place up to another (IEEE 1364-2001, `include`)
 pub record HasString (held : List ℕ) (start stop : ℕ) : Type 0 where
   pub word : IsDirective directive.Include held
@@ -97,6 +110,11 @@ pub record LacksString (held : List ℕ) : Type 0 where
   pub word : IsDirective directive.Include held
   pub none : NoString (drop (length (word_of directive.Include)) held)
 
+-- an `include`, and the string that it is given (IEEE 1364-2001, `include`)
+abbrev pub IsGivenString : List ℕ → Option Argument → Type 0
+IsGivenString held None = LacksString held
+IsGivenString held (Some a) = HasString held a.start a.stop
+
 -- what a directive is given
 abbrev pub argument_name : List ℕ → ℕ → ℕ → List ℕ
 argument_name held start stop = take (stop - start) (drop start held)
@@ -105,7 +123,6 @@ argument_name held start stop = take (stop - start) (drop start held)
 pub data IsRefused (mode : Mode) (held : List ℕ) : FaultKind → Type 0 where
   AtPerl : (token_of mode held).kind ≡ Perl → IsRefused mode held fault.EmbeddedPerl
   AtBare : mode ≡ Plain → (token_of Plain held).kind ≡ BareBackquote → IsRefused mode held fault.BareBackquote
-  AtUnbuilt : mode ≡ Plain → is_unbuilt held ≡ true → IsRefused mode held fault.Unbuilt
 
 -- what held bytes begin with, in a mode
 abbrev pub IsFront : Mode → List ℕ → Front → Type 0
@@ -113,5 +130,11 @@ IsFront mode held (Text len next) = IsText mode held len next
 IsFront mode held (Usage len) = (mode ≡ Plain) × IsUsage held len
 IsFront mode held Define = (mode ≡ Plain) × IsDirective directive.Define held
 IsFront mode held (Undef given) = (mode ≡ Plain) × IsNamed directive.Undef held given
+IsFront mode held (Ifdef given) = (mode ≡ Plain) × IsNamed directive.Ifdef held given
+IsFront mode held (Ifndef given) = (mode ≡ Plain) × IsNamed directive.Ifndef held given
+IsFront mode held (Elsif given) = (mode ≡ Plain) × IsNamed directive.Elsif held given
+IsFront mode held Else = (mode ≡ Plain) × IsDirective directive.Else held
+IsFront mode held Endif = (mode ≡ Plain) × IsDirective directive.Endif held
+IsFront mode held (Include given) = (mode ≡ Plain) × IsGivenString held given
 IsFront mode held Line = (mode ≡ Plain) × IsDirective directive.Line held
 IsFront mode held (Refused kind) = IsRefused mode held kind

@@ -3,10 +3,10 @@ ghost use Rattle.std.specs.Prelude.{◌≡◌, ◌≢◌, ◌<◌, ◌≤◌, le
 ghost use Rattle.rdlpp_scan.specs.Tokens.{stops_plain_text, token_of};
 ghost use Rattle.rdlpp_scan.specs.declared.token.Kind.TheVariants.{Back};
 ghost use Rattle.rdlpp_scan.specs.declared.token.Mode.TheVariants.{Plain};
-ghost use Rattle.rdlpp_front.specs.Fronts.{IsDirective, IsFront, IsNameBehind};
+ghost use Rattle.rdlpp_front.specs.Fronts.{IsDirective, IsFront, IsNameBehind, IsStringBehind};
 
 use rdlpp_meaning::FaultKind;
-use rdlpp_read::given_name;
+use rdlpp_read::{given_name, given_string};
 use rdlpp_scan::{
     Directive, Kind, Mode, byte_at, first_token, is_letter, plain_text_len, reserved, word_bytes,
 };
@@ -32,6 +32,19 @@ pub enum Front {
     Define,
     /// An `undef`, and the name that it is given, where one stands behind it on its line.
     Undef(Option<Argument>),
+    /// An `ifdef`, and the name that it is given, where one stands behind it on its line.
+    Ifdef(Option<Argument>),
+    /// An `ifndef`, and its name likewise.
+    Ifndef(Option<Argument>),
+    /// An `elsif`, and its name likewise.
+    Elsif(Option<Argument>),
+    /// An `else`.
+    Else,
+    /// An `endif`.
+    Endif,
+    /// An `include`, and the string that it is given, with its quotes, where one stands behind it that
+    /// closes on its line.
+    Include(Option<Argument>),
     /// A `line`.
     Line,
     /// What ends the output.
@@ -46,8 +59,8 @@ pub enum Front {
 ///
 /// # Rules
 ///
-/// IEEE 1364-2001, compiler directives and macros; that `<%`, a backquote without a name, and at
-/// this stage of the project a directive that isn't built end the output is this project's profile.
+/// IEEE 1364-2001, compiler directives and macros; that `<%` and a backquote without a name end the
+/// output is this project's profile.
 pub fn front_of(mode: Mode, held: &[u8]) -> Front
     requires { 0 < length held.now }
     ensures { IsFront mode held.now result }
@@ -125,8 +138,13 @@ fn directive_front(held: &[u8], len: usize, directive: Directive) -> Front
     match directive {
         Directive::Define => Front::Define,
         Directive::Undef => Front::Undef(name_behind(held, len)),
+        Directive::Ifdef => Front::Ifdef(name_behind(held, len)),
+        Directive::Ifndef => Front::Ifndef(name_behind(held, len)),
+        Directive::Elsif => Front::Elsif(name_behind(held, len)),
+        Directive::Else => Front::Else,
+        Directive::Endif => Front::Endif,
+        Directive::Include => Front::Include(string_behind(held, len)),
         Directive::Line => Front::Line,
-        _ => Front::Refused(FaultKind::Unbuilt),
     }
 }
 
@@ -139,5 +157,17 @@ fn name_behind(held: &[u8], len: usize) -> Option<Argument>
     Some(Argument {
         start: len + given.start,
         stop: len + given.stop,
+    })
+}
+
+// The string that stands behind a directive's word, which has so many bytes, and closes on its line.
+fn string_behind(held: &[u8], len: usize) -> Option<Argument>
+    requires { len ≤ length held.now }
+    ensures { IsStringBehind len held.now result }
+{
+    let string = given_string(&held[len..])?;
+    Some(Argument {
+        start: len + string.start,
+        stop: len + string.stop,
     })
 }

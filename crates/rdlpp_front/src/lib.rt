@@ -2,7 +2,5 @@
 #![tactic(auto)]
 
 mod front;
-#[cfg(test)]
-mod tests;
 
 pub use front::{Argument, Front, front_of};

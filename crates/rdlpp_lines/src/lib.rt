@@ -9,6 +9,3 @@ mod tokens;
 pub use first::split_first;
 pub use reading::{Measured, append_trimmed, behind_default, is_space, trimmed_len};
 pub use tokens::line_token;
-
-#[cfg(test)]
-mod tests;

@@ -6,7 +6,7 @@ use Rattle.std.specs.Option.{option_map}
 use Rattle.std.proofs.lemmas.List.{drop-map, length-map}
 use Rattle.rdlpp_scan.specs.declared.token.Kind.TheVariants.{Name, Back, BareBackquote}
 use Rattle.rdlpp_scan.specs.SourceTokens.{Sort, Ordinary, Definition, Renumbering, Broken, SourceToken}
-use Rattle.rdlpp_scan.specs.Stage.{is_reserved}
+use Rattle.rdlpp_scan.specs.Reserved.{is_reserved}
 use Rattle.rdlpp_table.specs.Table.{Formal, Macro, macro_named}
 use Rattle.rdlpp_meaning.specs.declared.fault.FaultKind.TheVariants.{BareBackquote as NoName, UndefinedMacro, RecursiveMacro, DirectiveInText, ArgumentCount, Unbuilt}
 use Rattle.rdlpp_meaning.specs.Outcome.{Outcome, gives, fails, and_then}

@@ -20,7 +20,7 @@ use Rattle.rdlpp_meaning.specs.Resumed.{Place, Live, Skipped, resume}
 use Rattle.rdlpp_meaning.specs.Output.{opening_fault, start_state, output}
 use Rattle.rdlpp_meaning.specs.Profile.{define_fault, with_fault, rules_of}
 use Rattle.rdlpp_meaning.specs.OutputLimit.{Searches, limited, built_rules, unlimited_output, limited_output}
-use Rattle.rdlpp_meaning.specs.LimitLaws.{is_limit, NamesNoLimit, IsLarger, IsByLines}
+use Rattle.rdlpp_meaning.specs.LimitLaws.{is_limit, NamesNoLimit, IsLarger}
 use Rattle.rdlpp_meaning.specs.Items.{Written}
 use Rattle.rdlpp_meaning.specs.Actuals.{token_role}
 use Rattle.rdlpp_meaning.proofs.OutputLimits.{limited-within, limited-over}
@@ -401,27 +401,26 @@ unfolding define_of
 all-defined bytes count bytes' count' h k macros rest = draft-agrees bytes count bytes' count' macros (macro_of rest) h k
 
 -- the rules of larger limits are wider rules of smaller ones
-rules-wider : (small large : Limits) (unbuilt : List ℕ → Bool) (unbuilt_macro : Macro → Bool) (find : List ℕ → List ℕ → Lookup) (origins : Bool)
-    → rules_of large unbuilt unbuilt_macro find origins
-    ≡ wider (rules_of small unbuilt unbuilt_macro find origins) large.depth large.argument_bytes
+rules-wider : (small large : Limits) (unbuilt_macro : Macro → Bool) (find : List ℕ → List ℕ → Lookup) (origins : Bool)
+    → rules_of large unbuilt_macro find origins
+    ≡ wider (rules_of small unbuilt_macro find origins) large.depth large.argument_bytes
     (λ macros rest. with_fault (define_of large.definition_bytes large.definitions macros rest))
-    (λ text. whole_tokens unbuilt large.line_bytes large.source_bytes text)
+    (λ text. whole_tokens large.line_bytes large.source_bytes text)
 unfolding rules_of
-rules-wider small large unbuilt unbuilt_macro find origins = refl
+rules-wider small large unbuilt_macro find origins = refl
 
 -- an output that no fault of a limit ends is the same with larger limits
-pub larger_staged : (small large : Limits) (unbuilt : List ℕ → Bool) (unbuilt_macro : Macro → Bool) (find : List ℕ → List ℕ → Lookup) (origins : Bool)
-    (macros : List Macro) (path : List ℕ) (found : Lookup) → IsLarger small large → IsByLines unbuilt
-    → NamesNoLimit (output (rules_of small unbuilt unbuilt_macro find origins) macros small.includes small.conditions path found).fault
-    → output (rules_of large unbuilt unbuilt_macro find origins) macros large.includes large.conditions path found
-    ≡ output (rules_of small unbuilt unbuilt_macro find origins) macros small.includes small.conditions path found
+pub larger_staged : (small large : Limits) (unbuilt_macro : Macro → Bool) (find : List ℕ → List ℕ → Lookup) (origins : Bool)
+    (macros : List Macro) (path : List ℕ) (found : Lookup) → IsLarger small large → NamesNoLimit (output (rules_of small unbuilt_macro find origins) macros small.includes small.conditions path found).fault
+    → output (rules_of large unbuilt_macro find origins) macros large.includes large.conditions path found
+    ≡ output (rules_of small unbuilt_macro find origins) macros small.includes small.conditions path found
 unfolding rules_of AllDefined
-larger_staged small large unbuilt unbuilt_macro find origins macros path found l stable n =
-    let rules = rules_of small unbuilt unbuilt_macro find origins in
+larger_staged small large unbuilt_macro find origins macros path found l n =
+    let rules = rules_of small unbuilt_macro find origins in
     let define : List Macro → List ℕ → Defined = λ ms rest. with_fault (define_of large.definition_bytes large.definitions ms rest) in
-    let tokens : List ℕ → List SourceToken = λ text. whole_tokens unbuilt large.line_bytes large.source_bytes text in
+    let tokens : List ℕ → List SourceToken = λ text. whole_tokens large.line_bytes large.source_bytes text in
     let more = large.conditions - small.conditions in
-    ap (λ (r : Rules). output r macros large.includes large.conditions path found) (rules-wider small large unbuilt unbuilt_macro find origins)
+    ap (λ (r : Rules). output r macros large.includes large.conditions path found) (rules-wider small large unbuilt_macro find origins)
     ∙ ap (λ (k : ℕ). output (wider rules large.depth large.argument_bytes define tokens) macros large.includes k path found)
     (difference small.conditions large.conditions l.conditions)
     ∙ output-agrees rules large.depth large.argument_bytes define tokens macros small.includes large.includes small.conditions more path found
@@ -429,7 +428,7 @@ larger_staged small large unbuilt unbuilt_macro find origins macros path found l
       depths = l.depth;
       bytes = l.argument_bytes;
       defines = all-defined small.definition_bytes small.definitions large.definition_bytes large.definitions l.definition_bytes l.definitions;
-      texts = λ text. sources-torn unbuilt small.line_bytes large.line_bytes small.source_bytes large.source_bytes text stable l.line_bytes l.source_bytes;
+      texts = λ text. sources-torn small.line_bytes large.line_bytes small.source_bytes large.source_bytes text l.line_bytes l.source_bytes;
     }) l.includes n
   where
     difference : (a b : ℕ) → a ≤ b → b ≡ (b - a) + a
@@ -462,5 +461,5 @@ unfolding limited_output unlimited_output built_rules opening_fault is_limit
 larger_limits small large searches origins macros path l n =
     limited-agree (opening_fault OutputBytes path) small.output_bytes large.output_bytes
     (unlimited_output small searches origins macros path) (unlimited_output large searches origins macros path) refl l.output_bytes
-    (larger_staged small large (λ text. false) (λ m. false) searches.included origins macros path (searches.main path) l
-    (λ held more some ends. refl)) n
+    (larger_staged small large (λ m. false) searches.included origins macros path (searches.main path) l
+    ) n

@@ -12,7 +12,7 @@ use Rattle.rdlpp_scan.specs.declared.token.Mode.TheVariants.{Plain}
 use Rattle.rdlpp_scan.specs.Front.{Front, front}
 use Rattle.rdlpp_scan.specs.Tokens.{plain_len}
 use Rattle.rdlpp_scan.specs.SourceTokens.{Sort, Ordinary, SourceToken, Course, source_tokens, source_end, remaining_tokens, whole_tokens}
-use Rattle.rdlpp_scan.specs.Ordinary.{is_plain_kind, IsPlainToken, SparesOrdinary, IsOrdinary}
+use Rattle.rdlpp_scan.specs.Ordinary.{is_plain_kind, IsPlainToken, IsOrdinary}
 use Rattle.rdlpp_scan.proofs.OrdinaryLaws.{ordinary_text}
 use Rattle.rdlpp_table.specs.Table.{Macro}
 use Rattle.rdlpp_table.specs.declared.limits.Limits.{Limits}
@@ -77,13 +77,13 @@ record IsPlainWhole (text : List ℕ) (ts : List SourceToken) : Type 0 where
   spelled : bytes_of ts ≡ text
 
 -- the tokens of plain text with nothing behind it
-plain_alone : (unbuilt : List ℕ → Bool) (most : ℕ) (text : List ℕ) → SparesOrdinary unbuilt → plain_len text ≡ length text
-    → IsPlainWhole text (source_tokens (record { unbuilt = unbuilt; most = most; break = None }) Plain 1 1 0 text)
+plain_alone : (most : ℕ) (text : List ℕ) → plain_len text ≡ length text
+    → IsPlainWhole text (source_tokens (record { most = most; break = None }) Plain 1 1 0 text)
 unfolding source_tokens source_end
-plain_alone unbuilt most text spares plain =
-    let c : Course = record { unbuilt = unbuilt; most = most; break = None } in
+plain_alone most text plain =
+    let c : Course = record { most = most; break = None } in
     let whole : length text ≡ plain_len (text ++ []) = sym plain ∙ ap plain_len (sym (append-nil text)) in
-    let o : IsOrdinary c 1 text [] = ordinary_text c 1 text [] spares (omega (arith, whole)) (inl refl) in
+    let o : IsOrdinary c 1 text [] = ordinary_text c 1 text [] (omega (arith, whole)) (inl refl) in
     let e : source_tokens c Plain 1 1 0 text ≡ o.tokens =
     ap (λ (x : List ℕ). source_tokens c Plain 1 1 0 x) (sym (append-nil text)) ∙ o.steps 1 ∙ append-nil o.tokens in
     record {
@@ -92,24 +92,22 @@ plain_alone unbuilt most text spares plain =
     }
 
 -- the tokens of plain text that meets its limits are copied, and have its bytes
-plain_whole : (unbuilt : List ℕ → Bool) (most room : ℕ) (text : List ℕ) → SparesOrdinary unbuilt
-    → plain_len text ≡ length text → front most room text ≡ record { text = text; break = None }
-    → IsPlainWhole text (whole_tokens unbuilt most room text)
+plain_whole : (most room : ℕ) (text : List ℕ) → plain_len text ≡ length text → front most room text ≡ record { text = text; break = None }
+    → IsPlainWhole text (whole_tokens most room text)
 unfolding whole_tokens remaining_tokens
-plain_whole unbuilt most room text spares plain e =
-    subst (λ (f : Front). IsPlainWhole text (source_tokens (record { unbuilt = unbuilt; most = most; break = f.break }) Plain 1 1 0 f.text))
-    (sym e) (plain_alone unbuilt most text spares plain)
+plain_whole most room text plain e =
+    subst (λ (f : Front). IsPlainWhole text (source_tokens (record { most = most; break = f.break }) Plain 1 1 0 f.text))
+    (sym e) (plain_alone most text plain)
 
 -- plain text that meets its limits is its own output
-pub plain_text : (limits : Limits) (unbuilt : List ℕ → Bool) (unbuilt_macro : Macro → Bool) (find : List ℕ → List ℕ → Lookup)
-    (macros : List Macro) (path found text : List ℕ) → SparesOrdinary unbuilt
-    → plain_len text ≡ length text → front limits.line_bytes limits.source_bytes text ≡ record { text = text; break = None }
-    → output (rules_of limits unbuilt unbuilt_macro find false) macros limits.includes limits.conditions path (Source found text)
+pub plain_text : (limits : Limits) (unbuilt_macro : Macro → Bool) (find : List ℕ → List ℕ → Lookup)
+    (macros : List Macro) (path found text : List ℕ) → plain_len text ≡ length text → front limits.line_bytes limits.source_bytes text ≡ record { text = text; break = None }
+    → output (rules_of limits unbuilt_macro find false) macros limits.includes limits.conditions path (Source found text)
     ≡ gives text
 unfolding rules_of
-plain_text limits unbuilt unbuilt_macro find macros path found text spares plain e =
-    let rules = rules_of limits unbuilt unbuilt_macro find false in
-    let w = plain_whole unbuilt limits.line_bytes limits.source_bytes text spares plain e in
+plain_text limits unbuilt_macro find macros path found text plain e =
+    let rules = rules_of limits unbuilt_macro find false in
+    let w = plain_whole limits.line_bytes limits.source_bytes text plain e in
     output_copied rules macros limits.includes limits.conditions path found text refl w.copied
     ∙ ap gives w.spelled
 

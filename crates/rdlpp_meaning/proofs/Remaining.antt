@@ -6,7 +6,7 @@ use Rattle.rdlpp_scan.specs.declared.token.Kind.TheVariants.{BareBackquote}
 use Rattle.rdlpp_scan.specs.Front.{Breach}
 use Rattle.rdlpp_scan.specs.Tokens.{plain_len}
 use Rattle.rdlpp_scan.specs.SourceTokens.{Ordinary, Definition, Broken, SourceToken}
-use Rattle.rdlpp_scan.specs.Stage.{is_reserved}
+use Rattle.rdlpp_scan.specs.Reserved.{is_reserved}
 use Rattle.rdlpp_table.specs.Table.{Macro, macro_named}
 use Rattle.rdlpp_meaning.specs.declared.fault.FaultKind.{FaultKind}
 use Rattle.rdlpp_meaning.specs.declared.fault.FaultKind.TheVariants.{BareBackquote as NoName, UndefinedMacro, Unbuilt}

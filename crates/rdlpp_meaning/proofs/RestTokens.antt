@@ -107,13 +107,13 @@ comment_tokens-rest c o l (b ∷ bs) part =
     step_rest BlockComment c InBlock o l b bs (subst (RestStep BlockComment) (sym (comment_rest c o l (b ∷ bs))) (comment_by_mode c o l v.kind v.len v.next_mode (b ∷ bs) part (block_token-kind 0 (b ∷ bs))))
 
 -- what remains in a string
-pub string_remains : (u : List ℕ → Bool) (most o l : ℕ) (held : List ℕ) (room : ℕ) (rest : List ℕ) → IsRest Str (remaining_tokens u most InStr o l held room rest)
+pub string_remains : (most o l : ℕ) (held : List ℕ) (room : ℕ) (rest : List ℕ) → IsRest Str (remaining_tokens most InStr o l held room rest)
 unfolding remaining_tokens front
-string_remains u most o l held room rest =
-    string_tokens-rest (course u most room rest) o l (held ++ (front most room rest).text) (front_breaks most room (lines_of rest))
+string_remains most o l held room rest =
+    string_tokens-rest (course most room rest) o l (held ++ (front most room rest).text) (front_breaks most room (lines_of rest))
 
 -- what remains in a block comment
-pub comment_remains : (u : List ℕ → Bool) (most o l : ℕ) (held : List ℕ) (room : ℕ) (rest : List ℕ) → IsRest BlockComment (remaining_tokens u most InBlock o l held room rest)
+pub comment_remains : (most o l : ℕ) (held : List ℕ) (room : ℕ) (rest : List ℕ) → IsRest BlockComment (remaining_tokens most InBlock o l held room rest)
 unfolding remaining_tokens front
-comment_remains u most o l held room rest =
-    comment_tokens-rest (course u most room rest) o l (held ++ (front most room rest).text) (front_breaks most room (lines_of rest))
+comment_remains most o l held room rest =
+    comment_tokens-rest (course most room rest) o l (held ++ (front most room rest).text) (front_breaks most room (lines_of rest))

@@ -11,7 +11,7 @@ use Rattle.rdlpp_scan.specs.Tokens.{first_place, string_stop, whole, string_toke
 use Rattle.rdlpp_scan.specs.SourceTokens.{line_ends, line_after, broken, is_continued, logical_len, line_len, open_end, string_step, comment_step, define_step, line_step, back_step, step_by, source_step, source_end, source_tokens, remaining_tokens, whole_tokens}
 use Rattle.rdlpp_scan.specs.Front.{onto_first, lines_of, onto_front, front_of_lines, front}
 use Rattle.rdlpp_scan.specs.LexFaults.{is_perl, open_fault, fault_of_tokens, lex_fault_from}
-use Rattle.rdlpp_scan.specs.Stage.{reserved_names, is_reserved}
+use Rattle.rdlpp_scan.specs.Reserved.{reserved_names, is_reserved}
 use Rattle.rdlpp_table.specs.Table.{Macro, macro_named, without, formal_size, macro_size, table_size, default_size}
 use Rattle.rdlpp_table.specs.Define.{continuation_len, without_continuations, logical_text, is_space, after_space, leading_name, name_fault, without_remarks, unended, onto_trimmed, trimmed, lexical, formal_in, formals_in, formals_of_list, formal_list, with_body, refused_word, with_list, macro_from, macro_of, stored, stored_draft, define_of, without_end, trimmed_of, ends_default, level_behind as default_level, onto_default, default_of_tokens, trimmed_default, default_in, formal_name, behind_name, formal_fault, with_default}
 use Rattle.rdlpp_meaning.specs.Outcome.{Outcome, gives, fails, and_then}

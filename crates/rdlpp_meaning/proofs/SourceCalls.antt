@@ -1,7 +1,7 @@
 -- The law of a usage in a source by its tokens alone: it opens one cursor, or ends the output.
 use Rattle.std.proofs.Common.{◌≡◌, ℕ, suc, Bool, false, List, [], ◌∷◌, map, take, drop, ap, ◌∙◌}
 use Rattle.rdlpp_scan.specs.SourceTokens.{SourceToken}
-use Rattle.rdlpp_scan.specs.Stage.{is_reserved}
+use Rattle.rdlpp_scan.specs.Reserved.{is_reserved}
 use Rattle.rdlpp_table.specs.Table.{Macro}
 use Rattle.rdlpp_meaning.specs.declared.fault.FaultKind.{FaultKind}
 use Rattle.rdlpp_meaning.specs.Outcome.{Outcome, fails}

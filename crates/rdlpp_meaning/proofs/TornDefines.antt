@@ -142,21 +142,21 @@ pub unpassed : (small large n : ℕ) → small ≤ large → nat_lt small n ≡ 
 unpassed small large n h e = le-ltb large n (le_trans (ltb-false small n e) h)
 
 -- a `define` whose logical line ends in the text
-ended-torn : (u : List ℕ → Bool) (most most' : ℕ) (k k' : Option Break) (line : ℕ) (held more : List ℕ) (n : ℕ) (x : Bool) → most ≤ most'
+ended-torn : (most most' : ℕ) (k k' : Option Break) (line : ℕ) (held more : List ℕ) (n : ℕ) (x : Bool) → most ≤ most'
     → logical_len 0 0 held ≡ Some n → nat_lt most n ≡ x
-    → StepTorn held (define_step (record { unbuilt = u; most = most; break = k }) line held)
-    (define_step (record { unbuilt = u; most = most'; break = k' }) line (held ++ more))
+    → StepTorn held (define_step (record { most = most; break = k }) line held)
+    (define_step (record { most = most'; break = k' }) line (held ++ more))
 unfolding define_by ends_line
-ended-torn u most most' k k' line held more n true le e passed =
-    let c : Course = record { unbuilt = u; most = most; break = k } in
-    let c' : Course = record { unbuilt = u; most = most'; break = k' } in
+ended-torn most most' k k' line held more n true le e passed =
+    let c : Course = record { most = most; break = k } in
+    let c' : Course = record { most = most'; break = k' } in
     define-tears held line DefineLong (define_step c line held) (define_step c' line (held ++ more)) (inl refl)
     (define_is c line held ∙ ap (define_by c line held) e
     ∙ ap (λ (b : Bool). if b then broken DefineLong [] line else Next (record { sort = Definition; bytes = take n held; line = line })) passed)
     (define-suits c' line (held ++ more))
-ended-torn u most most' k k' line held more n false le e passed =
-    let c : Course = record { unbuilt = u; most = most; break = k } in
-    let c' : Course = record { unbuilt = u; most = most'; break = k' } in
+ended-torn most most' k k' line held more n false le e passed =
+    let c : Course = record { most = most; break = k } in
+    let c' : Course = record { most = most'; break = k' } in
     let inside = logical_len-within 0 0 held n e in
     Goes (record { sort = Definition; bytes = take n held; line = line }) n
     (define_is c line held ∙ ap (define_by c line held) e
@@ -168,42 +168,42 @@ ended-torn u most most' k k' line held more n false le e passed =
     inside.0 inside.1 refl (λ f. absurd (cc))
 
 -- a `define` whose logical line doesn't end in the text, which a limit ends
-cut-torn : (u : List ℕ → Bool) (most most' : ℕ) (j : Break) (k' : Option Break) (line : ℕ) (held more : List ℕ) (x : Bool)
+cut-torn : (most most' : ℕ) (j : Break) (k' : Option Break) (line : ℕ) (held more : List ℕ) (x : Bool)
     → logical_len 0 0 held ≡ None → nat_lt most (length held + j.len) ≡ x
-    → StepTorn held (define_step (record { unbuilt = u; most = most; break = Some j }) line held)
-    (define_step (record { unbuilt = u; most = most'; break = k' }) line (held ++ more))
+    → StepTorn held (define_step (record { most = most; break = Some j }) line held)
+    (define_step (record { most = most'; break = k' }) line (held ++ more))
 unfolding define_by break_by
-cut-torn u most most' j k' line held more true e passed =
-    let c : Course = record { unbuilt = u; most = most; break = Some j } in
-    let c' : Course = record { unbuilt = u; most = most'; break = k' } in
+cut-torn most most' j k' line held more true e passed =
+    let c : Course = record { most = most; break = Some j } in
+    let c' : Course = record { most = most'; break = k' } in
     define-tears held line DefineLong (define_step c line held) (define_step c' line (held ++ more)) (inl refl)
     (define_is c line held ∙ ap (define_by c line held) e
     ∙ ap (λ (b : Bool). if b then broken DefineLong [] line else broken DefineCut [] line) passed)
     (define-suits c' line (held ++ more))
-cut-torn u most most' j k' line held more false e passed =
-    let c : Course = record { unbuilt = u; most = most; break = Some j } in
-    let c' : Course = record { unbuilt = u; most = most'; break = k' } in
+cut-torn most most' j k' line held more false e passed =
+    let c : Course = record { most = most; break = Some j } in
+    let c' : Course = record { most = most'; break = k' } in
     define-tears held line DefineCut (define_step c line held) (define_step c' line (held ++ more)) (inr refl)
     (define_is c line held ∙ ap (define_by c line held) e
     ∙ ap (λ (b : Bool). if b then broken DefineLong [] line else broken DefineCut [] line) passed)
     (define-suits c' line (held ++ more))
 
 -- a `define` that goes on to the end of all
-last-torn : (u : List ℕ → Bool) (most most' : ℕ) (line : ℕ) (held : List ℕ) (x : Bool) → 0 < length held → most ≤ most'
+last-torn : (most most' : ℕ) (line : ℕ) (held : List ℕ) (x : Bool) → 0 < length held → most ≤ most'
     → logical_len 0 0 held ≡ None → nat_lt most (length held) ≡ x
-    → StepTorn held (define_step (record { unbuilt = u; most = most; break = None }) line held)
-    (define_step (record { unbuilt = u; most = most'; break = None }) line held)
+    → StepTorn held (define_step (record { most = most; break = None }) line held)
+    (define_step (record { most = most'; break = None }) line held)
 unfolding define_by break_by ends_line
-last-torn u most most' line held true some le e passed =
-    let c : Course = record { unbuilt = u; most = most; break = None } in
-    let c' : Course = record { unbuilt = u; most = most'; break = None } in
+last-torn most most' line held true some le e passed =
+    let c : Course = record { most = most; break = None } in
+    let c' : Course = record { most = most'; break = None } in
     define-tears held line DefineLong (define_step c line held) (define_step c' line held) (inl refl)
     (define_is c line held ∙ ap (define_by c line held) e
     ∙ ap (λ (b : Bool). if b then broken DefineLong [] line else Next (record { sort = Definition; bytes = held; line = line })) passed)
     (define-suits c' line held)
-last-torn u most most' line held false some le e passed =
-    let c : Course = record { unbuilt = u; most = most; break = None } in
-    let c' : Course = record { unbuilt = u; most = most'; break = None } in
+last-torn most most' line held false some le e passed =
+    let c : Course = record { most = most; break = None } in
+    let c' : Course = record { most = most'; break = None } in
     Goes (record { sort = Definition; bytes = held; line = line }) (length held)
     (define_is c line held ∙ ap (define_by c line held) e
     ∙ ap (λ (b : Bool). if b then broken DefineLong [] line else Next (record { sort = Definition; bytes = held; line = line })) passed)
@@ -213,32 +213,32 @@ last-torn u most most' line held false some le e passed =
     some (omega arith) (sym (take-length held)) (λ f. absurd (cc))
 
 -- a `define`, by where its logical line ends in the text
-define-torn-by : (u : List ℕ → Bool) (most most' : ℕ) (k k' : Option Break) (line : ℕ) (held more : List ℕ) (o : Option ℕ) → 0 < length held → most ≤ most'
+define-torn-by : (most most' : ℕ) (k k' : Option Break) (line : ℕ) (held more : List ℕ) (o : Option ℕ) → 0 < length held → most ≤ most'
     → Ends held more k k' → logical_len 0 0 held ≡ o
-    → StepTorn held (define_step (record { unbuilt = u; most = most; break = k }) line held)
-    (define_step (record { unbuilt = u; most = most'; break = k' }) line (held ++ more))
+    → StepTorn held (define_step (record { most = most; break = k }) line held)
+    (define_step (record { most = most'; break = k' }) line (held ++ more))
 unfolding IsBreakOfLimit
-define-torn-by u most most' k k' line held more (Some n) some le ends e =
-    ended-torn u most most' k k' line held more n (nat_lt most n) le e refl
-define-torn-by u most most' (Some j) k' line held more None some le (inr h) e =
-    cut-torn u most most' j k' line held more (nat_lt most (length held + j.len)) e refl
-define-torn-by u most most' None k' line held more None some le (inr h) e = absurd h.1
-define-torn-by u most most' k k' line held more None some le (inl h) e =
-    subst (λ (x : Option Break). StepTorn held (define_step (record { unbuilt = u; most = most; break = x }) line held)
-    (define_step (record { unbuilt = u; most = most'; break = k' }) line (held ++ more))) (sym h.1)
-    (subst (λ (x : Option Break). StepTorn held (define_step (record { unbuilt = u; most = most; break = None }) line held)
-    (define_step (record { unbuilt = u; most = most'; break = x }) line (held ++ more))) (sym h.2)
-    (subst (λ (bs : List ℕ). StepTorn held (define_step (record { unbuilt = u; most = most; break = None }) line held)
-    (define_step (record { unbuilt = u; most = most'; break = None }) line bs)) (sym (ap (λ (m : List ℕ). held ++ m) h.0 ∙ append-nil held))
-    (last-torn u most most' line held (nat_lt most (length held)) some le e refl)))
+define-torn-by most most' k k' line held more (Some n) some le ends e =
+    ended-torn most most' k k' line held more n (nat_lt most n) le e refl
+define-torn-by most most' (Some j) k' line held more None some le (inr h) e =
+    cut-torn most most' j k' line held more (nat_lt most (length held + j.len)) e refl
+define-torn-by most most' None k' line held more None some le (inr h) e = absurd h.1
+define-torn-by most most' k k' line held more None some le (inl h) e =
+    subst (λ (x : Option Break). StepTorn held (define_step (record { most = most; break = x }) line held)
+    (define_step (record { most = most'; break = k' }) line (held ++ more))) (sym h.1)
+    (subst (λ (x : Option Break). StepTorn held (define_step (record { most = most; break = None }) line held)
+    (define_step (record { most = most'; break = x }) line (held ++ more))) (sym h.2)
+    (subst (λ (bs : List ℕ). StepTorn held (define_step (record { most = most; break = None }) line held)
+    (define_step (record { most = most'; break = None }) line bs)) (sym (ap (λ (m : List ℕ). held ++ m) h.0 ∙ append-nil held))
+    (last-torn most most' line held (nat_lt most (length held)) some le e refl)))
 
 -- a `define`
-pub define-torn : (u : List ℕ → Bool) (most most' : ℕ) (k k' : Option Break) (line : ℕ) (held more : List ℕ) → 0 < length held → most ≤ most'
+pub define-torn : (most most' : ℕ) (k k' : Option Break) (line : ℕ) (held more : List ℕ) → 0 < length held → most ≤ most'
     → Ends held more k k'
-    → StepTorn held (define_step (record { unbuilt = u; most = most; break = k }) line held)
-    (define_step (record { unbuilt = u; most = most'; break = k' }) line (held ++ more))
-define-torn u most most' k k' line held more some le ends =
-    define-torn-by u most most' k k' line held more (logical_len 0 0 held) some le ends refl
+    → StepTorn held (define_step (record { most = most; break = k }) line held)
+    (define_step (record { most = most'; break = k' }) line (held ++ more))
+define-torn most most' k k' line held more some le ends =
+    define-torn-by most most' k k' line held more (logical_len 0 0 held) some le ends refl
 
 -- a text ends at a line end, or nothing is behind it
 pub ends-line : (held more : List ℕ) (k k' : Option Break) → Ends held more k k' → EndsLine held more

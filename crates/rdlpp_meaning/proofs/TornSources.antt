@@ -13,7 +13,7 @@ use Rattle.rdlpp_scan.specs.declared.token.Token.{Token}
 use Rattle.rdlpp_scan.specs.Bytes.{is_line_end, begins_block_comment}
 use Rattle.rdlpp_scan.specs.Tokens.{whole, string_token, block_token, token_of}
 use Rattle.rdlpp_scan.specs.Ordinary.{is_plain_kind}
-use Rattle.rdlpp_scan.specs.Front.{Breach, PerlFound, StringOpen, CommentOpen, LineLong, SourceLong, Unbuilt, Break, Front, onto_first, lines_of, onto_front, front_of_lines, front}
+use Rattle.rdlpp_scan.specs.Front.{Breach, PerlFound, StringOpen, CommentOpen, LineLong, SourceLong, Break, Front, onto_first, lines_of, onto_front, front_of_lines, front}
 use Rattle.rdlpp_scan.specs.Lines.{whole_lines_len, onto_whole_lines, IsWholeLines}
 use Rattle.rdlpp_scan.specs.SourceTokens.{Broken, SourceToken, Course, Step, Last, Next, line_ends, line_after, broken, open_end, string_step, comment_step, step_by, source_step, source_end, source_tokens, remaining_tokens, whole_tokens}
 use Rattle.rdlpp_scan.proofs.WholeLines.{IsWholeLines-drop, IsWholeLines-append}
@@ -25,7 +25,7 @@ use Rattle.rdlpp_scan.proofs.Seams.{Seam, Closed, BeforePerl, OpenString, OpenCo
 use Rattle.rdlpp_scan.proofs.Locality.{IsCut-from_line}
 use Rattle.rdlpp_meaning.specs.State.{breach_kind}
 use Rattle.rdlpp_meaning.specs.Actuals.{token_role, broken_role}
-use Rattle.rdlpp_meaning.specs.LimitLaws.{is_limit, IsByLines}
+use Rattle.rdlpp_meaning.specs.LimitLaws.{is_limit}
 use Rattle.rdlpp_meaning.proofs.TornCalls.{TornBy}
 use Rattle.rdlpp_meaning.proofs.TornPieces.{ends_line, TokensTorn}
 use Rattle.rdlpp_meaning.proofs.TornDefines.{step_head, StepTorn, Goes, Stays, Tears, IsBreakOfLimit, Ends, unpassed, ends-line}
@@ -94,11 +94,11 @@ perl-torn c c' line n held more lt =
     ∙ ap (λ (bs : List ℕ). broken PerlFound bs (line + line_ends bs)) (take-append-le n held more (omega (arith, lt))))
 
 -- a string that is open where the text ends, and is no longer than that
-string-end : (u : List ℕ → Bool) (most most' line : ℕ) (held : List ℕ)
-    → StepTorn held (string_step (record { unbuilt = u; most = most; break = None }) line line (record { kind = Str; len = length held; next_mode = InStr }) held)
-    (string_step (record { unbuilt = u; most = most'; break = None }) line line (record { kind = Str; len = length held; next_mode = InStr }) held)
+string-end : (most most' line : ℕ) (held : List ℕ)
+    → StepTorn held (string_step (record { most = most; break = None }) line line (record { kind = Str; len = length held; next_mode = InStr }) held)
+    (string_step (record { most = most'; break = None }) line line (record { kind = Str; len = length held; next_mode = InStr }) held)
 unfolding string_step open_end broken
-string-end u most most' line held =
+string-end most most' line held =
     let own = take (length held) held in
     let e : nat_lt (length held) (length held) ≡ false = le-ltb (length held) (length held) (omega arith) in
     let t : SourceToken = record { sort = Broken StringOpen; bytes = own; line = line } in
@@ -106,108 +106,108 @@ string-end u most most' line held =
     Stays t is is
 
 -- a comment that is open where the text ends
-comment-end : (u : List ℕ → Bool) (most most' line : ℕ) (held : List ℕ)
-    → StepTorn held (comment_step (record { unbuilt = u; most = most; break = None }) line line (record { kind = BlockComment; len = length held; next_mode = InBlock }) held)
-    (comment_step (record { unbuilt = u; most = most'; break = None }) line line (record { kind = BlockComment; len = length held; next_mode = InBlock }) held)
+comment-end : (most most' line : ℕ) (held : List ℕ)
+    → StepTorn held (comment_step (record { most = most; break = None }) line line (record { kind = BlockComment; len = length held; next_mode = InBlock }) held)
+    (comment_step (record { most = most'; break = None }) line line (record { kind = BlockComment; len = length held; next_mode = InBlock }) held)
 unfolding comment_step open_end broken
-comment-end u most most' line held = Stays (record { sort = Broken CommentOpen; bytes = take (length held) held; line = line }) refl refl
+comment-end most most' line held = Stays (record { sort = Broken CommentOpen; bytes = take (length held) held; line = line }) refl refl
 
 -- a string that is open where a limit ends the text
-string-small : (u : List ℕ → Bool) (most : ℕ) (j : Break) (line : ℕ) (held : List ℕ)
-    → string_step (record { unbuilt = u; most = most; break = Some j }) line line (record { kind = Str; len = length held; next_mode = InStr }) held
+string-small : (most : ℕ) (j : Break) (line : ℕ) (held : List ℕ)
+    → string_step (record { most = most; break = Some j }) line line (record { kind = Str; len = length held; next_mode = InStr }) held
     ≡ broken j.breach (take (length held) held) (line + line_ends (take (length held) held))
 unfolding string_step open_end
-string-small u most j line held =
+string-small most j line held =
     let own = take (length held) held in
     ap (λ (x : Bool). if x then broken PerlFound own (line + line_ends own) else broken j.breach own (line + line_ends own))
     (le-ltb (length held) (length held) (omega arith))
 
 -- a comment that is open where a limit ends the text
-comment-small : (u : List ℕ → Bool) (most : ℕ) (j : Break) (line : ℕ) (held : List ℕ)
-    → comment_step (record { unbuilt = u; most = most; break = Some j }) line line (record { kind = BlockComment; len = length held; next_mode = InBlock }) held
+comment-small : (most : ℕ) (j : Break) (line : ℕ) (held : List ℕ)
+    → comment_step (record { most = most; break = Some j }) line line (record { kind = BlockComment; len = length held; next_mode = InBlock }) held
     ≡ broken j.breach (take (length held) held) (line + line_ends (take (length held) held))
 unfolding comment_step open_end
-comment-small u most j line held = refl
+comment-small most j line held = refl
 
 -- a string that a limit tears
-string-torn : (u : List ℕ → Bool) (most most' : ℕ) (j : Break) (k' : Option Break) (line n : ℕ) (mode : Mode) (b : ℕ) (bs more : List ℕ)
+string-torn : (most most' : ℕ) (j : Break) (k' : Option Break) (line n : ℕ) (mode : Mode) (b : ℕ) (bs more : List ℕ)
     → (j.breach ≡ LineLong) ⊎ (j.breach ≡ SourceLong) → IsOwnBreak k' → IsWholeLines (b ∷ bs) → (b == 34) ≡ true
-    → StepTorn (b ∷ bs) (string_step (record { unbuilt = u; most = most; break = Some j }) line line (record { kind = Str; len = length (b ∷ bs); next_mode = InStr }) (b ∷ bs))
-    (string_step (record { unbuilt = u; most = most'; break = k' }) line line (record { kind = Str; len = length (b ∷ bs) + n; next_mode = mode }) ((b ∷ bs) ++ more))
-string-torn u most most' j k' line n mode b bs more limit own whole_lines q =
+    → StepTorn (b ∷ bs) (string_step (record { most = most; break = Some j }) line line (record { kind = Str; len = length (b ∷ bs); next_mode = InStr }) (b ∷ bs))
+    (string_step (record { most = most'; break = k' }) line line (record { kind = Str; len = length (b ∷ bs) + n; next_mode = mode }) ((b ∷ bs) ++ more))
+string-torn most most' j k' line n mode b bs more limit own whole_lines q =
     let held = b ∷ bs in
     let text = take (length held) held in
-    let c' : Course = record { unbuilt = u; most = most'; break = k' } in
+    let c' : Course = record { most = most'; break = k' } in
     let grown = take-append-add held more n in
     tears-string held j.breach text (line + line_ends text) _ _ limit (ap (λ (xs : List ℕ). slice_index xs 0 == 34) (take-length held) ∙ q)
-    (string-small u most j line held)
+    (string-small most j line held)
     (string-head c' line line (length held + n) mode (held ++ more) own
     (ap (λ (xs : List ℕ). slice_index xs 0 == 34) grown ∙ q)
     (ap (λ (xs : List ℕ). list_any is_line_end xs) grown ∙ has_line_end b bs (take n more) whole_lines))
 
 -- a comment that a limit tears
-comment-torn : (u : List ℕ → Bool) (most most' : ℕ) (j : Break) (k' : Option Break) (line n : ℕ) (mode : Mode) (held more : List ℕ)
+comment-torn : (most most' : ℕ) (j : Break) (k' : Option Break) (line n : ℕ) (mode : Mode) (held more : List ℕ)
     → (j.breach ≡ LineLong) ⊎ (j.breach ≡ SourceLong) → (slice_index held 0 == 34) ≡ false
-    → StepTorn held (comment_step (record { unbuilt = u; most = most; break = Some j }) line line (record { kind = BlockComment; len = length held; next_mode = InBlock }) held)
-    (comment_step (record { unbuilt = u; most = most'; break = k' }) line line (record { kind = BlockComment; len = n; next_mode = mode }) (held ++ more))
-comment-torn u most most' j k' line n mode held more limit q =
+    → StepTorn held (comment_step (record { most = most; break = Some j }) line line (record { kind = BlockComment; len = length held; next_mode = InBlock }) held)
+    (comment_step (record { most = most'; break = k' }) line line (record { kind = BlockComment; len = n; next_mode = mode }) (held ++ more))
+comment-torn most most' j k' line n mode held more limit q =
     let text = take (length held) held in
-    let c' : Course = record { unbuilt = u; most = most'; break = k' } in
+    let c' : Course = record { most = most'; break = k' } in
     tears-comment held j.breach text (line + line_ends text) _ _ limit (ap (λ (xs : List ℕ). slice_index xs 0 == 34) (take-length held) ∙ q)
-    (comment-small u most j line held) (comment-head c' line line n mode (held ++ more))
+    (comment-small most j line held) (comment-head c' line line n mode (held ++ more))
 
 -- a string that is open where the text ends, by what is behind it
-open-string-torn : (u : List ℕ → Bool) (most most' : ℕ) (k k' : Option Break) (line : ℕ) (b : ℕ) (bs more : List ℕ)
+open-string-torn : (most most' : ℕ) (k k' : Option Break) (line : ℕ) (b : ℕ) (bs more : List ℕ)
     → Ends (b ∷ bs) more k k' → IsOwnBreak k'
     → token_of Plain (b ∷ bs) ≡ record { kind = Str; len = length (b ∷ bs); next_mode = InStr }
     → token_of Plain ((b ∷ bs) ++ more) ≡ longer (length (b ∷ bs)) (string_token 0 more)
-    → StepTorn (b ∷ bs) (step_by (record { unbuilt = u; most = most; break = k }) line line (record { kind = Str; len = length (b ∷ bs); next_mode = InStr }) (b ∷ bs))
-    (step_by (record { unbuilt = u; most = most'; break = k' }) line line (token_of Plain ((b ∷ bs) ++ more)) ((b ∷ bs) ++ more))
+    → StepTorn (b ∷ bs) (step_by (record { most = most; break = k }) line line (record { kind = Str; len = length (b ∷ bs); next_mode = InStr }) (b ∷ bs))
+    (step_by (record { most = most'; break = k' }) line line (token_of Plain ((b ∷ bs) ++ more)) ((b ∷ bs) ++ more))
 unfolding step_by IsBreakOfLimit
-open-string-torn u most most' k k' line b bs more (inl h) own is e =
+open-string-torn most most' k k' line b bs more (inl h) own is e =
     let held = b ∷ bs in
     let same : held ++ more ≡ held = ap (λ (m : List ℕ). held ++ m) h.0 ∙ append-nil held in
-    let small : Option Break → Step = λ x. step_by (record { unbuilt = u; most = most; break = x }) line line (record { kind = Str; len = length held; next_mode = InStr }) held in
-    subst (λ (x : Option Break). StepTorn held (small x) (step_by (record { unbuilt = u; most = most'; break = k' }) line line (token_of Plain (held ++ more)) (held ++ more))) (sym h.1)
-    (subst (λ (x : Option Break). StepTorn held (small None) (step_by (record { unbuilt = u; most = most'; break = x }) line line (token_of Plain (held ++ more)) (held ++ more))) (sym h.2)
-    (subst (λ (xs : List ℕ). StepTorn held (small None) (step_by (record { unbuilt = u; most = most'; break = None }) line line (token_of Plain xs) xs)) (sym same)
-    (subst (λ (t : Token). StepTorn held (small None) (step_by (record { unbuilt = u; most = most'; break = None }) line line t held)) (sym is)
-    (string-end u most most' line held))))
-open-string-torn u most most' None k' line b bs more (inr h) own is e = absurd h.1
-open-string-torn u most most' (Some j) k' line b bs more (inr h) own is e =
+    let small : Option Break → Step = λ x. step_by (record { most = most; break = x }) line line (record { kind = Str; len = length held; next_mode = InStr }) held in
+    subst (λ (x : Option Break). StepTorn held (small x) (step_by (record { most = most'; break = k' }) line line (token_of Plain (held ++ more)) (held ++ more))) (sym h.1)
+    (subst (λ (x : Option Break). StepTorn held (small None) (step_by (record { most = most'; break = x }) line line (token_of Plain (held ++ more)) (held ++ more))) (sym h.2)
+    (subst (λ (xs : List ℕ). StepTorn held (small None) (step_by (record { most = most'; break = None }) line line (token_of Plain xs) xs)) (sym same)
+    (subst (λ (t : Token). StepTorn held (small None) (step_by (record { most = most'; break = None }) line line t held)) (sym is)
+    (string-end most most' line held))))
+open-string-torn most most' None k' line b bs more (inr h) own is e = absurd h.1
+open-string-torn most most' (Some j) k' line b bs more (inr h) own is e =
     let held = b ∷ bs in
     let v = string_token 0 more in
-    let c' : Course = record { unbuilt = u; most = most'; break = k' } in
-    let small = step_by (record { unbuilt = u; most = most; break = Some j }) line line (record { kind = Str; len = length held; next_mode = InStr }) held in
+    let c' : Course = record { most = most'; break = k' } in
+    let small = step_by (record { most = most; break = Some j }) line line (record { kind = Str; len = length held; next_mode = InStr }) held in
     subst (λ (t : Token). StepTorn held small (step_by c' line line t (held ++ more))) (sym e)
     (subst (λ (x : Kind). StepTorn held small (step_by c' line line (record { kind = x; len = length held + v.len; next_mode = v.next_mode }) (held ++ more))) (sym (string-kind 0 more))
-    (string-torn u most most' j k' line v.len v.next_mode b bs more h.1 own h.0
+    (string-torn most most' j k' line v.len v.next_mode b bs more h.1 own h.0
     (row-string held (token_of Plain held) (token_of-row held) (ap (λ (t : Token). t.kind) is))))
 
 -- a comment that is open where the text ends, by what is behind it
-open-comment-torn : (u : List ℕ → Bool) (most most' : ℕ) (k k' : Option Break) (line : ℕ) (held more : List ℕ)
+open-comment-torn : (most most' : ℕ) (k k' : Option Break) (line : ℕ) (held more : List ℕ)
     → Ends held more k k' → IsOwnBreak k'
     → token_of Plain held ≡ record { kind = BlockComment; len = length held; next_mode = InBlock }
     → token_of Plain (held ++ more) ≡ longer (length held) (block_token 0 more)
-    → StepTorn held (step_by (record { unbuilt = u; most = most; break = k }) line line (record { kind = BlockComment; len = length held; next_mode = InBlock }) held)
-    (step_by (record { unbuilt = u; most = most'; break = k' }) line line (token_of Plain (held ++ more)) (held ++ more))
+    → StepTorn held (step_by (record { most = most; break = k }) line line (record { kind = BlockComment; len = length held; next_mode = InBlock }) held)
+    (step_by (record { most = most'; break = k' }) line line (token_of Plain (held ++ more)) (held ++ more))
 unfolding step_by IsBreakOfLimit
-open-comment-torn u most most' k k' line held more (inl h) own is e =
+open-comment-torn most most' k k' line held more (inl h) own is e =
     let same : held ++ more ≡ held = ap (λ (m : List ℕ). held ++ m) h.0 ∙ append-nil held in
-    let small : Option Break → Step = λ x. step_by (record { unbuilt = u; most = most; break = x }) line line (record { kind = BlockComment; len = length held; next_mode = InBlock }) held in
-    subst (λ (x : Option Break). StepTorn held (small x) (step_by (record { unbuilt = u; most = most'; break = k' }) line line (token_of Plain (held ++ more)) (held ++ more))) (sym h.1)
-    (subst (λ (x : Option Break). StepTorn held (small None) (step_by (record { unbuilt = u; most = most'; break = x }) line line (token_of Plain (held ++ more)) (held ++ more))) (sym h.2)
-    (subst (λ (xs : List ℕ). StepTorn held (small None) (step_by (record { unbuilt = u; most = most'; break = None }) line line (token_of Plain xs) xs)) (sym same)
-    (subst (λ (t : Token). StepTorn held (small None) (step_by (record { unbuilt = u; most = most'; break = None }) line line t held)) (sym is)
-    (comment-end u most most' line held))))
-open-comment-torn u most most' None k' line held more (inr h) own is e = absurd h.1
-open-comment-torn u most most' (Some j) k' line held more (inr h) own is e =
+    let small : Option Break → Step = λ x. step_by (record { most = most; break = x }) line line (record { kind = BlockComment; len = length held; next_mode = InBlock }) held in
+    subst (λ (x : Option Break). StepTorn held (small x) (step_by (record { most = most'; break = k' }) line line (token_of Plain (held ++ more)) (held ++ more))) (sym h.1)
+    (subst (λ (x : Option Break). StepTorn held (small None) (step_by (record { most = most'; break = x }) line line (token_of Plain (held ++ more)) (held ++ more))) (sym h.2)
+    (subst (λ (xs : List ℕ). StepTorn held (small None) (step_by (record { most = most'; break = None }) line line (token_of Plain xs) xs)) (sym same)
+    (subst (λ (t : Token). StepTorn held (small None) (step_by (record { most = most'; break = None }) line line t held)) (sym is)
+    (comment-end most most' line held))))
+open-comment-torn most most' None k' line held more (inr h) own is e = absurd h.1
+open-comment-torn most most' (Some j) k' line held more (inr h) own is e =
     let v = block_token 0 more in
-    let c' : Course = record { unbuilt = u; most = most'; break = k' } in
-    let small = step_by (record { unbuilt = u; most = most; break = Some j }) line line (record { kind = BlockComment; len = length held; next_mode = InBlock }) held in
+    let c' : Course = record { most = most'; break = k' } in
+    let small = step_by (record { most = most; break = Some j }) line line (record { kind = BlockComment; len = length held; next_mode = InBlock }) held in
     subst (λ (t : Token). StepTorn held small (step_by c' line line t (held ++ more))) (sym e)
     (subst (λ (x : Kind). StepTorn held small (step_by c' line line (record { kind = x; len = length held + v.len; next_mode = v.next_mode }) (held ++ more))) (sym (block-kind 0 more))
-    (comment-torn u most most' j k' line (length held + v.len) v.next_mode held more h.1
+    (comment-torn most most' j k' line (length held + v.len) v.next_mode held more h.1
     (comment-quote held (row-comment held (token_of Plain held) (token_of-row held) (ap (λ (t : Token). t.kind) is)))))
 
 -- a token that closes is one that is closed
@@ -215,73 +215,57 @@ closed-is : (t : Token) → t.next_mode ≡ Plain → t ≡ record { kind = t.ki
 closed-is t e = ap (λ (m : Mode). record { kind = t.kind; len = t.len; next_mode = m }) e
 
 -- a string before `<%`, by its token
-perl-seam : (u : List ℕ → Bool) (most most' : ℕ) (k k' : Option Break) (line : ℕ) (t v : Token) (held more : List ℕ)
+perl-seam : (most most' : ℕ) (k k' : Option Break) (line : ℕ) (t v : Token) (held more : List ℕ)
     → v ≡ t → t ≡ record { kind = Str; len = t.len; next_mode = InStr } → t.len < length held
-    → StepTorn held (step_by (record { unbuilt = u; most = most; break = k }) line line t held)
-    (step_by (record { unbuilt = u; most = most'; break = k' }) line line v (held ++ more))
+    → StepTorn held (step_by (record { most = most; break = k }) line line t held)
+    (step_by (record { most = most'; break = k' }) line line v (held ++ more))
 unfolding step_by
-perl-seam u most most' k k' line t v held more e is lt =
-    let c : Course = record { unbuilt = u; most = most; break = k } in
-    let c' : Course = record { unbuilt = u; most = most'; break = k' } in
+perl-seam most most' k k' line t v held more e is lt =
+    let c : Course = record { most = most; break = k } in
+    let c' : Course = record { most = most'; break = k' } in
     subst (λ (x : Token). StepTorn held (step_by c line line t held) (step_by c' line line x (held ++ more))) (sym e)
     (subst (λ (x : Token). StepTorn held (step_by c line line x held) (step_by c' line line x (held ++ more))) (sym is)
     (perl-torn c c' line t.len held more lt))
 
 -- a step at a token, by how it stands in the text with more behind it
-seam-torn : (u : List ℕ → Bool) (most most' : ℕ) (k k' : Option Break) (line : ℕ) (b : ℕ) (bs more : List ℕ)
+seam-torn : (most most' : ℕ) (k k' : Option Break) (line : ℕ) (b : ℕ) (bs more : List ℕ)
     → most ≤ most' → Ends (b ∷ bs) more k k' → IsOwnBreak k'
     → Seam (b ∷ bs) more (token_of Plain (b ∷ bs)) (token_of Plain ((b ∷ bs) ++ more))
-    → StepTorn (b ∷ bs) (step_by (record { unbuilt = u; most = most; break = k }) line line (token_of Plain (b ∷ bs)) (b ∷ bs))
-    (step_by (record { unbuilt = u; most = most'; break = k' }) line line (token_of Plain ((b ∷ bs) ++ more)) ((b ∷ bs) ++ more))
+    → StepTorn (b ∷ bs) (step_by (record { most = most; break = k }) line line (token_of Plain (b ∷ bs)) (b ∷ bs))
+    (step_by (record { most = most'; break = k' }) line line (token_of Plain ((b ∷ bs) ++ more)) ((b ∷ bs) ++ more))
 unfolding token_of IsShort
-seam-torn u most most' k k' line b bs more le ends own (Closed e closed) =
+seam-torn most most' k k' line b bs more le ends own (Closed e closed) =
     let held = b ∷ bs in
     let t = token_of Plain held in
-    let c : Course = record { unbuilt = u; most = most; break = k } in
-    let c' : Course = record { unbuilt = u; most = most'; break = k' } in
+    let c : Course = record { most = most; break = k } in
+    let c' : Course = record { most = most'; break = k' } in
     let part = token_of-part Plain held (omega arith) in
     let whole_is = closed-is t closed in
     subst (λ (v : Token). StepTorn held (step_by c line line t held) (step_by c' line line v (held ++ more))) (sym e)
     (subst (λ (v : Token). StepTorn held (step_by c line line v held) (step_by c' line line v (held ++ more))) (sym whole_is)
-    (closed-torn u most most' k k' line t.kind t.len held more part.not_empty part.inside (plain-short b bs) le ends))
-seam-torn u most most' k k' line b bs more le ends own (BeforePerl e is lt perl) =
-    perl-seam u most most' k k' line (token_of Plain (b ∷ bs)) (token_of Plain ((b ∷ bs) ++ more)) (b ∷ bs) more e is lt
-seam-torn u most most' k k' line b bs more le ends own (OpenString is e) =
+    (closed-torn most most' k k' line t.kind t.len held more part.not_empty part.inside (plain-short b bs) le ends))
+seam-torn most most' k k' line b bs more le ends own (BeforePerl e is lt perl) =
+    perl-seam most most' k k' line (token_of Plain (b ∷ bs)) (token_of Plain ((b ∷ bs) ++ more)) (b ∷ bs) more e is lt
+seam-torn most most' k k' line b bs more le ends own (OpenString is e) =
     let held = b ∷ bs in
-    subst (λ (v : Token). StepTorn held (step_by (record { unbuilt = u; most = most; break = k }) line line v held)
-    (step_by (record { unbuilt = u; most = most'; break = k' }) line line (token_of Plain (held ++ more)) (held ++ more))) (sym is)
-    (open-string-torn u most most' k k' line b bs more ends own is e)
-seam-torn u most most' k k' line b bs more le ends own (OpenComment is e) =
+    subst (λ (v : Token). StepTorn held (step_by (record { most = most; break = k }) line line v held)
+    (step_by (record { most = most'; break = k' }) line line (token_of Plain (held ++ more)) (held ++ more))) (sym is)
+    (open-string-torn most most' k k' line b bs more ends own is e)
+seam-torn most most' k k' line b bs more le ends own (OpenComment is e) =
     let held = b ∷ bs in
-    subst (λ (v : Token). StepTorn held (step_by (record { unbuilt = u; most = most; break = k }) line line v held)
-    (step_by (record { unbuilt = u; most = most'; break = k' }) line line (token_of Plain (held ++ more)) (held ++ more))) (sym is)
-    (open-comment-torn u most most' k k' line held more ends own is e)
-
--- a step of a text, by whether it is built
-built-torn : (u : List ℕ → Bool) (most most' : ℕ) (k k' : Option Break) (line : ℕ) (b : ℕ) (bs more : List ℕ) (x : Bool)
-    → most ≤ most' → Ends (b ∷ bs) more k k' → IsOwnBreak k'
-    → StepTorn (b ∷ bs) (if x then broken Unbuilt [] line else step_by (record { unbuilt = u; most = most; break = k }) line line (token_of Plain (b ∷ bs)) (b ∷ bs))
-    (if x then broken Unbuilt [] line else step_by (record { unbuilt = u; most = most'; break = k' }) line line (token_of Plain ((b ∷ bs) ++ more)) ((b ∷ bs) ++ more))
-unfolding broken
-built-torn u most most' k k' line b bs more true le ends own = Stays (record { sort = Broken Unbuilt; bytes = []; line = line }) refl refl
-built-torn u most most' k k' line b bs more false le ends own =
-    seam-torn u most most' k k' line b bs more le ends own
-    (token_of-seam Plain (b ∷ bs) more (omega arith) (IsCut-from_line (b ∷ bs) more (ends-line (b ∷ bs) more k k' ends)))
+    subst (λ (v : Token). StepTorn held (step_by (record { most = most; break = k }) line line v held)
+    (step_by (record { most = most'; break = k' }) line line (token_of Plain (held ++ more)) (held ++ more))) (sym is)
+    (open-comment-torn most most' k k' line held more ends own is e)
 
 -- a step of a text
-step-torn : (u : List ℕ → Bool) (most most' : ℕ) (k k' : Option Break) (o line : ℕ) (b : ℕ) (bs more : List ℕ)
-    → IsByLines u → most ≤ most' → Ends (b ∷ bs) more k k' → IsOwnBreak k'
-    → StepTorn (b ∷ bs) (source_step (record { unbuilt = u; most = most; break = k }) Plain o line (b ∷ bs))
-    (source_step (record { unbuilt = u; most = most'; break = k' }) Plain o line ((b ∷ bs) ++ more))
+step-torn : (most most' : ℕ) (k k' : Option Break) (o line : ℕ) (b : ℕ) (bs more : List ℕ)
+    → most ≤ most' → Ends (b ∷ bs) more k k' → IsOwnBreak k'
+    → StepTorn (b ∷ bs) (source_step (record { most = most; break = k }) Plain o line (b ∷ bs))
+    (source_step (record { most = most'; break = k' }) Plain o line ((b ∷ bs) ++ more))
 unfolding source_step
-step-torn u most most' k k' o line b bs more stable le ends own =
-    let held = b ∷ bs in
-    let c : Course = record { unbuilt = u; most = most; break = k } in
-    let c' : Course = record { unbuilt = u; most = most'; break = k' } in
-    subst (λ (x : Bool). StepTorn held (if u held then broken Unbuilt [] line else step_by c line line (token_of Plain held) held)
-    (if x then broken Unbuilt [] line else step_by c' line line (token_of Plain (held ++ more)) (held ++ more)))
-    (sym (stable held more (omega arith) (ends-line held more k k' ends)))
-    (built-torn u most most' k k' line b bs more (u held) le ends own)
+step-torn most most' k k' o line b bs more le ends own =
+    seam-torn most most' k k' line b bs more le ends own
+    (token_of-seam Plain (b ∷ bs) more (omega arith) (IsCut-from_line (b ∷ bs) more (ends-line (b ∷ bs) more k k' ends)))
 
 -- the first token of a text is that of its step
 first-is : (c : Course) (o l b : ℕ) (bs : List ℕ)
@@ -304,25 +288,25 @@ small-next c o l held t n some inside bytes step =
     ∙ ap (λ (xs : List ℕ). t ∷ source_tokens c Plain l (l + line_ends (take n held)) 0 xs) (append-nil (drop n held))
 
 -- the end of a text, by its break
-end-torn : (u : List ℕ → Bool) (most most' : ℕ) (k k' : Option Break) (ended : Bool) (o l : ℕ) (more : List ℕ) → Ends [] more k k'
+end-torn : (most most' : ℕ) (k k' : Option Break) (ended : Bool) (o l : ℕ) (more : List ℕ) → Ends [] more k k'
     → (ended ≡ false → IsBreakOfLimit k → ⊥)
-    → TokensTorn ended (source_tokens (record { unbuilt = u; most = most; break = k }) Plain o l 0 [])
-    (source_tokens (record { unbuilt = u; most = most'; break = k' }) Plain o l 0 more)
+    → TokensTorn ended (source_tokens (record { most = most; break = k }) Plain o l 0 [])
+    (source_tokens (record { most = most'; break = k' }) Plain o l 0 more)
 unfolding source_tokens source_end TokensTorn IsBreakOfLimit TornBy token_role broken_role breach_kind is_limit
-end-torn u most most' k k' ended o l more (inl h) not_here =
-    subst (λ (x : Option Break). TokensTorn ended (source_tokens (record { unbuilt = u; most = most; break = x }) Plain o l 0 [])
-    (source_tokens (record { unbuilt = u; most = most'; break = k' }) Plain o l 0 more)) (sym h.1)
-    (subst (λ (x : Option Break). TokensTorn ended (source_tokens (record { unbuilt = u; most = most; break = None }) Plain o l 0 [])
-    (source_tokens (record { unbuilt = u; most = most'; break = x }) Plain o l 0 more)) (sym h.2)
-    (subst (λ (xs : List ℕ). TokensTorn ended (source_tokens (record { unbuilt = u; most = most; break = None }) Plain o l 0 [])
-    (source_tokens (record { unbuilt = u; most = most'; break = None }) Plain o l 0 xs)) (sym h.0) refl))
-end-torn u most most' None k' ended o l more (inr h) not_here = absurd h.1
-end-torn u most most' (Some j) k' ended o l more (inr (w, inl e)) not_here =
-    let us = source_tokens (record { unbuilt = u; most = most'; break = k' }) Plain o l 0 more in
+end-torn most most' k k' ended o l more (inl h) not_here =
+    subst (λ (x : Option Break). TokensTorn ended (source_tokens (record { most = most; break = x }) Plain o l 0 [])
+    (source_tokens (record { most = most'; break = k' }) Plain o l 0 more)) (sym h.1)
+    (subst (λ (x : Option Break). TokensTorn ended (source_tokens (record { most = most; break = None }) Plain o l 0 [])
+    (source_tokens (record { most = most'; break = x }) Plain o l 0 more)) (sym h.2)
+    (subst (λ (xs : List ℕ). TokensTorn ended (source_tokens (record { most = most; break = None }) Plain o l 0 [])
+    (source_tokens (record { most = most'; break = None }) Plain o l 0 xs)) (sym h.0) refl))
+end-torn most most' None k' ended o l more (inr h) not_here = absurd h.1
+end-torn most most' (Some j) k' ended o l more (inr (w, inl e)) not_here =
+    let us = source_tokens (record { most = most'; break = k' }) Plain o l 0 more in
     subst (λ (x : Breach). TokensTorn ended (record { sort = Broken x; bytes = []; line = l } ∷ []) us) (sym e)
     (inl (record { breach = LineLong; broken = refl; last = refl; limit = refl; torn = refl; nothing = λ f. absurd (not_here f (inl e)) }))
-end-torn u most most' (Some j) k' ended o l more (inr (w, inr e)) not_here =
-    let us = source_tokens (record { unbuilt = u; most = most'; break = k' }) Plain o l 0 more in
+end-torn most most' (Some j) k' ended o l more (inr (w, inr e)) not_here =
+    let us = source_tokens (record { most = most'; break = k' }) Plain o l 0 more in
     subst (λ (x : Breach). TokensTorn ended (record { sort = Broken x; bytes = []; line = l } ∷ []) us) (sym e)
     (inl (record { breach = SourceLong; broken = refl; last = refl; limit = refl; torn = refl; nothing = λ f. absurd (not_here f (inr e)) }))
 
@@ -331,20 +315,20 @@ abbrev Flagged : Bool → List ℕ → Option Break → Type 0
 Flagged ended held k = ended ≡ false → IsBreakOfLimit k → 0 < length held
 
 -- the tokens of a text, by the step of its first
-step-tokens : (u : List ℕ → Bool) (most most' : ℕ) (k k' : Option Break) (ended : Bool) (o l b : ℕ) (bs more : List ℕ)
+step-tokens : (most most' : ℕ) (k k' : Option Break) (ended : Bool) (o l b : ℕ) (bs more : List ℕ)
     → Ends (b ∷ bs) more k k'
     → ((n : ℕ) (t : SourceToken) → 0 < n → n ≤ length (b ∷ bs) → Flagged (ends_line t.sort) (drop n (b ∷ bs)) k
-    → TokensTorn (ends_line t.sort) (source_tokens (record { unbuilt = u; most = most; break = k }) Plain l (l + line_ends (take n (b ∷ bs))) 0 (drop n (b ∷ bs)))
-    (source_tokens (record { unbuilt = u; most = most'; break = k' }) Plain l (l + line_ends (take n (b ∷ bs))) 0 (drop n (b ∷ bs) ++ more)))
-    → StepTorn (b ∷ bs) (source_step (record { unbuilt = u; most = most; break = k }) Plain o l (b ∷ bs))
-    (source_step (record { unbuilt = u; most = most'; break = k' }) Plain o l ((b ∷ bs) ++ more))
-    → TokensTorn ended (source_tokens (record { unbuilt = u; most = most; break = k }) Plain o l 0 (b ∷ bs))
-    (source_tokens (record { unbuilt = u; most = most'; break = k' }) Plain o l 0 ((b ∷ bs) ++ more))
+    → TokensTorn (ends_line t.sort) (source_tokens (record { most = most; break = k }) Plain l (l + line_ends (take n (b ∷ bs))) 0 (drop n (b ∷ bs)))
+    (source_tokens (record { most = most'; break = k' }) Plain l (l + line_ends (take n (b ∷ bs))) 0 (drop n (b ∷ bs) ++ more)))
+    → StepTorn (b ∷ bs) (source_step (record { most = most; break = k }) Plain o l (b ∷ bs))
+    (source_step (record { most = most'; break = k' }) Plain o l ((b ∷ bs) ++ more))
+    → TokensTorn ended (source_tokens (record { most = most; break = k }) Plain o l 0 (b ∷ bs))
+    (source_tokens (record { most = most'; break = k' }) Plain o l 0 ((b ∷ bs) ++ more))
 unfolding TokensTorn IsBreakOfLimit
-step-tokens u most most' k k' ended o l b bs more ends inner (Goes t n e f some inside bytes short) =
+step-tokens most most' k k' ended o l b bs more ends inner (Goes t n e f some inside bytes short) =
     let held = b ∷ bs in
-    let c : Course = record { unbuilt = u; most = most; break = k } in
-    let c' : Course = record { unbuilt = u; most = most'; break = k' } in
+    let c : Course = record { most = most; break = k } in
+    let c' : Course = record { most = most'; break = k' } in
     subst (λ (ts : List SourceToken). TokensTorn ended ts (source_tokens c' Plain o l 0 (held ++ more)))
     (sym (small-next c o l held t n some inside bytes e))
     (inr (
@@ -356,17 +340,17 @@ step-tokens u most most' k k' ended o l b bs more ends inner (Goes t n e f some 
     flag : Ends (b ∷ bs) more k k' → Flagged (ends_line t.sort) (drop n (b ∷ bs)) k
     flag (inl h) = λ x limit. absurd (subst (λ (y : Option Break). IsBreakOfLimit y) h.1 limit)
     flag (inr h) = λ x limit. let lt = short x h.0 in let size = length-drop n (b ∷ bs) in omega (arith, lt, size)
-step-tokens u most most' k k' ended o l b bs more ends inner (Stays t e f) =
+step-tokens most most' k k' ended o l b bs more ends inner (Stays t e f) =
     let held = b ∷ bs in
-    let c : Course = record { unbuilt = u; most = most; break = k } in
-    let c' : Course = record { unbuilt = u; most = most'; break = k' } in
+    let c : Course = record { most = most; break = k } in
+    let c' : Course = record { most = most'; break = k' } in
     subst (λ (ts : List SourceToken). TokensTorn ended ts (source_tokens c' Plain o l 0 (held ++ more)))
     (sym (source_tokens-last c Plain o l held t (omega arith) e))
     (inr ([], source_tokens-last c' Plain o l (held ++ more) t (omega arith) f, refl))
-step-tokens u most most' k k' ended o l b bs more ends inner (Tears t breach e is limit suits) =
+step-tokens most most' k k' ended o l b bs more ends inner (Tears t breach e is limit suits) =
     let held = b ∷ bs in
-    let c : Course = record { unbuilt = u; most = most; break = k } in
-    let c' : Course = record { unbuilt = u; most = most'; break = k' } in
+    let c : Course = record { most = most; break = k } in
+    let c' : Course = record { most = most'; break = k' } in
     let first = first-is c' o l b (bs ++ more) in
     subst (λ (ts : List SourceToken). TokensTorn ended ts (source_tokens c' Plain o l 0 (held ++ more)))
     (sym (source_tokens-last c Plain o l held t (omega arith) e))
@@ -374,18 +358,18 @@ step-tokens u most most' k k' ended o l b bs more ends inner (Tears t breach e i
     (inl (record { breach = breach; broken = is; last = refl; limit = limit; torn = suits.torn first.0; nothing = λ x. suits.nothing first.0 })))
 
 -- the tokens of a text of at most so many bytes
-text-torn : (u : List ℕ → Bool) (most most' : ℕ) (k k' : Option Break) (more : List ℕ) → IsByLines u → most ≤ most' → IsOwnBreak k'
+text-torn : (most most' : ℕ) (k k' : Option Break) (more : List ℕ) → most ≤ most' → IsOwnBreak k'
     → (fuel : ℕ) (ended : Bool) (o l : ℕ) (held : List ℕ) → length held ≤ fuel → Ends held more k k' → Flagged ended held k
-    → TokensTorn ended (source_tokens (record { unbuilt = u; most = most; break = k }) Plain o l 0 held)
-    (source_tokens (record { unbuilt = u; most = most'; break = k' }) Plain o l 0 (held ++ more))
-text-torn u most most' k k' more stable le own fuel ended o l [] fits ends flag =
-    end-torn u most most' k k' ended o l more ends (λ f limit. absurd (omega (arith, flag f limit)))
-text-torn u most most' k k' more stable le own zero ended o l (b ∷ bs) fits ends flag = absurd (omega (arith, fits))
-text-torn u most most' k k' more stable le own (suc fuel) ended o l (b ∷ bs) fits ends flag =
-    step-tokens u most most' k k' ended o l b bs more ends
-    (λ n t some inside f. text-torn u most most' k k' more stable le own fuel (ends_line t.sort) l (l + line_ends (take n (b ∷ bs))) (drop n (b ∷ bs))
+    → TokensTorn ended (source_tokens (record { most = most; break = k }) Plain o l 0 held)
+    (source_tokens (record { most = most'; break = k' }) Plain o l 0 (held ++ more))
+text-torn most most' k k' more le own fuel ended o l [] fits ends flag =
+    end-torn most most' k k' ended o l more ends (λ f limit. absurd (omega (arith, flag f limit)))
+text-torn most most' k k' more le own zero ended o l (b ∷ bs) fits ends flag = absurd (omega (arith, fits))
+text-torn most most' k k' more le own (suc fuel) ended o l (b ∷ bs) fits ends flag =
+    step-tokens most most' k k' ended o l b bs more ends
+    (λ n t some inside f. text-torn most most' k k' more le own fuel (ends_line t.sort) l (l + line_ends (take n (b ∷ bs))) (drop n (b ∷ bs))
     (shorter n some) (dropped n ends) f)
-    (step-torn u most most' k k' o l b bs more stable le ends own)
+    (step-torn most most' k k' o l b bs more le ends own)
   where
     shorter : (n : ℕ) → 0 < n → length (drop n (b ∷ bs)) ≤ fuel
     shorter n some = let size = length-drop n (b ∷ bs) in omega (arith, size, fits)
@@ -524,14 +508,14 @@ fronts-torn most most' le (l ∷ m ∷ ls) h room room' rooms =
     less a b n e = omega (arith, e)
 
 -- the tokens of a whole source with larger limits
-pub sources-torn : (u : List ℕ → Bool) (most most' room room' : ℕ) (bytes : List ℕ) → IsByLines u → most ≤ most' → room ≤ room'
-    → TokensTorn true (whole_tokens u most room bytes) (whole_tokens u most' room' bytes)
+pub sources-torn : (most most' room room' : ℕ) (bytes : List ℕ) → most ≤ most' → room ≤ room'
+    → TokensTorn true (whole_tokens most room bytes) (whole_tokens most' room' bytes)
 unfolding whole_tokens remaining_tokens front
-sources-torn u most most' room room' bytes stable le rooms =
+sources-torn most most' room room' bytes le rooms =
     let f = front_of_lines most room (lines_of bytes) in
     let g = front_of_lines most' room' (lines_of bytes) in
     let h : FrontTorn f g = fronts-torn most most' le (lines_of bytes) (lines-are bytes) room room' rooms in
-    subst (λ (bs : List ℕ). TokensTorn true (source_tokens (record { unbuilt = u; most = most; break = f.break }) Plain 1 1 0 f.text)
-    (source_tokens (record { unbuilt = u; most = most'; break = g.break }) Plain 1 1 0 bs)) (sym h.text)
-    (text-torn u most most' f.break g.break h.more stable le h.own (length f.text) true 1 1 f.text (omega arith) h.ends
+    subst (λ (bs : List ℕ). TokensTorn true (source_tokens (record { most = most; break = f.break }) Plain 1 1 0 f.text)
+    (source_tokens (record { most = most'; break = g.break }) Plain 1 1 0 bs)) (sym h.text)
+    (text-torn most most' f.break g.break h.more le h.own (length f.text) true 1 1 f.text (omega arith) h.ends
     (λ x limit. absurd (true≢false x)))

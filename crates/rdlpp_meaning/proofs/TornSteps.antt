@@ -122,53 +122,53 @@ line-torn line held more some ends =
     (line_len-some held some) (line_len-le held) refl (λ f. absurd (true≢false f))
 
 -- a backquoted name, by which it is
-back-by : (u : List ℕ → Bool) (most most' : ℕ) (k k' : Option Break) (line n : ℕ) (held more : List ℕ) (own : List ℕ) (x y : Bool) → 0 < n → n ≤ length held
+back-by : (most most' : ℕ) (k k' : Option Break) (line n : ℕ) (held more : List ℕ) (own : List ℕ) (x y : Bool) → 0 < n → n ≤ length held
     → (ends_line (Ordinary Back) ≡ false → IsWholeLines held → n < length held)
     → most ≤ most' → Ends held more k k'
     → StepTorn held
-    (if x then define_step (record { unbuilt = u; most = most; break = k }) line held
+    (if x then define_step (record { most = most; break = k }) line held
     else (if y then line_step line held
     else Next (record { sort = Ordinary Back; bytes = take n held; line = line })))
-    (if x then define_step (record { unbuilt = u; most = most'; break = k' }) line (held ++ more)
+    (if x then define_step (record { most = most'; break = k' }) line (held ++ more)
     else (if y then line_step line (held ++ more)
     else Next (record { sort = Ordinary Back; bytes = take n (held ++ more); line = line })))
-back-by u most most' k k' line n held more own true y some inside short le ends =
-    define-torn u most most' k k' line held more (le_trans some inside) le ends
-back-by u most most' k k' line n held more own false true some inside short le ends =
+back-by most most' k k' line n held more own true y some inside short le ends =
+    define-torn most most' k k' line held more (le_trans some inside) le ends
+back-by most most' k k' line n held more own false true some inside short le ends =
     line-torn line held more (le_trans some inside) (ends-line held more k k' ends)
-back-by u most most' k k' line n held more own false false some inside short le ends =
+back-by most most' k k' line n held more own false false some inside short le ends =
     goes-alike held more Back n line _ _ some inside short refl refl
 
 -- a backquoted name
-back-torn : (u : List ℕ → Bool) (most most' : ℕ) (k k' : Option Break) (line n : ℕ) (held more : List ℕ) → 0 < n → n ≤ length held
+back-torn : (most most' : ℕ) (k k' : Option Break) (line n : ℕ) (held more : List ℕ) → 0 < n → n ≤ length held
     → (ends_line (Ordinary Back) ≡ false → IsWholeLines held → n < length held)
     → most ≤ most' → Ends held more k k'
-    → StepTorn held (back_step (record { unbuilt = u; most = most; break = k }) line (record { kind = Back; len = n; next_mode = Plain }) held)
-    (back_step (record { unbuilt = u; most = most'; break = k' }) line (record { kind = Back; len = n; next_mode = Plain }) (held ++ more))
+    → StepTorn held (back_step (record { most = most; break = k }) line (record { kind = Back; len = n; next_mode = Plain }) held)
+    (back_step (record { most = most'; break = k' }) line (record { kind = Back; len = n; next_mode = Plain }) (held ++ more))
 unfolding back_step
-back-torn u most most' k k' line n held more some inside short le ends =
-    let small = back_step (record { unbuilt = u; most = most; break = k }) line (record { kind = Back; len = n; next_mode = Plain }) held in
+back-torn most most' k k' line n held more some inside short le ends =
+    let small = back_step (record { most = most; break = k }) line (record { kind = Back; len = n; next_mode = Plain }) held in
     subst (λ (own : List ℕ). StepTorn held small
-    (if bytes_eq own (codes "`define") then define_step (record { unbuilt = u; most = most'; break = k' }) line (held ++ more)
+    (if bytes_eq own (codes "`define") then define_step (record { most = most'; break = k' }) line (held ++ more)
     else (if bytes_eq own (codes "`line") then line_step line (held ++ more)
     else Next (record { sort = Ordinary Back; bytes = own; line = line })))) (sym (take-append-le n held more inside))
     (subst (λ (own : List ℕ). StepTorn held small
-    (if bytes_eq (take n held) (codes "`define") then define_step (record { unbuilt = u; most = most'; break = k' }) line (held ++ more)
+    (if bytes_eq (take n held) (codes "`define") then define_step (record { most = most'; break = k' }) line (held ++ more)
     else (if bytes_eq (take n held) (codes "`line") then line_step line (held ++ more)
     else Next (record { sort = Ordinary Back; bytes = own; line = line })))) (take-append-le n held more inside)
-    (back-by u most most' k k' line n held more (take n held) (bytes_eq (take n held) (codes "`define")) (bytes_eq (take n held) (codes "`line"))
+    (back-by most most' k k' line n held more (take n held) (bytes_eq (take n held) (codes "`define")) (bytes_eq (take n held) (codes "`line"))
     some inside short le ends))
 
 -- a token that is closed
-pub closed-torn : (u : List ℕ → Bool) (most most' : ℕ) (k k' : Option Break) (line : ℕ) (kind : Kind) (n : ℕ) (held more : List ℕ) → 0 < n → n ≤ length held
+pub closed-torn : (most most' : ℕ) (k k' : Option Break) (line : ℕ) (kind : Kind) (n : ℕ) (held more : List ℕ) → 0 < n → n ≤ length held
     → (ends_line (Ordinary kind) ≡ false → IsWholeLines held → n < length held)
     → most ≤ most' → Ends held more k k'
-    → StepTorn held (step_by (record { unbuilt = u; most = most; break = k }) line line (record { kind = kind; len = n; next_mode = Plain }) held)
-    (step_by (record { unbuilt = u; most = most'; break = k' }) line line (record { kind = kind; len = n; next_mode = Plain }) (held ++ more))
+    → StepTorn held (step_by (record { most = most; break = k }) line line (record { kind = kind; len = n; next_mode = Plain }) held)
+    (step_by (record { most = most'; break = k' }) line line (record { kind = kind; len = n; next_mode = Plain }) (held ++ more))
 unfolding step_by string_step comment_step broken
-closed-torn u most most' k k' line Perl n held more some inside short le ends =
+closed-torn most most' k k' line Perl n held more some inside short le ends =
     Stays (record { sort = Broken PerlFound; bytes = []; line = line }) refl refl
-closed-torn u most most' k k' line Back n held more some inside short le ends =
-    back-torn u most most' k k' line n held more some inside short le ends
-closed-torn u most most' k k' line kind n held more some inside short le ends =
+closed-torn most most' k k' line Back n held more some inside short le ends =
+    back-torn most most' k k' line n held more some inside short le ends
+closed-torn most most' k k' line kind n held more some inside short le ends =
     goes-alike held more kind n line _ _ some inside short refl refl

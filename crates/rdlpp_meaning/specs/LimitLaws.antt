@@ -1,8 +1,6 @@
 -- The law of larger limits: where no fault of a limit ends an output, larger limits give the same one.
 -- A definition that names no source is this project's own.
-use Rattle.std.specs.Prelude.{◌≡◌, ℕ, ◌<◌, ◌≤◌, Bool, true, false, List, ◌++◌, length, Option, None, Some}
-use Rattle.rdlpp_scan.specs.Lines.{EndsLine}
-use Rattle.rdlpp_scan.specs.Stage.{is_unbuilt}
+use Rattle.std.specs.Prelude.{◌≡◌, ℕ, ◌≤◌, Bool, true, false, List, Option, None, Some}
 use Rattle.rdlpp_table.specs.declared.limits.Limits.{Limits}
 use Rattle.rdlpp_table.specs.Table.{Macro}
 use Rattle.rdlpp_meaning.specs.declared.fault.FaultKind.{FaultKind}
@@ -44,11 +42,6 @@ pub record IsLarger (small large : Limits) : Type 0 where
   pub conditions : small.conditions ≤ large.conditions
   pub output_bytes : small.output_bytes ≤ large.output_bytes
 
--- what isn't built is told by lines: a text that ends at a line's end begins with it where it does with more behind it
--- (source: the stage)
-abbrev pub IsByLines : (List ℕ → Bool) → Type 0
-IsByLines unbuilt = (held more : List ℕ) → 0 < length held → EndsLine held more → unbuilt (held ++ more) ≡ unbuilt held
-
 -- an output that no fault of a limit ends is the same with larger limits
 abbrev pub LargerLimits : Type 0
 LargerLimits = (small large : Limits) (searches : Searches) (origins : Bool) (macros : List Macro) (path : List ℕ)
@@ -57,16 +50,8 @@ LargerLimits = (small large : Limits) (searches : Searches) (origins : Bool) (ma
 
 -- so it is without the limit on the output, and also while not all is built
 abbrev pub LargerStaged : Type 0
-LargerStaged = (small large : Limits) (unbuilt : List ℕ → Bool) (unbuilt_macro : Macro → Bool) (find : List ℕ → List ℕ → Lookup) (origins : Bool)
-    (macros : List Macro) (path : List ℕ) (found : Lookup) → IsLarger small large → IsByLines unbuilt
-    → NamesNoLimit (output (rules_of small unbuilt unbuilt_macro find origins) macros small.includes small.conditions path found).fault
-    → output (rules_of large unbuilt unbuilt_macro find origins) macros large.includes large.conditions path found
-    ≡ output (rules_of small unbuilt unbuilt_macro find origins) macros small.includes small.conditions path found
-
--- what isn't built yet is told by lines
-abbrev pub StageByLines : Type 0
-StageByLines = IsByLines is_unbuilt
-
--- and where all is built there is nothing to tell
-abbrev pub BuiltByLines : Type 0
-BuiltByLines = IsByLines (λ text. false)
+LargerStaged = (small large : Limits) (unbuilt_macro : Macro → Bool) (find : List ℕ → List ℕ → Lookup) (origins : Bool)
+    (macros : List Macro) (path : List ℕ) (found : Lookup) → IsLarger small large
+    → NamesNoLimit (output (rules_of small unbuilt_macro find origins) macros small.includes small.conditions path found).fault
+    → output (rules_of large unbuilt_macro find origins) macros large.includes large.conditions path found
+    ≡ output (rules_of small unbuilt_macro find origins) macros small.includes small.conditions path found

@@ -22,7 +22,7 @@ limited over quota o =
 
 -- the rules of the whole language, from which nothing is left to build (source: this project's profile)
 unfoldable pub built_rules : Limits → Searches → Bool → Rules
-built_rules limits searches origins = rules_of limits (λ text. false) (λ m. false) searches.included origins
+built_rules limits searches origins = rules_of limits (λ m. false) searches.included origins
 
 -- the output of a main path from macros, without the limit on its bytes (source: this project's profile)
 unfoldable pub unlimited_output : Limits → Searches → Bool → List Macro → List ℕ → Outcome

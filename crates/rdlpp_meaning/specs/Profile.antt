@@ -30,15 +30,15 @@ unfoldable pub with_fault : TableDefined → Defined
 with_fault (TableAccepted macros) = Accepted macros
 with_fault (TableRefused kind word) = Refused (define_fault kind) word
 
--- the rules by limits, by what isn't built of sources and of macros, by what an `include` from a path finds, and by whether
+-- the rules by limits, by what isn't built of macros, by what an `include` from a path finds, and by whether
 -- origin lines are asked for (source: this project's profile)
-unfoldable pub rules_of : Limits → (List ℕ → Bool) → (Macro → Bool) → (List ℕ → List ℕ → Lookup) → Bool → Rules
-rules_of limits unbuilt unbuilt_macro find origins = record {
+unfoldable pub rules_of : Limits → (Macro → Bool) → (List ℕ → List ℕ → Lookup) → Bool → Rules
+rules_of limits unbuilt_macro find origins = record {
   depth = limits.depth;
   argument_bytes = limits.argument_bytes;
   unbuilt_macro = unbuilt_macro;
   define = λ macros rest. with_fault (define_of limits.definition_bytes limits.definitions macros rest);
-  tokens = λ text. whole_tokens unbuilt limits.line_bytes limits.source_bytes text;
+  tokens = λ text. whole_tokens limits.line_bytes limits.source_bytes text;
   find = find;
   origins = origins;
 }

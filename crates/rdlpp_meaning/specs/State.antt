@@ -5,7 +5,7 @@ use Rattle.rdlpp_scan.specs.Front.{Breach, PerlFound, StringOpen, CommentOpen, L
 use Rattle.rdlpp_scan.specs.SourceTokens.{SourceToken}
 use Rattle.rdlpp_table.specs.Table.{Macro}
 use Rattle.rdlpp_meaning.specs.declared.fault.FaultKind.{FaultKind}
-use Rattle.rdlpp_meaning.specs.declared.fault.FaultKind.TheVariants.{EmbeddedPerl, OpenString, OpenComment, LineTooLong, SourceTooLong, Unbuilt}
+use Rattle.rdlpp_meaning.specs.declared.fault.FaultKind.TheVariants.{EmbeddedPerl, OpenString, OpenComment, LineTooLong, SourceTooLong}
 use Rattle.rdlpp_meaning.specs.Outcome.{Told}
 
 -- what a `define` comes to: the macros after it, or a kind of fault and its word (source: IEEE 1364-2001, `define`)
@@ -68,4 +68,3 @@ breach_kind LineLong = LineTooLong
 breach_kind SourceLong = SourceTooLong
 breach_kind DefineLong = LineTooLong
 breach_kind DefineCut = SourceTooLong
-breach_kind Breach.Unbuilt = Unbuilt

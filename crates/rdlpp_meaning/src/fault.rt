@@ -177,15 +177,3 @@ pub struct Fault {
     /// The first 128 bytes of the name that the fault is about; empty where it is about none.
     pub word: ArrayString<128>,
 }
-
-#[cfg(test)]
-mod tests {
-    use super::*;
-
-    #[test]
-    fn tells_a_fault(rt: HostRuntime) {
-        assert_eq!(rt; FaultKind::UndefinedMacro.number(), 7);
-        let text = format!(in rt.alloc(); "{}", FaultKind::UndefinedMacro).expect(&rt, "memory");
-        assert_eq!(rt; text.as_str(), "undefined macro");
-    }
-}

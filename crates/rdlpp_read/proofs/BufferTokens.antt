@@ -17,63 +17,63 @@ use Rattle.rdlpp_read.specs.declared.buffer.filling.Fill.{Fill}
 use Rattle.rdlpp_read.specs.declared.buffer.filling.Fill.TheVariants.{Held, End, SourceLong, LineLong, Failed}
 
 -- the tokens that remain go by what is held, by what stands behind it, and by the numbers and the mode
-pub tokens-same : {R : Type 0} (u : List ℕ → Bool) (unread : R → List ℕ) (old new : BufferView R) → new.line ≡ old.line → new.line_bytes ≡ old.line_bytes → new.mode ≡ old.mode →
-    new.open_token_line ≡ old.open_token_line → new.bytes_left ≡ old.bytes_left → held_of new ≡ held_of old → rest_of unread new ≡ rest_of unread old → tokens_left u unread new ≡ tokens_left u unread old
+pub tokens-same : {R : Type 0} (unread : R → List ℕ) (old new : BufferView R) → new.line ≡ old.line → new.line_bytes ≡ old.line_bytes → new.mode ≡ old.mode →
+    new.open_token_line ≡ old.open_token_line → new.bytes_left ≡ old.bytes_left → held_of new ≡ held_of old → rest_of unread new ≡ rest_of unread old → tokens_left unread new ≡ tokens_left unread old
 unfolding tokens_left
-tokens-same u unread old new line line_bytes mode open_token_line bytes_left held rest = cc
+tokens-same unread old new line line_bytes mode open_token_line bytes_left held rest = cc
 
 -- lines that come behind what is held change no token
-pub lengthens-tokens : {R : Type 0} (tells : Type 0) (u : List ℕ → Bool) (unread : R → List ℕ) (old new : BufferView R) → new.line ≡ old.line → new.line_bytes ≡ old.line_bytes → new.mode ≡ old.mode →
-    new.open_token_line ≡ old.open_token_line → Lengthens tells unread old new → tells → tokens_left u unread new ≡ tokens_left u unread old
+pub lengthens-tokens : {R : Type 0} (tells : Type 0) (unread : R → List ℕ) (old new : BufferView R) → new.line ≡ old.line → new.line_bytes ≡ old.line_bytes → new.mode ≡ old.mode →
+    new.open_token_line ≡ old.open_token_line → Lengthens tells unread old new → tells → tokens_left unread new ≡ tokens_left unread old
 unfolding tokens_left
-lengthens-tokens tells u unread old new line line_bytes mode open_token_line l t =
+lengthens-tokens tells unread old new line line_bytes mode open_token_line l t =
     let size : length (held_of new) ≡ length (held_of old) + length l.lines = ap length l.held ∙ length-append (held_of old) l.lines in
     let short = l.short in
-    let law = remaining-accept u old.line_bytes old.mode old.open_token_line old.line (held_of old) old.bytes_left l.lines (rest_of unread new) l.ends (omega arith) l.fits in
+    let law = remaining-accept old.line_bytes old.mode old.open_token_line old.line (held_of old) old.bytes_left l.lines (rest_of unread new) l.ends (omega arith) l.fits in
     let held = l.held in
     let left = l.bytes_left in
     let rest = l.rest t in
     cc
 
 -- what stands at the end of a text that isn't broken
-ended_by : (u : List ℕ → Bool) (most : ℕ) (m : Mode) (opened line : ℕ) → source_end (record { unbuilt = u; most = most; break = None }) m opened line ≡ ended_tokens m opened
+ended_by : (most : ℕ) (m : Mode) (opened line : ℕ) → source_end (record { most = most; break = None }) m opened line ≡ ended_tokens m opened
 unfolding source_end open_end broken
-ended_by u most Plain opened line = refl
-ended_by u most InStr opened line = refl
-ended_by u most InBlock opened line = refl
+ended_by most Plain opened line = refl
+ended_by most InStr opened line = refl
+ended_by most InBlock opened line = refl
 
 -- what remains where the text has ended
-end-tokens : {R : Type 0} (u : List ℕ → Bool) (unread : R → List ℕ) (f : BufferView R) → held_of f ≡ [] → rest_of unread f ≡ [] → tokens_left u unread f ≡ ended_tokens f.mode f.open_token_line
+end-tokens : {R : Type 0} (unread : R → List ℕ) (f : BufferView R) → held_of f ≡ [] → rest_of unread f ≡ [] → tokens_left unread f ≡ ended_tokens f.mode f.open_token_line
 unfolding tokens_left remaining_tokens source_tokens
-end-tokens u unread f none ended = rw (none, ended, front-none) (ended_by u f.line_bytes f.mode f.open_token_line f.line)
+end-tokens unread f none ended = rw (none, ended, front-none) (ended_by f.line_bytes f.mode f.open_token_line f.line)
 
 -- what stands before a line that breaks a text
-broken_by : (u : List ℕ → Bool) (most : ℕ) (k : Break) (m : Mode) (opened line : ℕ) → source_end (record { unbuilt = u; most = most; break = Some k }) m opened line ≡ only_broken k.breach line
+broken_by : (most : ℕ) (k : Break) (m : Mode) (opened line : ℕ) → source_end (record { most = most; break = Some k }) m opened line ≡ only_broken k.breach line
 unfolding source_end open_end broken line_ends
-broken_by u most k Plain opened line = refl
-broken_by u most k InStr opened line = ap (only_broken k.breach) (omega arith)
-broken_by u most k InBlock opened line = ap (only_broken k.breach) (omega arith)
+broken_by most k Plain opened line = refl
+broken_by most k InStr opened line = ap (only_broken k.breach) (omega arith)
+broken_by most k InBlock opened line = ap (only_broken k.breach) (omega arith)
 
 -- a line that breaks the text is all that remains
-break-tokens : {R : Type 0} (u : List ℕ → Bool) (unread : R → List ℕ) (f : BufferView R) (k : Break) → held_of f ≡ [] →
-    front f.line_bytes f.bytes_left (rest_of unread f) ≡ record { text = []; break = Some k } → tokens_left u unread f ≡ only_broken k.breach f.line
+break-tokens : {R : Type 0} (unread : R → List ℕ) (f : BufferView R) (k : Break) → held_of f ≡ [] →
+    front f.line_bytes f.bytes_left (rest_of unread f) ≡ record { text = []; break = Some k } → tokens_left unread f ≡ only_broken k.breach f.line
 unfolding tokens_left remaining_tokens source_tokens
-break-tokens u unread f k none broken = rw (none, broken) (broken_by u f.line_bytes k f.mode f.open_token_line f.line)
+break-tokens unread f k none broken = rw (none, broken) (broken_by f.line_bytes k f.mode f.open_token_line f.line)
 
 -- what was found says what the tokens are, where nothing was held
 grows-tokens : {R : Type 0} (tells : Type 0) (unread : R → List ℕ) (fill : Fill) (old new : BufferView R) → held_of old ≡ [] → Grows tells unread fill old new →
-    (u : List ℕ → Bool) → tells → TellsTokens fill old (tokens_left u unread old) (tokens_left u unread new)
-grows-tokens tells unread Held old new none g u t = lengthens-tokens tells u unread old new g.line g.line_bytes g.mode g.open_token_line g.by t
-grows-tokens tells unread End old new none g u t = end-tokens u unread old none (g.by.1 t)
-grows-tokens tells unread SourceLong old new none g u t =
+    tells → TellsTokens fill old (tokens_left unread old) (tokens_left unread new)
+grows-tokens tells unread Held old new none g t = lengthens-tokens tells unread old new g.line g.line_bytes g.mode g.open_token_line g.by t
+grows-tokens tells unread End old new none g t = end-tokens unread old none (g.by.1 t)
+grows-tokens tells unread SourceLong old new none g t =
     let short = g.by.1 t in
-    break-tokens u unread old _ none (front-source_long old.line_bytes old.bytes_left (rest_of unread old) (omega arith) (g.by.2 t))
-grows-tokens tells unread LineLong old new none g u t =
+    break-tokens unread old _ none (front-source_long old.line_bytes old.bytes_left (rest_of unread old) (omega arith) (g.by.2 t))
+grows-tokens tells unread LineLong old new none g t =
     let long = g.by.1 t in
     let size : length (held_of old) ≡ 0 = ap length none in
-    break-tokens u unread old _ none (front-line_long old.line_bytes old.bytes_left (rest_of unread old) (omega arith))
-grows-tokens tells unread Failed old new none g u t =
-    tokens-same u unread old new g.line g.line_bytes g.mode g.open_token_line g.by.0.bytes_left g.by.0.held (g.by.1 t)
+    break-tokens unread old _ none (front-line_long old.line_bytes old.bytes_left (rest_of unread old) (omega arith))
+grows-tokens tells unread Failed old new none g t =
+    tokens-same unread old new g.line g.line_bytes g.mode g.open_token_line g.by.0.bytes_left g.by.0.held (g.by.1 t)
 
 -- bytes came, where nothing was held
 grows-bytes : {R : Type 0} (tells : Type 0) (unread : R → List ℕ) (fill : Fill) (old new : BufferView R) → held_of old ≡ [] → GrowsBy tells unread fill old new → HasBytes fill new
@@ -184,7 +184,6 @@ compacts-grows tells unread fill old mid new c g = record {
   by = compacts-by tells unread fill old mid new c g.by;
 }
 
--- what was found is what the source has, where nothing was held
 -- the text that isn't used stays, but where a byte too many was read
 pub grows-text : {R : Type 0} (tells : Type 0) (unread : R → List ℕ) (fill : Fill) (old new : BufferView R) → GrowsBy tells unread fill old new → IsExact fill → tells → text_left unread new ≡ text_left unread old
 unfolding text_left
@@ -193,6 +192,15 @@ grows-text tells unread End old new by other t = let held = by.0.held in let res
 grows-text tells unread SourceLong old new by other t = let held = by.0.held in let rest = by.3 t in cc
 grows-text tells unread LineLong old new by other t = absurd (other refl)
 grows-text tells unread Failed old new by other t = let held = by.0.held in let rest = by.1 t in cc
+
+-- where the end of a text was met, nothing is left of it
+grows-ended : {R : Type 0} (tells : Type 0) (unread : R → List ℕ) (fill : Fill) (old new : BufferView R) → held_of old ≡ [] → GrowsBy tells unread fill old new → fill ≡ End → text_left unread new ≡ []
+unfolding text_left
+grows-ended tells unread Held old new none by is = cc
+grows-ended tells unread End old new none by is = let held = by.0.held in let rest = by.2 in cc
+grows-ended tells unread SourceLong old new none by is = cc
+grows-ended tells unread LineLong old new none by is = cc
+grows-ended tells unread Failed old new none by is = cc
 
 -- what a source has before its next byte, by what stood there
 pub grows-fills : {R : Type 0} (tells : Type 0) (unread : R → List ℕ) (fill : Fill) (old new : BufferView R) → held_of old ≡ [] → Grows tells unread fill old new → Fills tells unread fill old new
@@ -205,6 +213,7 @@ grows-fills tells unread fill old new none g = record {
   unused = g.unused;
   slides = g.slides;
   text = grows-text tells unread fill old new g.by;
+  ended = grows-ended tells unread fill old new none g.by;
   tokens = grows-tokens tells unread fill old new none g;
 }
 
@@ -220,8 +229,13 @@ held-fills tells unread f some inside = record {
   unused = refl;
   slides = slides-same (IsExact Held × tells) unread f;
   text = λ other t. refl;
-  tokens = λ u t. refl;
+  ended = λ is. cc;
+  tokens = λ t. refl;
 }
+
+-- where the end of a text was met, nothing was left of it before
+pub ended-text : {R : Type 0} (tells : Type 0) (unread : R → List ℕ) (old new : BufferView R) → Fills tells unread End old new → tells → text_left unread old ≡ []
+ended-text tells unread old new fills t = let text = fills.text (λ is. cc) t in let ended = fills.ended refl in cc
 
 -- where no line is accepted, nothing is held
 pub none_ends : {R : Type 0} (f : BufferView R) → f.accepted ≡ 0 → EndsHeld f

@@ -31,9 +31,9 @@ unfolding whole_lines_len logical_len
 continues-starts g sources f ends = record {
   extends = record { line = refl; line_bytes = refl; mode = refl; open_token_line = refl; unused = refl; more = []; held = sym (append-nil (held_of f)) };
   slides = slides-same (g.tells sources) g.unread f;
-  tokens = λ u t. refl;
+  tokens = λ t. refl;
   text = λ t. refl;
-  define = λ u t h. h;
+  define = λ t h. h;
   place = omega arith;
   whole = refl;
   none = refl;
@@ -66,29 +66,29 @@ unfolding held_of consumed
 consumed-held f n = sym (drop-drop n f.at (take f.accepted f.window))
 
 -- the tokens behind what is consumed of plain text
-consumed-tokens : {R : Type 0} (u : List ℕ → Bool) (unread : R → List ℕ) (f : BufferView R) (n : ℕ) → f.mode ≡ Plain →
-    tokens_left u unread (consumed f n) ≡ remaining_tokens u f.line_bytes Plain f.line (f.line + line_ends (take n (held_of f))) (drop n (held_of f)) f.bytes_left (rest_of unread f)
+consumed-tokens : {R : Type 0} (unread : R → List ℕ) (f : BufferView R) (n : ℕ) → f.mode ≡ Plain →
+    tokens_left unread (consumed f n) ≡ remaining_tokens f.line_bytes Plain f.line (f.line + line_ends (take n (held_of f))) (drop n (held_of f)) f.bytes_left (rest_of unread f)
 unfolding tokens_left consumed rest_of held_of ahead_of
-consumed-tokens u unread f n plain =
-    rw (consumed-held f n, plain) (remaining-opened u f.line_bytes f.open_token_line f.line (f.line + line_ends (take n (held_of f))) (drop n (held_of f)) f.bytes_left (rest_of unread f))
+consumed-tokens unread f n plain =
+    rw (consumed-held f n, plain) (remaining-opened f.line_bytes f.open_token_line f.line (f.line + line_ends (take n (held_of f))) (drop n (held_of f)) f.bytes_left (rest_of unread f))
 
 -- the tokens of a `define` whose logical line is held
-define-whole : {R : Type 0} (u : List ℕ → Bool) (unread : R → List ℕ) (f : BufferView R) (n : ℕ) → f.mode ≡ Plain → HoldsDefine u (held_of f) (rest_of unread f) → logical_len 0 0 (held_of f) ≡ Some n →
-    length (held_of f) ≤ f.line_bytes → tokens_left u unread f ≡ record { sort = Definition; bytes = take n (held_of f); line = f.line } ∷ tokens_left u unread (consumed f n)
+define-whole : {R : Type 0} (unread : R → List ℕ) (f : BufferView R) (n : ℕ) → f.mode ≡ Plain → HoldsDefine (held_of f) (rest_of unread f) → logical_len 0 0 (held_of f) ≡ Some n →
+    length (held_of f) ≤ f.line_bytes → tokens_left unread f ≡ record { sort = Definition; bytes = take n (held_of f); line = f.line } ∷ tokens_left unread (consumed f n)
 unfolding tokens_left held_of rest_of ahead_of
-define-whole u unread f n plain holds found short =
+define-whole unread f n plain holds found short =
     let within = logical_len-within 0 0 (held_of f) n found in
-    rw (consumed-tokens u unread f n plain, plain)
-    (remaining-logical u f.line_bytes f.open_token_line f.line (held_of f) f.bytes_left (rest_of unread f) n holds found (omega arith))
+    rw (consumed-tokens unread f n plain, plain)
+    (remaining-logical f.line_bytes f.open_token_line f.line (held_of f) f.bytes_left (rest_of unread f) n holds found (omega arith))
 
 -- the tokens of a `define` that goes on up to the end of the text
-define-last : {R : Type 0} (u : List ℕ → Bool) (unread : R → List ℕ) (f : BufferView R) → f.mode ≡ Plain → HoldsDefine u (held_of f) (rest_of unread f) → logical_len 0 0 (held_of f) ≡ None →
+define-last : {R : Type 0} (unread : R → List ℕ) (f : BufferView R) → f.mode ≡ Plain → HoldsDefine (held_of f) (rest_of unread f) → logical_len 0 0 (held_of f) ≡ None →
     rest_of unread f ≡ [] → length (held_of f) ≤ f.line_bytes →
-    tokens_left u unread f ≡ record { sort = Definition; bytes = take (length (held_of f)) (held_of f); line = f.line } ∷ tokens_left u unread (consumed f (length (held_of f)))
+    tokens_left unread f ≡ record { sort = Definition; bytes = take (length (held_of f)) (held_of f); line = f.line } ∷ tokens_left unread (consumed f (length (held_of f)))
 unfolding tokens_left remaining_tokens held_of line_ends rest_of ahead_of
-define-last u unread f plain holds none ended short =
-    let law = remaining-logical_last u f.line_bytes f.open_token_line f.line (held_of f) f.bytes_left (rw ended at holds) none short in
-    rw (consumed-tokens u unread f (length (held_of f)) plain, plain, ended, take-length, drop-length, remaining-end) law
+define-last unread f plain holds none ended short =
+    let law = remaining-logical_last f.line_bytes f.open_token_line f.line (held_of f) f.bytes_left (rw ended at holds) none short in
+    rw (consumed-tokens unread f (length (held_of f)) plain, plain, ended, take-length, drop-length, remaining-end) law
 
 -- no more is held than a line may have
 held-short : {R : Type 0} (f : BufferView R) → IsBuffer f → length (held_of f) ≤ f.line_bytes
@@ -112,9 +112,9 @@ found-line g first now old mid seen len c sound some =
       has = (within.1, inl found, c.tokens);
       slides = slides-on (IsExactLine (Whole (seen + len)) × g.tells first) (g.tells first) (g.tells first) g.unread old mid mid (λ x. x.1) (λ x. x.1) c.slides (slides-same (g.tells first) g.unread mid);
       text = λ other t. c.text t;
-      define = λ u t plain holds. sym (c.tokens u t)
-          ∙ (define-whole u g.unread mid (seen + len) (c.extends.mode ∙ plain) (c.define u t holds) found (held-short mid sound)
-          ∙ ap (λ l. record { sort = Definition; bytes = take (seen + len) (held_of mid); line = l } ∷ tokens_left u g.unread (consumed mid (seen + len))) line);
+      define = λ t plain holds. sym (c.tokens t)
+          ∙ (define-whole g.unread mid (seen + len) (c.extends.mode ∙ plain) (c.define t holds) found (held-short mid sound)
+          ∙ ap (λ l. record { sort = Definition; bytes = take (seen + len) (held_of mid); line = l } ∷ tokens_left g.unread (consumed mid (seen + len))) line);
     }
 
 -- nothing came
@@ -132,8 +132,8 @@ extends-stays tells unread fill old mid new e grows stays = record {
 -- the tokens stay where nothing came and nothing was lost
 stays-tokens : {S R : Type 0} (g : Ghosts S R) (first now : S) (fill : Fill) (old mid new : BufferView R) (seen : ℕ) → Continues g first now old mid seen → Grows (g.tells now) g.unread fill mid new → Stays mid new →
     (g.tells now → rest_of g.unread new ≡ rest_of g.unread mid) → SameTokens (g.tells first) g.unread old new
-stays-tokens g first now fill old mid new seen c grows stays rest u t =
-    tokens-same u g.unread mid new grows.line grows.line_bytes grows.mode grows.open_token_line stays.bytes_left stays.held (rest (c.call.tells t)) ∙ c.tokens u t
+stays-tokens g first now fill old mid new seen c grows stays rest t =
+    tokens-same g.unread mid new grows.line grows.line_bytes grows.mode grows.open_token_line stays.bytes_left stays.held (rest (c.call.tells t)) ∙ c.tokens t
 
 -- the logical line goes on up to the end of the text
 pub last-line : {S R : Type 0} (g : Ghosts S R) (first now : S) (old mid new : BufferView R) (seen len : ℕ) → Continues g first now old mid seen → IsBuffer mid → logical_len 0 0 (held_of mid) ≡ None → len ≡ length (held_of mid) →
@@ -151,9 +151,9 @@ last-line g first now old mid new seen len c sound none all grows =
       has = (omega arith, inr (none_now, size, λ t. grows.by.2), tokens);
       slides = slides-behind g first now End (Whole len) old mid new seen c (λ x e. cc) grows;
       text = λ other t. grows-text (g.tells now) g.unread End mid new grows.by (λ e. cc) (c.call.tells t) ∙ c.text t;
-      define = λ u t plain holds.
-          let here : HoldsDefine u (held_of new) (rest_of g.unread new) = rw (held, grows.by.2) (rw (grows.by.1 (c.call.tells t)) at (c.define u t holds)) in
-          sym (tokens u t) ∙ (define-last u g.unread new (e.mode ∙ plain) here none_now grows.by.2 short
+      define = λ t plain holds.
+          let here : HoldsDefine (held_of new) (rest_of g.unread new) = rw (held, grows.by.2) (rw (grows.by.1 (c.call.tells t)) at (c.define t holds)) in
+          sym (tokens t) ∙ (define-last g.unread new (e.mode ∙ plain) here none_now grows.by.2 short
           ∙ rw (size, e.line) refl);
     }
 
@@ -166,9 +166,9 @@ long-line g first now old mid new seen c none grows = record {
   has = tt;
   slides = slides-behind g first now LineLong TooLong old mid new seen c (λ x. absurd (x refl)) grows;
   text = λ other t. absurd (other refl);
-  define = λ u t plain holds.
-      sym (c.tokens u t) ∙ (ap (λ m. remaining_tokens u mid.line_bytes m mid.open_token_line mid.line (held_of mid) mid.bytes_left (rest_of g.unread mid)) (c.extends.mode ∙ plain)
-      ∙ (remaining-logical_full u mid.line_bytes mid.open_token_line mid.line (held_of mid) mid.bytes_left (rest_of g.unread mid) (c.define u t holds) none (grows.by.2 (c.call.tells t)) (grows.by.1 (c.call.tells t))
+  define = λ t plain holds.
+      sym (c.tokens t) ∙ (ap (λ m. remaining_tokens mid.line_bytes m mid.open_token_line mid.line (held_of mid) mid.bytes_left (rest_of g.unread mid)) (c.extends.mode ∙ plain)
+      ∙ (remaining-logical_full mid.line_bytes mid.open_token_line mid.line (held_of mid) mid.bytes_left (rest_of g.unread mid) (c.define t holds) none (grows.by.2 (c.call.tells t)) (grows.by.1 (c.call.tells t))
       ∙ ap (only_broken DefineLong) c.extends.line));
 }
 
@@ -181,9 +181,9 @@ cut-line g first now old mid new seen c none grows = record {
   has = stays-tokens g first now SourceLong old mid new seen c grows grows.by.0 grows.by.3;
   slides = slides-behind g first now SourceLong LineCut old mid new seen c (λ x e. cc) grows;
   text = λ other t. grows-text (g.tells now) g.unread SourceLong mid new grows.by (λ e. cc) (c.call.tells t) ∙ c.text t;
-  define = λ u t plain holds.
-      sym (c.tokens u t) ∙ (ap (λ m. remaining_tokens u mid.line_bytes m mid.open_token_line mid.line (held_of mid) mid.bytes_left (rest_of g.unread mid)) (c.extends.mode ∙ plain)
-      ∙ (remaining-logical_source u mid.line_bytes mid.open_token_line mid.line (held_of mid) mid.bytes_left (rest_of g.unread mid) (c.define u t holds) none (grows.by.1 (c.call.tells t)) (grows.by.2 (c.call.tells t))
+  define = λ t plain holds.
+      sym (c.tokens t) ∙ (ap (λ m. remaining_tokens mid.line_bytes m mid.open_token_line mid.line (held_of mid) mid.bytes_left (rest_of g.unread mid)) (c.extends.mode ∙ plain)
+      ∙ (remaining-logical_source mid.line_bytes mid.open_token_line mid.line (held_of mid) mid.bytes_left (rest_of g.unread mid) (c.define t holds) none (grows.by.1 (c.call.tells t)) (grows.by.2 (c.call.tells t))
       ∙ ap (only_broken DefineCut) c.extends.line));
 }
 
@@ -195,7 +195,7 @@ failed-line g first now old mid new seen c grows = record {
   has = stays-tokens g first now Failed old mid new seen c grows grows.by.0 grows.by.1;
   slides = slides-behind g first now Failed LineFailed old mid new seen c (λ x e. cc) grows;
   text = λ other t. grows-text (g.tells now) g.unread Failed mid new grows.by (λ e. cc) (c.call.tells t) ∙ c.text t;
-  define = λ u t plain holds. tt;
+  define = λ t plain holds. tt;
 }
 
 -- more lines came
@@ -217,11 +217,11 @@ continues-on g first now after old mid new seen len c none all ends grows call =
         held = l.held ∙ (ap (λ h. h ++ l.lines) e.held ∙ append_assoc (held_of old) e.more l.lines);
       };
       slides = slides-on (g.tells first) (g.tells first) (IsExact Held × g.tells now) g.unread old mid new (λ t. t) (λ t. ((λ e. cc), c.call.tells t)) c.slides grows.slides;
-      tokens = λ u t. lengthens-tokens (g.tells now) u g.unread mid new grows.line grows.line_bytes grows.mode grows.open_token_line l (c.call.tells t) ∙ c.tokens u t;
+      tokens = λ t. lengthens-tokens (g.tells now) g.unread mid new grows.line grows.line_bytes grows.mode grows.open_token_line l (c.call.tells t) ∙ c.tokens t;
       text = λ t. grows-text (g.tells now) g.unread Held mid new grows.by (λ e. cc) (c.call.tells t) ∙ c.text t;
-      define = λ u t holds.
-          let here : HoldsDefine u (held_of mid) (l.lines ++ rest_of g.unread new) = rw (l.rest (c.call.tells t)) at (c.define u t holds) in
-          rw l.held (HoldsDefine-more u (held_of mid) l.lines (rest_of g.unread new) here l.some l.ends);
+      define = λ t holds.
+          let here : HoldsDefine (held_of mid) (l.lines ++ rest_of g.unread new) = rw (l.rest (c.call.tells t)) at (c.define t holds) in
+          rw l.held (HoldsDefine-more (held_of mid) l.lines (rest_of g.unread new) here l.some l.ends);
       place = omega arith;
       whole = subst IsWholeLines (sym front_part) l.before;
       none = ap (logical_len 0 0) front_part ∙ none;

@@ -1,7 +1,7 @@
 -- How the window of a source moves on over its text.
-use Rattle.std.proofs.Common.{◌≡◌, ℕ, ◌+◌, List, [], ◌++◌, length, refl, sym, ap, ◌∙◌, append_assoc, arith}
-use Rattle.std.proofs.lemmas.List.{append-nil, length-append}
-use Rattle.rdlpp_read.specs.Buffer.{BufferView, Slides, unread_of}
+use Rattle.std.proofs.Common.{◌≡◌, ℕ, ◌+◌, List, [], ◌++◌, length, take, drop, refl, sym, ap, ◌∙◌, append_assoc, arith}
+use Rattle.std.proofs.lemmas.List.{append-nil, length-append, take-append-drop}
+use Rattle.rdlpp_read.specs.Buffer.{BufferView, MovesOver, Slides, held_of, rest_of, text_left, unread_of}
 
 -- a window that stays
 pub slides-same : {R : Type 0} (tells : Type 0) (unread : R → List ℕ) (f : BufferView R) → Slides tells unread f f
@@ -39,3 +39,39 @@ slides-compact tells unread old new dropped window used reader = record {
   used = used;
   text = λ t. ap (unread_of unread) (sym reader);
 }
+
+-- a window that slid, and of which nothing was used
+pub moves-slid : {R : Type 0} (tells : Type 0) (unread : R → List ℕ) (old new : BufferView R) → Slides tells unread old new → MovesOver [] old new
+moves-slid tells unread old new slides =
+    let used = slides.used in
+    record { dropped = slides.dropped; gained = slides.gained; window = slides.window; used = omega arith }
+
+-- a window of which bytes were used
+pub moves-past : {R : Type 0} (uses : List ℕ) (old new : BufferView R) → new.window ≡ old.window → new.at ≡ old.at + length uses → MovesOver uses old new
+moves-past uses old new window at = record { dropped = []; gained = []; window = append-nil old.window ∙ sym window; used = omega (arith, at) }
+
+-- two such moves are one
+pub moves-on : {R : Type 0} (x y : List ℕ) (old mid new : BufferView R) → MovesOver x old mid → MovesOver y mid new → MovesOver (x ++ y) old new
+moves-on x y old mid new first then_ =
+    let used = first.used in
+    let more = then_.used in
+    record {
+      dropped = first.dropped ++ then_.dropped;
+      gained = first.gained ++ then_.gained;
+      window = joined old.window mid.window new.window first.gained first.dropped then_.gained then_.dropped first.window then_.window;
+      used = omega (arith, length-append first.dropped then_.dropped, length-append x y);
+    }
+
+-- the text that isn't used, where the first held bytes were used
+pub text-past : {R : Type 0} (unread : R → List ℕ) (old new : BufferView R) (len : ℕ) → held_of new ≡ drop len (held_of old) → rest_of unread new ≡ rest_of unread old →
+    text_left unread old ≡ take len (held_of old) ++ text_left unread new
+unfolding text_left
+text-past unread old new len held rest =
+    ap (λ v. v ++ rest_of unread old) (sym (take-append-drop len (held_of old)))
+    ∙ (append_assoc (take len (held_of old)) (drop len (held_of old)) (rest_of unread old)
+    ∙ (ap (λ v. take len (held_of old) ++ (v ++ rest_of unread old)) (sym held)
+    ∙ ap (λ v. take len (held_of old) ++ (held_of new ++ v)) (sym rest)))
+
+-- and where more were used behind
+pub text-on : (x y : List ℕ) (old mid new : List ℕ) → old ≡ x ++ mid → mid ≡ y ++ new → old ≡ (x ++ y) ++ new
+text-on x y old mid new first then_ = first ∙ (ap (λ v. x ++ v) then_ ∙ sym (append_assoc x y new))

@@ -42,10 +42,10 @@ rest_of unread f = ahead_of f ++ unread_of unread f.reader
 unfoldable pub text_left : {R : Type 0} → (R → List ℕ) → BufferView R → List ℕ
 text_left unread f = held_of f ++ rest_of unread f
 
--- the tokens that remain of the source, where a test says what isn't built yet
-unfoldable pub tokens_left : {R : Type 0} → (List ℕ → Bool) → (R → List ℕ) → BufferView R → List SourceToken
-tokens_left unbuilt unread f =
-    remaining_tokens unbuilt f.line_bytes f.mode f.open_token_line f.line (held_of f) f.bytes_left (rest_of unread f)
+-- the tokens that remain of the source
+unfoldable pub tokens_left : {R : Type 0} → (R → List ℕ) → BufferView R → List SourceToken
+tokens_left unread f =
+    remaining_tokens f.line_bytes f.mode f.open_token_line f.line (held_of f) f.bytes_left (rest_of unread f)
 
 -- the window moved on over its text: bytes that were used went in front, and bytes that were unread came behind
 pub record Slides {R : Type 0} (tells : Type 0) (unread : R → List ℕ) (old new : BufferView R) : Type 0 where
@@ -54,6 +54,14 @@ pub record Slides {R : Type 0} (tells : Type 0) (unread : R → List ℕ) (old n
   pub window : old.window ++ gained ≡ dropped ++ new.window
   pub used : length dropped + new.at ≡ old.at
   pub text : tells → unread_of unread old.reader ≡ gained ++ unread_of unread new.reader
+
+-- the window moved on over its text while these bytes were used: it dropped bytes in front, which were used before or are among
+-- these, and gained bytes behind
+pub record MovesOver {R : Type 0} (uses : List ℕ) (old new : BufferView R) : Type 0 where
+  pub dropped : List ℕ
+  pub gained : List ℕ
+  pub window : old.window ++ gained ≡ dropped ++ new.window
+  pub used : length dropped + new.at ≡ old.at + length uses
 
 -- the bytes that the source may still give and that aren't used
 unfoldable pub unused_of : {R : Type 0} → BufferView R → ℕ

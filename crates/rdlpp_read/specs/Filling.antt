@@ -158,7 +158,7 @@ HasBytes LineLong f = held_of f ≡ []
 HasBytes Failed f = held_of f ≡ []
 
 -- what a source has before its next byte: its window moved on over its text; its text that isn't used stays the same, but where
--- a byte too many was read, and its tokens stay the same, or are told
+-- a byte too many was read, and is empty where its end was met; and its tokens stay the same, or are told
 pub record Fills {R : Type 0} (tells : Type 0) (unread : R → List ℕ) (fill : Fill) (old new : BufferView R) : Type 0 where
   pub line : new.line ≡ old.line
   pub line_bytes : new.line_bytes ≡ old.line_bytes
@@ -168,4 +168,5 @@ pub record Fills {R : Type 0} (tells : Type 0) (unread : R → List ℕ) (fill :
   pub unused : unused_of new ≡ unused_of old
   pub slides : Slides (IsExact fill × tells) unread old new
   pub text : IsExact fill → tells → text_left unread new ≡ text_left unread old
-  pub tokens : (unbuilt : List ℕ → Bool) → tells → TellsTokens fill old (tokens_left unbuilt unread old) (tokens_left unbuilt unread new)
+  pub ended : fill ≡ End → text_left unread new ≡ []
+  pub tokens : tells → TellsTokens fill old (tokens_left unread old) (tokens_left unread new)

@@ -32,7 +32,7 @@ pub record Extends {R : Type 0} (old new : BufferView R) : Type 0 where
 
 -- the tokens that remain are the same
 abbrev pub SameTokens : {R : Type 0} → Type 0 → (R → List ℕ) → BufferView R → BufferView R → Type 0
-SameTokens tells unread old new = (unbuilt : List ℕ → Bool) → tells → tokens_left unbuilt unread new ≡ tokens_left unbuilt unread old
+SameTokens tells unread old new = tells → tokens_left unread new ≡ tokens_left unread old
 
 -- the first `len` bytes are the logical line: with its LF, or up to the end of the text (IEEE 1364-2001, `define`)
 abbrev pub IsLogical : {R : Type 0} → Type 0 → (R → List ℕ) → BufferView R → ℕ → Type 0
@@ -42,13 +42,13 @@ IsLogical tells unread f len =
 
 -- what the answer says of a `define` that stands there: its token and those behind its logical line; or it is broken, as too
 -- long where it has more bytes than a line may have with its next line, and else as cut by the limit of its source (this project's profile)
-abbrev pub TellsDefine : {R : Type 0} → (List ℕ → Bool) → (R → List ℕ) → LogicalLine → BufferView R → BufferView R → Type 0
-TellsDefine unbuilt unread (Whole len) old new =
-    tokens_left unbuilt unread old
-    ≡ record { sort = Definition; bytes = take len (held_of new); line = old.line } ∷ tokens_left unbuilt unread (consumed new len)
-TellsDefine unbuilt unread TooLong old new = tokens_left unbuilt unread old ≡ only_broken DefineLong old.line
-TellsDefine unbuilt unread SourceLong old new = tokens_left unbuilt unread old ≡ only_broken DefineCut old.line
-TellsDefine unbuilt unread Failed old new = ⊤
+abbrev pub TellsDefine : {R : Type 0} → (R → List ℕ) → LogicalLine → BufferView R → BufferView R → Type 0
+TellsDefine unread (Whole len) old new =
+    tokens_left unread old
+    ≡ record { sort = Definition; bytes = take len (held_of new); line = old.line } ∷ tokens_left unread (consumed new len)
+TellsDefine unread TooLong old new = tokens_left unread old ≡ only_broken DefineLong old.line
+TellsDefine unread SourceLong old new = tokens_left unread old ≡ only_broken DefineCut old.line
+TellsDefine unread Failed old new = ⊤
 
 -- what was found of the logical line; where a read failed or the source is too long nothing is lost
 abbrev pub HasLine : {R : Type 0} → Type 0 → (R → List ℕ) → LogicalLine → BufferView R → BufferView R → Type 0
@@ -67,8 +67,8 @@ pub record HoldsLine {R : Type 0} (tells : Type 0) (unread : R → List ℕ) (an
   pub has : HasLine tells unread answer old new
   pub slides : Slides (IsExactLine answer × tells) unread old new
   pub text : IsExactLine answer → tells → text_left unread new ≡ text_left unread old
-  pub define : (unbuilt : List ℕ → Bool) → tells → old.mode ≡ Plain → HoldsDefine unbuilt (held_of old) (rest_of unread old)
-      → TellsDefine unbuilt unread answer old new
+  pub define : tells → old.mode ≡ Plain → HoldsDefine (held_of old) (rest_of unread old)
+      → TellsDefine unread answer old new
 
 -- what the search for the end of the logical line has done so far: it doesn't end in the first `seen` bytes, which are whole lines
 pub record Continues {S R : Type 0} (g : Ghosts S R) (sources new_sources : S) (old new : BufferView R) (seen : ℕ) : Type 0 where
@@ -76,8 +76,8 @@ pub record Continues {S R : Type 0} (g : Ghosts S R) (sources new_sources : S) (
   pub slides : Slides (g.tells sources) g.unread old new
   pub tokens : SameTokens (g.tells sources) g.unread old new
   pub text : g.tells sources → text_left g.unread new ≡ text_left g.unread old
-  pub define : (unbuilt : List ℕ → Bool) → g.tells sources → HoldsDefine unbuilt (held_of old) (rest_of g.unread old)
-      → HoldsDefine unbuilt (held_of new) (rest_of g.unread new)
+  pub define : g.tells sources → HoldsDefine (held_of old) (rest_of g.unread old)
+      → HoldsDefine (held_of new) (rest_of g.unread new)
   pub place : seen ≤ length (held_of new)
   pub whole : IsWholeLines (take seen (held_of new))
   pub none : logical_len 0 0 (take seen (held_of new)) ≡ None

@@ -80,10 +80,9 @@ impl<R: Drop> SourceBuffer<R> {
         })
     }
 
-    /// Opens a source of at most `bytes_left` bytes, which are at most 1,073,741,824 (this project's
-    /// profile), at its first line.
+    /// Opens a source of at most `bytes_left` bytes, which are at most 2,147,483,645, at its first line.
     pub fn open(&mut self, reader: R, bytes_left: usize)
-        requires { bytes_left ≤ 2 ^ 30 }
+        requires { bytes_left + 2 < 2 ^ 31 }
         ensures opened { self.new ≡ record { window = []; at = 0; accepted = 0; reader = Option.Some reader; bytes_left = bytes_left; line = 1; line_bytes = self.old.line_bytes; mode = Mode.Plain; open_token_line = 1 } }
         ensures ends { EndsHeld self.new }
     {

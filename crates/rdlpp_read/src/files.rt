@@ -184,8 +184,8 @@ impl<R: Drop> Files<R> {
         &self.slots[self.first]
     }
 
-    /// Opens one more source, of at most `source_bytes` bytes, which are at most 1,073,741,824 (this
-    /// project's profile), inside of those that are open. It shows its path and its own lines.
+    /// Opens one more source, of at most `source_bytes` bytes, which are at most 2,147,483,645, inside of
+    /// those that are open. It shows its path and its own lines.
     pub fn enter(
         &mut self,
         found: Found<R>,
@@ -194,7 +194,7 @@ impl<R: Drop> Files<R> {
         include_line: u64,
     )
         requires room { length self.old.nest < self.old.slots }
-        requires bytes { source_bytes ≤ 2 ^ 30 }
+        requires bytes { source_bytes + 2 < 2 ^ 31 }
         ensures { self.new ≡ record self.old { nest = entered_file found source_bytes self.old.line_bytes conditions_below include_line ∷ self.old.nest } }
     {
         let at = self.first - 1;

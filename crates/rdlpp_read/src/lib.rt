@@ -5,8 +5,6 @@ mod arguments;
 mod blanks;
 mod buffer;
 mod files;
-#[cfg(test)]
-mod tests;
 
 pub use arguments::{Given, GivenLine, given_line, given_name, given_string};
 pub use buffer::{Fill, LogicalLine, SourceBuffer, fill_buffer, hold_logical_line};

@@ -82,8 +82,8 @@ logical_len-goes_on held more none =
     logical_len-goes_behind 0 0 held more none ∙ ap there one
 
 -- a `define` whose logical line goes on, with a further line taken in
-pub HoldsDefine-more : (u : List ℕ → Bool) (held w rest : List ℕ) → HoldsDefine u held (w ++ rest) → 0 < length w → EndsLine w rest → HoldsDefine u (held ++ w) rest
-HoldsDefine-more u held w rest h some ends =
+pub HoldsDefine-more : (held w rest : List ℕ) → HoldsDefine held (w ++ rest) → 0 < length w → EndsLine w rest → HoldsDefine (held ++ w) rest
+HoldsDefine-more held w rest h some ends =
     let t = token_of Plain held in
     let size = length-append held w in
     let left = length-append w rest in
@@ -95,7 +95,6 @@ HoldsDefine-more u held w rest h some ends =
     record {
       some = omega (arith, h.some);
       ends = ⊎_elim (λ line. inl (IsWholeLines-append held w whole line)) (λ none. inr none) ends;
-      built = λ more e. ap u (append_assoc held w more) ∙ h.built (w ++ more) (inl whole);
       kind = ap (λ (v : Token). v.kind) same ∙ h.kind;
       word = ap (λ own. bytes_eq own (codes "`define")) own ∙ h.word;
     }

@@ -48,11 +48,10 @@ logical_len-beyond x y (b ∷ xs) ys n none h =
     let at_false : P false = λ e f. let p = some_suc (logical_len y b (xs ++ ys)) n f in omega (arith, p.1.1, logical_len-beyond y b xs ys p.0 (none_suc (logical_len y b xs) e) p.1.0) in
     elim (is_line_end b && not (is_continued x y)) as P [ true ↦ at_true | false ↦ at_false ] none h
 
--- where a text begins with the word `define`, and that is built
+-- where a text begins with the word `define`
 pub record BeginsDefine (c : Course) (held more : List ℕ) : Type 0 where
   pub some : 0 < length held
   pub ends : EndsLine held more
-  pub built : c.unbuilt (held ++ more) ≡ false
   pub kind : (token_of Plain held).kind ≡ Back
   pub word : bytes_eq (take (token_of Plain held).len held) (codes "`define") ≡ true
 
@@ -60,7 +59,7 @@ define_here : (c : Course) (o l : ℕ) (held more : List ℕ) → BeginsDefine c
 define_here c o l held more d =
     let t = token_of Plain held in
     let other = cond (bytes_eq (take t.len held) (codes "`line")) (line_step l (held ++ more)) (Next (record { sort = Ordinary Back; bytes = take t.len held; line = l })) in
-    back_held c o l held more d.some d.ends d.built d.kind ∙ ap (λ b. cond b (define_step c l (held ++ more)) other) d.word
+    back_held c o l held more d.some d.ends d.kind ∙ ap (λ b. cond b (define_step c l (held ++ more)) other) d.word
 
 define_long : (c : Course) (l : ℕ) (bs : List ℕ) (n : ℕ) → logical_len 0 0 bs ≡ Some n → c.most < n → define_step c l bs ≡ broken DefineLong [] l
 unfolding define_step
@@ -164,12 +163,12 @@ step-logical_broken c o l held k d is breaks =
     (define_here c o l held [] d ∙ ap (define_step c l) bare ∙ define_open c l held is ∙ ap (at_break c l held) breaks ∙ picked)
 
 -- a `line` with its line
-pub step-line : (c : Course) (o l : ℕ) (held more : List ℕ) → 0 < length held → EndsLine held more → c.unbuilt (held ++ more) ≡ false → (token_of Plain held).kind ≡ Back
+pub step-line : (c : Course) (o l : ℕ) (held more : List ℕ) → 0 < length held → EndsLine held more → (token_of Plain held).kind ≡ Back
     → bytes_eq (take (token_of Plain held).len held) (codes "`define") ≡ false → bytes_eq (take (token_of Plain held).len held) (codes "`line") ≡ true
     → source_tokens c Plain o l 0 (held ++ more)
     ≡ record { sort = Renumbering; bytes = take (line_len held) held; line = l } ∷ source_tokens c Plain l (l + line_ends (take (line_len held) held)) 0 (drop (line_len held) held ++ more)
 unfolding line_step
-step-line c o l held more some ends built is other also =
+step-line c o l held more some ends is other also =
     let t = token_of Plain held in
     let bs = held ++ more in
     let n = line_len held in
@@ -178,7 +177,7 @@ step-line c o l held more some ends built is other also =
     let line = bytes_eq (take t.len held) (codes "`line") in
     let own : take (line_len bs) bs ≡ take n held = ap (λ i. take i bs) (line_len-append held more some ends) ∙ take-append-le n held more (line_len-le held) in
     let step : source_step c Plain o l bs ≡ Next tok =
-    back_held c o l held more some ends built is
+    back_held c o l held more some ends is
     ∙ ap (λ b. cond b (define_step c l bs) (cond line (line_step l bs) ordinary)) other ∙ ap (λ b. cond b (line_step l bs) ordinary) also
     ∙ ap (λ z. Next (record { sort = Renumbering; bytes = z; line = l })) own in
     next_held c o l held more tok n (line_len-some held some) (line_len-le held) refl step

@@ -10,13 +10,13 @@ use Rattle.rdlpp_scan.specs.declared.token.Mode.TheVariants.{Plain, InStr, InBlo
 use Rattle.rdlpp_scan.specs.declared.token.Token.{Token}
 use Rattle.rdlpp_scan.specs.Bytes.{is_blank, is_line_end, is_letter, is_digit, is_word, is_opener, is_closer, takes_word, begins_perl, begins_line_comment, begins_block_comment}
 use Rattle.rdlpp_scan.specs.Tokens.{plain_token, token_of, string_token, block_token, whole}
-use Rattle.rdlpp_scan.specs.Front.{Breach, PerlFound, StringOpen, CommentOpen, DefineLong, DefineCut, Unbuilt, Break, front}
+use Rattle.rdlpp_scan.specs.Front.{Breach, PerlFound, StringOpen, CommentOpen, DefineLong, DefineCut, Break, front}
 use Rattle.rdlpp_scan.proofs.RemainingLaws.{behind, course}
 use Rattle.rdlpp_scan.proofs.ResumedTokens.{after_step, tokens_step}
 use Rattle.rdlpp_scan.specs.SourceTokens.{SourceToken, Course, Step, Last, Next, Ordinary, Definition, broken, back_step, comment_step, define_step, line_ends, line_step, logical_len, open_end, remaining_tokens, source_step, source_tokens, step_by, string_step}
 use Rattle.rdlpp_scan.specs.Lines.{EndsLine, IsWholeLines}
 use Rattle.rdlpp_scan.specs.Ordinary.{is_plain_kind}
-use Rattle.rdlpp_scan.specs.Stage.{begins_directive}
+use Rattle.rdlpp_scan.specs.Reserved.{begins_directive}
 use Rattle.rdlpp_scan.proofs.Searches.{false_since}
 use Rattle.rdlpp_scan.proofs.Seams.{Seam, Closed, BeforePerl, OpenString, OpenComment, token_of-seam, line_end-ten}
 use Rattle.rdlpp_scan.proofs.SourceLaws.{line_ends-cons}
@@ -221,8 +221,7 @@ step_by-kind_of c o l k n m bs = inl refl
 source_step-kind : (c : Course) (o l : ℕ) (bs : List ℕ) → StepKind (token_of Plain bs).kind (source_step c Plain o l bs)
 unfolding source_step
 source_step-kind c o l bs =
-    let t = token_of Plain bs in
-    either_kind t.kind (c.unbuilt bs) _ _ (broken-kind t.kind Unbuilt [] l) (step_by-kind_of c l l t.kind t.len t.next_mode bs)
+    let t = token_of Plain bs in step_by-kind_of c l l t.kind t.len t.next_mode bs
 
 -- tokens, of which the first has this kind, or isn't one of the token table
 pub record FirstToken (k : Kind) (us : List SourceToken) : Type 0 where
@@ -237,12 +236,12 @@ first_of_step k c l b bs (Last t) h = record { first = t; more = _; is = refl; k
 first_of_step k c l b bs (Next t) h = record { first = t; more = _; is = refl; kind = h }
 
 -- the first token of what remains, where something is held
-pub remaining-first : (u : List ℕ → Bool) (most o l : ℕ) (held : List ℕ) (room : ℕ) (rest : List ℕ) → 0 < length held → EndsLine held rest
-    → FirstToken (token_of Plain held).kind (remaining_tokens u most Plain o l held room rest)
+pub remaining-first : (most o l : ℕ) (held : List ℕ) (room : ℕ) (rest : List ℕ) → 0 < length held → EndsLine held rest
+    → FirstToken (token_of Plain held).kind (remaining_tokens most Plain o l held room rest)
 unfolding remaining_tokens
-remaining-first u most o l [] room rest some ends = absurd (omega arith)
-remaining-first u most o l (b ∷ w) room rest some ends =
-    let c = course u most room rest in
+remaining-first most o l [] room rest some ends = absurd (omega arith)
+remaining-first most o l (b ∷ w) room rest some ends =
+    let c = course most room rest in
     let more = (front most room rest).text in
     let bs = w ++ more in
     let kind : (token_of Plain (b ∷ bs)).kind ≡ (token_of Plain (b ∷ w)).kind = kind-append (b ∷ w) more some (behind most room (b ∷ w) rest ends).ends in

@@ -14,7 +14,7 @@ pub mod Seams
 pub mod Locality
 pub mod OrdinaryFronts
 pub mod StopKinds
-pub mod StageLaws
+pub mod DirectiveStarts
 pub mod StepLaws
 pub mod FrontLaws
 pub mod RemainingLaws

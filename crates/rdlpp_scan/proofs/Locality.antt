@@ -9,7 +9,7 @@ use Rattle.rdlpp_scan.specs.Bytes.{is_word, is_letter, is_digit, begins_line_com
 use Rattle.rdlpp_scan.specs.Tokens.{token_of, stops_plain_text}
 use Rattle.rdlpp_scan.specs.Lines.{EndsLine, IsWholeLines}
 use Rattle.rdlpp_scan.specs.Pieces.{IsCut}
-use Rattle.rdlpp_scan.specs.Stage.{is_unbuilt, begins_directive, is_unbuilt_name, is_reserved, name_behind}
+use Rattle.rdlpp_scan.specs.Reserved.{begins_directive, is_reserved, name_behind}
 use Rattle.rdlpp_scan.proofs.LineLaws.{nothing_behind}
 use Rattle.rdlpp_scan.proofs.WholeLines.{IsWholeLines-rest, IsWholeLines-one}
 use Rattle.rdlpp_scan.proofs.Seams.{Seam, Closed, BeforePerl, OpenString, OpenComment, token_of-seam, begins_perl-append, begins_line_comment-append, begins_block_comment-append, run-append, line_end-ten}
@@ -48,30 +48,3 @@ unfolding name_behind
 name_behind-append b c w more cut =
     let xs = c ∷ w in
     ap (λ n. take n (xs ++ more)) (run-append is_word word_ten xs more (omega arith) cut) ∙ take-append-le (prefix_len is_word xs) xs more (prefix_len-le-length is_word xs)
-
--- what isn't built, by its parts
-unbuilt_parts : ℕ → List ℕ → Bool
-unbuilt_parts b name = eqb b 96 && is_reserved name && is_unbuilt_name name
-
-is_unbuilt-parts : (b : ℕ) (bs : List ℕ) → is_unbuilt (b ∷ bs) ≡ unbuilt_parts b (name_behind (b ∷ bs))
-unfolding is_unbuilt begins_directive unbuilt_parts
-is_unbuilt-parts b bs = refl
-
-line_end-built : (b : ℕ) (bs : List ℕ) → b ≡ 10 → is_unbuilt (b ∷ bs) ≡ false
-unfolding is_unbuilt begins_directive
-line_end-built b bs ten = subst (λ (n : ℕ). is_unbuilt (n ∷ bs) ≡ false) (sym ten) refl
-
-is_unbuilt-whole : (held more : List ℕ) → 0 < length held → IsWholeLines held → is_unbuilt (held ++ more) ≡ is_unbuilt held
-is_unbuilt-whole [] more some whole = absurd (omega arith)
-is_unbuilt-whole (b ∷ []) more some whole =
-    let ten = line_end-ten b (IsWholeLines-one b whole) in
-    line_end-built b more ten ∙ sym (line_end-built b [] ten)
-is_unbuilt-whole (b ∷ c ∷ w) more some whole =
-    let rest : IsCut (c ∷ w) more = inr (inr (IsWholeLines-rest b (c ∷ w) whole)) in
-    is_unbuilt-parts b (c ∷ w ++ more)
-    ∙ ap (unbuilt_parts b) (name_behind-append b c w more rest)
-    ∙ sym (is_unbuilt-parts b (c ∷ w))
-
--- what isn't built
-pub is_unbuilt-append : (held more : List ℕ) → 0 < length held → EndsLine held more → is_unbuilt (held ++ more) ≡ is_unbuilt held
-is_unbuilt-append held more some = ⊎_elim (λ whole. is_unbuilt-whole held more some whole) (λ none. nothing_behind is_unbuilt held more none)

@@ -7,7 +7,7 @@ use Rattle.rdlpp_scan.specs.Tokens.{first_place, plain_len, stops_plain_text}
 use Rattle.rdlpp_scan.specs.SourceTokens.{Course}
 use Rattle.rdlpp_scan.specs.Lines.{IsWholeLines, EndsLine}
 use Rattle.rdlpp_scan.specs.Pieces.{IsCut}
-use Rattle.rdlpp_scan.specs.Ordinary.{IsEdge, IsOrdinary, SparesOrdinary}
+use Rattle.rdlpp_scan.specs.Ordinary.{IsEdge, IsOrdinary}
 use Rattle.rdlpp_scan.proofs.Places.{first_place_is, first_place-le, first_place-before, first_place-at}
 use Rattle.rdlpp_scan.proofs.Seams.{IsCut-rest, IsCut-drop}
 use Rattle.rdlpp_scan.proofs.Locality.{stops-append, IsCut-from_line}
@@ -43,9 +43,9 @@ plain_len-stops held more ends lt =
     (λ j before. split j (omega arith) ∙ first_place-before stops_plain_text held j before) (λ _. split n lt ∙ first_place-at stops_plain_text held lt)
 
 -- the ordinary text with which a text begins that ends at a line end
-pub ordinary_front : (c : Course) (l : ℕ) (held more : List ℕ) → SparesOrdinary c.unbuilt → EndsLine held more → IsOrdinary c l (take (plain_len held) held) (drop (plain_len held) held ++ more)
+pub ordinary_front : (c : Course) (l : ℕ) (held more : List ℕ) → EndsLine held more → IsOrdinary c l (take (plain_len held) held) (drop (plain_len held) held ++ more)
 unfolding plain_len
-ordinary_front c l held more spares ends =
+ordinary_front c l held more ends =
     let n = first_place stops_plain_text held in
     let le = first_place-le stops_plain_text held in
     let w = take n held in
@@ -60,4 +60,4 @@ ordinary_front c l held more spares ends =
     let all : n ≡ length held = omega (arith, le) in
     let whole : w ≡ held = ap (λ i. take i held) all ∙ take-length held in
     ⊎_elim (λ h. inr (inl (subst IsWholeLines (sym whole) h))) (λ none. inl (ap (λ z. z ++ more) (drop_all n held ge) ∙ none)) ends in
-    ordinary_text c l w x spares inside (⊎_elim stopping ending (cases_lt n (length held)))
+    ordinary_text c l w x inside (⊎_elim stopping ending (cases_lt n (length held)))

@@ -9,10 +9,9 @@ use Rattle.rdlpp_scan.specs.declared.token.Mode.{Mode}
 use Rattle.rdlpp_scan.specs.declared.token.Mode.TheVariants.{Plain}
 use Rattle.rdlpp_scan.specs.declared.token.Token.{Token}
 use Rattle.rdlpp_scan.specs.Tokens.{plain_len, stops_plain_text, token_of}
-use Rattle.rdlpp_scan.specs.Front.{Unbuilt}
 use Rattle.rdlpp_scan.specs.SourceTokens.{SourceToken, Ordinary, Course, Next, line_ends, source_tokens, source_step, step_by, broken}
-use Rattle.rdlpp_scan.specs.Ordinary.{is_plain_kind, IsEdge, IsOrdinary, IsPlainToken, SparesOrdinary}
-use Rattle.rdlpp_scan.specs.Stage.{is_unbuilt, begins_directive}
+use Rattle.rdlpp_scan.specs.Ordinary.{is_plain_kind, IsEdge, IsOrdinary, IsPlainToken}
+use Rattle.rdlpp_scan.specs.Reserved.{begins_directive}
 use Rattle.rdlpp_scan.proofs.Places.{first_place-before}
 use Rattle.rdlpp_scan.proofs.TokenLens.{token_of-part}
 use Rattle.rdlpp_scan.proofs.WholeLines.{IsWholeLines-drop}
@@ -23,16 +22,11 @@ neither : (x y : Bool) → x ≡ false → y ≡ false → (x || y) ≡ false
 neither x y h k = ap (λ t. t || y) h ∙ k
 
 -- a directive begins at no place of ordinary text
-pub directive-spares : SparesOrdinary begins_directive
+pub directive-spares : (bytes : List ℕ) → stops_plain_text bytes ≡ false → begins_directive bytes ≡ false
 unfolding begins_directive
 directive-spares bs h =
     let g = goes_on bs h in
     and_left _ _ g.no_backquote
-
--- nothing at this stage of the project is unbuilt in ordinary text
-pub is_unbuilt-spares : SparesOrdinary is_unbuilt
-unfolding is_unbuilt
-is_unbuilt-spares bs h = and_left _ _ (directive-spares bs h)
 
 step_by-kind : (c : Course) (o l : ℕ) (k : Kind) (n : ℕ) (m : Mode) (bs : List ℕ) → is_plain_kind k ≡ true → step_by c o l (record { kind = k; len = n; next_mode = m }) bs ≡ Next (record { sort = Ordinary k; bytes = take n bs; line = l })
 unfolding step_by is_plain_kind
@@ -48,10 +42,10 @@ step_by-kind c o l _ n m bs h = refl
 pub step_by-plain : (c : Course) (o l : ℕ) (t : Token) (bs : List ℕ) → is_plain_kind t.kind ≡ true → step_by c o l t bs ≡ Next (record { sort = Ordinary t.kind; bytes = take t.len bs; line = l })
 step_by-plain c o l t bs h = step_by-kind c o l t.kind t.len t.next_mode bs h
 
--- a step in plain text, of a text that begins with what is built
-pub source_step-built : (c : Course) (o l : ℕ) (bs : List ℕ) → c.unbuilt bs ≡ false → source_step c Plain o l bs ≡ step_by c l l (token_of Plain bs) bs
+-- a step in plain text
+pub source_step-plain : (c : Course) (o l : ℕ) (bs : List ℕ) → source_step c Plain o l bs ≡ step_by c l l (token_of Plain bs) bs
 unfolding source_step
-source_step-built c o l bs h = ap (λ t. cond t (broken Unbuilt [] l) (step_by c l l (token_of Plain bs) bs)) h
+source_step-plain c o l bs = refl
 
 Quiet : List ℕ → List ℕ → Type 0
 Quiet w x = (j : ℕ) → j < length w → stops_plain_text (drop j (w ++ x)) ≡ false
@@ -71,10 +65,10 @@ nothing-ordinary c l x =
     let e : l ≡ l + 0 = omega arith in
     record { tokens = []; steps = λ o. ap (λ k. source_tokens c Plain o k 0 x) e; plain = All-nil IsPlainToken; spelled = refl }
 
-ordinary_more : (c : Course) (l b : ℕ) (w x : List ℕ) → SparesOrdinary c.unbuilt → Quiet (b ∷ w) x → IsEdge (b ∷ w) x
-    → ((d : Course) (m : ℕ) (v y : List ℕ) → length v ≤ length w → SparesOrdinary d.unbuilt → Quiet v y → IsEdge v y → IsOrdinary d m v y) → IsOrdinary c l (b ∷ w) x
+ordinary_more : (c : Course) (l b : ℕ) (w x : List ℕ) → Quiet (b ∷ w) x → IsEdge (b ∷ w) x
+    → ((d : Course) (m : ℕ) (v y : List ℕ) → length v ≤ length w → Quiet v y → IsEdge v y → IsOrdinary d m v y) → IsOrdinary c l (b ∷ w) x
 unfolding token_of Quiet
-ordinary_more c l b w x spares quiet edge later =
+ordinary_more c l b w x quiet edge later =
     let W = b ∷ w in
     let y = b ∷ w ++ x in
     let t = token_of Plain y in
@@ -84,10 +78,10 @@ ordinary_more c l b w x spares quiet edge later =
     let whole = token_of-part Plain y (omega arith) in
     let tok : SourceToken = record { sort = Ordinary t.kind; bytes = take n y; line = l } in
     let size : length (take n y) ≡ n = length-take-le n y whole.inside in
-    let step : (o : ℕ) → source_step c Plain o l y ≡ Next tok = λ o. source_step-built c o l y (spares y still) ∙ step_by-plain c l l t y part.plain in
+    let step : (o : ℕ) → source_step c Plain o l y ≡ Next tok = λ o. source_step-plain c o l y ∙ step_by-plain c l l t y part.plain in
     let front : take n y ≡ take n W = take-append-le n W x part.inside in
     let back : drop n y ≡ drop n W ++ x = drop-append-le n W x part.inside in
-    let rest = later c (l + line_ends (take n W)) (drop n W) x (omega (arith, length-drop n W, whole.not_empty)) spares (Quiet-drop n W x part.inside quiet) (IsEdge-drop n W x edge) in
+    let rest = later c (l + line_ends (take n W)) (drop n W) x (omega (arith, length-drop n W, whole.not_empty)) (Quiet-drop n W x part.inside quiet) (IsEdge-drop n W x edge) in
     let lines : l + line_ends (take n W) + line_ends (drop n W) ≡ l + line_ends W = omega (arith, line_ends-append (take n W) (drop n W), ap line_ends (take-append-drop n W)) in
     let go : (o i k : ℕ) (z : List ℕ) → List SourceToken = λ o i k z. source_tokens c Plain o i k z in
     record {
@@ -103,13 +97,13 @@ ordinary_more c l b w x spares quiet edge later =
       spelled = ap (λ z. take n y ++ z) rest.spelled ∙ ap (λ z. z ++ drop n W) front ∙ take-append-drop n W;
     }
 
-ordinary_within : (k : ℕ) (c : Course) (l : ℕ) (w x : List ℕ) → length w ≤ k → SparesOrdinary c.unbuilt → Quiet w x → IsEdge w x → IsOrdinary c l w x
-ordinary_within k c l [] x fuel spares quiet edge = nothing-ordinary c l x
-ordinary_within zero c l (b ∷ w) x fuel spares quiet edge = absurd (omega arith)
-ordinary_within (suc k) c l (b ∷ w) x fuel spares quiet edge = ordinary_more c l b w x spares quiet edge (λ d m v y short. ordinary_within k d m v y (omega arith))
+ordinary_within : (k : ℕ) (c : Course) (l : ℕ) (w x : List ℕ) → length w ≤ k → Quiet w x → IsEdge w x → IsOrdinary c l w x
+ordinary_within k c l [] x fuel quiet edge = nothing-ordinary c l x
+ordinary_within zero c l (b ∷ w) x fuel quiet edge = absurd (omega arith)
+ordinary_within (suc k) c l (b ∷ w) x fuel quiet edge = ordinary_more c l b w x quiet edge (λ d m v y short. ordinary_within k d m v y (omega arith))
 
 -- ordinary text with something behind it
-pub ordinary_text : (c : Course) (l : ℕ) (w x : List ℕ) → SparesOrdinary c.unbuilt → length w ≤ plain_len (w ++ x) → IsEdge w x → IsOrdinary c l w x
+pub ordinary_text : (c : Course) (l : ℕ) (w x : List ℕ) → length w ≤ plain_len (w ++ x) → IsEdge w x → IsOrdinary c l w x
 unfolding plain_len Quiet
-ordinary_text c l w x spares inside edge =
-    ordinary_within (length w) c l w x (omega arith) spares (λ j lt. first_place-before stops_plain_text (w ++ x) j (omega arith)) edge
+ordinary_text c l w x inside edge =
+    ordinary_within (length w) c l w x (omega arith) (λ j lt. first_place-before stops_plain_text (w ++ x) j (omega arith)) edge

@@ -7,7 +7,7 @@ use Rattle.rdlpp_scan.specs.declared.token.Kind.TheVariants.{Name, Word, Back, B
 use Rattle.rdlpp_scan.specs.declared.token.Mode.{Mode}
 use Rattle.rdlpp_scan.specs.declared.token.Mode.TheVariants.{Plain, InStr, InBlock}
 use Rattle.rdlpp_scan.specs.declared.token.Token.{Token}
-use Rattle.rdlpp_scan.specs.Front.{Breach, PerlFound, StringOpen, CommentOpen, DefineLong, DefineCut, Unbuilt, Break}
+use Rattle.rdlpp_scan.specs.Front.{Breach, PerlFound, StringOpen, CommentOpen, DefineLong, DefineCut, Break}
 use Rattle.rdlpp_scan.specs.SourceTokens.{Sort, Ordinary, Definition, Renumbering, Broken, SourceToken, Course, Step, Last, Next, broken, line_ends, line_len, logical_len, open_end, string_step, comment_step, define_step, line_step, back_step, step_by, source_step}
 use Rattle.rdlpp_scan.specs.TokenKinds.{opens_mode, is_ordinary}
 use Rattle.rdlpp_scan.specs.Tokens.{token_of}
@@ -132,7 +132,6 @@ gives_token c opened line m bs =
 -- the first step of a source's text gives its first token, where it gives one of the token table
 pub source_step_gives : (c : Course) (m : Mode) (opened line : ℕ) (bs : List ℕ) → Gives (token_of m bs) bs (source_step c m opened line bs)
 unfolding source_step
-source_step_gives c Plain opened line bs =
-    cond_both (c.unbuilt bs) _ _ (Gives (token_of Plain bs) bs) (λ _. gives_broken (token_of Plain bs) bs Unbuilt [] line) (λ _. gives_token c line line Plain bs)
+source_step_gives c Plain opened line bs = gives_token c line line Plain bs
 source_step_gives c InStr opened line bs = gives_token c opened line InStr bs
 source_step_gives c InBlock opened line bs = gives_token c opened line InBlock bs

@@ -7,15 +7,15 @@ use Rattle.rdlpp_scan.specs.declared.token.Kind.TheVariants.{Back, BareBackquote
 use Rattle.rdlpp_scan.specs.declared.token.Mode.{Mode}
 use Rattle.rdlpp_scan.specs.declared.token.Mode.TheVariants.{Plain}
 use Rattle.rdlpp_scan.specs.Tokens.{plain_len, token_of}
-use Rattle.rdlpp_scan.specs.Front.{LineLong, SourceLong, PerlFound, Unbuilt, Break, Front, front, onto_front}
+use Rattle.rdlpp_scan.specs.Front.{LineLong, SourceLong, PerlFound, Break, Front, front, onto_front}
 use Rattle.rdlpp_scan.specs.SourceTokens.{SourceToken, Course, Ordinary, Broken, line_ends, line_len, source_end, source_tokens, remaining_tokens}
 use Rattle.rdlpp_scan.specs.Lines.{EndsLine, IsWholeLines}
-use Rattle.rdlpp_scan.specs.Ordinary.{IsOrdinary, IsPlainToken, SparesOrdinary}
+use Rattle.rdlpp_scan.specs.Ordinary.{IsOrdinary, IsPlainToken}
 use Rattle.rdlpp_scan.proofs.SourceLaws.{source_tokens-opened}
 use Rattle.rdlpp_scan.proofs.OrdinaryLaws.{ordinary_text}
 use Rattle.rdlpp_scan.proofs.OrdinaryFronts.{ordinary_front, plain_len-append}
 use Rattle.rdlpp_scan.proofs.FrontLaws.{front-accept, front-none, front-line_long, front-source_long}
-use Rattle.rdlpp_scan.proofs.StepLaws.{step-unbuilt, step-perl, step-bare, step-back}
+use Rattle.rdlpp_scan.proofs.StepLaws.{step-perl, step-bare, step-back}
 
 -- what breaks or ends a source behind the text that is held
 pub record IsBehind (held rest more : List ℕ) (break : Option Break) : Type 0 where
@@ -31,25 +31,25 @@ behind most room held rest =
     record { ends = inr text; last = inr (text, ap (λ (g : Front). g.break) f) })
 
 -- the course of a source with this behind it
-abbrev pub course : (List ℕ → Bool) → ℕ → ℕ → List ℕ → Course
-course u most room rest = record { unbuilt = u; most = most; break = (front most room rest).break }
+abbrev pub course : ℕ → ℕ → List ℕ → Course
+course most room rest = record { most = most; break = (front most room rest).break }
 
 -- of what is held, ordinary text w goes through, and what is behind it remains
-pub record GoesThrough (u : List ℕ → Bool) (most l : ℕ) (held w behind : List ℕ) (room : ℕ) (rest : List ℕ) : Type 0 where
+pub record GoesThrough (most l : ℕ) (held w behind : List ℕ) (room : ℕ) (rest : List ℕ) : Type 0 where
   pub tokens : List SourceToken
-  pub steps : (o p : ℕ) → remaining_tokens u most Plain o l held room rest ≡ tokens ++ remaining_tokens u most Plain p (l + line_ends w) behind room rest
+  pub steps : (o p : ℕ) → remaining_tokens most Plain o l held room rest ≡ tokens ++ remaining_tokens most Plain p (l + line_ends w) behind room rest
   pub plain : All IsPlainToken tokens
   pub spelled : flat_map (λ t. t.bytes) tokens ≡ w
 
 -- in plain text it is of no account where something opened
-pub remaining-opened : (u : List ℕ → Bool) (most o p l : ℕ) (held : List ℕ) (room : ℕ) (rest : List ℕ) → remaining_tokens u most Plain o l held room rest ≡ remaining_tokens u most Plain p l held room rest
+pub remaining-opened : (most o p l : ℕ) (held : List ℕ) (room : ℕ) (rest : List ℕ) → remaining_tokens most Plain o l held room rest ≡ remaining_tokens most Plain p l held room rest
 unfolding remaining_tokens
-remaining-opened u most o p l held room rest = source_tokens-opened (course u most room rest) o p l 0 (held ++ (front most room rest).text)
+remaining-opened most o p l held room rest = source_tokens-opened (course most room rest) o p l 0 (held ++ (front most room rest).text)
 
-goes_through : (u : List ℕ → Bool) (most l : ℕ) (held w behind : List ℕ) (room : ℕ) (rest : List ℕ) → held ≡ w ++ behind → IsOrdinary (course u most room rest) l w (behind ++ (front most room rest).text) → GoesThrough u most l held w behind room rest
+goes_through : (most l : ℕ) (held w behind : List ℕ) (room : ℕ) (rest : List ℕ) → held ≡ w ++ behind → IsOrdinary (course most room rest) l w (behind ++ (front most room rest).text) → GoesThrough most l held w behind room rest
 unfolding remaining_tokens
-goes_through u most l held w behind room rest split ordinary =
-    let c = course u most room rest in
+goes_through most l held w behind room rest split ordinary =
+    let c = course most room rest in
     let more = (front most room rest).text in
     let text : held ++ more ≡ w ++ (behind ++ more) = ap (λ z. z ++ more) split ∙ append_assoc w behind more in
     record {
@@ -62,87 +62,79 @@ goes_through u most l held w behind room rest split ordinary =
     }
 
 -- the ordinary text with which what is held begins
-pub remaining-ordinary : (u : List ℕ → Bool) (most l : ℕ) (held : List ℕ) (room : ℕ) (rest : List ℕ) → SparesOrdinary u → EndsLine held rest
-    → GoesThrough u most l held (take (plain_len held) held) (drop (plain_len held) held) room rest
-remaining-ordinary u most l held room rest spares ends =
+pub remaining-ordinary : (most l : ℕ) (held : List ℕ) (room : ℕ) (rest : List ℕ) → EndsLine held rest
+    → GoesThrough most l held (take (plain_len held) held) (drop (plain_len held) held) room rest
+remaining-ordinary most l held room rest ends =
     let n = plain_len held in
-    goes_through u most l held (take n held) (drop n held) room rest (sym (take-append-drop n held))
-    (ordinary_front (course u most room rest) l held (front most room rest).text spares (behind most room held rest ends).ends)
+    goes_through most l held (take n held) (drop n held) room rest (sym (take-append-drop n held))
+    (ordinary_front (course most room rest) l held (front most room rest).text (behind most room held rest ends).ends)
 
 -- a part of that ordinary text, up to a line end
-pub remaining-ordinary_lines : (u : List ℕ → Bool) (most l : ℕ) (w held : List ℕ) (room : ℕ) (rest : List ℕ) → SparesOrdinary u → EndsLine (w ++ held) rest → IsWholeLines w → length w ≤ plain_len (w ++ held)
-    → GoesThrough u most l (w ++ held) w held room rest
-remaining-ordinary_lines u most l w held room rest spares ends whole inside =
+pub remaining-ordinary_lines : (most l : ℕ) (w held : List ℕ) (room : ℕ) (rest : List ℕ) → EndsLine (w ++ held) rest → IsWholeLines w → length w ≤ plain_len (w ++ held)
+    → GoesThrough most l (w ++ held) w held room rest
+remaining-ordinary_lines most l w held room rest ends whole inside =
     let more = (front most room rest).text in
     let longer = plain_len-append (w ++ held) more (behind most room (w ++ held) rest ends).ends in
-    goes_through u most l (w ++ held) w held room rest refl
-    (ordinary_text (course u most room rest) l w (held ++ more) spares (omega (arith, longer, ap plain_len (append_assoc w held more))) (inr (inl whole)))
+    goes_through most l (w ++ held) w held room rest refl
+    (ordinary_text (course most room rest) l w (held ++ more) (omega (arith, longer, ap plain_len (append_assoc w held more))) (inr (inl whole)))
 
 -- lines that are taken in
-pub remaining-accept : (u : List ℕ → Bool) (most : ℕ) (m : Mode) (o l : ℕ) (held : List ℕ) (room : ℕ) (w r : List ℕ) → EndsLine w r → length w ≤ most → length w ≤ room
-    → remaining_tokens u most m o l held room (w ++ r) ≡ remaining_tokens u most m o l (held ++ w) (room - length w) r
+pub remaining-accept : (most : ℕ) (m : Mode) (o l : ℕ) (held : List ℕ) (room : ℕ) (w r : List ℕ) → EndsLine w r → length w ≤ most → length w ≤ room
+    → remaining_tokens most m o l held room (w ++ r) ≡ remaining_tokens most m o l (held ++ w) (room - length w) r
 unfolding remaining_tokens onto_front
-remaining-accept u most m o l held room w r ends line source =
+remaining-accept most m o l held room w r ends line source =
     let f = front most (room - length w) r in
-    let of_front : Front → List SourceToken = λ g. source_tokens (record { unbuilt = u; most = most; break = g.break }) m o l 0 (held ++ g.text) in
+    let of_front : Front → List SourceToken = λ g. source_tokens (record { most = most; break = g.break }) m o l 0 (held ++ g.text) in
     ap of_front (front-accept most room w r ends line source)
-    ∙ ap (λ z. source_tokens (record { unbuilt = u; most = most; break = f.break }) m o l 0 z) (sym (append_assoc held w f.text))
+    ∙ ap (λ z. source_tokens (record { most = most; break = f.break }) m o l 0 z) (sym (append_assoc held w f.text))
 
 -- what remains of a source whose front is known
-remaining-front : (u : List ℕ → Bool) (most o l room : ℕ) (r : List ℕ) (k : Option Break) → front most room r ≡ record { text = []; break = k } → remaining_tokens u most Plain o l [] room r ≡ source_end (record { unbuilt = u; most = most; break = k }) Plain o l
+remaining-front : (most o l room : ℕ) (r : List ℕ) (k : Option Break) → front most room r ≡ record { text = []; break = k } → remaining_tokens most Plain o l [] room r ≡ source_end (record { most = most; break = k }) Plain o l
 unfolding remaining_tokens source_tokens
-remaining-front u most o l room r k is = ap (λ (g : Front). source_tokens (record { unbuilt = u; most = most; break = g.break }) Plain o l 0 g.text) is
+remaining-front most o l room r k is = ap (λ (g : Front). source_tokens (record { most = most; break = g.break }) Plain o l 0 g.text) is
 
 -- the end
-pub remaining-end : (u : List ℕ → Bool) (most o l room : ℕ) → remaining_tokens u most Plain o l [] room [] ≡ []
+pub remaining-end : (most o l room : ℕ) → remaining_tokens most Plain o l [] room [] ≡ []
 unfolding source_end
-remaining-end u most o l room = remaining-front u most o l room [] None (front-none most room)
+remaining-end most o l room = remaining-front most o l room [] None (front-none most room)
 
 -- a line that is too long
-pub remaining-line_long : (u : List ℕ → Bool) (most o l room : ℕ) (r : List ℕ) → most < line_len r
-    → remaining_tokens u most Plain o l [] room r ≡ record { sort = Broken LineLong; bytes = []; line = l } ∷ []
+pub remaining-line_long : (most o l room : ℕ) (r : List ℕ) → most < line_len r
+    → remaining_tokens most Plain o l [] room r ≡ record { sort = Broken LineLong; bytes = []; line = l } ∷ []
 unfolding source_end
-remaining-line_long u most o l room r long = remaining-front u most o l room r _ (front-line_long most room r long)
+remaining-line_long most o l room r long = remaining-front most o l room r _ (front-line_long most room r long)
 
 -- a line that is too much for the source
-pub remaining-source_long : (u : List ℕ → Bool) (most o l room : ℕ) (r : List ℕ) → line_len r ≤ most → room < line_len r
-    → remaining_tokens u most Plain o l [] room r ≡ record { sort = Broken SourceLong; bytes = []; line = l } ∷ []
+pub remaining-source_long : (most o l room : ℕ) (r : List ℕ) → line_len r ≤ most → room < line_len r
+    → remaining_tokens most Plain o l [] room r ≡ record { sort = Broken SourceLong; bytes = []; line = l } ∷ []
 unfolding source_end
-remaining-source_long u most o l room r fits long = remaining-front u most o l room r _ (front-source_long most room r fits long)
-
--- what isn't built ends the list
-pub remaining-unbuilt : (u : List ℕ → Bool) (most o l : ℕ) (held : List ℕ) (room : ℕ) (rest : List ℕ) → 0 < length held → ((more : List ℕ) → EndsLine held more → u (held ++ more) ≡ true) → EndsLine held rest
-    → remaining_tokens u most Plain o l held room rest ≡ record { sort = Broken Unbuilt; bytes = []; line = l } ∷ []
-unfolding remaining_tokens
-remaining-unbuilt u most o l held room rest some unbuilt ends =
-    let more = (front most room rest).text in
-    step-unbuilt (course u most room rest) o l (held ++ more) (omega (arith, length-append held more)) (unbuilt more (behind most room held rest ends).ends)
+remaining-source_long most o l room r fits long = remaining-front most o l room r _ (front-source_long most room r fits long)
 
 -- `<%` ends the list
-pub remaining-perl : (u : List ℕ → Bool) (most o l : ℕ) (held : List ℕ) (room : ℕ) (rest : List ℕ) → 0 < length held → EndsLine held rest → ((more : List ℕ) → EndsLine held more → u (held ++ more) ≡ false) → (token_of Plain held).kind ≡ Perl
-    → remaining_tokens u most Plain o l held room rest ≡ record { sort = Broken PerlFound; bytes = []; line = l } ∷ []
+pub remaining-perl : (most o l : ℕ) (held : List ℕ) (room : ℕ) (rest : List ℕ) → 0 < length held → EndsLine held rest → (token_of Plain held).kind ≡ Perl
+    → remaining_tokens most Plain o l held room rest ≡ record { sort = Broken PerlFound; bytes = []; line = l } ∷ []
 unfolding remaining_tokens
-remaining-perl u most o l held room rest some ends built is =
+remaining-perl most o l held room rest some ends is =
     let more = (front most room rest).text in
     let b = behind most room held rest ends in
-    step-perl (course u most room rest) o l held more some b.ends (built more b.ends) is
+    step-perl (course most room rest) o l held more some b.ends is
 
 -- a backquote without a name
-pub remaining-bare : (u : List ℕ → Bool) (most o l : ℕ) (held : List ℕ) (room : ℕ) (rest : List ℕ) → 0 < length held → EndsLine held rest → ((more : List ℕ) → EndsLine held more → u (held ++ more) ≡ false) → (token_of Plain held).kind ≡ BareBackquote
-    → remaining_tokens u most Plain o l held room rest ≡ record { sort = Ordinary BareBackquote; bytes = take 1 held; line = l } ∷ remaining_tokens u most Plain l l (drop 1 held) room rest
+pub remaining-bare : (most o l : ℕ) (held : List ℕ) (room : ℕ) (rest : List ℕ) → 0 < length held → EndsLine held rest → (token_of Plain held).kind ≡ BareBackquote
+    → remaining_tokens most Plain o l held room rest ≡ record { sort = Ordinary BareBackquote; bytes = take 1 held; line = l } ∷ remaining_tokens most Plain l l (drop 1 held) room rest
 unfolding remaining_tokens
-remaining-bare u most o l held room rest some ends built is =
+remaining-bare most o l held room rest some ends is =
     let more = (front most room rest).text in
     let b = behind most room held rest ends in
-    step-bare (course u most room rest) o l held more some b.ends (built more b.ends) is
+    step-bare (course most room rest) o l held more some b.ends is
 
 -- a backquote with a name that is neither `define` nor `line`
-pub remaining-back : (u : List ℕ → Bool) (most o l : ℕ) (held : List ℕ) (room : ℕ) (rest : List ℕ) → 0 < length held → EndsLine held rest → ((more : List ℕ) → EndsLine held more → u (held ++ more) ≡ false) → (token_of Plain held).kind ≡ Back
+pub remaining-back : (most o l : ℕ) (held : List ℕ) (room : ℕ) (rest : List ℕ) → 0 < length held → EndsLine held rest → (token_of Plain held).kind ≡ Back
     → bytes_eq (take (token_of Plain held).len held) (codes "`define") ≡ false → bytes_eq (take (token_of Plain held).len held) (codes "`line") ≡ false
-    → remaining_tokens u most Plain o l held room rest
-    ≡ record { sort = Ordinary Back; bytes = take (token_of Plain held).len held; line = l } ∷ remaining_tokens u most Plain l l (drop (token_of Plain held).len held) room rest
+    → remaining_tokens most Plain o l held room rest
+    ≡ record { sort = Ordinary Back; bytes = take (token_of Plain held).len held; line = l } ∷ remaining_tokens most Plain l l (drop (token_of Plain held).len held) room rest
 unfolding remaining_tokens
-remaining-back u most o l held room rest some ends built is other also =
+remaining-back most o l held room rest some ends is other also =
     let more = (front most room rest).text in
     let b = behind most room held rest ends in
-    step-back (course u most room rest) o l held more some b.ends (built more b.ends) is other also
+    step-back (course most room rest) o l held more some b.ends is other also

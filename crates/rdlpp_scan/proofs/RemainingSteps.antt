@@ -22,87 +22,80 @@ use Rattle.rdlpp_scan.proofs.TokenSteps.{is_kept_kind, step-closed, step-open_st
 use Rattle.rdlpp_scan.proofs.DefineSteps.{BeginsDefine, step-line, step-logical, step-logical_long, step-logical_full, step-logical_last, step-logical_last_long, step-logical_broken}
 use Rattle.rdlpp_scan.proofs.RemainingLaws.{behind, course}
 
--- where a text stands, and whatever follows its lines, is no place of what isn't built
-abbrev pub IsBuiltAt : (List ℕ → Bool) → Mode → List ℕ → Type 0
-IsBuiltAt u m held = m ≡ Plain → (more : List ℕ) → EndsLine held more → u (held ++ more) ≡ false
-
 -- a token that is closed in what is held
-pub remaining-closed : (u : List ℕ → Bool) (most : ℕ) (m : Mode) (o l : ℕ) (held : List ℕ) (room : ℕ) (rest : List ℕ) → 0 < length held → EndsLine held rest → IsBuiltAt u m held
-    → is_kept_kind (token_of m held).kind ≡ true → (token_of m held).next_mode ≡ Plain
-    → remaining_tokens u most m o l held room rest
+pub remaining-closed : (most : ℕ) (m : Mode) (o l : ℕ) (held : List ℕ) (room : ℕ) (rest : List ℕ) → 0 < length held → EndsLine held rest → is_kept_kind (token_of m held).kind ≡ true → (token_of m held).next_mode ≡ Plain
+    → remaining_tokens most m o l held room rest
     ≡ record { sort = Ordinary (token_of m held).kind; bytes = take (token_of m held).len held; line = l }
-    ∷ remaining_tokens u most Plain l (l + line_ends (take (token_of m held).len held)) (drop (token_of m held).len held) room rest
+    ∷ remaining_tokens most Plain l (l + line_ends (take (token_of m held).len held)) (drop (token_of m held).len held) room rest
 unfolding remaining_tokens
-remaining-closed u most m o l held room rest some ends built kept closed =
+remaining-closed most m o l held room rest some ends kept closed =
     let more = (front most room rest).text in
     let b = behind most room held rest ends in
-    step-closed (course u most room rest) m o l held more some (IsCut-from_line held more b.ends) (λ plain. built plain more b.ends) kept closed
+    step-closed (course most room rest) m o l held more some (IsCut-from_line held more b.ends) kept closed
 
 -- a string that is open in what is held: what is held of it, in front of what remains of its rest
-pub remaining-open_string : (u : List ℕ → Bool) (most : ℕ) (m : Mode) (o l : ℕ) (held : List ℕ) (room : ℕ) (rest : List ℕ) → 0 < length held → EndsLine held rest → IsBuiltAt u m held
-    → (token_of m held).next_mode ≡ InStr → (token_of m held).len ≡ length held
-    → remaining_tokens u most m o l held room rest ≡ onto_tokens held l (remaining_tokens u most InStr (opening m o l) (l + line_ends held) [] room rest)
+pub remaining-open_string : (most : ℕ) (m : Mode) (o l : ℕ) (held : List ℕ) (room : ℕ) (rest : List ℕ) → 0 < length held → EndsLine held rest → (token_of m held).next_mode ≡ InStr → (token_of m held).len ≡ length held
+    → remaining_tokens most m o l held room rest ≡ onto_tokens held l (remaining_tokens most InStr (opening m o l) (l + line_ends held) [] room rest)
 unfolding remaining_tokens
-remaining-open_string u most m o l held room rest some ends built mode len =
+remaining-open_string most m o l held room rest some ends mode len =
     let more = (front most room rest).text in
     let b = behind most room held rest ends in
-    step-open_string (course u most room rest) m o l held more some (IsCut-from_line held more b.ends) (λ plain. built plain more b.ends) mode len
+    step-open_string (course most room rest) m o l held more some (IsCut-from_line held more b.ends) mode len
 
 -- a block comment that is open in what is held
-pub remaining-open_comment : (u : List ℕ → Bool) (most : ℕ) (m : Mode) (o l : ℕ) (held : List ℕ) (room : ℕ) (rest : List ℕ) → 0 < length held → EndsLine held rest → IsBuiltAt u m held → (token_of m held).next_mode ≡ InBlock
-    → remaining_tokens u most m o l held room rest ≡ onto_tokens held l (remaining_tokens u most InBlock (opening m o l) (l + line_ends held) [] room rest)
+pub remaining-open_comment : (most : ℕ) (m : Mode) (o l : ℕ) (held : List ℕ) (room : ℕ) (rest : List ℕ) → 0 < length held → EndsLine held rest → (token_of m held).next_mode ≡ InBlock
+    → remaining_tokens most m o l held room rest ≡ onto_tokens held l (remaining_tokens most InBlock (opening m o l) (l + line_ends held) [] room rest)
 unfolding remaining_tokens
-remaining-open_comment u most m o l held room rest some ends built mode =
+remaining-open_comment most m o l held room rest some ends mode =
     let more = (front most room rest).text in
     let b = behind most room held rest ends in
-    step-open_comment (course u most room rest) m o l held more some (IsCut-from_line held more b.ends) (λ plain. built plain more b.ends) mode
+    step-open_comment (course most room rest) m o l held more some (IsCut-from_line held more b.ends) mode
 
 -- what is held of a string that was open before it, in front of what remains of its rest
-pub remaining-string_goes_on : (u : List ℕ → Bool) (most o l : ℕ) (held : List ℕ) (room : ℕ) (rest : List ℕ) → 0 < length held → EndsLine held rest
+pub remaining-string_goes_on : (most o l : ℕ) (held : List ℕ) (room : ℕ) (rest : List ℕ) → 0 < length held → EndsLine held rest
     → (token_of InStr held).next_mode ≡ InStr → (token_of InStr held).len ≡ length held
-    → remaining_tokens u most InStr o l held room rest ≡ onto_tokens held l (remaining_tokens u most InStr o (l + line_ends held) [] room rest)
+    → remaining_tokens most InStr o l held room rest ≡ onto_tokens held l (remaining_tokens most InStr o (l + line_ends held) [] room rest)
 unfolding opening
-remaining-string_goes_on u most o l held room rest some ends mode len =
-    remaining-open_string u most InStr o l held room rest some ends (λ e. absurd (cc)) mode len
+remaining-string_goes_on most o l held room rest some ends mode len =
+    remaining-open_string most InStr o l held room rest some ends mode len
 
 -- what is held of a block comment that was open before it
-pub remaining-comment_goes_on : (u : List ℕ → Bool) (most o l : ℕ) (held : List ℕ) (room : ℕ) (rest : List ℕ) → 0 < length held → EndsLine held rest
+pub remaining-comment_goes_on : (most o l : ℕ) (held : List ℕ) (room : ℕ) (rest : List ℕ) → 0 < length held → EndsLine held rest
     → (token_of InBlock held).next_mode ≡ InBlock
-    → remaining_tokens u most InBlock o l held room rest ≡ onto_tokens held l (remaining_tokens u most InBlock o (l + line_ends held) [] room rest)
+    → remaining_tokens most InBlock o l held room rest ≡ onto_tokens held l (remaining_tokens most InBlock o (l + line_ends held) [] room rest)
 unfolding opening
-remaining-comment_goes_on u most o l held room rest some ends mode =
-    remaining-open_comment u most InBlock o l held room rest some ends (λ e. absurd (cc)) mode
+remaining-comment_goes_on most o l held room rest some ends mode =
+    remaining-open_comment most InBlock o l held room rest some ends mode
 
 -- a string that `<%` cuts in what is held
-pub remaining-cut_string : (u : List ℕ → Bool) (most : ℕ) (m : Mode) (o l : ℕ) (held : List ℕ) (room : ℕ) (rest : List ℕ) → 0 < length held → EndsLine held rest → IsBuiltAt u m held
-    → (token_of m held).kind ≡ Str → (token_of m held).next_mode ≡ InStr → (token_of m held).len < length held
-    → remaining_tokens u most m o l held room rest
+pub remaining-cut_string : (most : ℕ) (m : Mode) (o l : ℕ) (held : List ℕ) (room : ℕ) (rest : List ℕ) → 0 < length held → EndsLine held rest → (token_of m held).kind ≡ Str → (token_of m held).next_mode ≡ InStr → (token_of m held).len < length held
+    → remaining_tokens most m o l held room rest
     ≡ record { sort = Broken PerlFound; bytes = take (token_of m held).len held; line = l + line_ends (take (token_of m held).len held) } ∷ []
 unfolding remaining_tokens
-remaining-cut_string u most m o l held room rest some ends built kind mode lt =
+remaining-cut_string most m o l held room rest some ends kind mode lt =
     let more = (front most room rest).text in
     let b = behind most room held rest ends in
-    step-cut_string (course u most room rest) m o l held more some (IsCut-from_line held more b.ends) (λ plain. built plain more b.ends) kind mode lt
+    step-cut_string (course most room rest) m o l held more some (IsCut-from_line held more b.ends) kind mode lt
 
-begins : (u : List ℕ → Bool) (most : ℕ) (held : List ℕ) (room : ℕ) (rest : List ℕ) → HoldsDefine u held rest → BeginsDefine (course u most room rest) held (front most room rest).text
-begins u most held room rest h =
+begins : (most : ℕ) (held : List ℕ) (room : ℕ) (rest : List ℕ) → HoldsDefine held rest → BeginsDefine (course most room rest) held (front most room rest).text
+begins most held room rest h =
     let b = behind most room held rest h.ends in
-    record { some = h.some; ends = b.ends; built = h.built (front most room rest).text b.ends; kind = h.kind; word = h.word }
+    record { some = h.some; ends = b.ends; kind = h.kind; word = h.word }
 
 -- a `define` whose logical line ends in what is held
-pub remaining-logical : (u : List ℕ → Bool) (most o l : ℕ) (held : List ℕ) (room : ℕ) (rest : List ℕ) (n : ℕ) → HoldsDefine u held rest → logical_len 0 0 held ≡ Some n → n ≤ most
-    → remaining_tokens u most Plain o l held room rest
-    ≡ record { sort = Definition; bytes = take n held; line = l } ∷ remaining_tokens u most Plain l (l + line_ends (take n held)) (drop n held) room rest
+pub remaining-logical : (most o l : ℕ) (held : List ℕ) (room : ℕ) (rest : List ℕ) (n : ℕ) → HoldsDefine held rest → logical_len 0 0 held ≡ Some n → n ≤ most
+    → remaining_tokens most Plain o l held room rest
+    ≡ record { sort = Definition; bytes = take n held; line = l } ∷ remaining_tokens most Plain l (l + line_ends (take n held)) (drop n held) room rest
 unfolding remaining_tokens
-remaining-logical u most o l held room rest n h is fits =
-    step-logical (course u most room rest) o l held (front most room rest).text n (begins u most held room rest h) is fits
+remaining-logical most o l held room rest n h is fits =
+    step-logical (course most room rest) o l held (front most room rest).text n (begins most held room rest h) is fits
 
 -- a `define` whose logical line is too long
-pub remaining-logical_long : (u : List ℕ → Bool) (most o l : ℕ) (held : List ℕ) (room : ℕ) (rest : List ℕ) (n : ℕ) → HoldsDefine u held rest → logical_len 0 0 held ≡ Some n → most < n
-    → remaining_tokens u most Plain o l held room rest ≡ record { sort = Broken DefineLong; bytes = []; line = l } ∷ []
+pub remaining-logical_long : (most o l : ℕ) (held : List ℕ) (room : ℕ) (rest : List ℕ) (n : ℕ) → HoldsDefine held rest → logical_len 0 0 held ≡ Some n → most < n
+    → remaining_tokens most Plain o l held room rest ≡ record { sort = Broken DefineLong; bytes = []; line = l } ∷ []
 unfolding remaining_tokens
-remaining-logical_long u most o l held room rest n h is long =
-    step-logical_long (course u most room rest) o l held (front most room rest).text n (begins u most held room rest h) is long
+remaining-logical_long most o l held room rest n h is long =
+    step-logical_long (course most room rest) o l held (front most room rest).text n (begins most held room rest h) is long
 
 -- a first line is as long with anything behind it
 first_line-within : (bs more : List ℕ) → line_len bs ≤ line_len (take (line_len bs) bs ++ more)
@@ -136,33 +129,33 @@ first_line-ends (b ∷ c ∷ cs) =
     elim (is_line_end b) as P [ true ↦ at_true | false ↦ at_false ] refl
 
 -- tokens by the front that is behind what is held
-of_front : (List ℕ → Bool) → ℕ → ℕ → ℕ → List ℕ → Front → List SourceToken
-of_front u most o l held f = source_tokens (record { unbuilt = u; most = most; break = f.break }) Plain o l 0 (held ++ f.text)
+of_front : ℕ → ℕ → ℕ → List ℕ → Front → List SourceToken
+of_front most o l held f = source_tokens (record { most = most; break = f.break }) Plain o l 0 (held ++ f.text)
 
 -- a `define` in front of a broken line
-define_broken : (u : List ℕ → Bool) (most o l : ℕ) (held rest : List ℕ) (k : Break) → HoldsDefine u held rest → logical_len 0 0 held ≡ None
-    → of_front u most o l held (record { text = []; break = Some k }) ≡ record { sort = Broken (cond (ltb most (length held + k.len)) DefineLong DefineCut); bytes = []; line = l } ∷ []
+define_broken : (most o l : ℕ) (held rest : List ℕ) (k : Break) → HoldsDefine held rest → logical_len 0 0 held ≡ None
+    → of_front most o l held (record { text = []; break = Some k }) ≡ record { sort = Broken (cond (ltb most (length held + k.len)) DefineLong DefineCut); bytes = []; line = l } ∷ []
 unfolding of_front
-define_broken u most o l held rest k h is =
-    let c : Course = record { unbuilt = u; most = most; break = Some k } in
+define_broken most o l held rest k h is =
+    let c : Course = record { most = most; break = Some k } in
     let none : EndsLine held [] = inr refl in
     ap (source_tokens c Plain o l 0) (append-nil held)
-    ∙ step-logical_broken c o l held k (record { some = h.some; ends = none; built = h.built [] none; kind = h.kind; word = h.word }) is refl
+    ∙ step-logical_broken c o l held k (record { some = h.some; ends = none; kind = h.kind; word = h.word }) is refl
 
 -- a `define` whose logical line goes on, and is too long with the next physical line
-pub remaining-logical_full : (u : List ℕ → Bool) (most o l : ℕ) (held : List ℕ) (room : ℕ) (rest : List ℕ) → HoldsDefine u held rest → logical_len 0 0 held ≡ None → 0 < length rest → most < length held + line_len rest
-    → remaining_tokens u most Plain o l held room rest ≡ record { sort = Broken DefineLong; bytes = []; line = l } ∷ []
+pub remaining-logical_full : (most o l : ℕ) (held : List ℕ) (room : ℕ) (rest : List ℕ) → HoldsDefine held rest → logical_len 0 0 held ≡ None → 0 < length rest → most < length held + line_len rest
+    → remaining_tokens most Plain o l held room rest ≡ record { sort = Broken DefineLong; bytes = []; line = l } ∷ []
 unfolding remaining_tokens of_front onto_front
-remaining-logical_full u most o l held room rest h is some long =
+remaining-logical_full most o l held room rest h is some long =
     let n = line_len rest in
     let F = front most room rest in
     let broken_line : Breach → List SourceToken = λ k. record { sort = Broken k; bytes = []; line = l } ∷ [] in
     let picked = ap (λ t. broken_line (cond t DefineLong DefineCut)) (lt-ltb most (length held + n) long) in
-    let at_line : most < n → of_front u most o l held F ≡ broken_line DefineLong = λ more.
-    ap (of_front u most o l held) (front-line_long most room rest more) ∙ define_broken u most o l held rest (record { breach = LineLong; len = n }) h is ∙ picked in
-    let at_source : n ≤ most → room < n → of_front u most o l held F ≡ broken_line DefineLong = λ fits much.
-    ap (of_front u most o l held) (front-source_long most room rest fits much) ∙ define_broken u most o l held rest (record { breach = SourceLong; len = n }) h is ∙ picked in
-    let accepted : n ≤ most → n ≤ room → of_front u most o l held F ≡ broken_line DefineLong = λ fits within.
+    let at_line : most < n → of_front most o l held F ≡ broken_line DefineLong = λ more.
+    ap (of_front most o l held) (front-line_long most room rest more) ∙ define_broken most o l held rest (record { breach = LineLong; len = n }) h is ∙ picked in
+    let at_source : n ≤ most → room < n → of_front most o l held F ≡ broken_line DefineLong = λ fits much.
+    ap (of_front most o l held) (front-source_long most room rest fits much) ∙ define_broken most o l held rest (record { breach = SourceLong; len = n }) h is ∙ picked in
+    let accepted : n ≤ most → n ≤ room → of_front most o l held F ≡ broken_line DefineLong = λ fits within.
     let w = take n rest in
     let r = drop n rest in
     let size : length w ≡ n = length-take-le n rest (line_len-le rest) in
@@ -171,46 +164,46 @@ remaining-logical_full u most o l held room rest h is some long =
     ap (λ (z : List ℕ). (front most room z).text) (sym (take-append-drop n rest)) ∙ ap (λ (f : Front). f.text) (front-accept most room w r (first_line-ends rest) (omega arith) (omega arith)) in
     let line : n ≤ line_len F.text = omega (arith, first_line-within rest g.text, ap line_len text) in
     let some_line = line_len-some rest some in
-    step-logical_full (course u most room rest) o l held F.text (begins u most held room rest h) is (omega (arith, line_len-le F.text)) (omega arith) in
+    step-logical_full (course most room rest) o l held F.text (begins most held room rest h) is (omega (arith, line_len-le F.text)) (omega arith) in
     ⊎_elim at_line (λ fits. ⊎_elim (at_source fits) (accepted fits) (cases_lt room n)) (cases_lt most n)
 
 -- a `define` in whose logical line a line is too much for the source
-pub remaining-logical_source : (u : List ℕ → Bool) (most o l : ℕ) (held : List ℕ) (room : ℕ) (rest : List ℕ) → HoldsDefine u held rest → logical_len 0 0 held ≡ None → length held + line_len rest ≤ most → room < line_len rest
-    → remaining_tokens u most Plain o l held room rest ≡ record { sort = Broken DefineCut; bytes = []; line = l } ∷ []
+pub remaining-logical_source : (most o l : ℕ) (held : List ℕ) (room : ℕ) (rest : List ℕ) → HoldsDefine held rest → logical_len 0 0 held ≡ None → length held + line_len rest ≤ most → room < line_len rest
+    → remaining_tokens most Plain o l held room rest ≡ record { sort = Broken DefineCut; bytes = []; line = l } ∷ []
 unfolding remaining_tokens of_front
-remaining-logical_source u most o l held room rest h is fits much =
+remaining-logical_source most o l held room rest h is fits much =
     let n = line_len rest in
-    ap (of_front u most o l held) (front-source_long most room rest (omega arith) much) ∙ define_broken u most o l held rest (record { breach = SourceLong; len = n }) h is
+    ap (of_front most o l held) (front-source_long most room rest (omega arith) much) ∙ define_broken most o l held rest (record { breach = SourceLong; len = n }) h is
     ∙ ap (λ t. record { sort = Broken (cond t DefineLong DefineCut); bytes = []; line = l } ∷ []) (le-ltb most (length held + n) fits)
 
 -- a `define` at the end of a source
-pub remaining-logical_last : (u : List ℕ → Bool) (most o l : ℕ) (held : List ℕ) (room : ℕ) → HoldsDefine u held [] → logical_len 0 0 held ≡ None → length held ≤ most
-    → remaining_tokens u most Plain o l held room [] ≡ record { sort = Definition; bytes = held; line = l } ∷ []
+pub remaining-logical_last : (most o l : ℕ) (held : List ℕ) (room : ℕ) → HoldsDefine held [] → logical_len 0 0 held ≡ None → length held ≤ most
+    → remaining_tokens most Plain o l held room [] ≡ record { sort = Definition; bytes = held; line = l } ∷ []
 unfolding remaining_tokens of_front source_tokens source_end
-remaining-logical_last u most o l held room h is fits =
-    let c : Course = record { unbuilt = u; most = most; break = None } in
+remaining-logical_last most o l held room h is fits =
+    let c : Course = record { most = most; break = None } in
     let none : EndsLine held [] = inr refl in
     let tok : SourceToken = record { sort = Definition; bytes = held; line = l } in
-    ap (of_front u most o l held) (front-none most room) ∙ ap (source_tokens c Plain o l 0) (append-nil held)
-    ∙ step-logical_last c o l held (record { some = h.some; ends = none; built = h.built [] none; kind = h.kind; word = h.word }) is refl fits
+    ap (of_front most o l held) (front-none most room) ∙ ap (source_tokens c Plain o l 0) (append-nil held)
+    ∙ step-logical_last c o l held (record { some = h.some; ends = none; kind = h.kind; word = h.word }) is refl fits
 
 -- a `define` at the end of a source, which is too long
-pub remaining-logical_last_long : (u : List ℕ → Bool) (most o l : ℕ) (held : List ℕ) (room : ℕ) → HoldsDefine u held [] → logical_len 0 0 held ≡ None → most < length held
-    → remaining_tokens u most Plain o l held room [] ≡ record { sort = Broken DefineLong; bytes = []; line = l } ∷ []
+pub remaining-logical_last_long : (most o l : ℕ) (held : List ℕ) (room : ℕ) → HoldsDefine held [] → logical_len 0 0 held ≡ None → most < length held
+    → remaining_tokens most Plain o l held room [] ≡ record { sort = Broken DefineLong; bytes = []; line = l } ∷ []
 unfolding remaining_tokens of_front
-remaining-logical_last_long u most o l held room h is long =
-    let c : Course = record { unbuilt = u; most = most; break = None } in
+remaining-logical_last_long most o l held room h is long =
+    let c : Course = record { most = most; break = None } in
     let none : EndsLine held [] = inr refl in
-    ap (of_front u most o l held) (front-none most room) ∙ ap (source_tokens c Plain o l 0) (append-nil held)
-    ∙ step-logical_last_long c o l held (record { some = h.some; ends = none; built = h.built [] none; kind = h.kind; word = h.word }) is refl long
+    ap (of_front most o l held) (front-none most room) ∙ ap (source_tokens c Plain o l 0) (append-nil held)
+    ∙ step-logical_last_long c o l held (record { some = h.some; ends = none; kind = h.kind; word = h.word }) is refl long
 
 -- a `line` with its line
-pub remaining-line : (u : List ℕ → Bool) (most o l : ℕ) (held : List ℕ) (room : ℕ) (rest : List ℕ) → 0 < length held → EndsLine held rest → IsBuiltAt u Plain held → (token_of Plain held).kind ≡ Back
+pub remaining-line : (most o l : ℕ) (held : List ℕ) (room : ℕ) (rest : List ℕ) → 0 < length held → EndsLine held rest → (token_of Plain held).kind ≡ Back
     → bytes_eq (take (token_of Plain held).len held) (codes "`define") ≡ false → bytes_eq (take (token_of Plain held).len held) (codes "`line") ≡ true
-    → remaining_tokens u most Plain o l held room rest
-    ≡ record { sort = Renumbering; bytes = take (line_len held) held; line = l } ∷ remaining_tokens u most Plain l (l + line_ends (take (line_len held) held)) (drop (line_len held) held) room rest
+    → remaining_tokens most Plain o l held room rest
+    ≡ record { sort = Renumbering; bytes = take (line_len held) held; line = l } ∷ remaining_tokens most Plain l (l + line_ends (take (line_len held) held)) (drop (line_len held) held) room rest
 unfolding remaining_tokens
-remaining-line u most o l held room rest some ends built is other also =
+remaining-line most o l held room rest some ends is other also =
     let more = (front most room rest).text in
     let b = behind most room held rest ends in
-    step-line (course u most room rest) o l held more some b.ends (built refl more b.ends) is other also
+    step-line (course most room rest) o l held more some b.ends is other also

@@ -114,14 +114,14 @@ comment_tokens-resume c o l (b ∷ bs) =
     step_resumes c InBlock o l b bs (subst (λ (s : Step). ResumesStep s) (sym (comment_rest c o l (b ∷ bs))) (comment_by_mode c o l v.kind v.len v.next_mode (b ∷ bs) (block_token-kind 0 (b ∷ bs))))
 
 -- what remains in a string
-pub remaining-in_string : (u : List ℕ → Bool) (most o l : ℕ) (held : List ℕ) (room : ℕ) (rest : List ℕ) → Resumes (remaining_tokens u most InStr o l held room rest)
+pub remaining-in_string : (most o l : ℕ) (held : List ℕ) (room : ℕ) (rest : List ℕ) → Resumes (remaining_tokens most InStr o l held room rest)
 unfolding remaining_tokens
-remaining-in_string u most o l held room rest = string_tokens-resume (course u most room rest) o l (held ++ (front most room rest).text)
+remaining-in_string most o l held room rest = string_tokens-resume (course most room rest) o l (held ++ (front most room rest).text)
 
 -- what remains in a block comment
-pub remaining-in_comment : (u : List ℕ → Bool) (most o l : ℕ) (held : List ℕ) (room : ℕ) (rest : List ℕ) → Resumes (remaining_tokens u most InBlock o l held room rest)
+pub remaining-in_comment : (most o l : ℕ) (held : List ℕ) (room : ℕ) (rest : List ℕ) → Resumes (remaining_tokens most InBlock o l held room rest)
 unfolding remaining_tokens
-remaining-in_comment u most o l held room rest = comment_tokens-resume (course u most room rest) o l (held ++ (front most room rest).text)
+remaining-in_comment most o l held room rest = comment_tokens-resume (course most room rest) o l (held ++ (front most room rest).text)
 
 -- `<%` is told by two bytes
 perl-append : (bs more : List ℕ) → begins_perl bs ≡ true → begins_perl (bs ++ more) ≡ true
@@ -137,9 +137,9 @@ string_perl c o l bs some h =
     (ap (λ t. step_by c o l (cond t (whole Perl 2) (string_token 0 bs)) bs) h)
 
 -- `<%` in a string ends the list
-pub remaining-perl_in_string : (u : List ℕ → Bool) (most o l : ℕ) (held : List ℕ) (room : ℕ) (rest : List ℕ) → 0 < length held → begins_perl held ≡ true
-    → remaining_tokens u most InStr o l held room rest ≡ record { sort = Broken PerlFound; bytes = []; line = l } ∷ []
+pub remaining-perl_in_string : (most o l : ℕ) (held : List ℕ) (room : ℕ) (rest : List ℕ) → 0 < length held → begins_perl held ≡ true
+    → remaining_tokens most InStr o l held room rest ≡ record { sort = Broken PerlFound; bytes = []; line = l } ∷ []
 unfolding remaining_tokens
-remaining-perl_in_string u most o l held room rest some h =
+remaining-perl_in_string most o l held room rest some h =
     let more = (front most room rest).text in
-    string_perl (course u most room rest) o l (held ++ more) (omega (arith, length-append held more)) (perl-append held more h)
+    string_perl (course most room rest) o l (held ++ more) (omega (arith, length-append held more)) (perl-append held more h)

@@ -10,7 +10,7 @@ use Rattle.rdlpp_scan.specs.declared.token.Mode.TheVariants.{Plain}
 use Rattle.rdlpp_scan.specs.declared.token.Token.{Token}
 use Rattle.rdlpp_scan.specs.Bytes.{is_line_end, is_word, is_letter, is_digit}
 use Rattle.rdlpp_scan.specs.Tokens.{token_of, whole}
-use Rattle.rdlpp_scan.specs.Front.{PerlFound, DefineLong, DefineCut, Unbuilt, Break}
+use Rattle.rdlpp_scan.specs.Front.{PerlFound, DefineLong, DefineCut, Break}
 use Rattle.rdlpp_scan.specs.SourceTokens.{SourceToken, Course, Step, Last, Next, Ordinary, Definition, Broken, broken, back_step, define_step, line_ends, line_step, logical_len, source_step, source_tokens, step_by}
 use Rattle.rdlpp_scan.specs.Lines.{EndsLine}
 use Rattle.rdlpp_scan.specs.Ordinary.{is_plain_kind}
@@ -18,16 +18,9 @@ use Rattle.rdlpp_scan.proofs.Searches.{false_since}
 use Rattle.rdlpp_scan.proofs.Seams.{line_end-ten}
 use Rattle.rdlpp_scan.proofs.TokenLens.{token_of-part}
 use Rattle.rdlpp_scan.proofs.SourceLaws.{line_ends-cons, source_tokens-next, source_tokens-last}
-use Rattle.rdlpp_scan.proofs.OrdinaryLaws.{source_step-built}
+use Rattle.rdlpp_scan.proofs.OrdinaryLaws.{source_step-plain}
 use Rattle.rdlpp_scan.proofs.Locality.{token_of-append}
 use Rattle.rdlpp_scan.proofs.StopKinds.{Row, AtPerl, AtLineComment, AtBlockComment, AtString, AtBack, AtBare, AtPlain, token_of-row}
-
--- what isn't built ends the list
-pub step-unbuilt : (c : Course) (o l : ℕ) (bs : List ℕ) → 0 < length bs → c.unbuilt bs ≡ true
-    → source_tokens c Plain o l 0 bs ≡ record { sort = Broken Unbuilt; bytes = []; line = l } ∷ []
-unfolding source_step broken
-step-unbuilt c o l bs some h =
-    source_tokens-last c Plain o l bs (record { sort = Broken Unbuilt; bytes = []; line = l }) some (ap (λ t. cond t (broken Unbuilt [] l) (step_by c l l (token_of Plain bs) bs)) h)
 
 -- a token of these kinds is closed
 pub closed_kind : (bs : List ℕ) (t : Token) → Row bs t → (t.kind ≡ Perl) ⊎ ((t.kind ≡ Back) ⊎ (t.kind ≡ BareBackquote)) → t.next_mode ≡ Plain
@@ -68,11 +61,10 @@ step_by-back c o l t bs is =
     subst (λ (k : Kind). step_by c o l (record { kind = k; len = t.len; next_mode = t.next_mode }) bs ≡ back_step c l (record { kind = Back; len = t.len; next_mode = t.next_mode }) bs) (sym is) refl
 
 -- a step at a text that ends at a line end, by the token of that text
-step_held : (c : Course) (o l : ℕ) (held more : List ℕ) → 0 < length held → EndsLine held more → c.unbuilt (held ++ more) ≡ false
-    → (t : Token) → t ≡ token_of Plain held → (t.kind ≡ Perl) ⊎ ((t.kind ≡ Back) ⊎ (t.kind ≡ BareBackquote)) → source_step c Plain o l (held ++ more) ≡ step_by c l l t (held ++ more)
-step_held c o l held more some ends built t is kinds =
+step_held : (c : Course) (o l : ℕ) (held more : List ℕ) → 0 < length held → EndsLine held more → (t : Token) → t ≡ token_of Plain held → (t.kind ≡ Perl) ⊎ ((t.kind ≡ Back) ⊎ (t.kind ≡ BareBackquote)) → source_step c Plain o l (held ++ more) ≡ step_by c l l t (held ++ more)
+step_held c o l held more some ends t is kinds =
     let closed = closed_kind held t (subst (Row held) (sym is) (token_of-row held)) kinds in
-    source_step-built c o l (held ++ more) built
+    source_step-plain c o l (held ++ more)
     ∙ ap (λ u. step_by c l l u (held ++ more)) (token_of-append held more some ends (ap (λ (u : Token). u.next_mode) (sym is) ∙ closed) ∙ sym is)
 
 -- what a step takes from the text that is held
@@ -87,13 +79,13 @@ next_held c o l held more t n some fits bytes step =
     ∙ ap (λ z. t ∷ source_tokens c Plain l (l + line_ends (take n held)) 0 z) (drop-append-le n held more fits)
 
 -- `<%` ends the list
-pub step-perl : (c : Course) (o l : ℕ) (held more : List ℕ) → 0 < length held → EndsLine held more → c.unbuilt (held ++ more) ≡ false → (token_of Plain held).kind ≡ Perl
+pub step-perl : (c : Course) (o l : ℕ) (held more : List ℕ) → 0 < length held → EndsLine held more → (token_of Plain held).kind ≡ Perl
     → source_tokens c Plain o l 0 (held ++ more) ≡ record { sort = Broken PerlFound; bytes = []; line = l } ∷ []
-step-perl c o l held more some ends built is =
+step-perl c o l held more some ends is =
     let t = token_of Plain held in
     let size = length-append held more in
     source_tokens-last c Plain o l (held ++ more) (record { sort = Broken PerlFound; bytes = []; line = l }) (omega arith)
-    (step_held c o l held more some ends built t refl (inl is) ∙ step_by-perl c l l t (held ++ more) is)
+    (step_held c o l held more some ends t refl (inl is) ∙ step_by-perl c l l t (held ++ more) is)
 
 word-line_end : (b : ℕ) → is_word b ≡ true → is_line_end b ≡ false
 unfolding is_word is_letter is_digit
@@ -142,15 +134,15 @@ bare_byte bs t (AtBare h g e) k = h
 bare_byte bs t (AtPlain h q) k = absurd (false≢true (sym (ap is_plain_kind k) ∙ h))
 
 -- a backquote without a name
-pub step-bare : (c : Course) (o l : ℕ) (held more : List ℕ) → 0 < length held → EndsLine held more → c.unbuilt (held ++ more) ≡ false → (token_of Plain held).kind ≡ BareBackquote
+pub step-bare : (c : Course) (o l : ℕ) (held more : List ℕ) → 0 < length held → EndsLine held more → (token_of Plain held).kind ≡ BareBackquote
     → source_tokens c Plain o l 0 (held ++ more) ≡ record { sort = Ordinary BareBackquote; bytes = take 1 held; line = l } ∷ source_tokens c Plain l l 0 (drop 1 held ++ more)
-step-bare c o l held more some ends built is =
+step-bare c o l held more some ends is =
     let t = token_of Plain held in
     let row = token_of-row held in
     let tok : SourceToken = record { sort = Ordinary BareBackquote; bytes = take 1 held; line = l } in
     let own : take t.len (held ++ more) ≡ take 1 held = ap (λ n. take n (held ++ more)) (bare_len held t row is) ∙ take-append-le 1 held more (omega arith) in
     let step : source_step c Plain o l (held ++ more) ≡ Next tok =
-    step_held c o l held more some ends built t refl (inr (inr is)) ∙ step_by-bare c l l t (held ++ more) is ∙ ap (λ z. Next (record { sort = Ordinary BareBackquote; bytes = z; line = l })) own in
+    step_held c o l held more some ends t refl (inr (inr is)) ∙ step_by-bare c l l t (held ++ more) is ∙ ap (λ z. Next (record { sort = Ordinary BareBackquote; bytes = z; line = l })) own in
     let lines : l + line_ends (take 1 held) ≡ l = omega (arith, bare-line_ends held (bare_byte held t row is)) in
     next_held c o l held more tok 1 (omega arith) (omega arith) refl step ∙ ap (λ k. tok ∷ source_tokens c Plain l k 0 (drop 1 held ++ more)) lines
 
@@ -170,25 +162,25 @@ back_row bs t (AtBare h g e) k = let i = ap (λ (u : Token). u.kind) e in absurd
 back_row bs t (AtPlain h q) k = absurd (false≢true (sym (ap is_plain_kind k) ∙ h))
 
 -- a step at a backquote with a name, by that name
-pub back_held : (c : Course) (o l : ℕ) (held more : List ℕ) → 0 < length held → EndsLine held more → c.unbuilt (held ++ more) ≡ false → (token_of Plain held).kind ≡ Back
+pub back_held : (c : Course) (o l : ℕ) (held more : List ℕ) → 0 < length held → EndsLine held more → (token_of Plain held).kind ≡ Back
     → source_step c Plain o l (held ++ more)
     ≡ cond (bytes_eq (take (token_of Plain held).len held) (codes "`define")) (define_step c l (held ++ more))
     (cond (bytes_eq (take (token_of Plain held).len held) (codes "`line")) (line_step l (held ++ more)) (Next (record { sort = Ordinary Back; bytes = take (token_of Plain held).len held; line = l })))
 unfolding back_step
-back_held c o l held more some ends built is =
+back_held c o l held more some ends is =
     let t = token_of Plain held in
     let bs = held ++ more in
     let own : take t.len bs ≡ take t.len held = take-append-le t.len held more (token_of-part Plain held some).inside in
-    step_held c o l held more some ends built t refl (inr (inl is))
+    step_held c o l held more some ends t refl (inr (inl is))
     ∙ step_by-back c l l t bs is
     ∙ ap (λ z. cond (bytes_eq z (codes "`define")) (define_step c l bs) (cond (bytes_eq z (codes "`line")) (line_step l bs) (Next (record { sort = Ordinary Back; bytes = z; line = l })))) own
 
 -- a backquote with a name that is neither `define` nor `line`
-pub step-back : (c : Course) (o l : ℕ) (held more : List ℕ) → 0 < length held → EndsLine held more → c.unbuilt (held ++ more) ≡ false → (token_of Plain held).kind ≡ Back
+pub step-back : (c : Course) (o l : ℕ) (held more : List ℕ) → 0 < length held → EndsLine held more → (token_of Plain held).kind ≡ Back
     → bytes_eq (take (token_of Plain held).len held) (codes "`define") ≡ false → bytes_eq (take (token_of Plain held).len held) (codes "`line") ≡ false
     → source_tokens c Plain o l 0 (held ++ more)
     ≡ record { sort = Ordinary Back; bytes = take (token_of Plain held).len held; line = l } ∷ source_tokens c Plain l l 0 (drop (token_of Plain held).len held ++ more)
-step-back c o l held more some ends built is other also =
+step-back c o l held more some ends is other also =
     let t = token_of Plain held in
     let bs = held ++ more in
     let part = token_of-part Plain held some in
@@ -196,7 +188,7 @@ step-back c o l held more some ends built is other also =
     let tok : SourceToken = record { sort = Ordinary Back; bytes = take t.len held; line = l } in
     let line = bytes_eq (take t.len held) (codes "`line") in
     let step : source_step c Plain o l bs ≡ Next tok =
-    back_held c o l held more some ends built is ∙ ap (λ b. cond b (define_step c l bs) (cond line (line_step l bs) (Next tok))) other ∙ ap (λ b. cond b (line_step l bs) (Next tok)) also in
+    back_held c o l held more some ends is ∙ ap (λ b. cond b (define_step c l bs) (cond line (line_step l bs) (Next tok))) other ∙ ap (λ b. cond b (line_step l bs) (Next tok)) also in
     let lines : l + line_ends (take t.len held) ≡ l = omega (arith, back-line_ends held t.len row.byte row.len) in
     next_held c o l held more tok t.len part.not_empty part.inside refl step ∙ ap (λ k. tok ∷ source_tokens c Plain l k 0 (drop t.len held ++ more)) lines
 

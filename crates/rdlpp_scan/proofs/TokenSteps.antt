@@ -16,21 +16,16 @@ use Rattle.rdlpp_scan.specs.Pieces.{IsCut}
 use Rattle.rdlpp_scan.specs.Resumed.{opening, line_with, with_part, onto_step, onto_tokens}
 use Rattle.rdlpp_scan.proofs.TokenLens.{token_of-part, inside_of}
 use Rattle.rdlpp_scan.proofs.SourceLaws.{line_ends-append, source_tokens-opened, source_tokens-next, source_tokens-last}
-use Rattle.rdlpp_scan.proofs.OrdinaryLaws.{source_step-built}
 use Rattle.rdlpp_scan.proofs.CutLaws.{perl_rest}
 use Rattle.rdlpp_scan.proofs.StopKinds.{string_token-kind, block_token-kind}
 use Rattle.rdlpp_scan.proofs.Seams.{Seam, Closed, BeforePerl, OpenString, OpenComment, longer, ltb-moved, token_of-seam}
 
--- where a text stands is no place of what isn't built
-abbrev pub IsBuilt : Course → Mode → List ℕ → Type 0
-IsBuilt c m bs = m ≡ Plain → c.unbuilt bs ≡ false
-
--- a step at a text that begins with what is built
-pub source_step-by : (c : Course) (m : Mode) (o l : ℕ) (bs : List ℕ) → IsBuilt c m bs → source_step c m o l bs ≡ step_by c (opening m o l) l (token_of m bs) bs
+-- a step is by the first token
+pub source_step-by : (c : Course) (m : Mode) (o l : ℕ) (bs : List ℕ) → source_step c m o l bs ≡ step_by c (opening m o l) l (token_of m bs) bs
 unfolding source_step opening
-source_step-by c Plain o l bs built = source_step-built c o l bs (built refl)
-source_step-by c InStr o l bs built = refl
-source_step-by c InBlock o l bs built = refl
+source_step-by c Plain o l bs = refl
+source_step-by c InStr o l bs = refl
+source_step-by c InBlock o l bs = refl
 
 -- a kind whose tokens stand in the list as they are, where they are closed
 unfoldable pub is_kept_kind : Kind → Bool
@@ -63,12 +58,11 @@ seam_same xs ys t u h (OpenComment is e) =
     ⊎_elim (λ closed. absurd (cc)) (λ lt. absurd (omega (arith, len))) h
 
 -- a token that is closed in what is held
-pub step-closed : (c : Course) (m : Mode) (o l : ℕ) (held more : List ℕ) → 0 < length held → IsCut held more → IsBuilt c m (held ++ more)
-    → is_kept_kind (token_of m held).kind ≡ true → (token_of m held).next_mode ≡ Plain
+pub step-closed : (c : Course) (m : Mode) (o l : ℕ) (held more : List ℕ) → 0 < length held → IsCut held more → is_kept_kind (token_of m held).kind ≡ true → (token_of m held).next_mode ≡ Plain
     → source_tokens c m o l 0 (held ++ more)
     ≡ record { sort = Ordinary (token_of m held).kind; bytes = take (token_of m held).len held; line = l }
     ∷ source_tokens c Plain l (l + line_ends (take (token_of m held).len held)) 0 (drop (token_of m held).len held ++ more)
-step-closed c m o l held more some cut built kept closed =
+step-closed c m o l held more some cut kept closed =
     let t = token_of m held in
     let bs = held ++ more in
     let part = token_of-part m held some in
@@ -76,7 +70,7 @@ step-closed c m o l held more some cut built kept closed =
     let same = seam_same held more t (token_of m bs) (inl closed) (token_of-seam m held more some cut) in
     let tok : SourceToken = record { sort = Ordinary t.kind; bytes = take t.len held; line = l } in
     let step : source_step c m o l bs ≡ Next tok =
-    source_step-by c m o l bs built ∙ ap (λ u. step_by c (opening m o l) l u bs) same ∙ step_by-closed c (opening m o l) l t bs kept closed
+    source_step-by c m o l bs ∙ ap (λ u. step_by c (opening m o l) l u bs) same ∙ step_by-closed c (opening m o l) l t bs kept closed
     ∙ ap (λ z. Next (record { sort = Ordinary t.kind; bytes = z; line = l })) (take-append-le t.len held more part.inside) in
     let size : length (take t.len held) ≡ t.len = length-take-le t.len held part.inside in
     source_tokens-next c m o l bs tok (omega arith) step (omega (arith, size, part.not_empty))
@@ -256,17 +250,16 @@ open_seam-string xs ys t u mode len (OpenString is e) = e
 open_seam-string xs ys t u mode len (OpenComment is e) = let other = ap (λ (v : Token). v.next_mode) is in absurd (cc)
 
 -- a string that is open in what is held: what is held of it, in front of the tokens of the rest
-pub step-open_string : (c : Course) (m : Mode) (o l : ℕ) (held more : List ℕ) → 0 < length held → IsCut held more → IsBuilt c m (held ++ more)
-    → (token_of m held).next_mode ≡ InStr → (token_of m held).len ≡ length held
+pub step-open_string : (c : Course) (m : Mode) (o l : ℕ) (held more : List ℕ) → 0 < length held → IsCut held more → (token_of m held).next_mode ≡ InStr → (token_of m held).len ≡ length held
     → source_tokens c m o l 0 (held ++ more) ≡ onto_tokens held l (source_tokens c InStr (opening m o l) (l + line_ends held) 0 more)
-step-open_string c m o l held more some cut built mode len =
+step-open_string c m o l held more some cut mode len =
     let bs = held ++ more in
     let O = opening m o l in
     let next = l + line_ends held in
     let v = string_token 0 more in
     let u = open_seam-string held more (token_of m held) (token_of m bs) mode len (token_of-seam m held more some cut) in
     let step : source_step c m o l bs ≡ onto_step held l (string_step c O next v more) =
-    source_step-by c m o l bs built ∙ ap (λ w. step_by c O l w bs) u ∙ step_by-string c O l (longer (length held) v) bs (string_token-kind 0 more) ∙ string_step-with c O l held more v in
+    source_step-by c m o l bs ∙ ap (λ w. step_by c O l w bs) u ∙ step_by-string c O l (longer (length held) v) bs (string_token-kind 0 more) ∙ string_step-with c O l held more v in
     let P : List ℕ → Type 0 = λ z. ((z ≡ []) × (source_end c InStr O next ≡ end_of (string_step c O next (string_token 0 z) z))) ⊎ (0 < length z) in
     let ended : P more = elim more as P [ [] ↦ inl (refl, string_end c O next) | z ∷ zs ↦ inr (omega arith) ] in
     resumed c m InStr o l held more (string_step c O next v more) some step (λ there. string_rest c O next more there) ended (string_is_step c O next more)
@@ -299,28 +292,27 @@ open_seam-comment xs ys t u mode (OpenString is e) = let other = ap (λ (v : Tok
 open_seam-comment xs ys t u mode (OpenComment is e) = e
 
 -- a block comment that is open in what is held: what is held of it, in front of the tokens of the rest
-pub step-open_comment : (c : Course) (m : Mode) (o l : ℕ) (held more : List ℕ) → 0 < length held → IsCut held more → IsBuilt c m (held ++ more) → (token_of m held).next_mode ≡ InBlock
+pub step-open_comment : (c : Course) (m : Mode) (o l : ℕ) (held more : List ℕ) → 0 < length held → IsCut held more → (token_of m held).next_mode ≡ InBlock
     → source_tokens c m o l 0 (held ++ more) ≡ onto_tokens held l (source_tokens c InBlock (opening m o l) (l + line_ends held) 0 more)
-step-open_comment c m o l held more some cut built mode =
+step-open_comment c m o l held more some cut mode =
     let bs = held ++ more in
     let O = opening m o l in
     let next = l + line_ends held in
     let v = block_token 0 more in
     let u = open_seam-comment held more (token_of m held) (token_of m bs) mode (token_of-seam m held more some cut) in
     let step : source_step c m o l bs ≡ onto_step held l (comment_step c O next v more) =
-    source_step-by c m o l bs built ∙ ap (λ w. step_by c O l w bs) u ∙ step_by-comment c O l (longer (length held) v) bs (block_token-kind 0 more) ∙ comment_step-with c O l held more v in
+    source_step-by c m o l bs ∙ ap (λ w. step_by c O l w bs) u ∙ step_by-comment c O l (longer (length held) v) bs (block_token-kind 0 more) ∙ comment_step-with c O l held more v in
     let P : List ℕ → Type 0 = λ z. ((z ≡ []) × (source_end c InBlock O next ≡ end_of (comment_step c O next (block_token 0 z) z))) ⊎ (0 < length z) in
     let ended : P more = elim more as P [ [] ↦ inl (refl, comment_end c O next) | z ∷ zs ↦ inr (omega arith) ] in
     resumed c m InBlock o l held more (comment_step c O next v more) some step (λ there. comment_rest c O next more) ended
     (comment_by_mode c O next v.kind v.len v.next_mode more (closed_comment-fits more))
 
 -- a string that `<%` cuts in what is held
-pub step-cut_string : (c : Course) (m : Mode) (o l : ℕ) (held more : List ℕ) → 0 < length held → IsCut held more → IsBuilt c m (held ++ more)
-    → (token_of m held).kind ≡ Str → (token_of m held).next_mode ≡ InStr → (token_of m held).len < length held
+pub step-cut_string : (c : Course) (m : Mode) (o l : ℕ) (held more : List ℕ) → 0 < length held → IsCut held more → (token_of m held).kind ≡ Str → (token_of m held).next_mode ≡ InStr → (token_of m held).len < length held
     → source_tokens c m o l 0 (held ++ more)
     ≡ record { sort = Broken PerlFound; bytes = take (token_of m held).len held; line = l + line_ends (take (token_of m held).len held) } ∷ []
 unfolding string_step broken
-step-cut_string c m o l held more some cut built kind mode lt =
+step-cut_string c m o l held more some cut kind mode lt =
     let t = token_of m held in
     let bs = held ++ more in
     let O = opening m o l in
@@ -329,7 +321,7 @@ step-cut_string c m o l held more some cut built kind mode lt =
     let same = seam_same held more t (token_of m bs) (inr lt) (token_of-seam m held more some cut) in
     let S : Mode → Step = λ d. string_step c O l (record { kind = t.kind; len = t.len; next_mode = d }) bs in
     let step : source_step c m o l bs ≡ broken PerlFound own (l + line_ends own) =
-    source_step-by c m o l bs built ∙ ap (λ u. step_by c O l u bs) same ∙ step_by-string c O l t bs kind ∙ ap S mode
+    source_step-by c m o l bs ∙ ap (λ u. step_by c O l u bs) same ∙ step_by-string c O l t bs kind ∙ ap S mode
     ∙ ap (λ b. cond b (broken PerlFound own (l + line_ends own)) (open_end c StringOpen O l own)) (lt-ltb t.len (length bs) (omega arith)) in
     source_tokens-last c m o l bs _ (omega arith) step
     ∙ ap (λ z. record { sort = Broken PerlFound; bytes = z; line = l + line_ends z } ∷ []) (take-append-le t.len held more (omega arith))

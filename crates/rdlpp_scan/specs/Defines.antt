@@ -6,10 +6,9 @@ use Rattle.rdlpp_scan.specs.declared.token.Mode.TheVariants.{Plain}
 use Rattle.rdlpp_scan.specs.Tokens.{token_of}
 use Rattle.rdlpp_scan.specs.Lines.{EndsLine}
 
--- what is held ends at a line end or at the text's end, and begins with a `define`, which is built there (IEEE 1364-2001, `define`)
-pub record HoldsDefine (unbuilt : List ℕ → Bool) (held rest : List ℕ) : Type 0 where
+-- what is held ends at a line end or at the text's end, and begins with a `define` (IEEE 1364-2001, `define`)
+pub record HoldsDefine (held rest : List ℕ) : Type 0 where
   pub some : 0 < length held
   pub ends : EndsLine held rest
-  pub built : (more : List ℕ) → EndsLine held more → unbuilt (held ++ more) ≡ false
   pub kind : (token_of Plain held).kind ≡ Back
   pub word : bytes_eq (take (token_of Plain held).len held) (codes "`define") ≡ true

@@ -3,9 +3,9 @@
 use Rattle.std.specs.Prelude.{ℕ, ◌-◌, ◌==◌, nat_lt, List, [], ◌∷◌, ◌++◌, length, Option, None, Some, if◌then◌else◌}
 
 -- what ends a list of tokens early: embedded Perl, an open string or comment, a line or a source that is too long,
--- a `define` whose logical line is too long, or is cut by the limit of its source, or what isn't built yet
+-- or a `define` whose logical line is too long, or is cut by the limit of its source
 pub data Breach : Type 0 where
-  PerlFound StringOpen CommentOpen LineLong SourceLong DefineLong DefineCut Unbuilt : Breach
+  PerlFound StringOpen CommentOpen LineLong SourceLong DefineLong DefineCut : Breach
 
 -- a breaking line: why, and how many bytes it has
 pub record Break : Type 0 where

@@ -8,7 +8,7 @@ pub mod Lines
 pub mod Pieces
 pub mod Resumed
 pub mod Ordinary
-pub mod Stage
+pub mod Reserved
 pub mod Defines
 pub mod Comments
 pub mod TokenKinds

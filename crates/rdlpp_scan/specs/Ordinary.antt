@@ -24,10 +24,6 @@ pub record IsPlainToken (t : SourceToken) : Type 0 where
   pub sort : t.sort ≡ Ordinary kind
   pub plain : is_plain_kind kind ≡ true
 
--- what isn't built begins at no place of ordinary text
-abbrev pub SparesOrdinary : (List ℕ → Bool) → Type 0
-SparesOrdinary unbuilt = (bytes : List ℕ) → stops_plain_text bytes ≡ false → unbuilt bytes ≡ false
-
 -- ordinary text w ends at the text's end, at a line end, or where ordinary text stops
 abbrev pub IsEdge : List ℕ → List ℕ → Type 0
 IsEdge w x = (x ≡ []) ⊎ (IsWholeLines w ⊎ (stops_plain_text x ≡ true))

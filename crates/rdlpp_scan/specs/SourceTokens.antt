@@ -8,7 +8,7 @@ use Rattle.rdlpp_scan.specs.declared.token.Mode.{Mode}
 use Rattle.rdlpp_scan.specs.declared.token.Mode.TheVariants.{Plain, InStr, InBlock}
 use Rattle.rdlpp_scan.specs.declared.token.Token.{Token}
 use Rattle.rdlpp_scan.specs.Bytes.{is_line_end}
-use Rattle.rdlpp_scan.specs.Front.{Breach, PerlFound, StringOpen, CommentOpen, DefineLong, DefineCut, Unbuilt, Break, front}
+use Rattle.rdlpp_scan.specs.Front.{Breach, PerlFound, StringOpen, CommentOpen, DefineLong, DefineCut, Break, front}
 use Rattle.rdlpp_scan.specs.Tokens.{token_of}
 
 -- what a token of a source is: one of the token table, a `define` with its logical line, a `line` with its line,
@@ -25,10 +25,9 @@ pub record SourceToken : Type 0 where
   pub bytes : List ℕ
   pub line : ℕ
 
--- what the tokens of a text depend on beside it: what isn't built yet, the most bytes of a logical line,
--- and the line that breaks the source behind this text, if one does
+-- what the tokens of a text depend on beside it: the most bytes of a logical line, and the line that breaks the source behind
+-- this text, if one does
 pub record Course : Type 0 where
-  pub unbuilt : List ℕ → Bool
   pub most : ℕ
   pub break : Option Break
 
@@ -125,9 +124,7 @@ step_by c opened line t bytes = elim t.kind [
 
 -- the first token of a source's text that isn't empty; in a string or a comment that opened before, `opened` is the line of its beginning
 unfoldable pub source_step : Course → Mode → ℕ → ℕ → List ℕ → Step
-source_step c Plain opened line bytes =
-    if c.unbuilt bytes then broken Unbuilt [] line
-    else step_by c line line (token_of Plain bytes) bytes
+source_step c Plain opened line bytes = step_by c line line (token_of Plain bytes) bytes
 source_step c InStr opened line bytes = step_by c opened line (token_of InStr bytes) bytes
 source_step c InBlock opened line bytes = step_by c opened line (token_of InBlock bytes) bytes
 
@@ -151,11 +148,11 @@ source_tokens c mode opened line zero (b ∷ bs) = elim (source_step c mode open
 
 -- the tokens of what remains of a source: in `held`, of lines that its limits accept, and then in the front of `rest`,
 -- of which lines may have `most` bytes each and `room` bytes together
-unfoldable pub remaining_tokens : (List ℕ → Bool) → ℕ → Mode → ℕ → ℕ → List ℕ → ℕ → List ℕ → List SourceToken
-remaining_tokens unbuilt most mode opened line held room rest =
+unfoldable pub remaining_tokens : ℕ → Mode → ℕ → ℕ → List ℕ → ℕ → List ℕ → List SourceToken
+remaining_tokens most mode opened line held room rest =
     let f = front most room rest in
-    source_tokens (record { unbuilt = unbuilt; most = most; break = f.break }) mode opened line 0 (held ++ f.text)
+    source_tokens (record { most = most; break = f.break }) mode opened line 0 (held ++ f.text)
 
 -- the tokens of a whole source (this project's profile)
-unfoldable pub whole_tokens : (List ℕ → Bool) → ℕ → ℕ → List ℕ → List SourceToken
-whole_tokens unbuilt most room bytes = remaining_tokens unbuilt most Plain 1 1 [] room bytes
+unfoldable pub whole_tokens : ℕ → ℕ → List ℕ → List SourceToken
+whole_tokens most room bytes = remaining_tokens most Plain 1 1 [] room bytes

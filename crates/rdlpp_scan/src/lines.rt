@@ -28,8 +28,10 @@ pub fn rest_of_line(bytes: &[u8]) -> Option<usize>
     Some(memchr(b'\n', bytes)? + 1)
 }
 
-// The length of the first line, with its LF where it has one.
-pub(crate) fn line_len(bytes: &[u8]) -> usize
+/// The length in bytes of the first physical line, with its LF where it has one (this project's profile).
+///
+/// Costs time linear in that length.
+pub fn line_len(bytes: &[u8]) -> usize
     ensures value { result ≡ line_len bytes.now }
     ensures inside { result ≤ length bytes.now }
 {

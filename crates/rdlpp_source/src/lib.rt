@@ -6,8 +6,6 @@ mod counted;
 mod paths;
 mod sinks;
 mod sources;
-#[cfg(test)]
-mod tests;
 mod texts;
 
 pub use counted::Counted;

@@ -6,7 +6,7 @@ use Rattle.std.proofs.lemmas.List.{get_or-map, get_or_append_left, length-map, t
 use Rattle.std.proofs.lemmas.List.Edits.{get_or-insert_at, get_or-insert_above, get_or-insert_below, get_or-remove_above, get_or-remove_below, length-insert, length-remove}
 use Rattle.std.proofs.Math.Seq.{get_or-append_seam}
 use Rattle.rdlpp_table.specs.Table.{Macro}
-use Rattle.rdlpp_table.specs.Index.{IsGap, IsIndex, closed, key_at, name_at, name_order, names_of}
+use Rattle.rdlpp_table.specs.Index.{IsGap, IsIndex, closed, index_order, key_at, name_at, names_of}
 use Rattle.rdlpp_table.proofs.Orders.{one_place, turned}
 
 closed_behind : (taken place : ℕ) → taken < place → closed taken place ≡ place - 1
@@ -96,6 +96,19 @@ stays names order at k taken x h l n e f =
 closed_at : (order : List ℕ) (at taken j k : ℕ) → j < length (remove order at) → IsFrom order at j k → get_or (map (closed taken) (remove order at)) j 0 ≡ closed taken (get_or order k 0)
 closed_at order at taken j k h f = get_or-map (closed taken) (remove order at) j 0 0 h ∙ ap (closed taken) f.value
 
+-- where the name stood to which a place of the closed index leads
+pub record IsLeft (names : List (List ℕ)) (order : List ℕ) (at taken j k : ℕ) : Type 0 where
+  pub inside : k < length order
+  pub shift : ((j < at) × (k ≡ j)) ⊎ ((at ≤ j) × (k ≡ j + 1))
+  pub key : key_at (remove names taken) (map (closed taken) (remove order at)) j ≡ key_at names order k
+
+pub left_key : (names : List (List ℕ)) (order : List ℕ) (at taken j : ℕ) → IsIndex names order → at < length order → taken ≡ get_or order at 0 → j < length (remove order at) → (k : ℕ) × IsLeft names order at taken j k
+left_key names order at taken j x h e l =
+    let t : taken < length names = omega (arith, x.inside at h) in
+    let f = stood order at j h l in
+    let c = closes names taken (get_or order f.0 0) t (x.inside f.0 f.1.inside) (stays names order at f.0 taken x h f.1.inside f.1.other e) in
+    (f.0, record { inside = f.1.inside; shift = f.1.shift; key = ap (name_at (remove names taken)) (closed_at order at taken j f.0 l f.1) ∙ c.same })
+
 pub left_index : (names : List (List ℕ)) (order : List ℕ) (at taken : ℕ) → IsIndex names order → at < length order → taken ≡ get_or order at 0 → IsIndex (remove names taken) (map (closed taken) (remove order at))
 left_index names order at taken x h e =
     let t : taken < length names = omega (arith, x.inside at h) in
@@ -119,8 +132,8 @@ left_index names order at taken x h e =
           let d = closes names taken (get_or order b.0 0) t (x.inside b.0 b.1.inside) (stays names order at b.0 taken x h b.1.inside b.1.other e) in
           let one : key_at (remove names taken) (map (closed taken) (remove order at)) j ≡ key_at names order f.0 = ap (name_at (remove names taken)) (closed_at order at taken j f.0 (omega arith) f.1) ∙ c.same in
           let two : key_at (remove names taken) (map (closed taken) (remove order at)) k ≡ key_at names order b.0 = ap (name_at (remove names taken)) (closed_at order at taken k b.0 (omega arith) b.1) ∙ d.same in
-          ap (λ (n : List ℕ). name_order n (key_at (remove names taken) (map (closed taken) (remove order at)) k)) one
-          ∙ (ap (λ (n : List ℕ). name_order (key_at names order f.0) n) two
+          ap (λ (n : List ℕ). index_order n (key_at (remove names taken) (map (closed taken) (remove order at)) k)) one
+          ∙ (ap (λ (n : List ℕ). index_order (key_at names order f.0) n) two
           ∙ x.sorted f.0 b.0 (from_sorted at j k f.0 b.0 g f.1.shift b.1.shift) b.1.inside);
     }
 
@@ -131,15 +144,15 @@ names_left ms place =
     ∙ ap (λ (l : List (List ℕ)). take place (names_of ms) ++ l) (sym (drop-map (λ (m : Macro). m.name) (suc place) ms)))
 
 -- the key at a place of an index with one place more
-key_below : (names : List (List ℕ)) (order name : List ℕ) (gap n j : ℕ) → IsIndex names order → gap ≤ length order → j < gap → key_at (names ++ name ∷ []) (insert order gap n) j ≡ key_at names order j
+pub key_below : (names : List (List ℕ)) (order name : List ℕ) (gap n j : ℕ) → IsIndex names order → gap ≤ length order → j < gap → key_at (names ++ name ∷ []) (insert order gap n) j ≡ key_at names order j
 key_below names order name gap n j x g h =
     ap (name_at (names ++ name ∷ [])) (get_or-insert_below order gap n 0 j h g) ∙ get_or_append_left names (name ∷ []) [] (get_or order j 0) (x.inside j (omega arith))
 
-key_above : (names : List (List ℕ)) (order name : List ℕ) (gap n j : ℕ) → IsIndex names order → gap ≤ length order → gap ≤ j → j < length order → key_at (names ++ name ∷ []) (insert order gap n) (j + 1) ≡ key_at names order j
+pub key_above : (names : List (List ℕ)) (order name : List ℕ) (gap n j : ℕ) → IsIndex names order → gap ≤ length order → gap ≤ j → j < length order → key_at (names ++ name ∷ []) (insert order gap n) (j + 1) ≡ key_at names order j
 key_above names order name gap n j x g h l =
     ap (name_at (names ++ name ∷ [])) (get_or-insert_above order gap n 0 j h g) ∙ get_or_append_left names (name ∷ []) [] (get_or order j 0) (x.inside j l)
 
-key_new : (names : List (List ℕ)) (order name : List ℕ) (gap n : ℕ) → gap ≤ length order → n ≡ length names → key_at (names ++ name ∷ []) (insert order gap n) gap ≡ name
+pub key_new : (names : List (List ℕ)) (order name : List ℕ) (gap n : ℕ) → gap ≤ length order → n ≡ length names → key_at (names ++ name ∷ []) (insert order gap n) gap ≡ name
 key_new names order name gap n g e =
     ap (name_at (names ++ name ∷ [])) (get_or-insert_at order gap n 0 g ∙ e) ∙ get_or-append_seam names name [] []
 
@@ -159,26 +172,26 @@ spot gap j =
       ]
     ]
 
-entered_sorted : (names : List (List ℕ)) (order name : List ℕ) (gap n j k : ℕ) → IsIndex names order → IsGap names order name gap → n ≡ length names → j < k → k < length order + 1 → Spot gap j → Spot gap k → name_order (key_at (names ++ name ∷ []) (insert order gap n) j) (key_at (names ++ name ∷ []) (insert order gap n) k) ≡ Less
+entered_sorted : (names : List (List ℕ)) (order name : List ℕ) (gap n j k : ℕ) → IsIndex names order → IsGap names order name gap → n ≡ length names → j < k → k < length order + 1 → Spot gap j → Spot gap k → index_order (key_at (names ++ name ∷ []) (insert order gap n) j) (key_at (names ++ name ∷ []) (insert order gap n) k) ≡ Less
 entered_sorted names order name gap n j k x g e h l (Before a) (Before b) =
     rw (key_below names order name gap n j x g.fits a, key_below names order name gap n k x g.fits b) (x.sorted j k h (omega (arith, g.fits)))
 entered_sorted names order name gap n j k x g e h l (Before a) (New b) =
-    ap (λ (i : ℕ). name_order (key_at (names ++ name ∷ []) (insert order gap n) j) (key_at (names ++ name ∷ []) (insert order gap n) i)) b
+    ap (λ (i : ℕ). index_order (key_at (names ++ name ∷ []) (insert order gap n) j) (key_at (names ++ name ∷ []) (insert order gap n) i)) b
     ∙ rw (key_below names order name gap n j x g.fits a, key_new names order name gap n g.fits e) (g.below j a)
 entered_sorted names order name gap n j k x g e h l (Before a) (Behind i b f) =
-    ap (λ (i : ℕ). name_order (key_at (names ++ name ∷ []) (insert order gap n) j) (key_at (names ++ name ∷ []) (insert order gap n) i)) f
+    ap (λ (i : ℕ). index_order (key_at (names ++ name ∷ []) (insert order gap n) j) (key_at (names ++ name ∷ []) (insert order gap n) i)) f
     ∙ rw (key_below names order name gap n j x g.fits a, key_above names order name gap n i x g.fits b (omega arith)) (x.sorted j i (omega arith) (omega arith))
 entered_sorted names order name gap n j k x g e h l (New a) (Before b) = absurd (omega arith)
 entered_sorted names order name gap n j k x g e h l (New a) (New b) = absurd (omega arith)
 entered_sorted names order name gap n j k x g e h l (New a) (Behind i b f) =
-    ap (λ (i : ℕ). name_order (key_at (names ++ name ∷ []) (insert order gap n) j) (key_at (names ++ name ∷ []) (insert order gap n) i)) f
-    ∙ (ap (λ (i' : ℕ). name_order (key_at (names ++ name ∷ []) (insert order gap n) i') (key_at (names ++ name ∷ []) (insert order gap n) (i + 1))) a
+    ap (λ (i : ℕ). index_order (key_at (names ++ name ∷ []) (insert order gap n) j) (key_at (names ++ name ∷ []) (insert order gap n) i)) f
+    ∙ (ap (λ (i' : ℕ). index_order (key_at (names ++ name ∷ []) (insert order gap n) i') (key_at (names ++ name ∷ []) (insert order gap n) (i + 1))) a
     ∙ rw (key_new names order name gap n g.fits e, key_above names order name gap n i x g.fits b (omega arith)) (turned _ name (g.above i b (omega arith))))
 entered_sorted names order name gap n j k x g e h l (Behind i a f) (Before b) = absurd (omega arith)
 entered_sorted names order name gap n j k x g e h l (Behind i a f) (New b) = absurd (omega arith)
 entered_sorted names order name gap n j k x g e h l (Behind i a f) (Behind i2 b f2) =
-    ap (λ (q : ℕ). name_order (key_at (names ++ name ∷ []) (insert order gap n) j) (key_at (names ++ name ∷ []) (insert order gap n) q)) f2
-    ∙ (ap (λ (q : ℕ). name_order (key_at (names ++ name ∷ []) (insert order gap n) q) (key_at (names ++ name ∷ []) (insert order gap n) (i2 + 1))) f
+    ap (λ (q : ℕ). index_order (key_at (names ++ name ∷ []) (insert order gap n) j) (key_at (names ++ name ∷ []) (insert order gap n) q)) f2
+    ∙ (ap (λ (q : ℕ). index_order (key_at (names ++ name ∷ []) (insert order gap n) q) (key_at (names ++ name ∷ []) (insert order gap n) (i2 + 1))) f
     ∙ rw (key_above names order name gap n i x g.fits a (omega arith), key_above names order name gap n i2 x g.fits b (omega arith)) (x.sorted i i2 (omega arith) (omega arith)))
 
 entered_inside : (names : List (List ℕ)) (order name : List ℕ) (gap n j : ℕ) → IsIndex names order → gap ≤ length order → n ≡ length names → j < length order + 1 → Spot gap j → get_or (insert order gap n) j 0 < length (names ++ name ∷ [])

@@ -9,13 +9,14 @@ use Rattle.rdlpp_table.specs.Table.{Macro, without}
 use Rattle.rdlpp_table.specs.View.{TableView, macro_at, no_macro, place_named}
 use Rattle.rdlpp_table.specs.Store.{IsStored, entry_end, macro_in, macros_in, name_of}
 use Rattle.rdlpp_table.specs.Layout.{IsHeld, view_of}
-use Rattle.rdlpp_table.specs.Index.{IsGap, IsIndex, IsPlace, closed, key_at, name_order, names_of}
+use Rattle.rdlpp_table.specs.Index.{IsGap, IsIndex, IsIndexed, IsPlace, closed, key_at, name_order, names_of, part_of}
 use Rattle.rdlpp_table.proofs.Laid.{length_macros_in, macros_of_none}
 use Rattle.rdlpp_table.proofs.RoundTrip.{read_back}
 use Rattle.rdlpp_table.proofs.Put.{stored_count}
 use Rattle.rdlpp_table.proofs.Without.{without_at, without_length, without_nowhere}
 use Rattle.rdlpp_table.proofs.Orders.{count_names, name_of_macro, indexed_place, position_none}
 use Rattle.rdlpp_table.proofs.Indexed.{entered_index, left_index, names_left}
+use Rattle.rdlpp_table.proofs.Divided.{IsLater, IsSooner, entered_divided, left_divided, nothing_divided}
 
 -- an index of entries has as many places, each that of an entry
 pub entry_inside : (bytes : List ℕ) (entries : List Entry) (order : List ℕ) (k : ℕ) → IsIndex (names_of (macros_in bytes entries)) order → k < length order → get_or order k 0 < length entries
@@ -43,9 +44,9 @@ placed bs es os bytes entries order sought name at p q r s h = rw (p, q, r, s) a
 pub gapped : (bs : List ℕ) (es : List Entry) (os : List ℕ) (bytes : List ℕ) (entries : List Entry) (order sought name : List ℕ) (gap : ℕ) → bs ≡ bytes → es ≡ entries → os ≡ order → sought ≡ name → IsGap (names_of (macros_in bs es)) os sought gap → IsGap (names_of (macros_in bytes entries)) order name gap
 gapped bs es os bytes entries order sought name gap p q r s h = rw (p, q, r, s) at h
 
-pub indexed_slices : (bs : List ℕ) (es : List Entry) (os : List ℕ) (bytes : List ℕ) (entries : List Entry) (order : List ℕ) (ms : List Macro) → bs ≡ bytes → es ≡ entries → os ≡ order → IsStored bytes entries ms → IsIndex (names_of ms) order → IsIndex (names_of (macros_in bs es)) os
-indexed_slices bs es os bytes entries order ms p q r s x =
-    let P : List Macro → Type 0 = λ l. IsIndex (names_of l) order in
+pub indexed_slices : (bs : List ℕ) (es : List Entry) (os : List ℕ) (bytes : List ℕ) (entries : List Entry) (order starts : List ℕ) (ms : List Macro) → bs ≡ bytes → es ≡ entries → os ≡ order → IsStored bytes entries ms → IsIndexed (names_of ms) order starts → IsIndexed (names_of (macros_in bs es)) os starts
+indexed_slices bs es os bytes entries order starts ms p q r s x =
+    let P : List Macro → Type 0 = λ l. IsIndexed (names_of l) order starts in
     rw (p, q, r) (subst P (sym (read_back bytes entries ms s)) x)
 
 -- no macro of a name is left without it
@@ -73,35 +74,47 @@ pub few_left : (bytes : List ℕ) (entries old_entries : List Entry) (old : List
 few_left bytes entries old_entries old name s h =
     omega (arith, stored_count bytes entries _ s, without_length name (macros_in old old_entries), length_macros_in old old_entries)
 
-pub left_without : (ms : List Macro) (order name : List ℕ) (at taken : ℕ) (new : List ℕ) → IsDistinct bytes_eq (map (λ m. m.name) ms) → IsIndex (names_of ms) order → IsPlace (names_of ms) order name at → taken ≡ get_or order at 0 → new ≡ map (closed taken) (remove order at) → IsIndex (names_of (without name ms)) new
-left_without ms order name at taken new d x p e f =
-    let named : place_named ms name ≡ Some taken = indexed_place ms order name at x p ∙ ap Some (sym e) in
+pub left_without : (ms : List Macro) (order starts name : List ℕ) (at taken part : ℕ) (new begun : List ℕ) → IsDistinct bytes_eq (map (λ m. m.name) ms) → IsIndexed (names_of ms) order starts → IsPlace (names_of ms) order name at → taken ≡ get_or order at 0 → new ≡ map (closed taken) (remove order at) → part ≡ part_of name → IsSooner part starts begun → IsIndexed (names_of (without name ms)) new begun
+left_without ms order starts name at taken part new begun d x p e f q b =
+    let named : place_named ms name ≡ Some taken = indexed_place ms order name at x.index p ∙ ap Some (sym e) in
     let names : remove (names_of ms) taken ≡ names_of (without name ms) = sym (ap names_of (without_at name ms taken d named) ∙ names_left ms taken) in
-    let P : List (List ℕ) → Type 0 = λ n. IsIndex n (map (closed taken) (remove order at)) in
-    let Q : List ℕ → Type 0 = λ o. IsIndex (names_of (without name ms)) o in
-    subst Q (sym f) (subst P names (left_index (names_of ms) order at taken x p.inside e))
+    let here : part_of (key_at (names_of ms) order at) ≡ part = ap part_of p.same ∙ sym q in
+    let left : IsIndexed (remove (names_of ms) taken) (map (closed taken) (remove order at)) begun = record {
+      index = left_index (names_of ms) order at taken x.index p.inside e;
+      divided = left_divided (names_of ms) order starts begun at taken part x.index p.inside e here x.divided b;
+    } in
+    let P : List (List ℕ) → Type 0 = λ n. IsIndexed n (map (closed taken) (remove order at)) begun in
+    let Q : List ℕ → Type 0 = λ o. IsIndexed (names_of (without name ms)) o begun in
+    subst Q (sym f) (subst P names left)
 
-pub left_nowhere : (ms : List Macro) (order name : List ℕ) → place_named ms name ≡ None → IsIndex (names_of ms) order → IsIndex (names_of (without name ms)) order
-left_nowhere ms order name at x =
-    let P : List Macro → Type 0 = λ l. IsIndex (names_of l) order in
+pub left_nowhere : (ms : List Macro) (order starts name : List ℕ) → place_named ms name ≡ None → IsIndexed (names_of ms) order starts → IsIndexed (names_of (without name ms)) order starts
+left_nowhere ms order starts name at x =
+    let P : List Macro → Type 0 = λ l. IsIndexed (names_of l) order starts in
     subst P (sym (without_nowhere name ms at)) x
 
-pub entered_with : (bs : List ℕ) (es : List Entry) (os : List ℕ) (bytes : List ℕ) (entries : List Entry) (order : List ℕ) (ms : List Macro) (m : Macro) (gap n : ℕ) (new : List ℕ) → bs ≡ bytes → es ≡ entries → os ≡ order → IsStored bytes entries ms → IsIndex (names_of ms) order → IsGap (names_of (macros_in bs es)) os m.name gap → n ≡ length entries → new ≡ insert order gap n → IsIndex (names_of (ms ++ m ∷ [])) new
-entered_with bs es os bytes entries order ms m gap n new p q r s x g e f =
+pub entered_with : (bs : List ℕ) (es : List Entry) (os : List ℕ) (bytes : List ℕ) (entries : List Entry) (order starts : List ℕ) (ms : List Macro) (m : Macro) (gap n part : ℕ) (new begun : List ℕ) → bs ≡ bytes → es ≡ entries → os ≡ order → IsStored bytes entries ms → IsIndexed (names_of ms) order starts → IsGap (names_of (macros_in bs es)) os m.name gap → n ≡ length entries → new ≡ insert order gap n → part ≡ part_of m.name → IsLater part starts begun → IsIndexed (names_of (ms ++ m ∷ [])) new begun
+entered_with bs es os bytes entries order starts ms m gap n part new begun p q r s x g e f a b =
     let back : macros_in bytes entries ≡ ms = read_back bytes entries ms s in
     let P : List Macro → Type 0 = λ l. IsGap (names_of l) order m.name gap in
     let here : IsGap (names_of ms) order m.name gap = subst P back (gapped bs es os bytes entries order m.name m.name gap p q r refl g) in
     let count : n ≡ length (names_of ms) = e ∙ (stored_count bytes entries ms s ∙ sym (count_names ms)) in
-    let Q : List (List ℕ) → Type 0 = λ l. IsIndex l (insert order gap n) in
-    let R : List ℕ → Type 0 = λ o. IsIndex (names_of (ms ++ m ∷ [])) o in
-    subst R (sym f) (subst Q (sym (map-append (λ (x : Macro). x.name) ms (m ∷ []))) (entered_index (names_of ms) order m.name gap n x here count))
+    let more : IsIndexed (names_of ms ++ m.name ∷ []) (insert order gap n) begun = record {
+      index = entered_index (names_of ms) order m.name gap n x.index here count;
+      divided = entered_divided (names_of ms) order starts begun m.name gap n part x.index here x.divided count (sym a) b;
+    } in
+    let Q : List (List ℕ) → Type 0 = λ l. IsIndexed l (insert order gap n) begun in
+    let R : List ℕ → Type 0 = λ o. IsIndexed (names_of (ms ++ m ∷ [])) o begun in
+    subst R (sym f) (subst Q (sym (map-append (λ (x : Macro). x.name) ms (m ∷ []))) more)
 
-pub index_of_nothing : (bytes : List ℕ) (entries : List Entry) (order : List ℕ) → entries ≡ [] → order ≡ [] → IsIndex (names_of (macros_in bytes entries)) order
-index_of_nothing bytes entries order e f =
+pub index_of_nothing : (bytes : List ℕ) (entries : List Entry) (order starts : List ℕ) → entries ≡ [] → order ≡ [] → length starts ≡ 1025 → ((p : ℕ) → p < 1025 → get_or starts p 0 ≡ 0) → IsIndexed (names_of (macros_in bytes entries)) order starts
+index_of_nothing bytes entries order starts e f l z =
     let nothing : List ℕ = [] in
-    let none : IsIndex (names_of []) nothing = record { long = refl; inside = λ k h. absurd (omega arith); whole = λ i h. absurd (omega arith); sorted = λ j k h l. absurd (omega arith) } in
-    let P : List ℕ → Type 0 = λ o. IsIndex (names_of []) o in
-    let Q : List Macro → Type 0 = λ l. IsIndex (names_of l) order in
+    let none : IsIndexed (names_of []) nothing starts = record {
+      index = record { long = refl; inside = λ k h. absurd (omega arith); whole = λ i h. absurd (omega arith); sorted = λ j k h l. absurd (omega arith) };
+      divided = nothing_divided (names_of []) starts l z;
+    } in
+    let P : List ℕ → Type 0 = λ o. IsIndexed (names_of []) o starts in
+    let Q : List Macro → Type 0 = λ l. IsIndexed (names_of l) order starts in
     subst Q (sym (macros_of_none bytes entries e)) (subst P (sym f) none)
 
 -- the place of a name among the macros of a table
@@ -109,8 +122,8 @@ pub viewed_place : (bs : List ℕ) (es : List Entry) (bytes : List ℕ) (entries
 viewed_place bs es bytes entries a b view name r p q e h =
     h ∙ (ap (λ (l : List ℕ). place_named (macros_in l es) name) p ∙ (ap (λ (l : List Entry). place_named (macros_in bytes l) name) q ∙ ap (λ (v : TableView). place_named v.macros name) e))
 
-pub indexed_after : (bytes : List ℕ) (entries : List Entry) (order : List ℕ) (ms : List Macro) → IsStored bytes entries ms → IsIndex (names_of ms) order → IsIndex (names_of (macros_in bytes entries)) order
-indexed_after bytes entries order ms s x = indexed_slices bytes entries order bytes entries order ms refl refl refl s x
+pub indexed_after : (bytes : List ℕ) (entries : List Entry) (order starts : List ℕ) (ms : List Macro) → IsStored bytes entries ms → IsIndexed (names_of ms) order starts → IsIndexed (names_of (macros_in bytes entries)) order starts
+indexed_after bytes entries order starts ms s x = indexed_slices bytes entries order bytes entries order starts ms refl refl refl s x
 
 -- a table has no more entries than it takes
 pub few_entries : (bytes : List ℕ) (entries : List Entry) (a b : ℕ) → IsHeld bytes entries a b → length entries ≤ b

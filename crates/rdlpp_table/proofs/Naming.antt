@@ -6,7 +6,7 @@ use Rattle.std.proofs.lemmas.Slice.Eq.{bytes_eq-Decides}
 use Rattle.rdlpp_scan.specs.declared.token.Directive.{Directive}
 use Rattle.rdlpp_scan.specs.declared.token.Directive.TheVariants.{Define, Undef, Ifdef, Ifndef, Elsif, Else, Endif, Include, Line}
 use Rattle.rdlpp_scan.specs.Names.{directive_named}
-use Rattle.rdlpp_scan.specs.Stage.{is_reserved}
+use Rattle.rdlpp_scan.specs.Reserved.{is_reserved}
 use Rattle.rdlpp_table.specs.Words.{spelled}
 use Rattle.rdlpp_table.specs.Define.{name_fault, refused_word}
 use Rattle.rdlpp_table.specs.declared.fault.DefineKind.{DefineKind}

@@ -13,13 +13,13 @@ use Rattle.rdlpp_table.specs.Index.{name_order}
 abbrev pub AreBytes : List ℕ → Type 0
 AreBytes xs = (k : ℕ) → get_or xs k 0 < 256
 
-below : (x y : ℕ) → x < y → nat_cmp x y ≡ Less
+pub below : (x y : ℕ) → x < y → nat_cmp x y ≡ Less
 below x y h = sym (nat_cmp_is x y Less h)
 
-level : (x y : ℕ) → x ≡ y → nat_cmp x y ≡ Equal
+pub level : (x y : ℕ) → x ≡ y → nat_cmp x y ≡ Equal
 level x y h = sym (nat_cmp_is x y Equal h)
 
-above : (x y : ℕ) → y < x → nat_cmp x y ≡ Greater
+pub above : (x y : ℕ) → y < x → nat_cmp x y ≡ Greater
 above x y h = sym (nat_cmp_is x y Greater h)
 
 -- a greater beginning makes a greater number

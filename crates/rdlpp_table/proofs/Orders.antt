@@ -3,7 +3,7 @@ use Rattle.std.proofs.Common.{◌≡◌, ℕ, suc, ◌<◌, ◌≤◌, Bool, tru
 use Rattle.std.specs.List.{position}
 use Rattle.std.specs.declared.cmp.Ordering.{Ordering}
 use Rattle.std.specs.declared.cmp.Ordering.TheVariants.{Less, Equal, Greater}
-use Rattle.std.specs.Ordering.{is_eq, ordering_reverse}
+use Rattle.std.specs.Ordering.{is_eq, ordering_reverse, ordering_then}
 use Rattle.std.proofs.Math.ListN.{get_or-map}
 use Rattle.std.proofs.lemmas.List.Sums.{position_or_len_is}
 use Rattle.std.proofs.lemmas.Bool.{cases_lt, cases_Bool, cond-true, cond-false, lt-ltb, le-ltb, false≢true}
@@ -11,26 +11,62 @@ use Rattle.std.proofs.lemmas.Cmp.{nat_list_cmp_total}
 use Rattle.std.proofs.lemmas.Map.Text.{is_eq-slice_cmp}
 use Rattle.std.proofs.lemmas.Slice.Eq.{bytes_eq-Decides}
 use Rattle.rdlpp_table.specs.Table.{Macro}
+use Rattle.rdlpp_table.proofs.Numbers.{above, below, level}
 use Rattle.rdlpp_table.specs.View.{macro_at, no_macro, place_named}
-use Rattle.rdlpp_table.specs.Index.{IsGap, IsIndex, IsPlace, key_at, name_at, name_order, names_of}
+use Rattle.rdlpp_table.specs.Index.{IsGap, IsIndex, IsPlace, index_order, key_at, name_at, name_order, names_of, part_of}
 
-pub differ : (a b : List ℕ) (o : Ordering) → name_order a b ≡ o → is_eq o ≡ false → bytes_eq a b ≡ false
-differ a b o e h = sym (is_eq-slice_cmp a b) ∙ (ap is_eq e ∙ h)
+-- a name with its part before it
+abbrev parted : List ℕ → List ℕ
+parted name = part_of name ∷ name
 
-pub not_less : (a b : List ℕ) → a ≡ b → name_order a b ≡ Less → ⊥
+-- where the parts differ, they are the answer
+pub part_less : (a b : List ℕ) → part_of a < part_of b → index_order a b ≡ Less
+part_less a b h = ap (λ o. ordering_then o (name_order a b)) (below (part_of a) (part_of b) h)
+
+pub part_more : (a b : List ℕ) → part_of b < part_of a → index_order a b ≡ Greater
+part_more a b h = ap (λ o. ordering_then o (name_order a b)) (above (part_of a) (part_of b) h)
+
+-- in one part the names are
+pub part_same : (a b : List ℕ) → part_of a ≡ part_of b → index_order a b ≡ name_order a b
+part_same a b h = ap (λ o. ordering_then o (name_order a b)) (level (part_of a) (part_of b) h)
+
+-- a name that goes first stands in no later part
+pub less_part : (a b : List ℕ) → index_order a b ≡ Less → part_of a ≤ part_of b
+less_part a b e =
+    elim (cases_lt (part_of b) (part_of a)) [
+      | inl h ↦ let none : Less ≡ Greater = sym e ∙ part_more a b h in absurd (cc)
+      | inr h ↦ h
+    ]
+
+pub more_part : (a b : List ℕ) → index_order a b ≡ Greater → part_of b ≤ part_of a
+more_part a b e =
+    elim (cases_lt (part_of a) (part_of b)) [
+      | inl h ↦ let none : Less ≡ Greater = sym (part_less a b h) ∙ e in absurd (cc)
+      | inr h ↦ h
+    ]
+
+pub differ : (a b : List ℕ) (o : Ordering) → index_order a b ≡ o → is_eq o ≡ false → bytes_eq a b ≡ false
+differ a b o e h =
+    let apart : bytes_eq (parted a) (parted b) ≡ false = sym (is_eq-slice_cmp (parted a) (parted b)) ∙ (ap is_eq e ∙ h) in
+    elim (cases_Bool (bytes_eq a b)) [
+      | inl t ↦ absurd (false≢true (sym apart ∙ (bytes_eq-Decides (parted a) (parted b)).1 (ap parted ((bytes_eq-Decides a b).0 t))))
+      | inr f ↦ f
+    ]
+
+pub not_less : (a b : List ℕ) → a ≡ b → index_order a b ≡ Less → ⊥
 not_less a b e h = false≢true (sym (differ a b Less h refl) ∙ (bytes_eq-Decides a b).1 e)
 
 pub same_name : (a b : List ℕ) → name_order a b ≡ Equal → a ≡ b
 same_name a b e = (bytes_eq-Decides a b).0 (sym (is_eq-slice_cmp a b) ∙ ap is_eq e)
 
-pub turned : (a b : List ℕ) → name_order a b ≡ Greater → name_order b a ≡ Less
-turned a b e = nat_list_cmp_total.antisymm b a ∙ ap ordering_reverse e
+pub turned : (a b : List ℕ) → index_order a b ≡ Greater → index_order b a ≡ Less
+turned a b e = nat_list_cmp_total.antisymm (parted b) (parted a) ∙ ap ordering_reverse e
 
-pub turned_back : (a b : List ℕ) → name_order a b ≡ Less → name_order b a ≡ Greater
-turned_back a b e = nat_list_cmp_total.antisymm b a ∙ ap ordering_reverse e
+pub turned_back : (a b : List ℕ) → index_order a b ≡ Less → index_order b a ≡ Greater
+turned_back a b e = nat_list_cmp_total.antisymm (parted b) (parted a) ∙ ap ordering_reverse e
 
-pub less_more : (a b c : List ℕ) → name_order a b ≡ Less → name_order b c ≡ Less → name_order a c ≡ Less
-less_more a b c e f = nat_list_cmp_total.trans a b c e f
+pub less_more : (a b c : List ℕ) → index_order a b ≡ Less → index_order b c ≡ Less → index_order a c ≡ Less
+less_more a b c e f = nat_list_cmp_total.trans (parted a) (parted b) (parted c) e f
 
 -- no name stands at two places of an index
 pub one_place : (names : List (List ℕ)) (order : List ℕ) (j k : ℕ) → IsIndex names order → j < length order → k < length order → key_at names order j ≡ key_at names order k → j ≡ k

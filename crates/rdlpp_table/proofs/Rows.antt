@@ -8,7 +8,7 @@ use Rattle.rdlpp_scan.specs.Bytes.{is_blank, is_line_end, is_letter, is_digit, i
 use Rattle.rdlpp_scan.specs.Tokens.{first_place, string_stop, whole, string_token, block_token, plain_token, token_of, tokens_from}
 use Rattle.rdlpp_scan.specs.LexFaults.{is_perl, open_fault, fault_of_tokens, lex_fault_from}
 use Rattle.rdlpp_scan.specs.SourceTokens.{is_continued, logical_len}
-use Rattle.rdlpp_scan.specs.Stage.{reserved_names, is_reserved}
+use Rattle.rdlpp_scan.specs.Reserved.{reserved_names, is_reserved}
 
 plain_row : macro_of (codes " W 8\n") ≡ Drawn (record { name = codes "W"; formals = None; body = codes "8" })
 unfolding macro_of unended logical_text without_continuations continuation_len is_space after_space leading_name macro_from name_fault is_reserved reserved_names with_list formal_list with_body tokens_from token_of plain_token whole first_place string_stop string_token block_token without_remarks is_perl open_fault fault_of_tokens lex_fault_from onto_trimmed without_end trimmed_of trimmed is_blank is_line_end is_letter is_digit is_word is_opener is_closer takes_word begins_perl begins_line_comment begins_block_comment ends_block_comment is_continued logical_len ends_default level_behind onto_default default_of_tokens trimmed_default default_in formal_name behind_name formal_fault with_default formal_in formals_in formals_of_list

@@ -14,7 +14,7 @@ use Rattle.rdlpp_table.specs.New.{list_formals, new_macro}
 use Rattle.rdlpp_lines.specs.Continuations.{joined}
 use Rattle.rdlpp_lines.specs.Texts.{cleared, trimmed_len, trims}
 use Rattle.rdlpp_scan.specs.CleanTexts.{IsCleanText}
-use Rattle.rdlpp_scan.specs.Stage.{is_reserved}
+use Rattle.rdlpp_scan.specs.Reserved.{is_reserved}
 use Rattle.rdlpp_table.specs.Define.{Bad, DefaultText, Good, Listed, Unlisted, after_space, behind_name, default_in, formal_fault, formal_in, formal_name, formals_in, formals_of_list, is_nothing, name_fault, with_default}
 use Rattle.rdlpp_table.proofs.Bodied.{body_drawn}
 use Rattle.rdlpp_table.proofs.CleanParts.{default_in_clean, drawn_clean}

@@ -13,7 +13,7 @@ use Rattle.rdlpp_scan.specs.Tokens.{tokens_from}
 use Rattle.rdlpp_scan.specs.LexFaults.{is_perl, lex_fault_from}
 use Rattle.rdlpp_scan.specs.SourceTokens.{logical_len}
 use Rattle.rdlpp_scan.specs.Names.{is_name}
-use Rattle.rdlpp_scan.specs.Stage.{is_reserved}
+use Rattle.rdlpp_scan.specs.Reserved.{is_reserved}
 unfoldable pub use Rattle.rdlpp_lines.specs.Continuations.{continuation_len, without_continuations}
 unfoldable pub use Rattle.rdlpp_lines.specs.Texts.{is_space, onto_trimmed, without_end, trimmed_of, ends_default, level_behind}
 use Rattle.rdlpp_table.specs.Table.{Formal, Macro, macro_size, table_size, without}

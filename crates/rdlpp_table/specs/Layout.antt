@@ -2,7 +2,7 @@
 -- A definition that names no source is this project's own.
 use Rattle.std.specs.Prelude.{ℕ, ◌≤◌, List, vec_capacity}
 use Rattle.rdlpp_table.specs.View.{TableView, IsSound}
-use Rattle.rdlpp_table.specs.Index.{IsIndex, names_of}
+use Rattle.rdlpp_table.specs.Index.{IsIndexed, names_of}
 use Rattle.rdlpp_table.specs.Store.{IsStored, macros_in}
 use Rattle.rdlpp_table.specs.declared.entry.Entry.{Entry}
 use Rattle.rdlpp_table.specs.declared.table.Table.TheInside.{Inside}
@@ -25,6 +25,6 @@ pub record IsLaidOut (t : Inside) : Type 0 where
   pub held : IsHeld t.bytes.items t.entries.items t.most_bytes t.most_macros
   pub room : t.most_bytes ≤ vec_capacity t.bytes
   pub entry_room : t.most_macros ≤ vec_capacity t.entries
-  pub indexed : IsIndex (names_of (macros_in t.bytes.items t.entries.items)) t.order.items
+  pub indexed : IsIndexed (names_of (macros_in t.bytes.items t.entries.items)) t.order.items t.starts
   pub index_room : t.most_macros ≤ vec_capacity t.order
   pub few : t.most_macros ≤ 65536

@@ -3,7 +3,7 @@
 use Rattle.std.specs.Prelude.{◌≡◌, ℕ, ◌<◌, ◌≤◌, false, All, List, [], length, map, bytes_eq, slice_index_or, Option, None, unwrap_or, position}
 use Rattle.std.specs.List.{IsDistinct}
 use Rattle.rdlpp_scan.specs.CleanTexts.{IsCleanText}
-use Rattle.rdlpp_scan.specs.Stage.{is_reserved}
+use Rattle.rdlpp_scan.specs.Reserved.{is_reserved}
 use Rattle.rdlpp_table.specs.Table.{Formal, Macro, table_size}
 
 -- the macros, oldest first, and the most bytes and the most macros that the table takes

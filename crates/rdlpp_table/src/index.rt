@@ -1,7 +1,7 @@
-// The index of a table: the places of its entries, sorted by name.
+// The index of a table: the places of its entries, sorted by the parts in which their names stand, and then by name.
 ghost use Rattle.std.specs.Prelude.{◌≡◌, ◌+◌, ◌<◌, ◌≤◌, ◌^◌, MatchResult, None, insert, length, map, remove, slice_index, vec_capacity, vec_len};
 ghost use Rattle.rdlpp_table.specs.Entries.{AreWithin};
-ghost use Rattle.rdlpp_table.specs.Index.{closed, names_of, IsCounted, IsGap, IsIndex, IsMiddle, IsPlace};
+ghost use Rattle.rdlpp_table.specs.Index.{closed, names_of, IsCounted, IsGap, IsIndexed, IsMiddle, IsPlace};
 ghost use Rattle.rdlpp_table.specs.Store.{macros_in};
 ghost use Rattle.rdlpp_table.specs.View.{place_named};
 
@@ -17,22 +17,25 @@ fn middle_of(low: usize, high: usize) -> usize
     low + (high - low) / 2
 }
 
-// The place in the index of the entry of a name, or the place where it would stand, by halving.
+// The place in the index of the entry of a name, or the place where it would stand, by halving
+// the part of the index in which the name stands.
 pub(crate) fn seek(
     bytes: &[u8],
     entries: &[Entry],
     order: &[u32],
+    starts: &[u32],
     sought: &Sought,
     steps: &mut Steps,
 ) -> Result<usize, usize>
     requires within { AreWithin (length bytes.now) entries.now }
-    requires indexed { IsIndex (names_of (macros_in bytes.now entries.now)) order.now }
+    requires indexed { IsIndexed (names_of (macros_in bytes.now entries.now)) order.now starts.now }
     requires few { length entries.now ≤ 65536 }
     ensures found { MatchResult result (λ at. IsPlace (names_of (macros_in bytes.now entries.now)) order.now sought.now.name.now at) (λ gap. IsGap (names_of (macros_in bytes.now entries.now)) order.now sought.now.name.now gap) }
     ensures steps { IsCounted steps.old steps.new }
 {
-    let mut low = 0;
-    let mut high = order.len();
+    let part = sought.part();
+    let mut low = starts[part] as usize;
+    let mut high = starts[part + 1] as usize;
     while low < high {
         let middle = middle_of(low, high);
         let name = name_in(bytes, &entries[order[middle] as usize]);
@@ -50,30 +53,44 @@ pub(crate) fn place_in(
     bytes: &[u8],
     entries: &[Entry],
     order: &[u32],
+    starts: &[u32],
     name: &[u8],
     steps: &mut Steps,
 ) -> Option<usize>
     requires within { AreWithin (length bytes.now) entries.now }
-    requires indexed { IsIndex (names_of (macros_in bytes.now entries.now)) order.now }
+    requires indexed { IsIndexed (names_of (macros_in bytes.now entries.now)) order.now starts.now }
     requires few { length entries.now ≤ 65536 }
     ensures value { result ≡ place_named (macros_in bytes.now entries.now) name.now }
     ensures steps { IsCounted steps.old steps.new }
 {
-    match seek(bytes, entries, order, &Sought::new(name), steps) {
+    match seek(bytes, entries, order, starts, &Sought::new(name), steps) {
         Ok(at) => Some(order[at] as usize),
         Err(_) => None,
     }
 }
 
 // The place in the index at which a name that isn't there would stand.
-pub(crate) fn gap_in(bytes: &[u8], entries: &[Entry], order: &[u32], name: &[u8]) -> usize
+pub(crate) fn gap_in(
+    bytes: &[u8],
+    entries: &[Entry],
+    order: &[u32],
+    starts: &[u32],
+    name: &[u8],
+) -> usize
     requires within { AreWithin (length bytes.now) entries.now }
-    requires indexed { IsIndex (names_of (macros_in bytes.now entries.now)) order.now }
+    requires indexed { IsIndexed (names_of (macros_in bytes.now entries.now)) order.now starts.now }
     requires few { length entries.now ≤ 65536 }
     requires absent { place_named (macros_in bytes.now entries.now) name.now ≡ None }
     ensures { IsGap (names_of (macros_in bytes.now entries.now)) order.now name.now result }
 {
-    match seek(bytes, entries, order, &Sought::new(name), &mut Steps::new()) {
+    match seek(
+        bytes,
+        entries,
+        order,
+        starts,
+        &Sought::new(name),
+        &mut Steps::new(),
+    ) {
         Ok(at) | Err(at) => at,
     }
 }

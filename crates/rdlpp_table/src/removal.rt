@@ -3,11 +3,12 @@ ghost use Rattle.std.specs.Prelude.{◌≡◌, ◌+◌, ◌<◌, ◌≤◌, ◌+
 ghost use Rattle.rdlpp_table.specs.Table.{macro_named, without};
 ghost use Rattle.std.specs.List.{remove_range, IsDistinct};
 ghost use Rattle.rdlpp_table.specs.Entries.{moved_down, AreBehind};
-ghost use Rattle.rdlpp_table.specs.Index.{names_of, IsIndex};
+ghost use Rattle.rdlpp_table.specs.Index.{names_of, IsIndexed};
 ghost use Rattle.rdlpp_table.specs.Store.{IsStored, macros_in};
 
 use crate::entry::Entry;
 use crate::index::{leave, seek};
+use crate::parts::{begin_sooner, part_of};
 use crate::sought::{Sought, Steps};
 
 // The bytes of these entries were moved so much further to the front.
@@ -58,20 +59,29 @@ pub(crate) fn take_out_named(
     bytes: &mut Vec<u8>,
     entries: &mut Vec<Entry>,
     order: &mut Vec<u32>,
+    starts: &mut [u32],
     name: &[u8],
 ) -> bool
     requires stored { IsStored bytes.old.items entries.old.items (macros_in bytes.old.items entries.old.items) }
     requires distinct { IsDistinct bytes_eq (map (λ m. m.name) (macros_in bytes.old.items entries.old.items)) }
-    requires indexed { IsIndex (names_of (macros_in bytes.old.items entries.old.items)) order.old.items }
+    requires indexed { IsIndexed (names_of (macros_in bytes.old.items entries.old.items)) order.old.items starts.old }
     requires few { vec_len entries.old ≤ 65536 }
     ensures value { result ≡ is_some (macro_named (macros_in bytes.old.items entries.old.items) name.now) }
     ensures stored { IsStored bytes.new.items entries.new.items (without name.now (macros_in bytes.old.items entries.old.items)) }
-    ensures indexed { IsIndex (names_of (without name.now (macros_in bytes.old.items entries.old.items))) order.new.items }
+    ensures indexed { IsIndexed (names_of (without name.now (macros_in bytes.old.items entries.old.items))) order.new.items starts.new }
     ensures capacity { (vec_capacity bytes.new ≡ vec_capacity bytes.old) × (vec_capacity entries.new ≡ vec_capacity entries.old) × (vec_capacity order.new ≡ vec_capacity order.old) }
 {
-    match seek(bytes, entries, order, &Sought::new(name), &mut Steps::new()) {
+    match seek(
+        bytes,
+        entries,
+        order,
+        starts,
+        &Sought::new(name),
+        &mut Steps::new(),
+    ) {
         Ok(at) => {
             let place = leave(order, at);
+            begin_sooner(starts, part_of(name));
             take_out(bytes, entries, place);
             true
         }

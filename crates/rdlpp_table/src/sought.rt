@@ -1,8 +1,9 @@
 // A name that is looked up, and the count of its comparisons.
-ghost use Rattle.std.specs.Prelude.{◌≡◌, ◌+◌, ◌≤◌, ℕ, ◌∷◌, length, take};
+ghost use Rattle.std.specs.Prelude.{◌≡◌, ◌+◌, ◌<◌, ◌≤◌, ℕ, ◌∷◌, length, take};
 ghost use Rattle.std.specs.Slice.Scan.{big_endian};
-ghost use Rattle.rdlpp_table.specs.Index.{name_order};
+ghost use Rattle.rdlpp_table.specs.Index.{name_order, part_of};
 
+use crate::parts::part_of;
 use boxcar::tag::{Names, Tag};
 use std::cmp::Ordering;
 use std::marker::Model;
@@ -44,7 +45,7 @@ impl Steps {
     }
 }
 
-// A name that is looked up. Only `compare` reads it, so that each comparison is a step.
+// A name that is looked up. Only `compare` and `part` read it, so that each comparison is a step.
 #[derive(Clone, Copy, Drop)]
 pub(crate) struct Sought<'a> {
     name: &'a [u8],
@@ -55,6 +56,14 @@ impl<'a> Sought<'a> {
         ensures { result.name.now ≡ name.now }
     {
         Sought { name }
+    }
+
+    // The part of the index in which it is looked up.
+    pub(crate) fn part(&self) -> usize
+        ensures value { result ≡ part_of self.now.name.now }
+        ensures small { result < 1024 }
+    {
+        part_of(self.name)
     }
 
     // How another name stands to the one that is looked up, byte by byte.
@@ -68,7 +77,7 @@ impl<'a> Sought<'a> {
 }
 
 // The first eight bytes of a name as one number, the first byte the highest.
-fn front_number(name: &[u8]) -> u64
+pub(crate) fn front_number(name: &[u8]) -> u64
     requires { 8 ≤ length name.now }
     ensures { result ≡ big_endian 0 (take 8 name.now) }
 {

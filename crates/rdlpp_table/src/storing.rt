@@ -20,7 +20,7 @@ ghost use Rattle.std.specs.Prelude.{
   ◌∷◌,
 };
 ghost use Rattle.std.specs.List.{flat_map, IsDistinct};
-ghost use Rattle.rdlpp_table.specs.Index.{names_of, IsIndex};
+ghost use Rattle.rdlpp_table.specs.Index.{names_of, IsIndexed};
 ghost use Rattle.rdlpp_table.specs.Store.{macros_in, IsStored};
 ghost use Rattle.rdlpp_table.specs.Table.{formal_bytes, table_size, without};
 ghost use Rattle.rdlpp_table.specs.New.{copied_told, list_formals, new_macro, IsList, IsNew};
@@ -28,6 +28,7 @@ ghost use Rattle.rdlpp_table.specs.New.{copied_told, list_formals, new_macro, Is
 use crate::entry::Entry;
 use crate::formals::append_list;
 use crate::index::{enter, gap_in, place_in};
+use crate::parts::{begin_later, part_of};
 use crate::removal::take_out_named;
 use crate::sought::Steps;
 use crate::stop::is_copied;
@@ -110,15 +111,21 @@ pub(crate) struct Rest {
 }
 
 // What there is beside the definition of a name.
-pub(crate) fn beside(bytes: &[u8], entries: &[Entry], order: &[u32], name: &[u8]) -> Rest
+pub(crate) fn beside(
+    bytes: &[u8],
+    entries: &[Entry],
+    order: &[u32],
+    starts: &[u32],
+    name: &[u8],
+) -> Rest
     requires stored { IsStored bytes.now entries.now (macros_in bytes.now entries.now) }
     requires distinct { IsDistinct bytes_eq (map (λ m. m.name) (macros_in bytes.now entries.now)) }
-    requires indexed { IsIndex (names_of (macros_in bytes.now entries.now)) order.now }
+    requires indexed { IsIndexed (names_of (macros_in bytes.now entries.now)) order.now starts.now }
     requires few { length entries.now ≤ 65536 }
     ensures size { result.size ≡ table_size (without name.now (macros_in bytes.now entries.now)) }
     ensures count { result.count ≡ length (without name.now (macros_in bytes.now entries.now)) }
 {
-    match place_in(bytes, entries, order, name, &mut Steps::new()) {
+    match place_in(bytes, entries, order, starts, name, &mut Steps::new()) {
         Some(place) => {
             let entry = entries[place];
             Rest {
@@ -138,22 +145,24 @@ pub(crate) fn replace(
     bytes: &mut Vec<u8>,
     entries: &mut Vec<Entry>,
     order: &mut Vec<u32>,
+    starts: &mut [u32],
     new: &New,
 )
     requires stored { IsStored bytes.old.items entries.old.items (macros_in bytes.old.items entries.old.items) }
     requires distinct { IsDistinct bytes_eq (map (λ m. m.name) (macros_in bytes.old.items entries.old.items)) }
-    requires indexed { IsIndex (names_of (macros_in bytes.old.items entries.old.items)) order.old.items }
+    requires indexed { IsIndexed (names_of (macros_in bytes.old.items entries.old.items)) order.old.items starts.old }
     requires few { vec_len entries.old ≤ 65536 }
     requires counted { IsNew new.now.name.now new.now.arity new.now.list.now new.now.list_len new.now.is_logical new.now.text.now new.now.body_len }
     requires room { table_size (without new.now.name.now (macros_in bytes.old.items entries.old.items)) + (length new.now.name.now + (new.now.list_len + new.now.body_len)) ≤ vec_capacity bytes.old }
     requires entry_room { length (without new.now.name.now (macros_in bytes.old.items entries.old.items)) < vec_capacity entries.old }
     requires index_room { length (without new.now.name.now (macros_in bytes.old.items entries.old.items)) < vec_capacity order.old }
     ensures stored { IsStored bytes.new.items entries.new.items (without new.now.name.now (macros_in bytes.old.items entries.old.items) ++ new_macro new.now.name.now new.now.arity new.now.list.now new.now.is_logical new.now.text.now ∷ []) }
-    ensures indexed { IsIndex (names_of (without new.now.name.now (macros_in bytes.old.items entries.old.items) ++ new_macro new.now.name.now new.now.arity new.now.list.now new.now.is_logical new.now.text.now ∷ [])) order.new.items }
+    ensures indexed { IsIndexed (names_of (without new.now.name.now (macros_in bytes.old.items entries.old.items) ++ new_macro new.now.name.now new.now.arity new.now.list.now new.now.is_logical new.now.text.now ∷ [])) order.new.items starts.new }
     ensures capacity { (vec_capacity bytes.old ≤ vec_capacity bytes.new) × (vec_capacity entries.new ≡ vec_capacity entries.old) × (vec_capacity order.new ≡ vec_capacity order.old) }
 {
-    take_out_named(bytes, entries, order, new.name);
-    let gap = gap_in(bytes, entries, order, new.name);
+    take_out_named(bytes, entries, order, starts, new.name);
+    let gap = gap_in(bytes, entries, order, starts, new.name);
     enter(order, gap, entries.len());
+    begin_later(starts, part_of(new.name));
     put(bytes, entries, new);
 }

@@ -17,6 +17,7 @@ use crate::header::{after_space, leading_name, list_behind, unended};
 use crate::index::place_in;
 use crate::limits::Limits;
 use crate::name::check_name;
+use crate::parts::STARTS;
 use crate::removal::take_out_named;
 use crate::sought::Steps;
 use crate::stop::{Stop, first_stop};
@@ -34,8 +35,10 @@ use std::marker::Model;
 pub struct Table {
     bytes: Vec<u8>,
     entries: Vec<Entry>,
-    // The places of the entries, sorted by name.
+    // The places of the entries, sorted by the parts in which their names stand, and then by name.
     order: Vec<u32>,
+    // Where each part of the index begins, and where the last one ends.
+    starts: [u32; STARTS],
     most_bytes: usize,
     most_macros: usize,
 }
@@ -93,6 +96,7 @@ impl Table {
             bytes,
             entries,
             order,
+            starts: [0; STARTS],
             most_bytes: limits.definition_bytes,
             most_macros: limits.definitions,
         })
@@ -141,7 +145,14 @@ impl Table {
         ensures sound { IsSound self.now }
         ensures steps { IsCounted steps.old steps.new }
     {
-        let index = place_in(&self.bytes, &self.entries, &self.order, name, steps)?;
+        let index = place_in(
+            &self.bytes,
+            &self.entries,
+            &self.order,
+            &self.starts,
+            name,
+            steps,
+        )?;
         Some(MacroId { index })
     }
 
@@ -220,7 +231,13 @@ impl Table {
         ensures value { result ≡ is_some (macro_named self.old.macros name.now) }
         ensures table { self.new ≡ record self.old { macros = without name.now self.old.macros } }
     {
-        take_out_named(&mut self.bytes, &mut self.entries, &mut self.order, name)
+        take_out_named(
+            &mut self.bytes,
+            &mut self.entries,
+            &mut self.order,
+            &mut self.starts,
+            name,
+        )
     }
 
     /// Stores the macro of a `define` in the place of one of its name (IEEE 1364-2001, `define`); `rest` is what
@@ -276,7 +293,7 @@ impl Table {
         ensures count { result.count ≡ length (without name.now self.now.macros) }
         ensures sound { IsSound self.now }
     {
-        beside(&self.bytes, &self.entries, &self.order, name)
+        beside(&self.bytes, &self.entries, &self.order, &self.starts, name)
     }
 
     // Stores a macro of a name with what stands behind the name in a logical line.
@@ -347,7 +364,13 @@ impl Table {
         if self.most_macros <= rest.count {
             return Err(refusal(DefineKind::TooManyDefinitions));
         }
-        replace(&mut self.bytes, &mut self.entries, &mut self.order, new);
+        replace(
+            &mut self.bytes,
+            &mut self.entries,
+            &mut self.order,
+            &mut self.starts,
+            new,
+        );
         Ok(())
     }
 }

@@ -4,6 +4,20 @@
 #![tactic(auto)]
 
 #[cfg(test)]
+mod call_held_tests;
+#[cfg(test)]
+mod call_tests;
+#[cfg(test)]
+mod refused_call_tests;
+#[cfg(test)]
+mod cases;
+#[cfg(test)]
+mod conditional_tests;
+#[cfg(test)]
+mod cut_tests;
+#[cfg(test)]
+mod dealt_files;
+#[cfg(test)]
 mod devices;
 #[cfg(test)]
 mod engine_tests;
@@ -11,6 +25,14 @@ mod engine_tests;
 mod failure_tests;
 #[cfg(test)]
 mod folder_tests;
+#[cfg(test)]
+mod held_include_tests;
+#[cfg(test)]
+mod include_tests;
+#[cfg(test)]
+mod included_place_tests;
+#[cfg(test)]
+mod line_part_tests;
 #[cfg(test)]
 mod line_tests;
 #[cfg(test)]

@@ -146,7 +146,7 @@ fn reports_what_ended_a_run(rt: HostRuntime) -> Result<(), Fail> {
         (
             b"a `ifdef b\n",
             STANDARD,
-            "m:1: error F99: not built yet\n",
+            "m:1: error F25: conditional not closed\n",
             1,
         ),
         (b"", no_depth, "rdlpp: error: limit depth out of range\n", 2),
@@ -211,7 +211,7 @@ fn takes_definitions_from_the_options(rt: HostRuntime) -> Result<(), Fail> {
             "-D:3: error F2: string not closed\n",
         ),
         (&[("W", "f(x) \"s\" // c")], false, "f(x) \"s\"", ""),
-        (&[("W", "`Q")], false, "", "m:1: error F99: not built yet\n"),
+        (&[("W", "`Q")], false, "", "m:1: error F7: undefined macro 'Q'\n"),
         (&[("W", "8")], true, "// origin: m:1\n8", ""),
     ];
     for (defines, origins, output, line) in rows {

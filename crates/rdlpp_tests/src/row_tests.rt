@@ -191,10 +191,10 @@ fn gives_each_row(rt: HostRuntime) {
             fault(1, 2, ""),
         ),
         faulty(
-            "a conditional isn't built",
-            b"a\n`ifdef X\n",
-            b"a\n",
-            fault(99, 2, ""),
+            "a conditional that isn't closed",
+            b"a\n`ifdef X\nb",
+            b"a\n\n",
+            fault(25, 2, ""),
         ),
     ];
     for row in &rows {
@@ -311,23 +311,22 @@ fn gives_each_row_of_definitions(rt: HostRuntime) {
             b"\n",
             fault(1, 2, ""),
         ),
-        faulty(
-            "a usage of a macro with a list isn't built",
+        whole(
+            "a usage of a macro with an empty list",
             b"`define F() x\n\n`F()\n",
-            b"\n\n",
-            fault(99, 3, ""),
+            b"\n\nx\n",
         ),
         faulty(
-            "a usage in a body isn't built",
+            "a usage in a body of a macro that isn't defined",
             b"`define A `B\n `A",
             b"\n ",
-            fault(99, 2, ""),
+            fault(7, 2, "B"),
         ),
         faulty(
-            "a lone backquote in a body isn't built",
+            "a lone backquote in a body",
             b"`define A /**/ `\n `A",
-            b"\n ",
-            fault(99, 2, ""),
+            b"\n /**/ ",
+            fault(6, 2, ""),
         ),
         whole(
             "a definition over two lines",

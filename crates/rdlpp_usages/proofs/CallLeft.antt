@@ -1,11 +1,10 @@
 -- What remains at a usage in a source: its open body and then what remains behind the usage, or the fault of its call.
-use Rattle.std.proofs.Common.{◌≡◌, ℕ, suc, ◌+◌, ◌-◌, ◌<◌, Bool, true, false, List, [], ◌∷◌, ◌++◌, map, take, drop, Option, None, Some, refl, sym, ap, ◌∙◌, subst}
-use Rattle.std.specs.Prelude.{flat_map, bytes_eq, if◌then◌else◌}
-use Rattle.std.specs.List.{list_any}
+use Rattle.std.proofs.Common.{◌≡◌, ℕ, suc, Bool, false, List, [], ◌∷◌, ◌++◌, map, take, drop, Option, None, Some, refl, sym, ap, ◌∙◌}
+use Rattle.std.specs.Prelude.{if◌then◌else◌}
 use Rattle.std.proofs.lemmas.Grind.{flat_map-append}
 use Rattle.std.proofs.lemmas.List.{append_cancel_right, take-append-drop}
 use Rattle.rdlpp_scan.specs.SourceTokens.{SourceToken}
-use Rattle.rdlpp_scan.specs.Stage.{is_reserved}
+use Rattle.rdlpp_scan.specs.Reserved.{is_reserved}
 use Rattle.rdlpp_scan.specs.declared.token.Mode.TheVariants.{Plain}
 use Rattle.rdlpp_table.specs.Table.{Formal, Macro, macro_named}
 use Rattle.rdlpp_table.specs.View.{macro_at}
@@ -19,7 +18,7 @@ use Rattle.rdlpp_meaning.specs.Expansion.{bytes_of, usage_token}
 use Rattle.rdlpp_meaning.specs.Meaning.{Passage, Progress, goes_on, leaves}
 use Rattle.rdlpp_meaning.specs.Opened.{Waiting, all_resumed, unwound}
 use Rattle.rdlpp_meaning.specs.Opens.{Texts, open_body, slots_of}
-use Rattle.rdlpp_meaning.specs.Outcome.{Outcome, fails}
+use Rattle.rdlpp_meaning.specs.Outcome.{fails}
 use Rattle.rdlpp_meaning.specs.Parts.{only_blanks}
 use Rattle.rdlpp_meaning.specs.Resumed.{Live, leading, resumed}
 use Rattle.rdlpp_meaning.specs.Slots.{cursors_of}
@@ -34,7 +33,6 @@ use Rattle.rdlpp_meaning.proofs.TokenWrites.{only_blanks-append}
 use Rattle.rdlpp_read.specs.Buffer.{held_of, tokens_left}
 use Rattle.rdlpp_read.specs.Files.{consumed_file}
 use Rattle.rdlpp_read.specs.declared.files.File.{File}
-use Rattle.rdlpp_arguments.specs.Reads.{all_built}
 use Rattle.rdlpp_front.specs.Fronts.{IsUsage, usage_name}
 use Rattle.rdlpp_front.specs.SourceLeft.{HoldsFront, source_left}
 use Rattle.rdlpp_front.proofs.UsageLeft.{usage_left, usage_text}
@@ -81,74 +79,74 @@ all_resumed_on rules ws os first flag ts behind s p e =
 -- a source of which a usage and its call were used: what is behind them
 pub record IsBehind {R : Type 0} (unread : R → List ℕ) (f new : File R) (len : ℕ) (used : List ℕ) : Type 0 where
   pub blanks : new.blanks ≡ only_blanks (only_blanks f.blanks (take len (held_of f.buffer))) used
-  pub bytes : bytes_of (tokens_left all_built unread (consumed_file len 0 f).buffer) ≡ used ++ bytes_of (tokens_left all_built unread new.buffer)
+  pub bytes : bytes_of (tokens_left unread (consumed_file len 0 f).buffer) ≡ used ++ bytes_of (tokens_left unread new.buffer)
 
 module _ {R : Type 0} (rules : Rules) (unread : R → List ℕ) (ws : List Waiting) (os : List Progress) (f : File R) (s : State) (len : ℕ) where
   -- a usage that is refused by its tokens is a fault
-  token_refused : HoldsFront all_built f.buffer → f.buffer.mode ≡ Plain → IsUsage (held_of f.buffer) len
+  token_refused : HoldsFront f.buffer → f.buffer.mode ≡ Plain → IsUsage (held_of f.buffer) len
       → (kind : FaultKind) (word : List ℕ) (at : ℕ)
-      → token_usage_of kept rules s f.buffer.line [] (usage_name (held_of f.buffer) len) (leading (tokens_left all_built unread (consumed_file len 0 f).buffer)) ≡ Refuses kind word at
-      → source_left rules all_built unread ws (Live os) f s ≡ leaves (fails (fault_at kind at word s)) s
+      → token_usage_of kept rules s f.buffer.line [] (usage_name (held_of f.buffer) len) (leading (tokens_left unread (consumed_file len 0 f).buffer)) ≡ Refuses kind word at
+      → source_left rules unread ws (Live os) f s ≡ leaves (fails (fault_at kind at word s)) s
   token_refused holds plain usage kind word at e =
       let name = usage_name (held_of f.buffer) len in
-      let ts = tokens_left all_built unread (consumed_file len 0 f).buffer in
-      usage_left rules all_built unread ws os f s len holds plain usage
+      let ts = tokens_left unread (consumed_file len 0 f).buffer in
+      usage_left rules unread ws os f s len holds plain usage
       ∙ all_resumed_fails rules ws (Live os) f.blanks (usage_token name f.buffer.line ∷ ts) s s (fault_at kind at word s)
       (resumed_refuses rules os f.blanks name f.buffer.line ts s kind word at usage.free e)
 
   -- a call that is refused is a fault
-  pub call_refused : HoldsFront all_built f.buffer → f.buffer.mode ≡ Plain → IsUsage (held_of f.buffer) len
+  pub call_refused : HoldsFront f.buffer → f.buffer.mode ≡ Plain → IsUsage (held_of f.buffer) len
       → (m : Macro) (fs : List Formal) (kind : FaultKind) (word : List ℕ) (at : ℕ)
       → macro_named s.macros (usage_name (held_of f.buffer) len) ≡ Some m → rules.unbuilt_macro m ≡ false → m.formals ≡ Some fs
-      → token_usage_of_formals kept rules f.buffer.line (usage_name (held_of f.buffer) len) (leading (tokens_left all_built unread (consumed_file len 0 f).buffer)) m (Some fs) ≡ Refuses kind word at
-      → source_left rules all_built unread ws (Live os) f s ≡ leaves (fails (fault_at kind at word s)) s
+      → token_usage_of_formals kept rules f.buffer.line (usage_name (held_of f.buffer) len) (leading (tokens_left unread (consumed_file len 0 f).buffer)) m (Some fs) ≡ Refuses kind word at
+      → source_left rules unread ws (Live os) f s ≡ leaves (fails (fault_at kind at word s)) s
   call_refused holds plain usage m fs kind word at found built formals e =
       let name = usage_name (held_of f.buffer) len in
-      let ts = tokens_left all_built unread (consumed_file len 0 f).buffer in
+      let ts = tokens_left unread (consumed_file len 0 f).buffer in
       token_refused holds plain usage kind word at
       (usage_with_list kept rules s f.buffer.line [] name (leading ts) m fs (Refuses kind word at) usage.free found built refl formals e)
 
   -- a call that is bound opens its body, and the source goes on behind it
-  pub call_opens : HoldsFront all_built f.buffer → f.buffer.mode ≡ Plain → IsUsage (held_of f.buffer) len
+  pub call_opens : HoldsFront f.buffer → f.buffer.mode ≡ Plain → IsUsage (held_of f.buffer) len
       → (d : ℕ) (texts : Texts) (id : ℕ) (fs : List Formal) (ranges : List Range) (new : File R) (used : List ℕ)
       → rules.depth ≡ suc d → macro_named s.macros (usage_name (held_of f.buffer) len) ≡ Some (macro_at texts.macros id)
       → rules.unbuilt_macro (macro_at texts.macros id) ≡ false → (macro_at texts.macros id).formals ≡ Some fs
-      → OpensBound rules f.buffer.line (usage_name (held_of f.buffer) len) (tokens_left all_built unread (consumed_file len 0 f).buffer) (macro_at texts.macros id) fs texts.arguments ranges (tokens_left all_built unread new.buffer)
+      → OpensBound rules f.buffer.line (usage_name (held_of f.buffer) len) (tokens_left unread (consumed_file len 0 f).buffer) (macro_at texts.macros id) fs texts.arguments ranges (tokens_left unread new.buffer)
       → IsBehind unread f new len used
-      → source_left rules all_built unread ws (Live os) f s
+      → source_left rules unread ws (Live os) f s
       ≡ goes_on (leaves (left rules s f.buffer.line (cursors_of (suc d) (slots_of texts (open_body texts id (map range_part ranges) 0 ∷ [])))) s)
-      (λ after. source_left rules all_built unread ws (Live os) new after)
+      (λ after. source_left rules unread ws (Live os) new after)
   unfolding source_left
   call_opens holds plain usage d texts id fs ranges new used depth found built formals b behind =
       let name = usage_name (held_of f.buffer) len in
       let line = f.buffer.line in
-      let ts = tokens_left all_built unread (consumed_file len 0 f).buffer in
-      let rest = tokens_left all_built unread new.buffer in
+      let ts = tokens_left unread (consumed_file len 0 f).buffer in
+      let rest = tokens_left unread new.buffer in
       let opened : Passage = leaves (left rules s line (cursors_of (suc d) (slots_of texts (open_body texts id (map range_part ranges) 0 ∷ [])))) s in
       let flag : Bool = only_blanks f.blanks (bytes_of (take (suc b.used) (usage_token name line ∷ ts))) in
       let same : flag ≡ new.blanks =
       blanks_behind f.blanks name line ts rest b.used used b.rest behind.bytes
       ∙ ap (λ (bs : List ℕ). only_blanks (only_blanks f.blanks bs) used) (sym (usage_text (held_of f.buffer) len usage))
       ∙ sym behind.blanks in
-      usage_left rules all_built unread ws os f s len holds plain usage
+      usage_left rules unread ws os f s len holds plain usage
       ∙ all_resumed_on rules ws os f.blanks flag (usage_token name line ∷ ts) rest s opened
       (resumed_open rules os f.blanks name line ts s d texts id fs ranges rest b usage.free depth found built formals)
       ∙ ap (λ (x : Bool). goes_on opened (λ after. all_resumed rules ws (Live os) x rest after)) same
 
   -- a usage of a macro without a list opens its body, and the source goes on behind the name
-  pub body_opens : HoldsFront all_built f.buffer → f.buffer.mode ≡ Plain → IsUsage (held_of f.buffer) len
+  pub body_opens : HoldsFront f.buffer → f.buffer.mode ≡ Plain → IsUsage (held_of f.buffer) len
       → (d : ℕ) (texts : Texts) (id : ℕ)
       → rules.depth ≡ suc d → macro_named s.macros (usage_name (held_of f.buffer) len) ≡ Some (macro_at texts.macros id)
       → rules.unbuilt_macro (macro_at texts.macros id) ≡ false → (macro_at texts.macros id).formals ≡ None
-      → source_left rules all_built unread ws (Live os) f s
+      → source_left rules unread ws (Live os) f s
       ≡ goes_on (leaves (left rules s f.buffer.line (cursors_of (suc d) (slots_of texts (open_body texts id [] 0 ∷ [])))) s)
-      (λ after. source_left rules all_built unread ws (Live os) (consumed_file len 0 f) after)
+      (λ after. source_left rules unread ws (Live os) (consumed_file len 0 f) after)
   unfolding source_left only_blanks
   body_opens holds plain usage d texts id depth found built formals =
       let name = usage_name (held_of f.buffer) len in
       let line = f.buffer.line in
       let m = macro_at texts.macros id in
-      let ts = tokens_left all_built unread (consumed_file len 0 f).buffer in
+      let ts = tokens_left unread (consumed_file len 0 f).buffer in
       let opened : List Cursor → Passage = λ cursors. leaves (left rules s line cursors) s in
       let flag : Bool = only_blanks f.blanks (bytes_of (take 1 (usage_token name line ∷ ts))) in
       let same : flag ≡ (consumed_file len 0 f).blanks =
@@ -156,7 +154,7 @@ module _ {R : Type 0} (rules : Rules) (unread : R → List ℕ) (ws : List Waiti
       ∙ ap (λ (bs : List ℕ). only_blanks (only_blanks f.blanks bs) []) (sym (usage_text (held_of f.buffer) len usage)) in
       let cursors : first_cursor m [] d ∷ [] ≡ cursors_of (suc d) (slots_of texts (open_body texts id [] 0 ∷ [])) =
       sym (first_slot_is m [] d) ∙ ap (cursors_of (suc d)) (sym (first_open texts id [])) in
-      usage_left rules all_built unread ws os f s len holds plain usage
+      usage_left rules unread ws os f s len holds plain usage
       ∙ all_resumed_on rules ws os f.blanks flag (usage_token name line ∷ ts) ts s (opened (first_cursor m [] d ∷ []))
       (resumed_opens rules os f.blanks name line ts s d m [] 0 usage.free depth (usage_without_list rules s line name (leading ts) m usage.free found built formals))
       ∙ ap (λ (x : Bool). goes_on (opened (first_cursor m [] d ∷ [])) (λ after. all_resumed rules ws (Live os) x ts after)) same

@@ -1,53 +1,44 @@
 -- A call that is read and bound, as a usage in a source.
-use Rattle.std.proofs.Common.{◌≡◌, ◌≢◌, ℕ, zero, suc, ◌+◌, ◌-◌, ◌<◌, ◌≤◌, Bool, true, false, List, [], ◌∷◌, ◌++◌, map, length, take, drop, Option, None, Some, refl, sym, ap, ◌∙◌, subst, arith}
+use Rattle.std.proofs.Common.{◌≡◌, ℕ, zero, suc, ◌<◌, true, List, [], ◌∷◌, map, length, None, Some, refl, sym, ap, ◌∙◌, subst, arith}
 use Rattle.std.proofs.lemmas.Bool.{eqb-true, false≢true}
 use Rattle.std.specs.Prelude.{◌==◌}
 use Rattle.rdlpp_scan.specs.SourceTokens.{SourceToken}
 use Rattle.rdlpp_scan.specs.declared.token.Mode.TheVariants.{Plain}
 use Rattle.rdlpp_table.specs.Table.{Formal, Macro, macro_named}
 use Rattle.rdlpp_table.specs.View.{macro_at}
-use Rattle.rdlpp_calls.specs.BoundCalls.{KeepsAll, actuals_of, range_part, ranges_tokens}
+use Rattle.rdlpp_calls.specs.BoundCalls.{range_part}
 use Rattle.rdlpp_calls.specs.SourceBound.{OpensBound}
-use Rattle.rdlpp_calls.specs.declared.bindings.Range.{Range}
 use Rattle.rdlpp_calls.proofs.BoundSourceCalls.{source_bound, source_breaks, source_counted, source_lacks}
 use Rattle.rdlpp_meaning.specs.Actuals.{call_of, token_role}
-use Rattle.rdlpp_meaning.specs.Cursors.{Refuses, is_token_count, kept, left, token_usage_of_formals}
+use Rattle.rdlpp_meaning.specs.Cursors.{Refuses, kept, left}
 use Rattle.rdlpp_meaning.specs.Meaning.{Passage, Progress, goes_on, leaves}
 use Rattle.rdlpp_meaning.specs.Opened.{Waiting}
-use Rattle.rdlpp_meaning.specs.Opens.{Open, open_body, slots_of}
+use Rattle.rdlpp_meaning.specs.Opens.{Open, Texts, open_body, slots_of}
 use Rattle.rdlpp_meaning.specs.Parts.{only_blanks}
 use Rattle.rdlpp_meaning.specs.Resumed.{leading}
 use Rattle.rdlpp_meaning.specs.State.{Rules, State, fault_at}
 use Rattle.rdlpp_meaning.specs.Slots.{cursors_of}
 use Rattle.rdlpp_meaning.specs.Outcome.{fails}
-use Rattle.rdlpp_meaning.specs.Substitution.{body_tokens}
 use Rattle.rdlpp_meaning.specs.declared.fault.FaultKind.{FaultKind}
-use Rattle.rdlpp_meaning.specs.declared.fault.FaultKind.TheVariants.{ArgumentCount}
+use Rattle.rdlpp_meaning.specs.declared.fault.FaultKind.TheVariants.{ArgumentsMissing, ArgumentsOpen, ArgumentBytes, ArgumentCount, EmbeddedPerl, OpenString, OpenComment, LineTooLong, SourceTooLong}
 use Rattle.rdlpp_meaning.proofs.ReadCalls.{IsReadCall}
-use Rattle.rdlpp_read.specs.Buffer.{BufferView, EndsHeld, held_of, tokens_left, unused_of}
-use Rattle.rdlpp_read.specs.Files.{consumed_file, inner_buffer, with_inner}
+use Rattle.rdlpp_read.specs.Buffer.{BufferView, held_of, tokens_left}
+use Rattle.rdlpp_read.specs.Files.{consumed_file}
 use Rattle.rdlpp_read.specs.declared.files.File.{File}
-use Rattle.rdlpp_arguments.specs.CallReads.{IsCallOf, MeansCall, ReadsCall, with_used}
-use Rattle.rdlpp_arguments.specs.Reads.{SparesCalls, all_built}
+use Rattle.rdlpp_arguments.specs.CallReads.{is_read_fault, IsCallOf, MeansCall}
 use Rattle.rdlpp_arguments.specs.Store.{StoreView}
 use Rattle.rdlpp_arguments.specs.declared.reading.CallRead.TheVariants as call
 use Rattle.rdlpp_cursors.specs.Opened.{CursorsView}
 use Rattle.rdlpp_cursors.specs.Places.{texts_of}
-use Rattle.rdlpp_cursors.specs.Steps.{StaysRefused}
+use Rattle.rdlpp_cursors.specs.Steps.{IsPlacedStep, KeepsOpen, NamesWord, StaysRefused}
 use Rattle.rdlpp_cursors.specs.declared.step.CursorStep.{CursorStep}
 use Rattle.rdlpp_cursors.specs.declared.step.CursorStep.TheVariants.{Lends, Silent, Refused as Fault}
 use Rattle.rdlpp_front.specs.Fronts.{IsUsage, usage_name}
 use Rattle.rdlpp_front.specs.SourceLeft.{HoldsFront}
-use Rattle.rdlpp_front.proofs.Insides.{usage_inside}
-use Rattle.rdlpp_front.proofs.Stages.{nothing-stage}
-use Rattle.rdlpp_usages.specs.Usages.{BindsKept, ExpansionView, IsRun, RefusesCall, StaysAt, TellsCallUsage, TellsUsage, UsesCall, UsesSource, inner_left, texts_left}
+use Rattle.rdlpp_usages.specs.Usages.{is_usage_fault, IsUsageFault, BindsKept, ExpansionView, IsRun, RefusesCall, StaysAt, StaysLent, TellsCallUsage, TellsUsage, inner_left, texts_left}
 use Rattle.rdlpp_usages.specs.declared.expansion.Opening.{Opening}
-use Rattle.rdlpp_usages.specs.declared.expansion.Opening.TheVariants.{Opened, Refused, Broken, Failed}
+use Rattle.rdlpp_usages.specs.declared.expansion.Opening.TheVariants.{Opened, Refused, Broken}
 use Rattle.rdlpp_usages.proofs.CallLeft.{IsBehind, body_opens, call_opens, call_refused}
-
--- where all is built, no call meets what isn't
-spares_all : SparesCalls all_built
-spares_all = λ bytes e. absurd (false≢true e)
 
 -- a call that was read, in a run with that limit on kept bytes
 read_call : (rules : Rules) (most : ℕ) (ts : List SourceToken) (bytes : List ℕ) (behind : List SourceToken) → rules.argument_bytes ≡ most
@@ -64,11 +55,11 @@ kept_bound tells unread most macros id line bytes now c old new means binds =
       ranges = binds.ranges;
       body = subst (λ (bs : List ℕ). c.opens ≡ open_body (texts_of macros bs) id (map range_part binds.ranges) 0 ∷ []) (sym binds.stays) binds.body;
       bound = λ rules at name fs limit formals t.
-          let ts = tokens_left all_built unread old in
-          let behind = tokens_left all_built unread new in
+          let ts = tokens_left unread old in
+          let behind = tokens_left unread new in
           subst (λ (bs : List ℕ). OpensBound rules at name ts (macro_at macros id) fs bs binds.ranges behind) (sym binds.stays)
           (source_bound rules at name ts (macro_at macros id) fs bytes binds.ranges behind
-          (read_call rules most ts bytes behind limit (means all_built spares_all t)) (sym (binds.count fs formals)) binds.actuals);
+          (read_call rules most ts bytes behind limit (means t)) (sym (binds.count fs formals)) binds.actuals);
     }
 
 -- one that was read and isn't bound is refused
@@ -77,10 +68,10 @@ pub kept_unbound : {R : Type 0} (tells : Type 0) (unread : R → List ℕ) (most
     → TellsCallUsage tells unread most macros id (Refused kind) c.opens now old new
 kept_unbound tells unread most macros id line bytes now kind c old new means binds =
     λ rules at name fs limit formals t.
-    let ts = tokens_left all_built unread old in
-    let behind = tokens_left all_built unread new in
+    let ts = tokens_left unread old in
+    let behind = tokens_left unread new in
     let m = macro_at macros id in
-    let read = means all_built spares_all t in
+    let read = means t in
     source_counted rules at name ts m fs bytes behind (read_call rules most ts bytes behind limit read) (sym (binds.count read.keeps fs formals))
     ∙ ap (λ (k : FaultKind). Refuses k name at) (sym binds.kind_is)
 
@@ -89,7 +80,7 @@ pub call_lacks : {R : Type 0} (tells : Type 0) (unread : R → List ℕ) (most :
     → MeansCall tells unread most bytes old new (call.Refused kind) → TellsCallUsage tells unread most macros id (Refused kind) opens now old new
 call_lacks tells unread most macros id bytes now kind opens old new means =
     λ rules at name fs limit formals t.
-    let ts = tokens_left all_built unread old in
+    let ts = tokens_left unread old in
     source_lacks rules at name ts (macro_at macros id) fs kind
     (ap (λ (n : ℕ). call_of token_role kept n (leading ts)) limit ∙ means t)
 
@@ -98,9 +89,9 @@ pub call_breaks : {R : Type 0} (tells : Type 0) (unread : R → List ℕ) (most 
     → MeansCall tells unread most bytes old new (call.Broken kind own) → TellsCallUsage tells unread most macros id (Broken kind own) opens now old new
 call_breaks tells unread most macros id bytes now kind own opens old new means =
     λ rules at name fs limit formals t.
-    let ts = tokens_left all_built unread old in
+    let ts = tokens_left unread old in
     source_breaks rules at name ts (macro_at macros id) fs kind own
-    (ap (λ (n : ℕ). call_of token_role kept n (leading ts)) limit ∙ means all_built spares_all t)
+    (ap (λ (n : ℕ). call_of token_role kept n (leading ts)) limit ∙ means t)
 
 -- the number of open texts that there may be
 deeper : (n : ℕ) → 0 < n → (d : ℕ) × (n ≡ suc d)
@@ -129,7 +120,7 @@ run_named rules s macros depth most name m run found = ap (λ (ms : List Macro).
 module _ {R : Type 0} (rules : Rules) (unread : R → List ℕ) (ws : List Waiting) (os : List Progress) (s : State) (macros : List Macro) (depth most id len : ℕ) (f : File R) (outer : List (File R)) where
   -- a usage without a list opens its body
   pub usage_opens_body : (e : ExpansionView) (name : List ℕ)
-      → HoldsFront all_built f.buffer → f.buffer.mode ≡ Plain → IsUsage (held_of f.buffer) len → IsRun rules s macros depth most → 0 < depth
+      → HoldsFront f.buffer → f.buffer.mode ≡ Plain → IsUsage (held_of f.buffer) len → IsRun rules s macros depth most → 0 < depth
       → macro_named macros (usage_name (held_of f.buffer) len) ≡ Some (macro_at macros id) → (macro_at macros id).formals ≡ None
       → e.opens ≡ open_body (texts_of macros []) id [] 0 ∷ [] → e.line ≡ f.buffer.line → e.depth ≡ depth
       → TellsUsage rules s unread ws os macros f.buffer.line name Opened e (f ∷ outer) (consumed_file len 0 f ∷ outer)
@@ -143,7 +134,7 @@ module _ {R : Type 0} (rules : Rules) (unread : R → List ℕ) (ws : List Waiti
 
   -- a call that is bound opens its body
   pub usage_opens_call : (new : File R) (used : List ℕ) (e : ExpansionView) (tells : Type 0) (name : List ℕ) (fs : List Formal)
-      → HoldsFront all_built f.buffer → f.buffer.mode ≡ Plain → IsUsage (held_of f.buffer) len → IsRun rules s macros depth most → 0 < depth
+      → HoldsFront f.buffer → f.buffer.mode ≡ Plain → IsUsage (held_of f.buffer) len → IsRun rules s macros depth most → 0 < depth
       → macro_named macros (usage_name (held_of f.buffer) len) ≡ Some (macro_at macros id) → (macro_at macros id).formals ≡ Some fs
       → TellsCallUsage tells unread most macros id Opened e.opens e.arguments (consumed_file len 0 f).buffer new.buffer → IsBehind unread f new len used → tells
       → e.line ≡ f.buffer.line → e.depth ≡ depth
@@ -160,7 +151,7 @@ module _ {R : Type 0} (rules : Rules) (unread : R → List ℕ) (ws : List Waiti
 
   -- a call that isn't is a fault
   pub usage_refused : (kind : FaultKind) (word : List ℕ → List ℕ) (at : ℕ → ℕ) (tells : Type 0) (fs : List Formal)
-      → HoldsFront all_built f.buffer → f.buffer.mode ≡ Plain → IsUsage (held_of f.buffer) len → IsRun rules s macros depth most
+      → HoldsFront f.buffer → f.buffer.mode ≡ Plain → IsUsage (held_of f.buffer) len → IsRun rules s macros depth most
       → macro_named macros (usage_name (held_of f.buffer) len) ≡ Some (macro_at macros id) → (macro_at macros id).formals ≡ Some fs
       → RefusesCall tells unread most macros id kind word at (consumed_file len 0 f).buffer → tells
       → inner_left rules unread ws os (f ∷ outer) s ≡ leaves (fails (fault_at kind (at f.buffer.line) (word (usage_name (held_of f.buffer) len)) s)) s
@@ -193,3 +184,66 @@ unfolding StaysRefused StaysAt
 stays_open (Lends place) old new c now stays arguments is becomes = tt
 stays_open Silent old new c now stays arguments is becomes = tt
 stays_open (Fault fault) old new c now stays arguments is becomes = becomes ∙ ap (λ (v : CursorsView). seen_of v arguments) stays ∙ is
+
+-- bytes that are lent leave a text open, so that behind the last one none are
+pub lent_empty : (step : CursorStep) (old new : ExpansionView) (now : CursorsView) → KeepsOpen step now.opens → (length now.opens == 0) ≡ true → StaysLent old step new
+unfolding StaysLent
+lent_empty (Lends place) old new now some empty =
+    let none = eqb-true (length now.opens) 0 empty in
+    absurd (omega (arith, some, none))
+lent_empty Silent old new now some empty = tt
+lent_empty (Fault fault) old new now some empty = tt
+
+-- where one is open, the kept bytes stay
+pub lent_open : (step : CursorStep) (old new : ExpansionView) (now : CursorsView) → KeepsOpen step now.opens → new.opens ≡ now.opens → new.arguments ≡ old.arguments → StaysLent old step new
+unfolding StaysLent
+lent_open (Lends place) old new now some same kept = (subst (λ (xs : List Open). 0 < length xs) (sym same) some, kept)
+lent_open Silent old new now some same kept = tt
+lent_open (Fault fault) old new now some same kept = tt
+
+-- neither bytes nor a fault come with the last text that is closed, so that nothing has to lie among the kept bytes
+pub placed_empty : (step : CursorStep) (texts : Texts) (old : List Open) (c now : CursorsView) → KeepsOpen step now.opens → StaysRefused c step now → c.opens ≡ old → 0 < length old
+    → (length now.opens == 0) ≡ true → IsPlacedStep texts step
+unfolding IsPlacedStep StaysRefused
+placed_empty (Lends place) texts old c now lends stays same some empty =
+    let none = eqb-true (length now.opens) 0 empty in
+    absurd (omega (arith, lends, none))
+placed_empty Silent texts old c now lends stays same some empty = tt
+placed_empty (Fault fault) texts old c now lends stays same some empty =
+    let count : length now.opens ≡ length old = ap (λ (v : CursorsView). length v.opens) stays ∙ ap length same in
+    let none = eqb-true (length now.opens) 0 empty in
+    absurd (omega (arith, count, none, some))
+
+-- nor has a fault a word then
+pub named_empty : (step : CursorStep) (texts : Texts) (old : List Open) (c now : CursorsView) → KeepsOpen step now.opens → StaysRefused c step now → c.opens ≡ old → 0 < length old
+    → (length now.opens == 0) ≡ true → NamesWord texts step
+unfolding StaysRefused
+named_empty (Lends place) texts old c now lends stays same some empty = tt
+named_empty Silent texts old c now lends stays same some empty = tt
+named_empty (Fault fault) texts old c now lends stays same some empty =
+    let count : length now.opens ≡ length old = ap (λ (v : CursorsView). length v.opens) stays ∙ ap length same in
+    let none = eqb-true (length now.opens) 0 empty in
+    absurd (omega (arith, count, none, some))
+
+-- a fault of reading a call is one of its usage
+pub read_usage : (kind : FaultKind) → is_read_fault kind ≡ true → is_usage_fault kind ≡ true
+unfolding is_read_fault is_usage_fault
+read_usage ArgumentsMissing e = refl
+read_usage ArgumentsOpen e = refl
+read_usage ArgumentBytes e = refl
+read_usage ArgumentCount e = refl
+read_usage EmbeddedPerl e = refl
+read_usage OpenString e = refl
+read_usage OpenComment e = refl
+read_usage LineTooLong e = refl
+read_usage SourceTooLong e = refl
+read_usage kind e = absurd (false≢true e)
+
+-- so is a wrong count
+pub count_usage : (kind : FaultKind) → kind ≡ ArgumentCount → is_usage_fault kind ≡ true
+unfolding is_usage_fault
+count_usage kind e = ap (λ (k : FaultKind). is_usage_fault k) e
+
+-- what is answered is the fault
+pub told_usage : (opening told : Opening) → told ≡ opening → IsUsageFault opening → IsUsageFault told
+told_usage opening told e h = subst (λ (o : Opening). IsUsageFault o) (sym e) h

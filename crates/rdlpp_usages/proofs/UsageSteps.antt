@@ -1,30 +1,30 @@
 -- A usage that is taken from the innermost source, over the list of open sources.
-use Rattle.std.proofs.Common.{◌≡◌, ◌≢◌, ℕ, zero, suc, ◌+◌, ◌-◌, ◌<◌, ◌≤◌, Bool, true, false, List, [], ◌∷◌, ◌++◌, map, length, take, drop, Option, None, Some, refl, sym, ap, ◌∙◌, subst, arith}
+use Rattle.std.proofs.Common.{◌≡◌, ℕ, ◌+◌, ◌-◌, ◌<◌, ◌≤◌, true, false, List, [], ◌∷◌, ◌++◌, length, take, drop, Option, None, Some, refl, sym, ap, ◌∙◌, subst, arith}
 use Rattle.std.specs.Option.{option_map}
-use Rattle.std.specs.Prelude.{is_some}
-use Rattle.std.proofs.lemmas.List.{length-append, length-drop, length-take}
+use Rattle.std.specs.Prelude.{if◌then◌else◌, is_some}
+use Rattle.std.proofs.lemmas.List.{drop-drop, length-append, length-drop, length-take, length-take-le}
 use Rattle.rdlpp_scan.specs.declared.token.Mode.TheVariants.{Plain}
 use Rattle.rdlpp_table.specs.Table.{Formal, Macro, macro_named}
 use Rattle.rdlpp_table.specs.View.{macro_at}
+use Rattle.rdlpp_meaning.specs.CallScan.{Before}
 use Rattle.rdlpp_meaning.specs.Meaning.{Progress}
 use Rattle.rdlpp_meaning.specs.Opened.{Waiting}
-use Rattle.rdlpp_meaning.specs.Opens.{Open, open_body}
+use Rattle.rdlpp_meaning.specs.Opens.{open_body}
 use Rattle.rdlpp_meaning.specs.Parts.{only_blanks}
 use Rattle.rdlpp_meaning.specs.State.{Rules, State}
-use Rattle.rdlpp_read.specs.Buffer.{BufferView, EndsHeld, held_of, unused_of}
+use Rattle.rdlpp_meaning.specs.declared.fault.FaultKind.TheVariants.{LineTooLong}
+use Rattle.rdlpp_read.specs.Buffer.{BufferView, EndsHeld, MovesOver, ahead_of, held_of, rest_of, text_left, unused_of}
 use Rattle.rdlpp_read.specs.Files.{consumed_file, inner_buffer, torn_after, with_inner}
 use Rattle.rdlpp_read.specs.declared.files.File.{File}
-use Rattle.rdlpp_arguments.specs.CallReads.{MeansCall, with_used}
-use Rattle.rdlpp_arguments.specs.Reads.{all_built}
+use Rattle.rdlpp_read.proofs.Sliding.{moves-on, moves-past, text-on, text-past}
+use Rattle.rdlpp_arguments.specs.CallReads.{MeansCall, ReadsCall, TellsCall, with_used}
+use Rattle.rdlpp_arguments.specs.declared.reading.CallRead.{CallRead}
 use Rattle.rdlpp_arguments.specs.declared.reading.CallRead.TheVariants as call
 use Rattle.rdlpp_arguments.proofs.GoingOn.{used_twice}
 use Rattle.rdlpp_cursors.specs.Opened.{CursorsView}
 use Rattle.rdlpp_cursors.specs.Places.{texts_of}
 use Rattle.rdlpp_front.specs.Fronts.{IsUsage, usage_name}
-use Rattle.rdlpp_front.specs.SourceLeft.{HoldsFront}
-use Rattle.rdlpp_front.proofs.Insides.{usage_inside}
-use Rattle.rdlpp_front.proofs.Stages.{nothing-stage}
-use Rattle.rdlpp_usages.specs.Usages.{BindsKept, ExpansionView, IsRun, TellsCallUsage, TellsUsage, UsesCall, UsesSource}
+use Rattle.rdlpp_usages.specs.Usages.{BindsKept, ExpansionView, IsRun, TellsCallUsage, TellsUsage, UsesCall, UsesSource, is_opened}
 use Rattle.rdlpp_usages.specs.declared.expansion.Opening.{Opening}
 use Rattle.rdlpp_usages.specs.declared.expansion.Opening.TheVariants.{Opened, Refused, Broken, Failed}
 use Rattle.rdlpp_usages.proofs.UsageOpens.{kept_bound, kept_unbound, usage_opens_body, usage_opens_call, usage_refused}
@@ -47,18 +47,64 @@ pub is_list : (o : Option (List Formal)) → is_some (option_map length o) ≡ t
 is_list None e = cc e
 is_list (Some fs) e = refl
 
+-- the line of a usage that is opened
+pub opened_line : (opening : Opening) (now line old : ℕ) → now ≡ (if is_opened opening then line else old) → opening ≡ Opened → now ≡ line
+opened_line opening now line old e o = e ∙ ap (λ (x : Opening). if is_opened x then line else old) o
+
+-- the window behind the bytes of a usage
+name_moves : {R : Type 0} (f : File R) (len : ℕ) → len ≤ length (held_of f.buffer) → MovesOver (take len (held_of f.buffer)) f.buffer (consumed_file len 0 f).buffer
+name_moves f len inside =
+    moves-past (take len (held_of f.buffer)) f.buffer (consumed_file len 0 f).buffer refl (ap (λ (n : ℕ). f.buffer.at + n) (sym (length-take-le len (held_of f.buffer) inside)))
+
+-- what is held behind them
+name_held : {R : Type 0} (f : File R) (len : ℕ) → held_of (consumed_file len 0 f).buffer ≡ drop len (held_of f.buffer)
+unfolding held_of
+name_held f len = sym (drop-drop len f.buffer.at (take f.buffer.accepted f.buffer.window))
+
+-- and what isn't held
+name_rest : {R : Type 0} (unread : R → List ℕ) (f : File R) (len : ℕ) → rest_of unread (consumed_file len 0 f).buffer ≡ rest_of unread f.buffer
+unfolding rest_of ahead_of
+name_rest unread f len = refl
+
+-- the text behind them
+name_text : {R : Type 0} (unread : R → List ℕ) (f : File R) (len : ℕ) → text_left unread f.buffer ≡ take len (held_of f.buffer) ++ text_left unread (consumed_file len 0 f).buffer
+name_text unread f len = text-past unread f.buffer (consumed_file len 0 f).buffer len (name_held f len) (name_rest unread f len)
+
 -- the bytes of a usage are used
-pub uses_name : {R : Type 0} (nest : List (File R)) (len : ℕ) → 0 < length nest → 0 < len → len ≤ length (held_of (inner_buffer nest)) → UsesSource nest (with_inner (consumed_file len 0) nest)
+pub uses_name : {R : Type 0} (tells : Type 0) (unread : R → List ℕ) (opening : Opening) (nest : List (File R)) (len : ℕ) → 0 < length nest → 0 < len → len ≤ length (held_of (inner_buffer nest))
+    → UsesSource tells unread opening nest (with_inner (consumed_file len 0) nest)
 unfolding unused_of held_of
-uses_name [] len some has inside = absurd (omega arith)
-uses_name (f ∷ outer) len some has inside =
+uses_name tells unread opening [] len some has inside = absurd (omega arith)
+uses_name tells unread opening (f ∷ outer) len some has inside =
     let held = held_of f.buffer in
     let room : length held ≤ f.buffer.accepted - f.buffer.at = omega (arith, length-drop f.buffer.at (take f.buffer.accepted f.buffer.window), length-take f.buffer.accepted f.buffer.window) in
     let size = length-take len held in
-    record { used = take len held; some = omega arith; inner = refl; unused = omega arith }
+    record {
+      used = take len held;
+      some = omega arith;
+      inner = refl;
+      unused = omega arith;
+      moves = name_moves f len inside;
+      text = λ exact t. name_text unread f len;
+    }
+
+-- those of a call that was read are used, where its answer is that of the reading
+pub uses_call : {R : Type 0} (tells : Type 0) (unread : R → List ℕ) (most : ℕ) (kept : List ℕ) (read : CallRead) (opening : Opening) (old new : List (File R))
+    → ReadsCall tells unread Before most kept read old new → (opening ≡ Opened → read ≡ call.Closed)
+    → ((own : ℕ) → read ≡ call.Broken LineTooLong own → opening ≡ Broken LineTooLong own) → UsesCall tells unread opening old new
+uses_call tells unread most kept read opening old new r closed broken =
+    record {
+      used = r.used;
+      inner = r.inner;
+      unused = r.unused;
+      moves = r.moves;
+      text = λ exact t. r.text (λ own e. exact own (broken own e)) t;
+      bytes = λ o t. (subst (λ (c : CallRead). TellsCall tells unread Before most kept r.used (inner_buffer old) (inner_buffer new) c) (closed o) r.answer).bytes t;
+    }
 
 -- and then those of its call
-pub uses_more : {R : Type 0} (tells : Type 0) (unread : R → List ℕ) (opening : Opening) (old mid new : List (File R)) → UsesSource old mid → UsesCall tells unread opening mid new → UsesSource old new
+pub uses_more : {R : Type 0} (tells : Type 0) (unread : R → List ℕ) (opening : Opening) (old mid new : List (File R)) → UsesSource tells unread opening old mid → UsesCall tells unread opening mid new
+    → UsesSource tells unread opening old new
 uses_more {R} tells unread opening old mid new name c =
     let size = length-append name.used c.used in
     let one = name.unused in
@@ -69,6 +115,10 @@ uses_more {R} tells unread opening old mid new name c =
       some = omega arith;
       inner = c.inner ∙ ap (λ (nest : List (File R)). with_used (inner_buffer new) c.used nest) name.inner ∙ used_twice (inner_buffer mid) (inner_buffer new) name.used c.used old;
       unused = omega arith;
+      moves = moves-on name.used c.used (inner_buffer old) (inner_buffer mid) (inner_buffer new) name.moves c.moves;
+      text = λ exact t.
+          text-on name.used c.used (text_left unread (inner_buffer old)) (text_left unread (inner_buffer mid)) (text_left unread (inner_buffer new))
+          (name.text exact t) (c.text exact t);
     }
 
 module _ {R : Type 0} (rules : Rules) (unread : R → List ℕ) (ws : List Waiting) (os : List Progress) (s : State) (macros : List Macro) (depth most id len : ℕ) where
@@ -81,7 +131,7 @@ module _ {R : Type 0} (rules : Rules) (unread : R → List ℕ) (ws : List Waiti
   body_means [] e some ends held plain usage run room found formals opens line same = absurd (omega arith)
   body_means (f ∷ outer) e some ends held plain usage run room found formals opens line same =
       usage_opens_body rules unread ws os s macros depth most id len f outer e (usage_name (held_of f.buffer) len)
-      (record { stage = nothing-stage; some = held; ends = ends }) plain usage run room found formals opens line same
+      (record { some = held; ends = ends }) plain usage run room found formals opens line same
 
   -- a list that is there
   some_list : (o : Option (List Formal)) → is_some o ≡ true → (fs : List Formal) × (o ≡ Some fs)
@@ -104,16 +154,16 @@ module _ {R : Type 0} (rules : Rules) (unread : R → List ℕ) (ws : List Waiti
       let changed : File R = record mid { buffer = b; blanks = only_blanks mid.blanks uses.used; torn = torn_after mid.torn uses.used } in
       subst (λ (ns : List (File R)). TellsUsage rules s unread ws os macros f.buffer.line (usage_name (held_of f.buffer) len) Opened e (f ∷ outer) ns) (sym uses.inner)
       (usage_opens_call rules unread ws os s macros depth most id len f outer changed uses.used e tells (usage_name (held_of f.buffer) len) fs.0
-      (record { stage = nothing-stage; some = held; ends = ends }) plain usage run room found fs.1 t
+      (record { some = held; ends = ends }) plain usage run room found fs.1 t
       (record { blanks = refl; bytes = uses.bytes refl told }) told (line refl) same)
   call_means tells (Refused kind) (f ∷ outer) new e some ends held plain usage run room found listed t uses told line same =
       let fs = some_list (macro_at macros id).formals listed in
       usage_refused rules unread ws os s macros depth most id len f outer kind (λ name. name) (λ at. at) tells fs.0
-      (record { stage = nothing-stage; some = held; ends = ends }) plain usage run found fs.1 t told
+      (record { some = held; ends = ends }) plain usage run found fs.1 t told
   call_means tells (Broken kind own) (f ∷ outer) new e some ends held plain usage run room found listed t uses told line same =
       let fs = some_list (macro_at macros id).formals listed in
       usage_refused rules unread ws os s macros depth most id len f outer kind (λ name. []) (λ at. own) tells fs.0
-      (record { stage = nothing-stage; some = held; ends = ends }) plain usage run found fs.1 t told
+      (record { some = held; ends = ends }) plain usage run found fs.1 t told
   call_means tells Failed (f ∷ outer) new e some ends held plain usage run room found listed t uses told line same = tt
 
   -- the same over sources of which the name was used, with a store of its own limit

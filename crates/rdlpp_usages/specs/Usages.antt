@@ -1,6 +1,6 @@
 -- What a usage in a source comes to: open texts, and then what remains of the source behind it, or a fault.
 -- A definition that names no source is this project's own.
-use Rattle.std.specs.Prelude.{◌≡◌, ◌≢◌, ℕ, ◌+◌, ◌<◌, Bool, true, false, List, [], ◌∷◌, ◌++◌, ◌⊎◌, length, map, Some}
+use Rattle.std.specs.Prelude.{◌≡◌, ℕ, ◌+◌, ◌<◌, ◌≤◌, Bool, true, false, List, [], ◌∷◌, ◌++◌, ◌⊎◌, length, map, Some, ◌^◌}
 use Rattle.rdlpp_table.specs.Table.{Formal, Macro}
 use Rattle.rdlpp_table.specs.View.{macro_at}
 use Rattle.rdlpp_calls.specs.BoundCalls.{KeepsAll, actuals_of, range_part, ranges_tokens}
@@ -17,12 +17,11 @@ use Rattle.rdlpp_meaning.specs.Slots.{cursors_of}
 use Rattle.rdlpp_meaning.specs.State.{Rules, State, fault_at}
 use Rattle.rdlpp_meaning.specs.Substitution.{body_tokens}
 use Rattle.rdlpp_meaning.specs.declared.fault.FaultKind.{FaultKind}
-use Rattle.rdlpp_meaning.specs.declared.fault.FaultKind.TheVariants.{ArgumentCount}
-use Rattle.rdlpp_read.specs.Buffer.{BufferView, tokens_left, unused_of}
+use Rattle.rdlpp_meaning.specs.declared.fault.FaultKind.TheVariants.{ArgumentsMissing, ArgumentsOpen, ArgumentBytes, ArgumentCount, EmbeddedPerl, OpenString, OpenComment, LineTooLong, SourceTooLong}
+use Rattle.rdlpp_read.specs.Buffer.{BufferView, MovesOver, text_left, tokens_left, unused_of}
 use Rattle.rdlpp_read.specs.Files.{inner_buffer}
 use Rattle.rdlpp_read.specs.declared.files.File.{File}
 use Rattle.rdlpp_arguments.specs.CallReads.{with_used}
-use Rattle.rdlpp_arguments.specs.Reads.{all_built}
 use Rattle.rdlpp_cursors.specs.Opened.{CursorsView}
 use Rattle.rdlpp_cursors.specs.Places.{texts_of}
 use Rattle.rdlpp_cursors.specs.declared.step.CursorStep.{CursorStep}
@@ -43,6 +42,12 @@ pub record ExpansionView : Type 0 where
 pub record IsExpansion (opens : List Open) (arguments : List ℕ) : Type 0 where
   pub lets_go : opens ≡ [] → arguments ≡ []
 
+-- no more texts are open and no more bytes are kept than there is room for, and nothing is kept of a call where no text is open
+pub record IsRoomy (e : ExpansionView) : Type 0 where
+  pub few : length e.opens ≤ e.depth
+  pub fits : length e.arguments ≤ e.most
+  pub lets_go : e.opens ≡ [] → e.arguments ≡ []
+
 -- a run goes on with these macros, and with these limits on open texts and on kept bytes; all macros are built
 pub record IsRun (rules : Rules) (s : State) (macros : List Macro) (depth most : ℕ) : Type 0 where
   pub macros_are : s.macros ≡ macros
@@ -53,7 +58,7 @@ pub record IsRun (rules : Rules) (s : State) (macros : List Macro) (depth most :
 -- what remains of the innermost source in live text, with these conditionals open in it, and then of those that wait
 unfoldable pub inner_left : {R : Type 0} → Rules → (R → List ℕ) → List Waiting → List Progress → List (File R) → State → Passage
 inner_left rules unread ws os [] s = leaves (gives []) s
-inner_left rules unread ws os (f ∷ outer) s = source_left rules all_built unread ws (Live os) f s
+inner_left rules unread ws os (f ∷ outer) s = source_left rules unread ws (Live os) f s
 
 -- what remains of open texts of a usage
 unfoldable pub texts_left : Rules → State → List Macro → ExpansionView → Passage
@@ -83,25 +88,32 @@ is_failed_opening (Refused kind) = false
 is_failed_opening (Broken kind line) = false
 is_failed_opening Failed = true
 
--- bytes of the innermost source were used, and nothing else of the sources changed
-pub record UsesSource {R : Type 0} (old new : List (File R)) : Type 0 where
+-- no byte was read beyond the window, as it is where a line is too long
+abbrev pub IsExactOpening : Opening → Type 0
+IsExactOpening opening = (own : ℕ) → opening ≡ Broken LineTooLong own → ⊥
+
+-- bytes of the innermost source were used, and nothing else of the sources changed; its window moved on over its text, which is
+-- what was used and what remains
+pub record UsesSource {R : Type 0} (tells : Type 0) (unread : R → List ℕ) (opening : Opening) (old new : List (File R)) : Type 0 where
   pub used : List ℕ
   pub some : 0 < length used
   pub inner : new ≡ with_used (inner_buffer new) used old
   pub unused : unused_of (inner_buffer new) + length used ≡ unused_of (inner_buffer old)
+  pub moves : MovesOver used (inner_buffer old) (inner_buffer new)
+  pub text : IsExactOpening opening → tells → text_left unread (inner_buffer old) ≡ used ++ text_left unread (inner_buffer new)
 
 -- a call is refused by the tokens in front of it, about a name or none, in each run with that limit on kept bytes
 abbrev pub RefusesCall : {R : Type 0} → Type 0 → (R → List ℕ) → ℕ → List Macro → ℕ → FaultKind → (List ℕ → List ℕ) → (ℕ → ℕ) → BufferView R → Type 0
 RefusesCall tells unread most macros id kind word at old =
     (rules : Rules) (line : ℕ) (name : List ℕ) (fs : List Formal) → rules.argument_bytes ≡ most → (macro_at macros id).formals ≡ Some fs → tells
-    → token_usage_of_formals kept rules line name (leading (tokens_left all_built unread old)) (macro_at macros id) (Some fs) ≡ Refuses kind (word name) (at line)
+    → token_usage_of_formals kept rules line name (leading (tokens_left unread old)) (macro_at macros id) (Some fs) ≡ Refuses kind (word name) (at line)
 
 -- a call opens the body of its macro with ranges of the kept bytes as actuals, in each run with that limit on kept bytes
 pub record OpensCall {R : Type 0} (tells : Type 0) (unread : R → List ℕ) (most : ℕ) (macros : List Macro) (id : ℕ) (opens : List Open) (bytes : List ℕ) (old new : BufferView R) : Type 0 where
   pub ranges : List Range
   pub body : opens ≡ open_body (texts_of macros bytes) id (map range_part ranges) 0 ∷ []
   pub bound : (rules : Rules) (line : ℕ) (name : List ℕ) (fs : List Formal) → rules.argument_bytes ≡ most → (macro_at macros id).formals ≡ Some fs → tells
-      → OpensBound rules line name (tokens_left all_built unread old) (macro_at macros id) fs bytes ranges (tokens_left all_built unread new)
+      → OpensBound rules line name (tokens_left unread old) (macro_at macros id) fs bytes ranges (tokens_left unread new)
 
 -- what the call behind the name of a macro comes to, by the tokens that remain of the source in front of it and behind it (IEEE 1364-2001, `define`)
 abbrev pub TellsCallUsage : {R : Type 0} → Type 0 → (R → List ℕ) → ℕ → List Macro → ℕ → Opening → List Open → List ℕ → BufferView R → BufferView R → Type 0
@@ -110,14 +122,16 @@ TellsCallUsage tells unread most macros id (Refused kind) opens bytes old new = 
 TellsCallUsage tells unread most macros id (Broken kind own) opens bytes old new = RefusesCall tells unread most macros id kind (λ name. []) (λ line. own) old
 TellsCallUsage tells unread most macros id Failed opens bytes old new = Unit
 
--- bytes behind the name were used, and nothing else of the sources changed; where texts are open, the bytes that remained of the source are those and what
--- remains
+-- bytes behind the name were used, and nothing else of the sources changed; its window moved on over its text, which is what was used
+-- and what remains; where texts are open, so it is with the bytes of its tokens
 pub record UsesCall {R : Type 0} (tells : Type 0) (unread : R → List ℕ) (opening : Opening) (old new : List (File R)) : Type 0 where
   pub used : List ℕ
   pub inner : new ≡ with_used (inner_buffer new) used old
   pub unused : unused_of (inner_buffer new) + length used ≡ unused_of (inner_buffer old)
+  pub moves : MovesOver used (inner_buffer old) (inner_buffer new)
+  pub text : IsExactOpening opening → tells → text_left unread (inner_buffer old) ≡ used ++ text_left unread (inner_buffer new)
   pub bytes : opening ≡ Opened → tells
-      → bytes_of (tokens_left all_built unread (inner_buffer old)) ≡ used ++ bytes_of (tokens_left all_built unread (inner_buffer new))
+      → bytes_of (tokens_left unread (inner_buffer old)) ≡ used ++ bytes_of (tokens_left unread (inner_buffer new))
 
 -- a kept call was bound: the body of its macro is open with ranges of the kept bytes as actuals, which are as many as it wants
 pub record Binds (macros : List Macro) (id line : ℕ) (bytes now : List ℕ) (c : CursorsView) : Type 0 where
@@ -154,3 +168,37 @@ unfoldable pub StaysAt : ExpansionView → CursorStep → ExpansionView → Type
 StaysAt old (Lends place) new = Unit
 StaysAt old Silent new = Unit
 StaysAt old (Fault fault) new = new ≡ old
+
+-- behind bytes that are lent a text stays open, and the kept bytes stay
+unfoldable pub StaysLent : ExpansionView → CursorStep → ExpansionView → Type 0
+StaysLent old (Lends place) new = (0 < length new.opens) × (new.arguments ≡ old.arguments)
+StaysLent old Silent new = Unit
+StaysLent old (Fault fault) new = Unit
+
+-- whether a usage in a source isn't opened for a fault: one of its call, too many kept bytes, or a broken token (source: this
+-- project's profile)
+unfoldable pub is_usage_fault : FaultKind → Bool
+is_usage_fault ArgumentsMissing = true
+is_usage_fault ArgumentsOpen = true
+is_usage_fault ArgumentBytes = true
+is_usage_fault ArgumentCount = true
+is_usage_fault EmbeddedPerl = true
+is_usage_fault OpenString = true
+is_usage_fault OpenComment = true
+is_usage_fault LineTooLong = true
+is_usage_fault SourceTooLong = true
+is_usage_fault kind = false
+
+-- a usage that is refused or broken is so for one of those
+abbrev pub IsUsageFault : Opening → Type 0
+IsUsageFault Opened = Unit
+IsUsageFault (Refused kind) = is_usage_fault kind ≡ true
+IsUsageFault (Broken kind line) = is_usage_fault kind ≡ true
+IsUsageFault Failed = Unit
+
+-- the physical line at which a call is broken is small enough to be shown with another number
+abbrev pub IsOwnLine : Opening → Type 0
+IsOwnLine Opened = Unit
+IsOwnLine (Refused kind) = Unit
+IsOwnLine (Broken kind own) = own < 2 ^ 63
+IsOwnLine Failed = Unit

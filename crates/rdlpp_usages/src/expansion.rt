@@ -1,5 +1,5 @@
 // The expansion of a usage in a source.
-ghost use Rattle.std.specs.Prelude.{◌≡◌, ◌<◌, ◌≤◌, ◌==◌, List, [], length, IfOk, Some, is_some, true, false};
+ghost use Rattle.std.specs.Prelude.{◌≡◌, ◌<◌, ◌≤◌, ◌==◌, List, [], length, IfOk, Some, is_some, if◌then◌else◌, true, false};
 ghost use Rattle.rdlpp_scan.specs.declared.token.Mode.TheVariants.{Plain};
 ghost use Rattle.rdlpp_table.specs.Table.{macro_named};
 ghost use Rattle.rdlpp_table.specs.View.{macro_at};
@@ -12,9 +12,10 @@ ghost use Rattle.rdlpp_read.specs.Files.{inner_buffer};
 ghost use Rattle.rdlpp_cursors.specs.Digits.{IsFalling};
 ghost use Rattle.rdlpp_cursors.specs.Opened.{bound_by};
 ghost use Rattle.rdlpp_cursors.specs.Places.{texts_of};
-ghost use Rattle.rdlpp_cursors.specs.Steps.{AreSound, IsStep};
+ghost use Rattle.rdlpp_cursors.specs.Steps.{AreSound, IsPlacedStep, IsStep, NamesWord};
+ghost use Rattle.rdlpp_cursors.specs.Usages.{IsTextFault};
 ghost use Rattle.rdlpp_front.specs.Fronts.{IsUsage, usage_name};
-ghost use Rattle.rdlpp_usages.specs.Usages.{BindsKept, IsRun, StaysAt, StaysOpen, TellsCallUsage, TellsUsage, UsesCall, UsesSource, is_failed_opening, is_opened};
+ghost use Rattle.rdlpp_usages.specs.Usages.{BindsKept, IsRun, StaysAt, StaysOpen, TellsCallUsage, TellsUsage, UsesCall, UsesSource, IsRoomy, is_failed_opening, is_opened, StaysLent, IsUsageFault, IsOwnLine};
 
 use rdlpp_arguments::{ArgumentStore, CallRead, read_call};
 use rdlpp_cursors::{CursorStep, Cursors};
@@ -116,6 +117,14 @@ impl Expansion {
         self.cursors.line()
     }
 
+    /// What always holds of it.
+    pub fn facts(&self)
+        ensures { IsRoomy self.now }
+    {
+        let _few = self.cursors.len();
+        let _fits = self.arguments.bytes().len();
+    }
+
     /// Takes one step in the innermost text, as `Cursors::step` does. Behind the last open text nothing is
     /// kept of the call.
     ///
@@ -130,6 +139,10 @@ impl Expansion {
         ensures stays { StaysOpen self.old self.new }
         ensures digits { IsFalling self.old.opens result self.new.opens }
         ensures refused { StaysAt self.old result self.new }
+        ensures placed { IsPlacedStep (texts_of table.now.macros self.new.arguments) result }
+        ensures lends { StaysLent self.old result self.new }
+        ensures fault { IsTextFault result }
+        ensures word { NamesWord (texts_of table.now.macros self.new.arguments) result }
     {
         let step = self.cursors.step(table, self.arguments.bytes());
         if self.cursors.is_empty() {
@@ -143,7 +156,8 @@ impl Expansion {
     /// from the source, over any number of lines, and its arguments are bound. The source goes on behind
     /// it. Nothing may be open.
     ///
-    /// Behind a usage that isn't opened nothing is open or kept; what was read of the source stays used.
+    /// Behind a usage that isn't opened nothing is open or kept, and the line is as it was; what was read of
+    /// the source stays used.
     ///
     /// # Rules
     ///
@@ -166,11 +180,14 @@ impl Expansion {
         requires closed { self.old.opens ≡ [] }
         requires room { 0 < self.old.depth }
         ensures limits { (self.new.depth ≡ self.old.depth) × (self.new.most ≡ self.old.most) }
+        ensures line { self.new.line ≡ (if is_opened result then (inner_buffer files.old.nest).line else self.old.line) }
         ensures only { files.new ≡ record files.old { nest = files.new.nest } }
         ensures call { SourcesRead S.Sources (is_failed_opening result) sources.old sources.new }
-        ensures uses { UsesSource files.old.nest files.new.nest }
+        ensures uses { UsesSource (S.tells sources.old) S.unread result files.old.nest files.new.nest }
         ensures sound { AreSound (texts_of table.now.macros self.new.arguments) self.new.opens }
         ensures lets_go { is_opened result ≡ false → self.new.opens ≡ [] }
+        ensures fault { IsUsageFault result }
+        ensures own { IsOwnLine result }
         ensures means { (rules : Rules) (s : State) (ws : List Waiting) (os : List Progress) → IsRun rules s table.now.macros self.old.depth self.old.most → S.tells sources.old → TellsUsage rules s S.unread ws os table.now.macros (inner_buffer files.old.nest).line (usage_name (held_of (inner_buffer files.old.nest)) len) result self.new files.old.nest files.new.nest }
     {
         let line = files.file().buffer.line();
@@ -220,8 +237,11 @@ fn bind_kept(
     requires room { 0 < cursors.old.depth }
     ensures most { arguments.new.most ≡ arguments.old.most }
     ensures depth { cursors.new.depth ≡ cursors.old.depth }
+    ensures line { cursors.new.line ≡ (if is_opened result then usage.line else cursors.old.line) }
     ensures binds { BindsKept table.now.macros usage.id usage.line arguments.old.bytes arguments.new.bytes result cursors.new }
     ensures lets_go { is_opened result ≡ false → (cursors.new.opens ≡ []) × (arguments.new.bytes ≡ []) }
+    ensures fault { IsUsageFault result }
+    ensures own { IsOwnLine result }
     ensures sound { AreSound (texts_of table.now.macros arguments.new.bytes) cursors.new.opens }
 {
     match cursors.open_call(table, arguments.bytes(), usage.id, usage.line) {
@@ -250,8 +270,10 @@ fn open_call<S: Sources>(
     ensures call { SourcesRead S.Sources (is_failed_opening result) sources.old sources.new }
     ensures uses { UsesCall (S.tells sources.old) S.unread result files.old.nest files.new.nest }
     ensures sound { AreSound (texts_of table.now.macros arguments.new.bytes) cursors.new.opens }
-    ensures line { is_opened result ≡ true → cursors.new.line ≡ usage.line }
+    ensures line { cursors.new.line ≡ (if is_opened result then usage.line else cursors.old.line) }
     ensures lets_go { is_opened result ≡ false → (cursors.new.opens ≡ []) × (arguments.new.bytes ≡ []) }
+    ensures fault { IsUsageFault result }
+    ensures own { IsOwnLine result }
     ensures tells { TellsCallUsage (S.tells sources.old) S.unread arguments.old.most table.now.macros usage.id result cursors.new.opens arguments.new.bytes (inner_buffer files.old.nest) (inner_buffer files.new.nest) }
 {
     match read_call(files, sources, arguments) {

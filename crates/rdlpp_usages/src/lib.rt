@@ -4,3 +4,6 @@
 mod expansion;
 
 pub use expansion::{Expansion, Opening};
+
+#[cfg(test)]
+mod tests;

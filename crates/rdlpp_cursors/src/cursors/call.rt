@@ -3,12 +3,12 @@ ghost use Rattle.std.specs.Prelude.{[], IfErr, IfOk, is_some, length, slice_rang
 ghost use Rattle.rdlpp_table.specs.View.{macro_at};
 ghost use Rattle.rdlpp_meaning.specs.Substitution.{body_tokens};
 ghost use Rattle.rdlpp_calls.specs.BoundCalls.{KeepsAll};
-ghost use Rattle.rdlpp_cursors.specs.Calls.{IsCallMiscounted, IsCallStarted, IsOpening};
+ghost use Rattle.rdlpp_cursors.specs.Calls.{IsCallFault, IsCallMiscounted, IsCallStarted, IsOpening};
 ghost use Rattle.rdlpp_cursors.specs.Digits.{IsFalling};
 ghost use Rattle.rdlpp_cursors.specs.Fronts.{IsLook};
 ghost use Rattle.rdlpp_cursors.specs.Places.{texts_of};
-ghost use Rattle.rdlpp_cursors.specs.Steps.{AreSound, IsStep, StaysRefused, IsPlacedStep};
-ghost use Rattle.rdlpp_cursors.specs.Usages.{front_name, IsUsed};
+ghost use Rattle.rdlpp_cursors.specs.Steps.{AreSound, IsStep, KeepsOpen, StaysRefused, IsPlacedStep, NamesWord};
+ghost use Rattle.rdlpp_cursors.specs.Usages.{front_name, IsTextFault, IsUsed};
 
 use crate::cursors::Cursors;
 use crate::cursors::usage::word_of;
@@ -46,7 +46,8 @@ impl Cursors {
         requires range { (at ≤ end) × (end ≤ length text.now) }
         requires keeps { KeepsAll (body_tokens (slice_range text.now at end)) }
         requires id { id < length table.now.macros }
-        ensures { IsOpening table.now.macros text.now at end id home self.old result self.new }
+        ensures opening { IsOpening table.now.macros text.now at end id home self.old result self.new }
+        ensures fault { IsCallFault result }
     {
         let _macros = table.len();
         let formals = table.arity(id).unwrap_or(0);
@@ -93,6 +94,9 @@ impl Cursors {
         ensures digits { IsFalling self.old.opens result self.new.opens }
         ensures refused { StaysRefused self.old result self.new }
         ensures placed { IsPlacedStep (texts_of table.now.macros arguments.now) result }
+        ensures lends { KeepsOpen result self.new.opens }
+        ensures fault { IsTextFault result }
+        ensures word { NamesWord (texts_of table.now.macros arguments.now) result }
     {
         let _macros = table.len();
         let home = self.scope();

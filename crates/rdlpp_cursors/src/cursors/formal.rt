@@ -6,7 +6,8 @@ ghost use Rattle.rdlpp_cursors.specs.Fronts.{IsLook};
 ghost use Rattle.rdlpp_cursors.specs.Opened.{open_of};
 ghost use Rattle.rdlpp_cursors.specs.Places.{source_formals, texts_of};
 ghost use Rattle.rdlpp_cursors.specs.Scopes.{found_source, found_standing, front_scope, scope_open, AreBound};
-ghost use Rattle.rdlpp_cursors.specs.Steps.{AreSound, IsStep, StaysRefused, IsPlacedStep};
+ghost use Rattle.rdlpp_cursors.specs.Steps.{AreSound, IsStep, KeepsOpen, StaysRefused, IsPlacedStep, NamesWord};
+ghost use Rattle.rdlpp_cursors.specs.Usages.{IsTextFault};
 
 use crate::cursors::Cursors;
 use crate::front::{Front, Look};
@@ -51,6 +52,9 @@ impl Cursors {
         ensures digits { IsFalling self.old.opens result self.new.opens }
         ensures refused { StaysRefused self.old result self.new }
         ensures placed { IsPlacedStep (texts_of table.now.macros arguments.now) result }
+        ensures lends { KeepsOpen result self.new.opens }
+        ensures fault { IsTextFault result }
+        ensures word { NamesWord (texts_of table.now.macros arguments.now) result }
     {
         let look = *look;
         let _macros = table.len();

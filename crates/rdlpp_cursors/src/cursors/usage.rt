@@ -1,8 +1,8 @@
 // Usages in open texts: their names, their faults, and the bodies of macros without a list.
-ghost use Rattle.std.specs.Prelude.{◌≡◌, ◌==◌, ◌∷◌, ◌+◌, ◌<◌, ◌≤◌, ◌^◌, [], length};
+ghost use Rattle.std.specs.Prelude.{◌≡◌, IfErr, true, ◌==◌, ◌∷◌, ◌+◌, ◌<◌, ◌≤◌, ◌^◌, [], length};
 ghost use Rattle.std.specs.List.{list_any};
 ghost use Rattle.std.specs.Result.{MatchResult};
-ghost use Rattle.rdlpp_scan.specs.Stage.{is_reserved};
+ghost use Rattle.rdlpp_scan.specs.Reserved.{is_reserved};
 ghost use Rattle.rdlpp_table.specs.View.{macro_at};
 ghost use Rattle.rdlpp_meaning.specs.Opens.{open_body};
 ghost use Rattle.rdlpp_cursors.specs.Digits.{IsFalling};
@@ -10,8 +10,8 @@ ghost use Rattle.rdlpp_cursors.specs.Fronts.{IsLook};
 ghost use Rattle.rdlpp_cursors.specs.Opened.{moved_to};
 ghost use Rattle.rdlpp_cursors.specs.Places.{place_bytes, source_text, texts_of, IsSource};
 ghost use Rattle.rdlpp_cursors.specs.Scopes.{front_scope, writer_ids, AreFurtherOut};
-ghost use Rattle.rdlpp_cursors.specs.Steps.{AreSound, IsStep, StaysRefused, IsPlacedStep};
-ghost use Rattle.rdlpp_cursors.specs.Usages.{front_name, unknown_kind, IsRefused, IsUsed};
+ghost use Rattle.rdlpp_cursors.specs.Steps.{AreSound, IsStep, KeepsOpen, StaysRefused, IsPlacedStep, NamesWord};
+ghost use Rattle.rdlpp_cursors.specs.Usages.{front_name, is_text_fault, unknown_kind, IsRefused, IsTextFault, IsUsed};
 
 use crate::cursors::Cursors;
 use crate::front::{Front, Look};
@@ -92,7 +92,8 @@ impl Cursors {
         requires look { IsLook (texts_of table.now.macros arguments.now) self.now.opens look.now }
         requires short { look.now.end < 2 ^ 64 }
         requires front { look.now.front ≡ Front.Usage len }
-        ensures { MatchResult result (λ id. IsUsed (texts_of table.now.macros arguments.now) self.now.opens (front_name (texts_of table.now.macros arguments.now) self.now.opens len) id) (λ kind. IsRefused (texts_of table.now.macros arguments.now) self.now.opens (front_name (texts_of table.now.macros arguments.now) self.now.opens len) kind) }
+        ensures fault { IfErr result (λ kind. is_text_fault kind ≡ true) }
+        ensures used { MatchResult result (λ id. IsUsed (texts_of table.now.macros arguments.now) self.now.opens (front_name (texts_of table.now.macros arguments.now) self.now.opens len) id) (λ kind. IsRefused (texts_of table.now.macros arguments.now) self.now.opens (front_name (texts_of table.now.macros arguments.now) self.now.opens len) kind) }
     {
         let word = word_of(look, len);
         let name = text_at(table, arguments, word);
@@ -125,6 +126,9 @@ impl Cursors {
         ensures digits { IsFalling self.old.opens result self.new.opens }
         ensures refused { StaysRefused self.old result self.new }
         ensures placed { IsPlacedStep (texts_of table.now.macros arguments.now) result }
+        ensures lends { KeepsOpen result self.new.opens }
+        ensures fault { IsTextFault result }
+        ensures word { NamesWord (texts_of table.now.macros arguments.now) result }
     {
         let _macros = table.len();
         let id = match self.used_macro(table, arguments, look, len) {

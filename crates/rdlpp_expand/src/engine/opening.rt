@@ -4,7 +4,8 @@ ghost use Rattle.rdlpp_table.specs.Define.{observed, set_of};
 ghost use Rattle.rdlpp_meaning.specs.Outcome.{told};
 ghost use Rattle.rdlpp_meaning.specs.Output.{name_cut, opening_fault};
 ghost use Rattle.rdlpp_expand.specs.Held.{IsBounded};
-ghost use Rattle.rdlpp_expand.specs.Opening.{Makes, Starts, kind_of_source, opened_engine, start_fault, unopened_engine};
+ghost use Rattle.rdlpp_expand.specs.Includes.{kind_of_source};
+ghost use Rattle.rdlpp_expand.specs.Opening.{Makes, Starts, opened_engine, start_fault, unopened_engine};
 
 use super::{Engine, NewFault};
 use crate::owed::Owed;
@@ -16,13 +17,15 @@ use rdlpp_meaning::{Fault, FaultKind};
 use rdlpp_read::Files;
 use rdlpp_source::{Found, SourceFault, Sources};
 use rdlpp_table::{DefineFault, Limits, Table};
+use rdlpp_usages::Expansion;
 use std::alloc::Global;
 
 impl<S: Sources> Engine<S> {
     /// A fresh engine with an empty table, which writes origin lines where `origins` says so.
     ///
-    /// All memory that it ever uses for itself is reserved here: the table's, that of the open conditionals, and the
-    /// buffers of as many sources as may be open, each of one line.
+    /// All memory that it ever uses for itself is reserved here: the table's, that of the open conditionals, the
+    /// buffers of as many sources as may be open, each of one line, and that of the open texts of a usage: as many
+    /// as may be open, each with 255 actuals, and the kept bytes of its call.
     ///
     /// # Errors
     /// `BadLimits` with the first limit, in the order of the fields, that is out of its range;
@@ -48,6 +51,9 @@ impl<S: Sources> Engine<S> {
         let Ok(files) = Files::new(alloc, limits.includes + 1, limits.line_bytes) else {
             return Err(NewFault::NoMemory);
         };
+        let Ok(expansion) = Expansion::new(alloc, limits.depth, limits.argument_bytes) else {
+            return Err(NewFault::NoMemory);
+        };
         Ok(Engine {
             limits,
             origins,
@@ -60,6 +66,7 @@ impl<S: Sources> Engine<S> {
             conditions,
             sources,
             files,
+            expansion,
         })
     }
 
@@ -155,8 +162,8 @@ fn cut_name(name: &str) -> ArrayString<1024>
 }
 
 // The kind of fault that a source's refusal is told as.
-#[tactic(auto, unfolding(crate::specs::Opening::kind_of_source))]
-fn source_kind(fault: SourceFault) -> FaultKind
+#[tactic(auto, unfolding(crate::specs::Includes::kind_of_source))]
+pub(super) fn source_kind(fault: SourceFault) -> FaultKind
     ensures { result ≡ kind_of_source fault }
 {
     match fault {

@@ -2,6 +2,7 @@ use Rattle.std.proofs.Common.{ap, ◌∙◌, subst, arith}
 use Rattle.rdlpp_read.specs.Buffer.{EndsHeld, held_of}
 use Rattle.rdlpp_arguments.specs.Taking.{stand_meant}
 use Rattle.rdlpp_arguments.proofs.CallLoop.{token_closed, token_perl, token_refused, token_used}
+use Rattle.rdlpp_arguments.proofs.Faults.{ended_fault, perl_fault}
 use Rattle.rdlpp_arguments.proofs.reading.take_token.Goals as goal
 
 pub taking_of-requires-clause-level : goal.taking_of-requires-clause-level
@@ -35,3 +36,13 @@ returns-in-Perl-clause-takes g c =
     c.args.files.now.nest (subst EndsHeld c.file.ensures.buffer c.file.ensures.ends)
     (c.mode.ensures ∙ ap (λ b. b.mode) c.file.ensures.buffer) (c.held-held.ensures.value ∙ ap held_of c.file.ensures.buffer) c.room.ensures.value
     (c.line-line.ensures ∙ ap (λ b. b.line) c.file.ensures.buffer) c.in-Perl.ensures
+
+pub returns-in-Refused-clause-fault : goal.returns-in-Refused-clause-fault
+returns-in-Refused-clause-fault g c =
+    ended_fault _ _ _ _ _ _ c.in-Refused.kind (token_refused (stand_meant c.args.stand) c.mode.result c.room.result c.args.store.now.most c.held-held.result.now c.args.store.now.bytes
+    c.args.files.now.nest c.in-Refused.kind (subst EndsHeld c.file.ensures.buffer c.file.ensures.ends)
+    (c.mode.ensures ∙ ap (λ b. b.mode) c.file.ensures.buffer) (c.held-held.ensures.value ∙ ap held_of c.file.ensures.buffer) c.room.ensures.value
+    c.in-Refused.ensures)
+
+pub returns-in-Perl-clause-fault : goal.returns-in-Perl-clause-fault
+returns-in-Perl-clause-fault g c = perl_fault

@@ -1,12 +1,13 @@
-use Rattle.std.proofs.Common.{◌≤◌, ◌+◌, ℕ, List, [], ◌∷◌, Err, refl, sym, subst, arith}
+use Rattle.std.proofs.Common.{◌≡◌, ◌≤◌, ◌+◌, true, ℕ, List, [], ◌∷◌, Err, refl, sym, subst, arith}
 use Rattle.std.specs.Prelude.{slice_range}
 use Rattle.std.proofs.lemmas.Result.{err_from_is_err_and}
 use Rattle.rdlpp_meaning.specs.declared.fault.FaultKind.{FaultKind}
-use Rattle.rdlpp_calls.specs.BoundCalls.{added, AreWithin, IsBoundCall}
+use Rattle.rdlpp_calls.specs.BoundCalls.{added, is_call_fault, AreWithin, IsBoundCall}
 use Rattle.rdlpp_calls.specs.CallParts.{IsCall, IsCallAt}
 use Rattle.rdlpp_calls.specs.declared.bindings.Range.{Range}
 use Rattle.rdlpp_calls.proofs.BoundParts.{range_size}
 use Rattle.rdlpp_calls.proofs.BoundActuals.{refused_call, counted_call, bound_call}
+use Rattle.rdlpp_calls.proofs.CallLaws.{count_fault, missing_fault}
 use Rattle.rdlpp_calls.proofs.bindings.bind_call.Goals as goal
 
 -- ranges between two places lie between others around them
@@ -52,3 +53,11 @@ returns-clause-call c = λ all.
     let a = c.in-Ok.arguments in
     bound_call text c.args.at c.args.end c.args.formals a.from a.to (c.args.at + a.to + 1) (added c.args.bindings.now.items c.bind_parts.new.bindings.items)
     c.requires.range.1 c.in-Ok.ensures c.in_ok-bind_parts.ensures.actuals c.in_ok-bind_parts.ensures.count refl all
+
+pub returns-in-Err-clause-kind : goal.returns-in-Err-clause-kind
+returns-in-Err-clause-kind c = subst (λ (kind : FaultKind). is_call_fault kind ≡ true) (sym c.kind.ensures) (missing_fault c.in-Err.fault)
+
+pub returns-in_err-bind_parts-clause-kind : goal.returns-in_err-bind_parts-clause-kind
+returns-in_err-bind_parts-clause-kind c =
+    let p = err_from_is_err_and c.from_residual.result c.from_residual.ensures.1 in
+    rw (p.1, p.2) (count_fault _ c.in_err-bind_parts.ensures.refused.0)

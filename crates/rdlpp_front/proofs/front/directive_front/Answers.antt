@@ -1,13 +1,24 @@
 use Rattle.std.proofs.Common.{refl}
-use Rattle.rdlpp_scan.specs.declared.token.Directive.TheVariants.{Undef}
-use Rattle.rdlpp_front.specs.Fronts.{AtUnbuilt}
-use Rattle.rdlpp_front.proofs.DirectiveFacts.{named_here, other_unbuilt}
+use Rattle.rdlpp_scan.specs.declared.token.Directive.TheVariants.{Undef, Ifdef, Ifndef, Elsif}
+use Rattle.rdlpp_front.proofs.DirectiveFacts.{named_here, string_here}
 use Rattle.rdlpp_front.proofs.front.directive_front.Goals as goal
 
 pub returns-in-Undef : goal.returns-in-Undef
 returns-in-Undef c =
     (refl, named_here c.args.directive Undef c.args.held.now c.args.len c.name_behind.result c.in-Undef.is c.requires.some c.requires.word c.requires.whole c.name_behind.ensures)
 
-pub returns-in_default : goal.returns-in_default
-returns-in_default c =
-    AtUnbuilt refl (other_unbuilt c.args.directive c.args.held.now c.requires.word c.in_default.not-Define c.in_default.not-Undef c.in_default.not-Line)
+pub returns-in-Ifdef : goal.returns-in-Ifdef
+returns-in-Ifdef c =
+    (refl, named_here c.args.directive Ifdef c.args.held.now c.args.len c.name_behind-in-Ifdef.result c.in-Ifdef.is c.requires.some c.requires.word c.requires.whole c.name_behind-in-Ifdef.ensures)
+
+pub returns-in-Ifndef : goal.returns-in-Ifndef
+returns-in-Ifndef c =
+    (refl, named_here c.args.directive Ifndef c.args.held.now c.args.len c.name_behind-in-Ifndef.result c.in-Ifndef.is c.requires.some c.requires.word c.requires.whole c.name_behind-in-Ifndef.ensures)
+
+pub returns-in-Elsif : goal.returns-in-Elsif
+returns-in-Elsif c =
+    (refl, named_here c.args.directive Elsif c.args.held.now c.args.len c.name_behind-in-Elsif.result c.in-Elsif.is c.requires.some c.requires.word c.requires.whole c.name_behind-in-Elsif.ensures)
+
+pub returns-in-Include : goal.returns-in-Include
+returns-in-Include c =
+    (refl, string_here c.args.directive c.args.held.now c.args.len c.string_behind.result c.in-Include.is c.requires.some c.requires.word c.requires.whole c.string_behind.ensures)

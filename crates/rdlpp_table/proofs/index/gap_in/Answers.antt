@@ -12,7 +12,7 @@ returns c =
     elim c.match-seek.branch [
       | in-Ok w ↦
           let none : Option ℕ = None in
-          let both : none ≡ Some _ = sym c.requires.absent ∙ indexed_place _ _ _ _ c.requires.indexed (placed _ _ _ _ _ _ _ _ _ refl refl refl c.new.ensures w.in-Ok.ensures.found) in
+          let both : none ≡ Some _ = sym c.requires.absent ∙ indexed_place _ _ _ _ c.requires.indexed.index (placed _ _ _ _ _ _ _ _ _ refl refl refl c.new.ensures w.in-Ok.ensures.found) in
           absurd (cc)
       | in-Ok-2 w ↦ subst P (sym w.result-is) (gapped _ _ _ _ _ _ _ _ _ refl refl refl c.new.ensures w.in-Ok.ensures.found)
     ]

@@ -5,33 +5,33 @@ use Rattle.rdlpp_table.proofs.Seeking.{start_seeking, seek_down, seek_found, see
 use Rattle.rdlpp_table.proofs.index.seek.Goals as goal
 
 pub loop-low-init : goal.loop-low-init
-loop-low-init c = start_seeking _ _ _ _ _ refl (omega (arith, index_length _ _ _ c.requires.indexed, c.requires.few))
+loop-low-init c = start_seeking _ _ _ _ _ _ _ _ c.requires.indexed.divided c.part-part.ensures.value c.part-part.ensures.small refl refl (omega (arith, index_length _ _ _ c.requires.indexed.index, c.requires.few))
 
 pub bounds-entries-order : goal.bounds-entries-order
 bounds-entries-order c =
     let h : c.middle_of-middle.result < length c.args.order.now = omega (arith, c.loop-low.invariant.fits, c.middle_of-middle.ensures.to) in
-    entry_inside _ _ _ _ c.requires.indexed h
+    entry_inside _ _ _ _ c.requires.indexed.index h
 
 pub name_in-name-requires : goal.name_in-name-requires
 name_in-name-requires c =
     let blank : Entry = record { start = 0; name_len = 0; list_len = 0; body_len = 0; arity = None; is_copied = false } in
     let h : c.middle_of-middle.result < length c.args.order.now = omega (arith, c.loop-low.invariant.fits, c.middle_of-middle.ensures.to) in
-    end_of_entry _ _ _ _ blank c.requires.within c.requires.indexed h
+    end_of_entry _ _ _ _ blank c.requires.within c.requires.indexed.index h
 
 pub loop-low-preserved-in-Less : goal.loop-low-preserved-in-Less
 loop-low-preserved-in-Less c =
     let h : c.middle_of-middle.result < length c.args.order.now = omega (arith, c.loop-low.invariant.fits, c.middle_of-middle.ensures.to) in
-    seek_up _ _ _ _ _ _ _ _ _ c.requires.indexed c.loop-low.invariant c.loop-low-test.true c.middle_of-middle.ensures
-    (compared_key _ _ _ _ _ _ _ _ c.requires.indexed h c.name_in-name.ensures c.in-Less.ensures.order) c.in-Less.ensures.step
+    seek_up _ _ _ _ _ _ _ _ _ c.requires.indexed.index c.loop-low.invariant c.loop-low-test.true c.middle_of-middle.ensures
+    (compared_key _ _ _ _ _ _ _ _ c.requires.indexed.index h c.name_in-name.ensures c.in-Less.ensures.order) c.in-Less.ensures.step
 
 pub loop-low-preserved : goal.loop-low-preserved
 loop-low-preserved c =
     let h : c.middle_of-middle.result < length c.args.order.now = omega (arith, c.loop-low.invariant.fits, c.middle_of-middle.ensures.to) in
-    seek_down _ _ _ _ _ _ _ _ _ c.requires.indexed c.loop-low.invariant c.loop-low-test.true c.middle_of-middle.ensures
-    (compared_key _ _ _ _ _ _ _ _ c.requires.indexed h c.name_in-name.ensures c.in-Greater.ensures.order) c.in-Greater.ensures.step
+    seek_down _ _ _ _ _ _ _ _ _ c.requires.indexed.index c.loop-low.invariant c.loop-low-test.true c.middle_of-middle.ensures
+    (compared_key _ _ _ _ _ _ _ _ c.requires.indexed.index h c.name_in-name.ensures c.in-Greater.ensures.order) c.in-Greater.ensures.step
 
 pub returns-in-Equal-clause-found : goal.returns-in-Equal-clause-found
 returns-in-Equal-clause-found c =
     let h : c.middle_of-middle.result < length c.args.order.now = omega (arith, c.loop-low.invariant.fits, c.middle_of-middle.ensures.to) in
     seek_found _ _ _ _ _ _ _ _ c.loop-low.invariant c.loop-low-test.true c.middle_of-middle.ensures
-    (compared_key _ _ _ _ _ _ _ _ c.requires.indexed h c.name_in-name.ensures c.in-Equal.ensures.order)
+    (compared_key _ _ _ _ _ _ _ _ c.requires.indexed.index h c.name_in-name.ensures c.in-Equal.ensures.order)

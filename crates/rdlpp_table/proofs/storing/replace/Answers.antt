@@ -1,12 +1,14 @@
 use Rattle.std.proofs.Common.{◌++◌, ◌∷◌, ◌∙◌, [], List, ap, length, subst, arith}
-use Rattle.rdlpp_table.specs.Table.{Macro}
+use Rattle.rdlpp_table.specs.Table.{Macro, without}
 use Rattle.rdlpp_table.specs.New.{new_macro}
-use Rattle.rdlpp_table.specs.Store.{IsStored}
+use Rattle.rdlpp_table.specs.Store.{IsStored, macros_in}
 use Rattle.rdlpp_table.proofs.RoundTrip.{read_back}
 use Rattle.rdlpp_table.proofs.Put.{stored_again, stored_length, stored_count}
 use Rattle.rdlpp_table.proofs.Taken.{count_bytes}
 use Rattle.rdlpp_table.proofs.Laid.{count_entries, stored_slices_within}
+use Rattle.rdlpp_table.proofs.Orders.{count_names}
 use Rattle.rdlpp_table.proofs.Keyed.{entered_with, few_left, indexed_slices, nowhere_stored}
+use Rattle.rdlpp_table.proofs.Divided.{few_starts, later_is}
 use Rattle.rdlpp_table.proofs.storing.replace.Goals as goal
 
 pub gap_in-gap-requires-clause-within : goal.gap_in-gap-requires-clause-within
@@ -14,7 +16,7 @@ gap_in-gap-requires-clause-within c = stored_slices_within _ _ _ _ _ c.deref.ens
 
 pub gap_in-gap-requires-clause-indexed : goal.gap_in-gap-requires-clause-indexed
 gap_in-gap-requires-clause-indexed c =
-    indexed_slices _ _ _ _ _ _ _ c.deref.ensures.value c.deref-2.ensures.value c.deref-3.ensures.value c.take_out_named.ensures.stored c.take_out_named.ensures.indexed
+    indexed_slices _ _ _ _ _ _ _ _ c.deref.ensures.value c.deref-2.ensures.value c.deref-3.ensures.value c.take_out_named.ensures.stored c.take_out_named.ensures.indexed
 
 pub gap_in-gap-requires-clause-few : goal.gap_in-gap-requires-clause-few
 gap_in-gap-requires-clause-few c =
@@ -30,7 +32,7 @@ enter-requires-clause-place c =
 pub returns-clause-indexed : goal.returns-clause-indexed
 returns-clause-indexed c =
     let m : Macro = new_macro c.args.new.now.name.now c.args.new.now.arity c.args.new.now.list.now c.args.new.now.is_logical c.args.new.now.text.now in
-    entered_with _ _ _ _ _ _ _ m _ _ _ c.deref.ensures.value c.deref-2.ensures.value c.deref-3.ensures.value c.take_out_named.ensures.stored c.take_out_named.ensures.indexed c.gap_in-gap.ensures (c.len.ensures ∙ count_entries c.take_out_named.new.entries) c.enter.ensures.items
+    entered_with _ _ _ _ _ _ _ _ m _ _ _ _ _ c.deref.ensures.value c.deref-2.ensures.value c.deref-3.ensures.value c.take_out_named.ensures.stored c.take_out_named.ensures.indexed c.gap_in-gap.ensures (c.len.ensures ∙ count_entries c.take_out_named.new.entries) c.enter.ensures.items c.part_of.ensures.value (later_is _ _ _ (omega (arith, c.part_of.ensures.small, c.take_out_named.ensures.indexed.divided.long)) c.begin_later.ensures)
 
 pub put-requires-clause-stored : goal.put-requires-clause-stored
 put-requires-clause-stored c = stored_again _ _ _ c.take_out_named.ensures.stored
@@ -48,3 +50,8 @@ returns-clause-stored c =
     let m : Macro = new_macro c.args.new.now.name.now c.args.new.now.arity c.args.new.now.list.now c.args.new.now.is_logical c.args.new.now.text.now in
     let P : List Macro → Type 0 = λ ms. IsStored c.put.new.bytes.items c.put.new.entries.items (ms ++ m ∷ []) in
     subst P (read_back _ _ _ c.take_out_named.ensures.stored) c.put.ensures.stored
+
+pub begin_later-requires-clause-few : goal.begin_later-requires-clause-few
+begin_later-requires-clause-few c =
+    few_starts _ _ _ _ c.take_out_named.ensures.indexed.divided
+    (omega (arith, c.take_out_named.ensures.indexed.index.long, count_names (without c.args.new.now.name.now (macros_in c.args.bytes.now.items c.args.entries.now.items)), stored_count _ _ _ c.take_out_named.ensures.stored, few_left _ _ c.args.entries.now.items _ _ c.take_out_named.ensures.stored (omega (arith, c.requires.few, count_entries c.args.entries.now))))

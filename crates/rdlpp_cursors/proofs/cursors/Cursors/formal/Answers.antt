@@ -2,7 +2,8 @@ use Rattle.std.proofs.Common.{◌∙◌, refl, sym, arith}
 use Rattle.rdlpp_cursors.specs.Places.{texts_of}
 use Rattle.rdlpp_cursors.proofs.Falling.{formal-inside}
 use Rattle.rdlpp_cursors.proofs.Standing.{formal-place, formal-text, pass-deep, pass-formal, pass-nothing, room-moved, sound-bound}
-use Rattle.rdlpp_cursors.proofs.Usages.{placed-silent, placed-wordless}
+use Rattle.rdlpp_cursors.proofs.Usages.{fault-deep, open-wordless, placed-silent, placed-wordless}
+use Rattle.rdlpp_cursors.proofs.Words.{word-none}
 use Rattle.rdlpp_cursors.proofs.cursors.Cursors.formal.Goals as goal
 
 pub standing-requires-clause-bound : goal.standing-requires-clause-bound
@@ -83,3 +84,21 @@ returns-in_default-clause-placed c = placed-wordless _ _ _ c.wordless.ensures
 
 pub returns-clause-placed : goal.returns-clause-placed
 returns-clause-placed c = placed-silent _
+
+pub returns-then-is_full-clause-lends : goal.returns-then-is_full-clause-lends
+returns-then-is_full-clause-lends c = open-wordless _ _ _ c.wordless-then-is_full.ensures
+
+pub returns-in_default-clause-lends : goal.returns-in_default-clause-lends
+returns-in_default-clause-lends c = open-wordless _ _ _ c.wordless.ensures
+
+pub returns-then-is_full-clause-fault : goal.returns-then-is_full-clause-fault
+returns-then-is_full-clause-fault c = fault-deep _ c.wordless-then-is_full.ensures
+
+pub returns-in_default-clause-fault : goal.returns-in_default-clause-fault
+returns-in_default-clause-fault c = fault-deep _ c.wordless.ensures
+
+pub returns-then-is_full-clause-word : goal.returns-then-is_full-clause-word
+returns-then-is_full-clause-word c = word-none _ _ _ c.wordless-then-is_full.ensures
+
+pub returns-in_default-clause-word : goal.returns-in_default-clause-word
+returns-in_default-clause-word c = word-none _ _ _ c.wordless.ensures

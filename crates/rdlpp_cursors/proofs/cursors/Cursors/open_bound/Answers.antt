@@ -13,14 +13,14 @@ bind_call-requires-clause-room c =
     let n = c.unwrap_or-formals.ensures ∙ ap (λ (o : Option ℕ). unwrap_or o 0) c.arity.ensures ∙ arity-count (macro_at c.args.table.now.macros c.args.id).formals in
     call-room c.self.inside.slots.items c.self.inside.first c.unwrap_or-formals.result c.self.inside.bindings c.self.invariant (omega (arith, few, n))
 
-pub returns-in-Err : goal.returns-in-Err
-returns-in-Err c =
+pub returns-in-Err-clause-opening : goal.returns-in-Err-clause-opening
+returns-in-Err-clause-opening c =
     let n = c.unwrap_or-formals.ensures ∙ ap (λ (o : Option ℕ). unwrap_or o 0) c.arity.ensures ∙ arity-count (macro_at c.args.table.now.macros c.args.id).formals in
     opening-refused _ _ _ _ _ _ _ _ _ _ _ c.bind_call.result c.in-Err.is n (c.bind_call.ensures.call c.requires.keeps)
     (view-is _ _ _ _ _ (ap (λ (bs : List Range). opens_of (drop c.self.inside.first c.self.inside.slots.items) bs) c.in-Err.ensures.refused) refl ∙ c.self.view_is)
 
-pub returns-then-first-eq0 : goal.returns-then-first-eq0
-returns-then-first-eq0 c =
+pub returns-then-first-eq0-clause-opening : goal.returns-then-first-eq0-clause-opening
+returns-then-first-eq0-clause-opening c =
     let n = c.unwrap_or-formals.ensures ∙ ap (λ (o : Option ℕ). unwrap_or o 0) c.arity.ensures ∙ arity-count (macro_at c.args.table.now.macros c.args.id).formals in
     let bound = call-bound _ _ _ _ _ _ _ _ c.bind_call.result c.in-Ok.is n (c.bind_call.ensures.call c.requires.keeps) c.bind_call.ensures.within c.in-Ok.ensures.place in
     rw (← c.self.view_is) (opening-deep _ _ _ _ _ _ _ _ bound
@@ -40,8 +40,8 @@ invariant_of-self-2 c =
     c.unwrap_or-formals.result c.if-first-eq0.false some c.index_mut.ensures.value c.len-bound.ensures (omega (arith, few, n)) c.bind_call.ensures.len c.bind_call.ensures.whole
     c.bind_call.ensures.capacity c.self.invariant
 
-pub returns : goal.returns
-returns c =
+pub returns-clause-opening : goal.returns-clause-opening
+returns-clause-opening c =
     let n = c.unwrap_or-formals.ensures ∙ ap (λ (o : Option ℕ). unwrap_or o 0) c.arity.ensures ∙ arity-count (macro_at c.args.table.now.macros c.args.id).formals in
     let inside : c.self.inside.first < length c.self.inside.slots.items = some-open c.self.inside.slots.items c.self.inside.first c.self.inside.bindings.items (rw (← c.self.view_is) at c.requires.some) in
     let none = c.if-first-eq0.false in

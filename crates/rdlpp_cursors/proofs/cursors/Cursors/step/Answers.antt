@@ -2,7 +2,8 @@ use Rattle.std.proofs.Common.{arith, refl}
 use Rattle.rdlpp_cursors.specs.Places.{texts_of}
 use Rattle.rdlpp_cursors.proofs.Passing.{pass-bare, pass-ended, pass-run}
 use Rattle.rdlpp_cursors.proofs.Stepping.{look-inside}
-use Rattle.rdlpp_cursors.proofs.Usages.{placed-run, placed-silent, placed-wordless}
+use Rattle.rdlpp_cursors.proofs.Usages.{fault-bare, open-wordless, open-run, placed-run, placed-silent, placed-wordless}
+use Rattle.rdlpp_cursors.proofs.Words.{word-none}
 use Rattle.rdlpp_cursors.proofs.cursors.Cursors.step.Goals as goal
 
 pub overflow_add-end : goal.overflow_add-end
@@ -64,3 +65,15 @@ returns-in-Run-clause-placed c =
 
 pub returns-in-Bare-clause-placed : goal.returns-in-Bare-clause-placed
 returns-in-Bare-clause-placed c = placed-wordless _ _ _ c.wordless.ensures
+
+pub returns-in-Run-clause-lends : goal.returns-in-Run-clause-lends
+returns-in-Run-clause-lends c = open-run c.args.self.now c.move_to.new.self _ c.requires.some c.move_to.ensures
+
+pub returns-in-Bare-clause-lends : goal.returns-in-Bare-clause-lends
+returns-in-Bare-clause-lends c = open-wordless _ _ _ c.wordless.ensures
+
+pub returns-in-Bare-clause-fault : goal.returns-in-Bare-clause-fault
+returns-in-Bare-clause-fault c = fault-bare _ c.wordless.ensures
+
+pub returns-in-Bare-clause-word : goal.returns-in-Bare-clause-word
+returns-in-Bare-clause-word c = word-none _ _ _ c.wordless.ensures

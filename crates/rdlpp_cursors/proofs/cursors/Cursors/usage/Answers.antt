@@ -3,7 +3,8 @@ use Rattle.std.proofs.lemmas.Bool.{leb-true, leb-false}
 use Rattle.rdlpp_cursors.specs.Places.{texts_of}
 use Rattle.rdlpp_cursors.specs.declared.step.CursorStep.TheVariants.{Silent, Refused}
 use Rattle.rdlpp_cursors.proofs.Passing.{IsPassed}
-use Rattle.rdlpp_cursors.proofs.Usages.{has-list, no-list, pass-deep, pass-opened, pass-refused, placed-silent, placed-word, placed-wordless, usage-place}
+use Rattle.rdlpp_cursors.proofs.Usages.{fault-deep, open-wordless, has-list, no-list, pass-deep, pass-opened, pass-refused, placed-silent, placed-word, placed-wordless, usage-place}
+use Rattle.rdlpp_cursors.proofs.Words.{word-named, word-none}
 use Rattle.rdlpp_cursors.proofs.cursors.Cursors.usage.Goals as goal
 
 pub word_of-word-requires-clause-short : goal.word_of-word-requires-clause-short
@@ -18,7 +19,7 @@ word_of-word-requires-clause-some c = (usage-place _ _ _ _ c.requires.sound c.re
 
 refused : (c : goal.After-word_of-word)
     → IsPassed (texts_of c.args.table.now.macros c.args.arguments.now) c.args.self.now c.args.self.now (Refused (record { kind = c.in-Err.kind; word = c.word_of-word.result }))
-refused c = pass-refused _ _ c.args.look.now c.args.len _ _ c.requires.sound c.requires.look c.requires.front c.word_of-word.ensures c.in-Err.ensures
+refused c = pass-refused _ _ c.args.look.now c.args.len _ _ c.requires.sound c.requires.look c.requires.front c.word_of-word.ensures c.in-Err.ensures.used
 
 pub returns-in-Err-clause-step : goal.returns-in-Err-clause-step
 returns-in-Err-clause-step c = (refused c).is_step
@@ -34,7 +35,7 @@ call-requires-clause-list c = has-list _ _ _ c.arity.ensures c.is_some.ensures c
 
 deep : (c : goal.After-wordless) → IsPassed (texts_of c.args.table.now.macros c.args.arguments.now) c.args.self.now c.args.self.now c.wordless.result
 deep c =
-    pass-deep _ _ c.args.look.now c.args.len c.in-Ok.id _ c.requires.sound c.requires.look c.requires.front c.in-Ok.ensures
+    pass-deep _ _ c.args.look.now c.args.len c.in-Ok.id _ c.requires.sound c.requires.look c.requires.front c.in-Ok.ensures.used
     (no-list _ _ _ c.arity.ensures c.is_some.ensures c.if-is_some.false) (leb-true _ _ (sym c.is_full.ensures ∙ c.if-is_full.true)) c.wordless.ensures
 
 pub returns-then-is_full-clause-step : goal.returns-then-is_full-clause-step
@@ -55,7 +56,7 @@ overflow_add-look c =
 
 opened : (c : goal.After-enter) → IsPassed (texts_of c.args.table.now.macros c.args.arguments.now) c.args.self.now c.enter.new.self Silent
 opened c =
-    pass-opened _ _ _ _ c.args.look.now c.args.len c.in-Ok.id _ c.len-macros.ensures.sound c.requires.sound c.requires.look c.requires.front c.in-Ok.ensures
+    pass-opened _ _ _ _ c.args.look.now c.args.len c.in-Ok.id _ c.len-macros.ensures.sound c.requires.sound c.requires.look c.requires.front c.in-Ok.ensures.used
     (no-list _ _ _ c.arity.ensures c.is_some.ensures c.if-is_some.false) (leb-false _ _ (sym c.is_full.ensures ∙ c.if-is_full.false)) refl c.enter.ensures
 
 pub returns-clause-step : goal.returns-clause-step
@@ -78,3 +79,18 @@ returns-then-is_full-clause-placed c = placed-wordless _ _ _ c.wordless.ensures
 
 pub returns-clause-placed : goal.returns-clause-placed
 returns-clause-placed c = placed-silent _
+
+pub returns-then-is_full-clause-lends : goal.returns-then-is_full-clause-lends
+returns-then-is_full-clause-lends c = open-wordless _ _ _ c.wordless.ensures
+
+pub returns-in-Err-clause-fault : goal.returns-in-Err-clause-fault
+returns-in-Err-clause-fault c = c.in-Err.ensures.fault
+
+pub returns-then-is_full-clause-fault : goal.returns-then-is_full-clause-fault
+returns-then-is_full-clause-fault c = fault-deep _ c.wordless.ensures
+
+pub returns-in-Err-clause-word : goal.returns-in-Err-clause-word
+returns-in-Err-clause-word c = word-named _ _ c.args.look.now c.args.len c.in-Err.kind _ c.requires.sound c.requires.look c.requires.front c.word_of-word.ensures
+
+pub returns-then-is_full-clause-word : goal.returns-then-is_full-clause-word
+returns-then-is_full-clause-word c = word-none _ _ _ c.wordless.ensures

@@ -1,6 +1,6 @@
 use Rattle.std.proofs.Common.{refl}
 use Rattle.rdlpp_expand.proofs.EngineSteps.{follows}
-use Rattle.rdlpp_expand.proofs.Cuts.{cut_body, cut_end, cut_kept, cut_owed, cut_source, owed_placed}
+use Rattle.rdlpp_expand.proofs.Cuts.{cut_body, cut_end, cut_kept, cut_owed, cut_source, cut_text, owed_placed, text_cut_placed}
 use Rattle.rdlpp_expand.proofs.engine.Engine.advance.Goals as goal
 
 pub returns-in-Source-clause-steps : goal.returns-in-Source-clause-steps
@@ -12,6 +12,19 @@ pub returns-in-Body-clause-steps : goal.returns-in-Body-clause-steps
 returns-in-Body-clause-steps g c =
     cut_body g.S.Sources c.args.self.now c.walk.new.self c.spend-len-in-Body.new.self c.in-Body.id c.in-Body.start c.in-Body.end c.spend-len-in-Body.result
     c.in-Body.ensures.walks c.in-Body.ensures.place (record { fits = c.spend-len-in-Body.ensures.fits; passes = c.spend-len-in-Body.ensures.passes })
+
+pub returns-in-Text-clause-steps : goal.returns-in-Text-clause-steps
+returns-in-Text-clause-steps g c =
+    cut_text g.S.Sources c.args.self.now c.walk.new.self c.spend-len-in-Text.new.self c.in-Text.place c.spend-len-in-Text.result
+    c.in-Text.ensures.walks c.in-Text.ensures.place (record { fits = c.spend-len-in-Text.ensures.fits; passes = c.spend-len-in-Text.ensures.passes })
+
+pub returns-in-Text-clause-place : goal.returns-in-Text-clause-place
+returns-in-Text-clause-place g c =
+    text_cut_placed c.walk.new.self c.spend-len-in-Text.new.self c.in-Text.place c.spend-len-in-Text.result c.in-Text.ensures.place
+    (record { fits = c.spend-len-in-Text.ensures.fits; passes = c.spend-len-in-Text.ensures.passes })
+
+pub spend-len-requires-in-Text : goal.spend-len-requires-in-Text
+spend-len-requires-in-Text g c = follows _ (c.in-Text.ensures.walks.lends _ refl).1
 
 pub returns-in-Owed-clause-steps : goal.returns-in-Owed-clause-steps
 returns-in-Owed-clause-steps g c =

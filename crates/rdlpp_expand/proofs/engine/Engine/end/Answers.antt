@@ -4,7 +4,8 @@ use Rattle.rdlpp_scan.specs.declared.token.Mode.TheVariants.{InStr, InBlock}
 use Rattle.rdlpp_meaning.specs.State.{breach_kind}
 use Rattle.rdlpp_read.specs.Files.{inner_buffer}
 use Rattle.rdlpp_expand.proofs.Soundness.{inner_facts}
-use Rattle.rdlpp_expand.proofs.FrontSteps.{comment_kind, stops_open, string_kind}
+use Rattle.rdlpp_expand.proofs.FrontSteps.{comment_kind, string_kind}
+use Rattle.rdlpp_expand.proofs.EndSteps.{stops_open}
 use Rattle.rdlpp_expand.proofs.engine.Engine.end.Goals as goal
 
 pub refuse_at-requires-clause-line : goal.refuse_at-requires-clause-line
@@ -23,10 +24,10 @@ refuse_at-requires-in-InBlock-clause-line g c =
     let line = c.open_token_line-opened.ensures ∙ ap (λ b. b.open_token_line) c.file.ensures.buffer in
     omega arith
 
-pub returns-in-Plain : goal.returns-in-Plain
-returns-in-Plain g c =
+pub end_plain-requires-clause-mode : goal.end_plain-requires-clause-mode
+end_plain-requires-clause-mode g c =
     let same = c.file.ensures.buffer ∙ ap (λ e. inner_buffer e.files.nest) c.self.view_is in
-    (ap (λ b. b.mode) (sym same) ∙ (sym c.mode.ensures ∙ c.in-Plain.is), c.close.ensures)
+    ap (λ b. b.mode) (sym same) ∙ (sym c.mode.ensures ∙ c.in-Plain.is)
 
 pub returns-in-InStr : goal.returns-in-InStr
 unfolding breach_kind

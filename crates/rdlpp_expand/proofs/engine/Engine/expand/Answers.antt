@@ -31,4 +31,4 @@ returns-in-None-clause-walks g c = λ bounded.
     let word : c.word_of-word.result.bytes ≡ take 128 (usage_name (held_of (inner_buffer e.files.nest)) c.args.len) = c.word_of-word.ensures ∙ ap (take 128) name in
     refuses g.S.Sources e e c.refuse.new.self c.refuse.result fault.UndefinedMacro _ (usage_name (held_of (inner_buffer e.files.nest)) c.args.len) c.requires.ready (read_nothing e) bounded
     c.refuse.ensures.place (kept_cut e c.refuse.new.self _ _ _ _ _ c.refuse.ensures.kept word) undefined_kind (not_called g.S.Sources e.sources)
-    (λ t. left_undefined g.S.Sources.unread e c.args.len c.requires.ready c.requires.live c.requires.some c.requires.mode c.requires.usage none)
+    (λ t. left_undefined g.S.Sources e c.args.len c.requires.ready c.requires.live c.requires.some c.requires.mode c.requires.usage none)

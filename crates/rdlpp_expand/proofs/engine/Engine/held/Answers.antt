@@ -6,13 +6,16 @@ use Rattle.rdlpp_expand.proofs.Bounds.{slots_fit}
 use Rattle.rdlpp_expand.proofs.engine.Engine.held.Goals as goal
 
 pub held_len-requires : goal.held_len-requires
-held_len-requires g c = rw (c.self.invariant.slots, c.self.invariant.line_bytes) (slots_fit c.self.inside.limits c.self.invariant.in_range)
+held_len-requires g c = rw (c.self.invariant.sources.slots, c.self.invariant.sources.line_bytes) (slots_fit c.self.inside.limits c.self.invariant.sources.in_range)
 
 pub returns-clause-value : goal.returns-clause-value
 unfolding held_told stores_of
 returns-clause-value g c =
     let bytes : c.held_len.result ≡ sum_by length (held_windows c.self.inside.files.nest) = c.held_len.ensures ∙ sym (held_windows-len c.self.inside.files.nest) in
     let definitions = c.bytes.ensures.value in
+    let kept = c.arguments.ensures.value in
+    let texts = c.len-2.ensures in
+    let bound = c.bound.ensures in
     let open_ = c.len.ensures in
     let conditions = c.len-2.ensures in
     rw (← c.self.view_is) (cc)

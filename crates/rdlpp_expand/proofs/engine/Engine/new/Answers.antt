@@ -1,28 +1,32 @@
 use Rattle.std.proofs.Common.{refl, arith}
 use Rattle.rdlpp_table.specs.Table.{table_size}
+use Rattle.rdlpp_read.specs.Buffer.{closed_buffer, unused_of}
 use Rattle.rdlpp_expand.specs.Engine.{is_open}
 use Rattle.rdlpp_expand.specs.Opening.{fresh_engine}
 use Rattle.rdlpp_expand.proofs.engine.Engine.new.Goals as goal
 
 pub invariant_of-result : goal.invariant_of-result
-unfolding is_open table_size
+unfolding is_open table_size closed_buffer unused_of
 invariant_of-result g c =
-    rw (c.in-Ok.ensures, c.in-Ok-new.ensures, c.in-Ok-new-2.ensures) (record {
-      in_range = c.in_default.ensures.in_range;
-      definition_bytes = refl;
-      definitions = refl;
-      size = omega arith;
-      slots = refl;
-      line_bytes = refl;
-      alone = omega arith;
-      conditions_of = record { limit = refl; few = omega arith; below = tt; unopened = refl; live = refl };
-      open_ = λ o. cc;
-      closed = λ o. refl;
+    rw (c.in-Ok.ensures, c.in-Ok-new.ensures, c.in-Ok-new-2.ensures, c.in-Ok-new-3.ensures) (record {
+      sources = record {
+        in_range = c.in_default.ensures.in_range;
+        definition_bytes = refl;
+        definitions = refl;
+        size = omega arith;
+        slots = refl;
+        line_bytes = refl;
+        lines = tt;
+        conditions_of = record { limit = refl; few = omega arith; below = refl; own = λ n e. cc; counted = omega arith };
+        open_ = λ o. cc;
+        closed = λ o. refl;
+      };
+      texts = record { depth_is = refl; most_is = refl; sound = record { are_open = tt; are_inside = tt; are_kept = tt }; line = omega arith; closed = λ o. refl };
     })
 
 pub returns : goal.returns
 unfolding fresh_engine
 returns g c = (
   c.in_default.ensures.value,
-  rw (c.in-Ok.ensures, c.in-Ok-new.ensures, c.in-Ok-new-2.ensures, c.new-4.ensures, c.nothing.ensures) refl,
+  rw (c.in-Ok.ensures, c.in-Ok-new.ensures, c.in-Ok-new-2.ensures, c.in-Ok-new-3.ensures, c.new-5.ensures, c.nothing.ensures) refl,
 )

@@ -1,6 +1,7 @@
 use Rattle.std.proofs.Common.{refl}
-use Rattle.rdlpp_expand.proofs.Soundness.{sound_inner}
+use Rattle.rdlpp_expand.specs.Lines.{renumbered_file}
+use Rattle.rdlpp_expand.proofs.Soundness.{whole_inner, shown_less}
 use Rattle.rdlpp_expand.proofs.engine.Engine.show.Goals as goal
 
 pub invariant_of-self : goal.invariant_of-self
-invariant_of-self g c = sound_inner _ _ _ c.self.inside.files _ _ _ c.self.invariant c.renumber.ensures (λ f. refl)
+invariant_of-self g c = whole_inner _ _ _ c.self.inside.files _ _ c.self.invariant _ _ c.renumber.ensures (λ f. refl) (shown_less (renumbered_file c.args.from c.args.number c.args.name) c.self.inside.files.nest (λ f. refl))

@@ -1,6 +1,6 @@
 use Rattle.rdlpp_expand.specs.Opening.{start_fault}
 use Rattle.rdlpp_expand.proofs.OpeningFacts.{starts_open, starts_not_found}
-use Rattle.rdlpp_expand.proofs.Soundness.{fresh_nest}
+use Rattle.rdlpp_expand.proofs.Soundness.{fresh_nest, fresh_open, fresh_texts}
 use Rattle.rdlpp_expand.proofs.engine.Engine.start.Goals as goal
 
 pub returns-in-Ok : goal.returns-in-Ok
@@ -9,8 +9,8 @@ returns-in-Ok g c =
     let e = c.in-Ok.ensures in
     let bounded = rw c.open_main.ensures at c.facts-in-Ok.ensures.bounded in
     rw (c.open_main.ensures, ← c.self.view_is)
-    (starts_open g.S.Sources _ c.top.new.self c.in-Ok.found c.args.path.now c.self.invariant.line_bytes
-    (fresh_nest _ _ _ _ _ c.self.invariant (rw (← c.self.view_is) at c.requires)) c.self.invariant.conditions_of.unopened bounded
+    (starts_open g.S.Sources _ c.top.new.self c.in-Ok.found c.args.path.now c.self.invariant.sources.line_bytes
+    (fresh_nest _ _ _ _ _ c.self.invariant.sources (rw (← c.self.view_is) at c.requires)) (fresh_open _ _ _ _ _ c.self.invariant.sources (rw (← c.self.view_is) at c.requires)) (fresh_texts _ _ _ _ c.self.invariant.texts (rw (← c.self.view_is) at c.requires)) bounded
     e.answer e.failures e.refusals e.tells e.catalog)
 
 pub returns-in-Err : goal.returns-in-Err

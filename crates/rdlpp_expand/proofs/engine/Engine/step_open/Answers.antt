@@ -1,7 +1,7 @@
 use Rattle.std.proofs.Common.{◌≡◌, ◌<◌, List, ℕ, length, sym, ap, ◌∙◌, subst, arith}
 use Rattle.rdlpp_expand.specs.Owed.{OwedView, TakesPiece}
 use Rattle.rdlpp_expand.specs.Remaining.{inner_name}
-use Rattle.rdlpp_expand.proofs.FrontSteps.{opened_phase, owed_is_placed, owing, owing_same, ready_unowed, take_owed}
+use Rattle.rdlpp_expand.proofs.FrontSteps.{opened_phase, owed_is_placed, owing, owing_same, take_owed, unowed_by}
 use Rattle.rdlpp_expand.proofs.engine.Engine.step_open.Goals as goal
 
 pub file-requires : goal.file-requires
@@ -26,8 +26,7 @@ returns-in-Some-clause-place g c =
     owed_is_placed c.args.self.now _ c.in-Some.piece c.take.new.self (c.facts.ensures.sound.open_ (opened_phase c.args.self.now.phase c.requires.open))
     (subst (λ (o : OwedView). TakesPiece name o c.take.new.self c.in-Some.piece) owed (c.in-Some.ensures.piece name size)) (owing _ c.args.self.now c.take.new.self c.self.view_is)
 
-pub step_sources-requires : goal.step_sources-requires
-step_sources-requires g c =
-    ready_unowed c.args.self.now _ c.requires.open c.requires.free
+pub step_unowed-requires : goal.step_unowed-requires
+step_unowed-requires g c =
+    unowed_by c.args.self.now _ c.requires.open c.requires.free
     (owing _ c.args.self.now c.take.new.self c.self.view_is ∙ owing_same c.args.self.now _ _ (c.in-None.ensures.nothing.1 ∙ c.in-None.ensures.nothing.0))
-    c.facts.ensures.sound c.facts.ensures.files

@@ -1,19 +1,20 @@
 use Rattle.std.proofs.Common.{false, true, []}
 use Rattle.rdlpp_meaning.specs.declared.fault.FaultKind.TheVariants as fault
 use Rattle.rdlpp_expand.proofs.EngineSteps.{called, silent_then}
-use Rattle.rdlpp_expand.proofs.FrontSteps.{IsRead, ended_placed, ended_steps, fails_reading, left_long_line, left_long_source, left_unfilled, line_kind, ready_filled, refuses, silent_fill, slid, source_kind}
+use Rattle.rdlpp_expand.proofs.EndSteps.{ended_placed, ended_steps}
+use Rattle.rdlpp_expand.proofs.FrontSteps.{IsRead, fails_reading, left_long_line, left_long_source, left_unfilled, line_kind, ready_filled, refuses, silent_fill, slid, source_kind}
 use Rattle.rdlpp_expand.proofs.engine.Engine.step_sources.Goals as goal
 
-pub take_front-requires : goal.take_front-requires
-take_front-requires g c =
+pub take_held-requires : goal.take_held-requires
+take_held-requires g c =
     let r : IsRead c.args.self.now c.fill.new.self = record { becomes = c.in-Held.ensures.becomes; only = c.in-Held.ensures.only; moves = slid _ _ _ _ c.in-Held.ensures.fills.slides } in
-    record { ready = ready_filled _ _ c.requires r c.facts.ensures.sound c.facts.ensures.files; live = c.facts.ensures.sound.conditions_of.live; some = c.in-Held.ensures.fills.bytes }
+    record { ready = ready_filled _ _ c.requires r c.facts.ensures.sound c.facts.ensures.files; some = c.in-Held.ensures.fills.bytes }
 
 pub returns-in-Held-clause-walks : goal.returns-in-Held-clause-walks
 returns-in-Held-clause-walks g c = λ bounded.
     let r : IsRead c.args.self.now c.fill.new.self = record { becomes = c.in-Held.ensures.becomes; only = c.in-Held.ensures.only; moves = slid _ _ _ _ c.in-Held.ensures.fills.slides } in
-    silent_then g.S.Sources c.args.self.now c.fill.new.self c.take_front.new.self _
-    (silent_fill g.S.Sources _ _ c.requires r c.in-Held.ensures.fills (called g.S.Sources false _ _ c.in-Held.ensures.call)) (c.take_front.ensures.walks bounded)
+    silent_then g.S.Sources c.args.self.now c.fill.new.self c.take_held.new.self _
+    (silent_fill g.S.Sources _ _ c.requires r c.in-Held.ensures.fills (called g.S.Sources false _ _ c.in-Held.ensures.call)) (c.take_held.ensures.walks bounded)
 
 pub returns-in-End-clause-place : goal.returns-in-End-clause-place
 returns-in-End-clause-place g c = ended_placed c.fill.new.self c.end.new.self c.end.result c.end.ensures

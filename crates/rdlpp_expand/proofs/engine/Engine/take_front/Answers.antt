@@ -15,4 +15,4 @@ returns-in-Refused-clause-walks g c = λ bounded.
     let refused : IsRefused (inner_buffer e.files.nest).mode (held_of (inner_buffer e.files.nest)) c.in-Refused.kind = rw (← mode, ← held) c.in-Refused.ensures in
     refuses g.S.Sources e e c.refuse.new.self c.refuse.result c.in-Refused.kind _ [] c.requires.ready (read_nothing e) bounded c.refuse.ensures.place (rw c.new.ensures at c.refuse.ensures.kept)
     (refused_kind _ _ _ refused) (not_called g.S.Sources e.sources)
-    (λ t. left_refused g.S.Sources.unread e c.in-Refused.kind c.requires.ready c.requires.live c.requires.some refused)
+    (λ t. left_refused g.S.Sources e c.in-Refused.kind c.requires.ready c.requires.live c.requires.some refused)

@@ -18,7 +18,7 @@ returns-then-not-file-clause-walks g c = λ bounded.
     let late : inner_blanks e.files.nest ≡ false = ap inner_blanks (ap (λ e. e.files.nest) (sym c.self.view_is) ∙ c.file-file.ensures.inner) ∙ c.if-not-file.true in
     refuses g.S.Sources e e c.refuse.new.self c.refuse.result fault.BadLine _ [] c.requires.ready (read_nothing e) bounded c.refuse.ensures.place (rw c.new.ensures at c.refuse.ensures.kept)
     bad_line_kind (not_called g.S.Sources e.sources)
-    (λ t. left_late_line g.S.Sources.unread e c.requires.ready c.requires.live c.requires.some c.requires.mode c.requires.line late)
+    (λ t. left_late_line g.S.Sources e c.requires.ready c.requires.live c.requires.some c.requires.mode c.requires.line late)
 
 pub line_argument-requires : goal.line_argument-requires
 line_argument-requires g c =
@@ -35,7 +35,7 @@ returns-in-None-clause-walks g c = λ bounded.
     let bad = subst (λ (x : List ℕ). renumbered (take (line_len (drop 5 x)) (drop 5 x)) ≡ None) held c.in-None.ensures in
     refuses g.S.Sources e e c.refuse-in-None.new.self c.refuse-in-None.result fault.BadLine _ [] c.requires.ready (read_nothing e) bounded c.refuse-in-None.ensures.place
     (rw c.new-in-None.ensures at c.refuse-in-None.ensures.kept) bad_line_kind (not_called g.S.Sources e.sources)
-    (λ t. left_bad_line g.S.Sources.unread e c.requires.ready c.requires.live c.requires.some c.requires.mode c.requires.line bad)
+    (λ t. left_bad_line g.S.Sources e c.requires.ready c.requires.live c.requires.some c.requires.mode c.requires.line bad)
 
 pub renumber-requires-clause-inside : goal.renumber-requires-clause-inside
 renumber-requires-clause-inside g c =

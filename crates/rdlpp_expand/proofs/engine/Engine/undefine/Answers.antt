@@ -9,4 +9,4 @@ returns-in-None-clause-walks g c = λ bounded.
     let e = c.args.self.now in
     refuses g.S.Sources e e c.refuse.new.self c.refuse.result fault.NameExpected _ [] c.requires.ready (read_nothing e) bounded
     c.refuse.ensures.place (rw c.new.ensures at c.refuse.ensures.kept) nameless_kind (not_called g.S.Sources e.sources)
-    (λ t. left_nameless g.S.Sources.unread e c.requires.ready c.requires.live c.requires.some c.requires.mode (rw c.in-None.is at c.requires.undef))
+    (λ t. left_nameless g.S.Sources e c.requires.ready c.requires.live c.requires.some c.requires.mode (rw c.in-None.is at c.requires.undef))

@@ -1,5 +1,5 @@
 use Rattle.std.proofs.Common.{◌≡◌, take, true, false, sym, ap, ◌∙◌}
-use Rattle.rdlpp_scan.specs.Stage.{is_reserved}
+use Rattle.rdlpp_scan.specs.Reserved.{is_reserved}
 use Rattle.rdlpp_scan.specs.declared.token.Directive.TheVariants.{Undef}
 use Rattle.rdlpp_meaning.specs.declared.fault.FaultKind.TheVariants as fault
 use Rattle.rdlpp_read.specs.Buffer.{held_of}
@@ -26,7 +26,7 @@ returns-then-is_some-clause-walks g c = λ bounded.
     let word : c.word_of-word.result.bytes ≡ take 128 (argument_name h c.args.start c.args.stop) = c.word_of-word.ensures ∙ ap (λ x. take 128 (argument_name x c.args.start c.args.stop)) held in
     refuses g.S.Sources e e c.refuse.new.self c.refuse.result fault.ReservedName _ (argument_name h c.args.start c.args.stop) c.requires.ready (read_nothing e) bounded
     c.refuse.ensures.place (kept_cut e c.refuse.new.self _ _ _ _ _ c.refuse.ensures.kept word) reserved_kind (not_called g.S.Sources e.sources)
-    (λ t. left_reserved g.S.Sources.unread e c.args.start c.args.stop c.requires.ready c.requires.live c.requires.some c.requires.mode c.requires.undef taken)
+    (λ t. left_reserved g.S.Sources e c.args.start c.args.stop c.requires.ready c.requires.live c.requires.some c.requires.mode c.requires.undef taken)
 
 pub consume-requires-clause-inside : goal.consume-requires-clause-inside
 consume-requires-clause-inside g c = rw (← c.self.view_is) at (name_inside Undef _ _ _ c.requires.undef).2

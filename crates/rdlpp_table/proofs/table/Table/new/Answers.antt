@@ -1,3 +1,5 @@
+use Rattle.std.proofs.Common.{refl}
+use Rattle.std.proofs.lemmas.List.{get_or-replicate}
 use Rattle.rdlpp_table.proofs.Laid.{held_when_empty, empty_view}
 use Rattle.rdlpp_table.proofs.Keyed.{index_of_nothing}
 use Rattle.rdlpp_table.proofs.table.Table.new.Goals as goal
@@ -7,7 +9,7 @@ invariant_of-result c = record {
   held = held_when_empty _ _ _ _ c.in-Ok.ensures.items c.in-Ok-with_capacity.ensures.items;
   room = c.in-Ok.ensures.capacity;
   entry_room = c.in-Ok-with_capacity.ensures.capacity;
-  indexed = index_of_nothing _ _ _ c.in-Ok-with_capacity.ensures.items c.in-Ok-with_capacity-2.ensures.items;
+  indexed = index_of_nothing _ _ _ _ c.in-Ok-with_capacity.ensures.items c.in-Ok-with_capacity-2.ensures.items refl (λ p h. get_or-replicate 1025 p 0 0 h);
   index_room = c.in-Ok-with_capacity-2.ensures.capacity;
   few = c.requires.definitions.1;
 }

@@ -22,7 +22,7 @@ invariant_of-self c = record {
   held = held_of _ _ _ _ _ c.take_out_named.ensures.stored (sound_without c.args.name.now (view_of c.self.inside.bytes.items c.self.inside.entries.items c.self.inside.most_bytes c.self.inside.most_macros) c.self.invariant.held.sound);
   room = omega (arith, c.take_out_named.ensures.capacity.0, c.self.invariant.room);
   entry_room = omega (arith, c.take_out_named.ensures.capacity.1, c.self.invariant.entry_room);
-  indexed = indexed_after _ _ _ _ c.take_out_named.ensures.stored c.take_out_named.ensures.indexed;
+  indexed = indexed_after _ _ _ _ _ c.take_out_named.ensures.stored c.take_out_named.ensures.indexed;
   index_room = omega (arith, c.take_out_named.ensures.capacity.2, c.self.invariant.index_room);
   few = c.self.invariant.few;
 }

@@ -59,7 +59,7 @@ invariant_of-self c =
       held = held_of _ _ _ _ _ c.replace.ensures.stored (sound_with view m c.self.invariant.held.sound c.requires.sound h k);
       room = omega (arith, c.replace.ensures.capacity.0, c.self.invariant.room);
       entry_room = omega (arith, c.replace.ensures.capacity.1, c.self.invariant.entry_room);
-      indexed = indexed_after _ _ _ _ c.replace.ensures.stored c.replace.ensures.indexed;
+      indexed = indexed_after _ _ _ _ _ c.replace.ensures.stored c.replace.ensures.indexed;
       index_room = omega (arith, c.replace.ensures.capacity.2, c.self.invariant.index_room);
       few = c.self.invariant.few;
     }

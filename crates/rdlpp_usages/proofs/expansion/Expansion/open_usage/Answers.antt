@@ -1,9 +1,9 @@
-use Rattle.std.proofs.Common.{◌≡◌, ◌<◌, ◌≤◌, ℕ, List, Bool, not, length, refl, sym, ap, ◌∙◌, subst}
+use Rattle.std.proofs.Common.{Bool, not, sym, ap, ◌∙◌, subst}
 use Rattle.std.specs.Prelude.{is_some}
 use Rattle.rdlpp_read.specs.Buffer.{EndsHeld}
 use Rattle.rdlpp_front.proofs.Insides.{usage_inside}
-use Rattle.rdlpp_usages.specs.Usages.{is_opened}
-use Rattle.rdlpp_usages.proofs.UsageSteps.{body_means, call_means_by, is_list, no_list, uses_more, uses_name}
+use Rattle.rdlpp_usages.specs.declared.expansion.Opening.TheVariants.{Opened}
+use Rattle.rdlpp_usages.proofs.UsageSteps.{body_means, call_means_by, is_list, no_list, opened_line, uses_more, uses_name}
 use Rattle.rdlpp_usages.proofs.expansion.Expansion.open_usage.Goals as goal
 
 pub consume-requires-clause-inside : goal.consume-requires-clause-inside
@@ -12,7 +12,7 @@ consume-requires-clause-inside g c = (usage_inside _ _ c.requires.held c.require
 pub returns-then-is_none-clause-uses : goal.returns-then-is_none-clause-uses
 returns-then-is_none-clause-uses g c =
     let inside = usage_inside _ _ c.requires.held c.requires.usage in
-    rw c.consume.ensures.used (uses_name c.args.files.now.nest c.args.len c.requires.some inside.0 inside.1)
+    rw c.consume.ensures.used (uses_name (g.S.Sources.tells c.args.sources.now) g.S.Sources.unread Opened c.args.files.now.nest c.args.len c.requires.some inside.0 inside.1)
 
 pub returns-then-is_none-clause-sound : goal.returns-then-is_none-clause-sound
 returns-then-is_none-clause-sound g c = c.open_body.ensures.sound _
@@ -31,7 +31,7 @@ pub returns-clause-uses : goal.returns-clause-uses
 returns-clause-uses g c =
     let inside = usage_inside _ _ c.requires.held c.requires.usage in
     uses_more _ _ c.open_call.result c.args.files.now.nest c.consume.new.self.nest c.open_call.new.files.nest
-    (rw c.consume.ensures.used (uses_name c.args.files.now.nest c.args.len c.requires.some inside.0 inside.1)) c.open_call.ensures.uses
+    (rw c.consume.ensures.used (uses_name (g.S.Sources.tells c.args.sources.now) g.S.Sources.unread c.open_call.result c.args.files.now.nest c.args.len c.requires.some inside.0 inside.1)) c.open_call.ensures.uses
 
 pub returns-clause-means : goal.returns-clause-means
 returns-clause-means g c =
@@ -41,5 +41,5 @@ returns-clause-means g c =
     (subst EndsHeld c.file.ensures.buffer c.file.ensures.ends) c.requires.held c.requires.plain c.requires.usage run c.requires.room c.requires.named
     (is_list _ (ap is_some (sym c.arity.ensures) ∙ c.is_none.ensures ∙ ap (λ (b : Bool). not b) c.if-is_none.false))
     c.open_call.ensures.tells c.open_call.ensures.uses t
-    (λ o. c.open_call.ensures.line (ap is_opened o) ∙ c.line-line.ensures ∙ ap (λ b. b.line) c.file.ensures.buffer)
+    (λ o. opened_line c.open_call.result _ c.line-line.result _ c.open_call.ensures.line o ∙ c.line-line.ensures ∙ ap (λ b. b.line) c.file.ensures.buffer)
     (c.open_call.ensures.limits.0 ∙ ap (λ e. e.depth) c.self.view_is)

@@ -1,0 +1,81 @@
+/* Refuses each allocation of a call in turn: the answer is RDLPP_NO_MEMORY, nothing is written, and
+   nothing is kept. */
+#include "rdlpp.h"
+
+#include <stdio.h>
+#include <stdlib.h>
+#include <string.h>
+
+/* How many more allocations are granted, and how many blocks are out. */
+static long granted = -1;
+static long blocks = 0;
+
+static int is_refused(void)
+{
+    if (granted == 0) {
+        return 1;
+    }
+    granted -= granted > 0;
+    return 0;
+}
+
+void *__real_malloc(size_t size);
+void *__real_realloc(void *block, size_t size);
+void __real_free(void *block);
+void *__wrap_malloc(size_t size);
+void *__wrap_realloc(void *block, size_t size);
+void __wrap_free(void *block);
+
+void *__wrap_malloc(size_t size)
+{
+    void *block = is_refused() ? NULL : __real_malloc(size);
+    blocks += block != NULL;
+    return block;
+}
+
+void *__wrap_realloc(void *block, size_t size)
+{
+    return is_refused() ? NULL : __real_realloc(block, size);
+}
+
+void __wrap_free(void *block)
+{
+    blocks -= block != NULL;
+    __real_free(block);
+}
+
+static rdlpp_outcome call(char *out, size_t room)
+{
+    const rdlpp_limits limits = rdlpp_standard_limits();
+    const rdlpp_text texts[] = {{"m", 1, "reg[`W];\n", 9}, {"i", 1, "q", 1}};
+    const rdlpp_folder folders[] = {{"inc", 3}, {"more", 4}};
+    const rdlpp_definition definitions[] = {{"W", 1, "8", 1}, {"V", 1, "9", 1}};
+    char none[1] = {'#'};
+    return rdlpp_preprocess(&limits, false, texts, 2, folders, 2, definitions, 2, "m", 1, out, room,
+                            none, 0, none, 0);
+}
+
+int main(void)
+{
+    long refused = 0;
+    for (;;) {
+        char out[16] = "###############";
+        rdlpp_outcome outcome;
+        granted = refused;
+        outcome = call(out, sizeof out);
+        granted = -1;
+        if (blocks != 0) {
+            fprintf(stderr, "refusals.c: %ld blocks kept where allocation %ld is refused\n", blocks, refused);
+            return EXIT_FAILURE;
+        }
+        if (outcome.status == RDLPP_WHOLE) {
+            break;
+        }
+        if (outcome.status != RDLPP_NO_MEMORY || outcome.length != 0 || out[0] != '#') {
+            fprintf(stderr, "refusals.c: status %u where allocation %ld is refused\n", outcome.status, refused);
+            return EXIT_FAILURE;
+        }
+        refused += 1;
+    }
+    return refused > 8 ? EXIT_SUCCESS : EXIT_FAILURE;
+}

@@ -1,0 +1,5 @@
+pub mod Front
+pub mod Request
+pub mod Answer
+pub mod Telling
+pub mod Faults

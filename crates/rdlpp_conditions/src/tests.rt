@@ -1,2 +1,0 @@
-mod conditions_tests;
-mod skipped_text_tests;

@@ -1,0 +1,23 @@
+use Rattle.std.proofs.Common.{◌≡◌, refl, ap, ◌∙◌, arith}
+use Rattle.rdlpp_read.specs.Buffer.{opened_buffer, unused_of}
+use Rattle.rdlpp_read.specs.Files.{inner_buffer}
+use Rattle.rdlpp_expand.proofs.EnterSteps.{included_by}
+use Rattle.rdlpp_expand.proofs.Soundness.{inner_facts, whole_entered}
+use Rattle.rdlpp_expand.proofs.engine.Engine.enter.Goals as goal
+
+pub invariant_of-self : goal.invariant_of-self
+unfolding unused_of opened_buffer
+invariant_of-self g c =
+    let buffer = (inner_facts c.self.inside.files (rw (← c.self.view_is) at c.requires.nest) c.facts.ensures).buffer in
+    let counts = buffer.counts in
+    let line = c.line-line.ensures ∙ ap (λ b. b.line) c.file.ensures.buffer in
+    let range = c.self-2.invariant.sources.in_range.source_bytes.1 in
+    whole_entered _ _ _ c.self-2.inside.files _ _ c.self-2.invariant _ _ (ap (λ e. e.phase) c.self-2.view_is ∙ (ap (λ e. e.phase) c.consume.ensures.used ∙ c.requires.open))
+    (ap (λ e. e.conditions.skipped) c.self-2.view_is ∙ (ap (λ e. e.conditions.skipped) c.consume.ensures.used ∙ c.requires.live)) c.enter.ensures c.len-below.ensures.value (omega arith) (omega arith)
+
+pub returns : goal.returns
+returns g c =
+    let e = c.args.self.now in
+    let line : c.line-line.result ≡ (inner_buffer e.files.nest).line = c.line-line.ensures ∙ ap (λ b. b.line) (c.file.ensures.buffer ∙ ap (λ e. inner_buffer e.files.nest) c.self.view_is) in
+    included_by c.args.found c.args.stop e c.consume.new.self _ c.owe_origin.new.self c.enter.new.self c.len-below.result c.line-line.result c.consume.ensures.used
+    (rw (← c.self-2.view_is) c.enter.ensures) (rw (← c.self-2.view_is) c.owe_origin.ensures) (rw (← c.self-2.view_is) refl) c.requires.nothing (rw (← c.self-2.view_is) c.len-below.ensures.value) line

@@ -1,0 +1,41 @@
+use Rattle.std.proofs.Common.{◌≡◌, refl, sym, ap, ◌∙◌, arith}
+use Rattle.std.specs.Prelude.{if◌then◌else◌}
+use Rattle.rdlpp_expand.specs.Includes.{left_engine, owed_behind}
+use Rattle.rdlpp_expand.specs.Owed.{nothing_owed}
+use Rattle.rdlpp_expand.proofs.EndSteps.{around_few, ends_few, line_few, owes_behind}
+use Rattle.rdlpp_expand.proofs.Soundness.{whole_left}
+use Rattle.rdlpp_expand.proofs.engine.Engine.leave.Goals as goal
+use Rattle.rdlpp_expand.proofs.engine.Engine.leave.Goals.{then-file, else-file}
+
+pub shown_line-shown-requires : goal.shown_line-shown-requires
+shown_line-shown-requires g c =
+    let number = around_few c.self.inside.files _ c.file-file.result.now c.file.result.now c.file-file.ensures.inner (sym (ap (λ f. f.nest) c.leave.ensures) ∙ c.file.ensures.inner) c.facts.ensures in
+    let line = line_few c.self.inside.files.nest c.file-file.result.now c.file-file.ensures.inner c.self.invariant.sources.lines in
+    omega arith
+
+pub owe_line_ends-requires : goal.owe_line_ends-requires
+unfolding nothing_owed
+owe_line_ends-requires g c =
+    let none : c.self.inside.owed.line_ends ≡ 0 = ap (λ e. e.owed.line_ends) c.self.view_is ∙ ap (λ o. o.line_ends) c.requires.nothing in
+    let ends : c.if-file.line_ends ≡ (if c.file-file.result.now.torn then 1 else 0) = elim c.if-file.branch [
+      | then-file w ↦ w.line_ends-is ∙ rw w.if-file.true refl
+      | else-file w ↦ w.line_ends-is ∙ rw w.if-file.false refl
+    ] in
+    ends_few _ _ c.file-file.result.now.torn ends none
+
+pub invariant_of-self : goal.invariant_of-self
+invariant_of-self g c =
+    whole_left _ _ _ c.self.inside.files _ _ c.self.invariant _ c.facts.ensures (rw (← c.self.view_is) at c.requires.inner) (rw (← c.self.view_is) at c.requires.ended) (ap (λ e. e.phase) c.self.view_is ∙ c.requires.open) c.leave.ensures
+
+pub returns : goal.returns
+unfolding left_engine
+returns g c =
+    let ends : c.if-file.line_ends ≡ (if c.file-file.result.now.torn then 1 else 0) = elim c.if-file.branch [
+      | then-file w ↦ w.line_ends-is ∙ rw w.if-file.true refl
+      | else-file w ↦ w.line_ends-is ∙ rw w.if-file.false refl
+    ] in
+    let owes : c.owe_origin.new.self ≡ owed_behind c.self.inside.origins c.self.inside.files.nest =
+    owes_behind c.self.inside.origins c.self.inside.files.nest _ c.file-file.result.now c.file.result.now c.self.inside.owed c.owe_line_ends.new.self c.owe_origin.new.self c.if-file.line_ends c.shown_line-shown.result
+    c.file-file.ensures.inner (sym (ap (λ f. f.nest) c.leave.ensures) ∙ c.file.ensures.inner) (ap (λ e. e.owed) c.self.view_is ∙ c.requires.nothing) ends c.shown_line-shown.ensures
+    c.owe_line_ends.ensures c.owe_origin.ensures in
+    rw (← c.self.view_is, c.leave.ensures, owes) refl

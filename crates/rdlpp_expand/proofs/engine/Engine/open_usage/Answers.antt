@@ -1,0 +1,54 @@
+use Rattle.std.proofs.Common.{◌≡◌, [], take, Some, ap, ◌∙◌, subst, arith}
+use Rattle.rdlpp_meaning.specs.State.{fault_at}
+use Rattle.rdlpp_read.specs.Buffer.{held_of}
+use Rattle.rdlpp_read.specs.Files.{inner_buffer}
+use Rattle.rdlpp_front.specs.Fronts.{usage_name}
+use Rattle.rdlpp_front.proofs.Insides.{usage_inside, usage_word}
+use Rattle.rdlpp_usages.specs.declared.expansion.Opening.{Opening}
+use Rattle.rdlpp_expand.specs.Moves.{OpensUsage}
+use Rattle.rdlpp_expand.specs.Remaining.{state_of}
+use Rattle.rdlpp_expand.proofs.FrontSteps.{kept_cut}
+use Rattle.rdlpp_expand.proofs.UsageWalks.{breaks_step, fails_step, opens_step, refuses_step}
+use Rattle.rdlpp_expand.proofs.engine.Engine.open_usage.Goals as goal
+
+pub returns-in-Opened-clause-walks : goal.returns-in-Opened-clause-walks
+returns-in-Opened-clause-walks g c = λ bounded.
+    let e = c.args.self.now in
+    opens_step g.S.Sources e c.open_macro.new.self c.args.len c.requires.ready c.requires.live c.requires.mode c.requires.usage c.facts.ensures.texts
+    (subst (λ (o : Opening). OpensUsage g.S.Sources c.args.len e c.open_macro.new.self o) c.in-Opened.is c.open_macro.ensures) bounded
+
+pub returns-in-Broken-clause-walks : goal.returns-in-Broken-clause-walks
+returns-in-Broken-clause-walks g c = λ bounded.
+    let e = c.args.self.now in
+    breaks_step g.S.Sources e c.open_macro.new.self c.args.len c.requires.ready c.requires.live c.requires.mode c.requires.usage c.facts.ensures.texts c.refuse_at-in-Broken.new.self c.refuse_at-in-Broken.result _ _
+    (subst (λ (o : Opening). OpensUsage g.S.Sources c.args.len e c.open_macro.new.self o) c.in-Broken.is c.open_macro.ensures) bounded c.refuse_at-in-Broken.ensures.place (rw c.new.ensures at c.refuse_at-in-Broken.ensures.kept)
+
+pub returns-in-Failed-clause-walks : goal.returns-in-Failed-clause-walks
+returns-in-Failed-clause-walks g c = λ bounded.
+    let e = c.args.self.now in
+    fails_step g.S.Sources e c.open_macro.new.self c.args.len c.requires.ready c.requires.live c.requires.mode c.requires.usage c.facts.ensures.texts c.refuse_read.new.self c.refuse_read.result
+    (subst (λ (o : Opening). OpensUsage g.S.Sources c.args.len e c.open_macro.new.self o) c.in-Failed.is c.open_macro.ensures) bounded c.refuse_read.ensures.place c.refuse_read.ensures.kept
+
+pub returns-in-Refused-clause-walks : goal.returns-in-Refused-clause-walks
+returns-in-Refused-clause-walks g c = λ bounded.
+    let e = c.args.self.now in
+    let same = c.file.ensures.buffer ∙ ap (λ e. inner_buffer e.files.nest) c.self.view_is in
+    let held : c.held.result.now ≡ held_of (inner_buffer e.files.nest) = c.held.ensures.value ∙ ap held_of same in
+    let line : c.line-line.result ≡ (inner_buffer e.files.nest).line = c.line-line.ensures ∙ ap (λ b. b.line) same in
+    let word : c.word_of-word.result.bytes ≡ take 128 (usage_name (held_of (inner_buffer e.files.nest)) c.args.len) = c.word_of-word.ensures ∙ ap (take 128) (c.name_of.ensures ∙ ap (λ h. usage_name h c.args.len) held) in
+    refuses_step g.S.Sources e c.open_macro.new.self c.args.len c.requires.ready c.requires.live c.requires.mode c.requires.usage c.facts.ensures.texts c.refuse_at.new.self c.refuse_at.result _
+    (subst (λ (o : Opening). OpensUsage g.S.Sources c.args.len e c.open_macro.new.self o) c.in-Refused.is c.open_macro.ensures) bounded c.refuse_at.ensures.place
+    (kept_cut c.open_macro.new.self c.refuse_at.new.self _ _ _ _ _ (rw line at c.refuse_at.ensures.kept) word)
+
+pub name_of-requires-clause-some : goal.name_of-requires-clause-some
+name_of-requires-clause-some g c = (usage_inside _ _ c.requires.some c.requires.usage).0
+
+pub name_of-requires-clause-inside : goal.name_of-requires-clause-inside
+name_of-requires-clause-inside g c =
+    let held : c.held.result.now ≡ held_of (inner_buffer c.args.self.now.files.nest) = c.held.ensures.value ∙ ap held_of (c.file.ensures.buffer ∙ ap (λ e. inner_buffer e.files.nest) c.self.view_is) in
+    rw held ((usage_inside _ _ c.requires.some c.requires.usage).1)
+
+pub word_of-word-requires : goal.word_of-word-requires
+word_of-word-requires g c =
+    let held : c.held.result.now ≡ held_of (inner_buffer c.args.self.now.files.nest) = c.held.ensures.value ∙ ap held_of (c.file.ensures.buffer ∙ ap (λ e. inner_buffer e.files.nest) c.self.view_is) in
+    rw (c.name_of.ensures, held) (usage_word _ _ c.requires.usage)

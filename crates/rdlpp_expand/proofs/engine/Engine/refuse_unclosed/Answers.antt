@@ -1,0 +1,11 @@
+use Rattle.rdlpp_meaning.specs.Outcome.{told}
+use Rattle.rdlpp_expand.specs.Remaining.{state_of}
+use Rattle.rdlpp_expand.proofs.OpenSteps.{named_state}
+use Rattle.rdlpp_expand.proofs.engine.Engine.refuse_unclosed.Goals as goal
+
+pub returns-clause-kept : goal.returns-clause-kept
+unfolding told state_of
+returns-clause-kept g c =
+    let name = c.copied.ensures in
+    let shown = named_state c.self.inside.limits c.self.inside.table.macros c.self.inside.conditions c.self.inside.files.nest c.file.result.now _ c.file.ensures.inner in
+    rw (← c.self.view_is) (cc)

@@ -1,0 +1,76 @@
+use Rattle.std.proofs.Common.{◌≡◌, true, false, length, take, [], sym, ap, ◌∙◌, arith}
+use Rattle.std.proofs.lemmas.List.{length-take-le}
+use Rattle.rdlpp_scan.specs.SourceTokens.{line_ends}
+use Rattle.rdlpp_meaning.specs.declared.fault.FaultKind.TheVariants as fault
+use Rattle.rdlpp_read.specs.Buffer.{held_of}
+use Rattle.rdlpp_read.specs.Files.{inner_buffer}
+use Rattle.rdlpp_front.proofs.DefineLeft.{define_inside}
+use Rattle.rdlpp_expand.proofs.EngineSteps.{called}
+use Rattle.rdlpp_expand.proofs.FrontSteps.{IsRead, fails_reading, held_few, left_unheld, line_ends-le, line_kind, opened_phase, refuses, slid, source_kind}
+use Rattle.rdlpp_expand.proofs.PassSteps.{define_steps, left_cut, left_long, skipping}
+use Rattle.rdlpp_expand.proofs.engine.Engine.skip_define.Goals as goal
+
+pub slice_bounds-line_ends_in-end : goal.slice_bounds-line_ends_in-end
+slice_bounds-line_ends_in-end g c =
+    let same = c.file.ensures.buffer ∙ ap (λ e. inner_buffer e.files.nest) c.self.view_is in
+    let held : c.held.result.now ≡ held_of (inner_buffer c.hold_line.new.self.files.nest) = c.held.ensures.value ∙ ap held_of same in
+    sym (length-take-le c.in-Whole.len c.held.result.now (rw held (c.in-Whole.ensures.holds.has.0)))
+
+pub pass-requires-clause-nest : goal.pass-requires-clause-nest
+pass-requires-clause-nest g c = c.facts.ensures.sound.open_ (opened_phase _ (ap (λ e. e.phase) c.in-Whole.ensures.becomes ∙ c.requires.ready.open_))
+
+pub pass-requires-clause-inside : goal.pass-requires-clause-inside
+pass-requires-clause-inside g c = c.in-Whole.ensures.holds.has.0
+
+pub pass-requires-clause-lines : goal.pass-requires-clause-lines
+pass-requires-clause-lines g c =
+    let same = c.file.ensures.buffer ∙ ap (λ e. inner_buffer e.files.nest) c.self.view_is in
+    let held : c.held.result.now ≡ held_of (inner_buffer c.hold_line.new.self.files.nest) = c.held.ensures.value ∙ ap held_of same in
+    let few : length (take c.in-Whole.len c.held.result.now) ≡ c.in-Whole.len = length-take-le c.in-Whole.len c.held.result.now (rw held (c.in-Whole.ensures.holds.has.0)) in
+    let most = line_ends-le (take c.in-Whole.len c.held.result.now) in
+    let count = c.line_ends_in-lines.ensures in
+    omega arith
+
+pub pass-requires-clause-nothing : goal.pass-requires-clause-nothing
+pass-requires-clause-nothing g c = ap (λ e. e.owed) c.in-Whole.ensures.becomes ∙ c.requires.ready.owed
+
+pub returns-in-Whole-clause-walks : goal.returns-in-Whole-clause-walks
+returns-in-Whole-clause-walks g c = λ bounded.
+    let o = c.args.self.now in
+    let e = c.in-Whole.ensures in
+    let r : IsRead o c.hold_line.new.self = record { becomes = e.becomes; only = e.only; moves = slid _ _ _ _ e.holds.slides } in
+    let has = e.holds.has in
+    let same = c.file.ensures.buffer ∙ ap (λ e. inner_buffer e.files.nest) c.self.view_is in
+    let held : c.held.result.now ≡ held_of (inner_buffer c.hold_line.new.self.files.nest) = c.held.ensures.value ∙ ap held_of same in
+    let counted : c.line_ends_in-lines.result ≡ line_ends (take c.in-Whole.len (held_of (inner_buffer c.hold_line.new.self.files.nest))) = c.line_ends_in-lines.ensures ∙ ap (λ h. line_ends (take c.in-Whole.len h)) held in
+    let wide = define_inside _ _ _ e.holds.extends.more (inner_buffer c.hold_line.new.self.files.nest) c.in-Whole.len c.requires.some c.requires.define e.holds.extends.held has.1 in
+    let some = c.facts.ensures.sound.open_ (opened_phase _ (ap (λ e. e.phase) e.becomes ∙ c.requires.ready.open_)) in
+    define_steps g.S.Sources o c.pass.new.self c.requires.ready bounded c.requires.some (skipping o c.requires.ready c.requires.skipped) c.requires.mode c.requires.define c.hold_line.new.self r
+    c.in-Whole.len c.line_ends_in-lines.result e.holds (called g.S.Sources false _ _ e.call) (omega arith) has.0 (held_few c.hold_line.new.self c.facts.ensures.sound c.facts.ensures.files some) counted c.pass.ensures
+
+pub returns-in-TooLong-clause-walks : goal.returns-in-TooLong-clause-walks
+returns-in-TooLong-clause-walks g c = λ bounded.
+    let o = c.args.self.now in
+    let e = c.in-TooLong.ensures in
+    let r : IsRead o c.hold_line.new.self = record { becomes = e.becomes; only = e.only; moves = slid _ _ _ _ e.holds.slides } in
+    refuses g.S.Sources o c.hold_line.new.self c.refuse.new.self c.refuse.result fault.LineTooLong _ [] c.requires.ready r bounded c.refuse.ensures.place
+    (rw c.new.ensures at c.refuse.ensures.kept) line_kind (called g.S.Sources false _ _ e.call)
+    (λ t. left_long g.S.Sources o c.refuse.new.self c.requires.ready bounded c.requires.some (skipping o c.requires.ready c.requires.skipped) c.requires.mode c.requires.define c.hold_line.new.self r e.holds t)
+
+pub returns-in-SourceLong-clause-walks : goal.returns-in-SourceLong-clause-walks
+returns-in-SourceLong-clause-walks g c = λ bounded.
+    let o = c.args.self.now in
+    let e = c.in-SourceLong.ensures in
+    let r : IsRead o c.hold_line.new.self = record { becomes = e.becomes; only = e.only; moves = slid _ _ _ _ e.holds.slides } in
+    refuses g.S.Sources o c.hold_line.new.self c.refuse-in-SourceLong.new.self c.refuse-in-SourceLong.result fault.SourceTooLong _ [] c.requires.ready r bounded c.refuse-in-SourceLong.ensures.place
+    (rw c.new-in-SourceLong.ensures at c.refuse-in-SourceLong.ensures.kept) source_kind (called g.S.Sources false _ _ e.call)
+    (λ t. left_cut g.S.Sources o c.refuse-in-SourceLong.new.self c.requires.ready bounded c.requires.some (skipping o c.requires.ready c.requires.skipped) c.requires.mode c.requires.define c.hold_line.new.self r e.holds t)
+
+pub returns-in-Failed-clause-walks : goal.returns-in-Failed-clause-walks
+returns-in-Failed-clause-walks g c = λ bounded.
+    let o = c.args.self.now in
+    let e = c.in-Failed.ensures in
+    let r : IsRead o c.hold_line.new.self = record { becomes = e.becomes; only = e.only; moves = slid _ _ _ _ e.holds.slides } in
+    fails_reading g.S.Sources o c.hold_line.new.self c.refuse_read.new.self c.refuse_read.result c.requires.ready r bounded
+    c.refuse_read.ensures.place c.refuse_read.ensures.kept (called g.S.Sources true _ _ e.call)
+    (λ t. left_unheld g.S.Sources o c.hold_line.new.self c.requires.ready t e.holds)

@@ -1,0 +1,40 @@
+use Rattle.std.proofs.Common.{◌≡◌, ◌≤◌, length, take, ap, ◌∙◌, arith}
+use Rattle.std.proofs.lemmas.List.{length-take-le}
+use Rattle.rdlpp_scan.specs.SourceTokens.{line_ends}
+use Rattle.rdlpp_conditions.specs.SkippedText.{IsPassed}
+use Rattle.rdlpp_read.specs.Buffer.{held_of}
+use Rattle.rdlpp_read.specs.Files.{inner_buffer}
+use Rattle.rdlpp_expand.proofs.FrontSteps.{entered_holds, line_ends-le}
+use Rattle.rdlpp_expand.proofs.PassSteps.{skipping, stretch_steps}
+use Rattle.rdlpp_expand.proofs.engine.Engine.skip_front.Goals as goal
+
+pub pass-requires-clause-inside : goal.pass-requires-clause-inside
+pass-requires-clause-inside g c =
+    let e = c.args.self.now in
+    let same = c.file.ensures.buffer ∙ ap (λ e. inner_buffer e.files.nest) c.self.view_is in
+    let held : c.held.result.now ≡ held_of (inner_buffer c.args.self.now.files.nest) = c.held.ensures.value ∙ ap held_of same in
+    let mode : c.mode.result ≡ (inner_buffer c.args.self.now.files.nest).mode = c.mode.ensures ∙ ap (λ b. b.mode) same in
+    let inside : c.skip_text-stretch.result.len ≤ length (held_of (inner_buffer e.files.nest)) = rw (← held) c.skip_text-stretch.ensures.inside in
+    let same_held : held_of (inner_buffer c.enter_mode.new.self.files.nest) ≡ held_of (inner_buffer e.files.nest) = ap (λ e. held_of (inner_buffer e.files.nest)) c.enter_mode.ensures ∙ entered_holds _ _ in
+    rw same_held inside
+
+pub pass-requires-clause-lines : goal.pass-requires-clause-lines
+pass-requires-clause-lines g c =
+    let few = length-take-le c.skip_text-stretch.result.len c.held.result.now c.skip_text-stretch.ensures.inside in
+    let most = line_ends-le (take c.skip_text-stretch.result.len c.held.result.now) in
+    let count = c.skip_text-stretch.ensures.line_ends in
+    omega arith
+
+pub returns-clause-walks : goal.returns-clause-walks
+returns-clause-walks g c = λ bounded.
+    let e = c.args.self.now in
+    let h = held_of (inner_buffer e.files.nest) in
+    let same = c.file.ensures.buffer ∙ ap (λ e. inner_buffer e.files.nest) c.self.view_is in
+    let held : c.held.result.now ≡ held_of (inner_buffer c.args.self.now.files.nest) = c.held.ensures.value ∙ ap held_of same in
+    let mode : c.mode.result ≡ (inner_buffer c.args.self.now.files.nest).mode = c.mode.ensures ∙ ap (λ b. b.mode) same in
+    let inside : c.skip_text-stretch.result.len ≤ length h = rw (← held) c.skip_text-stretch.ensures.inside in
+    let counted : c.skip_text-stretch.result.line_ends ≡ line_ends (take c.skip_text-stretch.result.len h) = c.skip_text-stretch.ensures.line_ends ∙ ap (λ x. line_ends (take c.skip_text-stretch.result.len x)) held in
+    let passed : IsPassed (inner_buffer e.files.nest).mode h c.skip_text-stretch.result.len c.skip_text-stretch.result.mode = rw (← held, ← mode) c.skip_text-stretch.ensures.passed in
+    let other = c.if-stretch-eq0.false in
+    stretch_steps g.S.Sources e c.pass.new.self c.requires.ready bounded c.requires.some (skipping e c.requires.ready c.requires.skipped) c.enter_mode.new.self
+    c.skip_text-stretch.result.len c.skip_text-stretch.result.line_ends c.skip_text-stretch.result.mode passed (omega arith) inside counted c.enter_mode.ensures c.pass.ensures

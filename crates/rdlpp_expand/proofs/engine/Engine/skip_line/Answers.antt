@@ -1,0 +1,28 @@
+use Rattle.std.proofs.Common.{◌≡◌, take, ap, ◌∙◌, arith}
+use Rattle.std.proofs.lemmas.List.{length-take-le}
+use Rattle.rdlpp_scan.specs.SourceTokens.{line_ends, line_len}
+use Rattle.rdlpp_read.specs.Buffer.{held_of}
+use Rattle.rdlpp_read.specs.Files.{inner_buffer}
+use Rattle.rdlpp_expand.proofs.FrontSteps.{line_ends-le}
+use Rattle.rdlpp_expand.proofs.PassSteps.{line_steps, skipping}
+use Rattle.rdlpp_expand.proofs.engine.Engine.skip_line.Goals as goal
+
+pub pass-requires-clause-inside : goal.pass-requires-clause-inside
+pass-requires-clause-inside g c =
+    let held : c.held-held.result.now ≡ held_of (inner_buffer c.args.self.now.files.nest) = c.held-held.ensures.value ∙ ap held_of (c.file.ensures.buffer ∙ ap (λ e. inner_buffer e.files.nest) c.self.view_is) in
+    rw (← held) c.line_len-len.ensures.inside
+
+pub pass-requires-clause-lines : goal.pass-requires-clause-lines
+pass-requires-clause-lines g c =
+    let few = length-take-le c.line_len-len.result c.held-held.result.now c.line_len-len.ensures.inside in
+    let most = line_ends-le (take c.line_len-len.result c.held-held.result.now) in
+    let count = c.line_ends_in-lines.ensures in
+    omega arith
+
+pub returns-clause-walks : goal.returns-clause-walks
+returns-clause-walks g c = λ bounded.
+    let e = c.args.self.now in
+    let held : c.held-held.result.now ≡ held_of (inner_buffer c.args.self.now.files.nest) = c.held-held.ensures.value ∙ ap held_of (c.file.ensures.buffer ∙ ap (λ e. inner_buffer e.files.nest) c.self.view_is) in
+    let whole : c.line_len-len.result ≡ line_len (held_of (inner_buffer e.files.nest)) = c.line_len-len.ensures.value ∙ ap line_len held in
+    let counted : c.line_ends_in-lines.result ≡ line_ends (take c.line_len-len.result (held_of (inner_buffer e.files.nest))) = c.line_ends_in-lines.ensures ∙ ap (λ h. line_ends (take c.line_len-len.result h)) held in
+    line_steps g.S.Sources e c.pass.new.self c.requires.ready bounded c.requires.some (skipping e c.requires.ready c.requires.skipped) c.requires.mode c.line_len-len.result c.line_ends_in-lines.result c.requires.line whole counted c.pass.ensures

@@ -1,0 +1,220 @@
+// The directives of conditionals in the open sources.
+ghost use Rattle.std.specs.Prelude.{◌≡◌, ◌+◌, ◌<◌, ◌≤◌, Bool, None, IfSome, length};
+ghost use Rattle.rdlpp_scan.specs.Reserved.{is_reserved};
+ghost use Rattle.rdlpp_scan.specs.declared.token.Directive.TheVariants.{Elsif, Else, Endif};
+ghost use Rattle.rdlpp_conditions.specs.Moves.{turned_with};
+ghost use Rattle.rdlpp_meaning.specs.Meaning.{Progress};
+ghost use Rattle.rdlpp_read.specs.Buffer.{held_of};
+ghost use Rattle.rdlpp_read.specs.Files.{inner_buffer};
+ghost use Rattle.rdlpp_front.specs.Fronts.{HasName, IsDirective, IsNamed, argument_name};
+ghost use Rattle.rdlpp_expand.specs.Conditionals.{IsTested, OpensOne, elsif_len, goes_past, opening_word, test_of};
+ghost use Rattle.rdlpp_expand.specs.Held.{IsBounded};
+ghost use Rattle.rdlpp_expand.specs.Moves.{IsReady};
+ghost use Rattle.rdlpp_expand.specs.OpenConditionals.{inner_below};
+ghost use Rattle.rdlpp_expand.specs.Pieces.{IsPlaced, step_answer};
+ghost use Rattle.rdlpp_expand.specs.Steps.{Walks};
+
+use super::Engine;
+use crate::place::Place;
+use crate::texts::word_of;
+use arrayvec::ArrayString;
+use rdlpp_conditions::Branch;
+use rdlpp_front::Argument;
+use rdlpp_meaning::FaultKind;
+use rdlpp_scan::{Directive, Mode, reserved};
+use rdlpp_source::Sources;
+
+impl<S: Sources> Engine<S> {
+    // Opens a conditional in live text, whose first directive wants the name that it is given defined or
+    // not, and lends nothing; or refuses it.
+    pub(super) fn open_conditional(
+        &mut self,
+        defined: bool,
+        argument: Option<Argument>,
+    ) -> Option<Place>
+        requires ready { IsReady self.old }
+        requires live { self.old.conditions.skipped ≡ None }
+        requires some { 0 < length (held_of (inner_buffer self.old.files.nest)) }
+        requires mode { (inner_buffer self.old.files.nest).mode ≡ Mode.Plain }
+        requires opening { IsNamed (opening_word defined) (held_of (inner_buffer self.old.files.nest)) argument }
+        ensures place { IfSome result (IsPlaced self.new) }
+        ensures walks { IsBounded self.new → Walks S.Sources self.old self.new (step_answer self.new result) }
+    {
+        match argument {
+            None => Some(self.refuse(FaultKind::NameExpected, ArrayString::new())),
+            Some(Argument { start, stop }) => self.open_named(defined, start, stop),
+        }
+    }
+
+    // Opens a conditional by the name that stands from a place up to another.
+    fn open_named(&mut self, defined: bool, start: usize, stop: usize) -> Option<Place>
+        requires ready { IsReady self.old }
+        requires live { self.old.conditions.skipped ≡ None }
+        requires some { 0 < length (held_of (inner_buffer self.old.files.nest)) }
+        requires mode { (inner_buffer self.old.files.nest).mode ≡ Mode.Plain }
+        requires opening { HasName (opening_word defined) (held_of (inner_buffer self.old.files.nest)) start stop }
+        ensures place { IfSome result (IsPlaced self.new) }
+        ensures walks { IsBounded self.new → Walks S.Sources self.old self.new (step_answer self.new result) }
+    {
+        let name = &self.files.file().buffer.held()[start..stop];
+        if reserved(name).is_some() {
+            let word = word_of(name);
+            return Some(self.refuse(FaultKind::ReservedName, word));
+        }
+        let found = self.table.find(name).is_some();
+        self.open_tested(test_of(defined, found), stop)
+    }
+
+    // Opens a conditional in live text whose test holds or doesn't, and uses its directive of `len` bytes.
+    fn open_tested(&mut self, holds: bool, len: usize) -> Option<Place>
+        requires ready { IsReady self.old }
+        requires live { self.old.conditions.skipped ≡ None }
+        requires inside { len ≤ length (held_of (inner_buffer self.old.files.nest)) }
+        ensures { OpensOne holds len self.old self.new result }
+    {
+        self.files.facts();
+        let file = self.files.file();
+        let line = file.shift.shown_line(file.buffer.line());
+        match self.conditions.open(line, holds) {
+            Err(kind) => Some(self.refuse(kind, ArrayString::new())),
+            Ok(()) => {
+                self.consume(len, 0);
+                None
+            }
+        }
+    }
+
+    // Takes an `elsif`, which is given a name or none, in live text or behind text that is skipped, and lends
+    // nothing; or refuses it.
+    pub(super) fn take_elsif(&mut self, argument: Option<Argument>) -> Option<Place>
+        requires ready { IsReady self.old }
+        requires some { 0 < length (held_of (inner_buffer self.old.files.nest)) }
+        requires mode { (inner_buffer self.old.files.nest).mode ≡ Mode.Plain }
+        requires branch { IsNamed Elsif (held_of (inner_buffer self.old.files.nest)) argument }
+        ensures place { IfSome result (IsPlaced self.new) }
+        ensures walks { IsBounded self.new → Walks S.Sources self.old self.new (step_answer self.new result) }
+    {
+        let below = self.files.file().conditions_below;
+        match self.conditions.branch(below, Directive::Elsif) {
+            Branch::Inner => {
+                self.consume(6, 0);
+                None
+            }
+            Branch::Refused(kind) => Some(self.refuse(kind, ArrayString::new())),
+            Branch::Decided(holds) => {
+                self.turn(Directive::Elsif, holds, elsif_len(argument));
+                None
+            }
+            Branch::Named => self.turn_tested(argument),
+        }
+    }
+
+    // Takes an `elsif` of the innermost conditional, whose name decides.
+    fn turn_tested(&mut self, argument: Option<Argument>) -> Option<Place>
+        requires ready { IsReady self.old }
+        requires some { 0 < length (held_of (inner_buffer self.old.files.nest)) }
+        requires mode { (inner_buffer self.old.files.nest).mode ≡ Mode.Plain }
+        requires branch { IsNamed Elsif (held_of (inner_buffer self.old.files.nest)) argument }
+        requires decides { IsTested self.old }
+        ensures place { IfSome result (IsPlaced self.new) }
+        ensures walks { IsBounded self.new → Walks S.Sources self.old self.new (step_answer self.new result) }
+    {
+        match argument {
+            None => Some(self.refuse(FaultKind::NameExpected, ArrayString::new())),
+            Some(Argument { start, stop }) => self.turn_named(start, stop),
+        }
+    }
+
+    // Takes an `elsif` by the name that stands from a place up to another.
+    fn turn_named(&mut self, start: usize, stop: usize) -> Option<Place>
+        requires ready { IsReady self.old }
+        requires some { 0 < length (held_of (inner_buffer self.old.files.nest)) }
+        requires mode { (inner_buffer self.old.files.nest).mode ≡ Mode.Plain }
+        requires branch { HasName Elsif (held_of (inner_buffer self.old.files.nest)) start stop }
+        requires decides { IsTested self.old }
+        ensures place { IfSome result (IsPlaced self.new) }
+        ensures walks { IsBounded self.new → Walks S.Sources self.old self.new (step_answer self.new result) }
+    {
+        let name = &self.files.file().buffer.held()[start..stop];
+        if reserved(name).is_some() {
+            let word = word_of(name);
+            return Some(self.refuse(FaultKind::ReservedName, word));
+        }
+        let found = self.table.find(name).is_some();
+        self.turn(Directive::Elsif, found, stop);
+        None
+    }
+
+    // Takes an `else`, in live text or behind text that is skipped, and lends nothing; or refuses it.
+    pub(super) fn take_else(&mut self) -> Option<Place>
+        requires ready { IsReady self.old }
+        requires some { 0 < length (held_of (inner_buffer self.old.files.nest)) }
+        requires mode { (inner_buffer self.old.files.nest).mode ≡ Mode.Plain }
+        requires branch { IsDirective Else (held_of (inner_buffer self.old.files.nest)) }
+        ensures place { IfSome result (IsPlaced self.new) }
+        ensures walks { IsBounded self.new → Walks S.Sources self.old self.new (step_answer self.new result) }
+    {
+        let below = self.files.file().conditions_below;
+        match self.conditions.branch(below, Directive::Else) {
+            Branch::Inner => {
+                self.consume(5, 0);
+                None
+            }
+            Branch::Refused(kind) => Some(self.refuse(kind, ArrayString::new())),
+            Branch::Decided(holds) => {
+                self.turn(Directive::Else, holds, 5);
+                None
+            }
+            // no name decides an `else`
+            Branch::Named => None,
+        }
+    }
+
+    // Takes a branch of the innermost conditional, whose test holds or doesn't, and uses its directive of
+    // `len` bytes.
+    fn turn(&mut self, word: Directive, holds: bool, len: usize)
+        requires own { inner_below self.old.files.nest < length self.old.conditions.open_now }
+        requires nest { 0 < length self.old.files.nest }
+        requires inside { len ≤ length (held_of (inner_buffer self.old.files.nest)) }
+        ensures { self.new ≡ goes_past (turned_with word holds self.old.conditions) len self.old }
+    {
+        self.conditions.turn(word, holds);
+        self.consume(len, 0);
+    }
+
+    // Takes an `endif`, in live text or behind text that is skipped, and lends nothing; or refuses it.
+    pub(super) fn take_endif(&mut self) -> Option<Place>
+        requires ready { IsReady self.old }
+        requires some { 0 < length (held_of (inner_buffer self.old.files.nest)) }
+        requires mode { (inner_buffer self.old.files.nest).mode ≡ Mode.Plain }
+        requires closing { IsDirective Endif (held_of (inner_buffer self.old.files.nest)) }
+        ensures place { IfSome result (IsPlaced self.new) }
+        ensures walks { IsBounded self.new → Walks S.Sources self.old self.new (step_answer self.new result) }
+    {
+        let below = self.files.file().conditions_below;
+        match self.conditions.close(below) {
+            Err(kind) => Some(self.refuse(kind, ArrayString::new())),
+            Ok(()) => {
+                self.consume(6, 0);
+                None
+            }
+        }
+    }
+}
+
+// Whether a test holds that wants a name defined or not, by whether it is.
+fn test_of(defined: bool, found: bool) -> bool
+    ensures { result ≡ test_of defined found }
+{
+    if defined { found } else { !found }
+}
+
+// How many bytes an `elsif` has whose name isn't looked at.
+fn elsif_len(argument: Option<Argument>) -> usize
+    ensures { result ≡ elsif_len argument }
+{
+    match argument {
+        None => 6,
+        Some(Argument { stop, .. }) => stop,
+    }
+}

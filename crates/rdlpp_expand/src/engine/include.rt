@@ -1,0 +1,135 @@
+// The directive `include` in the open sources, and the end of the source that it opened.
+ghost use Rattle.std.specs.Prelude.{◌≡◌, ◌<◌, ◌≤◌, None, IfNone, IfSome, false, true, length};
+ghost use Rattle.rdlpp_meaning.specs.Meaning.{unquoted};
+ghost use Rattle.rdlpp_read.specs.Buffer.{held_of};
+ghost use Rattle.rdlpp_read.specs.Files.{inner_buffer};
+ghost use Rattle.rdlpp_front.specs.Fronts.{HasString, IsGivenString};
+ghost use Rattle.rdlpp_expand.specs.Held.{IsBounded};
+ghost use Rattle.rdlpp_expand.specs.Includes.{Sought, given_name, included_engine, is_bad_name, left_engine};
+ghost use Rattle.rdlpp_expand.specs.Moves.{IsReady};
+ghost use Rattle.rdlpp_expand.specs.OpenConditionals.{inner_below};
+ghost use Rattle.rdlpp_expand.specs.Owed.{nothing_owed};
+ghost use Rattle.rdlpp_expand.specs.Pieces.{IsPlaced, step_answer};
+ghost use Rattle.rdlpp_expand.specs.Steps.{Walks};
+
+use super::Engine;
+use super::opening::source_kind;
+use crate::phase::Phase;
+use crate::place::Place;
+use arrayvec::ArrayString;
+use rdlpp_front::Argument;
+use rdlpp_meaning::FaultKind;
+use rdlpp_scan::Mode;
+use rdlpp_source::{Found, Sources};
+
+impl<S: Sources> Engine<S> {
+    // Takes an `include`, which is given a string or none, and lends nothing.
+    pub(super) fn take_include(&mut self, argument: Option<Argument>) -> Option<Place>
+        requires ready { IsReady self.old }
+        requires live { self.old.conditions.skipped ≡ None }
+        requires some { 0 < length (held_of (inner_buffer self.old.files.nest)) }
+        requires mode { (inner_buffer self.old.files.nest).mode ≡ Mode.Plain }
+        requires include { IsGivenString (held_of (inner_buffer self.old.files.nest)) argument }
+        ensures place { IfSome result (IsPlaced self.new) }
+        ensures walks { IsBounded self.new → Walks S.Sources self.old self.new (step_answer self.new result) }
+    {
+        match argument {
+            None => Some(self.refuse(FaultKind::IncludeName, ArrayString::new())),
+            Some(Argument { start, stop }) => self.include(start, stop),
+        }
+    }
+
+    // Takes an `include` whose string stands from a place up to another: opens the source that is found.
+    fn include(&mut self, start: usize, stop: usize) -> Option<Place>
+        requires ready { IsReady self.old }
+        requires live { self.old.conditions.skipped ≡ None }
+        requires some { 0 < length (held_of (inner_buffer self.old.files.nest)) }
+        requires mode { (inner_buffer self.old.files.nest).mode ≡ Mode.Plain }
+        requires include { HasString (held_of (inner_buffer self.old.files.nest)) start stop }
+        ensures place { IfSome result (IsPlaced self.new) }
+        ensures walks { IsBounded self.new → Walks S.Sources self.old self.new (step_answer self.new result) }
+    {
+        match self.seek(start, stop) {
+            Ok(found) => {
+                self.enter(found, stop);
+                None
+            }
+            Err(kind) => Some(self.refuse(kind, ArrayString::new())),
+        }
+    }
+
+    // Searches for the source that a string names, from the folder of the innermost source, where one more
+    // may be opened.
+    fn seek(&mut self, start: usize, stop: usize) -> Result<Found<S::Reader>, FaultKind>
+        requires nest { 0 < length self.old.files.nest }
+        requires some { start < stop }
+        requires inside { stop ≤ length (held_of (inner_buffer self.old.files.nest)) }
+        ensures becomes { self.new ≡ record self.old { sources = self.new.sources } }
+        ensures sought { Sought S.Sources self.old (given_name (held_of (inner_buffer self.old.files.nest)) start stop) self.new.sources result }
+    {
+        let file = self.files.file();
+        let Some(name) = name_in(&file.buffer.held()[start..stop]) else {
+            return Err(FaultKind::IncludeName);
+        };
+        if self.files.is_full() {
+            return Err(FaultKind::TooManyIncludes);
+        }
+        match self.sources.find(file.path.as_str(), name) {
+            Ok(found) => Ok(found),
+            Err(fault) => Err(source_kind(fault)),
+        }
+    }
+
+    // Opens a source inside of those that are open, behind the `include` in front, which has `stop` bytes.
+    fn enter(&mut self, found: Found<S::Reader>, stop: usize)
+        requires live { self.old.conditions.skipped ≡ None }
+        requires nest { 0 < length self.old.files.nest }
+        requires open { self.old.phase ≡ Phase.Open }
+        requires inside { stop ≤ length (held_of (inner_buffer self.old.files.nest)) }
+        requires room { length self.old.files.nest < self.old.files.slots }
+        requires nothing { self.old.owed ≡ nothing_owed }
+        ensures { self.new ≡ included_engine found stop self.old }
+    {
+        self.files.facts();
+        let line = self.files.file().buffer.line();
+        self.consume(stop, 0);
+        let source_bytes = self.limits.source_bytes;
+        let below = self.conditions.len();
+        self.files.enter(found, source_bytes, below, line);
+        self.owed.owe_origin(self.origins, 1);
+    }
+
+    // Leaves an included source, which has ended, and owes what is written behind it.
+    pub(super) fn leave(&mut self)
+        requires open { self.old.phase ≡ Phase.Open }
+        requires inner { 1 < length self.old.files.nest }
+        requires ended { length self.old.conditions.open_now ≡ inner_below self.old.files.nest }
+        requires nothing { self.old.owed ≡ nothing_owed }
+        ensures { self.new ≡ left_engine self.old }
+    {
+        self.files.facts();
+        let file = self.files.file();
+        let line_ends = if file.torn { 1 } else { 0 };
+        let line = file.include_line;
+        self.files.leave();
+        let shown = self.files.file().shift.shown_line(line);
+        self.owed.owe_line_ends(line_ends);
+        self.owed.owe_origin(self.origins, shown);
+    }
+}
+
+// The name in a string with its quotes, where it isn't empty and is UTF-8.
+fn name_in(string: &[u8]) -> Option<&str>
+    requires { 0 < length string.now }
+    ensures bad { IfNone result (is_bad_name (unquoted string.now) ≡ true) }
+    ensures name { IfSome result (λ name. (name.now ≡ unquoted string.now) × (is_bad_name (unquoted string.now) ≡ false)) }
+{
+    let name = &string[1..string.len().max(2) - 1];
+    if name.is_empty() {
+        return None;
+    }
+    match str::from_utf8(name) {
+        Ok(name) => Some(name),
+        Err(_) => None,
+    }
+}

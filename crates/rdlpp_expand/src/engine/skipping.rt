@@ -1,0 +1,189 @@
+// Skipped text in the open sources.
+ghost use Rattle.std.specs.Prelude.{◌≡◌, ◌≢◌, ◌+◌, ◌<◌, ◌≤◌, None, IfSome, length};
+ghost use Rattle.rdlpp_scan.specs.declared.token.Directive.TheVariants.{Define, Line};
+ghost use Rattle.rdlpp_read.specs.Buffer.{held_of};
+ghost use Rattle.rdlpp_read.specs.Files.{inner_buffer};
+ghost use Rattle.rdlpp_front.specs.Fronts.{IsDirective, IsRefused, IsText, word_of};
+ghost use Rattle.rdlpp_expand.specs.Conditionals.{IsSkippedWord, opening_word, passes_over};
+ghost use Rattle.rdlpp_expand.specs.Held.{IsBounded};
+ghost use Rattle.rdlpp_expand.specs.Moves.{IsReady};
+ghost use Rattle.rdlpp_expand.specs.Owed.{nothing_owed};
+ghost use Rattle.rdlpp_expand.specs.Pieces.{IsPlaced, step_answer};
+ghost use Rattle.rdlpp_expand.specs.Steps.{Walks};
+
+use super::Engine;
+use crate::place::Place;
+use arrayvec::ArrayString;
+use rdlpp_conditions::skip_text;
+use rdlpp_front::{Front, front_of};
+use rdlpp_meaning::FaultKind;
+use rdlpp_read::LogicalLine;
+use rdlpp_scan::{Mode, line_ends_in, line_len};
+use rdlpp_source::Sources;
+
+impl<S: Sources> Engine<S> {
+    // Passes skipped text: a stretch of it in which nothing counts, or what counts in front.
+    pub(super) fn skip_front(&mut self) -> Option<Place>
+        requires ready { IsReady self.old }
+        requires skipped { self.old.conditions.skipped ≢ None }
+        requires some { 0 < length (held_of (inner_buffer self.old.files.nest)) }
+        ensures place { IfSome result (IsPlaced self.new) }
+        ensures walks { IsBounded self.new → Walks S.Sources self.old self.new (step_answer self.new result) }
+    {
+        let buffer = &self.files.file().buffer;
+        let stretch = skip_text(buffer.mode(), buffer.held());
+        if stretch.len == 0 {
+            return self.skip_counted();
+        }
+        self.enter_mode(stretch.mode);
+        self.pass(stretch.len, stretch.line_ends);
+        None
+    }
+
+    // Passes what stands in front of skipped text: a word that counts there, or a string or a comment that
+    // stays open.
+    fn skip_counted(&mut self) -> Option<Place>
+        requires ready { IsReady self.old }
+        requires skipped { self.old.conditions.skipped ≢ None }
+        requires some { 0 < length (held_of (inner_buffer self.old.files.nest)) }
+        ensures place { IfSome result (IsPlaced self.new) }
+        ensures walks { IsBounded self.new → Walks S.Sources self.old self.new (step_answer self.new result) }
+    {
+        let buffer = &self.files.file().buffer;
+        match front_of(buffer.mode(), buffer.held()) {
+            Front::Text(len, next) => self.skip_part(len, next),
+            Front::Ifdef(_) => self.skip_opening(true),
+            Front::Ifndef(_) => self.skip_opening(false),
+            Front::Elsif(argument) => self.take_elsif(argument),
+            Front::Else => self.take_else(),
+            Front::Endif => self.take_endif(),
+            Front::Define => self.skip_define(),
+            Front::Line => self.skip_line(),
+            Front::Refused(kind) => self.skip_refused(kind),
+            Front::Usage(len) => self.skip_word(len),
+            Front::Undef(_) => self.skip_word(6),
+            Front::Include(_) => self.skip_word(8),
+        }
+    }
+
+    // Passes `len` bytes of a text that is skipped, behind which it stands in a mode.
+    fn skip_part(&mut self, len: usize, next: Mode) -> Option<Place>
+        requires ready { IsReady self.old }
+        requires skipped { self.old.conditions.skipped ≢ None }
+        requires some { 0 < length (held_of (inner_buffer self.old.files.nest)) }
+        requires text { IsText (inner_buffer self.old.files.nest).mode (held_of (inner_buffer self.old.files.nest)) len next }
+        ensures place { IfSome result (IsPlaced self.new) }
+        ensures walks { IsBounded self.new → Walks S.Sources self.old self.new (step_answer self.new result) }
+    {
+        let lines = line_ends_in(&self.files.file().buffer.held()[..len]);
+        self.enter_mode(next);
+        self.pass(len, lines);
+        None
+    }
+
+    // Refuses `<%` in skipped text; or passes a lone backquote, which doesn't count there.
+    fn skip_refused(&mut self, kind: FaultKind) -> Option<Place>
+        requires ready { IsReady self.old }
+        requires skipped { self.old.conditions.skipped ≢ None }
+        requires some { 0 < length (held_of (inner_buffer self.old.files.nest)) }
+        requires refused { IsRefused (inner_buffer self.old.files.nest).mode (held_of (inner_buffer self.old.files.nest)) kind }
+        ensures place { IfSome result (IsPlaced self.new) }
+        ensures walks { IsBounded self.new → Walks S.Sources self.old self.new (step_answer self.new result) }
+    {
+        match kind {
+            FaultKind::EmbeddedPerl => Some(self.refuse(kind, ArrayString::new())),
+            _ => self.skip_word(1),
+        }
+    }
+
+    // Passes a word of `len` bytes that doesn't count in skipped text.
+    fn skip_word(&mut self, len: usize) -> Option<Place>
+        requires ready { IsReady self.old }
+        requires skipped { self.old.conditions.skipped ≢ None }
+        requires some { 0 < length (held_of (inner_buffer self.old.files.nest)) }
+        requires mode { (inner_buffer self.old.files.nest).mode ≡ Mode.Plain }
+        requires word { IsSkippedWord (held_of (inner_buffer self.old.files.nest)) len }
+        ensures place { IfSome result (IsPlaced self.new) }
+        ensures walks { IsBounded self.new → Walks S.Sources self.old self.new (step_answer self.new result) }
+    {
+        self.pass(len, 0);
+        None
+    }
+
+    // Counts a conditional that opens in skipped text, whose first directive wants its name defined or not.
+    fn skip_opening(&mut self, defined: bool) -> Option<Place>
+        requires ready { IsReady self.old }
+        requires skipped { self.old.conditions.skipped ≢ None }
+        requires some { 0 < length (held_of (inner_buffer self.old.files.nest)) }
+        requires mode { (inner_buffer self.old.files.nest).mode ≡ Mode.Plain }
+        requires opening { IsDirective (opening_word defined) (held_of (inner_buffer self.old.files.nest)) }
+        ensures place { IfSome result (IsPlaced self.new) }
+        ensures walks { IsBounded self.new → Walks S.Sources self.old self.new (step_answer self.new result) }
+    {
+        self.consume(opening_len(defined), 0);
+        self.conditions.open_skipped();
+        None
+    }
+
+    // Passes the logical line of a `define` in skipped text.
+    fn skip_define(&mut self) -> Option<Place>
+        requires ready { IsReady self.old }
+        requires skipped { self.old.conditions.skipped ≢ None }
+        requires some { 0 < length (held_of (inner_buffer self.old.files.nest)) }
+        requires mode { (inner_buffer self.old.files.nest).mode ≡ Mode.Plain }
+        requires define { IsDirective Define (held_of (inner_buffer self.old.files.nest)) }
+        ensures place { IfSome result (IsPlaced self.new) }
+        ensures walks { IsBounded self.new → Walks S.Sources self.old self.new (step_answer self.new result) }
+    {
+        match self.hold_line() {
+            LogicalLine::Whole(len) => {
+                self.facts();
+                let lines = line_ends_in(&self.files.file().buffer.held()[..len]);
+                self.pass(len, lines);
+                None
+            }
+            LogicalLine::TooLong => Some(self.refuse(FaultKind::LineTooLong, ArrayString::new())),
+            LogicalLine::SourceLong => Some(self.refuse(
+                FaultKind::SourceTooLong,
+                ArrayString::new(),
+            )),
+            LogicalLine::Failed => Some(self.refuse_read()),
+        }
+    }
+
+    // Passes the line of a `line` in skipped text.
+    fn skip_line(&mut self) -> Option<Place>
+        requires ready { IsReady self.old }
+        requires skipped { self.old.conditions.skipped ≢ None }
+        requires some { 0 < length (held_of (inner_buffer self.old.files.nest)) }
+        requires mode { (inner_buffer self.old.files.nest).mode ≡ Mode.Plain }
+        requires line { IsDirective Line (held_of (inner_buffer self.old.files.nest)) }
+        ensures place { IfSome result (IsPlaced self.new) }
+        ensures walks { IsBounded self.new → Walks S.Sources self.old self.new (step_answer self.new result) }
+    {
+        let held = self.files.file().buffer.held();
+        let len = line_len(held);
+        let lines = line_ends_in(&held[..len]);
+        self.pass(len, lines);
+        None
+    }
+
+    // Uses `len` held bytes of skipped text, and owes their `lines` LF bytes.
+    fn pass(&mut self, len: usize, lines: usize)
+        requires nest { 0 < length self.old.files.nest }
+        requires inside { len ≤ length (held_of (inner_buffer self.old.files.nest)) }
+        requires lines { lines ≤ len }
+        requires nothing { self.old.owed ≡ nothing_owed }
+        ensures { self.new ≡ passes_over len lines self.old }
+    {
+        self.consume(len, lines);
+        self.owed.owe_line_ends(lines);
+    }
+}
+
+// How many bytes the word has that opens a conditional.
+fn opening_len(defined: bool) -> usize
+    ensures { result ≡ length (word_of (opening_word defined)) }
+{
+    if defined { 6 } else { 7 }
+}

@@ -1,0 +1,139 @@
+// Usages of macros in the open sources.
+ghost use Rattle.std.specs.Prelude.{◌≡◌, ◌<◌, ◌≤◌, ◌^◌, false, not, length, None, Some, IfSome};
+ghost use Rattle.rdlpp_table.specs.Table.{macro_named};
+ghost use Rattle.rdlpp_table.specs.View.{macro_at};
+ghost use Rattle.rdlpp_meaning.specs.Stage.{is_unbuilt_macro};
+ghost use Rattle.rdlpp_read.specs.Buffer.{held_of};
+ghost use Rattle.rdlpp_read.specs.Files.{inner_buffer};
+ghost use Rattle.rdlpp_front.specs.Fronts.{IsUsage, usage_name};
+ghost use Rattle.rdlpp_expand.specs.Held.{IsBounded};
+ghost use Rattle.rdlpp_expand.specs.Moves.{IsReady, OpensUsage};
+ghost use Rattle.rdlpp_expand.specs.Pieces.{IsPlaced, lent_answer, step_answer};
+ghost use Rattle.rdlpp_expand.specs.Steps.{Walks};
+
+use super::Engine;
+use crate::place::Place;
+use crate::texts::word_of;
+use arrayvec::ArrayString;
+use rdlpp_meaning::FaultKind;
+use rdlpp_scan::Mode;
+use rdlpp_source::Sources;
+use rdlpp_table::{MacroId, Table};
+use rdlpp_usages::Opening;
+
+impl<S: Sources> Engine<S> {
+    // Expands the usage of `len` bytes with which the held bytes begin.
+    pub(super) fn expand(&mut self, len: usize) -> Option<Place>
+        requires ready { IsReady self.old }
+        requires live { self.old.conditions.skipped ≡ None }
+        requires some { 0 < length (held_of (inner_buffer self.old.files.nest)) }
+        requires mode { (inner_buffer self.old.files.nest).mode ≡ Mode.Plain }
+        requires usage { IsUsage (held_of (inner_buffer self.old.files.nest)) len }
+        ensures place { IfSome result (IsPlaced self.new) }
+        ensures walks { IsBounded self.new → Walks S.Sources self.old self.new (step_answer self.new result) }
+    {
+        let name = name_of(self.files.file().buffer.held(), len);
+        match self.table.find(name) {
+            None => {
+                let word = word_of(name);
+                Some(self.refuse(FaultKind::UndefinedMacro, word))
+            }
+            Some(id) => self.take_usage(len, id),
+        }
+    }
+
+    // Takes a usage of a macro: lends its body, where that is copied as it stands, and opens it else.
+    fn take_usage(&mut self, len: usize, id: MacroId) -> Option<Place>
+        requires ready { IsReady self.old }
+        requires live { self.old.conditions.skipped ≡ None }
+        requires some { 0 < length (held_of (inner_buffer self.old.files.nest)) }
+        requires mode { (inner_buffer self.old.files.nest).mode ≡ Mode.Plain }
+        requires usage { IsUsage (held_of (inner_buffer self.old.files.nest)) len }
+        requires inside { id < length self.old.table.macros }
+        requires named { macro_named self.old.table.macros (usage_name (held_of (inner_buffer self.old.files.nest)) len) ≡ Some (macro_at self.old.table.macros id) }
+        ensures place { IfSome result (IsPlaced self.new) }
+        ensures walks { IsBounded self.new → Walks S.Sources self.old self.new (step_answer self.new result) }
+    {
+        if is_copied(&self.table, id) {
+            return Some(self.lend_body(len, id));
+        }
+        self.open_usage(len, id)
+    }
+
+    // Lends the body of a macro that is copied as it stands, whose usage has `len` bytes.
+    fn lend_body(&mut self, len: usize, id: MacroId) -> Place
+        requires ready { IsReady self.old }
+        requires live { self.old.conditions.skipped ≡ None }
+        requires some { 0 < length (held_of (inner_buffer self.old.files.nest)) }
+        requires mode { (inner_buffer self.old.files.nest).mode ≡ Mode.Plain }
+        requires usage { IsUsage (held_of (inner_buffer self.old.files.nest)) len }
+        requires inside { id < length self.old.table.macros }
+        requires named { macro_named self.old.table.macros (usage_name (held_of (inner_buffer self.old.files.nest)) len) ≡ Some (macro_at self.old.table.macros id) }
+        requires copied { is_unbuilt_macro (macro_at self.old.table.macros id) ≡ false }
+        ensures place { IsPlaced self.new result }
+        ensures walks { IsBounded self.new → Walks S.Sources self.old self.new (lent_answer self.new result) }
+    {
+        let end = self.table.body(id).len();
+        self.consume(len, 0);
+        Place::Body(id, 0, end)
+    }
+
+    // Opens a usage of a macro, and lends nothing yet.
+    fn open_usage(&mut self, len: usize, id: MacroId) -> Option<Place>
+        requires ready { IsReady self.old }
+        requires live { self.old.conditions.skipped ≡ None }
+        requires some { 0 < length (held_of (inner_buffer self.old.files.nest)) }
+        requires mode { (inner_buffer self.old.files.nest).mode ≡ Mode.Plain }
+        requires usage { IsUsage (held_of (inner_buffer self.old.files.nest)) len }
+        requires inside { id < length self.old.table.macros }
+        requires named { macro_named self.old.table.macros (usage_name (held_of (inner_buffer self.old.files.nest)) len) ≡ Some (macro_at self.old.table.macros id) }
+        ensures place { IfSome result (IsPlaced self.new) }
+        ensures walks { IsBounded self.new → Walks S.Sources self.old self.new (step_answer self.new result) }
+    {
+        let buffer = &self.files.file().buffer;
+        let word = word_of(name_of(buffer.held(), len));
+        let line = buffer.line();
+        self.facts();
+        match self.open_macro(len, id) {
+            Opening::Opened => None,
+            Opening::Refused(kind) => Some(self.refuse_at(kind, line, word)),
+            Opening::Broken(kind, own) => Some(self.refuse_at(kind, own, ArrayString::new())),
+            Opening::Failed => Some(self.refuse_read()),
+        }
+    }
+
+    // Opens the body of a macro, whose usage has `len` bytes, or tells why not.
+    fn open_macro(&mut self, len: usize, id: MacroId) -> Opening
+        requires ready { IsReady self.old }
+        requires some { 0 < length (held_of (inner_buffer self.old.files.nest)) }
+        requires mode { (inner_buffer self.old.files.nest).mode ≡ Mode.Plain }
+        requires usage { IsUsage (held_of (inner_buffer self.old.files.nest)) len }
+        requires inside { id < length self.old.table.macros }
+        requires named { macro_named self.old.table.macros (usage_name (held_of (inner_buffer self.old.files.nest)) len) ≡ Some (macro_at self.old.table.macros id) }
+        ensures { OpensUsage S.Sources len self.old self.new result }
+    {
+        self.facts();
+        let opening = self
+            .expansion
+            .open_usage(&mut self.files, &mut self.sources, &self.table, len, id);
+        self.expansion.facts();
+        opening
+    }
+}
+
+// The name in a usage of `len` bytes.
+fn name_of(held: &[u8], len: usize) -> &[u8]
+    requires some { 0 < len }
+    requires inside { len ≤ length held.now }
+    ensures { result.now ≡ usage_name held.now len }
+{
+    &held[1..len]
+}
+
+// Whether the body of a macro is copied as it stands, without a call.
+fn is_copied(table: &Table, id: MacroId) -> bool
+    requires { id < length table.now.macros }
+    ensures { result ≡ not (is_unbuilt_macro (macro_at table.now.macros id)) }
+{
+    table.arity(id).is_none() && table.is_copied(id)
+}

@@ -1,4 +1,0 @@
-mod arguments_tests;
-mod buffer_tests;
-mod devices;
-mod files_tests;

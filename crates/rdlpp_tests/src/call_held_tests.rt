@@ -1,0 +1,85 @@
+// What an engine holds while it reads and expands calls.
+use crate::row_tests::STANDARD;
+use rdlpp::Texts;
+use rdlpp_expand::{Engine, Piece};
+use std::test::Fail;
+
+// A source; the first piece that begins with this byte is lent while so many bytes of definitions and of
+// arguments are held.
+#[test]
+fn holds_the_arguments_of_an_open_call(rt: HostRuntime) -> Result<(), Fail> {
+    let rows: [(&[u8], u8, usize, usize); 4] = [
+        (b"`define K(x) (x)\n`K(a\nb\nc)\n", b'(', 6, 5),
+        (b"`define S(x) <x>\n`S( // one\n 1\n)!\n", b'<', 6, 5),
+        (b"`define S(x) <x>\n`S( // one\n 1\n)!\n", b'!', 6, 0),
+        (b"`define A 1\n`define S(x) {`A}\n`S(1234)", b'}', 9, 4),
+    ];
+    for (source, first, definitions, arguments) in rows {
+        let files = [("m", source)];
+        let texts = Texts {
+            files: &files,
+            folders: &[],
+        };
+        let mut engine = Engine::new(rt.alloc(), STANDARD, texts, false)?;
+        assert!(rt; engine.is_fresh());
+        assert!(rt; engine.start("m").is_ok());
+        let mut seen = false;
+        for _ in 0..100 {
+            assert!(rt; !engine.is_fresh());
+            let begins = match engine.next() {
+                Ok(Piece::Bytes(bytes)) => bytes.starts_with(&[first]),
+                Ok(Piece::Done) => false,
+                Err(_) => false,
+            };
+            if begins && !seen {
+                seen = true;
+                let held = engine.held();
+                assert_eq!(rt; held.definitions, definitions, "at {first}");
+                assert_eq!(rt; held.arguments, arguments, "at {first}");
+            }
+        }
+        assert!(rt; seen, "{first} comes");
+        assert_eq!(rt; engine.held().arguments, 0);
+    }
+    Ok(())
+}
+
+// Twelve doublings: thousands of usages, and nothing held but the definitions and the source.
+#[test]
+fn holds_nothing_of_doublings(rt: HostRuntime) -> Result<(), Fail> {
+    let mut source = Vec::from_slice(rt.alloc(), b"`define E0 x\n")?;
+    for number in 1..13_u32 {
+        let line = format!(in rt.alloc(); "`define E{number} `E{}`E{}\n", number.saturating_sub(1), number.saturating_sub(1))?;
+        source.extend_from_slice(line.as_bytes())?;
+    }
+    source.extend_from_slice(b"`E12\n")?;
+    let files = [("m", source.as_slice())];
+    let texts = Texts {
+        files: &files,
+        folders: &[],
+    };
+    let mut engine = Engine::new(rt.alloc(), STANDARD, texts, false)?;
+    assert!(rt; engine.is_fresh());
+    assert!(rt; engine.start("m").is_ok());
+    let mut count = 0_u64;
+    let mut done = false;
+    for _ in 0..100_000 {
+        assert!(rt; !engine.is_fresh());
+        match engine.next() {
+            Ok(Piece::Bytes(bytes)) => count = count.saturating_add(bytes.len() as u64),
+            Ok(Piece::Done) => done = true,
+            Err(_) => assert!(rt; false, "a fault"),
+        }
+        let held = engine.held();
+        assert_eq!(rt; held.arguments, 0);
+        assert!(rt; held.definitions <= 106 && held.buffers <= STANDARD.line_bytes);
+        assert!(rt; held.cursors <= 13);
+        if done {
+            assert_eq!(rt; held.definitions, 106);
+            break;
+        }
+    }
+    assert!(rt; done);
+    assert_eq!(rt; count, 4_110);
+    Ok(())
+}

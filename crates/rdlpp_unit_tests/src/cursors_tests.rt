@@ -1,0 +1,177 @@
+// Open texts as a caller meets them.
+ghost use Rattle.std.specs.Prelude.{[], length, ◌<◌, ◌≤◌};
+ghost use Rattle.rdlpp_cursors.specs.Places.{texts_of};
+ghost use Rattle.rdlpp_cursors.specs.Steps.{AreSound};
+
+use rdlpp_cursors::{CursorFault, CursorStep, Cursors, TextPlace, TextSource, text_at};
+use rdlpp_meaning::FaultKind;
+use rdlpp_table::{Limits, MacroId, Table};
+use std::process::Abort;
+use std::test::Fail;
+
+mod formals;
+
+// A table of macros without lists.
+fn table_of<R: Abort + AllocGlobal>(rt: &R, macros: &[(&[u8], &[u8])]) -> Table {
+    let mut table = match Table::new(rt.alloc(), &Limits::standard()) {
+        Ok(table) => table,
+        Err(_) => panic!(rt; "no memory"),
+    };
+    for (name, body) in macros {
+        assert!(rt; table.set(name, body).is_ok());
+    }
+    table
+}
+
+// The macro of a name.
+fn id_of<R: Abort>(rt: &R, table: &Table, name: &[u8]) -> MacroId
+    ensures { result < length table.now.macros }
+{
+    let Some(id) = table.find(name) else {
+        panic!(rt; "the macro isn't found");
+    };
+    id
+}
+
+// Open texts, of which the first is the body of the macro of a name.
+fn opened<R: Abort + AllocGlobal>(rt: &R, table: &Table, name: &[u8], depth: usize) -> Cursors
+    ensures { AreSound (texts_of table.now.macros []) result.opens }
+{
+    assert!(rt; 0 < depth && depth <= 16);
+    let id = id_of(rt, table, name);
+    assert!(rt; table.arity(id).is_none());
+    let Ok(mut cursors) = Cursors::new(rt.alloc(), depth) else {
+        panic!(rt; "no memory");
+    };
+    cursors.open_body(table, id, 7);
+    cursors
+}
+
+// One step comes to what is expected.
+fn expect_step<R: Abort>(rt: &R, cursors: &mut Cursors, table: &Table, expected: CursorStep)
+    requires { AreSound (texts_of table.now.macros []) cursors.old.opens }
+    ensures { AreSound (texts_of table.now.macros []) cursors.new.opens }
+{
+    assert!(rt; !cursors.is_empty());
+    assert_eq!(rt; cursors.step(table, b"".as_slice()), expected);
+}
+
+// A range of what is kept of a call.
+fn kept<'a>(table: &'a Table, arguments: &'a [u8], from: usize, end: usize) -> &'a [u8]
+    requires order { from ≤ end }
+    requires inside { end ≤ length arguments.now }
+{
+    let source = TextSource::Arguments;
+    text_at(table, arguments, TextPlace { source, from, end })
+}
+
+// Bytes of a body, as they are lent.
+fn lent(id: MacroId, from: usize, end: usize) -> CursorStep {
+    let source = TextSource::Body(id);
+    CursorStep::Lends(TextPlace { source, from, end })
+}
+
+// A fault under a name that stands in a body.
+fn refused(kind: FaultKind, id: MacroId, from: usize, end: usize) -> CursorStep {
+    let source = TextSource::Body(id);
+    let word = TextPlace { source, from, end };
+    CursorStep::Refused(CursorFault { kind, word })
+}
+
+// A fault without a word.
+fn wordless(kind: FaultKind) -> CursorStep {
+    let word = TextPlace {
+        source: TextSource::Arguments,
+        from: 0,
+        end: 0,
+    };
+    CursorStep::Refused(CursorFault { kind, word })
+}
+
+#[test]
+fn a_body_is_lent_in_one_piece_and_closed(rt: HostRuntime) -> Result<(), Fail> {
+    let table = table_of(&rt, &[(b"A".as_slice(), b"x = \"`B\"; // y".as_slice())]);
+    let id = id_of(&rt, &table, b"A".as_slice());
+    let mut cursors = opened(&rt, &table, b"A".as_slice(), 4);
+    assert_eq!(&rt; cursors.len(), 1);
+    expect_step(&rt, &mut cursors, &table, lent(id, 0, 9));
+    assert!(&rt; !cursors.is_empty());
+    expect_step(&rt, &mut cursors, &table, CursorStep::Silent);
+    assert!(&rt; cursors.is_empty());
+    assert_eq!(&rt; cursors.bound(), 0);
+    Ok(())
+}
+
+#[test]
+fn the_bytes_at_a_place_are_those_of_its_text(rt: HostRuntime) -> Result<(), Fail> {
+    let table = table_of(&rt, &[]);
+    assert_eq!(&rt; kept(&table, b"(a, bc)".as_slice(), 4, 6), b"bc".as_slice());
+    Ok(())
+}
+
+#[test]
+fn a_usage_opens_a_body_and_goes_on_behind_its_name(rt: HostRuntime) -> Result<(), Fail> {
+    let table = table_of(
+        &rt,
+        &[
+            (b"A".as_slice(), b"x `B y".as_slice()),
+            (b"B".as_slice(), b"z".as_slice()),
+        ],
+    );
+    let outer = id_of(&rt, &table, b"A".as_slice());
+    let inner = id_of(&rt, &table, b"B".as_slice());
+    let mut cursors = opened(&rt, &table, b"A".as_slice(), 2);
+    expect_step(&rt, &mut cursors, &table, lent(outer, 0, 2));
+    expect_step(&rt, &mut cursors, &table, CursorStep::Silent);
+    assert_eq!(&rt; cursors.len(), 2);
+    expect_step(&rt, &mut cursors, &table, lent(inner, 0, 1));
+    expect_step(&rt, &mut cursors, &table, CursorStep::Silent);
+    expect_step(&rt, &mut cursors, &table, lent(outer, 4, 6));
+    expect_step(&rt, &mut cursors, &table, CursorStep::Silent);
+    assert!(&rt; cursors.is_empty());
+    Ok(())
+}
+
+// A usage in the body of a macro A is refused.
+fn expect_refused<R: Abort + AllocGlobal>(
+    rt: &R,
+    body: &[u8],
+    kind: FaultKind,
+    word: Option<(usize, usize)>,
+) {
+    let table = table_of(
+        rt,
+        &[(b"A".as_slice(), body), (b"B".as_slice(), b"z".as_slice())],
+    );
+    let id = id_of(rt, &table, b"A".as_slice());
+    let mut cursors = opened(rt, &table, b"A".as_slice(), 1);
+    match word {
+        Some((from, end)) => expect_step(rt, &mut cursors, &table, refused(kind, id, from, end)),
+        None => expect_step(rt, &mut cursors, &table, wordless(kind)),
+    }
+}
+
+#[test]
+fn a_usage_is_refused_under_its_name(rt: HostRuntime) -> Result<(), Fail> {
+    expect_refused(
+        &rt,
+        b"`define".as_slice(),
+        FaultKind::DirectiveInText,
+        Some((1, 7)),
+    );
+    expect_refused(
+        &rt,
+        b"`other".as_slice(),
+        FaultKind::UndefinedMacro,
+        Some((1, 6)),
+    );
+    expect_refused(
+        &rt,
+        b"`A".as_slice(),
+        FaultKind::RecursiveMacro,
+        Some((1, 2)),
+    );
+    expect_refused(&rt, b"`B".as_slice(), FaultKind::DepthPassed, None);
+    expect_refused(&rt, b"`".as_slice(), FaultKind::BareBackquote, None);
+    Ok(())
+}

@@ -1,0 +1,108 @@
+// Formals, actuals and default texts as a caller meets them.
+use super::{expect_step, id_of, lent, opened, wordless};
+use rdlpp_cursors::{CursorStep, Cursors, TextPlace, TextSource};
+use rdlpp_meaning::FaultKind;
+use rdlpp_scan::logical_line;
+use rdlpp_table::{Limits, Table};
+use std::process::Abort;
+use std::test::Fail;
+
+// Reads a definition, of which the logical line is whole.
+fn define<R: Abort>(rt: &R, table: &mut Table, rest: &[u8]) {
+    let is_whole = match logical_line(rest) {
+        Some(len) => len == rest.len(),
+        None => true,
+    };
+    if !is_whole {
+        panic!(rt; "the logical line isn't whole");
+    }
+    assert!(rt; table.read_define(rest).is_ok());
+}
+
+// A table of a macro A without a list and of macros with one, of which F has a default.
+fn table_of<R: Abort + AllocGlobal>(rt: &R, body: &[u8]) -> Table {
+    let mut table = match Table::new(rt.alloc(), &Limits::standard()) {
+        Ok(table) => table,
+        Err(_) => panic!(rt; "no memory"),
+    };
+    define(rt, &mut table, b" F(p,q=d) p+q\n".as_slice());
+    define(rt, &mut table, b" G(g) `F(g,)\n".as_slice());
+    assert!(rt; table.set(b"A".as_slice(), body).is_ok());
+    table
+}
+
+#[test]
+fn an_actual_stands_in_a_body_and_a_default_for_an_empty_one(rt: HostRuntime) -> Result<(), Fail> {
+    let table = table_of(&rt, b"`F(x,)y".as_slice());
+    let outer = id_of(&rt, &table, b"A".as_slice());
+    let inner = id_of(&rt, &table, b"F".as_slice());
+    let mut cursors = opened(&rt, &table, b"A".as_slice(), 3);
+    expect_step(&rt, &mut cursors, &table, CursorStep::Silent);
+    expect_step(&rt, &mut cursors, &table, CursorStep::Silent);
+    expect_step(&rt, &mut cursors, &table, lent(outer, 3, 4));
+    expect_step(&rt, &mut cursors, &table, CursorStep::Silent);
+    expect_step(&rt, &mut cursors, &table, lent(inner, 1, 2));
+    expect_step(&rt, &mut cursors, &table, CursorStep::Silent);
+    let default = TextPlace {
+        source: TextSource::Default {
+            id: inner,
+            place: 1,
+        },
+        from: 0,
+        end: 1,
+    };
+    expect_step(&rt, &mut cursors, &table, CursorStep::Lends(default));
+    expect_step(&rt, &mut cursors, &table, CursorStep::Silent);
+    expect_step(&rt, &mut cursors, &table, CursorStep::Silent);
+    expect_step(&rt, &mut cursors, &table, lent(outer, 6, 7));
+    expect_step(&rt, &mut cursors, &table, CursorStep::Silent);
+    assert!(&rt; cursors.is_empty());
+    Ok(())
+}
+
+#[test]
+fn a_formal_in_an_actual_is_that_of_the_text_of_its_call(rt: HostRuntime) -> Result<(), Fail> {
+    let table = table_of(&rt, b"`G(x)".as_slice());
+    let outer = id_of(&rt, &table, b"A".as_slice());
+    let mut cursors = opened(&rt, &table, b"A".as_slice(), 5);
+    expect_step(&rt, &mut cursors, &table, CursorStep::Silent);
+    expect_step(&rt, &mut cursors, &table, CursorStep::Silent);
+    expect_step(&rt, &mut cursors, &table, CursorStep::Silent);
+    expect_step(&rt, &mut cursors, &table, CursorStep::Silent);
+    assert_eq!(&rt; cursors.len(), 5);
+    expect_step(&rt, &mut cursors, &table, lent(outer, 3, 4));
+    Ok(())
+}
+
+#[test]
+fn an_empty_actual_needs_a_slot(rt: HostRuntime) -> Result<(), Fail> {
+    let table = table_of(&rt, b"`F(,)".as_slice());
+    let mut cursors = opened(&rt, &table, b"A".as_slice(), 2);
+    expect_step(&rt, &mut cursors, &table, CursorStep::Silent);
+    expect_step(&rt, &mut cursors, &table, wordless(FaultKind::DepthPassed));
+    expect_step(&rt, &mut cursors, &table, wordless(FaultKind::DepthPassed));
+    Ok(())
+}
+
+#[test]
+fn a_call_in_a_source_opens_its_body(rt: HostRuntime) -> Result<(), Fail> {
+    let table = table_of(&rt, b"".as_slice());
+    let id = id_of(&rt, &table, b"F".as_slice());
+    let Ok(mut cursors) = Cursors::new(rt.alloc(), 2) else {
+        panic!(&rt; "no memory");
+    };
+    assert!(&rt; table.arity(id).is_some());
+    assert_eq!(&rt;
+        cursors.open_call(&table, b" x ".as_slice(), id, 7),
+        Err(FaultKind::ArgumentCount)
+    );
+    assert!(&rt; cursors.is_empty());
+    assert_eq!(&rt;
+        cursors.open_call(&table, b" x ,".as_slice(), id, 7),
+        Ok(())
+    );
+    assert_eq!(&rt; cursors.line(), 7);
+    assert_eq!(&rt; cursors.len(), 1);
+    assert_eq!(&rt; cursors.bound(), 2);
+    Ok(())
+}

@@ -1,0 +1,16 @@
+"""The preprocessor for SystemRDL as a library.
+
+    >>> import rdlpp
+    >>> rdlpp.preprocess(b"`define W 8\\nreg[`W];\\n")
+    b'\\nreg[8];\\n'
+
+It is a layer by ctypes over the library for C, which is in the package.
+"""
+
+from ._faults import Fault, LimitError
+from ._limits import Limits
+from ._library import version
+from ._preprocess import preprocess
+
+__all__ = ["Fault", "LimitError", "Limits", "preprocess", "version"]
+__version__ = version()

@@ -1,0 +1,58 @@
+"""The worked cases of the profile, over files in a mapping."""
+
+import pathlib
+import sys
+import unittest
+
+import rdlpp
+
+sys.path.insert(0, str(pathlib.Path(__file__).resolve().parents[2] / "checks"))
+
+from row_table import ROWS  # noqa: E402
+
+UNBUILT = 99
+OPTIONS = {"--max-line": "line_bytes", "--max-source": "source_bytes", "--max-argument": "argument_bytes"}
+OPTIONS["--max-output"] = "output_bytes"
+
+
+def asked(words):
+    """What the words of a row ask for, as arguments of a call."""
+    limits, defines, folders = {}, {}, []
+    given = {"include_dirs": folders, "defines": defines, "origins": "--origins" in words}
+    pairs = iter(word for word in words if word != "--origins")
+    for option, value in zip(pairs, pairs):
+        if option == "-D":
+            name, _, text = value.partition("=")
+            defines[name] = text
+        elif option == "-I":
+            folders.append(value)
+        else:
+            limits[OPTIONS.get(option, option[len("--max-") :].replace("-", "_"))] = int(value)
+    return {**given, "limits": rdlpp.Limits(**limits)}
+
+
+class Rows(unittest.TestCase):
+    def check_row(self, row):
+        """Runs a row; answers whether it met what isn't built, after a beginning of its output."""
+        try:
+            output, fault = rdlpp.preprocess(row.main, files=row.files, **asked(row.words)), ""
+        except rdlpp.Fault as caught:
+            output, fault = caught.output, str(caught)
+            if caught.number == UNBUILT:
+                self.assertTrue(row.output.startswith(output))
+                return True
+        if row.needs and (output, fault) != (row.output, row.fault):
+            return True
+        self.assertEqual((output, fault), (row.output, row.fault))
+        return False
+
+    def test_each_row(self):
+        skipped = 0
+        for row in ROWS:
+            with self.subTest(row.name):
+                skipped += self.check_row(row)
+        self.assertLess(skipped, len(ROWS))
+
+
+if __name__ == "__main__":
+    unittest.main()

@@ -1,0 +1,63 @@
+"""Writes the wheel: the package and the shared library, which has to be built before.
+
+A build backend of its own, since a wheel is one archive and nothing is compiled here; it needs neither
+setuptools nor wheel, nor a network. `make python` runs it, and so does `pip wheel`.
+"""
+
+import base64
+import hashlib
+import pathlib
+import sys
+import zipfile
+
+HERE = pathlib.Path(__file__).resolve().parent
+LIBRARY = HERE.parent / "out" / "librdlpp_c.so"
+NAME = "rdlpp"
+VERSION = "0.1.0"
+TAG = "py3-none-linux_x86_64"
+METADATA = f"""Metadata-Version: 2.1
+Name: {NAME}
+Version: {VERSION}
+Summary: The preprocessor for SystemRDL
+License: MIT OR Apache-2.0
+Requires-Python: >=3.8
+"""
+WHEEL = f"""Wheel-Version: 1.0
+Generator: rdlpp {VERSION}
+Root-Is-Purelib: false
+Tag: {TAG}
+"""
+
+
+def _files():
+    """What the wheel has: each path with its bytes."""
+    if not LIBRARY.exists():
+        sys.exit(f"no {LIBRARY}: run make c first")
+    for file in sorted((HERE / NAME).iterdir()):
+        if file.suffix in (".py", ".typed"):
+            yield f"{NAME}/{file.name}", file.read_bytes()
+    yield f"{NAME}/{LIBRARY.name}", LIBRARY.read_bytes()
+    yield f"{NAME}-{VERSION}.dist-info/METADATA", METADATA.encode()
+    yield f"{NAME}-{VERSION}.dist-info/WHEEL", WHEEL.encode()
+
+
+def _line(path, held):
+    digest = base64.urlsafe_b64encode(hashlib.sha256(held).digest()).rstrip(b"=").decode()
+    return f"{path},sha256={digest},{len(held)}\n"
+
+
+def build_wheel(wheel_directory, config_settings=None, metadata_directory=None):
+    """Writes the wheel into a folder and answers its file's name (PEP 517)."""
+    name = f"{NAME}-{VERSION}-{TAG}.whl"
+    record = f"{NAME}-{VERSION}.dist-info/RECORD"
+    lines = ""
+    with zipfile.ZipFile(pathlib.Path(wheel_directory, name), "w", zipfile.ZIP_DEFLATED) as wheel:
+        for path, held in _files():
+            wheel.writestr(zipfile.ZipInfo(path), held, zipfile.ZIP_DEFLATED)
+            lines += _line(path, held)
+        wheel.writestr(zipfile.ZipInfo(record), f"{lines}{record},,\n", zipfile.ZIP_DEFLATED)
+    return name
+
+
+if __name__ == "__main__":
+    print(build_wheel(sys.argv[1]))
