@@ -6,13 +6,13 @@ use Rattle.rdlpp_source.specs.declared.sinks.Sink.{Ghosts as SinkGhosts}
 use Rattle.rdlpp_table.specs.declared.limits.Limits.{Limits}
 use Rattle.rdlpp_meaning.specs.declared.fault.FaultKind.{FaultKind}
 use Rattle.rdlpp_meaning.specs.Outcome.{Told, Outcome, fails}
-use Rattle.rdlpp_expand.specs.Opening.{Starts, fresh_engine, staged_output, is_device_fault, is_memory_fault}
-use Rattle.rdlpp_expand.specs.Remaining.{left_of}
+use Rattle.rdlpp_steps.specs.Opening.{Starts, fresh_engine, staged_output, is_device_fault, is_memory_fault}
+use Rattle.rdlpp_steps.specs.Remaining.{left_of}
 use Rattle.rdlpp_expand.specs.Run.{Begins, Runs, count_of, fault_of, is_fresh}
 use Rattle.rdlpp_expand.specs.declared.writing.RunFault.{RunFault}
 use Rattle.rdlpp_expand.proofs.RunFacts.{appends_none}
-use Rattle.rdlpp_expand.specs.Engine.{EngineView}
-use Rattle.rdlpp_expand.specs.Steps.{is_call_failed, is_memory_kind, is_read_failed, is_write_failed}
+use Rattle.rdlpp_steps.specs.Engine.{EngineView}
+use Rattle.rdlpp_steps.specs.Steps.{is_call_failed, is_memory_kind, is_read_failed, is_write_failed}
 use Rattle.rdlpp.specs.Definitions.{Pair, Given, Taken, Declined, given, given_in, with_macros}
 use Rattle.rdlpp.specs.Preprocess.{Follows, RunsFresh, WritesOutput, engine_with, is_failure, output_given}
 

@@ -5,7 +5,7 @@ use Rattle.std.proofs.lemmas.List.{drop_more, drop_all}
 use Rattle.rdlpp_table.specs.Table.{Macro}
 use Rattle.rdlpp_table.specs.Define.{Accepted, Defined, Refused, observed, set_of}
 use Rattle.rdlpp_table.specs.declared.fault.DefineFault.{DefineFault}
-use Rattle.rdlpp_expand.specs.Engine.{EngineView}
+use Rattle.rdlpp_steps.specs.Engine.{EngineView}
 use Rattle.rdlpp.specs.Definitions.{Pair, Given, Taken, Declined, given, given_in, refused_definition, with_macros}
 
 -- what definitions come to in the table of an engine, where so many stand before them

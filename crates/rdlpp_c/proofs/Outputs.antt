@@ -4,7 +4,7 @@ use Rattle.rdlpp_source.specs.declared.texts.Texts.{Texts}
 use Rattle.rdlpp_table.specs.Limits.{limit_fault}
 use Rattle.rdlpp_meaning.specs.declared.fault.Fault.{Fault}
 use Rattle.rdlpp_meaning.specs.Outcome.{told, Outcome}
-use Rattle.rdlpp_expand.specs.Opening.{is_device_fault, is_memory_fault}
+use Rattle.rdlpp_steps.specs.Opening.{is_device_fault, is_memory_fault}
 use Rattle.rdlpp.specs.Preprocess.{is_failure, output_of}
 use Rattle.rdlpp_c.specs.Request.{Asked, file_bytes}
 use Rattle.rdlpp_c.specs.Answer.{AreLists, IsOutput, is_failure_kind, text_sources}

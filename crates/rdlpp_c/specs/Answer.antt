@@ -8,7 +8,7 @@ use Rattle.rdlpp_source.specs.Texts.{texts_catalog, left_of}
 use Rattle.rdlpp_table.specs.Limits.{limit_fault}
 use Rattle.rdlpp_meaning.specs.declared.fault.FaultKind.{FaultKind}
 use Rattle.rdlpp_meaning.specs.Outcome.{told, Outcome}
-use Rattle.rdlpp_expand.specs.Steps.{is_memory_kind, is_read_failed, is_write_failed}
+use Rattle.rdlpp_steps.specs.Steps.{is_memory_kind, is_read_failed, is_write_failed}
 use Rattle.rdlpp.specs.Preprocess.{output_of}
 use Rattle.rdlpp.specs.declared.options.Options.{Options}
 use Rattle.rdlpp_c.specs.Request.{Asked, Asks, AreUtf8, definition_bytes, definition_given, file_bytes, text_given}

@@ -1,7 +1,7 @@
 // What a call asks for, as options and sources of `rdlpp`.
 ghost use Rattle.std.specs.Prelude.{◌≡◌, IsUtf8, map, MatchResult};
 ghost use Rattle.std.specs.List.{All};
-ghost use Rattle.rdlpp_expand.specs.Steps.{is_memory_kind, is_read_failed, is_write_failed};
+ghost use Rattle.rdlpp_steps.specs.Steps.{is_memory_kind, is_read_failed, is_write_failed};
 ghost use Rattle.rdlpp_c.specs.Request.{AreUtf8, definition_bytes, definition_given, file_bytes, requested, text_given};
 ghost use Rattle.rdlpp_c.specs.Answer.{AreLists, Gives, is_failure_kind};
 ghost use Rattle.rdlpp_c.specs.declared.asking.Refusal.TheVariants.{BadText, NoMemory};
@@ -155,7 +155,7 @@ fn lists_of<'a>(alloc: Global, request: &Request<'a>) -> Result<Lists<'a>, Refus
 }
 
 // Whether a kind is that of a read that failed.
-#[tactic(auto, unfolding(rdlpp_expand::specs::Steps::is_read_failed))]
+#[tactic(auto, unfolding(rdlpp_steps::specs::Steps::is_read_failed))]
 fn is_read_failure(kind: FaultKind) -> bool
     ensures { result ≡ is_read_failed kind }
 {
@@ -163,7 +163,7 @@ fn is_read_failure(kind: FaultKind) -> bool
 }
 
 // Whether a kind is that of a write that failed.
-#[tactic(auto, unfolding(rdlpp_expand::specs::Steps::is_write_failed))]
+#[tactic(auto, unfolding(rdlpp_steps::specs::Steps::is_write_failed))]
 fn is_write_failure(kind: FaultKind) -> bool
     ensures { result ≡ is_write_failed kind }
 {
@@ -171,7 +171,7 @@ fn is_write_failure(kind: FaultKind) -> bool
 }
 
 // Whether a kind is that of memory that was refused for a source.
-#[tactic(auto, unfolding(rdlpp_expand::specs::Steps::is_memory_kind))]
+#[tactic(auto, unfolding(rdlpp_steps::specs::Steps::is_memory_kind))]
 fn is_memory_failure(kind: FaultKind) -> bool
     ensures { result ≡ is_memory_kind kind }
 {

@@ -1,15 +1,1 @@
-pub mod Calls
-pub mod Work
-pub mod Owed
-pub mod OpenConditionals
-pub mod Engine
-pub mod Held
-pub mod Remaining
-pub mod Includes
-pub mod Steps
-pub mod Moves
-pub mod Lines
-pub mod Conditionals
-pub mod Pieces
-pub mod Opening
 pub mod Run

@@ -18,16 +18,16 @@ ghost use Rattle.rdlpp_cursors.specs.Places.{IsPlaced as IsTextPlaced, place_byt
 ghost use Rattle.rdlpp_front.specs.Names.{IsWordBytes};
 ghost use Rattle.rdlpp_front.specs.Fronts.{HasName, IsDirective, IsNamed, IsText, IsUsage, usage_name};
 ghost use Rattle.rdlpp_usages.specs.Usages.{IsRoomy};
-ghost use Rattle.rdlpp_expand.specs.Conditionals.{unclosed_fault};
-ghost use Rattle.rdlpp_expand.specs.Engine.{AreOpenTexts, IsSoundEngine};
-ghost use Rattle.rdlpp_expand.specs.Held.{IsBounded, held_told};
-ghost use Rattle.rdlpp_expand.specs.Moves.{Ends, IsReady, IsUnowed, ReadsDefine};
-ghost use Rattle.rdlpp_expand.specs.OpenConditionals.{inner_below};
-ghost use Rattle.rdlpp_expand.specs.Owed.{nothing_owed};
-ghost use Rattle.rdlpp_expand.specs.Pieces.{IsPlaced, Lends, answer_of, bytes_at, held_texts, lent_answer, piece_bytes, step_answer};
-ghost use Rattle.rdlpp_expand.specs.Remaining.{output_fault, state_of};
+ghost use Rattle.rdlpp_steps.specs.Conditionals.{unclosed_fault};
+ghost use Rattle.rdlpp_steps.specs.Engine.{AreOpenTexts, IsSoundEngine};
+ghost use Rattle.rdlpp_steps.specs.Held.{IsBounded, held_told};
+ghost use Rattle.rdlpp_steps.specs.Moves.{Ends, IsReady, IsUnowed, ReadsDefine};
+ghost use Rattle.rdlpp_steps.specs.OpenConditionals.{inner_below};
+ghost use Rattle.rdlpp_steps.specs.Owed.{nothing_owed};
+ghost use Rattle.rdlpp_steps.specs.Pieces.{IsPlaced, Lends, answer_of, bytes_at, held_texts, lent_answer, piece_bytes, step_answer};
+ghost use Rattle.rdlpp_steps.specs.Remaining.{output_fault, state_of};
 ghost use Rattle.rdlpp_expand.specs.Run.{write_fault};
-ghost use Rattle.rdlpp_expand.specs.Steps.{IsStarted, Steps, Walks, is_write_failed};
+ghost use Rattle.rdlpp_steps.specs.Steps.{IsStarted, Steps, Walks, is_write_failed};
 ghost use Rattle.rdlpp_expand.specs.contracts.engine.Engine.{the_row};
 
 mod conditional;
@@ -37,12 +37,6 @@ mod opening;
 mod skipping;
 mod usage;
 
-use crate::held::Held;
-use crate::kinds::fault_kind;
-use crate::owed::Owed;
-use crate::phase::Phase;
-use crate::place::{Piece, Place};
-use crate::texts::{copied, copied_fault, word_of};
 use arrayvec::ArrayString;
 use rdlpp_conditions::Conditions;
 use rdlpp_cursors::{CursorFault, CursorStep, TextPlace, text_at};
@@ -51,19 +45,13 @@ use rdlpp_meaning::{Fault, FaultKind};
 use rdlpp_read::{Files, Fill, LogicalLine};
 use rdlpp_scan::{Mode, line_ends_in, reserved};
 use rdlpp_source::Sources;
-use rdlpp_table::{LimitFault, Limits, MacroId, Table};
+use rdlpp_steps::{
+    Held, Owed, Phase, Piece, Place, copied, copied_fault, fault_kind, word_of,
+};
+use rdlpp_table::{Limits, MacroId, Table};
 use rdlpp_usages::Expansion;
 use std::alloc::Global;
 use std::marker::Model;
-
-/// Why an engine can't be made. The sources are dropped.
-#[derive(Clone, Copy, Debug, PartialEq, Eq)]
-pub enum NewFault {
-    /// A limit is out of its range.
-    BadLimits(LimitFault),
-    /// There was no memory.
-    NoMemory,
-}
 
 /// Preprocesses one main text of its sources.
 #[derive(Drop)]
@@ -87,7 +75,7 @@ pub struct Engine<S: Sources> {
 impl<S: Sources> Model for Engine<S> {
     ghost use Rattle.std.specs.Option.{option_map};
     ghost use Rattle.rdlpp_meaning.specs.Outcome.{told};
-    ghost use Rattle.rdlpp_expand.specs.Engine.{EngineView, IsWholeEngine};
+    ghost use Rattle.rdlpp_steps.specs.Engine.{EngineView, IsWholeEngine};
 
     ghost Value = { EngineView S S.Reader };
 
@@ -616,7 +604,7 @@ impl<S: Sources> Engine<S> {
 
     // Keeps that more bytes are due than the output may have, which is told at line 0 under the main
     // text's name.
-    #[tactic(auto, unfolding(rdlpp_meaning::specs::Outcome::told, crate::specs::Remaining::output_fault))]
+    #[tactic(auto, unfolding(rdlpp_meaning::specs::Outcome::told, rdlpp_steps::specs::Remaining::output_fault))]
     fn refuse_output(&mut self) -> Place
         ensures place { result ≡ Place.Kept }
         ensures kept { self.new ≡ record self.old { kept = Some (output_fault self.old.main) } }
@@ -708,7 +696,7 @@ impl<S: Sources> Engine<S> {
 }
 
 // Whether a kind is that of a write that failed.
-#[tactic(auto, unfolding(crate::specs::Steps::is_write_failed))]
+#[tactic(auto, unfolding(rdlpp_steps::specs::Steps::is_write_failed))]
 fn is_write_failure(kind: FaultKind) -> bool
     ensures { result ≡ is_write_failed kind }
 {

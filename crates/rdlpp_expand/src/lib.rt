@@ -2,17 +2,9 @@
 #![tactic(auto)]
 
 mod engine;
-mod held;
-mod kinds;
-mod owed;
-mod phase;
-mod place;
-mod texts;
 mod writing;
 
-pub use engine::{Engine, NewFault};
-pub use held::Held;
-pub use kinds::fault_kind;
-pub use place::Piece;
+pub use engine::Engine;
 pub use rdlpp_meaning::{Fault, FaultKind, laws};
+pub use rdlpp_steps::{Held, NewFault, Piece, fault_kind};
 pub use writing::{RunFault, run};

@@ -3,12 +3,12 @@ ghost use Rattle.std.specs.Prelude.{◌≡◌, ◌≤◌, length, take, false, n
 ghost use Rattle.std.specs.Io.KnownBytes.{Appends};
 ghost use Rattle.rdlpp_source.specs.Counts.{Counts};
 ghost use Rattle.rdlpp_expand.specs.Run.{Flushes, Pulls, Runs, Unflushed, Wrote, count_of, fault_of};
-ghost use Rattle.rdlpp_expand.specs.Steps.{IsStarted};
+ghost use Rattle.rdlpp_steps.specs.Steps.{IsStarted};
 
 use crate::engine::Engine;
-use crate::place::Piece;
 use rdlpp_meaning::Fault;
 use rdlpp_source::{Sink, Sources};
+use rdlpp_steps::Piece;
 
 /// Why a run ended before the end of the output.
 #[derive(Drop, Debug)]

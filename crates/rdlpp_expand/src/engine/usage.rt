@@ -6,18 +6,17 @@ ghost use Rattle.rdlpp_meaning.specs.Stage.{is_unbuilt_macro};
 ghost use Rattle.rdlpp_read.specs.Buffer.{held_of};
 ghost use Rattle.rdlpp_read.specs.Files.{inner_buffer};
 ghost use Rattle.rdlpp_front.specs.Fronts.{IsUsage, usage_name};
-ghost use Rattle.rdlpp_expand.specs.Held.{IsBounded};
-ghost use Rattle.rdlpp_expand.specs.Moves.{IsReady, OpensUsage};
-ghost use Rattle.rdlpp_expand.specs.Pieces.{IsPlaced, lent_answer, step_answer};
-ghost use Rattle.rdlpp_expand.specs.Steps.{Walks};
+ghost use Rattle.rdlpp_steps.specs.Held.{IsBounded};
+ghost use Rattle.rdlpp_steps.specs.Moves.{IsReady, OpensUsage};
+ghost use Rattle.rdlpp_steps.specs.Pieces.{IsPlaced, lent_answer, step_answer};
+ghost use Rattle.rdlpp_steps.specs.Steps.{Walks};
 
 use super::Engine;
-use crate::place::Place;
-use crate::texts::word_of;
 use arrayvec::ArrayString;
 use rdlpp_meaning::FaultKind;
 use rdlpp_scan::Mode;
 use rdlpp_source::Sources;
+use rdlpp_steps::{Place, word_of};
 use rdlpp_table::{MacroId, Table};
 use rdlpp_usages::Opening;
 

@@ -1,5 +1,5 @@
 use Rattle.std.proofs.Common.{Ok, false, true, sym, ap, ◌∙◌}
-use Rattle.rdlpp_expand.specs.Pieces.{answer_of}
+use Rattle.rdlpp_steps.specs.Pieces.{answer_of}
 use Rattle.rdlpp_expand.proofs.RunFacts.{answer_step, counts_as, pulled_whole, pulled_part, pulled_none, pulled_fault}
 use Rattle.rdlpp_expand.proofs.writing.pull.Goals as goal
 

@@ -1,6 +1,6 @@
 use Rattle.std.proofs.Common.{None}
 use Rattle.rdlpp_expand.specs.Run.{Wrote}
-use Rattle.rdlpp_expand.specs.Remaining.{work_left}
+use Rattle.rdlpp_steps.specs.Remaining.{work_left}
 use Rattle.rdlpp_expand.proofs.writing.write_output.Given as goal
 
 abbrev pub invariant-loop-ending : goal.invariant-loop-ending

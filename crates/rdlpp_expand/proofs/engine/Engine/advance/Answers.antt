@@ -1,6 +1,6 @@
 use Rattle.std.proofs.Common.{refl}
-use Rattle.rdlpp_expand.proofs.EngineSteps.{follows}
-use Rattle.rdlpp_expand.proofs.Cuts.{cut_body, cut_end, cut_kept, cut_owed, cut_source, cut_text, owed_placed, text_cut_placed}
+use Rattle.rdlpp_steps.proofs.EngineSteps.{follows}
+use Rattle.rdlpp_steps.proofs.Cuts.{cut_body, cut_end, cut_kept, cut_owed, cut_source, cut_text, owed_placed, text_cut_placed}
 use Rattle.rdlpp_expand.proofs.engine.Engine.advance.Goals as goal
 
 pub returns-in-Source-clause-steps : goal.returns-in-Source-clause-steps

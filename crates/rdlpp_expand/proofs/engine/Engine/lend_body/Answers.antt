@@ -1,7 +1,7 @@
 use Rattle.std.proofs.Common.{◌≡◌, length, ap, ◌∙◌, arith}
 use Rattle.rdlpp_table.specs.View.{macro_at}
 use Rattle.rdlpp_front.proofs.Insides.{usage_inside}
-use Rattle.rdlpp_expand.proofs.FrontSteps.{take_usage}
+use Rattle.rdlpp_steps.proofs.FrontSteps.{take_usage}
 use Rattle.rdlpp_expand.proofs.engine.Engine.lend_body.Goals as goal
 
 pub consume-requires-clause-inside : goal.consume-requires-clause-inside

@@ -1,9 +1,9 @@
 use Rattle.std.proofs.Common.{◌≡◌, ap, ◌∙◌, refl, arith}
 use Rattle.rdlpp_read.specs.Buffer.{held_of, reading_line_of}
 use Rattle.rdlpp_read.specs.Files.{inner_buffer}
-use Rattle.rdlpp_expand.proofs.Soundness.{inner_facts}
-use Rattle.rdlpp_expand.proofs.FrontSteps.{line_ends-le}
-use Rattle.rdlpp_expand.proofs.WorkFacts.{held_room}
+use Rattle.rdlpp_steps.proofs.Soundness.{inner_facts}
+use Rattle.rdlpp_steps.proofs.FrontSteps.{line_ends-le}
+use Rattle.rdlpp_steps.proofs.WorkFacts.{held_room}
 use Rattle.rdlpp_expand.proofs.engine.Engine.refuse_read.Goals as goal
 
 pub refuse_at-requires-clause-line : goal.refuse_at-requires-clause-line

@@ -1,9 +1,9 @@
 use Rattle.std.proofs.Common.{◌≡◌, take, Some, ap, ◌∙◌}
 use Rattle.rdlpp_cursors.specs.Places.{place_bytes, texts_of}
 use Rattle.rdlpp_meaning.specs.State.{fault_at}
-use Rattle.rdlpp_expand.specs.Pieces.{held_texts}
-use Rattle.rdlpp_expand.specs.Remaining.{state_of}
-use Rattle.rdlpp_expand.proofs.FrontSteps.{kept_cut}
+use Rattle.rdlpp_steps.specs.Pieces.{held_texts}
+use Rattle.rdlpp_steps.specs.Remaining.{state_of}
+use Rattle.rdlpp_steps.proofs.FrontSteps.{kept_cut}
 use Rattle.rdlpp_expand.proofs.engine.Engine.refuse_text.Goals as goal
 
 pub returns-clause-kept : goal.returns-clause-kept

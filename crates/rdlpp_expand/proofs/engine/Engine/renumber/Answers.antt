@@ -3,9 +3,9 @@ use Rattle.std.proofs.lemmas.List.{length-take-le}
 use Rattle.rdlpp_scan.specs.SourceTokens.{line_ends}
 use Rattle.rdlpp_read.specs.Buffer.{held_of}
 use Rattle.rdlpp_read.specs.Files.{inner_buffer}
-use Rattle.rdlpp_expand.specs.Owed.{OwedView, nothing_owed, origin_owed}
-use Rattle.rdlpp_expand.proofs.FrontSteps.{line_ends-le, owing}
-use Rattle.rdlpp_expand.proofs.LineSteps.{renumbers_by}
+use Rattle.rdlpp_steps.specs.Owed.{OwedView, nothing_owed, origin_owed}
+use Rattle.rdlpp_steps.proofs.FrontSteps.{line_ends-le, owing}
+use Rattle.rdlpp_steps.proofs.LineSteps.{renumbers_by}
 use Rattle.rdlpp_expand.proofs.engine.Engine.renumber.Goals as goal
 
 pub consume-requires-clause-lines : goal.consume-requires-clause-lines

@@ -1,8 +1,8 @@
 use Rattle.std.proofs.Common.{◌≡◌, ◌<◌, Ok, Err, false, length, sym, ap, ◌∙◌}
 use Rattle.rdlpp_read.specs.Buffer.{held_of}
 use Rattle.rdlpp_read.specs.Files.{inner_buffer}
-use Rattle.rdlpp_expand.specs.Includes.{Refuses, given_name, inner_path, is_bad_name}
-use Rattle.rdlpp_expand.proofs.EnterSteps.{searches_by}
+use Rattle.rdlpp_steps.specs.Includes.{Refuses, given_name, inner_path, is_bad_name}
+use Rattle.rdlpp_steps.proofs.EnterSteps.{searches_by}
 use Rattle.rdlpp_expand.proofs.engine.Engine.seek.Goals as goal
 use Rattle.rdlpp_expand.proofs.engine.Engine.seek.Goals.{in-Ok, in-Err}
 

@@ -5,9 +5,9 @@ use Rattle.rdlpp_meaning.specs.declared.fault.FaultKind.TheVariants as fault
 use Rattle.rdlpp_read.specs.Buffer.{held_of}
 use Rattle.rdlpp_read.specs.Files.{inner_buffer}
 use Rattle.rdlpp_front.proofs.DefineLeft.{define_inside}
-use Rattle.rdlpp_expand.proofs.EngineSteps.{called}
-use Rattle.rdlpp_expand.proofs.FrontSteps.{IsRead, fails_reading, held_few, left_unheld, line_ends-le, line_kind, opened_phase, refuses, slid, source_kind}
-use Rattle.rdlpp_expand.proofs.PassSteps.{define_steps, left_cut, left_long, skipping}
+use Rattle.rdlpp_steps.proofs.EngineSteps.{called}
+use Rattle.rdlpp_steps.proofs.FrontSteps.{IsRead, fails_reading, held_few, left_unheld, line_ends-le, line_kind, opened_phase, refuses, slid, source_kind}
+use Rattle.rdlpp_steps.proofs.PassSteps.{define_steps, left_cut, left_long, skipping}
 use Rattle.rdlpp_expand.proofs.engine.Engine.skip_define.Goals as goal
 
 pub slice_bounds-line_ends_in-end : goal.slice_bounds-line_ends_in-end

@@ -1,7 +1,7 @@
 use Rattle.std.proofs.Common.{◌≡◌, ◌<◌, List, ℕ, length, sym, ap, ◌∙◌, subst, arith}
-use Rattle.rdlpp_expand.specs.Owed.{OwedView, TakesPiece}
-use Rattle.rdlpp_expand.specs.Remaining.{inner_name}
-use Rattle.rdlpp_expand.proofs.FrontSteps.{opened_phase, owed_is_placed, owing, owing_same, take_owed, unowed_by}
+use Rattle.rdlpp_steps.specs.Owed.{OwedView, TakesPiece}
+use Rattle.rdlpp_steps.specs.Remaining.{inner_name}
+use Rattle.rdlpp_steps.proofs.FrontSteps.{opened_phase, owed_is_placed, owing, owing_same, take_owed, unowed_by}
 use Rattle.rdlpp_expand.proofs.engine.Engine.step_open.Goals as goal
 
 pub file-requires : goal.file-requires

@@ -2,7 +2,7 @@ use Rattle.std.proofs.Common.{subst}
 use Rattle.rdlpp_cursors.specs.Places.{texts_of}
 use Rattle.rdlpp_cursors.specs.Steps.{AreSound}
 use Rattle.rdlpp_usages.specs.Usages.{StaysOpen}
-use Rattle.rdlpp_expand.proofs.TextSteps.{HoldsTexts, TakesTexts, fault_text, lend_step, opening, placed_lent, placed_word, refuse_step, turn_step}
+use Rattle.rdlpp_steps.proofs.TextSteps.{HoldsTexts, TakesTexts, fault_text, lend_step, opening, placed_lent, placed_word, refuse_step, turn_step}
 use Rattle.rdlpp_expand.proofs.engine.Engine.step_text.Goals as goal
 
 pub refuse_text-requires-clause-placed : goal.refuse_text-requires-clause-placed

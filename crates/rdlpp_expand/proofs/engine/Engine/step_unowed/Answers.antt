@@ -1,6 +1,6 @@
 use Rattle.std.proofs.Common.{◌≡◌, [], sym, ap, ◌∙◌}
-use Rattle.rdlpp_expand.proofs.FrontSteps.{ready_idle}
-use Rattle.rdlpp_expand.proofs.TextSteps.{none_open, some_open}
+use Rattle.rdlpp_steps.proofs.FrontSteps.{ready_idle}
+use Rattle.rdlpp_steps.proofs.TextSteps.{none_open, some_open}
 use Rattle.rdlpp_expand.proofs.engine.Engine.step_unowed.Goals as goal
 
 pub step_sources-requires : goal.step_sources-requires

@@ -1,5 +1,5 @@
 use Rattle.std.proofs.Common.{[], inl, inr, refl}
-use Rattle.rdlpp_expand.proofs.EngineSteps.{passes_on, passes_started}
+use Rattle.rdlpp_steps.proofs.EngineSteps.{passes_on, passes_started}
 use Rattle.rdlpp_expand.proofs.engine.Engine.walk.Goals as goal
 
 pub stepping-init : goal.stepping-init

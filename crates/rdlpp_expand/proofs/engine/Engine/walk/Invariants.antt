@@ -1,5 +1,5 @@
-use Rattle.rdlpp_expand.specs.Remaining.{work_left}
-use Rattle.rdlpp_expand.proofs.EngineSteps.{Passes}
+use Rattle.rdlpp_steps.specs.Remaining.{work_left}
+use Rattle.rdlpp_steps.proofs.EngineSteps.{Passes}
 use Rattle.rdlpp_expand.proofs.engine.Engine.walk.Given as goal
 
 abbrev pub invariant-stepping : goal.invariant-stepping

@@ -1,6 +1,6 @@
 use Rattle.std.proofs.Common.{◌∙◌, refl}
 use Rattle.rdlpp_table.specs.View.{macro_at}
-use Rattle.rdlpp_expand.proofs.CopiedMacros.{built_test}
+use Rattle.rdlpp_steps.proofs.CopiedMacros.{built_test}
 use Rattle.rdlpp_expand.proofs.engine.usage.is_copied.Goals as goal
 
 pub returns-then-is_none : goal.returns-then-is_none

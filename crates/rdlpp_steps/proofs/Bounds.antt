@@ -1,0 +1,33 @@
+-- The bytes that are held are within their bound.
+use Rattle.std.proofs.Common.{◌≡◌, ℕ, ◌+◌, ◌*◌, ◌^◌, ◌≤◌, ◌<◌, ap, ◌∙◌, arith}
+use Rattle.std.proofs.Math.Nat.{mul-le-mul_right}
+use Rattle.rdlpp_table.proofs.Sizes.{length_table_bytes}
+use Rattle.rdlpp_table.specs.Limits.{AreInRange}
+use Rattle.rdlpp_table.specs.declared.limits.Limits.{Limits}
+use Rattle.rdlpp_read.proofs.Slots.{held-bound, held_windows-len}
+use Rattle.rdlpp_read.specs.Files.{AreOpen}
+use Rattle.rdlpp_usages.specs.Usages.{IsRoomy}
+use Rattle.rdlpp_steps.specs.Engine.{AreOpenTexts, EngineView, IsSoundEngine}
+use Rattle.rdlpp_steps.specs.Held.{IsBounded, stores_of, held_bytes, bound_of}
+
+-- an engine whose stores are within their limits is within the bound
+pub is_bounded : {S R : Type 0} (e : EngineView S R) → IsSoundEngine e.limits e.phase e.table e.files e.conditions → AreOpen e.files
+    → AreOpenTexts e.limits e.phase e.table.macros e.expansion → IsRoomy e.expansion → IsBounded e
+unfolding IsBounded stores_of held_bytes bound_of
+is_bounded e sound files texts room =
+    let windows = held_windows-len e.files.nest in
+    let most = held-bound e.files files in
+    let slots : e.files.slots * e.files.line_bytes ≡ (e.limits.includes + 1) * e.limits.line_bytes =
+    ap (λ (n : ℕ). n * e.files.line_bytes) sound.slots ∙ ap (λ (n : ℕ). (e.limits.includes + 1) * n) sound.line_bytes in
+    let kept = room.fits in
+    let most_kept = texts.most_is in
+    let size = sound.size in
+    let bytes = sound.definition_bytes in
+    omega (arith, length_table_bytes e.table.macros)
+
+-- as many bytes as all buffers have can be counted
+pub slots_fit : (limits : Limits) → AreInRange limits → (limits.includes + 1) * limits.line_bytes < 2 ^ 64
+slots_fit limits range =
+    let most : (limits.includes + 1) * limits.line_bytes ≤ 65 * limits.line_bytes = mul-le-mul_right limits.line_bytes (omega (arith, range.includes.1)) in
+    let lines = range.line_bytes.1 in
+    omega arith

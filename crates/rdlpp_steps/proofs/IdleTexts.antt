@@ -1,0 +1,40 @@
+-- Where no text of a usage is open, the text goes on in the open sources.
+use Rattle.std.proofs.Common.{◌≡◌, false, List, [], refl, ap}
+use Rattle.rdlpp_source.specs.declared.sources.Sources.{Ghosts}
+use Rattle.rdlpp_table.specs.Table.{Macro}
+use Rattle.rdlpp_meaning.specs.Cursors.{left}
+use Rattle.rdlpp_meaning.specs.Meaning.{Passage, behind_bytes, goes_on, leaves}
+use Rattle.rdlpp_meaning.specs.Opens.{Open, Texts, slots_of}
+use Rattle.rdlpp_meaning.specs.Outcome.{gives}
+use Rattle.rdlpp_meaning.specs.Profile.{rules_of}
+use Rattle.rdlpp_meaning.specs.Slots.{cursors_of}
+use Rattle.rdlpp_meaning.specs.State.{Rules, State}
+use Rattle.rdlpp_cursors.specs.Places.{texts_of}
+use Rattle.rdlpp_cursors.specs.Steps.{AreSound}
+use Rattle.rdlpp_usages.specs.Usages.{ExpansionView, texts_left}
+use Rattle.rdlpp_steps.specs.Engine.{EngineView}
+use Rattle.rdlpp_steps.specs.Owed.{owed_bytes}
+use Rattle.rdlpp_steps.specs.Remaining.{inner_name, nest_left, run_rules, staged_rules, state_of, text_of}
+
+-- every macro is built in a run
+pub all_built : {S R : Type 0} (g : Ghosts S R) (e : EngineView S R) (m : Macro) → (run_rules g e).unbuilt_macro m ≡ false
+unfolding staged_rules rules_of
+all_built g e m = refl
+
+-- nothing remains of no text
+pub silent_texts : (rules : Rules) (s : State) (macros : List Macro) (x : ExpansionView) (p : Passage) → x.opens ≡ [] → goes_on (texts_left rules s macros x) (λ after. p) ≡ p
+unfolding texts_left goes_on leaves left cursors_of slots_of gives behind_bytes
+silent_texts rules s macros x p idle =
+    ap (λ (os : List Open). goes_on (leaves (left rules s x.line (cursors_of x.depth (slots_of (texts_of macros x.arguments) os))) s) (λ after. p)) idle
+
+-- no text is sound
+pub none_sound : (texts : Texts) (opens : List Open) → opens ≡ [] → AreSound texts opens
+none_sound texts opens none = rw none (record { are_open = tt; are_inside = tt; are_kept = tt })
+
+-- what remains of the text where no text of a usage is open
+pub text_idle : {S R : Type 0} (g : Ghosts S R) (e : EngineView S R) → e.expansion.opens ≡ []
+    → text_of g e ≡ behind_bytes (owed_bytes (inner_name e.files.nest) e.owed) (nest_left e.limits (run_rules g e) g.unread e.table.macros e.conditions e.files.nest)
+unfolding text_of
+text_idle g e idle =
+    ap (behind_bytes (owed_bytes (inner_name e.files.nest) e.owed))
+    (silent_texts (run_rules g e) (state_of e) e.table.macros e.expansion (nest_left e.limits (run_rules g e) g.unread e.table.macros e.conditions e.files.nest) idle)

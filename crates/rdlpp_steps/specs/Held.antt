@@ -1,0 +1,48 @@
+-- The held stores, and their bound.
+-- A definition that names no source is this project's own.
+use Rattle.std.specs.Prelude.{ℕ, ◌+◌, ◌*◌, ◌≤◌, List, length, sum_by}
+use Rattle.rdlpp_table.specs.Table.{table_bytes}
+use Rattle.rdlpp_table.specs.declared.limits.Limits.{Limits}
+use Rattle.rdlpp_read.specs.Files.{held_windows}
+use Rattle.rdlpp_cursors.specs.Opened.{bound_by}
+use Rattle.rdlpp_steps.specs.Engine.{EngineView}
+use Rattle.rdlpp_steps.specs.declared.held.Held.{Held}
+
+-- the three stores whose bytes are counted: those of the live definitions, of the open call's kept text, and for each open
+-- source a part of its text, outermost first (this project's profile)
+pub record Stores : Type 0 where
+  pub definitions : List ℕ
+  pub arguments : List ℕ
+  pub buffers : List (List ℕ)
+
+-- the stores of an engine (this project's profile)
+unfoldable pub stores_of : {S R : Type 0} → EngineView S R → Stores
+stores_of e = record {
+  definitions = table_bytes e.table.macros;
+  arguments = e.expansion.arguments;
+  buffers = held_windows e.files.nest;
+}
+
+-- how many bytes are held
+unfoldable pub held_bytes : Stores → ℕ
+held_bytes s = length s.definitions + (length s.arguments + sum_by length s.buffers)
+
+-- the most bytes that are held (this project's profile)
+unfoldable pub bound_of : Limits → ℕ
+bound_of limits = limits.definition_bytes + (limits.argument_bytes + (limits.includes + 1) * limits.line_bytes)
+
+-- the bytes that are held are within their bound (this project's profile)
+unfoldable pub IsBounded : {S R : Type 0} → EngineView S R → Type 0
+IsBounded e = held_bytes (stores_of e) ≤ bound_of e.limits
+
+-- what an engine tells of what it holds (this project's profile)
+unfoldable pub held_told : {S R : Type 0} → EngineView S R → Held
+held_told e = let s = stores_of e in record {
+  definitions = length s.definitions;
+  arguments = length s.arguments;
+  buffers = sum_by length s.buffers;
+  cursors = length e.expansion.opens;
+  bindings = bound_by e.expansion.opens;
+  conditions = length e.conditions.open_now;
+  sources = length e.files.nest;
+}

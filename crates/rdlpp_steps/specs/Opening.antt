@@ -1,0 +1,114 @@
+-- How an engine is made, and how its main text is opened.
+-- A definition that names no source is this project's own.
+use Rattle.std.specs.Prelude.{◌≡◌, ℕ, Bool, false, ◌+◌, List, [], ◌∷◌, Option, None, Some, Result, Ok, Err}
+use Rattle.rdlpp_steps.specs.Calls.{SourcesCalled}
+use Rattle.rdlpp_source.specs.Sources.{Present}
+use Rattle.rdlpp_source.specs.declared.sources.Found.{Found}
+use Rattle.rdlpp_source.specs.declared.sources.Sources.{Ghosts}
+use Rattle.rdlpp_table.specs.Limits.{limit_fault}
+use Rattle.rdlpp_table.specs.declared.limits.Limits.{Limits}
+use Rattle.rdlpp_meaning.specs.declared.fault.Fault.{Fault}
+use Rattle.rdlpp_meaning.specs.Outcome.{Told, told, Outcome}
+use Rattle.rdlpp_meaning.specs.State.{Lookup, NoSource, LongPath, Source}
+use Rattle.rdlpp_meaning.specs.Output.{opening_fault, output}
+use Rattle.rdlpp_steps.specs.Engine.{EngineView}
+use Rattle.rdlpp_read.specs.Files.{entered_file}
+use Rattle.rdlpp_steps.specs.Owed.{nothing_owed, origin_owed}
+use Rattle.rdlpp_steps.specs.Held.{IsBounded}
+use Rattle.rdlpp_steps.specs.Remaining.{left_of, lookup_of, output_fault, run_rules}
+use Rattle.rdlpp_meaning.specs.OutputLimit.{limited}
+use Rattle.rdlpp_steps.specs.Steps.{IsStarted, is_memory_kind, is_read_failed}
+use Rattle.rdlpp_steps.specs.declared.new_fault.NewFault.{NewFault}
+use Rattle.rdlpp_steps.specs.declared.new_fault.NewFault.TheVariants.{BadLimits, NoMemory}
+use Rattle.rdlpp_steps.specs.declared.phase.Phase.TheVariants.{Fresh, Open, Closed}
+
+-- an engine that wasn't started: an empty table, no open conditional, no open source, and no open text of a usage (this project's profile)
+unfoldable pub fresh_engine : {S R : Type 0} → Limits → S → Bool → EngineView S R
+fresh_engine limits sources origins = record {
+  limits = limits;
+  origins = origins;
+  phase = Fresh;
+  quota = limits.output_bytes;
+  kept = None;
+  main = [];
+  owed = nothing_owed;
+  table = record { macros = []; most_bytes = limits.definition_bytes; most_macros = limits.definitions };
+  conditions = record { open_now = []; skipped = None; limit = limits.conditions };
+  sources = sources;
+  files = record { nest = []; slots = limits.includes + 1; line_bytes = limits.line_bytes };
+  expansion = record { opens = []; arguments = []; line = 0; depth = limits.depth; most = limits.argument_bytes };
+}
+
+-- a new engine is fresh, and a limit out of its range is told exactly where there is one (this project's profile)
+abbrev pub Makes : {S R : Type 0} → Limits → S → Bool → Result (EngineView S R) NewFault → Type 0
+Makes limits sources origins (Ok engine) = (limit_fault limits ≡ None) × (engine ≡ fresh_engine limits sources origins)
+Makes limits sources origins (Err (BadLimits fault)) = limit_fault limits ≡ Some fault
+Makes limits sources origins (Err NoMemory) = limit_fault limits ≡ None
+
+-- an engine whose main text was found, before which its origin line is owed, where asked for
+unfoldable pub opened_engine : {S R : Type 0} → EngineView S R → Found R → EngineView S R
+opened_engine e found = record e {
+  phase = Open;
+  quota = e.limits.output_bytes;
+  kept = None;
+  main = found.path.bytes;
+  owed = record { line_ends = 0; origin = origin_owed e.origins 1 };
+  files = record e.files { nest = entered_file found e.limits.source_bytes e.files.line_bytes 0 0 ∷ e.files.nest };
+}
+
+-- an engine whose main text couldn't be opened
+unfoldable pub unopened_engine : {S R : Type 0} → EngineView S R → Told → EngineView S R
+unopened_engine e fault = record e { phase = Closed; kept = Some fault }
+
+-- the name under which a main path is found: its own where it isn't
+unfoldable pub found_name : List ℕ → Lookup → List ℕ
+found_name path NoSource = path
+found_name path LongPath = path
+found_name path (Source found text) = found
+
+-- the output of a main path by what the search for it comes to, with at most as many bytes as the limit says
+unfoldable pub looked_up : {S R : Type 0} → Ghosts S R → EngineView S R → List ℕ → Lookup → Outcome
+looked_up g e path lookup =
+    limited (output_fault (found_name path lookup)) e.limits.output_bytes
+    (output (run_rules g e) e.table.macros e.limits.includes e.limits.conditions path lookup)
+
+-- the output of a main path, where no opening fails (this project's profile)
+unfoldable pub staged_output : {S R : Type 0} → Ghosts S R → EngineView S R → List ℕ → Outcome
+staged_output g e path = looked_up g e path (lookup_of ((g.catalog e.sources).top path))
+
+-- the fault that a start answers
+unfoldable pub start_fault : Result (Unit {0}) Fault → Option Told
+start_fault (Ok done) = None
+start_fault (Err fault) = Some (told fault)
+
+-- whether a start was refused at a device
+unfoldable pub is_device_fault : Option Told → Bool
+is_device_fault None = false
+is_device_fault (Some f) = is_read_failed f.kind
+
+-- whether a start was refused memory
+unfoldable pub is_memory_fault : Option Told → Bool
+is_memory_fault None = false
+is_memory_fault (Some f) = is_memory_kind f.kind
+
+-- a start that found its main text: the engine is as it was, with that text open under the path of the sources, which is the
+-- shown name (this project's profile)
+pub record Opens {S R : Type 0} (g : Ghosts S R) (old new : EngineView S R) (path : List ℕ) : Type 0 where
+  pub found : Found R
+  pub becomes : new ≡ opened_engine (record old { sources = new.sources }) found
+  pub text : g.tells old.sources → (g.catalog old.sources).top path ≡ Present found.path.bytes (g.unread found.reader)
+
+-- what a start does: it keeps what it answers; the counts of failures; the text that was opened, or the fault of the opening
+-- for that path, where nothing else changed; the output that remains is that of the main path (this project's profile)
+pub record Starts {S R : Type 0} (g : Ghosts S R) (old new : EngineView S R) (path : List ℕ) (answer : Option Told) : Type 0 where
+  pub limits : new.limits ≡ old.limits
+  pub origins : new.origins ≡ old.origins
+  pub table : new.table ≡ old.table
+  pub started : IsStarted new
+  pub keeps : new.kept ≡ answer
+  pub opens : answer ≡ None → Opens g old new path
+  pub refused : (f : Told) → answer ≡ Some f → (f ≡ opening_fault f.kind path) × (new ≡ unopened_engine (record old { sources = new.sources }) f)
+  pub call : SourcesCalled g (is_device_fault answer) (is_memory_fault answer) old.sources new.sources
+  pub remains_output : is_device_fault answer ≡ false → is_memory_fault answer ≡ false → g.tells old.sources
+      → left_of g new ≡ staged_output g old path
+  pub bounded : IsBounded new

@@ -1,0 +1,18 @@
+//! The parts of the engine: what it holds and owes, where a piece of the output stands, and the laws of its steps.
+#![tactic(auto)]
+
+mod held;
+mod kinds;
+mod new_fault;
+mod owed;
+mod phase;
+mod place;
+mod texts;
+
+pub use held::Held;
+pub use kinds::fault_kind;
+pub use new_fault::NewFault;
+pub use owed::{Owed, OwedPart, OwedPiece};
+pub use phase::Phase;
+pub use place::{Piece, Place};
+pub use texts::{copied, copied_fault, word_of};

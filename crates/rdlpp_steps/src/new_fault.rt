@@ -1,0 +1,12 @@
+// Why there is no engine.
+
+use rdlpp_table::LimitFault;
+
+/// Why an engine can't be made. The sources are dropped.
+#[derive(Clone, Copy, Debug, PartialEq, Eq)]
+pub enum NewFault {
+    /// A limit is out of its range.
+    BadLimits(LimitFault),
+    /// There was no memory.
+    NoMemory,
+}
