@@ -19,6 +19,7 @@ use rdlpp_front::Argument;
 use rdlpp_meaning::FaultKind;
 use rdlpp_scan::Mode;
 use rdlpp_source::{Found, Sources};
+use rdlpp_steps::{Phase, Place};
 
 impl<S: Sources> Engine<S> {
     // Takes an `include`, which is given a string or none, and lends nothing.
