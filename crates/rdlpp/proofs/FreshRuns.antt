@@ -6,7 +6,7 @@ use Rattle.rdlpp_source.specs.declared.sinks.Sink.{Ghosts as SinkGhosts}
 use Rattle.rdlpp_table.specs.declared.limits.Limits.{Limits}
 use Rattle.rdlpp_meaning.specs.declared.fault.FaultKind.{FaultKind}
 use Rattle.rdlpp_meaning.specs.Outcome.{Told, Outcome, fails}
-use Rattle.rdlpp_steps.specs.Opening.{Starts, fresh_engine, staged_output, is_device_fault, is_memory_fault}
+use Rattle.rdlpp_steps.specs.Opening.{Starts, fresh_engine, looked_up_output, is_device_fault, is_memory_fault}
 use Rattle.rdlpp_steps.specs.Remaining.{left_of}
 use Rattle.rdlpp_expand.specs.Run.{Begins, Runs, count_of, fault_of, is_fresh}
 use Rattle.rdlpp_expand.specs.declared.writing.RunFault.{RunFault}
@@ -69,13 +69,13 @@ begins_output bytes (Some f) left output h k b = begins_empty bytes output (h f 
 writes_output : {S R W : Type 0} (g : Ghosts S R) (h : SinkGhosts W) (fresh : EngineView S R) (path : List ℕ)
     (before after : W) (count : ℕ) (fault : Option Told)
     → RunsFresh g h fresh path before after count fault → g.tells fresh.sources
-    → WritesOutput (h.taken before) (h.taken after) (staged_output g fresh path) count fault
+    → WritesOutput (h.taken before) (h.taken after) (looked_up_output g fresh path) count fault
 unfolding is_device_fault is_memory_fault
 writes_output g h fresh path before after count fault r tells =
     let again : (f : Told) → r.opening ≡ Some f → fault ≡ Some f = λ f e. (r.runs.again f (r.starts.keeps ∙ e)).0 in
     let none : (f : Told) → r.opening ≡ Some f → r.runs.bytes ≡ [] = λ f e. (r.runs.again f (r.starts.keeps ∙ e)).1 in
     let told : g.tells r.started.sources = r.starts.call.tells tells in
-    let remains : is_device_fault r.opening ≡ false → is_memory_fault r.opening ≡ false → left_of g r.started ≡ staged_output g fresh path = λ d m. r.starts.remains_output d m tells in
+    let remains : is_device_fault r.opening ≡ false → is_memory_fault r.opening ≡ false → left_of g r.started ≡ looked_up_output g fresh path = λ d m. r.starts.remains_output d m tells in
     record {
       bytes = r.runs.bytes;
       taken = r.runs.taken;

@@ -6,8 +6,8 @@ use crate::PrepFault;
 
 /// The exit status that tells how a run ended (this project's profile).
 ///
-/// 0 where it went to the end; 1 where the text has a fault, F1 to F31, F35 or 99; 2 where a limit is out
-/// of its range; 3 where a device failed or memory was refused, F32 to F34 or want of memory.
+/// 0 where it went to the end; 1 where the text has a fault, F1 to F31 or F35; 2 where a limit is out of its
+/// range; 3 where a device failed or memory was refused, F32 to F34 or want of memory.
 pub fn exit_status(outcome: &Result<u64, PrepFault>) -> u8
     ensures { result ≡ status_of outcome.now }
 {

@@ -7,7 +7,7 @@ use rdlpp::FaultKind;
 use std::fmt::Write as _;
 
 // All kinds of faults.
-const KINDS: [FaultKind; 36] = [
+const KINDS: [FaultKind; 35] = [
     FaultKind::EmbeddedPerl,
     FaultKind::OpenString,
     FaultKind::OpenComment,
@@ -43,7 +43,6 @@ const KINDS: [FaultKind; 36] = [
     FaultKind::WriteFailed,
     FaultKind::SourceMemory,
     FaultKind::OutputBytes,
-    FaultKind::Unbuilt,
 ];
 
 // The text of the kind with a number, which has at most 64 bytes; empty where no kind has it.

@@ -152,15 +152,15 @@ source_breaks rules line name ts m fs f own e = ap (token_usage_of_call m fs lin
 -- remains behind its call
 pub resumed_bound : (rules : Rules) (os : List Progress) (first : Bool) (name : List ℕ) (line : ℕ) (ts : List SourceToken) (s : State) (d : ℕ) (m : Macro)
     (fs : List Formal) (bytes : List ℕ) (ranges : List Range) (behind : List SourceToken) (b : OpensBound rules line name ts m fs bytes ranges behind)
-    → is_reserved name ≡ false → rules.depth ≡ suc d → macro_named s.macros name ≡ Some m → rules.unbuilt_macro m ≡ false → m.formals ≡ Some fs
+    → is_reserved name ≡ false → rules.depth ≡ suc d → macro_named s.macros name ≡ Some m → m.formals ≡ Some fs
     → resumed rules (Live os) first (usage_token name line ∷ ts) s
     ≡ goes_on (leaves (left rules s line (first_cursor m (ranges_tokens bytes ranges) d ∷ [])) s)
     (λ after. resumed rules (Live os) (only_blanks first (bytes_of (take (suc b.used) (usage_token name line ∷ ts)))) behind after)
-resumed_bound rules os first name line ts s d m fs bytes ranges behind b reserved depth found built formals =
+resumed_bound rules os first name line ts s d m fs bytes ranges behind b reserved depth found formals =
     let flag = only_blanks first (bytes_of (take (suc b.used) (usage_token name line ∷ ts))) in
     let further : List SourceToken → State → Passage = λ rest after. resumed rules (Live os) flag rest after in
     resumed_opens rules os first name line ts s d m b.actuals b.used reserved depth
-    (usage_with_list kept rules s line [] name (leading ts) m fs (Opens m b.actuals b.used) reserved found built refl formals b.opens)
+    (usage_with_list kept rules s line [] name (leading ts) m fs (Opens m b.actuals b.used) reserved found refl formals b.opens)
     ∙ ap (λ (x : Outcome). goes_on (leaves x s) (further (drop b.used ts))) (sym (first-unlined rules s line m b.actuals d))
     ∙ ap (λ (xs : List (List SourceToken)). goes_on (leaves (left rules s line (first_cursor m xs d ∷ [])) s) (further (drop b.used ts))) b.same
     ∙ ap (λ (rest : List SourceToken). goes_on (leaves (left rules s line (first_cursor m (ranges_tokens bytes ranges) d ∷ [])) s) (further rest)) b.rest
@@ -182,15 +182,15 @@ first_open texts id ranges =
 pub resumed_open : (rules : Rules) (os : List Progress) (first : Bool) (name : List ℕ) (line : ℕ) (ts : List SourceToken) (s : State) (d : ℕ) (texts : Texts) (id : ℕ)
     (fs : List Formal) (ranges : List Range) (behind : List SourceToken) (b : OpensBound rules line name ts (macro_at texts.macros id) fs texts.arguments ranges behind)
     → is_reserved name ≡ false → rules.depth ≡ suc d → macro_named s.macros name ≡ Some (macro_at texts.macros id)
-    → rules.unbuilt_macro (macro_at texts.macros id) ≡ false → (macro_at texts.macros id).formals ≡ Some fs
+    → (macro_at texts.macros id).formals ≡ Some fs
     → resumed rules (Live os) first (usage_token name line ∷ ts) s
     ≡ goes_on (leaves (left rules s line (cursors_of (suc d) (slots_of texts (open_body texts id (map range_part ranges) 0 ∷ [])))) s)
     (λ after. resumed rules (Live os) (only_blanks first (bytes_of (take (suc b.used) (usage_token name line ∷ ts)))) behind after)
-resumed_open rules os first name line ts s d texts id fs ranges behind b reserved depth found built formals =
+resumed_open rules os first name line ts s d texts id fs ranges behind b reserved depth found formals =
     let m = macro_at texts.macros id in
     let actuals = ranges_tokens texts.arguments ranges in
     let same : first_cursor m actuals d ∷ [] ≡ cursors_of (suc d) (slots_of texts (open_body texts id (map range_part ranges) 0 ∷ [])) =
     sym (first_slot_is m actuals d) ∙ ap (cursors_of (suc d)) (sym (first_open texts id ranges)) in
-    resumed_bound rules os first name line ts s d m fs texts.arguments ranges behind b reserved depth found built formals
+    resumed_bound rules os first name line ts s d m fs texts.arguments ranges behind b reserved depth found formals
     ∙ ap (λ (cursors : List Cursor). goes_on (leaves (left rules s line cursors) s)
     (λ after. resumed rules (Live os) (only_blanks first (bytes_of (take (suc b.used) (usage_token name line ∷ ts)))) behind after)) same

@@ -7,7 +7,7 @@ use Rattle.rdlpp_scan.specs.SourceTokens.{SourceToken}
 use Rattle.rdlpp_scan.specs.Reserved.{is_reserved}
 use Rattle.rdlpp_table.specs.Table.{Formal, Macro, macro_named}
 use Rattle.rdlpp_meaning.specs.declared.fault.FaultKind.{FaultKind}
-use Rattle.rdlpp_meaning.specs.declared.fault.FaultKind.TheVariants.{UndefinedMacro, DirectiveInText, RecursiveMacro, Unbuilt}
+use Rattle.rdlpp_meaning.specs.declared.fault.FaultKind.TheVariants.{UndefinedMacro, DirectiveInText, RecursiveMacro}
 use Rattle.rdlpp_meaning.specs.State.{Rules, State}
 use Rattle.rdlpp_meaning.specs.Cursors.{not_kept, TokenUsage, Refuses, Opens, token_usage_of_formals, token_usage_of_macro, token_usage_of}
 use Rattle.rdlpp_meaning.specs.Opens.{part_tokens}
@@ -16,17 +16,16 @@ use Rattle.rdlpp_meaning.proofs.TextRanges.{body_text}
 use Rattle.rdlpp_calls.specs.declared.bindings.Range.{Range}
 use Rattle.rdlpp_calls.specs.BoundCalls.{range_part, ranges_tokens, AreWithin, IsBoundAt, IsBoundCall}
 
--- a usage of a macro that is built, that isn't recursive and that has a list of formals, by what its call comes to
+-- a usage of a macro that isn't recursive and has a list of formals, by what its call comes to
 pub usage_with_list : (size : SourceToken → ℕ) (rules : Rules) (s : State) (line : ℕ) (o : List (List ℕ)) (name : List ℕ) (ts : List SourceToken) (m : Macro) (fs : List Formal) (u : TokenUsage)
-    → is_reserved name ≡ false → macro_named s.macros name ≡ Some m → rules.unbuilt_macro m ≡ false → list_any (bytes_eq name) o ≡ false → m.formals ≡ Some fs
+    → is_reserved name ≡ false → macro_named s.macros name ≡ Some m → list_any (bytes_eq name) o ≡ false → m.formals ≡ Some fs
     → token_usage_of_formals size rules line name ts m (Some fs) ≡ u → token_usage_of size rules s line o name ts ≡ u
 unfolding token_usage_of token_usage_of_macro
-usage_with_list size rules s line o name ts m fs u reserved found built once formals e =
+usage_with_list size rules s line o name ts m fs u reserved found once formals e =
     let named : Option Macro → TokenUsage = λ x. elim x [ None ↦ Refuses UndefinedMacro name line | Some y ↦ token_usage_of_macro size rules line o name ts y ] in
     let own : TokenUsage = token_usage_of_formals size rules line name ts m m.formals in
     ap (λ (b : Bool). if b then Refuses DirectiveInText name line else named (macro_named s.macros name)) reserved
     ∙ ap named found
-    ∙ ap (λ (b : Bool). if b then Refuses Unbuilt [] line else (if list_any (bytes_eq name) o then Refuses RecursiveMacro name line else own)) built
     ∙ ap (λ (b : Bool). if b then Refuses RecursiveMacro name line else own) once
     ∙ ap (token_usage_of_formals size rules line name ts m) formals
     ∙ e
@@ -34,22 +33,22 @@ usage_with_list size rules s line o name ts m fs u reserved found built once for
 -- a usage whose call is bound opens its macro with those ranges of the text as actuals
 pub usage_opens : (rules : Rules) (s : State) (line : ℕ) (o : List (List ℕ)) (name : List ℕ) (m : Macro) (fs : List Formal) (text : List ℕ) (at end formals : ℕ) (ranges : List Range)
     (behind : ℕ) (b : IsBoundAt text at end formals ranges behind)
-    → is_reserved name ≡ false → macro_named s.macros name ≡ Some m → rules.unbuilt_macro m ≡ false → list_any (bytes_eq name) o ≡ false → m.formals ≡ Some fs
+    → is_reserved name ≡ false → macro_named s.macros name ≡ Some m → list_any (bytes_eq name) o ≡ false → m.formals ≡ Some fs
     → length fs ≡ formals
     → token_usage_of not_kept rules s line o name (body_tokens (slice_range text at end)) ≡ Opens m (ranges_tokens text ranges) b.used
-usage_opens rules s line o name m fs text at end formals ranges behind b reserved found built once listed many =
-    usage_with_list not_kept rules s line o name (body_tokens (slice_range text at end)) m fs (Opens m (ranges_tokens text ranges) b.used) reserved found built once listed
+usage_opens rules s line o name m fs text at end formals ranges behind b reserved found once listed many =
+    usage_with_list not_kept rules s line o name (body_tokens (slice_range text at end)) m fs (Opens m (ranges_tokens text ranges) b.used) reserved found once listed
     (b.opens rules line name m fs many)
 
 -- a usage whose call isn't is refused
 pub usage_refused : (rules : Rules) (s : State) (line : ℕ) (o : List (List ℕ)) (name : List ℕ) (m : Macro) (fs : List Formal) (text : List ℕ) (at end formals : ℕ) (ranges : List Range)
     (kind : FaultKind) → IsBoundCall text at end formals ranges (Err kind)
-    → is_reserved name ≡ false → macro_named s.macros name ≡ Some m → rules.unbuilt_macro m ≡ false → list_any (bytes_eq name) o ≡ false → m.formals ≡ Some fs
+    → is_reserved name ≡ false → macro_named s.macros name ≡ Some m → list_any (bytes_eq name) o ≡ false → m.formals ≡ Some fs
     → length fs ≡ formals
     → token_usage_of not_kept rules s line o name (body_tokens (slice_range text at end)) ≡ Refuses kind name line
 unfolding IsBoundCall
-usage_refused rules s line o name m fs text at end formals ranges kind b reserved found built once listed many =
-    usage_with_list not_kept rules s line o name (body_tokens (slice_range text at end)) m fs (Refuses kind name line) reserved found built once listed
+usage_refused rules s line o name m fs text at end formals ranges kind b reserved found once listed many =
+    usage_with_list not_kept rules s line o name (body_tokens (slice_range text at end)) m fs (Refuses kind name line) reserved found once listed
     (b rules line name m fs many)
 
 -- ranges between two places of a text lie in it as parts

@@ -113,13 +113,13 @@ call-usage : (rules : Rules) (s : State) (line : ℕ) (texts : Texts) (x : Open)
     → IsCallPlace texts x below len text at end
     → IsFront (source_formals texts (front_source (x ∷ below))) (open_bytes texts x below) (front.Usage len)
     → IsUsed texts (x ∷ below) (front_name texts (x ∷ below) len) id → (macro_at texts.macros id).formals ≡ Some fs
-    → s.macros ≡ texts.macros → ((m : Macro) → rules.unbuilt_macro m ≡ false)
+    → s.macros ≡ texts.macros
     → first_usage rules s line texts x below ≡ usage_in rules line (front_name texts (x ∷ below) len) (macro_at texts.macros id) fs text at end
 unfolding IsFront
-call-usage rules s line texts x below len id text at end fs h p f used list m u =
+call-usage rules s line texts x below len id text at end fs h p f used list m =
     let name = front_name texts (x ∷ below) len in
     let own = macro_at texts.macros id in
-    first-used rules s line texts x below len id (h.are_inside).1.1.0 f.2 used m u
+    first-used rules s line texts x below len id (h.are_inside).1.1.0 f.2 used m
     ∙ ap (λ (ts : List SourceToken). token_usage_of_formals not_kept rules line name ts own own.formals) (call-tokens texts x below len text at end h p f)
     ∙ ap (λ (o : Option (List Formal)). token_usage_of_formals not_kept rules line name (body_tokens (slice_range text at end)) own o) list
 
@@ -136,14 +136,14 @@ step-call_refused : (line depth : ℕ) (texts : Texts) (x : Open) (below : List 
     → fault.kind ≡ kind → place_bytes texts fault.word ≡ front_name texts (x ∷ below) len
     → IsStep line depth texts (x ∷ below) (Refused fault) new
 unfolding IsStep StepsTo IsFront IsBoundCall
-step-call_refused line depth texts x below len id text at end kind new fault h p f used list b k w rules s m u =
+step-call_refused line depth texts x below len id text at end kind new fault h p f used list b k w rules s m =
     let mode = (h.are_inside).1.1.0 in
     let name = front_name texts (x ∷ below) len in
     let own = macro_at texts.macros id in
     let fs = has-list own.formals list in
     ends-by rules s line depth texts x below (fault_at fault.kind line (place_bytes texts fault.word) s) h.are_open
     (open-refused rules s line depth texts x below kind name line f.0 (kind-first texts x below Back mode f.1)
-    (call-usage rules s line texts x below len id text at end fs.0 h p f used fs.1 m u ∙ b rules line name own fs.0 (list-count own fs.0 fs.1))
+    (call-usage rules s line texts x below len id text at end fs.0 h p f used fs.1 m ∙ b rules line name own fs.0 (list-count own fs.0 fs.1))
     ∙ sym (ap (λ c. SlotStops [] (fault_at c line (place_bytes texts fault.word) s)) k ∙ ap (λ (bytes : List ℕ). SlotStops [] (fault_at kind line bytes s)) w))
 
 -- so is one that is bound where no further text may be open
@@ -155,7 +155,7 @@ step-call_deep : (line depth : ℕ) (texts : Texts) (x : Open) (below : List Ope
     → fault.kind ≡ DepthPassed → place_bytes texts fault.word ≡ []
     → IsStep line depth texts (x ∷ below) (Refused fault) new
 unfolding IsStep StepsTo IsFront IsBoundCall
-step-call_deep line depth texts x below len id text at end new fault h p f used list c deep k w rules s m u =
+step-call_deep line depth texts x below len id text at end new fault h p f used list c deep k w rules s m =
     let mode = (h.are_inside).1.1.0 in
     let name = front_name texts (x ∷ below) len in
     let own = macro_at texts.macros id in
@@ -163,7 +163,7 @@ step-call_deep line depth texts x below len id text at end new fault h p f used 
     let b : IsBoundAt text at end (length (formals_of own)) c.ranges c.behind = c.bound in
     ends-by rules s line depth texts x below (fault_at fault.kind line (place_bytes texts fault.word) s) h.are_open
     (open-usage_deep rules s line depth texts x below own (ranges_tokens text c.ranges) b.used f.0 (kind-first texts x below Back mode f.1)
-    (call-usage rules s line texts x below len id text at end fs.0 h p f used fs.1 m u ∙ b.opens rules line name own fs.0 (list-count own fs.0 fs.1)) deep
+    (call-usage rules s line texts x below len id text at end fs.0 h p f used fs.1 m ∙ b.opens rules line name own fs.0 (list-count own fs.0 fs.1)) deep
     ∙ sym (ap (λ c. SlotStops [] (fault_at c line (place_bytes texts fault.word) s)) k ∙ ap (λ (bytes : List ℕ). SlotStops [] (fault_at DepthPassed line bytes s)) w))
 
 -- the scope of an open text that goes on has the text in which that lies
@@ -203,7 +203,7 @@ step-call_opened : (line depth : ℕ) (texts : Texts) (x : Open) (below : List O
     → length (x ∷ below) < depth
     → IsStep line depth texts (x ∷ below) Silent (open_body texts id (map range_part c.ranges) (open_scope x below) ∷ moved_to c.behind (x ∷ below))
 unfolding IsStep StepsTo IsFront IsBoundCall moved_to open_behind
-step-call_opened line depth texts x below len id text at end c h p f used list room rules s m u =
+step-call_opened line depth texts x below len id text at end c h p f used list room rules s m =
     let mode = (h.are_inside).1.1.0 in
     let name = front_name texts (x ∷ below) len in
     let own = macro_at texts.macros id in
@@ -219,7 +219,7 @@ step-call_opened line depth texts x below len id text at end c h p f used list r
     (open_body texts id parts (open_scope x below) ∷ record { part = record { from = n; end = x.part.end; mode = Plain }; home = x.home; kind = x.kind } ∷ below)) is
     (goes-by rules s line depth texts x below [] (open_body texts id parts (open_scope x below) ∷ open_behind x (c.behind - from) Plain ∷ below) h.are_open
     (open-usage rules s line depth texts x below id (ranges_tokens text c.ranges) b.used parts (c.behind - from) Plain f.0 (kind-first texts x below Back mode f.1)
-    (call-usage rules s line texts x below len id text at end fs.0 h p f used fs.1 m u ∙ b.opens rules line name own fs.0 (list-count own fs.0 fs.1))
+    (call-usage rules s line texts x below len id text at end fs.0 h p f used fs.1 m ∙ b.opens rules line name own fs.0 (list-count own fs.0 fs.1))
     (ap (λ (t : List ℕ). map (part_tokens t) parts) (p.text_is ∙ sym (scope-text texts x below rest (h.are_open).0)))
     (call-left texts x below len text at end (length (formals_of own)) c.ranges c.behind b h p f low) room))
 

@@ -33,7 +33,7 @@ pub step-ended : (line depth : ℕ) (texts : Texts) (x : Open) (below : List Ope
     → IsFront (source_formals texts (front_source (x ∷ below))) (open_bytes texts x below) front.Ended
     → IsStep line depth texts (x ∷ below) Silent below
 unfolding IsStep StepsTo IsFront
-step-ended line depth texts x below h e rules s m u =
+step-ended line depth texts x below h e rules s m =
     goes-by rules s line depth texts x below [] below h.are_open (open-closes rules s line depth texts x below e)
 
 -- a run is lent
@@ -42,7 +42,7 @@ pub step-run : (line depth : ℕ) (texts : Texts) (x : Open) (below : List Open)
     → take n (open_bytes texts x below) ≡ place_bytes texts place
     → IsStep line depth texts (x ∷ below) (Lends place) (moved_to (x.part.from + n) (x ∷ below))
 unfolding IsStep StepsTo IsFront moved_to open_behind
-step-run line depth texts x below n place h f p rules s m u =
+step-run line depth texts x below n place h f p rules s m =
     let mode : x.part.mode ≡ Plain = (h.are_inside).1.1.0 in
     goes-bytes rules s line depth texts (x ∷ below) (open_behind x n Plain ∷ below) (take n (open_bytes texts x below)) (place_bytes texts place) p
     (run-goes rules s line depth texts (source_formals texts (front_source (x ∷ below))) x below n h.are_open (front-formals texts x below (h.are_open).0)
@@ -60,7 +60,7 @@ pub step-bare : (line depth : ℕ) (texts : Texts) (x : Open) (below : List Open
     → fault.kind ≡ NoName → place_bytes texts fault.word ≡ []
     → IsStep line depth texts (x ∷ below) (Refused fault) new
 unfolding IsStep StepsTo IsFront
-step-bare line depth texts x below new fault h f k w rules s m u =
+step-bare line depth texts x below new fault h f k w rules s m =
     ends-by rules s line depth texts x below (fault_at fault.kind line (place_bytes texts fault.word) s) h.are_open
     (open-bare rules s line depth texts x below f.0 (kind-first texts x below BareBackquote (h.are_inside).1.1.0 f.1)
     ∙ sym (ap (λ c. SlotStops [] (fault_at c line (place_bytes texts fault.word) s)) k ∙ ap (λ (bytes : List ℕ). SlotStops [] (fault_at NoName line bytes s)) w))
@@ -95,7 +95,7 @@ pub step-formal : (line depth : ℕ) (texts : Texts) (x : Open) (below : List Op
     → length (x ∷ below) < depth
     → IsStep line depth texts (x ∷ below) Silent (new ∷ moved_to (x.part.from + len) (x ∷ below))
 unfolding IsStep StepsTo IsFront moved_to open_behind
-step-formal line depth texts x below len place new h f standing room rules s m u =
+step-formal line depth texts x below len place new h f standing room rules s m =
     let mode : x.part.mode ≡ Plain = (h.are_inside).1.1.0 in
     let stands = front-standing texts x below (take len (open_bytes texts x below)) place (h.are_open).0 f.3 in
     let same : stands.new ≡ new = one stands.new new (sym stands.standing_is ∙ standing) in
@@ -115,7 +115,7 @@ pub step-formal_deep : (line depth : ℕ) (texts : Texts) (x : Open) (below : Li
     → depth ≤ length (x ∷ below) → fault.kind ≡ DepthPassed → place_bytes texts fault.word ≡ []
     → IsStep line depth texts (x ∷ below) (Refused fault) new
 unfolding IsStep StepsTo IsFront
-step-formal_deep line depth texts x below len place new fault h f deep k w rules s m u =
+step-formal_deep line depth texts x below len place new fault h f deep k w rules s m =
     let mode : x.part.mode ≡ Plain = (h.are_inside).1.1.0 in
     let stands = front-standing texts x below (take len (open_bytes texts x below)) place (h.are_open).0 f.3 in
     let found : open_at texts (x ∷ below) (open_scope x below) (first_bytes texts x below) ≡ Some stands.new =

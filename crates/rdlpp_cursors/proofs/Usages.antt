@@ -153,23 +153,23 @@ unreserved-is size rules s line o name ts found e f = rw (e, f) refl
 
 -- a macro in whose text its name stands is refused
 recursive-is : (size : SourceToken → ℕ) (rules : Rules) (line : ℕ) (o : List (List ℕ)) (name : List ℕ) (ts : List SourceToken) (m : Macro)
-    → rules.unbuilt_macro m ≡ false → list_any (bytes_eq name) o ≡ true → token_usage_of_macro size rules line o name ts m ≡ Refuses RecursiveMacro name line
+    → list_any (bytes_eq name) o ≡ true → token_usage_of_macro size rules line o name ts m ≡ Refuses RecursiveMacro name line
 unfolding token_usage_of_macro
-recursive-is size rules line o name ts m u e = rw (u, e) refl
+recursive-is size rules line o name ts m e = rw e refl
 
 -- another one is used by its formals
 apart-is : (size : SourceToken → ℕ) (rules : Rules) (line : ℕ) (o : List (List ℕ)) (name : List ℕ) (ts : List SourceToken) (m : Macro)
-    → rules.unbuilt_macro m ≡ false → list_any (bytes_eq name) o ≡ false
+    → list_any (bytes_eq name) o ≡ false
     → token_usage_of_macro size rules line o name ts m ≡ token_usage_of_formals size rules line name ts m m.formals
 unfolding token_usage_of_macro
-apart-is size rules line o name ts m u e = rw (u, e) refl
+apart-is size rules line o name ts m e = rw e refl
 
 -- a name that no macro has is refused
 pub unknown-refused : (texts : Texts) (opens : List Open) (name : List ℕ) (reserved : Bool) → macro_named texts.macros name ≡ None → is_reserved name ≡ reserved
     → IsRefused texts opens name (unknown_kind reserved)
 unfolding IsRefused
-unknown-refused texts opens name true e r rules s line ts m u = reserved-is not_kept rules s line _ name ts r
-unknown-refused texts opens name false e r rules s line ts m u =
+unknown-refused texts opens name true e r rules s line ts m = reserved-is not_kept rules s line _ name ts r
+unknown-refused texts opens name false e r rules s line ts m =
     unreserved-is not_kept rules s line _ name ts None r (ap (λ (macros : List Macro). macro_named macros name) m ∙ e)
 
 -- so is a name that stands in the text of its macro
@@ -178,23 +178,23 @@ pub recursive-refused : (texts : Texts) (opens : List Open) (name : List ℕ) (i
     → list_any (bytes_eq name) (writers_at texts opens (front_scope opens)) ≡ true
     → IsRefused texts opens name RecursiveMacro
 unfolding IsRefused
-recursive-refused texts opens name id r e w rules s line ts m u =
+recursive-refused texts opens name id r e w rules s line ts m =
     unreserved-is not_kept rules s line _ name ts (Some (macro_at texts.macros id)) r (ap (λ (macros : List Macro). macro_named macros name) m ∙ e)
-    ∙ recursive-is not_kept rules line _ name ts (macro_at texts.macros id) (u (macro_at texts.macros id)) w
+    ∙ recursive-is not_kept rules line _ name ts (macro_at texts.macros id) w
 
 -- a usage of a macro comes to what its formals tell
 pub first-used : (rules : Rules) (s : State) (line : ℕ) (texts : Texts) (x : Open) (below : List Open) (len id : ℕ) → x.part.mode ≡ Plain
     → (token_of Plain (open_bytes texts x below)).len ≡ len
-    → IsUsed texts (x ∷ below) (front_name texts (x ∷ below) len) id → s.macros ≡ texts.macros → ((m : Macro) → rules.unbuilt_macro m ≡ false)
+    → IsUsed texts (x ∷ below) (front_name texts (x ∷ below) len) id → s.macros ≡ texts.macros
     → first_usage rules s line texts x below
     ≡ token_usage_of_formals not_kept rules line (front_name texts (x ∷ below) len) (slot_of texts (first_behind texts x below) below).text
     (macro_at texts.macros id) (macro_at texts.macros id).formals
-first-used rules s line texts x below len id mode e used m u =
+first-used rules s line texts x below len id mode e used m =
     let name = front_name texts (x ∷ below) len in
     let ts = (slot_of texts (first_behind texts x below) below).text in
     first-is rules s line texts x below len mode e
     ∙ unreserved-is not_kept rules s line _ name ts (Some (macro_at texts.macros id)) used.unreserved (ap (λ (macros : List Macro). macro_named macros name) m ∙ used.named)
-    ∙ apart-is not_kept rules line _ name ts (macro_at texts.macros id) (u (macro_at texts.macros id)) used.apart
+    ∙ apart-is not_kept rules line _ name ts (macro_at texts.macros id) used.apart
 
 -- a usage that is refused
 pub step-refused : (line depth : ℕ) (texts : Texts) (x : Open) (below : List Open) (len : ℕ) (kind : FaultKind) (new : List Open) (fault : CursorFault) → AreSound texts (x ∷ below)
@@ -203,12 +203,12 @@ pub step-refused : (line depth : ℕ) (texts : Texts) (x : Open) (below : List O
     → fault.kind ≡ kind → place_bytes texts fault.word ≡ front_name texts (x ∷ below) len
     → IsStep line depth texts (x ∷ below) (Refused fault) new
 unfolding IsStep StepsTo IsFront IsRefused
-step-refused line depth texts x below len kind new fault h f r k w rules s m u =
+step-refused line depth texts x below len kind new fault h f r k w rules s m =
     let mode : x.part.mode ≡ Plain = (h.are_inside).1.1.0 in
     let name = front_name texts (x ∷ below) len in
     ends-by rules s line depth texts x below (fault_at fault.kind line (place_bytes texts fault.word) s) h.are_open
     (open-refused rules s line depth texts x below kind name line f.0 (kind-first texts x below Back mode f.1)
-    (first-is rules s line texts x below len mode f.2 ∙ r rules s line (slot_of texts (first_behind texts x below) below).text m u)
+    (first-is rules s line texts x below len mode f.2 ∙ r rules s line (slot_of texts (first_behind texts x below) below).text m)
     ∙ sym (ap (λ c. SlotStops [] (fault_at c line (place_bytes texts fault.word) s)) k ∙ ap (λ (bytes : List ℕ). SlotStops [] (fault_at kind line bytes s)) w))
 
 -- a usage of a macro without a list opens its body, whatever it is told by
@@ -229,12 +229,12 @@ pub step-opened : (line depth : ℕ) (texts : Texts) (x : Open) (below : List Op
     → length (x ∷ below) < depth
     → IsStep line depth texts (x ∷ below) Silent (open_body texts id [] (open_scope x below) ∷ moved_to (x.part.from + len) (x ∷ below))
 unfolding IsStep StepsTo IsFront moved_to open_behind
-step-opened line depth texts x below len id h f used none room rules s m u =
+step-opened line depth texts x below len id h f used none room rules s m =
     let mode : x.part.mode ≡ Plain = (h.are_inside).1.1.0 in
     let ts = (slot_of texts (first_behind texts x below) below).text in
     goes-by rules s line depth texts x below [] (open_body texts id [] (open_scope x below) ∷ open_behind x len Plain ∷ below) h.are_open
     (open-usage rules s line depth texts x below id [] 0 [] len Plain f.0 (kind-first texts x below Back mode f.1)
-    (first-used rules s line texts x below len id mode f.2 used m u ∙ plain-opens not_kept rules line _ ts (macro_at texts.macros id) none)
+    (first-used rules s line texts x below len id mode f.2 used m ∙ plain-opens not_kept rules line _ ts (macro_at texts.macros id) none)
     refl (ap (λ (y : Open). (slot_of texts y below).text) (first-moved texts x below len mode (back-closes _ f.1) f.2)) room)
 
 -- and is a fault where there is none
@@ -244,12 +244,12 @@ pub step-opened_deep : (line depth : ℕ) (texts : Texts) (x : Open) (below : Li
     → depth ≤ length (x ∷ below) → fault.kind ≡ DepthPassed → place_bytes texts fault.word ≡ []
     → IsStep line depth texts (x ∷ below) (Refused fault) new
 unfolding IsStep StepsTo IsFront
-step-opened_deep line depth texts x below len id new fault h f used none deep k w rules s m u =
+step-opened_deep line depth texts x below len id new fault h f used none deep k w rules s m =
     let mode : x.part.mode ≡ Plain = (h.are_inside).1.1.0 in
     let ts = (slot_of texts (first_behind texts x below) below).text in
     ends-by rules s line depth texts x below (fault_at fault.kind line (place_bytes texts fault.word) s) h.are_open
     (open-usage_deep rules s line depth texts x below (macro_at texts.macros id) [] 0 f.0 (kind-first texts x below Back mode f.1)
-    (first-used rules s line texts x below len id mode f.2 used m u ∙ plain-opens not_kept rules line _ ts (macro_at texts.macros id) none) deep
+    (first-used rules s line texts x below len id mode f.2 used m ∙ plain-opens not_kept rules line _ ts (macro_at texts.macros id) none) deep
     ∙ sym (ap (λ c. SlotStops [] (fault_at c line (place_bytes texts fault.word) s)) k ∙ ap (λ (bytes : List ℕ). SlotStops [] (fault_at DepthPassed line bytes s)) w))
 
 -- the macros in whose text a scope is, by name and by place

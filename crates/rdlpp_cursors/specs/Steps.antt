@@ -41,10 +41,10 @@ StepsTo rules s line depth texts old Silent new = Goes rules s line depth texts 
 StepsTo rules s line depth texts old (Refused fault) new =
     left rules s line (cursors_of depth (slots_of texts old)) ≡ fails (fault_at fault.kind line (place_bytes texts fault.word) s)
 
--- a step is that of each run whose macros are those of the texts, and of which none isn't built
+-- a step is that of each run whose macros are those of the texts
 unfoldable pub IsStep : ℕ → ℕ → Texts → List Open → CursorStep → List Open → Type 0
 IsStep line depth texts old step new =
-    (rules : Rules) (s : State) → s.macros ≡ texts.macros → ((m : Macro) → rules.unbuilt_macro m ≡ false)
+    (rules : Rules) (s : State) → s.macros ≡ texts.macros
     → StepsTo rules s line depth texts old step new
 
 -- the macro of an open text is in the table

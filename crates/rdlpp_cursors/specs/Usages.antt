@@ -36,7 +36,7 @@ unknown_kind reserved = if reserved then DirectiveInText else UndefinedMacro
 -- each run refuses a name in open texts with a fault, told under that name
 unfoldable pub IsRefused : Texts → List Open → List ℕ → FaultKind → Type 0
 IsRefused texts opens name kind =
-    (rules : Rules) (s : State) (line : ℕ) (ts : List SourceToken) → s.macros ≡ texts.macros → ((m : Macro) → rules.unbuilt_macro m ≡ false)
+    (rules : Rules) (s : State) (line : ℕ) (ts : List SourceToken) → s.macros ≡ texts.macros
     → token_usage_of not_kept rules s line (writers_at texts opens (front_scope opens)) name ts ≡ Refuses kind name line
 
 -- whether open texts end with a fault: for what stands in them, or since no further text may be open (source: this project's profile)

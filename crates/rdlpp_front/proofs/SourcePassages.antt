@@ -9,7 +9,7 @@ use Rattle.rdlpp_scan.specs.SourceTokens.{Ordinary, Definition, Broken, SourceTo
 use Rattle.rdlpp_scan.specs.Reserved.{is_reserved}
 use Rattle.rdlpp_table.specs.Table.{Macro, macro_named}
 use Rattle.rdlpp_meaning.specs.declared.fault.FaultKind.{FaultKind}
-use Rattle.rdlpp_meaning.specs.declared.fault.FaultKind.TheVariants.{BareBackquote as NoName, UndefinedMacro, Unbuilt}
+use Rattle.rdlpp_meaning.specs.declared.fault.FaultKind.TheVariants.{BareBackquote as NoName, UndefinedMacro}
 use Rattle.rdlpp_meaning.specs.Outcome.{Told, fails}
 use Rattle.rdlpp_meaning.specs.State.{Accepted, Refused, Rules, State, fault_at, breach_kind}
 use Rattle.rdlpp_meaning.specs.Substitution.{body_tokens}
@@ -19,7 +19,7 @@ use Rattle.rdlpp_meaning.specs.Meaning.{Passage, leaves, behind_bytes, goes_on, 
 use Rattle.rdlpp_meaning.specs.Resumed.{Place, Live, resumed}
 use Rattle.rdlpp_meaning.specs.Opened.{Waiting, unwound, all_resumed}
 use Rattle.rdlpp_meaning.proofs.Includes.{behind_bytes-goes_on}
-use Rattle.rdlpp_meaning.proofs.LiveText.{resumed_copied, resumed_one_copied, resumed_copied_parts, resumed_broken, resumed_broken_parts, resumed_bare, resumed_undefined, resumed_unbuilt, resumed_copied_body, resumed_defined, resumed_refused}
+use Rattle.rdlpp_meaning.proofs.LiveText.{resumed_copied, resumed_one_copied, resumed_copied_parts, resumed_broken, resumed_broken_parts, resumed_bare, resumed_undefined, resumed_copied_body, resumed_defined, resumed_refused}
 use Rattle.rdlpp_meaning.proofs.NestMoves.{all_resumed_behind, all_resumed_fails}
 use Rattle.rdlpp_meaning.proofs.Passages.{behind_bytes-nil, fails-goes_on}
 
@@ -109,24 +109,16 @@ module _ (rules : Rules) (ws : List Waiting) (os : List Progress) (first : Bool)
       all_resumed_fails rules ws (Live os) first (usage_token name line ∷ more) s s (fault_at UndefinedMacro line name s)
       (resumed_undefined rules os first name line more s r e)
 
-  -- a usage of a macro that isn't built is a fault
-  pub all_resumed_unbuilt : (name : List ℕ) (line : ℕ) (more : List SourceToken) (s : State) (m : Macro)
-      → is_reserved name ≡ false → macro_named s.macros name ≡ Some m → rules.unbuilt_macro m ≡ true
-      → all_resumed rules ws (Live os) first (usage_token name line ∷ more) s ≡ leaves (fails (fault_at Unbuilt line [] s)) s
-  all_resumed_unbuilt name line more s m r e u =
-      all_resumed_fails rules ws (Live os) first (usage_token name line ∷ more) s s (fault_at Unbuilt line [] s)
-      (resumed_unbuilt rules os first name line more s m r e u)
-
   -- a usage of a macro without a list, of whose body all tokens are copied, gives its body
   pub all_resumed_copied_body : (name : List ℕ) (line : ℕ) (more : List SourceToken) (s : State) (m : Macro)
       → 0 < rules.depth
-      → is_reserved name ≡ false → macro_named s.macros name ≡ Some m → rules.unbuilt_macro m ≡ false
+      → is_reserved name ≡ false → macro_named s.macros name ≡ Some m
       → m.formals ≡ None → list_all is_copied (body_tokens m.body) ≡ true
       → all_resumed rules ws (Live os) first (usage_token name line ∷ more) s
       ≡ behind_bytes m.body (all_resumed rules ws (Live os) (only_blanks first (96 ∷ name)) more s)
-  all_resumed_copied_body name line more s m h r e u f copied =
+  all_resumed_copied_body name line more s m h r e f copied =
       all_resumed_behind rules ws (Live os) (Live os) first (only_blanks first (96 ∷ name)) (usage_token name line ∷ more) more s s m.body
-      (resumed_copied_body rules os first name line more s m h r e u f copied)
+      (resumed_copied_body rules os first name line more s m h r e f copied)
 
   -- a `define` that is accepted gives its LF bytes and changes the macros
   pub all_resumed_defined : (bytes : List ℕ) (line : ℕ) (more : List SourceToken) (s : State) (macros : List Macro)

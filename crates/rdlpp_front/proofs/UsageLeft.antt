@@ -1,5 +1,5 @@
--- What a usage in front does to what remains: its token, and what it comes to where its macro isn't defined, isn't built, or
--- has a body that is copied.
+-- What a usage in front does to what remains: its token, and what it comes to where its macro isn't defined, or stands for its
+-- body as it lies.
 use Rattle.std.proofs.Common.{◌≡◌, ℕ, ◌+◌, ◌-◌, ◌<◌, Bool, true, false, List, [], ◌∷◌, take, drop, None, Some, sym, ap, ◌∙◌, subst, arith}
 use Rattle.std.specs.Prelude.{bytes_eq, codes}
 use Rattle.std.specs.List.{list_any, AllByRecursion}
@@ -12,16 +12,16 @@ use Rattle.rdlpp_scan.specs.Tokens.{token_of}
 use Rattle.rdlpp_scan.proofs.RemainingLaws.{remaining-back}
 use Rattle.rdlpp_scan.proofs.DirectiveStarts.{directive-back, front_name}
 use Rattle.rdlpp_table.specs.Table.{Macro, macro_named}
-use Rattle.rdlpp_meaning.specs.declared.fault.FaultKind.TheVariants.{UndefinedMacro, Unbuilt}
+use Rattle.rdlpp_meaning.specs.declared.fault.FaultKind.TheVariants.{UndefinedMacro}
 use Rattle.rdlpp_meaning.specs.Outcome.{fails}
 use Rattle.rdlpp_meaning.specs.State.{Rules, State, fault_at}
-use Rattle.rdlpp_meaning.specs.Stage.{is_unbuilt_macro}
+use Rattle.rdlpp_meaning.specs.PlainMacros.{is_plain_macro}
 use Rattle.rdlpp_meaning.specs.Expansion.{usage_token}
 use Rattle.rdlpp_meaning.specs.Parts.{only_blanks}
 use Rattle.rdlpp_meaning.specs.Meaning.{Progress, behind_bytes, leaves}
 use Rattle.rdlpp_meaning.specs.Resumed.{Live}
 use Rattle.rdlpp_meaning.specs.Opened.{Waiting, all_resumed}
-use Rattle.rdlpp_meaning.proofs.Usages.{built_body, built_formals}
+use Rattle.rdlpp_meaning.proofs.Usages.{plain_body, plain_formals}
 use Rattle.rdlpp_read.specs.declared.files.File.{File}
 use Rattle.rdlpp_read.specs.Buffer.{BufferView, held_of, rest_of, tokens_left}
 use Rattle.rdlpp_read.specs.Files.{consumed_file}
@@ -29,7 +29,7 @@ use Rattle.rdlpp_front.specs.Fronts.{IsUsage, usage_name}
 use Rattle.rdlpp_front.specs.SourceLeft.{HoldsFront, source_left}
 use Rattle.rdlpp_front.proofs.FirstBytes.{back_front, back_text}
 use Rattle.rdlpp_front.proofs.SourceFacts.{ends_line, tokens_plain, tokens_used, used_buffer}
-use Rattle.rdlpp_front.proofs.SourcePassages.{all_resumed_copied_body, all_resumed_unbuilt, all_resumed_undefined}
+use Rattle.rdlpp_front.proofs.SourcePassages.{all_resumed_copied_body, all_resumed_undefined}
 
 -- the tokens at a backquote with a name that is neither `define` nor `line`
 pub back_tokens : {R : Type 0} (unread : R → List ℕ) (b : BufferView R)
@@ -120,24 +120,16 @@ module _ {R : Type 0} (rules : Rules) (unread : R → List ℕ) (ws : List Waiti
       usage_left len holds mode usage
       ∙ all_resumed_undefined rules ws os f.blanks (usage_name (held_of f.buffer) len) f.buffer.line (tokens_left unread (consumed_file len 0 f).buffer) s usage.free none
 
-  -- a usage of a macro that isn't built is a fault
-  pub unbuilt_left : (len : ℕ) (m : Macro) → HoldsFront f.buffer → f.buffer.mode ≡ Plain → IsUsage (held_of f.buffer) len
-      → macro_named s.macros (usage_name (held_of f.buffer) len) ≡ Some m → rules.unbuilt_macro m ≡ true
-      → source_left rules unread ws (Live os) f s ≡ leaves (fails (fault_at Unbuilt f.buffer.line [] s)) s
-  unbuilt_left len m holds mode usage named is =
-      usage_left len holds mode usage
-      ∙ all_resumed_unbuilt rules ws os f.blanks (usage_name (held_of f.buffer) len) f.buffer.line (tokens_left unread (consumed_file len 0 f).buffer) s m usage.free named is
-
-  -- a usage of a macro that is built at this stage of the project gives its body
+  -- a usage of a macro that stands for its body as it lies gives its body
   pub body_left : (len : ℕ) (m : Macro) → HoldsFront f.buffer → f.buffer.mode ≡ Plain → IsUsage (held_of f.buffer) len
       → macro_named s.macros (usage_name (held_of f.buffer) len) ≡ Some m
-      → rules.unbuilt_macro m ≡ is_unbuilt_macro m → is_unbuilt_macro m ≡ false → 0 < rules.depth
+      → is_plain_macro m ≡ true → 0 < rules.depth
       → source_left rules unread ws (Live os) f s
       ≡ behind_bytes m.body (source_left rules unread ws (Live os) (consumed_file len 0 f) s)
   unfolding source_left
-  body_left len m holds mode usage named same built depth =
+  body_left len m holds mode usage named plain depth =
       let name = usage_name (held_of f.buffer) len in
       let more = tokens_left unread (consumed_file len 0 f).buffer in
       usage_left len holds mode usage
-      ∙ all_resumed_copied_body rules ws os f.blanks name f.buffer.line more s m depth usage.free named (same ∙ built) (built_formals m built) (built_body m built)
+      ∙ all_resumed_copied_body rules ws os f.blanks name f.buffer.line more s m depth usage.free named (plain_formals m plain) (plain_body m plain)
       ∙ ap (λ (xs : List ℕ). behind_bytes m.body (all_resumed rules ws (Live os) (only_blanks f.blanks xs) more s)) (sym (usage_text (held_of f.buffer) len usage))

@@ -1,21 +1,19 @@
 -- Reading a call in a source token by token, and a string or a comment in parts, comes to what its scan does.
-use Rattle.std.proofs.Common.{◌≡◌, ℕ, ◌+◌, ◌-◌, Bool, true, false, cond, ◌&&◌, ◌==◌, eqb, List, [], ◌∷◌, ◌++◌, length, drop, slice_index, refl, sym, ap, ◌∙◌, append_assoc, arith}
+use Rattle.std.proofs.Common.{◌≡◌, ℕ, ◌+◌, ◌-◌, Bool, true, false, cond, ◌&&◌, ◌==◌, eqb, List, [], ◌∷◌, ◌++◌, length, slice_index, refl, ap, ◌∙◌, append_assoc, arith}
 use Rattle.std.specs.Prelude.{nat_le}
 use Rattle.std.proofs.lemmas.Bool.Decides.{nat_tests}
 use Rattle.std.proofs.lemmas.List.{length-append}
-use Rattle.rdlpp_scan.specs.declared.token.Kind.{Kind}
 use Rattle.rdlpp_scan.specs.declared.token.Kind.TheVariants.{Str, BlockComment}
-use Rattle.rdlpp_scan.specs.Front.{Breach, PerlFound, StringOpen, CommentOpen, LineLong, SourceLong, DefineLong, DefineCut}
+use Rattle.rdlpp_scan.specs.Front.{Breach, DefineLong, DefineCut}
 use Rattle.rdlpp_scan.specs.Resumed.{line_with, with_part}
 use Rattle.rdlpp_scan.specs.SourceTokens.{Sort, Ordinary, Definition, Renumbering, Broken, SourceToken}
 use Rattle.rdlpp_meaning.specs.declared.fault.FaultKind.{FaultKind}
 use Rattle.rdlpp_meaning.specs.declared.fault.FaultKind.TheVariants.{ArgumentsMissing}
 use Rattle.rdlpp_meaning.specs.State.{breach_kind}
-use Rattle.rdlpp_meaning.specs.Actuals.{Role, Ends, Stops, Text, level_behind, kept_size, kind_role, broken_role, token_role}
+use Rattle.rdlpp_meaning.specs.Actuals.{Role, Ends, Stops, level_behind, kept_size, kind_role, broken_role, token_role}
 use Rattle.rdlpp_meaning.specs.CallScan.{Stand, Before, Inside, Turn, Passes, Keeps, Closes, Refuses, Breaks, turn_before, turn_fitting, turn_inside, turn, stand_behind, stand_behind_lead, room_behind, Scanned, Refused, Stopped, Closed, scan_passing, scan_keeping, scanned, scan, source_role}
 use Rattle.rdlpp_meaning.specs.CallReading.{Reading, ReadRefused, ReadStopped, ReadClosed, onto_kept, rest_role, role_in, read_by, read, reading_of, is_part_breach, is_part_sort, part_kept}
 use Rattle.rdlpp_meaning.specs.Cursors.{kept}
-use Rattle.rdlpp_meaning.specs.Expansion.{bytes_of}
 use Rattle.rdlpp_meaning.specs.Parts.{directive_of}
 
 -- no kept bytes in front

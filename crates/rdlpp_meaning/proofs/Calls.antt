@@ -159,8 +159,7 @@ macro_uses : (rules : Rules) (source : Option ℕ) (line : ℕ) (o : List (List 
     → UsesUpTo (length xs) (usage_of_macro rules source line o name xs m)
 unfolding UsesUpTo usage_of_macro
 macro_uses rules source line o name xs m =
-    choice_uses (rules.unbuilt_macro m) (length xs) _ _ tt
-    (choice_uses (list_any (bytes_eq name) o) (length xs) _ _ tt (formals_use rules source line name xs m m.formals))
+    choice_uses (list_any (bytes_eq name) o) (length xs) _ _ tt (formals_use rules source line name xs m m.formals)
 
 -- a usage by what its name is
 found_uses : (rules : Rules) (source : Option ℕ) (line : ℕ) (o : List (List ℕ)) (name : List ℕ) (xs : List Item) (found : Option Macro)

@@ -1,11 +1,10 @@
 -- A scan that closes cuts its things into what passes before the `(`, what stands between the parentheses, and the rest.
-use Rattle.std.proofs.Common.{◌≡◌, ◌≤◌, ℕ, zero, suc, ◌+◌, ◌-◌, Bool, true, false, List, [], ◌∷◌, ◌++◌, length, drop, filter, cond, All, refl, sym, ap, ◌∙◌, subst, arith}
+use Rattle.std.proofs.Common.{◌≡◌, ℕ, suc, ◌+◌, ◌-◌, true, List, [], ◌∷◌, ◌++◌, length, drop, filter, cond, All, refl, sym, ap, ◌∙◌, arith}
 use Rattle.std.specs.Prelude.{nat_le}
 use Rattle.std.proofs.Math.Seq.{drop-append-add}
 use Rattle.std.proofs.lemmas.List.Elements.{All-nil, All-cons}
-use Rattle.rdlpp_meaning.specs.declared.fault.FaultKind.{FaultKind}
-use Rattle.rdlpp_meaning.specs.Actuals.{Role, Space, Dropped, Remark, Start, Up, End, Down, Cut, Halt, Text, Ends, Stops, level_behind, kept_size}
-use Rattle.rdlpp_meaning.specs.CallScan.{Stand, Before, Inside, Turn, Passes, Keeps, Closes, Refuses, Breaks, turn_before, turn_inside, turn, stand_behind_lead, stand_behind, room_behind, Scanned, Refused, Stopped, Closed, scan_passing, scan_keeping, scanned, scan, is_kept, is_call_text, level_of_things, IsClosed}
+use Rattle.rdlpp_meaning.specs.Actuals.{Role, Space, Dropped, Remark, Start, End, Stops, level_behind, kept_size}
+use Rattle.rdlpp_meaning.specs.CallScan.{Before, Inside, Turn, Passes, Keeps, Closes, Refuses, Breaks, turn_before, turn_inside, turn, stand_behind_lead, stand_behind, room_behind, Scanned, Refused, Stopped, Closed, scan_passing, scan_keeping, scanned, scan, is_kept, is_call_text, level_of_things, IsClosed}
 use Rattle.rdlpp_meaning.proofs.Turns.{TurnFacts, turn_facts}
 
 -- how a scan that closes lies in the things behind the `(`

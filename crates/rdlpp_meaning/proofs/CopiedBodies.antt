@@ -17,10 +17,10 @@ use Rattle.rdlpp_meaning.proofs.Remaining.{remains-behind}
 -- a usage of such a macro gives its body, and then what remains behind it
 pub remains_copied_body : (rules : Rules) (os : List Progress) (first : Bool) (name : List ℕ) (line : ℕ) (more : List SourceToken) (s : State) (m : Macro)
     → 0 < rules.depth
-    → is_reserved name ≡ false → macro_named s.macros name ≡ Some m → rules.unbuilt_macro m ≡ false
+    → is_reserved name ≡ false → macro_named s.macros name ≡ Some m
     → m.formals ≡ None → list_all is_copied (body_tokens m.body) ≡ true
     → remains rules (Live os) first (usage_token name line ∷ more) s
     ≡ and_then (gives m.body) (remains rules (Live os) (only_blanks first (96 ∷ name)) more s)
-remains_copied_body rules os first name line more s m h r e u f copied =
+remains_copied_body rules os first name line more s m h r e f copied =
     remains-behind rules (Live os) (Live os) first (only_blanks first (96 ∷ name)) (usage_token name line ∷ more) more s s m.body
-    (resumed_copied_body rules os first name line more s m h r e u f copied)
+    (resumed_copied_body rules os first name line more s m h r e f copied)

@@ -8,7 +8,7 @@ use Rattle.rdlpp_scan.specs.declared.token.Kind.TheVariants.{Name, Back, BareBac
 use Rattle.rdlpp_scan.specs.SourceTokens.{Sort, Ordinary, Definition, Renumbering, Broken, SourceToken}
 use Rattle.rdlpp_scan.specs.Reserved.{is_reserved}
 use Rattle.rdlpp_table.specs.Table.{Formal, Macro, macro_named}
-use Rattle.rdlpp_meaning.specs.declared.fault.FaultKind.TheVariants.{BareBackquote as NoName, UndefinedMacro, RecursiveMacro, DirectiveInText, ArgumentCount, Unbuilt}
+use Rattle.rdlpp_meaning.specs.declared.fault.FaultKind.TheVariants.{BareBackquote as NoName, UndefinedMacro, RecursiveMacro, DirectiveInText, ArgumentCount}
 use Rattle.rdlpp_meaning.specs.Outcome.{Outcome, gives, fails, and_then}
 use Rattle.rdlpp_meaning.specs.State.{Rules, State, fault_at, breach_kind}
 use Rattle.rdlpp_meaning.specs.Items.{Item, Written, Arg, listed, packed}
@@ -134,13 +134,9 @@ macro_commutes : (size : SourceToken → ℕ) (rules : Rules) (source : Option �
 unfolding usage_of_macro token_usage_of_macro image_usage
 macro_commutes size rules source line o name frame keeps ts m =
     let u = token_usage_of_formals size rules line name ts m m.formals in
-    ap (λ (x : Usage). if rules.unbuilt_macro m then RefusesItems Unbuilt [] line
-    else (if list_any (bytes_eq name) o then RefusesItems RecursiveMacro name line else x))
+    ap (λ (x : Usage). if list_any (bytes_eq name) o then RefusesItems RecursiveMacro name line else x)
     (formals_commute size rules source line name frame keeps ts m m.formals)
-    ∙ ap (λ (x : Usage). if rules.unbuilt_macro m then RefusesItems Unbuilt [] line else x)
-    (choice-image frame (list_any (bytes_eq name) o) (Refuses RecursiveMacro name line) u)
-    ∙ choice-image frame (rules.unbuilt_macro m) (Refuses Unbuilt [] line)
-    (if list_any (bytes_eq name) o then Refuses RecursiveMacro name line else u)
+    ∙ choice-image frame (list_any (bytes_eq name) o) (Refuses RecursiveMacro name line) u
 
 -- a usage by what its name is
 found_commutes : (size : SourceToken → ℕ) (rules : Rules) (source : Option ℕ) (line : ℕ) (o : List (List ℕ)) (name : List ℕ) (frame : List Binding) → Keeps token_role size item_role (item_size source) (image frame) → (ts : List SourceToken) (found : Option Macro)

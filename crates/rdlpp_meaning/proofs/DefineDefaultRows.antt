@@ -1,5 +1,5 @@
 -- Rows of defaults from whole texts, each by computation.
-use Rattle.std.proofs.Common.{◌≡◌, false, List, [], ◌∷◌, refl, codes, Some}
+use Rattle.std.proofs.Common.{◌≡◌, false, [], ◌∷◌, refl, codes, Some}
 use Rattle.rdlpp_meaning.specs.declared.fault.FaultKind.TheVariants as fault
 use Rattle.rdlpp_meaning.proofs.Rows.{standard, row, whole_output}
 

@@ -27,13 +27,13 @@ searched (s ∷ ss) from name = if bytes_eq s.from from && bytes_eq s.name name 
 unfoldable searched_row : List ℕ → List ℕ → List Search → Outcome
 unfolding row searched
 searched_row path text searches =
-    output (rules_of standard (λ m. false) (searched searches) false) [] 16 256 path (Source path text)
+    output (rules_of standard (searched searches) false) [] 16 256 path (Source path text)
 
 -- the output of a source with the macros that a definition from outside leaves, or its fault
 unfoldable defined_by : Defined → List ℕ → Outcome
 unfolding row
 defined_by (Accepted macros) text =
-    output (rules_of standard (λ m. false) (λ from name. NoSource) false) macros 16 256 (codes "m") (Source (codes "m") text)
+    output (rules_of standard (λ from name. NoSource) false) macros 16 256 (codes "m") (Source (codes "m") text)
 defined_by (Refused kind word) text = fails (record { kind = kind; name = codes "-D"; line = 1; word = word })
 
 -- the output of a row, with a definition from outside

@@ -1,30 +1,27 @@
 -- The bytes that a call keeps have exactly the tokens that it keeps.
-use Rattle.std.proofs.Common.{◌≡◌, ℕ, zero, suc, ◌+◌, Bool, true, false, not, cond, List, [], ◌∷◌, ◌++◌, map, filter, length, take, drop, All, refl, sym, ap, ◌∙◌, subst, append_assoc}
+use Rattle.std.proofs.Common.{◌≡◌, ℕ, Bool, true, false, not, cond, List, [], ◌∷◌, ◌++◌, map, filter, length, take, drop, All, refl, sym, ap, ◌∙◌, subst, append_assoc}
 use Rattle.std.specs.List.{concat}
-use Rattle.std.proofs.lemmas.Bool.{cond_both, false≢true}
+use Rattle.std.proofs.lemmas.Bool.{false≢true}
 use Rattle.std.proofs.lemmas.List.Elements.{All-nil, All-cons, All-append, All-map, All-weaker, filter_passes}
 use Rattle.rdlpp_scan.specs.Comments.{is_line_comment, other_tokens, token_texts, other_texts, without_line_comments}
-use Rattle.rdlpp_scan.specs.declared.token.Directive.{Directive}
 use Rattle.rdlpp_scan.specs.declared.token.Kind.{Kind}
-use Rattle.rdlpp_scan.specs.declared.token.Kind.TheVariants.{Back, LineComment, Opener, Closer}
+use Rattle.rdlpp_scan.specs.declared.token.Kind.TheVariants.{LineComment, Opener, Closer}
 use Rattle.rdlpp_scan.specs.declared.token.Mode.{Mode}
 use Rattle.rdlpp_scan.specs.declared.token.Mode.TheVariants.{Plain}
 use Rattle.rdlpp_scan.specs.declared.token.Token.{Token}
-use Rattle.rdlpp_scan.specs.Front.{Breach, DefineLong, DefineCut}
+use Rattle.rdlpp_scan.specs.Front.{DefineLong, DefineCut}
 use Rattle.rdlpp_scan.specs.SourceTokens.{Sort, Ordinary, Definition, Renumbering, Broken, SourceToken, Course, source_tokens}
 use Rattle.rdlpp_scan.specs.TokenKinds.{is_ordinary}
 use Rattle.rdlpp_scan.specs.Tokens.{tokens_from}
 use Rattle.rdlpp_scan.proofs.CommentLaws.{without-tokens, without-texts}
 use Rattle.rdlpp_meaning.specs.State.{breach_kind}
-use Rattle.rdlpp_meaning.specs.Actuals.{Role, Start, Up, End, Down, Halt, Ends, Stops, Text, kind_role, broken_role, token_role}
-use Rattle.rdlpp_meaning.specs.CallScan.{Before, Closed, scan, source_role, is_kept, is_call_text, IsClosed}
-use Rattle.rdlpp_meaning.specs.Cursors.{kept}
+use Rattle.rdlpp_meaning.specs.Actuals.{Role, Start, Up, End, Down, Ends, Stops, kind_role, broken_role, token_role}
+use Rattle.rdlpp_meaning.specs.CallScan.{source_role, is_kept, is_call_text, IsClosed}
 use Rattle.rdlpp_meaning.specs.Expansion.{bytes_of}
-use Rattle.rdlpp_meaning.specs.Parts.{directive_named, directive_of}
+use Rattle.rdlpp_meaning.specs.Parts.{directive_of}
 use Rattle.rdlpp_meaning.specs.Substitution.{spelled, body_tokens}
 use Rattle.rdlpp_meaning.specs.TextTokens.{text_tokens, unlined}
-use Rattle.rdlpp_meaning.proofs.ClosedScans.{closed_scan}
-use Rattle.rdlpp_meaning.proofs.SourceRows.{IsSourceRow, mode_behind_row, mode_behind_last, source_row}
+use Rattle.rdlpp_meaning.proofs.SourceRows.{mode_behind_last, source_row}
 use Rattle.rdlpp_meaning.proofs.TextRanges.{body_text, text_cut}
 use Rattle.rdlpp_meaning.proofs.UnlinedTokens.{unlined_role, unlined_bytes, kept-map, source_kept}
 

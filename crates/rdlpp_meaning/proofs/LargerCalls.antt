@@ -6,7 +6,7 @@ use Rattle.std.proofs.lemmas.Bool.{le-leb, leb-true}
 use Rattle.rdlpp_scan.specs.SourceTokens.{SourceToken}
 use Rattle.rdlpp_scan.specs.Reserved.{is_reserved}
 use Rattle.rdlpp_table.specs.Table.{Formal, Macro, macro_named}
-use Rattle.rdlpp_meaning.specs.declared.fault.FaultKind.TheVariants.{UndefinedMacro, RecursiveMacro, DirectiveInText, ArgumentBytes, Unbuilt}
+use Rattle.rdlpp_meaning.specs.declared.fault.FaultKind.TheVariants.{UndefinedMacro, RecursiveMacro, DirectiveInText, ArgumentBytes}
 use Rattle.rdlpp_meaning.specs.State.{Defined, Rules, State}
 use Rattle.rdlpp_meaning.specs.Items.{Item}
 use Rattle.rdlpp_meaning.specs.Actuals.{Role, Space, Dropped, Remark, Start, Up, End, Down, Cut, Halt, Text, Ends, Stops, Call, Lacking, passed, put, parted, level_behind, kept_size, heed, inside_call, call_of, item_role, item_size}
@@ -177,11 +177,8 @@ macro-usage rules depth most define tokens source line o name items m h =
     let u = usage_of_formals rules source line name items m m.formals in
     let v = usage_of_formals (wider rules depth most define tokens) source line name items m m.formals in
     let recursive : Usage = Refuses RecursiveMacro name line in
-    choice-agrees (rules.unbuilt_macro m) (Refuses Unbuilt [] line) (Refuses Unbuilt [] line)
-    (if list_any (bytes_eq name) o then recursive else u) (if list_any (bytes_eq name) o then recursive else v)
-    (same-agrees (Refuses Unbuilt [] line))
-    (choice-agrees (list_any (bytes_eq name) o) recursive recursive u v (same-agrees recursive)
-    (formals-usage rules depth most define tokens source line name items m m.formals h))
+    choice-agrees (list_any (bytes_eq name) o) recursive recursive u v (same-agrees recursive)
+    (formals-usage rules depth most define tokens source line name items m m.formals h)
 
 -- a usage by what its name is
 named-usage : (rules : Rules) (depth most : ℕ) (define : List Macro → List ℕ → Defined) (tokens : List ℕ → List SourceToken) (source : Option ℕ) (line : ℕ) (o : List (List ℕ)) (name : List ℕ) (items : List Item) (found : Option Macro)

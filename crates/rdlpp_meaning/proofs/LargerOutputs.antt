@@ -19,7 +19,7 @@ use Rattle.rdlpp_meaning.specs.Meaning.{Passage, leaves, outcome, behind_bytes, 
 use Rattle.rdlpp_meaning.specs.Resumed.{Place, Live, Skipped, resume}
 use Rattle.rdlpp_meaning.specs.Output.{opening_fault, start_state, output}
 use Rattle.rdlpp_meaning.specs.Profile.{define_fault, with_fault, rules_of}
-use Rattle.rdlpp_meaning.specs.OutputLimit.{Searches, limited, built_rules, unlimited_output, limited_output}
+use Rattle.rdlpp_meaning.specs.OutputLimit.{Searches, limited, search_rules, unlimited_output, limited_output}
 use Rattle.rdlpp_meaning.specs.LimitLaws.{is_limit, NamesNoLimit, IsLarger}
 use Rattle.rdlpp_meaning.specs.Items.{Written}
 use Rattle.rdlpp_meaning.specs.Actuals.{token_role}
@@ -401,26 +401,26 @@ unfolding define_of
 all-defined bytes count bytes' count' h k macros rest = draft-agrees bytes count bytes' count' macros (macro_of rest) h k
 
 -- the rules of larger limits are wider rules of smaller ones
-rules-wider : (small large : Limits) (unbuilt_macro : Macro → Bool) (find : List ℕ → List ℕ → Lookup) (origins : Bool)
-    → rules_of large unbuilt_macro find origins
-    ≡ wider (rules_of small unbuilt_macro find origins) large.depth large.argument_bytes
+rules-wider : (small large : Limits) (find : List ℕ → List ℕ → Lookup) (origins : Bool)
+    → rules_of large find origins
+    ≡ wider (rules_of small find origins) large.depth large.argument_bytes
     (λ macros rest. with_fault (define_of large.definition_bytes large.definitions macros rest))
     (λ text. whole_tokens large.line_bytes large.source_bytes text)
 unfolding rules_of
-rules-wider small large unbuilt_macro find origins = refl
+rules-wider small large find origins = refl
 
--- an output that no fault of a limit ends is the same with larger limits
-pub larger_staged : (small large : Limits) (unbuilt_macro : Macro → Bool) (find : List ℕ → List ℕ → Lookup) (origins : Bool)
-    (macros : List Macro) (path : List ℕ) (found : Lookup) → IsLarger small large → NamesNoLimit (output (rules_of small unbuilt_macro find origins) macros small.includes small.conditions path found).fault
-    → output (rules_of large unbuilt_macro find origins) macros large.includes large.conditions path found
-    ≡ output (rules_of small unbuilt_macro find origins) macros small.includes small.conditions path found
+-- an output that no fault of a limit ends is the same with larger limits, before the limit on the output is looked at
+pub larger_output : (small large : Limits) (find : List ℕ → List ℕ → Lookup) (origins : Bool)
+    (macros : List Macro) (path : List ℕ) (found : Lookup) → IsLarger small large → NamesNoLimit (output (rules_of small find origins) macros small.includes small.conditions path found).fault
+    → output (rules_of large find origins) macros large.includes large.conditions path found
+    ≡ output (rules_of small find origins) macros small.includes small.conditions path found
 unfolding rules_of AllDefined
-larger_staged small large unbuilt_macro find origins macros path found l n =
-    let rules = rules_of small unbuilt_macro find origins in
+larger_output small large find origins macros path found l n =
+    let rules = rules_of small find origins in
     let define : List Macro → List ℕ → Defined = λ ms rest. with_fault (define_of large.definition_bytes large.definitions ms rest) in
     let tokens : List ℕ → List SourceToken = λ text. whole_tokens large.line_bytes large.source_bytes text in
     let more = large.conditions - small.conditions in
-    ap (λ (r : Rules). output r macros large.includes large.conditions path found) (rules-wider small large unbuilt_macro find origins)
+    ap (λ (r : Rules). output r macros large.includes large.conditions path found) (rules-wider small large find origins)
     ∙ ap (λ (k : ℕ). output (wider rules large.depth large.argument_bytes define tokens) macros large.includes k path found)
     (difference small.conditions large.conditions l.conditions)
     ∙ output-agrees rules large.depth large.argument_bytes define tokens macros small.includes large.includes small.conditions more path found
@@ -457,9 +457,9 @@ limited-agree over quota more o p l h same n =
 pub larger_limits : (small large : Limits) (searches : Searches) (origins : Bool) (macros : List Macro) (path : List ℕ)
     → IsLarger small large → NamesNoLimit (limited_output small searches origins macros path).fault
     → limited_output large searches origins macros path ≡ limited_output small searches origins macros path
-unfolding limited_output unlimited_output built_rules opening_fault is_limit
+unfolding limited_output unlimited_output search_rules opening_fault is_limit
 larger_limits small large searches origins macros path l n =
     limited-agree (opening_fault OutputBytes path) small.output_bytes large.output_bytes
     (unlimited_output small searches origins macros path) (unlimited_output large searches origins macros path) refl l.output_bytes
-    (larger_staged small large (λ m. false) searches.included origins macros path (searches.main path) l
+    (larger_output small large searches.included origins macros path (searches.main path) l
     ) n

@@ -1,8 +1,8 @@
 -- The scan of a call from the left is the call of the definition, which is built from the right.
-use Rattle.std.proofs.Common.{◌≡◌, ℕ, zero, suc, ◌-◌, Bool, true, false, List, [], ◌∷◌, refl, sym, ap, ◌∙◌, None, Some, Option}
+use Rattle.std.proofs.Common.{◌≡◌, ℕ, zero, suc, ◌-◌, Bool, true, false, List, [], ◌∷◌, refl, sym, ap, ◌∙◌}
 use Rattle.std.specs.Prelude.{nat_le}
 use Rattle.rdlpp_meaning.specs.Actuals.{Role, Space, Dropped, Remark, Start, Up, End, Down, Cut, Halt, Text, Ends, Stops, Call, Lacking, Broke, Bound, passed, put, parted, level_behind, kept_size, heed, inside_call, call_of}
-use Rattle.rdlpp_meaning.specs.CallScan.{Stand, Before, Inside, Turn, Passes, Keeps, Closes, Refuses, Breaks, turn_before, turn_fitting, turn_inside, turn, stand_behind_lead, stand_behind, room_behind, fault_at_end, Scanned, Refused, Stopped, Closed, scan_passing, scan_keeping, scanned, scan, Split, split_by, split, call_of_scan}
+use Rattle.rdlpp_meaning.specs.CallScan.{Before, Inside, Turn, Passes, Keeps, Closes, Refuses, Breaks, turn_before, turn_fitting, turn_inside, turn, stand_behind_lead, stand_behind, room_behind, fault_at_end, Scanned, Refused, Stopped, Closed, scan_passing, scan_keeping, scanned, scan, Split, split_by, split, call_of_scan}
 use Rattle.rdlpp_meaning.proofs.Commuting.{call_by, call_is}
 use Rattle.rdlpp_meaning.proofs.Turns.{passes_level}
 

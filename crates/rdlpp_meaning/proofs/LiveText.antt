@@ -12,7 +12,7 @@ use Rattle.rdlpp_scan.specs.SourceTokens.{Ordinary, Definition, Broken, SourceTo
 use Rattle.rdlpp_scan.specs.Reserved.{is_reserved}
 use Rattle.rdlpp_table.specs.Table.{Macro, macro_named}
 use Rattle.rdlpp_meaning.specs.declared.fault.FaultKind.{FaultKind}
-use Rattle.rdlpp_meaning.specs.declared.fault.FaultKind.TheVariants.{BareBackquote as NoName, UndefinedMacro, Unbuilt}
+use Rattle.rdlpp_meaning.specs.declared.fault.FaultKind.TheVariants.{BareBackquote as NoName, UndefinedMacro}
 use Rattle.rdlpp_meaning.specs.Outcome.{Told, gives, fails, and_then}
 use Rattle.rdlpp_meaning.specs.State.{Defined, Accepted, Refused, Rules, State, fault_at, breach_kind}
 use Rattle.rdlpp_meaning.specs.Items.{Written}
@@ -23,7 +23,7 @@ use Rattle.rdlpp_meaning.specs.Meaning.{Passage, leaves, behind_bytes, goes_on, 
 use Rattle.rdlpp_meaning.specs.Resumed.{Live, resume, resumed}
 use Rattle.rdlpp_meaning.proofs.Outcomes.{and_then-fails}
 use Rattle.rdlpp_meaning.proofs.Passages.{fails-goes_on, goes_on-gives, behind_bytes-nil, behind_bytes-twice, gives_fails-goes_on}
-use Rattle.rdlpp_meaning.proofs.Usages.{usage_none, usage_some, usage_unbuilt, run_refused}
+use Rattle.rdlpp_meaning.proofs.Usages.{usage_none, run_refused}
 use Rattle.rdlpp_meaning.proofs.Runs.{Writes, resumed_token}
 use Rattle.rdlpp_meaning.proofs.PlainBodies.{body_ordinary}
 use Rattle.rdlpp_meaning.proofs.TokenWrites.{copied_text, copied_writes, body_writes, bare_writes, broken_writes, usage_text, only_blanks-append, define_command, define_piece}
@@ -71,40 +71,27 @@ resumed_undefined rules os first name line more s r e =
     (λ us. run_refused rules s name line us UndefinedMacro name line (usage_none rules s None line [] name (map Written us) r e)
     ∙ sym (and_then-fails f (run_outcome rules s us)))
 
--- a usage of a macro that isn't built ends its source
-pub resumed_unbuilt : (rules : Rules) (os : List Progress) (first : Bool) (name : List ℕ) (line : ℕ) (more : List SourceToken) (s : State) (m : Macro)
-    → is_reserved name ≡ false → macro_named s.macros name ≡ Some m → rules.unbuilt_macro m ≡ true
-    → resumed rules (Live os) first (usage_token name line ∷ more) s ≡ leaves (fails (fault_at Unbuilt line [] s)) s
-unfolding Writes
-resumed_unbuilt rules os first name line more s m r e u =
-    let f = fault_at Unbuilt line [] s in
-    resumed_fails rules os first (usage_token name line) more s f (usage_text name line r)
-    (λ us. run_refused rules s name line us Unbuilt [] line
-    (usage_some rules s None line [] name (map Written us) m r e
-    ∙ usage_unbuilt rules None line [] name (map Written us) m u)
-    ∙ sym (and_then-fails f (run_outcome rules s us)))
-
 -- a usage of a macro without a list, of whose body all tokens are copied, gives its body, and then what remains behind it
 pub resumed_copied_body : (rules : Rules) (os : List Progress) (first : Bool) (name : List ℕ) (line : ℕ) (more : List SourceToken) (s : State) (m : Macro)
     → 0 < rules.depth
-    → is_reserved name ≡ false → macro_named s.macros name ≡ Some m → rules.unbuilt_macro m ≡ false
+    → is_reserved name ≡ false → macro_named s.macros name ≡ Some m
     → m.formals ≡ None → list_all is_copied (body_tokens m.body) ≡ true
     → resumed rules (Live os) first (usage_token name line ∷ more) s
     ≡ behind_bytes m.body (resumed rules (Live os) (only_blanks first (96 ∷ name)) more s)
-resumed_copied_body rules os first name line more s m h r e u f copied =
+resumed_copied_body rules os first name line more s m h r e f copied =
     resumed_writes rules os first (usage_token name line) more s m.body (usage_text name line r)
-    (body_writes rules s name line m h r e u f copied)
+    (body_writes rules s name line m h r e f copied)
 
 -- a usage of a macro without a list and with ordinary text gives its body, and then what remains behind it
 pub resumed_plain_body : (rules : Rules) (os : List Progress) (first : Bool) (name : List ℕ) (line : ℕ) (more : List SourceToken) (s : State) (m : Macro)
     → 0 < rules.depth
-    → is_reserved name ≡ false → macro_named s.macros name ≡ Some m → rules.unbuilt_macro m ≡ false
+    → is_reserved name ≡ false → macro_named s.macros name ≡ Some m
     → m.formals ≡ None → plain_len m.body ≡ length m.body
     → resumed rules (Live os) first (usage_token name line ∷ more) s
     ≡ behind_bytes m.body (resumed rules (Live os) (only_blanks first (96 ∷ name)) more s)
 unfolding body_tokens
-resumed_plain_body rules os first name line more s m h r e u f plain =
-    resumed_copied_body rules os first name line more s m h r e u f (body_ordinary m.body plain).copied
+resumed_plain_body rules os first name line more s m h r e f plain =
+    resumed_copied_body rules os first name line more s m h r e f (body_ordinary m.body plain).copied
 
 -- a lone backquote ends its source
 pub resumed_bare : (rules : Rules) (os : List Progress) (first : Bool) (bytes : List ℕ) (line : ℕ) (more : List SourceToken) (s : State)

@@ -8,7 +8,7 @@ use Rattle.rdlpp_meaning.specs.State.{Lookup, NoSource, LongPath, Source}
 use Rattle.rdlpp_meaning.specs.Meaning.{origin_line}
 use Rattle.rdlpp_meaning.specs.Resumed.{Live, remains}
 use Rattle.rdlpp_meaning.specs.Output.{opening_fault, start_state, output}
-use Rattle.rdlpp_meaning.specs.OutputLimit.{Searches, limited, built_rules, unlimited_output, limited_output}
+use Rattle.rdlpp_meaning.specs.OutputLimit.{Searches, limited, search_rules, unlimited_output, limited_output}
 use Rattle.rdlpp_meaning.proofs.Outputs.{output_found, output_missing, output_overlong}
 use Rattle.rdlpp_meaning.proofs.OutputLimits.{limited-fails}
 
@@ -16,10 +16,10 @@ use Rattle.rdlpp_meaning.proofs.OutputLimits.{limited-fails}
 output-of : (limits : Limits) (searches : Searches) (origins : Bool) (macros : List Macro) (path : List ℕ) (found : Lookup)
     → searches.main path ≡ found
     → unlimited_output limits searches origins macros path
-    ≡ output (built_rules limits searches origins) macros limits.includes limits.conditions path found
+    ≡ output (search_rules limits searches origins) macros limits.includes limits.conditions path found
 unfolding unlimited_output
 output-of limits searches origins macros path found e =
-    ap (λ (x : Lookup). output (built_rules limits searches origins) macros limits.includes limits.conditions path x) e
+    ap (λ (x : Lookup). output (search_rules limits searches origins) macros limits.includes limits.conditions path x) e
 
 -- a fault of the opening stays
 opening-stays : (limits : Limits) (searches : Searches) (origins : Bool) (macros : List Macro) (path : List ℕ) (f : Told)
@@ -34,12 +34,12 @@ opening-stays limits searches origins macros path f e =
 pub main-found : (limits : Limits) (searches : Searches) (origins : Bool) (macros : List Macro) (path found text : List ℕ)
     → searches.main path ≡ Source found text
     → unlimited_output limits searches origins macros path
-    ≡ and_then (gives (origin_line (built_rules limits searches origins) found 1))
-    (remains (built_rules limits searches origins) (Live []) true ((built_rules limits searches origins).tokens text)
+    ≡ and_then (gives (origin_line (search_rules limits searches origins) found 1))
+    (remains (search_rules limits searches origins) (Live []) true ((search_rules limits searches origins).tokens text)
     (start_state macros limits.includes limits.conditions found))
 main-found limits searches origins macros path found text e =
     output-of limits searches origins macros path (Source found text) e
-    ∙ output_found (built_rules limits searches origins) macros limits.includes limits.conditions path found text
+    ∙ output_found (search_rules limits searches origins) macros limits.includes limits.conditions path found text
 
 -- that of one that isn't found
 pub main-missing : (limits : Limits) (searches : Searches) (origins : Bool) (macros : List Macro) (path : List ℕ)
@@ -48,7 +48,7 @@ pub main-missing : (limits : Limits) (searches : Searches) (origins : Bool) (mac
 main-missing limits searches origins macros path e =
     opening-stays limits searches origins macros path (opening_fault SourceNotFound path)
     (output-of limits searches origins macros path NoSource e
-    ∙ output_missing (built_rules limits searches origins) macros limits.includes limits.conditions path)
+    ∙ output_missing (search_rules limits searches origins) macros limits.includes limits.conditions path)
 
 -- and that of one that is too long
 pub main-overlong : (limits : Limits) (searches : Searches) (origins : Bool) (macros : List Macro) (path : List ℕ)
@@ -57,4 +57,4 @@ pub main-overlong : (limits : Limits) (searches : Searches) (origins : Bool) (ma
 main-overlong limits searches origins macros path e =
     opening-stays limits searches origins macros path (opening_fault PathTooLong path)
     (output-of limits searches origins macros path LongPath e
-    ∙ output_overlong (built_rules limits searches origins) macros limits.includes limits.conditions path)
+    ∙ output_overlong (search_rules limits searches origins) macros limits.includes limits.conditions path)

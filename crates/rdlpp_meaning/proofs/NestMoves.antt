@@ -11,7 +11,7 @@ use Rattle.rdlpp_scan.specs.SourceTokens.{Ordinary, Definition, Broken, SourceTo
 use Rattle.rdlpp_scan.specs.Reserved.{is_reserved}
 use Rattle.rdlpp_table.specs.Table.{Macro, macro_named, without}
 use Rattle.rdlpp_meaning.specs.declared.fault.FaultKind.{FaultKind}
-use Rattle.rdlpp_meaning.specs.declared.fault.FaultKind.TheVariants.{BareBackquote as NoName, UndefinedMacro, Unbuilt, IncludeName, SourceNotFound, TooManyIncludes, PathTooLong}
+use Rattle.rdlpp_meaning.specs.declared.fault.FaultKind.TheVariants.{BareBackquote as NoName, UndefinedMacro, IncludeName, SourceNotFound, TooManyIncludes, PathTooLong}
 use Rattle.rdlpp_meaning.specs.Outcome.{Told, Outcome, gives, fails, and_then}
 use Rattle.rdlpp_meaning.specs.State.{Accepted, Refused, NoSource, LongPath, Rules, State, fault_at, breach_kind}
 use Rattle.rdlpp_meaning.specs.Substitution.{body_tokens}
@@ -26,7 +26,7 @@ use Rattle.rdlpp_meaning.proofs.Undefining.{resumed_undef, resumed_bad_undef}
 use Rattle.rdlpp_meaning.proofs.Includes.{behind_bytes-goes_on, all_resumed_alone, all_remains_step, all_resumed_move, include_nameless, include_bad_name, include_too_deep, include_not_found, include_long_path}
 use Rattle.rdlpp_meaning.proofs.Remaining.{remains_end}
 use Rattle.rdlpp_meaning.proofs.Leading.{resumed_run, resumed_part}
-use Rattle.rdlpp_meaning.proofs.LiveText.{resumed_copied, resumed_undefined, resumed_unbuilt, resumed_copied_body, resumed_bare, resumed_broken, resumed_copied_parts, resumed_broken_parts, resumed_defined, resumed_refused}
+use Rattle.rdlpp_meaning.proofs.LiveText.{resumed_copied, resumed_undefined, resumed_copied_body, resumed_bare, resumed_broken, resumed_copied_parts, resumed_broken_parts, resumed_defined, resumed_refused}
 
 -- what the innermost source writes first, the nest writes first
 pub all_resumed_behind : (rules : Rules) (ws : List Waiting) (place new : Place) (first then_first : Bool) (ts us : List SourceToken) (s t : State) (x : List ℕ)
@@ -167,24 +167,16 @@ all_remains_undefined rules ws os first name line more s r e =
     all_remains_fails rules ws (Live os) first (usage_token name line ∷ more) s s
     (fault_at UndefinedMacro line name s) (resumed_undefined rules os first name line more s r e)
 
--- a usage of a macro that isn't built is a fault
-pub all_remains_unbuilt : (rules : Rules) (ws : List Waiting) (os : List Progress) (first : Bool) (name : List ℕ) (line : ℕ) (more : List SourceToken) (s : State) (m : Macro)
-    → is_reserved name ≡ false → macro_named s.macros name ≡ Some m → rules.unbuilt_macro m ≡ true
-    → all_remains rules ws (Live os) first (usage_token name line ∷ more) s ≡ fails (fault_at Unbuilt line [] s)
-all_remains_unbuilt rules ws os first name line more s m r e u =
-    all_remains_fails rules ws (Live os) first (usage_token name line ∷ more) s s
-    (fault_at Unbuilt line [] s) (resumed_unbuilt rules os first name line more s m r e u)
-
 -- a usage of a macro without a list, of whose body all tokens are copied, gives its body
 pub all_remains_copied_body : (rules : Rules) (ws : List Waiting) (os : List Progress) (first : Bool) (name : List ℕ) (line : ℕ) (more : List SourceToken) (s : State) (m : Macro)
     → 0 < rules.depth
-    → is_reserved name ≡ false → macro_named s.macros name ≡ Some m → rules.unbuilt_macro m ≡ false
+    → is_reserved name ≡ false → macro_named s.macros name ≡ Some m
     → m.formals ≡ None → list_all is_copied (body_tokens m.body) ≡ true
     → all_remains rules ws (Live os) first (usage_token name line ∷ more) s
     ≡ and_then (gives m.body) (all_remains rules ws (Live os) (only_blanks first (96 ∷ name)) more s)
-all_remains_copied_body rules ws os first name line more s m h r e u f copied =
+all_remains_copied_body rules ws os first name line more s m h r e f copied =
     all_remains_behind rules ws (Live os) (Live os) first (only_blanks first (96 ∷ name)) (usage_token name line ∷ more) more s s m.body
-    (resumed_copied_body rules os first name line more s m h r e u f copied)
+    (resumed_copied_body rules os first name line more s m h r e f copied)
 
 -- a `define` that is accepted gives its LF bytes and changes the macros
 pub all_remains_defined : (rules : Rules) (ws : List Waiting) (os : List Progress) (first : Bool) (bytes : List ℕ) (line : ℕ) (more : List SourceToken) (s : State) (macros : List Macro)

@@ -100,13 +100,13 @@ plain_whole most room text plain e =
     (sym e) (plain_alone most text plain)
 
 -- plain text that meets its limits is its own output
-pub plain_text : (limits : Limits) (unbuilt_macro : Macro → Bool) (find : List ℕ → List ℕ → Lookup)
+pub plain_text : (limits : Limits) (find : List ℕ → List ℕ → Lookup)
     (macros : List Macro) (path found text : List ℕ) → plain_len text ≡ length text → front limits.line_bytes limits.source_bytes text ≡ record { text = text; break = None }
-    → output (rules_of limits unbuilt_macro find false) macros limits.includes limits.conditions path (Source found text)
+    → output (rules_of limits find false) macros limits.includes limits.conditions path (Source found text)
     ≡ gives text
 unfolding rules_of
-plain_text limits unbuilt_macro find macros path found text plain e =
-    let rules = rules_of limits unbuilt_macro find false in
+plain_text limits find macros path found text plain e =
+    let rules = rules_of limits find false in
     let w = plain_whole limits.line_bytes limits.source_bytes text plain e in
     output_copied rules macros limits.includes limits.conditions path found text refl w.copied
     ∙ ap gives w.spelled

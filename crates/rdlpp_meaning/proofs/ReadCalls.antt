@@ -1,13 +1,11 @@
 -- A call in a source that was read token by token is the call of the definition, with the parts of the kept bytes.
-use Rattle.std.proofs.Common.{◌≡◌, ◌≤◌, ℕ, zero, suc, ◌+◌, ◌-◌, Bool, true, false, List, [], ◌∷◌, ◌++◌, map, length, drop, refl, sym, ap, ◌∙◌, subst, arith}
-use Rattle.std.specs.Prelude.{All, nat_le}
-use Rattle.std.proofs.lemmas.List.{length-append}
-use Rattle.std.proofs.lemmas.Bool.{false≢true}
+use Rattle.std.proofs.Common.{◌≡◌, ℕ, true, false, List, map, drop, refl, sym, ap, ◌∙◌, subst}
+use Rattle.std.specs.Prelude.{All}
 use Rattle.rdlpp_scan.specs.declared.token.Mode.{Mode}
 use Rattle.rdlpp_scan.specs.SourceTokens.{SourceToken, Course, source_tokens}
 use Rattle.rdlpp_meaning.specs.declared.fault.FaultKind.{FaultKind}
-use Rattle.rdlpp_meaning.specs.Actuals.{Role, Call, Lacking, Broke, map_call, call_of, token_role}
-use Rattle.rdlpp_meaning.specs.CallReading.{Reading, ReadRefused, ReadStopped, ReadClosed, read, reading_of}
+use Rattle.rdlpp_meaning.specs.Actuals.{Lacking, Broke, map_call, call_of, token_role}
+use Rattle.rdlpp_meaning.specs.CallReading.{ReadRefused, ReadStopped, ReadClosed, read, reading_of}
 use Rattle.rdlpp_meaning.specs.CallScan.{Before, Scanned, Refused, Stopped, Closed, scan, call_of_scan, is_kept, source_role}
 use Rattle.rdlpp_meaning.specs.Cursors.{kept}
 use Rattle.rdlpp_meaning.specs.Expansion.{bytes_of}

@@ -9,7 +9,7 @@ use Rattle.rdlpp_scan.specs.SourceTokens.{Ordinary, Definition, Broken, SourceTo
 use Rattle.rdlpp_scan.specs.Reserved.{is_reserved}
 use Rattle.rdlpp_table.specs.Table.{Macro, macro_named}
 use Rattle.rdlpp_meaning.specs.declared.fault.FaultKind.{FaultKind}
-use Rattle.rdlpp_meaning.specs.declared.fault.FaultKind.TheVariants.{BareBackquote as NoName, UndefinedMacro, Unbuilt}
+use Rattle.rdlpp_meaning.specs.declared.fault.FaultKind.TheVariants.{BareBackquote as NoName, UndefinedMacro}
 use Rattle.rdlpp_meaning.specs.Outcome.{Told, Outcome, gives, fails, and_then}
 use Rattle.rdlpp_meaning.specs.State.{Accepted, Refused, Rules, State, fault_at, breach_kind}
 use Rattle.rdlpp_meaning.specs.Expansion.{is_copied, usage_token, bytes_of}
@@ -18,7 +18,7 @@ use Rattle.rdlpp_meaning.specs.Meaning.{leaves, behind_bytes, outcome, Progress}
 use Rattle.rdlpp_meaning.specs.Resumed.{Place, Live, resume, resumed, remains}
 use Rattle.rdlpp_meaning.proofs.Passages.{outcome-leaves}
 use Rattle.rdlpp_meaning.proofs.Outputs.{outcome-behind_bytes}
-use Rattle.rdlpp_meaning.proofs.LiveText.{resumed_copied, resumed_undefined, resumed_unbuilt, resumed_plain_body, resumed_bare, resumed_broken, resumed_defined, resumed_refused}
+use Rattle.rdlpp_meaning.proofs.LiveText.{resumed_copied, resumed_undefined, resumed_plain_body, resumed_bare, resumed_broken, resumed_defined, resumed_refused}
 pub use Rattle.rdlpp_meaning.proofs.TokenWrites.{only_blanks-append}
 
 -- what remains behind bytes
@@ -52,24 +52,16 @@ remains_undefined rules os first name line more s r e =
     remains-fails rules (Live os) first (usage_token name line ∷ more) s s (fault_at UndefinedMacro line name s)
     (resumed_undefined rules os first name line more s r e)
 
--- a usage of a macro that isn't built ends the output
-pub remains_unbuilt : (rules : Rules) (os : List Progress) (first : Bool) (name : List ℕ) (line : ℕ) (more : List SourceToken) (s : State) (m : Macro)
-    → is_reserved name ≡ false → macro_named s.macros name ≡ Some m → rules.unbuilt_macro m ≡ true
-    → remains rules (Live os) first (usage_token name line ∷ more) s ≡ fails (fault_at Unbuilt line [] s)
-remains_unbuilt rules os first name line more s m r e u =
-    remains-fails rules (Live os) first (usage_token name line ∷ more) s s (fault_at Unbuilt line [] s)
-    (resumed_unbuilt rules os first name line more s m r e u)
-
 -- a usage of a macro without a list and with ordinary text gives its body, and then what remains behind it
 pub remains_usage : (rules : Rules) (os : List Progress) (first : Bool) (name : List ℕ) (line : ℕ) (more : List SourceToken) (s : State) (m : Macro)
     → 0 < rules.depth
-    → is_reserved name ≡ false → macro_named s.macros name ≡ Some m → rules.unbuilt_macro m ≡ false
+    → is_reserved name ≡ false → macro_named s.macros name ≡ Some m
     → m.formals ≡ None → plain_len m.body ≡ length m.body
     → remains rules (Live os) first (usage_token name line ∷ more) s
     ≡ and_then (gives m.body) (remains rules (Live os) (only_blanks first (96 ∷ name)) more s)
-remains_usage rules os first name line more s m h r e u f plain =
+remains_usage rules os first name line more s m h r e f plain =
     remains-behind rules (Live os) (Live os) first (only_blanks first (96 ∷ name)) (usage_token name line ∷ more) more s s m.body
-    (resumed_plain_body rules os first name line more s m h r e u f plain)
+    (resumed_plain_body rules os first name line more s m h r e f plain)
 
 -- a lone backquote ends the output
 pub remains_bare : (rules : Rules) (os : List Progress) (first : Bool) (bytes : List ℕ) (line : ℕ) (more : List SourceToken) (s : State)

@@ -1,6 +1,6 @@
 -- What remains of a source in a string or in a comment begins with the rest of it, which is whole, or broken as a string or a
 -- comment can be.
-use Rattle.std.proofs.Common.{◌≡◌, ℕ, ◌+◌, ◌-◌, Bool, true, cond, ltb, List, [], ◌∷◌, ◌++◌, Some, None, Option, length, take, refl, sym, ap, ◌∙◌, subst, arith}
+use Rattle.std.proofs.Common.{◌≡◌, ℕ, ◌+◌, ◌-◌, true, cond, ltb, List, [], ◌∷◌, ◌++◌, Some, None, Option, length, take, refl, sym, ap, ◌∙◌, subst, arith}
 use Rattle.std.specs.Prelude.{nat_lt}
 use Rattle.std.proofs.lemmas.Bool.{cond_both}
 use Rattle.rdlpp_scan.specs.declared.token.Kind.{Kind}

@@ -1,12 +1,12 @@
 -- Tokens of a source in a row that are those of the token table are the tokens of their text, but for their lines.
-use Rattle.std.proofs.Common.{◌≡◌, ℕ, ◌+◌, ◌-◌, ◌<◌, Bool, true, false, List, [], ◌∷◌, ◌++◌, map, length, take, drop, All, refl, sym, ap, ◌∙◌, subst, arith, Option, None, Some}
+use Rattle.std.proofs.Common.{◌≡◌, ℕ, ◌+◌, ◌-◌, ◌<◌, true, List, [], ◌∷◌, ◌++◌, map, length, take, drop, All, refl, sym, ap, ◌∙◌, subst, arith, Option, None, Some}
 use Rattle.std.proofs.lemmas.Bool.{false≢true}
 use Rattle.std.proofs.lemmas.List.{length-append, drop-drop}
 use Rattle.std.proofs.lemmas.List.Elements.{All-head, All-tail}
 use Rattle.rdlpp_scan.specs.declared.token.Mode.{Mode}
 use Rattle.rdlpp_scan.specs.declared.token.Mode.TheVariants.{Plain, InStr, InBlock}
 use Rattle.rdlpp_scan.specs.Front.{Breach, StringOpen, CommentOpen, Break}
-use Rattle.rdlpp_scan.specs.SourceTokens.{Sort, Ordinary, Definition, Renumbering, Broken, SourceToken, Course, Step, Last, Next, broken, line_ends, line_after, open_end, source_end, source_step, source_tokens}
+use Rattle.rdlpp_scan.specs.SourceTokens.{Sort, Ordinary, Broken, SourceToken, Course, Step, Last, Next, broken, line_ends, line_after, open_end, source_end, source_step, source_tokens}
 use Rattle.rdlpp_scan.specs.TokenKinds.{is_ordinary}
 use Rattle.rdlpp_scan.specs.Tokens.{token_of}
 use Rattle.rdlpp_scan.proofs.OrdinaryTokens.{IsTokenOf, Gives, source_step_gives}

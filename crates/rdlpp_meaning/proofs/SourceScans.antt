@@ -1,9 +1,9 @@
 -- The scan of a call over the tokens of a source: a directive halts it, so the tokens in front of the first one need not be cut out.
-use Rattle.std.proofs.Common.{◌≡◌, ℕ, ◌-◌, Bool, List, [], ◌∷◌, length, refl, sym, ap, ◌∙◌, None, Some, Option}
+use Rattle.std.proofs.Common.{◌≡◌, ℕ, Bool, List, [], ◌∷◌, refl, sym, ap, ◌∙◌, None, Some, Option}
 use Rattle.std.specs.Prelude.{nat_le}
 use Rattle.rdlpp_scan.specs.declared.token.Directive.{Directive}
 use Rattle.rdlpp_scan.specs.SourceTokens.{SourceToken}
-use Rattle.rdlpp_meaning.specs.Actuals.{Role, Halt, kept_size, call_of, token_role}
+use Rattle.rdlpp_meaning.specs.Actuals.{Role, Halt, call_of, token_role}
 use Rattle.rdlpp_meaning.specs.CallScan.{Stand, Before, Inside, turn_before, turn_inside, turn, stand_behind, room_behind, fault_at_end, Scanned, Refused, scanned, scan, call_of_scan, source_role}
 use Rattle.rdlpp_meaning.specs.Parts.{directive_of}
 use Rattle.rdlpp_meaning.specs.Resumed.{leading}

@@ -116,15 +116,15 @@ deeper_copied rules s (suc d) line o m h e copied = expand_copied_body rules s d
 
 -- a usage of such a macro writes its body
 pub body_writes : (rules : Rules) (s : State) (name : List ℕ) (line : ℕ) (m : Macro) → 0 < rules.depth
-    → is_reserved name ≡ false → macro_named s.macros name ≡ Some m → rules.unbuilt_macro m ≡ false
+    → is_reserved name ≡ false → macro_named s.macros name ≡ Some m
     → m.formals ≡ None → list_all is_copied (body_tokens m.body) ≡ true
     → Writes rules s (usage_token name line) (gives m.body)
 unfolding Writes run_outcome after_usage
-body_writes rules s name line m h r e u f copied us =
+body_writes rules s name line m h r e f copied us =
     let deeper = deeper_of rules s rules.depth in
     expand_walk rules s rules.depth None [] (Written (usage_token name line) ∷ map Written us)
     ∙ walk_usage rules s deeper name line (map Written us) (Opens m [] 0)
-    (usage_some rules s None line [] name (map Written us) m r e ∙ usage_plain rules None line name (map Written us) m u f)
+    (usage_some rules s None line [] name (map Written us) m r e ∙ usage_plain rules None line name (map Written us) m f)
     ∙ ap (λ (x : Outcome). and_then x (walk rules s deeper None [] 0 (map Written us)))
     (deeper_copied rules s rules.depth line (m.name ∷ []) m h f copied)
     ∙ ap (λ (x : Outcome). and_then (gives m.body) x) (sym (expand_walk rules s rules.depth None [] (map Written us)))

@@ -6,7 +6,7 @@ use Rattle.rdlpp_scan.specs.SourceTokens.{SourceToken}
 use Rattle.rdlpp_scan.specs.Reserved.{is_reserved}
 use Rattle.rdlpp_table.specs.Table.{Formal, Macro, macro_named}
 use Rattle.rdlpp_meaning.specs.declared.fault.FaultKind.{FaultKind}
-use Rattle.rdlpp_meaning.specs.declared.fault.FaultKind.TheVariants.{UndefinedMacro, RecursiveMacro, DirectiveInText, ArgumentsMissing, ArgumentsOpen, ArgumentCount, Unbuilt}
+use Rattle.rdlpp_meaning.specs.declared.fault.FaultKind.TheVariants.{UndefinedMacro, RecursiveMacro, DirectiveInText, ArgumentsMissing, ArgumentsOpen, ArgumentCount}
 use Rattle.rdlpp_meaning.specs.State.{Defined, Rules, State}
 use Rattle.rdlpp_meaning.specs.Items.{Item}
 use Rattle.rdlpp_meaning.specs.Actuals.{Role, Space, Dropped, Remark, Start, Up, End, Down, Cut, Halt, Text, Ends, Stops, Call, Lacking, Broke, Bound, passed, put, parted, level_behind, kept_size, heed, inside_call, call_of, trimmed, item_role, item_size}
@@ -314,11 +314,8 @@ macro-torn rules depth most define tokens source line o name ys t us m h torn =
     let u = usage_of_formals rules source line name (ys ++ t ∷ []) m m.formals in
     let v = usage_of_formals (wider rules depth most define tokens) source line name (ys ++ us) m m.formals in
     let recursive : Usage = Refuses RecursiveMacro name line in
-    choice-torn (length ys) (rules.unbuilt_macro m) (Refuses Unbuilt [] line) (Refuses Unbuilt [] line)
-    (if list_any (bytes_eq name) o then recursive else u) (if list_any (bytes_eq name) o then recursive else v)
-    (refused-torn (length ys) Unbuilt [] line)
-    (choice-torn (length ys) (list_any (bytes_eq name) o) recursive recursive u v (refused-torn (length ys) RecursiveMacro name line)
-    (formals-torn rules depth most define tokens source line name ys t us m m.formals h torn))
+    choice-torn (length ys) (list_any (bytes_eq name) o) recursive recursive u v (refused-torn (length ys) RecursiveMacro name line)
+    (formals-torn rules depth most define tokens source line name ys t us m m.formals h torn)
 
 -- a usage by what its name is
 named-torn : (rules : Rules) (depth most : ℕ) (define : List Macro → List ℕ → Defined) (tokens : List ℕ → List SourceToken) (source : Option ℕ) (line : ℕ) (o : List (List ℕ)) (name : List ℕ)

@@ -12,7 +12,7 @@ use Rattle.rdlpp_scan.specs.declared.token.Token.{Token}
 use Rattle.rdlpp_scan.specs.SourceTokens.{Sort, Ordinary, Definition, Renumbering, Broken, SourceToken}
 use Rattle.rdlpp_scan.specs.Reserved.{is_reserved}
 use Rattle.rdlpp_table.specs.Table.{Formal, Macro, macro_named}
-use Rattle.rdlpp_meaning.specs.declared.fault.FaultKind.TheVariants.{UndefinedMacro, RecursiveMacro, DirectiveInText, ArgumentCount, DepthPassed, Unbuilt}
+use Rattle.rdlpp_meaning.specs.declared.fault.FaultKind.TheVariants.{UndefinedMacro, RecursiveMacro, DirectiveInText, ArgumentCount, DepthPassed}
 use Rattle.rdlpp_meaning.specs.Outcome.{Outcome, gives, fails, and_then}
 use Rattle.rdlpp_meaning.specs.State.{Rules, State, fault_at}
 use Rattle.rdlpp_meaning.specs.Items.{Item, Items, Nothing, More, Written, Arg, listed, packed}
@@ -146,10 +146,8 @@ unfolding usage_of_macro map_usage
 macro-usage f rules source line o name keeps items m =
     let u = usage_of_formals rules source line name items m m.formals in
     let recursive : Usage = Refuses RecursiveMacro name line in
-    ap (λ (x : Usage). if rules.unbuilt_macro m then Refuses Unbuilt [] line else (if list_any (bytes_eq name) o then recursive else x))
-    (formals-usage f rules source line name keeps items m m.formals)
-    ∙ ap (λ (x : Usage). if rules.unbuilt_macro m then Refuses Unbuilt [] line else x) (choice-usage f (list_any (bytes_eq name) o) recursive u)
-    ∙ choice-usage f (rules.unbuilt_macro m) (Refuses Unbuilt [] line) (if list_any (bytes_eq name) o then recursive else u)
+    ap (λ (x : Usage). if list_any (bytes_eq name) o then recursive else x) (formals-usage f rules source line name keeps items m m.formals)
+    ∙ choice-usage f (list_any (bytes_eq name) o) recursive u
 
 -- a usage by what its name is
 found-usage : (f : Item → Item) (rules : Rules) (source : Option ℕ) (line : ℕ) (o : List (List ℕ)) (name : List ℕ)

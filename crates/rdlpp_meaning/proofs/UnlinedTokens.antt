@@ -1,13 +1,10 @@
 -- The lines of tokens that aren't broken count for nothing in a call: not for roles, parts, trimming or bytes.
-use Rattle.std.proofs.Common.{◌≡◌, ℕ, zero, suc, Bool, true, false, cond, List, [], ◌∷◌, ◌++◌, map, filter, length, refl, sym, ap, ◌∙◌, Option, None, Some}
-use Rattle.std.proofs.lemmas.Bool.{cond_both}
+use Rattle.std.proofs.Common.{◌≡◌, ℕ, zero, suc, Bool, true, false, cond, List, [], ◌∷◌, ◌++◌, map, filter, refl, sym, ap, ◌∙◌, Option, None, Some}
 use Rattle.rdlpp_scan.specs.declared.token.Directive.{Directive}
-use Rattle.rdlpp_scan.specs.declared.token.Kind.{Kind}
 use Rattle.rdlpp_scan.specs.declared.token.Kind.TheVariants.{Back}
 use Rattle.rdlpp_scan.specs.SourceTokens.{Sort, Ordinary, Definition, Renumbering, Broken, SourceToken}
-use Rattle.rdlpp_scan.specs.TokenKinds.{is_ordinary}
-use Rattle.rdlpp_meaning.specs.Actuals.{Role, Dropped, Cut, Halt, Text, map_call, Call, level_behind, kind_role, broken_role, token_role, trimmed}
-use Rattle.rdlpp_meaning.specs.CallScan.{Scanned, Refused, Stopped, Closed, Split, split_by, split, all_parts, call_of_scan, source_role, is_kept, is_call_text}
+use Rattle.rdlpp_meaning.specs.Actuals.{Role, Cut, Halt, Text, map_call, level_behind, kind_role, token_role, trimmed}
+use Rattle.rdlpp_meaning.specs.CallScan.{Closed, Split, split_by, split, all_parts, call_of_scan, source_role, is_kept}
 use Rattle.rdlpp_meaning.specs.Expansion.{bytes_of}
 use Rattle.rdlpp_meaning.specs.Parts.{directive_named, directive_of}
 use Rattle.rdlpp_meaning.specs.TextTokens.{broken_line, unlined}

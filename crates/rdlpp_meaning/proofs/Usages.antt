@@ -1,43 +1,36 @@
--- Laws of usages: of a name that isn't defined, of what isn't built, and of a macro without a list and with ordinary text.
-use Rattle.std.proofs.Common.{◌≡◌, ℕ, Bool, true, false, not, List, [], ◌∷◌, map, refl, ap, ◌∙◌, Option, None, Some}
-use Rattle.std.specs.Prelude.{if◌then◌else◌, is_some, unwrap_or}
+-- Laws of usages: of a name that isn't defined, and of a macro without a list.
+use Rattle.std.proofs.Common.{◌≡◌, ℕ, true, false, not, List, [], ◌∷◌, map, refl, ap, ◌∙◌, Option, None, Some}
+use Rattle.std.specs.Prelude.{is_some, unwrap_or}
 use Rattle.std.specs.List.{list_all}
-use Rattle.std.proofs.lemmas.Bool.{or_parts}
+use Rattle.std.proofs.lemmas.Bool.{and_parts}
 use Rattle.rdlpp_scan.specs.declared.token.Kind.TheVariants.{Name}
 use Rattle.rdlpp_scan.specs.SourceTokens.{Sort, Ordinary, Definition, Renumbering, Broken, SourceToken}
 use Rattle.rdlpp_scan.specs.Reserved.{is_reserved}
 use Rattle.rdlpp_table.specs.Table.{Formal, Macro, macro_named}
 use Rattle.rdlpp_meaning.specs.declared.fault.FaultKind.{FaultKind}
-use Rattle.rdlpp_meaning.specs.declared.fault.FaultKind.TheVariants.{UndefinedMacro, Unbuilt}
+use Rattle.rdlpp_meaning.specs.declared.fault.FaultKind.TheVariants.{UndefinedMacro}
 use Rattle.rdlpp_meaning.specs.Outcome.{Outcome, fails, and_then}
 use Rattle.rdlpp_meaning.specs.State.{Rules, State, fault_at}
-use Rattle.rdlpp_meaning.specs.Stage.{is_unbuilt_macro}
+use Rattle.rdlpp_meaning.specs.PlainMacros.{is_plain_macro}
 use Rattle.rdlpp_meaning.specs.Items.{Item, Written}
 use Rattle.rdlpp_meaning.specs.Substitution.{body_tokens, bound_to, mark_or, marked, substituted}
 use Rattle.rdlpp_meaning.specs.Expansion.{Usage, Refuses, Opens, name_of, usage_of, usage_of_macro, usage_of_formals, walk, is_copied, run_outcome, usage_token}
 use Rattle.rdlpp_meaning.proofs.Walks.{deeper_of, expand_walk}
 
 -- an optional value that is none
-none_of : {A : Type 0} (o : Option A) → is_some o ≡ false → o ≡ None
+none_of : {A : Type 0} (o : Option A) → not (is_some o) ≡ true → o ≡ None
 none_of None e = refl
 none_of (Some x) e = cc
 
--- a macro that is built has no list
-pub built_formals : (m : Macro) → is_unbuilt_macro m ≡ false → m.formals ≡ None
-unfolding is_unbuilt_macro
-built_formals m e = none_of m.formals (or_parts (is_some m.formals) (not (list_all is_copied (body_tokens m.body))) e).0
+-- a macro whose usage stands for its body as it lies has no list
+pub plain_formals : (m : Macro) → is_plain_macro m ≡ true → m.formals ≡ None
+unfolding is_plain_macro
+plain_formals m e = none_of m.formals (and_parts (not (is_some m.formals)) (list_all is_copied (body_tokens m.body)) e).0
 
--- a test whose opposite fails
-not_false : (b : Bool) → not b ≡ false → b ≡ true
-not_false true e = refl
-not_false false e = cc
-
--- the body of a macro that is built is copied
-pub built_body : (m : Macro) → is_unbuilt_macro m ≡ false → list_all is_copied (body_tokens m.body) ≡ true
-unfolding is_unbuilt_macro
-built_body m e =
-    let copied = list_all is_copied (body_tokens m.body) in
-    not_false copied (or_parts (is_some m.formals) (not copied) e).1
+-- its body is copied
+pub plain_body : (m : Macro) → is_plain_macro m ≡ true → list_all is_copied (body_tokens m.body) ≡ true
+unfolding is_plain_macro
+plain_body m e = (and_parts (not (is_some m.formals)) (list_all is_copied (body_tokens m.body)) e).1
 
 -- with no formals each token stays as it is
 marked_none : (macro : List ℕ) (actuals : List (List Item)) (o : List (List ℕ)) (sort : Sort) (bytes : List ℕ) (line : ℕ)
@@ -79,21 +72,12 @@ pub usage_some : (rules : Rules) (s : State) (source : Option ℕ) (line : ℕ) 
 unfolding usage_of
 usage_some rules s source line o name xs m r e = rw (r, e) refl
 
--- a usage of a macro that isn't built
-pub usage_unbuilt : (rules : Rules) (source : Option ℕ) (line : ℕ) (o : List (List ℕ)) (name : List ℕ) (xs : List Item) (m : Macro)
-    → rules.unbuilt_macro m ≡ true
-    → usage_of_macro rules source line o name xs m ≡ Refuses Unbuilt [] line
-unfolding usage_of_macro
-usage_unbuilt rules source line o name xs m e = rw e refl
-
--- a usage in a source of a macro that is built and has no list
+-- a usage in a source of a macro without a list
 pub usage_plain : (rules : Rules) (source : Option ℕ) (line : ℕ) (name : List ℕ) (xs : List Item) (m : Macro)
-    → rules.unbuilt_macro m ≡ false → m.formals ≡ None
+    → m.formals ≡ None
     → usage_of_macro rules source line [] name xs m ≡ Opens m [] 0
 unfolding usage_of_macro usage_of_formals
-usage_plain rules source line name xs m e f =
-    ap (λ (unbuilt : Bool). if unbuilt then Refuses Unbuilt [] line else usage_of_formals rules source line name xs m m.formals) e
-    ∙ ap (usage_of_formals rules source line name xs m) f
+usage_plain rules source line name xs m f = ap (usage_of_formals rules source line name xs m) f
 
 -- what a usage writes in front of further items, by what it comes to
 unfoldable pub after_usage : Rules → State → (ℕ → List (List ℕ) → List Item → Outcome) → ℕ → List Item → Usage → Outcome

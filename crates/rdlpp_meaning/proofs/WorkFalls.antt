@@ -12,7 +12,7 @@ use Rattle.rdlpp_scan.specs.Tokens.{token_of, tokens_from}
 use Rattle.rdlpp_scan.specs.SourceTokens.{Sort, Ordinary, Definition, Renumbering, Broken, SourceToken}
 use Rattle.rdlpp_scan.specs.Reserved.{is_reserved}
 use Rattle.rdlpp_table.specs.Table.{Formal, Macro, macro_named}
-use Rattle.rdlpp_meaning.specs.declared.fault.FaultKind.TheVariants.{UndefinedMacro, RecursiveMacro, DirectiveInText, ArgumentCount, Unbuilt}
+use Rattle.rdlpp_meaning.specs.declared.fault.FaultKind.TheVariants.{UndefinedMacro, RecursiveMacro, DirectiveInText, ArgumentCount}
 use Rattle.rdlpp_meaning.specs.State.{Rules, State}
 use Rattle.rdlpp_meaning.specs.Actuals.{Call, Lacking, Broke, Bound, call_of, trimmed, token_role}
 use Rattle.rdlpp_meaning.specs.Substitution.{spelled, body_tokens, Standing, Given, Defaulted, standing_of, bound_to}
@@ -68,10 +68,8 @@ macro-counted : (base : ℕ) (size : SourceToken → ℕ) (rules : Rules) (line 
 unfolding token_usage_of_macro OpensCounted
 macro-counted base size rules line o name ts m h body =
     let u = token_usage_of_formals size rules line name ts m m.formals in
-    choice-counted base (rules.unbuilt_macro m) (Refuses Unbuilt [] line)
-    (if list_any (bytes_eq name) o then Refuses RecursiveMacro name line else u) tt
-    (choice-counted base (list_any (bytes_eq name) o) (Refuses RecursiveMacro name line) u tt
-    (formals-counted base size rules line name ts m m.formals h body))
+    choice-counted base (list_any (bytes_eq name) o) (Refuses RecursiveMacro name line) u tt
+    (formals-counted base size rules line name ts m m.formals h body)
 
 -- the body of a macro that is found
 FoundCounted : ℕ → Option Macro → Type 0

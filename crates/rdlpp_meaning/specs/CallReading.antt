@@ -1,7 +1,7 @@
 -- What a call in a source keeps, read token by token, where the first token may be the rest of a string or of a comment of
 -- which a part was taken before.
 -- A definition that names no source is this project's own.
-use Rattle.std.specs.Prelude.{ℕ, ◌-◌, Bool, true, false, nat_le, List, [], ◌∷◌, ◌++◌, length, drop}
+use Rattle.std.specs.Prelude.{ℕ, Bool, true, false, nat_le, List, [], ◌∷◌, ◌++◌, length, drop}
 use Rattle.rdlpp_scan.specs.declared.token.Kind.TheVariants.{Str, BlockComment}
 use Rattle.rdlpp_scan.specs.Front.{Breach, DefineLong, DefineCut}
 use Rattle.rdlpp_scan.specs.SourceTokens.{Sort, Ordinary, Broken, SourceToken}
@@ -9,7 +9,7 @@ use Rattle.rdlpp_meaning.specs.declared.fault.FaultKind.{FaultKind}
 use Rattle.rdlpp_meaning.specs.declared.fault.FaultKind.TheVariants.{ArgumentBytes}
 use Rattle.rdlpp_meaning.specs.State.{breach_kind}
 use Rattle.rdlpp_meaning.specs.Actuals.{Role, Stops, Text, kind_role}
-use Rattle.rdlpp_meaning.specs.CallScan.{Stand, Before, Inside, Turn, Passes, Keeps, Closes, Refuses, Breaks, turn, stand_behind, room_behind, fault_at_end, Scanned, Refused, Stopped, Closed, source_role}
+use Rattle.rdlpp_meaning.specs.CallScan.{Stand, Turn, Passes, Keeps, Closes, Refuses, Breaks, turn, stand_behind, room_behind, fault_at_end, Scanned, Refused, Stopped, Closed, source_role}
 use Rattle.rdlpp_meaning.specs.Expansion.{bytes_of}
 
 -- what reading a call comes to: a fault of its own, that of a broken token at its line, or the bytes that it keeps and the

@@ -8,7 +8,7 @@ use Rattle.rdlpp_scan.specs.SourceTokens.{Ordinary, Broken, SourceToken}
 use Rattle.rdlpp_scan.specs.Reserved.{is_reserved}
 use Rattle.rdlpp_table.specs.Table.{Formal, Macro, macro_named}
 use Rattle.rdlpp_meaning.specs.declared.fault.FaultKind.{FaultKind}
-use Rattle.rdlpp_meaning.specs.declared.fault.FaultKind.TheVariants.{BareBackquote as NoName, UndefinedMacro, RecursiveMacro, DirectiveInText, ArgumentCount, DepthPassed, Unbuilt}
+use Rattle.rdlpp_meaning.specs.declared.fault.FaultKind.TheVariants.{BareBackquote as NoName, UndefinedMacro, RecursiveMacro, DirectiveInText, ArgumentCount, DepthPassed}
 use Rattle.rdlpp_meaning.specs.Outcome.{Told, Outcome, gives, fails, and_then}
 use Rattle.rdlpp_meaning.specs.State.{Rules, State, fault_at, breach_kind}
 use Rattle.rdlpp_meaning.specs.Items.{Item, Written}
@@ -119,9 +119,8 @@ token_usage_of_formals size rules line name ts m (Some formals) =
 -- a usage of a macro that is defined, in the text of the macros o
 unfoldable pub token_usage_of_macro : (SourceToken → ℕ) → Rules → ℕ → List (List ℕ) → List ℕ → List SourceToken → Macro → TokenUsage
 token_usage_of_macro size rules line o name ts m =
-    if rules.unbuilt_macro m then Refuses Unbuilt [] line
-    else (if list_any (bytes_eq name) o then Refuses RecursiveMacro name line
-    else token_usage_of_formals size rules line name ts m m.formals)
+    if list_any (bytes_eq name) o then Refuses RecursiveMacro name line
+    else token_usage_of_formals size rules line name ts m m.formals
 
 -- a usage of a name, with the tokens behind it
 unfoldable pub token_usage_of : (SourceToken → ℕ) → Rules → State → ℕ → List (List ℕ) → List ℕ → List SourceToken → TokenUsage

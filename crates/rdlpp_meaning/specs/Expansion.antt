@@ -7,7 +7,7 @@ use Rattle.rdlpp_scan.specs.SourceTokens.{Ordinary, Broken, SourceToken}
 use Rattle.rdlpp_scan.specs.Reserved.{is_reserved}
 use Rattle.rdlpp_table.specs.Table.{Formal, Macro, macro_named}
 use Rattle.rdlpp_meaning.specs.declared.fault.FaultKind.{FaultKind}
-use Rattle.rdlpp_meaning.specs.declared.fault.FaultKind.TheVariants.{BareBackquote as NoName, UndefinedMacro, RecursiveMacro, DirectiveInText, ArgumentCount, DepthPassed, Unbuilt}
+use Rattle.rdlpp_meaning.specs.declared.fault.FaultKind.TheVariants.{BareBackquote as NoName, UndefinedMacro, RecursiveMacro, DirectiveInText, ArgumentCount, DepthPassed}
 use Rattle.rdlpp_meaning.specs.Outcome.{Outcome, gives, fails, and_then}
 use Rattle.rdlpp_meaning.specs.State.{Rules, State, fault_at, breach_kind}
 use Rattle.rdlpp_meaning.specs.Items.{Item, Written, Arg, listed}
@@ -46,9 +46,8 @@ usage_of_formals rules source line name items m (Some formals) =
 -- a usage of a macro that is defined, in the text of the macros o (source: this project's profile)
 unfoldable pub usage_of_macro : Rules → Option ℕ → ℕ → List (List ℕ) → List ℕ → List Item → Macro → Usage
 usage_of_macro rules source line o name items m =
-    if rules.unbuilt_macro m then Refuses Unbuilt [] line
-    else (if list_any (bytes_eq name) o then Refuses RecursiveMacro name line
-    else usage_of_formals rules source line name items m m.formals)
+    if list_any (bytes_eq name) o then Refuses RecursiveMacro name line
+    else usage_of_formals rules source line name items m m.formals
 
 -- a usage of a name, with the items behind it; `source` has the line of the outermost usage, and none in a source
 -- (source: this project's profile)

@@ -2,7 +2,7 @@
 -- A definition that names no source is this project's own.
 use Rattle.std.specs.Prelude.{ℕ}
 use Rattle.rdlpp_meaning.specs.declared.fault.FaultKind.{FaultKind}
-use Rattle.rdlpp_meaning.specs.declared.fault.FaultKind.TheVariants.{EmbeddedPerl, OpenString, OpenComment, LineTooLong, SourceTooLong, BareBackquote, UndefinedMacro, RecursiveMacro, DirectiveInText, ArgumentsMissing, ArgumentsOpen, ArgumentBytes, ArgumentCount, DepthPassed, NameExpected, ReservedName, NameTooLong, BadFormals, FormalTwice, TooManyFormals, DefinitionBytes, TooManyDefinitions, StrayBranch, BranchAfterElse, OpenConditional, TooManyConditionals, IncludeName, SourceNotFound, TooManyIncludes, BadLine, PathTooLong, ReadFailed, WriteFailed, SourceMemory, OutputBytes, Unbuilt}
+use Rattle.rdlpp_meaning.specs.declared.fault.FaultKind.TheVariants.{EmbeddedPerl, OpenString, OpenComment, LineTooLong, SourceTooLong, BareBackquote, UndefinedMacro, RecursiveMacro, DirectiveInText, ArgumentsMissing, ArgumentsOpen, ArgumentBytes, ArgumentCount, DepthPassed, NameExpected, ReservedName, NameTooLong, BadFormals, FormalTwice, TooManyFormals, DefinitionBytes, TooManyDefinitions, StrayBranch, BranchAfterElse, OpenConditional, TooManyConditionals, IncludeName, SourceNotFound, TooManyIncludes, BadLine, PathTooLong, ReadFailed, WriteFailed, SourceMemory, OutputBytes}
 
 -- the number by which a kind of fault is told (source: this project's profile)
 abbrev pub fault_number : FaultKind → ℕ
@@ -41,4 +41,3 @@ fault_number ReadFailed = 32
 fault_number WriteFailed = 33
 fault_number SourceMemory = 34
 fault_number OutputBytes = 35
-fault_number Unbuilt = 99

@@ -1,11 +1,11 @@
 pub mod FaultNumbers
 pub mod Outcome
 pub mod State
-pub mod Stage
 pub mod Items
 pub mod Actuals
 pub mod Substitution
 pub mod Expansion
+pub mod PlainMacros
 pub mod Parts
 pub mod Meaning
 pub mod Resumed

@@ -6,9 +6,6 @@ use Rattle.rdlpp_table.specs.Table.{Macro}
 use Rattle.rdlpp_meaning.specs.declared.fault.FaultKind.{FaultKind}
 use Rattle.rdlpp_meaning.specs.declared.fault.FaultKind.TheVariants.{LineTooLong, SourceTooLong, ArgumentBytes, DepthPassed, DefinitionBytes, TooManyDefinitions, TooManyConditionals, TooManyIncludes, OutputBytes}
 use Rattle.rdlpp_meaning.specs.Outcome.{Told}
-use Rattle.rdlpp_meaning.specs.State.{Lookup}
-use Rattle.rdlpp_meaning.specs.Output.{output}
-use Rattle.rdlpp_meaning.specs.Profile.{rules_of}
 use Rattle.rdlpp_meaning.specs.OutputLimit.{Searches, limited_output}
 
 -- whether a fault says that a limit is passed: of a line, a source, an actual's bytes, open bodies, definitions, open
@@ -47,11 +44,3 @@ abbrev pub LargerLimits : Type 0
 LargerLimits = (small large : Limits) (searches : Searches) (origins : Bool) (macros : List Macro) (path : List ℕ)
     → IsLarger small large → NamesNoLimit (limited_output small searches origins macros path).fault
     → limited_output large searches origins macros path ≡ limited_output small searches origins macros path
-
--- so it is without the limit on the output, and also while not all is built
-abbrev pub LargerStaged : Type 0
-LargerStaged = (small large : Limits) (unbuilt_macro : Macro → Bool) (find : List ℕ → List ℕ → Lookup) (origins : Bool)
-    (macros : List Macro) (path : List ℕ) (found : Lookup) → IsLarger small large
-    → NamesNoLimit (output (rules_of small unbuilt_macro find origins) macros small.includes small.conditions path found).fault
-    → output (rules_of large unbuilt_macro find origins) macros large.includes large.conditions path found
-    ≡ output (rules_of small unbuilt_macro find origins) macros small.includes small.conditions path found

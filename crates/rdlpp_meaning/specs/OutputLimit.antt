@@ -1,6 +1,6 @@
 -- The output of a main path, and the limit on its bytes.
 -- A definition that names no source is this project's own.
-use Rattle.std.specs.Prelude.{ℕ, Bool, false, nat_le, List, length, take, Some, if◌then◌else◌}
+use Rattle.std.specs.Prelude.{ℕ, Bool, nat_le, List, length, take, Some, if◌then◌else◌}
 use Rattle.rdlpp_table.specs.declared.limits.Limits.{Limits}
 use Rattle.rdlpp_table.specs.Table.{Macro}
 use Rattle.rdlpp_meaning.specs.declared.fault.FaultKind.TheVariants.{OutputBytes}
@@ -20,14 +20,14 @@ unfoldable pub limited : Told → ℕ → Outcome → Outcome
 limited over quota o =
     if nat_le (length o.bytes) quota then o else record { bytes = take quota o.bytes; fault = Some over }
 
--- the rules of the whole language, from which nothing is left to build (source: this project's profile)
-unfoldable pub built_rules : Limits → Searches → Bool → Rules
-built_rules limits searches origins = rules_of limits (λ m. false) searches.included origins
+-- the rules of a run, by its limits and by what its searches come to (source: this project's profile)
+unfoldable pub search_rules : Limits → Searches → Bool → Rules
+search_rules limits searches origins = rules_of limits searches.included origins
 
 -- the output of a main path from macros, without the limit on its bytes (source: this project's profile)
 unfoldable pub unlimited_output : Limits → Searches → Bool → List Macro → List ℕ → Outcome
 unlimited_output limits searches origins macros path =
-    output (built_rules limits searches origins) macros limits.includes limits.conditions path (searches.main path)
+    output (search_rules limits searches origins) macros limits.includes limits.conditions path (searches.main path)
 
 -- the output of a main path from macros, with and without origin lines (source: this project's profile)
 unfoldable pub limited_output : Limits → Searches → Bool → List Macro → List ℕ → Outcome

@@ -5,7 +5,6 @@ use Rattle.rdlpp_scan.specs.SourceTokens.{whole_tokens}
 use Rattle.rdlpp_table.specs.declared.limits.Limits.{Limits}
 use Rattle.rdlpp_table.specs.declared.fault.DefineKind.{DefineKind}
 use Rattle.rdlpp_table.specs.declared.fault.DefineKind.TheVariants as kind
-use Rattle.rdlpp_table.specs.Table.{Macro}
 use Rattle.rdlpp_table.specs.Define.{Defined as TableDefined, Accepted as TableAccepted, Refused as TableRefused, define_of}
 use Rattle.rdlpp_meaning.specs.declared.fault.FaultKind.{FaultKind}
 use Rattle.rdlpp_meaning.specs.declared.fault.FaultKind.TheVariants as fault
@@ -30,13 +29,12 @@ unfoldable pub with_fault : TableDefined → Defined
 with_fault (TableAccepted macros) = Accepted macros
 with_fault (TableRefused kind word) = Refused (define_fault kind) word
 
--- the rules by limits, by what isn't built of macros, by what an `include` from a path finds, and by whether
--- origin lines are asked for (source: this project's profile)
-unfoldable pub rules_of : Limits → (Macro → Bool) → (List ℕ → List ℕ → Lookup) → Bool → Rules
-rules_of limits unbuilt_macro find origins = record {
+-- the rules by limits, by what an `include` from a path finds, and by whether origin lines are asked for
+-- (source: this project's profile)
+unfoldable pub rules_of : Limits → (List ℕ → List ℕ → Lookup) → Bool → Rules
+rules_of limits find origins = record {
   depth = limits.depth;
   argument_bytes = limits.argument_bytes;
-  unbuilt_macro = unbuilt_macro;
   define = λ macros rest. with_fault (define_of limits.definition_bytes limits.definitions macros rest);
   tokens = λ text. whole_tokens limits.line_bytes limits.source_bytes text;
   find = find;

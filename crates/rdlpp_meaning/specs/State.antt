@@ -19,13 +19,12 @@ pub data Lookup : Type 0 where
   LongPath : Lookup
   Source : List ℕ → List ℕ → Lookup
 
--- what stays the same over a run: the limits on open bodies and actuals and on an actual's bytes, the macros that aren't
--- built yet, what a `define` does to macros by the rest of its logical line, the tokens of a source's text, what an
--- `include` from a path finds by a name, and whether origin lines are written (source: this project's profile)
+-- what stays the same over a run: the limits on open bodies and actuals and on an actual's bytes, what a `define` does to
+-- macros by the rest of its logical line, the tokens of a source's text, what an `include` from a path finds by a name, and
+-- whether origin lines are written (source: this project's profile)
 pub record Rules : Type 0 where
   pub depth : ℕ
   pub argument_bytes : ℕ
-  pub unbuilt_macro : Macro → Bool
   pub define : List Macro → List ℕ → Defined
   pub tokens : List ℕ → List SourceToken
   pub find : List ℕ → List ℕ → Lookup

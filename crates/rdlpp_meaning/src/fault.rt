@@ -114,13 +114,10 @@ pub enum FaultKind {
     /// F35: output that passes the limit on its bytes.
     #[error("output bytes passed")]
     OutputBytes,
-    /// 99: what isn't built yet.
-    #[error("not built yet")]
-    Unbuilt,
 }
 
 impl FaultKind {
-    /// The number by which a fault is told: 1 to 35, or 99 (this project's profile).
+    /// The number by which a fault is told: 1 to 35 (this project's profile).
     pub fn number(&self) -> u32
         ensures { result ≡ fault_number self.now }
     {
@@ -160,7 +157,6 @@ impl FaultKind {
             FaultKind::WriteFailed => 33,
             FaultKind::SourceMemory => 34,
             FaultKind::OutputBytes => 35,
-            FaultKind::Unbuilt => 99,
         }
     }
 }

@@ -1,7 +1,7 @@
 // The two laws of the definitions that stand as contracts, each of a function that does nothing. The other laws are public
 // lemmas, in files under `proofs/` that are named for their subject.
 
-ghost use Rattle.rdlpp_meaning.specs.LimitLaws.{LargerLimits, LargerStaged};
+ghost use Rattle.rdlpp_meaning.specs.LimitLaws.{LargerLimits};
 ghost use Rattle.rdlpp_meaning.specs.LiteralLaws.{BodyCovered, LiteralSubstitution};
 
 /// Substitution without its marks is literal substitution: the bytes of the body, with the bytes of each actual in the
@@ -15,5 +15,4 @@ pub fn literal_substitution()
 /// open bodies, of definitions, of open conditionals, of open sources and of the output (this project's profile).
 pub fn larger_limits()
     ensures larger { LargerLimits }
-    ensures staged { LargerStaged }
 {}

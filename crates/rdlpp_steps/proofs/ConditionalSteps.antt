@@ -87,7 +87,7 @@ module _ {R : Type 0} (limits : Limits) (rules : Rules) (unread : R → List ℕ
       ap past_conditional same
       ∙ ap (λ (k : ℕ). record (nest_state limits macros v (g ∷ outer)) { conditions_left = k }) more
 
-  -- a directive in front, which is built
+  -- a directive in front
   module _ (v : ConditionsView) (f : File R) (holds : HoldsFront f.buffer) (mode : f.buffer.mode ≡ Plain) where
     -- the state that the meaning goes on from
     abbrev here : State

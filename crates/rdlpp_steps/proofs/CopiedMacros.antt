@@ -13,13 +13,8 @@ use Rattle.rdlpp_table.specs.Table.{Formal, Macro}
 use Rattle.rdlpp_table.specs.declared.stop.Stop.{Stop}
 use Rattle.rdlpp_table.specs.declared.stop.Stop.TheVariants as stop
 use Rattle.rdlpp_meaning.specs.Expansion.{is_copied}
-use Rattle.rdlpp_meaning.specs.Stage.{is_unbuilt_macro}
+use Rattle.rdlpp_meaning.specs.PlainMacros.{is_plain_macro}
 use Rattle.rdlpp_meaning.specs.Substitution.{body_tokens, spelled}
-
--- what is denied twice holds
-double : (b : Bool) → not (not b) ≡ b
-double true = refl
-double false = refl
 
 -- no stop of two
 none_of : (a b : Stop) → is_none (or_stop a b) ≡ (is_none a && is_none b)
@@ -46,16 +41,16 @@ copied_stops at (t ∷ ts) text =
     ∙ (ap (λ (a : Bool). a && is_none (first_stop [] (at + t.len) ts (drop t.len text))) (copied_at at t.len t.kind (take t.len text) t refl)
     ∙ ap (λ (b : Bool). is_copied (record { sort = Ordinary t.kind; bytes = take t.len text; line = 0 }) && b) (copied_stops (at + t.len) ts (drop t.len text)))
 
--- the usages of a macro are built exactly where it has no list of formals and is copied as it stands
-pub built_macro : (m : Macro) (formals : Option (List Formal)) → m.formals ≡ formals → not (is_unbuilt_macro m) ≡ (not (is_some formals) && is_copied_macro m)
-unfolding is_unbuilt_macro is_copied_macro stop_of body_tokens
-built_macro m None e = rw e (double (list_all is_copied (spelled (tokens_from Plain 0 m.body) m.body)) ∙ sym (copied_stops 0 (tokens_from Plain 0 m.body) m.body))
-built_macro m (Some formals) e = rw e refl
+-- a usage of a macro stands for its body as it lies exactly where it has no list of formals and its body no stop
+pub plain_macro : (m : Macro) (formals : Option (List Formal)) → m.formals ≡ formals → is_plain_macro m ≡ (not (is_some formals) && is_copied_macro m)
+unfolding is_plain_macro is_copied_macro stop_of body_tokens
+plain_macro m None e = rw e (sym (copied_stops 0 (tokens_from Plain 0 m.body) m.body))
+plain_macro m (Some formals) e = rw e refl
 
 -- what a test of the list of formals and one of the body come to
-pub built_test : (m : Macro) (formals : Option (List Formal)) (n : Option ℕ) (none : Bool) → m.formals ≡ formals → n ≡ option_map length formals → is_some n ≡ not none
-    → (none ≡ true → is_copied_macro m ≡ not (is_unbuilt_macro m)) × (none ≡ false → none ≡ not (is_unbuilt_macro m))
-built_test m None n true e arity test = (λ h. sym (built_macro m None e), λ h. cc h)
-built_test m None n false e arity test = absurd (let no : false ≡ true = sym (ap is_some arity) ∙ test in cc)
-built_test m (Some formals) n true e arity test = absurd (let no : true ≡ false = sym (ap is_some arity) ∙ test in cc)
-built_test m (Some formals) n false e arity test = (λ h. cc h, λ h. sym (built_macro m (Some formals) e))
+pub plain_test : (m : Macro) (formals : Option (List Formal)) (n : Option ℕ) (none : Bool) → m.formals ≡ formals → n ≡ option_map length formals → is_some n ≡ not none
+    → (none ≡ true → is_copied_macro m ≡ is_plain_macro m) × (none ≡ false → none ≡ is_plain_macro m)
+plain_test m None n true e arity test = (λ h. sym (plain_macro m None e), λ h. cc h)
+plain_test m None n false e arity test = absurd (let no : false ≡ true = sym (ap is_some arity) ∙ test in cc)
+plain_test m (Some formals) n true e arity test = absurd (let no : true ≡ false = sym (ap is_some arity) ∙ test in cc)
+plain_test m (Some formals) n false e arity test = (λ h. cc h, λ h. sym (plain_macro m (Some formals) e))

@@ -28,7 +28,7 @@ use Rattle.rdlpp_steps.specs.Moves.{Closes, Ends, IsReady, Returns, StopsOpen, S
 use Rattle.rdlpp_steps.specs.OpenConditionals.{inner_below}
 use Rattle.rdlpp_steps.specs.Owed.{OwedView, nothing_owed, origin_owed, owed_bytes, owed_pieces, origin_pieces}
 use Rattle.rdlpp_steps.specs.Pieces.{IsPlaced, lent_answer, step_answer}
-use Rattle.rdlpp_steps.specs.Remaining.{ending_behind, file_state, inner_name, nest_left, nest_state, run_rules, staged_rules, state_of}
+use Rattle.rdlpp_steps.specs.Remaining.{ending_behind, file_state, inner_name, nest_left, nest_state, run_rules, source_rules, state_of}
 use Rattle.rdlpp_steps.specs.Steps.{IsOwn, Walks}
 use Rattle.rdlpp_steps.specs.declared.phase.Phase.TheVariants.{Closed}
 use Rattle.rdlpp_steps.specs.declared.place.Place.{Place}
@@ -69,7 +69,7 @@ nest_back limits rules unread macros v live tells t (f ∷ around ∷ outer) new
 
 -- what is owed is that
 owed_ending : {R : Type 0} (c : Catalog) (limits : Limits) (origins : Bool) (nest : List (File R)) → 1 < length nest
-    → owed_bytes (inner_name (drop 1 nest)) (owed_behind origins nest) ≡ ending_of (staged_rules c limits origins) nest
+    → owed_bytes (inner_name (drop 1 nest)) (owed_behind origins nest) ≡ ending_of (source_rules c limits origins) nest
 unfolding owed_behind ending_of
 owed_ending c limits origins [] inner = absurd (omega arith)
 owed_ending c limits origins (f ∷ []) inner = absurd (omega arith)

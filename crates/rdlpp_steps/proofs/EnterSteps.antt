@@ -33,7 +33,7 @@ use Rattle.rdlpp_steps.specs.Includes.{BadName, Denies, Full, IsSearch, Refuses,
 use Rattle.rdlpp_steps.specs.Moves.{IsReady}
 use Rattle.rdlpp_steps.specs.Owed.{OwedView, nothing_owed, origin_owed}
 use Rattle.rdlpp_steps.specs.Pieces.{lent_answer, step_answer}
-use Rattle.rdlpp_steps.specs.Remaining.{find_of, lookup_of, nest_left, nest_state, run_rules, staged_rules, state_of}
+use Rattle.rdlpp_steps.specs.Remaining.{find_of, lookup_of, nest_left, nest_state, run_rules, source_rules, state_of}
 use Rattle.rdlpp_steps.specs.Steps.{IsOwn, MovesOn, OnSearch, Walks, is_call_failed, is_memory_kind, is_read_failed, is_write_failed}
 use Rattle.rdlpp_steps.specs.declared.place.Place.{Place}
 use Rattle.rdlpp_steps.specs.declared.place.Place.TheVariants.{Kept}
@@ -189,7 +189,7 @@ module _ {S R : Type 0} (g : Ghosts S R) (old mid new : EngineView S R) (start s
 
   -- what is found is what the rules find
   finds_as : (fault : SourceFault) → Searches g old name_of mid.sources (Err fault) → (place : Place) → place ≡ Kept → KeepsKind (kind_of_source fault) → Walks g old new (lent_answer new place)
-  unfolding kind_of_source is_call_failed is_read_failed is_write_failed is_memory_kind staged_rules rules_of find_of lookup_of state_of
+  unfolding kind_of_source is_call_failed is_read_failed is_write_failed is_memory_kind source_rules rules_of find_of lookup_of state_of
   finds_as source.Absent s place is kept =
       let room = s.room in
       let slots = ready.sound.slots in
@@ -219,7 +219,7 @@ module _ {S R : Type 0} (g : Ghosts S R) (old mid new : EngineView S R) (start s
 
   -- a source is opened
   pub entered_steps : (found : Found R) → Searches g old name_of mid.sources (Ok found) → new ≡ included_engine found stop mid → Walks g old new (step_answer new None)
-  unfolding included_engine behind_bytes staged_rules rules_of find_of lookup_of unused_of opened_buffer
+  unfolding included_engine behind_bytes source_rules rules_of find_of lookup_of unused_of opened_buffer
   entered_steps found s enters =
       let room = s.room in
       let slots = ready.sound.slots in

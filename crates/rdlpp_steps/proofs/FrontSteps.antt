@@ -26,7 +26,7 @@ use Rattle.rdlpp_meaning.specs.Meaning.{Passage, behind_bytes, goes_on, leaves}
 use Rattle.rdlpp_meaning.specs.Outcome.{Told, fails}
 use Rattle.rdlpp_meaning.specs.Parts.{line_ends_of}
 use Rattle.rdlpp_meaning.specs.Profile.{define_fault, rules_of, with_fault}
-use Rattle.rdlpp_meaning.specs.Stage.{is_unbuilt_macro}
+use Rattle.rdlpp_meaning.specs.PlainMacros.{is_plain_macro}
 use Rattle.rdlpp_meaning.specs.State.{State, fault_at}
 use Rattle.rdlpp_meaning.proofs.OwedLineEnds.{line_ends_of-owed}
 use Rattle.rdlpp_read.specs.Buffer.{BufferView, entered_mode, held_of, reading_line_of, Slides}
@@ -46,7 +46,7 @@ use Rattle.rdlpp_steps.specs.Moves.{Defines, IsReady, IsUnowed, ReadsDefine, Ref
 use Rattle.rdlpp_steps.specs.Owed.{OriginView, OwedView, TakesPiece, digits_of, line_ends_owed, nothing_owed, origin_bytes, origin_pieces, owed_bytes, owed_pieces, part_bytes}
 use Rattle.rdlpp_steps.specs.declared.owed.OwedPiece.{OwedPiece}
 use Rattle.rdlpp_steps.specs.Pieces.{IsPlaced, lent_answer, step_answer}
-use Rattle.rdlpp_steps.specs.Remaining.{file_state, inner_name, nest_left, nest_state, run_rules, staged_rules, state_of, text_of, work_left}
+use Rattle.rdlpp_steps.specs.Remaining.{file_state, inner_name, nest_left, nest_state, run_rules, source_rules, state_of, text_of, work_left}
 use Rattle.rdlpp_steps.specs.Steps.{IsOwn, Walks, is_memory_kind, is_read_failed, is_write_failed, MovesOn}
 use Rattle.rdlpp_steps.specs.declared.phase.Phase.{Phase}
 use Rattle.rdlpp_steps.specs.declared.phase.Phase.TheVariants.{Open}
@@ -162,7 +162,7 @@ lends_by g old ready bytes owed macros v nest sources bounded falls call law =
     let after = record old { owed = owed; table = record old.table { macros = macros }; conditions = v; files = record old.files { nest = nest }; sources = sources } in
     walks_lent g old after ready.free ready.open_ bounded bytes refl (refl, refl) call
     (λ t. text_unowed g old ready.owed ready.idle
-    ∙ (law t ∙ (ap (λ (c : Catalog). behind_bytes bytes (behind_bytes (owed_bytes (inner_name nest) owed) (nest_left old.limits (staged_rules c old.limits old.origins) g.unread macros v nest))) (sym call.catalog)
+    ∙ (law t ∙ (ap (λ (c : Catalog). behind_bytes bytes (behind_bytes (owed_bytes (inner_name nest) owed) (nest_left old.limits (source_rules c old.limits old.origins) g.unread macros v nest))) (sym call.catalog)
     ∙ ap (behind_bytes bytes) (sym (text_idle g after ready.idle)))))
     falls
 
@@ -187,7 +187,7 @@ lends_source {S} {R} g old new ready bytes macros v nest becomes bounded used la
     (lends_piece g old ready bytes old.owed macros v nest old.sources (subst IsBounded becomes bounded) (unowed_few old.owed ready.owed) used (not_called g old.sources)
     (λ t. law ∙ ap (behind_bytes bytes) (sym (unowed_behind (inner_name nest) old.owed (left_by g old macros v nest) ready.owed))))
 
--- what isn't built, refused or read isn't a failed read
+-- what is refused in front isn't a failed read, a failed write or want of memory
 pub refused_kind : (mode : Mode) (held : List ℕ) (kind : FaultKind) → IsRefused mode held kind → IsOwn kind
 unfolding is_read_failed is_write_failed is_memory_kind
 refused_kind mode held kind (AtPerl h) = record { read = refl; write = refl; memory = refl }
@@ -416,11 +416,11 @@ whole_part xs n whole = let same : n - 0 ≡ length xs = omega arith in ap (λ k
 pub take_usage : {S R : Type 0} (g : Ghosts S R) (old new : EngineView S R) (len id end : ℕ) → IsReady old → old.conditions.skipped ≡ None → IsBounded new
     → 0 < length (held_of (inner_buffer old.files.nest)) → (inner_buffer old.files.nest).mode ≡ Plain → IsUsage (held_of (inner_buffer old.files.nest)) len
     → macro_named old.table.macros (usage_name (held_of (inner_buffer old.files.nest)) len) ≡ Some (macro_at old.table.macros id)
-    → is_unbuilt_macro (macro_at old.table.macros id) ≡ false
+    → is_plain_macro (macro_at old.table.macros id) ≡ true
     → new ≡ record old { files = record old.files { nest = with_inner (consumed_file len 0) old.files.nest } }
     → end ≡ length (macro_at old.table.macros id).body → Walks g old new (lent_answer new (Body id 0 end))
-unfolding staged_rules rules_of
-take_usage {S} {R} g old new len id end ready live bounded some plain usage named built becomes whole =
+unfolding source_rules rules_of
+take_usage {S} {R} g old new len id end ready live bounded some plain usage named lies becomes whole =
     let inner = inner_facts old.files ready.nest ready.files in
     let held = held_of (inner_buffer old.files.nest) in
     let within = usage_inside held len some usage in
@@ -431,7 +431,7 @@ take_usage {S} {R} g old new len id end ready live bounded some plain usage name
     subst (λ (xs : List ℕ). Walks g old new (Ok (Some xs))) (sym body)
     (lends_source g old new ready m.body old.table.macros old.conditions (with_inner (consumed_file len 0) old.files.nest) becomes bounded
     (used_bytes old.files.nest len 0 within.0 within.1)
-    (nest_body old.limits (run_rules g old) g.unread old.table.macros old.conditions live old.files.nest len m some inner.ends plain usage named (sym built) built (omega arith)))
+    (nest_body old.limits (run_rules g old) g.unread old.table.macros old.conditions live old.files.nest len m some inner.ends plain usage named lies (omega arith)))
 
 -- a macro is taken out
 pub take_undef : {S R : Type 0} (g : Ghosts S R) (old new : EngineView S R) (start stop : ℕ) → IsReady old → old.conditions.skipped ≡ None → IsBounded new
@@ -457,7 +457,7 @@ module _ {S R : Type 0} (g : Ghosts S R) (old mid new : EngineView S R) (len : �
     (call : SourcesCalled g false false old.sources mid.sources) where
   -- it is accepted
   accepted_steps : 7 ≤ len → len ≤ length (held_of (inner_buffer mid.files.nest)) → length (held_of (inner_buffer mid.files.nest)) < 2 ^ 31 → Defines len mid new → Walks g old new (step_answer new None)
-  unfolding staged_rules rules_of with_fault behind_bytes
+  unfolding source_rules rules_of with_fault behind_bytes
   accepted_steps wide inside few d =
       let inner = inner_facts old.files ready.nest ready.files in
       let b = inner_buffer mid.files.nest in
@@ -488,7 +488,7 @@ module _ {S R : Type 0} (g : Ghosts S R) (old mid new : EngineView S R) (len : �
 
   -- it is refused
   refused_steps : (place : Place) → place ≡ Kept → RefusesDefine len mid new → Walks g old new (lent_answer new place)
-  unfolding staged_rules rules_of with_fault state_of
+  unfolding source_rules rules_of with_fault state_of
   refused_steps place is d =
       let inner = inner_facts old.files ready.nest ready.files in
       let b = inner_buffer mid.files.nest in

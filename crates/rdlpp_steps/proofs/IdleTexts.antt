@@ -1,12 +1,11 @@
 -- Where no text of a usage is open, the text goes on in the open sources.
-use Rattle.std.proofs.Common.{◌≡◌, false, List, [], refl, ap}
+use Rattle.std.proofs.Common.{◌≡◌, List, [], ap}
 use Rattle.rdlpp_source.specs.declared.sources.Sources.{Ghosts}
 use Rattle.rdlpp_table.specs.Table.{Macro}
 use Rattle.rdlpp_meaning.specs.Cursors.{left}
 use Rattle.rdlpp_meaning.specs.Meaning.{Passage, behind_bytes, goes_on, leaves}
 use Rattle.rdlpp_meaning.specs.Opens.{Open, Texts, slots_of}
 use Rattle.rdlpp_meaning.specs.Outcome.{gives}
-use Rattle.rdlpp_meaning.specs.Profile.{rules_of}
 use Rattle.rdlpp_meaning.specs.Slots.{cursors_of}
 use Rattle.rdlpp_meaning.specs.State.{Rules, State}
 use Rattle.rdlpp_cursors.specs.Places.{texts_of}
@@ -14,12 +13,7 @@ use Rattle.rdlpp_cursors.specs.Steps.{AreSound}
 use Rattle.rdlpp_usages.specs.Usages.{ExpansionView, texts_left}
 use Rattle.rdlpp_steps.specs.Engine.{EngineView}
 use Rattle.rdlpp_steps.specs.Owed.{owed_bytes}
-use Rattle.rdlpp_steps.specs.Remaining.{inner_name, nest_left, run_rules, staged_rules, state_of, text_of}
-
--- every macro is built in a run
-pub all_built : {S R : Type 0} (g : Ghosts S R) (e : EngineView S R) (m : Macro) → (run_rules g e).unbuilt_macro m ≡ false
-unfolding staged_rules rules_of
-all_built g e m = refl
+use Rattle.rdlpp_steps.specs.Remaining.{inner_name, nest_left, run_rules, state_of, text_of}
 
 -- nothing remains of no text
 pub silent_texts : (rules : Rules) (s : State) (macros : List Macro) (x : ExpansionView) (p : Passage) → x.opens ≡ [] → goes_on (texts_left rules s macros x) (λ after. p) ≡ p

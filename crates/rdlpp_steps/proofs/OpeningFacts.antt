@@ -29,14 +29,14 @@ use Rattle.rdlpp_steps.proofs.IdleTexts.{text_idle}
 use Rattle.rdlpp_steps.proofs.OwedOrigins.{owed_origin}
 use Rattle.rdlpp_steps.specs.Held.{IsBounded, stores_of}
 use Rattle.rdlpp_steps.specs.Owed.{origin_owed, owed_bytes}
-use Rattle.rdlpp_steps.specs.Remaining.{file_state, kept_uncut, left_of, lookup_of, nest_left, nest_state, output_fault, phase_uncut, run_rules, staged_rules, uncut_of, waiting_around, inner_name}
+use Rattle.rdlpp_steps.specs.Remaining.{file_state, kept_uncut, left_of, lookup_of, nest_left, nest_state, output_fault, phase_uncut, run_rules, source_rules, uncut_of, waiting_around, inner_name}
 use Rattle.rdlpp_meaning.specs.OutputLimit.{limited}
 use Rattle.rdlpp_meaning.proofs.OutputLimits.{limited-fails}
 use Rattle.rdlpp_meaning.specs.State.{Lookup, NoSource, LongPath, Rules, State, no_shift}
 use Rattle.rdlpp_meaning.specs.Profile.{rules_of}
 use Rattle.rdlpp_steps.specs.Steps.{is_memory_kind, is_read_failed}
 use Rattle.rdlpp_steps.specs.Includes.{kind_of_source}
-use Rattle.rdlpp_steps.specs.Opening.{opened_engine, unopened_engine, found_name, looked_up, staged_output, is_device_fault, is_memory_fault, Starts}
+use Rattle.rdlpp_steps.specs.Opening.{opened_engine, unopened_engine, found_name, looked_up, looked_up_output, is_device_fault, is_memory_fault, Starts}
 
 -- whether the byte at a place goes on with a character
 goes_on : List ℕ → ℕ → Bool
@@ -153,7 +153,7 @@ left_opened : {S R : Type 0} (g : Ghosts S R) (e : EngineView S R) (s : S) (foun
     (and_then (gives (origin_line (run_rules g e) found.path.bytes 1))
     (remains (run_rules g e) (Live []) true ((run_rules g e).tokens (g.unread found.reader))
     (start_state e.table.macros e.limits.includes e.limits.conditions found.path.bytes)))
-unfolding nest_left waiting_around nest_state file_state source_left opened_engine opened_buffer tokens_left held_of rest_of ahead_of unread_of whole_tokens staged_rules rules_of start_state no_shift
+unfolding nest_left waiting_around nest_state file_state source_left opened_engine opened_buffer tokens_left held_of rest_of ahead_of unread_of whole_tokens source_rules rules_of start_state no_shift
 left_opened g e s found most none unopened idle catalog =
     let rules = run_rules g e in
     let ts = whole_tokens e.limits.line_bytes e.limits.source_bytes (g.unread found.reader) in
@@ -173,11 +173,11 @@ unfolding left_of uncut_of kept_uncut unopened_engine
 left_unopened g e s kind path = limited-fails (output_fault e.main) e.quota (opening_fault kind path)
 
 -- the output is that of what is found at the main path
-staged_found : {S R : Type 0} (g : Ghosts S R) (e : EngineView S R) (path : List ℕ) (answer : Answer)
+found_output : {S R : Type 0} (g : Ghosts S R) (e : EngineView S R) (path : List ℕ) (answer : Answer)
     → (g.catalog e.sources).top path ≡ answer
-    → staged_output g e path ≡ looked_up g e path (lookup_of answer)
-unfolding staged_output
-staged_found g e path answer found = ap (λ (a : Answer). looked_up g e path (lookup_of a)) found
+    → looked_up_output g e path ≡ looked_up g e path (lookup_of answer)
+unfolding looked_up_output
+found_output g e path answer found = ap (λ (a : Answer). looked_up g e path (lookup_of a)) found
 
 -- the output of a main path that is no text
 looked_up-fails : {S R : Type 0} (g : Ghosts S R) (e : EngineView S R) (path : List ℕ) (lookup : Lookup) (f : Told)
@@ -212,7 +212,7 @@ starts_open g e s found path most none unopened idle bounded answer failures ref
   call = record { failures = failures; refusals = refusals; tells = tells; catalog = catalog };
   remains_output = λ _ _ telling.
       left_opened g e s found most none unopened idle catalog
-      ∙ sym (staged_found g e path _ (answer telling)
+      ∙ sym (found_output g e path _ (answer telling)
       ∙ ap (limited (output_fault found.path.bytes) e.limits.output_bytes)
       (output_found (run_rules g e) e.table.macros e.limits.includes e.limits.conditions path
       found.path.bytes (g.unread found.reader)));
@@ -227,7 +227,7 @@ starts_refused : {S R : Type 0} (g : Ghosts S R) (e : EngineView S R) (s : S) (k
     → (g.tells e.sources → g.tells s)
     → g.catalog s ≡ g.catalog e.sources
     → (is_read_failed kind ≡ false → is_memory_kind kind ≡ false → g.tells e.sources
-    → fails (opening_fault kind path) ≡ staged_output g e path)
+    → fails (opening_fault kind path) ≡ looked_up_output g e path)
     → Starts g e (unopened_engine (record e { sources = s }) (opening_fault kind path)) path (Some (opening_fault kind path))
 unfolding unopened_engine is_device_fault is_memory_fault opening_fault IsBounded stores_of
 starts_refused g e s kind path bounded failures refusals tells catalog told = record {
@@ -258,10 +258,10 @@ pub starts_not_found : {S R : Type 0} (g : Ghosts S R) (e : EngineView S R) (s :
 unfolding kind_of_source is_read_failed is_memory_kind lookup_of
 starts_not_found g e s source.Absent path bounded answer failures refusals tells catalog =
     starts_refused g e s SourceNotFound path bounded failures refusals tells catalog
-    (λ _ _ telling. sym (staged_found g e path _ (answer telling) ∙ looked_up-fails g e path NoSource _ (output_missing _ _ _ _ _)))
+    (λ _ _ telling. sym (found_output g e path _ (answer telling) ∙ looked_up-fails g e path NoSource _ (output_missing _ _ _ _ _)))
 starts_not_found g e s source.PathTooLong path bounded answer failures refusals tells catalog =
     starts_refused g e s PathTooLong path bounded failures refusals tells catalog
-    (λ _ _ telling. sym (staged_found g e path _ (answer telling) ∙ looked_up-fails g e path LongPath _ (output_overlong _ _ _ _ _)))
+    (λ _ _ telling. sym (found_output g e path _ (answer telling) ∙ looked_up-fails g e path LongPath _ (output_overlong _ _ _ _ _)))
 starts_not_found g e s source.Device path bounded answer failures refusals tells catalog =
     starts_refused g e s ReadFailed path bounded failures refusals tells catalog (λ device _ _. cc)
 starts_not_found g e s source.NoMemory path bounded answer failures refusals tells catalog =

@@ -10,7 +10,7 @@ use Rattle.rdlpp_meaning.specs.Profile.{rules_of}
 use Rattle.rdlpp_meaning.specs.State.{Rules}
 use Rattle.rdlpp_meaning.proofs.OwedLineEnds.{line_ends_of-owed}
 use Rattle.rdlpp_steps.specs.Owed.{line_from, origin_bytes, origin_owed, origin_pieces, owed_bytes, owed_pieces, pieces_from}
-use Rattle.rdlpp_steps.specs.Remaining.{staged_rules}
+use Rattle.rdlpp_steps.specs.Remaining.{source_rules}
 use Rattle.rdlpp_steps.specs.declared.owed.OwedPart.TheVariants.{Label}
 
 -- a whole origin line
@@ -32,24 +32,24 @@ origin_few false number = omega arith
 
 -- it alone is owed
 pub owed_origin : (c : Catalog) (limits : Limits) (origins : Bool) (name : List ℕ) (number : ℕ)
-    → owed_bytes name (record { line_ends = 0; origin = origin_owed origins number }) ≡ origin_line (staged_rules c limits origins) name number
-unfolding owed_bytes staged_rules rules_of
-owed_origin c limits origins name number = origin_line_owed origins (staged_rules c limits origins) name number refl
+    → owed_bytes name (record { line_ends = 0; origin = origin_owed origins number }) ≡ origin_line (source_rules c limits origins) name number
+unfolding owed_bytes source_rules rules_of
+owed_origin c limits origins name number = origin_line_owed origins (source_rules c limits origins) name number refl
 
 -- LF bytes that are owed, and an origin line behind them
 pub owed_with_origin : (c : Catalog) (limits : Limits) (origins : Bool) (name w : List ℕ) (lines number : ℕ) → lines ≡ line_ends w
-    → owed_bytes name (record { line_ends = lines; origin = origin_owed origins number }) ≡ line_ends_of w ++ origin_line (staged_rules c limits origins) name number
-unfolding owed_bytes staged_rules rules_of
+    → owed_bytes name (record { line_ends = lines; origin = origin_owed origins number }) ≡ line_ends_of w ++ origin_line (source_rules c limits origins) name number
+unfolding owed_bytes source_rules rules_of
 owed_with_origin c limits origins name w lines number counted =
-    ap (λ (x : List ℕ). replicate lines 10 ++ x) (origin_line_owed origins (staged_rules c limits origins) name number refl)
-    ∙ ap (λ (x : List ℕ). x ++ origin_line (staged_rules c limits origins) name number) (ap (λ n. replicate n 10) counted ∙ sym (line_ends_of-owed w))
+    ap (λ (x : List ℕ). replicate lines 10 ++ x) (origin_line_owed origins (source_rules c limits origins) name number refl)
+    ∙ ap (λ (x : List ℕ). x ++ origin_line (source_rules c limits origins) name number) (ap (λ n. replicate n 10) counted ∙ sym (line_ends_of-owed w))
 
 -- an LF that is owed where a text ends in mid-line, and an origin line behind it
 pub owed_torn : (c : Catalog) (limits : Limits) (origins : Bool) (name : List ℕ) (torn : Bool) (number : ℕ)
-    → owed_bytes name (record { line_ends = if torn then 1 else 0; origin = origin_owed origins number }) ≡ (if torn then 10 ∷ [] else []) ++ origin_line (staged_rules c limits origins) name number
-unfolding owed_bytes staged_rules rules_of
-owed_torn c limits origins name true number = ap (λ (x : List ℕ). 10 ∷ x) (origin_line_owed origins (staged_rules c limits origins) name number refl)
-owed_torn c limits origins name false number = origin_line_owed origins (staged_rules c limits origins) name number refl
+    → owed_bytes name (record { line_ends = if torn then 1 else 0; origin = origin_owed origins number }) ≡ (if torn then 10 ∷ [] else []) ++ origin_line (source_rules c limits origins) name number
+unfolding owed_bytes source_rules rules_of
+owed_torn c limits origins name true number = ap (λ (x : List ℕ). 10 ∷ x) (origin_line_owed origins (source_rules c limits origins) name number refl)
+owed_torn c limits origins name false number = origin_line_owed origins (source_rules c limits origins) name number refl
 
 -- they can be counted
 pub owed_few : (origins : Bool) (lines number : ℕ) → lines + 5 < 2 ^ 31 → owed_pieces (record { line_ends = lines; origin = origin_owed origins number }) < 2 ^ 31

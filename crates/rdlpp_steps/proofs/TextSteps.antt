@@ -35,7 +35,6 @@ use Rattle.rdlpp_steps.specs.declared.place.Place.TheVariants.{Text, Kept}
 use Rattle.rdlpp_steps.proofs.CursorWork.{cursors_fall}
 use Rattle.rdlpp_steps.proofs.EngineSteps.{kept_at, not_called, walks_fault, walks_lent}
 use Rattle.rdlpp_steps.proofs.EndSteps.{nest_macros}
-use Rattle.rdlpp_steps.proofs.IdleTexts.{all_built}
 use Rattle.rdlpp_steps.proofs.FrontSteps.{behind_twice, keeps_fault, keeps_files, keeps_moves, left_by, read_nothing, told_kind, unowed_behind, unowed_few}
 
 -- bytes in front of what goes on
@@ -149,7 +148,7 @@ module _ {S R : Type 0} (g : Ghosts S R) (old : EngineView S R) (x : ExpansionVi
       → IsFalling old.expansion.opens (Lends place) x.opens → StaysLent old.expansion (Lends place) x → Walks g old (record old { expansion = x }) (lent_answer (record old { expansion = x }) (Text place))
   unfolding IsStep StepsTo IsFalling StaysLent state_of
   texts_lend place bounded step falls lends =
-      let goes = step (run_rules g old) (state_of old) (nest_macros old.limits old.table.macros old.conditions old.files.nest) (all_built g old) in
+      let goes = step (run_rules g old) (state_of old) (nest_macros old.limits old.table.macros old.conditions old.files.nest) in
       subst (λ (xs : List ℕ). Walks g old (record old { expansion = x }) (Ok (Some xs))) (ap (λ (a : List ℕ). place_bytes (texts_of old.table.macros a) place) (sym lends.1))
       (walks_lent g old (record old { expansion = x }) unowed.free unowed.open_ bounded (place_bytes (held_texts old) place) refl (refl, refl) (not_called g old.sources)
       (λ t. text_goes (place_bytes (held_texts old) place) goes) (work_texts falls))
@@ -160,7 +159,7 @@ module _ {S R : Type 0} (g : Ghosts S R) (old : EngineView S R) (x : ExpansionVi
   unfolding IsStep StepsTo IsFalling state_of
   texts_turn bounded step falls =
       walks_lent g old (record old { expansion = x }) unowed.free unowed.open_ bounded [] refl (refl, refl) (not_called g old.sources)
-      (λ t. text_goes [] (step (run_rules g old) (state_of old) (nest_macros old.limits old.table.macros old.conditions old.files.nest) (all_built g old))) (work_texts falls)
+      (λ t. text_goes [] (step (run_rules g old) (state_of old) (nest_macros old.limits old.table.macros old.conditions old.files.nest))) (work_texts falls)
 
 -- the open texts end with a fault, and nothing else changes
 pub texts_refuse : {S R : Type 0} (g : Ghosts S R) (old mid new : EngineView S R) (place : Place) (fault : CursorFault) → IsUnowed old → IsBounded new → mid ≡ old → place ≡ Kept
@@ -181,7 +180,7 @@ texts_refuse {S} {R} g old mid new place fault unowed bounded same is kept own s
     (keeps_fault old old new f r becomes) (keeps_files old old new f r becomes) (keeps_moves old old new f r becomes) unowed.owed (subst P (sym (ap (λ e. e.sources) becomes)) (not_called g old.sources))
     (λ t. unowed_behind (inner_name old.files.nest) old.owed (goes_on (texts_left (run_rules g old) (state_of old) old.table.macros old.expansion) (λ after. p)) unowed.owed
     ∙ (texts_fail (run_rules g old) (state_of old) old.table.macros old.expansion f p
-    (step (run_rules g old) (state_of old) (nest_macros old.limits old.table.macros old.conditions old.files.nest) (all_built g old))
+    (step (run_rules g old) (state_of old) (nest_macros old.limits old.table.macros old.conditions old.files.nest))
     ∙ ap (leaves (fails f)) here)))
 
 -- the same engine, with other open texts

@@ -29,7 +29,7 @@ use Rattle.rdlpp_steps.specs.Held.{IsBounded}
 use Rattle.rdlpp_steps.specs.Moves.{IsReady, OpensUsage}
 use Rattle.rdlpp_steps.specs.Owed.{owed_bytes}
 use Rattle.rdlpp_steps.specs.Pieces.{lent_answer}
-use Rattle.rdlpp_steps.specs.Remaining.{inner_name, nest_left, nest_state, run_rules, staged_rules, state_of, text_of, work_left}
+use Rattle.rdlpp_steps.specs.Remaining.{inner_name, nest_left, nest_state, run_rules, source_rules, state_of, text_of, work_left}
 use Rattle.rdlpp_steps.specs.Steps.{HaltsAt, InCall, BeforeCall, IsOwn, OnRead, StopsInCall, StopsReading, Walks, is_call_failed, is_memory_kind, is_read_failed, is_write_failed}
 use Rattle.rdlpp_steps.specs.declared.place.Place.{Place}
 use Rattle.rdlpp_steps.specs.declared.place.Place.TheVariants.{Kept}
@@ -132,7 +132,7 @@ module _ {S R : Type 0} (g : Ghosts S R) (old : EngineView S R) (ready : IsReady
       → (g.tells old.sources → TellsAt Opened line name) → Walks g old opened_engine_at (Ok (Some []))
   unfolding behind_bytes
   usage_opens line name bounded call falls text means =
-      let catalog : staged_rules (g.catalog s) old.limits old.origins ≡ run_rules g old = ap (λ (c : Catalog). staged_rules c old.limits old.origins) call.catalog in
+      let catalog : source_rules (g.catalog s) old.limits old.origins ≡ run_rules g old = ap (λ (c : Catalog). source_rules c old.limits old.origins) call.catalog in
       walks_lent g old opened_engine_at ready.free ready.open_ bounded [] refl (refl, refl) call
       (λ t. by_run g old
       ∙ (opened_text g (run_rules g old) old ready.owed ready.idle live ready.nest nest uses.used x s line name uses.inner (text t) (means t)
@@ -196,8 +196,8 @@ module _ {S R : Type 0} (g : Ghosts S R) (old mid : EngineView S R) (len : ℕ) 
     (usage : IsUsage (held_of (inner_buffer old.files.nest)) len) (texts : AreOpenTexts old.limits old.phase old.table.macros old.expansion) where
   -- the run goes on with its macros and its limits
   run_is : (s : State) → s.macros ≡ old.table.macros → IsRun (run_rules g old) s old.table.macros old.expansion.depth old.expansion.most
-  unfolding staged_rules rules_of
-  run_is s macros = record { macros_are = macros; depth_is = sym texts.depth_is; most_is = sym texts.most_is; built = λ m. refl }
+  unfolding source_rules rules_of
+  run_is s macros = record { macros_are = macros; depth_is = sym texts.depth_is; most_is = sym texts.most_is }
 
   -- its texts are open
   pub opens_step : OpensUsage g len old mid Opened → IsBounded mid → Walks g old mid (Ok (Some []))

@@ -72,9 +72,9 @@ looked_up g e path lookup =
     limited (output_fault (found_name path lookup)) e.limits.output_bytes
     (output (run_rules g e) e.table.macros e.limits.includes e.limits.conditions path lookup)
 
--- the output of a main path, where no opening fails (this project's profile)
-unfoldable pub staged_output : {S R : Type 0} → Ghosts S R → EngineView S R → List ℕ → Outcome
-staged_output g e path = looked_up g e path (lookup_of ((g.catalog e.sources).top path))
+-- the output of a main path that is looked up in what the sources answer, where no opening fails (this project's profile)
+unfoldable pub looked_up_output : {S R : Type 0} → Ghosts S R → EngineView S R → List ℕ → Outcome
+looked_up_output g e path = looked_up g e path (lookup_of ((g.catalog e.sources).top path))
 
 -- the fault that a start answers
 unfoldable pub start_fault : Result (Unit {0}) Fault → Option Told
@@ -110,5 +110,5 @@ pub record Starts {S R : Type 0} (g : Ghosts S R) (old new : EngineView S R) (pa
   pub refused : (f : Told) → answer ≡ Some f → (f ≡ opening_fault f.kind path) × (new ≡ unopened_engine (record old { sources = new.sources }) f)
   pub call : SourcesCalled g (is_device_fault answer) (is_memory_fault answer) old.sources new.sources
   pub remains_output : is_device_fault answer ≡ false → is_memory_fault answer ≡ false → g.tells old.sources
-      → left_of g new ≡ staged_output g old path
+      → left_of g new ≡ looked_up_output g old path
   pub bounded : IsBounded new

@@ -1,6 +1,6 @@
 -- What remains of an engine's output, and the work left.
 -- A definition that names no source is this project's own.
-use Rattle.std.specs.Prelude.{ℕ, ◌-◌, Bool, false, List, [], ◌∷◌, ◌++◌, length, take, Option, None, Some, if◌then◌else◌}
+use Rattle.std.specs.Prelude.{ℕ, ◌-◌, Bool, List, [], ◌∷◌, ◌++◌, length, take, Option, None, Some, if◌then◌else◌}
 use Rattle.rdlpp_table.specs.Table.{Macro}
 use Rattle.rdlpp_table.specs.declared.limits.Limits.{Limits}
 use Rattle.rdlpp_source.specs.Sources.{Answer, Catalog, Missing, Overlong, Present}
@@ -37,9 +37,9 @@ lookup_of (Present path text) = Source path text
 unfoldable pub find_of : Catalog → List ℕ → List ℕ → Lookup
 find_of catalog path name = lookup_of (catalog.find path name)
 
--- the rules of a run, by what its sources answer and by its limits: those of the profile, in which every macro is built
-unfoldable pub staged_rules : Catalog → Limits → Bool → Rules
-staged_rules catalog limits origins = rules_of limits (λ m. false) (find_of catalog) origins
+-- the rules of a run over sources, by what they answer and by its limits (this project's profile)
+unfoldable pub source_rules : Catalog → Limits → Bool → Rules
+source_rules catalog limits origins = rules_of limits (find_of catalog) origins
 
 -- the state that the meaning goes on from in an open source, with macros, with so many conditionals open there, and with so many sources open around it
 unfoldable pub file_state : {R : Type 0} → Limits → List Macro → ℕ → ℕ → File R → State
@@ -93,7 +93,7 @@ inner_name (f ∷ outer) = f.name.bytes
 
 -- the rules of a run of an engine
 abbrev pub run_rules : {S R : Type 0} → Ghosts S R → EngineView S R → Rules
-run_rules g e = staged_rules (g.catalog e.sources) e.limits e.origins
+run_rules g e = source_rules (g.catalog e.sources) e.limits e.origins
 
 -- what remains of the text: the bytes that are owed, then what remains of the open texts of a usage, and then what remains of the open sources (this project's profile)
 unfoldable pub text_of : {S R : Type 0} → Ghosts S R → EngineView S R → Passage

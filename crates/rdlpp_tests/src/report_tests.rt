@@ -118,7 +118,6 @@ fn reports_each_kind(rt: HostRuntime) -> Result<(), Fail> {
             FaultKind::OutputBytes,
             "m:5: error F35: output bytes passed\n",
         ),
-        (FaultKind::Unbuilt, "m:5: error F99: not built yet\n"),
     ];
     let name = ArrayString::from("m").map_err(|_| "a name")?;
     for (kind, line) in kinds {

@@ -24,7 +24,7 @@ use Rattle.rdlpp_meaning.specs.Resumed.{Live, leading, resumed}
 use Rattle.rdlpp_meaning.specs.Slots.{cursors_of}
 use Rattle.rdlpp_meaning.specs.State.{Rules, State, fault_at}
 use Rattle.rdlpp_meaning.specs.declared.fault.FaultKind.{FaultKind}
-use Rattle.rdlpp_meaning.specs.declared.fault.FaultKind.TheVariants.{DirectiveInText, Unbuilt, UndefinedMacro}
+use Rattle.rdlpp_meaning.specs.declared.fault.FaultKind.TheVariants.{DirectiveInText, UndefinedMacro}
 use Rattle.rdlpp_meaning.proofs.NestMoves.{all_resumed_fails}
 use Rattle.rdlpp_meaning.proofs.Passages.{goes_on-assoc}
 use Rattle.rdlpp_meaning.proofs.SlotSteps.{first_slot_is}
@@ -55,15 +55,14 @@ blanks_behind first name line ts behind n used rest bytes =
 
 -- a usage of a macro without a list opens its macro
 usage_without_list : (rules : Rules) (s : State) (line : ℕ) (name : List ℕ) (ts : List SourceToken) (m : Macro)
-    → is_reserved name ≡ false → macro_named s.macros name ≡ Some m → rules.unbuilt_macro m ≡ false → m.formals ≡ None
+    → is_reserved name ≡ false → macro_named s.macros name ≡ Some m → m.formals ≡ None
     → token_usage_of kept rules s line [] name ts ≡ Opens m [] 0
 unfolding token_usage_of token_usage_of_macro token_usage_of_formals
-usage_without_list rules s line name ts m reserved found built formals =
+usage_without_list rules s line name ts m reserved found formals =
     let named : Option Macro → TokenUsage = λ x. elim x [ None ↦ Refuses UndefinedMacro name line | Some y ↦ token_usage_of_macro kept rules line [] name ts y ] in
     let own : TokenUsage = token_usage_of_formals kept rules line name ts m m.formals in
     ap (λ (b : Bool). if b then Refuses DirectiveInText name line else named (macro_named s.macros name)) reserved
     ∙ ap named found
-    ∙ ap (λ (b : Bool). if b then Refuses Unbuilt [] line else own) built
     ∙ ap (token_usage_of_formals kept rules line name ts m) formals
 
 -- what a source goes on with, it goes on with in front of those that wait
@@ -97,27 +96,27 @@ module _ {R : Type 0} (rules : Rules) (unread : R → List ℕ) (ws : List Waiti
   -- a call that is refused is a fault
   pub call_refused : HoldsFront f.buffer → f.buffer.mode ≡ Plain → IsUsage (held_of f.buffer) len
       → (m : Macro) (fs : List Formal) (kind : FaultKind) (word : List ℕ) (at : ℕ)
-      → macro_named s.macros (usage_name (held_of f.buffer) len) ≡ Some m → rules.unbuilt_macro m ≡ false → m.formals ≡ Some fs
+      → macro_named s.macros (usage_name (held_of f.buffer) len) ≡ Some m → m.formals ≡ Some fs
       → token_usage_of_formals kept rules f.buffer.line (usage_name (held_of f.buffer) len) (leading (tokens_left unread (consumed_file len 0 f).buffer)) m (Some fs) ≡ Refuses kind word at
       → source_left rules unread ws (Live os) f s ≡ leaves (fails (fault_at kind at word s)) s
-  call_refused holds plain usage m fs kind word at found built formals e =
+  call_refused holds plain usage m fs kind word at found formals e =
       let name = usage_name (held_of f.buffer) len in
       let ts = tokens_left unread (consumed_file len 0 f).buffer in
       token_refused holds plain usage kind word at
-      (usage_with_list kept rules s f.buffer.line [] name (leading ts) m fs (Refuses kind word at) usage.free found built refl formals e)
+      (usage_with_list kept rules s f.buffer.line [] name (leading ts) m fs (Refuses kind word at) usage.free found refl formals e)
 
   -- a call that is bound opens its body, and the source goes on behind it
   pub call_opens : HoldsFront f.buffer → f.buffer.mode ≡ Plain → IsUsage (held_of f.buffer) len
       → (d : ℕ) (texts : Texts) (id : ℕ) (fs : List Formal) (ranges : List Range) (new : File R) (used : List ℕ)
       → rules.depth ≡ suc d → macro_named s.macros (usage_name (held_of f.buffer) len) ≡ Some (macro_at texts.macros id)
-      → rules.unbuilt_macro (macro_at texts.macros id) ≡ false → (macro_at texts.macros id).formals ≡ Some fs
+      → (macro_at texts.macros id).formals ≡ Some fs
       → OpensBound rules f.buffer.line (usage_name (held_of f.buffer) len) (tokens_left unread (consumed_file len 0 f).buffer) (macro_at texts.macros id) fs texts.arguments ranges (tokens_left unread new.buffer)
       → IsBehind unread f new len used
       → source_left rules unread ws (Live os) f s
       ≡ goes_on (leaves (left rules s f.buffer.line (cursors_of (suc d) (slots_of texts (open_body texts id (map range_part ranges) 0 ∷ [])))) s)
       (λ after. source_left rules unread ws (Live os) new after)
   unfolding source_left
-  call_opens holds plain usage d texts id fs ranges new used depth found built formals b behind =
+  call_opens holds plain usage d texts id fs ranges new used depth found formals b behind =
       let name = usage_name (held_of f.buffer) len in
       let line = f.buffer.line in
       let ts = tokens_left unread (consumed_file len 0 f).buffer in
@@ -130,19 +129,19 @@ module _ {R : Type 0} (rules : Rules) (unread : R → List ℕ) (ws : List Waiti
       ∙ sym behind.blanks in
       usage_left rules unread ws os f s len holds plain usage
       ∙ all_resumed_on rules ws os f.blanks flag (usage_token name line ∷ ts) rest s opened
-      (resumed_open rules os f.blanks name line ts s d texts id fs ranges rest b usage.free depth found built formals)
+      (resumed_open rules os f.blanks name line ts s d texts id fs ranges rest b usage.free depth found formals)
       ∙ ap (λ (x : Bool). goes_on opened (λ after. all_resumed rules ws (Live os) x rest after)) same
 
   -- a usage of a macro without a list opens its body, and the source goes on behind the name
   pub body_opens : HoldsFront f.buffer → f.buffer.mode ≡ Plain → IsUsage (held_of f.buffer) len
       → (d : ℕ) (texts : Texts) (id : ℕ)
       → rules.depth ≡ suc d → macro_named s.macros (usage_name (held_of f.buffer) len) ≡ Some (macro_at texts.macros id)
-      → rules.unbuilt_macro (macro_at texts.macros id) ≡ false → (macro_at texts.macros id).formals ≡ None
+      → (macro_at texts.macros id).formals ≡ None
       → source_left rules unread ws (Live os) f s
       ≡ goes_on (leaves (left rules s f.buffer.line (cursors_of (suc d) (slots_of texts (open_body texts id [] 0 ∷ [])))) s)
       (λ after. source_left rules unread ws (Live os) (consumed_file len 0 f) after)
   unfolding source_left only_blanks
-  body_opens holds plain usage d texts id depth found built formals =
+  body_opens holds plain usage d texts id depth found formals =
       let name = usage_name (held_of f.buffer) len in
       let line = f.buffer.line in
       let m = macro_at texts.macros id in
@@ -156,6 +155,6 @@ module _ {R : Type 0} (rules : Rules) (unread : R → List ℕ) (ws : List Waiti
       sym (first_slot_is m [] d) ∙ ap (cursors_of (suc d)) (sym (first_open texts id [])) in
       usage_left rules unread ws os f s len holds plain usage
       ∙ all_resumed_on rules ws os f.blanks flag (usage_token name line ∷ ts) ts s (opened (first_cursor m [] d ∷ []))
-      (resumed_opens rules os f.blanks name line ts s d m [] 0 usage.free depth (usage_without_list rules s line name (leading ts) m usage.free found built formals))
+      (resumed_opens rules os f.blanks name line ts s d m [] 0 usage.free depth (usage_without_list rules s line name (leading ts) m usage.free found formals))
       ∙ ap (λ (x : Bool). goes_on (opened (first_cursor m [] d ∷ [])) (λ after. all_resumed rules ws (Live os) x ts after)) same
       ∙ ap (λ (cs : List Cursor). goes_on (opened cs) (λ after. all_resumed rules ws (Live os) (consumed_file len 0 f).blanks ts after)) cursors

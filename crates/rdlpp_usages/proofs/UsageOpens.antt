@@ -129,7 +129,7 @@ module _ {R : Type 0} (rules : Rules) (unread : R → List ℕ) (ws : List Waiti
       let d = deeper depth some in
       let texts = texts_of macros e.arguments in
       body_opens rules unread ws os f s len holds plain usage d.0 texts id (run.depth_is ∙ d.1)
-      (run_named rules s macros depth most (usage_name (held_of f.buffer) len) (macro_at macros id) run found) (run.built (macro_at macros id)) formals
+      (run_named rules s macros depth most (usage_name (held_of f.buffer) len) (macro_at macros id) run found) formals
       ∙ texts_same rules s macros e (open_body texts id [] 0 ∷ []) f.buffer.line d.0 depth _ opens line same d.1
 
   -- a call that is bound opens its body
@@ -145,7 +145,7 @@ module _ {R : Type 0} (rules : Rules) (unread : R → List ℕ) (ws : List Waiti
       let texts = texts_of macros e.arguments in
       let own = usage_name (held_of f.buffer) len in
       call_opens rules unread ws os f s len holds plain usage d.0 texts id fs opens.ranges new used (run.depth_is ∙ d.1)
-      (run_named rules s macros depth most own (macro_at macros id) run found) (run.built (macro_at macros id)) formals
+      (run_named rules s macros depth most own (macro_at macros id) run found) formals
       (opens.bound rules f.buffer.line own fs run.most_is formals t) behind
       ∙ texts_same rules s macros e (open_body texts id (map range_part opens.ranges) 0 ∷ []) f.buffer.line d.0 depth _ opens.body line same d.1
 
@@ -159,7 +159,7 @@ module _ {R : Type 0} (rules : Rules) (unread : R → List ℕ) (ws : List Waiti
   usage_refused kind word at tells fs holds plain usage run found formals refuses t =
       let own = usage_name (held_of f.buffer) len in
       call_refused rules unread ws os f s len holds plain usage (macro_at macros id) fs kind (word own) (at f.buffer.line)
-      (run_named rules s macros depth most own (macro_at macros id) run found) (run.built (macro_at macros id)) formals
+      (run_named rules s macros depth most own (macro_at macros id) run found) formals
       (refuses rules f.buffer.line own fs run.most_is formals t)
 
 -- open texts of a cursor stack with kept bytes, as they are seen

@@ -48,12 +48,11 @@ pub record IsRoomy (e : ExpansionView) : Type 0 where
   pub fits : length e.arguments ≤ e.most
   pub lets_go : e.opens ≡ [] → e.arguments ≡ []
 
--- a run goes on with these macros, and with these limits on open texts and on kept bytes; all macros are built
+-- a run goes on with these macros, and with these limits on open texts and on kept bytes
 pub record IsRun (rules : Rules) (s : State) (macros : List Macro) (depth most : ℕ) : Type 0 where
   pub macros_are : s.macros ≡ macros
   pub depth_is : rules.depth ≡ depth
   pub most_is : rules.argument_bytes ≡ most
-  pub built : (m : Macro) → rules.unbuilt_macro m ≡ false
 
 -- what remains of the innermost source in live text, with these conditionals open in it, and then of those that wait
 unfoldable pub inner_left : {R : Type 0} → Rules → (R → List ℕ) → List Waiting → List Progress → List (File R) → State → Passage

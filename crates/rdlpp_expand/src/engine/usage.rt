@@ -1,8 +1,8 @@
 // Usages of macros in the open sources.
-ghost use Rattle.std.specs.Prelude.{◌≡◌, ◌<◌, ◌≤◌, ◌^◌, false, not, length, None, Some, IfSome};
+ghost use Rattle.std.specs.Prelude.{◌≡◌, ◌<◌, ◌≤◌, ◌^◌, true, length, None, Some, IfSome};
 ghost use Rattle.rdlpp_table.specs.Table.{macro_named};
 ghost use Rattle.rdlpp_table.specs.View.{macro_at};
-ghost use Rattle.rdlpp_meaning.specs.Stage.{is_unbuilt_macro};
+ghost use Rattle.rdlpp_meaning.specs.PlainMacros.{is_plain_macro};
 ghost use Rattle.rdlpp_read.specs.Buffer.{held_of};
 ghost use Rattle.rdlpp_read.specs.Files.{inner_buffer};
 ghost use Rattle.rdlpp_front.specs.Fronts.{IsUsage, usage_name};
@@ -41,7 +41,7 @@ impl<S: Sources> Engine<S> {
         }
     }
 
-    // Takes a usage of a macro: lends its body, where that is copied as it stands, and opens it else.
+    // Takes a usage of a macro: lends its body, where it stands for that as it lies, and opens it else.
     fn take_usage(&mut self, len: usize, id: MacroId) -> Option<Place>
         requires ready { IsReady self.old }
         requires live { self.old.conditions.skipped ≡ None }
@@ -53,13 +53,13 @@ impl<S: Sources> Engine<S> {
         ensures place { IfSome result (IsPlaced self.new) }
         ensures walks { IsBounded self.new → Walks S.Sources self.old self.new (step_answer self.new result) }
     {
-        if is_copied(&self.table, id) {
+        if is_plain(&self.table, id) {
             return Some(self.lend_body(len, id));
         }
         self.open_usage(len, id)
     }
 
-    // Lends the body of a macro that is copied as it stands, whose usage has `len` bytes.
+    // Lends the body of a macro whose usage, of `len` bytes, stands for it as it lies.
     fn lend_body(&mut self, len: usize, id: MacroId) -> Place
         requires ready { IsReady self.old }
         requires live { self.old.conditions.skipped ≡ None }
@@ -68,7 +68,7 @@ impl<S: Sources> Engine<S> {
         requires usage { IsUsage (held_of (inner_buffer self.old.files.nest)) len }
         requires inside { id < length self.old.table.macros }
         requires named { macro_named self.old.table.macros (usage_name (held_of (inner_buffer self.old.files.nest)) len) ≡ Some (macro_at self.old.table.macros id) }
-        requires copied { is_unbuilt_macro (macro_at self.old.table.macros id) ≡ false }
+        requires plain { is_plain_macro (macro_at self.old.table.macros id) ≡ true }
         ensures place { IsPlaced self.new result }
         ensures walks { IsBounded self.new → Walks S.Sources self.old self.new (lent_answer self.new result) }
     {
@@ -129,10 +129,10 @@ fn name_of(held: &[u8], len: usize) -> &[u8]
     &held[1..len]
 }
 
-// Whether the body of a macro is copied as it stands, without a call.
-fn is_copied(table: &Table, id: MacroId) -> bool
+// Whether a usage of a macro stands for its body as it lies: without a list of formals, a usage or a lone backquote.
+fn is_plain(table: &Table, id: MacroId) -> bool
     requires { id < length table.now.macros }
-    ensures { result ≡ not (is_unbuilt_macro (macro_at table.now.macros id)) }
+    ensures { result ≡ is_plain_macro (macro_at table.now.macros id) }
 {
     table.arity(id).is_none() && table.is_copied(id)
 }
