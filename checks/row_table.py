@@ -5,13 +5,13 @@ Each case is run over real files, with its main file as the source, and again ov
 
 
 class Row:
-    """A case. `fault` is the line on standard error, without its line end; `needs` names what it
-    needs that may not be built; `by_input` says whether standard input may stand for its main file.
+    """A case. `fault` is the line on standard error, without its line end; `by_input` says whether
+    standard input may stand for its main file.
     """
 
-    def __init__(self, name, files, words="", main="m", output=b"", fault="", needs="", by_input=True):
+    def __init__(self, name, files, words="", main="m", output=b"", fault="", by_input=True):
         self.name, self.files, self.words, self.main = name, files, words.split(), main
-        self.output, self.fault, self.needs, self.by_input = output, fault, needs, by_input
+        self.output, self.fault, self.by_input = output, fault, by_input
 
     def status(self):
         """1 where the case has a fault: none is one of a device."""
@@ -513,21 +513,18 @@ ROWS = [
         "defaults of empty arguments",
         files={"m": b"`define F(x, y = 2) x+y\n`F(1,)`F(1,3)\n"},
         output=b"\n1+21+3\n",
-        needs="defaults of formals",
     ),
     Row(
         "a default is no argument",
         files={"m": b"`define F(x, y = 2) x+y\n`F(1)\n"},
         output=b"\n",
         fault="m:2: error F13: wrong number of arguments 'F'",
-        needs="defaults of formals",
     ),
     Row(
         "a usage in a default",
         words="--max-depth 3",
         files={"m": b"`define D 7\n`define G(x=`D) [x]\n`G()\n"},
         output=b"\n\n[7]\n",
-        needs="defaults of formals",
     ),
     Row(
         "a default too deep",
@@ -535,27 +532,23 @@ ROWS = [
         files={"m": b"`define D 7\n`define G(x=`D) [x]\n`G()\n"},
         output=b"\n\n[",
         fault="m:3: error F14: depth passed",
-        needs="defaults of formals",
     ),
     Row(
         "a default that calls its own macro",
         files={"m": b"`define H(x=`H()) x\n`H()\n"},
         output=b"\n",
         fault="m:2: error F8: recursive macro 'H'",
-        needs="defaults of formals",
     ),
     Row(
         "formals are not substituted in a default",
         files={"m": b"`define J(x, y=x) y\n`J(1,)\n"},
         output=b"\nx\n",
-        needs="defaults of formals",
     ),
     Row(
         "an output as long as it may be",
         words="--max-output 9",
         files={"m": b"`define W 8\nreg[`W];\n"},
         output=b"\nreg[8];\n",
-        needs="a limit on the output",
     ),
     Row(
         "an output that is one byte too long",
@@ -563,20 +556,17 @@ ROWS = [
         files={"m": b"`define W 8\nreg[`W];\n"},
         output=b"\nreg[8];",
         fault="m:0: error F35: output bytes passed",
-        needs="a limit on the output",
     ),
     Row(
         "no output where none is allowed",
         words="--max-output 0",
         files={"m": b""},
-        needs="a limit on the output",
     ),
     Row(
         "no output is allowed",
         words="--max-output 0",
         files={"m": b"`define W 8\nreg[`W];\n"},
         fault="m:0: error F35: output bytes passed",
-        needs="a limit on the output",
     ),
     Row(
         "a fault at the end of the output",
@@ -584,7 +574,6 @@ ROWS = [
         files={"m": b"`define A `B\n`define B `A\nx `A "},
         output=b"\n\nx ",
         fault="m:3: error F8: recursive macro 'A'",
-        needs="a limit on the output",
     ),
     Row(
         "an output that ends before a fault",
@@ -592,7 +581,6 @@ ROWS = [
         files={"m": b"`define A `B\n`define B `A\nx `A "},
         output=b"\n\nx",
         fault="m:0: error F35: output bytes passed",
-        needs="a limit on the output",
     ),
     Row(
         "an output of a thousand bytes",
@@ -600,6 +588,5 @@ ROWS = [
         files={"m": DOUBLINGS},
         output=b"\n" * 21 + b"x" * 979,
         fault="m:0: error F35: output bytes passed",
-        needs="a limit on the output",
     ),
 ]

@@ -1,19 +1,15 @@
 """Runs the built program and compares what it does with what is wanted, byte for byte.
 
-The program is out/rdlpp, or what RDLPP names. A check is skipped, and counted so, only where the
-program answers fault 99, 'not built yet', after a beginning of the wanted output, or where the check
-names a need whose probe below isn't met.
+The program is out/rdlpp, or what RDLPP names.
 """
 
 import os
 import pathlib
-import re
 import subprocess
 import sys
 
 ROOT = pathlib.Path(__file__).resolve().parent.parent
 PROGRAM = os.environ.get("RDLPP", str(ROOT / "out" / "rdlpp"))
-UNBUILT = re.compile(rb"[^\n]*: error F99: not built yet\n")
 
 
 class Outcome:
@@ -25,11 +21,6 @@ class Outcome:
     def __eq__(self, other):
         return (self.output, self.faults, self.status) == (other.output, other.faults, other.status)
 
-    def is_unbuilt(self, wanted):
-        """Whether the run met what isn't built, after a beginning of the wanted output."""
-        unbuilt = UNBUILT.fullmatch(self.faults) and self.status == 1
-        return bool(unbuilt) and wanted.output.startswith(self.output)
-
 
 def run(words, folder, given=b"", **more):
     """Runs the program in a folder; its standard input has these bytes."""
@@ -37,23 +28,6 @@ def run(words, folder, given=b"", **more):
         [PROGRAM, *words], cwd=folder, input=given, capture_output=True, timeout=60, **more
     )
     return Outcome(done.stdout, done.stderr, done.returncode)
-
-
-# What a part of the language needs: a command line, a source, and how a program that has it ends.
-PROBES = {
-    "defaults of formals": (["-"], b"`define F(x=1) x\n", (b"\n", b"", 0)),
-    "a limit on the output": (
-        ["--max-output", "0", "-"],
-        b"a\n",
-        (b"", b"-:0: error F35: output bytes passed\n", 1),
-    ),
-}
-
-
-def has(need):
-    """Whether the program has what a probe asks for."""
-    words, source, wanted = PROBES[need]
-    return run(words, "/", source) == Outcome(*wanted)
 
 
 def difference(wanted, got):
@@ -67,13 +41,10 @@ def difference(wanted, got):
 
 
 class Tally:
-    """Counts what passed, failed and was skipped, and tells each failure."""
+    """Counts what passed and failed, and tells each failure."""
 
     def __init__(self, name):
-        self.name, self.passed, self.failed, self.skipped = name, 0, 0, 0
-
-    def skip(self):
-        self.skipped += 1
+        self.name, self.passed, self.failed = name, 0, 0
 
     def hold(self, name, holds, why=""):
         """Counts a fact that has to hold."""
@@ -84,10 +55,7 @@ class Tally:
             print(f"{self.name}: {name}: failed {why}")
 
     def compare(self, name, wanted, got):
-        """Counts an outcome that has to be the wanted one, or skips what isn't built."""
-        if wanted != got and got.is_unbuilt(wanted):
-            self.skip()
-            return
+        """Counts an outcome that has to be the wanted one."""
         parts = [
             f"\n  {part}: {difference(getattr(wanted, part), getattr(got, part))}"
             for part in ("output", "faults", "status")
@@ -97,7 +65,5 @@ class Tally:
 
     def close(self):
         """Prints the counts as the last line, and ends with status 1 where a check failed."""
-        if self.skipped:
-            print(f"{self.name}: {self.skipped} skipped, which meet what isn't built yet")
         print(f"{self.name}: {self.passed} passed, {self.failed} failed")
         sys.exit(1 if self.failed else 0)

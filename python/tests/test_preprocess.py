@@ -9,8 +9,6 @@ from dataclasses import fields
 import rdlpp
 from rdlpp import _library, _sources
 
-UNBUILT = 99
-
 
 class Outputs(unittest.TestCase):
     def test_a_text(self):
@@ -90,15 +88,6 @@ class Faults(unittest.TestCase):
 
 
 class Sources(unittest.TestCase):
-    def include(self, *given, **more):
-        """What an include gives; the test is skipped where the language doesn't have it yet."""
-        try:
-            return rdlpp.preprocess(*given, **more)
-        except rdlpp.Fault as fault:
-            if fault.number == UNBUILT:
-                self.skipTest("include is not built yet")
-            raise
-
     def test_a_file(self):
         with tempfile.TemporaryDirectory() as folder:
             path = pathlib.Path(folder, "m.rdl")
@@ -121,11 +110,11 @@ class Sources(unittest.TestCase):
             inner.mkdir()
             pathlib.Path(folder, "m").write_bytes(b'`include "i"\nz\n')
             inner.joinpath("i").write_bytes(b"q")
-            self.assertEqual(self.include(pathlib.Path(folder, "m"), [inner]), b"q\n\nz\n")
+            self.assertEqual(rdlpp.preprocess(pathlib.Path(folder, "m"), [inner]), b"q\n\nz\n")
 
     def test_included_entries_of_a_mapping(self):
         files = {"a/m": b'`include "i"\n', "a/i": b'`include "j"\n', "inc/j": b"q\n"}
-        self.assertEqual(self.include("a/m", ["inc"], files=files), b"q\n\n\n")
+        self.assertEqual(rdlpp.preprocess("a/m", ["inc"], files=files), b"q\n\n\n")
 
     def test_what_is_gathered(self):
         files = {"a/m": b'`include "i" `include "/r"\n// `include "j"', "a/i": b'`include"m"', "inc/j": b"", "/r": b"r", "x": b""}

@@ -10,7 +10,6 @@ sys.path.insert(0, str(pathlib.Path(__file__).resolve().parents[2] / "checks"))
 
 from row_table import ROWS  # noqa: E402
 
-UNBUILT = 99
 OPTIONS = {"--max-line": "line_bytes", "--max-source": "source_bytes", "--max-argument": "argument_bytes"}
 OPTIONS["--max-output"] = "output_bytes"
 
@@ -33,25 +32,17 @@ def asked(words):
 
 class Rows(unittest.TestCase):
     def check_row(self, row):
-        """Runs a row; answers whether it met what isn't built, after a beginning of its output."""
+        """Runs a row, and compares its output and its fault."""
         try:
             output, fault = rdlpp.preprocess(row.main, files=row.files, **asked(row.words)), ""
         except rdlpp.Fault as caught:
             output, fault = caught.output, str(caught)
-            if caught.number == UNBUILT:
-                self.assertTrue(row.output.startswith(output))
-                return True
-        if row.needs and (output, fault) != (row.output, row.fault):
-            return True
         self.assertEqual((output, fault), (row.output, row.fault))
-        return False
 
     def test_each_row(self):
-        skipped = 0
         for row in ROWS:
             with self.subTest(row.name):
-                skipped += self.check_row(row)
-        self.assertLess(skipped, len(ROWS))
+                self.check_row(row)
 
 
 if __name__ == "__main__":

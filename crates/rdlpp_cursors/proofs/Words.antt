@@ -1,5 +1,5 @@
 -- The words of faults in open texts are names.
-use Rattle.std.proofs.Common.{◌≡◌, ℕ, zero, suc, ◌+◌, ◌-◌, ◌<◌, Bool, true, false, cond, List, [], ◌∷◌, length, take, drop, refl, sym, ap, subst, ◌∙◌, arith, one-add}
+use Rattle.std.proofs.Common.{◌≡◌, ℕ, zero, suc, ◌+◌, Bool, true, false, cond, List, [], ◌∷◌, take, drop, refl, sym, ap, subst, ◌∙◌, one-add}
 use Rattle.std.specs.List.{list_all, prefix_len}
 use Rattle.std.proofs.lemmas.Bool.{false≢true}
 use Rattle.rdlpp_scan.specs.Bytes.{is_word}
@@ -17,7 +17,7 @@ use Rattle.rdlpp_cursors.specs.declared.front.Look.{Look}
 use Rattle.rdlpp_cursors.specs.declared.place.TextPlace.{TextPlace}
 use Rattle.rdlpp_cursors.specs.declared.place.TextSource.TheVariants.{Arguments}
 use Rattle.rdlpp_cursors.specs.declared.step.CursorStep.{CursorStep}
-use Rattle.rdlpp_cursors.specs.declared.step.CursorStep.TheVariants.{Lends, Silent, Refused}
+use Rattle.rdlpp_cursors.specs.declared.step.CursorStep.TheVariants.{Refused}
 use Rattle.rdlpp_cursors.specs.Fronts.{IsFront, IsLook}
 use Rattle.rdlpp_cursors.specs.Places.{place_bytes, source_formals}
 use Rattle.rdlpp_cursors.specs.Scopes.{front_source}

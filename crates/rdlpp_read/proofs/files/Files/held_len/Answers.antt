@@ -1,5 +1,5 @@
-use Rattle.std.proofs.Common.{◌≡◌, ◌+◌, ◌*◌, ◌^◌, ◌<◌, ◌≤◌, take, length, arith}
-use Rattle.rdlpp_read.specs.Files.{AreOpen, held_bytes}
+use Rattle.std.proofs.Common.{arith}
+use Rattle.rdlpp_read.specs.Files.{AreOpen}
 use Rattle.rdlpp_read.proofs.Slots.{held-part, slots-open}
 use Rattle.rdlpp_read.proofs.files.Files.held_len.Goals as goal
 
