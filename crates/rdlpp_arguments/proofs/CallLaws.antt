@@ -1,5 +1,5 @@
 -- A call that was read from a source is that of the definition.
-use Rattle.std.proofs.Common.{◌≡◌, ℕ, Bool, false, List, ◌++◌, refl, sym, ap, ◌∙◌}
+use Rattle.std.proofs.Common.{◌≡◌, ℕ, false, List, ◌++◌, refl, sym, ap, ◌∙◌}
 use Rattle.rdlpp_scan.specs.declared.token.Mode.TheVariants.{Plain}
 use Rattle.rdlpp_scan.specs.Front.{front}
 use Rattle.rdlpp_scan.specs.SourceTokens.{SourceToken, remaining_tokens}

@@ -12,7 +12,6 @@ use Rattle.rdlpp_scan.specs.SourceTokens.{SourceToken, remaining_tokens}
 use Rattle.rdlpp_scan.specs.Tokens.{string_token, token_of, whole}
 use Rattle.rdlpp_scan.proofs.RemainingLaws.{remaining-bare, remaining-perl}
 use Rattle.rdlpp_scan.proofs.ResumedTokens.{remaining-perl_in_string}
-use Rattle.rdlpp_scan.proofs.DirectiveStarts.{directive-bare, directive-perl}
 use Rattle.rdlpp_scan.proofs.StopKinds.{string_token-kind, block_token-kind}
 use Rattle.rdlpp_meaning.specs.declared.fault.FaultKind.{FaultKind}
 use Rattle.rdlpp_meaning.specs.declared.fault.FaultKind.TheVariants.{LineTooLong, OpenComment, OpenConditional, OpenString, SourceTooLong}

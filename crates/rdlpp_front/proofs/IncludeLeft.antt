@@ -17,7 +17,6 @@ use Rattle.rdlpp_scan.specs.Tokens.{token_of}
 use Rattle.rdlpp_scan.proofs.LineLaws.{none_suc}
 use Rattle.rdlpp_scan.proofs.RemainingSteps.{remaining-closed}
 use Rattle.rdlpp_scan.proofs.SourceLaws.{line_ends-cons}
-use Rattle.rdlpp_scan.proofs.DirectiveStarts.{directive-string}
 use Rattle.rdlpp_scan.proofs.TokenSteps.{is_kept_kind}
 use Rattle.rdlpp_scan.proofs.WholeLines.{EndsLine-drop}
 use Rattle.rdlpp_meaning.specs.declared.fault.FaultKind.TheVariants.{IncludeName, PathTooLong, SourceNotFound, TooManyIncludes}

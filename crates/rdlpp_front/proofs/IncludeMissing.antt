@@ -20,7 +20,6 @@ use Rattle.rdlpp_scan.proofs.RemainingSteps.{remaining-closed, remaining-cut_str
 use Rattle.rdlpp_scan.proofs.ResumedTokens.{Breaks, Copies, Resumes, remaining-in_string}
 use Rattle.rdlpp_scan.proofs.Seams.{BeforePerl, Closed, OpenComment, OpenString, Seam, token_of-seam}
 use Rattle.rdlpp_scan.proofs.SourceLaws.{line_ends-append, line_ends-cons}
-use Rattle.rdlpp_scan.proofs.DirectiveStarts.{directive-string}
 use Rattle.rdlpp_scan.proofs.TokenLens.{token_of-part}
 use Rattle.rdlpp_scan.proofs.TokenSteps.{is_kept_kind}
 use Rattle.rdlpp_scan.proofs.WholeLines.{EndsLine-drop}

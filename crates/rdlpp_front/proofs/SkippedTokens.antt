@@ -8,7 +8,6 @@ use Rattle.rdlpp_scan.specs.Defines.{HoldsDefine}
 use Rattle.rdlpp_scan.specs.SourceTokens.{Ordinary, Definition, SourceToken, line_ends, line_len, remaining_tokens}
 use Rattle.rdlpp_scan.specs.Tokens.{token_of}
 use Rattle.rdlpp_scan.proofs.RemainingLaws.{remaining-bare}
-use Rattle.rdlpp_scan.proofs.DirectiveStarts.{directive-bare}
 use Rattle.rdlpp_meaning.specs.State.{Rules, State}
 use Rattle.rdlpp_meaning.specs.Expansion.{usage_token}
 use Rattle.rdlpp_meaning.specs.Parts.{line_ends_of, only_blanks}

@@ -1,6 +1,6 @@
 -- What the words of conditionals in front do in skipped text, where they open, branch or close a conditional that is skipped whole,
 -- and what ends a source there.
-use Rattle.std.proofs.Common.{◌≡◌, ℕ, suc, Bool, true, false, List, [], ◌∷◌, length, take, refl, sym, ap, ◌∙◌}
+use Rattle.std.proofs.Common.{◌≡◌, ℕ, suc, true, false, List, [], ◌∷◌, length, take, refl, sym, ap, ◌∙◌}
 use Rattle.rdlpp_scan.specs.declared.token.Directive.{Directive}
 use Rattle.rdlpp_scan.specs.declared.token.Directive.TheVariants.{Endif}
 use Rattle.rdlpp_scan.specs.declared.token.Mode.{Mode}

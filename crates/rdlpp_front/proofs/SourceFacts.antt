@@ -1,5 +1,5 @@
 -- An open source where its next bytes are used: what is held, what stands behind it, and the tokens that remain.
-use Rattle.std.proofs.Common.{◌≡◌, ℕ, ◌+◌, Bool, List, take, drop, refl, sym, ap, ◌∙◌, inl, inr, append-nil}
+use Rattle.std.proofs.Common.{◌≡◌, ℕ, ◌+◌, List, take, drop, refl, sym, ap, ◌∙◌, inl, inr, append-nil}
 use Rattle.std.proofs.lemmas.List.{drop-drop}
 use Rattle.rdlpp_scan.specs.declared.token.Mode.{Mode}
 use Rattle.rdlpp_scan.specs.declared.token.Mode.TheVariants.{Plain}

@@ -19,7 +19,6 @@ use Rattle.rdlpp_scan.specs.Resumed.{opening, line_with, with_part, onto_tokens}
 use Rattle.rdlpp_scan.specs.SourceTokens.{Sort, SourceToken, Ordinary, Broken, line_ends, remaining_tokens}
 use Rattle.rdlpp_scan.specs.Reserved.{begins_directive}
 use Rattle.rdlpp_scan.specs.Tokens.{plain_len, token_of}
-use Rattle.rdlpp_scan.proofs.OrdinaryLaws.{directive-spares}
 use Rattle.rdlpp_scan.proofs.RemainingLaws.{GoesThrough, remaining-opened, remaining-ordinary}
 use Rattle.rdlpp_scan.proofs.RemainingSteps.{remaining-closed, remaining-open_string, remaining-open_comment, remaining-cut_string}
 use Rattle.rdlpp_scan.proofs.ResumedTokens.{Resumes, Copies, Breaks, remaining-in_string, remaining-in_comment, remaining-perl_in_string}

@@ -1,6 +1,6 @@
 -- What a usage in front does to what remains: its token, and what it comes to where its macro isn't defined, or stands for its
 -- body as it lies.
-use Rattle.std.proofs.Common.{◌≡◌, ℕ, ◌+◌, ◌-◌, ◌<◌, Bool, true, false, List, [], ◌∷◌, take, drop, None, Some, sym, ap, ◌∙◌, subst, arith}
+use Rattle.std.proofs.Common.{◌≡◌, ℕ, ◌+◌, ◌-◌, ◌<◌, true, false, List, [], ◌∷◌, take, drop, None, Some, sym, ap, ◌∙◌, subst, arith}
 use Rattle.std.specs.Prelude.{bytes_eq, codes}
 use Rattle.std.specs.List.{list_any, AllByRecursion}
 use Rattle.std.proofs.lemmas.Bool.{or_parts}
@@ -10,7 +10,6 @@ use Rattle.rdlpp_scan.specs.SourceTokens.{SourceToken, Ordinary, remaining_token
 use Rattle.rdlpp_scan.specs.Reserved.{is_reserved, reserved_names}
 use Rattle.rdlpp_scan.specs.Tokens.{token_of}
 use Rattle.rdlpp_scan.proofs.RemainingLaws.{remaining-back}
-use Rattle.rdlpp_scan.proofs.DirectiveStarts.{directive-back, front_name}
 use Rattle.rdlpp_table.specs.Table.{Macro, macro_named}
 use Rattle.rdlpp_meaning.specs.declared.fault.FaultKind.TheVariants.{UndefinedMacro}
 use Rattle.rdlpp_meaning.specs.Outcome.{fails}

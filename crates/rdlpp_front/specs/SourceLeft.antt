@@ -1,7 +1,6 @@
 -- What remains of the open sources: of the innermost, and then of those that wait.
 -- A definition that names no source is this project's own.
-use Rattle.std.specs.Prelude.{◌≡◌, ◌<◌, ℕ, Bool, false, List, length}
-use Rattle.rdlpp_scan.specs.Reserved.{begins_directive}
+use Rattle.std.specs.Prelude.{◌<◌, ℕ, List, length}
 use Rattle.rdlpp_meaning.specs.State.{Rules, State}
 use Rattle.rdlpp_meaning.specs.Meaning.{Passage}
 use Rattle.rdlpp_meaning.specs.Resumed.{Place}
