@@ -49,7 +49,11 @@ fn holds_the_arguments_of_an_open_call(rt: HostRuntime) -> Result<(), Fail> {
 fn holds_nothing_of_doublings(rt: HostRuntime) -> Result<(), Fail> {
     let mut source = Vec::from_slice(rt.alloc(), b"`define E0 x\n")?;
     for number in 1..13_u32 {
-        let line = format!(in rt.alloc(); "`define E{number} `E{}`E{}\n", number.saturating_sub(1), number.saturating_sub(1))?;
+        let line = format!(in rt.alloc();
+            "`define E{number} `E{}`E{}\n",
+            number.saturating_sub(1),
+            number.saturating_sub(1)
+        )?;
         source.extend_from_slice(line.as_bytes())?;
     }
     source.extend_from_slice(b"`E12\n")?;

@@ -8,8 +8,6 @@ mod call_held_tests;
 #[cfg(test)]
 mod call_tests;
 #[cfg(test)]
-mod refused_call_tests;
-#[cfg(test)]
 mod cases;
 #[cfg(test)]
 mod conditional_tests;
@@ -35,6 +33,8 @@ mod included_place_tests;
 mod line_part_tests;
 #[cfg(test)]
 mod line_tests;
+#[cfg(test)]
+mod refused_call_tests;
 #[cfg(test)]
 mod report_tests;
 #[cfg(test)]

@@ -210,7 +210,12 @@ fn takes_definitions_from_the_options(rt: HostRuntime) -> Result<(), Fail> {
             "-D:3: error F2: string not closed\n",
         ),
         (&[("W", "f(x) \"s\" // c")], false, "f(x) \"s\"", ""),
-        (&[("W", "`Q")], false, "", "m:1: error F7: undefined macro 'Q'\n"),
+        (
+            &[("W", "`Q")],
+            false,
+            "",
+            "m:1: error F7: undefined macro 'Q'\n",
+        ),
         (&[("W", "8")], true, "// origin: m:1\n8", ""),
     ];
     for (defines, origins, output, line) in rows {
