@@ -87,7 +87,10 @@ fn make_room(bytes: &mut Vec<u8>, filled: usize, line_bytes: usize)
     ensures capacity { vec_capacity bytes.new ≡ vec_capacity bytes.old }
 {
     if filled == bytes.len() {
-        fill_room(bytes, filled + filled.max(FIRST_ROOM).min(line_bytes - filled));
+        fill_room(
+            bytes,
+            filled + filled.max(FIRST_ROOM).min(line_bytes - filled),
+        );
     }
 }
 
