@@ -71,6 +71,10 @@ fn a_redefinition_goes_last(rt: HostRuntime) {
     assert_eq!(rt; kind(table.set(b"B".as_slice(), b"2".as_slice())), None);
     assert_eq!(rt; kind(table.set(b"A".as_slice(), b"3".as_slice())), None);
     assert_eq!(rt; table.bytes(), b"B2A3".as_slice());
+    match table.find(b"A".as_slice()) {
+        Some(id) => assert_eq!(rt; id.index(), 1),
+        None => panic!(rt; "the macro isn't found"),
+    }
     assert!(rt; table.is_full());
     assert_eq!(rt;
         kind(table.set(b"C".as_slice(), b"4".as_slice())),
