@@ -17,9 +17,10 @@ returns-then-is_empty-clause-walks g c = λ bounded. passes_on g.S.Sources _ _ _
 
 pub stepping-preserved : goal.stepping-preserved
 stepping-preserved g c =
-    let some = some_open _ (sym c.is_empty.ensures ∙ c.if-is_empty.false) in
-    (inr (passes_on g.S.Sources _ _ _ _ c.stepping.invariant.0 (c.in_default.ensures.walks c.facts.ensures.bounded)),
-    (c.in_default.ensures.goes_on, subst (λ e. 0 < length e.expansion.opens) c.self.view_is some))
+    let some = some_open _ (sym c.is_empty.ensures ∙ c.if-is_empty.false) in (
+      inr (passes_on g.S.Sources _ _ _ _ c.stepping.invariant.0 (c.in_default.ensures.walks c.facts.ensures.bounded)),
+      (c.in_default.ensures.goes_on, subst (λ e. 0 < length e.expansion.opens) c.self.view_is some),
+    )
 
 pub stepping-smaller : goal.stepping-smaller
 stepping-smaller g c = (c.in_default.ensures.walks c.facts.ensures.bounded).falls [] refl
