@@ -50,6 +50,7 @@ fmt: ## lay out every file
 
 bench: ## build the programs, compare speed and memory with cat, cpp, ivlpp and m4, and the scanner with a search for LF
 	@$(MAKE) --silent build
+	@$(MAKE) --silent c
 	@bench/compare out/rdlpp
 	@cd crates/rdlpp_bench && rt run -- lines 0 < /dev/null > /dev/null
 	@bench/scan

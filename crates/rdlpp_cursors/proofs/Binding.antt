@@ -14,11 +14,13 @@ use Rattle.rdlpp_meaning.specs.declared.fault.FaultKind.{FaultKind}
 use Rattle.rdlpp_meaning.specs.Opens.{Open, OpenBody, open_body}
 use Rattle.rdlpp_calls.specs.declared.bindings.Range.{Range}
 use Rattle.rdlpp_calls.specs.BoundCalls.{range_part, AreWithin, IsBoundCall}
+use Rattle.rdlpp_cursors.specs.declared.slot.Bounds.{Bounds}
 use Rattle.rdlpp_cursors.specs.declared.slot.Slot.{Slot}
 use Rattle.rdlpp_cursors.specs.declared.slot.SlotKind.TheVariants as slot
 use Rattle.rdlpp_cursors.specs.declared.cursors.call.Opening.TheVariants.{Opened, Refused, Deep}
 use Rattle.rdlpp_cursors.specs.Calls.{IsCallBound, IsOpening}
-use Rattle.rdlpp_cursors.specs.Opened.{opens_of, AreLaid, IsStack, moved_to, CursorsView}
+use Rattle.rdlpp_cursors.specs.Opened.{opens_of, AreBounded, AreLaid, IsStack, moved_to, CursorsView}
+use Rattle.rdlpp_cursors.proofs.Bounding.{more-bounded, moved-on, IsBoundedOn}
 use Rattle.rdlpp_cursors.proofs.Keeping.{at-each}
 use Rattle.rdlpp_cursors.proofs.Stacking.{entered, laid-few, moved-opens, open-count, ranges-count, slots-count, stack-moved}
 
@@ -46,39 +48,39 @@ call-room slots first n bindings h few =
     (omega (arith, room, size, all, few), omega (arith, room, size, all))
 
 -- a slot for the body of a macro whose ranges stand behind so many
-abbrev pub body-slot : ℕ → ℕ → ℕ → ℕ → Slot
-body-slot id end home n = record { from = 0; end = end; home = home; kind = slot.Body id n }
+abbrev pub body-slot : ℕ → ℕ → ℕ → ℕ → Bounds → Slot
+body-slot id end home n bounds = record { from = 0; end = end; home = home; kind = slot.Body id n; bounds = bounds }
 
 -- the open texts where a body is opened whose call has bound ranges
-pub entered-opens : (slots : List Slot) (first : ℕ) (bindings more new : List Range) (id end home n : ℕ) → 0 < first → first ≤ length slots → n ≡ length bindings → new ≡ bindings ++ more
-    → opens_of (drop (first - 1) (set slots (first - 1) (body-slot id end home n))) new
+pub entered-opens : (slots : List Slot) (first : ℕ) (bindings more new : List Range) (id end home n : ℕ) (bounds : Bounds) → 0 < first → first ≤ length slots → n ≡ length bindings → new ≡ bindings ++ more
+    → opens_of (drop (first - 1) (set slots (first - 1) (body-slot id end home n bounds))) new
     ≡ record { part = record { from = 0; end = end; mode = Plain }; home = home; kind = OpenBody id (map range_part more) } ∷ opens_of (drop first slots) bindings
 unfolding opens_of
-entered-opens slots first bindings more new id end home n some inside is whole =
+entered-opens slots first bindings more new id end home n bounds some inside is whole =
     let body : List Range → List Open → List Open = λ bs os. record { part = record { from = 0; end = end; mode = Plain }; home = home; kind = OpenBody id (map range_part bs) } ∷ os in
-    ap (λ (bs : List Range). opens_of (drop (first - 1) (set slots (first - 1) (body-slot id end home n))) bs) whole
-    ∙ ap (λ (s : List Slot). opens_of s (bindings ++ more)) (entered slots first (body-slot id end home n) some inside)
+    ap (λ (bs : List Range). opens_of (drop (first - 1) (set slots (first - 1) (body-slot id end home n bounds))) bs) whole
+    ∙ ap (λ (s : List Slot). opens_of s (bindings ++ more)) (entered slots first (body-slot id end home n bounds) some inside)
     ∙ ap (λ (k : ℕ). body (drop k (bindings ++ more)) (opens_of (drop first slots) (take k (bindings ++ more)))) is
     ∙ ap (λ (bs : List Range). body bs (opens_of (drop first slots) (take (length bindings) (bindings ++ more)))) (drop-append_seam bindings more)
     ∙ ap (λ (bs : List Range). body more (opens_of (drop first slots) bs)) (take-append_seam bindings more)
 
 -- they lie as slots do
-entered-laid : (slots : List Slot) (first : ℕ) (bindings more : List Range) (id end home n : ℕ) → 0 < first → first ≤ length slots → n ≡ length bindings → length more ≤ 255
-    → AreLaid (drop first slots) bindings → AreLaid (drop (first - 1) (set slots (first - 1) (body-slot id end home n))) (bindings ++ more)
+entered-laid : (slots : List Slot) (first : ℕ) (bindings more : List Range) (id end home n : ℕ) (bounds : Bounds) → 0 < first → first ≤ length slots → n ≡ length bindings → length more ≤ 255
+    → AreLaid (drop first slots) bindings → AreLaid (drop (first - 1) (set slots (first - 1) (body-slot id end home n bounds))) (bindings ++ more)
 unfolding AreLaid
-entered-laid slots first bindings more id end home n some inside is few laid =
+entered-laid slots first bindings more id end home n bounds some inside is few laid =
     let less = laid-few (drop first slots) bindings laid in
     let both = length-append bindings more in
     let front : take n (bindings ++ more) ≡ bindings = ap (λ (k : ℕ). take k (bindings ++ more)) is ∙ take-append_seam bindings more in
-    subst (λ (s : List Slot). AreLaid s (bindings ++ more)) (sym (entered slots first (body-slot id end home n) some inside))
+    subst (λ (s : List Slot). AreLaid s (bindings ++ more)) (sym (entered slots first (body-slot id end home n bounds) some inside))
     (omega (arith, less, both, few), subst (λ (bs : List Range). AreLaid (drop first slots) bs) (sym front) laid)
 
 -- and are so with their room
-pub stack-entered : (slots : List Slot) (first : ℕ) (bindings new : Vec Range Global) (more : List Range) (id end home n m : ℕ) → 0 < first → n ≡ vec_len bindings → m ≤ 255
+pub stack-entered : (slots : List Slot) (first : ℕ) (bindings new : Vec Range Global) (more : List Range) (id end home n m : ℕ) (bounds : Bounds) → 0 < first → n ≡ vec_len bindings → m ≤ 255
     → vec_len new ≤ vec_len bindings + max m 1 → new.items ≡ bindings.items ++ more → vec_capacity new ≡ vec_capacity bindings
-    → IsStack slots first bindings → IsStack (set slots (first - 1) (body-slot id end home n)) (first - 1) new
-stack-entered slots first bindings new more id end home n m some is few size whole same h =
-    let one = length-set slots (first - 1) (body-slot id end home n) in
+    → IsBoundedOn (body-slot id end home n bounds) (drop first slots) → IsStack slots first bindings → IsStack (set slots (first - 1) (body-slot id end home n bounds)) (first - 1) new
+stack-entered slots first bindings new more id end home n m bounds some is few size whole same own h =
+    let one = length-set slots (first - 1) (body-slot id end home n bounds) in
     let inside = h.inside in
     let room = h.room in
     let old_n = ranges-count bindings in
@@ -88,8 +90,9 @@ stack-entered slots first bindings new more id end home n m some is few size who
     let most : length more ≤ 255 = omega (arith, old_n, new_n, both, all, size, few) in
     record {
       inside = omega (arith, one, inside);
-      laid = subst (λ (bs : List Range). AreLaid (drop (first - 1) (set slots (first - 1) (body-slot id end home n))) bs) (sym whole)
-          (entered-laid slots first bindings.items more id end home n some inside (is ∙ old_n) most h.laid);
+      laid = subst (λ (bs : List Range). AreLaid (drop (first - 1) (set slots (first - 1) (body-slot id end home n bounds))) bs) (sym whole)
+          (entered-laid slots first bindings.items more id end home n bounds some inside (is ∙ old_n) most h.laid);
+      bounded = subst (λ (s : List Slot). AreBounded s) (sym (entered slots first (body-slot id end home n bounds) some inside)) (more-bounded (body-slot id end home n bounds) (drop first slots) own h.bounded);
       room = omega (arith, one, room, same);
     }
 
@@ -98,25 +101,25 @@ abbrev pub called : List Slot → ℕ → ℕ → Slot → Slot → List Slot
 called slots first behind own new = set (set slots first (record own { from = behind })) (first - 1) new
 
 -- the open texts then
-pub called-opens : (slots : List Slot) (first behind : ℕ) (bindings more new : List Range) (own : Slot) (id end home n : ℕ) → 0 < first → first < length slots
+pub called-opens : (slots : List Slot) (first behind : ℕ) (bindings more new : List Range) (own : Slot) (id end home n : ℕ) (bounds : Bounds) → 0 < first → first < length slots
     → own ≡ get_or slots first own → n ≡ length bindings → new ≡ bindings ++ more
-    → opens_of (drop (first - 1) (called slots first behind own (body-slot id end home n))) new
+    → opens_of (drop (first - 1) (called slots first behind own (body-slot id end home n bounds))) new
     ≡ record { part = record { from = 0; end = end; mode = Plain }; home = home; kind = OpenBody id (map range_part more) } ∷ moved_to behind (opens_of (drop first slots) bindings)
-called-opens slots first behind bindings more new own id end home n some inside e is whole =
+called-opens slots first behind bindings more new own id end home n bounds some inside e is whole =
     let moved = set slots first (record own { from = behind }) in
     let size = length-set slots first (record own { from = behind }) in
-    entered-opens moved first bindings more new id end home n some (omega (arith, size, inside)) is whole
+    entered-opens moved first bindings more new id end home n bounds some (omega (arith, size, inside)) is whole
     ∙ ap (λ (os : List Open). record { part = record { from = 0; end = end; mode = Plain }; home = home; kind = OpenBody id (map range_part more) } ∷ os)
     (moved-opens slots first behind bindings own inside e)
 
 -- they lie as slots do, with their room
-pub stack-called : (slots : List Slot) (first behind : ℕ) (bindings new : Vec Range Global) (more : List Range) (own : Slot) (id end home n m : ℕ) → (first ≡ 0 → ⊥) → first < length slots
+pub stack-called : (slots : List Slot) (first behind : ℕ) (bindings new : Vec Range Global) (more : List Range) (own : Slot) (id end home n m : ℕ) (bounds : Bounds) → (first ≡ 0 → ⊥) → first < length slots
     → own ≡ get_or slots first own → n ≡ vec_len bindings → m ≤ 255 → vec_len new ≤ vec_len bindings + max m 1
     → new.items ≡ bindings.items ++ more → vec_capacity new ≡ vec_capacity bindings
-    → IsStack slots first bindings → IsStack (called slots first behind own (body-slot id end home n)) (first - 1) new
-stack-called slots first behind bindings new more own id end home n m some inside e is few size whole same h =
-    stack-entered (set slots first (record own { from = behind })) first bindings new more id end home n m (omega (arith, some)) is few size whole same
-    (stack-moved slots first behind bindings own inside e h)
+    → IsBoundedOn (body-slot id end home n bounds) (drop first slots) → IsStack slots first bindings → IsStack (called slots first behind own (body-slot id end home n bounds)) (first - 1) new
+stack-called slots first behind bindings new more own id end home n m bounds some inside e is few size whole same on h =
+    stack-entered (set slots first (record own { from = behind })) first bindings new more id end home n m bounds (omega (arith, some)) is few size whole same
+    (moved-on (body-slot id end home n bounds) slots first behind own inside e on) (stack-moved slots first behind bindings own inside e h)
 
 -- a call that is refused
 pub opening-refused : (macros : List Macro) (text : List ℕ) (at end id home n : ℕ) (old new : CursorsView) (ranges : List Range) (kind : FaultKind) (r : Result ℕ FaultKind)

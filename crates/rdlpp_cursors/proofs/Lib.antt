@@ -1,4 +1,5 @@
 pub mod Binding
+pub mod Bounding
 pub mod Calling
 pub mod Starting
 pub mod Keeping

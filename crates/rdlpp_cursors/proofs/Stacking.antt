@@ -13,6 +13,9 @@ use Rattle.rdlpp_cursors.specs.declared.slot.Slot.{Slot}
 use Rattle.rdlpp_cursors.specs.declared.slot.SlotKind.{SlotKind}
 use Rattle.rdlpp_cursors.specs.declared.slot.SlotKind.TheVariants as slot
 use Rattle.rdlpp_cursors.specs.Opened.{bindings_below, open_of, opens_of, AreLaid, IsStack, bound_by, moved_to, kept_by, IsNoBody, CursorsView}
+use Rattle.rdlpp_cursors.specs.declared.slot.Bounds.{Bounds}
+use Rattle.rdlpp_cursors.specs.Opened.{AreBounded}
+use Rattle.rdlpp_cursors.proofs.Bounding.{closed-bounded, more-bounded, moved-bounded, none-bounded, IsBoundedOn}
 use Rattle.rdlpp_cursors.proofs.Scoping.{opens-length}
 
 -- the slot at a place, in front of those behind it
@@ -136,12 +139,12 @@ no-body_below slot.Actual bindings nobody = refl
 no-body_below (slot.Default id place) bindings nobody = refl
 
 -- the open texts where a body is opened whose call binds nothing
-pub body-opens : (slots : List Slot) (first : ℕ) (bindings : List Range) (id end home n : ℕ) → 0 < first → first ≤ length slots → n ≡ length bindings
-    → opens_of (drop (first - 1) (set slots (first - 1) (record { from = 0; end = end; home = home; kind = slot.Body id n }))) bindings
+pub body-opens : (slots : List Slot) (first : ℕ) (bindings : List Range) (id end home n : ℕ) (bounds : Bounds) → 0 < first → first ≤ length slots → n ≡ length bindings
+    → opens_of (drop (first - 1) (set slots (first - 1) (record { from = 0; end = end; home = home; kind = slot.Body id n; bounds = bounds }))) bindings
     ≡ record { part = record { from = 0; end = end; mode = Plain }; home = home; kind = OpenBody id [] } ∷ opens_of (drop first slots) bindings
 unfolding opens_of
-body-opens slots first bindings id end home n some inside e =
-    ap (λ (s : List Slot). opens_of s bindings) (entered slots first (record { from = 0; end = end; home = home; kind = slot.Body id n }) some inside)
+body-opens slots first bindings id end home n bounds some inside e =
+    ap (λ (s : List Slot). opens_of s bindings) (entered slots first (record { from = 0; end = end; home = home; kind = slot.Body id n; bounds = bounds }) some inside)
     ∙ ap (λ (bs : List Range). record { part = record { from = 0; end = end; mode = Plain }; home = home; kind = OpenBody id (map range_part bs) } ∷ opens_of (drop first slots) (take n bindings))
     (drop_all n bindings (omega (arith, e)))
     ∙ ap (λ (bs : List Range). record { part = record { from = 0; end = end; mode = Plain }; home = home; kind = OpenBody id [] } ∷ opens_of (drop first slots) bs)
@@ -183,6 +186,7 @@ stack-made v first bindings size none room =
     record {
       inside = omega (arith, n, size);
       laid = subst (λ (s : List Slot). AreLaid s bindings.items) (sym (drop_all first v.items (omega (arith, n, size)))) (ap (λ (bs : List Range). length bs) none);
+      bounded = subst (λ (s : List Slot). AreBounded s) (sym (drop_all first v.items (omega (arith, n, size)))) none-bounded;
       room = omega (arith, n, size, room);
     }
 
@@ -195,6 +199,7 @@ stack-moved slots first at bindings own inside e h =
     record {
       inside = omega (arith, n, inside);
       laid = moved-laid slots first at bindings.items own inside e h.laid;
+      bounded = moved-bounded slots first at own inside e h.bounded;
       room = omega (arith, n, room);
     }
 
@@ -207,19 +212,21 @@ stack-closed slots first bindings new own kept inside e k is more h =
     record {
       inside = omega (arith, inside);
       laid = subst (λ (bs : List Range). AreLaid (drop (first + 1) slots) bs) (sym is) (closed-laid slots first bindings.items own kept inside e k h.laid);
+      bounded = closed-bounded slots first own inside e h.bounded;
       room = omega (arith, room, more);
     }
 
 -- where one more is opened that binds nothing
 pub stack-pushed : (slots : List Slot) (first : ℕ) (bindings : Vec Range Global) (new : Slot) → 0 < first → bindings_below new.kind bindings.items ≡ bindings.items
-    → IsStack slots first bindings → IsStack (set slots (first - 1) new) (first - 1) bindings
-stack-pushed slots first bindings new some same h =
+    → IsBoundedOn new (drop first slots) → IsStack slots first bindings → IsStack (set slots (first - 1) new) (first - 1) bindings
+stack-pushed slots first bindings new some same own h =
     let n = length-set slots (first - 1) new in
     let inside = h.inside in
     let room = h.room in
     record {
       inside = omega (arith, n, inside);
       laid = pushed-laid slots first bindings.items new some inside same h.laid;
+      bounded = subst (λ (s : List Slot). AreBounded s) (sym (entered slots first new some inside)) (more-bounded new (drop first slots) own h.bounded);
       room = omega (arith, n, room);
     }
 

@@ -1,12 +1,15 @@
 -- Open texts as they lie in slots, with the ranges that calls have bound.
 -- A definition that names no source is this project's own.
-use Rattle.std.specs.Prelude.{◌≡◌, ℕ, ◌+◌, ◌*◌, ◌≤◌, ◌==◌, Bool, false, List, [], ◌∷◌, map, length, take, drop, vec_capacity, Vec}
+use Rattle.std.specs.Prelude.{◌≡◌, ℕ, ◌+◌, ◌*◌, ◌≤◌, ◌==◌, nat_lt, ◌||◌, Bool, false, List, [], ◌∷◌, map, length, take, drop, vec_capacity, Vec}
+use Rattle.std.specs.List.{AllByRecursion}
 use Rattle.rdlpp_scan.specs.declared.token.Mode.TheVariants.{Plain}
 use Rattle.rdlpp_meaning.specs.Opens.{OpenKind, OpenBody, OpenActual, OpenDefault, Open}
 use Rattle.rdlpp_calls.specs.BoundCalls.{range_part}
 use Rattle.rdlpp_calls.specs.declared.bindings.Range.{Range}
 use Rattle.rdlpp_cursors.specs.declared.place.TextSource.{TextSource}
 use Rattle.rdlpp_cursors.specs.declared.place.TextSource.TheVariants as source
+use Rattle.rdlpp_cursors.specs.Scopes.{own_ids, writer_ids}
+use Rattle.rdlpp_cursors.specs.declared.slot.Bounds.{Bounds}
 use Rattle.rdlpp_cursors.specs.declared.slot.Slot.{Slot}
 use Rattle.rdlpp_cursors.specs.declared.slot.SlotKind.{SlotKind}
 use Rattle.rdlpp_cursors.specs.declared.slot.SlotKind.TheVariants.{Body, Actual, Default}
@@ -60,11 +63,26 @@ unfoldable pub bound_by : List Open → ℕ
 bound_by [] = 0
 bound_by (x ∷ below) = bound_in x.kind + bound_by below
 
+-- a macro is neither below the least one nor above the greatest
+abbrev pub IsWithin : Bounds → ℕ → Type 0
+IsWithin bounds id = (bounds.least ≤ id) × (id ≤ bounds.greatest)
+
+-- whether bounds tell that a macro isn't within them
+abbrev pub is_excluded : Bounds → ℕ → Bool
+is_excluded bounds id = nat_lt id bounds.least || nat_lt bounds.greatest id
+
+-- the macros in whose text the own scope of each slot is are within its bounds
+unfoldable pub AreBounded : List Slot → Type 0
+AreBounded [] = Unit
+AreBounded (slot ∷ below) =
+    AllByRecursion (IsWithin slot.bounds) (own_ids (kind_of slot.kind []) (writer_ids (opens_of below []) slot.home)) × AreBounded below
+
 -- how the slots and the ranges lie: the open texts stand from `first` on, and there is room for the ranges of one body more than
 -- there are slots, since a call is bound before a slot is sought (source: this project's profile)
 pub record IsStack {A : Type 0} (slots : List Slot) (first : ℕ) (bindings : Vec Range A) : Type 0 where
   pub inside : first ≤ length slots
   pub laid : AreLaid (drop first slots) bindings.items
+  pub bounded : AreBounded (drop first slots)
   pub room : 255 * (length slots + 1) ≤ vec_capacity bindings
 
 -- what is no body

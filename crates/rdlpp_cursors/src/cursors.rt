@@ -16,7 +16,8 @@ mod usage;
 
 use crate::front::{Front, Look, look_at};
 use crate::place::TextPlace;
-use crate::slot::{Slot, SlotKind};
+use crate::scopes::{body_bounds, scope_bounds};
+use crate::slot::{NO_BOUNDS, Slot, SlotKind};
 use crate::step::{CursorStep, wordless};
 use rdlpp_calls::Range;
 use rdlpp_meaning::FaultKind;
@@ -78,6 +79,7 @@ impl Cursors {
             end: 0,
             home: 0,
             kind: SlotKind::Actual,
+            bounds: NO_BOUNDS,
         };
         let slots = vec![in alloc; closed; depth]?;
         let bindings = Vec::with_capacity(alloc, (depth + 1) * 255)?;
@@ -146,12 +148,13 @@ impl Cursors {
     }
 
     // Opens an actual or a default.
-    fn push_text(&mut self, new: Slot)
+    fn push_text(&mut self, mut new: Slot)
         requires text { IsNoBody new.kind }
         requires room { length self.old.opens < self.old.depth }
         ensures { self.new ≡ record self.old { opens = open_of new [] ∷ self.old.opens } }
     {
         let first = self.first - 1;
+        new.bounds = scope_bounds(&self.slots.as_slice()[self.first..], new.home);
         self.slots[first] = new;
         self.first = first;
     }
@@ -163,11 +166,13 @@ impl Cursors {
     {
         let bound = self.bindings.len();
         let first = self.first - 1;
+        let bounds = body_bounds(&self.slots.as_slice()[self.first..], home, id);
         self.slots[first] = Slot {
             from: 0,
             end,
             home,
             kind: SlotKind::Body { id, first: bound },
+            bounds,
         };
         self.first = first;
     }

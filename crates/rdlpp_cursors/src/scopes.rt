@@ -1,10 +1,10 @@
 // The scopes of open texts, which lie in slots, the innermost first.
-ghost use Rattle.std.specs.Prelude.{[], length, nat_le, slice_index_or, if◌then◌else◌, List, ◌+◌, ◌==◌, ◌<◌, ◌≡◌, ◌≤◌};
-ghost use Rattle.std.specs.List.{list_any};
+ghost use Rattle.std.specs.Prelude.{[], length, nat_le, slice_index_or, if◌then◌else◌, List, ◌+◌, ◌==◌, ◌<◌, ◌≡◌, ◌≤◌, ◌∷◌};
+ghost use Rattle.std.specs.List.{list_any, AllByRecursion};
 ghost use Rattle.std.specs.Option.{option_map};
 ghost use Rattle.rdlpp_table.specs.View.{formal_at, formals_of, macro_at};
 ghost use Rattle.rdlpp_meaning.specs.Opens.{open_standing, part_at, Part};
-ghost use Rattle.rdlpp_cursors.specs.Opened.{is_body_of, open_of, opens_of, outer_of, slot_source, AreHomedSlots};
+ghost use Rattle.rdlpp_cursors.specs.Opened.{is_body_of, open_of, opens_of, outer_of, slot_source, AreBounded, AreHomedSlots, IsWithin};
 ghost use Rattle.rdlpp_cursors.specs.Places.{place_bytes, source_formals, source_text, texts_of, IsPlaced, IsSource};
 ghost use Rattle.rdlpp_cursors.specs.Scopes.{
   found_source,
@@ -19,7 +19,7 @@ ghost use Rattle.rdlpp_calls.specs.BoundCalls.{range_part};
 ghost use Rattle.rdlpp_calls.specs.declared.bindings.Range.{Range as Bound};
 
 use crate::place::{TextPlace, TextSource};
-use crate::slot::{Slot, SlotKind};
+use crate::slot::{Bounds, NO_BOUNDS, Slot, SlotKind, is_excluded};
 use rdlpp_calls::Range;
 use rdlpp_table::{MacroId, Table};
 
@@ -134,6 +134,7 @@ fn standing_of(
             end,
             home: scope,
             kind: SlotKind::Default { id, place },
+            bounds: NO_BOUNDS,
         };
     }
     Slot {
@@ -141,6 +142,7 @@ fn standing_of(
         end: range.to,
         home,
         kind: SlotKind::Actual,
+        bounds: NO_BOUNDS,
     }
 }
 
@@ -169,6 +171,29 @@ pub(crate) fn standing(
     }
 }
 
+// The bounds of a scope.
+pub(crate) fn scope_bounds(slots: &[Slot], scope: usize) -> Bounds
+    requires { AreBounded slots.now }
+    ensures { (bindings : List Bound) → AllByRecursion (IsWithin result) (writer_ids (opens_of slots.now bindings) scope) }
+{
+    if scope == 0 || slots.len() < scope {
+        return NO_BOUNDS;
+    }
+    slots[slots.len() - scope].bounds
+}
+
+// The bounds of the body of a macro whose call is written in a scope.
+pub(crate) fn body_bounds(slots: &[Slot], scope: usize, id: MacroId) -> Bounds
+    requires { AreBounded slots.now }
+    ensures { (bindings : List Bound) → AllByRecursion (IsWithin result) (id ∷ writer_ids (opens_of slots.now bindings) scope) }
+{
+    let outer = scope_bounds(slots, scope);
+    Bounds {
+        least: outer.least.min(id.index()),
+        greatest: outer.greatest.max(id.index()),
+    }
+}
+
 // Whether a slot has the body of a macro.
 fn is_body_of(slot: &Slot, id: MacroId) -> bool
     ensures { result ≡ is_body_of slot.now.kind id }
@@ -192,6 +217,7 @@ fn outer_of(slot: &Slot) -> usize
 // Whether a scope is in the text of a macro: its own, or that of a home further out.
 pub(crate) fn is_written_in(slots: &[Slot], scope: usize, id: MacroId) -> bool
     requires homed { AreHomedSlots slots.now }
+    requires bounded { AreBounded slots.now }
     requires inside { scope ≤ length slots.now }
     ensures { (bindings : List Bound) → result ≡ list_any (λ own. id == own) (writer_ids (opens_of slots.now bindings) scope) }
 {
@@ -200,6 +226,9 @@ pub(crate) fn is_written_in(slots: &[Slot], scope: usize, id: MacroId) -> bool
         let slot = &slots[slots.len() - at];
         if is_body_of(slot, id) {
             return true;
+        }
+        if is_excluded(slot.bounds, id) {
+            return false;
         }
         at = outer_of(slot);
     }

@@ -1,5 +1,5 @@
 // The engine: it reads sources by lines, expands usages, and lends its output piece by piece.
-ghost use Rattle.std.specs.Prelude.{◌≡◌, ◌↔◌, ℕ, ◌+◌, ◌-◌, ◌^◌, ◌≤◌, ◌<◌, true, false, [], length, take, drop, None, Some, IfSome, IsTrue, not};
+ghost use Rattle.std.specs.Prelude.{◌≡◌, ◌↔◌, ℕ, ◌+◌, ◌-◌, ◌^◌, ◌≤◌, ◌<◌, true, false, [], length, take, drop, None, Some, IfNone, IfSome, IsTrue, not};
 ghost use Rattle.std.specs.Borrow.{sem};
 ghost use Rattle.std.specs.Option.{option_map};
 ghost use Rattle.std.specs.Io.BufRead.{Rests};
@@ -45,9 +45,7 @@ use rdlpp_meaning::{Fault, FaultKind};
 use rdlpp_read::{Files, Fill, LogicalLine};
 use rdlpp_scan::{Mode, line_ends_in, reserved};
 use rdlpp_source::Sources;
-use rdlpp_steps::{
-    Held, Owed, Phase, Piece, Place, copied, copied_fault, fault_kind, word_of,
-};
+use rdlpp_steps::{Held, Owed, Phase, Piece, Place, copied, copied_fault, fault_kind, word_of};
 use rdlpp_table::{Limits, MacroId, Table};
 use rdlpp_usages::Expansion;
 use std::alloc::Global;
@@ -244,7 +242,25 @@ impl<S: Sources> Engine<S> {
         if self.expansion.is_empty() {
             return self.step_sources();
         }
-        self.step_text()
+        self.walk_texts()
+    }
+
+    // Takes steps over the open texts of a usage, until one lends something or no text is open any more.
+    fn walk_texts(&mut self) -> Option<Place>
+        requires unowed { IsUnowed self.old }
+        requires some { 0 < length self.old.expansion.opens }
+        ensures place { IfSome result (IsPlaced self.new) }
+        ensures walks { IsBounded self.new → Walks S.Sources self.old self.new (step_answer self.new result) }
+    {
+        'stepping: loop {
+            if let Some(place) = self.step_text() {
+                return Some(place);
+            }
+            self.facts();
+            if self.expansion.is_empty() {
+                return None;
+            }
+        }
     }
 
     // Takes one step over the open texts of a usage.
@@ -253,6 +269,7 @@ impl<S: Sources> Engine<S> {
         requires some { 0 < length self.old.expansion.opens }
         ensures place { IfSome result (IsPlaced self.new) }
         ensures walks { IsBounded self.new → Walks S.Sources self.old self.new (step_answer self.new result) }
+        ensures goes_on { IfNone result (IsUnowed self.new) }
     {
         self.facts();
         let step = self.expansion.step(&self.table);

@@ -34,7 +34,7 @@ use Rattle.rdlpp_front.proofs.DirectiveFacts.{word_len}
 use Rattle.rdlpp_front.proofs.SourceFacts.{ends_line, used_buffer}
 use Rattle.rdlpp_front.proofs.SourcePassages.{all_resumed_bad_define, all_resumed_defined, all_resumed_only_broken}
 
--- a `define` in front that is built
+-- a `define` directive in front of a source is one in its held bytes
 pub holds_define : {R : Type 0} (unread : R → List ℕ) (f : File R)
     → HoldsFront f.buffer → IsDirective Define (held_of f.buffer) → HoldsDefine (held_of f.buffer) (rest_of unread f.buffer)
 holds_define unread f holds is = record {

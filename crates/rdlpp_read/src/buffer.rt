@@ -17,7 +17,7 @@ use std::marker::Model;
 #[derive(Drop)]
 pub struct SourceBuffer<R> {
     // of these the first `filled` are the held part of the text; there are none before the first read, and then as many
-    // as a line may have
+    // as its reads came to need, up to those of a line
     bytes: Vec<u8>,
     line_bytes: usize,
     at: usize,

@@ -49,10 +49,10 @@ pub enum Mode {
 pub struct Token {
     /// What it is.
     pub kind: Kind,
-    /// How many bytes it has; at least one.
-    pub len: usize,
     /// Where the text stands after it.
     pub next_mode: Mode,
+    /// How many bytes it has; at least one.
+    pub len: usize,
 }
 
 /// The nine directives, whose names are reserved (IEEE 1364-2001, clause on compiler directives).

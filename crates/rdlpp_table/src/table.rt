@@ -71,6 +71,15 @@ impl Model for MacroId {
     ghost inverse = { λ n. record { index = n } };
 }
 
+impl MacroId {
+    /// The place as a number, counted from 0, oldest first.
+    pub fn index(self) -> usize
+        ensures { result ≡ self }
+    {
+        self.index
+    }
+}
+
 impl Table {
     /// An empty table that takes `definition_bytes` bytes and `definitions` macros.
     ///

@@ -13,7 +13,7 @@ ghost use Rattle.rdlpp_cursors.specs.Usages.{front_name, IsTextFault, IsUsed};
 use crate::cursors::Cursors;
 use crate::cursors::usage::word_of;
 use crate::front::{Front, Look};
-use crate::scopes::text_of;
+use crate::scopes::{body_bounds, text_of};
 use crate::slot::{Slot, SlotKind};
 use crate::step::{CursorFault, CursorStep, wordless};
 use rdlpp_calls::{bind_call, bind_parts, keeps_each};
@@ -53,6 +53,7 @@ impl Cursors {
         let formals = table.arity(id).unwrap_or(0);
         let first = self.first;
         let bound = self.bindings.len();
+        let bounds = body_bounds(&self.slots.as_slice()[first..], home, id);
         let behind = match bind_call(text, at, end, formals, &mut self.bindings) {
             Ok(behind) => behind,
             Err(kind) => return Opening::Refused(kind),
@@ -67,6 +68,7 @@ impl Cursors {
             end: table.body(id).len(),
             home,
             kind: SlotKind::Body { id, first: bound },
+            bounds,
         };
         self.first = first - 1;
         Opening::Opened
@@ -137,6 +139,7 @@ impl Cursors {
         let _macros = table.len();
         let formals = table.arity(id).unwrap_or(0);
         let bound = self.bindings.len();
+        let bounds = body_bounds(&self.slots.as_slice()[self.first..], 0, id);
         if !keeps_each(arguments) {
             return Err(FaultKind::ArgumentCount);
         }
@@ -147,6 +150,7 @@ impl Cursors {
             end: table.body(id).len(),
             home: 0,
             kind: SlotKind::Body { id, first: bound },
+            bounds,
         };
         self.first = first;
         self.line = line;

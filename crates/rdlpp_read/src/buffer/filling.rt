@@ -14,6 +14,9 @@ use super::SourceBuffer;
 use super::ahead::{Ahead, look_ahead};
 use rdlpp_source::{SourceFault, Sources};
 
+// How many bytes the first read of a source asks for at most: a page.
+const FIRST_ROOM: usize = 4_096;
+
 /// What stands before the next byte of a source.
 #[derive(Clone, Copy, Debug, PartialEq, Eq)]
 pub enum Fill {
@@ -71,6 +74,26 @@ fn fill_room(bytes: &mut Vec<u8>, len: usize)
     }
 }
 
+// Makes room behind the first `filled` bytes where there is none: a page for the first read of a source, and as much again
+// where a read took all, so that a short source touches no more of the memory that is reserved than it needs.
+fn make_room(bytes: &mut Vec<u8>, filled: usize, line_bytes: usize)
+    requires inside { filled ≤ vec_len bytes.old }
+    requires within { vec_len bytes.old ≤ line_bytes }
+    requires reserved { line_bytes ≤ vec_capacity bytes.old }
+    ensures room { filled < line_bytes → filled < vec_len bytes.new }
+    ensures inside { filled ≤ vec_len bytes.new }
+    ensures within { vec_len bytes.new ≤ line_bytes }
+    ensures kept { take filled bytes.new.items ≡ take filled bytes.old.items }
+    ensures capacity { vec_capacity bytes.new ≡ vec_capacity bytes.old }
+{
+    if filled == bytes.len() {
+        fill_room(
+            bytes,
+            filled + filled.max(FIRST_ROOM).min(line_bytes - filled),
+        );
+    }
+}
+
 // Reads into a buffer behind its first `filled` bytes.
 fn read_into<S: Sources>(
     sources: &mut S,
@@ -101,12 +124,13 @@ fn read_on<S: Sources>(buffer: &mut SourceBuffer<S::Reader>, sources: &mut S) ->
     ensures call { SourcesRead S.Sources (is_failed_turn result) sources.old sources.new }
 {
     let mut reader = buffer.reader.take().unwrap();
-    fill_room(&mut buffer.bytes, buffer.line_bytes);
+    make_room(&mut buffer.bytes, buffer.filled, buffer.line_bytes);
     match read_into(sources, &mut reader, &mut buffer.bytes, buffer.filled) {
         Ok(0) => None,
         Ok(len) => {
             buffer.filled += len;
             buffer.reader = Some(reader);
+            make_room(&mut buffer.bytes, buffer.filled, buffer.line_bytes);
             None
         }
         Err(_) => {

@@ -1,4 +1,5 @@
 use Rattle.std.proofs.Common.{◌≤◌, arith, sym, ◌∙◌, []}
+use Rattle.rdlpp_cursors.proofs.Bounding.{bounded-excluded}
 use Rattle.rdlpp_cursors.proofs.Scoping.{written-found, written-further, written-source, written-step}
 use Rattle.rdlpp_cursors.proofs.scopes.is_written_in.Goals as goal
 
@@ -24,3 +25,8 @@ loop-at-preserved c =
 
 pub returns : goal.returns
 returns c bindings = written-source c.args.slots.now bindings c.loop-at.at c.args.scope _ (omega (arith, c.loop-at-test.false)) (c.loop-at.invariant.1 bindings)
+
+pub returns-then-is_excluded : goal.returns-then-is_excluded
+returns-then-is_excluded c bindings =
+    bounded-excluded c.args.slots.now bindings c.loop-at.at c.args.scope _ _ c.requires.bounded c.loop-at-test.true c.loop-at.invariant.0 c.index-slots-slots.is
+    (sym c.is_excluded.ensures ∙ c.if-is_excluded.true) (c.loop-at.invariant.1 bindings)

@@ -22,7 +22,7 @@ standing_of-requires-clause-place c =
 
 pub returns-in-Body : goal.returns-in-Body
 returns-in-Body c own =
-    standing-body c.args.table.now.macros c.args.slots.now c.args.bindings.now c.args.scope _ _ _ c.args.place _ _ own c.requires.bound c.if-scope-eq0.false c.if-slots-scope.false c.index-slots-slots.is c.in-Body.is c.requires.place
+    standing-body c.args.table.now.macros c.args.slots.now c.args.bindings.now c.args.scope _ _ _ c.args.place _ c.standing_of.result own c.requires.bound c.if-scope-eq0.false c.if-slots-scope.false c.index-slots-slots.is c.in-Body.is c.requires.place
     c.range_at-range.ensures (c.standing_of.ensures own)
 
 pub returns-in_default : goal.returns-in_default

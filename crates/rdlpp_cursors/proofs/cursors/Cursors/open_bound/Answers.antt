@@ -4,6 +4,7 @@ use Rattle.rdlpp_calls.specs.declared.bindings.Range.{Range}
 use Rattle.rdlpp_table.specs.View.{macro_at}
 use Rattle.rdlpp_cursors.specs.Opened.{opens_of}
 use Rattle.rdlpp_cursors.proofs.Binding.{all-open, arity-count, call-bound, call-room, called-opens, formals-few, opening-deep, opening-opened, opening-refused, room-open, stack-called, taken-back}
+use Rattle.rdlpp_cursors.proofs.Bounding.{lent-body, lent-bounded}
 use Rattle.rdlpp_cursors.proofs.Stacking.{first-inside, ranges-count, some-open, view-is}
 use Rattle.rdlpp_cursors.proofs.cursors.Cursors.open_bound.Goals as goal
 
@@ -37,8 +38,9 @@ invariant_of-self-2 c =
     let n = c.unwrap_or-formals.ensures ∙ ap (λ (o : Option ℕ). unwrap_or o 0) c.arity.ensures ∙ arity-count (macro_at c.args.table.now.macros c.args.id).formals in
     let some : c.self.inside.first < length c.self.inside.slots.items = some-open c.self.inside.slots.items c.self.inside.first c.self.inside.bindings.items (rw (← c.self.view_is) at c.requires.some) in
     stack-called c.self.inside.slots.items c.self.inside.first c.in-Ok.behind c.self.inside.bindings c.bind_call.new.bindings _ c.index_mut.result.now c.args.id _ c.args.home c.len-bound.result
-    c.unwrap_or-formals.result c.if-first-eq0.false some c.index_mut.ensures.value c.len-bound.ensures (omega (arith, few, n)) c.bind_call.ensures.len c.bind_call.ensures.whole
-    c.bind_call.ensures.capacity c.self.invariant
+    c.unwrap_or-formals.result c.body_bounds-bounds.result c.if-first-eq0.false some c.index_mut.ensures.value c.len-bound.ensures (omega (arith, few, n)) c.bind_call.ensures.len c.bind_call.ensures.whole
+    c.bind_call.ensures.capacity
+    (lent-body c.self.inside.slots.items _ c.self.inside.first c.args.id c.args.home c.body_bounds-bounds.result c.as_slice.ensures.value c.body_bounds-bounds.ensures) c.self.invariant
 
 pub returns-clause-opening : goal.returns-clause-opening
 returns-clause-opening c =
@@ -51,4 +53,7 @@ returns-clause-opening c =
     (room-open c.self.inside.slots c.self.inside.first c.self.inside.bindings.items none inside)
     (view-is _ _ _ _ _
     (called-opens c.self.inside.slots.items c.self.inside.first c.in-Ok.behind c.self.inside.bindings.items _ c.bind_call.new.bindings.items c.index_mut.result.now c.args.id (length c.body.result.now)
-    c.args.home c.len-bound.result some inside c.index_mut.ensures.value (c.len-bound.ensures ∙ ranges-count c.self.inside.bindings) c.bind_call.ensures.whole) refl))
+    c.args.home c.len-bound.result c.body_bounds-bounds.result some inside c.index_mut.ensures.value (c.len-bound.ensures ∙ ranges-count c.self.inside.bindings) c.bind_call.ensures.whole) refl))
+
+pub body_bounds-bounds-requires : goal.body_bounds-bounds-requires
+body_bounds-bounds-requires c = lent-bounded c.self.inside.slots.items _ c.self.inside.first c.as_slice.ensures.value c.self.invariant.bounded

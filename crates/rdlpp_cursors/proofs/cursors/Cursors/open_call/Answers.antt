@@ -5,6 +5,7 @@ use Rattle.rdlpp_calls.specs.declared.bindings.Range.{Range}
 use Rattle.rdlpp_table.specs.View.{macro_at, formals_of}
 use Rattle.rdlpp_cursors.specs.Opened.{opens_of, CursorsView}
 use Rattle.rdlpp_cursors.proofs.Binding.{arity-count, call-room, entered-opens, formals-few, stack-entered}
+use Rattle.rdlpp_cursors.proofs.Bounding.{lent-body, lent-bounded}
 use Rattle.rdlpp_cursors.proofs.Stacking.{ranges-count, view-is}
 use Rattle.rdlpp_cursors.proofs.Starting.{call-dropped, call-miscounted, call-started, parts-counted, room-closed, started-opens}
 use Rattle.rdlpp_cursors.proofs.cursors.Cursors.open_call.Goals as goal
@@ -25,7 +26,8 @@ invariant_of-self-2 c =
     let n = c.unwrap_or-formals.ensures ∙ ap (λ (o : Option ℕ). unwrap_or o 0) c.arity.ensures ∙ arity-count (macro_at c.args.table.now.macros c.args.id).formals in
     let some = room-closed c.self.inside.slots c.self.inside.first c.self.inside.bindings.items c.self.invariant.inside (rw (← c.self.view_is) at c.requires.closed) (rw (← c.self.view_is) at c.requires.room) in
     stack-entered c.self.inside.slots.items c.self.inside.first c.self.inside.bindings c.bind_parts.new.bindings (added c.self.inside.bindings.items c.bind_parts.new.bindings.items) c.args.id _ 0 c.len-bound.result
-    c.unwrap_or-formals.result some c.len-bound.ensures (omega (arith, few, n)) c.bind_parts.ensures.len c.bind_parts.ensures.whole c.bind_parts.ensures.capacity c.self.invariant
+    c.unwrap_or-formals.result c.body_bounds-bounds.result some c.len-bound.ensures (omega (arith, few, n)) c.bind_parts.ensures.len c.bind_parts.ensures.whole c.bind_parts.ensures.capacity
+    (lent-body c.self.inside.slots.items _ c.self.inside.first c.args.id 0 c.body_bounds-bounds.result c.as_slice.ensures.value c.body_bounds-bounds.ensures) c.self.invariant
 
 pub returns-in_err-bind_parts-clause-refused : goal.returns-in_err-bind_parts-clause-refused
 returns-in_err-bind_parts-clause-refused c =
@@ -45,7 +47,7 @@ returns-clause-opens c =
     (parts-counted c.args.arguments.now _ c.unwrap_or-formals.result (formals_of (macro_at c.args.table.now.macros c.args.id)) _ refl n c.in_ok-bind_parts.ensures.count)
     c.bind_parts.ensures.within
     (view-is _ _ _ _ _
-    (entered-opens c.self.inside.slots.items c.self.inside.first c.self.inside.bindings.items _ c.bind_parts.new.bindings.items c.args.id (length c.body.result.now) 0 c.len-bound.result some
+    (entered-opens c.self.inside.slots.items c.self.inside.first c.self.inside.bindings.items _ c.bind_parts.new.bindings.items c.args.id (length c.body.result.now) 0 c.len-bound.result c.body_bounds-bounds.result some
     c.self.invariant.inside (c.len-bound.ensures ∙ ranges-count c.self.inside.bindings) c.bind_parts.ensures.whole
     ∙ started-opens c.args.table.now c.args.arguments.now c.args.id (added c.self.inside.bindings.items c.bind_parts.new.bindings.items) c.body.result.now _ c.body.ensures
     (rw (← c.self.view_is) at c.requires.closed))
@@ -54,3 +56,6 @@ returns-clause-opens c =
 pub returns-then-not-keeps_each-clause-refused : goal.returns-then-not-keeps_each-clause-refused
 returns-then-not-keeps_each-clause-refused c =
     call-dropped c.args.table.now c.args.arguments.now c.args.id _ _ _ refl (sym c.keeps_each.ensures ∙ c.if-not-keeps_each.true) refl
+
+pub body_bounds-bounds-requires : goal.body_bounds-bounds-requires
+body_bounds-bounds-requires c = lent-bounded c.self.inside.slots.items _ c.self.inside.first c.as_slice.ensures.value c.self.invariant.bounded

@@ -8,7 +8,7 @@ step_sources-requires g c =
     let idle : c.args.self.now.expansion.opens ≡ [] = ap (λ e. e.expansion.opens) (sym c.self.view_is) ∙ none_open _ (sym c.is_empty.ensures ∙ c.if-is_empty.true) in
     ready_idle c.args.self.now c.requires idle c.facts.ensures.sound c.facts.ensures.files
 
-pub step_text-requires : goal.step_text-requires
-step_text-requires g c =
+pub walk_texts-requires : goal.walk_texts-requires
+walk_texts-requires g c =
     let some = some_open _ (sym c.is_empty.ensures ∙ c.if-is_empty.false) in
     record { unowed = c.requires; some = rw (← c.self.view_is) some }
