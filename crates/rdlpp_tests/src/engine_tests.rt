@@ -1,6 +1,6 @@
 // Tests of an engine that is pulled piece by piece.
 use crate::row_tests::{STANDARD, narrow};
-use rdlpp::{Counted, Texts};
+use rdlpp::{Counted, FaultKind, Texts};
 use rdlpp_expand::{Engine, Fault, Held, NewFault, Piece, run};
 use rdlpp_table::LimitFault;
 use std::process::Abort;
@@ -101,14 +101,17 @@ fn defines_before_the_start(rt: HostRuntime) -> Result<(), Fail> {
 #[test]
 fn keeps_a_fault(rt: HostRuntime) -> Result<(), Fail> {
     let files = [("m", b"a`Q".as_slice())];
-    for (path, number, line) in [("m", 7, 1), ("n", 28, 0)] {
+    for (path, kind, line) in [
+        ("m", FaultKind::UndefinedMacro, 1),
+        ("n", FaultKind::SourceNotFound, 0),
+    ] {
         let mut engine = new_engine(&rt, &files)?;
         assert!(rt; engine.is_fresh());
         let _opened = engine.start(path);
         for _ in 0..3 {
             let (_, fault) = pull(&rt, &mut engine)?;
-            let told = fault.map(|it| (it.kind.number(), it.line));
-            assert_eq!(rt; told, Some((number, line)));
+            let told = fault.map(|it| (it.kind, it.line));
+            assert_eq!(rt; told, Some((kind, line)));
         }
     }
     Ok(())

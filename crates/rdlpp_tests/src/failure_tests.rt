@@ -1,7 +1,7 @@
 // Readers and writers that fail, in turn at each place, and readers that never end.
 use crate::devices::{Behind, DealtText, NarrowWriter};
 use crate::row_tests::{STANDARD, Wanted, check, fault, narrow, run_source};
-use rdlpp::{Limits, exit_status};
+use rdlpp::{FaultKind, Limits, exit_status};
 
 const SOURCE: &[u8] = b"`define W 8\nreg[`W];\n";
 
@@ -18,7 +18,7 @@ fn dealt(text: &[u8], behind: Behind) -> DealtText<'_> {
 }
 
 fn write_failed() -> Option<Wanted> {
-    Some(fault(33, 0, ""))
+    Some(fault(FaultKind::WriteFailed, 0, ""))
 }
 
 #[test]
@@ -29,7 +29,13 @@ fn ends_with_a_failed_read(rt: HostRuntime) {
         dealt(b"a\n", Behind::Failure),
         narrow(&rt, 9, 99),
     );
-    check(&rt, "a failed read", &outcome, 2, Some(fault(32, 2, "")));
+    check(
+        &rt,
+        "a failed read",
+        &outcome,
+        2,
+        Some(fault(FaultKind::ReadFailed, 2, "")),
+    );
     assert!(rt; writer.taken.as_slice() == b"a\n".as_slice());
     assert_eq!(rt; exit_status(&outcome), 3);
 }
@@ -46,7 +52,13 @@ fn ends_over_an_endless_reader(rt: HostRuntime) {
         dealt(b"", Behind::Endless(b'a')),
         narrow(&rt, 9, 99),
     );
-    check(&rt, "a without end", &outcome, 0, Some(fault(4, 1, "")));
+    check(
+        &rt,
+        "a without end",
+        &outcome,
+        0,
+        Some(fault(FaultKind::LineTooLong, 1, "")),
+    );
     let sources = Limits {
         source_bytes: 4,
         ..STANDARD
@@ -57,7 +69,13 @@ fn ends_over_an_endless_reader(rt: HostRuntime) {
         dealt(b"", Behind::Endless(b'\n')),
         narrow(&rt, 9, 99),
     );
-    check(&rt, "LF without end", &outcome, 4, Some(fault(5, 5, "")));
+    check(
+        &rt,
+        "LF without end",
+        &outcome,
+        4,
+        Some(fault(FaultKind::SourceTooLong, 5, "")),
+    );
     assert!(rt; writer.taken.as_slice() == b"\n\n\n\n".as_slice());
 }
 
@@ -81,7 +99,7 @@ fn ends_with_a_failed_write(rt: HostRuntime) {
 // A flush that fails is a failed write, but for a fault that came before it.
 #[test]
 fn ends_with_a_failed_flush(rt: HostRuntime) {
-    let undefined = Some(fault(7, 1, "Q"));
+    let undefined = Some(fault(FaultKind::UndefinedMacro, 1, "Q"));
     for (source, output, wanted) in [(SOURCE, OUTPUT, write_failed()), (b"a`Q", b"a", undefined)] {
         let writer = NarrowWriter {
             flush_fails: true,

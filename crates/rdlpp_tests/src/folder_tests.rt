@@ -1,6 +1,6 @@
 // Sources over files of a folder that each test makes and removes.
 use crate::row_tests::STANDARD;
-use rdlpp::{Counted, Folders, Options, SourceFault, Sources, preprocess};
+use rdlpp::{Counted, FaultKind, Folders, Options, PrepFault, SourceFault, Sources, preprocess};
 use std::test::Fail;
 use std::{env, fs, process};
 
@@ -105,15 +105,18 @@ fn preprocesses_a_file(rt: HostRuntime) -> Result<(), Fail> {
         limits: STANDARD,
         origins: false,
     };
-    for (path, output, number) in [(&main, b"\nreg[8];\n".as_slice(), 0), (&folder, b"", 32)] {
+    for (path, output, kind) in [
+        (&main, b"\nreg[8];\n".as_slice(), None),
+        (&folder, b"", Some(FaultKind::ReadFailed)),
+    ] {
         let folders = Folders::new(&rt, rt.alloc(), &[])?;
         let mut writer = Counted::new(Vec::new(rt.alloc()));
         let outcome = preprocess(rt.alloc(), &options, folders, path.as_str(), &mut writer);
         let told = match &outcome {
-            Err(rdlpp::PrepFault::Run(run)) => run.fault.kind.number(),
-            _ => 0,
+            Err(PrepFault::Run(run)) => Some(run.fault.kind),
+            _ => None,
         };
-        assert!(rt; told == number, "{path}");
+        assert!(rt; told == kind, "{path}");
         assert!(rt; writer.into_writer().as_slice() == output, "{path}");
     }
     fs::remove_dir_all(&rt, folder.as_str())?;

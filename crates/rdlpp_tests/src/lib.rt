@@ -26,6 +26,8 @@ mod folder_tests;
 #[cfg(test)]
 mod held_include_tests;
 #[cfg(test)]
+mod include_limit_tests;
+#[cfg(test)]
 mod include_tests;
 #[cfg(test)]
 mod included_place_tests;

@@ -1,17 +1,17 @@
 // Rows of `line` directives and of origin comments: a source, and the output and the fault that it must give.
 use crate::devices::{Behind, DealtText, NarrowWriter};
 use crate::row_tests::{STANDARD, narrow};
-use rdlpp::{Counted, Options, PrepFault, Sources, Texts, preprocess};
+use rdlpp::{Counted, FaultKind, Options, PrepFault, Sources, Texts, preprocess};
 use std::process::Abort;
 
 // A source, whether origin comments are asked for, what it must give, and the fault that it must end in, if one
-// does: its number, shown name, line and word.
+// does: its kind, shown name, line and word.
 #[derive(Clone, Copy)]
 struct LineRow {
     source: &'static str,
     origins: bool,
     output: &'static str,
-    wanted: Option<(u32, &'static str, u64, &'static str)>,
+    wanted: Option<(FaultKind, &'static str, u64, &'static str)>,
 }
 
 // A row that goes to its end.
@@ -30,7 +30,7 @@ fn refused(source: &'static str, output: &'static str) -> LineRow {
         source,
         origins: false,
         output,
-        wanted: Some((30, "m", 1, "")),
+        wanted: Some((FaultKind::BadLine, "m", 1, "")),
     }
 }
 
@@ -60,11 +60,12 @@ fn run_row<R: Abort + AllocGlobal, S: Sources>(
 fn check(rt: &impl Abort, row: &LineRow, outcome: &Result<u64, PrepFault>) {
     match (outcome, row.wanted) {
         (Ok(count), None) => assert_eq!(rt; *count, row.output.len() as u64, "{}", row.source),
-        (Err(PrepFault::Run(run)), Some((number, name, line, word))) => {
-            assert_eq!(rt; run.fault.kind.number(), number, "{}", row.source);
+        (Err(PrepFault::Run(run)), Some((kind, name, line, word))) => {
+            assert_eq!(rt; run.fault.kind, kind, "{}", row.source);
             assert_eq!(rt; run.fault.name.as_str(), name, "{}", row.source);
             assert_eq!(rt; run.fault.line, line, "{}", row.source);
             assert_eq!(rt; run.fault.word.as_str(), word, "{}", row.source);
+            assert_eq!(rt; run.written, row.output.len() as u64, "{}", row.source);
         }
         (_, _) => assert!(rt; false, "{}: another outcome", row.source),
     }
@@ -77,7 +78,7 @@ fn gives_each_line_row(rt: HostRuntime) {
             source: "`line 10 \"v.rdl\" 0\n`Q",
             origins: false,
             output: "\n",
-            wanted: Some((7, "v.rdl", 10, "Q")),
+            wanted: Some((FaultKind::UndefinedMacro, "v.rdl", 10, "Q")),
         },
         refused("`line 0 \"a\" 0\n", ""),
         refused("`line 5 \"a\" 3\n", ""),

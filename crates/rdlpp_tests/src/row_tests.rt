@@ -1,6 +1,6 @@
 // Rows: a source, and the output and the fault that it must give.
 use crate::devices::{Behind, DealtText, NarrowWriter};
-use rdlpp::{Counted, Limits, Options, PrepFault, Sources, Texts, preprocess};
+use rdlpp::{Counted, FaultKind, Limits, Options, PrepFault, Sources, Texts, preprocess};
 use std::process::Abort;
 use std::test::Fail;
 
@@ -17,10 +17,10 @@ pub const STANDARD: Limits = Limits {
     output_bytes: u64::MAX,
 };
 
-/// A fault that is wanted: its number, line and word. The shown name is `m`.
+/// A fault that is wanted: its kind, line and word. The shown name is `m`.
 #[derive(Clone, Copy)]
 pub struct Wanted {
-    pub number: u32,
+    pub kind: FaultKind,
     pub line: u64,
     pub word: &'static str,
 }
@@ -57,9 +57,9 @@ fn faulty<'a>(name: &'static str, source: &'a [u8], output: &'a [u8], wanted: Wa
     }
 }
 
-/// A fault by its number, line and word.
-pub fn fault(number: u32, line: u64, word: &'static str) -> Wanted {
-    Wanted { number, line, word }
+/// A fault by its kind, line and word.
+pub fn fault(kind: FaultKind, line: u64, word: &'static str) -> Wanted {
+    Wanted { kind, line, word }
 }
 
 // Runs a row from memory, and then with readers of one byte a read and writers of one byte a write.
@@ -130,7 +130,7 @@ pub fn check(
     match (outcome, wanted) {
         (Ok(count), None) => assert_eq!(rt; *count, written as u64, "{name}"),
         (Err(PrepFault::Run(run)), Some(want)) => {
-            assert_eq!(rt; run.fault.kind.number(), want.number, "{name}");
+            assert_eq!(rt; run.fault.kind, want.kind, "{name}");
             assert_eq!(rt; run.fault.name.as_str(), "m", "{name}");
             assert_eq!(rt; run.fault.line, want.line, "{name}");
             assert_eq!(rt; run.fault.word.as_str(), want.word, "{name}");
@@ -170,31 +170,41 @@ fn gives_each_row(rt: HostRuntime) {
             b"8'hFF \\reg [3:0] = {a, b};",
             b"8'hFF \\reg [3:0] = {a, b};",
         ),
-        faulty("a lone backquote", b"a ` b", b"a ", fault(6, 1, "")),
+        faulty(
+            "a lone backquote",
+            b"a ` b",
+            b"a ",
+            fault(FaultKind::BareBackquote, 1, ""),
+        ),
         faulty(
             "a macro that isn't defined",
             b"`define W 8\n`W`W\n`Q\n",
             b"\n88\n",
-            fault(7, 3, "Q"),
+            fault(FaultKind::UndefinedMacro, 3, "Q"),
         ),
-        faulty("no name", b"a\n`define \n", b"a\n", fault(15, 2, "")),
+        faulty(
+            "no name",
+            b"a\n`define \n",
+            b"a\n",
+            fault(FaultKind::NameExpected, 2, ""),
+        ),
         faulty(
             "a reserved name",
             b"`define else 1\n",
             b"",
-            fault(16, 1, "else"),
+            fault(FaultKind::ReservedName, 1, "else"),
         ),
         faulty(
             "embedded Perl",
             b"a\nb <% x %>\n",
             b"a\nb ",
-            fault(1, 2, ""),
+            fault(FaultKind::EmbeddedPerl, 2, ""),
         ),
         faulty(
             "a conditional that isn't closed",
             b"a\n`ifdef X\nb",
             b"a\n\n",
-            fault(25, 2, ""),
+            fault(FaultKind::OpenConditional, 2, ""),
         ),
     ];
     for row in &rows {
@@ -220,13 +230,13 @@ fn gives_each_worked_row_of_text(rt: HostRuntime) {
             "a redefinition and an undef",
             b"`define A 1\n`define A 2\n`A`undef A\n`A",
             b"\n\n2\n",
-            fault(7, 4, "A"),
+            fault(FaultKind::UndefinedMacro, 4, "A"),
         ),
         faulty(
             "a string over two lines that isn't closed",
             b"x \"ab\ncd",
             b"x \"ab\ncd",
-            fault(2, 1, ""),
+            fault(FaultKind::OpenString, 1, ""),
         ),
     ];
     for row in &rows {
@@ -273,43 +283,43 @@ fn gives_each_row_of_definitions(rt: HostRuntime) {
             "no name but a string",
             b"`define \"A\" 1\n",
             b"",
-            fault(15, 1, ""),
+            fault(FaultKind::NameExpected, 1, ""),
         ),
         faulty(
             "a number as a formal",
             b"a\n`define F(1) x\n",
             b"a\n",
-            fault(18, 2, ""),
+            fault(FaultKind::BadFormals, 2, ""),
         ),
         faulty(
             "a formal list that isn't closed",
             b"`define F(a\n",
             b"",
-            fault(18, 1, ""),
+            fault(FaultKind::BadFormals, 1, ""),
         ),
         faulty(
             "a formal twice",
             b"`define F(a, a) x\n",
             b"",
-            fault(19, 1, ""),
+            fault(FaultKind::FormalTwice, 1, ""),
         ),
         faulty(
             "an open string in a body",
             b"a\n`define A \"x\n\"",
             b"a\n",
-            fault(2, 2, ""),
+            fault(FaultKind::OpenString, 2, ""),
         ),
         faulty(
             "an open comment in a body",
             b"`define A /* x\n*/",
             b"",
-            fault(3, 1, ""),
+            fault(FaultKind::OpenComment, 1, ""),
         ),
         faulty(
             "embedded Perl in a body",
             b"\n`define A <% x %>\n",
             b"\n",
-            fault(1, 2, ""),
+            fault(FaultKind::EmbeddedPerl, 2, ""),
         ),
         whole(
             "a usage of a macro with an empty list",
@@ -320,13 +330,13 @@ fn gives_each_row_of_definitions(rt: HostRuntime) {
             "a usage in a body of a macro that isn't defined",
             b"`define A `B\n `A",
             b"\n ",
-            fault(7, 2, "B"),
+            fault(FaultKind::UndefinedMacro, 2, "B"),
         ),
         faulty(
             "a lone backquote in a body",
             b"`define A /**/ `\n `A",
             b"\n /**/ ",
-            fault(6, 2, ""),
+            fault(FaultKind::BareBackquote, 2, ""),
         ),
         whole(
             "a definition over two lines",
@@ -351,7 +361,7 @@ fn takes_out_macros(rt: HostRuntime) {
             "a usage behind an undef",
             b"`define A 1\n`A`undef A`A\n",
             b"\n1",
-            fault(7, 2, "A"),
+            fault(FaultKind::UndefinedMacro, 2, "A"),
         ),
         whole(
             "another macro behind an undef",
@@ -368,38 +378,53 @@ fn takes_out_macros(rt: HostRuntime) {
             b"a`undef B c\n`undef B",
             b"a c\n",
         ),
-        faulty("no name at the end", b"a`undef", b"a", fault(15, 1, "")),
+        faulty(
+            "no name at the end",
+            b"a`undef",
+            b"a",
+            fault(FaultKind::NameExpected, 1, ""),
+        ),
         faulty(
             "only blanks at the end",
             b"\n`undef \t",
             b"\n",
-            fault(15, 2, ""),
+            fault(FaultKind::NameExpected, 2, ""),
         ),
         faulty(
             "a line end for a name",
             b"`undef \nA",
             b"",
-            fault(15, 1, ""),
+            fault(FaultKind::NameExpected, 1, ""),
         ),
         faulty(
             "a comment for a name",
             b"`undef /**/A",
             b"",
-            fault(15, 1, ""),
+            fault(FaultKind::NameExpected, 1, ""),
         ),
-        faulty("a usage for a name", b"`undef `A", b"", fault(15, 1, "")),
+        faulty(
+            "a usage for a name",
+            b"`undef `A",
+            b"",
+            fault(FaultKind::NameExpected, 1, ""),
+        ),
         faulty(
             "an open string for a name",
             b"`undef \"",
             b"",
-            fault(15, 1, ""),
+            fault(FaultKind::NameExpected, 1, ""),
         ),
-        faulty("Perl for a name", b"\n`undef <%", b"\n", fault(15, 2, "")),
+        faulty(
+            "Perl for a name",
+            b"\n`undef <%",
+            b"\n",
+            fault(FaultKind::NameExpected, 2, ""),
+        ),
         faulty(
             "an undef of a reserved name",
             b"\n`undef define\n",
             b"\n",
-            fault(16, 2, "define"),
+            fault(FaultKind::ReservedName, 2, "define"),
         ),
     ];
     for row in &rows {
@@ -434,37 +459,37 @@ fn copies_strings_and_comments(rt: HostRuntime) {
             "an open string",
             b"a\n\"b\n\\\"`c\n",
             b"a\n\"b\n\\\"`c\n",
-            fault(2, 2, ""),
+            fault(FaultKind::OpenString, 2, ""),
         ),
         faulty(
             "an open string of one byte",
             b"\n\"",
             b"\n\"",
-            fault(2, 2, ""),
+            fault(FaultKind::OpenString, 2, ""),
         ),
         faulty(
             "an open comment",
             b"a\n/*/ b\n\n",
             b"a\n/*/ b\n\n",
-            fault(3, 2, ""),
+            fault(FaultKind::OpenComment, 2, ""),
         ),
         faulty(
             "embedded Perl in a string",
             b"\n\"a\nb<% c %>\"",
             b"\n\"a\nb",
-            fault(1, 3, ""),
+            fault(FaultKind::EmbeddedPerl, 3, ""),
         ),
         faulty(
             "embedded Perl at a string's first byte",
             b"\"<%\"",
             b"\"",
-            fault(1, 1, ""),
+            fault(FaultKind::EmbeddedPerl, 1, ""),
         ),
         faulty(
             "embedded Perl at a line's first byte in a string",
             b"\"\n<%\"",
             b"\"\n",
-            fault(1, 2, ""),
+            fault(FaultKind::EmbeddedPerl, 2, ""),
         ),
     ];
     for row in &rows {
@@ -501,19 +526,29 @@ fn keeps_each_limit(rt: HostRuntime) {
         "a second definition",
         b"`define A 1\n`define B 2\n",
         b"\n",
-        fault(22, 2, ""),
+        fault(FaultKind::TooManyDefinitions, 2, ""),
     );
     let rows = [
         (lines, whole("a line of 256 bytes", &line[1..], &line[1..])),
         (lines, whole("256 bytes at the end", &letters, &letters)),
         (
             lines,
-            faulty("a line of 257 bytes", &line, b"", fault(4, 1, "")),
+            faulty(
+                "a line of 257 bytes",
+                &line,
+                b"",
+                fault(FaultKind::LineTooLong, 1, ""),
+            ),
         ),
         (sources, whole("a source of 4 bytes", b"ab\nc", b"ab\nc")),
         (
             sources,
-            faulty("a source of 6 bytes", b"ab\ncd\n", b"ab\n", fault(5, 2, "")),
+            faulty(
+                "a source of 6 bytes",
+                b"ab\ncd\n",
+                b"ab\n",
+                fault(FaultKind::SourceTooLong, 2, ""),
+            ),
         ),
         (
             sources,
@@ -521,7 +556,7 @@ fn keeps_each_limit(rt: HostRuntime) {
                 "a source of 6 bytes in a comment",
                 b"/*\n*/\n",
                 b"/*\n",
-                fault(5, 2, ""),
+                fault(FaultKind::SourceTooLong, 2, ""),
             ),
         ),
         (
@@ -530,7 +565,7 @@ fn keeps_each_limit(rt: HostRuntime) {
                 "a line of 258 bytes in a string",
                 &string,
                 b"\"\n",
-                fault(4, 2, ""),
+                fault(FaultKind::LineTooLong, 2, ""),
             ),
         ),
         (definitions, again),
@@ -550,7 +585,10 @@ fn keeps_the_limit_on_definition_bytes(rt: HostRuntime) -> Result<(), Fail> {
         ..STANDARD
     };
     let body = [b'x'; 1_024];
-    let rows: [(&[u8], Option<Wanted>); 2] = [(&body[1..], None), (&body, Some(fault(21, 1, "")))];
+    let rows: [(&[u8], Option<Wanted>); 2] = [
+        (&body[1..], None),
+        (&body, Some(fault(FaultKind::DefinitionBytes, 1, ""))),
+    ];
     for (body, wanted) in rows {
         let mut source = Vec::new(rt.alloc());
         for _ in 0..2 {
@@ -577,7 +615,7 @@ fn keeps_the_limit_on_names(rt: HostRuntime) -> Result<(), Fail> {
     let name = [b'n'; 129];
     let rows: [(&[u8], &[u8], Option<Wanted>); 2] = [
         (&name[1..], b"\n1", None),
-        (&name, b"", Some(fault(17, 1, ""))),
+        (&name, b"", Some(fault(FaultKind::NameTooLong, 1, ""))),
     ];
     for (name, output, wanted) in rows {
         let mut source = Vec::new(rt.alloc());
@@ -629,8 +667,8 @@ fn goes_through_a_long_text(rt: HostRuntime) -> Result<(), Fail> {
 #[test]
 fn keeps_the_limit_on_the_output(rt: HostRuntime) {
     let source: &[u8] = b"`define W 8\nreg[`W];\n";
-    let over = fault(35, 0, "");
-    let first = fault(7, 1, "Q");
+    let over = fault(FaultKind::OutputBytes, 0, "");
+    let first = fault(FaultKind::UndefinedMacro, 1, "Q");
     let rows = [
         (9, whole("a limit that is reached", source, b"\nreg[8];\n")),
         (
