@@ -123,9 +123,15 @@ impl<'a> Case<'a> {
 /// Runs cases, each with whole reads and writes, and then with one byte a read and one byte a write.
 pub fn run_cases<R: Abort + AllocGlobal>(rt: &R, cases: &[Case<'_>]) -> Result<(), Fail> {
     for case in cases {
-        for devices in [WHOLE, SLOW] {
-            run_over(rt, case, devices)?;
-        }
+        run_case(rt, case)?;
+    }
+    Ok(())
+}
+
+/// Runs a case with whole reads and writes, and with those of one byte.
+pub fn run_case<R: Abort + AllocGlobal>(rt: &R, case: &Case<'_>) -> Result<(), Fail> {
+    for devices in [WHOLE, SLOW] {
+        run_over(rt, case, devices)?;
     }
     Ok(())
 }

@@ -1,5 +1,5 @@
 // Includes at their largest limits: as many open ones, and as long a path, as may be, and one more.
-use crate::cases::{Case, gives, run_cases};
+use crate::cases::{Case, gives, run_case};
 use crate::row_tests::STANDARD;
 use rdlpp::{FaultKind, Limits};
 use std::process::Abort;
@@ -61,7 +61,7 @@ fn opens_as_many_as_may_be(rt: HostRuntime) -> Result<(), Fail> {
     let through = gives("64 includes", MAIN, output.as_slice())
         .with(files.as_slice())
         .within(MOST);
-    run_cases(&rt, &[through])?;
+    run_case(&rt, &through)?;
     let longer = chain(&rt, 65)?;
     let more = listed(&rt, longer.as_slice())?;
     let before = repeated(&rt, b"a\n", 65)?;
@@ -70,7 +70,7 @@ fn opens_as_many_as_may_be(rt: HostRuntime) -> Result<(), Fail> {
         .within(MOST)
         .fails(FaultKind::TooManyIncludes, 2)
         .inside("i64");
-    run_cases(&rt, &[refused])
+    run_case(&rt, &refused)
 }
 
 // An include of a name of so many letters, the folder in which a file of that name lies, the include folders, and
@@ -111,9 +111,11 @@ fn run_long<R: Abort + AllocGlobal>(rt: &R, row: &LongRow) -> Result<(), Fail> {
     let path = letters(rt, row.place, row.len)?;
     let mut main = letters(rt, "`include \"", row.len)?;
     main.push('"')?;
-    let files = [(path.as_str(), b"q".as_slice())];
-    let case = long_case(row, main.as_str().as_bytes(), &files);
-    run_cases(rt, &[case])
+    let mut texts = Vec::new(rt.alloc());
+    texts.push((path, String::from_str(rt.alloc(), "q")?))?;
+    let files = listed(rt, texts.as_slice())?;
+    let case = long_case(row, main.as_str().as_bytes(), files.as_slice());
+    run_case(rt, &case)
 }
 
 // What is searched along paths of 1,024 bytes and of one more.
