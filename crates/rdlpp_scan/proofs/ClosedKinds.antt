@@ -1,8 +1,7 @@
 -- Every first token but a string or a block comment leaves plain text behind it, and an opener, a closer and a comma are one byte.
-use Rattle.std.proofs.Common.{◌≡◌, Bool, true, false, List, ◌&&◌, eqb, ℕ, get_or, refl, sym, ap, ◌∙◌}
+use Rattle.std.proofs.Common.{◌≡◌, true, false, List, ◌&&◌, eqb, ℕ, get_or, refl, sym, ap, ◌∙◌}
 use Rattle.std.proofs.lemmas.Bool.{cond_both, false≢true}
 use Rattle.rdlpp_scan.specs.declared.token.Kind.{Kind}
-use Rattle.rdlpp_scan.specs.declared.token.Kind.TheVariants.{Str, BlockComment}
 use Rattle.rdlpp_scan.specs.declared.token.Mode.{Mode}
 use Rattle.rdlpp_scan.specs.declared.token.Mode.TheVariants.{Plain, InStr, InBlock}
 use Rattle.rdlpp_scan.specs.declared.token.Token.{Token}

@@ -2,6 +2,7 @@ pub mod Rows
 pub mod Searches
 pub mod Places
 pub mod TokenLens
+pub mod TokenParts
 pub mod StringEnds
 pub mod TokenLists
 pub mod LogicalLines

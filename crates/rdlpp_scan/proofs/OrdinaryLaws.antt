@@ -1,5 +1,5 @@
 -- Ordinary text goes through as it is.
-use Rattle.std.proofs.Common.{◌≡◌, ℕ, zero, suc, ◌+◌, ◌<◌, ◌≤◌, Bool, true, false, cond, ◌||◌, List, [], ◌∷◌, ◌++◌, length, take, drop, refl, sym, ap, ◌∙◌, inl, inr, ⊎_elim, arith}
+use Rattle.std.proofs.Common.{◌≡◌, ℕ, zero, suc, ◌+◌, ◌<◌, ◌≤◌, Bool, true, false, ◌||◌, List, [], ◌∷◌, ◌++◌, length, take, drop, refl, sym, ap, ◌∙◌, inl, inr, ⊎_elim, arith}
 use Rattle.std.proofs.lemmas.Bool.{and_left, false≢true}
 use Rattle.std.proofs.lemmas.List.{drop-drop, drop-append-le, take-append-le, take-append-drop, length-drop, length-take-le}
 use Rattle.std.proofs.lemmas.List.Elements.{All-nil, All-cons}
@@ -9,7 +9,7 @@ use Rattle.rdlpp_scan.specs.declared.token.Mode.{Mode}
 use Rattle.rdlpp_scan.specs.declared.token.Mode.TheVariants.{Plain}
 use Rattle.rdlpp_scan.specs.declared.token.Token.{Token}
 use Rattle.rdlpp_scan.specs.Tokens.{plain_len, stops_plain_text, token_of}
-use Rattle.rdlpp_scan.specs.SourceTokens.{SourceToken, Ordinary, Course, Next, line_ends, source_tokens, source_step, step_by, broken}
+use Rattle.rdlpp_scan.specs.SourceTokens.{SourceToken, Ordinary, Course, Next, line_ends, source_tokens, source_step, step_by}
 use Rattle.rdlpp_scan.specs.Ordinary.{is_plain_kind, IsEdge, IsOrdinary, IsPlainToken}
 use Rattle.rdlpp_scan.specs.Reserved.{begins_directive}
 use Rattle.rdlpp_scan.proofs.Places.{first_place-before}

@@ -1,14 +1,14 @@
 -- A token of a source that is one of the token table is the first token of its text.
-use Rattle.std.proofs.Common.{◌≡◌, ℕ, ◌+◌, ◌<◌, Bool, true, false, cond, List, [], ◌∷◌, length, take, drop, bytes_eq, refl, sym, ap, ◌∙◌, subst, Option, None, Some}
+use Rattle.std.proofs.Common.{◌≡◌, ℕ, ◌+◌, true, false, cond, List, [], length, take, bytes_eq, refl, Option, None, Some}
 use Rattle.std.specs.Prelude.{nat_lt, codes}
 use Rattle.std.proofs.lemmas.Bool.{cond_both, false≢true}
 use Rattle.rdlpp_scan.specs.declared.token.Kind.{Kind}
-use Rattle.rdlpp_scan.specs.declared.token.Kind.TheVariants.{Name, Word, Back, Blank, LineEnd, Str, LineComment, BlockComment, Opener, Closer, Comma, Other, Perl, BareBackquote}
+use Rattle.rdlpp_scan.specs.declared.token.Kind.TheVariants.{Back, Str, BlockComment, Perl}
 use Rattle.rdlpp_scan.specs.declared.token.Mode.{Mode}
 use Rattle.rdlpp_scan.specs.declared.token.Mode.TheVariants.{Plain, InStr, InBlock}
 use Rattle.rdlpp_scan.specs.declared.token.Token.{Token}
 use Rattle.rdlpp_scan.specs.Front.{Breach, PerlFound, StringOpen, CommentOpen, DefineLong, DefineCut, Break}
-use Rattle.rdlpp_scan.specs.SourceTokens.{Sort, Ordinary, Definition, Renumbering, Broken, SourceToken, Course, Step, Last, Next, broken, line_ends, line_len, logical_len, open_end, string_step, comment_step, define_step, line_step, back_step, step_by, source_step}
+use Rattle.rdlpp_scan.specs.SourceTokens.{Ordinary, Definition, SourceToken, Course, Step, Last, Next, broken, line_ends, logical_len, open_end, string_step, comment_step, define_step, line_step, back_step, step_by, source_step}
 use Rattle.rdlpp_scan.specs.TokenKinds.{opens_mode, is_ordinary}
 use Rattle.rdlpp_scan.specs.Tokens.{token_of}
 use Rattle.rdlpp_scan.proofs.ClosedKinds.{closed_kind_plain}

@@ -1,5 +1,5 @@
 -- The definitions at worked rows.
-use Rattle.std.proofs.Common.{◌≡◌, ℕ, Bool, false, List, [], ◌∷◌, refl}
+use Rattle.std.proofs.Common.{◌≡◌, ℕ, List, [], ◌∷◌, refl}
 use Rattle.std.specs.Prelude.{codes}
 use Rattle.rdlpp_scan.specs.declared.token.Kind.TheVariants.{Name, Back, Blank, LineEnd, Str, LineComment, BlockComment, Opener, Closer, Other}
 use Rattle.rdlpp_scan.specs.Bytes.{is_blank, is_line_end, is_letter, is_digit, is_word, is_opener, is_closer, takes_word, begins_perl, begins_line_comment, begins_block_comment, ends_block_comment}

@@ -1,6 +1,6 @@
 -- Where the text that is held of a source begins with a `define`.
 -- A definition that names no source is this project's own.
-use Rattle.std.specs.Prelude.{◌≡◌, ◌<◌, ℕ, Bool, true, false, List, ◌++◌, length, take, bytes_eq, codes}
+use Rattle.std.specs.Prelude.{◌≡◌, ◌<◌, ℕ, true, List, length, take, bytes_eq, codes}
 use Rattle.rdlpp_scan.specs.declared.token.Kind.TheVariants.{Back}
 use Rattle.rdlpp_scan.specs.declared.token.Mode.TheVariants.{Plain}
 use Rattle.rdlpp_scan.specs.Tokens.{token_of}

@@ -1,6 +1,7 @@
 pub mod Bytes
 pub mod Names
 pub mod Tokens
+pub mod TokenParts
 pub mod LexFaults
 pub mod Front
 pub mod SourceTokens

@@ -1,36 +1,17 @@
 // The first token of a text, by the rows of the token table.
-ghost use Rattle.std.specs.Prelude.{◌≡◌, ◌+◌, ◌≤◌, ◌<◌, ◌||◌, ◌==◌, length, slice_index, drop, false};
+ghost use Rattle.std.specs.Prelude.{◌≡◌, ◌+◌, ◌^◌, ◌≤◌, ◌<◌, ◌||◌, ◌==◌, length, slice_index, drop, false};
 ghost use Rattle.rdlpp_scan.specs.Bytes.{begins_perl, ends_block_comment};
 ghost use Rattle.rdlpp_scan.specs.Pieces.{CutTokens};
-ghost use Rattle.rdlpp_scan.specs.Tokens.{
-  block_token,
-  first_place,
-  plain_token,
-  string_stop,
-  string_token,
-  token_of,
-  whole,
-};
-ghost use Rattle.rdlpp_scan.specs.declared.token.Mode.TheVariants.{InBlock, InStr};
+ghost use Rattle.rdlpp_scan.specs.TokenParts.{kind_of, len_of, mark_kind, mode_behind, opened, plain_kind, stop_of};
+ghost use Rattle.rdlpp_scan.specs.Tokens.{first_place, string_stop, token_of};
 
 use crate::bytes::{
-    begins_block_comment, begins_line_comment, begins_perl, blanks, byte_at, is_blank, is_closer,
-    is_digit, is_letter, is_opener, is_word, takes_word, word_bytes,
+    begins_perl, blanks, byte_at, is_blank, is_closer, is_digit, is_letter, is_opener, is_word,
+    takes_word, word_bytes,
 };
 use crate::lines::before_line_end;
 use crate::token::{Kind, Mode, Token};
 use memchr::{memchr3, memmem};
-
-#[tactic(auto, unfolding(crate::specs::Tokens::whole))]
-fn whole(kind: Kind, len: usize) -> Token
-    ensures { result ≡ whole kind len }
-{
-    Token {
-        kind,
-        len,
-        next_mode: Mode::Plain,
-    }
-}
 
 // Whether a string ends here, at its quote or before `<%`.
 fn ends_string(bytes: &[u8]) -> bool
@@ -66,102 +47,143 @@ fn comment_stop(bytes: &[u8]) -> usize
     memmem::find(bytes, b"*/").unwrap_or(bytes.len())
 }
 
-// A string whose part begins at a place.
-#[tactic(auto, unfolding(crate::specs::Tokens::string_token))]
-fn string_token(from: usize, bytes: &[u8]) -> Token
-    requires { from ≤ length bytes.now }
-    ensures { result ≡ string_token from bytes.now }
+// The kind of a token of plain text that begins with a byte that stands in no run, and the byte behind it.
+#[tactic(auto, unfolding(crate::specs::TokenParts::mark_kind, crate::specs::Bytes::is_line_end))]
+fn mark_kind(b: u8, c: u8) -> Kind
+    ensures { result ≡ mark_kind b c }
 {
-    let stop = from + string_stop(&bytes[from..]);
-    if byte_at(bytes, stop) == b'"' {
-        whole(Kind::Str, stop + 1)
-    } else {
-        Token {
-            kind: Kind::Str,
-            len: stop,
-            next_mode: Mode::InStr,
-        }
-    }
-}
-
-// A block comment whose text begins at a place.
-#[tactic(auto, unfolding(crate::specs::Tokens::block_token))]
-fn block_token(from: usize, bytes: &[u8]) -> Token
-    requires { from ≤ length bytes.now }
-    ensures { result ≡ block_token from bytes.now }
-{
-    let stop = from + comment_stop(&bytes[from..]);
-    if stop < bytes.len() {
-        whole(Kind::BlockComment, stop + 2)
-    } else {
-        Token {
-            kind: Kind::BlockComment,
-            len: stop,
-            next_mode: Mode::InBlock,
-        }
-    }
-}
-
-// The first token where a string opened before.
-#[tactic(auto, unfolding(crate::specs::Tokens::token_of))]
-fn string_rest(bytes: &[u8]) -> Token
-    requires { 0 < length bytes.now }
-    ensures { result ≡ token_of InStr bytes.now }
-{
-    if begins_perl(bytes) {
-        whole(Kind::Perl, 2)
-    } else {
-        string_token(0, bytes)
-    }
-}
-
-// The first token where a block comment opened before.
-#[tactic(auto, unfolding(crate::specs::Tokens::token_of))]
-fn comment_rest(bytes: &[u8]) -> Token
-    requires { 0 < length bytes.now }
-    ensures { result ≡ token_of InBlock bytes.now }
-{
-    block_token(0, bytes)
-}
-
-// The first token in plain text.
-#[tactic(auto, unfolding(crate::specs::Tokens::plain_token, crate::specs::Bytes::is_line_end))]
-fn plain_token(bytes: &[u8]) -> Token
-    requires { 0 < length bytes.now }
-    ensures { result ≡ plain_token bytes.now }
-{
-    let b = byte_at(bytes, 0);
-    let c = byte_at(bytes, 1);
-    if begins_perl(bytes) {
-        whole(Kind::Perl, 2)
-    } else if b == b'\n' {
-        whole(Kind::LineEnd, 1)
-    } else if is_blank(b) {
-        whole(Kind::Blank, blanks(bytes))
-    } else if begins_line_comment(bytes) {
-        whole(Kind::LineComment, before_line_end(bytes))
-    } else if begins_block_comment(bytes) {
-        block_token(2, bytes)
-    } else if b == b'"' {
-        string_token(1, bytes)
-    } else if is_letter(b) {
-        whole(Kind::Name, word_bytes(bytes))
-    } else if is_digit(b) {
-        whole(Kind::Word, word_bytes(bytes))
-    } else if takes_word(b) && is_word(c) {
-        whole(Kind::Word, 1 + word_bytes(&bytes[1..]))
-    } else if b == b'`' && is_letter(c) {
-        whole(Kind::Back, 1 + word_bytes(&bytes[1..]))
-    } else if b == b'`' {
-        whole(Kind::BareBackquote, 1)
+    if b == b',' {
+        Kind::Comma
     } else if is_opener(b) {
-        whole(Kind::Opener, 1)
+        Kind::Opener
     } else if is_closer(b) {
-        whole(Kind::Closer, 1)
-    } else if b == b',' {
-        whole(Kind::Comma, 1)
+        Kind::Closer
+    } else if b == b'\n' {
+        Kind::LineEnd
+    } else if b == b'`' && is_letter(c) {
+        Kind::Back
+    } else if b == b'`' {
+        Kind::BareBackquote
+    } else if b == b'"' {
+        Kind::Str
+    } else if b == b'/' && c == b'/' {
+        Kind::LineComment
+    } else if b == b'/' && c == b'*' {
+        Kind::BlockComment
+    } else if b == b'<' && c == b'%' {
+        Kind::Perl
+    } else if takes_word(b) && is_word(c) {
+        Kind::Word
     } else {
-        whole(Kind::Other, 1)
+        Kind::Other
+    }
+}
+
+// The kind of a token of plain text: letters, blanks and digits are asked for first, since most tokens are runs of them.
+#[tactic(auto, unfolding(crate::specs::TokenParts::plain_kind))]
+fn plain_kind(b: u8, c: u8) -> Kind
+    ensures { result ≡ plain_kind b c }
+{
+    if is_letter(b) {
+        Kind::Name
+    } else if is_blank(b) {
+        Kind::Blank
+    } else if is_digit(b) {
+        Kind::Word
+    } else {
+        mark_kind(b, c)
+    }
+}
+
+// The kind of the first token.
+#[tactic(auto, unfolding(crate::specs::TokenParts::kind_of))]
+fn kind_of(mode: Mode, bytes: &[u8]) -> Kind
+    requires { 0 < length bytes.now }
+    ensures { result ≡ kind_of mode bytes.now }
+{
+    match mode {
+        Mode::Plain => plain_kind(byte_at(bytes, 0), byte_at(bytes, 1)),
+        Mode::InStr => if begins_perl(bytes) {
+            Kind::Perl
+        } else {
+            Kind::Str
+        },
+        Mode::InBlock => Kind::BlockComment,
+    }
+}
+
+// How many bytes open a string or a block comment: none where it opened before.
+#[tactic(auto, unfolding(crate::specs::TokenParts::opened))]
+fn opened(mode: Mode, len: usize) -> usize
+    ensures { result ≡ opened mode len }
+{
+    match mode {
+        Mode::Plain => len,
+        _ => 0,
+    }
+}
+
+// Where a string stops whose part begins at a place.
+fn string_stop_from(from: usize, bytes: &[u8]) -> usize
+    requires { from ≤ length bytes.now }
+    ensures { result ≡ from + string_stop false (drop from bytes.now) }
+{
+    from + string_stop(&bytes[from..])
+}
+
+// Where a block comment stops whose text begins at a place.
+fn comment_stop_from(from: usize, bytes: &[u8]) -> usize
+    requires { from ≤ length bytes.now }
+    ensures { result ≡ from + first_place ends_block_comment (drop from bytes.now) }
+{
+    from + comment_stop(&bytes[from..])
+}
+
+// Where the first token stops, without the bytes that close it.
+#[tactic(auto, unfolding(crate::specs::TokenParts::stop_of))]
+fn stop_of(mode: Mode, kind: Kind, bytes: &[u8]) -> usize
+    requires some { 0 < length bytes.now }
+    requires kind { kind ≡ kind_of mode bytes.now }
+    ensures { result ≡ stop_of mode kind bytes.now }
+{
+    match kind {
+        Kind::Name => word_bytes(bytes),
+        Kind::Blank => blanks(bytes),
+        Kind::Word if is_digit(byte_at(bytes, 0)) => word_bytes(bytes),
+        Kind::Word | Kind::Back => 1 + word_bytes(&bytes[1..]),
+        Kind::Str => string_stop_from(opened(mode, 1), bytes),
+        Kind::LineComment => before_line_end(bytes),
+        Kind::BlockComment => comment_stop_from(opened(mode, 2), bytes),
+        Kind::Perl => 2,
+        _ => 1,
+    }
+}
+
+// Where the text stands behind its first token, which stops at a place.
+#[tactic(auto, unfolding(crate::specs::TokenParts::mode_behind))]
+fn mode_behind(kind: Kind, stop: usize, bytes: &[u8]) -> Mode
+    ensures { result ≡ mode_behind kind stop bytes.now }
+{
+    match kind {
+        Kind::Str if byte_at(bytes, stop) != b'"' => Mode::InStr,
+        Kind::BlockComment if stop >= bytes.len() => Mode::InBlock,
+        _ => Mode::Plain,
+    }
+}
+
+// How long the first token is, which stops at a place before what closes it.
+#[tactic(auto, unfolding(crate::specs::TokenParts::len_of))]
+fn len_of(kind: Kind, next_mode: Mode, stop: usize) -> usize
+    requires { stop + 2 < 2 ^ 64 }
+    ensures { result ≡ len_of kind next_mode stop }
+{
+    match next_mode {
+        Mode::Plain => match kind {
+            Kind::Str => stop + 1,
+            Kind::BlockComment => stop + 2,
+            _ => stop,
+        },
+        _ => stop,
     }
 }
 
@@ -176,7 +198,6 @@ fn plain_token(bytes: &[u8]) -> Token
 /// each string and of each block comment joined, are the tokens of the text (`pieces`).
 ///
 /// Costs time linear in the token's length.
-#[tactic(auto, unfolding(crate::specs::Tokens::token_of))]
 pub fn first_token(mode: Mode, bytes: &[u8]) -> Token
     requires { 0 < length bytes.now }
     ensures value { result ≡ token_of mode bytes.now }
@@ -184,9 +205,14 @@ pub fn first_token(mode: Mode, bytes: &[u8]) -> Token
     ensures inside { result.len ≤ length bytes.now }
     ensures pieces { CutTokens }
 {
-    match mode {
-        Mode::Plain => plain_token(bytes),
-        Mode::InStr => string_rest(bytes),
-        Mode::InBlock => comment_rest(bytes),
+    // Scalars alone are handed on, and the token is built once: a copy of it costs more than most tokens.
+    let kind = kind_of(mode, bytes);
+    let stop = stop_of(mode, kind, bytes);
+    let next_mode = mode_behind(kind, stop, bytes);
+    let len = len_of(kind, next_mode, stop);
+    Token {
+        kind,
+        next_mode,
+        len,
     }
 }

@@ -1,42 +1,35 @@
-use Rattle.std.proofs.Common.{◌<◌, ◌≤◌, length, subst, sym}
-use Rattle.rdlpp_scan.specs.declared.token.Mode.TheVariants.{Plain, InStr, InBlock}
+use Rattle.std.proofs.Common.{arith, ◌<◌, ◌≤◌, length, subst, sym}
+use Rattle.rdlpp_scan.specs.declared.token.Kind.{Kind}
 use Rattle.rdlpp_scan.specs.declared.token.Token.{Token}
-use Rattle.rdlpp_scan.specs.Tokens.{token_of}
+use Rattle.rdlpp_scan.specs.TokenParts.{stop_of}
 use Rattle.rdlpp_scan.proofs.TokenLens.{token_of-part}
+use Rattle.rdlpp_scan.proofs.TokenParts.{built_token, stop_room}
 use Rattle.rdlpp_scan.proofs.CutLaws.{tokens_of_cuts}
 use Rattle.rdlpp_scan.proofs.scan.first_token.Goals as goal
 
-pub returns-in-Plain-clause-not_empty : goal.returns-in-Plain-clause-not_empty
-unfolding token_of
-returns-in-Plain-clause-not_empty c =
-    subst (λ (t : Token). 0 < t.len) (sym c.plain_token.ensures) (token_of-part Plain c.args.bytes.now c.requires).not_empty
+pub returns-clause-value : goal.returns-clause-value
+returns-clause-value c =
+    sym (built_token c.args.mode c.args.bytes.now _ _ _ _ c.kind_of-kind.ensures c.stop_of-stop.ensures c.mode_behind-next_mode.ensures c.len_of-len.ensures)
 
-pub returns-in-Plain-clause-inside : goal.returns-in-Plain-clause-inside
-unfolding token_of
-returns-in-Plain-clause-inside c =
-    subst (λ (t : Token). t.len ≤ length c.args.bytes.now) (sym c.plain_token.ensures) (token_of-part Plain c.args.bytes.now c.requires).inside
+pub returns-clause-not_empty : goal.returns-clause-not_empty
+returns-clause-not_empty c =
+    subst (λ (t : Token). 0 < t.len)
+    (built_token c.args.mode c.args.bytes.now _ _ _ _ c.kind_of-kind.ensures c.stop_of-stop.ensures c.mode_behind-next_mode.ensures c.len_of-len.ensures)
+    (token_of-part c.args.mode c.args.bytes.now c.requires).not_empty
 
-pub returns-in-InStr-clause-not_empty : goal.returns-in-InStr-clause-not_empty
-returns-in-InStr-clause-not_empty c =
-    subst (λ (t : Token). 0 < t.len) (sym c.string_rest.ensures) (token_of-part InStr c.args.bytes.now c.requires).not_empty
+pub returns-clause-inside : goal.returns-clause-inside
+returns-clause-inside c =
+    subst (λ (t : Token). t.len ≤ length c.args.bytes.now)
+    (built_token c.args.mode c.args.bytes.now _ _ _ _ c.kind_of-kind.ensures c.stop_of-stop.ensures c.mode_behind-next_mode.ensures c.len_of-len.ensures)
+    (token_of-part c.args.mode c.args.bytes.now c.requires).inside
 
-pub returns-in-InStr-clause-inside : goal.returns-in-InStr-clause-inside
-returns-in-InStr-clause-inside c =
-    subst (λ (t : Token). t.len ≤ length c.args.bytes.now) (sym c.string_rest.ensures) (token_of-part InStr c.args.bytes.now c.requires).inside
+pub returns-clause-pieces : goal.returns-clause-pieces
+returns-clause-pieces c = tokens_of_cuts
 
-pub returns-in-InBlock-clause-not_empty : goal.returns-in-InBlock-clause-not_empty
-returns-in-InBlock-clause-not_empty c =
-    subst (λ (t : Token). 0 < t.len) (sym c.comment_rest.ensures) (token_of-part InBlock c.args.bytes.now c.requires).not_empty
-
-pub returns-in-InBlock-clause-inside : goal.returns-in-InBlock-clause-inside
-returns-in-InBlock-clause-inside c =
-    subst (λ (t : Token). t.len ≤ length c.args.bytes.now) (sym c.comment_rest.ensures) (token_of-part InBlock c.args.bytes.now c.requires).inside
-
-pub returns-in-Plain-clause-pieces : goal.returns-in-Plain-clause-pieces
-returns-in-Plain-clause-pieces c = tokens_of_cuts
-
-pub returns-in-InStr-clause-pieces : goal.returns-in-InStr-clause-pieces
-returns-in-InStr-clause-pieces c = tokens_of_cuts
-
-pub returns-in-InBlock-clause-pieces : goal.returns-in-InBlock-clause-pieces
-returns-in-InBlock-clause-pieces c = tokens_of_cuts
+pub len_of-len-requires : goal.len_of-len-requires
+len_of-len-requires c =
+    let stop = c.stop_of-stop.ensures in
+    let kind = c.kind_of-kind.ensures in
+    let room = subst (λ (k : Kind). stop_of c.args.mode k c.args.bytes.now ≤ length c.args.bytes.now) (sym kind) (stop_room c.args.mode c.args.bytes.now c.requires) in
+    let short = c.type_inv.bytes in
+    omega arith
