@@ -19,6 +19,7 @@ use Rattle.rdlpp_lines.specs.Reading.{left, left_behind, unread, IsAdvanced}
 use Rattle.rdlpp_lines.specs.Texts.{Cleared, Sound, Unsound, onto, told, stops_token, level_by, read_by, left_in, cleared, ends_default, level_behind, text_behind, IsNext}
 use Rattle.rdlpp_lines.proofs.Joins.{reads_first, none_first}
 use Rattle.rdlpp_lines.proofs.SideBySide.{joins_text, first_alike}
+use Rattle.rdlpp_lines.proofs.Measures.{behind_onto}
 
 pub onto_none : (c : Cleared) → onto [] c ≡ c
 unfolding onto
@@ -158,3 +159,11 @@ last_left old new a e = ap left a.same ∙ (kept_none (joined old.is_logical old
 
 pub last_behind : (old new : KeptBytes) → IsLast old new → joined old.is_logical old.token.now ≡ [] → text_behind (left new) ≡ joined new.is_logical new.rest.now
 last_behind old new a e = stop_behind (left new) (joined old.is_logical old.rest.now) (last_left old new a e) ∙ sym (ap (λ x. joined x.is_logical x.rest.now) a.same)
+
+pub passed_behind : (old new : KeptBytes) → IsMore old new → text_behind (left_behind new) ≡ text_behind (left_behind old)
+passed_behind old new a = sym (behind_onto (left new) (left_behind new) (joined new.is_logical new.token.now) refl) ∙ ap text_behind a.same
+
+pub ended_behind : (old new : KeptBytes) → IsLast old new → old.is_logical ≡ false → new.rest.now ≡ text_behind (left_behind old)
+unfolding text_behind joined
+ended_behind old new a e =
+    ap (λ (x : KeptBytes). x.rest.now) a.same ∙ sym (ap text_behind a.end ∙ ap (λ l. joined l old.rest.now) e)

@@ -369,9 +369,9 @@ pub fn behind_default(bytes: &[u8]) -> &[u8]
 {
     let mut reader = KeptBytes::new(bytes, false, true);
     loop {
-        match reader.next() {
-            Ok(Some(_)) => {}
-            Ok(None) => return reader.rest(),
+        match reader.advance() {
+            Ok(true) => {}
+            Ok(false) => return reader.rest(),
             Err(_) => return &[],
         }
     }

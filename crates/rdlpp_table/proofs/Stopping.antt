@@ -1,8 +1,8 @@
 -- The first stop of a text, token by token.
-use Rattle.std.proofs.Common.{◌≡◌, ℕ, ◌+◌, ◌<◌, ◌≤◌, true, false, List, length, take, drop, Option, Some, None, refl, ap, sym, ◌∙◌, arith}
+use Rattle.std.proofs.Common.{◌≡◌, ℕ, ◌+◌, ◌<◌, ◌≤◌, Bool, true, false, not, List, length, take, drop, Option, Some, None, is_some, refl, ap, sym, ◌∙◌, arith}
 use Rattle.std.proofs.lemmas.List.{length-drop, nil_from_length}
 use Rattle.rdlpp_scan.specs.declared.token.Kind.{Kind}
-use Rattle.rdlpp_scan.specs.declared.token.Kind.TheVariants.{Name}
+use Rattle.rdlpp_scan.specs.declared.token.Kind.TheVariants.{Name, Word, Back, Blank, LineEnd, Str, LineComment, BlockComment, Opener, Closer, Comma, Other, Perl, BareBackquote}
 use Rattle.rdlpp_scan.specs.declared.token.Mode.{Mode}
 use Rattle.rdlpp_scan.specs.declared.token.Mode.TheVariants.{Plain}
 use Rattle.rdlpp_scan.specs.declared.token.Token.{Token}
@@ -11,7 +11,7 @@ use Rattle.rdlpp_scan.proofs.TokenLists.{tokens_from-step}
 use Rattle.rdlpp_table.specs.declared.stop.Stop.{Stop}
 use Rattle.rdlpp_table.specs.declared.stop.Stop.TheVariants as stop
 use Rattle.rdlpp_table.specs.Table.{Formal}
-use Rattle.rdlpp_table.specs.Stops.{first_stop, is_none, or_stop, stop_at, stop_name, stop_of}
+use Rattle.rdlpp_table.specs.Stops.{first_stop, is_none, or_stop, stop_at, stop_name, stop_of, stops}
 use Rattle.rdlpp_table.specs.View.{formal_named}
 
 -- the first stop of a text is that of what is left of it
@@ -80,3 +80,36 @@ some_stop at len place = refl
 pub none_stop : (at len : ℕ) → stop_name at len None ≡ stop.None
 unfolding stop_name
 none_stop at len = refl
+
+named_stops : (at len : ℕ) (o : Option ℕ) → is_none (stop_name at len o) ≡ not (is_some o)
+unfolding stop_name is_none
+named_stops at len (Some place) = refl
+named_stops at len None = refl
+
+kind_stops : (formals : List Formal) (at len : ℕ) (k : Kind) (mode : Mode) (bytes : List ℕ) → is_none (stop_at formals at (record { kind = k; next_mode = mode; len = len }) bytes) ≡ not (stops formals k bytes)
+unfolding stop_at stops is_none
+kind_stops formals at len Name mode bytes = named_stops at len (formal_named formals bytes)
+kind_stops formals at len Word mode bytes = refl
+kind_stops formals at len Back mode bytes = refl
+kind_stops formals at len Blank mode bytes = refl
+kind_stops formals at len LineEnd mode bytes = refl
+kind_stops formals at len Str mode bytes = refl
+kind_stops formals at len LineComment mode bytes = refl
+kind_stops formals at len BlockComment mode bytes = refl
+kind_stops formals at len Opener mode bytes = refl
+kind_stops formals at len Closer mode bytes = refl
+kind_stops formals at len Comma mode bytes = refl
+kind_stops formals at len Other mode bytes = refl
+kind_stops formals at len Perl mode bytes = refl
+kind_stops formals at len BareBackquote mode bytes = refl
+
+token_stops : (formals : List Formal) (at : ℕ) (t : Token) (bytes : List ℕ) → is_none (stop_at formals at t bytes) ≡ not (stops formals t.kind bytes)
+token_stops formals at t bytes = kind_stops formals at t.len t.kind t.next_mode bytes
+
+-- a token that is a stop, by its kind
+pub is_found : (formals : List Formal) (at : ℕ) (t : Token) (bytes : List ℕ) (s : Stop) (b : Bool) → s ≡ stop_at formals at t bytes → b ≡ stops formals t.kind bytes → b ≡ true → is_none s ≡ false
+is_found formals at t bytes s b e f h = ap is_none e ∙ (token_stops formals at t bytes ∙ ap not (sym f ∙ h))
+
+-- a token that is none, by its kind
+pub is_passed : (formals : List Formal) (at : ℕ) (t : Token) (bytes : List ℕ) (b : Bool) → b ≡ stops formals t.kind bytes → b ≡ false → is_none (stop_at formals at t bytes) ≡ true
+is_passed formals at t bytes b f h = token_stops formals at t bytes ∙ ap not (sym f ∙ h)

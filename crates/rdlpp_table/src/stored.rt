@@ -71,17 +71,43 @@ fn first_formal(bytes: &[u8]) -> StoredFormal<'_>
     formal_behind(&bytes[..len], &bytes[len..])
 }
 
+// The name of the formal with which bytes begin.
+#[tactic(auto, unfolding(crate::specs::Store::formal_read, crate::specs::Store::formal_behind))]
+fn formal_name(bytes: &[u8]) -> &[u8]
+    ensures name { result.now ≡ (formal_read bytes.now).formal.name }
+    ensures len { length result.now ≡ prefix_len is_name_byte bytes.now }
+    ensures inside { length result.now ≤ length bytes.now }
+{
+    &bytes[..name_len(bytes)]
+}
+
+// What stands behind the comma of the formal with which bytes begin, whose name has so many bytes.
+#[tactic(auto, unfolding(crate::specs::Store::formal_read, crate::specs::Store::formal_behind, crate::specs::Store::behind_stored))]
+fn behind_formal(bytes: &[u8], name_len: usize) -> &[u8]
+    requires len { name_len ≡ prefix_len is_name_byte bytes.now }
+    requires inside { name_len ≤ length bytes.now }
+    ensures { result.now ≡ (formal_read bytes.now).behind }
+{
+    let rest = &bytes[name_len..];
+    let text = after_first(rest);
+    if rest.first().copied().unwrap_or(0) == b'=' {
+        after_first(behind_default(text))
+    } else {
+        text
+    }
+}
+
 // The place of the formal of a name among so many.
 pub(crate) fn place_in_list(bytes: &[u8], count: usize, name: &[u8]) -> Option<usize>
     ensures { result ≡ formal_named (formals_read count bytes.now) name.now }
 {
     let mut rest = bytes;
     for place in 0..count {
-        let formal = first_formal(rest);
-        if formal.name == name {
+        let found = formal_name(rest);
+        if found == name {
             return Some(place);
         }
-        rest = formal.behind;
+        rest = behind_formal(rest, found.len());
     }
     None
 }

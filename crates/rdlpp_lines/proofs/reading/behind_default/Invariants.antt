@@ -1,16 +1,16 @@
 use Rattle.std.proofs.Common.{◌≡◌, ◌≤◌, length, Some}
 use Rattle.rdlpp_lines.specs.Texts.{cleared, text_behind}
-use Rattle.rdlpp_lines.specs.Reading.{left, unread, LevelFits}
+use Rattle.rdlpp_lines.specs.Reading.{left_behind, LevelFits}
 use Rattle.std.proofs.Common.{false}
 use Rattle.rdlpp_lines.proofs.reading.behind_default.Given as goal
 
 abbrev pub invariant-loop-reader : goal.invariant-loop-reader
 invariant-loop-reader l = record {
-  behind : text_behind (left l.reader) ≡ text_behind (cleared (Some 0) l.fn.bytes);
+  behind : text_behind (left_behind l.reader) ≡ text_behind (cleared (Some 0) l.fn.bytes);
   logical : l.reader.is_logical ≡ false;
-  shorter : unread l.reader ≤ length l.fn.bytes;
+  shorter : length l.reader.rest.now ≤ length l.fn.bytes;
   fits : LevelFits l.reader;
 }
 
 abbrev pub decreases-loop-reader : goal.decreases-loop-reader
-decreases-loop-reader l = unread l.reader
+decreases-loop-reader l = length l.reader.rest.now
