@@ -77,10 +77,11 @@ def skipped(size):
     return b"@ifdef NOTHING\n" + plain(size) + b"@endif\n"
 
 
-def conditionals(depth, rounds):
-    """Conditionals that deep, so many times."""
-    opened = b"".join(b"@ifndef N%d\n" % number for number in range(depth))
-    return (opened + b"text\n" + b"@endif\n" * depth) * rounds
+def conditionals(depth, rounds, line=lambda number: b""):
+    """Conditionals that deep, so many times, each of them with a line of text of its own before and behind the inner ones."""
+    opened = b"".join(b"@ifndef N%d\n%b" % (number, line(number)) for number in range(depth))
+    closed = b"".join(b"%b@endif\n" % line(number) for number in range(depth))
+    return (opened + b"text\n" + closed) * rounds
 
 
 def chain(length):
@@ -102,12 +103,14 @@ def works(megabytes):
     made = doublings(24)
     yield Work("24 doublings", {"rdlpp": backquoted(made), "ivlpp": backquoted(made), "m4": doublings_m4(24)})
     yield Work("skipped text", {"rdlpp": backquoted(skipped(size)), "ivlpp": backquoted(skipped(size))})
-    yield in_conditionals()
+    yield from in_conditionals()
     yield Work("a chain of includes", {tool: backquoted(b'@include "c1"\n') for tool in ("rdlpp", "ivlpp")}, chain(64))
     many = backquoted(b'@include "small"\n' * 1000)
     yield Work("1,000 includes", {"rdlpp": many, "ivlpp": many}, {"small": SMALL})
 
 
 def in_conditionals():
-    made = backquoted(conditionals(200, 500))
-    return Work("conditionals 200 deep", {"rdlpp": made, "ivlpp": made})
+    """Conditionals 200 deep, bare directives alone, and with register descriptions in them."""
+    for name, line in (("conditionals 200 deep", lambda i: b""), ("the same with lines", lambda i: FIELD % (i % 32, i % 16))):
+        made = backquoted(conditionals(200, 500, line))
+        yield Work(name, {"rdlpp": made, "ivlpp": made})

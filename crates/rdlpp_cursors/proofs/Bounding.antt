@@ -6,14 +6,13 @@ use Rattle.std.specs.List.{list_any, AllByRecursion}
 use Rattle.std.proofs.lemmas.Bool.{eqb-true, eqb-false, ne_eqb, ltb-true}
 use Rattle.std.proofs.lemmas.List.{drop-set, drop_more, length-drop, take_all}
 use Rattle.std.proofs.Math.ListN.{set}
-use Rattle.rdlpp_meaning.specs.Opens.{OpenKind, Open}
-use Rattle.rdlpp_meaning.proofs.SlotScopes.{not_next, next_is}
+use Rattle.rdlpp_meaning.specs.Opens.{Open}
 use Rattle.rdlpp_calls.specs.declared.bindings.Range.{Range}
 use Rattle.rdlpp_cursors.specs.declared.slot.Bounds.{Bounds}
 use Rattle.rdlpp_cursors.specs.declared.slot.Slot.{Slot}
 use Rattle.rdlpp_cursors.specs.declared.slot.SlotKind.{SlotKind}
 use Rattle.rdlpp_cursors.specs.declared.slot.SlotKind.TheVariants as slot
-use Rattle.rdlpp_cursors.specs.Opened.{kind_of, bindings_below, open_of, opens_of, is_excluded, AreBounded, IsNoBody, IsWithin}
+use Rattle.rdlpp_cursors.specs.Opened.{kind_of, bindings_below, opens_of, is_excluded, AreBounded, IsNoBody, IsWithin}
 use Rattle.rdlpp_cursors.specs.Scopes.{own_ids, writer_ids}
 use Rattle.rdlpp_cursors.proofs.Scoping.{opens-length}
 

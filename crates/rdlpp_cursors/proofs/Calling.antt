@@ -415,3 +415,11 @@ pass-call_opened table arguments view new look len id home text at o sound h sco
           (omega (arith, some, at_is, low)) high;
       refused = tt;
     })
+
+-- behind a call, opened or refused, a text is open
+pub opening-open : (macros : List Macro) (text : List ℕ) (at end id home : ℕ) (old : CursorsView) (result : Opening) (new : CursorsView) → 0 < length old.opens
+    → IsOpening macros text at end id home old result new → 0 < length new.opens
+unfolding IsOpening
+opening-open macros text at end id home old opening.Opened new some h = subst (λ (v : CursorsView). 0 < length v.opens) (sym h.opens) (omega arith)
+opening-open macros text at end id home old (opening.Refused kind) new some h = subst (λ (v : CursorsView). 0 < length v.opens) (sym h.0) some
+opening-open macros text at end id home old opening.Deep new some h = subst (λ (v : CursorsView). 0 < length v.opens) (sym h.0) some

@@ -122,3 +122,15 @@ usage-inside texts (x ∷ below) look len l e =
     let from = l.1 in
     let end = l.2 in
     (omega (arith, some), omega (arith, inside, from, end))
+
+-- digits that fall and then fall again fall
+pub falls-twice : (xs ys zs : List ℕ) → AreFalling xs ys → AreFalling ys zs → AreFalling xs zs
+unfolding AreFalling
+falls-twice [] ys zs f g = absurd f
+falls-twice (d ∷ xs) [] zs f g = absurd g
+falls-twice (d ∷ xs) (e ∷ ys) [] (inl f) g = omega (arith, f, g)
+falls-twice (d ∷ xs) (e ∷ ys) [] (inr f) g = let same = f.0 in omega (arith, same, g)
+falls-twice (d ∷ xs) (e ∷ ys) (k ∷ zs) (inl f) (inl g) = inl (omega (arith, f, g))
+falls-twice (d ∷ xs) (e ∷ ys) (k ∷ zs) (inl f) (inr g) = let same = g.0 in inl (omega (arith, f, same))
+falls-twice (d ∷ xs) (e ∷ ys) (k ∷ zs) (inr f) (inl g) = let same = f.0 in inl (omega (arith, same, g))
+falls-twice (d ∷ xs) (e ∷ ys) (k ∷ zs) (inr f) (inr g) = inr (g.0 ∙ f.0, falls-twice xs ys zs f.1 g.1)

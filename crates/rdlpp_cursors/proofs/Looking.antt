@@ -1,17 +1,22 @@
 -- A look at open texts: where the innermost lies, and what stands at its front.
-use Rattle.std.proofs.Common.{◌≡◌, ℕ, suc, ◌-◌, ◌<◌, ◌≤◌, Bool, true, false, List, [], ◌∷◌, length, take, drop, get_or, sym, ap, subst, ◌∙◌, arith, Some}
+use Rattle.std.proofs.Common.{◌≡◌, ℕ, suc, ◌+◌, ◌-◌, ◌<◌, ◌≤◌, Bool, true, false, List, [], ◌∷◌, length, take, drop, get_or, refl, sym, ap, subst, ◌∙◌, arith, Some}
 use Rattle.std.specs.Prelude.{if◌then◌else◌, ◌==◌, slice_range}
-use Rattle.rdlpp_meaning.specs.Opens.{OpenKind, OpenBody, OpenActual, OpenDefault, Open, Texts, text_around, open_bytes}
+use Rattle.rdlpp_scan.specs.declared.token.Mode.TheVariants.{Plain}
+use Rattle.rdlpp_meaning.specs.Opens.{OpenKind, OpenBody, OpenActual, OpenDefault, Open, Texts, text_around, open_behind, open_bytes}
+use Rattle.rdlpp_table.specs.Table.{Formal}
 use Rattle.rdlpp_cursors.specs.declared.front.Front.{Front}
 use Rattle.rdlpp_cursors.specs.declared.front.Look.{Look}
 use Rattle.rdlpp_cursors.specs.declared.place.TextSource.{TextSource}
 use Rattle.rdlpp_calls.specs.declared.bindings.Range.{Range}
 use Rattle.rdlpp_cursors.specs.declared.slot.Slot.{Slot}
-use Rattle.rdlpp_cursors.specs.Fronts.{IsFront, IsLook}
-use Rattle.rdlpp_cursors.specs.Opened.{bindings_below, open_of, opens_of}
+use Rattle.rdlpp_cursors.specs.Fronts.{AreFronts, IsFront, IsLook, IsLookBehind}
+use Rattle.rdlpp_cursors.specs.declared.front.Front.TheVariants as front
+use Rattle.rdlpp_cursors.specs.declared.front.Fronts.{Fronts}
+use Rattle.rdlpp_cursors.specs.Opened.{bindings_below, moved_to, open_of, opens_of}
 use Rattle.rdlpp_cursors.specs.Places.{source_text, source_formals, IsSource}
 use Rattle.rdlpp_cursors.specs.Scopes.{scope_open, kind_source, found_source, own_source, front_source}
 use Rattle.rdlpp_cursors.specs.Steps.{IsKnown, AreInside, AreSound}
+use Rattle.rdlpp_cursors.proofs.Runs.{bytes-behind}
 use Rattle.rdlpp_cursors.proofs.Scoping.{source-around}
 
 -- the text of a known body or default is one that there is
@@ -58,14 +63,35 @@ same-range [] other from end h e =
 same-range (b ∷ bs) other from end h e = ap (λ (t : List ℕ). slice_range t from end) (e (omega arith))
 
 -- what stands at the front of the range in its text stands at the front of the open text
-pub look-front : (texts : Texts) (x : Open) (below : List Open) (source : TextSource) (f : Front) → AreInside texts (x ∷ below) → source ≡ front_source (x ∷ below)
-    → IsFront (source_formals texts source) (slice_range (source_text texts source) x.part.from x.part.end) f
-    → IsFront (source_formals texts (front_source (x ∷ below))) (open_bytes texts x below) f
+pub look-front : (texts : Texts) (x : Open) (below : List Open) (source : TextSource) (f : Fronts) → AreInside texts (x ∷ below) → source ≡ front_source (x ∷ below)
+    → AreFronts (source_formals texts source) (slice_range (source_text texts source) x.part.from x.part.end) f
+    → AreFronts (source_formals texts (front_source (x ∷ below))) (open_bytes texts x below) f
 unfolding open_bytes
 look-front texts x below source f h e is =
-    subst (λ (bytes : List ℕ). IsFront (source_formals texts (front_source (x ∷ below))) bytes f)
+    subst (λ (bytes : List ℕ). AreFronts (source_formals texts (front_source (x ∷ below))) bytes f)
     (same-range (text_around texts x.kind x.home below) (source_text texts (front_source (x ∷ below))) x.part.from x.part.end (h.1).0 (source-around texts x below))
-    (subst (λ (s : TextSource). IsFront (source_formals texts s) (slice_range (source_text texts s) x.part.from x.part.end) f) e is)
+    (subst (λ (s : TextSource). AreFronts (source_formals texts s) (slice_range (source_text texts s) x.part.from x.part.end) f) e is)
+
+-- so many bytes that are copied stand in the text
+run-inside : (formals : List Formal) (text : List ℕ) (f : Front) (n : ℕ) → IsFront formals text f → f ≡ front.Run n → n ≤ length text
+unfolding IsFront
+run-inside formals text f n h e = (subst (λ (g : Front). IsFront formals text g) e h).1
+
+-- what stands behind a run is what a look tells of the open texts of which the innermost goes on there
+look-behind : (texts : Texts) (x : Open) (below : List Open) (look : Look) → look.source ≡ front_source (x ∷ below) → look.from ≡ x.part.from → look.end ≡ x.part.end
+    → AreFronts (source_formals texts (front_source (x ∷ below))) (open_bytes texts x below) (record { first = look.front; behind = look.behind })
+    → IsLookBehind texts (x ∷ below) look
+unfolding AreFronts IsLookBehind IsLook moved_to front_source open_behind
+look-behind texts x below look source from end f n e =
+    let formals = source_formals texts (front_source (x ∷ below)) in
+    let inside = run-inside formals (open_bytes texts x below) look.front n f.0 e in (
+      source,
+      refl,
+      end,
+      subst (λ (bytes : List ℕ). IsFront formals bytes look.behind)
+          (sym (bytes-behind texts x below n Plain inside) ∙ ap (λ (k : ℕ). open_bytes texts (record { part = record { from = k + n; end = x.part.end; mode = Plain }; home = x.home; kind = x.kind }) below) (sym from))
+          (f.1 n e),
+    )
 
 -- slots from a place on, of which one is read
 pub record IsInner (slots : List Slot) (bindings : List Range) (own : Slot) : Type 0 where
@@ -79,21 +105,22 @@ inner-is [] bindings own some e = absurd (omega (arith, some))
 inner-is (y ∷ ys) bindings own some e =
     record { rest = ys; is = ap (λ (z : Slot). open_of z bindings ∷ opens_of ys (bindings_below z.kind bindings)) (sym e) }
 
--- a look at them tells that
+-- a look at them tells that, and what stands behind a run
 pub look-is : (texts : Texts) (slots : List Slot) (bindings : List Range) (own : Slot) (look : Look) → 0 < length slots → own ≡ get_or slots 0 own
     → AreSound texts (opens_of slots bindings)
     → look.source ≡ front_source (opens_of slots bindings) → look.from ≡ own.from → look.end ≡ own.end
-    → IsFront (source_formals texts look.source) (slice_range (source_text texts look.source) own.from own.end) look.front
-    → IsLook texts (opens_of slots bindings) look
-unfolding IsLook
+    → AreFronts (source_formals texts look.source) (slice_range (source_text texts look.source) own.from own.end) (record { first = look.front; behind = look.behind })
+    → IsLook texts (opens_of slots bindings) look × IsLookBehind texts (opens_of slots bindings) look
+unfolding IsLook AreFronts
 look-is texts slots bindings own look some e sound source from end f =
     let inner = inner-is slots bindings own some e in
     let x = open_of own bindings in
     let below = opens_of inner.rest (bindings_below own.kind bindings) in
     let s : AreSound texts (x ∷ below) = subst (λ (o : List Open). AreSound texts o) inner.is sound in
     let at : look.source ≡ front_source (x ∷ below) = source ∙ ap (λ (o : List Open). front_source o) inner.is in
-    subst (λ (o : List Open). IsLook texts o look) (sym inner.is)
-    (at, from, end, look-front texts x below look.source look.front s.are_inside at f)
+    let fronts = look-front texts x below look.source (record { first = look.front; behind = look.behind }) s.are_inside at f in
+    subst (λ (o : List Open). IsLook texts o look × IsLookBehind texts o look) (sym inner.is)
+    ((at, from, end, fronts.0), look-behind texts x below look at from end fronts)
 
 -- where they lie there is a text
 pub look-known : (texts : Texts) (slots : List Slot) (bindings : List Range) (own : Slot) (source : TextSource) → 0 < length slots → own ≡ get_or slots 0 own

@@ -1,5 +1,5 @@
 -- A step of open texts where neither a formal nor a usage stands at the front of the innermost.
-use Rattle.std.proofs.Common.{◌≡◌, ℕ, ◌+◌, ◌-◌, ◌<◌, ◌≤◌, List, [], ◌∷◌, length, take, drop, refl, sym, ap, subst, ◌∙◌, arith}
+use Rattle.std.proofs.Common.{◌≡◌, ℕ, ◌+◌, ◌-◌, ◌<◌, ◌≤◌, List, [], ◌∷◌, length, take, drop, refl, sym, ap, append-nil, subst, ◌∙◌, arith}
 use Rattle.std.proofs.Common.{Option, None, Some, unwrap_or}
 use Rattle.std.specs.Prelude.{slice_range}
 use Rattle.std.specs.Option.{option_map}
@@ -20,14 +20,15 @@ use Rattle.rdlpp_cursors.specs.declared.place.TextSource.TheVariants.{Arguments}
 use Rattle.rdlpp_cursors.specs.declared.step.CursorFault.{CursorFault}
 use Rattle.rdlpp_cursors.specs.declared.step.CursorStep.{CursorStep}
 use Rattle.rdlpp_cursors.specs.declared.step.CursorStep.TheVariants.{Lends, Silent, Refused}
-use Rattle.rdlpp_cursors.specs.Fronts.{IsFront, IsLook}
+use Rattle.rdlpp_cursors.specs.Fronts.{IsFront, IsLook, IsLookBehind}
 use Rattle.rdlpp_cursors.specs.Opened.{moved_to, CursorsView}
 use Rattle.rdlpp_cursors.specs.Places.{texts_of, place_bytes, source_text, source_formals}
 use Rattle.rdlpp_cursors.specs.Scopes.{front_source}
-use Rattle.rdlpp_cursors.specs.Steps.{AreSound, IsStep, StaysRefused, wordless}
-use Rattle.rdlpp_cursors.specs.Digits.{IsFalling}
-use Rattle.rdlpp_cursors.proofs.Falling.{falls-drop, look-moves}
+use Rattle.rdlpp_cursors.specs.Steps.{AreSound, Goes, IsStep, IsUnlent, StaysRefused, StepsTo, wordless}
+use Rattle.rdlpp_cursors.specs.Digits.{cursor_digits, IsFalling}
+use Rattle.rdlpp_cursors.proofs.Falling.{falls-drop, falls-twice, look-moves}
 use Rattle.rdlpp_cursors.proofs.Keeping.{body-keeps, run-sound}
+use Rattle.rdlpp_cursors.proofs.Moving.{goes-bytes, goes-on, goes-reaches}
 use Rattle.rdlpp_cursors.proofs.Scoping.{source-around}
 use Rattle.rdlpp_cursors.proofs.Stepping.{step-run, step-bare, look-ended, look-inside}
 
@@ -170,3 +171,37 @@ pass-bare texts view look step h l e is =
       digits = tt;
       refused = refl;
     })
+
+-- a run that is lent, and behind it a step that lends nothing, are one step
+pub pass-on : (texts : Texts) (view mid new : CursorsView) (place : TextPlace) → IsPassed texts view mid (Lends place) → IsPassed texts mid new Silent
+    → IsPassed texts view new (Lends place)
+unfolding IsFalling StaysRefused IsStep StepsTo
+pass-on texts view mid new place p q = record {
+  is_step = λ rules s e.
+      goes-bytes rules s view.line view.depth texts view.opens new.opens _ (place_bytes texts place) (append-nil (place_bytes texts place))
+      (goes-on rules s view.line view.depth texts view.opens mid.opens new.opens (place_bytes texts place) [] (p.is_step rules s e)
+      (goes-reaches rules s view.line view.depth texts mid.opens [] new.opens
+      (subst (λ (l : ℕ). Goes rules s l view.depth texts mid.opens [] new.opens) p.kept.0
+      (subst (λ (d : ℕ). Goes rules s mid.line d texts mid.opens [] new.opens) p.kept.1 (q.is_step rules s e)))));
+  sound = q.sound;
+  kept = (q.kept.0 ∙ p.kept.0, q.kept.1 ∙ p.kept.1);
+  digits = falls-twice (cursor_digits view.opens) (cursor_digits mid.opens) (cursor_digits new.opens) p.digits q.digits;
+  refused = tt;
+}
+
+-- so they are where that step is refused, and nothing changes
+pub pass-behind : (texts : Texts) (view mid new : CursorsView) (place : TextPlace) (step : CursorStep) → IsPassed texts view mid (Lends place) → IsPassed texts mid new step
+    → IsUnlent step → IsPassed texts view new (Lends place)
+unfolding StaysRefused
+pass-behind texts view mid new place (Lends other) p q none = absurd none
+pass-behind texts view mid new place Silent p q none = pass-on texts view mid new place p q
+pass-behind texts view mid new place (Refused fault) p q none = subst (λ (v : CursorsView). IsPassed texts view v (Lends place)) (sym q.refused) p
+
+-- what stands behind a run is what a look at the open texts tells that have gone on behind it
+pub look-next : (texts : Texts) (view mid : CursorsView) (look : Look) (n end : ℕ) → IsLookBehind texts view.opens look → look.front ≡ front.Run n → end ≡ look.from + n
+    → mid ≡ record { opens = moved_to end view.opens; line = view.line; depth = view.depth }
+    → IsLook texts mid.opens (record { source = look.source; from = end; end = look.end; front = look.behind; behind = front.Ended })
+unfolding IsLookBehind
+look-next texts view mid look n end h e k is =
+    subst (λ (v : CursorsView). IsLook texts v.opens (record { source = look.source; from = end; end = look.end; front = look.behind; behind = front.Ended })) (sym is)
+    (subst (λ (m : ℕ). IsLook texts (moved_to m view.opens) (record { source = look.source; from = m; end = look.end; front = look.behind; behind = front.Ended })) (sym k) (h n e))

@@ -17,7 +17,9 @@ use Rattle.rdlpp_table.specs.View.{formal_named, formals_of, macro_at}
 use Rattle.rdlpp_table.specs.declared.stop.Stop.{Stop}
 use Rattle.rdlpp_table.specs.declared.stop.Stop.TheVariants as stop
 use Rattle.rdlpp_table.specs.Stops.{is_none, or_stop, stop_name, stop_at, first_stop, stop_of, stop_in}
-use Rattle.rdlpp_cursors.specs.Fronts.{is_back, run_len, IsFront}
+use Rattle.rdlpp_cursors.specs.Fronts.{is_back, run_len, AreFronts, IsFront}
+use Rattle.rdlpp_cursors.specs.declared.front.Fronts.{Fronts}
+use Rattle.rdlpp_cursors.proofs.Runs.{stop-plain}
 use Rattle.rdlpp_meaning.specs.Opens.{Texts}
 use Rattle.rdlpp_cursors.specs.Places.{source_formals, source_text}
 use Rattle.rdlpp_cursors.specs.declared.place.TextSource.{TextSource}
@@ -181,6 +183,110 @@ bare-by formals at len next Back bytes p e = absurd (cc)
 bare-by formals at len next BareBackquote bytes p e = refl
 bare-by formals at len next kind bytes p e = absurd (cc)
 
+-- the first stop of a text is that of what stands behind the tokens before it, which is read from plain text on
+stop-behind : (formals : List Formal) (at : ℕ) (ts : List Token) (mode : Mode) (text : List ℕ) → tokens_from mode 0 text ≡ ts
+    → is_none (first_stop formals at ts text) ≡ false
+    → first_stop formals (at + run_len formals ts text) (tokens_from Plain 0 (drop (run_len formals ts text) text)) (drop (run_len formals ts text) text)
+    ≡ first_stop formals at ts text
+unfolding run_len first_stop is_none
+stop-behind formals at [] mode text e found = absurd (true≢false found)
+stop-behind formals at (t ∷ ts) mode text e found =
+    let p = tokens_from-first mode text t ts e in
+    by (is_none (stop_at formals 0 t (take t.len text))) refl p.1.0 (λ some. stop-behind formals (at + t.len) ts t.next_mode (drop t.len text) p.1.1 some) found
+  where
+    by : (none : Bool) → is_none (stop_at formals 0 t (take t.len text)) ≡ none → token_of mode text ≡ t
+        → (is_none (first_stop formals (at + t.len) ts (drop t.len text)) ≡ false
+        → first_stop formals (at + t.len + run_len formals ts (drop t.len text)) (tokens_from Plain 0 (drop (run_len formals ts (drop t.len text)) (drop t.len text))) (drop (run_len formals ts (drop t.len text)) (drop t.len text))
+        ≡ first_stop formals (at + t.len) ts (drop t.len text))
+        → is_none (or_stop (stop_at formals at t (take t.len text)) (first_stop formals (at + t.len) ts (drop t.len text))) ≡ false
+        → first_stop formals (at + (if none then t.len + run_len formals ts (drop t.len text) else 0))
+        (tokens_from Plain 0 (drop (if none then t.len + run_len formals ts (drop t.len text) else 0) text))
+        (drop (if none then t.len + run_len formals ts (drop t.len text) else 0) text)
+        ≡ or_stop (stop_at formals at t (take t.len text)) (first_stop formals (at + t.len) ts (drop t.len text))
+    by true n same inner found =
+        let m = run_len formals ts (drop t.len text) in
+        let passed : or_stop (stop_at formals at t (take t.len text)) (first_stop formals (at + t.len) ts (drop t.len text)) ≡ first_stop formals (at + t.len) ts (drop t.len text) =
+        or-none (stop_at formals at t (take t.len text)) _ (none-at formals at t.len t.next_mode t.kind (take t.len text) ∙ n) in
+        let own = inner (ap (λ (s : Stop). is_none s) (sym passed) ∙ found) in
+        let place : at + (t.len + m) ≡ at + t.len + m = omega arith in
+        ap (λ (k : ℕ). first_stop formals k (tokens_from Plain 0 (drop (t.len + m) text)) (drop (t.len + m) text)) place
+        ∙ ap (λ (b : List ℕ). first_stop formals (at + t.len + m) (tokens_from Plain 0 b) b) (sym (drop-drop m t.len text))
+        ∙ own ∙ sym passed
+    by false n same inner found =
+        let m : mode ≡ Plain = stop-plain formals 0 mode text (take t.len text) (ap (λ (u : Token). is_none (stop_at formals 0 u (take t.len text))) same ∙ n) in
+        let place : at + 0 ≡ at = omega arith in
+        ap (λ (k : ℕ). first_stop formals k (tokens_from Plain 0 text) text) place
+        ∙ ap (λ (us : List Token). first_stop formals at us text) (ap (λ (x : Mode). tokens_from x 0 text) (sym m) ∙ e)
+
+-- a front that is no run
+unfoldable pub IsNoRun : Front → Type 0
+IsNoRun f = (n : ℕ) → f ≡ front.Run n → ⊥
+
+-- the name of a formal, a usage and a lone backquote are none
+pub formal-none : (len place : ℕ) → IsNoRun (front.Formal len place)
+unfolding IsNoRun
+formal-none len place n e = cc
+
+pub usage-none : (len : ℕ) → IsNoRun (front.Usage len)
+unfolding IsNoRun
+usage-none len n e = cc
+
+pub bare-none : IsNoRun front.Bare
+unfolding IsNoRun
+bare-none n e = cc
+
+-- a stop that stands at a place isn't none
+place-some : (s : Stop) (at : ℕ) → stop_place s ≡ Some at → is_none s ≡ false
+unfolding is_none
+place-some stop.None at e = absurd (cc)
+place-some (stop.Formal at len place) p e = refl
+place-some (stop.Usage at len) p e = refl
+place-some (stop.Bare at) p e = refl
+
+-- the first stop is that of the text from there on
+pub stop-moved : (formals : List Formal) (from at : ℕ) (text : List ℕ) (s : Stop) → s ≡ stop_of formals from text → stop_place s ≡ Some at
+    → s ≡ stop_of formals at (drop (at - from) text)
+unfolding stop_of PlaceTells
+stop-moved formals from at text s e p =
+    let ts = tokens_from Plain 0 text in
+    let n = run_len formals ts text in
+    let tells : (at ≡ from + n) × (n < length text) =
+    subst (λ (o : Option ℕ). PlaceTells from n (length text) o) (ap (λ (o : Stop). stop_place o) (sym e) ∙ p)
+    (stops-at formals from ts Plain text refl) in
+    let here : at ≡ from + n = tells.0 in
+    let less : n ≡ at - from = omega (arith, here) in
+    e
+    ∙ sym (stop-behind formals from ts Plain text refl (place-some (stop_of formals from text) at (ap (λ (o : Stop). stop_place o) (sym e) ∙ p)))
+    ∙ ap (λ (k : ℕ). first_stop formals k (tokens_from Plain 0 (drop n text)) (drop n text)) (sym here)
+    ∙ ap (λ (k : ℕ). first_stop formals at (tokens_from Plain 0 (drop k text)) (drop k text)) less
+
+-- no run stands in a text without bytes
+run-empty : (formals : List Formal) (bytes : List ℕ) → length bytes ≡ 0 → run_len formals (tokens_from Plain 0 bytes) bytes ≡ 0
+unfolding run_len tokens_from
+run-empty formals [] h = refl
+run-empty formals (b ∷ bs) h = absurd (omega (arith, h))
+
+-- no run stands behind a run
+pub run-behind : (formals : List Formal) (text : List ℕ) (n : ℕ) → n ≡ run_len formals (tokens_from Plain 0 text) text
+    → run_len formals (tokens_from Plain 0 (drop n text)) (drop n text) ≡ 0
+unfolding stop_of PlaceTells
+run-behind formals text n e =
+    by (stop_place (stop_of formals 0 text)) refl (subst (λ (k : ℕ). PlaceTells 0 k (length text) (stop_place (stop_of formals 0 text))) (sym e) (stops-at formals 0 (tokens_from Plain 0 text) Plain text refl))
+  where
+    by : (place : Option ℕ) → stop_place (stop_of formals 0 text) ≡ place → PlaceTells 0 n (length text) place
+        → run_len formals (tokens_from Plain 0 (drop n text)) (drop n text) ≡ 0
+    by None p h = run-empty formals (drop n text) (let l = length-drop n text in omega (arith, l, h))
+    by (Some at) p h =
+        let here : at ≡ 0 + n = h.0 in
+        let rest : at - 0 ≡ n = omega (arith, here) in
+        let moved : stop_of formals 0 text ≡ stop_of formals at (drop n text) =
+        stop-moved formals 0 at text (stop_of formals 0 text) refl p ∙ ap (λ (k : ℕ). stop_of formals at (drop k text)) rest in
+        let tells : (at ≡ at + run_len formals (tokens_from Plain 0 (drop n text)) (drop n text)) × (run_len formals (tokens_from Plain 0 (drop n text)) (drop n text) < length (drop n text)) =
+        subst (λ (o : Option ℕ). PlaceTells at (run_len formals (tokens_from Plain 0 (drop n text)) (drop n text)) (length (drop n text)) o)
+        (ap (λ (o : Stop). stop_place o) (sym moved) ∙ p) (stops-at formals at (tokens_from Plain 0 (drop n text)) Plain (drop n text) refl) in
+        let own = tells.0 in
+        omega (arith, own)
+
 -- no stop: all of the text is a run
 pub front-whole : (formals : List Formal) (from end : ℕ) (text : List ℕ) → from < end → from + length text ≡ end → stop.None ≡ stop_of formals from text
     → IsFront formals text (front.Run (end - from))
@@ -247,14 +353,70 @@ front-bare formals from at text e h =
     let t = token_of Plain text in
     (s.0, bare-by formals from t.len t.next_mode t.kind (take t.len text) at s.1)
 
--- what stands at a stop, or before it
-pub front-ahead : (formals : List Formal) (from at : ℕ) (text : List ℕ) (s : Stop) (own result : Front) → s ≡ stop_of formals from text → stop_place s ≡ Some at
-    → (at ≤ from → IsFront formals text own) → result ≡ (if nat_lt from at then front.Run (at - from) else own) → IsFront formals text result
-front-ahead formals from at text s own result e p h r = subst (λ (f : Front). IsFront formals text f) (sym r) (by (nat_lt from at) refl)
+-- where no run stands in front, what stands there is none
+pub plain-none : (text : List ℕ) (f : Front) → run_len [] (tokens_from Plain 0 text) text ≡ 0 → IsFront [] text f → IsNoRun f
+unfolding IsFront IsNoRun
+plain-none text f e h n is =
+    let run = subst (λ (g : Front). IsFront [] text g) is h in
+    let some = run.0 in
+    let len = run.2 in
+    absurd (omega (arith, some, len, e))
+
+-- what stands at a stop, and before it
+pub fronts-ahead : (formals : List Formal) (from at : ℕ) (text : List ℕ) (own : Front) (result : Fronts)
+    → (from < at → IsFront formals text (front.Run (at - from))) → (at ≤ from → IsFront formals text own) → (from < at → IsFront formals (drop (at - from) text) own)
+    → IsNoRun own
+    → result ≡ (if nat_lt from at then record { first = front.Run (at - from); behind = own } else record { first = own; behind = front.Ended })
+    → AreFronts formals text result
+unfolding AreFronts IsNoRun
+fronts-ahead formals from at text own result before here behind none r = subst (λ (f : Fronts). AreFronts formals text f) (sym r) (by (nat_lt from at) refl)
   where
-    by : (less : Bool) → nat_lt from at ≡ less → IsFront formals text (if less then front.Run (at - from) else own)
-    by true l = front-run formals from at text s e p (ltb-true from at l)
-    by false l = h (ltb-false from at l)
+    by : (less : Bool) → nat_lt from at ≡ less
+        → AreFronts formals text (if less then record { first = front.Run (at - from); behind = own } else record { first = own; behind = front.Ended })
+    by true l = (before (ltb-true from at l), λ n e. subst (λ (k : ℕ). IsFront formals (drop k text) own) (run-same (at - from) n e) (behind (ltb-true from at l)))
+      where
+        run-same : (m n : ℕ) → front.Run m ≡ front.Run n → m ≡ n
+        run-same m n e = cc
+    by false l = (here (ltb-false from at l), λ n e. absurd (none n e))
+
+-- what stands at a stop, or before it
+pub fronts-stop : (formals : List Formal) (from at : ℕ) (text : List ℕ) (s : Stop) (own : Front) (result : Fronts) → s ≡ stop_of formals from text → stop_place s ≡ Some at
+    → ((from : ℕ) (text : List ℕ) → s ≡ stop_of formals from text → at ≤ from → IsFront formals text own) → IsNoRun own
+    → result ≡ (if nat_lt from at then record { first = front.Run (at - from); behind = own } else record { first = own; behind = front.Ended })
+    → AreFronts formals text result
+fronts-stop formals from at text s own result e p h none r =
+    fronts-ahead formals from at text own result
+    (λ l. front-run formals from at text s e p l)
+    (λ l. h from text e l)
+    (λ l. h at (drop (at - from) text) (stop-moved formals from at text s e p) (omega arith))
+    none r
+
+-- no stop: all of the text is a run
+pub fronts-whole : (formals : List Formal) (from end : ℕ) (text : List ℕ) (result : Fronts) → from < end → from + length text ≡ end → stop.None ≡ stop_of formals from text
+    → result ≡ (if nat_lt from end then record { first = front.Run (end - from); behind = front.Ended } else record { first = front.Ended; behind = front.Ended })
+    → AreFronts formals text result
+unfolding IsFront IsNoRun
+fronts-whole formals from end text result h e s r =
+    fronts-ahead formals from end text front.Ended result
+    (λ l. front-whole formals from end text h e s)
+    (λ l. absurd (omega (arith, h, l)))
+    (λ l. drop_all (end - from) text (omega (arith, e)))
+    (λ n q. cc)
+    r
+
+-- the run of a text without formals, and what stands behind it
+pub fronts-plain : (text : List ℕ) (n : ℕ) (own : Front) (result : Fronts) → n ≡ run_len [] (tokens_from Plain 0 text) text → n ≤ length text
+    → IsFront [] (drop n text) own → IsNoRun own
+    → result ≡ (if nat_lt 0 n then record { first = front.Run (n - 0); behind = own } else record { first = own; behind = front.Ended })
+    → AreFronts [] text result
+unfolding IsFront
+fronts-plain text n own result e inside f none r =
+    let same : n - 0 ≡ n = omega arith in
+    fronts-ahead [] 0 n text own result
+    (λ l. (omega (arith, l), omega (arith, inside), sym e ∙ sym same))
+    (λ l. let zero : n ≡ 0 = omega (arith, l) in subst (λ (k : ℕ). IsFront [] (drop k text) own) zero f)
+    (λ l. subst (λ (k : ℕ). IsFront [] (drop k text) own) (sym same) f)
+    none r
 
 -- the run in front of a text without formals, where so many of its bytes are passed and the rest is read in a mode
 pub record IsRunning (text : List ℕ) (mode : Mode) (at : ℕ) : Type 0 where
@@ -361,32 +523,35 @@ front-plain text t some e is =
         absurd (omega (arith, step, positive, e))
 
 -- a text that isn't a body has no formals
-pub plain-source : (texts : Texts) (source : TextSource) (text : List ℕ) (f : Front) → ((id : ℕ) → source ≡ place_of.Body id → ⊥) → IsFront [] text f
-    → IsFront (source_formals texts source) text f
+pub plain-source : (texts : Texts) (source : TextSource) (text : List ℕ) (f : Fronts) → ((id : ℕ) → source ≡ place_of.Body id → ⊥) → AreFronts [] text f
+    → AreFronts (source_formals texts source) text f
 unfolding source_formals
 plain-source texts place_of.Arguments text f other h = h
 plain-source texts (place_of.Body id) text f other h = absurd (other id refl)
 plain-source texts (place_of.Default id place) text f other h = h
 
 -- a range of a text that has no byte
-pub front-ended : (formals : List Formal) (text : List ℕ) (from end : ℕ) → end ≤ from → IsFront formals (slice_range text from end) front.Ended
-unfolding IsFront
-front-ended formals text from end h =
+pub fronts-ended : (formals : List Formal) (text : List ℕ) (from end : ℕ) → end ≤ from → AreFronts formals (slice_range text from end) (record { first = front.Ended; behind = front.Ended })
+unfolding AreFronts IsFront
+fronts-ended formals text from end h =
     let e : end - from ≡ 0 = omega (arith, h) in
-    ap (λ (n : ℕ). take n (drop from text)) e
+    (ap (λ (n : ℕ). take n (drop from text)) e, λ n r. absurd (no-run n r))
+  where
+    no-run : (n : ℕ) → front.Ended ≡ front.Run n → ⊥
+    no-run n r = cc
 
 -- the front of a range of a body, by its first stop
-pub front-body : (texts : Texts) (source : TextSource) (id from end : ℕ) (s : Stop) (f : Front) → source ≡ place_of.Body id → from < end
+pub fronts-body : (texts : Texts) (source : TextSource) (id from end : ℕ) (s : Stop) (f : Fronts) → source ≡ place_of.Body id → from < end
     → end ≤ length (source_text texts source) → s ≡ stop_in (macro_at texts.macros id) from end
-    → ((formals : List Formal) (text : List ℕ) → from + length text ≡ end → s ≡ stop_of formals from text → IsFront formals text f)
-    → IsFront (source_formals texts source) (slice_range (source_text texts source) from end) f
+    → ((formals : List Formal) (text : List ℕ) → from + length text ≡ end → s ≡ stop_of formals from text → AreFronts formals text f)
+    → AreFronts (source_formals texts source) (slice_range (source_text texts source) from end) f
 unfolding source_formals source_text stop_in
-front-body texts source id from end s f e h inside is each =
+fronts-body texts source id from end s f e h inside is each =
     let body = (macro_at texts.macros id).body in
     let within : end ≤ length body = subst (λ (x : TextSource). end ≤ length (source_text texts x)) e inside in
     let size = length-take (end - from) (drop from body) in
     let rest = length-drop from body in
-    subst (λ (x : TextSource). IsFront (source_formals texts x) (slice_range (source_text texts x) from end) f) (sym e)
+    subst (λ (x : TextSource). AreFronts (source_formals texts x) (slice_range (source_text texts x) from end) f) (sym e)
     (each (formals_of (macro_at texts.macros id)) (slice_range body from end) (omega (arith, h, within, size, rest)) is)
 
 -- a range of a body lies in it

@@ -13,7 +13,9 @@ use Rattle.rdlpp_meaning.specs.Opens.{Open, Texts, open_bytes}
 use Rattle.rdlpp_cursors.specs.Places.{source_formals}
 use Rattle.rdlpp_cursors.specs.Scopes.{front_source}
 use Rattle.rdlpp_cursors.specs.declared.front.Front.{Front}
+use Rattle.rdlpp_cursors.specs.declared.front.Fronts.{Fronts}
 use Rattle.rdlpp_cursors.specs.declared.front.Look.{Look}
+use Rattle.rdlpp_cursors.specs.Opened.{moved_to}
 use Rattle.rdlpp_cursors.specs.declared.front.Front.TheVariants.{Ended, Run, Formal as FormalName, Usage, Bare}
 
 -- whether a kind is that of a usage or a lone backquote
@@ -45,3 +47,14 @@ IsLook texts [] look = ⊥
 IsLook texts (x ∷ below) look =
     (look.source ≡ front_source (x ∷ below)) × (look.from ≡ x.part.from) × (look.end ≡ x.part.end)
     × IsFront (source_formals texts (front_source (x ∷ below))) (open_bytes texts x below) look.front
+
+-- what stands at the front of a text with these formals, and behind that where it is a run
+unfoldable pub AreFronts : List Formal → List ℕ → Fronts → Type 0
+AreFronts formals text fronts =
+    IsFront formals text fronts.first × ((n : ℕ) → fronts.first ≡ Run n → IsFront formals (drop n text) fronts.behind)
+
+-- a look tells what stands behind a run too: it is a look at the open texts of which the innermost goes on there
+unfoldable pub IsLookBehind : Texts → List Open → Look → Type 0
+IsLookBehind texts opens look =
+    (n : ℕ) → look.front ≡ Run n
+    → IsLook texts (moved_to (look.from + n) opens) (record { source = look.source; from = look.from + n; end = look.end; front = look.behind; behind = Ended })

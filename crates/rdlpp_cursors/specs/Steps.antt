@@ -96,6 +96,12 @@ KeepsOpen (Lends place) new = 0 < length new
 KeepsOpen Silent new = Unit
 KeepsOpen (Refused fault) new = Unit
 
+-- a step lends nothing
+abbrev pub IsUnlent : CursorStep → Type 0
+IsUnlent (Lends place) = ⊥
+IsUnlent Silent = Unit
+IsUnlent (Refused fault) = Unit
+
 -- the word of a fault is letters, digits and `_`, or empty
 abbrev pub NamesWord : Texts → CursorStep → Type 0
 NamesWord texts (Lends place) = Unit

@@ -5,7 +5,7 @@ ghost use Rattle.std.specs.Option.{option_map};
 ghost use Rattle.rdlpp_table.specs.View.{macro_at};
 ghost use Rattle.rdlpp_meaning.specs.Opens.{open_body, OpenBody};
 ghost use Rattle.rdlpp_cursors.specs.Digits.{IsFalling};
-ghost use Rattle.rdlpp_cursors.specs.Fronts.{IsLook};
+ghost use Rattle.rdlpp_cursors.specs.Fronts.{IsLook, IsLookBehind};
 ghost use Rattle.rdlpp_cursors.specs.Opened.{bound_by, kept_by, moved_to, open_of, IsNoBody};
 ghost use Rattle.rdlpp_cursors.specs.Places.{texts_of};
 ghost use Rattle.rdlpp_cursors.specs.Usages.{IsTextFault};
@@ -26,6 +26,7 @@ use std::alloc::{AllocError, Global};
 use std::marker::Model;
 
 mod formal;
+mod run;
 
 /// The open texts of a usage in a source, the innermost first: bodies, actuals and default texts, as ranges of bytes.
 ///
@@ -182,6 +183,7 @@ impl Cursors {
         requires some { 0 < length self.now.opens }
         requires sound { AreSound (texts_of table.now.macros arguments.now) self.now.opens }
         ensures look { IsLook (texts_of table.now.macros arguments.now) self.now.opens result }
+        ensures behind { IsLookBehind (texts_of table.now.macros arguments.now) self.now.opens result }
         ensures short { result.end < 2 ^ 64 }
     {
         let slots = self.slots.as_slice();
@@ -242,15 +244,7 @@ impl Cursors {
                 self.close();
                 CursorStep::Silent
             }
-            Front::Run(len) => {
-                let end = look.from + len;
-                self.move_to(end);
-                CursorStep::Lends(TextPlace {
-                    source: look.source,
-                    from: look.from,
-                    end,
-                })
-            }
+            Front::Run(len) => self.run(table, arguments, &look, len),
             Front::Formal { len, place } => self.formal(table, arguments, &look, len, place),
             Front::Usage(len) => self.usage(table, arguments, &look, len),
             Front::Bare => wordless(FaultKind::BareBackquote),

@@ -3,7 +3,7 @@ ghost use Rattle.std.specs.Prelude.{[], length, slice_range, nat_lt, if◌then�
 ghost use Rattle.rdlpp_scan.specs.Tokens.{tokens_from};
 ghost use Rattle.rdlpp_table.specs.Stops.{stop_of};
 ghost use Rattle.rdlpp_table.specs.Table.{Formal};
-ghost use Rattle.rdlpp_cursors.specs.Fronts.{is_back, run_len, IsFront, IsLook};
+ghost use Rattle.rdlpp_cursors.specs.Fronts.{is_back, run_len, AreFronts, IsFront, IsLook, IsLookBehind};
 ghost use Rattle.rdlpp_cursors.specs.Opened.{opens_of};
 ghost use Rattle.rdlpp_cursors.specs.Places.{source_formals, source_text, texts_of, IsSource};
 ghost use Rattle.rdlpp_cursors.specs.Steps.{AreSound};
@@ -30,13 +30,22 @@ pub(crate) enum Front {
     Bare,
 }
 
-// A look at the innermost open text: where it lies, where it goes on and ends, and what stands there.
+// What stands at the front of an open text, and behind that where it is a run.
+#[derive(Clone, Copy)]
+pub(crate) struct Fronts {
+    pub(crate) first: Front,
+    pub(crate) behind: Front,
+}
+
+// A look at the innermost open text: where it lies, where it goes on and ends, what stands there, and what stands behind that
+// where it is a run.
 #[derive(Clone, Copy)]
 pub(crate) struct Look {
     pub(crate) source: TextSource,
     pub(crate) from: usize,
     pub(crate) end: usize,
     pub(crate) front: Front,
+    pub(crate) behind: Front,
 }
 
 // Whether a token of a kind is a usage or a lone backquote.
@@ -65,14 +74,13 @@ fn run_len(text: &[u8]) -> usize
     at
 }
 
-// What stands at the front of a text without formals.
-fn plain_front(text: &[u8]) -> Front
-    requires { 0 < length text.now }
+// What stands at the front of a text without formals that begins with no run.
+fn plain_stop(text: &[u8]) -> Front
+    requires { run_len [] (tokens_from Mode.Plain 0 text.now) text.now ≡ 0 }
     ensures { IsFront [] text.now result }
 {
-    let len = run_len(text);
-    if len > 0 {
-        return Front::Run(len);
+    if text.is_empty() {
+        return Front::Ended;
     }
     let token = first_token(Mode::Plain, text);
     match token.kind {
@@ -83,23 +91,37 @@ fn plain_front(text: &[u8]) -> Front
 
 // What stands at the front of a text that begins at a place, where something stands at a stop: what is copied before it, if
 // that is further on.
-fn ahead(from: usize, at: usize, front: Front) -> Front
-    ensures { result ≡ (if nat_lt from at then Front.Run (at - from) else front) }
+fn ahead(from: usize, at: usize, front: Front) -> Fronts
+    ensures { result ≡ (if nat_lt from at then record { first = Front.Run (at - from); behind = front } else record { first = front; behind = Front.Ended }) }
 {
     if from < at {
-        Front::Run(at - from)
+        Fronts {
+            first: Front::Run(at - from),
+            behind: front,
+        }
     } else {
-        front
+        Fronts {
+            first: front,
+            behind: Front::Ended,
+        }
     }
 }
 
+// What stands at the front of a text without formals.
+fn plain_front(text: &[u8]) -> Fronts
+    ensures { AreFronts [] text.now result }
+{
+    let len = run_len(text);
+    ahead(0, len, plain_stop(&text[len..]))
+}
+
 // What stands at the front of a text between two places, by its first stop.
-fn stop_front(stop: Stop, from: usize, end: usize) -> Front
+fn stop_front(stop: Stop, from: usize, end: usize) -> Fronts
     requires { from < end }
-    ensures { (formals : List Formal) (text : List ℕ) → from + length text ≡ end → stop ≡ stop_of formals from text → IsFront formals text result }
+    ensures { (formals : List Formal) (text : List ℕ) → from + length text ≡ end → stop ≡ stop_of formals from text → AreFronts formals text result }
 {
     match stop {
-        Stop::None => Front::Run(end - from),
+        Stop::None => ahead(from, end, Front::Ended),
         Stop::Formal { at, len, place } => ahead(from, at, Front::Formal { len, place }),
         Stop::Usage { at, len } => ahead(from, at, Front::Usage(len)),
         Stop::Bare { at } => ahead(from, at, Front::Bare),
@@ -113,13 +135,16 @@ pub(crate) fn front_of(
     source: TextSource,
     from: usize,
     end: usize,
-) -> Front
+) -> Fronts
     requires source { IsSource (texts_of table.now.macros arguments.now) source }
     requires inside { end ≤ length (source_text (texts_of table.now.macros arguments.now) source) }
-    ensures { IsFront (source_formals (texts_of table.now.macros arguments.now) source) (slice_range (source_text (texts_of table.now.macros arguments.now) source) from end) result }
+    ensures { AreFronts (source_formals (texts_of table.now.macros arguments.now) source) (slice_range (source_text (texts_of table.now.macros arguments.now) source) from end) result }
 {
     if end <= from {
-        return Front::Ended;
+        return Fronts {
+            first: Front::Ended,
+            behind: Front::Ended,
+        };
     }
     if let TextSource::Body(id) = source {
         return stop_front(table.stop(id, from, end), from, end);
@@ -133,18 +158,20 @@ pub(crate) fn look_at(slots: &[Slot], bindings: &[Range], table: &Table, argumen
     requires some { 0 < length slots.now }
     requires sound { AreSound (texts_of table.now.macros arguments.now) (opens_of slots.now bindings.now) }
     ensures look { IsLook (texts_of table.now.macros arguments.now) (opens_of slots.now bindings.now) result }
+    ensures behind { IsLookBehind (texts_of table.now.macros arguments.now) (opens_of slots.now bindings.now) result }
     ensures short { result.end < 2 ^ 64 }
 {
     let _bound = bindings.len();
     let slot = &slots[0];
     let (from, end) = (slot.from, slot.end);
     let text = front_source(slots);
-    let front = front_of(table, arguments, text, from, end);
+    let fronts = front_of(table, arguments, text, from, end);
     let source = front_source(slots);
     Look {
         source,
         from,
         end,
-        front,
+        front: fronts.first,
+        behind: fronts.behind,
     }
 }

@@ -1,6 +1,6 @@
 -- A text is read token by token.
-use Rattle.std.proofs.Common.{◌≡◌, ℕ, zero, suc, ◌+◌, ◌-◌, ◌<◌, ◌≤◌, Bool, true, false, cond, ◌&&◌, List, [], ◌∷◌, ◌++◌, length, take, drop, get_or, eqb, Option, Some, None, Ok, option_map, refl, ap, sym, ◌∙◌, subst, arith, append_assoc, unwrap_or}
-use Rattle.std.proofs.lemmas.Bool.{cond-true, cond-false, ne_eqb, false≢true}
+use Rattle.std.proofs.Common.{◌≡◌, ℕ, zero, suc, ◌+◌, ◌<◌, ◌≤◌, Bool, true, false, cond, ◌&&◌, List, [], ◌∷◌, ◌++◌, length, take, drop, get_or, eqb, Option, Some, None, Ok, refl, ap, sym, ◌∙◌, subst, arith, append_assoc}
+use Rattle.std.proofs.lemmas.Bool.{cond-true, cond-false, false≢true}
 use Rattle.rdlpp_scan.specs.declared.token.Kind.{Kind}
 use Rattle.rdlpp_scan.specs.declared.token.Kind.TheVariants.{LineComment, Opener, Closer, Comma}
 use Rattle.rdlpp_scan.specs.declared.token.Mode.{Mode}
@@ -10,12 +10,12 @@ use Rattle.rdlpp_scan.specs.Tokens.{token_of, tokens_from}
 use Rattle.rdlpp_scan.specs.LexFaults.{is_perl, open_fault}
 use Rattle.rdlpp_scan.proofs.TokenLens.{token_of-part}
 use Rattle.rdlpp_scan.proofs.TokenLists.{tokens_from-step}
-use Rattle.rdlpp_lines.specs.Continuations.{first_len, joined, without_continuations}
+use Rattle.rdlpp_lines.specs.Continuations.{joined, without_continuations}
 use Rattle.rdlpp_lines.specs.LineTokens.{kept_of, IsRead}
 use Rattle.rdlpp_lines.specs.declared.reading.KeptBytes.{KeptBytes}
 use Rattle.rdlpp_scan.specs.declared.token.LexFault.{LexFault}
 use Rattle.rdlpp_scan.specs.declared.token.Mode.TheVariants.{Plain}
-use Rattle.rdlpp_lines.specs.Reading.{left, left_behind, unread, IsAdvanced}
+use Rattle.rdlpp_lines.specs.Reading.{left, left_behind, IsAdvanced}
 use Rattle.rdlpp_lines.specs.Texts.{Cleared, Sound, Unsound, onto, told, stops_token, level_by, read_by, left_in, cleared, ends_default, level_behind, text_behind, IsNext}
 use Rattle.rdlpp_lines.proofs.Joins.{reads_first, none_first}
 use Rattle.rdlpp_lines.proofs.SideBySide.{joins_text, first_alike}

@@ -1,8 +1,7 @@
 -- A text with neither a `\` nor a `/` is kept as it stands.
-use Rattle.std.proofs.Common.{◌≡◌, ℕ, zero, suc, ◌+◌, ◌-◌, ◌<◌, ◌≤◌, Bool, true, false, cond, not, ◌||◌, ◌&&◌, eqb, List, [], ◌∷◌, ◌++◌, length, take, drop, get_or, Option, Some, None, Ok, Err, Result, refl, sym, ap, ◌∙◌, subst, inl, inr, arith}
-use Rattle.std.specs.List.{list_all}
-use Rattle.std.proofs.lemmas.Bool.{and_from, and_left, and_parts, and_right, cond-true, cond-false, cond_both, not-true, or_parts, false≢true, cases_Bool}
-use Rattle.std.proofs.lemmas.List.{drop_all, length-drop, take-append-drop}
+use Rattle.std.proofs.Common.{◌≡◌, ℕ, zero, suc, ◌-◌, ◌<◌, ◌≤◌, Bool, true, false, cond, not, ◌||◌, ◌&&◌, eqb, List, [], ◌∷◌, ◌++◌, length, take, drop, get_or, Option, Some, None, Ok, Err, Result, refl, sym, ap, ◌∙◌, arith}
+use Rattle.std.proofs.lemmas.Bool.{and_from, and_left, and_parts, and_right, cond-true, cond-false, cond_both, not-true, or_parts, false≢true}
+use Rattle.std.proofs.lemmas.List.{length-drop, take-append-drop}
 use Rattle.std.proofs.Math.Seq.{take-suc}
 use Rattle.memchr.specs.Find.{IsFirstByte, is_byte2}
 use Rattle.rdlpp_scan.specs.declared.token.Kind.{Kind}
@@ -25,7 +24,7 @@ use Rattle.rdlpp_lines.specs.Continuations.{joined, without_continuations}
 use Rattle.rdlpp_lines.specs.LineTokens.{kept_of}
 use Rattle.rdlpp_lines.specs.OnePiece.{is_one_piece, is_piece_byte}
 use Rattle.rdlpp_lines.specs.Texts.{Cleared, Sound, Unsound, cleared, left_in, onto, onto_trimmed, text_behind, told, trimmed_left, trimmed_len, trimmed_of, trims, without_end}
-use Rattle.rdlpp_lines.proofs.Advancing.{by_first, left_first}
+use Rattle.rdlpp_lines.proofs.Advancing.{left_first}
 use Rattle.rdlpp_lines.proofs.Joins.{no_joint_at, none_first}
 
 -- a search that finds neither byte

@@ -1,6 +1,6 @@
 -- A text of a logical line, and the text as it is read, side by side.
-use Rattle.std.proofs.Common.{◌≡◌, ℕ, zero, suc, ◌+◌, ◌<◌, ◌≤◌, Bool, true, false, cond, ◌&&◌, List, [], ◌∷◌, length, take, drop, get_or, eqb, ltb, refl, ap, sym, ◌∙◌, subst, arith, inl, inr}
-use Rattle.std.proofs.lemmas.Bool.{cases_Bool, cases_lt, cond-true, cond-false, and_parts, and_right, eqb-true, false≢true, lt-ltb, le-ltb}
+use Rattle.std.proofs.Common.{◌≡◌, ℕ, zero, suc, ◌+◌, ◌<◌, Bool, true, false, cond, ◌&&◌, List, [], ◌∷◌, length, take, drop, get_or, eqb, ltb, refl, ap, sym, ◌∙◌, subst, arith, inl, inr}
+use Rattle.std.proofs.lemmas.Bool.{cases_Bool, cases_lt, and_parts, and_right, eqb-true, false≢true, lt-ltb, le-ltb}
 use Rattle.rdlpp_lines.specs.Continuations.{continuation_len, without_continuations}
 use Rattle.rdlpp_lines.proofs.Joins.{no_joint, one_joint, two_joint, end_first, alone, one_before, two_before, none_before, none_left}
 

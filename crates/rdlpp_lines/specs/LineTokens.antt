@@ -1,6 +1,6 @@
 -- The tokens of a text as it lies in a logical line, beside those of the text as it is read.
 -- A definition that names no source is this project's own.
-use Rattle.std.specs.Prelude.{◌≡◌, ℕ, ◌+◌, Bool, true, false, not, ◌&&◌, ◌==◌, List, [], take, drop, if◌then◌else◌}
+use Rattle.std.specs.Prelude.{◌≡◌, ℕ, ◌+◌, Bool, true, false, ◌==◌, List, [], take, drop, if◌then◌else◌}
 use Rattle.rdlpp_scan.specs.declared.token.Kind.{Kind}
 use Rattle.rdlpp_scan.specs.declared.token.Kind.TheVariants.{LineEnd, LineComment}
 use Rattle.rdlpp_scan.specs.declared.token.Mode.{Mode}

@@ -1,5 +1,5 @@
 -- Places in a list, and in the list that a map makes of it.
-use Rattle.std.proofs.Common.{◌≡◌, ℕ, zero, suc, ◌+◌, ◌<◌, ◌≤◌, Bool, true, false, cond, not, ltb, one-add, List, [], ◌∷◌, length, map, get_or, Option, Some, None, option_map, refl, ap, sym, ◌∙◌, arith, inl, inr}
+use Rattle.std.proofs.Common.{◌≡◌, ℕ, zero, suc, ◌+◌, ◌≤◌, Bool, cond, not, ltb, one-add, List, [], ◌∷◌, length, map, get_or, Option, Some, None, option_map, refl, ap, sym, ◌∙◌, arith, inl, inr}
 use Rattle.std.specs.List.{prefix_len, position_or_len, position, find, slice_get}
 use Rattle.std.proofs.lemmas.List.{length-map}
 use Rattle.std.proofs.lemmas.List.Folds.{find_at}

@@ -1,8 +1,8 @@
 -- The formals of a macro, read one after another from a table's bytes.
-use Rattle.std.proofs.Common.{◌≡◌, ℕ, zero, suc, ◌+◌, ◌-◌, ◌<◌, ◌≤◌, Bool, true, false, cond, List, [], ◌∷◌, length, get_or, bytes_eq, Option, Some, None, option_map, refl, ap, sym, ◌∙◌, arith}
+use Rattle.std.proofs.Common.{◌≡◌, ℕ, suc, ◌+◌, ◌-◌, ◌<◌, ◌≤◌, true, false, cond, List, [], ◌∷◌, bytes_eq, Option, Some, None, option_map, refl, ap, sym, ◌∙◌, arith}
 use Rattle.std.proofs.lemmas.Bool.{cond-true, cond-false}
 use Rattle.rdlpp_table.specs.Table.{Formal}
-use Rattle.rdlpp_table.specs.View.{formal_at, formal_named, no_formal}
+use Rattle.rdlpp_table.specs.View.{formal_at, formal_named}
 use Rattle.rdlpp_table.specs.Store.{formal_read, formals_read}
 use Rattle.rdlpp_table.proofs.Lookup.{position_first}
 

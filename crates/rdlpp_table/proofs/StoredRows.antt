@@ -1,5 +1,5 @@
 -- Worked rows of stored default texts, by computation.
-use Rattle.std.proofs.Common.{◌≡◌, Bool, true, false, List, [], ◌∷◌, map, refl, codes}
+use Rattle.std.proofs.Common.{◌≡◌, true, false, [], ◌∷◌, map, refl, codes}
 use Rattle.rdlpp_table.specs.Define.{ends_default, level_behind}
 use Rattle.rdlpp_table.specs.Store.{fills, is_clean, is_default}
 use Rattle.rdlpp_scan.specs.Bytes.{is_blank, is_line_end, is_letter, is_digit, is_word, is_opener, is_closer, takes_word, begins_perl, begins_line_comment, begins_block_comment, ends_block_comment}

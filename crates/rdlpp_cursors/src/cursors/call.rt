@@ -7,7 +7,7 @@ ghost use Rattle.rdlpp_cursors.specs.Calls.{IsCallFault, IsCallMiscounted, IsCal
 ghost use Rattle.rdlpp_cursors.specs.Digits.{IsFalling};
 ghost use Rattle.rdlpp_cursors.specs.Fronts.{IsLook};
 ghost use Rattle.rdlpp_cursors.specs.Places.{texts_of};
-ghost use Rattle.rdlpp_cursors.specs.Steps.{AreSound, IsStep, KeepsOpen, StaysRefused, IsPlacedStep, NamesWord};
+ghost use Rattle.rdlpp_cursors.specs.Steps.{AreSound, IsStep, IsUnlent, KeepsOpen, StaysRefused, IsPlacedStep, NamesWord};
 ghost use Rattle.rdlpp_cursors.specs.Usages.{front_name, IsTextFault, IsUsed};
 
 use crate::cursors::Cursors;
@@ -97,6 +97,8 @@ impl Cursors {
         ensures refused { StaysRefused self.old result self.new }
         ensures placed { IsPlacedStep (texts_of table.now.macros arguments.now) result }
         ensures lends { KeepsOpen result self.new.opens }
+        ensures open { 0 < length self.new.opens }
+        ensures unlent { IsUnlent result }
         ensures fault { IsTextFault result }
         ensures word { NamesWord (texts_of table.now.macros arguments.now) result }
     {

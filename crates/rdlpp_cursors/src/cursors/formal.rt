@@ -6,7 +6,7 @@ ghost use Rattle.rdlpp_cursors.specs.Fronts.{IsLook};
 ghost use Rattle.rdlpp_cursors.specs.Opened.{open_of};
 ghost use Rattle.rdlpp_cursors.specs.Places.{source_formals, texts_of};
 ghost use Rattle.rdlpp_cursors.specs.Scopes.{found_source, found_standing, front_scope, scope_open, AreBound};
-ghost use Rattle.rdlpp_cursors.specs.Steps.{AreSound, IsStep, KeepsOpen, StaysRefused, IsPlacedStep, NamesWord};
+ghost use Rattle.rdlpp_cursors.specs.Steps.{AreSound, IsStep, IsUnlent, KeepsOpen, StaysRefused, IsPlacedStep, NamesWord};
 ghost use Rattle.rdlpp_cursors.specs.Usages.{IsTextFault};
 
 use crate::cursors::Cursors;
@@ -53,6 +53,8 @@ impl Cursors {
         ensures refused { StaysRefused self.old result self.new }
         ensures placed { IsPlacedStep (texts_of table.now.macros arguments.now) result }
         ensures lends { KeepsOpen result self.new.opens }
+        ensures open { 0 < length self.new.opens }
+        ensures unlent { IsUnlent result }
         ensures fault { IsTextFault result }
         ensures word { NamesWord (texts_of table.now.macros arguments.now) result }
     {

@@ -1,18 +1,17 @@
-use Rattle.std.proofs.Common.{◌≡◌, arith, sym, ◌∙◌}
-use Rattle.rdlpp_cursors.specs.Fronts.{IsFront}
-use Rattle.rdlpp_cursors.proofs.Stopping.{front-plain}
+use Rattle.std.proofs.Common.{ℕ, [], List, ap, subst, ◌∙◌}
+use Rattle.std.proofs.lemmas.List.{take_rest}
+use Rattle.rdlpp_scan.specs.declared.token.Mode.TheVariants.{Plain}
+use Rattle.rdlpp_scan.specs.Tokens.{tokens_from}
+use Rattle.rdlpp_cursors.specs.Fronts.{run_len, IsFront}
+use Rattle.rdlpp_cursors.proofs.Stopping.{fronts-plain, plain-none, run-behind}
 use Rattle.rdlpp_cursors.proofs.front.plain_front.Goals as goal
 
-pub returns-then-len-gt0 : goal.returns-then-len-gt0
-unfolding IsFront
-returns-then-len-gt0 c = (c.if-len-gt0.true, c.run_len-len.ensures.inside, sym c.run_len-len.ensures.value)
+pub plain_stop-requires : goal.plain_stop-requires
+plain_stop-requires c =
+    ap (λ (b : List ℕ). run_len [] (tokens_from Plain 0 b) b) (take_rest c.args.text.now c.run_len-len.result) ∙ run-behind [] c.args.text.now _ c.run_len-len.ensures.value
 
-pub returns-in-Back : goal.returns-in-Back
-returns-in-Back c =
-    let none : c.run_len-len.result ≡ 0 = omega (arith, c.if-len-gt0.false) in
-    (front-plain _ c.first_token-token.result c.requires (sym c.run_len-len.ensures.value ∙ none) c.first_token-token.ensures.value).0 c.in-Back.is
-
-pub returns-in_default : goal.returns-in_default
-returns-in_default c =
-    let none : c.run_len-len.result ≡ 0 = omega (arith, c.if-len-gt0.false) in
-    (front-plain _ c.first_token-token.result c.requires (sym c.run_len-len.ensures.value ∙ none) c.first_token-token.ensures.value).1 c.in_default.not-Back
+pub returns : goal.returns
+returns c =
+    let behind = subst (λ (b : List ℕ). IsFront [] b c.plain_stop.result) (take_rest c.args.text.now c.run_len-len.result) c.plain_stop.ensures in
+    fronts-plain c.args.text.now _ _ _ c.run_len-len.ensures.value c.run_len-len.ensures.inside behind
+    (plain-none _ _ (run-behind [] c.args.text.now _ c.run_len-len.ensures.value) behind) c.ahead.ensures

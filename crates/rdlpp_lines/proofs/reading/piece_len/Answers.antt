@@ -1,4 +1,4 @@
-use Rattle.std.proofs.Common.{◌≡◌, ◌+◌, ◌≤◌, ◌∙◌, sym, length, arith, []}
+use Rattle.std.proofs.Common.{◌≡◌, ◌∙◌, sym, arith, []}
 use Rattle.rdlpp_lines.specs.Texts.{Sound, cleared}
 use Rattle.rdlpp_lines.specs.Continuations.{joined}
 use Rattle.std.specs.Prelude.{None}

@@ -1,4 +1,4 @@
-use Rattle.std.proofs.Common.{◌∙◌, arith, ap, ℕ, length}
+use Rattle.std.proofs.Common.{arith}
 use Rattle.rdlpp_table.proofs.Taken.{count_bytes}
 use Rattle.rdlpp_table.proofs.Appending.{append_starts, append_told, append_room, append_next, append_end}
 use Rattle.rdlpp_table.proofs.formals.append_list.Goals as goal

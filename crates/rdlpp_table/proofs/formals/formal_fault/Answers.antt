@@ -1,4 +1,4 @@
-use Rattle.std.proofs.Common.{◌∙◌, ℕ, sym, arith, true, false, refl, length, ltb}
+use Rattle.std.proofs.Common.{◌∙◌, sym, arith, true, false, refl, length}
 use Rattle.std.proofs.lemmas.Bool.{lt-ltb, le-ltb, le-leb, lt-leb}
 use Rattle.rdlpp_table.proofs.Reading.{fault_by}
 use Rattle.rdlpp_table.proofs.formals.formal_fault.Goals as goal

@@ -1,4 +1,4 @@
-use Rattle.std.proofs.Common.{◌∙◌, refl, sym, arith}
+use Rattle.std.proofs.Common.{◌∙◌, refl, sym}
 use Rattle.rdlpp_table.proofs.Numbers.{bytes_behind, order_apart, order_behind}
 use Rattle.rdlpp_table.proofs.sought.order_of.Goals as goal
 

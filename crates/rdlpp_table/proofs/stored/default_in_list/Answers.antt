@@ -1,4 +1,4 @@
-use Rattle.std.proofs.Common.{◌∙◌, sym, arith}
+use Rattle.std.proofs.Common.{arith}
 use Rattle.rdlpp_table.proofs.ReadBack.{passed_start, passed_more, passed_last}
 use Rattle.rdlpp_table.proofs.stored.default_in_list.Goals as goal
 

@@ -1,7 +1,7 @@
-use Rattle.std.proofs.Common.{◌≡◌, ◌<◌, ◌++◌, ◌∙◌, ℕ, List, Option, unwrap_or, ap, sym, arith, sum_by}
+use Rattle.std.proofs.Common.{◌≡◌, ◌<◌, ◌++◌, ◌∙◌, List, unwrap_or, ap, sym, arith, sum_by}
 use Rattle.std.specs.List.{flat_map}
 use Rattle.rdlpp_table.specs.Table.{Formal, formal_bytes, formal_size}
-use Rattle.rdlpp_table.proofs.News.{HasFormals, has_formals, no_formals}
+use Rattle.rdlpp_table.proofs.News.{has_formals, no_formals}
 use Rattle.rdlpp_table.proofs.storing.append_formals.Goals as goal
 
 pub append_list-requires-clause-listed : goal.append_list-requires-clause-listed

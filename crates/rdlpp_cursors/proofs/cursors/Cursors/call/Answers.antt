@@ -1,6 +1,6 @@
 use Rattle.std.proofs.Common.{arith, refl}
 use Rattle.rdlpp_cursors.specs.Places.{texts_of}
-use Rattle.rdlpp_cursors.proofs.Calling.{list-used, look-call, pass-call_deep, pass-call_opened, pass-call_refused}
+use Rattle.rdlpp_cursors.proofs.Calling.{list-used, look-call, opening-open, pass-call_deep, pass-call_opened, pass-call_refused}
 use Rattle.rdlpp_cursors.proofs.Usages.{fault-deep, fault-call, open-wordless, placed-silent, placed-word, placed-wordless, usage-place}
 use Rattle.rdlpp_cursors.proofs.Words.{word-named, word-none}
 use Rattle.rdlpp_cursors.proofs.cursors.Cursors.call.Goals as goal
@@ -134,3 +134,12 @@ returns-in-Refused-clause-word c = word-named _ _ c.args.look.now c.args.len c.i
 
 pub returns-in-Deep-clause-word : goal.returns-in-Deep-clause-word
 returns-in-Deep-clause-word c = word-none _ _ _ c.wordless.ensures
+
+pub returns-in-Opened-clause-open : goal.returns-in-Opened-clause-open
+returns-in-Opened-clause-open c = opening-open _ _ _ _ _ _ _ _ _ c.requires.some c.open_bound.ensures.opening
+
+pub returns-in-Refused-clause-open : goal.returns-in-Refused-clause-open
+returns-in-Refused-clause-open c = opening-open _ _ _ _ _ _ _ _ _ c.requires.some c.open_bound.ensures.opening
+
+pub returns-in-Deep-clause-open : goal.returns-in-Deep-clause-open
+returns-in-Deep-clause-open c = opening-open _ _ _ _ _ _ _ _ _ c.requires.some c.open_bound.ensures.opening

@@ -1,16 +1,8 @@
-use Rattle.std.proofs.Common.{arith, refl}
 use Rattle.rdlpp_cursors.specs.Places.{texts_of}
-use Rattle.rdlpp_cursors.proofs.Passing.{pass-bare, pass-ended, pass-run}
-use Rattle.rdlpp_cursors.proofs.Stepping.{look-inside}
-use Rattle.rdlpp_cursors.proofs.Usages.{fault-bare, open-wordless, open-run, placed-run, placed-silent, placed-wordless}
+use Rattle.rdlpp_cursors.proofs.Passing.{pass-bare, pass-ended}
+use Rattle.rdlpp_cursors.proofs.Usages.{fault-bare, open-wordless, placed-silent, placed-wordless}
 use Rattle.rdlpp_cursors.proofs.Words.{word-none}
 use Rattle.rdlpp_cursors.proofs.cursors.Cursors.step.Goals as goal
-
-pub overflow_add-end : goal.overflow_add-end
-overflow_add-end c =
-    let inside = look-inside (texts_of c.args.table.now.macros c.args.arguments.now) c.args.self.now.opens c.look-look.result c.in-Run.len c.look-look.ensures.look c.in-Run.is in
-    let short = c.look-look.ensures.short in
-    omega (arith, inside, short)
 
 pub returns-in-Ended-clause-step : goal.returns-in-Ended-clause-step
 returns-in-Ended-clause-step c =
@@ -19,14 +11,6 @@ returns-in-Ended-clause-step c =
 pub returns-in-Ended-clause-sound : goal.returns-in-Ended-clause-sound
 returns-in-Ended-clause-sound c =
     (pass-ended (texts_of c.args.table.now.macros c.args.arguments.now) c.args.self.now c.close.new.self c.look-look.result c.requires.sound c.look-look.ensures.look c.in-Ended.is c.close.ensures).sound
-
-pub returns-in-Run-clause-step : goal.returns-in-Run-clause-step
-returns-in-Run-clause-step c =
-    (pass-run (texts_of c.args.table.now.macros c.args.arguments.now) c.args.self.now c.move_to.new.self c.look-look.result c.in-Run.len _ c.requires.sound c.look-look.ensures.look c.in-Run.is refl c.move_to.ensures).is_step
-
-pub returns-in-Run-clause-sound : goal.returns-in-Run-clause-sound
-returns-in-Run-clause-sound c =
-    (pass-run (texts_of c.args.table.now.macros c.args.arguments.now) c.args.self.now c.move_to.new.self c.look-look.result c.in-Run.len _ c.requires.sound c.look-look.ensures.look c.in-Run.is refl c.move_to.ensures).sound
 
 pub returns-in-Bare-clause-step : goal.returns-in-Bare-clause-step
 returns-in-Bare-clause-step c =
@@ -40,14 +24,6 @@ pub returns-in-Ended-clause-refused : goal.returns-in-Ended-clause-refused
 returns-in-Ended-clause-refused c =
     (pass-ended (texts_of c.args.table.now.macros c.args.arguments.now) c.args.self.now c.close.new.self c.look-look.result c.requires.sound c.look-look.ensures.look c.in-Ended.is c.close.ensures).refused
 
-pub returns-in-Run-clause-digits : goal.returns-in-Run-clause-digits
-returns-in-Run-clause-digits c =
-    (pass-run (texts_of c.args.table.now.macros c.args.arguments.now) c.args.self.now c.move_to.new.self c.look-look.result c.in-Run.len _ c.requires.sound c.look-look.ensures.look c.in-Run.is refl c.move_to.ensures).digits
-
-pub returns-in-Run-clause-refused : goal.returns-in-Run-clause-refused
-returns-in-Run-clause-refused c =
-    (pass-run (texts_of c.args.table.now.macros c.args.arguments.now) c.args.self.now c.move_to.new.self c.look-look.result c.in-Run.len _ c.requires.sound c.look-look.ensures.look c.in-Run.is refl c.move_to.ensures).refused
-
 pub returns-in-Bare-clause-digits : goal.returns-in-Bare-clause-digits
 returns-in-Bare-clause-digits c =
     (pass-bare (texts_of c.args.table.now.macros c.args.arguments.now) c.args.self.now c.look-look.result c.wordless.result c.requires.sound c.look-look.ensures.look c.in-Bare.is c.wordless.ensures).digits
@@ -59,15 +35,8 @@ returns-in-Bare-clause-refused c =
 pub returns-in-Ended-clause-placed : goal.returns-in-Ended-clause-placed
 returns-in-Ended-clause-placed c = placed-silent _
 
-pub returns-in-Run-clause-placed : goal.returns-in-Run-clause-placed
-returns-in-Run-clause-placed c =
-    placed-run (texts_of c.args.table.now.macros c.args.arguments.now) c.args.self.now.opens c.look-look.result c.in-Run.len _ c.requires.sound c.look-look.ensures.look c.in-Run.is refl
-
 pub returns-in-Bare-clause-placed : goal.returns-in-Bare-clause-placed
 returns-in-Bare-clause-placed c = placed-wordless _ _ _ c.wordless.ensures
-
-pub returns-in-Run-clause-lends : goal.returns-in-Run-clause-lends
-returns-in-Run-clause-lends c = open-run c.args.self.now c.move_to.new.self _ c.requires.some c.move_to.ensures
 
 pub returns-in-Bare-clause-lends : goal.returns-in-Bare-clause-lends
 returns-in-Bare-clause-lends c = open-wordless _ _ _ c.wordless.ensures

@@ -1,4 +1,4 @@
-use Rattle.std.proofs.Common.{◌≡◌, ◌≤◌, length}
+use Rattle.std.proofs.Common.{◌≡◌, ◌≤◌}
 use Rattle.rdlpp_lines.specs.Texts.{begun, trims}
 use Rattle.rdlpp_lines.specs.Reading.{left, unread, LevelFits}
 use Rattle.rdlpp_lines.proofs.reading.KeptBytes.next_untrimmed.Given as goal

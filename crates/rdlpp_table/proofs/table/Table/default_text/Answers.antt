@@ -1,4 +1,4 @@
-use Rattle.std.proofs.Common.{◌<◌, ◌≡◌, length, arith, Some, sym, ap, ◌∙◌, unwrap_or}
+use Rattle.std.proofs.Common.{◌<◌, length, arith, Some, sym, ap, ◌∙◌}
 use Rattle.rdlpp_table.proofs.Laid.{len_of_view, count_entries, entry_within, default_found, arity_found}
 use Rattle.rdlpp_table.proofs.table.Table.default_text.Goals as goal
 

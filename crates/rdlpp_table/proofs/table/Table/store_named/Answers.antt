@@ -1,4 +1,4 @@
-use Rattle.std.proofs.Common.{◌∙◌, sym, ap, [], List, ℕ, Some, true}
+use Rattle.std.proofs.Common.{◌∙◌}
 use Rattle.rdlpp_table.specs.New.{list_formals}
 use Rattle.rdlpp_table.proofs.News.{list_is, no_list_is}
 use Rattle.rdlpp_table.proofs.Headers.{list_stores, list_refuses}
