@@ -213,10 +213,12 @@ impl Cursors {
     ///
     /// It lends the longest run of bytes that are copied, in one piece as they lie. It opens the actual of a formal, its default
     /// where the actual is empty, or the body of a macro, and goes on behind the name or the call. Or it closes a text of which
-    /// nothing is left.
+    /// nothing is left. Where it lends a run, what stands behind that is opened in the same step, or a text that ends there is
+    /// closed while others are open around it.
     ///
     /// # Faults
-    /// They are told at the line of the usage in the source. Nothing changes then, and the same fault comes again.
+    /// They are told at the line of the usage in the source, in a step of their own. Nothing changes then, and the same fault
+    /// comes again.
     /// - `BareBackquote` for a backquote without a name (this project's profile).
     /// - `DirectiveInText` for the name of a directive, with that name as its word (this project's profile).
     /// - `UndefinedMacro` for a name that no macro has, with that name (IEEE 1364-2001, `define`).

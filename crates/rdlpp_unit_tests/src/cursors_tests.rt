@@ -122,13 +122,30 @@ fn a_usage_opens_a_body_and_goes_on_behind_its_name(rt: HostRuntime) -> Result<(
     let inner = id_of(&rt, &table, b"B".as_slice());
     let mut cursors = opened(&rt, &table, b"A".as_slice(), 2);
     expect_step(&rt, &mut cursors, &table, lent(outer, 0, 2));
-    expect_step(&rt, &mut cursors, &table, CursorStep::Silent);
     assert_eq!(&rt; cursors.len(), 2);
     expect_step(&rt, &mut cursors, &table, lent(inner, 0, 1));
-    expect_step(&rt, &mut cursors, &table, CursorStep::Silent);
+    assert_eq!(&rt; cursors.len(), 1);
     expect_step(&rt, &mut cursors, &table, lent(outer, 4, 6));
+    assert_eq!(&rt; cursors.len(), 1);
     expect_step(&rt, &mut cursors, &table, CursorStep::Silent);
     assert!(&rt; cursors.is_empty());
+    Ok(())
+}
+
+#[test]
+fn what_is_refused_behind_a_run_is_told_by_the_next_step(rt: HostRuntime) -> Result<(), Fail> {
+    let table = table_of(
+        &rt,
+        &[
+            (b"A".as_slice(), b"x `B".as_slice()),
+            (b"B".as_slice(), b"z".as_slice()),
+        ],
+    );
+    let outer = id_of(&rt, &table, b"A".as_slice());
+    let mut cursors = opened(&rt, &table, b"A".as_slice(), 1);
+    expect_step(&rt, &mut cursors, &table, lent(outer, 0, 2));
+    expect_step(&rt, &mut cursors, &table, wordless(FaultKind::DepthPassed));
+    assert_eq!(&rt; cursors.len(), 1);
     Ok(())
 }
 
