@@ -25,7 +25,6 @@ pub mod SlotScopes
 pub mod SlotSteps
 pub mod Splitting
 pub mod BodySteps
-pub mod CopiedBodies
 pub mod Undefining
 pub mod CountedTexts
 pub mod WorkFalls
