@@ -1,9 +1,10 @@
 -- An `include`, as steps of the engine: the source that it opens, or its fault.
-use Rattle.std.specs.Prelude.{max, ◌==◌, ◌||◌}
+use Rattle.std.specs.Prelude.{max, ◌==◌}
 use Rattle.std.specs.Str.{IsUtf8, is_utf8}
 use Rattle.std.proofs.lemmas.Str.{IsUtf8-from_is_utf8}
-use Rattle.std.proofs.Common.{take, ◌≡◌, ℕ, suc, ◌+◌, ◌-◌, ◌≤◌, ◌<◌, Bool, true, false, List, [], ◌∷◌, length, drop, None, Some, Result, Ok, Err, refl, sym, ap, ◌∙◌, subst, arith}
+use Rattle.std.proofs.Common.{take, ◌≡◌, ℕ, suc, ◌+◌, ◌-◌, ◌≤◌, ◌<◌, true, false, List, [], ◌∷◌, length, drop, None, Some, Result, Ok, Err, refl, sym, ap, ◌∙◌, subst, arith}
 use Rattle.std.proofs.lemmas.List.{length-drop}
+use Rattle.std.proofs.lemmas.Bool.{or_right}
 use Rattle.rdlpp_scan.specs.SourceTokens.{whole_tokens}
 use Rattle.rdlpp_scan.specs.declared.token.Directive.TheVariants.{Include}
 use Rattle.rdlpp_scan.specs.declared.token.Mode.TheVariants.{Plain}
@@ -275,12 +276,8 @@ name_taken string end is = let same : end - 1 - 1 ≡ length string - 2 = omega 
 pub bad_empty : (name : List ℕ) → (length name == 0) ≡ true → is_bad_name name ≡ true
 bad_empty name empty = rw empty refl
 
-or_true : (b : Bool) → (b || true) ≡ true
-or_true true = refl
-or_true false = refl
-
 pub bad_utf8 : (name : List ℕ) → is_utf8 name ≡ false → is_bad_name name ≡ true
-bad_utf8 name wrong = rw wrong (or_true (length name == 0))
+bad_utf8 name wrong = rw wrong (or_right (length name == 0) true refl)
 
 -- any other is good
 pub good_name : (name : List ℕ) → (length name == 0) ≡ false → is_utf8 name ≡ true → is_bad_name name ≡ false
