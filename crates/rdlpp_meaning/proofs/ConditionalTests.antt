@@ -1,4 +1,4 @@
--- What the test of a conditional's directive comes to, by the name that it is given and by how many more conditionals may be opened.
+-- What the test of a directive that opens a conditional comes to, by the name that it is given and by how many more may be opened.
 use Rattle.std.proofs.Common.{◌≡◌, ℕ, suc, Bool, not, List, [], refl}
 use Rattle.std.specs.Prelude.{if◌then◌else◌}
 use Rattle.rdlpp_scan.specs.declared.token.Directive.{Directive}

@@ -1,4 +1,4 @@
--- What an `include` takes behind its word: a string that is closed on its line, behind blanks or at once, or nothing.
+-- What an `include` takes behind its word: a string that is closed on its line, behind blanks or at once.
 use Rattle.std.proofs.Common.{◌≡◌, ℕ, false, List, ◌∷◌, ◌++◌, refl, ap, Some}
 use Rattle.std.specs.List.{list_any}
 use Rattle.rdlpp_scan.specs.declared.token.Kind.TheVariants.{Str}

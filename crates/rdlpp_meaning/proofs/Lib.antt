@@ -19,7 +19,7 @@ pub mod CursorSteps
 pub mod SourceCalls
 pub mod LiteralSubstitution
 pub mod Cover
-pub mod OwnWords
+pub mod PlainOutputs
 pub mod Trees
 pub mod SlotScopes
 pub mod SlotSteps

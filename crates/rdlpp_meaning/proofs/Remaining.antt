@@ -1,4 +1,4 @@
--- What remains of a file in live text, as an outcome: for each kind of token in front of it.
+-- What remains of a file in live text, as an outcome: behind tokens that are copied, and at its end.
 use Rattle.std.proofs.Common.{◌≡◌, ℕ, Bool, true, List, [], ◌++◌, refl, ap, ◌∙◌}
 use Rattle.std.specs.List.{list_all}
 use Rattle.rdlpp_scan.specs.SourceTokens.{SourceToken}

@@ -1,4 +1,4 @@
--- Laws of a token that is written in parts, and of one without bytes.
+-- The law of a skipped token that is written in parts.
 use Rattle.std.proofs.Common.{◌≡◌, ℕ, Bool, List, ◌∷◌, ◌++◌, sym, ap, ◌∙◌, None}
 use Rattle.rdlpp_scan.specs.declared.token.Kind.{Kind}
 use Rattle.rdlpp_scan.specs.SourceTokens.{Ordinary, SourceToken}
