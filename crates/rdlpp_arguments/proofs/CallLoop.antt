@@ -4,6 +4,7 @@ use Rattle.std.proofs.lemmas.List.{length-append, length-take-le}
 use Rattle.rdlpp_scan.specs.declared.token.Mode.{Mode}
 use Rattle.rdlpp_scan.specs.declared.token.Mode.TheVariants.{Plain, InStr, InBlock}
 use Rattle.rdlpp_scan.specs.Front.{Breach, StringOpen, CommentOpen}
+use Rattle.rdlpp_scan.specs.Pieces.{is_open}
 use Rattle.rdlpp_meaning.specs.declared.fault.FaultKind.{FaultKind}
 use Rattle.rdlpp_meaning.specs.declared.fault.FaultKind.TheVariants.{EmbeddedPerl}
 use Rattle.rdlpp_meaning.specs.State.{breach_kind}
@@ -19,7 +20,7 @@ use Rattle.rdlpp_read.proofs.Growing.{calls-on}
 use Rattle.rdlpp_read.proofs.Sliding.{moves-on, moves-past, text-on}
 use Rattle.rdlpp_source.specs.declared.sources.Sources.{Ghosts}
 use Rattle.rdlpp_arguments.specs.CallReads.{IsEndOfText, IsEnded, IsExactCall, IsTaken, ReadsCall, TellsCall, is_failed_call, used_buffer, with_used}
-use Rattle.rdlpp_arguments.specs.Reads.{Closes, GoesOn, is_open, reading}
+use Rattle.rdlpp_arguments.specs.Reads.{Closes, GoesOn, reading}
 use Rattle.rdlpp_arguments.specs.Store.{StoreView}
 use Rattle.rdlpp_arguments.specs.Taking.{IsClose, IsTaking, IsUse, kept_of, level_in, stand_meant}
 use Rattle.rdlpp_arguments.specs.declared.taking.Taking.TheVariants.{Refused as RefusedTaking, Perl}

@@ -17,6 +17,7 @@ use Rattle.rdlpp_scan.proofs.RemainingLaws.{remaining-opened}
 use Rattle.rdlpp_scan.proofs.RemainingSteps.{remaining-closed, remaining-open_string, remaining-open_comment, remaining-cut_string}
 use Rattle.rdlpp_scan.proofs.ResumedTokens.{remaining-perl_in_string}
 use Rattle.rdlpp_scan.specs.Ordinary.{is_plain_kind}
+use Rattle.rdlpp_scan.specs.Pieces.{is_open}
 use Rattle.rdlpp_scan.proofs.Seams.{Seam, Closed, BeforePerl, OpenString, OpenComment}
 use Rattle.rdlpp_calls.proofs.FirstTokens.{front_byte}
 use Rattle.rdlpp_scan.proofs.StopKinds.{block_token-kind, Row, AtPerl, AtLineComment, AtBlockComment, AtString, AtBack, AtBare, AtPlain, token_of-row}
@@ -31,7 +32,6 @@ use Rattle.rdlpp_meaning.specs.Parts.{directive_of}
 use Rattle.rdlpp_meaning.proofs.CallReadings.{part_inside, comment_part_before, open_comment_before, string_before, open_string_before}
 use Rattle.rdlpp_meaning.proofs.RestTokens.{IsRest, WholeRest, BrokenRest, string_remains, comment_remains}
 use Rattle.rdlpp_meaning.proofs.TornSources.{row-string}
-use Rattle.rdlpp_arguments.specs.Reads.{is_open}
 use Rattle.rdlpp_arguments.specs.Taking.{Around, IsAround, tokens_at, tokens_behind}
 
 -- a token of a text, with its bytes, on a line

@@ -5,6 +5,7 @@ use Rattle.rdlpp_scan.specs.declared.token.Mode.{Mode}
 use Rattle.rdlpp_scan.specs.declared.token.Mode.TheVariants.{Plain}
 use Rattle.rdlpp_scan.specs.Lines.{EndsLine}
 use Rattle.rdlpp_scan.specs.SourceTokens.{line_ends}
+use Rattle.rdlpp_scan.specs.Pieces.{is_open}
 use Rattle.rdlpp_meaning.specs.declared.fault.FaultKind.{FaultKind}
 use Rattle.rdlpp_meaning.specs.CallReading.{ReadRefused, ReadStopped, ReadClosed, onto_kept, read}
 use Rattle.rdlpp_meaning.specs.CallScan.{Stand}
@@ -18,7 +19,7 @@ use Rattle.rdlpp_read.specs.declared.files.File.{File}
 use Rattle.rdlpp_read.proofs.Sliding.{moves-past, text-past}
 use Rattle.rdlpp_read.proofs.Slots.{torn_after-append}
 use Rattle.rdlpp_arguments.specs.CallReads.{TellsCall, used_buffer, with_used}
-use Rattle.rdlpp_arguments.specs.Reads.{Closes, GoesOn, is_open, reading}
+use Rattle.rdlpp_arguments.specs.Reads.{Closes, GoesOn, reading}
 use Rattle.rdlpp_arguments.specs.Taking.{Around, IsAround, IsClose, IsUse, kept_of, stand_meant, tokens_at, tokens_behind}
 use Rattle.rdlpp_arguments.specs.declared.reading.CallRead.{CallRead}
 use Rattle.rdlpp_arguments.specs.declared.reading.CallRead.TheVariants.{Closed, Refused, Broken as BrokenCall, Failed}

@@ -14,6 +14,7 @@ use Rattle.rdlpp_scan.specs.Ordinary.{is_plain_kind}
 use Rattle.rdlpp_scan.specs.SourceTokens.{SourceToken, Course, Step, Last, Next, Ordinary, Broken, Definition, broken, define_step, line_step, logical_len, line_ends, remaining_tokens, source_tokens, source_step}
 use Rattle.rdlpp_scan.specs.Reserved.{is_reserved, reserved_names}
 use Rattle.rdlpp_scan.specs.Tokens.{token_of, whole}
+use Rattle.rdlpp_scan.specs.Pieces.{is_open}
 use Rattle.rdlpp_scan.proofs.RemainingLaws.{behind, course, remaining-perl}
 use Rattle.rdlpp_scan.proofs.ResumedTokens.{after_step, tokens_step, remaining-perl_in_string, perl_in_string}
 use Rattle.rdlpp_scan.proofs.StepLaws.{back_held, next_held}
@@ -28,7 +29,6 @@ use Rattle.rdlpp_meaning.specs.Expansion.{usage_token}
 use Rattle.rdlpp_meaning.specs.Parts.{directive_named, directive_of}
 use Rattle.rdlpp_meaning.proofs.SourceScans.{source_role_directive, source_role_text}
 use Rattle.rdlpp_meaning.proofs.TokenWrites.{usage_text}
-use Rattle.rdlpp_arguments.specs.Reads.{is_open}
 use Rattle.rdlpp_arguments.specs.Taking.{Around, IsAround, tokens_at}
 use Rattle.rdlpp_arguments.proofs.FirstReads.{IsFirst, own_token, whole_first}
 
