@@ -27,7 +27,7 @@ use Rattle.rdlpp_meaning.specs.Meaning.{Passage, Progress, behind_bytes, leaves}
 use Rattle.rdlpp_meaning.specs.Resumed.{Live, Place, Skipped}
 use Rattle.rdlpp_meaning.specs.Opened.{Waiting, all_resumed}
 use Rattle.rdlpp_meaning.proofs.Passages.{behind_bytes-nil}
-use Rattle.rdlpp_meaning.proofs.OwnWords.{all_plain_copied}
+use Rattle.rdlpp_meaning.proofs.PlainOutputs.{all_plain_copied}
 use Rattle.rdlpp_read.specs.declared.files.File.{File}
 use Rattle.rdlpp_read.specs.Buffer.{BufferView, entered_mode, held_of, rest_of, tokens_left}
 use Rattle.rdlpp_read.specs.Files.{consumed_file}
