@@ -47,6 +47,80 @@ use crate::piece::{append_part, is_one_piece, trimmed};
 use crate::tokens::line_token;
 use rdlpp_scan::{Kind, LexFault, Mode, is_blank, is_perl, lex_fault, open_fault};
 
+/// Whether a byte is white space of a header: a blank or an LF (this project's profile).
+#[tactic(auto, unfolding(crate::specs::Texts::is_space, rdlpp_scan::specs::Bytes::is_line_end))]
+pub fn is_space(b: u8) -> bool
+    ensures { result ≡ is_space b }
+{
+    is_blank(b) || b == b'\n'
+}
+
+// The bytes of a token that are kept: those of a `//` comment go.
+fn kept_of(kind: Kind, bytes: &[u8]) -> &[u8]
+    ensures value { result.now ≡ kept_of kind bytes.now }
+    ensures inside { length result.now ≤ length bytes.now }
+{
+    match kind {
+        Kind::LineComment => &[],
+        _ => bytes,
+    }
+}
+
+// Whether a default text ends at a token; a body has no level, and ends at none. b is the token's first byte.
+#[tactic(auto, unfolding(crate::specs::Texts::ends_default))]
+fn stops_token(level: Option<usize>, kind: Kind, b: u8) -> bool
+    ensures { result ≡ stops_token level kind b }
+{
+    match (level, kind) {
+        (Some(level), Kind::Comma) => level == 0,
+        (Some(level), Kind::Closer) => level == 0 && b == b')',
+        _ => false,
+    }
+}
+
+// The level behind a token.
+#[tactic(auto, unfolding(crate::specs::Texts::level_behind))]
+fn level_behind(kind: Kind, level: usize) -> usize
+    requires { level < 18446744073709551615 }
+    ensures value { result ≡ level_behind kind level }
+    ensures small { result ≤ level + 1 }
+{
+    match kind {
+        Kind::Opener => level + 1,
+        Kind::Closer => level.saturating_sub(1),
+        _ => level,
+    }
+}
+
+// The level behind a token, where there is one.
+fn level_by(level: Option<usize>, kind: Kind) -> Option<usize>
+    requires { unwrap_or level 0 < 18446744073709551615 }
+    ensures value { result ≡ level_by level kind }
+    ensures small { unwrap_or result 0 ≤ unwrap_or level 0 + 1 }
+{
+    match level {
+        Some(level) => Some(level_behind(kind, level)),
+        None => None,
+    }
+}
+
+// The level at which a text begins.
+#[tactic(auto, unfolding(crate::specs::Texts::start_level))]
+fn start_level(is_default: bool) -> Option<usize>
+    ensures value { result ≡ start_level is_default }
+    ensures zero { unwrap_or result 0 ≡ 0 }
+{
+    if is_default { Some(0) } else { None }
+}
+
+// Whether a byte goes at both ends: a blank, and of a default text LF too.
+#[tactic(auto, unfolding(crate::specs::Texts::trims))]
+pub(crate) fn trims(is_default: bool, b: u8) -> bool
+    ensures { result ≡ trims is_default b }
+{
+    if is_default { is_space(b) } else { is_blank(b) }
+}
+
 // The bytes of a body or of a default text that are kept, one after another.
 #[derive(Drop)]
 pub(crate) struct KeptBytes<'a> {
@@ -172,14 +246,6 @@ pub struct Measured<'a> {
     pub behind: &'a [u8],
 }
 
-/// Whether a byte is white space of a header: a blank or an LF (this project's profile).
-#[tactic(auto, unfolding(crate::specs::Texts::is_space, rdlpp_scan::specs::Bytes::is_line_end))]
-pub fn is_space(b: u8) -> bool
-    ensures { result ≡ is_space b }
-{
-    is_blank(b) || b == b'\n'
-}
-
 /// Measures a body, or the default text with which a text begins: its length without its `//`
 /// comments and without the blanks, and of a default text LF too, at both ends.
 ///
@@ -206,107 +272,6 @@ pub fn trimmed_len(
         return piece_len(text, is_logical);
     }
     kept_len(text, is_logical, is_default)
-}
-
-/// Appends a body, or the default text with which a text begins, of which `trimmed_len` told the
-/// length, to bytes that have room for it.
-///
-/// Costs time linear in the text's length.
-pub fn append_trimmed(to: &mut Vec<u8>, text: &[u8], is_logical: bool, is_default: bool, len: usize)
-    requires len { trimmed_len (trims is_default) (cleared (start_level is_default) (joined is_logical text.now)) ≡ Ok len }
-    requires room { vec_len to.old + len ≤ vec_capacity to.old }
-    ensures items { to.new.items ≡ to.old.items ++ trimmed_left (trims is_default) (cleared (start_level is_default) (joined is_logical text.now)) }
-    ensures capacity { vec_capacity to.new ≡ vec_capacity to.old }
-{
-    if !is_default && is_one_piece(text) {
-        append_part(to, trimmed(text));
-    } else {
-        append_kept(to, text, is_logical, is_default, len);
-    }
-}
-
-/// What stands behind the default text with which bytes begin, from its `,` or `)` on, where no
-/// byte is a continuation; nothing where the default text has a fault or goes up to the end.
-///
-/// Costs time linear in the default text's length.
-pub fn behind_default(bytes: &[u8]) -> &[u8]
-    ensures value { result.now ≡ text_behind (cleared (Some 0) bytes.now) }
-    ensures inside { length result.now ≤ length bytes.now }
-{
-    let mut reader = KeptBytes::new(bytes, false, true);
-    loop {
-        match reader.next() {
-            Ok(Some(_)) => {}
-            Ok(None) => return reader.rest(),
-            Err(_) => return &[],
-        }
-    }
-}
-
-// The bytes of a token that are kept: those of a `//` comment go.
-fn kept_of(kind: Kind, bytes: &[u8]) -> &[u8]
-    ensures value { result.now ≡ kept_of kind bytes.now }
-    ensures inside { length result.now ≤ length bytes.now }
-{
-    match kind {
-        Kind::LineComment => &[],
-        _ => bytes,
-    }
-}
-
-// Whether a default text ends at a token; a body has no level, and ends at none. b is the token's first byte.
-#[tactic(auto, unfolding(crate::specs::Texts::ends_default))]
-fn stops_token(level: Option<usize>, kind: Kind, b: u8) -> bool
-    ensures { result ≡ stops_token level kind b }
-{
-    match (level, kind) {
-        (Some(level), Kind::Comma) => level == 0,
-        (Some(level), Kind::Closer) => level == 0 && b == b')',
-        _ => false,
-    }
-}
-
-// The level behind a token.
-#[tactic(auto, unfolding(crate::specs::Texts::level_behind))]
-fn level_behind(kind: Kind, level: usize) -> usize
-    requires { level < 18446744073709551615 }
-    ensures value { result ≡ level_behind kind level }
-    ensures small { result ≤ level + 1 }
-{
-    match kind {
-        Kind::Opener => level + 1,
-        Kind::Closer => level.saturating_sub(1),
-        _ => level,
-    }
-}
-
-// The level behind a token, where there is one.
-fn level_by(level: Option<usize>, kind: Kind) -> Option<usize>
-    requires { unwrap_or level 0 < 18446744073709551615 }
-    ensures value { result ≡ level_by level kind }
-    ensures small { unwrap_or result 0 ≤ unwrap_or level 0 + 1 }
-{
-    match level {
-        Some(level) => Some(level_behind(kind, level)),
-        None => None,
-    }
-}
-
-// The level at which a text begins.
-#[tactic(auto, unfolding(crate::specs::Texts::start_level))]
-fn start_level(is_default: bool) -> Option<usize>
-    ensures value { result ≡ start_level is_default }
-    ensures zero { unwrap_or result 0 ≡ 0 }
-{
-    if is_default { Some(0) } else { None }
-}
-
-// Whether a byte goes at both ends: a blank, and of a default text LF too.
-#[tactic(auto, unfolding(crate::specs::Texts::trims))]
-pub(crate) fn trims(is_default: bool, b: u8) -> bool
-    ensures { result ≡ trims is_default b }
-{
-    if is_default { is_space(b) } else { is_blank(b) }
 }
 
 // Measures a body in one piece.
@@ -359,6 +324,23 @@ fn kept_len(text: &[u8], is_logical: bool, is_default: bool) -> Result<Measured<
     }
 }
 
+/// Appends a body, or the default text with which a text begins, of which `trimmed_len` told the
+/// length, to bytes that have room for it.
+///
+/// Costs time linear in the text's length.
+pub fn append_trimmed(to: &mut Vec<u8>, text: &[u8], is_logical: bool, is_default: bool, len: usize)
+    requires len { trimmed_len (trims is_default) (cleared (start_level is_default) (joined is_logical text.now)) ≡ Ok len }
+    requires room { vec_len to.old + len ≤ vec_capacity to.old }
+    ensures items { to.new.items ≡ to.old.items ++ trimmed_left (trims is_default) (cleared (start_level is_default) (joined is_logical text.now)) }
+    ensures capacity { vec_capacity to.new ≡ vec_capacity to.old }
+{
+    if !is_default && is_one_piece(text) {
+        append_part(to, trimmed(text));
+    } else {
+        append_kept(to, text, is_logical, is_default, len);
+    }
+}
+
 // Appends a text by the bytes that are kept, one after another.
 fn append_kept(to: &mut Vec<u8>, text: &[u8], is_logical: bool, is_default: bool, len: usize)
     requires len { trimmed_len (trims is_default) (cleared (start_level is_default) (joined is_logical text.now)) ≡ Ok len }
@@ -374,5 +356,23 @@ fn append_kept(to: &mut Vec<u8>, text: &[u8], is_logical: bool, is_default: bool
         };
         to.push_reserved(b);
         found = bytes.next().unwrap_or(None);
+    }
+}
+
+/// What stands behind the default text with which bytes begin, from its `,` or `)` on, where no
+/// byte is a continuation; nothing where the default text has a fault or goes up to the end.
+///
+/// Costs time linear in the default text's length.
+pub fn behind_default(bytes: &[u8]) -> &[u8]
+    ensures value { result.now ≡ text_behind (cleared (Some 0) bytes.now) }
+    ensures inside { length result.now ≤ length bytes.now }
+{
+    let mut reader = KeptBytes::new(bytes, false, true);
+    loop {
+        match reader.next() {
+            Ok(Some(_)) => {}
+            Ok(None) => return reader.rest(),
+            Err(_) => return &[],
+        }
     }
 }
