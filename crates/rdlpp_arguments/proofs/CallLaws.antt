@@ -3,13 +3,14 @@ use Rattle.std.proofs.Common.{◌≡◌, ℕ, false, List, ◌++◌, refl, sym, 
 use Rattle.rdlpp_scan.specs.declared.token.Mode.TheVariants.{Plain}
 use Rattle.rdlpp_scan.specs.Front.{front}
 use Rattle.rdlpp_scan.specs.SourceTokens.{SourceToken, remaining_tokens}
+use Rattle.rdlpp_scan.specs.Pieces.{is_open}
 use Rattle.rdlpp_scan.proofs.RemainingLaws.{course}
 use Rattle.rdlpp_meaning.specs.CallReading.{Reading, ReadClosed, read}
 use Rattle.rdlpp_meaning.specs.CallScan.{Before}
 use Rattle.rdlpp_meaning.proofs.ReadCalls.{read_closed, read_refused, read_stopped}
 use Rattle.rdlpp_read.specs.Buffer.{BufferView, held_of, rest_of, tokens_left}
 use Rattle.rdlpp_arguments.specs.CallReads.{IsCallOf, MeansCall, TellsCall}
-use Rattle.rdlpp_arguments.specs.Reads.{is_open, reading}
+use Rattle.rdlpp_arguments.specs.Reads.{reading}
 use Rattle.rdlpp_arguments.specs.declared.reading.CallRead.{CallRead}
 use Rattle.rdlpp_arguments.specs.declared.reading.CallRead.TheVariants.{Closed, Refused, Broken, Failed}
 

@@ -4,6 +4,7 @@ use Rattle.std.proofs.lemmas.List.{length-append, length-take-le}
 use Rattle.rdlpp_scan.specs.declared.token.Mode.{Mode}
 use Rattle.rdlpp_scan.specs.declared.token.Mode.TheVariants.{Plain, InStr, InBlock}
 use Rattle.rdlpp_scan.specs.Front.{Breach, StringOpen, CommentOpen}
+use Rattle.rdlpp_scan.specs.Pieces.{is_open}
 use Rattle.rdlpp_meaning.specs.declared.fault.FaultKind.{FaultKind}
 use Rattle.rdlpp_meaning.specs.declared.fault.FaultKind.TheVariants.{EmbeddedPerl}
 use Rattle.rdlpp_meaning.specs.State.{breach_kind}
@@ -19,14 +20,14 @@ use Rattle.rdlpp_read.proofs.Growing.{calls-on}
 use Rattle.rdlpp_read.proofs.Sliding.{moves-on, moves-past, text-on}
 use Rattle.rdlpp_source.specs.declared.sources.Sources.{Ghosts}
 use Rattle.rdlpp_arguments.specs.CallReads.{IsEndOfText, IsEnded, IsExactCall, IsTaken, ReadsCall, TellsCall, is_failed_call, used_buffer, with_used}
-use Rattle.rdlpp_arguments.specs.Reads.{Closes, GoesOn, is_open, reading}
+use Rattle.rdlpp_arguments.specs.Reads.{Closes, GoesOn, reading}
 use Rattle.rdlpp_arguments.specs.Store.{StoreView}
 use Rattle.rdlpp_arguments.specs.Taking.{IsClose, IsTaking, IsUse, kept_of, level_in, stand_meant}
 use Rattle.rdlpp_arguments.specs.declared.taking.Taking.TheVariants.{Refused as RefusedTaking, Perl}
 use Rattle.rdlpp_arguments.specs.declared.taking.Use.{Use}
 use Rattle.rdlpp_arguments.specs.declared.reading.CallRead.{CallRead}
 use Rattle.rdlpp_arguments.specs.declared.reading.CallRead.TheVariants.{Closed, Refused, Broken, Failed}
-use Rattle.rdlpp_arguments.proofs.GoingOn.{close_closes, fill_goes_on, goes_on_told, goes_on_twice, taking_broken, taking_refused, token_goes_on, tells_behind, tells_told, used_inner, used_length, used_moves, used_none, used_text, used_twice}
+use Rattle.rdlpp_arguments.proofs.GoingOn.{close_closes, fill_goes_on, goes_on_told, goes_on_twice, taking_broken, taking_refused, token_goes_on, tells_behind, tells_told, used_inner, used_moves, used_none, used_text, used_twice}
 use Rattle.rdlpp_arguments.proofs.Halts.{broken_reads}
 
 -- a call of which some was read: the store has what is kept of the used bytes, and reading goes on where it stands
@@ -74,12 +75,6 @@ reading_starts g s files most store none room plain =
       text = λ t. refl;
       call = not_asked g s;
     }
-
--- there is still a source
-pub still_open : {S R : Type 0} (g : Ghosts S R) (failed : Bool) (first now : S) (old new : FilesView R) (most : ℕ) (store : StoreView) (at : Stand)
-    → IsReading g failed first now old new most store at → 0 < length old.nest → 0 < length new.nest
-still_open g failed first now old new most store at r some =
-    omega (arith, ap length r.inner, used_length (inner_buffer new.nest) r.used old.nest)
 
 -- bytes that are used one after the other
 pub used_on : {R : Type 0} (old mid new : List (File R)) (x y : List ℕ) → mid ≡ with_used (inner_buffer mid) x old → new ≡ with_used (inner_buffer new) y mid

@@ -2,6 +2,7 @@
 use Rattle.std.proofs.Common.{◌≡◌, ℕ, zero, suc, Bool, true, false, List, [], ◌∷◌, length, refl, subst}
 use Rattle.std.specs.Prelude.{nat_le}
 use Rattle.rdlpp_scan.specs.SourceTokens.{SourceToken}
+use Rattle.rdlpp_scan.specs.Pieces.{is_open}
 use Rattle.rdlpp_meaning.specs.declared.fault.FaultKind.{FaultKind}
 use Rattle.rdlpp_meaning.specs.declared.fault.FaultKind.TheVariants.{EmbeddedPerl, LineTooLong, OpenComment, OpenString, SourceTooLong}
 use Rattle.rdlpp_meaning.specs.Actuals.{Role, Space, Dropped, Remark, Start, End, Halt, Ends, Stops}
@@ -11,7 +12,7 @@ use Rattle.rdlpp_read.specs.Buffer.{tokens_left}
 use Rattle.rdlpp_read.specs.Files.{inner_buffer}
 use Rattle.rdlpp_read.specs.declared.files.File.{File}
 use Rattle.rdlpp_arguments.specs.CallReads.{IsEnded, is_read_fault}
-use Rattle.rdlpp_arguments.specs.Reads.{is_open, reading}
+use Rattle.rdlpp_arguments.specs.Reads.{reading}
 use Rattle.rdlpp_arguments.specs.declared.reading.CallRead.TheVariants.{Refused}
 
 -- what a turn refuses a call for

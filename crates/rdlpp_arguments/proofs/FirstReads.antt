@@ -1,7 +1,7 @@
 -- The first token of held bytes, or the part of it that is held, as a call reads it.
-use Rattle.std.proofs.Common.{◌≡◌, ◌≢◌, ℕ, ◌+◌, ◌-◌, ◌≤◌, ◌<◌, Bool, true, false, ◌&&◌, ◌==◌, List, [], ◌∷◌, ◌++◌, length, take, drop, slice_index, refl, sym, ap, ◌∙◌, subst, append_assoc, append-nil, arith}
+use Rattle.std.proofs.Common.{◌≡◌, ◌≢◌, ℕ, ◌+◌, ◌-◌, ◌≤◌, ◌<◌, Bool, true, false, ◌==◌, List, [], ◌∷◌, ◌++◌, length, take, drop, slice_index, refl, sym, ap, ◌∙◌, subst, append_assoc, append-nil, arith}
 use Rattle.std.specs.Prelude.{nat_le}
-use Rattle.std.proofs.lemmas.Bool.{false≢true, eqb-true}
+use Rattle.std.proofs.lemmas.Bool.{false≢true, eqb-true, and_parts}
 use Rattle.std.proofs.lemmas.List.{length-take-le, length-drop, take_all, drop_all}
 use Rattle.rdlpp_scan.specs.declared.token.Kind.{Kind}
 use Rattle.rdlpp_scan.specs.declared.token.Kind.TheVariants.{Str, BlockComment, Back}
@@ -17,6 +17,7 @@ use Rattle.rdlpp_scan.proofs.RemainingLaws.{remaining-opened}
 use Rattle.rdlpp_scan.proofs.RemainingSteps.{remaining-closed, remaining-open_string, remaining-open_comment, remaining-cut_string}
 use Rattle.rdlpp_scan.proofs.ResumedTokens.{remaining-perl_in_string}
 use Rattle.rdlpp_scan.specs.Ordinary.{is_plain_kind}
+use Rattle.rdlpp_scan.specs.Pieces.{is_open}
 use Rattle.rdlpp_scan.proofs.Seams.{Seam, Closed, BeforePerl, OpenString, OpenComment}
 use Rattle.rdlpp_calls.proofs.FirstTokens.{front_byte}
 use Rattle.rdlpp_scan.proofs.StopKinds.{block_token-kind, Row, AtPerl, AtLineComment, AtBlockComment, AtString, AtBack, AtBare, AtPlain, token_of-row}
@@ -30,7 +31,7 @@ use Rattle.rdlpp_meaning.specs.Expansion.{bytes_of}
 use Rattle.rdlpp_meaning.specs.Parts.{directive_of}
 use Rattle.rdlpp_meaning.proofs.CallReadings.{part_inside, comment_part_before, open_comment_before, string_before, open_string_before}
 use Rattle.rdlpp_meaning.proofs.RestTokens.{IsRest, WholeRest, BrokenRest, string_remains, comment_remains}
-use Rattle.rdlpp_arguments.specs.Reads.{is_open}
+use Rattle.rdlpp_meaning.proofs.TornSources.{row-string}
 use Rattle.rdlpp_arguments.specs.Taking.{Around, IsAround, tokens_at, tokens_behind}
 
 -- a token of a text, with its bytes, on a line
@@ -194,26 +195,10 @@ comment_before false room line part ts (BrokenRest b bytes own h is) some other 
     ∙ open_comment_before false room line own part bytes b [] h (ap (λ (z : ℕ). z == 34) (front_first part bytes some) ∙ other refl)
     ∙ ap (read Before true room) (sym is)
 
--- the first byte of a string, and of a comment
-string_quote : (bs : List ℕ) (t : Token) → Row bs t → t.kind ≡ Str → (slice_index bs 0 == 34) ≡ true
-unfolding whole is_plain_kind
-string_quote bs t (AtString h e) is = h
-string_quote bs t (AtPerl h e) is = let i = ap (λ (u : Token). u.kind) e in absurd (cc)
-string_quote bs t (AtLineComment h e) is = absurd (cc)
-string_quote bs t (AtBlockComment h e) is = absurd (cc)
-string_quote bs t (AtBack h e) is = let i = ap (λ (u : Token). u.kind) e in absurd (cc)
-string_quote bs t (AtBare h g e) is = let i = ap (λ (u : Token). u.kind) e in absurd (cc)
-string_quote bs t (AtPlain h q) is = absurd (false≢true (sym (ap is_plain_kind is) ∙ h))
-
--- the first of two tests that pass
-first_passes : (p q : Bool) → (p && q) ≡ true → p ≡ true
-first_passes true q e = refl
-first_passes false q e = e
-
 comment_slash : (bs : List ℕ) (t : Token) → Row bs t → t.kind ≡ BlockComment → (slice_index bs 0 == 34) ≡ false
 unfolding whole is_plain_kind begins_block_comment
 comment_slash bs t (AtBlockComment h e) is =
-    let byte : slice_index bs 0 ≡ 47 = eqb-true (slice_index bs 0) 47 (first_passes (slice_index bs 0 == 47) (slice_index bs 1 == 42) h) in
+    let byte : slice_index bs 0 ≡ 47 = eqb-true (slice_index bs 0) 47 (and_parts (slice_index bs 0 == 47) (slice_index bs 1 == 42) h).0 in
     ap (λ (z : ℕ). z == 34) byte
 comment_slash bs t (AtString h e) is = absurd (cc)
 comment_slash bs t (AtPerl h e) is = let i = ap (λ (u : Token). u.kind) e in absurd (cc)
@@ -318,7 +303,7 @@ string_mode at InStr held kind lead is = absurd (lead is refl)
 string_mode at InBlock held kind lead is = let k = block_token-kind 0 held in absurd (cc)
 
 string_begins : (m : Mode) (held : List ℕ) → (token_of m held).kind ≡ Str → m ≡ Plain → (slice_index held 0 == 34) ≡ true
-string_begins Plain held kind is = string_quote held (token_of Plain held) (token_of-row held) kind
+string_begins Plain held kind is = row-string held (token_of Plain held) (token_of-row held) kind
 string_begins InStr held kind is = absurd (cc)
 string_begins InBlock held kind is = absurd (cc)
 

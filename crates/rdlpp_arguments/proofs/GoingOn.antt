@@ -1,11 +1,11 @@
 -- Reading a call goes on over bytes that are used, token by token and over refills.
-use Rattle.std.proofs.Common.{◌≡◌, ℕ, ◌+◌, ◌-◌, ◌≤◌, ◌<◌, Bool, not, List, [], ◌∷◌, ◌++◌, length, take, drop, refl, sym, ap, ◌∙◌, append_assoc, inl, inr, arith}
+use Rattle.std.proofs.Common.{◌≡◌, ℕ, ◌+◌, ◌-◌, ◌≤◌, ◌<◌, List, [], ◌∷◌, ◌++◌, length, take, drop, refl, sym, ap, ◌∙◌, append_assoc, inl, inr, arith}
 use Rattle.std.proofs.lemmas.List.{drop-drop, length-append, length-drop, length-take, length-take-le}
-use Rattle.rdlpp_scan.specs.Bytes.{is_line_end}
 use Rattle.rdlpp_scan.specs.declared.token.Mode.{Mode}
 use Rattle.rdlpp_scan.specs.declared.token.Mode.TheVariants.{Plain}
 use Rattle.rdlpp_scan.specs.Lines.{EndsLine}
 use Rattle.rdlpp_scan.specs.SourceTokens.{line_ends}
+use Rattle.rdlpp_scan.specs.Pieces.{is_open}
 use Rattle.rdlpp_meaning.specs.declared.fault.FaultKind.{FaultKind}
 use Rattle.rdlpp_meaning.specs.CallReading.{ReadRefused, ReadStopped, ReadClosed, onto_kept, read}
 use Rattle.rdlpp_meaning.specs.CallScan.{Stand}
@@ -17,8 +17,9 @@ use Rattle.rdlpp_read.specs.Buffer.{BufferView, EndsHeld, MovesOver, ahead_of, e
 use Rattle.rdlpp_read.specs.Files.{FilesView, consumed_file, inner_buffer, torn_after, with_buffer, with_inner}
 use Rattle.rdlpp_read.specs.declared.files.File.{File}
 use Rattle.rdlpp_read.proofs.Sliding.{moves-past, text-past}
+use Rattle.rdlpp_read.proofs.Slots.{torn_after-append}
 use Rattle.rdlpp_arguments.specs.CallReads.{TellsCall, used_buffer, with_used}
-use Rattle.rdlpp_arguments.specs.Reads.{Closes, GoesOn, is_open, reading}
+use Rattle.rdlpp_arguments.specs.Reads.{Closes, GoesOn, reading}
 use Rattle.rdlpp_arguments.specs.Taking.{Around, IsAround, IsClose, IsUse, kept_of, stand_meant, tokens_at, tokens_behind}
 use Rattle.rdlpp_arguments.specs.declared.reading.CallRead.{CallRead}
 use Rattle.rdlpp_arguments.specs.declared.reading.CallRead.TheVariants.{Closed, Refused, Broken as BrokenCall, Failed}
@@ -188,16 +189,10 @@ tells_told tells unread at room k u f g (Refused kind) a = λ t. a tt
 tells_told tells unread at room k u f g (BrokenCall kind line) a = λ t. a tt
 tells_told tells unread at room k u f g Failed a = record { to = a.to; goes_on = goes_on_told tells unread at a.to room k u f g a.goes_on }
 
--- whether the last byte isn't LF, behind bytes and then bytes
-torn-append : (torn : Bool) (x y : List ℕ) → torn_after torn (x ++ y) ≡ torn_after (torn_after torn x) y
-unfolding torn_after
-torn-append torn [] y = refl
-torn-append torn (b ∷ x) y = torn-append (not (is_line_end b)) x y
-
 -- bytes that were used, and bytes behind them
 pub used_twice : {R : Type 0} (f g : BufferView R) (x y : List ℕ) (nest : List (File R)) → with_used g y (with_used f x nest) ≡ with_used g (x ++ y) nest
 used_twice f g x y [] = refl
-used_twice f g x y (s ∷ outer) = rw (only_blanks-append s.blanks x y, torn-append s.torn x y) refl
+used_twice f g x y (s ∷ outer) = rw (only_blanks-append s.blanks x y, torn_after-append s.torn x y) refl
 
 -- another buffer, of which nothing more was used
 pub used_none : {R : Type 0} (f : BufferView R) (nest : List (File R)) → with_buffer f nest ≡ with_used f [] nest
@@ -209,11 +204,6 @@ used_none f (s ∷ outer) = refl
 pub used_inner : {R : Type 0} (f : BufferView R) (x : List ℕ) (nest : List (File R)) → 0 < length nest → inner_buffer (with_used f x nest) ≡ f
 used_inner f x [] some = absurd (omega arith)
 used_inner f x (s ∷ outer) some = refl
-
--- there are as many
-pub used_length : {R : Type 0} (f : BufferView R) (x : List ℕ) (nest : List (File R)) → length (with_used f x nest) ≡ length nest
-used_length f x [] = refl
-used_length f x (s ∷ outer) = refl
 
 -- a mode that is entered changes nothing that is held
 pub entered_held : {R : Type 0} (next : Mode) (nest : List (File R)) → held_of (inner_buffer (with_buffer (entered_mode (inner_buffer nest) next) nest)) ≡ held_of (inner_buffer nest)

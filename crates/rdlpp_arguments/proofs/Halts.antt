@@ -9,16 +9,16 @@ use Rattle.rdlpp_scan.specs.declared.token.Directive.TheVariants.{Undef, Ifdef, 
 use Rattle.rdlpp_scan.specs.declared.token.Mode.{Mode}
 use Rattle.rdlpp_scan.specs.declared.token.Mode.TheVariants.{Plain, InStr, InBlock}
 use Rattle.rdlpp_scan.specs.declared.token.Token.{Token}
-use Rattle.rdlpp_scan.specs.Bytes.{begins_perl}
 use Rattle.rdlpp_scan.specs.Front.{Breach, PerlFound, DefineLong, DefineCut, Break, front}
 use Rattle.rdlpp_scan.specs.Ordinary.{is_plain_kind}
 use Rattle.rdlpp_scan.specs.SourceTokens.{SourceToken, Course, Step, Last, Next, Ordinary, Broken, Definition, broken, define_step, line_step, logical_len, line_ends, remaining_tokens, source_tokens, source_step}
 use Rattle.rdlpp_scan.specs.Reserved.{is_reserved, reserved_names}
-use Rattle.rdlpp_scan.specs.Tokens.{token_of, whole, string_token}
+use Rattle.rdlpp_scan.specs.Tokens.{token_of, whole}
+use Rattle.rdlpp_scan.specs.Pieces.{is_open}
 use Rattle.rdlpp_scan.proofs.RemainingLaws.{behind, course, remaining-perl}
-use Rattle.rdlpp_scan.proofs.ResumedTokens.{after_step, tokens_step, remaining-perl_in_string}
+use Rattle.rdlpp_scan.proofs.ResumedTokens.{after_step, tokens_step, remaining-perl_in_string, perl_in_string}
 use Rattle.rdlpp_scan.proofs.StepLaws.{back_held, next_held}
-use Rattle.rdlpp_scan.proofs.StopKinds.{Row, AtPerl, AtLineComment, AtBlockComment, AtString, AtBack, AtBare, AtPlain, token_of-row, string_token-kind, block_token-kind}
+use Rattle.rdlpp_scan.proofs.StopKinds.{Row, AtPerl, AtLineComment, AtBlockComment, AtString, AtBack, AtBare, AtPlain, token_of-row, block_token-kind}
 use Rattle.rdlpp_scan.proofs.TokenLens.{token_of-part}
 use Rattle.rdlpp_meaning.specs.declared.fault.FaultKind.TheVariants.{EmbeddedPerl}
 use Rattle.rdlpp_meaning.specs.State.{breach_kind}
@@ -29,7 +29,6 @@ use Rattle.rdlpp_meaning.specs.Expansion.{usage_token}
 use Rattle.rdlpp_meaning.specs.Parts.{directive_named, directive_of}
 use Rattle.rdlpp_meaning.proofs.SourceScans.{source_role_directive, source_role_text}
 use Rattle.rdlpp_meaning.proofs.TokenWrites.{usage_text}
-use Rattle.rdlpp_arguments.specs.Reads.{is_open}
 use Rattle.rdlpp_arguments.specs.Taking.{Around, IsAround, tokens_at}
 use Rattle.rdlpp_arguments.proofs.FirstReads.{IsFirst, own_token, whole_first}
 
@@ -38,29 +37,15 @@ none_fit : (room : ℕ) → nat_le 0 room ≡ true
 none_fit room = le-leb 0 room (omega arith)
 
 -- a broken token without bytes, whole or the rest of one, by where the call stands
-broken_by : (at : Stand) (p : Bool) (room : ℕ) (b : Breach) (line : ℕ) → is_part_breach b ≡ true
-    → read at p room (record { sort = Broken b; bytes = []; line = line } ∷ []) ≡ ReadStopped (breach_kind b) line
-unfolding read role_in source_role directive_of token_role broken_role rest_role turn turn_before turn_inside turn_fitting read_by is_part_breach
-broken_by at p room DefineLong line h = absurd (false≢true h)
-broken_by at p room DefineCut line h = absurd (false≢true h)
-broken_by Before true room b line h = refl
-broken_by Before false room b line h = refl
-broken_by (Inside k) true room b line h = rw (none_fit room) refl
-broken_by (Inside k) false room b line h = rw (none_fit room) refl
-
--- a string, a comment or a text that breaks where nothing is held
 pub broken_reads : (at : Stand) (p : Bool) (room : ℕ) (b : Breach) (line : ℕ) → is_part_breach b ≡ true
     → read at p room (record { sort = Broken b; bytes = []; line = line } ∷ []) ≡ ReadStopped (breach_kind b) line
-broken_reads at p room b line h = broken_by at p room b line h
-
--- the rest of a string that is `<%`
-perl_in_string : (bs : List ℕ) → (token_of InStr bs).kind ≡ Perl → begins_perl bs ≡ true
-unfolding token_of
-perl_in_string bs is =
-    let P : Bool → Type 0 = λ b. (cond b (whole Perl 2) (string_token 0 bs)).kind ≡ Perl → b ≡ true in
-    let at_true : P true = λ e. refl in
-    let at_false : P false = λ e. (let k = string_token-kind 0 bs in absurd (cc)) in
-    elim (begins_perl bs) as P [ true ↦ at_true | false ↦ at_false ] is
+unfolding read role_in source_role directive_of token_role broken_role rest_role turn turn_before turn_inside turn_fitting read_by is_part_breach
+broken_reads at p room DefineLong line h = absurd (false≢true h)
+broken_reads at p room DefineCut line h = absurd (false≢true h)
+broken_reads Before true room b line h = refl
+broken_reads Before false room b line h = refl
+broken_reads (Inside k) true room b line h = rw (none_fit room) refl
+broken_reads (Inside k) false room b line h = rw (none_fit room) refl
 
 -- what remains at embedded Perl
 perl_tokens : (m : Mode) (held : List ℕ) (a : Around) → IsAround held a → 0 < length held → (token_of m held).kind ≡ Perl
@@ -75,7 +60,7 @@ pub perl_reads : (at : Stand) (m : Mode) (room : ℕ) (held : List ℕ) (a : Aro
     → read at (is_open m) room (tokens_at a m held) ≡ ReadStopped EmbeddedPerl a.line
 unfolding is_part_breach breach_kind
 perl_reads at m room held a around some is =
-    ap (read at (is_open m) room) (perl_tokens m held a around some is) ∙ broken_by at (is_open m) room PerlFound a.line refl
+    ap (read at (is_open m) room) (perl_tokens m held a around some is) ∙ broken_reads at (is_open m) room PerlFound a.line refl
 
 -- a halt ends a call
 halt_reads : (at : Stand) (room : ℕ) (t : SourceToken) (ts : List SourceToken) → source_role t ≡ Halt → read at false room (t ∷ ts) ≡ ReadRefused (fault_at_end at)

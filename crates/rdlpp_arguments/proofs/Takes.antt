@@ -13,6 +13,7 @@ use Rattle.rdlpp_scan.specs.Reserved.{is_reserved}
 use Rattle.rdlpp_scan.specs.TokenKinds.{opens_mode, is_one_byte}
 use Rattle.rdlpp_scan.specs.Bytes.{begins_perl}
 use Rattle.rdlpp_scan.specs.Tokens.{token_of, whole, string_token}
+use Rattle.rdlpp_scan.specs.Pieces.{is_open}
 use Rattle.rdlpp_scan.proofs.StopKinds.{string_token-kind, block_token-kind}
 use Rattle.rdlpp_scan.proofs.ClosedKinds.{closed_kind_plain, one_byte_len}
 use Rattle.rdlpp_scan.proofs.Seams.{Seam, Closed, BeforePerl, OpenString, OpenComment, token_of-seam}
@@ -25,7 +26,6 @@ use Rattle.rdlpp_meaning.specs.CallScan.{Stand, Before, Inside, Turn, Keeps, Pas
 use Rattle.rdlpp_meaning.specs.Expansion.{bytes_of}
 use Rattle.rdlpp_meaning.proofs.CallReadings.{onto_kept-nil}
 use Rattle.rdlpp_calls.proofs.FirstTokens.{first_byte, front_byte}
-use Rattle.rdlpp_arguments.specs.Reads.{is_open}
 use Rattle.rdlpp_arguments.specs.Taking.{Answers, Around, IsAround, IsClose, IsStep, IsTaking, IsUse, kept_len, kept_of, level_in, stand_meant, tokens_at, tokens_behind}
 use Rattle.rdlpp_arguments.specs.declared.taking.Taking.{Taking}
 use Rattle.rdlpp_arguments.specs.declared.taking.Taking.TheVariants.{Uses, Closes as ClosesCall, Refused, Perl as PerlFound}

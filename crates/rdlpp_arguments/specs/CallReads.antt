@@ -4,6 +4,7 @@ use Rattle.std.specs.Prelude.{◌≡◌, ◌≢◌, ℕ, ◌+◌, ◌^◌, ◌<�
 use Rattle.rdlpp_scan.specs.declared.token.Mode.{Mode}
 use Rattle.rdlpp_scan.specs.declared.token.Mode.TheVariants.{InStr}
 use Rattle.rdlpp_scan.specs.SourceTokens.{SourceToken, line_ends}
+use Rattle.rdlpp_scan.specs.Pieces.{is_open}
 use Rattle.rdlpp_meaning.specs.declared.fault.FaultKind.{FaultKind}
 use Rattle.rdlpp_meaning.specs.declared.fault.FaultKind.TheVariants.{ArgumentsMissing, ArgumentsOpen, ArgumentBytes, EmbeddedPerl, OpenString, OpenComment, LineTooLong, SourceTooLong}
 use Rattle.rdlpp_meaning.specs.Actuals.{Broke, Lacking, call_of, map_call, token_role}
@@ -19,7 +20,7 @@ use Rattle.rdlpp_read.specs.Buffer.{BufferView, MovesOver, entered_mode, held_of
 use Rattle.rdlpp_read.specs.Files.{inner_buffer, torn_after, with_inner}
 use Rattle.rdlpp_read.specs.Filling.{ended_tokens}
 use Rattle.rdlpp_read.specs.declared.files.File.{File}
-use Rattle.rdlpp_arguments.specs.Reads.{Closes, GoesOn, is_open, reading}
+use Rattle.rdlpp_arguments.specs.Reads.{Closes, GoesOn, reading}
 use Rattle.rdlpp_arguments.specs.Taking.{level_in, stand_meant}
 use Rattle.rdlpp_arguments.specs.declared.reading.CallRead.{CallRead}
 use Rattle.rdlpp_arguments.specs.declared.reading.CallRead.TheVariants.{Closed, Refused, Broken, Failed}

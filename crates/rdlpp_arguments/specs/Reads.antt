@@ -1,17 +1,12 @@
 -- Reading a call from a place in a source: what it comes to by the tokens that remain.
 -- A definition that names no source is this project's own.
-use Rattle.std.specs.Prelude.{◌≡◌, ℕ, ◌+◌, ◌-◌, ◌≤◌, Bool, true, false, List, ◌++◌, length}
-use Rattle.rdlpp_scan.specs.declared.token.Mode.{Mode}
+use Rattle.std.specs.Prelude.{◌≡◌, ℕ, ◌+◌, ◌-◌, ◌≤◌, List, ◌++◌, length}
 use Rattle.rdlpp_scan.specs.declared.token.Mode.TheVariants.{Plain}
+use Rattle.rdlpp_scan.specs.Pieces.{is_open}
 use Rattle.rdlpp_meaning.specs.CallReading.{Reading, ReadClosed, onto_kept, read}
 use Rattle.rdlpp_meaning.specs.CallScan.{Stand}
 use Rattle.rdlpp_meaning.specs.Expansion.{bytes_of}
 use Rattle.rdlpp_read.specs.Buffer.{BufferView, tokens_left, unused_of}
-
--- whether a text stands in a string or in a comment
-unfoldable pub is_open : Mode → Bool
-is_open Plain = false
-is_open mode = true
 
 -- what a call keeps of what remains of a source, from where its reading stands, with room for so many kept bytes (source: this
 -- project's profile)

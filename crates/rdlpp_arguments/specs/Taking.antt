@@ -7,13 +7,13 @@ use Rattle.rdlpp_scan.specs.declared.token.Token.{Token}
 use Rattle.rdlpp_scan.specs.Lines.{EndsLine}
 use Rattle.rdlpp_scan.specs.Resumed.{opening}
 use Rattle.rdlpp_scan.specs.SourceTokens.{SourceToken, line_ends, remaining_tokens}
+use Rattle.rdlpp_scan.specs.Pieces.{is_open}
 use Rattle.rdlpp_meaning.specs.declared.fault.FaultKind.TheVariants.{EmbeddedPerl}
 use Rattle.rdlpp_meaning.specs.Actuals.{Role, kept_size}
 use Rattle.rdlpp_meaning.specs.CallReading.{ReadRefused, ReadStopped, ReadClosed, onto_kept, read}
 use Rattle.rdlpp_meaning.specs.CallScan as scan
 use Rattle.rdlpp_meaning.specs.CallScan.{Keeps, Passes, turn, stand_behind, room_behind}
 use Rattle.rdlpp_meaning.specs.Expansion.{bytes_of}
-use Rattle.rdlpp_arguments.specs.Reads.{is_open}
 use Rattle.rdlpp_arguments.specs.declared.taking.Stand.{Stand}
 use Rattle.rdlpp_arguments.specs.declared.taking.Stand.TheVariants.{Before, Inside}
 use Rattle.rdlpp_arguments.specs.declared.taking.Use.{Use}

@@ -50,6 +50,38 @@ enum Next {
     Ends(CallRead),
 }
 
+/// Reads what stands behind the name of a macro with a list of formals, from the innermost source, over
+/// any number of its lines: behind white space, line ends and comments a `(`, and all up to its `)`,
+/// which stands outside strings, comments and further openers. What is kept are the bytes between the
+/// two but those of `//` comments; the store has them, and nothing of what it had before. Behind a call
+/// that is closed, the source goes on behind its `)`.
+///
+/// The sources are asked to read only where all held bytes are used. Takes no memory.
+///
+/// # Rules
+///
+/// A directive, or the end of the text, ends the call: before the `(` its arguments are missing, behind
+/// it they aren't closed. For each token its bytes count first: kept bytes that pass the room of the
+/// store are refused before a broken token's own fault. Where a read failed nothing is lost: what was
+/// kept so far and what remains come to the same call (this project's profile).
+pub fn read_call<S: Sources>(
+    files: &mut Files<S::Reader>,
+    sources: &mut S,
+    store: &mut ArgumentStore,
+) -> CallRead
+    requires some { 0 < length files.old.nest }
+    requires plain { (inner_buffer files.old.nest).mode ≡ Plain }
+    ensures only { files.new ≡ record files.old { nest = files.new.nest } }
+    ensures room { store.new.most ≡ store.old.most }
+    ensures call { SourcesRead S.Sources (is_failed_call result) sources.old sources.new }
+    ensures reads { ReadsCall (S.tells sources.old) S.unread Before store.old.most store.new.bytes result files.old.nest files.new.nest }
+    ensures fault { IsReadFault result }
+    ensures line { IsReadLine result }
+    ensures means { MeansCall (S.tells sources.old) S.unread store.old.most store.new.bytes (inner_buffer files.old.nest) (inner_buffer files.new.nest) result }
+{
+    read_tokens(files, sources, store)
+}
+
 // Uses the first `len` held bytes of the innermost source, behind which its text stands in a mode.
 fn use_bytes<R: Drop>(files: &mut Files<R>, len: usize, next: Mode)
     requires some { 0 < length files.old.nest }
@@ -162,36 +194,4 @@ fn read_tokens<S: Sources>(
             Fill::Failed => return CallRead::Failed,
         }
     }
-}
-
-/// Reads what stands behind the name of a macro with a list of formals, from the innermost source, over
-/// any number of its lines: behind white space, line ends and comments a `(`, and all up to its `)`,
-/// which stands outside strings, comments and further openers. What is kept are the bytes between the
-/// two but those of `//` comments; the store has them, and nothing of what it had before. Behind a call
-/// that is closed, the source goes on behind its `)`.
-///
-/// The sources are asked to read only where all held bytes are used. Takes no memory.
-///
-/// # Rules
-///
-/// A directive, or the end of the text, ends the call: before the `(` its arguments are missing, behind
-/// it they aren't closed. For each token its bytes count first: kept bytes that pass the room of the
-/// store are refused before a broken token's own fault. Where a read failed nothing is lost: what was
-/// kept so far and what remains come to the same call (this project's profile).
-pub fn read_call<S: Sources>(
-    files: &mut Files<S::Reader>,
-    sources: &mut S,
-    store: &mut ArgumentStore,
-) -> CallRead
-    requires some { 0 < length files.old.nest }
-    requires plain { (inner_buffer files.old.nest).mode ≡ Plain }
-    ensures only { files.new ≡ record files.old { nest = files.new.nest } }
-    ensures room { store.new.most ≡ store.old.most }
-    ensures call { SourcesRead S.Sources (is_failed_call result) sources.old sources.new }
-    ensures reads { ReadsCall (S.tells sources.old) S.unread Before store.old.most store.new.bytes result files.old.nest files.new.nest }
-    ensures fault { IsReadFault result }
-    ensures line { IsReadLine result }
-    ensures means { MeansCall (S.tells sources.old) S.unread store.old.most store.new.bytes (inner_buffer files.old.nest) (inner_buffer files.new.nest) result }
-{
-    read_tokens(files, sources, store)
 }

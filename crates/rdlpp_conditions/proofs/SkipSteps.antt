@@ -5,16 +5,12 @@ use Rattle.rdlpp_scan.specs.declared.token.Mode.{Mode}
 use Rattle.rdlpp_scan.specs.declared.token.Mode.TheVariants.{Plain}
 use Rattle.rdlpp_scan.specs.declared.token.Token.{Token}
 use Rattle.rdlpp_scan.specs.Tokens.{plain_len, token_of}
-use Rattle.rdlpp_conditions.specs.SkippedText.{IsPassed, IsPassedOnce, OneToken, Onward, Stretch, stops_at, stops_skipping}
+use Rattle.rdlpp_conditions.specs.SkippedText.{IsPassed, IsPassedOnce, OneToken, Onward, stops_at, stops_skipping}
 
 -- whether a stretch stops, by the first token
 pub stops_by : (mode : Mode) (bytes : List ℕ) (token : Token) (stops : Bool) → token ≡ token_of mode bytes → stops ≡ stops_skipping token (take token.len bytes) → stops ≡ stops_at mode bytes
 unfolding stops_at
 stops_by mode bytes token stops is tells = tells ∙ ap (λ (t : Token). stops_skipping t (take t.len bytes)) is
-
--- a stretch of ordinary text
-pub passes_stretch : (mode : Mode) (bytes : List ℕ) (len : ℕ) → (0 < len → mode ≡ Plain) → 0 < len → (mode ≡ Plain → len ≡ plain_len bytes) → IsPassedOnce mode bytes len mode
-passes_stretch mode bytes len plain some is = Stretch (plain some) some (is (plain some)) (plain some)
 
 -- one token
 pub passes_token : (mode : Mode) (bytes : List ℕ) (token : Token) (stops : Bool) → (mode ≡ Plain → plain_len bytes ≡ 0) → token ≡ token_of mode bytes → stops ≡ stops_skipping token (take token.len bytes) → stops ≡ false

@@ -18,6 +18,7 @@ use Rattle.rdlpp_steps.specs.Remaining.{kept_uncut, left_of, output_fault, phase
 use Rattle.rdlpp_expand.specs.Run.{Pulls, Wrote, WroteEnds, Going, Finishes, Stops, StopsAt, Breaks, Runs, Begins, Flushes, Unflushed, answered, is_fresh, is_kept, is_unwritten, write_fault}
 use Rattle.rdlpp_steps.specs.Steps.{Steps, StopsReading, Stood, Itself, BeforeCall, Tells, IsStarted, has_met, lent_len, FailsAt, is_call_failed, is_memory_kind, is_read_failed, is_write_failed}
 use Rattle.rdlpp_steps.proofs.EngineSteps.{called_after, free_before, left_open, not_called, ok_not_met}
+use Rattle.rdlpp_steps.proofs.FrontSteps.{opened_phase}
 use Rattle.rdlpp_steps.specs.declared.phase.Phase.{Phase}
 use Rattle.rdlpp_steps.specs.declared.phase.Phase.TheVariants.{Fresh, Open, Passed, Closed}
 use Rattle.rdlpp_expand.specs.declared.writing.Ending.{Ending}
@@ -189,11 +190,6 @@ end_unowed g mid new Open phase open_ free s = s.halts free phase
 end_unowed g mid new Passed phase open_ free s = absurd (let no : Ok None ≡ Err (output_fault mid.main) = (s.passed free phase).0 in cc)
 end_unowed g mid new Closed phase open_ free s = cc open_
 
--- an open text is one of which bytes may follow
-open_phase : (p : Phase) → p ≡ Open → is_open p ≡ true
-unfolding is_open
-open_phase p e = ap is_open e
-
 -- a piece was written whole
 pub goes_on : {S R : Type 0} (g : Ghosts S R) (old mid new : EngineView S R) (xs ys : List ℕ) → (g.tells old.sources → g.tells mid.sources) → Going g old mid xs → Steps g mid new (Ok (Some ys)) → Going g old new (xs ++ ys)
 goes_on g old mid new xs ys told w s =
@@ -214,7 +210,7 @@ finishes g old mid new xs ys told w s none =
       kept = (s.ends refl).0;
       closed = (s.ends refl).1;
       tells = λ t. w.tells t ∙ ap (and_then (gives xs)) ((ok_tells g mid new None s (told t)).0) ∙ and_then-gives xs [] ∙ ap (λ (zs : List ℕ). gives (xs ++ zs)) (sym none);
-      unowed = λ open_. (let was : is_open mid.phase ≡ true = elim w.open_ [ inl same ↦ open_phase mid.phase (ap (λ e. e.phase) same ∙ open_) | inr still ↦ still ] in
+      unowed = λ open_. (let was : is_open mid.phase ≡ true = elim w.open_ [ inl same ↦ opened_phase mid.phase (ap (λ e. e.phase) same ∙ open_) | inr still ↦ still ] in
           end_unowed g mid new mid.phase refl was (w.kept ∙ free) s);
       bounded = s.bounded;
     }

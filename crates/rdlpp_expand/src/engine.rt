@@ -36,6 +36,7 @@ mod line;
 mod opening;
 mod skipping;
 mod usage;
+mod words;
 
 use arrayvec::ArrayString;
 use rdlpp_conditions::Conditions;
@@ -50,6 +51,7 @@ use rdlpp_table::{Limits, MacroId, Table};
 use rdlpp_usages::Expansion;
 use std::alloc::Global;
 use std::marker::Model;
+use words::DEFINE_BYTES;
 
 /// Preprocesses one main text of its sources.
 #[derive(Drop)]
@@ -390,7 +392,7 @@ impl<S: Sources> Engine<S> {
     {
         let line = &self.files.file().buffer.held()[..len];
         let lines = line_ends_in(line);
-        match self.table.read_define(&line[len.min(7)..]) {
+        match self.table.read_define(&line[len.min(DEFINE_BYTES)..]) {
             Err(fault) => Some(self.refuse(fault_kind(fault.kind), fault.word)),
             Ok(()) => {
                 let _count = self.table.len();

@@ -13,12 +13,13 @@ use Rattle.rdlpp_meaning.specs.Meaning.{Checked, Holds, Progress, Stopped, Test,
 use Rattle.rdlpp_meaning.specs.Opened.{Waiting}
 use Rattle.rdlpp_meaning.proofs.ConditionalMoves.{branches_conditional, in_branch}
 use Rattle.rdlpp_meaning.proofs.Undefining.{wants_name}
+use Rattle.rdlpp_meaning.proofs.SkippedStretches.{branching_word}
 use Rattle.rdlpp_read.specs.declared.files.File.{File}
 use Rattle.rdlpp_read.specs.Buffer.{held_of, tokens_left}
 use Rattle.rdlpp_read.specs.Files.{consumed_file}
 use Rattle.rdlpp_front.specs.Fronts.{HasName, IsDirective, LacksName, argument_name, word_of}
 use Rattle.rdlpp_front.specs.SourceLeft.{HoldsFront, source_left}
-use Rattle.rdlpp_front.proofs.ConditionalLeft.{branch_word, branched, named_fine, named_none, named_reserved, resumed_turned, resumed_unturned}
+use Rattle.rdlpp_front.proofs.ConditionalLeft.{branched, named_fine, named_none, named_reserved, resumed_turned, resumed_unturned}
 use Rattle.rdlpp_front.proofs.DirectiveMoves.{bare_in_front, bare_move, named_move, refused_move, stands_bare}
 use Rattle.rdlpp_front.proofs.NamedDirectives.{name_in_front_of, no_name_in_front_of, word_token, word_tokens}
 
@@ -27,11 +28,11 @@ elsif_wants : wants_name Elsif ≡ true
 unfolding wants_name
 elsif_wants = refl
 
-elsif_branches : branches_conditional Elsif ≡ true
+pub elsif_branches : branches_conditional Elsif ≡ true
 unfolding branches_conditional
 elsif_branches = refl
 
-else_branches : branches_conditional Else ≡ true
+pub else_branches : branches_conditional Else ≡ true
 unfolding branches_conditional
 else_branches = refl
 
@@ -61,7 +62,7 @@ module _ {R : Type 0} (rules : Rules) (unread : R → List ℕ) (ws : List Waiti
   unfolding command_of
   refused_branch_left d kind b holds mode is turns =
       let ts = tokens_left unread (consumed_file (length (word_of d)) 0 f).buffer in
-      refused_move rules unread ws f s d ts (in_branch live o os) kind [] (word_tokens d unread f.buffer (branch_word d b) holds mode is)
+      refused_move rules unread ws f s d ts (in_branch live o os) kind [] (word_tokens d unread f.buffer (branching_word d b) holds mode is)
       (resumed_unturned rules live o os d f.buffer.line f.blanks ts s kind [] b (turns (command_in_front d f.blanks (word_token d f.buffer.line) ts) s refl))
 
   -- an `else` that is decided

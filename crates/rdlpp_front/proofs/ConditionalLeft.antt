@@ -1,23 +1,24 @@
 -- What the directives of conditionals in front do to what remains, in live text and at the end of a branch that is skipped.
-use Rattle.std.proofs.Common.{◌≡◌, ℕ, suc, Bool, true, false, not, ◌||◌, List, [], ◌∷◌, length, refl, ap, ◌∙◌}
+use Rattle.std.proofs.Common.{◌≡◌, ℕ, suc, Bool, true, false, ◌||◌, List, [], ◌∷◌, length, refl, ap, ◌∙◌}
 use Rattle.rdlpp_scan.specs.declared.token.Directive.{Directive}
-use Rattle.rdlpp_scan.specs.declared.token.Directive.TheVariants.{Ifdef, Ifndef, Elsif, Else, Endif}
+use Rattle.rdlpp_scan.specs.declared.token.Directive.TheVariants.{Ifdef, Ifndef, Endif}
 use Rattle.rdlpp_scan.specs.declared.token.Mode.TheVariants.{Plain}
 use Rattle.rdlpp_scan.specs.SourceTokens.{SourceToken}
 use Rattle.rdlpp_scan.specs.Reserved.{is_reserved}
 use Rattle.rdlpp_meaning.specs.declared.fault.FaultKind.{FaultKind}
-use Rattle.rdlpp_meaning.specs.declared.fault.FaultKind.TheVariants.{BranchAfterElse, NameExpected, ReservedName, StrayBranch, TooManyConditionals}
+use Rattle.rdlpp_meaning.specs.declared.fault.FaultKind.TheVariants.{NameExpected, ReservedName, StrayBranch, TooManyConditionals}
 use Rattle.rdlpp_meaning.specs.Outcome.{fails}
 use Rattle.rdlpp_meaning.specs.State.{Rules, State, fault_at, shown_line}
 use Rattle.rdlpp_meaning.specs.Parts.{Argument, command_in_front, command_of, no_argument}
-use Rattle.rdlpp_meaning.specs.Meaning.{Faulty, Fine, Holds, Progress, Stopped, Test, begun, by_test, in_conditional, is_defined, is_else, leaves, macro_name, opening, past_conditional, refusal, turn, turned}
+use Rattle.rdlpp_meaning.specs.Meaning.{Faulty, Fine, Holds, Progress, Stopped, Test, begun, by_test, in_conditional, is_else, leaves, macro_name, opening, past_conditional, refusal, turn, turned}
 use Rattle.rdlpp_meaning.specs.Resumed.{Live, Skipped, behind, resumed}
 use Rattle.rdlpp_meaning.specs.Opened.{Waiting}
 use Rattle.rdlpp_meaning.proofs.ConditionalMoves.{branches_conditional, branching_piece, closing_piece, in_branch, opening_piece, opens_conditional}
-use Rattle.rdlpp_meaning.proofs.ConditionalTests.{named_test, opening-faulty, opening-full, opening-held, turn-closing, turn-else, turn-faulty, turn-named, turn-taken}
+use Rattle.rdlpp_meaning.proofs.ConditionalTests.{named_test, opening-faulty, opening-full, opening-held}
 use Rattle.rdlpp_meaning.proofs.DirectiveWords.{has_own_token}
 use Rattle.rdlpp_meaning.proofs.Directives.{live_branching, live_closing, live_opening, live_stray_branch, live_stray_end, skipped_branching, skipped_closing}
 use Rattle.rdlpp_meaning.proofs.Undefining.{macro_name_given, macro_name_missing, macro_name_reserved, wants_name}
+use Rattle.rdlpp_meaning.proofs.SkippedStretches.{branching_word}
 use Rattle.rdlpp_read.specs.declared.files.File.{File}
 use Rattle.rdlpp_read.specs.Buffer.{held_of, tokens_left}
 use Rattle.rdlpp_read.specs.Files.{consumed_file}
@@ -40,32 +41,6 @@ unfolding opens_conditional wants_name
 opening_wants Ifdef e = refl
 opening_wants Ifndef e = refl
 opening_wants d e = cc
-
--- a branch is a token
-pub branch_word : (d : Directive) → branches_conditional d ≡ true → has_own_token d ≡ false
-unfolding branches_conditional has_own_token
-branch_word Elsif e = refl
-branch_word Else e = refl
-branch_word d e = cc
-
--- an `elsif` wants a name
-elsif_wants : wants_name Elsif ≡ true
-unfolding wants_name
-elsif_wants = refl
-
--- an `elsif` and an `else` are branches
-elsif_branches : branches_conditional Elsif ≡ true
-unfolding branches_conditional
-elsif_branches = refl
-
-else_branches : branches_conditional Else ≡ true
-unfolding branches_conditional
-else_branches = refl
-
--- an `else` and an `endif` stand bare
-else_bare : stands_bare Else ≡ true
-unfolding stands_bare
-else_bare = refl
 
 end_bare : stands_bare Endif ≡ true
 unfolding stands_bare
@@ -114,9 +89,9 @@ resumed_branch : (rules : Rules) (live : Bool) (o : Progress) (os : List Progres
     ≡ by_test (turn o c s) c s (λ u. behind rules (Live (turned o c true ∷ os)) d first tok ts u) (λ u. behind rules (Skipped 0 (turned o c false) os) d first tok ts u)
 unfolding in_branch
 resumed_branch rules true o os d line first ts s b =
-    live_branching rules o os d first (word_token d line) ts s (word_directive d line (branch_word d b)) (branching_piece d first (word_token d line) ts b)
+    live_branching rules o os d first (word_token d line) ts s (word_directive d line (branching_word d b)) (branching_piece d first (word_token d line) ts b)
 resumed_branch rules false o os d line first ts s b =
-    skipped_branching rules o os d first (word_token d line) ts s (word_directive d line (branch_word d b)) (branching_piece d first (word_token d line) ts b)
+    skipped_branching rules o os d first (word_token d line) ts s (word_directive d line (branching_word d b)) (branching_piece d first (word_token d line) ts b)
 
 -- by its test
 pub resumed_turned : (rules : Rules) (live : Bool) (o : Progress) (os : List Progress) (d : Directive) (line : ℕ) (first : Bool) (ts : List SourceToken) (s : State) (t : Bool)
@@ -217,88 +192,6 @@ module _ {R : Type 0} (rules : Rules) (unread : R → List ℕ) (ws : List Waiti
       (resumed_unopened rules os d f.buffer.line f.blanks i.tokens s NameExpected [] o
       (opening-faulty d f.blanks (word_token d f.buffer.line) i.tokens s NameExpected [] (named_none d i)))
 
-  -- an `elsif` of a name, where no branch was taken
-  pub elsif_left : (live : Bool) (o : Progress) (start stop : ℕ)
-      → HoldsFront f.buffer → f.buffer.mode ≡ Plain → HasName Elsif (held_of f.buffer) start stop → is_reserved (argument_name (held_of f.buffer) start stop) ≡ false → o.closing ≡ false → o.taken ≡ false
-      → let t = is_defined s (argument_name (held_of f.buffer) start stop) in
-      source_left rules unread ws (in_branch live o os) f s
-      ≡ source_left rules unread ws (in_branch t (branched o t false) os) (consumed_file stop 0 f) s
-  unfolding is_else
-  elsif_left live o start stop holds mode has free open_ untaken =
-      let name = argument_name (held_of f.buffer) start stop in
-      let t = is_defined s name in
-      let i = name_in_front_of Elsif unread f.buffer elsif_wants holds mode start stop has in
-      named_move rules unread ws f s Elsif start stop i (in_branch live o os) (in_branch t (branched o t false) os) s
-      (resumed_turned rules live o os Elsif f.buffer.line f.blanks i.tokens s t elsif_branches
-      (turn-named o f.blanks (word_token Elsif f.buffer.line) i.tokens s name open_ untaken (named_fine Elsif start stop i free)))
-
-  -- an `elsif` with a name behind a branch that was taken is skipped, whatever the name
-  pub elsif_passed_left : (live : Bool) (o : Progress) (start stop : ℕ)
-      → HoldsFront f.buffer → f.buffer.mode ≡ Plain → HasName Elsif (held_of f.buffer) start stop → o.closing ≡ false → o.taken ≡ true
-      → source_left rules unread ws (in_branch live o os) f s
-      ≡ source_left rules unread ws (Skipped 0 (branched o false false) os) (consumed_file stop 0 f) s
-  unfolding is_else in_branch
-  elsif_passed_left live o start stop holds mode has open_ taken =
-      let i = name_in_front_of Elsif unread f.buffer elsif_wants holds mode start stop has in
-      named_move rules unread ws f s Elsif start stop i (in_branch live o os) (Skipped 0 (branched o false false) os) s
-      (resumed_turned rules live o os Elsif f.buffer.line f.blanks i.tokens s false elsif_branches
-      (turn-taken o f.blanks (word_token Elsif f.buffer.line) i.tokens s open_ taken))
-
-  -- and so is one without a name
-  pub elsif_passed_nameless_left : (live : Bool) (o : Progress)
-      → HoldsFront f.buffer → f.buffer.mode ≡ Plain → LacksName Elsif (held_of f.buffer) → o.closing ≡ false → o.taken ≡ true
-      → source_left rules unread ws (in_branch live o os) f s
-      ≡ source_left rules unread ws (Skipped 0 (branched o false false) os) (consumed_file (length (word_of Elsif)) 0 f) s
-  unfolding is_else in_branch
-  elsif_passed_nameless_left live o holds mode lacks open_ taken =
-      let i = no_name_in_front_of Elsif unread f.buffer elsif_wants holds mode lacks in
-      bare_move rules unread ws f s Elsif holds mode lacks.word i (in_branch live o os) (Skipped 0 (branched o false false) os) s
-      (resumed_turned rules live o os Elsif f.buffer.line f.blanks i.tokens s false elsif_branches
-      (turn-taken o f.blanks (word_token Elsif f.buffer.line) i.tokens s open_ taken))
-
-  -- where no branch was taken, an `elsif` of a reserved name is a fault
-  pub elsif_reserved_left : (live : Bool) (o : Progress) (start stop : ℕ)
-      → HoldsFront f.buffer → f.buffer.mode ≡ Plain → HasName Elsif (held_of f.buffer) start stop → is_reserved (argument_name (held_of f.buffer) start stop) ≡ true → o.closing ≡ false → o.taken ≡ false
-      → source_left rules unread ws (in_branch live o os) f s ≡ leaves (fails (fault_at ReservedName f.buffer.line (argument_name (held_of f.buffer) start stop) s)) s
-  elsif_reserved_left live o start stop holds mode has reserved open_ untaken =
-      let name = argument_name (held_of f.buffer) start stop in
-      let i = name_in_front_of Elsif unread f.buffer elsif_wants holds mode start stop has in
-      refused_move rules unread ws f s Elsif i.tokens (in_branch live o os) ReservedName name i.all
-      (resumed_unturned rules live o os Elsif f.buffer.line f.blanks i.tokens s ReservedName name elsif_branches
-      (turn-faulty o f.blanks (word_token Elsif f.buffer.line) i.tokens s ReservedName name open_ untaken (named_reserved Elsif start stop i reserved)))
-
-  -- and one without a name
-  pub elsif_nameless_left : (live : Bool) (o : Progress)
-      → HoldsFront f.buffer → f.buffer.mode ≡ Plain → LacksName Elsif (held_of f.buffer) → o.closing ≡ false → o.taken ≡ false
-      → source_left rules unread ws (in_branch live o os) f s ≡ leaves (fails (fault_at NameExpected f.buffer.line [] s)) s
-  elsif_nameless_left live o holds mode lacks open_ untaken =
-      let i = no_name_in_front_of Elsif unread f.buffer elsif_wants holds mode lacks in
-      refused_move rules unread ws f s Elsif i.tokens (in_branch live o os) NameExpected [] i.all
-      (resumed_unturned rules live o os Elsif f.buffer.line f.blanks i.tokens s NameExpected [] elsif_branches
-      (turn-faulty o f.blanks (word_token Elsif f.buffer.line) i.tokens s NameExpected [] open_ untaken (named_none Elsif i)))
-
-  -- an `else` goes on in live text where no branch was taken
-  pub else_left : (live : Bool) (o : Progress)
-      → HoldsFront f.buffer → f.buffer.mode ≡ Plain → IsDirective Else (held_of f.buffer) → o.closing ≡ false
-      → source_left rules unread ws (in_branch live o os) f s
-      ≡ source_left rules unread ws (in_branch (not o.taken) (branched o (not o.taken) true) os) (consumed_file (length (word_of Else)) 0 f) s
-  unfolding is_else
-  else_left live o holds mode is open_ =
-      let i = bare_in_front rules unread ws f s Else holds mode else_bare is in
-      bare_move rules unread ws f s Else holds mode is i (in_branch live o os) (in_branch (not o.taken) (branched o (not o.taken) true) os) s
-      (resumed_turned rules live o os Else f.buffer.line f.blanks i.tokens s (not o.taken) else_branches
-      (turn-else o f.blanks (word_token Else f.buffer.line) i.tokens s open_))
-
-  -- a branch behind an `else` is a fault
-  pub late_branch_left : (d : Directive) (live : Bool) (o : Progress) → branches_conditional d ≡ true
-      → HoldsFront f.buffer → f.buffer.mode ≡ Plain → IsDirective d (held_of f.buffer) → o.closing ≡ true
-      → source_left rules unread ws (in_branch live o os) f s ≡ leaves (fails (fault_at BranchAfterElse f.buffer.line [] s)) s
-  late_branch_left d live o b holds mode is closed =
-      let ts = tokens_left unread (consumed_file (length (word_of d)) 0 f).buffer in
-      refused_move rules unread ws f s d ts (in_branch live o os) BranchAfterElse [] (word_tokens d unread f.buffer (branch_word d b) holds mode is)
-      (resumed_unturned rules live o os d f.buffer.line f.blanks ts s BranchAfterElse [] b
-      (turn-closing o d f.blanks (word_token d f.buffer.line) ts s closed))
-
   -- an `endif` goes on in live text
   pub closed_left : (live : Bool) (o : Progress)
       → HoldsFront f.buffer → f.buffer.mode ≡ Plain → IsDirective Endif (held_of f.buffer) → source_left rules unread ws (in_branch live o os) f s
@@ -315,8 +208,8 @@ module _ {R : Type 0} (rules : Rules) (unread : R → List ℕ) (ws : List Waiti
   stray_branch_left d b holds mode is =
       let ts = tokens_left unread (consumed_file (length (word_of d)) 0 f).buffer in
       let tok = word_token d f.buffer.line in
-      refused_move rules unread ws f s d ts (Live []) StrayBranch [] (word_tokens d unread f.buffer (branch_word d b) holds mode is)
-      (live_stray_branch rules d f.blanks tok ts s (word_directive d f.buffer.line (branch_word d b)) (branching_piece d f.blanks tok ts b))
+      refused_move rules unread ws f s d ts (Live []) StrayBranch [] (word_tokens d unread f.buffer (branching_word d b) holds mode is)
+      (live_stray_branch rules d f.blanks tok ts s (word_directive d f.buffer.line (branching_word d b)) (branching_piece d f.blanks tok ts b))
 
   -- and so is an `endif`
   pub stray_end_left : HoldsFront f.buffer → f.buffer.mode ≡ Plain → IsDirective Endif (held_of f.buffer) → source_left rules unread ws (Live []) f s ≡ leaves (fails (fault_at StrayBranch f.buffer.line [] s)) s

@@ -1,6 +1,6 @@
 -- What a `define` in front does to what remains, once its logical line is held or broken; and what stands behind its word.
 use Rattle.std.proofs.Common.{◌≡◌, ℕ, suc, ◌+◌, ◌≤◌, ◌<◌, ◌==◌, Bool, true, false, not, cond, ◌&&◌, List, [], ◌∷◌, ◌++◌, length, take, drop, Option, None, Some, inl, inr, refl, sym, ap, ◌∙◌, subst, arith}
-use Rattle.std.specs.Prelude.{IfSome, codes, replicate}
+use Rattle.std.specs.Prelude.{IfSome, codes}
 use Rattle.std.specs.Option.{option_map}
 use Rattle.std.proofs.lemmas.List.{append_assoc, drop-take, length-append, length-take-le, take-append-drop}
 use Rattle.std.proofs.Math.Seq.{take-length}
@@ -12,8 +12,6 @@ use Rattle.rdlpp_scan.specs.Front.{DefineCut, DefineLong}
 use Rattle.rdlpp_scan.specs.SourceTokens.{SourceToken, is_continued, line_ends, logical_len}
 use Rattle.rdlpp_scan.proofs.DefineSteps.{logical_len-within}
 use Rattle.rdlpp_scan.proofs.LineLaws.{some_suc}
-use Rattle.rdlpp_scan.proofs.Seams.{line_end-ten}
-use Rattle.rdlpp_scan.proofs.SourceLaws.{line_ends-cons}
 use Rattle.rdlpp_table.specs.Table.{Macro}
 use Rattle.rdlpp_meaning.specs.declared.fault.FaultKind.{FaultKind}
 use Rattle.rdlpp_meaning.specs.declared.fault.FaultKind.TheVariants.{LineTooLong, SourceTooLong}
@@ -203,21 +201,3 @@ counted false k n e h = cc
 pub not_counted : (t : Bool) (k n : ℕ) → t ≡ false → k ≡ cond t 1 0 + n → k ≡ n
 not_counted true k n e h = cc
 not_counted false k n e h = omega arith
-
--- the LF bytes of a text are as many LF bytes
-pub line_ends_of-replicate : (bytes : List ℕ) → line_ends_of bytes ≡ replicate (line_ends bytes) 10
-unfolding line_ends_of line_ends
-line_ends_of-replicate [] = refl
-line_ends_of-replicate (b ∷ bs) =
-    let rest = line_ends_of-replicate bs in
-    let P : Bool → Type 0 = λ t. is_line_end b ≡ t → line_ends_of (b ∷ bs) ≡ replicate (line_ends (b ∷ bs)) 10 in
-    let at_true : P true = λ e.
-    let own : line_ends_of (b ∷ bs) ≡ b ∷ line_ends_of bs = rw e refl in
-    let count : line_ends (b ∷ bs) ≡ suc (line_ends bs) = counted (is_line_end b) (line_ends (b ∷ bs)) (line_ends bs) e (line_ends-cons b bs) in
-    own ∙ ap (λ (x : ℕ). x ∷ line_ends_of bs) (line_end-ten b e) ∙ ap (λ (xs : List ℕ). 10 ∷ xs) rest
-    ∙ sym (ap (λ (n : ℕ). replicate n 10) count) in
-    let at_false : P false = λ e.
-    let own : line_ends_of (b ∷ bs) ≡ line_ends_of bs = rw e refl in
-    let count : line_ends (b ∷ bs) ≡ line_ends bs = not_counted (is_line_end b) (line_ends (b ∷ bs)) (line_ends bs) e (line_ends-cons b bs) in
-    own ∙ rest ∙ sym (ap (λ (n : ℕ). replicate n 10) count) in
-    elim (is_line_end b) as P [ true ↦ at_true | false ↦ at_false ] refl

@@ -1,18 +1,17 @@
 -- What ends a source, or the output: what is refused in front, a line that breaks the source, its end, and an open string or
 -- comment there; and a buffer that was filled, in which nothing is lost.
-use Rattle.std.proofs.Common.{◌≡◌, ◌⊎◌, ℕ, ◌<◌, Bool, true, false, cond, List, [], ◌∷◌, length, take, drop, inl, inr, refl, ap, ◌∙◌}
+use Rattle.std.proofs.Common.{◌≡◌, ◌⊎◌, ℕ, ◌<◌, Bool, List, [], ◌∷◌, length, take, drop, inl, inr, ap, ◌∙◌}
 use Rattle.rdlpp_scan.specs.declared.token.Kind.TheVariants.{Perl}
 use Rattle.rdlpp_scan.specs.declared.token.Mode.{Mode}
 use Rattle.rdlpp_scan.specs.declared.token.Mode.TheVariants.{Plain, InStr, InBlock}
-use Rattle.rdlpp_scan.specs.Bytes.{begins_perl}
 use Rattle.rdlpp_scan.specs.Front.{Breach, CommentOpen, PerlFound, StringOpen}
 use Rattle.rdlpp_scan.specs.Front as breach
 use Rattle.rdlpp_scan.specs.Lines.{EndsLine}
 use Rattle.rdlpp_scan.specs.SourceTokens.{SourceToken, remaining_tokens}
-use Rattle.rdlpp_scan.specs.Tokens.{string_token, token_of, whole}
+use Rattle.rdlpp_scan.specs.Tokens.{token_of}
 use Rattle.rdlpp_scan.proofs.RemainingLaws.{remaining-bare, remaining-perl}
-use Rattle.rdlpp_scan.proofs.ResumedTokens.{remaining-perl_in_string}
-use Rattle.rdlpp_scan.proofs.StopKinds.{string_token-kind, block_token-kind}
+use Rattle.rdlpp_scan.proofs.ResumedTokens.{remaining-perl_in_string, perl_in_string}
+use Rattle.rdlpp_scan.proofs.StopKinds.{block_token-kind}
 use Rattle.rdlpp_meaning.specs.declared.fault.FaultKind.{FaultKind}
 use Rattle.rdlpp_meaning.specs.declared.fault.FaultKind.TheVariants.{LineTooLong, OpenComment, OpenConditional, OpenString, SourceTooLong}
 use Rattle.rdlpp_meaning.specs.Outcome.{fails}
@@ -37,15 +36,6 @@ use Rattle.rdlpp_front.specs.SourceLeft.{HoldsFront, source_left, with_file_buff
 use Rattle.rdlpp_front.proofs.SourceFacts.{ends_line, tokens_plain}
 use Rattle.rdlpp_front.proofs.SourcePassages.{all_resumed_bare, all_resumed_only_broken}
 
--- a string is no `<%`, which is told by its bytes
-perl_of_string : (held : List ℕ) → (token_of InStr held).kind ≡ Perl → begins_perl held ≡ true
-unfolding token_of
-perl_of_string held is =
-    let P : Bool → Type 0 = λ t. (cond t (whole Perl 2) (string_token 0 held)).kind ≡ Perl → t ≡ true in
-    let at_true : P true = λ e. refl in
-    let at_false : P false = λ e. absurd (cc (string_token-kind 0 held)) in
-    elim (begins_perl held) as P [ true ↦ at_true | false ↦ at_false ] is
-
 -- nor is a comment
 no_perl_in_comment : (held : List ℕ) → (token_of InBlock held).kind ≡ Perl → ⊥
 unfolding token_of
@@ -56,7 +46,7 @@ perl_by_mode : (most : ℕ) (m : Mode) (o l : ℕ) (held : List ℕ) (room : ℕ
     → remaining_tokens most m o l held room rest ≡ only_broken PerlFound l
 perl_by_mode most Plain o l held room rest some ends is =
     remaining-perl most o l held room rest some ends is
-perl_by_mode most InStr o l held room rest some ends is = remaining-perl_in_string most o l held room rest some (perl_of_string held is)
+perl_by_mode most InStr o l held room rest some ends is = remaining-perl_in_string most o l held room rest some (perl_in_string held is)
 perl_by_mode most InBlock o l held room rest some ends is = absurd (no_perl_in_comment held is)
 
 -- `<%` is all that remains

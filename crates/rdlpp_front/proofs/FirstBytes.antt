@@ -1,16 +1,14 @@
 -- What the bytes at the front of a text tell of its first token.
-use Rattle.std.proofs.Common.{◌≡◌, ◌≢◌, ℕ, suc, ◌+◌, ◌-◌, ◌<◌, Bool, true, false, cond, ◌&&◌, ◌==◌, List, [], ◌∷◌, length, take, drop, slice_index, refl, sym, ap, ◌∙◌, arith, inl, inr}
-use Rattle.std.specs.Prelude.{nat_lt}
+use Rattle.std.proofs.Common.{◌≡◌, ◌≢◌, ℕ, suc, ◌-◌, ◌<◌, Bool, true, false, cond, ◌&&◌, ◌==◌, List, [], ◌∷◌, length, take, drop, slice_index, refl, sym, ap, ◌∙◌, arith}
 use Rattle.std.specs.List.{prefix_len}
-use Rattle.std.proofs.lemmas.Bool.Decides.{eqb_tells}
-use Rattle.rdlpp_scan.specs.declared.token.Kind.TheVariants.{Back, Str, BlockComment, Perl, BareBackquote}
+use Rattle.std.proofs.lemmas.Bool.{and_parts, eqb-true}
+use Rattle.rdlpp_scan.specs.declared.token.Kind.TheVariants.{Back, Perl, BareBackquote}
 use Rattle.rdlpp_scan.specs.declared.token.Mode.{Mode}
 use Rattle.rdlpp_scan.specs.declared.token.Mode.TheVariants.{Plain, InStr, InBlock}
 use Rattle.rdlpp_scan.specs.declared.token.Token.{Token}
-use Rattle.rdlpp_scan.specs.Bytes.{is_blank, is_line_end, is_letter, is_digit, is_word, is_opener, is_closer, takes_word, begins_perl, begins_line_comment, begins_block_comment, ends_block_comment}
-use Rattle.rdlpp_scan.specs.Reserved.{name_behind}
-use Rattle.rdlpp_scan.specs.Tokens.{whole, string_stop, string_token, block_token, plain_token, token_of, first_place, plain_len, stops_plain_text}
-use Rattle.rdlpp_scan.proofs.StopKinds.{Row, AtPerl, AtLineComment, AtBlockComment, AtString, AtBack, AtBare, AtPlain, token_of-row}
+use Rattle.rdlpp_scan.specs.Bytes.{is_blank, is_line_end, is_letter, is_digit, is_word, is_opener, is_closer, takes_word, begins_perl, begins_line_comment, begins_block_comment}
+use Rattle.rdlpp_scan.specs.Tokens.{whole, string_token, plain_token, token_of, first_place, plain_len, stops_plain_text}
+use Rattle.rdlpp_scan.proofs.StopKinds.{Row, AtPerl, AtLineComment, AtBlockComment, AtString, AtBack, AtBare, AtPlain, token_of-row, string_token-kind, block_token-kind}
 use Rattle.rdlpp_front.specs.Fronts.{is_text_kind}
 
 -- a text without ordinary text at its front stops there
@@ -23,31 +21,6 @@ stops_at_front (b ∷ bs) some none =
     let at_false : P false = λ e. absurd (omega arith) in
     elim (stops_plain_text (b ∷ bs)) as P [ true ↦ at_true | false ↦ at_false ] none
 
--- a test of a byte that fails
-other_byte : (a b : ℕ) → a ≢ b → (a == b) ≡ false
-other_byte a b ne = elim (eqb_tells a b) [ inl h ↦ absurd (ne h.1) | inr h ↦ h.0 ]
-
--- the first of two tests that pass
-first_passes : (a b : Bool) → (a && b) ≡ true → a ≡ true
-first_passes true b e = refl
-first_passes false b e = cc
-
--- a byte that passes the test for a byte
-same_byte : (a b : ℕ) → (a == b) ≡ true → a ≡ b
-same_byte a b e = elim (eqb_tells a b) [ inl h ↦ h.1 | inr h ↦ absurd (cc) ]
-
--- a string is a string
-not_string : (n : ℕ) (bs : List ℕ) → (string_token n bs).kind ≡ Str
-unfolding string_token whole
-not_string n bs = elim (slice_index bs (n + string_stop false (drop n bs)) == 34) as
-    (λ t. (cond t (whole Str (suc (n + string_stop false (drop n bs)))) (record { kind = Str; len = n + string_stop false (drop n bs); next_mode = InStr })).kind ≡ Str) [ true ↦ refl | false ↦ refl ]
-
--- a block comment is a block comment
-not_block : (n : ℕ) (bs : List ℕ) → (block_token n bs).kind ≡ BlockComment
-unfolding block_token whole
-not_block n bs = elim (nat_lt (n + first_place ends_block_comment (drop n bs)) (length bs)) as
-    (λ t. (cond t (whole BlockComment (n + first_place ends_block_comment (drop n bs) + 2)) (record { kind = BlockComment; len = n + first_place ends_block_comment (drop n bs); next_mode = InBlock })).kind ≡ BlockComment) [ true ↦ refl | false ↦ refl ]
-
 -- what begins where ordinary text stops, at no backquote, is `<%`, or a string or a comment
 text_by_row : (bs : List ℕ) (t : Token) → Row bs t → stops_plain_text bs ≡ true → slice_index bs 0 ≢ 96
     → (t.kind ≡ Perl → ⊥) → is_text_kind t.kind ≡ true
@@ -56,8 +29,8 @@ text_by_row bs t (AtPerl h e) stop back other = absurd (other (ap (λ (u : Token
 text_by_row bs t (AtLineComment h e) stop back other = ap is_text_kind e
 text_by_row bs t (AtBlockComment h e) stop back other = ap is_text_kind e
 text_by_row bs t (AtString h e) stop back other = ap is_text_kind e
-text_by_row bs t (AtBack h e) stop back other = absurd (back (same_byte (slice_index bs 0) 96 h))
-text_by_row bs t (AtBare h g e) stop back other = absurd (back (same_byte (slice_index bs 0) 96 h))
+text_by_row bs t (AtBack h e) stop back other = absurd (back (eqb-true (slice_index bs 0) 96 h))
+text_by_row bs t (AtBare h g e) stop back other = absurd (back (eqb-true (slice_index bs 0) 96 h))
 text_by_row bs t (AtPlain h q) stop back other = absurd (let no : false ≡ true = sym q ∙ stop in cc)
 
 -- the rest of a string
@@ -66,13 +39,13 @@ unfolding token_of is_text_kind whole
 string_text bs other =
     let P : Bool → Type 0 = λ t. ((cond t (whole Perl 2) (string_token 0 bs)).kind ≡ Perl → ⊥) → is_text_kind (cond t (whole Perl 2) (string_token 0 bs)).kind ≡ true in
     let at_true : P true = λ h. absurd (h refl) in
-    let at_false : P false = λ h. ap is_text_kind (not_string 0 bs) in
+    let at_false : P false = λ h. ap is_text_kind (string_token-kind 0 bs) in
     elim (begins_perl bs) as P [ true ↦ at_true | false ↦ at_false ] other
 
 -- the rest of a block comment
 comment_text : (bs : List ℕ) → is_text_kind (token_of InBlock bs).kind ≡ true
 unfolding token_of is_text_kind
-comment_text bs = ap is_text_kind (not_block 0 bs)
+comment_text bs = ap is_text_kind (block_token-kind 0 bs)
 
 -- what begins with a string or a comment, or with the rest of one
 pub text_at_front : (m : Mode) (bs : List ℕ) → (m ≡ Plain → (stops_plain_text bs ≡ true) × (slice_index bs 0 ≢ 96))
@@ -124,14 +97,6 @@ pub back_len : (bs : List ℕ) → slice_index bs 0 ≡ 96 → (token_of Plain b
 back_len bs e h =
     rw (token_at_backquote bs e) (back_by (is_letter (slice_index bs 1)) (suc (prefix_len is_word (drop 1 bs))) (rw (token_at_backquote bs e) at h))
 
--- the name of such a token is the run of word bytes behind the backquote
-pub back_name : (bs : List ℕ) → slice_index bs 0 ≡ 96 → (token_of Plain bs).kind ≡ Back → take ((token_of Plain bs).len - 1) (drop 1 bs) ≡ name_behind bs
-unfolding name_behind
-back_name bs e h =
-    let n = prefix_len is_word (drop 1 bs) in
-    let same : (token_of Plain bs).len - 1 ≡ n = omega (arith, back_len bs e h) in
-    ap (λ (k : ℕ). take k (drop 1 bs)) same
-
 -- a text that begins with a byte
 pub front_byte : (bs : List ℕ) (b : ℕ) → 0 < b → slice_index bs 0 ≡ b → bs ≡ b ∷ drop 1 bs
 front_byte [] b some e = absurd (omega arith)
@@ -162,12 +127,12 @@ back_front bs h =
     (by_test (is_line_end b) _ _ G (λ t e. absurd (cc))
     (by_test (is_blank b) _ _ G (λ t e. absurd (cc))
     (by_test (begins_line_comment bs) _ _ G (λ t e. absurd (cc))
-    (by_test (begins_block_comment bs) _ _ G (λ t e. absurd (cc (not_block 2 bs)))
-    (by_test (b == 34) _ _ G (λ t e. absurd (cc (not_string 1 bs)))
+    (by_test (begins_block_comment bs) _ _ G (λ t e. absurd (cc (block_token-kind 2 bs)))
+    (by_test (b == 34) _ _ G (λ t e. absurd (cc (string_token-kind 1 bs)))
     (by_test (is_letter b) _ _ G (λ t e. absurd (cc))
     (by_test (is_digit b) _ _ G (λ t e. absurd (cc))
     (by_test (takes_word b && is_word (slice_index bs 1)) _ _ G (λ t e. absurd (cc))
-    (by_test (b == 96 && is_letter (slice_index bs 1)) _ _ G (λ t e. same_byte b 96 (first_passes (b == 96) (is_letter (slice_index bs 1)) t))
+    (by_test (b == 96 && is_letter (slice_index bs 1)) _ _ G (λ t e. eqb-true b 96 (and_parts (b == 96) (is_letter (slice_index bs 1)) t).0)
     (by_test (b == 96) _ _ G (λ t e. absurd (cc))
     (by_test (is_opener b) _ _ G (λ t e. absurd (cc))
     (by_test (is_closer b) _ _ G (λ t e. absurd (cc))

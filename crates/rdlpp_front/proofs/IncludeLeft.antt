@@ -23,7 +23,7 @@ use Rattle.rdlpp_meaning.specs.declared.fault.FaultKind.TheVariants.{IncludeName
 use Rattle.rdlpp_meaning.specs.Outcome.{fails}
 use Rattle.rdlpp_meaning.specs.State.{LongPath, NoSource, Rules, Source, State, fault_at, shown_line}
 use Rattle.rdlpp_meaning.specs.Parts.{behind_directive, command_of, only_blanks}
-use Rattle.rdlpp_meaning.specs.Meaning.{Progress, added_end, at_start_of, behind_bytes, leaves, origin_line, unquoted}
+use Rattle.rdlpp_meaning.specs.Meaning.{Progress, added_end, at_start_of, behind_bytes, leaves, origin_line}
 use Rattle.rdlpp_meaning.specs.Resumed.{Live}
 use Rattle.rdlpp_meaning.specs.Opened.{Waiting, all_resumed, waiting}
 use Rattle.rdlpp_meaning.proofs.DirectiveWords.{has_own_token}
@@ -34,7 +34,7 @@ use Rattle.rdlpp_read.specs.declared.files.File.{File}
 use Rattle.rdlpp_read.specs.Arguments.{ClosesString, Closes, IsClosedString, IsLead, Lacks, Leads, Opens}
 use Rattle.rdlpp_read.specs.Buffer.{BufferView, held_of, rest_of, tokens_left}
 use Rattle.rdlpp_read.specs.Files.{consumed_file}
-use Rattle.rdlpp_front.specs.Fronts.{HasString, argument_name, word_of}
+use Rattle.rdlpp_front.specs.Fronts.{HasString, argument_name, word_of, include_name}
 use Rattle.rdlpp_front.specs.SourceLeft.{HoldsFront, source_left}
 use Rattle.rdlpp_front.proofs.DefineLeft.{not_counted}
 use Rattle.rdlpp_front.proofs.DirectiveMoves.{refused_move}
@@ -146,10 +146,6 @@ waiting_file rules unread os stop f s text = record {
   state = s;
   ending = added_end text ++ origin_line rules s.name (shown_line s.shift f.buffer.line);
 }
-
--- the name in the string
-abbrev pub include_name : List ℕ → ℕ → ℕ → List ℕ
-include_name held start stop = unquoted (argument_name held start stop)
 
 module _ {R : Type 0} (rules : Rules) (unread : R → List ℕ) (ws : List Waiting) (os : List Progress) (f : File R) (s : State)
     (holds : HoldsFront f.buffer) (mode : f.buffer.mode ≡ Plain)

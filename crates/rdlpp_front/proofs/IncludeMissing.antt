@@ -13,7 +13,8 @@ use Rattle.rdlpp_scan.specs.Lines.{EndsLine, ended_line_len}
 use Rattle.rdlpp_scan.specs.Resumed.{line_with, onto_tokens, opening, with_part}
 use Rattle.rdlpp_scan.specs.SourceTokens.{Broken, Definition, Ordinary, Renumbering, Sort, SourceToken, broken, line_ends, open_end, remaining_tokens, source_end, source_tokens}
 use Rattle.rdlpp_scan.specs.Tokens.{token_of}
-use Rattle.rdlpp_scan.proofs.FirstTokens.{FirstToken, is_ordinary, remaining-first, whole-line_ends}
+use Rattle.rdlpp_scan.specs.TokenKinds.{is_ordinary}
+use Rattle.rdlpp_scan.proofs.FirstTokens.{FirstToken, remaining-first, whole-line_ends}
 use Rattle.rdlpp_scan.proofs.FrontLaws.{front-none}
 use Rattle.rdlpp_scan.proofs.LineLaws.{some_suc}
 use Rattle.rdlpp_scan.proofs.RemainingSteps.{remaining-closed, remaining-cut_string, remaining-open_string}

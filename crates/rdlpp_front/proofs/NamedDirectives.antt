@@ -13,7 +13,8 @@ use Rattle.rdlpp_scan.specs.Lines.{EndsLine}
 use Rattle.rdlpp_scan.specs.Ordinary.{is_plain_kind}
 use Rattle.rdlpp_scan.specs.SourceTokens.{Sort, SourceToken, Ordinary, Definition, Renumbering, Broken, line_ends, remaining_tokens}
 use Rattle.rdlpp_scan.specs.Tokens.{token_of}
-use Rattle.rdlpp_scan.proofs.FirstTokens.{FirstToken, is_ordinary, blanks-line_ends, name-line_ends, plain_token-run, remaining-first, whole-line_ends}
+use Rattle.rdlpp_scan.specs.TokenKinds.{is_ordinary}
+use Rattle.rdlpp_scan.proofs.FirstTokens.{FirstToken, blanks-line_ends, name-line_ends, plain_token-run, remaining-first, whole-line_ends}
 use Rattle.rdlpp_scan.proofs.RemainingLaws.{remaining-end}
 use Rattle.rdlpp_scan.proofs.RemainingSteps.{remaining-closed}
 use Rattle.rdlpp_scan.proofs.SourceLaws.{line_ends-append}

@@ -18,7 +18,7 @@ use Rattle.rdlpp_meaning.proofs.ConditionalMoves.{branches_conditional, opens_co
 use Rattle.rdlpp_meaning.proofs.DirectiveWords.{directive_word, has_own_token}
 use Rattle.rdlpp_meaning.proofs.NestMoves.{all_resumed_behind, all_resumed_fails}
 use Rattle.rdlpp_meaning.proofs.Passages.{behind_bytes-nil}
-use Rattle.rdlpp_meaning.proofs.SkippedStretches.{resumed_inner_branch, resumed_inner_end, resumed_skipped_broken, resumed_skipped_opening}
+use Rattle.rdlpp_meaning.proofs.SkippedStretches.{resumed_inner_branch, resumed_inner_end, resumed_skipped_broken, resumed_skipped_opening, branching_word}
 use Rattle.rdlpp_meaning.proofs.Skipping.{skipped_unclosed}
 use Rattle.rdlpp_read.specs.declared.buffer.filling.Fill.TheVariants as fill
 use Rattle.rdlpp_read.specs.declared.files.File.{File}
@@ -27,7 +27,7 @@ use Rattle.rdlpp_read.specs.Files.{consumed_file}
 use Rattle.rdlpp_read.specs.Filling.{Fills, ended_tokens, only_broken}
 use Rattle.rdlpp_front.specs.Fronts.{IsDirective, word_of}
 use Rattle.rdlpp_front.specs.SourceLeft.{HoldsFront, source_left}
-use Rattle.rdlpp_front.proofs.ConditionalLeft.{branch_word, opening_wants}
+use Rattle.rdlpp_front.proofs.ConditionalLeft.{opening_wants}
 use Rattle.rdlpp_front.proofs.NamedDirectives.{wants_word, word_at, word_directive, word_token, word_tokens}
 use Rattle.rdlpp_front.proofs.SourceFacts.{ends_line}
 use Rattle.rdlpp_front.proofs.SourcePassages.{all_resumed_behind_fails}
@@ -71,8 +71,8 @@ module _ {R : Type 0} (rules : Rules) (unread : R → List ℕ) (ws : List Waiti
       → HoldsFront f.buffer → f.buffer.mode ≡ Plain → IsDirective d (held_of f.buffer) → source_left rules unread ws (Skipped (suc n) p os) f s
       ≡ source_left rules unread ws (Skipped (suc n) p os) (consumed_file (length (word_of d)) 0 f) s
   inner_branch_left d n b holds mode is =
-      word_move d (suc n) (suc n) (branch_word d b) holds mode is
-      (λ ts. resumed_inner_branch rules n p os d f.blanks (word_token d f.buffer.line) ts s (word_directive d f.buffer.line (branch_word d b)) b)
+      word_move d (suc n) (suc n) (branching_word d b) holds mode is
+      (λ ts. resumed_inner_branch rules n p os d f.blanks (word_token d f.buffer.line) ts s (word_directive d f.buffer.line (branching_word d b)) b)
 
   -- the end of a conditional that opened in skipped text
   pub inner_end_left : (n : ℕ)

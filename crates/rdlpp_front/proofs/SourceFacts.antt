@@ -25,7 +25,7 @@ unfolding held_of
 held_used b n l = sym (drop-drop n b.at (take b.accepted b.window))
 
 -- what is held is the same in each mode
-held_entered : {R : Type 0} (b : BufferView R) (next : Mode) → held_of (entered_mode b next) ≡ held_of b
+pub held_entered : {R : Type 0} (b : BufferView R) (next : Mode) → held_of (entered_mode b next) ≡ held_of b
 unfolding held_of entered_mode
 held_entered b next = refl
 

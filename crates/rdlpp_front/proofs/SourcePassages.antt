@@ -19,7 +19,7 @@ use Rattle.rdlpp_meaning.specs.Meaning.{Passage, leaves, behind_bytes, goes_on, 
 use Rattle.rdlpp_meaning.specs.Resumed.{Place, Live, resumed}
 use Rattle.rdlpp_meaning.specs.Opened.{Waiting, unwound, all_resumed}
 use Rattle.rdlpp_meaning.proofs.Includes.{behind_bytes-goes_on}
-use Rattle.rdlpp_meaning.proofs.LiveText.{resumed_copied, resumed_one_copied, resumed_copied_parts, resumed_broken, resumed_broken_parts, resumed_bare, resumed_undefined, resumed_copied_body, resumed_defined, resumed_refused}
+use Rattle.rdlpp_meaning.proofs.LiveText.{resumed_copied, resumed_copied_parts, resumed_broken, resumed_broken_parts, resumed_bare, resumed_undefined, resumed_copied_body, resumed_defined, resumed_refused}
 use Rattle.rdlpp_meaning.proofs.NestMoves.{all_resumed_behind, all_resumed_fails}
 use Rattle.rdlpp_meaning.proofs.Passages.{behind_bytes-nil, fails-goes_on}
 
@@ -50,14 +50,6 @@ module _ (rules : Rules) (ws : List Waiting) (os : List Progress) (first : Bool)
   all_resumed_copied ts more s e =
       all_resumed_behind rules ws (Live os) (Live os) first (only_blanks first (bytes_of ts)) (ts ++ more) more s s (bytes_of ts)
       (resumed_copied rules os first ts more s e)
-
-  -- and so does one
-  pub all_resumed_one_copied : (t : SourceToken) (more : List SourceToken) (s : State) → is_copied t ≡ true
-      → all_resumed rules ws (Live os) first (t ∷ more) s
-      ≡ behind_bytes t.bytes (all_resumed rules ws (Live os) (only_blanks first t.bytes) more s)
-  all_resumed_one_copied t more s e =
-      all_resumed_behind rules ws (Live os) (Live os) first (only_blanks first t.bytes) (t ∷ more) more s s t.bytes
-      (resumed_one_copied rules os first t more s e)
 
   -- a token that is copied may be written in two parts
   pub all_resumed_copied_parts : (k : Kind) (x y : List ℕ) (line : ℕ) (more : List SourceToken) (s : State)

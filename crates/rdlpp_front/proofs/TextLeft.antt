@@ -1,29 +1,23 @@
 -- What text that is copied does to what remains: ordinary text, and a string or a comment, or the part of one that is held.
-use Rattle.std.proofs.Common.{◌≡◌, ℕ, ◌+◌, ◌<◌, Bool, true, false, List, [], ◌∷◌, ◌++◌, length, take, drop, All, refl, sym, ap, ◌∙◌, subst, inl, arith}
-use Rattle.std.specs.List.{list_all}
+use Rattle.std.proofs.Common.{◌≡◌, ℕ, ◌+◌, ◌<◌, Bool, true, false, List, [], ◌∷◌, ◌++◌, length, take, drop, refl, sym, ap, ◌∙◌, subst, inl, arith}
 use Rattle.std.proofs.lemmas.Bool.{false≢true}
 use Rattle.std.proofs.lemmas.List.{drop_all, length-drop}
-use Rattle.std.proofs.lemmas.List.Elements.{All-weaker}
-use Rattle.std.proofs.lemmas.List.Sums.{list_all-from_AllPass}
 use Rattle.std.proofs.Math.Seq.{take-length}
 use Rattle.rdlpp_scan.specs.declared.token.Kind.{Kind}
-use Rattle.rdlpp_scan.specs.declared.token.Kind.TheVariants.{Str, LineComment, BlockComment, Back, BareBackquote, Perl}
+use Rattle.rdlpp_scan.specs.declared.token.Kind.TheVariants.{Str, LineComment, BlockComment, Back, Perl}
 use Rattle.rdlpp_scan.specs.declared.token.Mode.{Mode}
 use Rattle.rdlpp_scan.specs.declared.token.Mode.TheVariants.{Plain, InStr, InBlock}
 use Rattle.rdlpp_scan.specs.declared.token.Token.{Token}
 use Rattle.rdlpp_scan.specs.Bytes.{begins_perl}
 use Rattle.rdlpp_scan.specs.Front.{PerlFound}
 use Rattle.rdlpp_scan.specs.Lines.{EndsLine}
-use Rattle.rdlpp_scan.specs.Ordinary.{IsPlainToken, is_plain_kind}
 use Rattle.rdlpp_scan.specs.Resumed.{opening, line_with, with_part, onto_tokens}
-use Rattle.rdlpp_scan.specs.SourceTokens.{Sort, SourceToken, Ordinary, Broken, line_ends, remaining_tokens}
-use Rattle.rdlpp_scan.specs.Reserved.{begins_directive}
+use Rattle.rdlpp_scan.specs.SourceTokens.{SourceToken, Ordinary, Broken, line_ends, remaining_tokens}
 use Rattle.rdlpp_scan.specs.Tokens.{plain_len, token_of}
 use Rattle.rdlpp_scan.proofs.RemainingLaws.{GoesThrough, remaining-opened, remaining-ordinary}
 use Rattle.rdlpp_scan.proofs.RemainingSteps.{remaining-closed, remaining-open_string, remaining-open_comment, remaining-cut_string}
 use Rattle.rdlpp_scan.proofs.ResumedTokens.{Resumes, Copies, Breaks, remaining-in_string, remaining-in_comment, remaining-perl_in_string}
 use Rattle.rdlpp_scan.proofs.Seams.{Seam, Closed, BeforePerl, OpenString, OpenComment, token_of-seam}
-use Rattle.rdlpp_scan.proofs.DirectiveStarts.{directive-string, directive-line_comment, directive-block_comment}
 use Rattle.rdlpp_scan.proofs.TokenSteps.{is_kept_kind}
 use Rattle.rdlpp_meaning.specs.Outcome.{fails}
 use Rattle.rdlpp_meaning.specs.State.{Rules, State, breach_kind, fault_at}
@@ -33,6 +27,7 @@ use Rattle.rdlpp_meaning.specs.Meaning.{Passage, Progress, behind_bytes, leaves}
 use Rattle.rdlpp_meaning.specs.Resumed.{Live, Place, Skipped}
 use Rattle.rdlpp_meaning.specs.Opened.{Waiting, all_resumed}
 use Rattle.rdlpp_meaning.proofs.Passages.{behind_bytes-nil}
+use Rattle.rdlpp_meaning.proofs.PlainOutputs.{all_plain_copied}
 use Rattle.rdlpp_read.specs.declared.files.File.{File}
 use Rattle.rdlpp_read.specs.Buffer.{BufferView, entered_mode, held_of, rest_of, tokens_left}
 use Rattle.rdlpp_read.specs.Files.{consumed_file}
@@ -40,14 +35,6 @@ use Rattle.rdlpp_front.specs.Fronts.{AtOrdinary, AtToken, IsText, is_text_kind}
 use Rattle.rdlpp_front.specs.SourceLeft.{HoldsFront, source_left, with_file_buffer}
 use Rattle.rdlpp_front.proofs.SourceFacts.{ends_line, tokens_entered, tokens_plain, used_buffer}
 use Rattle.rdlpp_front.proofs.WrittenTexts.{Writes, live_writes, open_copied, skipped_writes, writes_one}
-
--- strings and comments begin no directive
-text_no_directive : (held : List ℕ) (k : Kind) → (token_of Plain held).kind ≡ k → is_text_kind k ≡ true → begins_directive held ≡ false
-unfolding is_text_kind
-text_no_directive held Str is h = directive-string held is
-text_no_directive held LineComment is h = directive-line_comment held is
-text_no_directive held BlockComment is h = directive-block_comment held is
-text_no_directive held _ is h = absurd (false≢true h)
 
 -- they stand in the list as they are
 text_kept : (k : Kind) → is_text_kind k ≡ true → is_kept_kind k ≡ true
@@ -63,23 +50,6 @@ text_copied Str bytes line h = refl
 text_copied LineComment bytes line h = refl
 text_copied BlockComment bytes line h = refl
 text_copied _ bytes line h = absurd (false≢true h)
-
--- a token of ordinary text is copied, by its kind
-copied_kind : (kind : Kind) (bytes : List ℕ) (line : ℕ) → is_plain_kind kind ≡ true → is_copied (record { sort = Ordinary kind; bytes = bytes; line = line }) ≡ true
-unfolding is_plain_kind is_copied
-copied_kind Back bytes line e = cc
-copied_kind BareBackquote bytes line e = cc
-copied_kind kind bytes line e = refl
-
--- a token of ordinary text is copied
-copied_token : (t : SourceToken) → IsPlainToken t → is_copied t ≡ true
-copied_token t h =
-    ap (λ (sort : Sort). is_copied (record { sort = sort; bytes = t.bytes; line = t.line })) h.sort ∙ copied_kind h.kind t.bytes t.line h.plain
-
--- tokens of ordinary text are copied
-copied_tokens : (ts : List SourceToken) → All IsPlainToken ts → list_all is_copied ts ≡ true
-copied_tokens ts h =
-    list_all-from_AllPass is_copied ts (All-weaker IsPlainToken (λ (t : SourceToken). is_copied t ≡ true) copied_token ts h)
 
 -- what is held begins with a string or a comment, or the rest of one, as a token
 record TextHeld (m : Mode) (held rest : List ℕ) : Type 0 where
@@ -210,7 +180,7 @@ module _ {R : Type 0} (rules : Rules) (unread : R → List ℕ) (ws : List Waiti
       let o = opening b.mode b.open_token_line b.line in
       let behind = remaining_tokens b.line_bytes Plain o (b.line + line_ends w) (drop n held) b.bytes_left rest in
       ap (λ (ts : List SourceToken). all_resumed rules ws place first ts s) (tokens_plain unread b mode ∙ g.steps b.line o)
-      ∙ written.copied first g.tokens behind (copied_tokens g.tokens g.plain)
+      ∙ written.copied first g.tokens behind (all_plain_copied g.tokens g.plain)
       ∙ ap (λ (xs : List ℕ). behind_bytes (writes xs) (all_resumed rules ws place (only_blanks first xs) behind s)) g.spelled
       ∙ ap (λ (ts : List SourceToken). behind_bytes (writes w) (all_resumed rules ws place (only_blanks first w) ts s)) (tokens_entered unread b n (line_ends w) Plain)
 

@@ -1,9 +1,8 @@
 -- What a usage in front does to what remains: its token, and what it comes to where its macro isn't defined, or stands for its
 -- body as it lies.
-use Rattle.std.proofs.Common.{◌≡◌, ℕ, ◌+◌, ◌-◌, ◌<◌, true, false, List, [], ◌∷◌, take, drop, None, Some, sym, ap, ◌∙◌, subst, arith}
+use Rattle.std.proofs.Common.{◌≡◌, ℕ, ◌+◌, ◌-◌, ◌<◌, true, false, List, ◌∷◌, take, drop, None, Some, sym, ap, ◌∙◌, subst, arith}
 use Rattle.std.specs.Prelude.{bytes_eq, codes}
-use Rattle.std.specs.List.{list_any, AllByRecursion}
-use Rattle.std.proofs.lemmas.Bool.{or_parts}
+use Rattle.std.specs.List.{AllByRecursion}
 use Rattle.rdlpp_scan.specs.declared.token.Kind.TheVariants.{Back}
 use Rattle.rdlpp_scan.specs.declared.token.Mode.TheVariants.{Plain}
 use Rattle.rdlpp_scan.specs.SourceTokens.{SourceToken, Ordinary, remaining_tokens}
@@ -14,13 +13,14 @@ use Rattle.rdlpp_table.specs.Table.{Macro, macro_named}
 use Rattle.rdlpp_meaning.specs.declared.fault.FaultKind.TheVariants.{UndefinedMacro}
 use Rattle.rdlpp_meaning.specs.Outcome.{fails}
 use Rattle.rdlpp_meaning.specs.State.{Rules, State, fault_at}
-use Rattle.rdlpp_meaning.specs.PlainMacros.{is_plain_macro}
+use Rattle.rdlpp_meaning.specs.PlainMacros.{stands_for_body}
 use Rattle.rdlpp_meaning.specs.Expansion.{usage_token}
 use Rattle.rdlpp_meaning.specs.Parts.{only_blanks}
 use Rattle.rdlpp_meaning.specs.Meaning.{Progress, behind_bytes, leaves}
 use Rattle.rdlpp_meaning.specs.Resumed.{Live}
 use Rattle.rdlpp_meaning.specs.Opened.{Waiting, all_resumed}
 use Rattle.rdlpp_meaning.proofs.Usages.{plain_body, plain_formals}
+use Rattle.rdlpp_meaning.proofs.TokenWrites.{none_of_words}
 use Rattle.rdlpp_read.specs.declared.files.File.{File}
 use Rattle.rdlpp_read.specs.Buffer.{BufferView, held_of, rest_of, tokens_left}
 use Rattle.rdlpp_read.specs.Files.{consumed_file}
@@ -50,14 +50,6 @@ back_tokens unread b holds mode kind other also =
     ∙ remaining-back b.line_bytes b.line b.line held b.bytes_left rest holds.some (ends_line unread b holds.ends)
     kind other also
     ∙ ap (λ (ts : List SourceToken). record { sort = Ordinary Back; bytes = take len held; line = b.line } ∷ ts) behind
-
--- a name that is none of some words is none of each
-none_of_words : (name : List ℕ) (words : List (List ℕ)) → list_any (bytes_eq name) words ≡ false
-    → AllByRecursion (λ word. bytes_eq name word ≡ false) words
-none_of_words name [] e = tt
-none_of_words name (w ∷ ws) e =
-    let parts = or_parts (bytes_eq name w) (list_any (bytes_eq name) ws) e in
-    (parts.0, none_of_words name ws parts.1)
 
 -- a name that isn't reserved isn't `define`
 not_define : (name : List ℕ) → is_reserved name ≡ false → bytes_eq name (codes "define") ≡ false
@@ -122,7 +114,7 @@ module _ {R : Type 0} (rules : Rules) (unread : R → List ℕ) (ws : List Waiti
   -- a usage of a macro that stands for its body as it lies gives its body
   pub body_left : (len : ℕ) (m : Macro) → HoldsFront f.buffer → f.buffer.mode ≡ Plain → IsUsage (held_of f.buffer) len
       → macro_named s.macros (usage_name (held_of f.buffer) len) ≡ Some m
-      → is_plain_macro m ≡ true → 0 < rules.depth
+      → stands_for_body m ≡ true → 0 < rules.depth
       → source_left rules unread ws (Live os) f s
       ≡ behind_bytes m.body (source_left rules unread ws (Live os) (consumed_file len 0 f) s)
   unfolding source_left

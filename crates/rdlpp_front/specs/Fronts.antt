@@ -11,6 +11,7 @@ use Rattle.rdlpp_scan.specs.Tokens.{token_of, plain_len}
 use Rattle.rdlpp_scan.specs.Reserved.{is_reserved}
 use Rattle.rdlpp_meaning.specs.declared.fault.FaultKind.{FaultKind}
 use Rattle.rdlpp_meaning.specs.declared.fault.FaultKind.TheVariants as fault
+use Rattle.rdlpp_meaning.specs.Meaning.{unquoted}
 use Rattle.rdlpp_read.specs.Arguments.{NameGiven, NoName, NoString, StringGiven}
 use Rattle.rdlpp_front.specs.declared.front.Argument.{Argument}
 use Rattle.rdlpp_front.specs.declared.front.Front.{Front}
@@ -118,6 +119,10 @@ IsGivenString held (Some a) = HasString held a.start a.stop
 -- what a directive is given
 abbrev pub argument_name : List ℕ → ℕ → ℕ → List ℕ
 argument_name held start stop = take (stop - start) (drop start held)
+
+-- the name that is given to an `include` whose string stands from a place up to another (this project's profile)
+abbrev pub include_name : List ℕ → ℕ → ℕ → List ℕ
+include_name held start stop = unquoted (argument_name held start stop)
 
 -- what ends the output
 pub data IsRefused (mode : Mode) (held : List ℕ) : FaultKind → Type 0 where

@@ -191,9 +191,6 @@ unfolding trimmed_len is_sound begun
 sound_len class (Sound text last) start len e s = ap (λ (x : Cleared). is_sound (begun class x)) s
 sound_len class (Unsound fault) start len e s = absurd (cc)
 
-copied_all : (items old more : List ℕ) (n : ℕ) (rest : List ℕ) → n ≡ 0 → items ++ take n rest ≡ old ++ more → items ≡ old ++ more
-copied_all items old more n rest h e = sym (append-nil items) ∙ (ap (λ (k : ℕ). items ++ take k rest) (sym h) ∙ e)
-
 copied_early : (items old more : List ℕ) (n : ℕ) (rest : List ℕ) → rest ≡ [] → items ++ take n rest ≡ old ++ more → items ≡ old ++ more
 copied_early items old more n rest h e = sym (append-nil items) ∙ (ap (λ (l : List ℕ). items ++ l) (sym (ap (take n) h ∙ take_none n)) ∙ e)
 
@@ -223,9 +220,6 @@ copied_more items old more len i b rest (Sound bytes last) next h c e f =
       sound = ap is_sound f;
     }
 copied_more items old more len i b rest (Unsound fault) next h c e f = absurd (false≢true (sym (ap is_sound e) ∙ c.sound))
-
-pub copied_whole : (items old more : List ℕ) (n : ℕ) (rest : Cleared) → n ≡ 0 → IsCopied items old more n rest → items ≡ old ++ more
-copied_whole items old more n rest h c = copied_all items old more n (bytes_left rest) h c.bytes
 
 pub copied_short : (items old more : List ℕ) (n : ℕ) (rest : Cleared) → bytes_left rest ≡ [] → IsCopied items old more n rest → items ≡ old ++ more
 copied_short items old more n rest h c = copied_early items old more n (bytes_left rest) h c.bytes

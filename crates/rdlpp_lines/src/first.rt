@@ -4,6 +4,22 @@ ghost use Rattle.rdlpp_lines.specs.Continuations.{continuation_len, first_len, j
 
 use rdlpp_scan::byte_at;
 
+/// The first byte of a text as it is read, and the text behind it; `None` at the end.
+///
+/// In the text of a logical line a continuation, which is `\` and LF, or `\`, CR and LF, is read as
+/// its LF (IEEE 1364-2001, `define`).
+///
+/// Costs constant time.
+pub fn split_first(text: &[u8], is_logical: bool) -> Option<(u8, &[u8])>
+    ensures { MatchOption result (joined is_logical text.now ≡ []) (λ first. (joined is_logical text.now ≡ first.0 ∷ joined is_logical first.1.now) × (length first.1.now < length text.now)) }
+{
+    if text.is_empty() {
+        return None;
+    }
+    let len = first_len(text, is_logical);
+    Some((text[len - 1], &text[len..]))
+}
+
 // How many bytes stand before the LF of a continuation.
 #[tactic(auto, unfolding(crate::specs::Continuations::continuation_len))]
 pub(crate) fn continuation_len(text: &[u8]) -> usize
@@ -35,20 +51,4 @@ fn first_len(text: &[u8], is_logical: bool) -> usize
     } else {
         1
     }
-}
-
-/// The first byte of a text as it is read, and the text behind it; `None` at the end.
-///
-/// In the text of a logical line a continuation, which is `\` and LF, or `\`, CR and LF, is read as
-/// its LF (IEEE 1364-2001, `define`).
-///
-/// Costs constant time.
-pub fn split_first(text: &[u8], is_logical: bool) -> Option<(u8, &[u8])>
-    ensures { MatchOption result (joined is_logical text.now ≡ []) (λ first. (joined is_logical text.now ≡ first.0 ∷ joined is_logical first.1.now) × (length first.1.now < length text.now)) }
-{
-    if text.is_empty() {
-        return None;
-    }
-    let len = first_len(text, is_logical);
-    Some((text[len - 1], &text[len..]))
 }

@@ -6,6 +6,24 @@ ghost use Rattle.rdlpp_scan.specs.declared.token.Mode.TheVariants.{Plain};
 use crate::first::continuation_len;
 use rdlpp_scan::{Kind, Mode, Token, first_token};
 
+/// The first token of a text, of a logical line or as it stands.
+///
+/// In plain text of a logical line a continuation is a line end (IEEE 1364-2001, `define`); else it
+/// is the first token of the bytes as they lie. It is the first token of the text in which LF stands
+/// in the place of each continuation, in kind, mode, bytes and what follows; only a `//` comment
+/// keeps the `\` or the `\` and CR that stand before its line's end (`is_read`).
+///
+/// Costs time linear in the token's length.
+pub fn line_token(mode: Mode, text: &[u8], is_logical: bool) -> Token
+    requires { 0 < length text.now }
+    ensures value { result ≡ line_token is_logical mode text.now }
+    ensures is_read { IsRead is_logical mode text.now result }
+    ensures not_empty { 0 < result.len }
+    ensures inside { result.len ≤ length text.now }
+{
+    token_at(mode, text, is_logical)
+}
+
 // The first token of plain text of a logical line.
 #[tactic(auto, unfolding(crate::specs::LineTokens::line_token))]
 fn plain_line_token(text: &[u8]) -> Token
@@ -38,22 +56,4 @@ fn token_at(mode: Mode, text: &[u8], is_logical: bool) -> Token
         (true, Mode::Plain) => plain_line_token(text),
         _ => first_token(mode, text),
     }
-}
-
-/// The first token of a text, of a logical line or as it stands.
-///
-/// In plain text of a logical line a continuation is a line end (IEEE 1364-2001, `define`); else it
-/// is the first token of the bytes as they lie. It is the first token of the text in which LF stands
-/// in the place of each continuation, in kind, mode, bytes and what follows; only a `//` comment
-/// keeps the `\` or the `\` and CR that stand before its line's end (`is_read`).
-///
-/// Costs time linear in the token's length.
-pub fn line_token(mode: Mode, text: &[u8], is_logical: bool) -> Token
-    requires { 0 < length text.now }
-    ensures value { result ≡ line_token is_logical mode text.now }
-    ensures is_read { IsRead is_logical mode text.now result }
-    ensures not_empty { 0 < result.len }
-    ensures inside { result.len ≤ length text.now }
-{
-    token_at(mode, text, is_logical)
 }

@@ -1,14 +1,9 @@
 -- The LF that an included text is followed by, as a reader tells it that takes the text in parts: by whether a byte came at all and
 -- whether the last one was an LF.
-use Rattle.std.proofs.Common.{◌≡◌, ℕ, suc, ◌-◌, ◌<◌, Bool, true, false, not, List, [], ◌∷◌, ◌++◌, length, refl, sym, ap, ◌∙◌, arith}
+use Rattle.std.proofs.Common.{◌≡◌, ℕ, suc, ◌-◌, Bool, true, false, not, List, [], ◌∷◌, ◌++◌, length, refl, sym, ap, ◌∙◌, arith}
 use Rattle.std.specs.Prelude.{if◌then◌else◌, slice_index, ◌==◌}
 use Rattle.rdlpp_scan.specs.Bytes.{is_line_end}
-use Rattle.rdlpp_scan.specs.Lines.{IsWholeLines}
-use Rattle.rdlpp_scan.specs.SourceTokens.{SourceToken}
-use Rattle.rdlpp_scan.proofs.WholeLines.{IsWholeLines-rest, IsWholeLines-one}
-use Rattle.rdlpp_meaning.specs.State.{Rules, shown_line, State}
-use Rattle.rdlpp_meaning.specs.Meaning.{added_end, origin_line}
-use Rattle.rdlpp_meaning.specs.Opened.{ending_of}
+use Rattle.rdlpp_meaning.specs.Meaning.{added_end}
 
 -- whether a text stands in mid-line behind bytes, where it did or didn't before them
 unfoldable pub in_line : Bool → List ℕ → Bool
@@ -24,18 +19,6 @@ pub in_line-append : (torn : Bool) (x y : List ℕ) → in_line torn (x ++ y) �
 unfolding in_line
 in_line-append torn [] y = refl
 in_line-append torn (b ∷ x) y = in_line-append (not (is_line_end b)) x y
-
--- behind whole lines no text stands in mid-line
-pub in_line-whole : (torn : Bool) (x : List ℕ) → 0 < length x → IsWholeLines x → in_line torn x ≡ false
-unfolding in_line
-in_line-whole torn [] some whole = absurd (omega arith)
-in_line-whole torn (b ∷ []) some whole = ap not (IsWholeLines-one b whole)
-in_line-whole torn (b ∷ c ∷ x) some whole = in_line-whole (not (is_line_end b)) (c ∷ x) (omega arith) (IsWholeLines-rest b (c ∷ x) whole)
-
--- behind a last byte
-pub in_line-last : (torn : Bool) (x : List ℕ) (b : ℕ) → in_line torn (x ++ b ∷ []) ≡ not (is_line_end b)
-unfolding in_line
-in_line-last torn x b = in_line-append torn x (b ∷ [])
 
 -- the last byte of a text that isn't empty tells it
 in_line-index : (torn : Bool) (b : ℕ) (bs : List ℕ) → in_line torn (b ∷ bs) ≡ not (slice_index (b ∷ bs) (length bs) == 10)
@@ -62,9 +45,3 @@ added_end-in_line (b ∷ bs) =
 -- the same of a text of which a part was read, and in mid-line of which the reader stands
 pub added_end-behind : (read rest : List ℕ) → added_end (read ++ rest) ≡ line_end_if (in_line (in_line false read) rest)
 added_end-behind read rest = added_end-in_line (read ++ rest) ∙ ap line_end_if (in_line-append false read rest)
-
--- what is written behind an included text: that LF, and the origin line of the `include`, where asked for
-pub ending_of-in_line : (rules : Rules) (t : SourceToken) (s : State) (text : List ℕ)
-    → ending_of rules t s text ≡ line_end_if (in_line false text) ++ origin_line rules s.name (shown_line s.shift t.line)
-ending_of-in_line rules t s text =
-    ap (λ (x : List ℕ). x ++ origin_line rules s.name (shown_line s.shift t.line)) (added_end-in_line text)

@@ -1,5 +1,6 @@
 -- The tokens of a body as they are read one by one, and runs of a cursor's tokens that stand for themselves.
-use Rattle.std.proofs.Common.{◌≡◌, ℕ, zero, suc, ◌-◌, Bool, true, false, ◌&&◌, List, [], ◌∷◌, ◌++◌, map, take, drop, refl, sym, ap, ◌∙◌, Option, None, Some}
+use Rattle.std.proofs.Common.{◌≡◌, ℕ, ◌-◌, true, List, [], ◌∷◌, ◌++◌, map, take, drop, refl, sym, ap, ◌∙◌, Option, None, Some}
+use Rattle.std.proofs.lemmas.Bool.{and_parts}
 use Rattle.std.specs.Prelude.{is_some, not}
 use Rattle.std.specs.List.{list_all}
 use Rattle.std.specs.Option.{option_map}
@@ -8,6 +9,7 @@ use Rattle.rdlpp_scan.specs.declared.token.Mode.TheVariants.{Plain}
 use Rattle.rdlpp_scan.specs.declared.token.Token.{Token}
 use Rattle.rdlpp_scan.specs.Tokens.{token_of, tokens_from}
 use Rattle.rdlpp_scan.specs.SourceTokens.{Ordinary, SourceToken}
+use Rattle.rdlpp_scan.proofs.TokenLists.{tokens_from-skip}
 use Rattle.rdlpp_meaning.specs.Outcome.{Outcome, gives, and_then}
 use Rattle.rdlpp_meaning.specs.State.{Rules, State}
 use Rattle.rdlpp_meaning.specs.Items.{Item, Written}
@@ -19,13 +21,6 @@ use Rattle.rdlpp_meaning.proofs.Walks.{deeper_of, walk_copied}
 use Rattle.rdlpp_meaning.proofs.PlainBodies.{drop_behind}
 use Rattle.rdlpp_meaning.proofs.Cover.{HasByte, token_has}
 use Rattle.rdlpp_meaning.proofs.CursorSteps.{left_cursor}
-
--- tokens that are passed over are those of the suffix
-skip_is : (mode : Mode) (k : ℕ) (bs : List ℕ) → tokens_from mode k bs ≡ tokens_from mode 0 (drop k bs)
-unfolding tokens_from
-skip_is mode zero bs = refl
-skip_is mode (suc k) [] = refl
-skip_is mode (suc k) (b ∷ bs) = skip_is mode k bs
 
 -- the first token of a body that closes, and then those of the rest of the body
 pub body_step : (b : ℕ) (bs : List ℕ) → (token_of Plain (b ∷ bs)).next_mode ≡ Plain
@@ -39,12 +34,7 @@ body_step b bs closed =
     let first : SourceToken = record { sort = Ordinary t.kind; bytes = take t.len (b ∷ bs); line = 0 } in
     ap (λ (mode : Mode). first ∷ spelled (tokens_from mode (t.len - 1) bs) rest) closed
     ∙ ap (λ (ts : List Token). first ∷ spelled ts rest)
-    (skip_is Plain (t.len - 1) bs ∙ ap (λ (r : List ℕ). tokens_from Plain 0 r) (sym (drop_behind t.len b bs (token_has Plain b bs))))
-
--- the tokens of an empty body
-pub body_end : body_tokens [] ≡ []
-unfolding body_tokens tokens_from spelled HasByte
-body_end = refl
+    (tokens_from-skip Plain (t.len - 1) bs ∙ ap (λ (r : List ℕ). tokens_from Plain 0 r) (sym (drop_behind t.len b bs (token_has Plain b bs))))
 
 -- by what it stands for
 alone_by : (b : Binding) (frame : List Binding) (t : SourceToken) (standing : Option (Standing SourceToken))
@@ -60,16 +50,6 @@ unfolding image stands_alone closure_at
 alone_image [] t e = refl
 alone_image (b ∷ frame) t e = alone_by b frame t (stood_for b t) e
 
--- the first of two tests that hold
-first_holds : (a b : Bool) → (a && b) ≡ true → a ≡ true
-first_holds true b e = refl
-first_holds false b e = cc
-
--- the second one
-second_holds : (a b : Bool) → (a && b) ≡ true → b ≡ true
-second_holds true b e = e
-second_holds false b e = cc
-
 -- one token of a cursor that is copied and stands for itself
 one_passes : (rules : Rules) (s : State) (line : ℕ) (t : SourceToken) (rest : List SourceToken) (frame : List Binding) (writer : List (List ℕ)) (room : ℕ) (below : List Cursor)
     → passes frame t ≡ true
@@ -82,9 +62,9 @@ one_passes rules s line t rest frame writer room below e =
     let under = left rules s line below in
     left_cursor rules s line (t ∷ rest) frame writer room below
     ∙ ap (λ (x : Item). and_then (walk rules s deeper (Some line) writer 0 (x ∷ xs)) under)
-    (alone_image frame t (first_holds (stands_alone frame t) (is_copied t) e))
+    (alone_image frame t (and_parts (stands_alone frame t) (is_copied t) e).0)
     ∙ ap (λ (o : Outcome). and_then o under)
-    (walk_copied rules s deeper (Some line) writer t xs (second_holds (stands_alone frame t) (is_copied t) e))
+    (walk_copied rules s deeper (Some line) writer t xs (and_parts (stands_alone frame t) (is_copied t) e).1)
     ∙ and_then-assoc (gives t.bytes) (walk rules s deeper (Some line) writer 0 xs) under
     ∙ ap (λ (o : Outcome). and_then (gives t.bytes) o) (sym (left_cursor rules s line rest frame writer room below))
 
@@ -96,8 +76,8 @@ pub left_passes : (rules : Rules) (s : State) (line : ℕ) (ts rest : List Sourc
 left_passes rules s line [] rest frame writer room below e =
     sym (and_then-gives_nil (left rules s line (record { text = rest; frame = frame; writer = writer; room = room } ∷ below)))
 left_passes rules s line (t ∷ ts) rest frame writer room below e =
-    let both = first_holds (passes frame t) (list_all (passes frame) ts) e in
+    let both = (and_parts (passes frame t) (list_all (passes frame) ts) e).0 in
     one_passes rules s line t (ts ++ rest) frame writer room below both
     ∙ ap (λ (o : Outcome). and_then (gives t.bytes) o)
-    (left_passes rules s line ts rest frame writer room below (second_holds (passes frame t) (list_all (passes frame) ts) e))
+    (left_passes rules s line ts rest frame writer room below (and_parts (passes frame t) (list_all (passes frame) ts) e).1)
     ∙ and_then-gives_gives t.bytes (bytes_of ts) (left rules s line (record { text = rest; frame = frame; writer = writer; room = room } ∷ below))

@@ -2,6 +2,7 @@
 use Rattle.std.proofs.Common.{◌≡◌, ℕ, zero, suc, ◌+◌, ◌-◌, false, List, [], ◌∷◌, ◌++◌, refl, codes, decimal, replicate, Some}
 use Rattle.std.specs.Fmt.{digits}
 use Rattle.rdlpp_table.specs.Table.{Macro}
+use Rattle.rdlpp_table.specs.View.{most_formals}
 use Rattle.rdlpp_meaning.specs.declared.fault.FaultKind.TheVariants as fault
 use Rattle.rdlpp_meaning.specs.State.{LongPath, Rules}
 use Rattle.rdlpp_meaning.specs.Output.{output}
@@ -234,10 +235,6 @@ unfolding row
 quote_behind_two_backslashes = refl
 
 -- formals
-
--- the most formals that a macro may have
-abbrev most_formals : ℕ
-most_formals = 255
 
 -- so many formals from a number on, and a last one
 unfoldable formals_to : ℕ → ℕ → List ℕ

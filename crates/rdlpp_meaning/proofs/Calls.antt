@@ -126,7 +126,7 @@ call_takes role size room [] = tt
 call_takes role size room (x ∷ xs) = call_takes_by role size room xs (role x) (call_takes role size room xs)
 
 -- a usage takes at most so many items
-UsesUpTo : ℕ → Usage → Type 0
+unfoldable pub UsesUpTo : ℕ → Usage → Type 0
 UsesUpTo n (Refuses f word line) = Unit
 UsesUpTo n (Opens m actuals used) = used ≤ n
 

@@ -11,9 +11,10 @@ use Rattle.rdlpp_scan.specs.declared.token.Mode.TheVariants.{Plain, InStr, InBlo
 use Rattle.rdlpp_scan.specs.declared.token.Token.{Token}
 use Rattle.rdlpp_scan.specs.Bytes.{is_blank, is_line_end, is_letter, is_digit, is_word, is_opener, is_closer, takes_word, begins_perl, begins_line_comment, begins_block_comment, ends_block_comment}
 use Rattle.rdlpp_scan.specs.Tokens.{first_place, string_stop, whole, string_token, block_token, plain_token, token_of, tokens_from}
+use Rattle.rdlpp_scan.proofs.TokenLens.{is_word-letter, is_word-digit}
 use Rattle.rdlpp_meaning.specs.Substitution.{spelled, body_tokens}
 use Rattle.rdlpp_meaning.specs.Expansion.{bytes_of}
-use Rattle.rdlpp_meaning.proofs.PlainBodies.{run_positive, letter_word, digit_word, drop_behind}
+use Rattle.rdlpp_meaning.proofs.PlainBodies.{run_positive, drop_behind}
 
 -- a token has a byte
 unfoldable pub HasByte : Token → Type 0
@@ -108,8 +109,8 @@ plain_has b bs =
     chosen (begins_line_comment (b ∷ bs)) _ _ (λ h. whole_has LineComment _ (comment_positive b bs e)) (λ _.
     chosen (begins_block_comment (b ∷ bs)) _ _ (λ h. block_has 2 (b ∷ bs) (one_more 1)) (λ _.
     chosen (b == 34) _ _ (λ h. string_has 1 (b ∷ bs) (one_more 0)) (λ _.
-    chosen (is_letter b) _ _ (λ h. whole_has Name _ (run_positive is_word b bs (letter_word b h))) (λ _.
-    chosen (is_digit b) _ _ (λ h. whole_has Word _ (run_positive is_word b bs (digit_word b h))) (λ _.
+    chosen (is_letter b) _ _ (λ h. whole_has Name _ (run_positive is_word b bs (is_word-letter b h))) (λ _.
+    chosen (is_digit b) _ _ (λ h. whole_has Word _ (run_positive is_word b bs (is_word-digit b h))) (λ _.
     chosen (takes_word b && is_word (slice_index (b ∷ bs) 1)) _ _ (λ h. whole_has Word _ (one_more _)) (λ _.
     chosen (b == 96 && is_letter (slice_index (b ∷ bs) 1)) _ _ (λ h. whole_has Back _ (one_more _)) (λ _.
     chosen (b == 96) _ _ (λ h. whole_has BareBackquote 1 (one_more 0)) (λ _.

@@ -85,15 +85,6 @@ unfolding all_resumed
 all_resumed_move rules ws place new first then_first ts us s t e =
     ap (λ (p : Passage). goes_on p (λ after. unwound rules ws after)) e
 
--- a refusal in the innermost source ends the nest
-pub all_resumed_refusal : (rules : Rules) (ws : List Waiting) (place : Place) (first : Bool) (ts : List SourceToken) (s : State) (kind : FaultKind) (word : List ℕ) (c : Command)
-    → resumed rules place first ts s ≡ refusal kind word c s
-    → all_resumed rules ws place first ts s ≡ refusal kind word c s
-unfolding all_resumed
-all_resumed_refusal rules ws place first ts s kind word c e =
-    ap (λ (p : Passage). goes_on p (λ after. unwound rules ws after)) e
-    ∙ sym (refusal-goes_on kind word c s (λ after. unwound rules ws after))
-
 -- at the end of an included text, what is written behind it comes, and then what remains of the source that waits for it
 pub all_resumed_return : (rules : Rules) (w : Waiting) (ws : List Waiting) (first : Bool) (s : State)
     → all_resumed rules (w ∷ ws) (Live []) first [] s

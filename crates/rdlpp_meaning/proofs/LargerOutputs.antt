@@ -7,7 +7,7 @@ use Rattle.rdlpp_scan.specs.SourceTokens.{Broken, SourceToken, whole_tokens}
 use Rattle.rdlpp_table.specs.declared.limits.Limits.{Limits}
 use Rattle.rdlpp_table.specs.Table.{Macro, macro_size, table_size, without}
 use Rattle.rdlpp_table.specs.declared.fault.DefineKind.TheVariants as kind
-use Rattle.rdlpp_table.specs.Define.{Defined as TableDefined, Accepted as TableAccepted, Refused as TableRefused, Draft, Drawn, Rejected, macro_of, stored, stored_draft, define_of}
+use Rattle.rdlpp_table.specs.Define.{Accepted as TableAccepted, Refused as TableRefused, Draft, Drawn, Rejected, macro_of, stored, stored_draft, define_of}
 use Rattle.rdlpp_meaning.specs.declared.fault.FaultKind.{FaultKind}
 use Rattle.rdlpp_meaning.specs.declared.fault.FaultKind.TheVariants.{StrayBranch, OutputBytes}
 use Rattle.rdlpp_meaning.specs.declared.fault.FaultKind.TheVariants as fault
@@ -341,11 +341,6 @@ unfolding DefinedAgrees
 limited-agrees kind word true large u v l imp h = λ n. absurd (true≢false (sym l ∙ n))
 limited-agrees kind word false large u v l imp h =
     subst (λ (b : Bool). DefinedAgrees u (if b then Refused kind word else v)) (sym (imp refl)) h
-
--- a choice of drafts with their faults
-with-choice : (test : Bool) (u v : TableDefined) → with_fault (if test then u else v) ≡ (if test then with_fault u else with_fault v)
-with-choice true u v = refl
-with-choice false u v = refl
 
 -- what a macro's storing comes to, with its fault
 stored_by : Bool → Bool → List Macro → Defined

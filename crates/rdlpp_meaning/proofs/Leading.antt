@@ -55,7 +55,7 @@ unfolding trailing
 trailing_text t ts e = rw (e, trailing) refl
 
 -- what leads where the first token begins a directive
-leading_directive : (t : SourceToken) (ts : List SourceToken) (d : Directive) → directive_of t ≡ Some d → leading (t ∷ ts) ≡ []
+pub leading_directive : (t : SourceToken) (ts : List SourceToken) (d : Directive) → directive_of t ≡ Some d → leading (t ∷ ts) ≡ []
 unfolding leading
 leading_directive t ts d e = rw (e, leading) refl
 

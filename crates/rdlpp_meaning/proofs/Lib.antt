@@ -19,13 +19,12 @@ pub mod CursorSteps
 pub mod SourceCalls
 pub mod LiteralSubstitution
 pub mod Cover
-pub mod OwnWords
+pub mod PlainOutputs
 pub mod Trees
 pub mod SlotScopes
 pub mod SlotSteps
 pub mod Splitting
 pub mod BodySteps
-pub mod CopiedBodies
 pub mod Undefining
 pub mod CountedTexts
 pub mod WorkFalls

@@ -55,28 +55,3 @@ and_then-nil o = nil_by o.bytes o.fault
 pub bytes-and_then_gives : (x : List ℕ) (o : Outcome) → (and_then (gives x) o).bytes ≡ x ++ o.bytes
 unfolding and_then gives
 bytes-and_then_gives x o = refl
-
--- the fault of an outcome behind bytes
-pub fault-and_then_gives : (x : List ℕ) (o : Outcome) → (and_then (gives x) o).fault ≡ o.fault
-unfolding and_then gives
-fault-and_then_gives x o = refl
-
--- bytes alone have no fault
-pub fault-gives : (x : List ℕ) → (gives x).fault ≡ None
-unfolding gives
-fault-gives x = refl
-
--- bytes alone are their bytes
-pub bytes-gives : (x : List ℕ) → (gives x).bytes ≡ x
-unfolding gives
-bytes-gives x = refl
-
--- a fault alone has no bytes
-pub bytes-fails : (f : Told) → (fails f).bytes ≡ []
-unfolding fails
-bytes-fails f = refl
-
--- a fault alone is that fault
-pub fault-fails : (f : Told) → (fails f).fault ≡ Some f
-unfolding fails
-fault-fails f = refl

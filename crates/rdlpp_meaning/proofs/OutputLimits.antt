@@ -1,8 +1,8 @@
 -- Laws of an outcome of at most so many bytes.
-use Rattle.std.proofs.Common.{◌≡◌, ℕ, ◌+◌, ◌-◌, ◌<◌, ◌≤◌, Bool, true, false, List, ◌++◌, length, take, refl, sym, ap, subst, ◌∙◌, arith, Some}
+use Rattle.std.proofs.Common.{◌≡◌, ℕ, ◌+◌, ◌-◌, ◌<◌, ◌≤◌, Bool, true, false, List, ◌++◌, length, take, refl, sym, ap, ◌∙◌, arith, Some}
 use Rattle.std.specs.Prelude.{if◌then◌else◌, nat_le}
 use Rattle.std.proofs.lemmas.Bool.{le-leb, leb-true, lt-leb, leb-false}
-use Rattle.std.proofs.lemmas.List.{length-append, append-nil, take-append-le, length-take-le}
+use Rattle.std.proofs.lemmas.List.{length-append, append-nil, take-append-le}
 use Rattle.std.proofs.Math.Seq.{take-append-add}
 use Rattle.rdlpp_meaning.specs.Outcome.{Told, Outcome, gives, fails, and_then}
 use Rattle.rdlpp_meaning.specs.OutputLimit.{limited}
@@ -24,20 +24,6 @@ limited-over over quota o h =
 pub limited-fails : (over : Told) (quota : ℕ) (f : Told) → limited over quota (fails f) ≡ fails f
 unfolding fails
 limited-fails over quota f = limited-within over quota (fails f) (omega arith)
-
--- what is limited has no more bytes, by whether there were more
-limited-by : (over : Told) (quota : ℕ) (o : Outcome) (b : Bool) → nat_le (length o.bytes) quota ≡ b → length (limited over quota o).bytes ≤ quota
-limited-by over quota o true e =
-    let h = leb-true (length o.bytes) quota e in
-    subst (λ (x : Outcome). length x.bytes ≤ quota) (sym (limited-within over quota o h)) h
-limited-by over quota o false e =
-    let h : quota < length o.bytes = leb-false (length o.bytes) quota e in
-    let n : length (take quota o.bytes) ≡ quota = length-take-le quota o.bytes (omega (arith, h)) in
-    subst (λ (x : Outcome). length x.bytes ≤ quota) (sym (limited-over over quota o h)) (omega (arith, n))
-
--- what is limited has no more bytes
-pub limited-most : (over : Told) (quota : ℕ) (o : Outcome) → length (limited over quota o).bytes ≤ quota
-limited-most over quota o = limited-by over quota o (nat_le (length o.bytes) quota) refl
 
 -- how many bytes stand in two texts
 joined-length : (xs : List ℕ) (o : Outcome) → length (and_then (gives xs) o).bytes ≡ length xs + length o.bytes

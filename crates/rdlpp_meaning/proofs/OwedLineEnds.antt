@@ -1,6 +1,5 @@
 -- The LF bytes of a text, as so many that are owed.
-use Rattle.std.proofs.Common.{◌≡◌, ℕ, ◌+◌, Bool, true, false, cond, List, [], ◌∷◌, ◌++◌, length, replicate, refl, ap, ◌∙◌}
-use Rattle.std.proofs.lemmas.List.{replicate-append-replicate}
+use Rattle.std.proofs.Common.{◌≡◌, ℕ, Bool, true, false, cond, List, [], ◌∷◌, length, replicate, refl, ap, ◌∙◌}
 use Rattle.std.proofs.lemmas.List.Sums.{length-filter}
 use Rattle.rdlpp_scan.specs.Bytes.{is_line_end}
 use Rattle.rdlpp_scan.specs.SourceTokens.{line_ends}
@@ -26,9 +25,3 @@ line_ends_of-length bytes = length-filter is_line_end bytes
 -- the LF bytes of a text are so many LF
 pub line_ends_of-owed : (bytes : List ℕ) → line_ends_of bytes ≡ replicate (line_ends bytes) 10
 line_ends_of-owed bytes = all_line_ends bytes ∙ ap (λ (n : ℕ). replicate n 10) (line_ends_of-length bytes)
-
--- LF bytes that are owed, and then those of a text
-pub owed-more : (n : ℕ) (bytes : List ℕ) → replicate n 10 ++ line_ends_of bytes ≡ replicate (n + line_ends bytes) 10
-owed-more n bytes =
-    ap (λ (xs : List ℕ). replicate n 10 ++ xs) (line_ends_of-owed bytes)
-    ∙ replicate-append-replicate n (line_ends bytes) 10

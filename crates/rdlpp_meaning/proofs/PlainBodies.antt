@@ -3,6 +3,7 @@ use Rattle.std.proofs.Common.{◌≡◌, ℕ, zero, suc, ◌-◌, ◌<◌, Bool,
 use Rattle.std.specs.Prelude.{◌==◌, slice_index, if◌then◌else◌}
 use Rattle.std.specs.List.{flat_map, list_all, prefix_len}
 use Rattle.std.proofs.lemmas.List.{take-append-drop}
+use Rattle.std.proofs.lemmas.Bool.{and_from, and_parts}
 use Rattle.rdlpp_scan.specs.declared.token.Kind.{Kind}
 use Rattle.rdlpp_scan.specs.declared.token.Kind.TheVariants.{Name, Word, Blank, LineEnd, Opener, Closer, Comma, Other}
 use Rattle.rdlpp_scan.specs.declared.token.Mode.{Mode}
@@ -11,6 +12,7 @@ use Rattle.rdlpp_scan.specs.declared.token.Token.{Token}
 use Rattle.rdlpp_scan.specs.Bytes.{is_blank, is_line_end, is_letter, is_digit, is_word, is_opener, is_closer, takes_word, begins_perl, begins_line_comment, begins_block_comment}
 use Rattle.rdlpp_scan.specs.Tokens.{first_place, whole, plain_token, token_of, tokens_from, stops_plain_text, plain_len}
 use Rattle.rdlpp_scan.specs.SourceTokens.{Ordinary}
+use Rattle.rdlpp_scan.proofs.TokenLens.{is_word-letter, is_word-digit}
 use Rattle.rdlpp_meaning.specs.Substitution.{spelled}
 use Rattle.rdlpp_meaning.specs.Expansion.{is_copied}
 
@@ -29,26 +31,6 @@ chosen false t u first second = second refl
 -- a run that begins with a byte of its class isn't empty
 pub run_positive : (p : ℕ → Bool) (b : ℕ) (bs : List ℕ) → p b ≡ true → 0 < prefix_len p (b ∷ bs)
 run_positive p b bs e = rw e (omega arith)
-
--- a letter is a word byte
-pub letter_word : (b : ℕ) → is_letter b ≡ true → is_word b ≡ true
-unfolding is_word
-letter_word b e = rw e refl
-
--- anything or true is true
-or_true : (x : Bool) → (x || true) ≡ true
-or_true true = refl
-or_true false = refl
-
--- a digit is a word byte
-pub digit_word : (b : ℕ) → is_digit b ≡ true → is_word b ≡ true
-unfolding is_word
-digit_word b e = rw e (or_true (is_letter b))
-
--- the first part of a test that holds
-first_part : (x y : Bool) → (x && y) ≡ true → x ≡ true
-first_part true y e = refl
-first_part false y e = cc
 
 -- what a place is not where ordinary text goes on
 record IsGoingOn (bytes : List ℕ) : Type 0 where
@@ -101,10 +83,10 @@ first_ordinary b bs g =
     chosen (begins_line_comment (b ∷ bs)) _ _ (λ h. clash _ g.line_comment h) (λ _.
     chosen (begins_block_comment (b ∷ bs)) _ _ (λ h. clash _ g.block_comment h) (λ _.
     chosen (b == 34) _ _ (λ h. clash _ g.quote h) (λ _.
-    chosen (is_letter b) _ _ (λ h. whole_ordinary Name _ (λ _ _. refl) (run_positive is_word b bs (letter_word b h))) (λ _.
-    chosen (is_digit b) _ _ (λ h. whole_ordinary Word _ (λ _ _. refl) (run_positive is_word b bs (digit_word b h))) (λ _.
+    chosen (is_letter b) _ _ (λ h. whole_ordinary Name _ (λ _ _. refl) (run_positive is_word b bs (is_word-letter b h))) (λ _.
+    chosen (is_digit b) _ _ (λ h. whole_ordinary Word _ (λ _ _. refl) (run_positive is_word b bs (is_word-digit b h))) (λ _.
     chosen (takes_word b && is_word (slice_index (b ∷ bs) 1)) _ _ (λ h. whole_ordinary Word _ (λ _ _. refl) (suc_positive _)) (λ _.
-    chosen (b == 96 && is_letter (slice_index (b ∷ bs) 1)) _ _ (λ h. clash _ g.backquote (first_part _ _ h)) (λ _.
+    chosen (b == 96 && is_letter (slice_index (b ∷ bs) 1)) _ _ (λ h. clash _ g.backquote (and_parts _ _ h).0) (λ _.
     chosen (b == 96) _ _ (λ h. clash _ g.backquote h) (λ _.
     chosen (is_opener b) _ _ (λ h. whole_ordinary Opener 1 (λ _ _. refl) (suc_positive _)) (λ _.
     chosen (is_closer b) _ _ (λ h. whole_ordinary Closer 1 (λ _ _. refl) (suc_positive _)) (λ _.
@@ -121,10 +103,6 @@ pub drop_behind : (n b : ℕ) (bs : List ℕ) → 0 < n → drop n (b ∷ bs) �
 drop_behind zero b bs h = absurd (omega arith)
 drop_behind (suc n) b bs h = let e : suc n - 1 ≡ n = omega arith in rw e refl
 
--- both tests hold
-both_hold : (x y : Bool) → x ≡ true → y ≡ true → (x && y) ≡ true
-both_hold x y e h = rw (e, h) refl
-
 -- an ordinary token in front of those of the text behind it
 one_more : (kind : Kind) (n : ℕ) (mode next : Mode) (b : ℕ) (bs : List ℕ) (rest : List Token)
     → IsOrdinary (record { kind = kind; len = n; next_mode = next })
@@ -134,7 +112,7 @@ unfolding spelled
 one_more kind n mode next b bs rest t r =
     let e = drop_behind n b bs t.positive in
     record {
-      copied = rw e (both_hold _ _ (t.copied (take n (b ∷ bs)) 0) r.copied);
+      copied = rw e (and_from _ _ (t.copied (take n (b ∷ bs)) 0) r.copied);
       text = ap (λ (r : List ℕ). take n (b ∷ bs) ++ flat_map (λ t. t.bytes) (spelled rest r)) e
           ∙ ap (λ (r : List ℕ). take n (b ∷ bs) ++ r) (r.text ∙ sym e)
           ∙ take-append-drop n (b ∷ bs);

@@ -11,8 +11,8 @@ use Rattle.rdlpp_scan.specs.Tokens.{string_token, block_token}
 use Rattle.rdlpp_scan.specs.Front.{Breach, PerlFound, StringOpen, CommentOpen, Break, Front, front, front_of_lines, lines_of, onto_front}
 use Rattle.rdlpp_scan.specs.SourceTokens.{SourceToken, Course, Step, Last, Next, Ordinary, Broken, broken, comment_step, line_ends, open_end, remaining_tokens, source_end, source_step, source_tokens, string_step}
 use Rattle.rdlpp_scan.proofs.StopKinds.{string_token-kind, block_token-kind}
-use Rattle.rdlpp_scan.proofs.TokenSteps.{string_rest, comment_rest}
-use Rattle.rdlpp_scan.proofs.ResumedTokens.{after_step, tokens_step}
+use Rattle.rdlpp_scan.proofs.TokenSteps.{string_rest, comment_rest, end_of}
+use Rattle.rdlpp_scan.proofs.ResumedTokens.{after_step, tokens_step, step-end_of}
 use Rattle.rdlpp_scan.proofs.RemainingLaws.{course}
 use Rattle.rdlpp_meaning.specs.CallReading.{is_part_breach}
 
@@ -74,34 +74,24 @@ unfolding after_step
 step_rest k c m o l b bs (NextRest bytes line is) = WholeRest bytes line _ (tokens_step c m o l b bs ∙ ap (after_step c l b bs) is)
 step_rest k c m o l b bs (LastRest x bytes line h is) = BrokenRest x bytes line h (tokens_step c m o l b bs ∙ ap (after_step c l b bs) is)
 
--- what stands at the end of a text by what is open there
-end_list : Step → List SourceToken
-end_list (Last t) = t ∷ []
-end_list (Next t) = []
-
-end_listed : (s : Step) → (elim s as (λ _. List SourceToken) [ Last t ↦ t ∷ [] | Next t ↦ [] ]) ≡ end_list s
-unfolding end_list
-end_listed (Last t) = refl
-end_listed (Next t) = refl
-
-end_rest : (k : Kind) (c : Course) (own : Breach) (o l : ℕ) → is_part_breach own ≡ true → IsPartBreak c.break → IsRest k (end_list (open_end c own o l []))
-unfolding IsPartBreak open_end broken end_list
+end_rest : (k : Kind) (c : Course) (own : Breach) (o l : ℕ) → is_part_breach own ≡ true → IsPartBreak c.break → IsRest k (end_of (open_end c own o l []))
+unfolding IsPartBreak open_end broken end_of
 end_rest k c own o l h part =
-    elim c.break as (λ d. IsPartBreak d → IsRest k (end_list (elim d [ None ↦ broken own [] o | Some d ↦ broken d.breach [] (l + line_ends []) ]))) [
+    elim c.break as (λ d. IsPartBreak d → IsRest k (end_of (elim d [ None ↦ broken own [] o | Some d ↦ broken d.breach [] (l + line_ends []) ]))) [
       | None ↦ λ _. BrokenRest own [] o h refl
       | Some d ↦ λ is. BrokenRest d.breach [] (l + line_ends []) is refl
     ] part
 
 string_tokens-rest : (c : Course) (o l : ℕ) (bs : List ℕ) → IsPartBreak c.break → IsRest Str (source_tokens c InStr o l 0 bs)
 unfolding source_tokens source_end is_part_breach
-string_tokens-rest c o l [] part = subst (IsRest Str) (sym (end_listed (open_end c StringOpen o l []))) (end_rest Str c StringOpen o l refl part)
+string_tokens-rest c o l [] part = subst (IsRest Str) (sym (step-end_of (open_end c StringOpen o l []))) (end_rest Str c StringOpen o l refl part)
 string_tokens-rest c o l (b ∷ bs) part =
     let v = string_token 0 (b ∷ bs) in
     step_rest Str c InStr o l b bs (subst (RestStep Str) (sym (string_rest c o l (b ∷ bs) (omega arith))) (string_by_mode c o l v.kind v.len v.next_mode (b ∷ bs) part (string_token-kind 0 (b ∷ bs))))
 
 comment_tokens-rest : (c : Course) (o l : ℕ) (bs : List ℕ) → IsPartBreak c.break → IsRest BlockComment (source_tokens c InBlock o l 0 bs)
 unfolding source_tokens source_end is_part_breach
-comment_tokens-rest c o l [] part = subst (IsRest BlockComment) (sym (end_listed (open_end c CommentOpen o l []))) (end_rest BlockComment c CommentOpen o l refl part)
+comment_tokens-rest c o l [] part = subst (IsRest BlockComment) (sym (step-end_of (open_end c CommentOpen o l []))) (end_rest BlockComment c CommentOpen o l refl part)
 comment_tokens-rest c o l (b ∷ bs) part =
     let v = block_token 0 (b ∷ bs) in
     step_rest BlockComment c InBlock o l b bs (subst (RestStep BlockComment) (sym (comment_rest c o l (b ∷ bs))) (comment_by_mode c o l v.kind v.len v.next_mode (b ∷ bs) part (block_token-kind 0 (b ∷ bs))))

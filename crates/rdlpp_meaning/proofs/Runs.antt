@@ -8,7 +8,7 @@ use Rattle.rdlpp_meaning.specs.Parts.{Piece, Run, Single, Opening, Branching, Cl
 use Rattle.rdlpp_meaning.specs.Meaning.{leaves, outcome, goes_on, Nest, Progress, nest_of}
 use Rattle.rdlpp_meaning.specs.Resumed.{Live, resume, resumed, remains}
 use Rattle.rdlpp_meaning.proofs.Outcomes.{and_then-nil}
-use Rattle.rdlpp_meaning.proofs.Passages.{on_leaves, leaves-and_then, outcome-goes_on}
+use Rattle.rdlpp_meaning.proofs.Passages.{on_leaves, leaves-and_then}
 use Rattle.rdlpp_meaning.proofs.Walks.{expand_walk}
 
 -- a token writes an outcome in front of each run
@@ -65,12 +65,3 @@ resumed_token rules os first t ts s o e w =
     ∙ on_leaves o s
     (λ after. resume rules (nest_of rules s.sources_left) (Live os) rest after)
     (λ after. resumed rules (Live os) (only_blanks first t.bytes) ts after) refl
-
--- the outcome of a token, and then what remains behind it
-pub remains_token : (rules : Rules) (os : List Progress) (first : Bool) (t : SourceToken) (ts : List SourceToken) (s : State) (o : Outcome)
-    → directive_of t ≡ None → Writes rules s t o
-    → remains rules (Live os) first (t ∷ ts) s ≡ and_then o (remains rules (Live os) (only_blanks first t.bytes) ts s)
-unfolding remains
-remains_token rules os first t ts s o e w =
-    ap outcome (resumed_token rules os first t ts s o e w)
-    ∙ outcome-goes_on o s (λ after. resumed rules (Live os) (only_blanks first t.bytes) ts after)

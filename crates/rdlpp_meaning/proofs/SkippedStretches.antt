@@ -1,7 +1,7 @@
 -- Skipped text in a nest of open sources: stretches of tokens between the words of conditionals, these words, broken tokens, and
 -- tokens in parts.
-use Rattle.std.proofs.Common.{◌≡◌, ℕ, suc, Bool, true, false, ◌&&◌, List, [], ◌∷◌, ◌++◌, refl, sym, ap, ◌∙◌, Option, None, Some}
-use Rattle.std.proofs.lemmas.Bool.{and_parts}
+use Rattle.std.proofs.Common.{◌≡◌, ℕ, suc, Bool, true, false, List, [], ◌∷◌, ◌++◌, refl, sym, ap, ◌∙◌, Option, None, Some}
+use Rattle.std.proofs.lemmas.Bool.{and_parts, and_from}
 use Rattle.std.specs.List.{list_all}
 use Rattle.rdlpp_scan.specs.declared.token.Kind.{Kind}
 use Rattle.rdlpp_scan.specs.declared.token.Kind.TheVariants.{Back, BareBackquote}
@@ -174,16 +174,11 @@ opening_word Ifndef e = refl
 opening_word d e = cc
 
 -- and so is a branch
-branching_word : (d : Directive) → branches_conditional d ≡ true → has_own_token d ≡ false
+pub branching_word : (d : Directive) → branches_conditional d ≡ true → has_own_token d ≡ false
 unfolding branches_conditional has_own_token
 branching_word Elsif e = refl
 branching_word Else e = refl
 branching_word d e = cc
-
--- two tests that both hold
-both_hold : (a b : Bool) → a ≡ true → b ≡ true → (a && b) ≡ true
-both_hold true b e f = f
-both_hold false b e f = e
 
 -- a token that would be copied is skipped, by its sort
 copied_skipped_by : (sort : Sort) (bytes : List ℕ) (line : ℕ) → is_copied (record { sort = sort; bytes = bytes; line = line }) ≡ true
@@ -203,7 +198,7 @@ copied_skipped t e = copied_skipped_by t.sort t.bytes t.line e
 pub all_copied_skipped : (ts : List SourceToken) → list_all is_copied ts ≡ true → list_all is_skipped ts ≡ true
 all_copied_skipped [] e = refl
 all_copied_skipped (t ∷ ts) e =
-    both_hold (is_skipped t) (list_all is_skipped ts)
+    and_from (is_skipped t) (list_all is_skipped ts)
     (copied_skipped t (and_parts (is_copied t) (list_all is_copied ts) e).0)
     (all_copied_skipped ts (and_parts (is_copied t) (list_all is_copied ts) e).1)
 

@@ -78,8 +78,3 @@ pub skipped_unclosed : (rules : Rules) (n : ℕ) (o : Progress) (os : List Progr
     → resumed rules (Skipped n o os) first [] s ≡ unclosed o s
 unfolding resumed resume pieces
 skipped_unclosed rules n o os first s = refl
-
--- the end of a file in live text without an open conditional leaves the state
-pub live_end : (rules : Rules) (first : Bool) (s : State) → resumed rules (Live []) first [] s ≡ leaves (gives []) s
-unfolding resumed resume pieces
-live_end rules first s = refl

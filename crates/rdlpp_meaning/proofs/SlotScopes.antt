@@ -1,10 +1,10 @@
 -- The scopes of open texts with indices: the macros in whose text they are, their bindings, and what their tokens stand for.
-use Rattle.std.proofs.Common.{◌≡◌, ℕ, suc, ◌≤◌, Bool, true, false, List, [], ◌∷◌, length, refl, arith, eq-eqb, None}
+use Rattle.std.proofs.Common.{◌≡◌, ℕ, suc, ◌≤◌, Bool, true, false, List, [], ◌∷◌, length, refl, arith, eq-eqb}
 use Rattle.std.specs.Prelude.{◌==◌}
 use Rattle.std.proofs.lemmas.Bool.{eqb-true}
 use Rattle.rdlpp_scan.specs.SourceTokens.{SourceToken}
 use Rattle.rdlpp_meaning.specs.Cursors.{Binding}
-use Rattle.rdlpp_meaning.specs.Slots.{SlotKind, Body, Actual, Default, Slot, scope_of, own_writer, writer_at, own_frame, frame_at, own_standing, standing_at}
+use Rattle.rdlpp_meaning.specs.Slots.{SlotKind, Body, Actual, Default, Slot, scope_of, own_writer, writer_at, own_frame, frame_at}
 
 -- a test of two numbers that aren't equal fails
 unequal : (a b : ℕ) (x : Bool) → (a == b) ≡ x → (a ≡ b → ⊥) → x ≡ false
@@ -68,22 +68,3 @@ unfolding scope_of own_frame text_frame IsNoBody
 text_frame_is text home (Body c) below n h = absurd n
 text_frame_is text home Actual below n h = frame_around (record { text = text; home = home; kind = Actual }) below home h
 text_frame_is text home Default below n h = frame_own (record { text = text; home = home; kind = Default }) below
-
--- one more open text changes nothing of what the tokens of the scopes around it stand for
-pub standing_around : (slot : Slot) (below : List Slot) (k : ℕ) (t : SourceToken) → k ≤ length below
-    → standing_at (slot ∷ below) k t ≡ standing_at below k t
-unfolding standing_at
-standing_around slot below k t h = rw (not_next k (length below) h) refl
-
--- what a token of an open text's own scope stands for
-pub standing_own : (slot : Slot) (below : List Slot) (t : SourceToken)
-    → standing_at (slot ∷ below) (suc (length below)) t ≡ own_standing slot.kind (suc (length below)) slot.home t
-unfolding standing_at
-standing_own slot below t = rw (next_is (suc (length below))) refl
-
--- a formal of a default stands for nothing
-pub standing_default : (text : List SourceToken) (home : ℕ) (below : List Slot) (t : SourceToken)
-    → standing_at (record { text = text; home = home; kind = Default } ∷ below) (scope_of (record { text = text; home = home; kind = Default }) below) t
-    ≡ None
-unfolding scope_of own_standing
-standing_default text home below t = standing_own (record { text = text; home = home; kind = Default }) below t

@@ -7,7 +7,7 @@ use Rattle.rdlpp_meaning.specs.Actuals.{Role, Halt, call_of, token_role}
 use Rattle.rdlpp_meaning.specs.CallScan.{Stand, Before, Inside, turn_before, turn_inside, turn, stand_behind, room_behind, fault_at_end, Scanned, Refused, scanned, scan, call_of_scan, source_role}
 use Rattle.rdlpp_meaning.specs.Parts.{directive_of}
 use Rattle.rdlpp_meaning.specs.Resumed.{leading}
-use Rattle.rdlpp_meaning.proofs.Leading.{leading_text}
+use Rattle.rdlpp_meaning.proofs.Leading.{leading_text, leading_directive}
 use Rattle.rdlpp_meaning.proofs.LeftScan.{call_is_scan}
 
 -- the role of a token that begins no directive
@@ -19,11 +19,6 @@ source_role_text t e = rw (e, source_role) refl
 pub source_role_directive : (t : SourceToken) (d : Directive) → directive_of t ≡ Some d → source_role t ≡ Halt
 unfolding source_role
 source_role_directive t d e = rw (e, source_role) refl
-
--- what leads where the first token begins a directive
-leading_none : (t : SourceToken) (ts : List SourceToken) (d : Directive) → directive_of t ≡ Some d → leading (t ∷ ts) ≡ []
-unfolding leading
-leading_none t ts d e = rw (e, leading) refl
 
 -- a directive ends a scan as nothing more does
 halted : (at : Stand) (fits : Bool) (t : SourceToken) (rest : Scanned SourceToken) → Refused (fault_at_end at) ≡ scanned (turn at Halt fits) t rest
@@ -46,7 +41,7 @@ scan_by size at room t ts None e rest =
     ∙ ap (λ (q : Role). scanned (turn at q fits) t (scan source_role size (stand_behind at q) (room_behind at room q (size t)) ts)) (sym (source_role_text t e))
 scan_by size at room t ts (Some d) e rest =
     let fits = nat_le (size t) room in
-    ap (scan token_role size at room) (leading_none t ts d e)
+    ap (scan token_role size at room) (leading_directive t ts d e)
     ∙ halted at fits t (scan source_role size (stand_behind at Halt) (room_behind at room Halt (size t)) ts)
     ∙ ap (λ (q : Role). scanned (turn at q fits) t (scan source_role size (stand_behind at q) (room_behind at room q (size t)) ts)) (sym (source_role_directive t d e))
 

@@ -1,40 +1,17 @@
--- Laws of a token that is written in parts, and of one without bytes.
-use Rattle.std.proofs.Common.{◌≡◌, ℕ, Bool, true, List, ◌∷◌, ◌++◌, sym, ap, ◌∙◌, None}
+-- The law of a skipped token that is written in parts.
+use Rattle.std.proofs.Common.{◌≡◌, ℕ, Bool, List, ◌∷◌, ◌++◌, sym, ap, ◌∙◌, None}
 use Rattle.rdlpp_scan.specs.declared.token.Kind.{Kind}
-use Rattle.rdlpp_scan.specs.Front.{Breach}
-use Rattle.rdlpp_scan.specs.SourceTokens.{Ordinary, Broken, SourceToken}
-use Rattle.rdlpp_meaning.specs.Outcome.{Outcome, gives, and_then}
+use Rattle.rdlpp_scan.specs.SourceTokens.{Ordinary, SourceToken}
+use Rattle.rdlpp_meaning.specs.Outcome.{Outcome, gives}
 use Rattle.rdlpp_meaning.specs.State.{Rules, State}
-use Rattle.rdlpp_meaning.specs.Expansion.{is_copied}
 use Rattle.rdlpp_meaning.specs.Parts.{only_blanks, line_ends_of, directive_of}
 use Rattle.rdlpp_meaning.specs.Meaning.{Passage, leaves, goes_on, Progress}
-use Rattle.rdlpp_meaning.specs.Resumed.{Live, Skipped, resumed, remains}
+use Rattle.rdlpp_meaning.specs.Resumed.{Skipped, resumed, remains}
 use Rattle.rdlpp_meaning.proofs.Outcomes.{and_then-gives}
 use Rattle.rdlpp_meaning.proofs.TokenWrites.{only_blanks-append}
-use Rattle.rdlpp_meaning.proofs.LiveText.{resumed_copied_parts, resumed_broken_parts}
-use Rattle.rdlpp_meaning.proofs.Remaining.{remains-behind}
 use Rattle.rdlpp_meaning.proofs.Passages.{on_leaves, leaves-and_then}
 use Rattle.rdlpp_meaning.proofs.Skipping.{skipped_token, ordinary_skips}
 use Rattle.rdlpp_meaning.proofs.Trees.{line_ends_of-append}
-
--- a token that is copied may be written in two parts
-pub copied_parts : (rules : Rules) (os : List Progress) (first : Bool) (k : Kind) (x y : List ℕ) (line : ℕ) (more : List SourceToken) (s : State)
-    → is_copied (record { sort = Ordinary k; bytes = x ++ y; line = line }) ≡ true
-    → remains rules (Live os) first (record { sort = Ordinary k; bytes = x ++ y; line = line } ∷ more) s
-    ≡ and_then (gives x) (remains rules (Live os) (only_blanks first x) (record { sort = Ordinary k; bytes = y; line = line } ∷ more) s)
-copied_parts rules os first k x y line more s e =
-    remains-behind rules (Live os) (Live os) first (only_blanks first x)
-    (record { sort = Ordinary k; bytes = x ++ y; line = line } ∷ more) (record { sort = Ordinary k; bytes = y; line = line } ∷ more) s s x
-    (resumed_copied_parts rules os first k x y line more s e)
-
--- a broken token may be written in two parts
-pub broken_parts : (rules : Rules) (os : List Progress) (first : Bool) (b : Breach) (x y : List ℕ) (line : ℕ) (more : List SourceToken) (s : State)
-    → remains rules (Live os) first (record { sort = Broken b; bytes = x ++ y; line = line } ∷ more) s
-    ≡ and_then (gives x) (remains rules (Live os) (only_blanks first x) (record { sort = Broken b; bytes = y; line = line } ∷ more) s)
-broken_parts rules os first b x y line more s =
-    remains-behind rules (Live os) (Live os) first (only_blanks first x)
-    (record { sort = Broken b; bytes = x ++ y; line = line } ∷ more) (record { sort = Broken b; bytes = y; line = line } ∷ more) s s x
-    (resumed_broken_parts rules os first b x y line more s)
 
 -- a skipped token comes to its LF bytes, and then what remains
 skipped_one : (rules : Rules) (n : ℕ) (p : Progress) (os : List Progress) (first : Bool) (k : Kind) (x : List ℕ) (line : ℕ) (more : List SourceToken) (s : State)

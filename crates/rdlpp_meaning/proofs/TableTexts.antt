@@ -9,17 +9,15 @@ use Rattle.rdlpp_scan.specs.declared.token.Token.{Token}
 use Rattle.rdlpp_scan.specs.CleanTexts.{IsCleanText, IsCleanToken}
 use Rattle.rdlpp_scan.specs.Pieces.{mode_behind}
 use Rattle.rdlpp_scan.specs.SourceTokens.{Ordinary, SourceToken}
-use Rattle.rdlpp_scan.specs.TokenKinds.{is_ordinary}
 use Rattle.rdlpp_scan.specs.Tokens.{tokens_from}
 use Rattle.rdlpp_scan.proofs.CleanTexts.{clean_tokens}
 use Rattle.rdlpp_table.specs.Table.{Formal, Macro, default_size, formal_size, macro_size, table_size}
 use Rattle.rdlpp_table.specs.View.{TableView, IsSound, IsSoundMacro, formals_of}
 use Rattle.rdlpp_meaning.specs.Actuals.{token_role}
 use Rattle.rdlpp_meaning.specs.CallScan.{is_kept}
-use Rattle.rdlpp_meaning.specs.CursorWork.{is_solid, HasCountedDefault, IsCountedMacro}
+use Rattle.rdlpp_meaning.specs.CursorWork.{HasCountedDefault, IsCountedMacro}
 use Rattle.rdlpp_meaning.specs.Substitution.{body_tokens, spelled}
 use Rattle.rdlpp_meaning.proofs.KeptTexts.{stays, comment_stays}
-use Rattle.rdlpp_meaning.proofs.WorkFalls.{spelled-solid}
 
 -- a default text is no larger than what it counts
 default_least : (text : List ℕ) → length text ≤ default_size text
@@ -70,21 +68,6 @@ clean_each (m ∷ ms) all = (
 -- the macros of a table have clean texts
 pub clean_table : (table : TableView) → IsSound table → AllByRecursion HasCleanTexts table.macros
 clean_table table sound = clean_each table.macros (recursion_from_All IsSoundMacro table.macros sound.each)
-
--- the tokens of a text each have a byte
-pub body_solid : (text : List ℕ) → AllByRecursion (λ t. is_solid t ≡ true) (body_tokens text)
-unfolding body_tokens
-body_solid text = spelled-solid Plain 0 text
-
-spelled_ordinary : (ts : List Token) (bs : List ℕ) → AllByRecursion (λ t. is_ordinary t ≡ true) (spelled ts bs)
-unfolding spelled is_ordinary
-spelled_ordinary [] bs = tt
-spelled_ordinary (t ∷ ts) bs = (refl, spelled_ordinary ts (drop t.len bs))
-
--- and are tokens of the token table
-pub body_ordinary : (text : List ℕ) → AllByRecursion (λ t. is_ordinary t ≡ true) (body_tokens text)
-unfolding body_tokens
-body_ordinary text = spelled_ordinary (tokens_from Plain 0 text) text
 
 clean_spelled : (ts : List Token) (bs : List ℕ) → AllByRecursion IsCleanToken ts → filter (λ t. is_kept (token_role t)) (spelled ts bs) ≡ spelled ts bs
 unfolding spelled stays

@@ -51,7 +51,7 @@ only_blanks-append first [] y = refl
 only_blanks-append first (b ∷ x) y = only_blanks-append (is_line_end b || is_blank b && first) x y
 
 -- a name that is none of some words is none of each
-none_of_words : (name : List ℕ) (words : List (List ℕ)) → list_any (bytes_eq name) words ≡ false
+pub none_of_words : (name : List ℕ) (words : List (List ℕ)) → list_any (bytes_eq name) words ≡ false
     → AllByRecursion (λ word. bytes_eq name word ≡ false) words
 none_of_words name [] e = tt
 none_of_words name (w ∷ ws) e =

@@ -12,7 +12,7 @@ use Rattle.rdlpp_meaning.specs.Items.{Item}
 use Rattle.rdlpp_meaning.specs.Actuals.{Role, Space, Dropped, Remark, Start, Up, End, Down, Cut, Halt, Text, Ends, Stops, Call, Lacking, Broke, Bound, passed, put, parted, level_behind, kept_size, heed, inside_call, call_of, trimmed, item_role, item_size}
 use Rattle.rdlpp_meaning.specs.Expansion.{Usage, Refuses, Opens, is_count, usage_of_call, usage_of_formals, usage_of_macro, usage_of}
 use Rattle.rdlpp_meaning.specs.LimitLaws.{is_limit}
-use Rattle.rdlpp_meaning.proofs.Calls.{TakesUpTo, passed_takes, put_takes, parted_takes}
+use Rattle.rdlpp_meaning.proofs.Calls.{TakesUpTo, passed_takes, put_takes, parted_takes, UsesUpTo}
 use Rattle.rdlpp_meaning.proofs.Commuting.{call_by, call_is}
 use Rattle.rdlpp_meaning.proofs.LargerCalls.{wider, roomier, fits-more}
 
@@ -237,11 +237,6 @@ call-torn {A = A} role size room most (x ∷ xs) t us h torn =
 unfoldable pub IsLimitedUsage : Usage → Type 0
 IsLimitedUsage (Refuses f word line) = is_limit f ≡ true
 IsLimitedUsage (Opens m actuals used) = ⊥
-
--- a usage uses at most so many items behind its name
-unfoldable pub UsesUpTo : ℕ → Usage → Type 0
-UsesUpTo n (Refuses f word line) = Unit
-UsesUpTo n (Opens m actuals used) = used ≤ n
 
 -- a usage that a limit refuses, or the same, of at most so many items
 unfoldable pub UsageTorn : ℕ → Usage → Usage → Type 0

@@ -1,5 +1,6 @@
 -- Strings and block comments that are open at the end of a source's text, with smaller and with larger limits.
 use Rattle.std.proofs.Common.{◌≡◌, ℕ, ◌+◌, ◌⊎◌, inl, inr, Bool, true, false, true≢false, ◌||◌, List, [], ◌∷◌, ◌++◌, length, take, refl, sym, ap, subst, ◌∙◌, Option, None, Some}
+use Rattle.std.proofs.lemmas.Bool.{or_right}
 use Rattle.std.specs.Prelude.{if◌then◌else◌, ◌==◌, nat_lt, slice_index}
 use Rattle.std.specs.List.{list_any}
 use Rattle.rdlpp_scan.specs.declared.token.Kind.TheVariants.{Str, BlockComment}
@@ -28,11 +29,7 @@ IsOwnBreak (Some k) = (k.breach ≡ LineLong) ⊎ (k.breach ≡ SourceLong)
 pub has_line_end : (b : ℕ) (bs more : List ℕ) → IsWholeLines (b ∷ bs) → list_any is_line_end ((b ∷ bs) ++ more) ≡ true
 has_line_end b [] more h = ap (λ (x : Bool). x || list_any is_line_end more) (IsWholeLines-one b h)
 has_line_end b (c ∷ bs) more h =
-    ap (λ (x : Bool). is_line_end b || x) (has_line_end c bs more (IsWholeLines-rest b (c ∷ bs) h)) ∙ or_true (is_line_end b)
-  where
-    or_true : (x : Bool) → (x || true) ≡ true
-    or_true true = refl
-    or_true false = refl
+    ap (λ (x : Bool). is_line_end b || x) (has_line_end c bs more (IsWholeLines-rest b (c ∷ bs) h)) ∙ or_right (is_line_end b) true refl
 
 -- a string as larger limits may have it: whole and over a line's end, or broken
 unfoldable pub IsStringHead : Sort → List ℕ → ℕ → Type 0

@@ -18,7 +18,8 @@ use Rattle.rdlpp_meaning.specs.LimitLaws.{is_limit}
 use Rattle.rdlpp_meaning.proofs.Walks.{deeper_of, expand_walk}
 use Rattle.rdlpp_meaning.proofs.LargerCalls.{wider, roomier}
 use Rattle.rdlpp_meaning.proofs.LargerRuns.{Agrees, agrees-same, agrees-along, then-agrees, Opening, usage_walk, usage_walks, deeper-agrees}
-use Rattle.rdlpp_meaning.proofs.TornCalls.{FollowsString, FollowsHalt, TornBy, IsLimitedUsage, UsesUpTo, UsageTorn, usage-torn}
+use Rattle.rdlpp_meaning.proofs.TornCalls.{FollowsString, FollowsHalt, TornBy, IsLimitedUsage, UsageTorn, usage-torn}
+use Rattle.rdlpp_meaning.proofs.Calls.{UsesUpTo}
 
 -- a fault
 unfoldable pub IsFault : Option Told → Type 0

@@ -20,7 +20,7 @@ use Rattle.rdlpp_scan.proofs.WholeLines.{IsWholeLines-drop, IsWholeLines-append}
 use Rattle.rdlpp_scan.proofs.SourceLaws.{source_tokens-last}
 use Rattle.rdlpp_scan.proofs.StepLaws.{next_held}
 use Rattle.rdlpp_scan.proofs.TokenLens.{token_of-part}
-use Rattle.rdlpp_scan.proofs.StopKinds.{Row, AtPerl, AtLineComment, AtBlockComment, AtString, AtBack, AtBare, AtPlain, token_of-row}
+use Rattle.rdlpp_scan.proofs.StopKinds.{Row, AtPerl, AtLineComment, AtBlockComment, AtString, AtBack, AtBare, AtPlain, token_of-row, string_token-kind, block_token-kind}
 use Rattle.rdlpp_scan.proofs.Seams.{Seam, Closed, BeforePerl, OpenString, OpenComment, longer, token_of-seam}
 use Rattle.rdlpp_scan.proofs.Locality.{IsCut-from_line}
 use Rattle.rdlpp_meaning.specs.State.{breach_kind}
@@ -33,7 +33,7 @@ use Rattle.rdlpp_meaning.proofs.TornSteps.{IsShort, plain-short, closed-torn}
 use Rattle.rdlpp_meaning.proofs.TornOpen.{IsOwnBreak, has_line_end, string-head, comment-head, tears-string, tears-comment}
 
 -- a string begins with a quote
-row-string : (bs : List ℕ) (t : Token) → Row bs t → t.kind ≡ Str → (slice_index bs 0 == 34) ≡ true
+pub row-string : (bs : List ℕ) (t : Token) → Row bs t → t.kind ≡ Str → (slice_index bs 0 == 34) ≡ true
 unfolding whole is_plain_kind
 row-string bs t (AtPerl h e) k = let i = ap (λ (u : Token). u.kind) e in absurd (cc)
 row-string bs t (AtLineComment h e) k = absurd (cc)
@@ -60,24 +60,6 @@ unfolding begins_block_comment
 comment-quote bs h =
     let first = and_parts (slice_index bs 0 == 47) (slice_index bs 1 == 42) h in
     ap (λ (n : ℕ). n == 34) (eqb-true (slice_index bs 0) 47 first.0)
-
--- a string's token is one of a string
-string-kind : (from : ℕ) (bs : List ℕ) → (string_token from bs).kind ≡ Str
-unfolding string_token whole
-string-kind from bs = by_test (slice_index bs _ == 34) _
-  where
-    by_test : (x : Bool) (stop : ℕ) → (if x then whole Str (suc stop) else record { kind = Str; len = stop; next_mode = InStr }).kind ≡ Str
-    by_test true stop = refl
-    by_test false stop = refl
-
--- a comment's token is one of a comment
-block-kind : (from : ℕ) (bs : List ℕ) → (block_token from bs).kind ≡ BlockComment
-unfolding block_token whole
-block-kind from bs = by_test (nat_lt _ (length bs)) _
-  where
-    by_test : (x : Bool) (stop : ℕ) → (if x then whole BlockComment (stop + 2) else record { kind = BlockComment; len = stop; next_mode = InBlock }).kind ≡ BlockComment
-    by_test true stop = refl
-    by_test false stop = refl
 
 -- a string that ends before `<%`
 perl-torn : (c c' : Course) (line n : ℕ) (held more : List ℕ) → n < length held
@@ -180,7 +162,7 @@ open-string-torn most most' (Some j) k' line b bs more (inr h) own is e =
     let c' : Course = record { most = most'; break = k' } in
     let small = step_by (record { most = most; break = Some j }) line line (record { kind = Str; len = length held; next_mode = InStr }) held in
     subst (λ (t : Token). StepTorn held small (step_by c' line line t (held ++ more))) (sym e)
-    (subst (λ (x : Kind). StepTorn held small (step_by c' line line (record { kind = x; len = length held + v.len; next_mode = v.next_mode }) (held ++ more))) (sym (string-kind 0 more))
+    (subst (λ (x : Kind). StepTorn held small (step_by c' line line (record { kind = x; len = length held + v.len; next_mode = v.next_mode }) (held ++ more))) (sym (string_token-kind 0 more))
     (string-torn most most' j k' line v.len v.next_mode b bs more h.1 own h.0
     (row-string held (token_of Plain held) (token_of-row held) (ap (λ (t : Token). t.kind) is))))
 
@@ -206,7 +188,7 @@ open-comment-torn most most' (Some j) k' line held more (inr h) own is e =
     let c' : Course = record { most = most'; break = k' } in
     let small = step_by (record { most = most; break = Some j }) line line (record { kind = BlockComment; len = length held; next_mode = InBlock }) held in
     subst (λ (t : Token). StepTorn held small (step_by c' line line t (held ++ more))) (sym e)
-    (subst (λ (x : Kind). StepTorn held small (step_by c' line line (record { kind = x; len = length held + v.len; next_mode = v.next_mode }) (held ++ more))) (sym (block-kind 0 more))
+    (subst (λ (x : Kind). StepTorn held small (step_by c' line line (record { kind = x; len = length held + v.len; next_mode = v.next_mode }) (held ++ more))) (sym (block_token-kind 0 more))
     (comment-torn most most' j k' line (length held + v.len) v.next_mode held more h.1
     (comment-quote held (row-comment held (token_of Plain held) (token_of-row held) (ap (λ (t : Token). t.kind) is)))))
 

@@ -1,9 +1,10 @@
 -- The tree of a file keeps each of its bytes in order; of skipped parts all LF bytes are written.
-use Rattle.std.proofs.Common.{◌≡◌, ℕ, zero, suc, Bool, true, false, ◌&&◌, List, [], ◌∷◌, ◌++◌, take, drop, refl, sym, ap, ◌∙◌, Option, None, Some, append_assoc, append-nil}
+use Rattle.std.proofs.Common.{◌≡◌, ℕ, zero, suc, Bool, true, List, [], ◌∷◌, ◌++◌, take, drop, refl, sym, ap, ◌∙◌, Option, None, Some, append_assoc, append-nil}
 use Rattle.std.specs.List.{list_all}
 use Rattle.std.proofs.lemmas.List.{take-append-drop}
 use Rattle.std.proofs.lemmas.List.Elements.{filter-append}
 use Rattle.std.proofs.lemmas.Grind.{flat_map-append}
+use Rattle.std.proofs.lemmas.Bool.{and_parts}
 use Rattle.rdlpp_scan.specs.Bytes.{is_line_end}
 use Rattle.rdlpp_scan.specs.declared.token.Directive.{Directive}
 use Rattle.rdlpp_scan.specs.declared.token.Directive.TheVariants.{Ifdef, Ifndef, Elsif, Else, Endif}
@@ -142,16 +143,6 @@ unfolding parts_of HasBytes
 tree_keeps ts =
     level_parts_bytes (level_of (pieces true 0 ts)) ∙ level_of_bytes (pieces true 0 ts) ∙ pieces_have ts true 0
 
--- the first of two tests that hold
-first_holds : (a b : Bool) → (a && b) ≡ true → a ≡ true
-first_holds true b e = refl
-first_holds false b e = cc
-
--- the second one
-second_holds : (a b : Bool) → (a && b) ≡ true → b ≡ true
-second_holds true b e = e
-second_holds false b e = cc
-
 -- the LF bytes of bytes and then bytes
 pub line_ends_of-append : (x y : List ℕ) → line_ends_of (x ++ y) ≡ line_ends_of x ++ line_ends_of y
 unfolding line_ends_of
@@ -181,20 +172,20 @@ run_ends : (s : State) (ts : List SourceToken) → list_all is_unbroken ts ≡ t
 unfolding skipped_run line_ends_of
 run_ends s [] e = refl
 run_ends s (t ∷ ts) e =
-    token_ends s t.sort t.bytes t.line ts (first_holds (is_unbroken t) (list_all is_unbroken ts) e)
+    token_ends s t.sort t.bytes t.line ts (and_parts (is_unbroken t) (list_all is_unbroken ts) e).0
     ∙ ends_then t.bytes (bytes_of ts) (gives (line_ends_of t.bytes)) (skipped_run s ts) refl
-    (run_ends s ts (second_holds (is_unbroken t) (list_all is_unbroken ts) e))
+    (run_ends s ts (and_parts (is_unbroken t) (list_all is_unbroken ts) e).1)
 
 -- skipped parts, of which no token is broken, come to their LF bytes in order
 mutual
   unfolding skip skip_part skip_branches skipped_command parts_bytes part_bytes branches_bytes are_unbroken part_unbroken branches_unbroken line_ends_of
 
-  pub skip_ends : (s : State) (ps : Parts) → are_unbroken ps ≡ true → skip s ps ≡ gives (line_ends_of (parts_bytes ps))
-  skip_ends s Nothing e = refl
-  skip_ends s (More p ps) e =
+  pub skipped_parts : (s : State) (ps : Parts) → are_unbroken ps ≡ true → skip s ps ≡ gives (line_ends_of (parts_bytes ps))
+  skipped_parts s Nothing e = refl
+  skipped_parts s (More p ps) e =
       ends_then (part_bytes p) (parts_bytes ps) (skip_part s p) (skip s ps)
-      (skip_part_ends s p (first_holds (part_unbroken p) (are_unbroken ps) e))
-      (skip_ends s ps (second_holds (part_unbroken p) (are_unbroken ps) e))
+      (skip_part_ends s p (and_parts (part_unbroken p) (are_unbroken ps) e).0)
+      (skipped_parts s ps (and_parts (part_unbroken p) (are_unbroken ps) e).1)
 
   pub skip_part_ends : (s : State) (p : Part) → part_unbroken p ≡ true → skip_part s p ≡ gives (line_ends_of (part_bytes p))
   skip_part_ends s (Text ts) e = run_ends s ts e
@@ -203,8 +194,8 @@ mutual
   skip_part_ends s (Conditional c ps bs) e =
       ends_then c.text (parts_bytes ps ++ branches_bytes bs) (skipped_command c) (and_then (skip s ps) (skip_branches s bs)) refl
       (ends_then (parts_bytes ps) (branches_bytes bs) (skip s ps) (skip_branches s bs)
-      (skip_ends s ps (first_holds (are_unbroken ps) (branches_unbroken bs) e))
-      (skip_branches_ends s bs (second_holds (are_unbroken ps) (branches_unbroken bs) e)))
+      (skipped_parts s ps (and_parts (are_unbroken ps) (branches_unbroken bs) e).0)
+      (skip_branches_ends s bs (and_parts (are_unbroken ps) (branches_unbroken bs) e).1))
 
   pub skip_branches_ends : (s : State) (bs : Branches) → branches_unbroken bs ≡ true → skip_branches s bs ≡ gives (line_ends_of (branches_bytes bs))
   skip_branches_ends s Unclosed e = refl
@@ -212,9 +203,5 @@ mutual
   skip_branches_ends s (Branch c ps bs) e =
       ends_then c.text (parts_bytes ps ++ branches_bytes bs) (skipped_command c) (and_then (skip s ps) (skip_branches s bs)) refl
       (ends_then (parts_bytes ps) (branches_bytes bs) (skip s ps) (skip_branches s bs)
-      (skip_ends s ps (first_holds (are_unbroken ps) (branches_unbroken bs) e))
-      (skip_branches_ends s bs (second_holds (are_unbroken ps) (branches_unbroken bs) e)))
-
--- skipped parts, of which no token is broken, write the LF bytes of all their bytes in order
-pub skipped_parts : (s : State) (ps : Parts) → are_unbroken ps ≡ true → skip s ps ≡ gives (line_ends_of (parts_bytes ps))
-skipped_parts s ps e = skip_ends s ps e
+      (skipped_parts s ps (and_parts (are_unbroken ps) (branches_unbroken bs) e).0)
+      (skip_branches_ends s bs (and_parts (are_unbroken ps) (branches_unbroken bs) e).1))

@@ -3,13 +3,13 @@ use Rattle.std.proofs.Common.{◌≡◌, ℕ, Bool, true, false, List, [], ◌�
 use Rattle.rdlpp_scan.specs.declared.token.Kind.TheVariants.{Name, Blank}
 use Rattle.rdlpp_scan.specs.declared.token.Directive.{Directive}
 use Rattle.rdlpp_scan.specs.declared.token.Directive.TheVariants.{Undef, Ifdef, Ifndef, Elsif}
-use Rattle.rdlpp_scan.specs.SourceTokens.{Sort, Ordinary, Definition, Renumbering, Broken, SourceToken}
+use Rattle.rdlpp_scan.specs.SourceTokens.{Ordinary, SourceToken}
 use Rattle.rdlpp_scan.specs.Reserved.{is_reserved}
 use Rattle.rdlpp_table.specs.Table.{without}
 use Rattle.rdlpp_meaning.specs.declared.fault.FaultKind.{FaultKind}
 use Rattle.rdlpp_meaning.specs.declared.fault.FaultKind.TheVariants.{NameExpected, ReservedName}
 use Rattle.rdlpp_meaning.specs.State.{Rules, State}
-use Rattle.rdlpp_meaning.specs.Parts.{directive_of, Argument, no_argument, one_argument, behind_blanks, name_in_front, past_blanks, argument_of, command_of, command_in_front, piece_of}
+use Rattle.rdlpp_meaning.specs.Parts.{directive_of, one_argument, behind_blanks, name_in_front, past_blanks, argument_of, command_of, command_in_front, piece_of}
 use Rattle.rdlpp_meaning.specs.Meaning.{goes_on, refusal, Checked, Fine, Faulty, macro_name, undefines, single, Progress}
 use Rattle.rdlpp_meaning.specs.Resumed.{Live, resumed, behind}
 use Rattle.rdlpp_meaning.proofs.Passages.{goes_on-nil, refusal-goes_on}
@@ -81,50 +81,6 @@ pub takes_name_behind_blanks : (d : Directive) (blanks name : List ℕ) (k l : �
     → argument_of d (blank_token blanks k ∷ name_token name l ∷ ts) ≡ record { given = Some name; text = blanks ++ name; used = 2 }
 unfolding past_blanks name_in_front one_argument behind_blanks
 takes_name_behind_blanks d blanks name k l ts e = takes_name d (blank_token blanks k ∷ name_token name l ∷ ts) e
-
--- whether a token is a name or blanks
-unfoldable pub is_name_or_blank : SourceToken → Bool
-is_name_or_blank t = elim t.sort [
-  | Ordinary k ↦ elim k [ Name ↦ true | Blank ↦ true | _ ↦ false ]
-  | _ ↦ false
-]
-
--- where neither stands, by what stands there
-nothing_by : (sort : Sort) (bytes : List ℕ) (line : ℕ) (ts : List SourceToken)
-    → is_name_or_blank (record { sort = sort; bytes = bytes; line = line }) ≡ false
-    → (past_blanks name_in_front (record { sort = sort; bytes = bytes; line = line } ∷ ts) ≡ no_argument)
-    × (name_in_front (record { sort = sort; bytes = bytes; line = line } ∷ ts) ≡ no_argument)
-unfolding past_blanks name_in_front is_name_or_blank
-nothing_by (Ordinary Name) bytes line ts e = cc
-nothing_by (Ordinary Blank) bytes line ts e = cc
-nothing_by (Ordinary k) bytes line ts e = (refl, refl)
-nothing_by Definition bytes line ts e = (refl, refl)
-nothing_by Renumbering bytes line ts e = (refl, refl)
-nothing_by (Broken b) bytes line ts e = (refl, refl)
-
--- where neither blanks nor a name stand, a directive that wants a name takes nothing
-pub takes_nothing : (d : Directive) (t : SourceToken) (ts : List SourceToken) → wants_name d ≡ true → is_name_or_blank t ≡ false
-    → argument_of d (t ∷ ts) ≡ no_argument
-takes_nothing d t ts e f = takes_name d (t ∷ ts) e ∙ (nothing_by t.sort t.bytes t.line ts f).0
-
--- nor where they end the text
-pub takes_nothing_at_end : (d : Directive) → wants_name d ≡ true → argument_of d [] ≡ no_argument
-unfolding past_blanks
-takes_nothing_at_end d e = takes_name d [] e
-
--- nor where no name stands behind blanks
-pub takes_nothing_behind_blanks : (d : Directive) (blanks : List ℕ) (k : ℕ) (t : SourceToken) (ts : List SourceToken) → wants_name d ≡ true
-    → is_name_or_blank t ≡ false → argument_of d (blank_token blanks k ∷ t ∷ ts) ≡ no_argument
-unfolding past_blanks behind_blanks no_argument
-takes_nothing_behind_blanks d blanks k t ts e f =
-    takes_name d (blank_token blanks k ∷ t ∷ ts) e
-    ∙ ap (λ (a : Argument). behind_blanks (blank_token blanks k) a) (nothing_by t.sort t.bytes t.line ts f).1
-
--- nor where blanks end the text
-pub takes_nothing_but_blanks : (d : Directive) (blanks : List ℕ) (k : ℕ) → wants_name d ≡ true
-    → argument_of d (blank_token blanks k ∷ []) ≡ no_argument
-unfolding past_blanks behind_blanks name_in_front no_argument
-takes_nothing_but_blanks d blanks k e = takes_name d (blank_token blanks k ∷ []) e
 
 -- what the name of a directive comes to, by what it takes
 pub macro_name_given : (d : Directive) (first : Bool) (t : SourceToken) (ts : List SourceToken) (name : List ℕ)

@@ -4,7 +4,7 @@ use Rattle.rdlpp_scan.specs.declared.token.Directive.{Directive}
 use Rattle.rdlpp_scan.specs.declared.token.Kind.TheVariants.{Back}
 use Rattle.rdlpp_scan.specs.SourceTokens.{Sort, Ordinary, Definition, Renumbering, Broken, SourceToken}
 use Rattle.rdlpp_meaning.specs.Actuals.{Role, Cut, Halt, Text, map_call, level_behind, kind_role, token_role, trimmed}
-use Rattle.rdlpp_meaning.specs.CallScan.{Closed, Split, split_by, split, all_parts, call_of_scan, source_role, is_kept}
+use Rattle.rdlpp_meaning.specs.CallScan.{Closed, Split, split_by, split, call_of_scan, source_role, is_kept}
 use Rattle.rdlpp_meaning.specs.Expansion.{bytes_of}
 use Rattle.rdlpp_meaning.specs.Parts.{directive_named, directive_of}
 use Rattle.rdlpp_meaning.specs.TextTokens.{broken_line, unlined}
@@ -54,12 +54,6 @@ pub closed_call-map : {A B : Type 0} (role : A → Role) (role' : B → Role) (f
     → call_of_scan role' k (Closed (map f kept) used) ≡ map_call f (call_of_scan role k (Closed kept used))
 unfolding call_of_scan map_call
 closed_call-map role role' f keeps k kept used = rw (split-map role role' f keeps k kept) refl
-
--- the parts of tokens without their lines
-pub unlined_split : (k : ℕ) (ts : List SourceToken)
-    → all_parts (split token_role k (map unlined ts)) ≡ map (map unlined) (all_parts (split token_role k ts))
-unfolding all_parts
-unlined_split k ts = ap all_parts (split-map token_role token_role unlined unlined_role k ts)
 
 -- trimmed tokens without their lines
 pub unlined_trimmed : (ts : List SourceToken) → trimmed token_role (map unlined ts) ≡ map unlined (trimmed token_role ts)

@@ -11,7 +11,7 @@ use Rattle.rdlpp_meaning.specs.declared.fault.FaultKind.{FaultKind}
 use Rattle.rdlpp_meaning.specs.declared.fault.FaultKind.TheVariants.{UndefinedMacro}
 use Rattle.rdlpp_meaning.specs.Outcome.{Outcome, fails, and_then}
 use Rattle.rdlpp_meaning.specs.State.{Rules, State, fault_at}
-use Rattle.rdlpp_meaning.specs.PlainMacros.{is_plain_macro}
+use Rattle.rdlpp_meaning.specs.PlainMacros.{stands_for_body}
 use Rattle.rdlpp_meaning.specs.Items.{Item, Written}
 use Rattle.rdlpp_meaning.specs.Substitution.{body_tokens, bound_to, mark_or, marked, substituted}
 use Rattle.rdlpp_meaning.specs.Expansion.{Usage, Refuses, Opens, name_of, usage_of, usage_of_macro, usage_of_formals, walk, is_copied, run_outcome, usage_token}
@@ -23,13 +23,13 @@ none_of None e = refl
 none_of (Some x) e = cc
 
 -- a macro whose usage stands for its body as it lies has no list
-pub plain_formals : (m : Macro) → is_plain_macro m ≡ true → m.formals ≡ None
-unfolding is_plain_macro
+pub plain_formals : (m : Macro) → stands_for_body m ≡ true → m.formals ≡ None
+unfolding stands_for_body
 plain_formals m e = none_of m.formals (and_parts (not (is_some m.formals)) (list_all is_copied (body_tokens m.body)) e).0
 
 -- its body is copied
-pub plain_body : (m : Macro) → is_plain_macro m ≡ true → list_all is_copied (body_tokens m.body) ≡ true
-unfolding is_plain_macro
+pub plain_body : (m : Macro) → stands_for_body m ≡ true → list_all is_copied (body_tokens m.body) ≡ true
+unfolding stands_for_body
 plain_body m e = (and_parts (not (is_some m.formals)) (list_all is_copied (body_tokens m.body)) e).1
 
 -- with no formals each token stays as it is

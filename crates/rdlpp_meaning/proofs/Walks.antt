@@ -1,5 +1,6 @@
 -- Laws of expansion over tokens that are copied, lone backquotes, broken tokens and usages.
-use Rattle.std.proofs.Common.{◌≡◌, ℕ, zero, suc, Bool, true, false, ◌&&◌, List, [], ◌∷◌, map, refl, ap, ◌∙◌, Option, Some}
+use Rattle.std.proofs.Common.{◌≡◌, ℕ, zero, suc, true, List, [], ◌∷◌, map, refl, ap, ◌∙◌, Option, Some}
+use Rattle.std.proofs.lemmas.Bool.{and_parts}
 use Rattle.std.specs.List.{flat_map, list_all}
 use Rattle.rdlpp_scan.specs.declared.token.Kind.TheVariants.{Back, BareBackquote}
 use Rattle.rdlpp_scan.specs.SourceTokens.{Sort, Ordinary, Definition, Renumbering, Broken, SourceToken}
@@ -42,16 +43,6 @@ pub walk_copied : (rules : Rules) (s : State) (deeper : ℕ → List (List ℕ) 
     → walk rules s deeper source o 0 (Written t ∷ xs) ≡ and_then (gives t.bytes) (walk rules s deeper source o 0 xs)
 walk_copied rules s deeper source o t xs e = copied_by rules s deeper source o t.sort t.bytes t.line xs e
 
--- a list of one that passes a test and others that do
-first_passes : (a b : Bool) → (a && b) ≡ true → a ≡ true
-first_passes true b e = refl
-first_passes false b e = cc
-
--- the others pass it
-rest_passes : (a b : Bool) → (a && b) ≡ true → b ≡ true
-rest_passes true b e = e
-rest_passes false b e = cc
-
 -- tokens that are copied give their bytes
 pub walk_all_copied : (rules : Rules) (s : State) (deeper : ℕ → List (List ℕ) → List Item → Outcome) (source : Option ℕ) (o : List (List ℕ))
     (ts : List SourceToken) → list_all is_copied ts ≡ true
@@ -59,9 +50,9 @@ pub walk_all_copied : (rules : Rules) (s : State) (deeper : ℕ → List (List �
 unfolding walk
 walk_all_copied rules s deeper source o [] e = refl
 walk_all_copied rules s deeper source o (t ∷ ts) e =
-    walk_copied rules s deeper source o t (map Written ts) (first_passes (is_copied t) (list_all is_copied ts) e)
+    walk_copied rules s deeper source o t (map Written ts) (and_parts (is_copied t) (list_all is_copied ts) e).0
     ∙ ap (λ (x : Outcome). and_then (gives t.bytes) x)
-    (walk_all_copied rules s deeper source o ts (rest_passes (is_copied t) (list_all is_copied ts) e))
+    (walk_all_copied rules s deeper source o ts (and_parts (is_copied t) (list_all is_copied ts) e).1)
     ∙ and_then-gives t.bytes (flat_map (λ t. t.bytes) ts)
 
 -- tokens that are copied give their bytes at any depth

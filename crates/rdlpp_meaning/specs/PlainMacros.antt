@@ -8,5 +8,5 @@ use Rattle.rdlpp_meaning.specs.Expansion.{is_copied}
 
 -- a macro whose usage stands for its body as it lies: one without a list of formals, and without a usage or a lone backquote
 -- in its body (source: this project's profile)
-unfoldable pub is_plain_macro : Macro → Bool
-is_plain_macro m = not (is_some m.formals) && list_all is_copied (body_tokens m.body)
+unfoldable pub stands_for_body : Macro → Bool
+stands_for_body m = not (is_some m.formals) && list_all is_copied (body_tokens m.body)

@@ -70,10 +70,6 @@ digit_next digits at number more = ap (fold with_digit number) (drop-cons digits
 pub number_past : (value : ℕ) → 2147483647 < value → (leb 1 value && leb value 2147483647) ≡ false
 number_past value past = ap (λ t. leb 1 value && t) (lt-leb value 2147483647 past) ∙ and-false (leb 1 value)
 
--- nor is 0
-pub number_none : (value : ℕ) → value ≡ 0 → (leb 1 value && leb value 2147483647) ≡ false
-number_none value none = ap (λ (n : ℕ). leb 1 n && leb n 2147483647) none
-
 -- a place further back
 abbrev pub moved : ℕ → Option ℕ → Option ℕ
 moved n place = option_map (λ k. n + k) place
@@ -135,11 +131,6 @@ quote_at_other taken place bytes more is other =
     ∙ ap (λ (x : List ℕ). moved place (quote_place false x)) (drop-cons bytes place 0 more)
     ∙ quote_later place b (drop (suc place) bytes) (no_number b 34 other)
     ∙ ap (λ (n : ℕ). moved n (quote_place (eqb b 92) (drop n bytes))) one
-
--- the whole text
-pub quote_whole : (place : Option ℕ) → moved 0 place ≡ place
-quote_whole None = refl
-quote_whole (Some k) = ap Some (omega arith)
 
 -- a text that doesn't begin with a quote gives no name
 pub unnamed : (number : ℕ) (bytes : List ℕ) → eqb (get_or bytes 0 0) 34 ≡ false → renumbered_name number bytes ≡ None

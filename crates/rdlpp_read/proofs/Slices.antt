@@ -6,17 +6,6 @@ use Rattle.std.specs.List.{copy_within}
 use Rattle.rdlpp_scan.specs.Bytes.{is_line_end}
 use Rattle.rdlpp_scan.specs.SourceTokens.{line_ends}
 
--- from s up to e, of the whole and of the first bytes
-pub part_slice : (s e n : ℕ) (xs : List ℕ) → s ≤ e → e ≤ n → take (e - s) (drop s xs) ≡ take (e - s) (drop s (take n xs))
-part_slice s e n xs h k =
-    let m = e - s in
-    let f : e ≡ s + m = omega arith in
-    let first : drop s (take (s + m) xs) ≡ take m (drop s xs) = drop-take s m xs in
-    let second : drop s (take (s + m) (take n xs)) ≡ take m (drop s (take n xs)) = drop-take s m (take n xs) in
-    let le : s + m ≤ n = omega arith in
-    let same : take (s + m) (take n xs) ≡ take (s + m) xs = take-take (s + m) n xs le in
-    sym first ∙ (ap (drop s) (sym same) ∙ second)
-
 -- what is held up to a place
 pub held_slice : (s a n : ℕ) (xs : List ℕ) → s ≤ a → a ≤ n → take (a - s) (drop s xs) ≡ drop s (take a (take n xs))
 held_slice s a n xs h k =

@@ -160,6 +160,12 @@ held_windows-len {R} (f ∷ fs) =
     let whole : held_bytes (f ∷ fs) ≡ length f.buffer.window + held_bytes fs = sum_by-cons (λ (g : File R). length g.buffer.window) f fs in
     ap (sum_by length) cut ∙ parts ∙ omega arith
 
+-- behind bytes and then bytes
+pub torn_after-append : (torn : Bool) (x y : List ℕ) → torn_after torn (x ++ y) ≡ torn_after (torn_after torn x) y
+unfolding torn_after
+torn_after-append torn [] y = refl
+torn_after-append torn (b ∷ x) y = torn_after-append (not (is_line_end b)) x y
+
 -- no byte changes nothing
 pub torn-none : (torn : Bool) (bytes : List ℕ) → length bytes ≡ 0 → torn ≡ torn_after torn bytes
 unfolding torn_after

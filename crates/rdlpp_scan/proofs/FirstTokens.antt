@@ -15,13 +15,11 @@ use Rattle.rdlpp_scan.proofs.RemainingLaws.{behind, course}
 use Rattle.rdlpp_scan.proofs.ResumedTokens.{after_step, tokens_step}
 use Rattle.rdlpp_scan.specs.SourceTokens.{SourceToken, Course, Step, Last, Next, Ordinary, Definition, broken, back_step, comment_step, define_step, line_ends, line_step, logical_len, open_end, remaining_tokens, source_step, source_tokens, step_by, string_step}
 use Rattle.rdlpp_scan.specs.Lines.{EndsLine, IsWholeLines}
-use Rattle.rdlpp_scan.specs.Ordinary.{is_plain_kind}
-use Rattle.rdlpp_scan.specs.Reserved.{begins_directive}
+use Rattle.rdlpp_scan.specs.TokenKinds.{is_ordinary}
 use Rattle.rdlpp_scan.proofs.Searches.{false_since}
-use Rattle.rdlpp_scan.proofs.Seams.{Seam, Closed, BeforePerl, OpenString, OpenComment, token_of-seam, line_end-ten}
+use Rattle.rdlpp_scan.proofs.Seams.{Seam, Closed, BeforePerl, OpenString, OpenComment, token_of-seam, line_end-ten, blank_ten, word_ten}
 use Rattle.rdlpp_scan.proofs.SourceLaws.{line_ends-cons}
-use Rattle.rdlpp_scan.proofs.StopKinds.{Row, AtPerl, AtLineComment, AtBlockComment, AtString, AtBack, AtBare, AtPlain, token_of-row, string_token-kind, block_token-kind}
-use Rattle.rdlpp_scan.proofs.OrdinaryLaws.{directive-spares}
+use Rattle.rdlpp_scan.proofs.StopKinds.{string_token-kind, block_token-kind}
 use Rattle.rdlpp_scan.proofs.WholeLines.{IsWholeLines-rest, IsWholeLines-one}
 use Rattle.rdlpp_scan.proofs.Locality.{IsCut-from_line}
 
@@ -79,14 +77,6 @@ run-line_ends p none (x ∷ xs) =
     let at_false : P false = λ h. refl in
     elim (p x) as P [ true ↦ at_true | false ↦ at_false ] refl
 
-blank_ten : is_blank 10 ≡ false
-unfolding is_blank
-blank_ten = refl
-
-word_ten : is_word 10 ≡ false
-unfolding is_word is_letter is_digit
-word_ten = refl
-
 -- blanks have no LF
 pub blanks-line_ends : (bs : List ℕ) → (token_of Plain bs).kind ≡ Blank → line_ends (take (token_of Plain bs).len bs) ≡ 0
 blanks-line_ends bs is = ap (λ n. line_ends (take n bs)) ((plain_token-run bs).blanks is).0 ∙ run-line_ends is_blank blank_ten bs
@@ -105,20 +95,6 @@ whole-line_ends (b ∷ []) some whole =
 whole-line_ends (b ∷ c ∷ cs) some whole =
     omega (arith, line_ends-cons b (c ∷ cs), whole-line_ends (c ∷ cs) (omega arith) (IsWholeLines-rest b (c ∷ cs) whole))
 
--- a plain token begins no directive
-plain_row-no_directive : (bs : List ℕ) (t : Token) → Row bs t → is_plain_kind t.kind ≡ true → begins_directive bs ≡ false
-unfolding is_plain_kind whole
-plain_row-no_directive bs t (AtPerl h e) k = absurd (false≢true (sym (ap (λ (u : Token). is_plain_kind u.kind) e) ∙ k))
-plain_row-no_directive bs t (AtLineComment h e) k = absurd (false≢true (sym (ap is_plain_kind e) ∙ k))
-plain_row-no_directive bs t (AtBlockComment h e) k = absurd (false≢true (sym (ap is_plain_kind e) ∙ k))
-plain_row-no_directive bs t (AtString h e) k = absurd (false≢true (sym (ap is_plain_kind e) ∙ k))
-plain_row-no_directive bs t (AtBack h e) k = absurd (false≢true (sym (ap (λ (u : Token). is_plain_kind u.kind) e) ∙ k))
-plain_row-no_directive bs t (AtBare h g e) k = absurd (false≢true (sym (ap (λ (u : Token). is_plain_kind u.kind) e) ∙ k))
-plain_row-no_directive bs t (AtPlain h q) k = directive-spares bs q
-
-pub plain_kind-no_directive : (bs : List ℕ) → is_plain_kind (token_of Plain bs).kind ≡ true → begins_directive bs ≡ false
-plain_kind-no_directive bs k = plain_row-no_directive bs (token_of Plain bs) (token_of-row bs) k
-
 -- what follows a line doesn't change the kind of a token
 seam_kind : (xs ys : List ℕ) (t u : Token) → Seam xs ys t u → u.kind ≡ t.kind
 seam_kind xs ys t u (Closed e h) = ap (λ (v : Token). v.kind) e
@@ -128,10 +104,6 @@ seam_kind xs ys t u (OpenComment is e) = ap (λ (v : Token). v.kind) e ∙ block
 
 pub kind-append : (xs ys : List ℕ) → 0 < length xs → EndsLine xs ys → (token_of Plain (xs ++ ys)).kind ≡ (token_of Plain xs).kind
 kind-append xs ys some ends = seam_kind xs ys (token_of Plain xs) (token_of Plain (xs ++ ys)) (token_of-seam Plain xs ys some (IsCut-from_line xs ys ends))
-
--- whether a token of a source is one of the token table
-unfoldable pub is_ordinary : SourceToken → Bool
-is_ordinary t = elim t.sort [ Ordinary k ↦ true | _ ↦ false ]
 
 -- a token of this kind, or one that isn't of the token table
 abbrev pub HasKind : Kind → SourceToken → Type 0

@@ -15,7 +15,6 @@ pub mod Seams
 pub mod Locality
 pub mod OrdinaryFronts
 pub mod StopKinds
-pub mod DirectiveStarts
 pub mod StepLaws
 pub mod FrontLaws
 pub mod RemainingLaws

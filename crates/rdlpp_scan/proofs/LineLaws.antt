@@ -29,16 +29,6 @@ pub some_suc : (o : Option ℕ) (n : ℕ) → option_map suc o ≡ Some n → (m
 some_suc None n e = absurd (cc)
 some_suc (Some m) n e = (m, (refl, cc))
 
--- a line that has its LF, by a search for it
-pub line_len-ended_append : (xs ys : List ℕ) (n : ℕ) → ended_line_len xs ≡ Some n → line_len (xs ++ ys) ≡ n
-unfolding line_len ended_line_len
-line_len-ended_append [] ys n h = absurd (cc)
-line_len-ended_append (b ∷ xs) ys n h =
-    let P : Bool → Type 0 = λ t. cond t (Some 1) (option_map suc (ended_line_len xs)) ≡ Some n → cond t 1 (suc (line_len (xs ++ ys))) ≡ n in
-    let at_true : P true = λ e. cc in
-    let at_false : P false = λ e. let p = some_suc (ended_line_len xs) n e in ap suc (line_len-ended_append xs ys p.0 p.1.0) ∙ sym p.1.1 in
-    elim (is_line_end b) as P [ true ↦ at_true | false ↦ at_false ] h
-
 -- none
 pub none_suc : (o : Option ℕ) → option_map suc o ≡ None → o ≡ None
 none_suc None e = refl

@@ -1,16 +1,12 @@
 -- What a text that ends at a line end tells of itself stays so with more behind it.
-use Rattle.std.proofs.Common.{◌≡◌, ℕ, ◌<◌, false, ◌||◌, eqb, List, [], ◌∷◌, ◌++◌, length, take, refl, ap, ◌∙◌, inl, inr, ⊎_elim, arith}
-use Rattle.std.specs.List.{prefix_len}
-use Rattle.std.proofs.lemmas.List.{take-append-le}
-use Rattle.std.proofs.lemmas.List.Sums.{prefix_len-le-length}
+use Rattle.std.proofs.Common.{◌≡◌, ℕ, ◌<◌, ◌||◌, eqb, List, [], ◌∷◌, ◌++◌, length, ap, ◌∙◌, inl, inr, ⊎_elim, arith}
 use Rattle.rdlpp_scan.specs.declared.token.Mode.TheVariants.{Plain}
 use Rattle.rdlpp_scan.specs.declared.token.Token.{Token}
-use Rattle.rdlpp_scan.specs.Bytes.{is_word, is_letter, is_digit, begins_line_comment, begins_block_comment, begins_perl}
+use Rattle.rdlpp_scan.specs.Bytes.{begins_line_comment, begins_block_comment, begins_perl}
 use Rattle.rdlpp_scan.specs.Tokens.{token_of, stops_plain_text}
 use Rattle.rdlpp_scan.specs.Lines.{EndsLine}
 use Rattle.rdlpp_scan.specs.Pieces.{IsCut}
-use Rattle.rdlpp_scan.specs.Reserved.{name_behind}
-use Rattle.rdlpp_scan.proofs.Seams.{Seam, Closed, BeforePerl, OpenString, OpenComment, token_of-seam, begins_perl-append, begins_line_comment-append, begins_block_comment-append, run-append}
+use Rattle.rdlpp_scan.proofs.Seams.{Seam, Closed, BeforePerl, OpenString, OpenComment, token_of-seam, begins_perl-append, begins_line_comment-append, begins_block_comment-append}
 
 -- a text that ends at a line end is cut there
 pub IsCut-from_line : (held more : List ℕ) → EndsLine held more → IsCut held more
@@ -36,13 +32,3 @@ closed_seam xs ys t u closed (OpenComment is e) = let open_mode = ap (λ (v : To
 pub token_of-append : (held more : List ℕ) → 0 < length held → EndsLine held more → (token_of Plain held).next_mode ≡ Plain → token_of Plain (held ++ more) ≡ token_of Plain held
 token_of-append held more some ends closed =
     closed_seam held more (token_of Plain held) (token_of Plain (held ++ more)) closed (token_of-seam Plain held more some (IsCut-from_line held more ends))
-
-word_ten : is_word 10 ≡ false
-unfolding is_word is_letter is_digit
-word_ten = refl
-
-name_behind-append : (b c : ℕ) (w more : List ℕ) → IsCut (c ∷ w) more → name_behind (b ∷ c ∷ w ++ more) ≡ name_behind (b ∷ c ∷ w)
-unfolding name_behind
-name_behind-append b c w more cut =
-    let xs = c ∷ w in
-    ap (λ n. take n (xs ++ more)) (run-append is_word word_ten xs more (omega arith) cut) ∙ take-append-le (prefix_len is_word xs) xs more (prefix_len-le-length is_word xs)

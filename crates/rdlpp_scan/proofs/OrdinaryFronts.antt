@@ -1,14 +1,14 @@
 -- The ordinary text with which a text begins that ends at a line end.
 use Rattle.std.proofs.Common.{◌≡◌, ℕ, suc, ◌<◌, ◌≤◌, Bool, true, false, cond, List, [], ◌∷◌, ◌++◌, length, take, drop, sym, ap, ◌∙◌, subst, inl, inr, ⊎_elim, arith}
 use Rattle.std.proofs.lemmas.Bool.{cases_lt}
-use Rattle.std.proofs.lemmas.List.{append_assoc, length-append, take-append-drop, length-take-le, drop_all, drop-append-le, length-drop}
+use Rattle.std.proofs.lemmas.List.{append_assoc, take-append-drop, length-take-le, drop_all, length-drop}
 use Rattle.std.proofs.Math.Seq.{take-length}
 use Rattle.rdlpp_scan.specs.Tokens.{first_place, plain_len, stops_plain_text}
 use Rattle.rdlpp_scan.specs.SourceTokens.{Course}
 use Rattle.rdlpp_scan.specs.Lines.{IsWholeLines, EndsLine}
 use Rattle.rdlpp_scan.specs.Pieces.{IsCut}
 use Rattle.rdlpp_scan.specs.Ordinary.{IsEdge, IsOrdinary}
-use Rattle.rdlpp_scan.proofs.Places.{first_place_is, first_place-le, first_place-before, first_place-at}
+use Rattle.rdlpp_scan.proofs.Places.{first_place-le, first_place-at}
 use Rattle.rdlpp_scan.proofs.Seams.{IsCut-rest, IsCut-drop}
 use Rattle.rdlpp_scan.proofs.Locality.{stops-append, IsCut-from_line}
 use Rattle.rdlpp_scan.proofs.OrdinaryLaws.{ordinary_text}
@@ -24,23 +24,6 @@ first_place-append (b ∷ w) more cut =
     let here : P (stops_plain_text (b ∷ w)) =
     elim (stops_plain_text (b ∷ w)) as (λ t. cond t 0 (suc n) ≤ cond t 0 (suc m)) [ true ↦ omega arith | false ↦ omega (arith, first_place-append w more (IsCut-rest b w more cut)) ] in
     subst P (sym same) here
-
--- ordinary text stays so with more behind its line
-pub plain_len-append : (held more : List ℕ) → EndsLine held more → plain_len held ≤ plain_len (held ++ more)
-unfolding plain_len
-plain_len-append held more ends = first_place-append held more (IsCut-from_line held more ends)
-
--- where ordinary text stops, it stops with more behind it
-pub plain_len-stops : (held more : List ℕ) → EndsLine held more → plain_len held < length held → plain_len (held ++ more) ≡ plain_len held
-unfolding plain_len
-plain_len-stops held more ends lt =
-    let n = first_place stops_plain_text held in
-    let cut = IsCut-from_line held more ends in
-    let size = length-append held more in
-    let split : (j : ℕ) → j < length held → stops_plain_text (drop j (held ++ more)) ≡ stops_plain_text (drop j held) = λ j inside.
-    ap stops_plain_text (drop-append-le j held more (omega arith)) ∙ stops-append (drop j held) more (omega (arith, length-drop j held)) (IsCut-drop j held more cut) in
-    first_place_is stops_plain_text (held ++ more) n (omega arith)
-    (λ j before. split j (omega arith) ∙ first_place-before stops_plain_text held j before) (λ _. split n lt ∙ first_place-at stops_plain_text held lt)
 
 -- the ordinary text with which a text begins that ends at a line end
 pub ordinary_front : (c : Course) (l : ℕ) (held more : List ℕ) → EndsLine held more → IsOrdinary c l (take (plain_len held) held) (drop (plain_len held) held ++ more)

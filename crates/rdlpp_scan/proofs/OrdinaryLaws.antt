@@ -1,6 +1,6 @@
 -- Ordinary text goes through as it is.
-use Rattle.std.proofs.Common.{◌≡◌, ℕ, zero, suc, ◌+◌, ◌<◌, ◌≤◌, Bool, true, false, ◌||◌, List, [], ◌∷◌, ◌++◌, length, take, drop, refl, sym, ap, ◌∙◌, inl, inr, ⊎_elim, arith}
-use Rattle.std.proofs.lemmas.Bool.{and_left, false≢true}
+use Rattle.std.proofs.Common.{◌≡◌, ℕ, zero, suc, ◌+◌, ◌<◌, ◌≤◌, true, false, List, [], ◌∷◌, ◌++◌, length, take, drop, refl, sym, ap, ◌∙◌, inl, inr, ⊎_elim, arith}
+use Rattle.std.proofs.lemmas.Bool.{false≢true}
 use Rattle.std.proofs.lemmas.List.{drop-drop, drop-append-le, take-append-le, take-append-drop, length-drop, length-take-le}
 use Rattle.std.proofs.lemmas.List.Elements.{All-nil, All-cons}
 use Rattle.rdlpp_scan.specs.declared.token.Kind.{Kind}
@@ -11,22 +11,11 @@ use Rattle.rdlpp_scan.specs.declared.token.Token.{Token}
 use Rattle.rdlpp_scan.specs.Tokens.{plain_len, stops_plain_text, token_of}
 use Rattle.rdlpp_scan.specs.SourceTokens.{SourceToken, Ordinary, Course, Next, line_ends, source_tokens, source_step, step_by}
 use Rattle.rdlpp_scan.specs.Ordinary.{is_plain_kind, IsEdge, IsOrdinary, IsPlainToken}
-use Rattle.rdlpp_scan.specs.Reserved.{begins_directive}
 use Rattle.rdlpp_scan.proofs.Places.{first_place-before}
 use Rattle.rdlpp_scan.proofs.TokenLens.{token_of-part}
 use Rattle.rdlpp_scan.proofs.WholeLines.{IsWholeLines-drop}
 use Rattle.rdlpp_scan.proofs.SourceLaws.{source_tokens-opened, source_tokens-next, line_ends-append}
-use Rattle.rdlpp_scan.proofs.PlainTokens.{goes_on, IsPlainPart, plain_token-plain}
-
-neither : (x y : Bool) → x ≡ false → y ≡ false → (x || y) ≡ false
-neither x y h k = ap (λ t. t || y) h ∙ k
-
--- a directive begins at no place of ordinary text
-pub directive-spares : (bytes : List ℕ) → stops_plain_text bytes ≡ false → begins_directive bytes ≡ false
-unfolding begins_directive
-directive-spares bs h =
-    let g = goes_on bs h in
-    and_left _ _ g.no_backquote
+use Rattle.rdlpp_scan.proofs.PlainTokens.{IsPlainPart, plain_token-plain}
 
 step_by-kind : (c : Course) (o l : ℕ) (k : Kind) (n : ℕ) (m : Mode) (bs : List ℕ) → is_plain_kind k ≡ true → step_by c o l (record { kind = k; len = n; next_mode = m }) bs ≡ Next (record { sort = Ordinary k; bytes = take n bs; line = l })
 unfolding step_by is_plain_kind

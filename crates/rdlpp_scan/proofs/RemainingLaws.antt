@@ -1,5 +1,5 @@
 -- What remains of a source, step by step, as the engine takes it: `held` ends at a line end or at the text's end.
-use Rattle.std.proofs.Common.{◌≡◌, ◌⊎◌, ℕ, ◌+◌, ◌-◌, ◌<◌, ◌≤◌, false, List, [], ◌∷◌, ◌++◌, Option, None, length, take, drop, refl, sym, ap, ◌∙◌, inl, inr, ⊎_elim, arith}
+use Rattle.std.proofs.Common.{◌≡◌, ◌⊎◌, ℕ, ◌+◌, ◌-◌, ◌<◌, ◌≤◌, false, List, [], ◌∷◌, ◌++◌, Option, None, length, take, drop, sym, ap, ◌∙◌, inl, inr, ⊎_elim}
 use Rattle.std.specs.Prelude.{codes, bytes_eq}
 use Rattle.std.specs.List.{flat_map, All}
 use Rattle.std.proofs.lemmas.List.{append_assoc, take-append-drop}
@@ -12,8 +12,7 @@ use Rattle.rdlpp_scan.specs.SourceTokens.{SourceToken, Course, Ordinary, Broken,
 use Rattle.rdlpp_scan.specs.Lines.{EndsLine, IsWholeLines}
 use Rattle.rdlpp_scan.specs.Ordinary.{IsOrdinary, IsPlainToken}
 use Rattle.rdlpp_scan.proofs.SourceLaws.{source_tokens-opened}
-use Rattle.rdlpp_scan.proofs.OrdinaryLaws.{ordinary_text}
-use Rattle.rdlpp_scan.proofs.OrdinaryFronts.{ordinary_front, plain_len-append}
+use Rattle.rdlpp_scan.proofs.OrdinaryFronts.{ordinary_front}
 use Rattle.rdlpp_scan.proofs.FrontLaws.{front-accept, front-none, front-line_long, front-source_long}
 use Rattle.rdlpp_scan.proofs.StepLaws.{step-perl, step-bare, step-back}
 
@@ -68,15 +67,6 @@ remaining-ordinary most l held room rest ends =
     let n = plain_len held in
     goes_through most l held (take n held) (drop n held) room rest (sym (take-append-drop n held))
     (ordinary_front (course most room rest) l held (front most room rest).text (behind most room held rest ends).ends)
-
--- a part of that ordinary text, up to a line end
-pub remaining-ordinary_lines : (most l : ℕ) (w held : List ℕ) (room : ℕ) (rest : List ℕ) → EndsLine (w ++ held) rest → IsWholeLines w → length w ≤ plain_len (w ++ held)
-    → GoesThrough most l (w ++ held) w held room rest
-remaining-ordinary_lines most l w held room rest ends whole inside =
-    let more = (front most room rest).text in
-    let longer = plain_len-append (w ++ held) more (behind most room (w ++ held) rest ends).ends in
-    goes_through most l (w ++ held) w held room rest refl
-    (ordinary_text (course most room rest) l w (held ++ more) (omega (arith, longer, ap plain_len (append_assoc w held more))) (inr (inl whole)))
 
 -- lines that are taken in
 pub remaining-accept : (most : ℕ) (m : Mode) (o l : ℕ) (held : List ℕ) (room : ℕ) (w r : List ℕ) → EndsLine w r → length w ≤ most → length w ≤ room

@@ -1,5 +1,5 @@
 -- What remains of a source in a string or in a block comment begins with the rest of it.
-use Rattle.std.proofs.Common.{◌≡◌, ◌⊎◌, ℕ, ◌+◌, ◌-◌, ◌<◌, true, false, cond, ltb, eqb, List, [], ◌∷◌, ◌++◌, Some, None, length, take, refl, sym, ap, ◌∙◌, subst, inl, inr, arith}
+use Rattle.std.proofs.Common.{◌≡◌, ◌⊎◌, ℕ, ◌+◌, ◌-◌, ◌<◌, true, false, cond, ltb, eqb, List, [], ◌∷◌, ◌++◌, Some, None, length, take, refl, sym, ap, ◌∙◌, subst, inl, inr, arith, Bool}
 use Rattle.std.proofs.Math.Bool.{and-false}
 use Rattle.std.proofs.lemmas.Bool.{false≢true}
 use Rattle.std.proofs.lemmas.List.{length-append}
@@ -13,7 +13,7 @@ use Rattle.rdlpp_scan.specs.Front.{Breach, PerlFound, StringOpen, CommentOpen, f
 use Rattle.rdlpp_scan.specs.SourceTokens.{SourceToken, Course, Step, Last, Next, Ordinary, Broken, broken, comment_step, line_after, line_ends, open_end, remaining_tokens, source_end, source_step, source_tokens, step_by, string_step}
 use Rattle.rdlpp_scan.proofs.SourceLaws.{source_tokens-last}
 use Rattle.rdlpp_scan.proofs.StopKinds.{string_token-kind, block_token-kind}
-use Rattle.rdlpp_scan.proofs.TokenSteps.{string_rest, comment_rest}
+use Rattle.rdlpp_scan.proofs.TokenSteps.{string_rest, comment_rest, end_of}
 use Rattle.rdlpp_scan.proofs.RemainingLaws.{course}
 
 -- a kind of token that may be open at the end of a text
@@ -81,34 +81,29 @@ unfolding after_step
 step_resumes c m o l b bs (NextText k bytes line open_ is) = Copies k bytes line _ open_ (tokens_step c m o l b bs ∙ ap (after_step c l b bs) is)
 step_resumes c m o l b bs (LastBroken k bytes line is) = Breaks k bytes line (tokens_step c m o l b bs ∙ ap (after_step c l b bs) is)
 
--- the tokens at an end
-end_list : Step → List SourceToken
-end_list (Last t) = t ∷ []
-end_list (Next t) = []
+pub step-end_of : (s : Step) → (elim s as (λ _. List SourceToken) [ Last t ↦ t ∷ [] | Next t ↦ [] ]) ≡ end_of s
+unfolding end_of
+step-end_of (Last t) = refl
+step-end_of (Next t) = refl
 
-end_listed : (s : Step) → (elim s as (λ _. List SourceToken) [ Last t ↦ t ∷ [] | Next t ↦ [] ]) ≡ end_list s
-unfolding end_list
-end_listed (Last t) = refl
-end_listed (Next t) = refl
-
-string_ends : (c : Course) (o l : ℕ) → source_tokens c InStr o l 0 [] ≡ end_list (open_end c StringOpen o l [])
+string_ends : (c : Course) (o l : ℕ) → source_tokens c InStr o l 0 [] ≡ end_of (open_end c StringOpen o l [])
 unfolding source_tokens source_end
-string_ends c o l = end_listed (open_end c StringOpen o l [])
+string_ends c o l = step-end_of (open_end c StringOpen o l [])
 
-comment_ends : (c : Course) (o l : ℕ) → source_tokens c InBlock o l 0 [] ≡ end_list (open_end c CommentOpen o l [])
+comment_ends : (c : Course) (o l : ℕ) → source_tokens c InBlock o l 0 [] ≡ end_of (open_end c CommentOpen o l [])
 unfolding source_tokens source_end
-comment_ends c o l = end_listed (open_end c CommentOpen o l [])
+comment_ends c o l = step-end_of (open_end c CommentOpen o l [])
 
 string_tokens-resume : (c : Course) (o l : ℕ) (bs : List ℕ) → Resumes (source_tokens c InStr o l 0 bs)
-unfolding end_list
-string_tokens-resume c o l [] = let p = open_end-last c StringOpen o l [] in Breaks p.0 [] p.1 (string_ends c o l ∙ ap end_list p.2)
+unfolding end_of
+string_tokens-resume c o l [] = let p = open_end-last c StringOpen o l [] in Breaks p.0 [] p.1 (string_ends c o l ∙ ap end_of p.2)
 string_tokens-resume c o l (b ∷ bs) =
     let v = string_token 0 (b ∷ bs) in
     step_resumes c InStr o l b bs (subst (λ (s : Step). ResumesStep s) (sym (string_rest c o l (b ∷ bs) (omega arith))) (string_by_mode c o l v.kind v.len v.next_mode (b ∷ bs) (string_token-kind 0 (b ∷ bs))))
 
 comment_tokens-resume : (c : Course) (o l : ℕ) (bs : List ℕ) → Resumes (source_tokens c InBlock o l 0 bs)
-unfolding end_list
-comment_tokens-resume c o l [] = let p = open_end-last c CommentOpen o l [] in Breaks p.0 [] p.1 (comment_ends c o l ∙ ap end_list p.2)
+unfolding end_of
+comment_tokens-resume c o l [] = let p = open_end-last c CommentOpen o l [] in Breaks p.0 [] p.1 (comment_ends c o l ∙ ap end_of p.2)
 comment_tokens-resume c o l (b ∷ bs) =
     let v = block_token 0 (b ∷ bs) in
     step_resumes c InBlock o l b bs (subst (λ (s : Step). ResumesStep s) (sym (comment_rest c o l (b ∷ bs))) (comment_by_mode c o l v.kind v.len v.next_mode (b ∷ bs) (block_token-kind 0 (b ∷ bs))))
@@ -143,3 +138,12 @@ unfolding remaining_tokens
 remaining-perl_in_string most o l held room rest some h =
     let more = (front most room rest).text in
     string_perl (course most room rest) o l (held ++ more) (omega (arith, length-append held more)) (perl-append held more h)
+
+-- a token in a string is `<%` only where its bytes are
+pub perl_in_string : (bs : List ℕ) → (token_of InStr bs).kind ≡ Perl → begins_perl bs ≡ true
+unfolding token_of
+perl_in_string bs is =
+    let P : Bool → Type 0 = λ t. (cond t (whole Perl 2) (string_token 0 bs)).kind ≡ Perl → t ≡ true in
+    let at_true : P true = λ e. refl in
+    let at_false : P false = λ e. absurd (cc (string_token-kind 0 bs)) in
+    elim (begins_perl bs) as P [ true ↦ at_true | false ↦ at_false ] is

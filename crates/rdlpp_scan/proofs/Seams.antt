@@ -315,11 +315,13 @@ unfolding is_word is_letter is_digit
 word-append b [] ys h cut = absurd (false≢true h)
 word-append b (c ∷ w) ys h cut = ap suc (run-append is_word refl (c ∷ w) ys (omega arith) (IsCut-rest b (c ∷ w) ys cut))
 
-blank_ten : is_blank 10 ≡ false
+-- an LF is no blank
+pub blank_ten : is_blank 10 ≡ false
 unfolding is_blank
 blank_ten = refl
 
-word_ten : is_word 10 ≡ false
+-- nor is it a byte of a name
+pub word_ten : is_word 10 ≡ false
 unfolding is_word is_letter is_digit
 word_ten = refl
 

@@ -87,7 +87,8 @@ step-perl c o l held more some ends is =
     source_tokens-last c Plain o l (held ++ more) (record { sort = Broken PerlFound; bytes = []; line = l }) (omega arith)
     (step_held c o l held more some ends t refl (inl is) ∙ step_by-perl c l l t (held ++ more) is)
 
-word-line_end : (b : ℕ) → is_word b ≡ true → is_line_end b ≡ false
+-- a byte of a name is no LF
+pub word-line_end : (b : ℕ) → is_word b ≡ true → is_line_end b ≡ false
 unfolding is_word is_letter is_digit
 word-line_end b h = false_since (is_line_end b) (λ e. false≢true (sym (ap is_word (line_end-ten b e)) ∙ h))
 

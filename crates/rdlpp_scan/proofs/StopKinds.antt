@@ -1,7 +1,7 @@
 -- Which token stands at the front of a text, by its first bytes.
-use Rattle.std.proofs.Common.{◌≡◌, ℕ, suc, ◌+◌, Bool, true, false, ◌||◌, ◌&&◌, eqb, ltb, List, length, get_or, drop, refl, sym, ap, ◌∙◌}
+use Rattle.std.proofs.Common.{◌≡◌, ℕ, suc, ◌+◌, Bool, true, false, ◌&&◌, eqb, ltb, List, length, get_or, drop, refl, sym, ap, ◌∙◌}
 use Rattle.std.specs.List.{prefix_len}
-use Rattle.std.proofs.lemmas.Bool.{and_parts, false≢true, cond_both}
+use Rattle.std.proofs.lemmas.Bool.{and_parts, false≢true, cond_both, or_from}
 use Rattle.rdlpp_scan.specs.declared.token.Kind.TheVariants.{Back, Str, LineComment, BlockComment, Perl, BareBackquote}
 use Rattle.rdlpp_scan.specs.declared.token.Mode.TheVariants.{Plain}
 use Rattle.rdlpp_scan.specs.declared.token.Token.{Token}
@@ -53,12 +53,9 @@ quiet_closer : (bs : List ℕ) → is_closer (get_or bs 0 0) ≡ true → stops_
 unfolding is_closer
 quiet_closer bs h = quiet_byte is_closer bs refl refl refl refl h
 
-neither : (x y : Bool) → x ≡ false → y ≡ false → (x || y) ≡ false
-neither x y h k = ap (λ t. t || y) h ∙ k
-
 quiet_other : (bs : List ℕ) → begins_perl bs ≡ false → begins_line_comment bs ≡ false → begins_block_comment bs ≡ false → eqb (get_or bs 0 0) 34 ≡ false → eqb (get_or bs 0 0) 96 ≡ false → stops_plain_text bs ≡ false
 unfolding stops_plain_text
-quiet_other bs perl line block quote back = neither _ _ (neither _ _ (neither _ _ (neither _ _ back quote) line) block) perl
+quiet_other bs perl line block quote back = or_from _ _ (or_from _ _ (or_from _ _ (or_from _ _ back quote) line) block) perl
 
 -- a string is a string
 pub string_token-kind : (from : ℕ) (bs : List ℕ) → (string_token from bs).kind ≡ Str
@@ -70,7 +67,8 @@ pub block_token-kind : (from : ℕ) (bs : List ℕ) → (block_token from bs).ki
 unfolding block_token whole
 block_token-kind from bs = cond_both (ltb (from + first_place ends_block_comment (drop from bs)) (length bs)) _ _ (λ (t : Token). t.kind ≡ BlockComment) (λ _. refl) (λ _. refl)
 
-back_letter : (b c : ℕ) → eqb b 96 ≡ true → (eqb b 96 && is_letter c) ≡ false → is_letter c ≡ false
+-- a backquote that begins no usage has no letter behind it
+pub back_letter : (b c : ℕ) → eqb b 96 ≡ true → (eqb b 96 && is_letter c) ≡ false → is_letter c ≡ false
 back_letter b c h k = sym (ap (λ t. t && is_letter c) h) ∙ k
 
 -- the row that gives the first token of a text in plain text

@@ -33,10 +33,6 @@ pub begins_perl-two : (bs : List ℕ) → begins_perl bs ≡ true → 2 ≤ leng
 unfolding begins_perl
 begins_perl-two bs h = two_of bs 60 37 (omega arith) h
 
-pub begins_line_comment-two : (bs : List ℕ) → begins_line_comment bs ≡ true → 2 ≤ length bs
-unfolding begins_line_comment
-begins_line_comment-two bs h = two_of bs 47 47 (omega arith) h
-
 pub begins_block_comment-two : (bs : List ℕ) → begins_block_comment bs ≡ true → 2 ≤ length bs
 unfolding begins_block_comment
 begins_block_comment-two bs h = two_of bs 47 42 (omega arith) h

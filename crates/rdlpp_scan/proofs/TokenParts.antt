@@ -11,6 +11,7 @@ use Rattle.rdlpp_scan.specs.Bytes.{is_blank, is_line_end, is_letter, is_digit, i
 use Rattle.rdlpp_scan.specs.Tokens.{first_place, string_stop, whole, string_token, block_token, plain_token, token_of}
 use Rattle.rdlpp_scan.specs.TokenParts.{kind_of, len_of, mark_kind, mode_behind, opened, plain_kind, stop_of}
 use Rattle.rdlpp_scan.proofs.TokenLens.{token_of-part}
+use Rattle.rdlpp_scan.proofs.StopKinds.{back_letter}
 
 -- the token of a kind, by its parts
 unfoldable pub parts : Mode → Kind → List ℕ → Token
@@ -145,9 +146,6 @@ other_mark bs h1 h2 h3 h4 h5 h6 h7 h8 h9 h10 h11 =
 other_kind : (b c : ℕ) → is_letter b ≡ false → is_blank b ≡ false → is_digit b ≡ false → mark_kind b c ≡ Other → plain_kind b c ≡ Other
 unfolding plain_kind
 other_kind b c l k d h = unless _ _ _ l ∙ (unless _ _ _ k ∙ (unless _ _ _ d ∙ h))
-
-back_letter : (b c : ℕ) → eqb b 96 ≡ true → (eqb b 96 && is_letter c) ≡ false → is_letter c ≡ false
-back_letter b c h k = sym (ap (λ t. t && is_letter c) h) ∙ k
 
 pub plain_parts : (bs : List ℕ) → plain_token bs ≡ parts Plain (plain_kind (get_or bs 0 0) (get_or bs 1 0)) bs
 unfolding plain_token whole parts stop_of mode_behind len_of

@@ -140,7 +140,7 @@ pub data IsStep (more : List ℕ) (s : Step) : Type 0 where
   IsNext : (t : SourceToken) → s ≡ Next t → 0 < length t.bytes → 0 < length more → IsStep more s
 
 -- what stands at the end of a text where a step is the last
-pub end_of : Step → List SourceToken
+unfoldable pub end_of : Step → List SourceToken
 end_of (Last t) = t ∷ []
 end_of (Next t) = []
 

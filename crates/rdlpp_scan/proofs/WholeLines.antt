@@ -72,10 +72,6 @@ IsWholeLines-drop (suc n) (b ∷ bs) h = IsWholeLines-drop n bs (IsWholeLines-re
 pub EndsLine-drop : (n : ℕ) (bs rest : List ℕ) → EndsLine bs rest → EndsLine (drop n bs) rest
 EndsLine-drop n bs rest = ⊎_elim (λ h. inl (IsWholeLines-drop n bs h)) (λ h. inr h)
 
--- without its first byte
-pub EndsLine-rest : (b : ℕ) (bs rest : List ℕ) → EndsLine (b ∷ bs) rest → EndsLine bs rest
-EndsLine-rest b bs rest = ⊎_elim (λ h. inl (IsWholeLines-rest b bs h)) (λ h. inr h)
-
 -- a byte in front of whole lines
 pub whole_one : (b : ℕ) (bs : List ℕ) → IsWholeLines bs → 0 < length bs → IsWholeLines (b ∷ bs)
 unfolding whole_lines_len onto_whole_lines

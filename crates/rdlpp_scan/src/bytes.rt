@@ -38,6 +38,17 @@ pub fn is_letter(b: u8) -> bool
     b'A' <= b && b <= b'Z' || b'a' <= b && b <= b'z' || b == b'_'
 }
 
+/// How many bytes of a name or a number a text begins with: letters, `_` and digits (IEEE 1364-2001,
+/// identifiers).
+///
+/// Costs time linear in that count.
+pub fn word_bytes(bytes: &[u8]) -> usize
+    ensures value { result ≡ prefix_len is_word bytes.now }
+    ensures inside { result ≤ length bytes.now }
+{
+    bytes.iter().take_while(|b| is_word(**b)).count()
+}
+
 #[tactic(auto, unfolding(crate::specs::Bytes::is_digit))]
 pub(crate) fn is_digit(b: u8) -> bool
     ensures { result ≡ is_digit b }
@@ -101,15 +112,4 @@ pub(crate) fn blanks(bytes: &[u8]) -> usize
     ensures inside { result ≤ length bytes.now }
 {
     bytes.iter().take_while(|b| is_blank(**b)).count()
-}
-
-/// How many bytes of a name or a number a text begins with: letters, `_` and digits (IEEE 1364-2001,
-/// identifiers).
-///
-/// Costs time linear in that count.
-pub fn word_bytes(bytes: &[u8]) -> usize
-    ensures value { result ≡ prefix_len is_word bytes.now }
-    ensures inside { result ≤ length bytes.now }
-{
-    bytes.iter().take_while(|b| is_word(**b)).count()
 }

@@ -10,14 +10,6 @@ use memchr::{memchr, memrchr};
 // The bytes of a short text: whole vectors, and no more LF bytes than a byte counts.
 const SHORT_BYTES: usize = 192;
 
-// How many bytes stand before the first LF.
-pub(crate) fn before_line_end(bytes: &[u8]) -> usize
-    ensures value { result ≡ prefix_len (λ x. not (is_line_end x)) bytes.now }
-    ensures inside { result ≤ length bytes.now }
-{
-    memchr(b'\n', bytes).unwrap_or(bytes.len())
-}
-
 /// The length in bytes of the first physical line, up to and with its LF; `None` where `bytes` has no
 /// LF (this project's profile).
 ///
@@ -50,20 +42,6 @@ pub fn last_line_end(bytes: &[u8]) -> usize
     }
 }
 
-// How many LF bytes a short text has: one byte counts them, so that a vector counts as many as it has bytes.
-fn short_line_ends(bytes: &[u8]) -> u8
-    requires { length bytes.now ≤ 255 }
-    ensures { result ≡ line_ends bytes.now }
-{
-    let mut count = 0;
-    for at in 0..bytes.len() {
-        if bytes[at] == b'\n' {
-            count += 1;
-        }
-    }
-    count
-}
-
 /// How many LF bytes `bytes` has.
 ///
 /// Costs time linear in the length.
@@ -76,6 +54,46 @@ pub fn line_ends_in(bytes: &[u8]) -> usize
         let end = at + (bytes.len() - at).min(SHORT_BYTES);
         count += short_line_ends(&bytes[at..end]) as usize;
         at = end;
+    }
+    count
+}
+
+/// The length in bytes of the first logical line, up to and with the first LF that no `\`, and no
+/// `\` and CR, stands before (IEEE 1364-2001, `define`); `None` where `bytes` has no such LF.
+///
+/// Costs time linear in that length, or in the whole length where there is no such LF.
+pub fn logical_line(bytes: &[u8]) -> Option<usize>
+    ensures { result ≡ logical_len 0 0 bytes.now }
+{
+    let mut at = 0;
+    while let Some(step) = memchr(b'\n', &bytes[at..]) {
+        let end = at + step;
+        if !is_continued(&bytes[at..end]) {
+            return Some(end + 1);
+        }
+        at = end + 1;
+    }
+    None
+}
+
+// How many bytes stand before the first LF.
+pub(crate) fn before_line_end(bytes: &[u8]) -> usize
+    ensures value { result ≡ prefix_len (λ x. not (is_line_end x)) bytes.now }
+    ensures inside { result ≤ length bytes.now }
+{
+    memchr(b'\n', bytes).unwrap_or(bytes.len())
+}
+
+// How many LF bytes a short text has: one byte counts them, so that a vector counts as many as it has bytes.
+fn short_line_ends(bytes: &[u8]) -> u8
+    requires { length bytes.now ≤ 255 }
+    ensures { result ≡ line_ends bytes.now }
+{
+    let mut count = 0;
+    for at in 0..bytes.len() {
+        if bytes[at] == b'\n' {
+            count += 1;
+        }
     }
     count
 }
@@ -106,22 +124,4 @@ fn is_continued(line: &[u8]) -> bool
     ensures { result ≡ ends_continued 0 0 line.now }
 {
     is_continuation(byte_back(line, 2), byte_back(line, 1))
-}
-
-/// The length in bytes of the first logical line, up to and with the first LF that no `\`, and no
-/// `\` and CR, stands before (IEEE 1364-2001, `define`); `None` where `bytes` has no such LF.
-///
-/// Costs time linear in that length, or in the whole length where there is no such LF.
-pub fn logical_line(bytes: &[u8]) -> Option<usize>
-    ensures { result ≡ logical_len 0 0 bytes.now }
-{
-    let mut at = 0;
-    while let Some(step) = memchr(b'\n', &bytes[at..]) {
-        let end = at + step;
-        if !is_continued(&bytes[at..end]) {
-            return Some(end + 1);
-        }
-        at = end + 1;
-    }
-    None
 }

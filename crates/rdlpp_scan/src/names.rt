@@ -19,12 +19,6 @@ pub fn is_name(bytes: &[u8]) -> bool
     is_letter(byte_at(bytes, 0)) && all_word_bytes(bytes)
 }
 
-fn all_word_bytes(bytes: &[u8]) -> bool
-    ensures { result ≡ list_all is_word bytes.now }
-{
-    bytes.iter().all(|b| is_word(*b))
-}
-
 /// The directive of this name; `None` where the name isn't reserved (IEEE 1364-2001, clause on
 /// compiler directives).
 ///
@@ -55,4 +49,10 @@ pub fn reserved(name: &[u8]) -> Option<Directive>
     } else {
         None
     }
+}
+
+fn all_word_bytes(bytes: &[u8]) -> bool
+    ensures { result ≡ list_all is_word bytes.now }
+{
+    bytes.iter().all(|b| is_word(*b))
 }

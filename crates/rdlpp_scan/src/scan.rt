@@ -13,6 +13,36 @@ use crate::lines::before_line_end;
 use crate::token::{Kind, Mode, Token};
 use memchr::{memchr3, memmem};
 
+/// The first token of a text, or the part of it that `bytes` has.
+///
+/// # Rules
+///
+/// The token table of this project's profile: strings and names are those of IEEE 1364-2001, and
+/// `<%` is the beginning of embedded Perl of SystemRDL 2.0. Lengths are bytes.
+///
+/// However a text is cut before or after its line ends, the tokens of the pieces, with the parts of
+/// each string and of each block comment joined, are the tokens of the text (`pieces`).
+///
+/// Costs time linear in the token's length.
+pub fn first_token(mode: Mode, bytes: &[u8]) -> Token
+    requires { 0 < length bytes.now }
+    ensures value { result ≡ token_of mode bytes.now }
+    ensures not_empty { 0 < result.len }
+    ensures inside { result.len ≤ length bytes.now }
+    ensures pieces { CutTokens }
+{
+    // Scalars alone are handed on, and the token is built once: a copy of it costs more than most tokens.
+    let kind = kind_of(mode, bytes);
+    let stop = stop_of(mode, kind, bytes);
+    let next_mode = mode_behind(kind, stop, bytes);
+    let len = len_of(kind, next_mode, stop);
+    Token {
+        kind,
+        next_mode,
+        len,
+    }
+}
+
 // Whether a string ends here, at its quote or before `<%`.
 fn ends_string(bytes: &[u8]) -> bool
     ensures { result ≡ (slice_index bytes.now 0 == 34 || begins_perl bytes.now) }
@@ -184,35 +214,5 @@ fn len_of(kind: Kind, next_mode: Mode, stop: usize) -> usize
             _ => stop,
         },
         _ => stop,
-    }
-}
-
-/// The first token of a text, or the part of it that `bytes` has.
-///
-/// # Rules
-///
-/// The token table of this project's profile: strings and names are those of IEEE 1364-2001, and
-/// `<%` is the beginning of embedded Perl of SystemRDL 2.0. Lengths are bytes.
-///
-/// However a text is cut before or after its line ends, the tokens of the pieces, with the parts of
-/// each string and of each block comment joined, are the tokens of the text (`pieces`).
-///
-/// Costs time linear in the token's length.
-pub fn first_token(mode: Mode, bytes: &[u8]) -> Token
-    requires { 0 < length bytes.now }
-    ensures value { result ≡ token_of mode bytes.now }
-    ensures not_empty { 0 < result.len }
-    ensures inside { result.len ≤ length bytes.now }
-    ensures pieces { CutTokens }
-{
-    // Scalars alone are handed on, and the token is built once: a copy of it costs more than most tokens.
-    let kind = kind_of(mode, bytes);
-    let stop = stop_of(mode, kind, bytes);
-    let next_mode = mode_behind(kind, stop, bytes);
-    let len = len_of(kind, next_mode, stop);
-    Token {
-        kind,
-        next_mode,
-        len,
     }
 }

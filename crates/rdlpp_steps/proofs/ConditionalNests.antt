@@ -11,13 +11,14 @@ use Rattle.rdlpp_meaning.specs.declared.fault.FaultKind.TheVariants as fault
 use Rattle.rdlpp_meaning.specs.Meaning.{Holds, Progress, Stopped, is_defined, leaves, macro_name, name_test, wants_defined}
 use Rattle.rdlpp_meaning.specs.Outcome.{fails}
 use Rattle.rdlpp_meaning.specs.State.{Rules, State, fault_at}
-use Rattle.rdlpp_meaning.proofs.ConditionalMoves.{branches_conditional, opens_conditional}
+use Rattle.rdlpp_meaning.proofs.ConditionalMoves.{opens_conditional}
 use Rattle.rdlpp_meaning.proofs.ConditionalTests.{named_test}
 use Rattle.rdlpp_read.specs.Buffer.{EndsHeld, held_of}
 use Rattle.rdlpp_read.specs.Files.{consumed_file, inner_buffer, with_inner}
 use Rattle.rdlpp_read.specs.declared.files.File.{File}
 use Rattle.rdlpp_front.specs.Fronts.{HasName, IsDirective, LacksName, argument_name, word_of}
 use Rattle.rdlpp_front.specs.SourceLeft.{HoldsFront}
+use Rattle.rdlpp_front.proofs.BranchLeft.{elsif_branches, else_branches}
 use Rattle.rdlpp_conditions.specs.Conditions.{ConditionsView}
 use Rattle.rdlpp_conditions.specs.Moves.{HasTest, closed_one, opened_with, skipped_by, turned_with, with_inner as with_count}
 use Rattle.rdlpp_steps.specs.Conditionals.{opening_word, test_of}
@@ -46,15 +47,6 @@ opening_test : (defined : Bool) (s : State) (name : List ℕ) → named_test (op
 unfolding is_defined wants_defined
 opening_test true s name = refl
 opening_test false s name = refl
-
--- branches
-elsif_is_branch : branches_conditional Elsif ≡ true
-unfolding branches_conditional
-elsif_is_branch = refl
-
-else_is_branch : branches_conditional Else ≡ true
-unfolding branches_conditional
-else_is_branch = refl
 
 module _ {R : Type 0} (limits : Limits) (rules : Rules) (unread : R → List ℕ) (macros : List Macro) (v : ConditionsView) where
   -- what remains behind so many bytes, by the open conditionals
@@ -103,12 +95,12 @@ module _ {R : Type 0} (limits : Limits) (rules : Rules) (unread : R → List ℕ
   pub stray_elsif : (nest : List (File R)) → IsPlainFront nest → length v.open_now ≡ inner_below nest → IsDirective Elsif (held_of (inner_buffer nest)) → Faults nest fault.StrayBranch []
   stray_elsif [] h alone is = absurd (none_held R h.some)
   stray_elsif (f ∷ outer) h alone is =
-      nest_stray_branch limits rules unread macros outer v f (holds_front f outer h) h.plain alone Elsif elsif_is_branch is
+      nest_stray_branch limits rules unread macros outer v f (holds_front f outer h) h.plain alone Elsif elsif_branches is
 
   pub stray_else : (nest : List (File R)) → IsPlainFront nest → length v.open_now ≡ inner_below nest → IsDirective Else (held_of (inner_buffer nest)) → Faults nest fault.StrayBranch []
   stray_else [] h alone is = absurd (none_held R h.some)
   stray_else (f ∷ outer) h alone is =
-      nest_stray_branch limits rules unread macros outer v f (holds_front f outer h) h.plain alone Else else_is_branch is
+      nest_stray_branch limits rules unread macros outer v f (holds_front f outer h) h.plain alone Else else_branches is
 
   pub stray_end : (nest : List (File R)) → IsPlainFront nest → length v.open_now ≡ inner_below nest → IsDirective Endif (held_of (inner_buffer nest)) → Faults nest fault.StrayBranch []
   stray_end [] h alone is = absurd (none_held R h.some)
@@ -122,13 +114,13 @@ module _ {R : Type 0} (limits : Limits) (rules : Rules) (unread : R → List ℕ
         → HasTest o Elsif (λ c s. Stopped fault.BranchAfterElse []) → Faults nest fault.BranchAfterElse []
     refused_elsif [] h below is test = absurd (none_held R h.some)
     refused_elsif (f ∷ outer) h below is test =
-        nest_refused_branch limits rules unread macros outer v f (holds_front f outer h) h.plain live o os is_open below skips Elsif fault.BranchAfterElse elsif_is_branch is test
+        nest_refused_branch limits rules unread macros outer v f (holds_front f outer h) h.plain live o os is_open below skips Elsif fault.BranchAfterElse elsif_branches is test
 
     pub refused_else : (nest : List (File R)) → IsPlainFront nest → inner_below nest ≤ length os → IsDirective Else (held_of (inner_buffer nest))
         → HasTest o Else (λ c s. Stopped fault.BranchAfterElse []) → Faults nest fault.BranchAfterElse []
     refused_else [] h below is test = absurd (none_held R h.some)
     refused_else (f ∷ outer) h below is test =
-        nest_refused_branch limits rules unread macros outer v f (holds_front f outer h) h.plain live o os is_open below skips Else fault.BranchAfterElse else_is_branch is test
+        nest_refused_branch limits rules unread macros outer v f (holds_front f outer h) h.plain live o os is_open below skips Else fault.BranchAfterElse else_branches is test
 
     -- a decided `else`
     pub decided_else : (nest : List (File R)) (t : Bool) → IsPlainFront nest → inner_below nest ≤ length os → IsDirective Else (held_of (inner_buffer nest))
@@ -192,13 +184,13 @@ module _ {R : Type 0} (limits : Limits) (rules : Rules) (unread : R → List ℕ
         → Continues nest (with_count (suc n) v) (length (word_of Elsif))
     skips_elsif [] h below skips is = absurd (none_held R h.some)
     skips_elsif (f ∷ outer) h below skips is =
-        nest_inner_branch limits rules unread macros outer v f (holds_front f outer h) h.plain n o os is_open below Elsif elsif_is_branch skips is
+        nest_inner_branch limits rules unread macros outer v f (holds_front f outer h) h.plain n o os is_open below Elsif elsif_branches skips is
 
     pub skips_else : (nest : List (File R)) → IsPlainFront nest → inner_below nest ≤ length os → v.skipped ≡ Some (suc n) → IsDirective Else (held_of (inner_buffer nest))
         → Continues nest (with_count (suc n) v) (length (word_of Else))
     skips_else [] h below skips is = absurd (none_held R h.some)
     skips_else (f ∷ outer) h below skips is =
-        nest_inner_branch limits rules unread macros outer v f (holds_front f outer h) h.plain n o os is_open below Else else_is_branch skips is
+        nest_inner_branch limits rules unread macros outer v f (holds_front f outer h) h.plain n o os is_open below Else else_branches skips is
 
     -- the end of one that opened there
     pub skips_end : (nest : List (File R)) → IsPlainFront nest → inner_below nest ≤ length os → v.skipped ≡ Some (suc n) → IsDirective Endif (held_of (inner_buffer nest))

@@ -13,7 +13,7 @@ use Rattle.rdlpp_table.specs.Table.{Formal, Macro}
 use Rattle.rdlpp_table.specs.declared.stop.Stop.{Stop}
 use Rattle.rdlpp_table.specs.declared.stop.Stop.TheVariants as stop
 use Rattle.rdlpp_meaning.specs.Expansion.{is_copied}
-use Rattle.rdlpp_meaning.specs.PlainMacros.{is_plain_macro}
+use Rattle.rdlpp_meaning.specs.PlainMacros.{stands_for_body}
 use Rattle.rdlpp_meaning.specs.Substitution.{body_tokens, spelled}
 
 -- no stop of two
@@ -42,14 +42,14 @@ copied_stops at (t ∷ ts) text =
     ∙ ap (λ (b : Bool). is_copied (record { sort = Ordinary t.kind; bytes = take t.len text; line = 0 }) && b) (copied_stops (at + t.len) ts (drop t.len text)))
 
 -- a usage of a macro stands for its body as it lies exactly where it has no list of formals and its body no stop
-pub plain_macro : (m : Macro) (formals : Option (List Formal)) → m.formals ≡ formals → is_plain_macro m ≡ (not (is_some formals) && is_copied_macro m)
-unfolding is_plain_macro is_copied_macro stop_of body_tokens
+pub plain_macro : (m : Macro) (formals : Option (List Formal)) → m.formals ≡ formals → stands_for_body m ≡ (not (is_some formals) && is_copied_macro m)
+unfolding stands_for_body is_copied_macro stop_of body_tokens
 plain_macro m None e = rw e (sym (copied_stops 0 (tokens_from Plain 0 m.body) m.body))
 plain_macro m (Some formals) e = rw e refl
 
 -- what a test of the list of formals and one of the body come to
 pub plain_test : (m : Macro) (formals : Option (List Formal)) (n : Option ℕ) (none : Bool) → m.formals ≡ formals → n ≡ option_map length formals → is_some n ≡ not none
-    → (none ≡ true → is_copied_macro m ≡ is_plain_macro m) × (none ≡ false → none ≡ is_plain_macro m)
+    → (none ≡ true → is_copied_macro m ≡ stands_for_body m) × (none ≡ false → none ≡ stands_for_body m)
 plain_test m None n true e arity test = (λ h. sym (plain_macro m None e), λ h. cc h)
 plain_test m None n false e arity test = absurd (let no : false ≡ true = sym (ap is_some arity) ∙ test in cc)
 plain_test m (Some formals) n true e arity test = absurd (let no : true ≡ false = sym (ap is_some arity) ∙ test in cc)

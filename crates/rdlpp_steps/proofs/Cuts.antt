@@ -308,14 +308,6 @@ text_cut_placed {S} {R} mid new place len placed spent =
     subst (λ ts. IsTextPlaced ts (cut_place place len)) (sym (texts_same mid new (place.end - place.from) len part))
     (record { source = placed.source; order = omega arith; inside = omega arith })
 
--- a place that is cut ends where it may
-pub text_cut_fits : {S R : Type 0} (mid new : EngineView S R) (place : TextPlace) (len : ℕ) → IsPlaced mid (Text place) → IsSpent mid new (place.end - place.from) len → place.from + len ≤ place.end
-text_cut_fits mid new place len placed spent =
-    let part = spent_part mid new (place.end - place.from) len spent in
-    let less = part.inside in
-    let order = placed.order in
-    omega arith
-
 -- the fault that is kept, or the end where none is
 pub cut_kept : {S R : Type 0} (g : Ghosts S R) (old new : EngineView S R) (kept : Option Told) → Walks g old new (kept_answer kept) → Steps g old new (kept_answer kept)
 cut_kept g old new None w = cut_end g old new w

@@ -1,9 +1,10 @@
 -- An `include`, as steps of the engine: the source that it opens, or its fault.
-use Rattle.std.specs.Prelude.{max, ◌==◌, ◌||◌}
+use Rattle.std.specs.Prelude.{max, ◌==◌}
 use Rattle.std.specs.Str.{IsUtf8, is_utf8}
 use Rattle.std.proofs.lemmas.Str.{IsUtf8-from_is_utf8}
-use Rattle.std.proofs.Common.{take, ◌≡◌, ℕ, suc, ◌+◌, ◌-◌, ◌≤◌, ◌<◌, Bool, true, false, List, [], ◌∷◌, length, drop, None, Some, Result, Ok, Err, refl, sym, ap, ◌∙◌, subst, arith}
+use Rattle.std.proofs.Common.{take, ◌≡◌, ℕ, suc, ◌+◌, ◌-◌, ◌≤◌, ◌<◌, true, false, List, [], ◌∷◌, length, drop, None, Some, Result, Ok, Err, refl, sym, ap, ◌∙◌, subst, arith}
 use Rattle.std.proofs.lemmas.List.{length-drop}
+use Rattle.std.proofs.lemmas.Bool.{or_right}
 use Rattle.rdlpp_scan.specs.SourceTokens.{whole_tokens}
 use Rattle.rdlpp_scan.specs.declared.token.Directive.TheVariants.{Include}
 use Rattle.rdlpp_scan.specs.declared.token.Mode.TheVariants.{Plain}
@@ -24,12 +25,12 @@ use Rattle.rdlpp_meaning.specs.State.{LongPath, NoSource, Rules, Source, fault_a
 use Rattle.rdlpp_read.specs.Buffer.{EndsHeld, held_of, opened_buffer, unused_of}
 use Rattle.rdlpp_read.specs.Files.{FilesView, consumed_file, entered_file, inner_buffer, with_buffer, with_inner}
 use Rattle.rdlpp_read.specs.declared.files.File.{File}
-use Rattle.rdlpp_front.specs.Fronts.{HasString, LacksString, word_of}
+use Rattle.rdlpp_front.specs.Fronts.{HasString, LacksString, word_of, include_name}
 use Rattle.rdlpp_conditions.specs.Conditions.{ConditionsView}
 use Rattle.rdlpp_steps.specs.Calls.{SourcesCalled}
 use Rattle.rdlpp_steps.specs.Engine.{EngineView}
 use Rattle.rdlpp_steps.specs.Held.{IsBounded}
-use Rattle.rdlpp_steps.specs.Includes.{BadName, Denies, Full, IsSearch, Refuses, Searches, given_name, included_engine, inner_path, is_bad_name, kind_of_source}
+use Rattle.rdlpp_steps.specs.Includes.{BadName, Denies, Full, IsSearch, Refuses, Searches, included_engine, inner_path, is_bad_name, kind_of_source}
 use Rattle.rdlpp_steps.specs.Moves.{IsReady}
 use Rattle.rdlpp_steps.specs.Owed.{OwedView, nothing_owed, origin_owed}
 use Rattle.rdlpp_steps.specs.Pieces.{lent_answer, step_answer}
@@ -84,34 +85,34 @@ module _ {R : Type 0} (limits : Limits) (rules : Rules) (unread : R → List ℕ
   refused_nameless (f ∷ outer) some ends plain lacks = nest_include_nameless limits rules unread macros v live f outer some ends plain lacks
 
   refused_bad : (nest : List (File R)) (start stop : ℕ) → 0 < length (held_of (inner_buffer nest)) → EndsHeld (inner_buffer nest) → (inner_buffer nest).mode ≡ Plain → HasString (held_of (inner_buffer nest)) start stop
-      → is_bad_name (given_name (held_of (inner_buffer nest)) start stop) ≡ true → Refused IncludeName nest
+      → is_bad_name (include_name (held_of (inner_buffer nest)) start stop) ≡ true → Refused IncludeName nest
   refused_bad [] start stop some ends plain has bad = absurd (none_held R some)
   refused_bad (f ∷ outer) start stop some ends plain has bad = nest_include_bad limits rules unread macros v live f outer some ends plain start stop has bad
 
   refused_full : (nest : List (File R)) (start stop : ℕ) → 0 < length (held_of (inner_buffer nest)) → EndsHeld (inner_buffer nest) → (inner_buffer nest).mode ≡ Plain → HasString (held_of (inner_buffer nest)) start stop
-      → is_bad_name (given_name (held_of (inner_buffer nest)) start stop) ≡ false → limits.includes + 1 ≤ length nest → Refused TooManyIncludes nest
+      → is_bad_name (include_name (held_of (inner_buffer nest)) start stop) ≡ false → limits.includes + 1 ≤ length nest → Refused TooManyIncludes nest
   refused_full [] start stop some ends plain has good full = absurd (none_held R some)
   refused_full (f ∷ outer) start stop some ends plain has good full =
       nest_include_deep limits rules unread macros v live f outer some ends plain start stop has good (omega arith)
 
   refused_absent : (nest : List (File R)) (start stop : ℕ) → 0 < length (held_of (inner_buffer nest)) → EndsHeld (inner_buffer nest) → (inner_buffer nest).mode ≡ Plain → HasString (held_of (inner_buffer nest)) start stop
-      → is_bad_name (given_name (held_of (inner_buffer nest)) start stop) ≡ false → length nest < limits.includes + 1
-      → rules.find (inner_path nest) (given_name (held_of (inner_buffer nest)) start stop) ≡ NoSource → Refused SourceNotFound nest
+      → is_bad_name (include_name (held_of (inner_buffer nest)) start stop) ≡ false → length nest < limits.includes + 1
+      → rules.find (inner_path nest) (include_name (held_of (inner_buffer nest)) start stop) ≡ NoSource → Refused SourceNotFound nest
   refused_absent [] start stop some ends plain has good room finds = absurd (none_held R some)
   refused_absent (f ∷ outer) start stop some ends plain has good room finds =
       nest_include_absent limits rules unread macros v live f outer some ends plain start stop has good (omega arith) finds
 
   refused_overlong : (nest : List (File R)) (start stop : ℕ) → 0 < length (held_of (inner_buffer nest)) → EndsHeld (inner_buffer nest) → (inner_buffer nest).mode ≡ Plain → HasString (held_of (inner_buffer nest)) start stop
-      → is_bad_name (given_name (held_of (inner_buffer nest)) start stop) ≡ false → length nest < limits.includes + 1
-      → rules.find (inner_path nest) (given_name (held_of (inner_buffer nest)) start stop) ≡ LongPath → Refused PathTooLong nest
+      → is_bad_name (include_name (held_of (inner_buffer nest)) start stop) ≡ false → length nest < limits.includes + 1
+      → rules.find (inner_path nest) (include_name (held_of (inner_buffer nest)) start stop) ≡ LongPath → Refused PathTooLong nest
   refused_overlong [] start stop some ends plain has good room finds = absurd (none_held R some)
   refused_overlong (f ∷ outer) start stop some ends plain has good room finds =
       nest_include_overlong limits rules unread macros v live f outer some ends plain start stop has good (omega arith) finds
 
   -- a source that is found is open inside of the others
   opened_inside : (nest : List (File R)) (found : Found R) (start stop line_bytes : ℕ) → 0 < length (held_of (inner_buffer nest)) → EndsHeld (inner_buffer nest) → (inner_buffer nest).mode ≡ Plain
-      → HasString (held_of (inner_buffer nest)) start stop → is_bad_name (given_name (held_of (inner_buffer nest)) start stop) ≡ false → length nest < limits.includes + 1
-      → rules.find (inner_path nest) (given_name (held_of (inner_buffer nest)) start stop) ≡ Source found.path.bytes (unread found.reader)
+      → HasString (held_of (inner_buffer nest)) start stop → is_bad_name (include_name (held_of (inner_buffer nest)) start stop) ≡ false → length nest < limits.includes + 1
+      → rules.find (inner_path nest) (include_name (held_of (inner_buffer nest)) start stop) ≡ Source found.path.bytes (unread found.reader)
       → rules.tokens (unread found.reader) ≡ whole_tokens limits.line_bytes limits.source_bytes (unread found.reader)
       → line_bytes ≡ limits.line_bytes
       → nest_left limits rules unread macros v nest
@@ -147,7 +148,7 @@ module _ {S R : Type 0} (g : Ghosts S R) (old mid new : EngineView S R) (start s
     (plain : (inner_buffer old.files.nest).mode ≡ Plain) (has : HasString (held_of (inner_buffer old.files.nest)) start stop) (bounded : IsBounded new) (becomes : mid ≡ record old { sources = mid.sources }) where
   -- the name that is searched for
   abbrev name_of : List ℕ
-  name_of = given_name (held_of (inner_buffer old.files.nest)) start stop
+  name_of = include_name (held_of (inner_buffer old.files.nest)) start stop
 
   same_files : mid.files ≡ old.files
   same_files = ap (λ e. e.files) becomes
@@ -178,7 +179,7 @@ module _ {S R : Type 0} (g : Ghosts S R) (old mid new : EngineView S R) (start s
         stop = stop;
         mode = ap (λ (fs : FilesView R). (inner_buffer fs.nest).mode) files ∙ plain;
         has = subst (λ (fs : FilesView R). HasString (held_of (inner_buffer fs.nest)) start stop) (sym files) has;
-        name = ap (λ (fs : FilesView R). is_bad_name (given_name (held_of (inner_buffer fs.nest)) start stop)) files ∙ good;
+        name = ap (λ (fs : FilesView R). is_bad_name (include_name (held_of (inner_buffer fs.nest)) start stop)) files ∙ good;
         room = subst (λ (fs : FilesView R). length fs.nest < fs.slots) (sym files) room;
       } in
       let nest : old.files.nest ≡ with_buffer (inner_buffer mid.files.nest) old.files.nest = sym (ap (λ (fs : FilesView R). fs.nest) same_files) ∙ ap (λ (fs : FilesView R). fs.nest) r.only in
@@ -275,12 +276,8 @@ name_taken string end is = let same : end - 1 - 1 ≡ length string - 2 = omega 
 pub bad_empty : (name : List ℕ) → (length name == 0) ≡ true → is_bad_name name ≡ true
 bad_empty name empty = rw empty refl
 
-or_true : (b : Bool) → (b || true) ≡ true
-or_true true = refl
-or_true false = refl
-
 pub bad_utf8 : (name : List ℕ) → is_utf8 name ≡ false → is_bad_name name ≡ true
-bad_utf8 name wrong = rw wrong (or_true (length name == 0))
+bad_utf8 name wrong = rw wrong (or_right (length name == 0) true refl)
 
 -- any other is good
 pub good_name : (name : List ℕ) → (length name == 0) ≡ false → is_utf8 name ≡ true → is_bad_name name ≡ false

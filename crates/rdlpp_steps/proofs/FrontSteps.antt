@@ -1,18 +1,16 @@
 -- What is taken of the open sources, as steps of the engine.
-use Rattle.std.proofs.Common.{◌≡◌, ℕ, zero, suc, ◌+◌, ◌-◌, ◌^◌, ◌≤◌, ◌<◌, Bool, true, false, cond, List, [], ◌∷◌, ◌++◌, length, take, drop, replicate, append_assoc, append-nil, Option, None, Some, Ok, refl, sym, ap, ◌∙◌, subst, arith}
+use Rattle.std.proofs.Common.{◌≡◌, ℕ, zero, suc, ◌+◌, ◌-◌, ◌^◌, ◌≤◌, ◌<◌, true, false, List, [], ◌∷◌, ◌++◌, length, take, drop, replicate, append_assoc, append-nil, Option, None, Some, Ok, refl, sym, ap, ◌∙◌, subst, arith}
 use Rattle.std.specs.List.{slice_range}
 use Rattle.std.specs.Prelude.{min, IfSome}
 use Rattle.std.proofs.lemmas.List.{take-take, drop-take, length-drop, length-take, take_all, take_rest}
 use Rattle.std.proofs.Math.Seq.{drop-nil}
 use Rattle.rdlpp_source.specs.Sources.{Catalog}
 use Rattle.rdlpp_source.specs.declared.sources.Sources.{Ghosts}
-use Rattle.rdlpp_scan.specs.Bytes.{is_line_end}
 use Rattle.rdlpp_scan.specs.SourceTokens.{line_ends}
 use Rattle.rdlpp_scan.specs.Reserved.{is_reserved}
 use Rattle.rdlpp_scan.specs.declared.token.Directive.TheVariants.{Define, Undef}
 use Rattle.rdlpp_scan.specs.declared.token.Mode.{Mode}
 use Rattle.rdlpp_scan.specs.declared.token.Mode.TheVariants.{Plain}
-use Rattle.rdlpp_scan.proofs.SourceLaws.{line_ends-cons}
 use Rattle.rdlpp_table.specs.Table.{Macro, macro_named, without}
 use Rattle.rdlpp_table.specs.View.{TableView, macro_at}
 use Rattle.rdlpp_table.specs.declared.limits.Limits.{Limits}
@@ -26,7 +24,7 @@ use Rattle.rdlpp_meaning.specs.Meaning.{Passage, behind_bytes, goes_on, leaves}
 use Rattle.rdlpp_meaning.specs.Outcome.{Told, fails}
 use Rattle.rdlpp_meaning.specs.Parts.{line_ends_of}
 use Rattle.rdlpp_meaning.specs.Profile.{define_fault, rules_of, with_fault}
-use Rattle.rdlpp_meaning.specs.PlainMacros.{is_plain_macro}
+use Rattle.rdlpp_meaning.specs.PlainMacros.{stands_for_body}
 use Rattle.rdlpp_meaning.specs.State.{State, fault_at}
 use Rattle.rdlpp_meaning.proofs.OwedLineEnds.{line_ends_of-owed}
 use Rattle.rdlpp_read.specs.Buffer.{BufferView, entered_mode, held_of, reading_line_of, Slides}
@@ -36,8 +34,10 @@ use Rattle.rdlpp_read.specs.LogicalLines.{HoldsLine}
 use Rattle.rdlpp_read.specs.declared.buffer.extending.LogicalLine.TheVariants as line
 use Rattle.rdlpp_read.specs.declared.buffer.filling.Fill.TheVariants as fill
 use Rattle.rdlpp_read.specs.declared.files.File.{File}
+use Rattle.rdlpp_read.proofs.Slices.{line_ends_le}
 use Rattle.rdlpp_front.specs.Fronts.{AtBare, AtPerl, HasName, IsDirective, IsRefused, IsText, IsUsage, LacksName, argument_name, usage_name}
 use Rattle.rdlpp_front.proofs.Insides.{name_inside, text_inside, usage_inside}
+use Rattle.rdlpp_front.proofs.SourceFacts.{held_entered}
 use Rattle.rdlpp_conditions.specs.Conditions.{ConditionsView}
 use Rattle.rdlpp_steps.specs.Calls.{SourcesCalled}
 use Rattle.rdlpp_steps.specs.Engine.{EngineView, IsSoundEngine, is_open}
@@ -66,20 +66,10 @@ unfolding nest_state file_state
 same_state b limits macros v [] = refl
 same_state b limits macros v (f ∷ outer) = refl
 
--- nor what is held of it
-pub buffer_given : {R : Type 0} (b : BufferView R) (nest : List (File R)) → 0 < length nest → inner_buffer (with_buffer b nest) ≡ b
-buffer_given b [] some = absurd (omega arith)
-buffer_given b (f ∷ outer) some = refl
-
 -- the innermost source with its own buffer
 pub same_nest : {R : Type 0} (nest : List (File R)) → nest ≡ with_buffer (inner_buffer nest) nest
 same_nest [] = refl
 same_nest (f ∷ outer) = refl
-
--- what is held is the same in each mode
-pub held_entered : {R : Type 0} (b : BufferView R) (next : Mode) → held_of (entered_mode b next) ≡ held_of b
-unfolding held_of entered_mode
-held_entered b next = refl
 
 -- the window stays where bytes are used and a mode is entered
 same_window : {R : Type 0} (nest : List (File R)) (len lines : ℕ) (next : Mode)
@@ -103,23 +93,6 @@ held_part b len used inside =
     let within : b.at + len ≤ b.accepted = omega (arith, length-drop b.at (take b.accepted b.window), length-take b.accepted b.window) in
     let same : b.at + len - b.at ≡ len = omega arith in
     ap (λ k. take k (drop b.at b.window)) same ∙ part_slice b.window b.at len b.accepted within
-
--- no line end is owed of no bytes
-line_ends-none : line_ends [] ≤ 0
-unfolding line_ends
-line_ends-none = omega arith
-
--- one more byte, and one more line end at most
-one_more : (b : Bool) (n m : ℕ) → n ≤ m → cond b 1 0 + n ≤ suc m
-one_more true n m h = omega arith
-one_more false n m h = omega arith
-
--- no more line ends than bytes
-pub line_ends-le : (bs : List ℕ) → line_ends bs ≤ length bs
-line_ends-le [] = line_ends-none
-line_ends-le (b ∷ bs) =
-    let tail = line_ends-le bs in
-    rw line_ends-cons (one_more (is_line_end b) (line_ends bs) (length bs) tail)
 
 -- nothing that is owed is before nothing
 pub unowed_behind : (name : List ℕ) (owed : OwedView) (p : Passage) → owed ≡ nothing_owed → behind_bytes (owed_bytes name owed) p ≡ p
@@ -416,7 +389,7 @@ whole_part xs n whole = let same : n - 0 ≡ length xs = omega arith in ap (λ k
 pub take_usage : {S R : Type 0} (g : Ghosts S R) (old new : EngineView S R) (len id end : ℕ) → IsReady old → old.conditions.skipped ≡ None → IsBounded new
     → 0 < length (held_of (inner_buffer old.files.nest)) → (inner_buffer old.files.nest).mode ≡ Plain → IsUsage (held_of (inner_buffer old.files.nest)) len
     → macro_named old.table.macros (usage_name (held_of (inner_buffer old.files.nest)) len) ≡ Some (macro_at old.table.macros id)
-    → is_plain_macro (macro_at old.table.macros id) ≡ true
+    → stands_for_body (macro_at old.table.macros id) ≡ true
     → new ≡ record old { files = record old.files { nest = with_inner (consumed_file len 0) old.files.nest } }
     → end ≡ length (macro_at old.table.macros id).body → Walks g old new (lent_answer new (Body id 0 end))
 unfolding source_rules rules_of
@@ -466,7 +439,7 @@ module _ {S R : Type 0} (g : Ghosts S R) (old mid new : EngineView S R) (len : �
       let table : mid.table ≡ old.table = ap (λ e. e.table) r.becomes in
       let nest : mid.files.nest ≡ with_buffer b old.files.nest = ap (λ f. f.nest) r.only in
       let after = with_inner (consumed_file len d.lines) (with_buffer b old.files.nest) in
-      let least = line_ends-le w in
+      let least = line_ends_le w in
       let size = length-take len (held_of b) in
       let counted = d.counted in
       let makes : List (File R) → EngineView S R = λ ns.

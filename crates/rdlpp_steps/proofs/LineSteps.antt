@@ -20,6 +20,7 @@ use Rattle.rdlpp_read.specs.Buffer.{EndsHeld, held_of}
 use Rattle.rdlpp_read.specs.Files.{AreOpen, consumed_file, inner_buffer, with_inner}
 use Rattle.rdlpp_read.specs.declared.arguments.line.GivenLine.{GivenLine}
 use Rattle.rdlpp_read.specs.declared.files.File.{File}
+use Rattle.rdlpp_read.proofs.Slices.{line_ends_le}
 use Rattle.rdlpp_front.specs.Fronts.{IsDirective}
 use Rattle.rdlpp_front.specs.SourceLeft.{source_left}
 use Rattle.rdlpp_front.proofs.LineGiven.{given_text, line_behind}
@@ -33,7 +34,7 @@ use Rattle.rdlpp_steps.specs.Pieces.{step_answer}
 use Rattle.rdlpp_steps.specs.Remaining.{file_state, inner_name, nest_left, nest_state, run_rules, state_of}
 use Rattle.rdlpp_steps.specs.Steps.{IsOwn, Walks, is_memory_kind, is_read_failed, is_write_failed}
 use Rattle.rdlpp_steps.proofs.EngineSteps.{not_called}
-use Rattle.rdlpp_steps.proofs.FrontSteps.{Fails, left_by, lends_piece, line_ends-le}
+use Rattle.rdlpp_steps.proofs.FrontSteps.{Fails, left_by, lends_piece}
 use Rattle.rdlpp_steps.proofs.OwedOrigins.{owed_few, owed_with_origin}
 use Rattle.rdlpp_steps.proofs.NestLeft.{around, at_live, moved_live, none_held, torn_consumed}
 use Rattle.rdlpp_steps.proofs.Soundness.{inner_facts}
@@ -139,7 +140,7 @@ take_renumbered {S} {R} g old new given ready live bounded some plain is first h
     let owed : OwedView = record { line_ends = d.lines; origin = origin_owed old.origins given.number } in
     let few = held_short old ready.sound ready.files ready.nest in
     let counted = d.counted in
-    let least = line_ends-le w in
+    let least = line_ends_le w in
     let size = length-take-le len held inside in
     let lines : d.lines ≤ len = omega arith in
     let name : inner_name nest ≡ given.name.bytes = named_inner from given.number given.name used (some_inner (consumed_file len d.lines) old.files.nest ready.nest) in

@@ -1,7 +1,6 @@
 -- What remains of the open sources, as the innermost of them moves, where any others wait for it.
-use Rattle.std.proofs.Common.{◌≡◌, ℕ, ◌+◌, ◌≤◌, ◌<◌, Bool, true, false, not, List, [], ◌∷◌, ◌++◌, length, take, drop, None, Some, refl, sym, ap, subst, ◌∙◌, append_assoc, inl, inr, arith}
+use Rattle.std.proofs.Common.{◌≡◌, ℕ, ◌+◌, ◌≤◌, ◌<◌, true, false, List, [], ◌∷◌, ◌++◌, length, take, drop, None, Some, refl, sym, ap, subst, ◌∙◌, append_assoc, inl, inr, arith}
 use Rattle.std.proofs.lemmas.List.{drop-drop, take-append-drop}
-use Rattle.rdlpp_scan.specs.Bytes.{is_line_end}
 use Rattle.rdlpp_scan.specs.Front.{Breach}
 use Rattle.rdlpp_scan.specs.Front as breach
 use Rattle.rdlpp_scan.specs.SourceTokens.{line_ends}
@@ -18,7 +17,7 @@ use Rattle.rdlpp_meaning.specs.Opened.{Waiting, unwound}
 use Rattle.rdlpp_meaning.specs.Outcome.{fails, gives}
 use Rattle.rdlpp_meaning.specs.Parts.{line_ends_of}
 use Rattle.rdlpp_meaning.specs.Resumed.{Place, Live, Skipped}
-use Rattle.rdlpp_meaning.specs.PlainMacros.{is_plain_macro}
+use Rattle.rdlpp_meaning.specs.PlainMacros.{stands_for_body}
 use Rattle.rdlpp_meaning.specs.State.{Accepted, Refused, Rules, breach_kind, fault_at}
 use Rattle.rdlpp_read.specs.Buffer.{BufferView, EndsHeld, ahead_of, closed_buffer, entered_mode, held_of, rest_of, text_left, tokens_left}
 use Rattle.rdlpp_read.specs.Files.{consumed_file, inner_buffer, torn_after, with_buffer, with_inner}
@@ -27,6 +26,7 @@ use Rattle.rdlpp_read.specs.LogicalLines.{HoldsLine}
 use Rattle.rdlpp_read.specs.declared.buffer.extending.LogicalLine.TheVariants as line
 use Rattle.rdlpp_read.specs.declared.buffer.filling.Fill.TheVariants as fill
 use Rattle.rdlpp_read.specs.declared.files.File.{File}
+use Rattle.rdlpp_read.proofs.Slots.{torn_after-append}
 use Rattle.rdlpp_front.specs.Fronts.{HasName, IsDirective, IsRefused, IsText, IsUsage, LacksName, argument_name, usage_name}
 use Rattle.rdlpp_front.specs.SourceLeft.{HoldsFront, source_left, with_file_buffer}
 use Rattle.rdlpp_front.proofs.DefineLeft.{define_cut_left, define_left, define_long_left, define_refused_left, holds_define}
@@ -44,12 +44,6 @@ use Rattle.rdlpp_steps.specs.Remaining.{ending_behind, file_state, nest_left, ne
 pub none_held : (R : Type 0) → 0 < length (held_of (inner_buffer {R = R} [])) → ⊥
 unfolding held_of closed_buffer
 none_held R some = omega arith
-
--- whether the last byte isn't LF, behind bytes and then bytes
-pub torn_after-append : (torn : Bool) (x y : List ℕ) → torn_after torn (x ++ y) ≡ torn_after (torn_after torn x) y
-unfolding torn_after
-torn_after-append torn [] y = refl
-torn_after-append torn (b ∷ x) y = torn_after-append (not (is_line_end b)) x y
 
 -- a source of which bytes are used ends as it did
 pub torn_consumed : {R : Type 0} (unread : R → List ℕ) (f : File R) (len lines : ℕ)
@@ -153,7 +147,7 @@ module _ {R : Type 0} (limits : Limits) (rules : Rules) (unread : R → List ℕ
       -- a usage whose body is copied
       pub nest_body : (nest : List (File R)) (len : ℕ) (m : Macro) → 0 < length (held_of (inner_buffer nest)) → EndsHeld (inner_buffer nest)
           → (inner_buffer nest).mode ≡ Plain → IsUsage (held_of (inner_buffer nest)) len → macro_named macros (usage_name (held_of (inner_buffer nest)) len) ≡ Some m
-          → is_plain_macro m ≡ true → 0 < rules.depth
+          → stands_for_body m ≡ true → 0 < rules.depth
           → nest_left limits rules unread macros v nest ≡ behind_bytes m.body (nest_left limits rules unread macros v (with_inner (consumed_file len 0) nest))
       unfolding nest_state file_state
       nest_body [] len m some ends plain usage named lies depth = absurd (none_held R some)

@@ -22,9 +22,11 @@ use Rattle.rdlpp_read.specs.Files.{FilesView, consumed_file, inner_buffer, with_
 use Rattle.rdlpp_read.specs.LogicalLines.{HoldsLine}
 use Rattle.rdlpp_read.specs.declared.buffer.extending.LogicalLine.TheVariants as line
 use Rattle.rdlpp_read.specs.declared.files.File.{File}
+use Rattle.rdlpp_read.proofs.Slices.{line_ends_le}
 use Rattle.rdlpp_front.specs.Fronts.{AtBare, AtPerl, IsDirective, IsRefused, IsText, word_of}
 use Rattle.rdlpp_front.proofs.Insides.{text_inside, usage_inside}
 use Rattle.rdlpp_front.proofs.LineLeft.{line_inside}
+use Rattle.rdlpp_front.proofs.SourceFacts.{held_entered}
 use Rattle.rdlpp_conditions.specs.Conditions.{ConditionsView}
 use Rattle.rdlpp_conditions.specs.Moves.{with_inner as with_count}
 use Rattle.rdlpp_conditions.specs.SkippedText.{IsPassed}
@@ -41,7 +43,7 @@ use Rattle.rdlpp_steps.specs.Steps.{Walks}
 use Rattle.rdlpp_steps.proofs.BranchSteps.{goes_on, plain_front, word_within}
 use Rattle.rdlpp_steps.proofs.ConditionalNests.{skips_opening}
 use Rattle.rdlpp_steps.proofs.EngineSteps.{not_called}
-use Rattle.rdlpp_steps.proofs.FrontSteps.{IsRead, held_entered, held_few, left_by, lends_piece, line_ends-le, lines_few, owed_lines}
+use Rattle.rdlpp_steps.proofs.FrontSteps.{IsRead, held_few, left_by, lends_piece, lines_few, owed_lines}
 use Rattle.rdlpp_steps.proofs.PassedNests.{IsHeldFront, cut_at, long_at, passes_define, passes_line, passes_part, passes_stretch, passes_word, perl_at}
 use Rattle.rdlpp_steps.proofs.SkippedStretch.{bare_ends, directive_ends, usage_ends}
 use Rattle.rdlpp_steps.proofs.Soundness.{inner_facts, with_inner-length}
@@ -163,7 +165,7 @@ module _ {S R : Type 0} (g : Ghosts S R) (old new : EngineView S R) (ready : IsR
   -- no more LF bytes are passed than can be owed
   few_lines : (len lines : ℕ) → len ≤ length (held_of (inner_buffer old.files.nest)) → lines ≡ line_ends (take len (held_of (inner_buffer old.files.nest))) → lines < 2 ^ 31
   few_lines len lines inside counted =
-      let least = line_ends-le (take len (held_of (inner_buffer old.files.nest))) in
+      let least = line_ends_le (take len (held_of (inner_buffer old.files.nest))) in
       let size = length-take-le len (held_of (inner_buffer old.files.nest)) inside in
       let few = held_few old ready.sound ready.files ready.nest in
       omega arith
@@ -249,7 +251,7 @@ module _ {S R : Type 0} (g : Ghosts S R) (old new : EngineView S R) (ready : IsR
       define_steps len lines holds call positive inside few counted becomes =
           let b = inner_buffer mid.files.nest in
           let w = take len (held_of b) in
-          let least = line_ends-le w in
+          let least = line_ends_le w in
           let size = length-take-le len (held_of b) inside in
           let after = with_inner (consumed_file len lines) (with_buffer b old.files.nest) in
           let makes : List (File R) → EngineView S R = λ ns. record old { owed = line_ends_owed lines; files = record old.files { nest = ns }; sources = mid.sources } in

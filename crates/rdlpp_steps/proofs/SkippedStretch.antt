@@ -1,12 +1,11 @@
 -- What remains behind a stretch of skipped text that is passed: its LF bytes come before.
-use Rattle.std.proofs.Common.{◌≡◌, ℕ, ◌+◌, ◌-◌, ◌<◌, Bool, true, false, ◌||◌, cond, List, [], ◌∷◌, ◌++◌, length, take, drop, Option, None, Some, refl, sym, ap, subst, ◌∙◌, inl, inr, arith}
-use Rattle.std.specs.Prelude.{◌==◌, bytes_eq, codes, slice_index}
+use Rattle.std.proofs.Common.{◌≡◌, ℕ, ◌+◌, ◌-◌, ◌<◌, Bool, true, false, ◌||◌, cond, List, [], ◌∷◌, ◌++◌, length, take, drop, Option, None, Some, refl, sym, ap, subst, ◌∙◌, arith}
+use Rattle.std.specs.Prelude.{bytes_eq, codes, slice_index}
 use Rattle.std.specs.List.{list_all}
 use Rattle.std.proofs.lemmas.List.{length-drop}
-use Rattle.std.proofs.lemmas.Bool.{and_parts}
-use Rattle.std.proofs.lemmas.Bool.Decides.{eqb_tells}
+use Rattle.std.proofs.lemmas.Bool.{and_parts, eqb-true}
 use Rattle.std.proofs.Math.Seq.{take-add}
-use Rattle.rdlpp_scan.specs.Bytes.{is_digit, is_letter, is_line_end, is_word}
+use Rattle.rdlpp_scan.specs.Bytes.{is_line_end, is_word}
 use Rattle.rdlpp_scan.specs.Names.{directive_named}
 use Rattle.rdlpp_scan.specs.SourceTokens.{SourceToken, line_ends}
 use Rattle.rdlpp_scan.specs.Reserved.{is_reserved, reserved_names}
@@ -21,6 +20,7 @@ use Rattle.rdlpp_scan.specs.declared.token.Mode.TheVariants.{Plain, InStr, InBlo
 use Rattle.rdlpp_scan.proofs.SourceLaws.{line_ends-append, line_ends-cons}
 use Rattle.rdlpp_scan.specs.Ordinary.{is_plain_kind}
 use Rattle.rdlpp_scan.proofs.StopKinds.{AtBack, AtBare, AtBlockComment, AtLineComment, AtPerl, AtPlain, AtString, Row, token_of-row}
+use Rattle.rdlpp_scan.proofs.StepLaws.{word-line_end}
 use Rattle.rdlpp_scan.specs.declared.token.Token.{Token}
 use Rattle.rdlpp_meaning.specs.Meaning.{Passage, Progress, behind_bytes}
 use Rattle.rdlpp_meaning.specs.Opened.{Waiting, all_resumed}
@@ -79,17 +79,12 @@ uncounted Else e = cc
 uncounted Endif e = cc
 uncounted Line e = cc
 
--- letters, digits and `_` are no line ends
-word_end : (b : ℕ) → is_word b ≡ true → is_line_end b ≡ false
-unfolding is_word is_letter is_digit is_line_end
-word_end b e = elim (eqb_tells b 10) [ inl h ↦ absurd (let no : false ≡ true = sym (ap is_word h.1) ∙ e in cc no) | inr h ↦ h.0 ]
-
 word_ends : (bs : List ℕ) → list_all is_word bs ≡ true → line_ends bs ≡ 0
 unfolding line_ends
 word_ends [] e = refl
 word_ends (b ∷ bs) e =
     let parts = and_parts (is_word b) (list_all is_word bs) e in
-    line_ends-cons b bs ∙ rw (word_end b parts.0, word_ends bs parts.1) refl
+    line_ends-cons b bs ∙ rw (word-line_end b parts.0, word_ends bs parts.1) refl
 
 -- a backquote is no line end
 backquote_ends : (name : List ℕ) → line_ends name ≡ 0 → line_ends (96 ∷ name) ≡ 0
@@ -114,10 +109,6 @@ goes_by kind Plain word e =
 goes_by kind InStr word e = cc
 goes_by kind InBlock word e = cc
 
--- a byte that is told to be one
-same_byte : (a b : ℕ) → (a == b) ≡ true → a ≡ b
-same_byte a b e = elim (eqb_tells a b) [ inl h ↦ h.1 | inr h ↦ absurd (cc) ]
-
 -- a lone backquote is one byte
 bare_is : (bs : List ℕ) (t : Token) → Row bs t → t.kind ≡ BareBackquote → (t.len ≡ 1) × (slice_index bs 0 ≡ 96)
 unfolding whole is_plain_kind
@@ -126,7 +117,7 @@ bare_is bs t (AtLineComment h e) k = absurd (cc)
 bare_is bs t (AtBlockComment h e) k = absurd (cc)
 bare_is bs t (AtString h e) k = absurd (cc)
 bare_is bs t (AtBack h e) k = let i = ap (λ (u : Token). u.kind) e in absurd (cc)
-bare_is bs t (AtBare h g e) k = (ap (λ (u : Token). u.len) e, same_byte (slice_index bs 0) 96 h)
+bare_is bs t (AtBare h g e) k = (ap (λ (u : Token). u.len) e, eqb-true (slice_index bs 0) 96 h)
 bare_is bs t (AtPlain h q) k = absurd (let no : false ≡ true = sym (ap is_plain_kind k) ∙ h in cc)
 
 -- a backquote is no line end

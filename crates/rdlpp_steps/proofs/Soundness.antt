@@ -14,7 +14,7 @@ use Rattle.rdlpp_read.specs.declared.files.File.{File}
 use Rattle.rdlpp_conditions.specs.Conditions.{ConditionsView}
 use Rattle.rdlpp_cursors.specs.Places.{texts_of}
 use Rattle.rdlpp_cursors.specs.Steps.{AreSound}
-use Rattle.rdlpp_usages.specs.Usages.{ExpansionView, StaysOpen}
+use Rattle.rdlpp_usages.specs.Usages.{ExpansionView}
 use Rattle.rdlpp_steps.specs.Engine.{AreIncluded, AreOpenTexts, IsSoundEngine, IsWholeEngine, is_open}
 use Rattle.rdlpp_steps.proofs.IdleTexts.{none_sound}
 use Rattle.rdlpp_steps.specs.OpenConditionals.{AreConditions, inner_below}
@@ -313,19 +313,6 @@ module _ {R : Type 0} (limits : Limits) (phase : Phase) (table : TableView) (fil
       closed = w.sources.closed;
     };
     texts = texts_idle limits phase table.macros new.macros x w.texts idle;
-  }
-
-  -- its texts of a usage go on
-  pub whole_texts : (now : ExpansionView) → 0 < length x.opens → AreSound (texts_of table.macros now.arguments) now.opens → StaysOpen x now → IsWholeEngine limits phase table files v now
-  whole_texts now some sound stays = record {
-    sources = w.sources;
-    texts = record {
-      depth_is = stays.depth ∙ w.texts.depth_is;
-      most_is = stays.most ∙ w.texts.most_is;
-      sound = sound;
-      line = rw stays.line w.texts.line;
-      closed = λ c. (let none : length x.opens ≡ 0 = ap length (w.texts.closed c) in absurd (omega arith));
-    };
   }
 
   -- a usage is opened, or bytes of the innermost source are used for one that isn't

@@ -11,6 +11,7 @@ use Rattle.rdlpp_meaning.specs.Outcome.{Told, Outcome, and_then, fails, gives}
 use Rattle.rdlpp_meaning.specs.Slots.{cursors_of}
 use Rattle.rdlpp_meaning.specs.State.{Rules, State, fault_at}
 use Rattle.rdlpp_meaning.specs.declared.fault.FaultKind.{FaultKind}
+use Rattle.rdlpp_meaning.proofs.Passages.{fails-goes_on}
 use Rattle.rdlpp_read.specs.Files.{source_digits}
 use Rattle.rdlpp_cursors.specs.Digits.{AreFalling, IsFalling, cursor_digits}
 use Rattle.rdlpp_cursors.specs.Places.{IsPlaced as IsTextPlaced, place_bytes, texts_of}
@@ -47,11 +48,6 @@ goes_by bytes xs (Some f) s next = refl
 pub goes_behind : (bytes : List ℕ) (o : Outcome) (s : State) (next : State → Passage) → goes_on (leaves (and_then (gives bytes) o) s) next ≡ behind_bytes bytes (goes_on (leaves o s) next)
 goes_behind bytes o s next = goes_by bytes o.bytes o.fault s next
 
--- a fault goes on nowhere
-fails_on : (f : Told) (s : State) (next : State → Passage) → goes_on (leaves (fails f) s) next ≡ leaves (fails f) s
-unfolding goes_on leaves fails
-fails_on f s next = refl
-
 -- nothing is left where no text is open
 left_none : (rules : Rules) (s : State) (line depth : ℕ) (texts : Texts) (opens : List Open) → opens ≡ [] → left rules s line (cursors_of depth (slots_of texts opens)) ≡ gives []
 unfolding left cursors_of slots_of
@@ -85,7 +81,7 @@ texts_go rules s macros old new bytes p goes stays =
 texts_fail : (rules : Rules) (s : State) (macros : List Macro) (x : ExpansionView) (f : Told) (p : Passage)
     → left rules s x.line (cursors_of x.depth (slots_of (texts_of macros x.arguments) x.opens)) ≡ fails f → goes_on (texts_left rules s macros x) (λ after. p) ≡ leaves (fails f) s
 unfolding texts_left
-texts_fail rules s macros x f p ends = ap (λ (o : Outcome). goes_on (leaves o s) (λ after. p)) ends ∙ fails_on f s (λ after. p)
+texts_fail rules s macros x f p ends = ap (λ (o : Outcome). goes_on (leaves o s) (λ after. p)) ends ∙ fails-goes_on f s (λ after. p)
 
 -- a fault of open texts is a text's own
 pub text_kind : (kind : FaultKind) → is_text_fault kind ≡ true → IsOwn kind

@@ -12,6 +12,7 @@ use Rattle.rdlpp_meaning.specs.declared.fault.FaultKind.{FaultKind}
 use Rattle.rdlpp_read.specs.Buffer.{BufferView, text_left}
 use Rattle.rdlpp_read.specs.Files.{inner_buffer, torn_after, with_inner}
 use Rattle.rdlpp_read.specs.declared.files.File.{File}
+use Rattle.rdlpp_read.proofs.Slots.{torn_after-append}
 use Rattle.rdlpp_conditions.specs.Conditions.{ConditionsView, own_conditions}
 use Rattle.rdlpp_usages.specs.Usages.{ExpansionView, TellsUsage, inner_left, texts_left}
 use Rattle.rdlpp_usages.specs.declared.expansion.Opening.TheVariants.{Opened, Refused, Broken}
@@ -22,7 +23,7 @@ use Rattle.rdlpp_steps.specs.Remaining.{file_state, inner_name, nest_left, nest_
 use Rattle.rdlpp_steps.proofs.EndSteps.{nest_macros}
 use Rattle.rdlpp_steps.proofs.FrontSteps.{unowed_behind}
 use Rattle.rdlpp_steps.proofs.IdleTexts.{silent_texts}
-use Rattle.rdlpp_steps.proofs.NestLeft.{around, at_live, torn_after-append, waiting_same}
+use Rattle.rdlpp_steps.proofs.NestLeft.{around, at_live, waiting_same}
 
 -- what goes on from a state goes on from that one alone
 goes_from_by : (bytes : List ℕ) (f : Option Told) (s : State) (next : State → Passage)

@@ -19,13 +19,6 @@ pub power_some : (n : ℕ) → 0 < (2 ^ 31) ^ n
 power_some zero = lit< tt
 power_some (suc n) = let less = power_some n in rw pow-suc (omega arith)
 
--- a power is at least its base
-pub power_least : (n : ℕ) → 2 ^ 31 ≤ (2 ^ 31) ^ suc n
-power_least n =
-    let some = power_some n in
-    let next : (2 ^ 31) ^ suc n ≡ (2 ^ 31) ^ n * 2 ^ 31 = pow-suc (2 ^ 31) n in
-    omega arith
-
 -- a number with a smaller digit behind the same ones
 pub digits_fall : (before : List ℕ) (a b : ℕ) (t u : List ℕ) → length t ≡ length u → a < b → number_of t < (2 ^ 31) ^ length t
     → number_of (before ++ a ∷ t) < number_of (before ++ b ∷ u)

@@ -4,13 +4,6 @@ use Rattle.std.specs.Prelude.{◌≡◌, Bool}
 use Rattle.rdlpp_source.specs.Counts.{Counts}
 use Rattle.rdlpp_source.specs.declared.sources.Sources.{Ghosts}
 
--- a call read: the count of device failures rose where it failed, and nothing else changed
-pub record SourcesRead {S R : Type 0} (g : Ghosts S R) (failed : Bool) (old new : S) : Type 0 where
-  pub failures : Counts failed (g.failures old) (g.failures new)
-  pub refusals : g.refusals new ≡ g.refusals old
-  pub tells : g.tells old → g.tells new
-  pub catalog : g.catalog new ≡ g.catalog old
-
 -- a call of an engine: the counts of device failures and of refused memory rose where a device failed or memory was refused,
 -- and nothing else changed
 pub record SourcesCalled {S R : Type 0} (g : Ghosts S R) (failed refused : Bool) (old new : S) : Type 0 where

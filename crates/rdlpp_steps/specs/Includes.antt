@@ -8,14 +8,13 @@ use Rattle.rdlpp_source.specs.declared.sources.Found.{Found}
 use Rattle.rdlpp_source.specs.declared.sources.SourceFault.{SourceFault}
 use Rattle.rdlpp_source.specs.declared.sources.SourceFault.TheVariants as source
 use Rattle.rdlpp_source.specs.declared.sources.Sources.{Ghosts}
-use Rattle.rdlpp_meaning.specs.Meaning.{unquoted}
 use Rattle.rdlpp_meaning.specs.State.{shown_line}
 use Rattle.rdlpp_meaning.specs.declared.fault.FaultKind.{FaultKind}
 use Rattle.rdlpp_meaning.specs.declared.fault.FaultKind.TheVariants.{IncludeName, PathTooLong, ReadFailed, SourceMemory, SourceNotFound, TooManyIncludes}
 use Rattle.rdlpp_read.specs.Buffer.{held_of}
 use Rattle.rdlpp_read.specs.Files.{consumed_file, entered_file, inner_buffer, shift_of, with_inner}
 use Rattle.rdlpp_read.specs.declared.files.File.{File}
-use Rattle.rdlpp_front.specs.Fronts.{HasString, argument_name}
+use Rattle.rdlpp_front.specs.Fronts.{HasString, include_name}
 use Rattle.rdlpp_steps.specs.Calls.{SourcesCalled}
 use Rattle.rdlpp_steps.specs.Engine.{EngineView}
 use Rattle.rdlpp_steps.specs.Owed.{OwedView, nothing_owed, origin_owed}
@@ -32,10 +31,6 @@ abbrev pub inner_path : {R : Type 0} → List (File R) → List ℕ
 inner_path [] = []
 inner_path (f ∷ outer) = f.path.bytes
 
--- the name that is given to an `include` whose string stands from a place up to another (this project's profile)
-abbrev pub given_name : List ℕ → ℕ → ℕ → List ℕ
-given_name held start stop = unquoted (argument_name held start stop)
-
 -- whether a name can't be searched for: it is empty, or it isn't UTF-8 (this project's profile)
 abbrev pub is_bad_name : List ℕ → Bool
 is_bad_name name = (length name == 0) || not (is_utf8 name)
@@ -47,7 +42,7 @@ pub record IsSearch {S R : Type 0} (e : EngineView S R) : Type 0 where
   pub stop : ℕ
   pub mode : (inner_buffer e.files.nest).mode ≡ Plain
   pub has : HasString (held_of (inner_buffer e.files.nest)) start stop
-  pub name : is_bad_name (given_name (held_of (inner_buffer e.files.nest)) start stop) ≡ false
+  pub name : is_bad_name (include_name (held_of (inner_buffer e.files.nest)) start stop) ≡ false
   pub room : length e.files.nest < e.files.slots
 
 -- a search was made for a name from the path of the innermost source, by sources that were others before

@@ -14,7 +14,6 @@ use Rattle.rdlpp_meaning.specs.Cursors.{Refuses, kept, left}
 use Rattle.rdlpp_meaning.specs.Meaning.{Passage, Progress, goes_on, leaves}
 use Rattle.rdlpp_meaning.specs.Opened.{Waiting}
 use Rattle.rdlpp_meaning.specs.Opens.{Open, Texts, open_body, slots_of}
-use Rattle.rdlpp_meaning.specs.Parts.{only_blanks}
 use Rattle.rdlpp_meaning.specs.Resumed.{leading}
 use Rattle.rdlpp_meaning.specs.State.{Rules, State, fault_at}
 use Rattle.rdlpp_meaning.specs.Slots.{cursors_of}
@@ -97,11 +96,6 @@ call_breaks tells unread most macros id bytes now kind own opens old new means =
 deeper : (n : ℕ) → 0 < n → (d : ℕ) × (n ≡ suc d)
 deeper zero some = absurd (omega arith)
 deeper (suc d) some = (d, refl)
-
--- a source of which a usage was used without a call
-pub behind_usage : {R : Type 0} (unread : R → List ℕ) (f : File R) (len : ℕ) → IsBehind unread f (consumed_file len 0 f) len []
-unfolding only_blanks
-behind_usage unread f len = record { blanks = refl; bytes = refl }
 
 -- what remains of open texts, in the terms of what is seen of them
 texts_same : (rules : Rules) (s : State) (macros : List Macro) (e : ExpansionView) (opens : List Open) (line d depth : ℕ) (next : State → Passage)

@@ -15,6 +15,7 @@ ghost use Rattle.rdlpp_steps.specs.Pieces.{IsPlaced, step_answer};
 ghost use Rattle.rdlpp_steps.specs.Steps.{Walks};
 
 use super::Engine;
+use super::words::{ELSE_BYTES, ELSIF_BYTES, ENDIF_BYTES};
 use arrayvec::ArrayString;
 use rdlpp_conditions::Branch;
 use rdlpp_front::Argument;
@@ -96,7 +97,7 @@ impl<S: Sources> Engine<S> {
         let below = self.files.file().conditions_below;
         match self.conditions.branch(below, Directive::Elsif) {
             Branch::Inner => {
-                self.consume(6, 0);
+                self.consume(ELSIF_BYTES, 0);
                 None
             }
             Branch::Refused(kind) => Some(self.refuse(kind, ArrayString::new())),
@@ -156,12 +157,12 @@ impl<S: Sources> Engine<S> {
         let below = self.files.file().conditions_below;
         match self.conditions.branch(below, Directive::Else) {
             Branch::Inner => {
-                self.consume(5, 0);
+                self.consume(ELSE_BYTES, 0);
                 None
             }
             Branch::Refused(kind) => Some(self.refuse(kind, ArrayString::new())),
             Branch::Decided(holds) => {
-                self.turn(Directive::Else, holds, 5);
+                self.turn(Directive::Else, holds, ELSE_BYTES);
                 None
             }
             // no name decides an `else`
@@ -194,7 +195,7 @@ impl<S: Sources> Engine<S> {
         match self.conditions.close(below) {
             Err(kind) => Some(self.refuse(kind, ArrayString::new())),
             Ok(()) => {
-                self.consume(6, 0);
+                self.consume(ENDIF_BYTES, 0);
                 None
             }
         }
@@ -213,7 +214,7 @@ fn elsif_len(argument: Option<Argument>) -> usize
     ensures { result ≡ elsif_len argument }
 {
     match argument {
-        None => 6,
+        None => ELSIF_BYTES,
         Some(Argument { stop, .. }) => stop,
     }
 }

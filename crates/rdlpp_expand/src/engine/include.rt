@@ -3,9 +3,9 @@ ghost use Rattle.std.specs.Prelude.{◌≡◌, ◌<◌, ◌≤◌, None, IfNone,
 ghost use Rattle.rdlpp_meaning.specs.Meaning.{unquoted};
 ghost use Rattle.rdlpp_read.specs.Buffer.{held_of};
 ghost use Rattle.rdlpp_read.specs.Files.{inner_buffer};
-ghost use Rattle.rdlpp_front.specs.Fronts.{HasString, IsGivenString};
+ghost use Rattle.rdlpp_front.specs.Fronts.{HasString, IsGivenString, include_name};
 ghost use Rattle.rdlpp_steps.specs.Held.{IsBounded};
-ghost use Rattle.rdlpp_steps.specs.Includes.{Sought, given_name, included_engine, is_bad_name, left_engine};
+ghost use Rattle.rdlpp_steps.specs.Includes.{Sought, included_engine, is_bad_name, left_engine};
 ghost use Rattle.rdlpp_steps.specs.Moves.{IsReady};
 ghost use Rattle.rdlpp_steps.specs.OpenConditionals.{inner_below};
 ghost use Rattle.rdlpp_steps.specs.Owed.{nothing_owed};
@@ -64,7 +64,7 @@ impl<S: Sources> Engine<S> {
         requires some { start < stop }
         requires inside { stop ≤ length (held_of (inner_buffer self.old.files.nest)) }
         ensures becomes { self.new ≡ record self.old { sources = self.new.sources } }
-        ensures sought { Sought S.Sources self.old (given_name (held_of (inner_buffer self.old.files.nest)) start stop) self.new.sources result }
+        ensures sought { Sought S.Sources self.old (include_name (held_of (inner_buffer self.old.files.nest)) start stop) self.new.sources result }
     {
         let file = self.files.file();
         let Some(name) = name_in(&file.buffer.held()[start..stop]) else {

@@ -13,6 +13,7 @@ ghost use Rattle.rdlpp_steps.specs.Pieces.{IsPlaced, step_answer};
 ghost use Rattle.rdlpp_steps.specs.Steps.{Walks};
 
 use super::Engine;
+use super::words::LINE_BYTES;
 use arrayvec::ArrayString;
 use rdlpp_meaning::FaultKind;
 use rdlpp_read::{GivenLine, given_line};
@@ -53,7 +54,7 @@ impl<S: Sources> Engine<S> {
         requires nothing { self.old.owed ≡ nothing_owed }
         ensures { Renumbers given self.old self.new }
     {
-        let len = 5 + given.stop;
+        let len = LINE_BYTES + given.stop;
         let buffer = &self.files.file().buffer;
         let lines = line_ends_in(&buffer.held()[..len]);
         let from = buffer.line() + 1;
@@ -78,5 +79,5 @@ fn line_argument(held: &[u8]) -> Option<GivenLine>
     requires { 5 ≤ length held.now }
     ensures { IsLineGiven result (drop 5 held.now) }
 {
-    given_line(&held[5..])
+    given_line(&held[LINE_BYTES..])
 }

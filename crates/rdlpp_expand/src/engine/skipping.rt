@@ -12,6 +12,7 @@ ghost use Rattle.rdlpp_steps.specs.Pieces.{IsPlaced, step_answer};
 ghost use Rattle.rdlpp_steps.specs.Steps.{Walks};
 
 use super::Engine;
+use super::words::{IFDEF_BYTES, IFNDEF_BYTES, INCLUDE_BYTES, UNDEF_BYTES};
 use arrayvec::ArrayString;
 use rdlpp_conditions::skip_text;
 use rdlpp_front::{Front, front_of};
@@ -61,8 +62,8 @@ impl<S: Sources> Engine<S> {
             Front::Line => self.skip_line(),
             Front::Refused(kind) => self.skip_refused(kind),
             Front::Usage(len) => self.skip_word(len),
-            Front::Undef(_) => self.skip_word(6),
-            Front::Include(_) => self.skip_word(8),
+            Front::Undef(_) => self.skip_word(UNDEF_BYTES),
+            Front::Include(_) => self.skip_word(INCLUDE_BYTES),
         }
     }
 
@@ -185,5 +186,5 @@ impl<S: Sources> Engine<S> {
 fn opening_len(defined: bool) -> usize
     ensures { result ≡ length (word_of (opening_word defined)) }
 {
-    if defined { 6 } else { 7 }
+    if defined { IFDEF_BYTES } else { IFNDEF_BYTES }
 }

@@ -2,7 +2,7 @@
 ghost use Rattle.std.specs.Prelude.{◌≡◌, ◌<◌, ◌≤◌, ◌^◌, true, length, None, Some, IfSome};
 ghost use Rattle.rdlpp_table.specs.Table.{macro_named};
 ghost use Rattle.rdlpp_table.specs.View.{macro_at};
-ghost use Rattle.rdlpp_meaning.specs.PlainMacros.{is_plain_macro};
+ghost use Rattle.rdlpp_meaning.specs.PlainMacros.{stands_for_body};
 ghost use Rattle.rdlpp_read.specs.Buffer.{held_of};
 ghost use Rattle.rdlpp_read.specs.Files.{inner_buffer};
 ghost use Rattle.rdlpp_front.specs.Fronts.{IsUsage, usage_name};
@@ -68,7 +68,7 @@ impl<S: Sources> Engine<S> {
         requires usage { IsUsage (held_of (inner_buffer self.old.files.nest)) len }
         requires inside { id < length self.old.table.macros }
         requires named { macro_named self.old.table.macros (usage_name (held_of (inner_buffer self.old.files.nest)) len) ≡ Some (macro_at self.old.table.macros id) }
-        requires plain { is_plain_macro (macro_at self.old.table.macros id) ≡ true }
+        requires plain { stands_for_body (macro_at self.old.table.macros id) ≡ true }
         ensures place { IsPlaced self.new result }
         ensures walks { IsBounded self.new → Walks S.Sources self.old self.new (lent_answer self.new result) }
     {
@@ -132,7 +132,7 @@ fn name_of(held: &[u8], len: usize) -> &[u8]
 // Whether a usage of a macro stands for its body as it lies: without a list of formals, a usage or a lone backquote.
 fn is_plain(table: &Table, id: MacroId) -> bool
     requires { id < length table.now.macros }
-    ensures { result ≡ is_plain_macro (macro_at table.now.macros id) }
+    ensures { result ≡ stands_for_body (macro_at table.now.macros id) }
 {
     table.arity(id).is_none() && table.is_copied(id)
 }

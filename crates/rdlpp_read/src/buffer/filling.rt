@@ -61,6 +61,27 @@ impl<R: Drop> SourceBuffer<R> {
     }
 }
 
+/// Fills the buffer with at least one whole line within the limits, where no byte is held, or tells
+/// why there is none: the end of the text, a line that breaks it, or a read that failed, after which
+/// nothing is lost. Reads only where no byte is held.
+///
+/// # Rules
+///
+/// A line has at most as many bytes as the buffer, with its LF, and all lines of a source together at
+/// most as many as it was opened with; the last line needs no LF (this project's profile).
+pub fn fill_buffer<S: Sources>(buffer: &mut SourceBuffer<S::Reader>, sources: &mut S) -> Fill
+    requires { EndsHeld buffer.old }
+    ensures ends { EndsHeld buffer.new }
+    ensures fills { Fills (S.tells sources.old) S.unread result buffer.old buffer.new }
+    ensures call { SourcesRead S.Sources (is_failed result) sources.old sources.new }
+{
+    if buffer.at < buffer.accepted {
+        return Fill::Held;
+    }
+    buffer.compact();
+    take_lines(buffer, sources)
+}
+
 // Fills the room of bytes with zeros, up to `len` bytes, in the memory that is reserved for them.
 fn fill_room(bytes: &mut Vec<u8>, len: usize)
     requires inside { vec_len bytes.old ≤ len }
@@ -194,25 +215,4 @@ pub(super) fn take_lines<S: Sources>(buffer: &mut SourceBuffer<S::Reader>, sourc
             return fill;
         }
     }
-}
-
-/// Fills the buffer with at least one whole line within the limits, where no byte is held, or tells
-/// why there is none: the end of the text, a line that breaks it, or a read that failed, after which
-/// nothing is lost. Reads only where no byte is held.
-///
-/// # Rules
-///
-/// A line has at most as many bytes as the buffer, with its LF, and all lines of a source together at
-/// most as many as it was opened with; the last line needs no LF (this project's profile).
-pub fn fill_buffer<S: Sources>(buffer: &mut SourceBuffer<S::Reader>, sources: &mut S) -> Fill
-    requires { EndsHeld buffer.old }
-    ensures ends { EndsHeld buffer.new }
-    ensures fills { Fills (S.tells sources.old) S.unread result buffer.old buffer.new }
-    ensures call { SourcesRead S.Sources (is_failed result) sources.old sources.new }
-{
-    if buffer.at < buffer.accepted {
-        return Fill::Held;
-    }
-    buffer.compact();
-    take_lines(buffer, sources)
 }

@@ -3,8 +3,9 @@ use Rattle.std.proofs.lemmas.List.{length-take-le}
 use Rattle.rdlpp_scan.specs.SourceTokens.{line_ends}
 use Rattle.rdlpp_read.specs.Buffer.{held_of}
 use Rattle.rdlpp_read.specs.Files.{inner_buffer}
+use Rattle.rdlpp_read.proofs.Slices.{line_ends_le}
 use Rattle.rdlpp_front.proofs.Insides.{text_inside}
-use Rattle.rdlpp_steps.proofs.FrontSteps.{entered_at, entered_holds, line_ends-le, room_of, take_text, text_placed}
+use Rattle.rdlpp_steps.proofs.FrontSteps.{entered_at, entered_holds, room_of, take_text, text_placed}
 use Rattle.rdlpp_expand.proofs.engine.Engine.lend_text.Goals as goal
 
 pub slice_bounds-line_ends_in-end : goal.slice_bounds-line_ends_in-end
@@ -22,7 +23,7 @@ pub consume-start-requires-clause-lines : goal.consume-start-requires-clause-lin
 consume-start-requires-clause-lines g c =
     let held : c.held.result.now ≡ held_of (inner_buffer c.args.self.now.files.nest) = c.held.ensures.value ∙ ap held_of (c.file.ensures.buffer ∙ ap (λ e. inner_buffer e.files.nest) c.self.view_is) in
     let few : length (take c.args.len c.held.result.now) ≡ c.args.len = length-take-le c.args.len c.held.result.now (rw held ((text_inside _ _ _ _ c.requires.some c.requires.text).1)) in
-    let most = line_ends-le (take c.args.len c.held.result.now) in
+    let most = line_ends_le (take c.args.len c.held.result.now) in
     let count = c.line_ends_in-lines.ensures in
     omega arith
 

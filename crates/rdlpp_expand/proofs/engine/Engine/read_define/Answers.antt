@@ -4,16 +4,17 @@ use Rattle.rdlpp_scan.specs.SourceTokens.{line_ends}
 use Rattle.rdlpp_table.specs.Define.{Accepted, Refused, define_of, observed}
 use Rattle.rdlpp_read.specs.Buffer.{held_of}
 use Rattle.rdlpp_read.specs.Files.{inner_buffer}
+use Rattle.rdlpp_read.proofs.Slices.{line_ends_le}
 use Rattle.rdlpp_steps.specs.Moves.{define_rest}
 use Rattle.rdlpp_steps.specs.Owed.{OwedView, nothing_owed}
-use Rattle.rdlpp_steps.proofs.FrontSteps.{behind_word, defined_same, defines_by, line_ends-le, owing, reads_refused}
+use Rattle.rdlpp_steps.proofs.FrontSteps.{behind_word, defined_same, defines_by, owing, reads_refused}
 use Rattle.rdlpp_expand.proofs.engine.Engine.read_define.Goals as goal
 
 pub consume-requires-clause-lines : goal.consume-requires-clause-lines
 consume-requires-clause-lines g c =
     let held : c.held.result.now ≡ held_of (inner_buffer c.args.self.now.files.nest) = c.held.ensures.value ∙ ap held_of (c.file.ensures.buffer ∙ ap (λ e. inner_buffer e.files.nest) c.self.view_is) in
     let few : length (take c.args.len c.held.result.now) ≡ c.args.len = length-take-le c.args.len c.held.result.now (rw held c.requires.inside) in
-    let most = line_ends-le (take c.args.len c.held.result.now) in
+    let most = line_ends_le (take c.args.len c.held.result.now) in
     let count = c.line_ends_in-lines.ensures in
     omega arith
 

@@ -1,8 +1,8 @@
 use Rattle.std.proofs.Common.{◌≡◌, ap, ◌∙◌, refl, arith}
 use Rattle.rdlpp_read.specs.Buffer.{held_of, reading_line_of}
 use Rattle.rdlpp_read.specs.Files.{inner_buffer}
+use Rattle.rdlpp_read.proofs.Slices.{line_ends_le}
 use Rattle.rdlpp_steps.proofs.Soundness.{inner_facts}
-use Rattle.rdlpp_steps.proofs.FrontSteps.{line_ends-le}
 use Rattle.rdlpp_steps.proofs.WorkFacts.{held_room}
 use Rattle.rdlpp_expand.proofs.engine.Engine.refuse_read.Goals as goal
 
@@ -12,7 +12,7 @@ refuse_at-requires-clause-line g c =
     let b = inner_buffer c.self.inside.files.nest in
     let counts = (inner_facts c.self.inside.files (rw (← c.self.view_is) at c.requires) c.facts.ensures).buffer.counts in
     let line : c.reading_line-line.result ≡ reading_line_of b = c.reading_line-line.ensures ∙ ap reading_line_of c.file.ensures.buffer in
-    let most = line_ends-le (held_of b) in
+    let most = line_ends_le (held_of b) in
     let room = held_room b in
     omega arith
 

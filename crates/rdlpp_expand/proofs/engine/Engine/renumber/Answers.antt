@@ -3,8 +3,9 @@ use Rattle.std.proofs.lemmas.List.{length-take-le}
 use Rattle.rdlpp_scan.specs.SourceTokens.{line_ends}
 use Rattle.rdlpp_read.specs.Buffer.{held_of}
 use Rattle.rdlpp_read.specs.Files.{inner_buffer}
+use Rattle.rdlpp_read.proofs.Slices.{line_ends_le}
 use Rattle.rdlpp_steps.specs.Owed.{OwedView, nothing_owed, origin_owed}
-use Rattle.rdlpp_steps.proofs.FrontSteps.{line_ends-le, owing}
+use Rattle.rdlpp_steps.proofs.FrontSteps.{owing}
 use Rattle.rdlpp_steps.proofs.LineSteps.{renumbers_by}
 use Rattle.rdlpp_expand.proofs.engine.Engine.renumber.Goals as goal
 
@@ -13,7 +14,7 @@ consume-requires-clause-lines g c =
     let len = 5 + c.args.given.stop in
     let held : c.held.result.now ≡ held_of (inner_buffer c.args.self.now.files.nest) = c.held.ensures.value ∙ ap held_of (c.file.ensures.buffer ∙ ap (λ e. inner_buffer e.files.nest) c.self.view_is) in
     let few : length (take len c.held.result.now) ≡ len = length-take-le len c.held.result.now (rw held c.requires.inside) in
-    let most = line_ends-le (take len c.held.result.now) in
+    let most = line_ends_le (take len c.held.result.now) in
     let count = c.line_ends_in-lines.ensures in
     omega arith
 

@@ -1,7 +1,8 @@
 use Rattle.std.proofs.Common.{◌≡◌, ◌<◌, Ok, Err, false, length, sym, ap, ◌∙◌}
+use Rattle.rdlpp_front.specs.Fronts.{include_name}
 use Rattle.rdlpp_read.specs.Buffer.{held_of}
 use Rattle.rdlpp_read.specs.Files.{inner_buffer}
-use Rattle.rdlpp_steps.specs.Includes.{Refuses, given_name, inner_path, is_bad_name}
+use Rattle.rdlpp_steps.specs.Includes.{Refuses, inner_path, is_bad_name}
 use Rattle.rdlpp_steps.proofs.EnterSteps.{searches_by}
 use Rattle.rdlpp_expand.proofs.engine.Engine.seek.Goals as goal
 use Rattle.rdlpp_expand.proofs.engine.Engine.seek.Goals.{in-Ok, in-Err}
@@ -10,9 +11,9 @@ pub returns-clause-sought : goal.returns-clause-sought
 returns-clause-sought g c =
     let nest = c.self.inside.files.nest in
     let held : c.held.result.now ≡ held_of (inner_buffer nest) = c.held.ensures.value ∙ ap held_of c.file-file.ensures.buffer in
-    let name = given_name (held_of (inner_buffer nest)) c.args.start c.args.stop in
-    let same : c.in-Some.name.now ≡ name = c.in-Some.ensures.name.0 ∙ ap (λ h. given_name h c.args.start c.args.stop) held in
-    let good : is_bad_name name ≡ false = ap (λ h. is_bad_name (given_name h c.args.start c.args.stop)) (sym held) ∙ c.in-Some.ensures.name.1 in
+    let name = include_name (held_of (inner_buffer nest)) c.args.start c.args.stop in
+    let same : c.in-Some.name.now ≡ name = c.in-Some.ensures.name.0 ∙ ap (λ h. include_name h c.args.start c.args.stop) held in
+    let good : is_bad_name name ≡ false = ap (λ h. is_bad_name (include_name h c.args.start c.args.stop)) (sym held) ∙ c.in-Some.ensures.name.1 in
     let path : c.as_str.result.now ≡ inner_path nest = c.as_str.ensures.value ∙ sym (ap inner_path c.file-file.ensures.inner) in
     let room : length nest < c.self.inside.files.slots = c.is_full.ensures.room c.if-is_full.false in
     elim c.match-find.branch [

@@ -4,9 +4,10 @@ use Rattle.rdlpp_scan.specs.SourceTokens.{line_ends}
 use Rattle.rdlpp_meaning.specs.declared.fault.FaultKind.TheVariants as fault
 use Rattle.rdlpp_read.specs.Buffer.{held_of}
 use Rattle.rdlpp_read.specs.Files.{inner_buffer}
+use Rattle.rdlpp_read.proofs.Slices.{line_ends_le}
 use Rattle.rdlpp_front.proofs.DefineLeft.{define_inside}
 use Rattle.rdlpp_steps.proofs.EngineSteps.{called}
-use Rattle.rdlpp_steps.proofs.FrontSteps.{IsRead, fails_reading, held_few, left_unheld, line_ends-le, line_kind, opened_phase, refuses, slid, source_kind}
+use Rattle.rdlpp_steps.proofs.FrontSteps.{IsRead, fails_reading, held_few, left_unheld, line_kind, opened_phase, refuses, slid, source_kind}
 use Rattle.rdlpp_steps.proofs.PassSteps.{define_steps, left_cut, left_long, skipping}
 use Rattle.rdlpp_expand.proofs.engine.Engine.skip_define.Goals as goal
 
@@ -27,7 +28,7 @@ pass-requires-clause-lines g c =
     let same = c.file.ensures.buffer ∙ ap (λ e. inner_buffer e.files.nest) c.self.view_is in
     let held : c.held.result.now ≡ held_of (inner_buffer c.hold_line.new.self.files.nest) = c.held.ensures.value ∙ ap held_of same in
     let few : length (take c.in-Whole.len c.held.result.now) ≡ c.in-Whole.len = length-take-le c.in-Whole.len c.held.result.now (rw held (c.in-Whole.ensures.holds.has.0)) in
-    let most = line_ends-le (take c.in-Whole.len c.held.result.now) in
+    let most = line_ends_le (take c.in-Whole.len c.held.result.now) in
     let count = c.line_ends_in-lines.ensures in
     omega arith
 

@@ -4,7 +4,8 @@ use Rattle.rdlpp_scan.specs.SourceTokens.{line_ends}
 use Rattle.rdlpp_conditions.specs.SkippedText.{IsPassed}
 use Rattle.rdlpp_read.specs.Buffer.{held_of}
 use Rattle.rdlpp_read.specs.Files.{inner_buffer}
-use Rattle.rdlpp_steps.proofs.FrontSteps.{entered_holds, line_ends-le}
+use Rattle.rdlpp_read.proofs.Slices.{line_ends_le}
+use Rattle.rdlpp_steps.proofs.FrontSteps.{entered_holds}
 use Rattle.rdlpp_steps.proofs.PassSteps.{skipping, stretch_steps}
 use Rattle.rdlpp_expand.proofs.engine.Engine.skip_front.Goals as goal
 
@@ -21,7 +22,7 @@ pass-requires-clause-inside g c =
 pub pass-requires-clause-lines : goal.pass-requires-clause-lines
 pass-requires-clause-lines g c =
     let few = length-take-le c.skip_text-stretch.result.len c.held.result.now c.skip_text-stretch.ensures.inside in
-    let most = line_ends-le (take c.skip_text-stretch.result.len c.held.result.now) in
+    let most = line_ends_le (take c.skip_text-stretch.result.len c.held.result.now) in
     let count = c.skip_text-stretch.ensures.line_ends in
     omega arith
 

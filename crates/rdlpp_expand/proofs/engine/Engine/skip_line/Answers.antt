@@ -3,7 +3,7 @@ use Rattle.std.proofs.lemmas.List.{length-take-le}
 use Rattle.rdlpp_scan.specs.SourceTokens.{line_ends, line_len}
 use Rattle.rdlpp_read.specs.Buffer.{held_of}
 use Rattle.rdlpp_read.specs.Files.{inner_buffer}
-use Rattle.rdlpp_steps.proofs.FrontSteps.{line_ends-le}
+use Rattle.rdlpp_read.proofs.Slices.{line_ends_le}
 use Rattle.rdlpp_steps.proofs.PassSteps.{line_steps, skipping}
 use Rattle.rdlpp_expand.proofs.engine.Engine.skip_line.Goals as goal
 
@@ -15,7 +15,7 @@ pass-requires-clause-inside g c =
 pub pass-requires-clause-lines : goal.pass-requires-clause-lines
 pass-requires-clause-lines g c =
     let few = length-take-le c.line_len-len.result c.held-held.result.now c.line_len-len.ensures.inside in
-    let most = line_ends-le (take c.line_len-len.result c.held-held.result.now) in
+    let most = line_ends_le (take c.line_len-len.result c.held-held.result.now) in
     let count = c.line_ends_in-lines.ensures in
     omega arith
 

@@ -1,4 +1,4 @@
--- Laws in the subject's own words: plain text is its own output; an included text stands between what is before and behind its directive.
+-- Plain text is its own output; an included text stands between what is before and behind its `include`.
 use Rattle.std.proofs.Common.{◌≡◌, ℕ, suc, ◌||◌, Bool, true, false, List, [], ◌∷◌, ◌++◌, length, refl, sym, ap, subst, ◌∙◌, inl, arith, None, Some, append-nil}
 use Rattle.std.specs.Prelude.{All, ◌==◌, not}
 use Rattle.std.specs.Str.{is_utf8}
