@@ -70,10 +70,7 @@ impl OwedPiece {
     pub fn cut(self, len: usize) -> Self
         ensures { result ≡ cut_to self len }
     {
-        OwedPiece {
-            part: self.part,
-            len,
-        }
+        OwedPiece { len, ..self }
     }
 }
 

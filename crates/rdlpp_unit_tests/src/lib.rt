@@ -1,5 +1,5 @@
 //! Tests of the crates below the engine, each by its public items: tokens, lines, the macro table, sources, calls,
-//! conditionals, open texts, open sources, arguments and fronts.
+//! conditionals, open texts, open sources, arguments, fronts, and what an engine owes.
 #![tactic(auto)]
 
 #[cfg(test)]
@@ -24,5 +24,7 @@ mod read_tests;
 mod scan_tests;
 #[cfg(test)]
 mod source_tests;
+#[cfg(test)]
+mod steps_tests;
 #[cfg(test)]
 mod table_tests;
