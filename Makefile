@@ -18,9 +18,10 @@ test: ## the gate (every proof from nothing, the must-fail edits, the tests, the
 	@rt ci
 	@$(MAKE) --silent check
 
-check: ## build the program and run it over files, streams, examples and refused command lines
+check: ## build the program and run it over files, streams, examples, refused command lines and refused memory
 	@$(MAKE) --silent build
 	@$(MAKE) --silent c
+	@cd crates/rdlpp_refusals && rt run < stdin > /dev/null
 	@checks/all
 
 c: ## prove and build the library for C, which becomes out/librdlpp_c.a, and out/librdlpp_c.so where there is a C compiler

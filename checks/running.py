@@ -63,6 +63,11 @@ class Tally:
         ]
         self.hold(name, not parts, "".join(parts))
 
+    def add(self, other):
+        """Counts what another one counted."""
+        self.passed += other.passed
+        self.failed += other.failed
+
     def close(self):
         """Prints the counts as the last line, and ends with status 1 where a check failed."""
         print(f"{self.name}: {self.passed} passed, {self.failed} failed")

@@ -1,0 +1,100 @@
+//! Parts of the library that ask for memory when they are made.
+use rdlpp::{Folders, Limits, Texts, UsageFault, parse_words};
+use rdlpp_expand::{Engine, NewFault};
+use rdlpp_table::Table;
+use std::fmt::{self, Display, Formatter, Write};
+
+/// What came of a part.
+#[derive(Clone, Copy)]
+pub enum Answer {
+    /// It was made.
+    Made,
+    /// There was no memory for it.
+    NoMemory,
+    /// It was refused for another reason.
+    Another,
+}
+
+impl Display for Answer {
+    fn fmt<W: Write>(&self, f: &mut Formatter<W>) -> fmt::Result {
+        f.write_str(match self {
+            Answer::Made => "made",
+            Answer::NoMemory => "no memory",
+            Answer::Another => "another fault",
+        })
+    }
+}
+
+/// The standard limits, with so many includes.
+pub fn limits_of(includes: usize) -> Limits {
+    Limits {
+        includes,
+        ..Limits::standard()
+    }
+}
+
+/// Makes the part of this name, and lets it go.
+pub fn make(rt: &HostRuntime, part: &str, includes: usize) -> Answer {
+    match part {
+        "nothing" => Answer::Made,
+        "table" => make_table(rt, includes),
+        "engine" => make_engine(rt, includes),
+        "folders" => make_folders(rt),
+        "words" => read_words(rt),
+        _ => Answer::Another,
+    }
+}
+
+// Makes a table.
+fn make_table(rt: &HostRuntime, includes: usize) -> Answer {
+    let limits = limits_of(includes);
+    if limits.check().is_err() {
+        return Answer::Another;
+    }
+    match Table::new(rt.alloc(), &limits) {
+        Ok(_table) => Answer::Made,
+        Err(_) => Answer::NoMemory,
+    }
+}
+
+// Makes an engine over no sources.
+fn make_engine(rt: &HostRuntime, includes: usize) -> Answer {
+    let texts = Texts {
+        files: &[],
+        folders: &[],
+    };
+    match Engine::new(rt.alloc(), limits_of(includes), texts, false) {
+        Ok(_engine) => Answer::Made,
+        Err(NewFault::NoMemory) => Answer::NoMemory,
+        Err(NewFault::BadLimits(_)) => Answer::Another,
+    }
+}
+
+// Makes sources over files, with two include folders.
+fn make_folders(rt: &HostRuntime) -> Answer {
+    match Folders::new(rt, rt.alloc(), &["inc", "more/"]) {
+        Ok(_folders) => Answer::Made,
+        Err(_) => Answer::NoMemory,
+    }
+}
+
+// Reads the words of a command line.
+fn read_words(rt: &HostRuntime) -> Answer {
+    let words = [
+        "rdlpp",
+        "-D",
+        "W=8",
+        "-I",
+        "inc",
+        "--max-depth",
+        "4",
+        "-o",
+        "out",
+        "a.rdl",
+    ];
+    match parse_words(rt.alloc(), &words) {
+        Ok(_invocation) => Answer::Made,
+        Err(UsageFault::NoMemory) => Answer::NoMemory,
+        Err(_) => Answer::Another,
+    }
+}
