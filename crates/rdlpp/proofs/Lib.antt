@@ -2,3 +2,4 @@ pub mod Givings
 pub mod FreshRuns
 pub mod Reports
 pub mod Searches
+pub mod Openings

@@ -4,3 +4,4 @@ pub mod Definitions
 pub mod Preprocess
 pub mod Answers
 pub mod Folders
+pub mod Opening

@@ -1,1 +1,2 @@
 pub mod RunFacts
+pub mod Readings

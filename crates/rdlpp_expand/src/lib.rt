@@ -2,9 +2,11 @@
 #![tactic(auto)]
 
 mod engine;
+mod reading;
 mod writing;
 
 pub use engine::Engine;
 pub use rdlpp_meaning::{Fault, FaultKind, laws};
 pub use rdlpp_steps::{Held, NewFault, Piece, fault_kind};
+pub use reading::{ReadEnd, ReadPart, Reading};
 pub use writing::{RunFault, run};

@@ -1,0 +1,86 @@
+-- Outputs that are read into buffers of a caller's.
+-- A definition that names no source is this project's own.
+use Rattle.std.specs.Prelude.{◌≡◌, ℕ, ◌≤◌, false, List, [], ◌++◌, length, take, drop, Option, None, Some, Ok}
+use Rattle.rdlpp_source.specs.declared.sources.Sources.{Ghosts}
+use Rattle.rdlpp_meaning.specs.Outcome.{Told, Outcome, gives, fails, and_then}
+use Rattle.rdlpp_steps.specs.Calls.{SourcesCalled}
+use Rattle.rdlpp_steps.specs.Engine.{EngineView}
+use Rattle.rdlpp_steps.specs.Pieces.{IsPlaced, bytes_at}
+use Rattle.rdlpp_steps.specs.Remaining.{left_of}
+use Rattle.rdlpp_steps.specs.Steps.{Steps, IsStarted, is_call_failed, is_memory_kind, is_read_failed}
+use Rattle.rdlpp_steps.specs.declared.place.Place.{Place}
+use Rattle.rdlpp_expand.specs.Run.{Begins, Finishes, Going, Stops, StopsAt, is_fresh}
+use Rattle.rdlpp_expand.specs.declared.reading.ReadEnd.{ReadEnd}
+use Rattle.rdlpp_expand.specs.declared.reading.ReadEnd.TheVariants.{Finished, Stopped}
+
+-- the bytes of a piece, and none where there is no piece
+abbrev pub bytes_or : Option (List ℕ) → List ℕ
+bytes_or None = []
+bytes_or (Some bytes) = bytes
+
+-- what is left of the piece at a place, of which so many bytes were given
+abbrev pub rest_at : {S R : Type 0} → EngineView S R → Place → ℕ → List ℕ
+rest_at e place given = drop given (bytes_or (bytes_at e place))
+
+-- an engine that was started, and a piece of it of which so many bytes were given
+pub record IsHeldAt {S R : Type 0} (e : EngineView S R) (place : Place) (given : ℕ) : Type 0 where
+  pub placed : IsPlaced e place
+  pub started : IsStarted e
+  pub inside : given ≤ length (bytes_or (bytes_at e place))
+
+-- a reading: its engine, and what is left of the piece that was lent last
+pub record ReadingView (S R : Type 0) : Type 0 where
+  pub engine : EngineView S R
+  pub rest : List ℕ
+
+-- what remains of the output: what is left of the piece, and then what remains before the engine (this project's profile)
+unfoldable pub reading_left : {S R : Type 0} → Ghosts S R → ReadingView S R → Outcome
+reading_left g r = and_then (gives r.rest) (left_of g r.engine)
+
+-- a step to the next piece, or to the end, or to a fault
+abbrev pub Turns : {S R : Type 0} → Ghosts S R → EngineView S R → EngineView S R → List ℕ → Option ReadEnd → Type 0
+Turns g old new rest None = Steps g old new (Ok (Some rest))
+Turns g old new rest (Some Finished) = Steps g old new (Ok None) × (rest ≡ [])
+Turns g old new rest (Some Stopped) = StopsAt g old new rest
+
+-- how far the engine went on by the bytes that it lent, by how the output ended
+abbrev pub LentEnds : {S R : Type 0} → Ghosts S R → EngineView S R → EngineView S R → List ℕ → Option ReadEnd → Type 0
+LentEnds g old new lent None = Going g old new lent
+LentEnds g old new lent (Some Finished) = Finishes g old new lent
+LentEnds g old new lent (Some Stopped) = Stops g old new lent
+
+-- the fault that a read ended with, if it did: the one that the engine keeps
+abbrev pub ended_with : Option ReadEnd → Option Told → Option Told
+ended_with None kept = None
+ended_with (Some Finished) kept = None
+ended_with (Some Stopped) kept = kept
+
+-- a read into a buffer: what is given, and then what is left of the piece, is what was left of the piece and then what the engine lent; the
+-- bytes of the buffer behind it stay; it ends where the buffer is full, or with the output, of which nothing is left then; and the
+-- counts of the sources' failures (this project's profile)
+pub record Fills {S R : Type 0} (g : Ghosts S R) (old new : ReadingView S R) (before after : List ℕ) (len : ℕ) (ending : Option ReadEnd) : Type 0 where
+  pub lent : List ℕ
+  pub inside : len ≤ length before
+  pub given : take len after ++ new.rest ≡ old.rest ++ lent
+  pub behind : drop len after ≡ drop len before
+  pub full : ending ≡ None → len ≡ length before
+  pub used : (e : ReadEnd) → ending ≡ Some e → new.rest ≡ []
+  pub ends : LentEnds g old.engine new.engine lent ending
+  pub reads : SourcesCalled g (is_fresh is_read_failed old.engine.kept (ended_with ending new.engine.kept)) (is_fresh is_memory_kind old.engine.kept (ended_with ending new.engine.kept)) old.engine.sources new.engine.sources
+  pub limits : new.engine.limits ≡ old.engine.limits
+  pub origins : new.engine.origins ≡ old.engine.origins
+  pub main : new.engine.main ≡ old.engine.main
+
+-- bytes of an output that a fault ended: its first ones; and all of them, and the fault its end, unless a device failed or memory was
+-- refused in this call (this project's profile)
+pub record LeavesFault {S R : Type 0} (g : Ghosts S R) (old new : ReadingView S R) (bytes : List ℕ) : Type 0 where
+  pub fault : Told
+  pub kept : new.engine.kept ≡ Some fault
+  pub begins : Begins bytes (reading_left g old)
+  pub exact : is_fresh is_call_failed old.engine.kept (Some fault) ≡ false → reading_left g old ≡ and_then (gives bytes) (fails fault)
+
+-- what remained of the output is the given bytes and then what remains; or they are all of it; or all before its fault
+abbrev pub Leaves : {S R : Type 0} → Ghosts S R → ReadingView S R → ReadingView S R → List ℕ → Option ReadEnd → Type 0
+Leaves g old new bytes None = reading_left g old ≡ and_then (gives bytes) (reading_left g new)
+Leaves g old new bytes (Some Finished) = reading_left g old ≡ gives bytes
+Leaves g old new bytes (Some Stopped) = LeavesFault g old new bytes

@@ -1,0 +1,138 @@
+// Readings: the output, read into buffers of a caller's.
+ghost use Rattle.std.specs.Prelude.{◌≡◌, ◌+◌, ◌-◌, ◌≤◌, ◌++◌, [], length, min, take, drop};
+ghost use Rattle.std.specs.Option.{option_map};
+ghost use Rattle.rdlpp_meaning.specs.Outcome.{told};
+ghost use Rattle.rdlpp_steps.specs.Held.{IsBounded, held_told};
+ghost use Rattle.rdlpp_steps.specs.Steps.{IsStarted};
+ghost use Rattle.rdlpp_expand.specs.Reading.{Fills, Leaves, Turns};
+
+use crate::engine::Engine;
+use rdlpp_meaning::Fault;
+use rdlpp_source::Sources;
+use rdlpp_steps::{Held, Piece, Place};
+use std::marker::Model;
+
+/// How an output ended.
+#[derive(Clone, Copy, Debug, PartialEq, Eq)]
+pub enum ReadEnd {
+    /// It is whole.
+    Finished,
+    /// The engine keeps the fault that ended it.
+    Stopped,
+}
+
+/// What a read gave: how many bytes, and how the output ended with them, if it did.
+#[derive(Clone, Copy, Debug, PartialEq, Eq)]
+pub struct ReadPart {
+    /// How many bytes of the buffer were written.
+    pub len: usize,
+    /// How the output ended; nothing where the buffer is full and more may follow.
+    pub ending: Option<ReadEnd>,
+}
+
+/// An output that is read into buffers of a caller's, however large its pieces are: what doesn't fit
+/// stays where the engine holds it, and the next read begins there.
+#[derive(Drop)]
+pub struct Reading<S: Sources> {
+    engine: Engine<S>,
+    // where the piece stands that was lent last
+    place: Place,
+    // how many bytes of it were given
+    given: usize,
+}
+
+impl<S: Sources> Model for Reading<S> {
+    ghost use Rattle.rdlpp_expand.specs.Reading.{IsHeldAt, ReadingView, rest_at};
+
+    ghost Value = { ReadingView S S.Reader };
+
+    ghost view = { λ r. record { engine = r.engine; rest = rest_at r.engine r.place r.given } };
+
+    ghost invariant = { λ r. IsHeldAt r.engine r.place r.given };
+}
+
+impl<S: Sources> Reading<S> {
+    /// The output of an engine, which must have been started, from where it stands.
+    pub fn of(engine: Engine<S>) -> Reading<S>
+        requires { IsStarted engine }
+        ensures { result ≡ record { engine = engine; rest = [] } }
+    {
+        Reading {
+            engine,
+            place: Place::End,
+            given: 0,
+        }
+    }
+
+    /// What the engine holds.
+    pub fn held(&self) -> Held
+        ensures value { result ≡ held_told self.now.engine }
+        ensures bounded { IsBounded self.now.engine }
+    {
+        self.engine.held()
+    }
+
+    /// The fault that the engine keeps, if it does.
+    pub fn fault(&self) -> Option<Fault>
+        ensures { option_map told result ≡ self.now.engine.kept }
+    {
+        self.engine.kept_fault()
+    }
+
+    /// Writes the next bytes of the output to the front of a buffer, until it is full or the output
+    /// ends.
+    ///
+    /// The bytes behind them stay. After the end, and after a fault, every later read answers the
+    /// same again with no bytes.
+    pub fn read(&mut self, out: &mut [u8]) -> ReadPart
+        ensures fills { Fills S.Sources self.old self.new out.old out.new result.len result.ending }
+        ensures left { S.Sources.tells self.old.engine.sources → Leaves S.Sources self.old self.new (take result.len out.new) result.ending }
+    {
+        let mut len = 0;
+        loop {
+            len += self.give(out, len);
+            if len == out.len() {
+                return ReadPart { len, ending: None };
+            }
+            if let Some(ending) = self.turn() {
+                return ReadPart {
+                    len,
+                    ending: Some(ending),
+                };
+            }
+        }
+    }
+
+    // Writes what is left of the piece to a buffer, from a place on, as much as there is room for.
+    fn give(&mut self, out: &mut [u8], from: usize) -> usize
+        requires { from ≤ length out.old }
+        ensures engine { self.new ≡ record self.old { rest = drop result self.old.rest } }
+        ensures len { result ≡ min (length self.old.rest) (length out.old - from) }
+        ensures out { out.new ≡ take from out.old ++ take result self.old.rest ++ drop (from + result) out.old }
+    {
+        match self.engine.answer(self.place) {
+            Ok(Piece::Bytes(piece)) => {
+                let rest = &piece[self.given..];
+                let len = rest.len().min(out.len() - from);
+                out[from..from + len].copy_from_slice(&rest[..len]);
+                self.given += len;
+                len
+            }
+            Ok(Piece::Done) => 0,
+            Err(_) => 0,
+        }
+    }
+
+    // Goes on to the next piece.
+    fn turn(&mut self) -> Option<ReadEnd>
+        ensures { Turns S.Sources self.old.engine self.new.engine self.new.rest result }
+    {
+        self.given = 0;
+        self.place = self.engine.advance();
+        match self.engine.answer(self.place) {
+            Ok(Piece::Bytes(_)) => None,
+            Ok(Piece::Done) => Some(ReadEnd::Finished),
+            Err(_) => Some(ReadEnd::Stopped),
+        }
+    }
+}

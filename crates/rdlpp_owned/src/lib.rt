@@ -1,0 +1,6 @@
+//! Sources in memory that own their texts.
+#![tactic(auto)]
+
+mod owned;
+
+pub use owned::{OwnedReader, OwnedText, OwnedTexts};
