@@ -16,6 +16,8 @@ use Rattle.rdlpp_expand.specs.Reading.{Fills, Leaves, reading_left}
 use Rattle.rdlpp_expand.specs.declared.reading.ReadEnd.{ReadEnd}
 use Rattle.rdlpp_expand.specs.declared.reading.ReadEnd.TheVariants.{Finished, Stopped as StoppedRead}
 use Rattle.rdlpp.specs.Preprocess.{output_of}
+use Rattle.rdlpp.specs.declared.fault.PrepFault.{PrepFault}
+use Rattle.rdlpp.specs.declared.fault.PrepFault.TheVariants.{BadLimits, Run, NoMemory as NoneLeft}
 use Rattle.rdlpp.specs.declared.options.Options.{Options}
 use Rattle.rdlpp_c.specs.Front.{overwritten}
 use Rattle.rdlpp_c.specs.Request.{Asked, AreUtf8, definition_bytes, definition_given, text_given}
@@ -34,6 +36,12 @@ boxed b = b.value
 abbrev pub boxed_answer : Result (Box Stream Global) Answer → Result Stream Answer
 boxed_answer (Ok b) = Ok b.value
 boxed_answer (Err answer) = Err answer
+
+-- what a refused opening is answered by
+abbrev pub refused_answer : PrepFault → Answer
+refused_answer (BadLimits fault) = BadLimit fault
+refused_answer NoneLeft = NoMemory
+refused_answer (Run run) = Stopped run
 
 -- what sources in memory that own their texts answer
 abbrev pub owned_sources : Ghosts OwnedTexts (List ℕ)

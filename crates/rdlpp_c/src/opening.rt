@@ -3,7 +3,7 @@ ghost use Rattle.std.specs.Prelude.{◌≡◌, IsUtf8, map, MatchResult};
 ghost use Rattle.std.specs.List.{All};
 ghost use Rattle.std.specs.String.{string_bytes};
 ghost use Rattle.rdlpp_c.specs.Request.{AreUtf8, definition_given, requested, text_given};
-ghost use Rattle.rdlpp_c.specs.Streaming.{AreOwned, OpensStream, boxed_answer, owned_bytes};
+ghost use Rattle.rdlpp_c.specs.Streaming.{AreOwned, OpensStream, boxed_answer, owned_bytes, refused_answer};
 ghost use Rattle.rdlpp_c.specs.declared.asking.Refusal.TheVariants.{BadText, NoMemory};
 
 use crate::arrays::{Folder, Text};
@@ -101,6 +101,17 @@ fn owned_of<'a>(alloc: Global, request: &Request<'a>) -> Result<Owned<'a>, Refus
     })
 }
 
+// What a refused opening is answered by.
+fn refused_answer(fault: PrepFault) -> Answer
+    ensures { result ≡ refused_answer fault }
+{
+    match fault {
+        PrepFault::BadLimits(limit) => Answer::BadLimit(limit),
+        PrepFault::NoMemory => Answer::NoMemory,
+        PrepFault::Run(run) => Answer::Stopped(run),
+    }
+}
+
 // Opens what is asked for.
 pub(crate) fn open_stream(alloc: Global, request: &Request<'_>) -> Result<Box<Stream>, Answer>
     ensures { OpensStream (requested request.now) (boxed_answer result) }
@@ -123,8 +134,6 @@ pub(crate) fn open_stream(alloc: Global, request: &Request<'_>) -> Result<Box<St
             Ok(stream) => Ok(stream),
             Err(_) => Err(Answer::NoMemory),
         },
-        Err(PrepFault::BadLimits(limit)) => Err(Answer::BadLimit(limit)),
-        Err(PrepFault::NoMemory) => Err(Answer::NoMemory),
-        Err(PrepFault::Run(run)) => Err(Answer::Stopped(run)),
+        Err(fault) => Err(refused_answer(fault)),
     }
 }

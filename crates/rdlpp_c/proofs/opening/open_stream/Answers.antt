@@ -1,7 +1,5 @@
-use Rattle.std.proofs.Common.{Err, subst}
-use Rattle.rdlpp.specs.Opening.{Opens}
-use Rattle.rdlpp_c.specs.Streaming.{owned_sources}
-use Rattle.rdlpp_c.proofs.Streams.{declined, streams}
+use Rattle.std.proofs.Common.{Err, ap}
+use Rattle.rdlpp_c.proofs.Streams.{refused, streams}
 use Rattle.rdlpp_c.proofs.opening.open_stream.Goals as goal
 
 pub returns-in-Ok-new : goal.returns-in-Ok-new
@@ -10,6 +8,4 @@ returns-in-Ok-new c =
 
 pub returns : goal.returns
 returns c =
-    let owned = c.in-Ok.owned in
-    let w = subst (λ fault. Opens owned_sources owned.options owned.sources owned.path.now (Err fault)) c.in-Err-Run.field-0-is c.in-Err-Run.ensures.opens in
-    (declined _ owned _ c.in-Ok.ensures c.in_default.ensures.value w.1, w.2)
+    refused _ c.in-Ok.owned _ _ c.in-Ok.ensures c.in_default.ensures.value c.in-Err-open_reading.ensures.opens (ap (λ x. Err x) c.refused_answer.ensures)

@@ -14,7 +14,7 @@ use contract.Monad.{fact, fact_i}
 use contract.Running.{tables}
 use denote.Exit.{yes}
 use denote.Param.{layout}
-use denote.RattleType.{RattleType, owns}
+use denote.RattleType.{owns}
 use denote.Signature.{types_at, plain}
 use denote.RawPtr.{null_ptr, ptr_val}
 use denote.Steps.{nothing}
