@@ -2,14 +2,15 @@
  * rdlpp.h: the preprocessor for SystemRDL as a library for C99 and C++.
  *
  * NAME
- *     rdlpp_preprocess, rdlpp_standard_limits, rdlpp_fault_text, rdlpp_version
+ *     rdlpp_preprocess, rdlpp_open, rdlpp_read, rdlpp_close, rdlpp_standard_limits, rdlpp_fault_text,
+ *     rdlpp_version
  *
  * LINKING
  *     librdlpp_c.a has all that is needed but the C library. `make c` makes it, and librdlpp_c.so.
  *
  * OWNERSHIP
  *     What a pointer leads to is lent for the call. The library keeps no pointer when a call returns,
- *     and nothing has to be freed. What a call takes by `const` it only reads. While a call runs,
+ *     and nothing has to be freed but what an open handle owns. What a call takes by `const` it only reads. While a call runs,
  *     nobody else writes what was lent, and nobody else reads the buffers that it writes; these lie
  *     apart from each other and from all that is lent by `const`.
  *
@@ -23,6 +24,13 @@
  *     as the buffer has room for; and its whole length is told. The bytes of the buffer behind them
  *     stay as they are.
  *
+ * HANDLES
+ *     A handle begins closed, as RDLPP_CLOSED_HANDLE makes it. rdlpp_open opens it, and what it then owns
+ *     is given back by rdlpp_close, by the next rdlpp_open of it, and by nothing else. A handle that is
+ *     closed may be read and closed again: the one is told as RDLPP_CLOSED, and the other does nothing.
+ *     Nobody changes what is in a handle, and of an open one nobody uses a copy: only the object that
+ *     was opened is passed on. A handle stays in the thread that opened it.
+ *
  * THREADS
  *     Calls share nothing, so they may run at once in several threads. They are not for signal handlers.
  *
@@ -30,7 +38,8 @@
  *     A call uses malloc, realloc and free, and gives all back before it returns. Beside lists as long as
  *     the arrays that were lent, and the definitions, it holds at most
  *     definition_bytes + argument_bytes + (includes + 1) * line_bytes bytes of text, tables of fixed size,
- *     and at most twice as many bytes as `out` has room for.
+ *     and at most twice as many bytes as `out` has room for. An open handle holds copies of the arrays that
+ *     were lent, and that same text and those tables; rdlpp_read asks for no memory.
  */
 #ifndef RDLPP_H
 #define RDLPP_H
@@ -86,16 +95,19 @@ enum {
     RDLPP_STOPPED = 1,   /* a fault of the text or of a definition ended the output */
     RDLPP_BAD_LIMIT = 2, /* a limit is out of its range; nothing was written */
     RDLPP_BAD_TEXT = 3,  /* a path, a name or a body isn't UTF-8; nothing was written */
-    RDLPP_NO_MEMORY = 4  /* memory was refused; nothing was written */
+    RDLPP_NO_MEMORY = 4, /* memory was refused; nothing was written */
+    RDLPP_MORE = 5,      /* rdlpp_read: the buffer is full, and more may follow */
+    RDLPP_CLOSED = 6     /* rdlpp_read: the handle is closed; nothing was written */
 };
 
 /* How a call ended, in numbers; each that isn't named for a status is 0 there. */
 typedef struct rdlpp_outcome {
-    uint32_t status;    /* one of the five above */
+    uint32_t status;    /* one of those above */
     uint32_t number;    /* RDLPP_STOPPED: the number of the fault, 1 to 35;
                            RDLPP_BAD_LIMIT: the place of the limit in rdlpp_limits, from 1 */
     uint64_t line;      /* RDLPP_STOPPED: the shown line, from 1; 0 where no line is meant */
-    uint64_t length;    /* RDLPP_WHOLE, RDLPP_STOPPED: how many bytes the output has */
+    uint64_t length;    /* RDLPP_WHOLE, RDLPP_STOPPED: how many bytes the output has;
+                           of rdlpp_read, also RDLPP_MORE: how many bytes it wrote */
     size_t name_length; /* RDLPP_STOPPED: how many bytes the shown name has, at most 1,024 */
     size_t word_length; /* RDLPP_STOPPED: how many bytes the word has that the fault is about,
                            at most 128; 0 where it is about none */
@@ -128,6 +140,51 @@ rdlpp_outcome rdlpp_preprocess(
     char *out, size_t out_length,
     char *name, size_t name_length,
     char *word, size_t word_length);
+
+/* An output that is open, or none. Its fields are the library's own. */
+typedef struct rdlpp_handle {
+    bool is_open;
+    void *at;
+} rdlpp_handle;
+
+/* A closed handle. */
+#define RDLPP_CLOSED_HANDLE {false, NULL}
+
+/*
+ * Opens the main text at `path`, so that its output is read piece by piece. All that is lent is copied.
+ *
+ * The parameters are those of rdlpp_preprocess, and so are the answers but for RDLPP_WHOLE, by which the
+ * handle is open; with every other one it is closed. RDLPP_STOPPED is the fault of a refused definition;
+ * a fault of the opening, as of a main text that isn't there, is told by the first rdlpp_read. A handle
+ * that is open is closed first.
+ */
+rdlpp_outcome rdlpp_open(
+    const rdlpp_limits *limits,
+    bool origins,
+    const rdlpp_text *texts, size_t texts_length,
+    const rdlpp_folder *folders, size_t folders_length,
+    const rdlpp_definition *definitions, size_t definitions_length,
+    const char *path, size_t path_length,
+    char *name, size_t name_length,
+    char *word, size_t word_length,
+    rdlpp_handle *handle);
+
+/*
+ * Writes the next bytes of the output to `out`, until it is full or the output ends. The bytes of `out`
+ * behind them stay. The bytes of all reads, in order, are the output of rdlpp_preprocess.
+ *
+ * The answer is RDLPP_MORE where `out` is full, RDLPP_WHOLE where the output ended, RDLPP_STOPPED where
+ * a fault ended it, and RDLPP_CLOSED where the handle is closed. After the end, and after a fault, each
+ * later read answers the same again with no bytes, unless `out` has the length 0, which is always full.
+ */
+rdlpp_outcome rdlpp_read(
+    rdlpp_handle *handle,
+    char *out, size_t out_length,
+    char *name, size_t name_length,
+    char *word, size_t word_length);
+
+/* Closes a handle: what it owns is given back. A closed one stays closed. */
+void rdlpp_close(rdlpp_handle *handle);
 
 /* The standard limits. */
 rdlpp_limits rdlpp_standard_limits(void);

@@ -55,27 +55,52 @@ static rdlpp_outcome call(char *out, size_t room)
                             none, 0, none, 0);
 }
 
-int main(void)
+/* Opens, reads to the end and closes. */
+static rdlpp_outcome read_all(char *out, size_t room)
+{
+    const rdlpp_limits limits = rdlpp_standard_limits();
+    const rdlpp_text texts[] = {{"m", 1, "reg[`W];\n", 9}, {"i", 1, "q", 1}};
+    const rdlpp_folder folders[] = {{"inc", 3}, {"more", 4}};
+    const rdlpp_definition definitions[] = {{"W", 1, "8", 1}, {"V", 1, "9", 1}};
+    rdlpp_handle handle = RDLPP_CLOSED_HANDLE;
+    char none[1] = {'#'};
+    rdlpp_outcome outcome = rdlpp_open(&limits, false, texts, 2, folders, 2, definitions, 2, "m", 1,
+                                       none, 0, none, 0, &handle);
+    if (outcome.status == RDLPP_WHOLE) {
+        granted = 0;
+        outcome = rdlpp_read(&handle, out, room, none, 0, none, 0);
+    }
+    rdlpp_close(&handle);
+    return outcome;
+}
+
+/* Refuses each allocation of one way in turn, and answers how many there were; -1 where something was wrong. */
+static long refuse_each(rdlpp_outcome (*way)(char *, size_t))
 {
     long refused = 0;
     for (;;) {
         char out[16] = "###############";
         rdlpp_outcome outcome;
         granted = refused;
-        outcome = call(out, sizeof out);
+        outcome = way(out, sizeof out);
         granted = -1;
         if (blocks != 0) {
             fprintf(stderr, "refusals.c: %ld blocks kept where allocation %ld is refused\n", blocks, refused);
-            return EXIT_FAILURE;
+            return -1;
         }
         if (outcome.status == RDLPP_WHOLE) {
             break;
         }
         if (outcome.status != RDLPP_NO_MEMORY || outcome.length != 0 || out[0] != '#') {
             fprintf(stderr, "refusals.c: status %u where allocation %ld is refused\n", outcome.status, refused);
-            return EXIT_FAILURE;
+            return -1;
         }
         refused += 1;
     }
-    return refused > 8 ? EXIT_SUCCESS : EXIT_FAILURE;
+    return refused;
+}
+
+int main(void)
+{
+    return refuse_each(call) > 8 && refuse_each(read_all) > 8 ? EXIT_SUCCESS : EXIT_FAILURE;
 }

@@ -4,7 +4,7 @@ import ctypes
 import os
 import pathlib
 
-WHOLE, STOPPED, BAD_LIMIT, BAD_TEXT, NO_MEMORY = range(5)
+WHOLE, STOPPED, BAD_LIMIT, BAD_TEXT, NO_MEMORY, MORE, CLOSED = range(7)
 NAME_ROOM = 1024
 WORD_ROOM = 128
 TEXT_ROOM = 64
@@ -51,22 +51,33 @@ class Outcome(ctypes.Structure):
     ]
 
 
+class Handle(ctypes.Structure):
+    """`rdlpp_handle`."""
+
+    _fields_ = [("is_open", ctypes.c_bool), ("at", ctypes.c_void_p)]
+
+
 _FILE = os.environ.get("RDLPP_LIBRARY") or str(pathlib.Path(__file__).with_name("librdlpp_c.so"))
 _library = ctypes.CDLL(_FILE)
 _buffer = (ctypes.c_void_p, ctypes.c_size_t)
 
-_library.rdlpp_preprocess.restype = Outcome
-_library.rdlpp_preprocess.argtypes = [
+_asked = [
     ctypes.POINTER(GivenLimits),
     ctypes.c_bool,
     *(ctypes.POINTER(Pair), ctypes.c_size_t),
     *(ctypes.POINTER(Folder), ctypes.c_size_t),
     *(ctypes.POINTER(Pair), ctypes.c_size_t),
     *(ctypes.c_char_p, ctypes.c_size_t),
-    *_buffer,
-    *_buffer,
-    *_buffer,
 ]
+
+_library.rdlpp_preprocess.restype = Outcome
+_library.rdlpp_preprocess.argtypes = [*_asked, *_buffer, *_buffer, *_buffer]
+_library.rdlpp_open.restype = Outcome
+_library.rdlpp_open.argtypes = [*_asked, *_buffer, *_buffer, ctypes.POINTER(Handle)]
+_library.rdlpp_read.restype = Outcome
+_library.rdlpp_read.argtypes = [ctypes.POINTER(Handle), *_buffer, *_buffer, *_buffer]
+_library.rdlpp_close.restype = None
+_library.rdlpp_close.argtypes = [ctypes.POINTER(Handle)]
 _library.rdlpp_standard_limits.restype = GivenLimits
 _library.rdlpp_standard_limits.argtypes = []
 _library.rdlpp_fault_text.restype = ctypes.c_size_t
@@ -87,21 +98,48 @@ def _place(buffer):
     return ctypes.addressof((ctypes.c_char * len(buffer)).from_buffer(buffer))
 
 
-def call(limits, origins, texts, folders, definitions, path, room):
-    """Calls `rdlpp_preprocess` with lists of bytes; answers its outcome, output, name and word."""
-    out, name, word = bytearray(room + 1), bytearray(NAME_ROOM), bytearray(WORD_ROOM)
-    outcome = _library.rdlpp_preprocess(
+def _given(limits, origins, texts, folders, definitions, path):
+    """What is asked for, as a call takes it, from lists of bytes."""
+    return (
         ctypes.byref(limits),
         origins,
         *(_array(Pair, texts), len(texts)),
         *(_array(Folder, [(folder,) for folder in folders]), len(folders)),
         *(_array(Pair, definitions), len(definitions)),
         *(path, len(path)),
-        *(_place(out), room),
-        *(_place(name), NAME_ROOM),
-        *(_place(word), WORD_ROOM),
+    )
+
+
+def call(asked, room):
+    """Calls `rdlpp_preprocess` with lists of bytes; answers its outcome, output, name and word."""
+    out, name, word = bytearray(room + 1), bytearray(NAME_ROOM), bytearray(WORD_ROOM)
+    outcome = _library.rdlpp_preprocess(
+        *_given(*asked), _place(out), room, _place(name), NAME_ROOM, _place(word), WORD_ROOM
     )
     return outcome, out, bytes(name[: outcome.name_length]), bytes(word[: outcome.word_length])
+
+
+def open_handle(asked):
+    """Calls `rdlpp_open` with lists of bytes; answers its outcome, the handle, name and word."""
+    handle, name, word = Handle(), bytearray(NAME_ROOM), bytearray(WORD_ROOM)
+    outcome = _library.rdlpp_open(
+        *_given(*asked), _place(name), NAME_ROOM, _place(word), WORD_ROOM, ctypes.byref(handle)
+    )
+    return outcome, handle, bytes(name[: outcome.name_length]), bytes(word[: outcome.word_length])
+
+
+def read_handle(handle, out):
+    """Calls `rdlpp_read` with a buffer of some bytes; answers its outcome, name and word."""
+    name, word = bytearray(NAME_ROOM), bytearray(WORD_ROOM)
+    outcome = _library.rdlpp_read(
+        ctypes.byref(handle), _place(out), len(out), _place(name), NAME_ROOM, _place(word), WORD_ROOM
+    )
+    return outcome, bytes(name[: outcome.name_length]), bytes(word[: outcome.word_length])
+
+
+def close_handle(handle):
+    """Calls `rdlpp_close`."""
+    _library.rdlpp_close(ctypes.byref(handle))
 
 
 def standard_limits() -> GivenLimits:

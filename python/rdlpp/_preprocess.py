@@ -1,4 +1,4 @@
-"""Preprocessing as one call."""
+"""Preprocessing as one call, and what it shares with streams."""
 
 import os
 from dataclasses import fields
@@ -49,6 +49,40 @@ def _main_text(path: str, files: Optional[Mapping[str, bytes]]) -> Optional[byte
         return file.read()
 
 
+def asked_of(source, include_dirs, defines, limits, origins, files):
+    """What a call asks for, as lists of bytes, and what read its files."""
+    given = _limits(limits)
+    folders = [os.fspath(folder) for folder in include_dirs]
+    path, texts, read = _texts(source, folders, files)
+    asked = (
+        given,
+        origins,
+        texts,
+        [folder.encode() for folder in folders],
+        [(name.encode(), text.encode()) for name, text in (defines or {}).items()],
+        path.encode(),
+    )
+    return asked, read
+
+
+def raise_refusal(outcome) -> None:
+    """Raises the error of an outcome by which nothing was begun."""
+    if outcome.status == library.BAD_LIMIT:
+        raise LimitError(fields(Limits)[outcome.number - 1].name)
+    if outcome.status == library.BAD_TEXT:
+        raise UnicodeError("a path, a name or a body isn't UTF-8")
+    if outcome.status == library.NO_MEMORY:
+        raise MemoryError("memory was refused")
+
+
+def fault_of(outcome, name: bytes, word: bytes, output: bytes, read: Optional[Files]) -> Fault:
+    """The fault that an outcome tells, whose cause is the last file that couldn't be read."""
+    number = outcome.number
+    fault = Fault(number, name.decode(), outcome.line, word.decode(), library.fault_text(number), output)
+    fault.__cause__ = read.error if read else None
+    return fault
+
+
 def preprocess(
     source: Union[bytes, Path],
     include_dirs: Iterable[Path] = (),
@@ -75,36 +109,15 @@ def preprocess(
         UnicodeError: a path, a name or a body can't be written in UTF-8.
         MemoryError: memory was refused.
     """
-    given = _limits(limits)
-    folders = [os.fspath(folder) for folder in include_dirs]
-    path, texts, read = _texts(source, folders, files)
-    asked = (
-        given,
-        origins,
-        texts,
-        [folder.encode() for folder in folders],
-        [(name.encode(), text.encode()) for name, text in (defines or {}).items()],
-        path.encode(),
-    )
+    asked, read = asked_of(source, include_dirs, defines, limits, origins, files)
+    texts = asked[2]
     room = len(texts[0][1]) + 65_536 if texts else 0
-    outcome, out, name, word = library.call(*asked, room)
+    outcome, out, name, word = library.call(asked, room)
     if outcome.length > room:
         room = outcome.length
-        outcome, out, name, word = library.call(*asked, room)
-    return _answer(outcome, out, name, word, read)
-
-
-def _answer(outcome, out: bytearray, name: bytes, word: bytes, read: Optional[Files]) -> bytes:
-    """The output, or the error that an outcome tells."""
-    if outcome.status == library.BAD_LIMIT:
-        raise LimitError(fields(Limits)[outcome.number - 1].name)
-    if outcome.status == library.BAD_TEXT:
-        raise UnicodeError("a path, a name or a body isn't UTF-8")
-    if outcome.status == library.NO_MEMORY:
-        raise MemoryError("memory was refused")
+        outcome, out, name, word = library.call(asked, room)
+    raise_refusal(outcome)
     output = bytes(memoryview(out)[: outcome.length])
-    if outcome.status == library.WHOLE:
-        return output
-    number = outcome.number
-    texts = (name.decode(), outcome.line, word.decode(), library.fault_text(number))
-    raise Fault(number, *texts, output) from (read.error if read else None)
+    if outcome.status == library.STOPPED:
+        raise fault_of(outcome, name, word, output, read)
+    return output

@@ -1,3 +1,6 @@
 pub mod Fronts
 pub mod Outputs
 pub mod Tellings
+pub mod Values
+pub mod Slots
+pub mod Streams

@@ -3,3 +3,5 @@ pub mod Request
 pub mod Answer
 pub mod Telling
 pub mod Faults
+pub mod Kept
+pub mod Streaming

@@ -53,7 +53,7 @@ impl From<AllocError> for Refusal {
 }
 
 // Bytes as a text.
-fn text_of(bytes: &[u8]) -> Result<&str, Refusal>
+pub(crate) fn text_of(bytes: &[u8]) -> Result<&str, Refusal>
     ensures { MatchResult result (λ text. (text.now ≡ bytes.now) × IsUtf8 bytes.now)
         (λ refusal. (refusal ≡ BadText) × ¬ (IsUtf8 bytes.now)) }
 {
@@ -107,7 +107,7 @@ fn definition_of(alloc: Global, definition: &Definition<'_>) -> Result<(String, 
 }
 
 // The definitions.
-fn definitions_of(
+pub(crate) fn definitions_of(
     alloc: Global,
     definitions: &[Definition<'_>],
 ) -> Result<Vec<(String, String)>, Refusal>

@@ -7,10 +7,21 @@ mod asking;
 mod exports;
 mod faults;
 mod front;
+mod handle;
+mod loose;
+mod opening;
+mod slot;
+mod stream;
+mod streaming;
 mod telling;
 #[cfg(test)]
 mod tests;
 
 pub use arrays::{Definition, Folder, Limits, Text};
 pub use exports::{rdlpp_fault_text, rdlpp_preprocess, rdlpp_standard_limits, rdlpp_version};
+pub use handle::Handle;
+pub use loose::Loose;
+pub use slot::Slot;
+pub use stream::Stream;
+pub use streaming::{rdlpp_close, rdlpp_open, rdlpp_read};
 pub use telling::Outcome;

@@ -8,10 +8,10 @@ use crate::front::Front;
 use rdlpp::{LimitFault, RunFault};
 
 // The output is whole.
-const WHOLE: u32 = 0;
+pub(crate) const WHOLE: u32 = 0;
 
 // A fault ended the output.
-const STOPPED: u32 = 1;
+pub(crate) const STOPPED: u32 = 1;
 
 // A limit is out of its range.
 const BAD_LIMIT: u32 = 2;
@@ -22,19 +22,27 @@ const BAD_TEXT: u32 = 3;
 // Memory was refused.
 const NO_MEMORY: u32 = 4;
 
+// The buffer is full, and more may follow.
+pub(crate) const MORE: u32 = 5;
+
+// The handle is closed.
+pub(crate) const CLOSED: u32 = 6;
+
 /// How a call ended, in numbers.
 #[repr(C)]
 #[derive(Clone, Copy, Debug, PartialEq, Eq)]
 pub struct Outcome {
     /// 0: the output is whole; 1: a fault ended it; 2: a limit is out of its range; 3: a path, a name
-    /// or a body isn't UTF-8; 4: memory was refused.
+    /// or a body isn't UTF-8; 4: memory was refused; 5: the buffer is full, and more may follow; 6: the
+    /// handle is closed.
     pub status: u32,
     /// Of status 1 the number of the fault, of 2 the place of the limit among the fields, from 1;
     /// else 0.
     pub number: u32,
     /// Of status 1 the shown line of the fault, which may be 0; else 0.
     pub line: u64,
-    /// Of status 0 and 1 how many bytes the output has, `u64::MAX` where they are more; else 0.
+    /// Of status 0 and 1 how many bytes the output has, `u64::MAX` where they are more; of a read with
+    /// status 0, 1 and 5 how many bytes it wrote; else 0.
     pub length: u64,
     /// Of status 1 how many bytes the shown name has; else 0.
     pub name_length: usize,
@@ -43,7 +51,7 @@ pub struct Outcome {
 }
 
 // An outcome of a status and a number alone.
-fn numbered(status: u32, number: u32) -> Outcome
+pub(crate) fn numbered(status: u32, number: u32) -> Outcome
     ensures { result ≡ numbered status number }
 {
     Outcome {

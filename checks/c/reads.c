@@ -1,0 +1,143 @@
+/* Outputs that are read piece by piece from C: every size of a buffer, faults, handles that are closed. */
+#include "rdlpp.h"
+
+#include <stdio.h>
+#include <stdlib.h>
+#include <string.h>
+
+#define ROOM 64
+
+static int failures = 0;
+
+static void check(int holds, const char *what)
+{
+    if (!holds) {
+        fprintf(stderr, "reads.c: not so: %s\n", what);
+        failures += 1;
+    }
+}
+
+/* What reads of a handle told: all bytes of the output, and how it ended. */
+struct read {
+    rdlpp_outcome outcome;
+    char out[ROOM];
+    size_t length;
+    char name[ROOM];
+    char word[ROOM];
+};
+
+static rdlpp_outcome open_text(rdlpp_handle *handle, const char *source, const char *definition)
+{
+    const rdlpp_limits limits = rdlpp_standard_limits();
+    char *copy = malloc(strlen(source) + 1);
+    rdlpp_text texts[] = {{"m", 1, NULL, 0}, {"inc/i", 5, "q", 1}};
+    const rdlpp_folder folders[] = {{"inc", 3}};
+    const rdlpp_definition definitions[] = {{definition, strlen(definition), "8", 1}};
+    char none[1] = {'#'};
+    rdlpp_outcome outcome;
+    strcpy(copy, source);
+    texts[0].text = copy;
+    texts[0].text_length = strlen(source);
+    outcome = rdlpp_open(&limits, false, texts, 2, folders, 1, definitions, 1, "m", 1, none, 0, none, 0, handle);
+    memset(copy, '?', strlen(source));
+    free(copy);
+    return outcome;
+}
+
+/* Reads to the end with a buffer of so many bytes, behind which there are marks. */
+static struct read read_all(rdlpp_handle *handle, size_t room)
+{
+    struct read read;
+    memset(&read, '#', sizeof read);
+    read.length = 0;
+    do {
+        char out[ROOM];
+        memset(out, '#', sizeof out);
+        read.outcome = rdlpp_read(handle, out, room, read.name, ROOM, read.word, ROOM);
+        check(read.outcome.length <= room && out[read.outcome.length] == '#', "nothing is written behind the bytes");
+        check(read.outcome.status != RDLPP_MORE || read.outcome.length == room, "more follows a full buffer alone");
+        memcpy(read.out + read.length, out, read.outcome.length);
+        read.length += read.outcome.length;
+    } while (read.outcome.status == RDLPP_MORE);
+    return read;
+}
+
+static void reads_in_pieces(void)
+{
+    size_t room;
+    for (room = 1; room < 40; room += 1) {
+        rdlpp_handle handle = RDLPP_CLOSED_HANDLE;
+        struct read read;
+        check(open_text(&handle, "`define A(x) <x>\n`A(long body)`include \"i\"\n`W\n", "W").status == RDLPP_WHOLE, "it opens");
+        read = read_all(&handle, room);
+        check(read.outcome.status == RDLPP_WHOLE, "the output is whole");
+        check(read.length == 17 && memcmp(read.out, "\n<long body>q\n\n8\n", 17) == 0, "the output in pieces");
+        read = read_all(&handle, room);
+        check(read.outcome.status == RDLPP_WHOLE && read.length == 0, "the end is told again");
+        rdlpp_close(&handle);
+    }
+}
+
+static void tells_a_fault(void)
+{
+    rdlpp_handle handle = RDLPP_CLOSED_HANDLE;
+    struct read read;
+    check(open_text(&handle, "a\n`line 10 \"v.rdl\" 0\n`Unknown", "W").status == RDLPP_WHOLE, "it opens");
+    read = read_all(&handle, 2);
+    check(read.outcome.status == RDLPP_STOPPED && read.outcome.number == 7 && read.outcome.line == 10, "the fault");
+    check(read.length == 3 && memcmp(read.out, "a\n\n", 3) == 0, "the output before it");
+    check(read.outcome.name_length == 5 && memcmp(read.name, "v.rdl#", 6) == 0, "its shown name");
+    check(read.outcome.word_length == 7 && memcmp(read.word, "Unknown#", 8) == 0, "its word");
+    read = read_all(&handle, 2);
+    check(read.outcome.status == RDLPP_STOPPED && read.outcome.number == 7 && read.length == 0, "it is told again");
+    rdlpp_close(&handle);
+}
+
+static void refuses_to_open(void)
+{
+    rdlpp_handle handle = RDLPP_CLOSED_HANDLE;
+    rdlpp_limits limits = rdlpp_standard_limits();
+    rdlpp_outcome outcome;
+    struct read read;
+    const rdlpp_text texts[] = {{"n", 1, "a", 1}};
+    const rdlpp_folder folders[] = {{"", 0}};
+    const rdlpp_definition definitions[] = {{"", 0, "", 0}};
+    char none[1] = {'#'};
+    check(open_text(&handle, "a", "1x").number == 15, "a refused definition");
+    check(read_all(&handle, 4).outcome.status == RDLPP_CLOSED, "the handle is closed then");
+    check(open_text(&handle, "a", "\xff").status == RDLPP_BAD_TEXT, "a name that isn't UTF-8");
+    limits.depth = 0;
+    outcome = rdlpp_open(&limits, false, texts, 1, folders, 0, definitions, 0, "n", 1, none, 0, none, 0, &handle);
+    check(outcome.status == RDLPP_BAD_LIMIT && outcome.number == 1, "a limit out of its range");
+    limits.depth = 1;
+    outcome = rdlpp_open(&limits, false, texts, 1, folders, 0, definitions, 0, "o", 1, none, 0, none, 0, &handle);
+    check(outcome.status == RDLPP_WHOLE, "a main text that isn't there is told by the first read");
+    read = read_all(&handle, 4);
+    check(read.outcome.status == RDLPP_STOPPED && read.outcome.number == 28 && read.length == 0, "no main text");
+    rdlpp_close(&handle);
+}
+
+static void closes(void)
+{
+    rdlpp_handle handle = RDLPP_CLOSED_HANDLE;
+    char none[1] = {'#'};
+    rdlpp_close(&handle);
+    check(rdlpp_read(&handle, none, 1, none, 0, none, 0).status == RDLPP_CLOSED, "a handle that was never opened");
+    check(open_text(&handle, "abc", "W").status == RDLPP_WHOLE, "it opens");
+    check(rdlpp_read(&handle, none, 0, none, 0, none, 0).status == RDLPP_MORE, "a buffer of length 0 is full");
+    check(rdlpp_read(&handle, none, 1, none, 0, none, 0).status == RDLPP_MORE && none[0] == 'a', "the first byte");
+    check(open_text(&handle, "xyz", "W").status == RDLPP_WHOLE, "it opens again");
+    check(rdlpp_read(&handle, none, 1, none, 0, none, 0).status == RDLPP_MORE && none[0] == 'x', "another first byte");
+    rdlpp_close(&handle);
+    rdlpp_close(&handle);
+    check(rdlpp_read(&handle, none, 1, none, 0, none, 0).status == RDLPP_CLOSED && none[0] == 'x', "it is closed");
+}
+
+int main(void)
+{
+    reads_in_pieces();
+    tells_a_fault();
+    refuses_to_open();
+    closes();
+    return failures == 0 ? EXIT_SUCCESS : EXIT_FAILURE;
+}

@@ -1,0 +1,139 @@
+// How an output is opened: the lists that a call asks for, as sources that own their texts.
+ghost use Rattle.std.specs.Prelude.{◌≡◌, IsUtf8, map, MatchResult};
+ghost use Rattle.std.specs.List.{All};
+ghost use Rattle.std.specs.String.{string_bytes};
+ghost use Rattle.rdlpp_c.specs.Request.{AreUtf8, definition_given, requested, text_given};
+ghost use Rattle.rdlpp_c.specs.Streaming.{AreOwned, OpensStream, boxed_answer, owned_bytes, refused_answer};
+ghost use Rattle.rdlpp_c.specs.declared.asking.Refusal.TheVariants.{BadText, NoMemory};
+
+use crate::arrays::{Folder, Text};
+use crate::asking::{Answer, Refusal, Request, definitions_of, text_of};
+use crate::stream::Stream;
+use rdlpp::{Options, PrepFault, open_reading};
+use rdlpp_owned::{OwnedText, OwnedTexts};
+use std::alloc::Global;
+use std::rc::Rc;
+
+// One source, with its own text.
+fn owned_text(alloc: Global, text: &Text<'_>) -> Result<OwnedText, Refusal>
+    ensures { MatchResult result (λ made. owned_bytes made ≡ text_given text.now)
+        (λ refusal. refusal ≡ BadText → ¬ (IsUtf8 text.now.path.now)) }
+{
+    let path = String::from_str(alloc, text_of(text.path)?)?;
+    let mut bytes = Vec::new(alloc);
+    if bytes.extend_from_slice(text.text).is_err() {
+        return Err(Refusal::NoMemory);
+    }
+    match Rc::new(alloc, bytes) {
+        Ok(text) => Ok(OwnedText { path, text }),
+        Err(_) => Err(Refusal::NoMemory),
+    }
+}
+
+// The sources.
+fn owned_files(alloc: Global, texts: &[Text<'_>]) -> Result<Vec<OwnedText>, Refusal>
+    ensures { MatchResult result (λ files. map owned_bytes files.items ≡ map text_given texts.now)
+        (λ refusal. refusal ≡ BadText → ¬ (All (λ text. IsUtf8 text.path.now) texts.now)) }
+{
+    let mut files = Vec::new(alloc);
+    for text in texts {
+        let file = owned_text(alloc, text)?;
+        if files.push(file).is_err() {
+            return Err(Refusal::NoMemory);
+        }
+    }
+    Ok(files)
+}
+
+// One include folder.
+fn owned_folder(alloc: Global, folder: &Folder<'_>) -> Result<String, Refusal>
+    ensures { MatchResult result (λ made. string_bytes made ≡ folder.now.path.now)
+        (λ refusal. refusal ≡ BadText → ¬ (IsUtf8 folder.now.path.now)) }
+{
+    Ok(String::from_str(alloc, text_of(folder.path)?)?)
+}
+
+// The include folders.
+fn owned_folders(alloc: Global, folders: &[Folder<'_>]) -> Result<Vec<String>, Refusal>
+    ensures { MatchResult result (λ paths. map string_bytes paths.items ≡ map (λ folder. folder.path.now) folders.now)
+        (λ refusal. refusal ≡ BadText → ¬ (All (λ folder. IsUtf8 folder.path.now) folders.now)) }
+{
+    let mut paths = Vec::new(alloc);
+    for folder in folders {
+        let path = owned_folder(alloc, folder)?;
+        if paths.push(path).is_err() {
+            return Err(Refusal::NoMemory);
+        }
+    }
+    Ok(paths)
+}
+
+// What an output is opened over.
+#[derive(Drop)]
+struct Owned<'a> {
+    sources: OwnedTexts,
+    options: Options,
+    path: &'a str,
+}
+
+// What a request asks for, with texts of its own.
+fn owned_of<'a>(alloc: Global, request: &Request<'a>) -> Result<Owned<'a>, Refusal>
+    ensures { MatchResult result (AreOwned (requested request.now))
+        (λ refusal. refusal ≡ BadText → ¬ (AreUtf8 (requested request.now))) }
+{
+    let path = text_of(request.path)?;
+    let files = owned_files(alloc, request.texts)?;
+    let folders = owned_folders(alloc, request.folders)?;
+    let options = Options {
+        defines: definitions_of(alloc, request.definitions)?,
+        limits: request.limits,
+        origins: request.origins,
+    };
+    let sources = OwnedTexts {
+        files,
+        folders,
+        refusals: 0,
+    };
+    Ok(Owned {
+        sources,
+        options,
+        path,
+    })
+}
+
+// What a refused opening is answered by.
+fn refused_answer(fault: PrepFault) -> Answer
+    ensures { result ≡ refused_answer fault }
+{
+    match fault {
+        PrepFault::BadLimits(limit) => Answer::BadLimit(limit),
+        PrepFault::NoMemory => Answer::NoMemory,
+        PrepFault::Run(run) => Answer::Stopped(run),
+    }
+}
+
+// Opens what is asked for.
+pub(crate) fn open_stream(alloc: Global, request: &Request<'_>) -> Result<Box<Stream>, Answer>
+    ensures { OpensStream (requested request.now) (boxed_answer result) }
+{
+    if let Err(limit) = request.limits.check() {
+        return Err(Answer::BadLimit(limit));
+    }
+    let owned = match owned_of(alloc, request) {
+        Ok(owned) => owned,
+        Err(Refusal::BadText) => return Err(Answer::BadText),
+        Err(Refusal::NoMemory) => return Err(Answer::NoMemory),
+    };
+    let Owned {
+        sources,
+        options,
+        path,
+    } = owned;
+    match open_reading(alloc, &options, sources, path) {
+        Ok(reading) => match Box::new(alloc, Stream { reading }) {
+            Ok(stream) => Ok(stream),
+            Err(_) => Err(Answer::NoMemory),
+        },
+        Err(fault) => Err(refused_answer(fault)),
+    }
+}

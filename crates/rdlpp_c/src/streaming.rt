@@ -1,0 +1,85 @@
+// The calls that a program in C makes to read an output piece by piece.
+ghost use Rattle.std.specs.Prelude.{◌≡◌, None};
+ghost use Rattle.rdlpp_c.specs.Request.{limits_of};
+ghost use Rattle.rdlpp_c.specs.Streaming.{Opens, Reads};
+
+use crate::arrays::{Definition, Folder, Limits, Text, limits_of};
+use crate::asking::Request;
+use crate::handle::{Handle, put, take};
+use crate::opening::open_stream;
+use crate::stream::read_stream;
+use crate::telling::{CLOSED, Outcome, WHOLE, numbered, outcome_of, tell_fault};
+use std::alloc::Global;
+
+/// Opens the main text at `path` of sources in memory, which are copied, for reads by a handle (this
+/// project's profile).
+///
+/// What the handle owned before is closed. Where the output isn't opened the handle is closed then, and
+/// the answer is that of `rdlpp_preprocess`: a limit out of its range, bytes that aren't UTF-8, want of
+/// memory, or the fault of a definition. A fault of the opening is answered by the first read.
+#[unsafe(no_mangle)]
+pub extern "C" fn rdlpp_open(
+    alloc: Global,
+    limits: &Limits,
+    origins: bool,
+    texts: &[Text<'_>],
+    folders: &[Folder<'_>],
+    definitions: &[Definition<'_>],
+    path: &[u8],
+    name: &mut [u8],
+    word: &mut [u8],
+    handle: &mut Handle,
+) -> Outcome
+    ensures { Opens (record { limits = limits_of limits.now; origins = origins; texts = texts.now; folders = folders.now; definitions = definitions.now; path = path.now })
+        (record { name = name.old; word = word.old }) (record { name = name.new; word = word.new }) handle.new.slot.value result }
+{
+    let _before = take(alloc, handle);
+    let request = Request {
+        limits: limits_of(limits),
+        origins,
+        texts,
+        folders,
+        definitions,
+        path,
+    };
+    match open_stream(alloc, &request) {
+        Ok(stream) => {
+            put(handle, stream);
+            numbered(WHOLE, 0)
+        }
+        Err(answer) => {
+            tell_fault(&answer, name, word);
+            outcome_of(&answer)
+        }
+    }
+}
+
+/// Writes the next bytes of an output to `out`, until it is full or the output ends.
+///
+/// The shown name and the word of the fault that ended it are told as by `rdlpp_preprocess`. After the
+/// end, and after a fault, each later read answers the same again with no bytes. It asks for no memory.
+#[unsafe(no_mangle)]
+pub extern "C" fn rdlpp_read(
+    alloc: Global,
+    handle: &mut Handle,
+    out: &mut [u8],
+    name: &mut [u8],
+    word: &mut [u8],
+) -> Outcome
+    ensures { Reads (record { out = out.old; name = name.old; word = word.old }) (record { out = out.new; name = name.new; word = word.new }) handle.old.slot.value handle.new.slot.value result }
+{
+    let Some(mut stream) = take(alloc, handle) else {
+        return numbered(CLOSED, 0);
+    };
+    let outcome = read_stream(&mut stream, out, name, word);
+    put(handle, stream);
+    outcome
+}
+
+/// Closes a handle: all that it owns is given back. A closed one stays closed.
+#[unsafe(no_mangle)]
+pub extern "C" fn rdlpp_close(alloc: Global, handle: &mut Handle)
+    ensures { handle.new.slot.value ≡ None }
+{
+    let _closed = take(alloc, handle);
+}
