@@ -1,7 +1,11 @@
-// Each call once with ample memory.
+// Each call once with ample memory; what crosses to C by a handle is tested from C.
+use crate::arrays::limits_of;
+use crate::asking::Request;
+use crate::opening::open_stream;
 use crate::{
     Definition, Text, rdlpp_fault_text, rdlpp_preprocess, rdlpp_standard_limits, rdlpp_version,
 };
+use rdlpp::{FaultKind, ReadEnd, ReadPart};
 
 #[test]
 fn preprocesses_sources_in_memory(rt: HostRuntime) {
@@ -42,4 +46,52 @@ fn tells_texts(rt: HostRuntime) {
     assert_eq!(rt; rdlpp_version(&mut out), 5);
     assert!(rt; out == *b"0.1.0");
     assert_eq!(rt; rdlpp_standard_limits().depth, 256);
+}
+
+#[test]
+fn reads_an_output_in_pieces_over_texts_of_its_own(rt: HostRuntime) {
+    let texts = [
+        Text {
+            path: b"m",
+            text: b"`include \"i\"\n`Q",
+        },
+        Text {
+            path: b"i",
+            text: b"a`W",
+        },
+    ];
+    let definitions = [Definition {
+        name: b"W",
+        text: b"88",
+    }];
+    let request = Request {
+        limits: limits_of(&rdlpp_standard_limits()),
+        origins: false,
+        texts: &texts,
+        folders: &[],
+        definitions: &definitions,
+        path: b"m",
+    };
+    let Ok(mut stream) = open_stream(rt.alloc(), &request) else {
+        panic!(rt; "not opened");
+    };
+    assert_eq!(rt; stream.reading.held().definitions, 3);
+    let mut out = [b'#'; 4];
+    assert_eq!(rt;
+        stream.reading.read(&mut out),
+        ReadPart {
+            len: 4,
+            ending: None
+        }
+    );
+    assert!(rt; out == *b"a88\n" && stream.reading.fault().is_none());
+    let stopped = ReadPart {
+        len: 1,
+        ending: Some(ReadEnd::Stopped),
+    };
+    assert_eq!(rt; stream.reading.read(&mut out), stopped);
+    assert!(rt; out == *b"\n88\n");
+    assert!(rt;
+        matches!(stream.reading.fault(), Some(fault) if fault.kind == FaultKind::UndefinedMacro)
+    );
 }
