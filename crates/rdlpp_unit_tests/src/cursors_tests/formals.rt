@@ -40,9 +40,7 @@ fn an_actual_stands_in_a_body_and_a_default_for_an_empty_one(rt: HostRuntime) ->
     expect_step(&rt, &mut cursors, &table, CursorStep::Silent);
     expect_step(&rt, &mut cursors, &table, CursorStep::Silent);
     expect_step(&rt, &mut cursors, &table, lent(outer, 3, 4));
-    expect_step(&rt, &mut cursors, &table, CursorStep::Silent);
     expect_step(&rt, &mut cursors, &table, lent(inner, 1, 2));
-    expect_step(&rt, &mut cursors, &table, CursorStep::Silent);
     let default = TextPlace {
         source: TextSource::Default {
             id: inner,
@@ -52,7 +50,6 @@ fn an_actual_stands_in_a_body_and_a_default_for_an_empty_one(rt: HostRuntime) ->
         end: 1,
     };
     expect_step(&rt, &mut cursors, &table, CursorStep::Lends(default));
-    expect_step(&rt, &mut cursors, &table, CursorStep::Silent);
     expect_step(&rt, &mut cursors, &table, CursorStep::Silent);
     expect_step(&rt, &mut cursors, &table, lent(outer, 6, 7));
     expect_step(&rt, &mut cursors, &table, CursorStep::Silent);
