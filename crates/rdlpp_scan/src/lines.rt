@@ -77,6 +77,7 @@ pub fn logical_line(bytes: &[u8]) -> Option<usize>
 }
 
 // How many bytes stand before the first LF.
+#[inline(never)]
 pub(crate) fn before_line_end(bytes: &[u8]) -> usize
     ensures value { result ≡ prefix_len (λ x. not (is_line_end x)) bytes.now }
     ensures inside { result ≤ length bytes.now }

@@ -24,6 +24,7 @@ use memchr::{memchr3, memmem};
 /// each string and of each block comment joined, are the tokens of the text (`pieces`).
 ///
 /// Costs time linear in the token's length.
+#[inline]
 pub fn first_token(mode: Mode, bytes: &[u8]) -> Token
     requires { 0 < length bytes.now }
     ensures value { result ≡ token_of mode bytes.now }
@@ -51,6 +52,7 @@ fn ends_string(bytes: &[u8]) -> bool
 }
 
 // Where a string stops whose part here begins these bytes.
+#[inline(never)]
 fn string_stop(bytes: &[u8]) -> usize
     ensures value { result ≡ string_stop false bytes.now }
     ensures inside { result ≤ length bytes.now }
@@ -70,6 +72,7 @@ fn string_stop(bytes: &[u8]) -> usize
 }
 
 // Where the first `*/` begins, or the length.
+#[inline(never)]
 fn comment_stop(bytes: &[u8]) -> usize
     ensures value { result ≡ first_place ends_block_comment bytes.now }
     ensures inside { result ≤ length bytes.now }

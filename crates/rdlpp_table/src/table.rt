@@ -262,6 +262,7 @@ impl Table {
     /// default text with `<%` outside comments, or without an end); of its body
     /// (`EmbeddedPerl`, `OpenString`, `OpenComment`); of the room in the table without the old macro of that name
     /// (`DefinitionBytes`, `TooManyDefinitions`).
+    #[inline(never)]
     pub fn read_define(&mut self, rest: &[u8]) -> Result<(), DefineFault>
         requires line { IfSome (logical_len 0 0 rest.now) (λ n. n ≡ length rest.now) }
         ensures outcome { observed result self.new.macros ≡ define_of self.old.most_bytes self.old.most_macros self.old.macros rest.now }
@@ -282,6 +283,7 @@ impl Table {
     /// # Errors
     /// The first fault: of the name, which has to be one name as a whole, of the body, or of the room in the table.
     /// The table is unchanged then.
+    #[inline(never)]
     pub fn set(&mut self, name: &[u8], text: &[u8]) -> Result<(), DefineFault>
         ensures outcome { observed result self.new.macros ≡ set_of self.old.most_bytes self.old.most_macros self.old.macros name.now text.now }
         ensures refused { OnErr result (self.new ≡ self.old) }

@@ -23,6 +23,7 @@ use rdlpp_steps::{Phase, Place};
 
 impl<S: Sources> Engine<S> {
     // Takes an `include`, which is given a string or none, and lends nothing.
+    #[inline(never)]
     pub(super) fn take_include(&mut self, argument: Option<Argument>) -> Option<Place>
         requires ready { IsReady self.old }
         requires live { self.old.conditions.skipped ≡ None }
@@ -99,6 +100,7 @@ impl<S: Sources> Engine<S> {
     }
 
     // Leaves an included source, which has ended, and owes what is written behind it.
+    #[inline(never)]
     pub(super) fn leave(&mut self)
         requires open { self.old.phase ≡ Phase.Open }
         requires inner { 1 < length self.old.files.nest }

@@ -23,6 +23,7 @@ use rdlpp_steps::Place;
 
 impl<S: Sources> Engine<S> {
     // Takes the `line` with which the held bytes begin, and lends nothing; or refuses it.
+    #[inline(never)]
     pub(super) fn take_line(&mut self) -> Option<Place>
         requires ready { IsReady self.old }
         requires live { self.old.conditions.skipped ≡ None }

@@ -127,6 +127,7 @@ impl<S: Sources> Engine<S> {
     }
 
     // Passes the logical line of a `define` in skipped text.
+    #[inline(never)]
     fn skip_define(&mut self) -> Option<Place>
         requires ready { IsReady self.old }
         requires skipped { self.old.conditions.skipped ≢ None }
