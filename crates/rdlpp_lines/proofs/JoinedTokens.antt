@@ -175,11 +175,12 @@ letter_alike : is_letter 92 ≡ is_letter 10
 unfolding is_letter
 letter_alike = refl
 
-word_back : is_word 92 ≡ false
+-- neither a backslash nor LF is a word's byte
+pub word_back : is_word 92 ≡ false
 unfolding is_word is_letter is_digit
 word_back = refl
 
-word_line : is_word 10 ≡ false
+pub word_line : is_word 10 ≡ false
 unfolding is_word is_letter is_digit
 word_line = refl
 
