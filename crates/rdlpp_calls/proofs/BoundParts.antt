@@ -16,18 +16,6 @@ use Rattle.rdlpp_calls.specs.declared.parts.Part.{Part}
 use Rattle.rdlpp_calls.specs.CallParts.{AreFurther, IsNextPart}
 use Rattle.rdlpp_calls.specs.BoundCalls.{range_part, ranges_tokens, added, AreWithin, actuals_of}
 
--- a range of a range of a text is one of the text
-pub range_within : (text : List ℕ) (at to i j : ℕ) → i ≤ j → j ≤ to - at → slice_range (slice_range text at to) i j ≡ slice_range text (at + i) (at + j)
-range_within text at to i j low high =
-    let rest : List ℕ = drop at text in
-    let n : to - at ≡ i + ((to - at) - i) = omega (arith, low, high) in
-    let size : (at + j) - (at + i) ≡ j - i = omega arith in
-    ap (λ (k : ℕ). take (j - i) (drop i (take k rest))) n
-    ∙ ap (λ (xs : List ℕ). take (j - i) xs) (drop-take i ((to - at) - i) rest)
-    ∙ take-take (j - i) ((to - at) - i) (drop i rest) (omega (arith, low, high))
-    ∙ ap (λ (xs : List ℕ). take (j - i) xs) (drop-drop i at text)
-    ∙ ap (λ (k : ℕ). take k (drop (at + i) text)) (sym size)
-
 -- what is left of a range of a text behind a place in it is a range too
 pub range_behind : (text : List ℕ) (at to i : ℕ) → i ≤ to - at → drop i (slice_range text at to) ≡ slice_range text (at + i) to
 range_behind text at to i inside =
@@ -38,6 +26,14 @@ range_behind text at to i inside =
     ∙ drop-take i ((to - at) - i) rest
     ∙ ap (λ (xs : List ℕ). take ((to - at) - i) xs) (drop-drop i at text)
     ∙ ap (λ (k : ℕ). take k (drop (at + i) text)) size
+
+-- a range of a range of a text is one of the text
+pub range_within : (text : List ℕ) (at to i j : ℕ) → i ≤ j → j ≤ to - at → slice_range (slice_range text at to) i j ≡ slice_range text (at + i) (at + j)
+range_within text at to i j low high =
+    let size : (at + j) - (at + i) ≡ j - i = omega arith in
+    ap (take (j - i)) (range_behind text at to i (omega (arith, low, high)))
+    ∙ take-take (j - i) (to - (at + i)) (drop (at + i) text) (omega (arith, low, high))
+    ∙ ap (λ (k : ℕ). take k (drop (at + i) text)) (sym size)
 
 -- how long a range of a text is
 pub range_size : (text : List ℕ) (at to : ℕ) → to ≤ length text → length (slice_range text at to) ≡ to - at
@@ -53,10 +49,6 @@ pub record HasBound (text : List ℕ) (from to count : ℕ) (others : List (List
   pub within : AreWithin from to ranges
   pub tokens : actuals_of (slice_range text from to) ≡ ranges_tokens text ranges ++ others
   pub many : length ranges ≡ count
-
--- before the first is bound
-pub bound_none : (text : List ℕ) (from to : ℕ) (old : List Range) → HasBound text from to 0 (actuals_of (slice_range text from to)) old old
-bound_none text from to old = record { ranges = []; whole = sym (append-nil old); within = tt; tokens = refl; many = refl }
 
 -- ranges between two places, and one more
 within_more : (from to : ℕ) (ranges : List Range) (r : Range) → AreWithin from to ranges → from ≤ r.from → r.from ≤ r.to → r.to ≤ to → AreWithin from to (ranges ++ r ∷ [])
@@ -152,16 +144,6 @@ others_some text from to at len count old new part below inside p some b =
 added_is : (text : List ℕ) (from to count : ℕ) (others : List (List SourceToken)) (old new : List Range) (b : HasBound text from to count others old new)
     → added old new ≡ b.ranges
 added_is text from to count others old new b = ap (drop (length old)) b.whole ∙ drop-append_seam old b.ranges
-
--- what is bound stands behind what was before
-pub bound_whole : (text : List ℕ) (from to count : ℕ) (others : List (List SourceToken)) (old new : List Range) → HasBound text from to count others old new
-    → new ≡ old ++ added old new
-bound_whole text from to count others old new b = b.whole ∙ ap (λ (rs : List Range). old ++ rs) (sym (added_is text from to count others old new b))
-
--- and lies between the two places
-pub bound_within : (text : List ℕ) (from to count : ℕ) (others : List (List SourceToken)) (old new : List Range) → HasBound text from to count others old new
-    → AreWithin from to (added old new)
-bound_within text from to count others old new b = subst (λ (rs : List Range). AreWithin from to rs) (sym (added_is text from to count others old new b)) b.within
 
 -- where no others are left, what is bound are the actuals
 pub bound_all : (text : List ℕ) (from to count : ℕ) (old new : List Range) → HasBound text from to count [] old new

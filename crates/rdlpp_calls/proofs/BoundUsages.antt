@@ -1,20 +1,19 @@
--- A usage in an open text whose call was bound: it opens those ranges of the text, or is refused.
-use Rattle.std.proofs.Common.{◌≡◌, ◌≤◌, ℕ, ◌+◌, ◌-◌, Bool, false, List, [], ◌∷◌, map, length, drop, ap, ◌∙◌, arith, Option, None, Some, Err}
+-- A usage in an open text whose call was bound, by the ranges of the text that are its actuals.
+use Rattle.std.proofs.Common.{◌≡◌, ◌≤◌, ℕ, ◌+◌, ◌-◌, Bool, false, List, [], ◌∷◌, map, drop, ap, ◌∙◌, arith, Option, None, Some}
 use Rattle.std.specs.Prelude.{bytes_eq, slice_range, if◌then◌else◌}
 use Rattle.std.specs.List.{AllByRecursion, list_any}
 use Rattle.rdlpp_scan.specs.declared.token.Mode.TheVariants.{Plain}
 use Rattle.rdlpp_scan.specs.SourceTokens.{SourceToken}
 use Rattle.rdlpp_scan.specs.Reserved.{is_reserved}
 use Rattle.rdlpp_table.specs.Table.{Formal, Macro, macro_named}
-use Rattle.rdlpp_meaning.specs.declared.fault.FaultKind.{FaultKind}
 use Rattle.rdlpp_meaning.specs.declared.fault.FaultKind.TheVariants.{UndefinedMacro, DirectiveInText, RecursiveMacro}
 use Rattle.rdlpp_meaning.specs.State.{Rules, State}
-use Rattle.rdlpp_meaning.specs.Cursors.{not_kept, TokenUsage, Refuses, Opens, token_usage_of_formals, token_usage_of_macro, token_usage_of}
+use Rattle.rdlpp_meaning.specs.Cursors.{TokenUsage, Refuses, token_usage_of_formals, token_usage_of_macro, token_usage_of}
 use Rattle.rdlpp_meaning.specs.Opens.{part_tokens}
 use Rattle.rdlpp_meaning.specs.Substitution.{body_tokens}
 use Rattle.rdlpp_meaning.proofs.TextRanges.{body_text}
 use Rattle.rdlpp_calls.specs.declared.bindings.Range.{Range}
-use Rattle.rdlpp_calls.specs.BoundCalls.{range_part, ranges_tokens, AreWithin, IsBoundAt, IsBoundCall}
+use Rattle.rdlpp_calls.specs.BoundCalls.{range_part, AreWithin, IsBoundAt}
 
 -- a usage of a macro that isn't recursive and has a list of formals, by what its call comes to
 pub usage_with_list : (size : SourceToken → ℕ) (rules : Rules) (s : State) (line : ℕ) (o : List (List ℕ)) (name : List ℕ) (ts : List SourceToken) (m : Macro) (fs : List Formal) (u : TokenUsage)
@@ -29,27 +28,6 @@ usage_with_list size rules s line o name ts m fs u reserved found once formals e
     ∙ ap (λ (b : Bool). if b then Refuses RecursiveMacro name line else own) once
     ∙ ap (token_usage_of_formals size rules line name ts m) formals
     ∙ e
-
--- a usage whose call is bound opens its macro with those ranges of the text as actuals
-pub usage_opens : (rules : Rules) (s : State) (line : ℕ) (o : List (List ℕ)) (name : List ℕ) (m : Macro) (fs : List Formal) (text : List ℕ) (at end formals : ℕ) (ranges : List Range)
-    (behind : ℕ) (b : IsBoundAt text at end formals ranges behind)
-    → is_reserved name ≡ false → macro_named s.macros name ≡ Some m → list_any (bytes_eq name) o ≡ false → m.formals ≡ Some fs
-    → length fs ≡ formals
-    → token_usage_of not_kept rules s line o name (body_tokens (slice_range text at end)) ≡ Opens m (ranges_tokens text ranges) b.used
-usage_opens rules s line o name m fs text at end formals ranges behind b reserved found once listed many =
-    usage_with_list not_kept rules s line o name (body_tokens (slice_range text at end)) m fs (Opens m (ranges_tokens text ranges) b.used) reserved found once listed
-    (b.opens rules line name m fs many)
-
--- a usage whose call isn't is refused
-pub usage_refused : (rules : Rules) (s : State) (line : ℕ) (o : List (List ℕ)) (name : List ℕ) (m : Macro) (fs : List Formal) (text : List ℕ) (at end formals : ℕ) (ranges : List Range)
-    (kind : FaultKind) → IsBoundCall text at end formals ranges (Err kind)
-    → is_reserved name ≡ false → macro_named s.macros name ≡ Some m → list_any (bytes_eq name) o ≡ false → m.formals ≡ Some fs
-    → length fs ≡ formals
-    → token_usage_of not_kept rules s line o name (body_tokens (slice_range text at end)) ≡ Refuses kind name line
-unfolding IsBoundCall
-usage_refused rules s line o name m fs text at end formals ranges kind b reserved found once listed many =
-    usage_with_list not_kept rules s line o name (body_tokens (slice_range text at end)) m fs (Refuses kind name line) reserved found once listed
-    (b rules line name m fs many)
 
 -- ranges between two places of a text lie in it as parts
 pub parts_inside : (size from to : ℕ) (ranges : List Range) → to ≤ size → AreWithin from to ranges → AllByRecursion (λ part. part.end ≤ size) (map range_part ranges)

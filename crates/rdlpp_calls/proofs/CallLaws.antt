@@ -144,10 +144,6 @@ pub record IsEnded (at level n : ℕ) (ts : List SourceToken) : Type 0 where
   pub place : n ≡ at + length (bytes_of inner)
   pub scans : (room : ℕ) → scan token_role not_kept (Inside level) room ts ≡ Closed (filter (λ t. is_kept (token_role t)) inner) (length inner + 1)
 
--- nothing fits any room
-nothing_fits : (room : ℕ) → nat_le 0 room ≡ true
-nothing_fits room = grind (arith, nat_tests)
-
 -- what the scan does at a token of text
 turn_text : (r : Role) (k : ℕ) → is_call_text r ≡ true → turn_inside r k true ≡ cond (ends_call r k) Closes (cond (is_kept r) Keeps Passes)
 unfolding turn_inside turn_fitting ends_call is_kept is_call_text
@@ -168,7 +164,8 @@ unfolding scan turn stand_behind room_behind not_kept
 scan_inside k room t ts text =
     let r = token_role t in
     let rest = scan token_role not_kept (Inside (level_behind r k)) (room - kept_size r 0) ts in
-    ap (λ b. scanned (turn_inside r k b) t rest) (nothing_fits room) ∙ ap (λ (q : Turn). scanned q t rest) (turn_text r k text)
+    let fits : nat_le 0 room ≡ true = grind (arith, nat_tests) in
+    ap (λ b. scanned (turn_inside r k b) t rest) fits ∙ ap (λ (q : Turn). scanned q t rest) (turn_text r k text)
 
 -- a scan that lacks something does so with a thing in front
 lacking_front : (ends kept : Bool) (t : SourceToken) (found : Option ℕ) (at : ℕ) (s : Scanned SourceToken)

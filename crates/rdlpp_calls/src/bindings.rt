@@ -18,51 +18,41 @@ pub struct Range {
     pub to: usize,
 }
 
-// The range of a part of the text from a place on.
-fn range_of(part: &Part, at: usize) -> Range
-    requires { (at + part.now.from < 2 ^ 64) × (at + part.now.to < 2 ^ 64) }
-    ensures from { result.from ≡ at + part.now.from }
-    ensures to { result.to ≡ at + part.now.to }
-{
-    Range {
-        from: at + part.from,
-        to: at + part.to,
-    }
-}
-
-// Appends the ranges of the parts between two places of a text, but of no more than so many, and answers whether these are all
-// and there are so many.
-fn push_parts(text: &[u8], from: usize, to: usize, count: usize, bindings: &mut Vec<Range>) -> bool
-    requires range { (from ≤ to) × (to ≤ length text.now) }
-    requires some { 0 < count }
-    requires room { vec_len bindings.old + count ≤ vec_capacity bindings.old }
+/// Binds the call of a macro with so many formals: the text between two places stands behind the macro's name. Appends where
+/// each actual stands, as [`bind_parts`] does, and answers the place behind the `)` of the call (IEEE 1364-2001, `define`;
+/// what a call may hold is this project's profile). There must be room for so many ranges, and for one at least.
+///
+/// # Errors
+///
+/// [`FaultKind::ArgumentsMissing`] where no `(` follows, but for white space, line ends and comments; else
+/// [`FaultKind::ArgumentsOpen`] where no `)` closes the call outside strings, comments and further openers; else
+/// [`FaultKind::ArgumentCount`] where the call has more or fewer parts. No binding is appended then.
+#[tactic(auto, unfolding(crate::specs::CallParts::IsCall))]
+pub fn bind_call(
+    text: &[u8],
+    at: usize,
+    end: usize,
+    formals: usize,
+    bindings: &mut Vec<Range>,
+) -> Result<usize, FaultKind>
+    requires range { (at ≤ end) × (end ≤ length text.now) }
+    requires room { (vec_len bindings.old + formals ≤ vec_capacity bindings.old) × (vec_len bindings.old < vec_capacity bindings.old) }
     ensures whole { bindings.new.items ≡ bindings.old.items ++ added bindings.old.items bindings.new.items }
-    ensures within { AreWithin from to (added bindings.old.items bindings.new.items) }
-    ensures len { vec_len bindings.new ≤ vec_len bindings.old + count }
+    ensures within { AreWithin at end (added bindings.old.items bindings.new.items) }
+    ensures len { vec_len bindings.new ≤ vec_len bindings.old + max formals 1 }
     ensures capacity { vec_capacity bindings.new ≡ vec_capacity bindings.old }
-    ensures actuals { result ≡ true → actuals_of (slice_range text.now from to) ≡ ranges_tokens text.now (added bindings.old.items bindings.new.items) }
-    ensures count { result ≡ (length (actuals_of (slice_range text.now from to)) == count) }
+    ensures refused { IfErr result (λ _. bindings.new.items ≡ bindings.old.items) }
+    ensures kind { IfErr result (λ kind. is_call_fault kind ≡ true) }
+    ensures place { IfOk result (λ behind. (at ≤ behind) × (behind ≤ end)) }
+    ensures call { KeepsAll (body_tokens (slice_range text.now at end)) → IsBoundCall text.now at end formals (added bindings.old.items bindings.new.items) result }
 {
-    let mut at = from;
-    for bound in 1..count {
-        let part = next_part(&text[at..to]);
-        bindings.push_reserved(range_of(&part, at));
-        let Some(len) = part.next else {
-            return false;
-        };
-        at += len;
-    }
-    let part = next_part(&text[at..to]);
-    bindings.push_reserved(range_of(&part, at));
-    part.next.is_none()
-}
-
-// Whether the text between the parentheses of a call can have so many actuals by its first part: for no formals, that has
-// no items.
-fn admits(text: &[u8], formals: usize) -> bool
-    ensures { result ≡ (nat_lt 0 formals || not (nat_lt 0 (length (first_actual text.now)))) }
-{
-    formals > 0 || !next_part(text).has_items()
+    let arguments = match arguments_of(&text[at..end]) {
+        Ok(arguments) => arguments,
+        Err(fault) => return Err(fault.kind()),
+    };
+    let to = at + arguments.to;
+    bind_parts(text, at + arguments.from, to, formals, bindings)?;
+    Ok(to + 1)
 }
 
 /// Binds the actuals of a call between its parentheses, two places of a text: appends where each part stands, without the
@@ -103,39 +93,49 @@ pub fn bind_parts(
     Err(FaultKind::ArgumentCount)
 }
 
-/// Binds the call of a macro with so many formals: the text between two places stands behind the macro's name. Appends where
-/// each actual stands, as [`bind_parts`] does, and answers the place behind the `)` of the call (IEEE 1364-2001, `define`;
-/// what a call may hold is this project's profile). There must be room for so many ranges, and for one at least.
-///
-/// # Errors
-///
-/// [`FaultKind::ArgumentsMissing`] where no `(` follows, but for white space, line ends and comments; else
-/// [`FaultKind::ArgumentsOpen`] where no `)` closes the call outside strings, comments and further openers; else
-/// [`FaultKind::ArgumentCount`] where the call has more or fewer parts. No binding is appended then.
-#[tactic(auto, unfolding(crate::specs::CallParts::IsCall))]
-pub fn bind_call(
-    text: &[u8],
-    at: usize,
-    end: usize,
-    formals: usize,
-    bindings: &mut Vec<Range>,
-) -> Result<usize, FaultKind>
-    requires range { (at ≤ end) × (end ≤ length text.now) }
-    requires room { (vec_len bindings.old + formals ≤ vec_capacity bindings.old) × (vec_len bindings.old < vec_capacity bindings.old) }
+// Appends the ranges of the parts between two places of a text, but of no more than so many, and answers whether these are all
+// and there are so many.
+fn push_parts(text: &[u8], from: usize, to: usize, count: usize, bindings: &mut Vec<Range>) -> bool
+    requires range { (from ≤ to) × (to ≤ length text.now) }
+    requires some { 0 < count }
+    requires room { vec_len bindings.old + count ≤ vec_capacity bindings.old }
     ensures whole { bindings.new.items ≡ bindings.old.items ++ added bindings.old.items bindings.new.items }
-    ensures within { AreWithin at end (added bindings.old.items bindings.new.items) }
-    ensures len { vec_len bindings.new ≤ vec_len bindings.old + max formals 1 }
+    ensures within { AreWithin from to (added bindings.old.items bindings.new.items) }
+    ensures len { vec_len bindings.new ≤ vec_len bindings.old + count }
     ensures capacity { vec_capacity bindings.new ≡ vec_capacity bindings.old }
-    ensures refused { IfErr result (λ _. bindings.new.items ≡ bindings.old.items) }
-    ensures kind { IfErr result (λ kind. is_call_fault kind ≡ true) }
-    ensures place { IfOk result (λ behind. (at ≤ behind) × (behind ≤ end)) }
-    ensures call { KeepsAll (body_tokens (slice_range text.now at end)) → IsBoundCall text.now at end formals (added bindings.old.items bindings.new.items) result }
+    ensures actuals { result ≡ true → actuals_of (slice_range text.now from to) ≡ ranges_tokens text.now (added bindings.old.items bindings.new.items) }
+    ensures count { result ≡ (length (actuals_of (slice_range text.now from to)) == count) }
 {
-    let arguments = match arguments_of(&text[at..end]) {
-        Ok(arguments) => arguments,
-        Err(fault) => return Err(fault.kind()),
-    };
-    let to = at + arguments.to;
-    bind_parts(text, at + arguments.from, to, formals, bindings)?;
-    Ok(to + 1)
+    let mut at = from;
+    for bound in 1..count {
+        let part = next_part(&text[at..to]);
+        bindings.push_reserved(range_of(&part, at));
+        let Some(len) = part.next else {
+            return false;
+        };
+        at += len;
+    }
+    let part = next_part(&text[at..to]);
+    bindings.push_reserved(range_of(&part, at));
+    part.next.is_none()
+}
+
+// The range of a part of the text from a place on.
+fn range_of(part: &Part, at: usize) -> Range
+    requires { (at + part.now.from < 2 ^ 64) × (at + part.now.to < 2 ^ 64) }
+    ensures from { result.from ≡ at + part.now.from }
+    ensures to { result.to ≡ at + part.now.to }
+{
+    Range {
+        from: at + part.from,
+        to: at + part.to,
+    }
+}
+
+// Whether the text between the parentheses of a call can have so many actuals by its first part: for no formals, that has
+// no items.
+fn admits(text: &[u8], formals: usize) -> bool
+    ensures { result ≡ (nat_lt 0 formals || not (nat_lt 0 (length (first_actual text.now)))) }
+{
+    formals > 0 || !next_part(text).has_items()
 }

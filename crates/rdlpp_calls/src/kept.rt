@@ -8,14 +8,6 @@ ghost use Rattle.rdlpp_calls.specs.KeptTexts.{keeps_each};
 use crate::tokens::{CallRole, token_in_call};
 use rdlpp_scan::Mode;
 
-// Whether a call keeps a token.
-#[tactic(auto, unfolding(crate::specs::CallTokens::role_meant, rdlpp_meaning::specs::CallScan::is_kept))]
-fn is_kept(role: CallRole) -> bool
-    ensures { result ≡ is_kept (role_meant role) }
-{
-    !matches!(role, CallRole::LineComment)
-}
-
 /// Whether a call that stands in a text keeps each token: no `//` comment stands in the text (this project's profile).
 pub fn keeps_each(text: &[u8]) -> bool
     ensures { result ≡ keeps_each (body_tokens text.now) }
@@ -31,4 +23,12 @@ pub fn keeps_each(text: &[u8]) -> bool
         mode = token.next_mode;
     }
     true
+}
+
+// Whether a call keeps a token.
+#[tactic(auto, unfolding(crate::specs::CallTokens::role_meant, rdlpp_meaning::specs::CallScan::is_kept))]
+fn is_kept(role: CallRole) -> bool
+    ensures { result ≡ is_kept (role_meant role) }
+{
+    !matches!(role, CallRole::LineComment)
 }

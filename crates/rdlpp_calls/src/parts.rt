@@ -49,6 +49,37 @@ pub struct Part {
     pub next: Option<usize>,
 }
 
+impl Part {
+    /// Whether the part has items: anything but white space.
+    pub fn has_items(&self) -> bool
+        ensures { result ≡ nat_lt self.now.from self.now.to }
+    {
+        self.from < self.to
+    }
+}
+
+/// The arguments of a call in a text that begins behind the name of its macro (IEEE 1364-2001, `define`; what may stand
+/// between the name and the `(` is this project's profile).
+///
+/// # Errors
+///
+/// [`CallFault::Missing`] where no `(` follows, but for white space, line ends and comments, and [`CallFault::Unclosed`]
+/// where no `)` closes the call outside strings, comments and further openers.
+pub fn arguments_of(text: &[u8]) -> Result<Arguments, CallFault>
+    ensures { IsCall text.now result }
+{
+    let Some(from) = call_start(text) else {
+        return Err(CallFault::Missing);
+    };
+    let Some(len) = call_end(&text[from..]) else {
+        return Err(CallFault::Unclosed);
+    };
+    Ok(Arguments {
+        from,
+        to: from + len,
+    })
+}
+
 /// How many bytes of a text stand up to and with the `(` of a call, behind white space, line ends and comments; none where
 /// anything else stands before it, or where the text ends (this project's profile).
 pub fn call_start(text: &[u8]) -> Option<usize>
@@ -91,35 +122,19 @@ pub fn call_end(text: &[u8]) -> Option<usize>
     None
 }
 
-/// The arguments of a call in a text that begins behind the name of its macro (IEEE 1364-2001, `define`; what may stand
-/// between the name and the `(` is this project's profile).
+/// The next part of a call, in the text between its parentheses or behind a comma of it.
 ///
-/// # Errors
+/// # Rules
 ///
-/// [`CallFault::Missing`] where no `(` follows, but for white space, line ends and comments, and [`CallFault::Unclosed`]
-/// where no `)` closes the call outside strings, comments and further openers.
-pub fn arguments_of(text: &[u8]) -> Result<Arguments, CallFault>
-    ensures { IsCall text.now result }
+/// A comma ends a part outside strings, comments and further openers, and white space and line ends at both ends of a part
+/// aren't of it; comments are (this project's profile). A part may have no bytes.
+pub fn next_part(text: &[u8]) -> Part
+    ensures value { let start = space_from 0 (body_tokens text.now) in
+        result ≡ part_from start start 0 start (body_tokens (drop start text.now)) }
+    ensures part { IsNextPart text.now result }
 {
-    let Some(from) = call_start(text) else {
-        return Err(CallFault::Missing);
-    };
-    let Some(len) = call_end(&text[from..]) else {
-        return Err(CallFault::Unclosed);
-    };
-    Ok(Arguments {
-        from,
-        to: from + len,
-    })
-}
-
-impl Part {
-    /// Whether the part has items: anything but white space.
-    pub fn has_items(&self) -> bool
-        ensures { result ≡ nat_lt self.now.from self.now.to }
-    {
-        self.from < self.to
-    }
+    let from = space_len(text);
+    part_at(text, from)
 }
 
 // How many bytes of white space a text begins with.
@@ -170,19 +185,4 @@ fn part_at(text: &[u8], from: usize) -> Part
         to,
         next: None,
     }
-}
-
-/// The next part of a call, in the text between its parentheses or behind a comma of it.
-///
-/// # Rules
-///
-/// A comma ends a part outside strings, comments and further openers, and white space and line ends at both ends of a part
-/// aren't of it; comments are (this project's profile). A part may have no bytes.
-pub fn next_part(text: &[u8]) -> Part
-    ensures value { let start = space_from 0 (body_tokens text.now) in
-        result ≡ part_from start start 0 start (body_tokens (drop start text.now)) }
-    ensures part { IsNextPart text.now result }
-{
-    let from = space_len(text);
-    part_at(text, from)
 }

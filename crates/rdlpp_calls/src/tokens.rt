@@ -37,6 +37,19 @@ pub(crate) struct CallToken {
     pub(crate) next_mode: Mode,
 }
 
+// The first token of a text that isn't empty.
+pub(crate) fn token_in_call(mode: Mode, text: &[u8]) -> CallToken
+    requires { 0 < length text.now }
+    ensures { IsFirstToken mode text.now result }
+{
+    let token = first_token(mode, text);
+    CallToken {
+        role: role_of(token.kind, text[0]),
+        len: token.len,
+        next_mode: token.next_mode,
+    }
+}
+
 /// The role of a token of a kind with this first byte.
 #[tactic(auto, unfolding(crate::specs::CallTokens::role_meant, rdlpp_meaning::specs::Actuals::kind_role))]
 pub fn role_of(kind: Kind, first: u8) -> CallRole
@@ -62,19 +75,6 @@ pub fn role_of(kind: Kind, first: u8) -> CallRole
         }
         Kind::Comma => CallRole::Comma,
         _ => CallRole::Text,
-    }
-}
-
-// The first token of a text that isn't empty.
-pub(crate) fn token_in_call(mode: Mode, text: &[u8]) -> CallToken
-    requires { 0 < length text.now }
-    ensures { IsFirstToken mode text.now result }
-{
-    let token = first_token(mode, text);
-    CallToken {
-        role: role_of(token.kind, text[0]),
-        len: token.len,
-        next_mode: token.next_mode,
     }
 }
 

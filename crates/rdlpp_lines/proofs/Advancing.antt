@@ -1,11 +1,12 @@
 -- A text is read token by token.
-use Rattle.std.proofs.Common.{◌≡◌, ℕ, zero, suc, ◌+◌, ◌<◌, ◌≤◌, Bool, true, false, cond, ◌&&◌, List, [], ◌∷◌, ◌++◌, length, take, drop, get_or, eqb, Option, Some, None, Ok, refl, ap, sym, ◌∙◌, subst, arith, append_assoc}
+use Rattle.std.proofs.Common.{◌≡◌, ℕ, zero, suc, ◌<◌, Bool, true, false, cond, ◌&&◌, List, [], ◌∷◌, ◌++◌, length, take, drop, get_or, eqb, Option, Some, None, Ok, refl, ap, sym, ◌∙◌, subst, arith, append_assoc}
 use Rattle.std.proofs.lemmas.Bool.{cond-true, cond-false, false≢true}
 use Rattle.rdlpp_scan.specs.declared.token.Kind.{Kind}
-use Rattle.rdlpp_scan.specs.declared.token.Kind.TheVariants.{LineComment, Opener, Closer, Comma}
+use Rattle.rdlpp_scan.specs.declared.token.Kind.TheVariants.{LineComment, Closer, Comma}
 use Rattle.rdlpp_scan.specs.declared.token.Mode.{Mode}
 use Rattle.rdlpp_scan.specs.declared.token.Token.{Token}
 use Rattle.rdlpp_scan.specs.declared.token.LexFault.TheVariants.{Perl}
+use Rattle.rdlpp_scan.specs.Comments.{is_line_comment}
 use Rattle.rdlpp_scan.specs.Tokens.{token_of, tokens_from}
 use Rattle.rdlpp_scan.specs.LexFaults.{is_perl, open_fault}
 use Rattle.rdlpp_scan.proofs.TokenLens.{token_of-part}
@@ -16,7 +17,7 @@ use Rattle.rdlpp_lines.specs.declared.reading.KeptBytes.{KeptBytes}
 use Rattle.rdlpp_scan.specs.declared.token.LexFault.{LexFault}
 use Rattle.rdlpp_scan.specs.declared.token.Mode.TheVariants.{Plain}
 use Rattle.rdlpp_lines.specs.Reading.{left, left_behind, IsAdvanced}
-use Rattle.rdlpp_lines.specs.Texts.{Cleared, Sound, Unsound, onto, told, stops_token, level_by, read_by, left_in, cleared, ends_default, level_behind, text_behind, IsNext}
+use Rattle.rdlpp_lines.specs.Texts.{Cleared, Sound, Unsound, onto, told, stops_token, level_by, read_by, left_in, cleared, ends_default, text_behind, IsNext}
 use Rattle.rdlpp_lines.proofs.Joins.{reads_first, none_first}
 use Rattle.rdlpp_lines.proofs.SideBySide.{joins_text, first_alike}
 use Rattle.rdlpp_lines.proofs.Measures.{behind_onto}
@@ -103,12 +104,11 @@ left_on is_logical l m mode raw here token rest t k p s e f g h =
     ∙ (ap (λ x. onto (joined is_logical token) (left_in m x (drop u.len text))) (sym k.read.next_mode)
     ∙ ap (λ x. onto (joined is_logical token) (left_in m t.next_mode x)) (sym k.read.behind ∙ ap (joined is_logical) (sym h))))))))
 
--- a token raises the level by one at most
-pub level_small : (k : Kind) (n : ℕ) → level_behind k n ≤ n + 1
-unfolding level_behind
-level_small Opener n = omega arith
-level_small Closer n = omega arith
-level_small k n = omega arith
+-- a token but for a `//` comment is kept as it stands
+pub kept_own : (k : Kind) (xs : List ℕ) → is_line_comment k ≡ false → kept_of k xs ≡ xs
+unfolding is_line_comment
+kept_own LineComment xs h = absurd (false≢true (sym h))
+kept_own _ xs h = refl
 
 -- a text that is at its end
 pub stop_next : (old new : Cleared) (text : List ℕ) → new ≡ old → new ≡ Sound [] text → IsNext old (Ok None) new

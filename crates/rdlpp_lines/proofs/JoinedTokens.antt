@@ -2,7 +2,7 @@
 use Rattle.std.proofs.Common.{◌≡◌, ◌≢◌, ℕ, suc, ◌+◌, ◌<◌, ◌≤◌, Bool, true, false, cond, not, ◌&&◌, ◌||◌, List, [], ◌∷◌, length, take, drop, get_or, eqb, ltb, one-add, refl, ap, sym, ◌∙◌, subst, arith}
 use Rattle.std.specs.List.{prefix_len}
 use Rattle.std.proofs.lemmas.Bool.{cond-false, and_parts, false≢true, ltb-true, ne_eqb}
-use Rattle.std.proofs.lemmas.List.{get_or-drop, drop-drop, length-drop}
+use Rattle.std.proofs.lemmas.List.{drop-drop, length-drop}
 use Rattle.rdlpp_scan.specs.declared.token.Kind.{Kind}
 use Rattle.rdlpp_scan.specs.declared.token.Kind.TheVariants.{Name, Word, Back, Blank, LineEnd, Str, LineComment, BlockComment, Opener, Closer, Comma, Other, Perl, BareBackquote}
 use Rattle.rdlpp_scan.specs.declared.token.Mode.{Mode}
@@ -10,8 +10,8 @@ use Rattle.rdlpp_scan.specs.declared.token.Mode.TheVariants.{Plain, InStr, InBlo
 use Rattle.rdlpp_scan.specs.declared.token.Token.{Token}
 use Rattle.rdlpp_scan.specs.Bytes.{is_blank, is_line_end, is_letter, is_digit, is_word, is_opener, is_closer, takes_word, begins_perl, begins_line_comment, begins_block_comment, ends_block_comment}
 use Rattle.rdlpp_scan.specs.Tokens.{first_place, string_stop, whole, string_token, block_token, plain_token, token_of}
-use Rattle.rdlpp_scan.proofs.Places.{first_place-at}
-use Rattle.rdlpp_scan.proofs.Seams.{string_at, string_token-at, block_at, block_token-at}
+use Rattle.rdlpp_scan.proofs.Places.{at_zero, first_place-at}
+use Rattle.rdlpp_scan.proofs.Seams.{blank_ten, block_at, block_token-at, string_at, string_token-at, word_ten}
 use Rattle.rdlpp_lines.specs.Continuations.{continuation_len, without_continuations, joined}
 use Rattle.rdlpp_lines.specs.LineTokens.{line_token, kept_of, IsRead}
 use Rattle.rdlpp_lines.proofs.Joins.{begins_with}
@@ -108,9 +108,6 @@ string_reaches raw text (Line r t j) false = PastLine _ _ r t (string_reaches r 
 string_reaches raw text (Return r t j) true = PastReturn _ _ r t (string_reaches r t j false)
 string_reaches raw text (Return r t j) false = PastReturn _ _ r t (string_reaches r t j false)
 
-at_zero : (bs : List ℕ) (n : ℕ) → get_or (drop n bs) 0 0 ≡ get_or bs n 0
-at_zero bs n = get_or-drop n bs 0 0 ∙ ap (λ i. get_or bs i 0) (omega arith)
-
 quote_alike : (n m : ℕ) (raw text : List ℕ) → Reaches n m raw text → eqb (get_or text m 0) 34 ≡ eqb (get_or raw n 0) 34
 quote_alike n m raw text p =
     ap (λ x. eqb x 34) (sym (at_zero text m))
@@ -175,21 +172,14 @@ letter_alike : is_letter 92 ≡ is_letter 10
 unfolding is_letter
 letter_alike = refl
 
-word_back : is_word 92 ≡ false
+-- a backslash is no byte of a word
+pub word_back : is_word 92 ≡ false
 unfolding is_word is_letter is_digit
 word_back = refl
-
-word_line : is_word 10 ≡ false
-unfolding is_word is_letter is_digit
-word_line = refl
 
 blank_back : is_blank 92 ≡ false
 unfolding is_blank
 blank_back = refl
-
-blank_line : is_blank 10 ≡ false
-unfolding is_blank
-blank_line = refl
 
 -- the rows of the token table, where no continuation begins
 plain_alike : (b : ℕ) (r s : List ℕ) → continuation_len (b ∷ r) ≡ 0 → Joins r s → Alike (b ∷ r) (b ∷ s) (plain_token (b ∷ r)) (plain_token (b ∷ s))
@@ -204,16 +194,16 @@ plain_alike b r s n j =
     let pair : (x y : ℕ) → eqb 92 y ≡ eqb 10 y → (eqb b x && eqb d y) ≡ (eqb b x && eqb c y) = λ x y e. ap (λ q. eqb b x && q) (second (λ k. eqb k y) e) in
     let one : (k : Kind) → Alike raw text (whole k 1) (whole k 1) = λ k. alike_whole k 1 1 raw text (PastByte 0 0 b r s n (Here r s j)) in
     let run : (k : Kind) (p : ℕ → Bool) → p 10 ≡ false → p 92 ≡ false → Alike raw text (whole k (prefix_len p raw)) (whole k (prefix_len p text)) = λ k p line back. alike_whole k _ _ raw text (run_reaches p line back raw text whole_text) in
-    let behind_one : (k : Kind) → Alike raw text (whole k (suc (prefix_len is_word r))) (whole k (suc (prefix_len is_word s))) = λ k. alike_whole k _ _ raw text (PastByte _ _ b r s n (run_reaches is_word word_line word_back r s j)) in
+    let behind_one : (k : Kind) → Alike raw text (whole k (suc (prefix_len is_word r))) (whole k (suc (prefix_len is_word s))) = λ k. alike_whole k _ _ raw text (PastByte _ _ b r s n (run_reaches is_word word_ten word_back r s j)) in
     alike_cond (eqb b 60 && eqb c 37) (eqb b 60 && eqb d 37) raw text _ _ _ _ (pair 60 37 refl) (λ e. alike_whole Perl 2 2 raw text (pair_reaches 60 37 refl refl refl refl raw text whole_text e)) (λ _.
     alike_cond (is_line_end b) (is_line_end b) raw text _ _ _ _ refl (λ _. one LineEnd) (λ _.
-    alike_cond (is_blank b) (is_blank b) raw text _ _ _ _ refl (λ _. run Blank is_blank blank_line blank_back) (λ _.
+    alike_cond (is_blank b) (is_blank b) raw text _ _ _ _ refl (λ _. run Blank is_blank blank_ten blank_back) (λ _.
     alike_cond (eqb b 47 && eqb c 47) (eqb b 47 && eqb d 47) raw text _ _ _ _ (pair 47 47 refl) (λ _. remark_alike raw text whole_text) (λ _.
     alike_cond (eqb b 47 && eqb c 42) (eqb b 47 && eqb d 42) raw text _ _ _ _ (pair 47 42 refl) (λ e. alike_opened raw text whole_text (pair_reaches 47 42 refl refl refl refl raw text whole_text e)) (λ _.
     alike_cond (eqb b 34) (eqb b 34) raw text _ _ _ _ refl (λ _. alike_string 1 (suc (string_stop false r)) (suc (string_stop false s)) raw text (one-add _) (one-add _) (PastByte _ _ b r s n (string_reaches r s j false))) (λ _.
-    alike_cond (is_letter b) (is_letter b) raw text _ _ _ _ refl (λ _. run Name is_word word_line word_back) (λ _.
-    alike_cond (is_digit b) (is_digit b) raw text _ _ _ _ refl (λ _. run Word is_word word_line word_back) (λ _.
-    alike_cond (takes_word b && is_word c) (takes_word b && is_word d) raw text _ _ _ _ (ap (λ q. takes_word b && q) (second is_word (word_back ∙ sym word_line))) (λ _. behind_one Word) (λ _.
+    alike_cond (is_letter b) (is_letter b) raw text _ _ _ _ refl (λ _. run Name is_word word_ten word_back) (λ _.
+    alike_cond (is_digit b) (is_digit b) raw text _ _ _ _ refl (λ _. run Word is_word word_ten word_back) (λ _.
+    alike_cond (takes_word b && is_word c) (takes_word b && is_word d) raw text _ _ _ _ (ap (λ q. takes_word b && q) (second is_word (word_back ∙ sym word_ten))) (λ _. behind_one Word) (λ _.
     alike_cond (eqb b 96 && is_letter c) (eqb b 96 && is_letter d) raw text _ _ _ _ (ap (λ q. eqb b 96 && q) (second is_letter letter_alike)) (λ _. behind_one Back) (λ _.
     alike_cond (eqb b 96) (eqb b 96) raw text _ _ _ _ refl (λ _. one BareBackquote) (λ _.
     alike_cond (is_opener b) (is_opener b) raw text _ _ _ _ refl (λ _. one Opener) (λ _.

@@ -127,19 +127,28 @@ pub joined_none : joined true [] ≡ []
 unfolding joined without_continuations
 joined_none = refl
 
--- a byte of a class that has neither LF nor a backslash isn't touched by a continuation
-class_stops : (test : ℕ → Bool) → test 10 ≡ false → (b : ℕ) (bs : List ℕ) → test b ≡ false → prefix_len test (joined true (b ∷ bs)) ≡ 0
+-- the first byte of a class that has neither LF nor a backslash isn't touched by a continuation
+pub first_out : (test : ℕ → Bool) → test 10 ≡ false → (b : ℕ) (bs : List ℕ) → test b ≡ false → test (get_or (joined true (b ∷ bs)) 0 0) ≡ false
 unfolding joined
-class_stops test line b bs e =
+first_out test line b bs e =
     let w : BeginsWith (b ∷ bs) (continuation_len (b ∷ bs)) = begins_with (b ∷ bs) (omega arith) in
     let n : ℕ = continuation_len (b ∷ bs) in
     let out : test (get_or (b ∷ bs) n 0) ≡ false = elim w.joint [
       | inl z ↦ ap (λ (k : ℕ). test (get_or (b ∷ bs) k 0)) z ∙ e
       | inr t ↦ ap test (eqb-true (get_or (b ∷ bs) n 0) 10 t) ∙ line
     ] in
-    ap (prefix_len test) w.first ∙ ap (λ (t : Bool). cond t (1 + prefix_len test (without_continuations 0 (drop (n + 1) (b ∷ bs)))) 0) out
+    ap (λ (l : List ℕ). test (get_or l 0 0)) w.first ∙ out
 
--- a run of such a class is the same where continuations are joined
+pub first_in : (test : ℕ → Bool) → test 92 ≡ false → (b : ℕ) (bs : List ℕ) → test b ≡ true → joined true (b ∷ bs) ≡ b ∷ joined true bs
+first_in test back b bs e =
+    no_joint_at b bs (false_from_ne_true (eqb b 92) (λ h. both_ways (test 92) back (ap test (sym (eqb-true b 92 h)) ∙ e)))
+
+-- a run is empty where its first byte is not of its class
+no_run : (test : ℕ → Bool) (xs : List ℕ) → test (get_or xs 0 0) ≡ false → prefix_len test xs ≡ 0
+no_run test [] h = refl
+no_run test (x ∷ xs) h = ap (λ (t : Bool). cond t (1 + prefix_len test xs) 0) h
+
+-- a run of a class that has neither LF nor a backslash is the same where continuations are joined
 pub record SameRun (test : ℕ → Bool) (text : List ℕ) : Type 0 where
   pub len : prefix_len test (joined true text) ≡ prefix_len test text
   pub front : take (prefix_len test text) (joined true text) ≡ take (prefix_len test text) text
@@ -151,8 +160,7 @@ same_run test line back (b ∷ bs) =
     elim (cases_Bool (test b)) [
       | inl e ↦
           let r : SameRun test bs = same_run test line back bs in
-          let plain : eqb b 92 ≡ false = false_from_ne_true (eqb b 92) (λ h. both_ways (test 92) back (ap test (sym (eqb-true b 92 h)) ∙ e)) in
-          let at : joined true (b ∷ bs) ≡ b ∷ joined true bs = no_joint_at b bs plain in
+          let at : joined true (b ∷ bs) ≡ b ∷ joined true bs = first_in test back b bs e in
           let n : cond (test b) (1 + prefix_len test bs) 0 ≡ suc (prefix_len test bs) = ap (λ (t : Bool). cond t (1 + prefix_len test bs) 0) e ∙ one-add (prefix_len test bs) in
           record {
             len = ap (prefix_len test) at ∙ (ap (λ (k : ℕ). cond (test b) (1 + k) 0) r.len);
@@ -162,7 +170,7 @@ same_run test line back (b ∷ bs) =
       | inr e ↦
           let n : prefix_len test (b ∷ bs) ≡ 0 = ap (λ (t : Bool). cond t (1 + prefix_len test bs) 0) e in
           record {
-            len = class_stops test line b bs e ∙ sym n;
+            len = no_run test (joined true (b ∷ bs)) (first_out test line b bs e) ∙ sym n;
             front = ap (λ (k : ℕ). take k (joined true (b ∷ bs))) n ∙ sym (ap (λ (k : ℕ). take k (b ∷ bs)) n);
             back = ap (λ (k : ℕ). drop k (joined true (b ∷ bs))) n ∙ sym (ap (λ (k : ℕ). joined true (drop k (b ∷ bs))) n);
           }

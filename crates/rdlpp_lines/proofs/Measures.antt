@@ -15,11 +15,18 @@ some_length c cs = ne_eqb (length (c ∷ cs)) 0 (λ e. absurd (omega arith))
 sum_more : (count n : ℕ) → count + 1 + suc n ≡ count + suc (suc n)
 sum_more count n = omega arith
 
-abbrev good : ℕ → Result ℕ LexFault
-good n = Ok n
+-- a length that was measured, and the fault that is there in its place
+abbrev pub ok_len : ℕ → Result ℕ LexFault
+ok_len n = Ok n
 
-abbrev bad : LexFault → Result ℕ LexFault
-bad fault = Err fault
+abbrev no_len : LexFault → Result ℕ LexFault
+no_len fault = Err fault
+
+-- what was measured is the length of what is left
+pub left_len : (class : ℕ → Bool) (c : Cleared) (len : ℕ) → trimmed_len class c ≡ Ok len → length (trimmed_left class c) ≡ len
+unfolding trimmed_len trimmed_left
+left_len class (Sound rest last) len e = cc
+left_len class (Unsound fault) len e = absurd (cc)
 
 module _ (class : ℕ → Bool) where
   pub skip_blank : (old new : Cleared) (b : ℕ) → old ≡ onto (b ∷ []) new → class b ≡ true → begun class old ≡ begun class new
@@ -73,27 +80,27 @@ module _ (class : ℕ → Bool) where
   unfolding begun trimmed_len trimmed_of without_end
   none_len (Sound rest last) tail e =
       let at : drop (prefix_len class rest) rest ≡ [] = cc in
-      ap (λ (l : List ℕ). good (length (without_end class l))) (sym at)
+      ap (λ (l : List ℕ). ok_len (length (without_end class l))) (sym at)
   none_len (Unsound fault) tail e = absurd (cc)
 
   pub fault_len : (c : Cleared) (fault : LexFault) → begun class c ≡ Unsound fault → Err fault ≡ trimmed_len class c
   unfolding begun trimmed_len
   fault_len (Sound rest last) fault e = absurd (cc)
-  fault_len (Unsound other) fault e = let same : other ≡ fault = cc in ap (λ (f : LexFault). bad f) (sym same)
+  fault_len (Unsound other) fault e = let same : other ≡ fault = cc in ap (λ (f : LexFault). no_len f) (sym same)
 
   pub start_len : (c new : Cleared) (b : ℕ) → begun class c ≡ onto (b ∷ []) new → class b ≡ false → ended_len class 1 1 new ≡ trimmed_len class c
   unfolding begun onto ended_len trimmed_len trimmed_of
   start_len (Sound rest last) (Sound behind tail) b e h =
       let at : drop (prefix_len class rest) rest ≡ b ∷ behind = cc in
-      ap (λ (n : ℕ). good n) (total_len b behind h ∙ ap (λ (l : List ℕ). length (without_end class l)) (sym at))
+      ap (λ (n : ℕ). ok_len n) (total_len b behind h ∙ ap (λ (l : List ℕ). length (without_end class l)) (sym at))
   start_len (Sound rest last) (Unsound fault) b e h = absurd (cc)
   start_len (Unsound fault) (Sound behind tail) b e h = absurd (cc)
-  start_len (Unsound fault) (Unsound other) b e h = let same : fault ≡ other = cc in ap (λ (f : LexFault). bad f) (sym same)
+  start_len (Unsound fault) (Unsound other) b e h = let same : fault ≡ other = cc in ap (λ (f : LexFault). no_len f) (sym same)
 
   pub step_len : (count end : ℕ) (old new : Cleared) (b : ℕ) (t : Bool) → old ≡ onto (b ∷ []) new → class b ≡ t → ended_len class (count + 1) (cond t end (count + 1)) new ≡ ended_len class count end old
   unfolding onto ended_len len_from
   step_len count end old (Sound rest last) b t e h =
-      ap (λ (x : Bool). good (len_from class (count + 1) (cond x end (count + 1)) rest)) (sym h) ∙ sym (ap (ended_len class count end) e)
+      ap (λ (x : Bool). ok_len (len_from class (count + 1) (cond x end (count + 1)) rest)) (sym h) ∙ sym (ap (ended_len class count end) e)
   step_len count end old (Unsound fault) b t e h = sym (ap (ended_len class count end) e)
 
   pub last_len : (count end : ℕ) (old : Cleared) (tail : List ℕ) → old ≡ Sound [] tail → Ok end ≡ ended_len class count end old

@@ -1,5 +1,5 @@
 -- A text with neither a `\` nor a `/` is kept as it stands.
-use Rattle.std.proofs.Common.{◌≡◌, ℕ, zero, suc, ◌-◌, ◌<◌, ◌≤◌, Bool, true, false, cond, not, ◌||◌, ◌&&◌, eqb, List, [], ◌∷◌, ◌++◌, length, take, drop, get_or, Option, Some, None, Ok, Err, Result, refl, sym, ap, ◌∙◌, arith}
+use Rattle.std.proofs.Common.{◌≡◌, ℕ, zero, suc, ◌-◌, ◌<◌, ◌≤◌, Bool, true, false, cond, not, ◌||◌, ◌&&◌, eqb, List, [], ◌∷◌, ◌++◌, length, take, drop, get_or, Option, Some, None, Ok, Err, refl, sym, ap, ◌∙◌, arith}
 use Rattle.std.proofs.lemmas.Bool.{and_from, and_left, and_parts, and_right, cond-true, cond-false, cond_both, not-true, or_parts, false≢true}
 use Rattle.std.proofs.lemmas.List.{length-drop, take-append-drop}
 use Rattle.std.proofs.Math.Seq.{take-suc}
@@ -24,8 +24,9 @@ use Rattle.rdlpp_lines.specs.Continuations.{joined, without_continuations}
 use Rattle.rdlpp_lines.specs.LineTokens.{kept_of}
 use Rattle.rdlpp_lines.specs.OnePiece.{is_one_piece, is_piece_byte}
 use Rattle.rdlpp_lines.specs.Texts.{Cleared, Sound, Unsound, cleared, left_in, onto, onto_trimmed, text_behind, told, trimmed_left, trimmed_len, trimmed_of, trims, without_end}
-use Rattle.rdlpp_lines.proofs.Advancing.{left_first}
+use Rattle.rdlpp_lines.proofs.Advancing.{kept_own, left_first}
 use Rattle.rdlpp_lines.proofs.Joins.{no_joint_at, none_first}
+use Rattle.rdlpp_lines.proofs.Measures.{ok_len}
 
 -- a search that finds neither byte
 pub piece_none : (text : List ℕ) → IsFirstByte (is_byte2 92 47) text None → is_one_piece text ≡ true
@@ -89,11 +90,6 @@ no_comment Plain bs none = kind_none bs (token_of Plain bs) none (token_of-row b
 no_comment InStr bs none = cond_both _ (whole PerlKind 2) (string_token 0 bs) (λ t. is_line_comment t.kind ≡ false) (λ _. refl) (λ _. ap is_line_comment (string_token-kind 0 bs))
 no_comment InBlock bs none = ap is_line_comment (block_token-kind 0 bs)
 
-kept_own : (k : Kind) (xs : List ℕ) → is_line_comment k ≡ false → kept_of k xs ≡ xs
-unfolding is_line_comment
-kept_own LineComment xs h = absurd (false≢true (sym h))
-kept_own _ xs h = refl
-
 onto_told : (xs ys : List ℕ) (fault : Option LexFault) → onto xs (told fault ys) ≡ told fault (xs ++ ys)
 unfolding onto
 onto_told xs ys None = refl
@@ -102,9 +98,6 @@ onto_told xs ys (Some f) = refl
 piece_first : (b : ℕ) (bs : List ℕ) → eqb b 47 ≡ false → begins_line_comment (b ∷ bs) ≡ false
 unfolding begins_line_comment
 piece_first b bs h = and_left _ _ h
-
-abbrev ok_len : ℕ → Result ℕ LexFault
-ok_len n = Ok n
 
 -- what is left of it is all of it, or its first fault
 piece_left : (fuel : ℕ) (m : Mode) (text : List ℕ) → length text ≤ fuel → is_one_piece text ≡ true → left_in None m text ≡ told (lex_fault_from m text) text

@@ -1,18 +1,18 @@
 -- Formals that are appended to a table's bytes, one after another.
-use Rattle.std.proofs.Common.{◌≡◌, ℕ, zero, suc, ◌+◌, ◌-◌, ◌<◌, ◌≤◌, Bool, true, false, cond, List, [], ◌∷◌, ◌++◌, length, drop, get_or, eqb, is_some, sum_by, unwrap_or, append_assoc, append-nil, length-append, eq-eqb, Option, Some, None, Result, Ok, refl, ap, sym, ◌∙◌, arith, inl, inr}
+use Rattle.std.proofs.Common.{◌≡◌, ℕ, zero, suc, ◌+◌, ◌-◌, ◌<◌, ◌≤◌, Bool, true, false, cond, List, [], ◌∷◌, ◌++◌, length, drop, get_or, eqb, is_some, sum_by, unwrap_or, append_assoc, append-nil, length-append, eq-eqb, Option, Some, None, Ok, refl, ap, sym, ◌∙◌, arith, inl, inr}
 use Rattle.std.specs.List.{flat_map}
 use Rattle.std.proofs.lemmas.Bool.{cases_Bool, cond-true, cond-false, false≢true, ne_eqb}
 use Rattle.std.proofs.lemmas.Grind.{flat_map-append}
-use Rattle.std.proofs.lemmas.List.Sums.{sum_by-cons, sum_by-append}
+use Rattle.std.proofs.lemmas.List.Sums.{sum_by-append}
 use Rattle.rdlpp_table.specs.Table.{Formal, default_bytes, default_size, formal_bytes, formal_size}
 use Rattle.rdlpp_table.specs.Define.{FormalList, Listed, Unlisted, OneFormal, Good, Bad, behind_name, default_in, formal_fault, formal_in, formal_name, formals_in}
 use Rattle.rdlpp_lines.specs.Texts.{cleared, start_level, trimmed_left, trimmed_len, trims}
 use Rattle.rdlpp_table.specs.Formals.{IsDefault, IsPart, behind_told, default_left, formal_told, is_told, listed}
-use Rattle.rdlpp_scan.specs.declared.token.LexFault.{LexFault}
 use Rattle.rdlpp_table.specs.declared.fault.DefineKind.{DefineKind}
 use Rattle.rdlpp_table.specs.declared.fault.DefineKind.TheVariants as kind
-use Rattle.rdlpp_table.proofs.Sizes.{length_formal_bytes, length_list_bytes}
-use Rattle.rdlpp_table.proofs.Reading.{formal_with, formal_by, three, fault_three, list_by, list_full, list_step, part_by, good_at, bad_at}
+use Rattle.rdlpp_lines.proofs.Measures.{ok_len}
+use Rattle.rdlpp_table.proofs.Sizes.{length_formal_bytes, length_list_bytes, one_size}
+use Rattle.rdlpp_table.proofs.Reading.{formal_with, formal_by, three, fault_three, list_by, list_full, list_step, part_by, good_at, bad_at, size_with}
 
 -- the formal with which a list's text begins, behind no others
 told_good : (text : List ℕ) (f : Formal) (behind : List ℕ) → formal_in [] text ≡ Good f behind → (formal_told text ≡ f) × (behind_told text ≡ behind) × (is_told text ≡ true)
@@ -60,16 +60,9 @@ pub record IsTold (text name from behind : List ℕ) (size : ℕ) : Type 0 where
   pub long : 0 < size → formal_bytes (formal_told text) ≡ name ++ (61 ∷ default_left from ++ 44 ∷ [])
   pub len : 0 < size → trimmed_len (trims true) (cleared (start_level true) from) ≡ Ok (size - 1)
 
-size_of : (name from : List ℕ) (n : ℕ) → default_size (default_left from) ≡ n → formal_size (formal_with name from) ≡ length name + (n + 1)
-unfolding formal_size
-size_of name from n e = ap (λ (k : ℕ). length name + (k + 1)) e
-
 bytes_of : (name from bytes : List ℕ) → default_bytes (default_left from) ≡ bytes → formal_bytes (formal_with name from) ≡ name ++ (bytes ++ 44 ∷ [])
 unfolding formal_bytes
 bytes_of name from bytes e = ap (λ (x : List ℕ). name ++ (x ++ 44 ∷ [])) e
-
-abbrev ok_len : ℕ → Result ℕ LexFault
-ok_len n = Ok n
 
 pub told_is : (text name tail from behind : List ℕ) (size : ℕ) → IsPart text name tail → is_told text ≡ true → IsDefault (default_in tail) from behind size → IsTold text name from behind size
 told_is text name tail from behind size p t d =
@@ -77,7 +70,7 @@ told_is text name tail from behind size p t d =
     record {
       told = g.0;
       behind_is = g.1;
-      size_is = ap formal_size g.0 ∙ size_of name from size d.size_is;
+      size_is = ap formal_size g.0 ∙ size_with name from size d.size_is;
       short = λ z. ap formal_bytes g.0 ∙ bytes_of name from [] (no_bytes (default_left from) (d.size_is ∙ z));
       long = λ h. ap formal_bytes g.0 ∙ bytes_of name from (61 ∷ default_left from) (some_bytes (default_left from) (let k : 0 < default_size (default_left from) = omega (arith, d.size_is) in k)).0;
       len = λ h. d.len_is ∙ ap ok_len ((some_bytes (default_left from) (let k : 0 < default_size (default_left from) = omega (arith, d.size_is) in k)).1 ∙ ap (λ (n : ℕ). n - 1) d.size_is);
@@ -154,9 +147,6 @@ pub first_of_list : (room : ℕ) (before : List Formal) (text : List ℕ) → is
 first_of_list zero before text h = absurd (false≢true (sym (ap is_listed (list_full before text) ∙ not_listed _) ∙ h))
 first_of_list (suc left) before text h = first_by left before text (formal_in before text) refl (sym (ap is_listed (list_step left before text)) ∙ h)
 
-one_size : (f : Formal) → sum_by formal_size (f ∷ []) ≡ formal_size f
-one_size f = omega (arith, sum_by-cons formal_size f [])
-
 all_listed : (fs : List Formal) (after : List ℕ) → all_of (Listed (Some fs) after) ≡ fs
 unfolding listed
 all_listed fs after = refl
@@ -198,14 +188,11 @@ listed_rest text rest old items a h = ap is_listed a.same ∙ h
 pub append_told : (text rest old items : List ℕ) → IsAppended text rest old items → is_listed (formals_in 255 [] text) ≡ true → is_told rest ≡ true
 append_told text rest old items a h = (first_of_list a.room a.before rest (listed_rest text rest old items a h)).told
 
-length_bytes : (fs : List Formal) → length (flat_map formal_bytes fs) ≡ sum_by formal_size fs
-length_bytes fs = length_list_bytes fs
-
 pub append_room : (text rest old items : List ℕ) → IsAppended text rest old items → is_listed (formals_in 255 [] text) ≡ true → length items + formal_size (formal_told rest) ≤ length old + sum_by formal_size (all_of (formals_in 255 [] text))
 append_room text rest old items a h =
     let r = first_size a.room a.before rest (listed_rest text rest old items a h) in
     let e = ap (λ (l : FormalList). sum_by formal_size (all_of l)) a.same in
-    omega (arith, r, e, ap (length {A = ℕ}) a.bytes, length-append old (flat_map formal_bytes a.before), length_bytes a.before)
+    omega (arith, r, e, ap (length {A = ℕ}) a.bytes, length-append old (flat_map formal_bytes a.before), length_list_bytes a.before)
 
 more_bytes : (old items more : List ℕ) (before : List Formal) (f : Formal) → items ≡ old ++ flat_map formal_bytes before → more ≡ items ++ formal_bytes f → more ≡ old ++ flat_map formal_bytes (before ++ f ∷ [])
 more_bytes old items more before f e m =
@@ -258,16 +245,6 @@ mid_short text name from behind old items size t z e = record {
 pub mid_length : (text old items : List ℕ) → IsMid text old items → length items + 1 ≡ length old + formal_size (formal_told text)
 mid_length text old items m =
     omega (arith, ap (length {A = ℕ}) m.whole, length-append items (44 ∷ []), length-append old (formal_bytes (formal_told text)), length_formal_bytes (formal_told text))
-
-long_size : (text name from behind : List ℕ) (size : ℕ) → IsTold text name from behind size → 0 < size → length (default_left from) + 1 ≡ size
-long_size text name from behind size t h =
-    let a = ap (length {A = ℕ}) (t.long h) in
-    omega (arith, a, t.size_is, length_formal_bytes (formal_told text), length-append name (61 ∷ default_left from ++ 44 ∷ []), length-append (default_left from) (44 ∷ []))
-
-pub left_length : (text name from behind : List ℕ) (size : ℕ) (items more : List ℕ) → IsTold text name from behind size → 0 < size → more ≡ items ++ trimmed_left (trims true) (cleared (start_level true) from) → length more + 1 ≡ length items + size
-left_length text name from behind size items more t h e =
-    let n : length (default_left from) ≡ size - 1 = omega (arith, long_size text name from behind size t h) in
-    omega (arith, ap (length {A = ℕ}) e, length-append items (trimmed_left (trims true) (cleared (start_level true) from)), ap (length {A = ℕ}) (left_is from))
 
 pub behind_comma : (text behind after : List ℕ) (b : ℕ) → behind_told text ≡ behind → behind ≡ b ∷ after → b ≡ 44 → behind_told text ≡ 44 ∷ after
 behind_comma text behind after b e f g = e ∙ (f ∙ ap (λ (x : ℕ). x ∷ after) g)

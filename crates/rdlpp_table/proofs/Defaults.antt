@@ -1,5 +1,5 @@
 -- A default text that was read: by its tokens, and as it is read back from a table's bytes.
-use Rattle.std.proofs.Common.{◌≡◌, ℕ, zero, suc, ◌+◌, ◌-◌, ◌<◌, Bool, true, false, cond, ◌&&◌, List, [], ◌∷◌, ◌++◌, length, take, drop, get_or, eqb, Option, Some, None, Ok, Err, Result, option_map, refl, ap, sym, ◌∙◌, arith}
+use Rattle.std.proofs.Common.{◌≡◌, ℕ, zero, suc, ◌+◌, ◌-◌, Bool, true, false, cond, ◌&&◌, List, [], ◌∷◌, ◌++◌, length, take, drop, get_or, eqb, Option, Some, None, Ok, Err, option_map, refl, ap, sym, ◌∙◌, arith}
 use Rattle.std.proofs.lemmas.Bool.{cond-true, cond-false, ne_eqb}
 use Rattle.rdlpp_scan.specs.declared.token.Kind.{Kind}
 use Rattle.rdlpp_scan.specs.declared.token.Kind.TheVariants.{Name, Word, Back, Blank, LineEnd, Str, LineComment, BlockComment, Opener, Closer, Comma, Other, Perl as PerlKind, BareBackquote}
@@ -16,6 +16,7 @@ use Rattle.rdlpp_lines.specs.Texts.{Cleared, Sound, Unsound, onto, cleared, star
 use Rattle.rdlpp_table.specs.Formals.{IsDefault, default_behind, default_left}
 use Rattle.rdlpp_table.specs.Store.{fills, is_clean, is_default}
 use Rattle.rdlpp_lines.specs.Texts.{told, read_by, left_in, kept_bytes}
+use Rattle.rdlpp_lines.proofs.Measures.{left_len, ok_len}
 use Rattle.rdlpp_table.proofs.CleanParts.{default_behind_plain}
 
 -- the default text of what is left
@@ -73,9 +74,6 @@ one_default : (level : ℕ) (t : Token) (ts : List Token) (text : List ℕ) → 
 unfolding default_of_tokens
 one_default level t ts text = refl
 
-behind_token : (n b : ℕ) (bs : List ℕ) → 0 < n → drop n (b ∷ bs) ≡ drop (n - 1) bs
-behind_token n b bs h = ap (λ (i : ℕ). drop i (b ∷ bs)) (let e : n ≡ suc (n - 1) = omega arith in e)
-
 found_cond : (p : Bool) (x y : Cleared) → found (cond p x y) ≡ cond p (found x) (found y)
 found_cond true x y = refl
 found_cond false x y = refl
@@ -91,7 +89,8 @@ found_by (b ∷ bs) m (suc n) level =
 found_by (b ∷ bs) m zero level =
     let t : Token = token_of m (b ∷ bs) in
     let ts : List Token = tokens_from t.next_mode (t.len - 1) bs in
-    let at : drop t.len (b ∷ bs) ≡ drop (t.len - 1) bs = behind_token t.len b bs (token_of-part m (b ∷ bs) (omega arith)).not_empty in
+    let len : t.len ≡ suc (t.len - 1) = omega (arith, (token_of-part m (b ∷ bs) (omega arith)).not_empty) in
+    let at : drop t.len (b ∷ bs) ≡ drop (t.len - 1) bs = ap (λ (i : ℕ). drop i (b ∷ bs)) len in
     let next : ℕ = level_behind t.kind level in
     let ends : Bool = eqb level 0 && ends_default t.kind b in
     let rest : onto_default t (b ∷ bs) (default_of_tokens next ts (drop t.len (b ∷ bs))) ≡ found (onto (kept_bytes t (b ∷ bs)) (read_by (Some next) t.next_mode ts (drop t.len (b ∷ bs)))) =
@@ -145,11 +144,6 @@ unfolding default_size
 size_is [] = refl
 size_is (b ∷ bs) = sym (cond-false _ _ _ (ne_eqb (length (b ∷ bs)) 0 (λ e. absurd (omega arith))))
 
-left_len : (c : Cleared) (len : ℕ) → trimmed_len (trims true) c ≡ Ok len → length (trimmed_left (trims true) c) ≡ len
-unfolding trimmed_len trimmed_left
-left_len (Sound rest last) len e = cc
-left_len (Unsound fault) len e = absurd (cc)
-
 -- a default text that was read is read back
 pub default_plain : (text : List ℕ) (b : ℕ) (bs : List ℕ) → text_behind (cleared (start_level true) text) ≡ b ∷ bs → is_default (default_left text) ≡ true
 unfolding start_level default_left
@@ -157,17 +151,14 @@ default_plain text b bs e =
     let c : Cleared = cleared (Some 0) text in
     default_behind_plain text (record { text = trimmed_left (trims true) c; behind = text_behind c }) (default_is text ∙ sound_found c b bs e)
 
-abbrev ok_len : ℕ → Result ℕ LexFault
-ok_len n = Ok n
-
 pub default_found : (text behind : List ℕ) (b : ℕ) (bs : List ℕ) (len size : ℕ) → trimmed_len (trims true) (cleared (start_level true) text) ≡ Ok len → text_behind (cleared (start_level true) text) ≡ behind → behind ≡ b ∷ bs → size ≡ size_by len → IsDefault (default_behind text) text behind size
 unfolding start_level default_left
 default_found text behind b bs len size l e f s =
     let c : Cleared = cleared (Some 0) text in
     record {
       is = default_is text ∙ (sound_found c b bs (e ∙ f) ∙ ap (λ (x : List ℕ). Some (let d : DefaultText = record { text = trimmed_left (trims true) c; behind = x } in d)) e);
-      size_is = size_is (trimmed_left (trims true) c) ∙ (ap size_by (left_len c len l) ∙ sym s);
-      len_is = l ∙ ap (λ (n : ℕ). ok_len n) (sym (left_len c len l));
+      size_is = size_is (trimmed_left (trims true) c) ∙ (ap size_by (left_len (trims true) c len l) ∙ sym s);
+      len_is = l ∙ ap (λ (n : ℕ). ok_len n) (sym (left_len (trims true) c len l));
       plain = default_plain text b bs (e ∙ f);
     }
 

@@ -80,17 +80,6 @@ few_starts names order starts from d h = λ i b l.
     let fits : get_or starts (from + i) 0 ≤ length order = d.inside (from + i) (omega (arith, d.long)) in
     omega (arith, get_or-drop from starts i b, get_or_default starts (from + i) b 0 inside)
 
--- the parts behind that of a name begin behind its place
-pub more_starts : (names : List (List ℕ)) (order starts : List ℕ) (at part : ℕ) → IsDivided names order starts → at < length order → part_of (key_at names order at) ≡ part → All (λ s. 0 < s) (drop (part + 1) starts)
-more_starts names order starts at part d h e = λ i b l.
-    let p : ℕ = part + 1 + i in
-    let inside : p < length starts = omega (arith, length-drop (part + 1) starts) in
-    let value : get_or (drop (part + 1) starts) i b ≡ get_or starts p 0 = get_or-drop (part + 1) starts i b ∙ get_or_default starts p b 0 inside in
-    elim (cases_lt at (get_or starts p 0)) [
-      | inl g ↦ omega (arith, value)
-      | inr g ↦ absurd (omega (arith, e, d.above p at (omega (arith, d.long)) g h))
-    ]
-
 -- where a place lies in the index with one place more: among those before, in its middle, or among those behind
 module _ (names : List (List ℕ)) (order starts new name : List ℕ) (gap n part : ℕ) (x : IsIndex names order) (g : IsGap names order name gap)
     (d : IsDivided names order starts) (e : n ≡ length names) (here : part_of name ≡ part) (l : IsLater part starts new) where
@@ -114,14 +103,6 @@ module _ (names : List (List ℕ)) (order starts new name : List ℕ) (gap n par
 
   high_part : (k : ℕ) → gap ≤ k → k < length order → part ≤ part_of (key_at names order k)
   high_part k a b = omega (arith, more_part _ name (g.above k a b))
-
-  -- how far a part began before
-  began : (p k : ℕ) → p ≤ 1024 → k < get_or new p 0 → part < p ⊎ k < get_or starts p 0
-  began p k h b =
-      elim (cases_lt part p) [
-        | inl a ↦ inl a
-        | inr a ↦ inr (omega (arith, l.before p a))
-      ]
 
   grown : (p : ℕ) → p ≤ 1024 → (get_or starts p 0 ≤ get_or new p 0) × (get_or new p 0 ≤ get_or starts p 0 + 1)
   grown p h =

@@ -23,7 +23,7 @@ use Rattle.rdlpp_scan.proofs.TokenLens.{token_of-part}
 use Rattle.rdlpp_scan.proofs.TokenLists.{tokens_from-step, tokens-some}
 use Rattle.rdlpp_lines.specs.LineTokens.{kept_of}
 use Rattle.rdlpp_lines.specs.Texts.{Sound, onto, cleared, ends_default, left_in, level_behind}
-use Rattle.rdlpp_lines.proofs.Advancing.{by_first, left_first}
+use Rattle.rdlpp_lines.proofs.Advancing.{by_first, kept_own, left_first}
 use Rattle.rdlpp_table.specs.Store.{fills, is_clean, is_default}
 
 -- a text that is read whole
@@ -197,11 +197,6 @@ comma_read : (l : ℕ) (rest : List ℕ) → eqb l 0 ≡ true → left_in (Some 
 unfolding whole is_perl ends_default
 comma_read l rest e =
     left_first (Some l) Plain (44 ∷ rest) (omega arith) ∙ (ap (λ (t : Token). by_first (Some l) t (44 ∷ rest)) (comma_token rest) ∙ cond-true _ _ _ (and_from (eqb l 0) true e refl))
-
-kept_own : (k : Kind) (xs : List ℕ) → is_line_comment k ≡ false → kept_of k xs ≡ xs
-unfolding is_line_comment
-kept_own LineComment xs h = absurd (false≢true (sym h))
-kept_own _ xs h = refl
 
 -- a text that fills a level up is read up to a `,` behind it
 fills_read : (fuel l : ℕ) (xs rest : List ℕ) → length xs ≤ fuel → AllByRecursion IsCleanToken (tokens_from Plain 0 xs) → fills_text l xs ≡ true → left_in (Some l) Plain (xs ++ 44 ∷ rest) ≡ Sound xs (44 ∷ rest)

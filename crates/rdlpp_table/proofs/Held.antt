@@ -82,7 +82,3 @@ sound_with view m s sound h k =
       bytes_fit = omega (arith, table_size-append (without m.name view.macros) (m ∷ []));
       macros_fit = omega (arith, length-append (without m.name view.macros) (m ∷ []));
     }
-
-pub plain_size : (name body : List ℕ) → macro_size (record { name = name; formals = None; body = body }) ≡ length name + length body
-unfolding macro_size
-plain_size name body = omega arith

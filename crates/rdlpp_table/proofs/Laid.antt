@@ -1,17 +1,17 @@
 -- What follows from how a table lies in its lists.
-use Rattle.std.proofs.Common.{◌≡◌, ℕ, ◌<◌, ◌≤◌, List, [], length, get_or, bytes_eq, Option, Some, option_map, is_some, unwrap_or, None, refl, ap, sym, ◌∙◌, subst, arith, Vec, vec_len, rules, Global}
-use Rattle.std.specs.List.{IsDistinct, position}
+use Rattle.std.proofs.Common.{◌≡◌, ℕ, ◌<◌, ◌≤◌, List, [], length, get_or, Option, Some, option_map, is_some, unwrap_or, None, refl, ap, sym, ◌∙◌, arith, Vec, vec_len, rules, Global}
+use Rattle.std.specs.List.{IsDistinct}
 use Rattle.std.proofs.lemmas.List.{length-map, get_or-map}
 use Rattle.std.proofs.lemmas.List.Elements.{All-nil}
 use Rattle.std.proofs.lemmas.List.Quantifiers.{position-Some}
 use Rattle.rdlpp_table.specs.declared.entry.Entry.{Entry}
 use Rattle.rdlpp_table.specs.Stops.{is_copied}
 use Rattle.rdlpp_table.specs.Table.{Formal, Macro, table_bytes, table_size, macro_named}
-use Rattle.rdlpp_table.specs.View.{TableView, IsSound, formal_at, formal_named, formals_of, macro_at, no_macro, place_named}
-use Rattle.rdlpp_table.specs.Store.{IsStored, formals_read, list_of, macros_in, macro_in, name_of, body_of, entry_end, entry_of, entries_of}
+use Rattle.rdlpp_table.specs.View.{TableView, formal_at, formal_named, formals_of, macro_at, no_macro, place_named}
+use Rattle.rdlpp_table.specs.Store.{IsStored, formals_read, list_of, macros_in, macro_in, body_of, entry_end, entry_of, entries_of}
 use Rattle.rdlpp_table.specs.Entries.{AreWithin}
 use Rattle.rdlpp_table.proofs.Sizes.{stored_within, entry_of_macro}
-use Rattle.rdlpp_table.proofs.Lookup.{position-map, find_by_position}
+use Rattle.rdlpp_table.proofs.Lookup.{find_by_position}
 use Rattle.rdlpp_table.specs.Layout.{view_of, IsHeld}
 
 pub length_macros_in : (bytes : List ℕ) (entries : List Entry) → length (macros_in bytes entries) ≡ length entries
@@ -46,24 +46,12 @@ pub macro_at_entry : (bytes : List ℕ) (entries : List Entry) (a b : ℕ) (view
 unfolding macros_in
 macro_at_entry bytes entries a b view i d e h = ap (λ (v : TableView). macro_at v.macros i) (sym e) ∙ get_or-map (macro_in bytes) entries i d no_macro h
 
--- the place of a name among the entries
-pub place_in_view : (bytes : List ℕ) (entries : List Entry) (a b : ℕ) (view : TableView) (name : List ℕ) → view_of bytes entries a b ≡ view → position (λ e. bytes_eq (name_of bytes e) name) entries ≡ place_named view.macros name
-unfolding macros_in macro_in
-place_in_view bytes entries a b view name e = sym (position-map (λ m. bytes_eq m.name name) (macro_in bytes) entries) ∙ ap (λ (v : TableView). place_named v.macros name) e
-
 pub named_by_place : (ms : List Macro) (name : List ℕ) → macro_named ms name ≡ option_map (macro_at ms) (place_named ms name)
 unfolding macro_named
 named_by_place ms name = find_by_position _ ms no_macro
 
 pub inside_by_place : (ms : List Macro) (name : List ℕ) (i : ℕ) → place_named ms name ≡ Some i → i < length ms
 inside_by_place ms name i e = (position-Some _ ms i no_macro e).0
-
-pub sound_view : (bytes : List ℕ) (entries : List Entry) (a b : ℕ) (view : TableView) → view_of bytes entries a b ≡ view → IsHeld bytes entries a b → IsSound view
-sound_view bytes entries a b view e held = subst (λ (v : TableView). IsSound v) e held.sound
-
--- the place found in slices of the lists
-pub found_place : (bs : List ℕ) (es : List Entry) (bytes : List ℕ) (entries : List Entry) (a b : ℕ) (view : TableView) (name : List ℕ) (r : Option ℕ) → bs ≡ bytes → es ≡ entries → view_of bytes entries a b ≡ view → r ≡ position (λ e. bytes_eq (name_of bs e) name) es → r ≡ place_named view.macros name
-found_place bs es bytes entries a b view name r p q e h = h ∙ rw (p, q) (place_in_view bytes entries a b view name e)
 
 pub named_at : (ms : List Macro) (name : List ℕ) (r : Option ℕ) → r ≡ place_named ms name → macro_named ms name ≡ option_map (macro_at ms) r
 named_at ms name r e = named_by_place ms name ∙ ap (option_map (macro_at ms)) (sym e)
@@ -95,10 +83,6 @@ copied_at bytes entries a b view i j entry e held s h q =
 
 pub stored_slices_within : (bs : List ℕ) (es : List Entry) (bytes : List ℕ) (entries : List Entry) (ms : List Macro) → bs ≡ bytes → es ≡ entries → IsStored bytes entries ms → AreWithin (length bs) es
 stored_slices_within bs es bytes entries ms p q s = rw (p, q) (stored_within bytes entries ms s)
-
--- the place found in slices of the lists, among the macros
-pub stored_place : (bs : List ℕ) (es : List Entry) (bytes : List ℕ) (entries : List Entry) (name : List ℕ) (r : Option ℕ) → bs ≡ bytes → es ≡ entries → r ≡ position (λ e. bytes_eq (name_of bs e) name) es → r ≡ place_named (macros_in bytes entries) name
-stored_place bs es bytes entries name r p q h = found_place bs es bytes entries 0 0 (view_of bytes entries 0 0) name r p q refl h
 
 some_map : (f : ℕ → Macro) (r : Option ℕ) → is_some r ≡ is_some (option_map f r)
 some_map f None = refl

@@ -1,24 +1,20 @@
 -- A macro that is to be stored, in the lists of a table.
-use Rattle.std.proofs.Common.{◌≡◌, ℕ, ◌+◌, ◌<◌, Bool, true, false, List, [], ◌++◌, length, get_or, drop, eqb, slice_range, Option, Ok, Some, None, is_some, option_map, unwrap_or, sum_by, refl, ap, sym, ◌∙◌, arith, append_assoc, append-nil, length-append, inl, inr}
+use Rattle.std.proofs.Common.{◌≡◌, ℕ, ◌+◌, ◌<◌, Bool, true, false, List, [], ◌++◌, length, get_or, drop, eqb, slice_range, Option, Some, None, is_some, option_map, unwrap_or, sum_by, refl, ap, sym, ◌∙◌, arith, append_assoc, append-nil, length-append, inl, inr}
 use Rattle.std.specs.List.{flat_map}
 use Rattle.std.proofs.lemmas.Bool.{cases_Bool, cond-true, cond-false}
 use Rattle.std.proofs.lemmas.List.{drop_at, nil_from_length}
 use Rattle.rdlpp_table.specs.Stops.{is_copied, is_none, stop_of}
+use Rattle.rdlpp_lines.proofs.Measures.{left_len}
 use Rattle.rdlpp_table.proofs.RoundTrip.{between_parts, read_list}
 use Rattle.rdlpp_table.specs.declared.entry.Entry.{Entry}
 use Rattle.rdlpp_table.specs.Table.{Formal, formal_bytes, formal_size, macro_bytes, macro_size}
 use Rattle.rdlpp_table.specs.Define.{FormalList, Listed, after_space, formals_in, formals_of_list}
 use Rattle.rdlpp_lines.specs.Continuations.{joined}
-use Rattle.rdlpp_lines.specs.Texts.{Cleared, Sound, Unsound, trimmed_left, trimmed_len, trims, start_level, cleared}
+use Rattle.rdlpp_lines.specs.Texts.{trimmed_left, trims, start_level, cleared}
 use Rattle.std.specs.List.{list_all}
 use Rattle.rdlpp_table.specs.Formals.{IsRead, listed}
 use Rattle.rdlpp_table.specs.Store.{entry_of, formals_read, is_plain_formal, is_plain_macro, list_size}
 use Rattle.rdlpp_table.specs.New.{list_formals, new_macro, IsList, IsNew}
-
-left_len : (c : Cleared) (len : ℕ) → trimmed_len (trims false) c ≡ Ok len → length (trimmed_left (trims false) c) ≡ len
-unfolding trimmed_len trimmed_left
-left_len (Sound rest last) len e = cc
-left_len (Unsound fault) len e = absurd (cc)
 
 -- what is left of a body's text
 abbrev pub body_of_text : Bool → List ℕ → List ℕ
@@ -27,7 +23,7 @@ body_of_text is_logical text = trimmed_left (trims false) (cleared None (joined 
 pub new_size : (name : List ℕ) (arity : Option ℕ) (list : List ℕ) (size : ℕ) (is_logical : Bool) (text : List ℕ) (len : ℕ) → IsNew name arity list size is_logical text len → macro_size (new_macro name arity list is_logical text) ≡ length name + (size + len)
 unfolding macro_size
 new_size name arity list size is_logical text len n =
-    omega (arith, n.listed.size_is, left_len (cleared None (joined is_logical text)) len n.body_is)
+    omega (arith, n.listed.size_is, left_len (trims false) (cleared None (joined is_logical text)) len n.body_is)
 
 pub new_bytes : (bytes named listed done name : List ℕ) (arity : Option ℕ) (list : List ℕ) (is_logical : Bool) (text : List ℕ) → named ≡ bytes ++ name → listed ≡ named ++ flat_map formal_bytes (unwrap_or (list_formals arity list) []) → done ≡ listed ++ body_of_text is_logical text → done ≡ bytes ++ macro_bytes (new_macro name arity list is_logical text)
 unfolding macro_bytes
@@ -71,7 +67,7 @@ new_entry start name arity list size is_logical text len copied n h =
     let body : ℕ = length (body_of_text is_logical text) in
     let sum : ℕ = sum_by formal_size (unwrap_or (list_formals arity list) []) in
     ap (λ (k : ℕ). let e : Entry = record { start = start; name_len = length name; list_len = k; body_len = len; arity = arity; is_copied = copied } in e) (sym n.listed.size_is)
-    ∙ (ap (λ (k : ℕ). let e : Entry = record { start = start; name_len = length name; list_len = sum; body_len = k; arity = arity; is_copied = copied } in e) (sym (left_len (cleared None (joined is_logical text)) len n.body_is))
+    ∙ (ap (λ (k : ℕ). let e : Entry = record { start = start; name_len = length name; list_len = sum; body_len = k; arity = arity; is_copied = copied } in e) (sym (left_len (trims false) (cleared None (joined is_logical text)) len n.body_is))
     ∙ (ap (λ (a : Option ℕ). let e : Entry = record { start = start; name_len = length name; list_len = sum; body_len = body; arity = a; is_copied = copied } in e) (sym n.listed.arity_is)
     ∙ ap (λ (b : Bool). let e : Entry = record { start = start; name_len = length name; list_len = sum; body_len = body; arity = option_map length (list_formals arity list); is_copied = b } in e) h))
 
@@ -138,7 +134,3 @@ list_is list behind count size r =
 pub no_list_is : (list : List ℕ) → IsList None list 0
 unfolding list_formals
 no_list_is list = record { size_is = refl; arity_is = refl; plain = refl }
-
-pub no_list_formals : (list : List ℕ) → list_formals None list ≡ None
-unfolding list_formals
-no_list_formals list = refl

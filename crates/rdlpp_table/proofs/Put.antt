@@ -2,13 +2,14 @@
 use Rattle.std.proofs.Common.{◌≡◌, ℕ, ◌+◌, ◌<◌, true, List, [], ◌∷◌, ◌++◌, length, take, drop, map, get_or, remove, bytes_eq, Some, None, refl, ap, sym, ◌∙◌, subst, arith, append-nil, length-append, zero-add, add-one}
 use Rattle.std.specs.List.{IsDistinct}
 use Rattle.std.proofs.lemmas.Bool.{and_from}
+use Rattle.std.proofs.lemmas.List.Folds.{list_all-append}
 use Rattle.rdlpp_table.specs.declared.entry.Entry.{Entry}
 use Rattle.rdlpp_table.specs.Table.{Macro, macro_bytes, macro_size, table_bytes, table_size, without}
 use Rattle.rdlpp_table.specs.View.{macro_at, place_named}
 use Rattle.rdlpp_table.specs.Store.{entry_of, entries_of, is_plain_macro, macros_in, IsStored}
 use Rattle.rdlpp_table.proofs.RoundTrip.{read_back}
 use Rattle.rdlpp_table.proofs.Sizes.{table_size-cons, table_size-append, length_table_bytes, entry_of_macro}
-use Rattle.rdlpp_table.proofs.Taken.{entries_of-append, table_bytes-append, list_all-append, length_entries_of, size_of_entry, split_at}
+use Rattle.rdlpp_table.proofs.Taken.{entries_of-append, table_bytes-append, length_entries_of, size_of_entry, split_at}
 use Rattle.rdlpp_table.proofs.Without.{without_at, without_nowhere}
 use Rattle.rdlpp_table.proofs.Laid.{inside_by_place}
 
@@ -26,7 +27,7 @@ put_stored bytes entries ms m start bytes' entries' s p n b e =
     record {
       bytes_are = b ∙ (ap (λ (l : List ℕ). l ++ macro_bytes m) s.bytes_are ∙ (ap (λ (l : List ℕ). table_bytes ms ++ l) (sym (one_bytes m)) ∙ sym (table_bytes-append ms (m ∷ []))));
       entries_are = e ∙ (ap (λ (l : List Entry). l ++ entry_of start m ∷ []) s.entries_are ∙ (ap (λ (k : ℕ). entries_of 0 ms ++ entry_of k m ∷ []) at ∙ (ap (λ (l : List Entry). entries_of 0 ms ++ l) (sym (one_entry (0 + table_size ms) m)) ∙ sym (entries_of-append 0 ms (m ∷ [])))));
-      plain = list_all-append is_plain_macro ms (m ∷ []) s.plain (and_from _ _ p refl);
+      plain = list_all-append is_plain_macro ms (m ∷ []) ∙ and_from _ _ s.plain (and_from _ _ p refl);
     }
 
 size_of_remove : (ms : List Macro) (place : ℕ) → place < length ms → macro_size (macro_at ms place) + table_size (remove ms place) ≡ table_size ms

@@ -4,7 +4,7 @@ use Rattle.std.specs.List.{list_any, list_all, prefix_len}
 use Rattle.std.proofs.lemmas.Bool.{both_ways, cases_Bool, cond-false, and_from, eqb-true, false_from_ne_true, leb-true, leb-false}
 use Rattle.std.proofs.lemmas.List.{map-append, length-map}
 use Rattle.std.proofs.lemmas.List.Folds.{list_all-append}
-use Rattle.std.proofs.lemmas.List.Sums.{sum_by-cons, sum_by-append}
+use Rattle.std.proofs.lemmas.List.Sums.{sum_by-append}
 use Rattle.rdlpp_scan.specs.Bytes.{is_letter, is_digit, is_word}
 use Rattle.rdlpp_table.specs.Table.{Formal, default_size, formal_size}
 use Rattle.rdlpp_table.specs.Define.{FormalList, Listed, Unlisted, OneFormal, Good, Bad, DefaultText, after_space, behind_name, default_in, formal_fault, formal_in, formal_name, formals_in, formals_of_list, is_nothing, leading_name, with_default}
@@ -12,6 +12,7 @@ use Rattle.rdlpp_table.specs.Store.{is_default, is_name_byte, is_plain_formal}
 use Rattle.rdlpp_table.specs.Formals.{IsDefault, IsPart, IsRead, default_left, fault_behind}
 use Rattle.rdlpp_table.specs.declared.fault.DefineKind.{DefineKind}
 use Rattle.rdlpp_table.specs.declared.fault.DefineKind.TheVariants as kind
+use Rattle.rdlpp_table.proofs.Sizes.{one_size}
 
 -- a list by its first formal
 pub list_full : (before : List Formal) (text : List ℕ) → formals_in 0 before text ≡ Unlisted (unwrap_or (formal_fault before (formal_name text)) kind.TooManyFormals)
@@ -225,7 +226,7 @@ plain_with : (text name tail from : List ℕ) → IsPart text name tail → is_d
 unfolding is_plain_formal
 plain_with text name tail from p d = and_from _ _ (ap (list_all is_name_byte) p.name_is ∙ leading_named (after_space text)) d
 
-size_with : (name from : List ℕ) (n : ℕ) → default_size (default_left from) ≡ n → formal_size (formal_with name from) ≡ length name + (n + 1)
+pub size_with : (name from : List ℕ) (n : ℕ) → default_size (default_left from) ≡ n → formal_size (formal_with name from) ≡ length name + (n + 1)
 unfolding formal_size
 size_with name from n e = ap (λ (k : ℕ). length name + (k + 1)) e
 
@@ -234,9 +235,6 @@ record IsMore (before : List Formal) (f : Formal) (names : List (List ℕ)) (siz
   names_are : map (λ (x : Formal). x.name) (before ++ f ∷ []) ≡ names
   size_is : sum_by formal_size (before ++ f ∷ []) ≡ size
   plain : list_all is_plain_formal (before ++ f ∷ []) ≡ true
-
-one_size : (f : Formal) → sum_by formal_size (f ∷ []) ≡ formal_size f
-one_size f = omega (arith, sum_by-cons formal_size f [])
 
 more_of : (text rest : List ℕ) (names slice : List (List ℕ)) (size : ℕ) (name tail from behind : List ℕ) (counted : ℕ) (t : IsTaken text rest names slice size name tail from behind counted) (more : List (List ℕ)) (sum : ℕ) → more ≡ names ++ name ∷ [] → sum ≡ size + (length name + counted + 1) → IsMore t.found.read.before (formal_with name from) more sum
 more_of text rest names slice size name tail from behind counted t more sum m s =

@@ -9,6 +9,7 @@ use Rattle.rdlpp_table.specs.Store.{entry_of, entries_of, entry_end, body_start,
 use Rattle.rdlpp_lines.specs.Texts.{text_behind}
 use Rattle.rdlpp_table.proofs.Filled.{default_read_back}
 use Rattle.rdlpp_table.proofs.Sizes.{length_list_bytes, length_macro_bytes}
+use Rattle.rdlpp_table.proofs.Taken.{table_bytes-cons}
 
 -- a part of a text between two others
 pub between_parts : (a b c : List ℕ) (i j : ℕ) → length a ≡ i → i + length b ≡ j → slice_range (a ++ (b ++ c)) i j ≡ b
@@ -96,16 +97,12 @@ read_parts before after m h =
     ∙ between_parts ((before ++ m.name) ++ list) m.body after _ _ (omega (arith, length-append (before ++ m.name) list, length-append before m.name, length_list_bytes formals)) refl in
     same_macro m _ _ _ name listed body h
 
-macro_bytes-cons : (m : Macro) (ms : List Macro) → table_bytes (m ∷ ms) ≡ macro_bytes m ++ table_bytes ms
-unfolding table_bytes
-macro_bytes-cons m ms = refl
-
 read_macros : (before : List ℕ) (ms : List Macro) → list_all is_plain_macro ms ≡ true → macros_in (before ++ table_bytes ms) (entries_of (length before) ms) ≡ ms
 unfolding macros_in entries_of
 read_macros before [] h = refl
 read_macros before (m ∷ ms) h =
     let parts = and_parts (is_plain_macro m) (list_all is_plain_macro ms) h in
-    let whole : before ++ table_bytes (m ∷ ms) ≡ before ++ (macro_bytes m ++ table_bytes ms) = ap (λ (l : List ℕ). before ++ l) (macro_bytes-cons m ms) in
+    let whole : before ++ table_bytes (m ∷ ms) ≡ before ++ (macro_bytes m ++ table_bytes ms) = ap (λ (l : List ℕ). before ++ l) (table_bytes-cons m ms) in
     let moved : before ++ (macro_bytes m ++ table_bytes ms) ≡ (before ++ macro_bytes m) ++ table_bytes ms = sym (append_assoc before (macro_bytes m) (table_bytes ms)) in
     let n : length before + macro_size m ≡ length (before ++ macro_bytes m) = omega (arith, length-append before (macro_bytes m), length_macro_bytes m) in
     ap (λ (l : List ℕ). macro_in l (entry_of (length before) m) ∷ map (macro_in l) (entries_of (length before + macro_size m) ms)) whole

@@ -3,7 +3,7 @@ use Rattle.std.proofs.Common.{◌≡◌, ℕ, zero, suc, ◌+◌, ◌-◌, ◌^�
 use Rattle.std.specs.declared.cmp.Ordering.TheVariants.{Less, Equal, Greater}
 use Rattle.std.proofs.Math.Nat.{pow-suc}
 use Rattle.std.proofs.lemmas.Bool.{cases_lt}
-use Rattle.rdlpp_table.specs.Index.{IsCounted, IsGap, IsIndex, IsDivided, IsMiddle, IsPlace, index_order, key_at, name_order, part_of}
+use Rattle.rdlpp_table.specs.Index.{IsCounted, IsIndex, IsDivided, IsMiddle, IsPlace, index_order, key_at, name_order, part_of}
 use Rattle.rdlpp_table.proofs.Orders.{less_more, part_less, part_more, part_same, same_name, turned, turned_back}
 
 -- where a search stands that began at so many steps: the name isn't before `low`, nor from `high` on, what is between them stands in its part, and the steps that are left halve what is between them
@@ -104,14 +104,6 @@ seek_down names order name low high first now middle next x s h m above e =
       counted = r.1;
     }
 
-pub seek_counted : (names : List (List ℕ)) (order name : List ℕ) (low high first now next : ℕ) → IsSeeking names order name low high first now → low < high → next ≡ now + 1 → IsCounted first next
-seek_counted names order name low high first now next s h e =
-    (stepped first now next (high - low) 0 s.counted (omega arith) s.budget (omega arith) e).1
-
 pub seek_found : (names : List (List ℕ)) (order name : List ℕ) (low high first now middle : ℕ) → IsSeeking names order name low high first now → low < high → IsMiddle low high middle → name_order (key_at names order middle) name ≡ Equal → IsPlace names order name middle
 seek_found names order name low high first now middle s h m e =
     record { inside = omega (arith, s.fits, m.to); same = same_name _ name e }
-
-pub seek_ended : (names : List (List ℕ)) (order name : List ℕ) (low high first now : ℕ) → IsSeeking names order name low high first now → high ≤ low → IsGap names order name low
-seek_ended names order name low high first now s h =
-    record { fits = omega (arith, s.fits, s.ordered); below = s.below; above = λ k g l. s.above k (omega arith) l }

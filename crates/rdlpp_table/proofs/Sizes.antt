@@ -27,6 +27,9 @@ unfolding formal_bytes formal_size
 length_formal_bytes f =
     omega (arith, length-append f.name (default_bytes f.text ++ 44 ∷ []), length-append (default_bytes f.text) (44 ∷ []), length_default f.text)
 
+pub one_size : (f : Formal) → sum_by formal_size (f ∷ []) ≡ formal_size f
+one_size f = omega (arith, sum_by-cons formal_size f [])
+
 pub length_list_bytes : (fs : List Formal) → length (flat_map formal_bytes fs) ≡ sum_by formal_size fs
 length_list_bytes [] = refl
 length_list_bytes (f ∷ fs) =

@@ -137,10 +137,7 @@ by_list text fs after e = elim (cases_Bool (eqb (get_or (after_space text) 0 0) 
   | inr c ↦ in_sound 255 [] text fs after no_formals_sound (omega arith) (sym (cond-false _ _ _ c) ∙ e)
 ]
 
-by_formals : (text : List ℕ) (o : Option (List Formal)) (after : List ℕ) → formals_of_list text ≡ Listed o after → AreSoundFormals (unwrap_or o [])
-by_formals text None after e = no_formals_sound
-by_formals text (Some fs) after e = by_list text fs after e
-
 -- the formals of a list are sound (this project's profile)
 pub listed_sound : (text : List ℕ) (o : Option (List Formal)) (after : List ℕ) → formals_of_list text ≡ Listed o after → AreSoundFormals (unwrap_or o [])
-listed_sound text o after e = by_formals text o after e
+listed_sound text None after e = no_formals_sound
+listed_sound text (Some fs) after e = by_list text fs after e

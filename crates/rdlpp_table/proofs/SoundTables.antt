@@ -1,7 +1,5 @@
 -- What a definition gives is sound, and so is the table with it.
-use Rattle.std.proofs.Common.{◌≡◌, ℕ, ◌+◌, cond, eqb, ltb, List, [], ◌∷◌, ◌++◌, Option, Some, None, length, drop, get_or, unwrap_or, refl, sym, ap, ◌∙◌, subst, inl, inr, arith}
-use Rattle.std.specs.List.{IsDistinct}
-use Rattle.std.proofs.lemmas.List.Elements.{All-nil}
+use Rattle.std.proofs.Common.{◌≡◌, ℕ, ◌+◌, cond, eqb, ltb, List, [], ◌∷◌, ◌++◌, Option, Some, None, length, drop, get_or, unwrap_or, refl, sym, ap, ◌∙◌, subst, inl, inr}
 use Rattle.std.proofs.lemmas.Bool.{cases_Bool, cond-true, cond-false, ltb-false}
 use Rattle.rdlpp_scan.specs.declared.token.LexFault.{LexFault}
 use Rattle.rdlpp_scan.specs.declared.token.Mode.TheVariants.{Plain}
@@ -85,11 +83,6 @@ set_sound name text m e =
 
 accepted_is : (xs ys : List Macro) → Accepted xs ≡ Accepted ys → xs ≡ ys
 accepted_is xs ys e = cc
-
--- an empty table is sound
-pub nothing_sound : (most_bytes most_macros : ℕ) → IsSound (record { macros = []; most_bytes = most_bytes; most_macros = most_macros })
-unfolding table_size IsDistinct
-nothing_sound a b = record { distinct = tt; each = All-nil IsSoundMacro; bytes_fit = omega arith; macros_fit = omega arith }
 
 -- a table with a sound macro as its newest is sound
 pub stored_sound : (table : TableView) (m : Macro) (new : List Macro) → IsSound table → IsSoundMacro m → stored table.most_bytes table.most_macros table.macros m ≡ Accepted new → IsSound (record table { macros = new })

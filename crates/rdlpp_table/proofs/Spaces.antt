@@ -1,14 +1,16 @@
 -- White space and names of a text with continuations.
-use Rattle.std.proofs.Common.{◌≡◌, ℕ, suc, ◌+◌, ◌-◌, Bool, true, false, cond, List, [], ◌∷◌, length, take, drop, get_or, eqb, one-add, refl, ap, sym, ◌∙◌, arith, inl, inr, None}
+use Rattle.std.proofs.Common.{◌≡◌, ℕ, suc, ◌+◌, ◌-◌, Bool, true, false, cond, List, [], ◌∷◌, length, take, drop, get_or, eqb, one-add, refl, ap, sym, ◌∙◌, inl, inr, None}
 use Rattle.std.specs.List.{prefix_len}
-use Rattle.std.proofs.lemmas.Bool.{cases_Bool, cond-true, cond-false, eqb-true, false_from_ne_true, both_ways}
+use Rattle.std.proofs.lemmas.Bool.{cases_Bool, cond-true, cond-false}
 use Rattle.std.proofs.lemmas.List.Folds.{length-prefix_len}
-use Rattle.rdlpp_scan.specs.Bytes.{is_letter, is_digit, is_word}
+use Rattle.rdlpp_scan.specs.Bytes.{is_letter, is_word}
 use Rattle.std.proofs.lemmas.List.{take_rest}
-use Rattle.rdlpp_table.specs.Define.{Listed, after_space, continuation_len, formal_list, formals_of_list, is_space, leading_name}
+use Rattle.rdlpp_table.specs.Define.{Listed, after_space, formal_list, formals_of_list, is_space, leading_name}
 use Rattle.rdlpp_table.specs.Formals.{IsPart}
 use Rattle.rdlpp_lines.specs.Continuations.{joined}
-use Rattle.rdlpp_lines.proofs.Joins.{BeginsWith, begins_with, joined_none, no_joint_at, same_run, SameRun}
+use Rattle.rdlpp_scan.proofs.Seams.{word_ten}
+use Rattle.rdlpp_lines.proofs.JoinedTokens.{word_back}
+use Rattle.rdlpp_lines.proofs.Joins.{first_in, first_out, joined_none, same_run, SameRun}
 
 -- the white space at which a text begins, byte by byte
 space_len : (b : ℕ) (bs : List ℕ) → is_space b ≡ true → prefix_len is_space (b ∷ bs) ≡ suc (prefix_len is_space bs)
@@ -29,27 +31,11 @@ pub none_space : (text : List ℕ) → text ≡ [] → after_space text ≡ text
 unfolding after_space
 none_space text t = ap (λ (l : List ℕ). drop (prefix_len is_space l) l) t ∙ sym t
 
--- the first byte of a class that has neither LF nor a backslash isn't touched by a continuation
-first_out : (test : ℕ → Bool) → test 10 ≡ false → (b : ℕ) (bs : List ℕ) → test b ≡ false → test (get_or (joined true (b ∷ bs)) 0 0) ≡ false
-unfolding joined
-first_out test line b bs e =
-    let w : BeginsWith (b ∷ bs) (continuation_len (b ∷ bs)) = begins_with (b ∷ bs) (omega arith) in
-    let n : ℕ = continuation_len (b ∷ bs) in
-    let out : test (get_or (b ∷ bs) n 0) ≡ false = elim w.joint [
-      | inl z ↦ ap (λ (k : ℕ). test (get_or (b ∷ bs) k 0)) z ∙ e
-      | inr t ↦ ap test (eqb-true (get_or (b ∷ bs) n 0) 10 t) ∙ line
-    ] in
-    ap (λ (l : List ℕ). test (get_or l 0 0)) w.first ∙ out
-
-pub plain_first : (test : ℕ → Bool) → test 92 ≡ false → (b : ℕ) (bs : List ℕ) → test b ≡ true → joined true (b ∷ bs) ≡ b ∷ joined true bs
-plain_first test back b bs e =
-    no_joint_at b bs (false_from_ne_true (eqb b 92) (λ h. both_ways (test 92) back (ap test (sym (eqb-true b 92 h)) ∙ e)))
-
 first_same : (test : ℕ → Bool) → test 10 ≡ false → test 92 ≡ false → (text : List ℕ) → test (get_or (joined true text) 0 0) ≡ test (get_or text 0 0)
 first_same test line back [] = ap (λ (l : List ℕ). test (get_or l 0 0)) joined_none
 first_same test line back (b ∷ bs) =
     elim (cases_Bool (test b)) [
-      | inl e ↦ ap (λ (l : List ℕ). test (get_or l 0 0)) (plain_first test back b bs e)
+      | inl e ↦ ap (λ (l : List ℕ). test (get_or l 0 0)) (first_in test back b bs e)
       | inr e ↦ first_out test line b bs e ∙ sym e
     ]
 
@@ -61,16 +47,8 @@ letter_back : is_letter 92 ≡ false
 unfolding is_letter
 letter_back = refl
 
-word_line : is_word 10 ≡ false
-unfolding is_word is_letter is_digit
-word_line = refl
-
-word_back : is_word 92 ≡ false
-unfolding is_word is_letter is_digit
-word_back = refl
-
 same_word : (text : List ℕ) → SameRun is_word text
-same_word text = same_run is_word word_line word_back text
+same_word text = same_run is_word word_ten word_back text
 
 -- the name of a text is the same where continuations are joined
 pub name_joined : (text : List ℕ) → leading_name (joined true text) ≡ leading_name text

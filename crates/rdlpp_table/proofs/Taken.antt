@@ -1,8 +1,9 @@
 -- A macro taken out of the lists in which a table lies.
-use Rattle.std.proofs.Common.{◌≡◌, ℕ, suc, ◌+◌, ◌<◌, ◌≤◌, Bool, true, List, [], ◌∷◌, ◌++◌, length, take, drop, map, get_or, refl, ap, sym, ◌∙◌, subst, arith, length-append, append_assoc, add-zero, add-one, remove, zero-add, ◌^◌, Vec, Global, vec_len, vec_capacity, rules}
+use Rattle.std.proofs.Common.{◌≡◌, ℕ, suc, ◌+◌, ◌<◌, ◌≤◌, List, [], ◌∷◌, ◌++◌, length, take, drop, map, get_or, refl, ap, sym, ◌∙◌, subst, arith, length-append, append_assoc, add-zero, add-one, remove, zero-add, ◌^◌, Vec, Global, vec_len, vec_capacity, rules}
 use Rattle.std.specs.List.{All, list_all, remove_range}
 use Rattle.std.proofs.lemmas.List.{take_at, drop_at, take-append-drop, drop_more, length-take-le}
 use Rattle.std.proofs.lemmas.Grind.{flat_map-append}
+use Rattle.std.proofs.lemmas.List.Folds.{list_all-append}
 use Rattle.std.proofs.lemmas.List.Elements.{All-cons, All-nil}
 use Rattle.std.proofs.lemmas.Bool.{and_parts, and_from}
 use Rattle.rdlpp_table.specs.declared.entry.Entry.{Entry}
@@ -73,18 +74,6 @@ remove_at front x back n e =
     ap (λ (l : List _). l ++ drop (suc n) (front ++ x ∷ back)) (take_at front (x ∷ back) n e)
     ∙ ap (λ (l : List _). front ++ l) (ap (drop (suc n)) (sym (append_assoc front (x ∷ []) back)) ∙ drop_at (front ++ x ∷ []) back (suc n) one)
 
-pub list_all-append : {A : Type 0} (p : A → Bool) (xs ys : List A) → list_all p xs ≡ true → list_all p ys ≡ true → list_all p (xs ++ ys) ≡ true
-list_all-append p [] ys a b = b
-list_all-append p (x ∷ xs) ys a b = let h = and_parts (p x) (list_all p xs) a in and_from _ _ h.0 (list_all-append p xs ys h.1 b)
-
-list_all-front : {A : Type 0} (p : A → Bool) (xs ys : List A) → list_all p (xs ++ ys) ≡ true → list_all p xs ≡ true
-list_all-front p [] ys a = refl
-list_all-front p (x ∷ xs) ys a = let h = and_parts (p x) (list_all p (xs ++ ys)) a in and_from _ _ h.0 (list_all-front p xs ys h.1)
-
-list_all-back : {A : Type 0} (p : A → Bool) (xs ys : List A) → list_all p (xs ++ ys) ≡ true → list_all p ys ≡ true
-list_all-back p [] ys a = a
-list_all-back p (x ∷ xs) ys a = let h = and_parts (p x) (list_all p (xs ++ ys)) a in list_all-back p xs ys h.1
-
 -- macros round one of them
 pub split_at : (ms : List Macro) (place : ℕ) → place < length ms → ms ≡ take place ms ++ macro_at ms place ∷ drop (place + 1) ms
 split_at ms place h = sym (take-append-drop place ms) ∙ ap (λ (l : List Macro). take place ms ++ l) (drop_more ms place no_macro h)
@@ -94,7 +83,9 @@ taken_between : (bytes : List ℕ) (entries : List Entry) (xs : List Macro) (m :
 taken_between bytes entries xs m ys s = record {
   bytes_are = ap (λ (bs : List ℕ). remove_range bs (table_size xs) (table_size xs + macro_size m)) s.bytes_are ∙ cut_bytes xs m ys;
   entries_are = ap (λ (es : List Entry). entries_of 0 xs ++ es) (moved_entries (table_size xs) (macro_size m) ys) ∙ (ap (λ (n : ℕ). entries_of 0 xs ++ entries_of n ys) (sym (zero-add (table_size xs))) ∙ sym (entries_of-append 0 xs ys));
-  plain = list_all-append is_plain_macro xs ys (list_all-front is_plain_macro xs (m ∷ ys) s.plain) (list_all-back is_plain_macro (m ∷ []) ys (list_all-back is_plain_macro xs (m ∷ ys) s.plain));
+  plain =
+      let p = and_parts (list_all is_plain_macro xs) (list_all is_plain_macro (m ∷ ys)) (sym (list_all-append is_plain_macro xs (m ∷ ys)) ∙ s.plain) in
+      list_all-append is_plain_macro xs ys ∙ and_from _ _ p.0 (and_parts (is_plain_macro m) (list_all is_plain_macro ys) p.1).1;
 }
 
 -- the entries round one of them

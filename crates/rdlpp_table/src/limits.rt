@@ -48,21 +48,6 @@ pub enum LimitFault {
     OutputBytes,
 }
 
-#[tactic(auto, unfolding(crate::specs::Limits::is_within))]
-fn is_within(least: usize, greatest: usize, n: usize) -> bool
-    ensures { result ≡ is_within least greatest n }
-{
-    least <= n && n <= greatest
-}
-
-// Whether a limit on the output is in its range, which has every number.
-#[tactic(auto, unfolding(crate::specs::Limits::is_within))]
-fn is_output_limit(n: u64) -> bool
-    ensures { result ≡ is_within 0 18446744073709551615 n }
-{
-    n <= u64::MAX
-}
-
 impl Limits {
     /// The standard limits (this project's profile).
     pub fn standard() -> Limits
@@ -79,6 +64,21 @@ impl Limits {
             definitions: 4_096,
             conditions: 256,
             output_bytes: u64::MAX,
+        }
+    }
+
+    /// Whether each limit is in its range.
+    ///
+    /// # Errors
+    /// The first limit, in the order of the fields, that is out of its range.
+    pub fn check(&self) -> Result<(), LimitFault>
+        ensures value { MatchResult result (λ _. limit_fault self.now ≡ None) (λ fault. limit_fault self.now ≡ Some fault) }
+        ensures in_range { OnOk result (AreInRange self.now) }
+        ensures refused { AreInRange self.now → IsOk result }
+    {
+        match self.fault() {
+            Some(fault) => Err(fault),
+            None => Ok(()),
         }
     }
 
@@ -116,19 +116,19 @@ impl Limits {
         }
         None
     }
+}
 
-    /// Whether each limit is in its range.
-    ///
-    /// # Errors
-    /// The first limit, in the order of the fields, that is out of its range.
-    pub fn check(&self) -> Result<(), LimitFault>
-        ensures value { MatchResult result (λ _. limit_fault self.now ≡ None) (λ fault. limit_fault self.now ≡ Some fault) }
-        ensures in_range { OnOk result (AreInRange self.now) }
-        ensures refused { AreInRange self.now → IsOk result }
-    {
-        match self.fault() {
-            Some(fault) => Err(fault),
-            None => Ok(()),
-        }
-    }
+#[tactic(auto, unfolding(crate::specs::Limits::is_within))]
+fn is_within(least: usize, greatest: usize, n: usize) -> bool
+    ensures { result ≡ is_within least greatest n }
+{
+    least <= n && n <= greatest
+}
+
+// Whether a limit on the output is in its range, which has every number.
+#[tactic(auto, unfolding(crate::specs::Limits::is_within))]
+fn is_output_limit(n: u64) -> bool
+    ensures { result ≡ is_within 0 18446744073709551615 n }
+{
+    n <= u64::MAX
 }
