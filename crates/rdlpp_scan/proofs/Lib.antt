@@ -36,3 +36,4 @@ pub mod TokenEnds
 pub mod CleanTexts
 pub mod CommaBehind
 pub mod LineEndCounts
+pub mod QuietTokens

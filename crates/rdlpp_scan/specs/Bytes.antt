@@ -1,6 +1,6 @@
 -- The classes of bytes.
 -- A definition that names no source is this project's own.
-use Rattle.std.specs.Prelude.{ℕ, Bool, ◌&&◌, ◌||◌, ◌==◌, nat_le, List, slice_index}
+use Rattle.std.specs.Prelude.{ℕ, Bool, not, ◌&&◌, ◌||◌, ◌==◌, nat_le, List, slice_index}
 
 -- a space, tab, CR, VT or FF (this project's profile)
 unfoldable pub is_blank : ℕ → Bool
@@ -33,6 +33,12 @@ is_closer b = b == 41 || b == 93 || b == 125
 -- `'` or `\`, which take a word along (this project's profile)
 unfoldable pub takes_word : ℕ → Bool
 takes_word b = b == 39 || b == 92
+
+-- a byte that begins no name, no number, no usage, no string, no comment and no `<%`: a blank, or a token by itself (this project's
+-- profile)
+unfoldable pub is_quiet : ℕ → Bool
+is_quiet b =
+    not (is_letter b) && (not (is_digit b) && (not (takes_word b) && (not (b == 96) && (not (b == 34) && (not (b == 47) && not (b == 60))))))
 
 -- `<%`, where embedded Perl begins (SystemRDL 2.0, preprocessor clause)
 unfoldable pub begins_perl : List ℕ → Bool

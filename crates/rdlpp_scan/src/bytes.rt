@@ -10,6 +10,7 @@ ghost use Rattle.rdlpp_scan.specs.Bytes.{
   is_digit,
   is_letter,
   is_opener,
+  is_quiet,
   is_word,
   takes_word,
 };
@@ -47,6 +48,30 @@ pub fn word_bytes(bytes: &[u8]) -> usize
     ensures inside { result ≤ length bytes.now }
 {
     bytes.iter().take_while(|b| is_word(**b)).count()
+}
+
+/// How many bytes a text begins with of which each is a blank or a token by itself, and none begins a name, a
+/// number, a usage, a string, a comment or `<%` (this project's profile).
+///
+/// Costs time linear in that count.
+pub fn quiet_bytes(bytes: &[u8]) -> usize
+    ensures value { result ≡ prefix_len is_quiet bytes.now }
+    ensures inside { result ≤ length bytes.now }
+{
+    bytes.iter().take_while(|b| is_quiet(**b)).count()
+}
+
+#[tactic(auto, unfolding(crate::specs::Bytes::is_quiet))]
+fn is_quiet(b: u8) -> bool
+    ensures { result ≡ is_quiet b }
+{
+    !is_letter(b)
+        && !is_digit(b)
+        && !takes_word(b)
+        && b != b'`'
+        && b != b'"'
+        && b != b'/'
+        && b != b'<'
 }
 
 #[tactic(auto, unfolding(crate::specs::Bytes::is_digit))]

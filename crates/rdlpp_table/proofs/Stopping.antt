@@ -1,17 +1,22 @@
 -- The first stop of a text, token by token.
-use Rattle.std.proofs.Common.{◌≡◌, ℕ, ◌+◌, ◌<◌, ◌≤◌, Bool, true, false, not, List, length, take, drop, Option, Some, None, is_some, refl, ap, sym, ◌∙◌, arith}
-use Rattle.std.proofs.lemmas.List.{length-drop, nil_from_length}
+use Rattle.std.proofs.Common.{◌≡◌, ℕ, suc, ◌+◌, ◌-◌, ◌<◌, ◌≤◌, Bool, true, false, not, cond, List, [], ◌∷◌, ⊎_elim, length, take, drop, Option, Some, None, is_some, refl, ap, sym, ◌∙◌, arith}
+use Rattle.std.specs.List.{prefix_len}
+use Rattle.std.proofs.lemmas.Bool.{cases_Bool, false≢true}
+use Rattle.std.proofs.lemmas.List.{length-drop, nil_from_length, take_all}
+use Rattle.rdlpp_scan.specs.Bytes.{is_blank, is_quiet}
 use Rattle.rdlpp_scan.specs.declared.token.Kind.{Kind}
 use Rattle.rdlpp_scan.specs.declared.token.Kind.TheVariants.{Name, Word, Back, Blank, LineEnd, Str, LineComment, BlockComment, Opener, Closer, Comma, Other, Perl, BareBackquote}
 use Rattle.rdlpp_scan.specs.declared.token.Mode.{Mode}
-use Rattle.rdlpp_scan.specs.declared.token.Mode.TheVariants.{Plain}
+use Rattle.rdlpp_scan.specs.declared.token.Mode.TheVariants.{Plain, InStr, InBlock}
 use Rattle.rdlpp_scan.specs.declared.token.Token.{Token}
-use Rattle.rdlpp_scan.specs.Tokens.{token_of, tokens_from}
+use Rattle.rdlpp_scan.specs.Tokens.{token_of, tokens_from, whole}
+use Rattle.rdlpp_scan.proofs.CleanTexts.{blank-step}
+use Rattle.rdlpp_scan.proofs.QuietTokens.{is_still, quiet_first, IsQuietToken}
 use Rattle.rdlpp_scan.proofs.TokenLists.{tokens_from-step}
 use Rattle.rdlpp_table.specs.declared.stop.Stop.{Stop}
 use Rattle.rdlpp_table.specs.declared.stop.Stop.TheVariants as stop
 use Rattle.rdlpp_table.specs.Table.{Formal}
-use Rattle.rdlpp_table.specs.Stops.{first_stop, is_none, or_stop, stop_at, stop_name, stop_of, stops}
+use Rattle.rdlpp_table.specs.Stops.{first_stop, is_none, or_stop, quiet_len, stop_at, stop_name, stop_of, stops}
 use Rattle.rdlpp_table.specs.View.{formal_named}
 
 -- the first stop of a text is that of what is left of it
@@ -113,3 +118,95 @@ is_found formals at t bytes s b e f h = ap is_none e ∙ (token_stops formals at
 -- a token that is none, by its kind
 pub is_passed : (formals : List Formal) (at : ℕ) (t : Token) (bytes : List ℕ) (b : Bool) → b ≡ stops formals t.kind bytes → b ≡ false → is_none (stop_at formals at t bytes) ≡ true
 is_passed formals at t bytes b f h = token_stops formals at t bytes ∙ ap not (sym f ∙ h)
+
+-- a kind that isn't a stop, whatever its bytes
+still_stops : (formals : List Formal) (k : Kind) (bytes : List ℕ) → is_still k ≡ true → stops formals k bytes ≡ false
+unfolding is_still stops
+still_stops formals Name bytes h = absurd (false≢true h)
+still_stops formals Back bytes h = absurd (false≢true h)
+still_stops formals BareBackquote bytes h = absurd (false≢true h)
+still_stops formals _ bytes h = refl
+
+prefix_more : (p : ℕ → Bool) (b : ℕ) (bs : List ℕ) → p b ≡ true → prefix_len p (b ∷ bs) ≡ suc (prefix_len p bs)
+prefix_more p b bs h = ap (λ (t : Bool). cond t (1 + prefix_len p bs) 0) h ∙ omega arith
+
+prefix_none : (p : ℕ → Bool) (b : ℕ) (bs : List ℕ) → p b ≡ false → prefix_len p (b ∷ bs) ≡ 0
+prefix_none p b bs h = ap (λ (t : Bool). cond t (1 + prefix_len p bs) 0) h
+
+-- a token of blanks is passed
+blank_token : (formals : List Formal) (at b : ℕ) (bs : List ℕ) → is_blank b ≡ true
+    → first_stop formals at (tokens_from Plain 0 (b ∷ bs)) (b ∷ bs) ≡ first_stop formals (at + prefix_len is_blank (b ∷ bs)) (tokens_from Plain 0 (drop (prefix_len is_blank (b ∷ bs)) (b ∷ bs))) (drop (prefix_len is_blank (b ∷ bs)) (b ∷ bs))
+unfolding first_stop stop_at or_stop whole
+blank_token formals at b bs h = ap (λ (ts : List Token). first_stop formals at ts (b ∷ bs)) (blank-step b bs h)
+
+-- a quiet byte that isn't a blank is passed
+quiet_mark : (formals : List Formal) (at b : ℕ) (bs : List ℕ) → IsQuietToken (token_of Plain (b ∷ bs))
+    → first_stop formals at (tokens_from Plain 0 (b ∷ bs)) (b ∷ bs) ≡ first_stop formals (at + 1) (tokens_from Plain 0 bs) bs
+unfolding is_still
+quiet_mark formals at b bs q =
+    let t = token_of Plain (b ∷ bs) in
+    let some : 0 < length (b ∷ bs) = omega arith in
+    let none : is_none (stop_at formals at t (take t.len (b ∷ bs))) ≡ true = is_passed formals at t (take t.len (b ∷ bs)) false (sym (still_stops formals t.kind (take t.len (b ∷ bs)) q.still)) refl in
+    let rest : Token → Stop = λ u. first_stop formals (at + u.len) (tokens_from u.next_mode 0 (drop u.len (b ∷ bs))) (drop u.len (b ∷ bs)) in
+    one_token formals at Plain (b ∷ bs) some (omega (arith, q.len))
+    ∙ (or_none _ (rest t) none
+    ∙ (ap (λ (n : ℕ). first_stop formals (at + n) (tokens_from t.next_mode 0 (drop n (b ∷ bs))) (drop n (b ∷ bs))) q.len
+    ∙ ap (λ (m : Mode). first_stop formals (at + 1) (tokens_from m 0 bs) bs) q.next))
+
+-- a run of blanks is passed
+blank_run : (formals : List Formal) (at : ℕ) (bs : List ℕ)
+    → first_stop formals at (tokens_from Plain 0 bs) bs ≡ first_stop formals (at + prefix_len is_blank bs) (tokens_from Plain 0 (drop (prefix_len is_blank bs) bs)) (drop (prefix_len is_blank bs) bs)
+blank_run formals at [] = ap (λ (n : ℕ). first_stop formals n (tokens_from Plain 0 []) []) (omega arith)
+blank_run formals at (b ∷ bs) =
+    let F : ℕ → Stop = λ n. first_stop formals (at + n) (tokens_from Plain 0 (drop n (b ∷ bs))) (drop n (b ∷ bs)) in
+    let here : first_stop formals at (tokens_from Plain 0 (b ∷ bs)) (b ∷ bs) ≡ F 0 = ap (λ (n : ℕ). first_stop formals n (tokens_from Plain 0 (b ∷ bs)) (b ∷ bs)) (omega arith) in
+    ⊎_elim
+      (λ h. blank_token formals at b bs h)
+      (λ h. here ∙ ap F (sym (prefix_none is_blank b bs h)))
+      (cases_Bool (is_blank b))
+
+-- a quiet byte is passed
+quiet_one : (formals : List Formal) (at b : ℕ) (bs : List ℕ) → is_quiet b ≡ true
+    → first_stop formals at (tokens_from Plain 0 (b ∷ bs)) (b ∷ bs) ≡ first_stop formals (at + 1) (tokens_from Plain 0 bs) bs
+quiet_one formals at b bs q =
+    let k = prefix_len is_blank bs in
+    ⊎_elim
+      (λ h. blank_token formals at b bs h
+        ∙ (ap (λ (n : ℕ). first_stop formals (at + n) (tokens_from Plain 0 (drop n (b ∷ bs))) (drop n (b ∷ bs))) (prefix_more is_blank b bs h)
+        ∙ (ap (λ (n : ℕ). first_stop formals n (tokens_from Plain 0 (drop k bs)) (drop k bs)) (omega arith)
+        ∙ sym (blank_run formals (at + 1) bs))))
+      (λ h. quiet_mark formals at b bs (quiet_first b bs q h))
+      (cases_Bool (is_blank b))
+
+-- quiet bytes are passed
+quiet_run : (formals : List Formal) (at : ℕ) (bs : List ℕ)
+    → first_stop formals (at + prefix_len is_quiet bs) (tokens_from Plain 0 (drop (prefix_len is_quiet bs) bs)) (drop (prefix_len is_quiet bs) bs) ≡ first_stop formals at (tokens_from Plain 0 bs) bs
+quiet_run formals at [] = ap (λ (n : ℕ). first_stop formals n (tokens_from Plain 0 []) []) (omega arith)
+quiet_run formals at (b ∷ bs) =
+    let F : ℕ → Stop = λ n. first_stop formals (at + n) (tokens_from Plain 0 (drop n (b ∷ bs))) (drop n (b ∷ bs)) in
+    let k = prefix_len is_quiet bs in
+    ⊎_elim
+      (λ h. ap F (prefix_more is_quiet b bs h)
+        ∙ (ap (λ (n : ℕ). first_stop formals n (tokens_from Plain 0 (drop k bs)) (drop k bs)) (omega arith)
+        ∙ (quiet_run formals (at + 1) bs ∙ sym (quiet_one formals at b bs h))))
+      (λ h. ap F (prefix_none is_quiet b bs h) ∙ ap (λ (n : ℕ). first_stop formals n (tokens_from Plain 0 (b ∷ bs)) (b ∷ bs)) (omega arith))
+      (cases_Bool (is_quiet b))
+
+quiet_passed : (formals : List Formal) (mode : Mode) (at : ℕ) (bs : List ℕ)
+    → first_stop formals (at + quiet_len mode bs) (tokens_from mode 0 (drop (quiet_len mode bs) bs)) (drop (quiet_len mode bs) bs) ≡ first_stop formals at (tokens_from mode 0 bs) bs
+unfolding quiet_len
+quiet_passed formals Plain at bs = quiet_run formals at bs
+quiet_passed formals InStr at bs = ap (λ (n : ℕ). first_stop formals n (tokens_from InStr 0 bs) bs) (omega arith)
+quiet_passed formals InBlock at bs = ap (λ (n : ℕ). first_stop formals n (tokens_from InBlock 0 bs) bs) (omega arith)
+
+-- what stands behind a place, as a range up to the end
+pub behind_place : (n : ℕ) (xs : List ℕ) → take (length xs - n) (drop n xs) ≡ drop n xs
+behind_place n xs = take_all (length xs - n) (drop n xs) (omega (arith, length-drop n xs))
+
+pub stopping_quiet : (formals : List Formal) (from : ℕ) (text : List ℕ) (mode : Mode) (at : ℕ) (rest after : List ℕ) (n : ℕ) → IsStopping formals from text mode at rest → n ≡ quiet_len mode rest → n ≤ length rest → after ≡ drop n rest → IsStopping formals from text mode (at + n) after
+stopping_quiet formals from text mode at rest after n i is inside e =
+    let F : ℕ → Stop = λ m. first_stop formals (at + m) (tokens_from mode 0 (drop m rest)) (drop m rest) in
+    record {
+      same = ap (λ (r : List ℕ). first_stop formals (at + n) (tokens_from mode 0 r) r) e ∙ (ap F is ∙ (quiet_passed formals mode at rest ∙ i.same));
+      place = omega (arith, ap length e, length-drop n rest, i.place, inside);
+    }

@@ -1,10 +1,10 @@
 // Where the text of a body isn't copied as it stands.
-ghost use Rattle.std.specs.Prelude.{[], length, slice_index, ◌+◌, ◌<◌, ◌≡◌, ◌^◌};
-ghost use Rattle.rdlpp_table.specs.Stops.{is_none, stop_at, stop_of, stops};
+ghost use Rattle.std.specs.Prelude.{[], length, slice_index, ◌+◌, ◌<◌, ◌≡◌, ◌≤◌, ◌^◌};
+ghost use Rattle.rdlpp_table.specs.Stops.{is_none, quiet_len, stop_at, stop_of, stops};
 ghost use Rattle.rdlpp_table.specs.Store.{formals_read};
 
 use crate::stored::place_in_list;
-use rdlpp_scan::{Kind, Mode, Token, first_token};
+use rdlpp_scan::{Kind, Mode, Token, first_token, quiet_bytes};
 
 /// The first place of a range of a body that isn't copied as it stands.
 ///
@@ -76,6 +76,18 @@ fn is_stop(list: &[u8], count: usize, kind: Kind, text: &[u8]) -> bool
     }
 }
 
+// How many bytes a text begins with that are passed one by one: none but in plain text.
+#[tactic(auto, unfolding(crate::specs::Stops::quiet_len))]
+fn quiet_len(mode: Mode, text: &[u8]) -> usize
+    ensures value { result ≡ quiet_len mode text.now }
+    ensures inside { result ≤ length text.now }
+{
+    match mode {
+        Mode::Plain => quiet_bytes(text),
+        _ => 0,
+    }
+}
+
 // The first stop of a text whose first byte stands at a place, among so many formals as they lie in a table.
 pub(crate) fn first_stop(list: &[u8], count: usize, text: &[u8], from: usize) -> Stop
     requires { from + length text.now < 2 ^ 64 }
@@ -85,6 +97,12 @@ pub(crate) fn first_stop(list: &[u8], count: usize, text: &[u8], from: usize) ->
     let mut rest = text;
     let mut at = from;
     while !rest.is_empty() {
+        let quiet = quiet_len(mode, rest);
+        if quiet > 0 {
+            at += quiet;
+            rest = &rest[quiet..];
+            continue;
+        }
         let token = first_token(mode, rest);
         let (here, after) = rest.split_at(token.len);
         if is_stop(list, count, token.kind, here) {

@@ -2,7 +2,7 @@
 use rdlpp_scan::{
     Directive, Kind, LexFault, Mode, Token, byte_at, first_token, is_blank, is_letter, is_name,
     is_perl, last_line_end, lex_fault, line_ends_in, line_len, logical_line, open_fault,
-    plain_text_len, reserved, rest_of_line, word_bytes,
+    plain_text_len, quiet_bytes, reserved, rest_of_line, word_bytes,
 };
 use std::process::Abort;
 
@@ -329,6 +329,8 @@ fn classes_of_bytes(rt: HostRuntime) {
     assert_eq!(rt; is_letter(b'_'), true);
     assert_eq!(rt; is_letter(b'0'), false);
     assert_eq!(rt; word_bytes(b"a_0$".as_slice()), 3);
+    assert_eq!(rt; quiet_bytes(b" =\n({;]a".as_slice()), 7);
+    assert_eq!(rt; quiet_bytes(b"/ ".as_slice()), 0);
     assert_eq!(rt; is_perl(Kind::Perl), true);
     assert_eq!(rt; open_fault(Mode::InBlock), Some(LexFault::OpenComment));
 }

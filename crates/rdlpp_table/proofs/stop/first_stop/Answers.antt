@@ -1,6 +1,6 @@
 use Rattle.std.proofs.Common.{◌∙◌, ◌<◌, length, arith, sym, refl}
 use Rattle.std.proofs.lemmas.Bool.{eqb-true}
-use Rattle.rdlpp_table.proofs.Stopping.{is_found, is_passed, stopping_ended, stopping_found, stopping_more, stopping_start}
+use Rattle.rdlpp_table.proofs.Stopping.{behind_place, is_found, is_passed, stopping_ended, stopping_found, stopping_more, stopping_quiet, stopping_start}
 use Rattle.rdlpp_table.proofs.stop.first_stop.Goals as goal
 
 pub loop-rest-init : goal.loop-rest-init
@@ -10,6 +10,9 @@ pub returns-then-is_stop : goal.returns-then-is_stop
 returns-then-is_stop c =
     let some : 0 < length c.loop-rest.rest.now = omega (arith, c.first_token-token.ensures.not_empty, c.first_token-token.ensures.inside) in
     stopping_found _ _ _ _ _ _ c.first_token-token.result _ _ c.loop-rest.invariant some c.first_token-token.ensures.value c.first_token-token.ensures.not_empty c.split_at.ensures.front c.stop_at.ensures (is_found _ _ c.first_token-token.result _ _ _ c.stop_at.ensures c.is_stop.ensures c.if-is_stop.true)
+
+pub loop-rest-preserved-then-quiet-gt0 : goal.loop-rest-preserved-then-quiet-gt0
+loop-rest-preserved-then-quiet-gt0 c = stopping_quiet _ _ _ _ _ _ _ _ c.loop-rest.invariant c.quiet_len-quiet.ensures.value c.quiet_len-quiet.ensures.inside (behind_place c.quiet_len-quiet.result c.loop-rest.rest.now)
 
 pub loop-rest-preserved : goal.loop-rest-preserved
 loop-rest-preserved c =
