@@ -22,6 +22,12 @@ unfolding default_bytes default_size
 length_default [] = refl
 length_default (b ∷ bs) = omega arith
 
+-- a default text is no longer than what it counts
+pub default_least : (text : List ℕ) → length text ≤ default_size text
+unfolding default_size
+default_least [] = omega arith
+default_least (b ∷ bs) = omega arith
+
 pub length_formal_bytes : (f : Formal) → length (formal_bytes f) ≡ formal_size f
 unfolding formal_bytes formal_size
 length_formal_bytes f =
