@@ -3,7 +3,7 @@ use Rattle.std.proofs.Common.{◌≡◌, ℕ, ◌+◌, ◌-◌, ◌*◌, ◌<◌
 use Rattle.std.proofs.Common.{rules, Global, Bool, true, false}
 use Rattle.std.proofs.lemmas.Bool.{eqb-true, eqb-false, le-leb, lt-leb}
 use Rattle.std.specs.Prelude.{vec_capacity, vec_len, Vec, ◌==◌, nat_le}
-use Rattle.std.proofs.lemmas.List.{drop-set, drop_more, drop_all, length-drop, length-take, length-map, take_all}
+use Rattle.std.proofs.lemmas.List.{drop-set, drop_all, length-drop, length-take, length-map, take_all}
 use Rattle.std.proofs.Math.ListN.{set, length-set}
 use Rattle.rdlpp_scan.specs.declared.token.Mode.TheVariants.{Plain}
 use Rattle.rdlpp_meaning.specs.Opens.{Open, OpenBody}
@@ -15,13 +15,8 @@ use Rattle.rdlpp_cursors.specs.declared.slot.SlotKind.TheVariants as slot
 use Rattle.rdlpp_cursors.specs.Opened.{bindings_below, open_of, opens_of, AreLaid, IsStack, bound_by, moved_to, kept_by, IsNoBody, CursorsView}
 use Rattle.rdlpp_cursors.specs.declared.slot.Bounds.{Bounds}
 use Rattle.rdlpp_cursors.specs.Opened.{AreBounded}
-use Rattle.rdlpp_cursors.proofs.Bounding.{closed-bounded, more-bounded, moved-bounded, none-bounded, IsBoundedOn}
+use Rattle.rdlpp_cursors.proofs.Bounding.{closed-bounded, more-bounded, moved-bounded, none-bounded, slots-at, IsBoundedOn}
 use Rattle.rdlpp_cursors.proofs.Scoping.{opens-length}
-
--- the slot at a place, in front of those behind it
-slots-at : (slots : List Slot) (first : ℕ) (own : Slot) → first < length slots → own ≡ get_or slots first own
-    → drop first slots ≡ own ∷ drop (first + 1) slots
-slots-at slots first own inside e = drop_more slots first own inside ∙ ap (λ (y : Slot). y ∷ drop (first + 1) slots) (sym e)
 
 -- some text is open
 pub some-open : (slots : List Slot) (first : ℕ) (bindings : List Range) → 0 < length (opens_of (drop first slots) bindings) → first < length slots
