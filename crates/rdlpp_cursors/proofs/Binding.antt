@@ -14,6 +14,7 @@ use Rattle.rdlpp_meaning.specs.declared.fault.FaultKind.{FaultKind}
 use Rattle.rdlpp_meaning.specs.Opens.{Open, OpenBody, open_body}
 use Rattle.rdlpp_calls.specs.declared.bindings.Range.{Range}
 use Rattle.rdlpp_calls.specs.BoundCalls.{range_part, AreWithin, IsBoundCall}
+use Rattle.rdlpp_table.proofs.Sizes.{count_items}
 use Rattle.rdlpp_cursors.specs.declared.slot.Bounds.{Bounds}
 use Rattle.rdlpp_cursors.specs.declared.slot.Slot.{Slot}
 use Rattle.rdlpp_cursors.specs.declared.slot.SlotKind.TheVariants as slot
@@ -22,7 +23,7 @@ use Rattle.rdlpp_cursors.specs.Calls.{IsCallBound, IsOpening}
 use Rattle.rdlpp_cursors.specs.Opened.{opens_of, AreBounded, AreLaid, IsStack, moved_to, CursorsView}
 use Rattle.rdlpp_cursors.proofs.Bounding.{more-bounded, moved-on, IsBoundedOn}
 use Rattle.rdlpp_cursors.proofs.Keeping.{at-each}
-use Rattle.rdlpp_cursors.proofs.Stacking.{entered, laid-few, moved-opens, open-count, ranges-count, slots-count, stack-moved}
+use Rattle.rdlpp_cursors.proofs.Stacking.{entered, laid-few, moved-opens, open-count, stack-moved}
 
 -- how many formals a macro has, whether it has a list or not
 pub arity-count : (formals : Option (List Formal)) → unwrap_or (option_map (λ (fs : List Formal). length fs) formals) 0 ≡ length (unwrap_or formals [])
@@ -43,7 +44,7 @@ pub call-room : (slots : List Slot) (first n : ℕ) (bindings : Vec Range Global
     → (vec_len bindings + n ≤ vec_capacity bindings) × (vec_len bindings < vec_capacity bindings)
 call-room slots first n bindings h few =
     let room = h.room in
-    let size = ranges-count bindings in
+    let size = count_items bindings in
     let all = drop-few slots first (length bindings.items) (laid-few (drop first slots) bindings.items h.laid) h.inside in
     (omega (arith, room, size, all, few), omega (arith, room, size, all))
 
@@ -83,8 +84,8 @@ stack-entered slots first bindings new more id end home n m bounds some is few s
     let one = length-set slots (first - 1) (body-slot id end home n bounds) in
     let inside = h.inside in
     let room = h.room in
-    let old_n = ranges-count bindings in
-    let new_n = ranges-count new in
+    let old_n = count_items bindings in
+    let new_n = count_items new in
     let both = length-append bindings.items more in
     let all = ap (λ (bs : List Range). length bs) whole in
     let most : length more ≤ 255 = omega (arith, old_n, new_n, both, all, size, few) in
@@ -150,14 +151,14 @@ opening-deep macros text at end id home old new call is deep = (is, (deep, call)
 -- no further text may be open where the first slot is
 pub all-open : (v : Vec Slot Global) (first : ℕ) (bindings : List Range) → first ≡ 0 → vec_len v ≤ length (opens_of (drop first v.items) bindings)
 all-open v first bindings none =
-    let n = slots-count v in
+    let n = count_items v in
     let h = open-count v.items first bindings in
     omega (arith, n, h, none)
 
 -- one more may be where another slot is in front
 pub room-open : (v : Vec Slot Global) (first : ℕ) (bindings : List Range) → (first ≡ 0 → ⊥) → first < length v.items → length (opens_of (drop first v.items) bindings) < vec_len v
 room-open v first bindings some inside =
-    let n = slots-count v in
+    let n = count_items v in
     let h = open-count v.items first bindings in
     omega (arith, n, h, some, inside)
 

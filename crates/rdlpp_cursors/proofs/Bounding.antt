@@ -17,7 +17,7 @@ use Rattle.rdlpp_cursors.specs.Scopes.{own_ids, writer_ids}
 use Rattle.rdlpp_cursors.proofs.Scoping.{opens-length}
 
 -- the slot at a place, in front of those behind it
-slots-at : (slots : List Slot) (first : ℕ) (own : Slot) → first < length slots → own ≡ get_or slots first own
+pub slots-at : (slots : List Slot) (first : ℕ) (own : Slot) → first < length slots → own ≡ get_or slots first own
     → drop first slots ≡ own ∷ drop (first + 1) slots
 slots-at slots first own inside e = drop_more slots first own inside ∙ ap (λ (y : Slot). y ∷ drop (first + 1) slots) (sym e)
 

@@ -1,7 +1,7 @@
 -- A run of tokens that are copied, up to the first stop of a text.
 use Rattle.std.proofs.Common.{◌≡◌, ℕ, suc, ◌+◌, ◌-◌, ◌<◌, ◌≤◌, Bool, true, false, true≢false, List, [], ◌∷◌, ◌++◌, length, take, drop, refl, sym, ap, subst, ◌∙◌, arith, Option, None, Some}
 use Rattle.std.specs.Prelude.{if◌then◌else◌, slice_range, slice_index, nat_lt, ◌==◌}
-use Rattle.std.proofs.lemmas.List.{length-take, length-drop, drop-take, drop-drop}
+use Rattle.std.proofs.lemmas.List.{length-take, length-drop, drop-drop}
 use Rattle.std.proofs.Math.Seq.{take-add}
 use Rattle.rdlpp_scan.specs.declared.token.Kind.{Kind}
 use Rattle.rdlpp_scan.specs.declared.token.Kind.TheVariants.{Name, Back, BareBackquote, Str, BlockComment, Perl}
@@ -23,6 +23,7 @@ use Rattle.rdlpp_meaning.specs.TextTokens.{text_tokens}
 use Rattle.rdlpp_meaning.specs.Opens.{Open, Texts, scope_text, text_around, part_tokens, slot_kind, slot_of, slots_of, open_at, AreOpen, open_scope, open_bytes, open_behind}
 use Rattle.rdlpp_meaning.proofs.TextRanges.{text_nil}
 use Rattle.rdlpp_meaning.proofs.OpenMoves.{Alone, first_kind, first_bytes, first_behind, open-lends, behind-open}
+use Rattle.rdlpp_calls.proofs.BoundParts.{range_behind}
 use Rattle.rdlpp_cursors.specs.Fronts.{run_len}
 use Rattle.rdlpp_cursors.specs.Steps.{Goes}
 use Rattle.rdlpp_cursors.proofs.Moving.{Reaches, goes-by, goes-reaches, goes-on, goes-bytes, goes-same, reaches-same}
@@ -98,11 +99,8 @@ stop-plain formals at InBlock text bytes e =
 -- a part of a text behind some of its bytes
 pub slice-behind : (text : List ℕ) (from to n : ℕ) → n ≤ length (slice_range text from to) → slice_range text (from + n) to ≡ drop n (slice_range text from to)
 slice-behind text from to n h =
-    let size : n ≤ to - from = (let l = length-take (to - from) (drop from text) in omega (arith, l, h)) in
-    let rest : to - from ≡ n + (to - (from + n)) = omega (arith, size) in
-    ap (λ (bytes : List ℕ). take (to - (from + n)) bytes) (sym (drop-drop n from text))
-    ∙ sym (drop-take n (to - (from + n)) (drop from text))
-    ∙ ap (λ (k : ℕ). drop n (take k (drop from text))) (sym rest)
+    let size = length-take (to - from) (drop from text) in
+    sym (range_behind text from to n (omega (arith, h, size)))
 
 -- what is left of an open text behind some of its bytes
 pub bytes-behind : (texts : Texts) (x : Open) (below : List Open) (n : ℕ) (mode : Mode) → n ≤ length (open_bytes texts x below)

@@ -257,10 +257,6 @@ unfolding scope_open
 source-scope_none [] = refl
 source-scope_none (x ∷ below) = rw (not_next 0 (length below) (omega arith)) (source-scope_none below)
 
--- a slot that is the first one
-first-slot : (y : Slot) (ys : List Slot) (own : Slot) → own ≡ get_or (y ∷ ys) 0 own → own ≡ y
-first-slot y ys own e = e
-
 -- the scope of the innermost slot, where it is an actual
 pub scope-actual : (slots : List Slot) (bindings : List Range) (own : Slot) → 0 < length slots → own ≡ get_or slots 0 own → own.kind ≡ slot.Actual
     → own.home ≡ front_scope (opens_of slots bindings)

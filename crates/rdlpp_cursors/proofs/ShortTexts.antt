@@ -3,18 +3,13 @@ use Rattle.std.proofs.Common.{◌≡◌, ℕ, suc, ◌+◌, ◌<◌, ◌≤◌, 
 use Rattle.std.specs.Prelude.{if◌then◌else◌, ◌==◌}
 use Rattle.std.specs.List.{AllByRecursion}
 use Rattle.std.proofs.lemmas.List.Sums.{get_or-le-sum_by}
-use Rattle.rdlpp_table.specs.Table.{Macro, default_size, formal_size, macro_size, table_size}
+use Rattle.rdlpp_table.specs.Table.{Macro, formal_size, macro_size, table_size}
 use Rattle.rdlpp_table.specs.View.{macro_at, formals_of, formal_at, no_formal, no_macro}
 use Rattle.rdlpp_meaning.specs.Opens.{OpenKind, OpenBody, OpenActual, OpenDefault, Open, Texts, own_text, scope_text, text_around}
+use Rattle.rdlpp_table.proofs.Sizes.{default_least}
 use Rattle.rdlpp_cursors.specs.Digits.{open_digit, cursor_digits, AreShort}
 use Rattle.rdlpp_cursors.specs.Steps.{IsKnown, AreInside}
 use Rattle.rdlpp_cursors.proofs.Falling.{digits-inner}
-
--- a default text counts its bytes
-default-fits : (text : List ℕ) → length text ≤ default_size text
-unfolding default_size
-default-fits [] = omega arith
-default-fits (b ∷ bs) = omega arith
 
 -- a table counts the bytes of each body
 body-fits : (macros : List Macro) (id : ℕ) → id < length macros → length (macro_at macros id).body ≤ table_size macros
@@ -30,7 +25,7 @@ unfolding table_size macro_size formal_size
 text-fits macros id place h k =
     let whole = get_or-le-sum_by macro_size macros id no_macro h in
     let formal = get_or-le-sum_by formal_size (formals_of (macro_at macros id)) place no_formal k in
-    let text = default-fits (formal_at (formals_of (macro_at macros id)) place).text in
+    let text = default_least (formal_at (formals_of (macro_at macros id)) place).text in
     omega (arith, whole, formal, text)
 
 -- no text of an open text's own is longer

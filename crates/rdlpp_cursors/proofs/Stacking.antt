@@ -1,27 +1,24 @@
 -- The slots of open texts and the ranges that they have bound, as one text moves, opens or closes.
 use Rattle.std.proofs.Common.{◌≡◌, ℕ, ◌+◌, ◌-◌, ◌*◌, ◌<◌, ◌≤◌, List, [], ◌∷◌, map, length, take, drop, get_or, refl, sym, ap, subst, ◌∙◌, arith}
-use Rattle.std.proofs.Common.{rules, Global, Bool, true, false}
+use Rattle.std.proofs.Common.{Global, Bool, true, false}
 use Rattle.std.proofs.lemmas.Bool.{eqb-true, eqb-false, le-leb, lt-leb}
 use Rattle.std.specs.Prelude.{vec_capacity, vec_len, Vec, ◌==◌, nat_le}
-use Rattle.std.proofs.lemmas.List.{drop-set, drop_more, drop_all, length-drop, length-take, length-map, take_all}
+use Rattle.std.proofs.lemmas.List.{drop-set, drop_all, length-drop, length-take, length-map, take_all}
 use Rattle.std.proofs.Math.ListN.{set, length-set}
+use Rattle.std.proofs.lemmas.List.{take_rest}
 use Rattle.rdlpp_scan.specs.declared.token.Mode.TheVariants.{Plain}
 use Rattle.rdlpp_meaning.specs.Opens.{Open, OpenBody}
 use Rattle.rdlpp_calls.specs.BoundCalls.{range_part}
 use Rattle.rdlpp_calls.specs.declared.bindings.Range.{Range}
+use Rattle.rdlpp_table.proofs.Sizes.{count_items}
 use Rattle.rdlpp_cursors.specs.declared.slot.Slot.{Slot}
 use Rattle.rdlpp_cursors.specs.declared.slot.SlotKind.{SlotKind}
 use Rattle.rdlpp_cursors.specs.declared.slot.SlotKind.TheVariants as slot
 use Rattle.rdlpp_cursors.specs.Opened.{bindings_below, open_of, opens_of, AreLaid, IsStack, bound_by, moved_to, kept_by, IsNoBody, CursorsView}
 use Rattle.rdlpp_cursors.specs.declared.slot.Bounds.{Bounds}
 use Rattle.rdlpp_cursors.specs.Opened.{AreBounded}
-use Rattle.rdlpp_cursors.proofs.Bounding.{closed-bounded, more-bounded, moved-bounded, none-bounded, IsBoundedOn}
+use Rattle.rdlpp_cursors.proofs.Bounding.{closed-bounded, more-bounded, moved-bounded, none-bounded, slots-at, IsBoundedOn}
 use Rattle.rdlpp_cursors.proofs.Scoping.{opens-length}
-
--- the slot at a place, in front of those behind it
-slots-at : (slots : List Slot) (first : ℕ) (own : Slot) → first < length slots → own ≡ get_or slots first own
-    → drop first slots ≡ own ∷ drop (first + 1) slots
-slots-at slots first own inside e = drop_more slots first own inside ∙ ap (λ (y : Slot). y ∷ drop (first + 1) slots) (sym e)
 
 -- some text is open
 pub some-open : (slots : List Slot) (first : ℕ) (bindings : List Range) → 0 < length (opens_of (drop first slots) bindings) → first < length slots
@@ -158,22 +155,14 @@ made_view opens line depth = record { opens = opens; line = line; depth = depth 
 pub view-is : (xs ys : List Open) (line depth own : ℕ) → xs ≡ ys → depth ≡ own → made_view xs line depth ≡ made_view ys line own
 view-is xs ys line depth own e d = ap (λ (o : List Open). made_view o line depth) e ∙ ap (λ (n : ℕ). made_view ys line n) d
 
--- as many slots as a vector has
-pub slots-count : (v : Vec Slot Global) → vec_len v ≡ length v.items
-slots-count v = search rules
-
--- as many ranges
-pub ranges-count : (v : Vec Range Global) → vec_len v ≡ length v.items
-ranges-count v = search rules
-
 -- the innermost slot stands in front of the last one
 pub first-inside : (v : Vec Slot Global) (first : ℕ) (bindings : List Range) → 0 < length (opens_of (drop first v.items) bindings) → first < vec_len v
-first-inside v first bindings some = let n = slots-count v in let h = some-open v.items first bindings some in omega (arith, n, h)
+first-inside v first bindings some = let n = count_items v in let h = some-open v.items first bindings some in omega (arith, n, h)
 
 -- where there is room some slot stands in front of the open ones
 pub room-first : (v : Vec Slot Global) (first : ℕ) (bindings : List Range) → first ≤ length v.items → length (opens_of (drop first v.items) bindings) < vec_len v → 0 < first
 room-first v first bindings inside room =
-    let n = slots-count v in
+    let n = count_items v in
     let h = open-count v.items first bindings in
     omega (arith, n, h, inside, room)
 
@@ -182,7 +171,7 @@ pub stack-made : (v : Vec Slot Global) (first : ℕ) (bindings : Vec Range Globa
     → IsStack v.items first bindings
 unfolding AreLaid
 stack-made v first bindings size none room =
-    let n = slots-count v in
+    let n = count_items v in
     record {
       inside = omega (arith, n, size);
       laid = subst (λ (s : List Slot). AreLaid s bindings.items) (sym (drop_all first v.items (omega (arith, n, size)))) (ap (λ (bs : List Range). length bs) none);
@@ -237,7 +226,7 @@ full-first v first bindings inside =
     by (first == 0) refl
   where
     n : vec_len v ≡ length v.items
-    n = slots-count v
+    n = count_items v
 
     h : length (opens_of (drop first v.items) bindings) ≡ length v.items - first
     h = open-count v.items first bindings
@@ -250,22 +239,20 @@ full-first v first bindings inside =
         let some : first ≡ 0 → ⊥ = eqb-false first 0 e in
         e ∙ sym (lt-leb (vec_len v) (length (opens_of (drop first v.items) bindings)) (omega (arith, n, h, some, inside)))
 
+-- the slots from a place on
+pub tail-is : (part items : List Slot) (first : ℕ) → part ≡ items → take (length part - first) (drop first part) ≡ drop first items
+tail-is part items first e = take_rest part first ∙ ap (λ (slots : List Slot). drop first slots) e
+
 -- the open slots as they are lent
 pub lent-opens : (slots lent : List Slot) (first : ℕ) (bindings own : List Range) → lent ≡ slots → own ≡ bindings
     → opens_of (take (length lent - first) (drop first lent)) own ≡ opens_of (drop first slots) bindings
 lent-opens slots lent first bindings own e f =
-    let size = length-drop first lent in
-    ap (λ (s : List Slot). opens_of s own) (take_all (length lent - first) (drop first lent) (omega (arith, size)))
-    ∙ ap (λ (s : List Slot). opens_of (drop first s) own) e
+    ap (λ (s : List Slot). opens_of s own) (tail-is lent slots first e)
     ∙ ap (λ (bs : List Range). opens_of (drop first slots) bs) f
 
 -- some slot is lent where some text is open
 pub lent-some : (slots lent : List Slot) (first : ℕ) (bindings : List Range) → lent ≡ slots → 0 < length (opens_of (drop first slots) bindings)
     → 0 < length (take (length lent - first) (drop first lent))
 lent-some slots lent first bindings e some =
-    let n = opens-length (drop first slots) bindings in
-    let size = length-drop first lent in
-    let own = length-drop first slots in
-    let same : length lent ≡ length slots = ap (λ (s : List Slot). length s) e in
-    let all = length-take (length lent - first) (drop first lent) in
-    omega (arith, n, size, own, same, all, some)
+    subst (λ (s : List Slot). 0 < length s) (sym (tail-is lent slots first e))
+    (let n = opens-length (drop first slots) bindings in omega (arith, n, some))

@@ -34,6 +34,7 @@ use Rattle.rdlpp_cursors.proofs.Keeping.{at-each, default-keeps, first-sound}
 use Rattle.rdlpp_cursors.proofs.Passing.{no-word, IsPassed}
 use Rattle.rdlpp_cursors.proofs.Scoping.{front-standing, source-scope}
 use Rattle.rdlpp_cursors.proofs.Stepping.{name-closes, sound-tail, step-formal, step-formal_deep}
+use Rattle.rdlpp_cursors.proofs.Usages.{moved-room}
 
 -- sound open texts have a range for each formal of their macros
 pub sound-bound : (texts : Texts) (opens : List Open) → AreSound texts opens → AreBound texts.macros opens
@@ -292,19 +293,10 @@ formal-deep line depth texts (x ∷ below) new look len place h l f deep =
     step-formal_deep line depth texts x below len place new (record { kind = DepthPassed; word = record { source = Arguments; from = 0; end = 0 } }) h
     (subst (λ (f : Front). IsFront (source_formals texts (front_source (x ∷ below))) (open_bytes texts x below) f) f l.3) deep refl (no-word texts Arguments)
 
--- as many texts are open where the innermost goes on
-moved-length : (opens : List Open) (at : ℕ) → length (moved_to at opens) ≡ length opens
-unfolding moved_to
-moved-length [] at = refl
-moved-length (x ∷ below) at = refl
-
 -- so there is still room
 pub room-moved : (view mid : CursorsView) (at : ℕ) → nat_le view.depth (length view.opens) ≡ false
     → mid ≡ record { opens = moved_to at view.opens; line = view.line; depth = view.depth } → length mid.opens < mid.depth
-room-moved view mid at room e =
-    let size = moved-length view.opens at in
-    let less = leb-false view.depth (length view.opens) room in
-    subst (λ (v : CursorsView). length v.opens < v.depth) (sym e) (omega (arith, size, less))
+room-moved view mid at room e = moved-room view mid at e (leb-false view.depth (length view.opens) room)
 
 -- what a formal stands for is opened behind its name
 pub pass-formal : (table : TableView) (texts : Texts) (view mid new : CursorsView) (look : Look) (len place at : ℕ) (slot : Slot) → IsSound table → texts.macros ≡ table.macros

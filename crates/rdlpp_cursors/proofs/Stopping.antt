@@ -17,6 +17,7 @@ use Rattle.rdlpp_table.specs.View.{formal_named, formals_of, macro_at}
 use Rattle.rdlpp_table.specs.declared.stop.Stop.{Stop}
 use Rattle.rdlpp_table.specs.declared.stop.Stop.TheVariants as stop
 use Rattle.rdlpp_table.specs.Stops.{is_none, or_stop, stop_name, stop_at, first_stop, stop_of, stop_in}
+use Rattle.rdlpp_table.proofs.Stopping.{or_none, or_some}
 use Rattle.rdlpp_cursors.specs.Fronts.{is_back, run_len, AreFronts, IsFront}
 use Rattle.rdlpp_cursors.specs.declared.front.Fronts.{Fronts}
 use Rattle.rdlpp_cursors.proofs.Runs.{stop-plain}
@@ -65,22 +66,6 @@ own-place formals at len next Back bytes e = refl
 own-place formals at len next BareBackquote bytes e = refl
 own-place formals at len next kind bytes e = absurd (true≢false e)
 
--- behind what is no stop comes the other one
-or-none : (s other : Stop) → is_none s ≡ true → or_stop s other ≡ other
-unfolding is_none or_stop
-or-none stop.None other h = refl
-or-none (stop.Formal at len place) other h = absurd (cc)
-or-none (stop.Usage at len) other h = absurd (cc)
-or-none (stop.Bare at) other h = absurd (cc)
-
--- and a stop is itself
-or-some : (s other : Stop) → is_none s ≡ false → or_stop s other ≡ s
-unfolding is_none or_stop
-or-some stop.None other h = absurd (cc)
-or-some (stop.Formal at len place) other h = refl
-or-some (stop.Usage at len) other h = refl
-or-some (stop.Bare at) other h = refl
-
 -- with a token in front
 tells-more : (at own n len rest : ℕ) (place : Option ℕ) → own ≤ len → rest ≡ len - own → PlaceTells (at + own) n rest place → PlaceTells at (own + n) len place
 unfolding PlaceTells
@@ -112,12 +97,12 @@ stops-at formals at (t ∷ ts) mode text e =
         (stop_place (or_stop (stop_at formals at t (take t.len text)) (first_stop formals (at + t.len) ts (drop t.len text))))
     by true n some inside h =
         subst (λ (s : Stop). PlaceTells at (t.len + run_len formals ts (drop t.len text)) (length text) (stop_place s))
-        (sym (or-none (stop_at formals at t (take t.len text)) _ (none-at formals at t.len t.next_mode t.kind (take t.len text) ∙ n)))
+        (sym (or_none (stop_at formals at t (take t.len text)) _ (none-at formals at t.len t.next_mode t.kind (take t.len text) ∙ n)))
         (tells-more at t.len (run_len formals ts (drop t.len text)) (length text) (length (drop t.len text)) _ inside (length-drop t.len text) h)
     by false n some inside h =
         let own : is_none (stop_at formals at t (take t.len text)) ≡ false = none-at formals at t.len t.next_mode t.kind (take t.len text) ∙ n in
         subst (λ (o : Option ℕ). PlaceTells at 0 (length text) o)
-        (sym (ap (λ (s : Stop). stop_place s) (or-some (stop_at formals at t (take t.len text)) _ own) ∙ own-place formals at t.len t.next_mode t.kind (take t.len text) own))
+        (sym (ap (λ (s : Stop). stop_place s) (or_some (stop_at formals at t (take t.len text)) _ own) ∙ own-place formals at t.len t.next_mode t.kind (take t.len text) own))
         (omega arith, some)
 
 -- a text in whose front no run stands begins with its first stop
@@ -141,7 +126,7 @@ stop-token formals at mode text some e =
     by t ts true n positive e = absurd (zero-sum t.len (run_len formals ts (drop t.len text)) positive
         (sym (ap (λ (b : Bool). if b then t.len + run_len formals ts (drop t.len text) else 0) n) ∙ e))
     by t ts false n positive e =
-        sym (or-some (stop_at formals at t (take t.len text)) _ (none-at formals at t.len t.next_mode t.kind (take t.len text) ∙ n))
+        sym (or_some (stop_at formals at t (take t.len text)) _ (none-at formals at t.len t.next_mode t.kind (take t.len text) ∙ n))
 
 -- which token a stop is: a formal, by the kind of the token
 formal-by : (formals : List Formal) (at len : ℕ) (next : Mode) (kind : Kind) (bytes : List ℕ) (p n place : ℕ)
@@ -206,7 +191,7 @@ stop-behind formals at (t ∷ ts) mode text e found =
     by true n same inner found =
         let m = run_len formals ts (drop t.len text) in
         let passed : or_stop (stop_at formals at t (take t.len text)) (first_stop formals (at + t.len) ts (drop t.len text)) ≡ first_stop formals (at + t.len) ts (drop t.len text) =
-        or-none (stop_at formals at t (take t.len text)) _ (none-at formals at t.len t.next_mode t.kind (take t.len text) ∙ n) in
+        or_none (stop_at formals at t (take t.len text)) _ (none-at formals at t.len t.next_mode t.kind (take t.len text) ∙ n) in
         let own = inner (ap (λ (s : Stop). is_none s) (sym passed) ∙ found) in
         let place : at + (t.len + m) ≡ at + t.len + m = omega arith in
         ap (λ (k : ℕ). first_stop formals k (tokens_from Plain 0 (drop (t.len + m) text)) (drop (t.len + m) text)) place

@@ -5,7 +5,7 @@ use Rattle.std.specs.List.{list_any}
 use Rattle.std.specs.Option.{option_map}
 use Rattle.std.proofs.lemmas.Bool.{eq-eqb}
 use Rattle.std.proofs.lemmas.List.Elements.{All-get_or}
-use Rattle.std.proofs.lemmas.List.{length-take, length-drop, take_rest}
+use Rattle.std.proofs.lemmas.List.{length-take, length-drop}
 use Rattle.std.proofs.lemmas.Slice.Eq.{bytes_eq-Decides}
 use Rattle.rdlpp_scan.specs.declared.token.Kind.{Kind}
 use Rattle.rdlpp_scan.specs.declared.token.Kind.TheVariants.{Back}
@@ -52,6 +52,7 @@ use Rattle.rdlpp_cursors.proofs.Moving.{goes-by, ends-by}
 use Rattle.rdlpp_cursors.proofs.Passing.{same-front, no-formals, no-word, IsPassed}
 use Rattle.rdlpp_cursors.proofs.Runs.{slice-behind}
 use Rattle.rdlpp_cursors.proofs.Scoping.{source-around, opens-length}
+use Rattle.rdlpp_cursors.proofs.Stacking.{tail-is}
 use Rattle.rdlpp_cursors.proofs.Stepping.{kind-first, bytes-first, first-moved, look-inside}
 
 -- where a usage lies in its text: it has its backquote, and ends in what is left of the open text, which ends in its text
@@ -462,10 +463,6 @@ pass-opened table arguments view new look len id at sound h l e used none room k
       refused = tt;
     })
 
--- the slots from a place on
-pub tail-is : (part items : List Slot) (first : ℕ) → part ≡ items → take (length part - first) (drop first part) ≡ drop first items
-tail-is part items first e = take_rest part first ∙ ap (λ (slots : List Slot). drop first slots) e
-
 -- the body of a macro is opened in front of open texts that go on
 pub entered : (macros : List Macro) (id end home at : ℕ) (view mid new : CursorsView) → end ≡ length (macro_at macros id).body → home ≡ front_scope view.opens
     → mid ≡ record { opens = moved_to at view.opens; line = view.line; depth = view.depth }
@@ -483,13 +480,6 @@ pub moved-room : (view new : CursorsView) (at : ℕ) → new ≡ record { opens 
     → length new.opens < new.depth
 moved-room view new at e room =
     subst (λ (v : CursorsView). length v.opens < v.depth) (sym e) (let n = moved-length view.opens at in omega (arith, n, room))
-
--- a slot is open where an open text is
-pub rest-some : (part items : List Slot) (first : ℕ) (bindings : List Range) → part ≡ items → 0 < length (opens_of (drop first items) bindings)
-    → 0 < length (take (length part - first) (drop first part))
-rest-some part items first bindings e some =
-    subst (λ (slots : List Slot). 0 < length slots) (sym (tail-is part items first e))
-    (let n = opens-length (drop first items) bindings in omega (arith, n, some))
 
 -- the scope of the innermost open text is one of the slots
 pub rest-scope : (part items : List Slot) (first scope : ℕ) (bindings : List Range) → part ≡ items → AreFurtherOut (opens_of (drop first items) bindings)

@@ -28,6 +28,9 @@ use std::marker::Model;
 mod formal;
 mod run;
 
+// The most ranges that the call of one open body binds: one for each formal of its macro (this project's profile).
+const MOST_BINDINGS: usize = 255;
+
 /// The open texts of a usage in a source, the innermost first: bodies, actuals and default texts, as ranges of bytes.
 ///
 /// No call but `new` takes memory.
@@ -83,7 +86,7 @@ impl Cursors {
             bounds: NO_BOUNDS,
         };
         let slots = vec![in alloc; closed; depth]?;
-        let bindings = Vec::with_capacity(alloc, (depth + 1) * 255)?;
+        let bindings = Vec::with_capacity(alloc, (depth + 1) * MOST_BINDINGS)?;
         Ok(Cursors {
             slots,
             first: depth,

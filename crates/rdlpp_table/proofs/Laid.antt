@@ -1,5 +1,5 @@
 -- What follows from how a table lies in its lists.
-use Rattle.std.proofs.Common.{◌≡◌, ℕ, ◌<◌, ◌≤◌, List, [], length, get_or, Option, Some, option_map, is_some, unwrap_or, None, refl, ap, sym, ◌∙◌, arith, Vec, vec_len, rules, Global}
+use Rattle.std.proofs.Common.{◌≡◌, ℕ, ◌<◌, ◌≤◌, List, [], length, get_or, Option, Some, option_map, is_some, unwrap_or, None, refl, ap, sym, ◌∙◌, arith}
 use Rattle.std.specs.List.{IsDistinct}
 use Rattle.std.proofs.lemmas.List.{length-map, get_or-map}
 use Rattle.std.proofs.lemmas.List.Elements.{All-nil}
@@ -38,9 +38,6 @@ held_when_empty bytes entries a b e f = rw (e, f) (held_nothing a b)
 pub empty_view : (bytes : List ℕ) (entries : List Entry) (a b : ℕ) → entries ≡ [] → view_of bytes entries a b ≡ record { macros = []; most_bytes = a; most_macros = b }
 empty_view bytes entries a b e = ap (λ (ms : List Macro). let v : TableView = record { macros = ms; most_bytes = a; most_macros = b } in v) (macros_of_none bytes entries e)
 
-pub count_entries : (v : Vec Entry Global) → vec_len v ≡ length v.items
-count_entries v = search rules
-
 -- the macro of an entry
 pub macro_at_entry : (bytes : List ℕ) (entries : List Entry) (a b : ℕ) (view : TableView) (i : ℕ) (d : Entry) → view_of bytes entries a b ≡ view → i < length entries → macro_at view.macros i ≡ macro_in bytes (get_or entries i d)
 unfolding macros_in
@@ -55,9 +52,6 @@ inside_by_place ms name i e = (position-Some _ ms i no_macro e).0
 
 pub named_at : (ms : List Macro) (name : List ℕ) (r : Option ℕ) → r ≡ place_named ms name → macro_named ms name ≡ option_map (macro_at ms) r
 named_at ms name r e = named_by_place ms name ∙ ap (option_map (macro_at ms)) (sym e)
-
-pub slices_within : (bs : List ℕ) (es : List Entry) (bytes : List ℕ) (entries : List Entry) (a b : ℕ) → bs ≡ bytes → es ≡ entries → IsHeld bytes entries a b → AreWithin (length bs) es
-slices_within bs es bytes entries a b p q held = rw (p, q) (stored_within bytes entries _ held.stored)
 
 pub entry_within : (bs bytes : List ℕ) (entries : List Entry) (a b : ℕ) (i : ℕ) (entry : Entry) → bs ≡ bytes → IsHeld bytes entries a b → i < length entries → entry ≡ get_or entries i entry → entry_end entry ≤ length bs
 entry_within bs bytes entries a b i entry p held h q = rw (p, q) (stored_within bytes entries _ held.stored i entry h)

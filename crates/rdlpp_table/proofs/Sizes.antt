@@ -1,5 +1,5 @@
 -- Sizes are lengths, and entries lie among the bytes.
-use Rattle.std.proofs.Common.{◌≡◌, ℕ, zero, suc, ◌+◌, ◌<◌, ◌≤◌, List, [], ◌∷◌, ◌++◌, length, take, get_or, unwrap_or, sum_by, refl, ap, sym, ◌∙◌, arith, length-append, add-zero}
+use Rattle.std.proofs.Common.{Vec, Global, vec_len, rules, ◌≡◌, ℕ, zero, suc, ◌+◌, ◌<◌, ◌≤◌, List, [], ◌∷◌, ◌++◌, length, take, get_or, unwrap_or, sum_by, refl, ap, sym, ◌∙◌, arith, length-append, add-zero}
 use Rattle.std.specs.List.{All, flat_map}
 use Rattle.std.proofs.lemmas.List.Elements.{All-cons, All-nil}
 use Rattle.std.proofs.lemmas.List.Sums.{sum_by-cons, sum_by-append}
@@ -8,6 +8,10 @@ use Rattle.rdlpp_table.specs.Table.{Formal, Macro, default_bytes, default_size, 
 use Rattle.rdlpp_table.specs.View.{macro_at}
 use Rattle.rdlpp_table.specs.Store.{entry_of, entries_of, entry_end, body_start, list_start, list_size, IsStored}
 use Rattle.rdlpp_table.specs.Entries.{AreWithin}
+
+-- a list counts its items
+pub count_items : {A : Type 0} (v : Vec A Global) → vec_len v ≡ length v.items
+count_items v = search rules
 
 pub table_size-cons : (m : Macro) (ms : List Macro) → table_size (m ∷ ms) ≡ macro_size m + table_size ms
 unfolding table_size
@@ -21,6 +25,12 @@ length_default : (text : List ℕ) → length (default_bytes text) ≡ default_s
 unfolding default_bytes default_size
 length_default [] = refl
 length_default (b ∷ bs) = omega arith
+
+-- a default text is no longer than what it counts
+pub default_least : (text : List ℕ) → length text ≤ default_size text
+unfolding default_size
+default_least [] = omega arith
+default_least (b ∷ bs) = omega arith
 
 pub length_formal_bytes : (f : Formal) → length (formal_bytes f) ≡ formal_size f
 unfolding formal_bytes formal_size

@@ -24,14 +24,16 @@ pub record IsStopping (formals : List Formal) (from : ℕ) (text : List ℕ) (mo
   pub same : first_stop formals at (tokens_from mode 0 rest) rest ≡ stop_of formals from text
   pub place : at + length rest ≡ from + length text
 
-or_none : (s other : Stop) → is_none s ≡ true → or_stop s other ≡ other
+-- behind what is no stop comes the other one
+pub or_none : (s other : Stop) → is_none s ≡ true → or_stop s other ≡ other
 unfolding is_none or_stop
 or_none stop.None other h = refl
 or_none (stop.Formal at len place) other h = absurd (cc)
 or_none (stop.Usage at len) other h = absurd (cc)
 or_none (stop.Bare at) other h = absurd (cc)
 
-or_some : (s other : Stop) → is_none s ≡ false → or_stop s other ≡ s
+-- and a stop is itself
+pub or_some : (s other : Stop) → is_none s ≡ false → or_stop s other ≡ s
 unfolding is_none or_stop
 or_some stop.None other h = absurd (cc)
 or_some (stop.Formal at len place) other h = refl

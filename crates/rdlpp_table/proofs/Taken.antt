@@ -1,5 +1,5 @@
 -- A macro taken out of the lists in which a table lies.
-use Rattle.std.proofs.Common.{◌≡◌, ℕ, suc, ◌+◌, ◌<◌, ◌≤◌, List, [], ◌∷◌, ◌++◌, length, take, drop, map, get_or, refl, ap, sym, ◌∙◌, subst, arith, length-append, append_assoc, add-zero, add-one, remove, zero-add, ◌^◌, Vec, Global, vec_len, vec_capacity, rules}
+use Rattle.std.proofs.Common.{◌≡◌, ℕ, suc, ◌+◌, ◌<◌, ◌≤◌, List, [], ◌∷◌, ◌++◌, length, take, drop, map, get_or, refl, ap, sym, ◌∙◌, subst, arith, length-append, append_assoc, add-zero, add-one, remove, zero-add, ◌^◌, Vec, Global, vec_capacity}
 use Rattle.std.specs.List.{All, list_all, remove_range}
 use Rattle.std.proofs.lemmas.List.{take_at, drop_at, take-append-drop, drop_more, length-take-le}
 use Rattle.std.proofs.lemmas.Grind.{flat_map-append}
@@ -142,9 +142,6 @@ taken_behind entries rest entry ms place size t =
 
 pub bytes_fit : (v : Vec ℕ Global) → length v.items < 2 ^ 63
 bytes_fit v = omega (arith, v.ok.0, v.ok.1, v.small)
-
-pub count_bytes : (v : Vec ℕ Global) → vec_len v ≡ length v.items
-count_bytes v = search rules
 
 pub end_within : (bytes : List ℕ) (entries : List Entry) (ms : List Macro) (place : ℕ) (entry : Entry) → IsStored bytes entries ms → place < length entries → entry ≡ get_or entries place entry → entry.start + (entry.name_len + entry.list_len + entry.body_len) ≤ length bytes
 unfolding entry_end body_start list_start

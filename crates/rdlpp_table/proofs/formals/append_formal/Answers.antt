@@ -1,6 +1,6 @@
 use Rattle.std.proofs.Common.{◌≡◌, ◌≤◌, ℕ, List, true, false, length, length-append, get_or, eqb, vec_capacity, Vec, Global, ap, ◌∙◌, arith, ne_eqb}
 use Rattle.rdlpp_lines.specs.Continuations.{joined}
-use Rattle.rdlpp_table.proofs.Taken.{count_bytes}
+use Rattle.rdlpp_table.proofs.Sizes.{count_items}
 use Rattle.rdlpp_table.proofs.Appending.{IsMid, IsTold, told_is, told_default, mid_long, mid_short, mid_length, behind_comma, behind_other}
 use Rattle.rdlpp_table.proofs.formals.append_formal.Goals as goal
 use Rattle.rdlpp_table.proofs.formals.append_formal.Goals.{then-default-gt0, else-default-gt0, in-Some+else-b-eq44, in_default}
@@ -20,7 +20,7 @@ pub push_reserved-requires : goal.push_reserved-requires
 push_reserved-requires c =
     let t : IsTold (joined true c.args.text.now) c.first_part-part.result.name.now (joined true c.in_ok-default.default.from.now) (joined true c.in_ok-default.default.behind.now) c.in_ok-default.default.size = (told_is _ _ _ _ _ _ c.first_part-part.ensures.part c.requires.good c.in_ok-default.ensures.is) in
     let named = length-append c.args.to.now.items c.first_part-part.result.name.now in
-    omega (arith, t.size_is, c.requires.room, c.if-default-gt0.true, c.append.ensures.capacity, count_bytes c.append.new.bytes, count_bytes c.args.to.now, ap (length {A = ℕ}) c.append.ensures.items, named)
+    omega (arith, t.size_is, c.requires.room, c.if-default-gt0.true, c.append.ensures.capacity, count_items c.append.new.bytes, count_items c.args.to.now, ap (length {A = ℕ}) c.append.ensures.items, named)
 
 pub append_trimmed-requires-clause-len : goal.append_trimmed-requires-clause-len
 append_trimmed-requires-clause-len c = (told_is _ _ _ _ _ _ c.first_part-part.ensures.part c.requires.good c.in_ok-default.ensures.is).len c.if-default-gt0.true
@@ -29,7 +29,7 @@ pub append_trimmed-requires-clause-room : goal.append_trimmed-requires-clause-ro
 append_trimmed-requires-clause-room c =
     let t : IsTold (joined true c.args.text.now) c.first_part-part.result.name.now (joined true c.in_ok-default.default.from.now) (joined true c.in_ok-default.default.behind.now) c.in_ok-default.default.size = (told_is _ _ _ _ _ _ c.first_part-part.ensures.part c.requires.good c.in_ok-default.ensures.is) in
     let named = length-append c.args.to.now.items c.first_part-part.result.name.now in
-    omega (arith, t.size_is, c.requires.room, c.if-default-gt0.true, c.append.ensures.capacity, count_bytes c.append.new.bytes, count_bytes c.args.to.now, ap (length {A = ℕ}) c.append.ensures.items, named, c.push_reserved.ensures.len, c.push_reserved.ensures.capacity)
+    omega (arith, t.size_is, c.requires.room, c.if-default-gt0.true, c.append.ensures.capacity, count_items c.append.new.bytes, count_items c.args.to.now, ap (length {A = ℕ}) c.append.ensures.items, named, c.push_reserved.ensures.len, c.push_reserved.ensures.capacity)
 
 pub push_reserved-requires-2 : goal.push_reserved-requires-2
 push_reserved-requires-2 c =
@@ -42,7 +42,7 @@ push_reserved-requires-2 c =
       | then-default-gt0 w ↦ omega (arith, c.append.ensures.capacity, w.push_reserved.ensures.capacity, w.append_trimmed.ensures.capacity, ap (λ (v : Vec ℕ Global). vec_capacity v) w.to-is)
       | else-default-gt0 w ↦ omega (arith, c.append.ensures.capacity, ap (λ (v : Vec ℕ Global). vec_capacity v) w.to-is)
     ] in
-    omega (arith, mid_length _ _ _ mid, room, c.requires.room, count_bytes c.if-default-gt0.to, count_bytes c.args.to.now)
+    omega (arith, mid_length _ _ _ mid, room, c.requires.room, count_items c.if-default-gt0.to, count_items c.args.to.now)
 
 pub returns-then-b-eq44-clause-items : goal.returns-then-b-eq44-clause-items
 returns-then-b-eq44-clause-items c =

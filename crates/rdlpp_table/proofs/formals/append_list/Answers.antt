@@ -1,5 +1,5 @@
 use Rattle.std.proofs.Common.{arith}
-use Rattle.rdlpp_table.proofs.Taken.{count_bytes}
+use Rattle.rdlpp_table.proofs.Sizes.{count_items}
 use Rattle.rdlpp_table.proofs.Appending.{append_starts, append_told, append_room, append_next, append_end}
 use Rattle.rdlpp_table.proofs.formals.append_list.Goals as goal
 
@@ -11,7 +11,7 @@ append_formal-requires-clause-good c = append_told _ _ _ _ c.loop-behind.invaria
 
 pub append_formal-requires-clause-room : goal.append_formal-requires-clause-room
 append_formal-requires-clause-room c =
-    omega (arith, append_room _ _ _ _ c.loop-behind.invariant.appended c.requires.listed, c.requires.room, c.loop-behind.invariant.room, count_bytes c.loop-behind.to, count_bytes c.args.to.now)
+    omega (arith, append_room _ _ _ _ c.loop-behind.invariant.appended c.requires.listed, c.requires.room, c.loop-behind.invariant.room, count_items c.loop-behind.to, count_items c.args.to.now)
 
 pub loop-behind-preserved : goal.loop-behind-preserved
 loop-behind-preserved c = record {

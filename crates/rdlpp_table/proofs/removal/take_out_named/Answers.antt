@@ -1,5 +1,6 @@
 use Rattle.std.proofs.Common.{◌∙◌, Some, None, ap, arith, sym}
-use Rattle.rdlpp_table.proofs.Laid.{count_entries, is_named, stored_slices_within}
+use Rattle.rdlpp_table.proofs.Sizes.{count_items}
+use Rattle.rdlpp_table.proofs.Laid.{is_named, stored_slices_within}
 use Rattle.rdlpp_table.proofs.Held.{stored_without, stored_nowhere}
 use Rattle.rdlpp_table.proofs.Keyed.{entry_inside, gapped, left_nowhere, left_without, placed}
 use Rattle.rdlpp_table.proofs.Divided.{sooner_is}
@@ -12,7 +13,7 @@ seek-requires-clause-within c = stored_slices_within _ _ _ _ _ c.deref.ensures.v
 pub take_out-requires-clause-place : goal.take_out-requires-clause-place
 take_out-requires-clause-place c =
     let p = placed _ _ _ _ _ _ _ _ _ c.deref.ensures.value c.deref-2.ensures.value c.deref-3.ensures.value c.new.ensures c.in-Ok.ensures.found in
-    omega (arith, c.leave-place.ensures.value, entry_inside _ _ _ _ c.requires.indexed.index p.inside, count_entries c.args.entries.now)
+    omega (arith, c.leave-place.ensures.value, entry_inside _ _ _ _ c.requires.indexed.index p.inside, count_items c.args.entries.now)
 
 pub returns-in-Ok-clause-value : goal.returns-in-Ok-clause-value
 returns-in-Ok-clause-value c =

@@ -1,7 +1,8 @@
 use Rattle.std.proofs.Common.{◌<◌, ◌+◌, List, ℕ, length, drop, ap, refl, ◌∙◌, arith}
 use Rattle.rdlpp_calls.specs.declared.bindings.Range.{Range}
+use Rattle.rdlpp_table.proofs.Sizes.{count_items}
 use Rattle.rdlpp_cursors.specs.Opened.{kept_by, opens_of}
-use Rattle.rdlpp_cursors.proofs.Stacking.{closed-opens, first-inside, ranges-count, some-open, stack-closed, view-is}
+use Rattle.rdlpp_cursors.proofs.Stacking.{closed-opens, first-inside, some-open, stack-closed, view-is}
 use Rattle.rdlpp_cursors.proofs.cursors.Cursors.close.Goals as goal
 
 pub index-requires : goal.index-requires
@@ -11,7 +12,7 @@ pub invariant_of-self : goal.invariant_of-self
 invariant_of-self c =
     let some : c.self.inside.first < length c.self.inside.slots.items = some-open c.self.inside.slots.items c.self.inside.first c.self.inside.bindings.items (rw (← c.self.view_is) at c.requires) in
     stack-closed c.self.inside.slots.items c.self.inside.first c.self.inside.bindings c.truncate.new.self c.index.result.now _ some c.index.ensures
-    (c.kept_by-kept.ensures ∙ ap (λ (n : ℕ). kept_by c.index.result.now.kind n) (c.len.ensures ∙ ranges-count c.self.inside.bindings))
+    (c.kept_by-kept.ensures ∙ ap (λ (n : ℕ). kept_by c.index.result.now.kind n) (c.len.ensures ∙ count_items c.self.inside.bindings))
     c.truncate.ensures.items (omega (arith, c.truncate.ensures.capacity)) c.self.invariant
 
 pub returns : goal.returns
@@ -20,4 +21,4 @@ returns c =
     rw (← c.self.view_is) (view-is _ _ _ _ _
     (ap (λ (bs : List Range). opens_of (drop (c.self.inside.first + 1) c.self.inside.slots.items) bs) c.truncate.ensures.items
     ∙ closed-opens c.self.inside.slots.items c.self.inside.first c.self.inside.bindings.items c.index.result.now _ some c.index.ensures
-    (c.kept_by-kept.ensures ∙ ap (λ (n : ℕ). kept_by c.index.result.now.kind n) (c.len.ensures ∙ ranges-count c.self.inside.bindings))) refl)
+    (c.kept_by-kept.ensures ∙ ap (λ (n : ℕ). kept_by c.index.result.now.kind n) (c.len.ensures ∙ count_items c.self.inside.bindings))) refl)

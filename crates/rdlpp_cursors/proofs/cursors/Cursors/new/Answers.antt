@@ -1,5 +1,6 @@
 use Rattle.std.proofs.Common.{arith}
-use Rattle.rdlpp_cursors.proofs.Stacking.{none-open, slots-count, stack-made, view-is}
+use Rattle.rdlpp_table.proofs.Sizes.{count_items}
+use Rattle.rdlpp_cursors.proofs.Stacking.{none-open, stack-made, view-is}
 use Rattle.rdlpp_cursors.proofs.cursors.Cursors.new.Goals as goal
 
 pub invariant_of-result : goal.invariant_of-result
@@ -8,4 +9,4 @@ invariant_of-result c =
 
 pub returns : goal.returns
 returns c =
-    view-is _ _ _ _ _ (none-open _ c.args.depth _ (omega (arith, slots-count c.in_ok-slots.slots, c.in_ok-slots.ensures.len))) c.in_ok-slots.ensures.len
+    view-is _ _ _ _ _ (none-open _ c.args.depth _ (omega (arith, count_items c.in_ok-slots.slots, c.in_ok-slots.ensures.len))) c.in_ok-slots.ensures.len

@@ -2,10 +2,11 @@ use Rattle.std.proofs.Common.{◌∙◌, ◌<◌, List, Option, unwrap_or, ℕ, 
 use Rattle.rdlpp_calls.specs.BoundCalls.{added}
 use Rattle.rdlpp_calls.specs.declared.bindings.Range.{Range}
 use Rattle.rdlpp_table.specs.View.{macro_at}
+use Rattle.rdlpp_table.proofs.Sizes.{count_items}
 use Rattle.rdlpp_cursors.specs.Opened.{opens_of}
 use Rattle.rdlpp_cursors.proofs.Binding.{all-open, arity-count, call-bound, call-room, called-opens, formals-few, opening-deep, opening-opened, opening-refused, room-open, stack-called, taken-back}
 use Rattle.rdlpp_cursors.proofs.Bounding.{lent-body, lent-bounded}
-use Rattle.rdlpp_cursors.proofs.Stacking.{first-inside, ranges-count, some-open, view-is}
+use Rattle.rdlpp_cursors.proofs.Stacking.{first-inside, some-open, view-is}
 use Rattle.rdlpp_cursors.proofs.cursors.Cursors.open_bound.Goals as goal
 
 pub bind_call-requires-clause-room : goal.bind_call-requires-clause-room
@@ -26,7 +27,7 @@ returns-then-first-eq0-clause-opening c =
     let bound = call-bound _ _ _ _ _ _ _ _ c.bind_call.result c.in-Ok.is n (c.bind_call.ensures.call c.requires.keeps) c.bind_call.ensures.within c.in-Ok.ensures.place in
     rw (← c.self.view_is) (opening-deep _ _ _ _ _ _ _ _ bound
     (view-is _ _ _ _ _ (ap (λ (bs : List Range). opens_of (drop c.self.inside.first c.self.inside.slots.items) bs)
-    (c.truncate.ensures.items ∙ taken-back c.self.inside.bindings.items _ _ _ c.bind_call.ensures.whole (c.len-bound.ensures ∙ ranges-count c.self.inside.bindings))) refl)
+    (c.truncate.ensures.items ∙ taken-back c.self.inside.bindings.items _ _ _ c.bind_call.ensures.whole (c.len-bound.ensures ∙ count_items c.self.inside.bindings))) refl)
     (all-open c.self.inside.slots c.self.inside.first c.self.inside.bindings.items c.if-first-eq0.true))
 
 pub index_mut-requires : goal.index_mut-requires
@@ -53,7 +54,7 @@ returns-clause-opening c =
     (room-open c.self.inside.slots c.self.inside.first c.self.inside.bindings.items none inside)
     (view-is _ _ _ _ _
     (called-opens c.self.inside.slots.items c.self.inside.first c.in-Ok.behind c.self.inside.bindings.items _ c.bind_call.new.bindings.items c.index_mut.result.now c.args.id (length c.body.result.now)
-    c.args.home c.len-bound.result c.body_bounds-bounds.result some inside c.index_mut.ensures.value (c.len-bound.ensures ∙ ranges-count c.self.inside.bindings) c.bind_call.ensures.whole) refl))
+    c.args.home c.len-bound.result c.body_bounds-bounds.result some inside c.index_mut.ensures.value (c.len-bound.ensures ∙ count_items c.self.inside.bindings) c.bind_call.ensures.whole) refl))
 
 pub body_bounds-bounds-requires : goal.body_bounds-bounds-requires
 body_bounds-bounds-requires c = lent-bounded c.self.inside.slots.items _ c.self.inside.first c.as_slice.ensures.value c.self.invariant.bounded

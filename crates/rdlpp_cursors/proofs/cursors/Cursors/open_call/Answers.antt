@@ -3,10 +3,11 @@ use Rattle.std.proofs.lemmas.Result.{err_from_is_err_and}
 use Rattle.rdlpp_calls.specs.BoundCalls.{added}
 use Rattle.rdlpp_calls.specs.declared.bindings.Range.{Range}
 use Rattle.rdlpp_table.specs.View.{macro_at, formals_of}
+use Rattle.rdlpp_table.proofs.Sizes.{count_items}
 use Rattle.rdlpp_cursors.specs.Opened.{opens_of, CursorsView}
 use Rattle.rdlpp_cursors.proofs.Binding.{arity-count, call-room, entered-opens, formals-few, stack-entered}
 use Rattle.rdlpp_cursors.proofs.Bounding.{lent-body, lent-bounded}
-use Rattle.rdlpp_cursors.proofs.Stacking.{ranges-count, view-is}
+use Rattle.rdlpp_cursors.proofs.Stacking.{view-is}
 use Rattle.rdlpp_cursors.proofs.Starting.{call-dropped, call-miscounted, call-started, parts-counted, room-closed, started-opens}
 use Rattle.rdlpp_cursors.proofs.cursors.Cursors.open_call.Goals as goal
 
@@ -48,7 +49,7 @@ returns-clause-opens c =
     c.bind_parts.ensures.within
     (view-is _ _ _ _ _
     (entered-opens c.self.inside.slots.items c.self.inside.first c.self.inside.bindings.items _ c.bind_parts.new.bindings.items c.args.id (length c.body.result.now) 0 c.len-bound.result c.body_bounds-bounds.result some
-    c.self.invariant.inside (c.len-bound.ensures ∙ ranges-count c.self.inside.bindings) c.bind_parts.ensures.whole
+    c.self.invariant.inside (c.len-bound.ensures ∙ count_items c.self.inside.bindings) c.bind_parts.ensures.whole
     ∙ started-opens c.args.table.now c.args.arguments.now c.args.id (added c.self.inside.bindings.items c.bind_parts.new.bindings.items) c.body.result.now _ c.body.ensures
     (rw (← c.self.view_is) at c.requires.closed))
     (ap (λ (v : CursorsView). v.depth) c.self.view_is))

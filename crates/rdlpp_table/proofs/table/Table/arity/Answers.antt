@@ -1,9 +1,10 @@
 use Rattle.std.proofs.Common.{◌<◌, length, arith}
-use Rattle.rdlpp_table.proofs.Laid.{len_of_view, count_entries, arity_at}
+use Rattle.rdlpp_table.proofs.Sizes.{count_items}
+use Rattle.rdlpp_table.proofs.Laid.{len_of_view, arity_at}
 use Rattle.rdlpp_table.proofs.table.Table.arity.Goals as goal
 
 pub index-requires : goal.index-requires
-index-requires c = omega (arith, c.requires, len_of_view _ _ _ _ _ c.self.view_is, count_entries c.self.inside.entries, c.id.view_is)
+index-requires c = omega (arith, c.requires, len_of_view _ _ _ _ _ c.self.view_is, count_items c.self.inside.entries, c.id.view_is)
 
 pub returns : goal.returns
 returns c =

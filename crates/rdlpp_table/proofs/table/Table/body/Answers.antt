@@ -1,9 +1,10 @@
 use Rattle.std.proofs.Common.{◌<◌, length, arith}
-use Rattle.rdlpp_table.proofs.Laid.{len_of_view, count_entries, entry_within, body_at}
+use Rattle.rdlpp_table.proofs.Sizes.{count_items}
+use Rattle.rdlpp_table.proofs.Laid.{len_of_view, entry_within, body_at}
 use Rattle.rdlpp_table.proofs.table.Table.body.Goals as goal
 
 pub index-requires : goal.index-requires
-index-requires c = omega (arith, c.requires, len_of_view _ _ _ _ _ c.self.view_is, count_entries c.self.inside.entries, c.id.view_is)
+index-requires c = omega (arith, c.requires, len_of_view _ _ _ _ _ c.self.view_is, count_items c.self.inside.entries, c.id.view_is)
 
 pub body_in-requires : goal.body_in-requires
 body_in-requires c =

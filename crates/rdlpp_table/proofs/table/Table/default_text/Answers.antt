@@ -1,9 +1,10 @@
 use Rattle.std.proofs.Common.{◌<◌, length, arith, Some, sym, ap, ◌∙◌}
-use Rattle.rdlpp_table.proofs.Laid.{len_of_view, count_entries, entry_within, default_found, arity_found}
+use Rattle.rdlpp_table.proofs.Sizes.{count_items}
+use Rattle.rdlpp_table.proofs.Laid.{len_of_view, entry_within, default_found, arity_found}
 use Rattle.rdlpp_table.proofs.table.Table.default_text.Goals as goal
 
 pub index-entry-requires : goal.index-entry-requires
-index-entry-requires c = omega (arith, c.requires.id, len_of_view _ _ _ _ _ c.self.view_is, count_entries c.self.inside.entries, c.id.view_is)
+index-entry-requires c = omega (arith, c.requires.id, len_of_view _ _ _ _ _ c.self.view_is, count_items c.self.inside.entries, c.id.view_is)
 
 pub list_in-requires : goal.list_in-requires
 list_in-requires c =

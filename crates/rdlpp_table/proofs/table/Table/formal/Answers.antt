@@ -1,9 +1,10 @@
 use Rattle.std.proofs.Common.{◌<◌, length, arith}
-use Rattle.rdlpp_table.proofs.Laid.{len_of_view, count_entries, entry_within, formal_found, no_formal}
+use Rattle.rdlpp_table.proofs.Sizes.{count_items}
+use Rattle.rdlpp_table.proofs.Laid.{len_of_view, entry_within, formal_found, no_formal}
 use Rattle.rdlpp_table.proofs.table.Table.formal.Goals as goal
 
 pub index-entry-requires : goal.index-entry-requires
-index-entry-requires c = omega (arith, c.requires, len_of_view _ _ _ _ _ c.self.view_is, count_entries c.self.inside.entries, c.id.view_is)
+index-entry-requires c = omega (arith, c.requires, len_of_view _ _ _ _ _ c.self.view_is, count_items c.self.inside.entries, c.id.view_is)
 
 pub list_in-requires : goal.list_in-requires
 list_in-requires c =

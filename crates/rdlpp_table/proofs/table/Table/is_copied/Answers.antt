@@ -1,9 +1,10 @@
 use Rattle.std.proofs.Common.{◌<◌, length, arith}
-use Rattle.rdlpp_table.proofs.Laid.{copied_at, count_entries, len_of_view}
+use Rattle.rdlpp_table.proofs.Sizes.{count_items}
+use Rattle.rdlpp_table.proofs.Laid.{copied_at, len_of_view}
 use Rattle.rdlpp_table.proofs.table.Table.is_copied.Goals as goal
 
 pub index-requires : goal.index-requires
-index-requires c = omega (arith, c.requires, len_of_view _ _ _ _ _ c.self.view_is, count_entries c.self.inside.entries, c.id.view_is)
+index-requires c = omega (arith, c.requires, len_of_view _ _ _ _ _ c.self.view_is, count_items c.self.inside.entries, c.id.view_is)
 
 pub returns : goal.returns
 returns c =

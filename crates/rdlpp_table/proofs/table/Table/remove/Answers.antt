@@ -2,7 +2,7 @@ use Rattle.std.proofs.Common.{◌∙◌, ap, arith, is_some}
 use Rattle.rdlpp_table.specs.Table.{macro_named, without}
 use Rattle.rdlpp_table.specs.View.{TableView}
 use Rattle.rdlpp_table.specs.Layout.{view_of}
-use Rattle.rdlpp_table.proofs.Laid.{count_entries}
+use Rattle.rdlpp_table.proofs.Sizes.{count_items}
 use Rattle.rdlpp_table.proofs.Held.{table_of, held_of, view_after, sound_without}
 use Rattle.rdlpp_table.proofs.Keyed.{few_entries, indexed_after}
 use Rattle.rdlpp_table.proofs.table.Table.remove.Goals as goal
@@ -15,7 +15,7 @@ take_out_named-requires-clause-distinct c = c.self.invariant.held.sound.distinct
 
 pub take_out_named-requires-clause-few : goal.take_out_named-requires-clause-few
 take_out_named-requires-clause-few c =
-    omega (arith, few_entries _ _ _ _ c.self.invariant.held, c.self.invariant.few, count_entries c.self.inside.entries)
+    omega (arith, few_entries _ _ _ _ c.self.invariant.held, c.self.invariant.few, count_items c.self.inside.entries)
 
 pub invariant_of-self : goal.invariant_of-self
 invariant_of-self c = record {

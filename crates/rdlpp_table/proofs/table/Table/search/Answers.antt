@@ -1,10 +1,10 @@
 use Rattle.std.proofs.Common.{◌∙◌, Some, ap, arith, length, sym}
-use Rattle.rdlpp_table.proofs.Laid.{named_at, slices_within}
+use Rattle.rdlpp_table.proofs.Laid.{named_at, stored_slices_within}
 use Rattle.rdlpp_table.proofs.Keyed.{few_entries, viewed_place}
 use Rattle.rdlpp_table.proofs.table.Table.search.Goals as goal
 
 pub place_in-requires-clause-within : goal.place_in-requires-clause-within
-place_in-requires-clause-within c = slices_within _ _ _ _ _ _ c.deref.ensures.value c.deref-2.ensures.value c.self.invariant.held
+place_in-requires-clause-within c = stored_slices_within _ _ _ _ _ c.deref.ensures.value c.deref-2.ensures.value c.self.invariant.held.stored
 
 pub place_in-requires-clause-few : goal.place_in-requires-clause-few
 place_in-requires-clause-few c =

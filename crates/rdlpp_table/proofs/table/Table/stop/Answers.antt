@@ -1,12 +1,13 @@
 use Rattle.std.proofs.Common.{◌≡◌, ◌<◌, ℕ, ap, length, arith, ◌∙◌}
 use Rattle.rdlpp_table.specs.Store.{formals_read}
 use Rattle.rdlpp_table.specs.View.{macro_at}
-use Rattle.rdlpp_table.proofs.Laid.{copied_at, count_entries, entry_within, len_of_view}
+use Rattle.rdlpp_table.proofs.Sizes.{count_items}
+use Rattle.rdlpp_table.proofs.Laid.{copied_at, entry_within, len_of_view}
 use Rattle.rdlpp_table.proofs.Stopped.{body_here, formals_here, no_stop, some_stop}
 use Rattle.rdlpp_table.proofs.table.Table.stop.Goals as goal
 
 pub index-entry-requires : goal.index-entry-requires
-index-entry-requires c = omega (arith, c.requires.id, len_of_view _ _ _ _ _ c.self.view_is, count_entries c.self.inside.entries, c.id.view_is)
+index-entry-requires c = omega (arith, c.requires.id, len_of_view _ _ _ _ _ c.self.view_is, count_items c.self.inside.entries, c.id.view_is)
 
 pub body_in-body-requires : goal.body_in-body-requires
 body_in-body-requires c =

@@ -5,12 +5,12 @@ use Rattle.rdlpp_table.specs.Define.{Accepted}
 use Rattle.rdlpp_table.specs.New.{new_macro}
 use Rattle.rdlpp_table.specs.Store.{macros_in}
 use Rattle.rdlpp_table.specs.Layout.{view_of}
+use Rattle.rdlpp_table.proofs.Sizes.{count_items}
 use Rattle.rdlpp_table.proofs.RoundTrip.{read_back}
 use Rattle.rdlpp_table.proofs.News.{new_size}
 use Rattle.rdlpp_table.proofs.Held.{held_of, sound_with, too_large, too_many, fits, refused_is, accepted_is}
 use Rattle.rdlpp_table.proofs.Without.{without_size}
 use Rattle.rdlpp_table.proofs.Taken.{capacity_small}
-use Rattle.rdlpp_table.proofs.Laid.{count_entries}
 use Rattle.rdlpp_table.proofs.Keyed.{few_entries, indexed_after}
 use Rattle.rdlpp_table.proofs.table.Table.store.Goals as goal
 
@@ -37,7 +37,7 @@ returns-then-self-rest-2-clause-outcome c =
 
 pub replace-requires-clause-few : goal.replace-requires-clause-few
 replace-requires-clause-few c =
-    omega (arith, few_entries _ _ _ _ c.self.invariant.held, c.self.invariant.few, count_entries c.self.inside.entries)
+    omega (arith, few_entries _ _ _ _ c.self.invariant.held, c.self.invariant.few, count_items c.self.inside.entries)
 
 pub replace-requires-clause-room : goal.replace-requires-clause-room
 replace-requires-clause-room c =
