@@ -163,9 +163,9 @@ blank_run formals at (b ∷ bs) =
     let F : ℕ → Stop = λ n. first_stop formals (at + n) (tokens_from Plain 0 (drop n (b ∷ bs))) (drop n (b ∷ bs)) in
     let here : first_stop formals at (tokens_from Plain 0 (b ∷ bs)) (b ∷ bs) ≡ F 0 = ap (λ (n : ℕ). first_stop formals n (tokens_from Plain 0 (b ∷ bs)) (b ∷ bs)) (omega arith) in
     ⊎_elim
-      (λ h. blank_token formals at b bs h)
-      (λ h. here ∙ ap F (sym (prefix_none is_blank b bs h)))
-      (cases_Bool (is_blank b))
+    (λ h. blank_token formals at b bs h)
+    (λ h. here ∙ ap F (sym (prefix_none is_blank b bs h)))
+    (cases_Bool (is_blank b))
 
 -- a quiet byte is passed
 quiet_one : (formals : List Formal) (at b : ℕ) (bs : List ℕ) → is_quiet b ≡ true
@@ -173,12 +173,12 @@ quiet_one : (formals : List Formal) (at b : ℕ) (bs : List ℕ) → is_quiet b 
 quiet_one formals at b bs q =
     let k = prefix_len is_blank bs in
     ⊎_elim
-      (λ h. blank_token formals at b bs h
-        ∙ (ap (λ (n : ℕ). first_stop formals (at + n) (tokens_from Plain 0 (drop n (b ∷ bs))) (drop n (b ∷ bs))) (prefix_more is_blank b bs h)
-        ∙ (ap (λ (n : ℕ). first_stop formals n (tokens_from Plain 0 (drop k bs)) (drop k bs)) (omega arith)
-        ∙ sym (blank_run formals (at + 1) bs))))
-      (λ h. quiet_mark formals at b bs (quiet_first b bs q h))
-      (cases_Bool (is_blank b))
+    (λ h. blank_token formals at b bs h
+    ∙ (ap (λ (n : ℕ). first_stop formals (at + n) (tokens_from Plain 0 (drop n (b ∷ bs))) (drop n (b ∷ bs))) (prefix_more is_blank b bs h)
+    ∙ (ap (λ (n : ℕ). first_stop formals n (tokens_from Plain 0 (drop k bs)) (drop k bs)) (omega arith)
+    ∙ sym (blank_run formals (at + 1) bs))))
+    (λ h. quiet_mark formals at b bs (quiet_first b bs q h))
+    (cases_Bool (is_blank b))
 
 -- quiet bytes are passed
 quiet_run : (formals : List Formal) (at : ℕ) (bs : List ℕ)
@@ -188,11 +188,11 @@ quiet_run formals at (b ∷ bs) =
     let F : ℕ → Stop = λ n. first_stop formals (at + n) (tokens_from Plain 0 (drop n (b ∷ bs))) (drop n (b ∷ bs)) in
     let k = prefix_len is_quiet bs in
     ⊎_elim
-      (λ h. ap F (prefix_more is_quiet b bs h)
-        ∙ (ap (λ (n : ℕ). first_stop formals n (tokens_from Plain 0 (drop k bs)) (drop k bs)) (omega arith)
-        ∙ (quiet_run formals (at + 1) bs ∙ sym (quiet_one formals at b bs h))))
-      (λ h. ap F (prefix_none is_quiet b bs h) ∙ ap (λ (n : ℕ). first_stop formals n (tokens_from Plain 0 (b ∷ bs)) (b ∷ bs)) (omega arith))
-      (cases_Bool (is_quiet b))
+    (λ h. ap F (prefix_more is_quiet b bs h)
+    ∙ (ap (λ (n : ℕ). first_stop formals n (tokens_from Plain 0 (drop k bs)) (drop k bs)) (omega arith)
+    ∙ (quiet_run formals (at + 1) bs ∙ sym (quiet_one formals at b bs h))))
+    (λ h. ap F (prefix_none is_quiet b bs h) ∙ ap (λ (n : ℕ). first_stop formals n (tokens_from Plain 0 (b ∷ bs)) (b ∷ bs)) (omega arith))
+    (cases_Bool (is_quiet b))
 
 quiet_passed : (formals : List Formal) (mode : Mode) (at : ℕ) (bs : List ℕ)
     → first_stop formals (at + quiet_len mode bs) (tokens_from mode 0 (drop (quiet_len mode bs) bs)) (drop (quiet_len mode bs) bs) ≡ first_stop formals at (tokens_from mode 0 bs) bs
