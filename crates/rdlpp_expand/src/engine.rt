@@ -444,8 +444,6 @@ impl<S: Sources> Engine<S> {
 
     // Ends the innermost source, which has no more bytes; a string, a comment or a conditional that is open
     // is a fault.
-    #[cold]
-    #[inline(never)]
     fn end(&mut self) -> Option<Place>
         requires open { self.old.phase ≡ Phase.Open }
         requires some { 0 < length self.old.files.nest }
@@ -556,8 +554,6 @@ impl<S: Sources> Engine<S> {
     }
 
     // Keeps a fault at the line of the next byte.
-    #[cold]
-    #[inline(never)]
     fn refuse(&mut self, kind: FaultKind, word: ArrayString<128>) -> Place
         requires { 0 < length self.old.files.nest }
         ensures place { result ≡ Place.Kept }
@@ -569,8 +565,6 @@ impl<S: Sources> Engine<S> {
     }
 
     // Keeps a fault of the open texts of a usage, at the line of the usage in the source.
-    #[cold]
-    #[inline(never)]
     fn refuse_text(&mut self, fault: CursorFault) -> Place
         requires nest { 0 < length self.old.files.nest }
         requires line { self.old.expansion.line < 2 ^ 63 }
@@ -585,8 +579,6 @@ impl<S: Sources> Engine<S> {
     }
 
     // Keeps that a read failed, at the line that is read.
-    #[cold]
-    #[inline(never)]
     fn refuse_read(&mut self) -> Place
         requires { 0 < length self.old.files.nest }
         ensures place { result ≡ Place.Kept }
@@ -598,8 +590,6 @@ impl<S: Sources> Engine<S> {
     }
 
     // Keeps a fault at a physical line of the innermost source.
-    #[cold]
-    #[inline(never)]
     fn refuse_at(&mut self, kind: FaultKind, line: u64, word: ArrayString<128>) -> Place
         requires open { 0 < length self.old.files.nest }
         requires line { line < 2 ^ 63 }
@@ -619,8 +609,6 @@ impl<S: Sources> Engine<S> {
     }
 
     // Keeps that a conditional is open where its source ends, at the line that the conditional showed.
-    #[cold]
-    #[inline(never)]
     fn refuse_unclosed(&mut self, line: u64) -> Place
         requires { 0 < length self.old.files.nest }
         ensures place { result ≡ Place.Kept }
@@ -638,8 +626,6 @@ impl<S: Sources> Engine<S> {
     // Keeps that more bytes are due than the output may have, which is told at line 0 under the main
     // text's name.
     #[tactic(auto, unfolding(rdlpp_meaning::specs::Outcome::told, rdlpp_steps::specs::Remaining::output_fault))]
-    #[cold]
-    #[inline(never)]
     fn refuse_output(&mut self) -> Place
         ensures place { result ≡ Place.Kept }
         ensures kept { self.new ≡ record self.old { kept = Some (output_fault self.old.main) } }
