@@ -48,83 +48,26 @@ pub(crate) struct Look {
     pub(crate) behind: Front,
 }
 
-// Whether a token of a kind is a usage or a lone backquote.
-#[tactic(auto, unfolding(crate::specs::Fronts::is_back))]
-fn is_back(kind: Kind) -> bool
-    ensures { result ≡ is_back kind }
+// A look at open texts, which lie in slots, the innermost first.
+pub(crate) fn look_at(slots: &[Slot], bindings: &[Range], table: &Table, arguments: &[u8]) -> Look
+    requires some { 0 < length slots.now }
+    requires sound { AreSound (texts_of table.now.macros arguments.now) (opens_of slots.now bindings.now) }
+    ensures look { IsLook (texts_of table.now.macros arguments.now) (opens_of slots.now bindings.now) result }
+    ensures behind { IsLookBehind (texts_of table.now.macros arguments.now) (opens_of slots.now bindings.now) result }
+    ensures short { result.end < 2 ^ 64 }
 {
-    matches!(kind, Kind::Back | Kind::BareBackquote)
-}
-
-// How many bytes of a text without formals are copied up to its first usage or lone backquote.
-fn run_len(text: &[u8]) -> usize
-    ensures value { result ≡ run_len [] (tokens_from Mode.Plain 0 text.now) text.now }
-    ensures inside { result ≤ length text.now }
-{
-    let mut mode = Mode::Plain;
-    let mut at = 0;
-    while at < text.len() {
-        let token = first_token(mode, &text[at..]);
-        if is_back(token.kind) {
-            return at;
-        }
-        mode = token.next_mode;
-        at += token.len;
-    }
-    at
-}
-
-// What stands at the front of a text without formals that begins with no run.
-fn plain_stop(text: &[u8]) -> Front
-    requires { run_len [] (tokens_from Mode.Plain 0 text.now) text.now ≡ 0 }
-    ensures { IsFront [] text.now result }
-{
-    if text.is_empty() {
-        return Front::Ended;
-    }
-    let token = first_token(Mode::Plain, text);
-    match token.kind {
-        Kind::Back => Front::Usage(token.len),
-        _ => Front::Bare,
-    }
-}
-
-// What stands at the front of a text that begins at a place, where something stands at a stop: what is copied before it, if
-// that is further on.
-fn ahead(from: usize, at: usize, front: Front) -> Fronts
-    ensures { result ≡ (if nat_lt from at then record { first = Front.Run (at - from); behind = front } else record { first = front; behind = Front.Ended }) }
-{
-    if from < at {
-        Fronts {
-            first: Front::Run(at - from),
-            behind: front,
-        }
-    } else {
-        Fronts {
-            first: front,
-            behind: Front::Ended,
-        }
-    }
-}
-
-// What stands at the front of a text without formals.
-fn plain_front(text: &[u8]) -> Fronts
-    ensures { AreFronts [] text.now result }
-{
-    let len = run_len(text);
-    ahead(0, len, plain_stop(&text[len..]))
-}
-
-// What stands at the front of a text between two places, by its first stop.
-fn stop_front(stop: Stop, from: usize, end: usize) -> Fronts
-    requires { from < end }
-    ensures { (formals : List Formal) (text : List ℕ) → from + length text ≡ end → stop ≡ stop_of formals from text → AreFronts formals text result }
-{
-    match stop {
-        Stop::None => ahead(from, end, Front::Ended),
-        Stop::Formal { at, len, place } => ahead(from, at, Front::Formal { len, place }),
-        Stop::Usage { at, len } => ahead(from, at, Front::Usage(len)),
-        Stop::Bare { at } => ahead(from, at, Front::Bare),
+    let _bound = bindings.len();
+    let slot = &slots[0];
+    let (from, end) = (slot.from, slot.end);
+    let text = front_source(slots);
+    let fronts = front_of(table, arguments, text, from, end);
+    let source = front_source(slots);
+    Look {
+        source,
+        from,
+        end,
+        front: fronts.first,
+        behind: fronts.behind,
     }
 }
 
@@ -153,25 +96,82 @@ pub(crate) fn front_of(
     plain_front(&text[from..end])
 }
 
-// A look at open texts, which lie in slots, the innermost first.
-pub(crate) fn look_at(slots: &[Slot], bindings: &[Range], table: &Table, arguments: &[u8]) -> Look
-    requires some { 0 < length slots.now }
-    requires sound { AreSound (texts_of table.now.macros arguments.now) (opens_of slots.now bindings.now) }
-    ensures look { IsLook (texts_of table.now.macros arguments.now) (opens_of slots.now bindings.now) result }
-    ensures behind { IsLookBehind (texts_of table.now.macros arguments.now) (opens_of slots.now bindings.now) result }
-    ensures short { result.end < 2 ^ 64 }
+// What stands at the front of a text between two places, by its first stop.
+fn stop_front(stop: Stop, from: usize, end: usize) -> Fronts
+    requires { from < end }
+    ensures { (formals : List Formal) (text : List ℕ) → from + length text ≡ end → stop ≡ stop_of formals from text → AreFronts formals text result }
 {
-    let _bound = bindings.len();
-    let slot = &slots[0];
-    let (from, end) = (slot.from, slot.end);
-    let text = front_source(slots);
-    let fronts = front_of(table, arguments, text, from, end);
-    let source = front_source(slots);
-    Look {
-        source,
-        from,
-        end,
-        front: fronts.first,
-        behind: fronts.behind,
+    match stop {
+        Stop::None => ahead(from, end, Front::Ended),
+        Stop::Formal { at, len, place } => ahead(from, at, Front::Formal { len, place }),
+        Stop::Usage { at, len } => ahead(from, at, Front::Usage(len)),
+        Stop::Bare { at } => ahead(from, at, Front::Bare),
     }
+}
+
+// What stands at the front of a text without formals.
+fn plain_front(text: &[u8]) -> Fronts
+    ensures { AreFronts [] text.now result }
+{
+    let len = run_len(text);
+    ahead(0, len, plain_stop(&text[len..]))
+}
+
+// What stands at the front of a text that begins at a place, where something stands at a stop: what is copied before it, if
+// that is further on.
+fn ahead(from: usize, at: usize, front: Front) -> Fronts
+    ensures { result ≡ (if nat_lt from at then record { first = Front.Run (at - from); behind = front } else record { first = front; behind = Front.Ended }) }
+{
+    if from < at {
+        Fronts {
+            first: Front::Run(at - from),
+            behind: front,
+        }
+    } else {
+        Fronts {
+            first: front,
+            behind: Front::Ended,
+        }
+    }
+}
+
+// What stands at the front of a text without formals that begins with no run.
+fn plain_stop(text: &[u8]) -> Front
+    requires { run_len [] (tokens_from Mode.Plain 0 text.now) text.now ≡ 0 }
+    ensures { IsFront [] text.now result }
+{
+    if text.is_empty() {
+        return Front::Ended;
+    }
+    let token = first_token(Mode::Plain, text);
+    match token.kind {
+        Kind::Back => Front::Usage(token.len),
+        _ => Front::Bare,
+    }
+}
+
+// How many bytes of a text without formals are copied up to its first usage or lone backquote.
+fn run_len(text: &[u8]) -> usize
+    ensures value { result ≡ run_len [] (tokens_from Mode.Plain 0 text.now) text.now }
+    ensures inside { result ≤ length text.now }
+{
+    let mut mode = Mode::Plain;
+    let mut at = 0;
+    while at < text.len() {
+        let token = first_token(mode, &text[at..]);
+        if is_back(token.kind) {
+            return at;
+        }
+        mode = token.next_mode;
+        at += token.len;
+    }
+    at
+}
+
+// Whether a token of a kind is a usage or a lone backquote.
+#[tactic(auto, unfolding(crate::specs::Fronts::is_back))]
+fn is_back(kind: Kind) -> bool
+    ensures { result ≡ is_back kind }
+{
+    matches!(kind, Kind::Back | Kind::BareBackquote)
 }
