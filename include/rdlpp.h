@@ -191,7 +191,8 @@ rdlpp_limits rdlpp_standard_limits(void);
 
 /*
  * Writes the text of the kind of fault with a number to `out`, as "undefined macro" for 7, and answers
- * its whole length, which is at most 64: 0 for a number that no kind of fault has.
+ * its whole length, which is at most 64: 0 for a number that no kind of fault has. The text is the one
+ * that the program reports.
  */
 size_t rdlpp_fault_text(uint32_t number, char *out, size_t out_length);
 

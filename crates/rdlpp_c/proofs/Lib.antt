@@ -4,3 +4,4 @@ pub mod Tellings
 pub mod Values
 pub mod Slots
 pub mod Streams
+pub mod FaultTexts

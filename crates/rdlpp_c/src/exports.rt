@@ -69,13 +69,13 @@ pub extern "C" fn rdlpp_standard_limits() -> Limits
 }
 
 /// Writes the front of the text of the kind of fault with a number to `out`, as much as there is room
-/// for, and answers the text's whole length: 0 for a number that no kind of fault has.
+/// for, and answers the text's whole length: 0 for a number that no kind of fault has. The text is what
+/// the `Display` of the kind writes.
 #[unsafe(no_mangle)]
 pub extern "C" fn rdlpp_fault_text(number: u32, out: &mut [u8]) -> usize
     ensures { TellsFault number out.old out.new result }
 {
-    let text = text_of(number);
-    tell_text(text.as_bytes(), out)
+    tell_text(text_of(number), out)
 }
 
 /// Writes the front of the version's text to `out`, as much as there is room for, and answers the

@@ -1,13 +1,11 @@
-// The text of each kind of fault, by its number.
-ghost use Rattle.std.specs.Prelude.{◌≡◌, []};
-ghost use Rattle.rdlpp_c.specs.Faults.{IsNoFault};
+// The text of each kind of fault, and the kind of each number.
+ghost use Rattle.std.specs.Prelude.{◌≡◌, codes};
+ghost use Rattle.rdlpp_c.specs.Faults.{fault_text, found_text, kind_numbered, kind_text};
 
-use arrayvec::ArrayString;
 use rdlpp::FaultKind;
-use std::fmt::Write as _;
 
-// All kinds of faults.
-const KINDS: [FaultKind; 35] = [
+// The kinds of faults, by their numbers from 1.
+pub(crate) const KINDS: [FaultKind; 35] = [
     FaultKind::EmbeddedPerl,
     FaultKind::OpenString,
     FaultKind::OpenComment,
@@ -45,13 +43,66 @@ const KINDS: [FaultKind; 35] = [
     FaultKind::OutputBytes,
 ];
 
-// The text of the kind with a number, which has at most 64 bytes; empty where no kind has it.
-pub(crate) fn text_of(number: u32) -> ArrayString<64>
-    ensures { IsNoFault number → result.bytes ≡ [] }
+// The text of a kind of fault: what its `Display` writes.
+pub(crate) fn kind_text(kind: FaultKind) -> &'static [u8]
+    ensures { result.now ≡ kind_text kind }
 {
-    let mut text = ArrayString::new();
-    if let Some(kind) = KINDS.iter().find(|kind| kind.number() == number) {
-        let _whole = write!(text, "{kind}");
+    match kind {
+        FaultKind::EmbeddedPerl => b"embedded Perl",
+        FaultKind::OpenString => b"string not closed",
+        FaultKind::OpenComment => b"comment not closed",
+        FaultKind::LineTooLong => b"line too long",
+        FaultKind::SourceTooLong => b"source too long",
+        FaultKind::BareBackquote => b"backquote without a name",
+        FaultKind::UndefinedMacro => b"undefined macro",
+        FaultKind::RecursiveMacro => b"recursive macro",
+        FaultKind::DirectiveInText => b"directive in macro text",
+        FaultKind::ArgumentsMissing => b"arguments missing",
+        FaultKind::ArgumentsOpen => b"arguments not closed",
+        FaultKind::ArgumentBytes => b"argument bytes passed",
+        FaultKind::ArgumentCount => b"wrong number of arguments",
+        FaultKind::DepthPassed => b"depth passed",
+        FaultKind::NameExpected => b"name expected",
+        FaultKind::ReservedName => b"reserved name",
+        FaultKind::NameTooLong => b"name too long",
+        FaultKind::BadFormals => b"bad formal list",
+        FaultKind::FormalTwice => b"formal given twice",
+        FaultKind::TooManyFormals => b"too many formals",
+        FaultKind::DefinitionBytes => b"definition bytes passed",
+        FaultKind::TooManyDefinitions => b"too many definitions",
+        FaultKind::StrayBranch => b"branch or endif without conditional",
+        FaultKind::BranchAfterElse => b"branch after else",
+        FaultKind::OpenConditional => b"conditional not closed",
+        FaultKind::TooManyConditionals => b"too many open conditionals",
+        FaultKind::IncludeName => b"include name expected",
+        FaultKind::SourceNotFound => b"source not found",
+        FaultKind::TooManyIncludes => b"too many open includes",
+        FaultKind::BadLine => b"bad line directive",
+        FaultKind::PathTooLong => b"path too long",
+        FaultKind::ReadFailed => b"read failed",
+        FaultKind::WriteFailed => b"write failed",
+        FaultKind::SourceMemory => b"no memory for a source",
+        FaultKind::OutputBytes => b"output bytes passed",
     }
-    text
+}
+
+// The kind of fault with a number, where one has it.
+fn kind_of(number: u32) -> Option<FaultKind>
+    ensures { result ≡ kind_numbered number }
+{
+    let place = number as usize;
+    if place == 0 || place > KINDS.len() {
+        return None;
+    }
+    Some(KINDS[place - 1])
+}
+
+// The text that is told of a number; empty where no kind of fault has it.
+pub(crate) fn text_of(number: u32) -> &'static [u8]
+    ensures { result.now ≡ fault_text number }
+{
+    match kind_of(number) {
+        Some(kind) => kind_text(kind),
+        None => b"",
+    }
 }

@@ -1,11 +1,14 @@
 // Each call once with ample memory; what crosses to C by a handle is tested from C.
 use crate::arrays::limits_of;
 use crate::asking::Request;
+use crate::faults::{KINDS, kind_text};
 use crate::opening::open_stream;
 use crate::{
     Definition, Text, rdlpp_fault_text, rdlpp_preprocess, rdlpp_standard_limits, rdlpp_version,
 };
+use arrayvec::ArrayString;
 use rdlpp::{FaultKind, ReadEnd, ReadPart};
+use std::fmt::Write as _;
 
 #[test]
 fn preprocesses_sources_in_memory(rt: HostRuntime) {
@@ -46,6 +49,24 @@ fn tells_texts(rt: HostRuntime) {
     assert_eq!(rt; rdlpp_version(&mut out), 5);
     assert!(rt; out == *b"0.1.0");
     assert_eq!(rt; rdlpp_standard_limits().depth, 256);
+}
+
+#[test]
+fn tells_what_each_kind_displays(rt: HostRuntime) {
+    for kind in &KINDS {
+        let mut shown = ArrayString::<64>::new();
+        assert!(rt; write!(shown, "{kind}").is_ok());
+        assert!(rt; shown.as_bytes() == kind_text(*kind));
+    }
+}
+
+#[test]
+fn tells_nothing_of_a_number_without_a_fault(rt: HostRuntime) {
+    let mut out = [b'#'; 3];
+    assert_eq!(rt; rdlpp_fault_text(0, &mut out), 0);
+    assert_eq!(rt; rdlpp_fault_text(36, &mut out), 0);
+    assert_eq!(rt; rdlpp_fault_text(u32::MAX, &mut out), 0);
+    assert!(rt; out == *b"###");
 }
 
 #[test]

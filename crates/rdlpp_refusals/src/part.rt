@@ -1,17 +1,19 @@
 //! Parts of the library that ask for memory when they are made.
+ghost use Rattle.std.specs.Prelude.{◌≡◌};
+
 use rdlpp::{Folders, Limits, Texts, UsageFault, parse_words};
 use rdlpp_expand::{Engine, NewFault};
 use rdlpp_table::Table;
 use std::fmt::{self, Display, Formatter, Write};
 
-/// What came of a part.
+// What came of a part.
 #[derive(Clone, Copy)]
-pub enum Answer {
-    /// It was made.
+pub(crate) enum Answer {
+    // It was made.
     Made,
-    /// There was no memory for it.
+    // There was no memory for it.
     NoMemory,
-    /// It was refused for another reason.
+    // It was refused for another reason.
     Another,
 }
 
@@ -25,16 +27,18 @@ impl Display for Answer {
     }
 }
 
-/// The standard limits, with so many includes.
-pub fn limits_of(includes: usize) -> Limits {
+// The standard limits, with so many includes.
+pub(crate) fn limits_of(includes: usize) -> Limits
+    ensures { result ≡ record { depth = 256; includes = includes; line_bytes = 65536; source_bytes = 1073741824; argument_bytes = 65536; definition_bytes = 1048576; definitions = 4096; conditions = 256; output_bytes = 18446744073709551615 } }
+{
     Limits {
         includes,
         ..Limits::standard()
     }
 }
 
-/// Makes the part of this name, and lets it go.
-pub fn make(rt: &HostRuntime, part: &str, includes: usize) -> Answer {
+// Makes the part of this name, and lets it go.
+pub(crate) fn make(rt: &HostRuntime, part: &str, includes: usize) -> Answer {
     match part {
         "nothing" => Answer::Made,
         "table" => make_table(rt, includes),

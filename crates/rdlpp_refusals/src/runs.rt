@@ -34,12 +34,9 @@ impl Write for Nowhere {
     }
 }
 
-/// Makes an engine, with so many includes and with origin comments, and runs it: the bytes that it wrote, and the
-/// number of the fault that ended them, 0 for none.
-///
-/// # Errors
-/// Why no engine was made.
-pub fn run_alone(alloc: Global, includes: usize) -> Result<(u64, u32), Answer> {
+// Makes an engine, with so many includes and with origin comments, and runs it: the bytes that it wrote, and the
+// number of the fault that ended them, 0 for none; or why no engine was made.
+pub(crate) fn run_alone(alloc: Global, includes: usize) -> Result<(u64, u32), Answer> {
     let files = [("m", MAIN)];
     let texts = Texts {
         files: &files,
