@@ -1,6 +1,6 @@
 // Reads, writes and flushes that fail, and what is answered from then on.
 use crate::devices::{FailingTexts, FailingWriter};
-use rdlpp_expand::{Engine, FaultKind, Held, Piece, RunFault, run};
+use rdlpp_expand::{Engine, Fault, FaultKind, Piece, RunFault, run};
 use rdlpp_source::{Counted, Sources, Texts};
 use rdlpp_table::Limits;
 use std::process::Abort;
@@ -65,40 +65,61 @@ fn run_failing<R: Abort + AllocGlobal>(
     assert!(rt; engine.start("m").is_ok());
     assert!(rt; !engine.is_fresh());
     let mut sink = Counted::new(writer);
-    let (kind, written) = told(&run(&mut engine, &mut sink));
+    let (fault, written) = told(&run(&mut engine, &mut sink));
     let taken = sink.into_writer().taken;
     assert_eq!(rt; written, taken.len() as u64);
-    keep_end(rt, &mut engine, kind);
+    keep_end(rt, &mut engine, fault.as_ref());
+    let kind = fault.map(|fault| fault.kind);
     Ok(Ended { kind, taken })
 }
 
-// The kind of the fault that ended a run, and how many bytes it wrote.
-fn told(outcome: &Result<u64, RunFault>) -> (Option<FaultKind>, u64) {
+// The fault that ended a run, and how many bytes it wrote.
+fn told(outcome: &Result<u64, RunFault>) -> (Option<Fault>, u64) {
     match outcome {
         Ok(written) => (None, *written),
-        Err(ended) => (Some(ended.fault.kind), ended.written),
+        Err(ended) => (Some(ended.fault), ended.written),
     }
 }
 
-// Runs an engine at its end once more, to a writer that is well, and asks three times for a piece: the end stays, no
-// byte is written, and what is held stays.
+// Whether two ends tell the same: no fault, or one of the same kind, shown name, line and word.
+fn is_same(first: Option<&Fault>, second: Option<&Fault>) -> bool {
+    match (first, second) {
+        (None, None) => true,
+        (Some(first), Some(second)) => {
+            first.kind == second.kind
+                && first.name.as_str() == second.name.as_str()
+                && first.line == second.line
+                && first.word.as_str() == second.word.as_str()
+        }
+        (_, _) => false,
+    }
+}
+
+// Runs an engine at its end once more, to a writer that is well, and asks three times for a piece: the end stays, with all
+// that its fault tells, no byte is written, and what is held stays.
 fn keep_end<R: Abort + AllocGlobal, S: Sources>(
     rt: &R,
     engine: &mut Engine<S>,
-    kind: Option<FaultKind>,
+    fault: Option<&Fault>,
 ) {
+    let held = engine.held();
     assert!(rt; !engine.is_fresh());
-    let again = told(&run(engine, &mut Counted::new(ample(rt))));
-    assert_eq!(rt; again, (kind, 0));
-    let held: Held = engine.held();
+    let (again, written) = told(&run(engine, &mut Counted::new(ample(rt))));
+    assert!(rt; is_same(again.as_ref(), fault), "the end of a second run");
+    assert_eq!(rt; written, 0);
+    assert_eq!(rt; engine.held(), held);
     for _ in 0..3 {
         assert!(rt; !engine.is_fresh());
         let end = match engine.next() {
-            Ok(Piece::Bytes(_)) => Some(None),
-            Ok(Piece::Done) => None,
-            Err(fault) => Some(Some(fault.kind)),
+            Ok(Piece::Bytes(_)) => None,
+            Ok(Piece::Done) => Some(None),
+            Err(fault) => Some(Some(*fault)),
         };
-        assert_eq!(rt; end, kind.map(Some));
+        let Some(end) = end else {
+            assert!(rt; false, "bytes behind the end");
+            return;
+        };
+        assert!(rt; is_same(end.as_ref(), fault), "the end of a further piece");
         assert_eq!(rt; engine.held(), held);
     }
 }
