@@ -474,3 +474,44 @@ fn holds_little_of_doublings(rt: HostRuntime) -> Result<(), Fail> {
         passed,
     )
 }
+
+// A chain of so many macros, of which each but the last uses the next one, and a usage of the first.
+fn chain<R: AllocGlobal>(rt: &R, length: u32) -> Result<Vec<u8>, Fail> {
+    let mut source = Vec::new(rt.alloc());
+    for number in 1..length {
+        let next = number.saturating_add(1);
+        let line = format!(in rt.alloc(); "`define C{number} `C{next}\n")?;
+        source.extend_from_slice(line.as_bytes())?;
+    }
+    let last = format!(in rt.alloc(); "`define C{length} x\n`C1\n")?;
+    source.extend_from_slice(last.as_bytes())?;
+    Ok(source)
+}
+
+// As many open bodies as any limit allows, and one more.
+#[test]
+fn opens_as_many_bodies_as_may_be(rt: HostRuntime) -> Result<(), Fail> {
+    let deepest = Limits {
+        depth: 1_024,
+        ..Limits::standard()
+    };
+    let through = chain(&rt, 1_024)?;
+    let more = chain(&rt, 1_025)?;
+    let passed = at(FaultKind::DepthPassed, 1_026);
+    check_text(
+        &rt,
+        "1,024 bodies",
+        deepest,
+        through.as_slice(),
+        b"~1024\nx\n",
+        None,
+    )?;
+    check_text(
+        &rt,
+        "1,025 bodies",
+        deepest,
+        more.as_slice(),
+        b"~1025\n",
+        passed,
+    )
+}

@@ -1,5 +1,6 @@
 // Cases: a main text `m` and further texts in memory, and the output and the fault that must come of them.
 use crate::dealt_files::DealtFiles;
+use crate::devices::NarrowWriter;
 use crate::row_tests::{STANDARD, narrow};
 use rdlpp::{Counted, FaultKind, Limits, Options, PrepFault, Texts, preprocess};
 use rdlpp_expand::{Engine, Held, Piece};
@@ -17,6 +18,10 @@ pub struct Devices {
     pub reads: u64,
     /// How many bytes are written.
     pub room: usize,
+    /// Whether a write without room takes nothing; else it fails.
+    pub takes_nothing: bool,
+    /// Whether a flush fails.
+    pub flush_fails: bool,
 }
 
 /// Devices that take one byte at a time, and never fail.
@@ -25,6 +30,8 @@ pub const SLOW: Devices = Devices {
     openings: u64::MAX,
     reads: u64::MAX,
     room: usize::MAX,
+    takes_nothing: false,
+    flush_fails: false,
 };
 
 /// Devices that take all at once, and never fail.
@@ -153,14 +160,17 @@ pub fn run_over<R: Abort + AllocGlobal>(
     Ok(())
 }
 
-/// Runs cases as `run_cases` does; with each text cut short after each byte; and with a read, and a write, that
-/// fails at each place. Each end stays as it is.
+/// Runs cases as `run_cases` does; with each text cut short after each byte; and with a read, a write and a flush
+/// that fails, at each place, over whole reads and writes and over those of one byte. Each end stays as it is.
 pub fn break_cases<R: Abort + AllocGlobal>(rt: &R, cases: &[Case<'_>]) -> Result<(), Fail> {
     run_cases(rt, cases)?;
     for case in cases {
         cut_texts(rt, case)?;
-        fail_reads(rt, case)?;
-        fail_writes(rt, case)?;
+        for devices in [WHOLE, SLOW] {
+            fail_reads(rt, case, devices)?;
+            fail_writes(rt, case, devices)?;
+            fail_flush(rt, case, devices)?;
+        }
         keep_end(rt, case)?;
     }
     Ok(())
@@ -203,11 +213,15 @@ fn cut_text<R: Abort + AllocGlobal>(
 
 // Runs a case with its first, second and each further read failing, until none fails: each output is a
 // prefix of the case's, and none is shorter than the one before.
-fn fail_reads<R: Abort + AllocGlobal>(rt: &R, case: &Case<'_>) -> Result<(), Fail> {
+fn fail_reads<R: Abort + AllocGlobal>(
+    rt: &R,
+    case: &Case<'_>,
+    devices: Devices,
+) -> Result<(), Fail> {
     let files = files_of(rt, case, usize::MAX, 0)?;
     let mut most = 0;
     for reads in 0..10_000 {
-        let (outcome, output) = run_files(rt, case, files.as_slice(), Devices { reads, ..SLOW });
+        let (outcome, output) = run_files(rt, case, files.as_slice(), Devices { reads, ..devices });
         let name = case.name;
         assert!(rt;
             case.output.starts_with(output.as_slice()),
@@ -224,17 +238,43 @@ fn fail_reads<R: Abort + AllocGlobal>(rt: &R, case: &Case<'_>) -> Result<(), Fai
     Ok(())
 }
 
-// Runs a case with a write that fails after each byte: that many bytes are written.
-fn fail_writes<R: Abort + AllocGlobal>(rt: &R, case: &Case<'_>) -> Result<(), Fail> {
+// Runs a case with a write that fails, or takes nothing, after each byte: that many bytes are written.
+fn fail_writes<R: Abort + AllocGlobal>(
+    rt: &R,
+    case: &Case<'_>,
+    devices: Devices,
+) -> Result<(), Fail> {
     for room in 0..case.output.len() {
         let failed = Case {
             output: &case.output[..room],
             ..*case
         }
         .fails(FaultKind::WriteFailed, 0);
-        run_over(rt, &failed, Devices { room, ..SLOW })?;
+        let short = Devices { room, ..devices };
+        run_over(rt, &failed, short)?;
+        let nothing = Devices {
+            takes_nothing: true,
+            ..short
+        };
+        run_over(rt, &failed, nothing)?;
     }
     Ok(())
+}
+
+// Runs a case with a flush that fails: all is written, and that is a failed write, but for a fault of its own.
+fn fail_flush<R: Abort + AllocGlobal>(
+    rt: &R,
+    case: &Case<'_>,
+    devices: Devices,
+) -> Result<(), Fail> {
+    let unflushed = Devices {
+        flush_fails: true,
+        ..devices
+    };
+    match case.ending {
+        Some(_) => run_over(rt, case, unflushed),
+        None => run_over(rt, &case.fails(FaultKind::WriteFailed, 0), unflushed),
+    }
 }
 
 // Pulls the pieces of a case to its end, and asks three times more: the same end, with the same held.
@@ -325,7 +365,12 @@ fn run_files<R: AllocGlobal>(
         limits: case.limits,
         origins: case.origins,
     };
-    let mut counted = Counted::new(narrow(rt, devices.step, devices.room));
+    let writer = NarrowWriter {
+        takes_nothing: devices.takes_nothing,
+        flush_fails: devices.flush_fails,
+        ..narrow(rt, devices.step, devices.room)
+    };
+    let mut counted = Counted::new(writer);
     let outcome = preprocess(rt.alloc(), &options, sources, "m", &mut counted);
     (outcome, counted.into_writer().taken)
 }

@@ -40,6 +40,19 @@ fn ends_with_a_failed_read(rt: HostRuntime) {
     assert_eq!(rt; exit_status(&outcome), 3);
 }
 
+// A call whose arguments go on where a read fails.
+#[test]
+fn ends_a_call_with_a_failed_read(rt: HostRuntime) {
+    let whole = DealtText {
+        step: usize::MAX,
+        ..dealt(b"`define K(x) x\n`K(1\n", Behind::Failure)
+    };
+    let (outcome, writer) = run_source(&rt, STANDARD, whole, narrow(&rt, 9, 99));
+    let failed = Some(fault(FaultKind::ReadFailed, 3, ""));
+    check(&rt, "a failed read in a call", &outcome, 1, failed);
+    assert!(rt; writer.taken.as_slice() == b"\n".as_slice());
+}
+
 #[test]
 fn ends_over_an_endless_reader(rt: HostRuntime) {
     let lines = Limits {
@@ -100,7 +113,13 @@ fn ends_with_a_failed_write(rt: HostRuntime) {
 #[test]
 fn ends_with_a_failed_flush(rt: HostRuntime) {
     let undefined = Some(fault(FaultKind::UndefinedMacro, 1, "Q"));
-    for (source, output, wanted) in [(SOURCE, OUTPUT, write_failed()), (b"a`Q", b"a", undefined)] {
+    let recursive = Some(fault(FaultKind::RecursiveMacro, 3, "A"));
+    let rows: [(&[u8], &[u8], Option<Wanted>); 3] = [
+        (SOURCE, OUTPUT, write_failed()),
+        (b"a`Q", b"a", undefined),
+        (b"`define A `B\n`define B `A\nx `A ", b"\n\nx ", recursive),
+    ];
+    for (source, output, wanted) in rows {
         let writer = NarrowWriter {
             flush_fails: true,
             ..narrow(&rt, 9, 99)
