@@ -37,9 +37,9 @@
  * MEMORY
  *     A call uses malloc, realloc and free, and gives all back before it returns. Beside lists as long as
  *     the arrays that were lent, and the definitions, it holds at most
- *     definition_bytes + argument_bytes + (includes + 1) * line_bytes bytes of text, tables of fixed size,
- *     and at most twice as many bytes as `out` has room for. An open handle holds copies of the arrays that
- *     were lent, and that same text and those tables; rdlpp_read asks for no memory.
+ *     definition_bytes + argument_bytes + (includes + 1) * line_bytes bytes of text, and tables of fixed
+ *     size; the output goes straight to `out`. An open handle holds copies of the arrays that were lent,
+ *     and that same text and those tables; rdlpp_read asks for no memory.
  */
 #ifndef RDLPP_H
 #define RDLPP_H

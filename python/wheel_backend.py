@@ -21,6 +21,7 @@ Version: {VERSION}
 Summary: The preprocessor for SystemRDL
 License: MIT OR Apache-2.0
 Requires-Python: >=3.8
+Classifier: Programming Language :: Python :: Implementation :: CPython
 """
 WHEEL = f"""Wheel-Version: 1.0
 Generator: rdlpp {VERSION}

@@ -4,6 +4,8 @@ import ctypes
 import os
 import pathlib
 
+from ._written import Written
+
 WHOLE, STOPPED, BAD_LIMIT, BAD_TEXT, NO_MEMORY, MORE, CLOSED = range(7)
 NAME_ROOM = 1024
 WORD_ROOM = 128
@@ -111,12 +113,14 @@ def _given(limits, origins, texts, folders, definitions, path):
 
 
 def call(asked, room):
-    """Calls `rdlpp_preprocess` with lists of bytes; answers its outcome, output, name and word."""
-    out, name, word = bytearray(room + 1), bytearray(NAME_ROOM), bytearray(WORD_ROOM)
+    """Calls `rdlpp_preprocess` with lists of bytes; answers its outcome, the front of the output for which
+    there is room, name and word."""
+    out, name, word = Written(room), bytearray(NAME_ROOM), bytearray(WORD_ROOM)
     outcome = _library.rdlpp_preprocess(
-        *_given(*asked), _place(out), room, _place(name), NAME_ROOM, _place(word), WORD_ROOM
+        *_given(*asked), out.place, room, _place(name), NAME_ROOM, _place(word), WORD_ROOM
     )
-    return outcome, out, bytes(name[: outcome.name_length]), bytes(word[: outcome.word_length])
+    front = out.take(min(outcome.length, room))
+    return outcome, front, bytes(name[: outcome.name_length]), bytes(word[: outcome.word_length])
 
 
 def open_handle(asked):
@@ -128,13 +132,14 @@ def open_handle(asked):
     return outcome, handle, bytes(name[: outcome.name_length]), bytes(word[: outcome.word_length])
 
 
-def read_handle(handle, out):
-    """Calls `rdlpp_read` with a buffer of some bytes; answers its outcome, name and word."""
-    name, word = bytearray(NAME_ROOM), bytearray(WORD_ROOM)
+def read_handle(handle, room):
+    """Calls `rdlpp_read` with room for some bytes; answers its outcome, the bytes, name and word."""
+    out, name, word = Written(room), bytearray(NAME_ROOM), bytearray(WORD_ROOM)
     outcome = _library.rdlpp_read(
-        ctypes.byref(handle), _place(out), len(out), _place(name), NAME_ROOM, _place(word), WORD_ROOM
+        ctypes.byref(handle), out.place, room, _place(name), NAME_ROOM, _place(word), WORD_ROOM
     )
-    return outcome, bytes(name[: outcome.name_length]), bytes(word[: outcome.word_length])
+    piece = out.take(outcome.length)
+    return outcome, piece, bytes(name[: outcome.name_length]), bytes(word[: outcome.word_length])
 
 
 def close_handle(handle):

@@ -112,12 +112,10 @@ def preprocess(
     asked, read = asked_of(source, include_dirs, defines, limits, origins, files)
     texts = asked[2]
     room = len(texts[0][1]) + 65_536 if texts else 0
-    outcome, out, name, word = library.call(asked, room)
+    outcome, output, name, word = library.call(asked, room)
     if outcome.length > room:
-        room = outcome.length
-        outcome, out, name, word = library.call(asked, room)
+        outcome, output, name, word = library.call(asked, outcome.length)
     raise_refusal(outcome)
-    output = bytes(memoryview(out)[: outcome.length])
     if outcome.status == library.STOPPED:
         raise fault_of(outcome, name, word, output, read)
     return output

@@ -39,7 +39,8 @@ def candidates(path: str, name: str, folders: Sequence[str]) -> List[str]:
 
 def included(path: str, text: bytes, folders: Sequence[str]) -> List[List[str]]:
     """The candidates of each include directive that can be seen in a text."""
-    names = (match.group(1) for match in INCLUDE.finditer(text))
+    first = text.find(b"`")
+    names = (match.group(1) for match in INCLUDE.finditer(text, first)) if first >= 0 else ()
     decoded = (name.decode("utf-8", "replace") for name in names if name)
     return [candidates(path, name, folders) for name in dict.fromkeys(decoded)]
 

@@ -22,7 +22,7 @@ class Stream(Iterator[bytes]):
 
     def __init__(self, handle: library.Handle, room: int, read: Optional[Files]):
         self._handle = handle
-        self._out = bytearray(room)
+        self._room = room
         self._read = read
         self._fault: Optional[Fault] = None
         self._thread = threading.get_ident()
@@ -32,14 +32,12 @@ class Stream(Iterator[bytes]):
         if self._fault is not None:
             fault, self._fault = self._fault, None
             raise fault
-        outcome, name, word = library.read_handle(self._handle, self._out)
+        outcome, piece, name, word = library.read_handle(self._handle, self._room)
         if outcome.status == library.STOPPED:
             self._fault = fault_of(outcome, name, word, b"", self._read)
         if outcome.status != library.MORE:
             self.close()
-        if outcome.length == 0:
-            return self._ended()
-        return bytes(memoryview(self._out)[: outcome.length])
+        return piece or self._ended()
 
     def close(self) -> None:
         """Gives back what the stream owns; it has no piece more then."""

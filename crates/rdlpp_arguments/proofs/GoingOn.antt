@@ -1,9 +1,8 @@
 -- Reading a call goes on over bytes that are used, token by token and over refills.
-use Rattle.std.proofs.Common.{◌≡◌, ℕ, ◌+◌, ◌-◌, ◌≤◌, ◌<◌, List, [], ◌∷◌, ◌++◌, length, take, drop, refl, sym, ap, ◌∙◌, append_assoc, inl, inr, arith}
+use Rattle.std.proofs.Common.{◌≡◌, ℕ, ◌+◌, ◌-◌, ◌≤◌, ◌<◌, List, [], ◌∷◌, ◌++◌, length, take, drop, refl, sym, ap, ◌∙◌, append_assoc, arith}
 use Rattle.std.proofs.lemmas.List.{drop-drop, length-append, length-drop, length-take, length-take-le}
 use Rattle.rdlpp_scan.specs.declared.token.Mode.{Mode}
 use Rattle.rdlpp_scan.specs.declared.token.Mode.TheVariants.{Plain}
-use Rattle.rdlpp_scan.specs.Lines.{EndsLine}
 use Rattle.rdlpp_scan.specs.SourceTokens.{line_ends}
 use Rattle.rdlpp_scan.specs.Pieces.{is_open}
 use Rattle.rdlpp_meaning.specs.declared.fault.FaultKind.{FaultKind}
@@ -13,11 +12,12 @@ use Rattle.rdlpp_meaning.specs.Expansion.{bytes_of}
 use Rattle.rdlpp_meaning.specs.Parts.{only_blanks}
 use Rattle.rdlpp_meaning.proofs.CallReadings.{onto_kept-append, onto_kept-nil}
 use Rattle.rdlpp_meaning.proofs.TokenWrites.{only_blanks-append}
-use Rattle.rdlpp_read.specs.Buffer.{BufferView, EndsHeld, MovesOver, ahead_of, entered_mode, held_of, rest_of, text_left, tokens_left, unread_of, unused_of}
+use Rattle.rdlpp_read.specs.Buffer.{BufferView, EndsHeld, MovesOver, ahead_of, entered_mode, held_of, rest_of, text_left, tokens_left, unused_of}
 use Rattle.rdlpp_read.specs.Files.{FilesView, consumed_file, inner_buffer, torn_after, with_buffer, with_inner}
 use Rattle.rdlpp_read.specs.declared.files.File.{File}
 use Rattle.rdlpp_read.proofs.Sliding.{moves-past, text-past}
 use Rattle.rdlpp_read.proofs.Slots.{torn_after-append}
+use Rattle.rdlpp_read.proofs.BufferTokens.{ends_line}
 use Rattle.rdlpp_arguments.specs.CallReads.{TellsCall, used_buffer, with_used}
 use Rattle.rdlpp_arguments.specs.Reads.{Closes, GoesOn, reading}
 use Rattle.rdlpp_arguments.specs.Taking.{Around, IsAround, IsClose, IsUse, kept_of, stand_meant, tokens_at, tokens_behind}
@@ -28,12 +28,6 @@ use Rattle.rdlpp_arguments.specs.declared.taking.Use.{Use}
 -- what the held bytes of a source stand in
 abbrev around_of : {R : Type 0} → (R → List ℕ) → BufferView R → Around
 around_of unread f = record { most = f.line_bytes; opened = f.open_token_line; line = f.line; left = f.bytes_left; rest = rest_of unread f }
-
--- what is held ends at a line end, or with the text
-ends_line : {R : Type 0} (unread : R → List ℕ) (f : BufferView R) → EndsHeld f → EndsLine (held_of f) (rest_of unread f)
-unfolding rest_of unread_of ahead_of
-ends_line unread f (inl whole) = inl whole
-ends_line unread f (inr none) = inr (rw (none.0, none.1) refl)
 
 is_around : {R : Type 0} (unread : R → List ℕ) (f : BufferView R) → EndsHeld f → IsAround (held_of f) (around_of unread f)
 is_around unread f ends = record { ends = ends_line unread f ends }

@@ -1,4 +1,4 @@
-pub mod Fronts
+pub mod WholeReads
 pub mod Outputs
 pub mod Tellings
 pub mod Values

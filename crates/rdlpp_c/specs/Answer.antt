@@ -1,16 +1,15 @@
 -- What a call comes to.
 -- A definition that names no source is this project's own.
-use Rattle.std.specs.Prelude.{◌≡◌, ℕ, ◌-◌, ◌^◌, ◌||◌, ⊤, Bool, List, ◌++◌, length, min, map, None, Some}
+use Rattle.std.specs.Prelude.{◌≡◌, ℕ, ◌-◌, ◌^◌, ⊤, List, [], length, min, map, None, Some}
 use Rattle.rdlpp_source.specs.declared.sources.Sources.{Ghosts}
 use Rattle.rdlpp_source.specs.declared.texts.Texts.{Texts}
 use Rattle.rdlpp_source.specs.declared.texts.TextReader.{TextReader}
 use Rattle.rdlpp_source.specs.Texts.{texts_catalog, left_of}
 use Rattle.rdlpp_table.specs.Limits.{limit_fault}
-use Rattle.rdlpp_meaning.specs.declared.fault.FaultKind.{FaultKind}
 use Rattle.rdlpp_meaning.specs.Outcome.{told, Outcome}
-use Rattle.rdlpp_steps.specs.Steps.{is_memory_kind, is_read_failed, is_write_failed}
 use Rattle.rdlpp.specs.Preprocess.{output_of}
 use Rattle.rdlpp.specs.declared.options.Options.{Options}
+use Rattle.rdlpp_c.specs.Buffers.{overwritten}
 use Rattle.rdlpp_c.specs.Request.{Asked, Asks, AreUtf8, definition_bytes, definition_given, file_bytes, text_given}
 use Rattle.rdlpp_c.specs.declared.asking.Answer.{Answer}
 use Rattle.rdlpp_c.specs.declared.asking.Answer.TheVariants.{Whole, Stopped, BadLimit, BadText, NoMemory}
@@ -19,10 +18,6 @@ use Rattle.rdlpp_c.specs.declared.asking.Lists.{Lists}
 -- what sources in memory answer
 abbrev pub text_sources : Ghosts Texts TextReader
 text_sources = record { tells = λ _. ⊤; catalog = texts_catalog; unread = left_of; failures = λ _. 0; refusals = λ _. 0 }
-
--- whether a fault is of what a run reads from or writes to, and not of the text: F32, F33 or F34
-abbrev pub is_failure_kind : FaultKind → Bool
-is_failure_kind kind = is_read_failed kind || (is_memory_kind kind || is_write_failed kind)
 
 -- the lists are what a call asks for
 pub record AreLists (a : Asked) (lists : Lists) : Type 0 where
@@ -50,6 +45,16 @@ ComesTo a bytes (BadLimit limit) = limit_fault a.limits ≡ Some limit
 ComesTo a bytes BadText = (limit_fault a.limits ≡ None) × ¬ (AreUtf8 a)
 ComesTo a bytes NoMemory = limit_fault a.limits ≡ None
 
--- a call comes to an answer, and its output is what a front was told behind what it was told before
-abbrev pub Gives : Asked → List ℕ → List ℕ → Answer → Type 0
-Gives a old new answer = (bytes : List ℕ) × (new ≡ old ++ bytes) × ComesTo a bytes answer
+-- the bytes of output that an answer has
+abbrev pub output_bytes : Answer → List ℕ → List ℕ
+output_bytes (Whole count) bytes = bytes
+output_bytes (Stopped run) bytes = bytes
+output_bytes (BadLimit limit) bytes = []
+output_bytes BadText bytes = []
+output_bytes NoMemory bytes = []
+
+-- a call comes to an answer, and the front of its output stands in a buffer
+pub record Gives (a : Asked) (before after : List ℕ) (answer : Answer) : Type 0 where
+  pub bytes : List ℕ
+  pub comes : ComesTo a bytes answer
+  pub front : after ≡ overwritten (output_bytes answer bytes) before

@@ -1,5 +1,6 @@
-pub mod Front
+pub mod Buffers
 pub mod Request
+pub mod Output
 pub mod Answer
 pub mod Telling
 pub mod Faults

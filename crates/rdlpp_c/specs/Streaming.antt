@@ -12,14 +12,14 @@ use Rattle.rdlpp_table.specs.Limits.{limit_fault}
 use Rattle.rdlpp_meaning.specs.FaultNumbers.{fault_number}
 use Rattle.rdlpp_meaning.specs.Outcome.{Told, told, Outcome, fails}
 use Rattle.rdlpp_steps.specs.Opening.{is_device_fault, is_memory_fault}
-use Rattle.rdlpp_expand.specs.Reading.{Fills, Leaves, reading_left}
+use Rattle.rdlpp_expand.specs.Reading.{Fills, Leaves, ended_with, reading_left}
 use Rattle.rdlpp_expand.specs.declared.reading.ReadEnd.{ReadEnd}
 use Rattle.rdlpp_expand.specs.declared.reading.ReadEnd.TheVariants.{Finished, Stopped as StoppedRead}
 use Rattle.rdlpp.specs.Preprocess.{output_of}
 use Rattle.rdlpp.specs.declared.fault.PrepFault.{PrepFault}
 use Rattle.rdlpp.specs.declared.fault.PrepFault.TheVariants.{BadLimits, Run, NoMemory as NoneLeft}
 use Rattle.rdlpp.specs.declared.options.Options.{Options}
-use Rattle.rdlpp_c.specs.Front.{overwritten}
+use Rattle.rdlpp_c.specs.Buffers.{overwritten}
 use Rattle.rdlpp_c.specs.Request.{Asked, AreUtf8, definition_bytes, definition_given, text_given}
 use Rattle.rdlpp_c.specs.Telling.{name_bytes, numbered, outcome_of, word_bytes}
 use Rattle.rdlpp_c.specs.declared.asking.Answer.{Answer}
@@ -122,12 +122,6 @@ pub record Opens (a : Asked) (old new : FaultBuffers) (held : Option Stream) (ou
   pub name : new.name ≡ overwritten (open_name answer) old.name
   pub word : new.word ≡ overwritten (open_word answer) old.word
 
--- the fault that a read ended with, if it did: the one that the engine keeps
-abbrev pub fault_told : Option ReadEnd → Option Told → Option Told
-fault_told None kept = None
-fault_told (Some Finished) kept = None
-fault_told (Some StoppedRead) kept = kept
-
 -- the status of a read that met no fault: 0 where the output is whole, and 5 where the buffer is full and more may follow
 abbrev pub read_status : Option ReadEnd → ℕ
 read_status None = 5
@@ -161,9 +155,9 @@ pub record ReadsStream (old new : ReadBuffers) (before after : Stream) (outcome 
   pub ending : Option ReadEnd
   pub fills : Fills owned_sources before.reading after.reading old.out new.out len ending
   pub left : Leaves owned_sources before.reading after.reading (take len new.out) ending
-  pub numbers : outcome ≡ read_numbers len ending (fault_told ending after.reading.engine.kept)
-  pub name : new.name ≡ overwritten (fault_name (fault_told ending after.reading.engine.kept)) old.name
-  pub word : new.word ≡ overwritten (fault_word (fault_told ending after.reading.engine.kept)) old.word
+  pub numbers : outcome ≡ read_numbers len ending (ended_with ending after.reading.engine.kept)
+  pub name : new.name ≡ overwritten (fault_name (ended_with ending after.reading.engine.kept)) old.name
+  pub word : new.word ≡ overwritten (fault_word (ended_with ending after.reading.engine.kept)) old.word
 
 -- a read: of a closed handle it only tells so, by status 6, and changes nothing; else it is one of the stream
 abbrev pub Reads : ReadBuffers → ReadBuffers → Option Stream → Option Stream → Numbers → Type 0

@@ -4,9 +4,9 @@ use Rattle.std.specs.Prelude.{◌≡◌, ℕ, List, [], length}
 use Rattle.rdlpp_table.specs.declared.limits.LimitFault.{LimitFault}
 use Rattle.rdlpp_table.specs.declared.limits.LimitFault.TheVariants.{Depth, Includes, LineBytes, SourceBytes, ArgumentBytes, DefinitionBytes, Definitions, Conditions, OutputBytes}
 use Rattle.rdlpp_meaning.specs.FaultNumbers.{fault_number}
-use Rattle.rdlpp_c.specs.Front.{overwritten}
+use Rattle.rdlpp_c.specs.Buffers.{overwritten}
 use Rattle.rdlpp_c.specs.Request.{Asked}
-use Rattle.rdlpp_c.specs.Answer.{ComesTo}
+use Rattle.rdlpp_c.specs.Answer.{ComesTo, output_bytes}
 use Rattle.rdlpp_c.specs.declared.asking.Answer.{Answer}
 use Rattle.rdlpp_c.specs.declared.asking.Answer.TheVariants.{Whole, Stopped, BadLimit, BadText, NoMemory}
 use Rattle.rdlpp_c.specs.declared.telling.Outcome.{Outcome}
@@ -42,14 +42,6 @@ outcome_of (Stopped run) = record {
 outcome_of (BadLimit limit) = numbered 2 (limit_place limit)
 outcome_of BadText = numbered 3 0
 outcome_of NoMemory = numbered 4 0
-
--- the bytes of output that an answer has
-abbrev pub output_bytes : Answer → List ℕ → List ℕ
-output_bytes (Whole count) bytes = bytes
-output_bytes (Stopped run) bytes = bytes
-output_bytes (BadLimit limit) bytes = []
-output_bytes BadText bytes = []
-output_bytes NoMemory bytes = []
 
 -- the shown name of an answer's fault; none where it has no fault
 abbrev pub name_bytes : Answer → List ℕ

@@ -1,14 +1,14 @@
 // What a call asks for, as options and sources of `rdlpp`.
 ghost use Rattle.std.specs.Prelude.{◌≡◌, IsUtf8, map, MatchResult};
 ghost use Rattle.std.specs.List.{All};
-ghost use Rattle.rdlpp_steps.specs.Steps.{is_memory_kind, is_read_failed, is_write_failed};
 ghost use Rattle.rdlpp_c.specs.Request.{AreUtf8, definition_bytes, definition_given, file_bytes, requested, text_given};
-ghost use Rattle.rdlpp_c.specs.Answer.{AreLists, Gives, is_failure_kind};
+ghost use Rattle.rdlpp_c.specs.Answer.{AreLists, Gives};
 ghost use Rattle.rdlpp_c.specs.declared.asking.Refusal.TheVariants.{BadText, NoMemory};
 
 use crate::arrays::{Definition, Folder, Text};
-use crate::front::Front;
-use rdlpp::{FaultKind, LimitFault, Limits, Options, PrepFault, RunFault, Texts, preprocess};
+use crate::opening::refused_answer;
+use crate::output::read_output;
+use rdlpp::{LimitFault, Limits, Options, RunFault, Texts, open_reading};
 use std::alloc::{AllocError, Global};
 
 // What a call asks for.
@@ -154,41 +154,9 @@ fn lists_of<'a>(alloc: Global, request: &Request<'a>) -> Result<Lists<'a>, Refus
     })
 }
 
-// Whether a kind is that of a read that failed.
-#[tactic(auto, unfolding(rdlpp_steps::specs::Steps::is_read_failed))]
-fn is_read_failure(kind: FaultKind) -> bool
-    ensures { result ≡ is_read_failed kind }
-{
-    kind == FaultKind::ReadFailed
-}
-
-// Whether a kind is that of a write that failed.
-#[tactic(auto, unfolding(rdlpp_steps::specs::Steps::is_write_failed))]
-fn is_write_failure(kind: FaultKind) -> bool
-    ensures { result ≡ is_write_failed kind }
-{
-    kind == FaultKind::WriteFailed
-}
-
-// Whether a kind is that of memory that was refused for a source.
-#[tactic(auto, unfolding(rdlpp_steps::specs::Steps::is_memory_kind))]
-fn is_memory_failure(kind: FaultKind) -> bool
-    ensures { result ≡ is_memory_kind kind }
-{
-    kind == FaultKind::SourceMemory
-}
-
-// Whether a run was ended by what it runs on, and not by its text. Sources in memory never fail, so
-// it is the memory for the front of the output that was refused.
-fn is_failure(kind: FaultKind) -> bool
-    ensures { result ≡ is_failure_kind kind }
-{
-    is_read_failure(kind) || is_memory_failure(kind) || is_write_failure(kind)
-}
-
-// Preprocesses what is asked for, and writes the output to a front that took nothing yet.
-pub(crate) fn answer_of(alloc: Global, request: &Request<'_>, front: &mut Front) -> Answer
-    ensures { Gives (requested request.now) front.old.told front.new.told result }
+// Preprocesses what is asked for, and writes the front of the output to a buffer.
+pub(crate) fn answer_of(alloc: Global, request: &Request<'_>, out: &mut [u8]) -> Answer
+    ensures { Gives (requested request.now) out.old out.new result }
 {
     if let Err(limit) = request.limits.check() {
         return Answer::BadLimit(limit);
@@ -202,15 +170,11 @@ pub(crate) fn answer_of(alloc: Global, request: &Request<'_>, front: &mut Front)
         files: &lists.files,
         folders: &lists.folders,
     };
-    match preprocess(alloc, &lists.options, sources, lists.path, front) {
-        Ok(written) => Answer::Whole(written),
-        Err(PrepFault::BadLimits(limit)) => Answer::BadLimit(limit),
-        Err(PrepFault::NoMemory) => Answer::NoMemory,
-        Err(PrepFault::Run(run)) => {
-            if is_failure(run.fault.kind) {
-                return Answer::NoMemory;
-            }
-            Answer::Stopped(run)
-        }
+    match open_reading(alloc, &lists.options, sources, lists.path) {
+        Ok(mut reading) => match read_output(&mut reading, out) {
+            Ok(written) => Answer::Whole(written),
+            Err(run) => Answer::Stopped(run),
+        },
+        Err(fault) => refused_answer(fault),
     }
 }

@@ -7,8 +7,7 @@ ghost use Rattle.rdlpp_c.specs.Telling.{Answers, TellsText};
 use crate::arrays::{Definition, Folder, Limits, Text, limits_of};
 use crate::asking::{Request, answer_of};
 use crate::faults::text_of;
-use crate::front::Front;
-use crate::telling::{Outcome, outcome_of, tell_fault, tell_output, tell_text};
+use crate::telling::{Outcome, outcome_of, tell_fault, tell_text};
 use std::alloc::Global;
 
 /// Preprocesses the main text at `path` of sources in memory (this project's profile).
@@ -42,9 +41,7 @@ pub extern "C" fn rdlpp_preprocess(
         definitions,
         path,
     };
-    let mut front = Front::new(alloc, out.len());
-    let answer = answer_of(alloc, &request, &mut front);
-    tell_output(&answer, front.kept(), out);
+    let answer = answer_of(alloc, &request, out);
     tell_fault(&answer, name, word);
     outcome_of(&answer)
 }

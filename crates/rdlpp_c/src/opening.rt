@@ -102,7 +102,7 @@ fn owned_of<'a>(alloc: Global, request: &Request<'a>) -> Result<Owned<'a>, Refus
 }
 
 // What a refused opening is answered by.
-fn refused_answer(fault: PrepFault) -> Answer
+pub(crate) fn refused_answer(fault: PrepFault) -> Answer
     ensures { result ≡ refused_answer fault }
 {
     match fault {

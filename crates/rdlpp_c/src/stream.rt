@@ -2,12 +2,14 @@
 ghost use Rattle.std.specs.Prelude.{◌≡◌};
 ghost use Rattle.std.specs.Option.{option_map};
 ghost use Rattle.rdlpp_meaning.specs.Outcome.{told};
-ghost use Rattle.rdlpp_c.specs.Front.{overwritten};
-ghost use Rattle.rdlpp_c.specs.Streaming.{ReadsStream, fault_name, fault_told, fault_word, read_numbers};
+ghost use Rattle.rdlpp_expand.specs.Reading.{ended_with};
+ghost use Rattle.rdlpp_c.specs.Buffers.{overwritten};
+ghost use Rattle.rdlpp_c.specs.Streaming.{ReadsStream, fault_name, fault_word, read_numbers};
 
 use crate::telling::{MORE, Outcome, STOPPED, WHOLE, tell_text};
 use rdlpp::{Fault, ReadEnd, ReadPart, Reading};
 use rdlpp_owned::OwnedTexts;
+use rdlpp_source::Sources;
 
 /// An output that is read piece by piece, over texts that it owns.
 #[derive(Drop)]
@@ -16,8 +18,11 @@ pub struct Stream {
 }
 
 // The fault that a read ended with, if it did.
-fn fault_of(reading: &Reading<OwnedTexts>, ending: Option<ReadEnd>) -> Option<Fault>
-    ensures { option_map told result ≡ fault_told ending reading.now.engine.kept }
+pub(crate) fn ended_fault<S: Sources>(
+    reading: &Reading<S>,
+    ending: Option<ReadEnd>,
+) -> Option<Fault>
+    ensures { option_map told result ≡ ended_with ending reading.now.engine.kept }
 {
     match ending {
         Some(ReadEnd::Stopped) => reading.fault(),
@@ -73,7 +78,7 @@ pub(crate) fn read_stream(
     ensures { ReadsStream (record { out = out.old; name = name.old; word = word.old }) (record { out = out.new; name = name.new; word = word.new }) stream.old stream.new result }
 {
     let part = stream.reading.read(out);
-    let fault = fault_of(&stream.reading, part.ending);
+    let fault = ended_fault(&stream.reading, part.ending);
     tell_read(&fault, name, word);
     read_outcome(&part, &fault)
 }

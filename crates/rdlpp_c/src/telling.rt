@@ -1,10 +1,9 @@
 // How an answer is told: numbers, and texts in a caller's buffers.
-ghost use Rattle.std.specs.Prelude.{◌≡◌, length};
-ghost use Rattle.rdlpp_c.specs.Front.{kept_of, overwritten};
-ghost use Rattle.rdlpp_c.specs.Telling.{TellsText, limit_place, numbered, outcome_of, name_bytes, output_bytes, word_bytes};
+ghost use Rattle.std.specs.Prelude.{◌≡◌};
+ghost use Rattle.rdlpp_c.specs.Buffers.{overwritten};
+ghost use Rattle.rdlpp_c.specs.Telling.{TellsText, limit_place, numbered, outcome_of, name_bytes, word_bytes};
 
 use crate::asking::Answer;
-use crate::front::Front;
 use rdlpp::{LimitFault, RunFault};
 
 // The output is whole.
@@ -117,18 +116,6 @@ pub(crate) fn outcome_of(answer: &Answer) -> Outcome
         Answer::BadLimit(limit) => numbered(BAD_LIMIT, limit_place(*limit)),
         Answer::BadText => numbered(BAD_TEXT, 0),
         Answer::NoMemory => numbered(NO_MEMORY, 0),
-    }
-}
-
-// Writes the output of an answer to a buffer that is as long as the front's room.
-pub(crate) fn tell_output(answer: &Answer, kept: &[u8], to: &mut [u8])
-    ensures { to.new ≡ overwritten (output_bytes answer.now kept.now) to.old }
-{
-    match answer {
-        Answer::Whole(_) | Answer::Stopped(_) => {
-            let _len = tell_text(kept, to);
-        }
-        _ => {}
     }
 }
 

@@ -21,7 +21,8 @@ use Rattle.rdlpp_calls.specs.declared.parts.CallFault.TheVariants.{Missing, Uncl
 use Rattle.rdlpp_calls.specs.CallParts.{call_fault_kind, IsCall, IsCallAt}
 use Rattle.rdlpp_calls.specs.BoundCalls.{range_part, ranges_tokens, actuals_of, KeepsAll, usage_in, IsBoundCall}
 use Rattle.rdlpp_calls.proofs.ArgumentLaws.{filter_all, front_all}
-use Rattle.rdlpp_calls.proofs.BoundParts.{range_within, range_behind, range_size}
+use Rattle.rdlpp_meaning.proofs.OpenMoves.{range_behind}
+use Rattle.rdlpp_calls.proofs.BoundParts.{range_within, range_size}
 use Rattle.rdlpp_calls.proofs.Trimming.{trimmed_is, has_solid, solid}
 
 -- tokens of which a filter drops none keep all

@@ -4,28 +4,18 @@ use Rattle.std.specs.Prelude.{slice_range, ◌==◌, is_some, not}
 use Rattle.std.proofs.Math.Seq.{drop-append_seam}
 use Rattle.std.proofs.lemmas.Bool.{false≢true}
 use Rattle.std.proofs.lemmas.Bool.Decides.{nat_tests}
-use Rattle.std.proofs.lemmas.List.{append-nil, drop-drop, drop-take, take-take, length-drop, length-take, length-append, length-map, map-append}
+use Rattle.std.proofs.lemmas.List.{append-nil, take-take, length-drop, length-take, length-append, length-map, map-append}
 use Rattle.rdlpp_scan.specs.SourceTokens.{SourceToken}
 use Rattle.rdlpp_meaning.specs.Actuals.{trimmed, token_role}
 use Rattle.rdlpp_meaning.specs.CallScan.{split, all_parts}
 use Rattle.rdlpp_meaning.specs.Opens.{part_tokens}
 use Rattle.rdlpp_meaning.specs.Substitution.{body_tokens}
+use Rattle.rdlpp_meaning.proofs.OpenMoves.{range_behind}
 use Rattle.rdlpp_meaning.proofs.TextRanges.{body_text}
 use Rattle.rdlpp_calls.specs.declared.bindings.Range.{Range}
 use Rattle.rdlpp_calls.specs.declared.parts.Part.{Part}
 use Rattle.rdlpp_calls.specs.CallParts.{AreFurther, IsNextPart}
 use Rattle.rdlpp_calls.specs.BoundCalls.{range_part, ranges_tokens, added, AreWithin, actuals_of}
-
--- what is left of a range of a text behind a place in it is a range too
-pub range_behind : (text : List ℕ) (at to i : ℕ) → i ≤ to - at → drop i (slice_range text at to) ≡ slice_range text (at + i) to
-range_behind text at to i inside =
-    let rest : List ℕ = drop at text in
-    let n : to - at ≡ i + ((to - at) - i) = omega (arith, inside) in
-    let size : (to - at) - i ≡ to - (at + i) = omega arith in
-    ap (λ (k : ℕ). drop i (take k rest)) n
-    ∙ drop-take i ((to - at) - i) rest
-    ∙ ap (λ (xs : List ℕ). take ((to - at) - i) xs) (drop-drop i at text)
-    ∙ ap (λ (k : ℕ). take k (drop (at + i) text)) size
 
 -- a range of a range of a text is one of the text
 pub range_within : (text : List ℕ) (at to i j : ℕ) → i ≤ j → j ≤ to - at → slice_range (slice_range text at to) i j ≡ slice_range text (at + i) (at + j)

@@ -22,8 +22,7 @@ use Rattle.rdlpp_meaning.specs.Expansion.{is_copied}
 use Rattle.rdlpp_meaning.specs.TextTokens.{text_tokens}
 use Rattle.rdlpp_meaning.specs.Opens.{Open, Texts, scope_text, text_around, part_tokens, slot_kind, slot_of, slots_of, open_at, AreOpen, open_scope, open_bytes, open_behind}
 use Rattle.rdlpp_meaning.proofs.TextRanges.{text_nil}
-use Rattle.rdlpp_meaning.proofs.OpenMoves.{Alone, first_kind, first_bytes, first_behind, open-lends, behind-open}
-use Rattle.rdlpp_calls.proofs.BoundParts.{range_behind}
+use Rattle.rdlpp_meaning.proofs.OpenMoves.{Alone, first_kind, first_bytes, first_behind, open-lends, behind-open, range_behind}
 use Rattle.rdlpp_cursors.specs.Fronts.{run_len}
 use Rattle.rdlpp_cursors.specs.Steps.{Goes}
 use Rattle.rdlpp_cursors.proofs.Moving.{Reaches, goes-by, goes-reaches, goes-on, goes-bytes, goes-same, reaches-same}

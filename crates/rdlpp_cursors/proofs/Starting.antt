@@ -31,7 +31,7 @@ use Rattle.rdlpp_cursors.proofs.Keeping.{body-keeps}
 use Rattle.rdlpp_cursors.proofs.Stacking.{room-first}
 
 -- the range of all of a text is that text
-whole-range : (text : List ℕ) (to : ℕ) → to ≡ length text → slice_range text 0 to ≡ text
+pub whole-range : (text : List ℕ) (to : ℕ) → to ≡ length text → slice_range text 0 to ≡ text
 whole-range text to e = ap (λ (n : ℕ). take n text) (same to ∙ e) ∙ take-length text
   where
     same : (n : ℕ) → n - 0 ≡ n

@@ -1,5 +1,5 @@
 -- The words of faults in open texts are names.
-use Rattle.std.proofs.Common.{◌≡◌, ℕ, zero, suc, ◌+◌, Bool, true, false, cond, List, [], ◌∷◌, take, drop, refl, sym, ap, subst, ◌∙◌, one-add}
+use Rattle.std.proofs.Common.{◌≡◌, ℕ, zero, suc, ◌+◌, true, List, [], ◌∷◌, take, drop, refl, sym, ap, subst, ◌∙◌}
 use Rattle.std.specs.List.{list_all, prefix_len}
 use Rattle.std.proofs.lemmas.Bool.{false≢true}
 use Rattle.rdlpp_scan.specs.Bytes.{is_word}
@@ -8,6 +8,7 @@ use Rattle.rdlpp_scan.specs.Tokens.{token_of, whole}
 use Rattle.rdlpp_scan.specs.declared.token.Kind.TheVariants.{Perl, LineComment, BlockComment, Str, Back, BareBackquote}
 use Rattle.rdlpp_scan.specs.declared.token.Mode.TheVariants.{Plain}
 use Rattle.rdlpp_scan.specs.declared.token.Token.{Token}
+use Rattle.rdlpp_scan.proofs.Places.{list_all-prefix}
 use Rattle.rdlpp_scan.proofs.StopKinds.{Row, AtPerl, AtLineComment, AtBlockComment, AtString, AtBack, AtBare, AtPlain, token_of-row}
 use Rattle.rdlpp_meaning.specs.declared.fault.FaultKind.{FaultKind}
 use Rattle.rdlpp_meaning.specs.Opens.{Open, Texts, open_bytes}
@@ -25,14 +26,6 @@ use Rattle.rdlpp_cursors.specs.Steps.{AreSound, NamesWord, wordless}
 use Rattle.rdlpp_cursors.specs.Usages.{front_name}
 use Rattle.rdlpp_cursors.proofs.Passing.{no-word}
 use Rattle.rdlpp_cursors.proofs.Usages.{usage-word}
-
--- bytes that pass a test pass it together
-passing : (p : ℕ → Bool) (bs : List ℕ) → list_all p (take (prefix_len p bs) bs) ≡ true
-passing p [] = refl
-passing p (b ∷ bs) = elim (p b) as (λ v. p b ≡ v → list_all p (take (cond v (1 + prefix_len p bs) 0) (b ∷ bs)) ≡ true) [
-  | true ↦ λ e. rw (one-add, e) (passing p bs)
-  | false ↦ λ e. refl
-] refl
 
 -- how long a usage is, by the row of the token table
 usage-len : (bs : List ℕ) (t : Token) → Row bs t → t.kind ≡ Back → t.len ≡ suc (prefix_len is_word (drop 1 bs))
@@ -56,7 +49,7 @@ name-word : (bs : List ℕ) (len : ℕ) → (token_of Plain bs).kind ≡ Back �
 name-word bs len kind e =
     let n = prefix_len is_word (drop 1 bs) in
     let same : len ≡ suc n = sym e ∙ usage-len bs (token_of Plain bs) (token_of-row bs) kind in
-    ap (λ (k : ℕ). list_all is_word (drop 1 (take k bs))) same ∙ ap (λ (word : List ℕ). list_all is_word word) (behind-one n bs) ∙ passing is_word (drop 1 bs)
+    ap (λ (k : ℕ). list_all is_word (drop 1 (take k bs))) same ∙ ap (λ (word : List ℕ). list_all is_word word) (behind-one n bs) ∙ list_all-prefix is_word (drop 1 bs)
 
 -- so is that of a usage in front of open texts
 front-word : (texts : Texts) (opens : List Open) (look : Look) (len : ℕ) → IsLook texts opens look → look.front ≡ front.Usage len → list_all is_word (front_name texts opens len) ≡ true

@@ -164,6 +164,7 @@ pub fills_full : {S R : Type 0} (g : Ghosts S R) (old new : ReadingView S R) (be
 fills_full g old new before after len w is = record {
   lent = w.lent;
   inside = (let i = w.inside in let s = w.size in omega arith);
+  size = w.size;
   given = w.given;
   behind = w.behind;
   full = λ e. is ∙ w.size;
@@ -188,6 +189,7 @@ fills_ended g old mid new before after len e w none t =
     record {
       lent = w.lent ++ new.rest;
       inside = (let i = w.inside in let s = w.size in omega arith);
+      size = w.size;
       given = ap (λ (xs : List ℕ). xs ++ new.rest) (sym (append-nil (take len after)) ∙ ap (λ (r : List ℕ). take len after ++ r) (sym none) ∙ w.given) ∙ append_assoc old.rest w.lent new.rest;
       behind = w.behind;
       full = λ bad. (let no : ⊥ = cc bad in absurd no);

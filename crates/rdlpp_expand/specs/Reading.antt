@@ -56,11 +56,12 @@ ended_with (Some Finished) kept = None
 ended_with (Some Stopped) kept = kept
 
 -- a read into a buffer: what is given, and then what is left of the piece, is what was left of the piece and then what the engine lent; the
--- bytes of the buffer behind it stay; it ends where the buffer is full, or with the output, of which nothing is left then; and the
+-- bytes of the buffer behind it stay, and its length; it ends where the buffer is full, or with the output, of which nothing is left then; and the
 -- counts of the sources' failures (this project's profile)
 pub record Fills {S R : Type 0} (g : Ghosts S R) (old new : ReadingView S R) (before after : List ℕ) (len : ℕ) (ending : Option ReadEnd) : Type 0 where
   pub lent : List ℕ
   pub inside : len ≤ length before
+  pub size : length after ≡ length before
   pub given : take len after ++ new.rest ≡ old.rest ++ lent
   pub behind : drop len after ≡ drop len before
   pub full : ending ≡ None → len ≡ length before

@@ -29,7 +29,8 @@ use Rattle.rdlpp_read.specs.LogicalLines.{HoldsLine, IsLogical}
 use Rattle.rdlpp_front.specs.Fronts.{IsDirective}
 use Rattle.rdlpp_front.specs.SourceLeft.{HoldsFront, source_left, with_file_buffer}
 use Rattle.rdlpp_front.proofs.DirectiveFacts.{word_len}
-use Rattle.rdlpp_front.proofs.SourceFacts.{ends_line, used_buffer}
+use Rattle.rdlpp_read.proofs.BufferTokens.{ends_line}
+use Rattle.rdlpp_front.proofs.SourceFacts.{used_buffer}
 use Rattle.rdlpp_front.proofs.SourcePassages.{all_resumed_bad_define, all_resumed_defined, all_resumed_only_broken}
 
 -- a `define` directive in front of a source is one in its held bytes

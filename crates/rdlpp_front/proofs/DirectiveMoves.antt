@@ -19,7 +19,7 @@ use Rattle.rdlpp_read.specs.Files.{consumed_file}
 use Rattle.rdlpp_front.specs.Fronts.{IsDirective, word_of}
 use Rattle.rdlpp_front.specs.SourceLeft.{HoldsFront, source_left}
 use Rattle.rdlpp_front.proofs.NamedDirectives.{NameInFront, NoNameInFront, behind_name, word_at, word_token, word_tokens}
-use Rattle.rdlpp_front.proofs.SourceFacts.{ends_line}
+use Rattle.rdlpp_read.proofs.BufferTokens.{ends_line}
 use Rattle.rdlpp_front.proofs.SourcePassages.{all_resumed_refused}
 
 -- a directive that takes nothing but its word

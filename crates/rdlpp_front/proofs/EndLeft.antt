@@ -33,7 +33,8 @@ use Rattle.rdlpp_read.specs.Filling.{Fills, ended_tokens, only_broken}
 use Rattle.rdlpp_read.specs.LogicalLines.{HoldsLine}
 use Rattle.rdlpp_front.specs.Fronts.{AtBare, AtPerl, IsRefused}
 use Rattle.rdlpp_front.specs.SourceLeft.{HoldsFront, source_left, with_file_buffer}
-use Rattle.rdlpp_front.proofs.SourceFacts.{ends_line, tokens_plain}
+use Rattle.rdlpp_read.proofs.BufferTokens.{ends_line}
+use Rattle.rdlpp_front.proofs.SourceFacts.{tokens_plain}
 use Rattle.rdlpp_front.proofs.SourcePassages.{all_resumed_bare, all_resumed_only_broken}
 
 -- nor is a comment

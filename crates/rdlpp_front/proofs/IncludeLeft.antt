@@ -39,7 +39,8 @@ use Rattle.rdlpp_front.specs.SourceLeft.{HoldsFront, source_left}
 use Rattle.rdlpp_front.proofs.DefineLeft.{not_counted}
 use Rattle.rdlpp_front.proofs.DirectiveMoves.{refused_move}
 use Rattle.rdlpp_front.proofs.NamedDirectives.{IsGiven, NameInFront, blank_lead, given_of, word_at, word_directive, word_token, word_tokens}
-use Rattle.rdlpp_front.proofs.SourceFacts.{ends_line, tokens_used, used_buffer}
+use Rattle.rdlpp_read.proofs.BufferTokens.{ends_line}
+use Rattle.rdlpp_front.proofs.SourceFacts.{tokens_used, used_buffer}
 
 -- a text whose first line doesn't end has no LF
 no_line_end : (bytes : List ℕ) → ended_line_len bytes ≡ None → (line_ends bytes ≡ 0) × (list_any is_line_end bytes ≡ false)

@@ -43,7 +43,8 @@ use Rattle.rdlpp_front.proofs.DefineLeft.{counted, not_counted}
 use Rattle.rdlpp_front.proofs.DirectiveMoves.{refused_move}
 use Rattle.rdlpp_front.proofs.IncludeLeft.{include_word}
 use Rattle.rdlpp_front.proofs.NamedDirectives.{blank_lead, gone_blanks, gone_word, nothing_tokens, word_directive, word_token, word_tokens}
-use Rattle.rdlpp_front.proofs.SourceFacts.{ends_line, tokens_used, used_buffer}
+use Rattle.rdlpp_read.proofs.BufferTokens.{ends_line}
+use Rattle.rdlpp_front.proofs.SourceFacts.{tokens_used, used_buffer}
 
 -- a text with LF bytes has one
 any_line_end : (bytes : List ℕ) → 0 < line_ends bytes → list_any is_line_end bytes ≡ true

@@ -1,5 +1,5 @@
 -- Where fronts lie in what is held: their bounds, their line ends, and the bytes of their names.
-use Rattle.std.proofs.Common.{◌≡◌, ℕ, suc, ◌+◌, ◌-◌, ◌<◌, ◌≤◌, Bool, true, false, cond, one-add, List, [], ◌∷◌, length, take, drop, refl, ap, ◌∙◌, subst, arith}
+use Rattle.std.proofs.Common.{◌≡◌, ℕ, suc, ◌+◌, ◌-◌, ◌<◌, ◌≤◌, List, length, take, drop, refl, ap, ◌∙◌, subst, arith}
 use Rattle.std.specs.List.{list_all, prefix_len}
 use Rattle.std.proofs.lemmas.List.{drop-drop, length-drop}
 use Rattle.rdlpp_scan.specs.declared.token.Kind.TheVariants.{Name}
@@ -10,7 +10,7 @@ use Rattle.rdlpp_scan.specs.declared.token.Mode.TheVariants.{Plain}
 use Rattle.rdlpp_scan.specs.Bytes.{is_word}
 use Rattle.rdlpp_scan.specs.Tokens.{plain_len, stops_plain_text}
 use Rattle.rdlpp_scan.proofs.FirstTokens.{plain_token-run}
-use Rattle.rdlpp_scan.proofs.Places.{first_place-le}
+use Rattle.rdlpp_scan.proofs.Places.{first_place-le, list_all-prefix}
 use Rattle.rdlpp_scan.proofs.TokenLens.{token_of-part}
 use Rattle.rdlpp_read.specs.Arguments.{IsLead, Leads, Lacks}
 use Rattle.rdlpp_front.specs.Fronts.{AtOrdinary, AtToken, HasName, IsText, IsUsage, argument_name, usage_name, word_of}
@@ -51,14 +51,6 @@ name_inside d held start stop has =
     let stops = has.name.stops in
     let inside : length (word_of d) + has.name.to ≤ length held = omega (arith, g.inside, g.some, length-drop (length (word_of d)) held) in
     (omega (arith, word_some d), omega (arith, g.some), omega arith)
-
--- bytes that pass a test pass it together
-list_all-prefix : (p : ℕ → Bool) (bs : List ℕ) → list_all p (take (prefix_len p bs) bs) ≡ true
-list_all-prefix p [] = refl
-list_all-prefix p (b ∷ bs) = elim (p b) as (λ v. p b ≡ v → list_all p (take (cond v (1 + prefix_len p bs) 0) (b ∷ bs)) ≡ true) [
-  | true ↦ λ e. rw (one-add, e) (list_all-prefix p bs)
-  | false ↦ λ e. refl
-] refl
 
 -- the name of a usage is a word
 pub usage_word : (held : List ℕ) (len : ℕ) → IsUsage held len → IsWordBytes (usage_name held len)

@@ -22,7 +22,8 @@ use Rattle.rdlpp_read.specs.Buffer.{BufferView, held_of, rest_of, tokens_left}
 use Rattle.rdlpp_read.specs.Files.{consumed_file}
 use Rattle.rdlpp_front.specs.Fronts.{IsDirective}
 use Rattle.rdlpp_front.specs.SourceLeft.{HoldsFront, source_left}
-use Rattle.rdlpp_front.proofs.SourceFacts.{ends_line, tokens_plain, tokens_used, used_buffer}
+use Rattle.rdlpp_read.proofs.BufferTokens.{ends_line}
+use Rattle.rdlpp_front.proofs.SourceFacts.{tokens_plain, tokens_used, used_buffer}
 
 -- the bytes of a `line` with its physical line
 abbrev pub line_text : List ℕ → List ℕ

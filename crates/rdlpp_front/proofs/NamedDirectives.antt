@@ -32,7 +32,8 @@ use Rattle.rdlpp_read.specs.Buffer.{BufferView, held_of, rest_of, tokens_left}
 use Rattle.rdlpp_front.specs.Fronts.{HasName, IsDirective, LacksName, argument_name, word_of}
 use Rattle.rdlpp_front.specs.SourceLeft.{HoldsFront}
 use Rattle.rdlpp_front.proofs.DirectiveFacts.{word_len}
-use Rattle.rdlpp_front.proofs.SourceFacts.{ends_line, tokens_used, used_buffer}
+use Rattle.rdlpp_read.proofs.BufferTokens.{ends_line}
+use Rattle.rdlpp_front.proofs.SourceFacts.{tokens_used, used_buffer}
 use Rattle.rdlpp_front.proofs.UsageLeft.{back_tokens}
 
 -- the word of a directive as a token

@@ -28,7 +28,8 @@ use Rattle.rdlpp_front.specs.SourceLeft.{HoldsFront, source_left, with_file_buff
 use Rattle.rdlpp_front.proofs.DefineLeft.{consumed_used}
 use Rattle.rdlpp_front.proofs.LineLeft.{line_buffer, line_text}
 use Rattle.rdlpp_front.proofs.NamedDirectives.{word_at, word_directive, word_token, word_tokens}
-use Rattle.rdlpp_front.proofs.SourceFacts.{ends_line, tokens_plain, tokens_used, used_buffer}
+use Rattle.rdlpp_read.proofs.BufferTokens.{ends_line}
+use Rattle.rdlpp_front.proofs.SourceFacts.{tokens_plain, tokens_used, used_buffer}
 use Rattle.rdlpp_front.proofs.UsageLeft.{usage_text, usage_tokens}
 
 -- the word of a directive that belongs to no conditional is skipped

@@ -29,7 +29,7 @@ use Rattle.rdlpp_front.specs.Fronts.{IsDirective, word_of}
 use Rattle.rdlpp_front.specs.SourceLeft.{HoldsFront, source_left}
 use Rattle.rdlpp_front.proofs.ConditionalLeft.{opening_wants}
 use Rattle.rdlpp_front.proofs.NamedDirectives.{wants_word, word_at, word_directive, word_token, word_tokens}
-use Rattle.rdlpp_front.proofs.SourceFacts.{ends_line}
+use Rattle.rdlpp_read.proofs.BufferTokens.{ends_line}
 use Rattle.rdlpp_front.proofs.SourcePassages.{all_resumed_behind_fails}
 
 -- an `endif` is a token

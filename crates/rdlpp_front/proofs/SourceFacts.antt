@@ -1,23 +1,16 @@
 -- An open source where its next bytes are used: what is held, what stands behind it, and the tokens that remain.
-use Rattle.std.proofs.Common.{◌≡◌, ℕ, ◌+◌, List, take, drop, refl, sym, ap, ◌∙◌, inl, inr, append-nil}
+use Rattle.std.proofs.Common.{◌≡◌, ℕ, ◌+◌, List, take, drop, refl, sym, ap, ◌∙◌}
 use Rattle.std.proofs.lemmas.List.{drop-drop}
 use Rattle.rdlpp_scan.specs.declared.token.Mode.{Mode}
 use Rattle.rdlpp_scan.specs.declared.token.Mode.TheVariants.{Plain}
-use Rattle.rdlpp_scan.specs.Lines.{EndsLine}
 use Rattle.rdlpp_scan.specs.Resumed.{opening}
 use Rattle.rdlpp_scan.specs.SourceTokens.{remaining_tokens}
 use Rattle.rdlpp_scan.proofs.RemainingLaws.{remaining-opened}
-use Rattle.rdlpp_read.specs.Buffer.{BufferView, EndsHeld, ahead_of, entered_mode, held_of, rest_of, tokens_left, unread_of}
+use Rattle.rdlpp_read.specs.Buffer.{BufferView, ahead_of, entered_mode, held_of, rest_of, tokens_left}
 
 -- a buffer of which so many more held bytes are used, with so many line ends
 abbrev pub used_buffer : {R : Type 0} → BufferView R → ℕ → ℕ → BufferView R
 used_buffer b len lines = record b { at = b.at + len; line = b.line + lines }
-
--- what is held ends at a line end, or where the text ends
-pub ends_line : {R : Type 0} (unread : R → List ℕ) (b : BufferView R) → EndsHeld b → EndsLine (held_of b) (rest_of unread b)
-unfolding rest_of unread_of ahead_of
-ends_line unread b (inl e) = inl e
-ends_line unread b (inr e) = inr (rw (e.0, append-nil) e.1)
 
 -- what is held behind bytes that are used
 pub held_used : {R : Type 0} (b : BufferView R) (n l : ℕ) → held_of (used_buffer b n l) ≡ drop n (held_of b)

@@ -33,7 +33,8 @@ use Rattle.rdlpp_read.specs.Buffer.{BufferView, entered_mode, held_of, rest_of, 
 use Rattle.rdlpp_read.specs.Files.{consumed_file}
 use Rattle.rdlpp_front.specs.Fronts.{AtOrdinary, AtToken, IsText, is_text_kind}
 use Rattle.rdlpp_front.specs.SourceLeft.{HoldsFront, source_left, with_file_buffer}
-use Rattle.rdlpp_front.proofs.SourceFacts.{ends_line, tokens_entered, tokens_plain, used_buffer}
+use Rattle.rdlpp_read.proofs.BufferTokens.{ends_line}
+use Rattle.rdlpp_front.proofs.SourceFacts.{tokens_entered, tokens_plain, used_buffer}
 use Rattle.rdlpp_front.proofs.WrittenTexts.{Writes, live_writes, open_copied, skipped_writes, writes_one}
 
 -- they stand in the list as they are

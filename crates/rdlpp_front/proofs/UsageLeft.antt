@@ -27,7 +27,8 @@ use Rattle.rdlpp_read.specs.Files.{consumed_file}
 use Rattle.rdlpp_front.specs.Fronts.{IsUsage, usage_name}
 use Rattle.rdlpp_front.specs.SourceLeft.{HoldsFront, source_left}
 use Rattle.rdlpp_front.proofs.FirstBytes.{back_front, back_text}
-use Rattle.rdlpp_front.proofs.SourceFacts.{ends_line, tokens_plain, tokens_used, used_buffer}
+use Rattle.rdlpp_read.proofs.BufferTokens.{ends_line}
+use Rattle.rdlpp_front.proofs.SourceFacts.{tokens_plain, tokens_used, used_buffer}
 use Rattle.rdlpp_front.proofs.SourcePassages.{all_resumed_copied_body, all_resumed_undefined}
 
 -- the tokens at a backquote with a name that is neither `define` nor `line`

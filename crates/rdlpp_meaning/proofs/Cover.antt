@@ -14,7 +14,7 @@ use Rattle.rdlpp_scan.specs.Tokens.{first_place, string_stop, whole, string_toke
 use Rattle.rdlpp_scan.proofs.TokenLens.{is_word-letter, is_word-digit}
 use Rattle.rdlpp_meaning.specs.Substitution.{spelled, body_tokens}
 use Rattle.rdlpp_meaning.specs.Expansion.{bytes_of}
-use Rattle.rdlpp_meaning.proofs.PlainBodies.{run_positive, drop_behind}
+use Rattle.rdlpp_meaning.proofs.PlainBodies.{run_positive, drop_behind, suc_positive}
 
 -- a token has a byte
 unfoldable pub HasByte : Token → Type 0
@@ -30,10 +30,6 @@ whole_has : (k : Kind) (n : ℕ) → 0 < n → HasByte (whole k n)
 unfolding whole HasByte
 whole_has k n h = h
 
--- one more than a number isn't zero
-one_more : (n : ℕ) → 0 < suc n
-one_more n = omega arith
-
 -- a string that stops at a place
 string_at : List ℕ → ℕ → Token
 string_at bytes stop =
@@ -44,7 +40,7 @@ string_behind : (bytes : List ℕ) (stop : ℕ) → 0 < stop → HasByte (string
 unfolding string_at HasByte whole
 string_behind bytes stop h =
     chosen (slice_index bytes stop == 34) (whole Str (suc stop)) (record { kind = Str; len = stop; next_mode = InStr })
-    (λ e. one_more stop) (λ e. h)
+    (λ e. suc_positive stop) (λ e. h)
 
 -- a string whose part begins behind its quote
 string_has : (from : ℕ) (bytes : List ℕ) → 0 < from → HasByte (string_token from bytes)
@@ -58,7 +54,7 @@ unfolding string_token string_at string_stop HasByte whole
 string_rest_by b bs true q e =
     let stop : 0 + string_stop false (b ∷ bs) ≡ 0 = rw q refl in
     subst (λ (n : ℕ). HasByte (string_at (b ∷ bs) n)) (sym stop)
-    (subst (λ (x : Bool). HasByte (if x then whole Str 1 else record { kind = Str; len = 0; next_mode = InStr })) (sym q) (one_more 0))
+    (subst (λ (x : Bool). HasByte (if x then whole Str 1 else record { kind = Str; len = 0; next_mode = InStr })) (sym q) (suc_positive 0))
 string_rest_by b bs false q e =
     let stop : string_stop false (b ∷ bs) ≡ suc (string_stop (b == 92) bs) = rw (q, e) refl in
     string_behind (b ∷ bs) (0 + string_stop false (b ∷ bs)) (omega (arith, stop))
@@ -90,7 +86,7 @@ block_rest_by b bs true e =
     here : HasByte (block_at (b ∷ bs) 0)
     here =
         chosen (nat_lt 0 (length (b ∷ bs))) (whole BlockComment 2) (record { kind = BlockComment; len = 0; next_mode = InBlock })
-        (λ h. one_more 1) (λ h. absurd (omega (arith, ltb-false 0 (length (b ∷ bs)) h)))
+        (λ h. suc_positive 1) (λ h. absurd (omega (arith, ltb-false 0 (length (b ∷ bs)) h)))
 block_rest_by b bs false e =
     let stop : first_place ends_block_comment (b ∷ bs) ≡ suc (first_place ends_block_comment bs) = rw e refl in
     block_behind (b ∷ bs) (0 + first_place ends_block_comment (b ∷ bs)) (omega (arith, stop))
@@ -103,28 +99,28 @@ comment_positive b bs e = run_positive (λ x. not (is_line_end x)) b bs (ap not 
 plain_has : (b : ℕ) (bs : List ℕ) → HasByte (plain_token (b ∷ bs))
 unfolding plain_token
 plain_has b bs =
-    chosen (begins_perl (b ∷ bs)) _ _ (λ h. whole_has Perl 2 (one_more 1)) (λ _.
-    chosen (is_line_end b) _ _ (λ h. whole_has LineEnd 1 (one_more 0)) (λ e.
+    chosen (begins_perl (b ∷ bs)) _ _ (λ h. whole_has Perl 2 (suc_positive 1)) (λ _.
+    chosen (is_line_end b) _ _ (λ h. whole_has LineEnd 1 (suc_positive 0)) (λ e.
     chosen (is_blank b) _ _ (λ h. whole_has Blank _ (run_positive is_blank b bs h)) (λ _.
     chosen (begins_line_comment (b ∷ bs)) _ _ (λ h. whole_has LineComment _ (comment_positive b bs e)) (λ _.
-    chosen (begins_block_comment (b ∷ bs)) _ _ (λ h. block_has 2 (b ∷ bs) (one_more 1)) (λ _.
-    chosen (b == 34) _ _ (λ h. string_has 1 (b ∷ bs) (one_more 0)) (λ _.
+    chosen (begins_block_comment (b ∷ bs)) _ _ (λ h. block_has 2 (b ∷ bs) (suc_positive 1)) (λ _.
+    chosen (b == 34) _ _ (λ h. string_has 1 (b ∷ bs) (suc_positive 0)) (λ _.
     chosen (is_letter b) _ _ (λ h. whole_has Name _ (run_positive is_word b bs (is_word-letter b h))) (λ _.
     chosen (is_digit b) _ _ (λ h. whole_has Word _ (run_positive is_word b bs (is_word-digit b h))) (λ _.
-    chosen (takes_word b && is_word (slice_index (b ∷ bs) 1)) _ _ (λ h. whole_has Word _ (one_more _)) (λ _.
-    chosen (b == 96 && is_letter (slice_index (b ∷ bs) 1)) _ _ (λ h. whole_has Back _ (one_more _)) (λ _.
-    chosen (b == 96) _ _ (λ h. whole_has BareBackquote 1 (one_more 0)) (λ _.
-    chosen (is_opener b) _ _ (λ h. whole_has Opener 1 (one_more 0)) (λ _.
-    chosen (is_closer b) _ _ (λ h. whole_has Closer 1 (one_more 0)) (λ _.
-    chosen (b == 44) _ _ (λ h. whole_has Comma 1 (one_more 0)) (λ _.
-    whole_has Other 1 (one_more 0)))))))))))))))
+    chosen (takes_word b && is_word (slice_index (b ∷ bs) 1)) _ _ (λ h. whole_has Word _ (suc_positive _)) (λ _.
+    chosen (b == 96 && is_letter (slice_index (b ∷ bs) 1)) _ _ (λ h. whole_has Back _ (suc_positive _)) (λ _.
+    chosen (b == 96) _ _ (λ h. whole_has BareBackquote 1 (suc_positive 0)) (λ _.
+    chosen (is_opener b) _ _ (λ h. whole_has Opener 1 (suc_positive 0)) (λ _.
+    chosen (is_closer b) _ _ (λ h. whole_has Closer 1 (suc_positive 0)) (λ _.
+    chosen (b == 44) _ _ (λ h. whole_has Comma 1 (suc_positive 0)) (λ _.
+    whole_has Other 1 (suc_positive 0)))))))))))))))
 
 -- the first token of a text has a byte in each mode
 pub token_has : (mode : Mode) (b : ℕ) (bs : List ℕ) → HasByte (token_of mode (b ∷ bs))
 unfolding token_of
 token_has Plain b bs = plain_has b bs
 token_has InStr b bs =
-    chosen (begins_perl (b ∷ bs)) _ _ (λ h. whole_has Perl 2 (one_more 1)) (λ e. string_rest_by b bs (b == 34) refl e)
+    chosen (begins_perl (b ∷ bs)) _ _ (λ h. whole_has Perl 2 (suc_positive 1)) (λ e. string_rest_by b bs (b == 34) refl e)
 token_has InBlock b bs = block_rest_by b bs (ends_block_comment (b ∷ bs)) refl
 
 -- tokens from a place on have the bytes from there on

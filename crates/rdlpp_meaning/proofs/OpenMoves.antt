@@ -38,9 +38,9 @@ scope-by texts part home (OpenDefault id place) below = ap (λ (n : ℕ). suc n)
 pub open-scope : (texts : Texts) (x : Open) (below : List Open) → scope_of (slot_of texts x below) (slots_of texts below) ≡ open_scope x below
 open-scope texts x below = scope-by texts x.part x.home x.kind below
 
--- a part of a text behind some of its bytes
-part-behind : (text : List ℕ) (from end n : ℕ) → n ≤ end - from → drop n (slice_range text from end) ≡ slice_range text (from + n) end
-part-behind text from end n h =
+-- a range of a text behind some of its bytes
+pub range_behind : (text : List ℕ) (from end n : ℕ) → n ≤ end - from → drop n (slice_range text from end) ≡ slice_range text (from + n) end
+range_behind text from end n h =
     ap (λ (k : ℕ). drop n (take k (drop from text))) (whole from end n h)
     ∙ drop-take n (end - (from + n)) (drop from text)
     ∙ ap (λ (bytes : List ℕ). take (end - (from + n)) bytes) (drop-drop n from text)
@@ -68,7 +68,7 @@ first-left texts x below some =
     let t = token_of x.part.mode bytes in
     text_step x.part.mode bytes some
     ∙ ap (λ (rest : List ℕ). first_spelled x.part.mode bytes ∷ text_tokens t.next_mode rest)
-    (part-behind text x.part.from x.part.end t.len (first-inside text x.part some))
+    (range_behind text x.part.from x.part.end t.len (first-inside text x.part some))
 
 -- a slot with what is left of an open text behind some bytes is that open text's
 left-behind : (texts : Texts) (x : Open) (below : List Open) (n : ℕ) (mode : Mode)

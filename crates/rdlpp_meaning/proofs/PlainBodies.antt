@@ -70,7 +70,7 @@ clash : {t : Token} (x : Bool) → x ≡ false → x ≡ true → IsOrdinary t
 clash x e h = cc
 
 -- one more than a number isn't zero
-suc_positive : (n : ℕ) → 0 < suc n
+pub suc_positive : (n : ℕ) → 0 < suc n
 suc_positive n = omega arith
 
 -- the first token where ordinary text goes on

@@ -11,19 +11,14 @@ use Rattle.rdlpp_scan.specs.Pieces.{mode_behind}
 use Rattle.rdlpp_scan.specs.SourceTokens.{Ordinary, SourceToken}
 use Rattle.rdlpp_scan.specs.Tokens.{tokens_from}
 use Rattle.rdlpp_scan.proofs.CleanTexts.{clean_tokens}
-use Rattle.rdlpp_table.specs.Table.{Formal, Macro, default_size, formal_size, macro_size, table_size}
+use Rattle.rdlpp_table.specs.Table.{Formal, Macro, formal_size, macro_size, table_size}
 use Rattle.rdlpp_table.specs.View.{TableView, IsSound, IsSoundMacro, formals_of}
+use Rattle.rdlpp_table.proofs.Sizes.{default_least}
 use Rattle.rdlpp_meaning.specs.Actuals.{token_role}
 use Rattle.rdlpp_meaning.specs.CallScan.{is_kept}
 use Rattle.rdlpp_meaning.specs.CursorWork.{HasCountedDefault, IsCountedMacro}
 use Rattle.rdlpp_meaning.specs.Substitution.{body_tokens, spelled}
 use Rattle.rdlpp_meaning.proofs.KeptTexts.{stays, comment_stays}
-
--- a default text is no larger than what it counts
-default_least : (text : List ℕ) → length text ≤ default_size text
-unfolding default_size
-default_least [] = omega arith
-default_least (b ∷ bs) = omega arith
 
 formal_least : (f : Formal) → length f.text ≤ formal_size f
 unfolding formal_size

@@ -6,15 +6,21 @@ use Rattle.rdlpp_scan.specs.declared.token.Mode.TheVariants.{Plain, InStr, InBlo
 use Rattle.rdlpp_scan.specs.Front.{front, Break}
 use Rattle.rdlpp_scan.specs.SourceTokens.{remaining_tokens, source_tokens, source_end, open_end, broken, line_ends, line_len}
 use Rattle.std.proofs.Math.Seq.{drop-nil}
-use Rattle.rdlpp_scan.specs.Lines.{IsWholeLines, whole_lines_len}
+use Rattle.rdlpp_scan.specs.Lines.{EndsLine, IsWholeLines, whole_lines_len}
 use Rattle.rdlpp_scan.proofs.WholeLines.{IsWholeLines-drop}
 use Rattle.rdlpp_scan.proofs.FrontLaws.{front-none, front-line_long, front-source_long}
 use Rattle.rdlpp_scan.proofs.RemainingLaws.{remaining-accept}
-use Rattle.rdlpp_read.specs.Buffer.{BufferView, EndsHeld, ahead_of, held_of, rest_of, text_left, tokens_left, unused_of}
+use Rattle.rdlpp_read.specs.Buffer.{BufferView, EndsHeld, ahead_of, held_of, rest_of, text_left, tokens_left, unread_of, unused_of}
 use Rattle.rdlpp_read.specs.Filling.{Fills, Grows, GrowsBy, HasBytes, IsExact, Lengthens, Stays, TellsTokens, ended_tokens, only_broken}
 use Rattle.rdlpp_read.proofs.Sliding.{slides-compact, slides-on, slides-same}
 use Rattle.rdlpp_read.specs.declared.buffer.filling.Fill.{Fill}
 use Rattle.rdlpp_read.specs.declared.buffer.filling.Fill.TheVariants.{Held, End, SourceLong, LineLong, Failed}
+
+-- what is held ends at a line end, or where the text ends
+pub ends_line : {R : Type 0} (unread : R → List ℕ) (b : BufferView R) → EndsHeld b → EndsLine (held_of b) (rest_of unread b)
+unfolding rest_of unread_of ahead_of
+ends_line unread b (inl whole) = inl whole
+ends_line unread b (inr none) = inr (rw (none.0, none.1) refl)
 
 -- the tokens that remain go by what is held, by what stands behind it, and by the numbers and the mode
 pub tokens-same : {R : Type 0} (unread : R → List ℕ) (old new : BufferView R) → new.line ≡ old.line → new.line_bytes ≡ old.line_bytes → new.mode ≡ old.mode →

@@ -1,5 +1,6 @@
 -- The first place that passes a test, by index.
-use Rattle.std.proofs.Common.{◌≡◌, ℕ, zero, suc, ◌+◌, ◌<◌, ◌≤◌, Bool, true, false, cond, eqb, List, [], ◌∷◌, Option, Some, None, length, get_or, drop, refl, sym, ap, ◌∙◌, ⊎_elim, arith}
+use Rattle.std.proofs.Common.{◌≡◌, ℕ, zero, suc, ◌+◌, ◌<◌, ◌≤◌, Bool, true, false, cond, eqb, one-add, List, [], ◌∷◌, Option, Some, None, length, get_or, take, drop, refl, sym, ap, ◌∙◌, ⊎_elim, arith}
+use Rattle.std.specs.List.{list_all, prefix_len}
 use Rattle.std.specs.Option.{unwrap_or}
 use Rattle.std.proofs.lemmas.Bool.{eqb-true, eq-eqb, and_parts, and_from, cases_lt}
 use Rattle.std.proofs.lemmas.List.{get_or-drop, get_or_past}
@@ -82,3 +83,11 @@ first_place-found test bs i lt before here = sym (first_place_is test bs i (omeg
 -- the end of such a loop
 pub first_place-none : (test : List ℕ → Bool) (bs : List ℕ) → ((j : ℕ) → j < length bs → test (drop j bs) ≡ false) → length bs ≡ first_place test bs
 first_place-none test bs before = sym (first_place_is test bs (length bs) (omega arith) before (λ lt. absurd (omega arith)))
+
+-- bytes that pass a test pass it together
+pub list_all-prefix : (p : ℕ → Bool) (bs : List ℕ) → list_all p (take (prefix_len p bs) bs) ≡ true
+list_all-prefix p [] = refl
+list_all-prefix p (b ∷ bs) = elim (p b) as (λ v. p b ≡ v → list_all p (take (cond v (1 + prefix_len p bs) 0) (b ∷ bs)) ≡ true) [
+  | true ↦ λ e. rw (one-add, e) (list_all-prefix p bs)
+  | false ↦ λ e. refl
+] refl

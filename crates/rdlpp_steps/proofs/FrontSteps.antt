@@ -2,7 +2,7 @@
 use Rattle.std.proofs.Common.{◌≡◌, ℕ, zero, suc, ◌+◌, ◌-◌, ◌^◌, ◌≤◌, ◌<◌, true, false, List, [], ◌∷◌, ◌++◌, length, take, drop, replicate, append_assoc, append-nil, Option, None, Some, Ok, refl, sym, ap, ◌∙◌, subst, arith}
 use Rattle.std.specs.List.{slice_range}
 use Rattle.std.specs.Prelude.{min, IfSome}
-use Rattle.std.proofs.lemmas.List.{take-take, drop-take, length-drop, length-take, take_all, take_rest}
+use Rattle.std.proofs.lemmas.List.{take-take, drop-take, length-drop, length-take, take_rest}
 use Rattle.std.proofs.Math.Seq.{drop-nil}
 use Rattle.rdlpp_source.specs.Sources.{Catalog}
 use Rattle.rdlpp_source.specs.declared.sources.Sources.{Ghosts}
@@ -27,6 +27,7 @@ use Rattle.rdlpp_meaning.specs.Profile.{define_fault, rules_of, with_fault}
 use Rattle.rdlpp_meaning.specs.PlainMacros.{stands_for_body}
 use Rattle.rdlpp_meaning.specs.State.{State, fault_at}
 use Rattle.rdlpp_meaning.proofs.OwedLineEnds.{line_ends_of-owed}
+use Rattle.rdlpp_cursors.proofs.Starting.{whole-range}
 use Rattle.rdlpp_read.specs.Buffer.{BufferView, entered_mode, held_of, reading_line_of, Slides}
 use Rattle.rdlpp_read.specs.Files.{AreOpen, FilesView, consumed_file, inner_buffer, with_buffer, with_inner}
 use Rattle.rdlpp_read.specs.Filling.{Fills}
@@ -381,10 +382,6 @@ take_text {S} {R} g old mid new len lines from to next ready live bounded some t
     (used_after old.files.nest (entered_mode b next) len lines ready.nest (entered_unused b next) within.0 (rw (held_entered b next) within.1))
     (nest_text old.limits (run_rules g old) g.unread old.table.macros old.conditions live old.files.nest len lines next some inner.ends text counted))
 
--- all of a text, as a part of it
-whole_part : (xs : List ℕ) (n : ℕ) → n ≡ length xs → slice_range xs 0 n ≡ xs
-whole_part xs n whole = let same : n - 0 ≡ length xs = omega arith in ap (λ k. take k xs) same ∙ take_all (length xs) xs (omega arith)
-
 -- a body is lent
 pub take_usage : {S R : Type 0} (g : Ghosts S R) (old new : EngineView S R) (len id end : ℕ) → IsReady old → old.conditions.skipped ≡ None → IsBounded new
     → 0 < length (held_of (inner_buffer old.files.nest)) → (inner_buffer old.files.nest).mode ≡ Plain → IsUsage (held_of (inner_buffer old.files.nest)) len
@@ -399,7 +396,7 @@ take_usage {S} {R} g old new len id end ready live bounded some plain usage name
     let within = usage_inside held len some usage in
     let m = macro_at old.table.macros id in
     let body : slice_range (macro_at new.table.macros id).body 0 end ≡ m.body =
-    ap (λ (e : EngineView S R). slice_range (macro_at e.table.macros id).body 0 end) becomes ∙ whole_part m.body end whole in
+    ap (λ (e : EngineView S R). slice_range (macro_at e.table.macros id).body 0 end) becomes ∙ whole-range m.body end whole in
     let depth = ready.sound.in_range.depth.0 in
     subst (λ (xs : List ℕ). Walks g old new (Ok (Some xs))) (sym body)
     (lends_source g old new ready m.body old.table.macros old.conditions (with_inner (consumed_file len 0) old.files.nest) becomes bounded

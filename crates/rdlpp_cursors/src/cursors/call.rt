@@ -31,47 +31,47 @@ enum Opening {
 }
 
 impl Cursors {
-    // Binds a call in the innermost text, from one place of that text up to another, goes on behind it, and opens the body of
-    // the macro. Nothing changes where that isn't so.
-    fn open_bound(
+    /// Opens the body of a macro with a list of formals for a call that stands in a source at a line. `arguments` is what is
+    /// kept of the text between the parentheses of the call, without its `//` comments (IEEE 1364-2001, `define`; what a call
+    /// may hold is this project's profile).
+    ///
+    /// # Errors
+    ///
+    /// [`FaultKind::ArgumentCount`] where the call has more or fewer parts than the macro has formals, or where a `//` comment
+    /// stands in what is kept of it, as it does of no call that was read. Nothing changes then.
+    pub fn open_call(
         &mut self,
         table: &Table,
-        text: &[u8],
-        at: usize,
-        end: usize,
+        arguments: &[u8],
         id: MacroId,
-        home: usize,
-    ) -> Opening
-        requires some { 0 < length self.old.opens }
-        requires range { (at ≤ end) × (end ≤ length text.now) }
-        requires keeps { KeepsAll (body_tokens (slice_range text.now at end)) }
+        line: u64,
+    ) -> Result<(), FaultKind>
         requires id { id < length table.now.macros }
-        ensures opening { IsOpening table.now.macros text.now at end id home self.old result self.new }
-        ensures fault { IsCallFault result }
+        requires list { is_some (macro_at table.now.macros id).formals ≡ true }
+        requires closed { self.old.opens ≡ [] }
+        requires room { 0 < self.old.depth }
+        ensures opens { IfOk result (λ _. IsCallStarted (texts_of table.now.macros arguments.now) id line self.old self.new) }
+        ensures refused { IfErr result (λ kind. IsCallMiscounted (texts_of table.now.macros arguments.now) id kind self.old self.new) }
     {
         let _macros = table.len();
         let formals = table.arity(id).unwrap_or(0);
-        let first = self.first;
         let bound = self.bindings.len();
-        let bounds = body_bounds(&self.slots.as_slice()[first..], home, id);
-        let behind = match bind_call(text, at, end, formals, &mut self.bindings) {
-            Ok(behind) => behind,
-            Err(kind) => return Opening::Refused(kind),
-        };
-        if first == 0 {
-            self.bindings.truncate(bound);
-            return Opening::Deep;
+        let bounds = body_bounds(&self.slots.as_slice()[self.first..], 0, id);
+        if !keeps_each(arguments) {
+            return Err(FaultKind::ArgumentCount);
         }
-        self.slots[first].from = behind;
-        self.slots[first - 1] = Slot {
+        bind_parts(arguments, 0, arguments.len(), formals, &mut self.bindings)?;
+        let first = self.first - 1;
+        self.slots[first] = Slot {
             from: 0,
             end: table.body(id).len(),
-            home,
+            home: 0,
             kind: SlotKind::Body { id, first: bound },
             bounds,
         };
-        self.first = first - 1;
-        Opening::Opened
+        self.first = first;
+        self.line = line;
+        Ok(())
     }
 
     // The usage, with so many bytes, of a macro with a list at the front of the innermost text: it opens the body, or is
@@ -116,46 +116,46 @@ impl Cursors {
         }
     }
 
-    /// Opens the body of a macro with a list of formals for a call that stands in a source at a line. `arguments` is what is
-    /// kept of the text between the parentheses of the call, without its `//` comments (IEEE 1364-2001, `define`; what a call
-    /// may hold is this project's profile).
-    ///
-    /// # Errors
-    ///
-    /// [`FaultKind::ArgumentCount`] where the call has more or fewer parts than the macro has formals, or where a `//` comment
-    /// stands in what is kept of it, as it does of no call that was read. Nothing changes then.
-    pub fn open_call(
+    // Binds a call in the innermost text, from one place of that text up to another, goes on behind it, and opens the body of
+    // the macro. Nothing changes where that isn't so.
+    fn open_bound(
         &mut self,
         table: &Table,
-        arguments: &[u8],
+        text: &[u8],
+        at: usize,
+        end: usize,
         id: MacroId,
-        line: u64,
-    ) -> Result<(), FaultKind>
+        home: usize,
+    ) -> Opening
+        requires some { 0 < length self.old.opens }
+        requires range { (at ≤ end) × (end ≤ length text.now) }
+        requires keeps { KeepsAll (body_tokens (slice_range text.now at end)) }
         requires id { id < length table.now.macros }
-        requires list { is_some (macro_at table.now.macros id).formals ≡ true }
-        requires closed { self.old.opens ≡ [] }
-        requires room { 0 < self.old.depth }
-        ensures opens { IfOk result (λ _. IsCallStarted (texts_of table.now.macros arguments.now) id line self.old self.new) }
-        ensures refused { IfErr result (λ kind. IsCallMiscounted (texts_of table.now.macros arguments.now) id kind self.old self.new) }
+        ensures opening { IsOpening table.now.macros text.now at end id home self.old result self.new }
+        ensures fault { IsCallFault result }
     {
         let _macros = table.len();
         let formals = table.arity(id).unwrap_or(0);
+        let first = self.first;
         let bound = self.bindings.len();
-        let bounds = body_bounds(&self.slots.as_slice()[self.first..], 0, id);
-        if !keeps_each(arguments) {
-            return Err(FaultKind::ArgumentCount);
+        let bounds = body_bounds(&self.slots.as_slice()[first..], home, id);
+        let behind = match bind_call(text, at, end, formals, &mut self.bindings) {
+            Ok(behind) => behind,
+            Err(kind) => return Opening::Refused(kind),
+        };
+        if first == 0 {
+            self.bindings.truncate(bound);
+            return Opening::Deep;
         }
-        bind_parts(arguments, 0, arguments.len(), formals, &mut self.bindings)?;
-        let first = self.first - 1;
-        self.slots[first] = Slot {
+        self.slots[first].from = behind;
+        self.slots[first - 1] = Slot {
             from: 0,
             end: table.body(id).len(),
-            home: 0,
+            home,
             kind: SlotKind::Body { id, first: bound },
             bounds,
         };
-        self.first = first;
-        self.line = line;
-        Ok(())
+        self.first = first - 1;
+        Opening::Opened
     }
 }

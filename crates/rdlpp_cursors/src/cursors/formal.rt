@@ -18,18 +18,6 @@ use rdlpp_meaning::FaultKind;
 use rdlpp_table::Table;
 
 impl Cursors {
-    // What the formal at a place stands for in the scope of the innermost text.
-    fn standing(&self, table: &Table, place: usize) -> Option<Slot>
-        requires some { 0 < length self.now.opens }
-        requires bound { AreBound table.now.macros self.now.opens }
-        requires place { place < length (source_formals (texts_of table.now.macros []) (found_source (scope_open self.now.opens (front_scope self.now.opens)))) }
-        ensures { option_map (λ slot. open_of slot []) result ≡ found_standing table.now.macros (scope_open self.now.opens (front_scope self.now.opens)) (front_scope self.now.opens) place }
-    {
-        let slots = &self.slots.as_slice()[self.first..];
-        let scope = front_scope(slots);
-        standing(slots, self.bindings.as_slice(), table, scope, place)
-    }
-
     // Opens the actual of the formal whose name stands at the front of the innermost text, which goes on behind that name; its
     // default, where the actual is empty and it has one (this project's profile).
     //
@@ -70,5 +58,17 @@ impl Cursors {
         self.move_to(look.from + len);
         self.push_text(new);
         CursorStep::Silent
+    }
+
+    // What the formal at a place stands for in the scope of the innermost text.
+    fn standing(&self, table: &Table, place: usize) -> Option<Slot>
+        requires some { 0 < length self.now.opens }
+        requires bound { AreBound table.now.macros self.now.opens }
+        requires place { place < length (source_formals (texts_of table.now.macros []) (found_source (scope_open self.now.opens (front_scope self.now.opens)))) }
+        ensures { option_map (λ slot. open_of slot []) result ≡ found_standing table.now.macros (scope_open self.now.opens (front_scope self.now.opens)) (front_scope self.now.opens) place }
+    {
+        let slots = &self.slots.as_slice()[self.first..];
+        let scope = front_scope(slots);
+        standing(slots, self.bindings.as_slice(), table, scope, place)
     }
 }

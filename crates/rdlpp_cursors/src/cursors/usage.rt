@@ -22,90 +22,7 @@ use rdlpp_meaning::FaultKind;
 use rdlpp_scan::reserved;
 use rdlpp_table::{MacroId, Table};
 
-// The fault of a usage whose name no macro has.
-fn unknown_kind(name: &[u8]) -> FaultKind
-    ensures { result ≡ unknown_kind (is_reserved name.now) }
-{
-    if reserved(name).is_some() {
-        FaultKind::DirectiveInText
-    } else {
-        FaultKind::UndefinedMacro
-    }
-}
-
-// Where the name of a usage stands: behind its backquote.
-pub(super) fn word_of(look: &Look, len: usize) -> TextPlace
-    requires short { look.now.from + len < 2 ^ 64 }
-    requires some { 0 < len }
-    ensures { result ≡ record { source = look.now.source; from = look.now.from + 1; end = look.now.from + len } }
-{
-    TextPlace {
-        source: look.source,
-        from: look.from + 1,
-        end: look.from + len,
-    }
-}
-
 impl Cursors {
-    // The scope of the innermost text.
-    pub(super) fn scope(&self) -> usize
-        requires { 0 < length self.now.opens }
-        ensures { result ≡ front_scope self.now.opens }
-    {
-        let slots = self.slots.as_slice();
-        front_scope(&slots[self.first..])
-    }
-
-    // Whether the innermost text is in the text of a macro.
-    fn is_inside(&self, id: MacroId) -> bool
-        requires some { 0 < length self.now.opens }
-        requires homed { AreFurtherOut self.now.opens }
-        ensures { result ≡ list_any (λ own. id == own) (writer_ids self.now.opens (front_scope self.now.opens)) }
-    {
-        let scope = self.scope();
-        let slots = self.slots.as_slice();
-        is_written_in(&slots[self.first..], scope, id)
-    }
-
-    // Opens the body of a macro without a list in front of the innermost text, which goes on at a place.
-    fn enter(&mut self, table: &Table, id: MacroId, at: usize)
-        requires some { 0 < length self.old.opens }
-        requires room { length self.old.opens < self.old.depth }
-        requires id { id < length table.now.macros }
-        ensures { self.new ≡ record self.old { opens = open_body (texts_of table.now.macros []) id [] (front_scope self.old.opens) ∷ moved_to at self.old.opens } }
-    {
-        let home = self.scope();
-        self.move_to(at);
-        self.push_body(id, table.body(id).len(), home);
-    }
-
-    // The macro of the usage at the front of the innermost text, or why it is refused.
-    fn used_macro(
-        &self,
-        table: &Table,
-        arguments: &[u8],
-        look: &Look,
-        len: usize,
-    ) -> Result<MacroId, FaultKind>
-        requires some { 0 < length self.now.opens }
-        requires sound { AreSound (texts_of table.now.macros arguments.now) self.now.opens }
-        requires look { IsLook (texts_of table.now.macros arguments.now) self.now.opens look.now }
-        requires short { look.now.end < 2 ^ 64 }
-        requires front { look.now.front ≡ Front.Usage len }
-        ensures fault { IfErr result (λ kind. is_text_fault kind ≡ true) }
-        ensures used { MatchResult result (λ id. IsUsed (texts_of table.now.macros arguments.now) self.now.opens (front_name (texts_of table.now.macros arguments.now) self.now.opens len) id) (λ kind. IsRefused (texts_of table.now.macros arguments.now) self.now.opens (front_name (texts_of table.now.macros arguments.now) self.now.opens len) kind) }
-    {
-        let word = word_of(look, len);
-        let name = text_at(table, arguments, word);
-        let Some(id) = table.find(name) else {
-            return Err(unknown_kind(name));
-        };
-        if self.is_inside(id) {
-            return Err(FaultKind::RecursiveMacro);
-        }
-        Ok(id)
-    }
-
     // One step at a usage of so many bytes, which stands at the front of the innermost text: it opens the body of its macro, or
     // is refused (IEEE 1364-2001, `define`), and nothing changes then.
     pub(super) fn usage(
@@ -148,5 +65,88 @@ impl Cursors {
         }
         self.enter(table, id, look.from + len);
         CursorStep::Silent
+    }
+
+    // The macro of the usage at the front of the innermost text, or why it is refused.
+    fn used_macro(
+        &self,
+        table: &Table,
+        arguments: &[u8],
+        look: &Look,
+        len: usize,
+    ) -> Result<MacroId, FaultKind>
+        requires some { 0 < length self.now.opens }
+        requires sound { AreSound (texts_of table.now.macros arguments.now) self.now.opens }
+        requires look { IsLook (texts_of table.now.macros arguments.now) self.now.opens look.now }
+        requires short { look.now.end < 2 ^ 64 }
+        requires front { look.now.front ≡ Front.Usage len }
+        ensures fault { IfErr result (λ kind. is_text_fault kind ≡ true) }
+        ensures used { MatchResult result (λ id. IsUsed (texts_of table.now.macros arguments.now) self.now.opens (front_name (texts_of table.now.macros arguments.now) self.now.opens len) id) (λ kind. IsRefused (texts_of table.now.macros arguments.now) self.now.opens (front_name (texts_of table.now.macros arguments.now) self.now.opens len) kind) }
+    {
+        let word = word_of(look, len);
+        let name = text_at(table, arguments, word);
+        let Some(id) = table.find(name) else {
+            return Err(unknown_kind(name));
+        };
+        if self.is_inside(id) {
+            return Err(FaultKind::RecursiveMacro);
+        }
+        Ok(id)
+    }
+
+    // Whether the innermost text is in the text of a macro.
+    fn is_inside(&self, id: MacroId) -> bool
+        requires some { 0 < length self.now.opens }
+        requires homed { AreFurtherOut self.now.opens }
+        ensures { result ≡ list_any (λ own. id == own) (writer_ids self.now.opens (front_scope self.now.opens)) }
+    {
+        let scope = self.scope();
+        let slots = self.slots.as_slice();
+        is_written_in(&slots[self.first..], scope, id)
+    }
+
+    // Opens the body of a macro without a list in front of the innermost text, which goes on at a place.
+    fn enter(&mut self, table: &Table, id: MacroId, at: usize)
+        requires some { 0 < length self.old.opens }
+        requires room { length self.old.opens < self.old.depth }
+        requires id { id < length table.now.macros }
+        ensures { self.new ≡ record self.old { opens = open_body (texts_of table.now.macros []) id [] (front_scope self.old.opens) ∷ moved_to at self.old.opens } }
+    {
+        let home = self.scope();
+        self.move_to(at);
+        self.push_body(id, table.body(id).len(), home);
+    }
+
+    // The scope of the innermost text.
+    pub(super) fn scope(&self) -> usize
+        requires { 0 < length self.now.opens }
+        ensures { result ≡ front_scope self.now.opens }
+    {
+        let slots = self.slots.as_slice();
+        front_scope(&slots[self.first..])
+    }
+}
+
+// The fault of a usage whose name no macro has.
+fn unknown_kind(name: &[u8]) -> FaultKind
+    ensures { result ≡ unknown_kind (is_reserved name.now) }
+{
+    if reserved(name).is_some() {
+        FaultKind::DirectiveInText
+    } else {
+        FaultKind::UndefinedMacro
+    }
+}
+
+// Where the name of a usage stands: behind its backquote.
+pub(super) fn word_of(look: &Look, len: usize) -> TextPlace
+    requires short { look.now.from + len < 2 ^ 64 }
+    requires some { 0 < len }
+    ensures { result ≡ record { source = look.now.source; from = look.now.from + 1; end = look.now.from + len } }
+{
+    TextPlace {
+        source: look.source,
+        from: look.from + 1,
+        end: look.from + len,
     }
 }

@@ -8,7 +8,7 @@ returns c =
     let g = c.answer_of-answer.ensures in
     record {
       answer = c.answer_of-answer.result;
-      bytes = g.0;
+      bytes = g.bytes;
       comes = subst (λ l. ComesTo (record {
         limits = l;
         origins = c.args.origins;
@@ -16,7 +16,7 @@ returns c =
         folders = c.args.folders.now;
         definitions = c.args.definitions.now;
         path = c.args.path.now;
-      }) g.0 c.answer_of-answer.result) c.limits_of.ensures g.2;
+      }) g.bytes c.answer_of-answer.result) c.limits_of.ensures g.comes;
       numbers = c.outcome_of.ensures;
-      buffers = buffers_told c.answer_of-answer.result g.0 _ _ c.kept.result.now _ _ c.new-front.ensures g.1 c.kept.ensures c.tell_output.ensures c.tell_fault.ensures.name c.tell_fault.ensures.word;
+      buffers = buffers_told c.answer_of-answer.result g.bytes _ _ g.front c.tell_fault.ensures.name c.tell_fault.ensures.word;
     }

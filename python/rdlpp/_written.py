@@ -1,0 +1,43 @@
+"""Bytes that the library for C writes where they stand, so that no output is copied.
+
+An extension module makes such an object by `PyBytes_FromStringAndSize` without a text, fills it while nobody
+else has it, and cuts it to what was filled by `_PyBytes_Resize`; so it is here, by ctypes.
+"""
+
+import ctypes
+
+_new = ctypes.pythonapi.PyBytes_FromStringAndSize
+_new.restype = ctypes.c_void_p
+_new.argtypes = [ctypes.c_void_p, ctypes.c_ssize_t]
+_place_of = ctypes.pythonapi.PyBytes_AsString
+_place_of.restype = ctypes.c_void_p
+_place_of.argtypes = [ctypes.c_void_p]
+_cut = ctypes.pythonapi._PyBytes_Resize
+_cut.restype = ctypes.c_int
+_cut.argtypes = [ctypes.POINTER(ctypes.c_void_p), ctypes.c_ssize_t]
+_forget = ctypes.pythonapi.Py_DecRef
+_forget.restype = None
+_forget.argtypes = [ctypes.c_void_p]
+
+
+class Written:
+    """Room for some bytes, which are written at its place and then taken as a bytes object, once."""
+
+    _held = ctypes.c_void_p()
+
+    def __init__(self, room: int):
+        # The one object without bytes is everybody's, so there is room for one byte more.
+        self._held = ctypes.c_void_p(_new(None, room + 1))
+
+    @property
+    def place(self) -> int:
+        """The address of the first byte."""
+        return _place_of(self._held)
+
+    def take(self, length: int) -> bytes:
+        """The first bytes, which are at most as many as there is room for."""
+        _cut(ctypes.byref(self._held), length)
+        return ctypes.cast(self._held, ctypes.py_object).value
+
+    def __del__(self) -> None:
+        _forget(self._held)
