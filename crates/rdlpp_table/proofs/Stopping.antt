@@ -1,5 +1,5 @@
 -- The first stop of a text, token by token.
-use Rattle.std.proofs.Common.{◌≡◌, ℕ, suc, ◌+◌, ◌-◌, ◌<◌, ◌≤◌, Bool, true, false, not, cond, List, [], ◌∷◌, ⊎_elim, length, take, drop, Option, Some, None, is_some, refl, ap, sym, ◌∙◌, arith}
+use Rattle.std.proofs.Common.{◌≡◌, ℕ, suc, ◌+◌, ◌-◌, ◌<◌, ◌≤◌, Bool, true, false, cond, List, [], ◌∷◌, ⊎_elim, length, take, drop, Option, Some, None, refl, ap, sym, ◌∙◌, arith}
 use Rattle.std.specs.List.{prefix_len}
 use Rattle.std.proofs.lemmas.Bool.{cases_Bool, false≢true}
 use Rattle.std.proofs.lemmas.List.{length-drop, nil_from_length, take_all}
@@ -16,7 +16,7 @@ use Rattle.rdlpp_scan.proofs.TokenLists.{tokens_from-step}
 use Rattle.rdlpp_table.specs.declared.stop.Stop.{Stop}
 use Rattle.rdlpp_table.specs.declared.stop.Stop.TheVariants as stop
 use Rattle.rdlpp_table.specs.Table.{Formal}
-use Rattle.rdlpp_table.specs.Stops.{first_stop, is_none, or_stop, quiet_len, stop_at, stop_name, stop_of, stops}
+use Rattle.rdlpp_table.specs.Stops.{first_stop, is_none, or_stop, quiet_len, stop_at, stop_name, stop_of}
 use Rattle.rdlpp_table.specs.View.{formal_named}
 
 -- the first stop of a text is that of what is left of it
@@ -88,46 +88,23 @@ pub none_stop : (at len : ℕ) → stop_name at len None ≡ stop.None
 unfolding stop_name
 none_stop at len = refl
 
-named_stops : (at len : ℕ) (o : Option ℕ) → is_none (stop_name at len o) ≡ not (is_some o)
-unfolding stop_name is_none
-named_stops at len (Some place) = refl
-named_stops at len None = refl
-
-kind_stops : (formals : List Formal) (at len : ℕ) (k : Kind) (mode : Mode) (bytes : List ℕ) → is_none (stop_at formals at (record { kind = k; next_mode = mode; len = len }) bytes) ≡ not (stops formals k bytes)
-unfolding stop_at stops is_none
-kind_stops formals at len Name mode bytes = named_stops at len (formal_named formals bytes)
-kind_stops formals at len Word mode bytes = refl
-kind_stops formals at len Back mode bytes = refl
-kind_stops formals at len Blank mode bytes = refl
-kind_stops formals at len LineEnd mode bytes = refl
-kind_stops formals at len Str mode bytes = refl
-kind_stops formals at len LineComment mode bytes = refl
-kind_stops formals at len BlockComment mode bytes = refl
-kind_stops formals at len Opener mode bytes = refl
-kind_stops formals at len Closer mode bytes = refl
-kind_stops formals at len Comma mode bytes = refl
-kind_stops formals at len Other mode bytes = refl
-kind_stops formals at len Perl mode bytes = refl
-kind_stops formals at len BareBackquote mode bytes = refl
-
-token_stops : (formals : List Formal) (at : ℕ) (t : Token) (bytes : List ℕ) → is_none (stop_at formals at t bytes) ≡ not (stops formals t.kind bytes)
-token_stops formals at t bytes = kind_stops formals at t.len t.kind t.next_mode bytes
-
--- a token that is a stop, by its kind
-pub is_found : (formals : List Formal) (at : ℕ) (t : Token) (bytes : List ℕ) (s : Stop) (b : Bool) → s ≡ stop_at formals at t bytes → b ≡ stops formals t.kind bytes → b ≡ true → is_none s ≡ false
-is_found formals at t bytes s b e f h = ap is_none e ∙ (token_stops formals at t bytes ∙ ap not (sym f ∙ h))
-
--- a token that is none, by its kind
-pub is_passed : (formals : List Formal) (at : ℕ) (t : Token) (bytes : List ℕ) (b : Bool) → b ≡ stops formals t.kind bytes → b ≡ false → is_none (stop_at formals at t bytes) ≡ true
-is_passed formals at t bytes b f h = token_stops formals at t bytes ∙ ap not (sym f ∙ h)
-
 -- a kind that isn't a stop, whatever its bytes
-still_stops : (formals : List Formal) (k : Kind) (bytes : List ℕ) → is_still k ≡ true → stops formals k bytes ≡ false
-unfolding is_still stops
-still_stops formals Name bytes h = absurd (false≢true h)
-still_stops formals Back bytes h = absurd (false≢true h)
-still_stops formals BareBackquote bytes h = absurd (false≢true h)
-still_stops formals _ bytes h = refl
+still_passed : (formals : List Formal) (at len : ℕ) (k : Kind) (mode : Mode) (bytes : List ℕ) → is_still k ≡ true → is_none (stop_at formals at (record { kind = k; next_mode = mode; len = len }) bytes) ≡ true
+unfolding is_still stop_at is_none
+still_passed formals at len Name mode bytes h = absurd (false≢true h)
+still_passed formals at len Back mode bytes h = absurd (false≢true h)
+still_passed formals at len BareBackquote mode bytes h = absurd (false≢true h)
+still_passed formals at len Word mode bytes h = refl
+still_passed formals at len Blank mode bytes h = refl
+still_passed formals at len LineEnd mode bytes h = refl
+still_passed formals at len Str mode bytes h = refl
+still_passed formals at len LineComment mode bytes h = refl
+still_passed formals at len BlockComment mode bytes h = refl
+still_passed formals at len Opener mode bytes h = refl
+still_passed formals at len Closer mode bytes h = refl
+still_passed formals at len Comma mode bytes h = refl
+still_passed formals at len Other mode bytes h = refl
+still_passed formals at len Perl mode bytes h = refl
 
 prefix_more : (p : ℕ → Bool) (b : ℕ) (bs : List ℕ) → p b ≡ true → prefix_len p (b ∷ bs) ≡ suc (prefix_len p bs)
 prefix_more p b bs h = ap (λ (t : Bool). cond t (1 + prefix_len p bs) 0) h ∙ omega arith
@@ -148,7 +125,7 @@ unfolding is_still
 quiet_mark formals at b bs q =
     let t = token_of Plain (b ∷ bs) in
     let some : 0 < length (b ∷ bs) = omega arith in
-    let none : is_none (stop_at formals at t (take t.len (b ∷ bs))) ≡ true = is_passed formals at t (take t.len (b ∷ bs)) false (sym (still_stops formals t.kind (take t.len (b ∷ bs)) q.still)) refl in
+    let none : is_none (stop_at formals at t (take t.len (b ∷ bs))) ≡ true = still_passed formals at t.len t.kind t.next_mode (take t.len (b ∷ bs)) q.still in
     let rest : Token → Stop = λ u. first_stop formals (at + u.len) (tokens_from u.next_mode 0 (drop u.len (b ∷ bs))) (drop u.len (b ∷ bs)) in
     one_token formals at Plain (b ∷ bs) some (omega (arith, q.len))
     ∙ (or_none _ (rest t) none

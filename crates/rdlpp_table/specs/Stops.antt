@@ -1,6 +1,6 @@
 -- Where the body of a macro isn't copied as it stands.
 -- A definition that names no source is this project's own.
-use Rattle.std.specs.Prelude.{ℕ, ◌+◌, Bool, true, false, List, [], ◌∷◌, take, drop, slice_range, Option, Some, None, is_some}
+use Rattle.std.specs.Prelude.{ℕ, ◌+◌, Bool, true, false, List, [], ◌∷◌, take, drop, slice_range, Option, Some, None}
 use Rattle.std.specs.List.{prefix_len}
 use Rattle.rdlpp_scan.specs.Bytes.{is_quiet}
 use Rattle.rdlpp_scan.specs.declared.token.Kind.{Kind}
@@ -27,13 +27,6 @@ stop_at formals at t bytes = elim t.kind [
   | BareBackquote ↦ stop.Bare at
   | _ ↦ stop.None
 ]
-
--- whether a token of a kind isn't copied, whose bytes are given
-unfoldable pub stops : List Formal → Kind → List ℕ → Bool
-stops formals Name bytes = is_some (formal_named formals bytes)
-stops formals Back bytes = true
-stops formals BareBackquote bytes = true
-stops formals _ bytes = false
 
 -- a stop, or where there is none, another one
 unfoldable pub or_stop : Stop → Stop → Stop

@@ -1,6 +1,6 @@
 // Where the text of a body isn't copied as it stands.
 ghost use Rattle.std.specs.Prelude.{[], length, slice_index, ◌+◌, ◌<◌, ◌≡◌, ◌≤◌, ◌^◌};
-ghost use Rattle.rdlpp_table.specs.Stops.{is_none, quiet_len, stop_at, stop_of, stops};
+ghost use Rattle.rdlpp_table.specs.Stops.{is_none, quiet_len, stop_at, stop_of};
 ghost use Rattle.rdlpp_table.specs.Store.{formals_read};
 
 use crate::stored::place_in_list;
@@ -64,18 +64,6 @@ fn stop_at(list: &[u8], count: usize, at: usize, token: Token, text: &[u8]) -> S
     }
 }
 
-// Whether a token of a kind isn't copied, among so many formals as they lie in a table.
-#[tactic(auto, unfolding(crate::specs::Stops::stops))]
-fn is_stop(list: &[u8], count: usize, kind: Kind, text: &[u8]) -> bool
-    ensures { result ≡ stops (formals_read count list.now) kind text.now }
-{
-    match kind {
-        Kind::Back | Kind::BareBackquote => true,
-        Kind::Name => place_in_list(list, count, text).is_some(),
-        _ => false,
-    }
-}
-
 // How many bytes a text begins with that are passed one by one: none but in plain text.
 #[tactic(auto, unfolding(crate::specs::Stops::quiet_len))]
 fn quiet_len(mode: Mode, text: &[u8]) -> usize
@@ -105,8 +93,9 @@ pub(crate) fn first_stop(list: &[u8], count: usize, text: &[u8], from: usize) ->
         }
         let token = first_token(mode, rest);
         let (here, after) = rest.split_at(token.len);
-        if is_stop(list, count, token.kind, here) {
-            return stop_at(list, count, at, token, here);
+        let stop = stop_at(list, count, at, token, here);
+        if !is_none(stop) {
+            return stop;
         }
         mode = token.next_mode;
         at += token.len;

@@ -1,15 +1,15 @@
 use Rattle.std.proofs.Common.{◌∙◌, ◌<◌, length, arith, sym, refl}
 use Rattle.std.proofs.lemmas.Bool.{eqb-true}
-use Rattle.rdlpp_table.proofs.Stopping.{behind_place, is_found, is_passed, stopping_ended, stopping_found, stopping_more, stopping_quiet, stopping_start}
+use Rattle.rdlpp_table.proofs.Stopping.{behind_place, stopping_ended, stopping_found, stopping_more, stopping_quiet, stopping_start}
 use Rattle.rdlpp_table.proofs.stop.first_stop.Goals as goal
 
 pub loop-rest-init : goal.loop-rest-init
 loop-rest-init c = stopping_start _ _ _
 
-pub returns-then-is_stop : goal.returns-then-is_stop
-returns-then-is_stop c =
+pub returns-then-not-is_none : goal.returns-then-not-is_none
+returns-then-not-is_none c =
     let some : 0 < length c.loop-rest.rest.now = omega (arith, c.first_token-token.ensures.not_empty, c.first_token-token.ensures.inside) in
-    stopping_found _ _ _ _ _ _ c.first_token-token.result _ _ c.loop-rest.invariant some c.first_token-token.ensures.value c.first_token-token.ensures.not_empty c.split_at.ensures.front c.stop_at.ensures (is_found _ _ c.first_token-token.result _ _ _ c.stop_at.ensures c.is_stop.ensures c.if-is_stop.true)
+    stopping_found _ _ _ _ _ _ c.first_token-token.result _ _ c.loop-rest.invariant some c.first_token-token.ensures.value c.first_token-token.ensures.not_empty c.split_at.ensures.front c.stop_at-stop.ensures (sym c.is_none.ensures ∙ c.if-not-is_none.true)
 
 pub loop-rest-preserved-then-quiet-gt0 : goal.loop-rest-preserved-then-quiet-gt0
 loop-rest-preserved-then-quiet-gt0 c = stopping_quiet _ _ _ _ _ _ _ _ c.loop-rest.invariant c.quiet_len-quiet.ensures.value c.quiet_len-quiet.ensures.inside (behind_place c.quiet_len-quiet.result c.loop-rest.rest.now)
@@ -17,7 +17,7 @@ loop-rest-preserved-then-quiet-gt0 c = stopping_quiet _ _ _ _ _ _ _ _ c.loop-res
 pub loop-rest-preserved : goal.loop-rest-preserved
 loop-rest-preserved c =
     let some : 0 < length c.loop-rest.rest.now = omega (arith, c.first_token-token.ensures.not_empty, c.first_token-token.ensures.inside) in
-    stopping_more _ _ _ _ _ _ c.first_token-token.result _ _ _ c.loop-rest.invariant some c.first_token-token.ensures.value c.first_token-token.ensures.not_empty c.first_token-token.ensures.inside c.split_at.ensures.front c.split_at.ensures.back refl (is_passed _ _ c.first_token-token.result _ _ c.is_stop.ensures c.if-is_stop.false)
+    stopping_more _ _ _ _ _ _ c.first_token-token.result _ _ _ c.loop-rest.invariant some c.first_token-token.ensures.value c.first_token-token.ensures.not_empty c.first_token-token.ensures.inside c.split_at.ensures.front c.split_at.ensures.back c.stop_at-stop.ensures (sym c.is_none.ensures ∙ c.if-not-is_none.false)
 
 pub returns : goal.returns
 returns c = stopping_ended _ _ _ _ _ _ c.loop-rest.invariant (eqb-true _ _ (sym c.is_empty.ensures ∙ c.loop-rest-test.false))
