@@ -3,7 +3,7 @@ use Rattle.std.proofs.Common.{◌≡◌, ℕ, ◌+◌, ◌-◌, ◌<◌, ◌≤�
 use Rattle.std.proofs.lemmas.Bool.{cases_lt}
 use Rattle.std.proofs.lemmas.List.{get_or-append_right, get_or-drop, get_or-map, get_or-take, get_or_append_left, get_or_default, length-append, length-drop, length-map, length-take-le}
 use Rattle.std.proofs.lemmas.List.Edits.{length-insert, length-remove}
-use Rattle.rdlpp_table.specs.Index.{IsDivided, IsGap, IsIndex, closed, key_at, part_of}
+use Rattle.rdlpp_table.specs.Index.{IsDivided, IsGap, IsIndex, IsPlace, closed, key_at, part_of}
 use Rattle.rdlpp_table.proofs.Orders.{less_part, more_part}
 use Rattle.rdlpp_table.proofs.Indexed.{key_above, key_below, key_new, left_key}
 
@@ -57,6 +57,18 @@ later_is part starts new h e = record {
   before = moved_before (λ s. s + 1) part starts new h e;
   behind = moved_behind (λ s. s + 1) part starts new h e;
 }
+
+-- the parts behind that of a name in the index begin behind its place
+pub sooner_more : (names : List (List ℕ)) (order starts name : List ℕ) (at part : ℕ) → IsDivided names order starts → IsPlace names order name at → part ≡ part_of name → All (λ s. 0 < s) (drop (part + 1) starts)
+sooner_more names order starts name at part v p e k d h =
+    let far : part + 1 + k < length starts = omega (arith, length-drop (part + 1) starts) in
+    let here : get_or (drop (part + 1) starts) k d ≡ get_or starts (part + 1 + k) 0 = get_or-drop (part + 1) starts k d ∙ get_or_default starts (part + 1 + k) d 0 far in
+    elim (cases_lt 0 (get_or starts (part + 1 + k) 0)) [
+      | inl l ↦ omega arith
+      | inr l ↦
+          let above : part + 1 + k ≤ part_of (key_at names order at) = v.above (part + 1 + k) at (omega (arith, v.long)) (omega arith) p.inside in
+          absurd (omega (arith, ap part_of p.same))
+    ]
 
 pub sooner_is : (part : ℕ) (starts new : List ℕ) → part < length starts → new ≡ take (part + 1) starts ++ map (λ s. s - 1) (drop (part + 1) starts) → IsSooner part starts new
 sooner_is part starts new h e = record {

@@ -1,16 +1,19 @@
 -- The index of a table's entries: the names to which it leads, and the index of the lists that a change makes.
-use Rattle.std.proofs.Common.{◌≡◌, ℕ, zero, suc, ◌<◌, ◌≤◌, Bool, true, false, cond, not, List, [], ◌∷◌, ◌++◌, length, map, get_or, insert, remove, bytes_eq, refl, ap, sym, ◌∙◌, subst, arith, Option, Some, None}
+use Rattle.std.proofs.Common.{◌≡◌, ℕ, zero, suc, ◌<◌, ◌≤◌, Bool, true, false, cond, not, List, [], ◌∷◌, ◌++◌, length, map, get_or, insert, remove, bytes_eq, refl, ap, sym, ◌∙◌, subst, arith, Option, Some, None, Vec, Global, drop, take, vec_len}
 use Rattle.std.specs.List.{IsDistinct}
 use Rattle.std.specs.declared.cmp.Ordering.{Ordering}
-use Rattle.std.proofs.lemmas.List.{get_or-map, map-append}
+use Rattle.std.proofs.Math.Nat.{min-le_left, min-le_right}
+use Rattle.std.proofs.lemmas.List.{get_or-map, length-drop, length-take, map-append, nil_from_length}
 use Rattle.rdlpp_table.specs.declared.entry.Entry.{Entry}
 use Rattle.rdlpp_table.specs.Entries.{AreWithin}
+use Rattle.rdlpp_table.specs.Marks.{table_marks}
 use Rattle.rdlpp_table.specs.Table.{Macro, without}
 use Rattle.rdlpp_table.specs.View.{TableView, macro_at, no_macro, place_named}
 use Rattle.rdlpp_table.specs.Store.{IsStored, entry_end, macro_in, macros_in, name_of}
 use Rattle.rdlpp_table.specs.Layout.{IsHeld, view_of}
 use Rattle.rdlpp_table.specs.Index.{IsGap, IsIndex, IsIndexed, IsPlace, closed, key_at, name_order, names_of, part_of}
 use Rattle.rdlpp_table.proofs.Laid.{length_macros_in, macros_of_none}
+use Rattle.rdlpp_table.proofs.Sizes.{count_items}
 use Rattle.rdlpp_table.proofs.RoundTrip.{read_back}
 use Rattle.rdlpp_table.proofs.Put.{stored_count}
 use Rattle.rdlpp_table.proofs.Without.{without_at, without_length, without_nowhere}
@@ -87,6 +90,22 @@ left_without ms order starts name at taken part new begun d x p e f q b =
     let Q : List ℕ → Type 0 = λ o. IsIndexed (names_of (without name ms)) o begun in
     subst Q (sym f) (subst P names left)
 
+-- so many places of a list that has them
+pub length_front : (items : List ℕ) (n : ℕ) → length (take n items) ≤ n
+length_front items n = omega (arith, length-take n items, min-le_left n (length items))
+
+-- an index has as many places as there are entries, and so has the list that it begins
+pub index_front : (bytes : List ℕ) (entries : Vec Entry Global) (items : List ℕ) → IsIndex (names_of (macros_in bytes entries.items)) (take (vec_len entries) items) → vec_len entries ≤ length items
+index_front bytes entries items x =
+    omega (arith, index_length bytes entries.items (take (vec_len entries) items) x, count_items entries, length-take (vec_len entries) items, min-le_right (vec_len entries) (length items))
+
+-- the marks of the macros without the one of a name
+pub marks_without : (ms : List Macro) (name : List ℕ) (place : ℕ) → IsDistinct bytes_eq (map (λ m. m.name) ms) → place_named ms name ≡ Some place → table_marks (remove ms place) ≡ table_marks (without name ms)
+marks_without ms name place d e = ap table_marks (sym (without_at name ms place d e))
+
+pub marks_nowhere : (ms : List Macro) (name : List ℕ) → place_named ms name ≡ None → table_marks ms ≡ table_marks (without name ms)
+marks_nowhere ms name e = ap table_marks (sym (without_nowhere name ms e))
+
 pub left_nowhere : (ms : List Macro) (order starts name : List ℕ) → place_named ms name ≡ None → IsIndexed (names_of ms) order starts → IsIndexed (names_of (without name ms)) order starts
 left_nowhere ms order starts name at x =
     let P : List Macro → Type 0 = λ l. IsIndexed (names_of l) order starts in
@@ -116,6 +135,19 @@ index_of_nothing bytes entries order starts e f l z =
     let P : List ℕ → Type 0 = λ o. IsIndexed (names_of []) o starts in
     let Q : List Macro → Type 0 = λ l. IsIndexed (names_of l) order starts in
     subst Q (sym (macros_of_none bytes entries e)) (subst P (sym f) none)
+
+-- a list without anything has nothing behind it, and no marks
+pub nothing_front : (order : List ℕ) (n : ℕ) → order ≡ [] → take n order ≡ []
+nothing_front order n e = nil_from_length (take n order) (omega (arith, length-take n order, min-le_right n (length order), ap (length {A = ℕ}) e))
+
+pub nothing_marked : (bytes : List ℕ) (entries : List Entry) (order : List ℕ) (n : ℕ) → entries ≡ [] → order ≡ [] → drop n order ≡ table_marks (macros_in bytes entries)
+unfolding table_marks
+nothing_marked bytes entries order n e f =
+    nil_from_length (drop n order) (omega (arith, length-drop n order, ap (length {A = ℕ}) f)) ∙ sym (ap table_marks (macros_of_none bytes entries e))
+
+-- the marks of macros, as they are read back
+pub marked_after : (bytes : List ℕ) (entries : List Entry) (marks : List ℕ) (ms : List Macro) → IsStored bytes entries ms → marks ≡ table_marks ms → marks ≡ table_marks (macros_in bytes entries)
+marked_after bytes entries marks ms s e = e ∙ ap table_marks (sym (read_back bytes entries ms s))
 
 -- the place of a name among the macros of a table
 pub viewed_place : (bs : List ℕ) (es : List Entry) (bytes : List ℕ) (entries : List Entry) (a b : ℕ) (view : TableView) (name : List ℕ) (r : Option ℕ) → bs ≡ bytes → es ≡ entries → view_of bytes entries a b ≡ view → r ≡ place_named (macros_in bs es) name → r ≡ place_named view.macros name

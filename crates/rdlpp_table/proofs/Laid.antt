@@ -65,14 +65,14 @@ pub arity_at : (bytes : List ℕ) (entries : List Entry) (a b : ℕ) (view : Tab
 unfolding entry_of
 arity_at bytes entries a b view i j entry e held s h q =
     let at : i < length (macros_in bytes entries) = omega (arith, length_macros_in bytes entries) in
-    ap (λ (x : Entry). x.arity) (q ∙ (ap (λ (es : List Entry). get_or es i entry) held.stored.entries_are ∙ entry_of_macro 0 (macros_in bytes entries) i entry at))
+    ap (λ (x : Entry). x.arity) (q ∙ (ap (λ (es : List Entry). get_or es i entry) held.stored.entries_are ∙ entry_of_macro 0 0 (macros_in bytes entries) i entry at))
     ∙ (ap (λ (v : TableView). option_map length (macro_at v.macros i).formals) e ∙ ap (λ (k : ℕ). option_map length (macro_at view.macros k).formals) s)
 
 pub copied_at : (bytes : List ℕ) (entries : List Entry) (a b : ℕ) (view : TableView) (i j : ℕ) (entry : Entry) → view_of bytes entries a b ≡ view → IsHeld bytes entries a b → i ≡ j → i < length entries → entry ≡ get_or entries i entry → entry.is_copied ≡ is_copied (macro_at view.macros j)
 unfolding entry_of
 copied_at bytes entries a b view i j entry e held s h q =
     let at : i < length (macros_in bytes entries) = omega (arith, length_macros_in bytes entries) in
-    ap (λ (x : Entry). x.is_copied) (q ∙ (ap (λ (es : List Entry). get_or es i entry) held.stored.entries_are ∙ entry_of_macro 0 (macros_in bytes entries) i entry at))
+    ap (λ (x : Entry). x.is_copied) (q ∙ (ap (λ (es : List Entry). get_or es i entry) held.stored.entries_are ∙ entry_of_macro 0 0 (macros_in bytes entries) i entry at))
     ∙ (ap (λ (v : TableView). is_copied (macro_at v.macros i)) e ∙ ap (λ (k : ℕ). is_copied (macro_at view.macros k)) s)
 
 pub stored_slices_within : (bs : List ℕ) (es : List Entry) (bytes : List ℕ) (entries : List Entry) (ms : List Macro) → bs ≡ bytes → es ≡ entries → IsStored bytes entries ms → AreWithin (length bs) es

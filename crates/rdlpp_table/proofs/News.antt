@@ -1,5 +1,5 @@
 -- A macro that is to be stored, in the lists of a table.
-use Rattle.std.proofs.Common.{◌≡◌, ℕ, ◌+◌, ◌<◌, Bool, true, false, List, [], ◌++◌, length, get_or, drop, eqb, slice_range, Option, Some, None, is_some, option_map, unwrap_or, sum_by, refl, ap, sym, ◌∙◌, arith, append_assoc, append-nil, length-append, inl, inr}
+use Rattle.std.proofs.Common.{◌≡◌, ℕ, ◌+◌, ◌-◌, ◌*◌, ◌<◌, ◌≤◌, take, Bool, true, false, List, [], ◌++◌, length, get_or, drop, eqb, slice_range, Option, Some, None, is_some, option_map, unwrap_or, sum_by, refl, ap, sym, ◌∙◌, arith, append_assoc, append-nil, length-append, inl, inr}
 use Rattle.std.specs.List.{flat_map}
 use Rattle.std.proofs.lemmas.Bool.{cases_Bool, cond-true, cond-false}
 use Rattle.std.proofs.lemmas.List.{drop_at, nil_from_length}
@@ -13,7 +13,10 @@ use Rattle.rdlpp_lines.specs.Continuations.{joined}
 use Rattle.rdlpp_lines.specs.Texts.{trimmed_left, trims, start_level, cleared}
 use Rattle.std.specs.List.{list_all}
 use Rattle.rdlpp_table.specs.Formals.{IsRead, listed}
-use Rattle.rdlpp_table.specs.Store.{entry_of, formals_read, is_plain_formal, is_plain_macro, list_size}
+use Rattle.rdlpp_table.specs.Marks.{macro_marks, marks_of}
+use Rattle.rdlpp_table.specs.Store.{entry_of, formals_read, is_plain_formal, is_plain_macro, list_size, IsListed}
+use Rattle.rdlpp_table.proofs.Sizes.{few_marks_of, length_list_bytes}
+use Rattle.rdlpp_table.proofs.Stopping.{behind_place}
 use Rattle.rdlpp_table.specs.New.{list_formals, new_macro, IsList, IsNew}
 
 -- what is left of a body's text
@@ -45,6 +48,59 @@ same_formals arity list size l =
     ap (λ (n : ℕ). formals_read n (flat_map formal_bytes (unwrap_or (list_formals arity list) []))) (count_of (list_formals arity list) arity l.arity_is)
     ∙ read_list (unwrap_or (list_formals arity list) []) l.plain
 
+-- bytes that are those of the formals of a macro that is to be stored
+pub record IsAppended (arity : Option ℕ) (list : List ℕ) (size count : ℕ) (slice : List ℕ) : Type 0 where
+  pub read : formals_read count slice ≡ unwrap_or (list_formals arity list) []
+  pub whole : flat_map formal_bytes (formals_read count slice) ≡ slice
+  pub plain : list_all is_plain_formal (formals_read count slice) ≡ true
+  pub long : length slice ≡ size
+
+appended : (arity : Option ℕ) (list : List ℕ) (size count : ℕ) (slice : List ℕ) → IsList arity list size → count ≡ unwrap_or arity 0 → slice ≡ flat_map formal_bytes (unwrap_or (list_formals arity list) []) → IsAppended arity list size count slice
+appended arity list size count slice l n e =
+    let read : formals_read count slice ≡ unwrap_or (list_formals arity list) [] = ap (formals_read count) e ∙ (ap (λ (k : ℕ). formals_read k (flat_map formal_bytes (unwrap_or (list_formals arity list) []))) n ∙ same_formals arity list size l) in
+    record {
+      read = read;
+      whole = ap (flat_map formal_bytes) read ∙ sym e;
+      plain = ap (list_all is_plain_formal) read ∙ l.plain;
+      long = ap length e ∙ (length_list_bytes (unwrap_or (list_formals arity list) []) ∙ l.size_is);
+    }
+
+-- the last bytes, once the formals were appended
+pub appended_last : (named listed here : List ℕ) (arity : Option ℕ) (list : List ℕ) (size count from : ℕ) → IsList arity list size → listed ≡ named ++ flat_map formal_bytes (unwrap_or (list_formals arity list) []) → from ≡ length named → count ≡ unwrap_or arity 0 → here ≡ listed → IsAppended arity list size count (take (length here - from) (drop from here))
+appended_last named listed here arity list size count from l e i n h =
+    appended arity list size count (take (length here - from) (drop from here)) l n
+    (behind_place from here ∙ (ap (drop from) (h ∙ e) ∙ drop_at named (flat_map formal_bytes (unwrap_or (list_formals arity list) [])) from (sym i)))
+
+-- the bytes between two places, once the body was appended too
+pub appended_between : (named listed all here : List ℕ) (arity : Option ℕ) (list : List ℕ) (size count from to : ℕ) (body : List ℕ) → IsList arity list size → listed ≡ named ++ flat_map formal_bytes (unwrap_or (list_formals arity list) []) → all ≡ listed ++ body → from ≡ length named → to ≡ length listed → count ≡ unwrap_or arity 0 → here ≡ all → IsAppended arity list size count (slice_range here from to)
+appended_between named listed all here arity list size count from to body l e f i j n h =
+    let formals : List ℕ = flat_map formal_bytes (unwrap_or (list_formals arity list) []) in
+    let whole : here ≡ named ++ (formals ++ body) = h ∙ (f ∙ (ap (λ (x : List ℕ). x ++ body) e ∙ append_assoc named formals body)) in
+    appended arity list size count (slice_range here from to) l n
+    (ap (λ (x : List ℕ). slice_range x from to) whole ∙ between_parts named formals body from to (sym i) (omega (arith, i, j, ap (length {A = ℕ}) e, length-append named formals)))
+
+-- the marks that were kept behind a list are those of its formals
+pub appended_listed : (arity : Option ℕ) (list : List ℕ) (size count : ℕ) (last between order here : List ℕ) (from : ℕ) → IsAppended arity list size count last → IsAppended arity list size count between → here ≡ order ++ marks_of (formals_read count last) → from ≡ length order → IsListed count between (take (length here - from) (drop from here))
+appended_listed arity list size count last between order here from a b e i = record {
+  whole = b.whole;
+  plain = b.plain;
+  marked =
+      behind_place from here
+      ∙ (ap (drop from) e
+      ∙ (drop_at order (marks_of (formals_read count last)) from (sym i)
+      ∙ ap marks_of (a.read ∙ sym b.read)));
+}
+
+-- as are those of the macro
+pub appended_marks : (name : List ℕ) (arity : Option ℕ) (list : List ℕ) (size : ℕ) (is_logical : Bool) (text : List ℕ) (count : ℕ) (last : List ℕ) → IsAppended arity list size count last → marks_of (formals_read count last) ≡ macro_marks (new_macro name arity list is_logical text)
+unfolding macro_marks
+appended_marks name arity list size is_logical text count last a = ap marks_of a.read
+
+-- they are few
+pub appended_few : (arity : Option ℕ) (list : List ℕ) (size count : ℕ) (last : List ℕ) → IsList arity list size → IsAppended arity list size count last → 8 * length (marks_of (formals_read count last)) ≤ size
+appended_few arity list size count last l a =
+    omega (arith, ap (λ (fs : List Formal). length (marks_of fs)) a.read, few_marks_of (unwrap_or (list_formals arity list) []), l.size_is)
+
 -- whether its body is copied is told by its formals and its body
 pub new_copied : (name : List ℕ) (arity : Option ℕ) (list : List ℕ) (size : ℕ) (is_logical : Bool) (text named listed all : List ℕ) (from to count : ℕ) (copied : Bool) → IsList arity list size → listed ≡ named ++ flat_map formal_bytes (unwrap_or (list_formals arity list) []) → all ≡ listed ++ body_of_text is_logical text → from ≡ length named → to ≡ length listed → count ≡ unwrap_or arity 0 → copied ≡ is_none (stop_of (formals_read count (slice_range all from to)) 0 (drop to all)) → copied ≡ is_copied (new_macro name arity list is_logical text)
 unfolding is_copied
@@ -61,15 +117,15 @@ new_copied name arity list size is_logical text named listed all from to count c
     ∙ (ap (λ (k : ℕ). is_none (stop_of (formals_read k (flat_map formal_bytes formals)) 0 body)) n
     ∙ ap (λ (fs : List Formal). is_none (stop_of fs 0 body)) (same_formals arity list size l))))
 
-pub new_entry : (start : ℕ) (name : List ℕ) (arity : Option ℕ) (list : List ℕ) (size : ℕ) (is_logical : Bool) (text : List ℕ) (len : ℕ) (copied : Bool) → IsNew name arity list size is_logical text len → copied ≡ is_copied (new_macro name arity list is_logical text) → (let e : Entry = record { start = start; name_len = length name; list_len = size; body_len = len; arity = arity; is_copied = copied } in e) ≡ entry_of start (new_macro name arity list is_logical text)
+pub new_entry : (start marks : ℕ) (name : List ℕ) (arity : Option ℕ) (list : List ℕ) (size : ℕ) (is_logical : Bool) (text : List ℕ) (len : ℕ) (copied : Bool) → IsNew name arity list size is_logical text len → copied ≡ is_copied (new_macro name arity list is_logical text) → (let e : Entry = record { start = start; name_len = length name; list_len = size; body_len = len; arity = arity; marks = marks; is_copied = copied } in e) ≡ entry_of start marks (new_macro name arity list is_logical text)
 unfolding entry_of list_size
-new_entry start name arity list size is_logical text len copied n h =
+new_entry start marks name arity list size is_logical text len copied n h =
     let body : ℕ = length (body_of_text is_logical text) in
     let sum : ℕ = sum_by formal_size (unwrap_or (list_formals arity list) []) in
-    ap (λ (k : ℕ). let e : Entry = record { start = start; name_len = length name; list_len = k; body_len = len; arity = arity; is_copied = copied } in e) (sym n.listed.size_is)
-    ∙ (ap (λ (k : ℕ). let e : Entry = record { start = start; name_len = length name; list_len = sum; body_len = k; arity = arity; is_copied = copied } in e) (sym (left_len (trims false) (cleared None (joined is_logical text)) len n.body_is))
-    ∙ (ap (λ (a : Option ℕ). let e : Entry = record { start = start; name_len = length name; list_len = sum; body_len = body; arity = a; is_copied = copied } in e) (sym n.listed.arity_is)
-    ∙ ap (λ (b : Bool). let e : Entry = record { start = start; name_len = length name; list_len = sum; body_len = body; arity = option_map length (list_formals arity list); is_copied = b } in e) h))
+    ap (λ (k : ℕ). let e : Entry = record { start = start; name_len = length name; list_len = k; body_len = len; arity = arity; marks = marks; is_copied = copied } in e) (sym n.listed.size_is)
+    ∙ (ap (λ (k : ℕ). let e : Entry = record { start = start; name_len = length name; list_len = sum; body_len = k; arity = arity; marks = marks; is_copied = copied } in e) (sym (left_len (trims false) (cleared None (joined is_logical text)) len n.body_is))
+    ∙ (ap (λ (a : Option ℕ). let e : Entry = record { start = start; name_len = length name; list_len = sum; body_len = body; arity = a; marks = marks; is_copied = copied } in e) (sym n.listed.arity_is)
+    ∙ ap (λ (b : Bool). let e : Entry = record { start = start; name_len = length name; list_len = sum; body_len = body; arity = option_map length (list_formals arity list); marks = marks; is_copied = b } in e) h))
 
 pub new_plain : (name : List ℕ) (arity : Option ℕ) (list : List ℕ) (size : ℕ) (is_logical : Bool) (text : List ℕ) → IsList arity list size → is_plain_macro (new_macro name arity list is_logical text) ≡ true
 unfolding is_plain_macro

@@ -7,6 +7,7 @@ use Rattle.rdlpp_table.specs.declared.entry.Entry.{Entry}
 use Rattle.rdlpp_table.specs.Table.{Formal, Macro, default_bytes, formal_bytes, formal_size, macro_bytes, macro_size, table_bytes}
 use Rattle.rdlpp_table.specs.Store.{entry_of, entries_of, entry_end, body_start, list_start, list_size, name_of, list_of, body_of, macro_in, macros_in, StoredFormal, behind_stored, formal_behind, formal_read, formals_read, is_name_byte, is_default, is_plain_formal, is_plain_macro, IsStored}
 use Rattle.rdlpp_lines.specs.Texts.{text_behind}
+use Rattle.rdlpp_table.specs.Marks.{macro_marks}
 use Rattle.rdlpp_table.proofs.Filled.{default_read_back}
 use Rattle.rdlpp_table.proofs.Sizes.{length_list_bytes, length_macro_bytes}
 use Rattle.rdlpp_table.proofs.Taken.{table_bytes-cons}
@@ -50,7 +51,7 @@ unfolding default_bytes is_name_byte formal_behind
 by_default name [] rest h = (refl, refl)
 by_default name (b ∷ bs) rest h = (refl, default_read name (b ∷ bs) rest h)
 
-read_formal : (f : Formal) (rest : List ℕ) → is_plain_formal f ≡ true → formal_read (formal_bytes f ++ rest) ≡ record { formal = f; behind = rest }
+pub read_formal : (f : Formal) (rest : List ℕ) → is_plain_formal f ≡ true → formal_read (formal_bytes f ++ rest) ≡ record { formal = f; behind = rest }
 unfolding formal_bytes is_plain_formal
 read_formal f rest h =
     let p = and_parts (list_all is_name_byte f.name) (is_default f.text) h in
@@ -80,9 +81,20 @@ same_macro m name list body n l b h =
     ∙ ap (λ (x : List ℕ). let y : Macro = record { name = m.name; formals = m.formals; body = x } in y) b)
 
 -- the parts of a macro in bytes in which it lies behind others
-read_parts : (before after : List ℕ) (m : Macro) → is_plain_macro m ≡ true → macro_in (before ++ (macro_bytes m ++ after)) (entry_of (length before) m) ≡ m
+-- the bytes of a macro's formals between others
+pub list_back : (before after : List ℕ) (k : ℕ) (m : Macro) → list_of (before ++ (macro_bytes m ++ after)) (entry_of (length before) k m) ≡ flat_map formal_bytes (unwrap_or m.formals [])
+unfolding list_of entry_of body_start list_start list_size macro_bytes
+list_back before after k m =
+    let formals : List Formal = unwrap_or m.formals [] in
+    let list : List ℕ = flat_map formal_bytes formals in
+    let n : ℕ = length before + length m.name in
+    let regroup : before ++ ((m.name ++ (list ++ m.body)) ++ after) ≡ (before ++ m.name) ++ (list ++ (m.body ++ after)) =
+    ap (λ (l : List ℕ). before ++ l) (append_assoc m.name (list ++ m.body) after ∙ ap (λ (l : List ℕ). m.name ++ l) (append_assoc list m.body after)) ∙ sym (append_assoc before m.name _) in
+    ap (λ (l : List ℕ). slice_range l n (n + sum_by formal_size formals)) regroup ∙ between_parts (before ++ m.name) list _ _ _ (length-append before m.name) (omega (arith, length_list_bytes formals))
+
+read_parts : (before after : List ℕ) (k : ℕ) (m : Macro) → is_plain_macro m ≡ true → macro_in (before ++ (macro_bytes m ++ after)) (entry_of (length before) k m) ≡ m
 unfolding macro_in name_of list_of body_of entry_of entry_end body_start list_start list_size macro_bytes is_plain_macro
-read_parts before after m h =
+read_parts before after k m h =
     let formals : List Formal = unwrap_or m.formals [] in
     let list : List ℕ = flat_map formal_bytes formals in
     let n : ℕ = length before + length m.name in
@@ -90,27 +102,28 @@ read_parts before after m h =
     let regroup : all ≡ before ++ (m.name ++ (list ++ (m.body ++ after))) = ap (λ (l : List ℕ). before ++ l) (append_assoc m.name (list ++ m.body) after ∙ ap (λ (l : List ℕ). m.name ++ l) (append_assoc list m.body after)) in
     let name : slice_range all (length before) n ≡ m.name = ap (λ (l : List ℕ). slice_range l (length before) n) regroup ∙ between_parts before m.name _ _ n refl refl in
     let as_list : all ≡ (before ++ m.name) ++ (list ++ (m.body ++ after)) = regroup ∙ sym (append_assoc before m.name _) in
-    let listed : slice_range all n (n + sum_by formal_size formals) ≡ list = ap (λ (l : List ℕ). slice_range l n (n + sum_by formal_size formals)) as_list ∙ between_parts (before ++ m.name) list _ _ _ (length-append before m.name) (omega (arith, length_list_bytes formals)) in
+    let listed : slice_range all n (n + sum_by formal_size formals) ≡ list = list_back before after k m in
     let as_body : all ≡ ((before ++ m.name) ++ list) ++ (m.body ++ after) = as_list ∙ sym (append_assoc (before ++ m.name) list _) in
     let body : slice_range all (n + sum_by formal_size formals) (n + sum_by formal_size formals + length m.body) ≡ m.body =
     ap (λ (l : List ℕ). slice_range l (n + sum_by formal_size formals) (n + sum_by formal_size formals + length m.body)) as_body
     ∙ between_parts ((before ++ m.name) ++ list) m.body after _ _ (omega (arith, length-append (before ++ m.name) list, length-append before m.name, length_list_bytes formals)) refl in
     same_macro m _ _ _ name listed body h
 
-read_macros : (before : List ℕ) (ms : List Macro) → list_all is_plain_macro ms ≡ true → macros_in (before ++ table_bytes ms) (entries_of (length before) ms) ≡ ms
+read_macros : (before : List ℕ) (k : ℕ) (ms : List Macro) → list_all is_plain_macro ms ≡ true → macros_in (before ++ table_bytes ms) (entries_of (length before) k ms) ≡ ms
 unfolding macros_in entries_of
-read_macros before [] h = refl
-read_macros before (m ∷ ms) h =
+read_macros before k [] h = refl
+read_macros before k (m ∷ ms) h =
     let parts = and_parts (is_plain_macro m) (list_all is_plain_macro ms) h in
+    let j : ℕ = k + length (macro_marks m) in
     let whole : before ++ table_bytes (m ∷ ms) ≡ before ++ (macro_bytes m ++ table_bytes ms) = ap (λ (l : List ℕ). before ++ l) (table_bytes-cons m ms) in
     let moved : before ++ (macro_bytes m ++ table_bytes ms) ≡ (before ++ macro_bytes m) ++ table_bytes ms = sym (append_assoc before (macro_bytes m) (table_bytes ms)) in
     let n : length before + macro_size m ≡ length (before ++ macro_bytes m) = omega (arith, length-append before (macro_bytes m), length_macro_bytes m) in
-    ap (λ (l : List ℕ). macro_in l (entry_of (length before) m) ∷ map (macro_in l) (entries_of (length before + macro_size m) ms)) whole
-    ∙ (ap (λ (x : Macro). x ∷ map (macro_in (before ++ (macro_bytes m ++ table_bytes ms))) (entries_of (length before + macro_size m) ms)) (read_parts before (table_bytes ms) m parts.0)
+    ap (λ (l : List ℕ). macro_in l (entry_of (length before) k m) ∷ map (macro_in l) (entries_of (length before + macro_size m) j ms)) whole
+    ∙ (ap (λ (x : Macro). x ∷ map (macro_in (before ++ (macro_bytes m ++ table_bytes ms))) (entries_of (length before + macro_size m) j ms)) (read_parts before (table_bytes ms) k m parts.0)
     ∙ ap (λ (l : List Macro). m ∷ l)
-    (ap (λ (l : List ℕ). map (macro_in l) (entries_of (length before + macro_size m) ms)) moved
-    ∙ (ap (λ (k : ℕ). map (macro_in ((before ++ macro_bytes m) ++ table_bytes ms)) (entries_of k ms)) n
-    ∙ read_macros (before ++ macro_bytes m) ms parts.1)))
+    (ap (λ (l : List ℕ). map (macro_in l) (entries_of (length before + macro_size m) j ms)) moved
+    ∙ (ap (λ (i : ℕ). map (macro_in ((before ++ macro_bytes m) ++ table_bytes ms)) (entries_of i j ms)) n
+    ∙ read_macros (before ++ macro_bytes m) j ms parts.1)))
 
 pub read_back : (bytes : List ℕ) (entries : List Entry) (ms : List Macro) → IsStored bytes entries ms → macros_in bytes entries ≡ ms
-read_back bytes entries ms s = ap (λ (l : List ℕ). macros_in l entries) s.bytes_are ∙ (ap (macros_in (table_bytes ms)) s.entries_are ∙ read_macros [] ms s.plain)
+read_back bytes entries ms s = ap (λ (l : List ℕ). macros_in l entries) s.bytes_are ∙ (ap (macros_in (table_bytes ms)) s.entries_are ∙ read_macros [] 0 ms s.plain)

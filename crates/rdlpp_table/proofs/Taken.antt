@@ -1,7 +1,7 @@
 -- A macro taken out of the lists in which a table lies.
-use Rattle.std.proofs.Common.{◌≡◌, ℕ, suc, ◌+◌, ◌<◌, ◌≤◌, List, [], ◌∷◌, ◌++◌, length, take, drop, map, get_or, refl, ap, sym, ◌∙◌, subst, arith, length-append, append_assoc, add-zero, add-one, remove, zero-add, ◌^◌, Vec, Global, vec_capacity}
+use Rattle.std.proofs.Common.{◌≡◌, ℕ, suc, ◌+◌, ◌-◌, ◌<◌, ◌≤◌, List, [], ◌∷◌, ◌++◌, length, take, drop, map, get_or, refl, ap, sym, ◌∙◌, subst, arith, length-append, append_assoc, add-zero, add-one, remove, zero-add, ◌^◌, Vec, Global, vec_capacity, vec_len}
 use Rattle.std.specs.List.{All, list_all, remove_range}
-use Rattle.std.proofs.lemmas.List.{take_at, drop_at, take-append-drop, drop_more, length-take-le}
+use Rattle.std.proofs.lemmas.List.{length-drop, length-map, take_at, drop_at, take-append-drop, drop_more, length-take-le}
 use Rattle.std.proofs.lemmas.Grind.{flat_map-append}
 use Rattle.std.proofs.lemmas.List.Folds.{list_all-append}
 use Rattle.std.proofs.lemmas.List.Elements.{All-cons, All-nil}
@@ -10,21 +10,33 @@ use Rattle.rdlpp_table.specs.declared.entry.Entry.{Entry}
 use Rattle.rdlpp_table.specs.Table.{Macro, macro_size, macro_bytes, table_size, table_bytes}
 use Rattle.rdlpp_table.specs.View.{macro_at, no_macro}
 use Rattle.rdlpp_table.specs.Store.{entry_of, entries_of, entry_end, body_start, list_start, list_size, is_plain_macro, IsStored}
-use Rattle.rdlpp_table.specs.Entries.{moved_down, AreBehind}
-use Rattle.rdlpp_table.proofs.Sizes.{stored_within, length_macro_bytes, length_table_bytes, table_size-cons, entry_of_macro}
+use Rattle.rdlpp_table.specs.Marks.{macro_marks, table_marks}
+use Rattle.rdlpp_table.specs.Entries.{marks_len, moved_down, AreBehind}
+use Rattle.rdlpp_table.proofs.Sizes.{count_items, stored_within, length_macro_bytes, length_table_bytes, length_marks-cons, marks_len_of, no_marks, table_size-cons, entry_of_macro}
 
-pub length_entries_of : (start : ℕ) (ms : List Macro) → length (entries_of start ms) ≡ length ms
+pub length_entries_of : (start marks : ℕ) (ms : List Macro) → length (entries_of start marks ms) ≡ length ms
 unfolding entries_of
-length_entries_of start [] = refl
-length_entries_of start (m ∷ ms) = ap suc (length_entries_of (start + macro_size m) ms)
+length_entries_of start marks [] = refl
+length_entries_of start marks (m ∷ ms) = ap suc (length_entries_of (start + macro_size m) (marks + length (macro_marks m)) ms)
 
-pub entries_of-append : (start : ℕ) (xs ys : List Macro) → entries_of start (xs ++ ys) ≡ entries_of start xs ++ entries_of (start + table_size xs) ys
+pub entries_of-append : (start marks : ℕ) (xs ys : List Macro) → entries_of start marks (xs ++ ys) ≡ entries_of start marks xs ++ entries_of (start + table_size xs) (marks + length (table_marks xs)) ys
 unfolding entries_of table_size
-entries_of-append start [] ys = ap (λ (n : ℕ). entries_of n ys) (sym (add-zero start))
-entries_of-append start (x ∷ xs) ys =
-    ap (λ (es : List Entry). entry_of start x ∷ es)
-    (entries_of-append (start + macro_size x) xs ys
-    ∙ ap (λ (n : ℕ). entries_of (start + macro_size x) xs ++ entries_of n ys) (omega (arith, table_size-cons x xs)))
+entries_of-append start marks [] ys =
+    ap (λ (n : ℕ). entries_of n marks ys) (sym (add-zero start)) ∙ ap (λ (n : ℕ). entries_of (start + 0) n ys) (let e : marks ≡ marks + length (table_marks []) = omega (arith, no_marks) in e)
+entries_of-append start marks (x ∷ xs) ys =
+    let k : ℕ = marks + length (macro_marks x) in
+    ap (λ (es : List Entry). entry_of start marks x ∷ es)
+    (entries_of-append (start + macro_size x) k xs ys
+    ∙ (ap (λ (n : ℕ). entries_of (start + macro_size x) k xs ++ entries_of n (k + length (table_marks xs)) ys) (omega (arith, table_size-cons x xs))
+    ∙ ap (λ (n : ℕ). entries_of (start + macro_size x) k xs ++ entries_of (start + table_size (x ∷ xs)) n ys) (omega (arith, length_marks-cons x xs))))
+
+pub table_marks-append : (xs ys : List Macro) → table_marks (xs ++ ys) ≡ table_marks xs ++ table_marks ys
+unfolding table_marks
+table_marks-append xs ys = flat_map-append macro_marks xs ys
+
+pub table_marks-cons : (m : Macro) (ys : List Macro) → table_marks (m ∷ ys) ≡ macro_marks m ++ table_marks ys
+unfolding table_marks
+table_marks-cons m ys = refl
 
 pub table_bytes-append : (xs ys : List Macro) → table_bytes (xs ++ ys) ≡ table_bytes xs ++ table_bytes ys
 unfolding table_bytes
@@ -34,38 +46,58 @@ pub table_bytes-cons : (m : Macro) (ys : List Macro) → table_bytes (m ∷ ys) 
 unfolding table_bytes
 table_bytes-cons m ys = refl
 
-moved_entry : (n size : ℕ) (m : Macro) → moved_down size (entry_of (n + size) m) ≡ entry_of n m
+moved_entry : (n size k marks : ℕ) (m : Macro) → moved_down size marks (entry_of (n + size) (k + marks) m) ≡ entry_of n k m
 unfolding moved_down entry_of
-moved_entry n size m = ap (λ (k : ℕ). let e : Entry = record { start = k; name_len = _; list_len = _; body_len = _; arity = _; is_copied = _ } in e) (omega arith)
+moved_entry n size k marks m =
+    ap (λ (i : ℕ). let e : Entry = record { start = i; name_len = _; list_len = _; body_len = _; arity = _; marks = k + marks - marks; is_copied = _ } in e) (let e : n + size - size ≡ n = omega arith in e)
+    ∙ ap (λ (i : ℕ). let e : Entry = record { start = n; name_len = _; list_len = _; body_len = _; arity = _; marks = i; is_copied = _ } in e) (let e : k + marks - marks ≡ k = omega arith in e)
 
-moved_entries : (n size : ℕ) (ys : List Macro) → map (moved_down size) (entries_of (n + size) ys) ≡ entries_of n ys
+moved_entries : (n size k marks : ℕ) (ys : List Macro) → map (moved_down size marks) (entries_of (n + size) (k + marks) ys) ≡ entries_of n k ys
 unfolding entries_of
-moved_entries n size [] = refl
-moved_entries n size (y ∷ ys) =
+moved_entries n size k marks [] = refl
+moved_entries n size k marks (y ∷ ys) =
+    let j : ℕ = length (macro_marks y) in
     let e : n + size + macro_size y ≡ n + macro_size y + size = omega arith in
-    ap (λ (k : ℕ). moved_down size (entry_of (n + size) y) ∷ map (moved_down size) (entries_of k ys)) e
-    ∙ (ap (λ (x : Entry). x ∷ map (moved_down size) (entries_of (n + macro_size y + size) ys)) (moved_entry n size y)
-    ∙ ap (λ (es : List Entry). entry_of n y ∷ es) (moved_entries (n + macro_size y) size ys))
+    let f : k + marks + j ≡ k + j + marks = omega arith in
+    ap (λ (i : ℕ). moved_down size marks (entry_of (n + size) (k + marks) y) ∷ map (moved_down size marks) (entries_of i (k + marks + j) ys)) e
+    ∙ (ap (λ (i : ℕ). moved_down size marks (entry_of (n + size) (k + marks) y) ∷ map (moved_down size marks) (entries_of (n + macro_size y + size) i ys)) f
+    ∙ (ap (λ (x : Entry). x ∷ map (moved_down size marks) (entries_of (n + macro_size y + size) (k + j + marks) ys)) (moved_entry n size k marks y)
+    ∙ ap (λ (es : List Entry). entry_of n k y ∷ es) (moved_entries (n + macro_size y) size (k + j) marks ys)))
 
-start_of : (n : ℕ) (m : Macro) → (entry_of n m).start ≡ n
+start_of : (n k : ℕ) (m : Macro) → (entry_of n k m).start ≡ n
 unfolding entry_of
-start_of n m = refl
+start_of n k m = refl
 
-starts_behind : (low n : ℕ) (ms : List Macro) → low ≤ n → All (λ e. low ≤ e.start) (entries_of n ms)
+pub marks_at : (n k : ℕ) (m : Macro) → (entry_of n k m).marks ≡ k
+unfolding entry_of
+marks_at n k m = refl
+
+starts_behind : (low few n k : ℕ) (ms : List Macro) → low ≤ n → few ≤ k → All (λ e. (low ≤ e.start) × (few ≤ e.marks)) (entries_of n k ms)
 unfolding entries_of
-starts_behind low n [] h = All-nil _
-starts_behind low n (m ∷ ms) h = All-cons (λ e. low ≤ e.start) _ _ (omega (arith, start_of n m)) (starts_behind low (n + macro_size m) ms (omega arith))
+starts_behind low few n k [] h g = All-nil _
+starts_behind low few n k (m ∷ ms) h g =
+    All-cons (λ e. (low ≤ e.start) × (few ≤ e.marks)) _ _
+    (omega (arith, start_of n k m), omega (arith, marks_at n k m))
+    (starts_behind low few (n + macro_size m) (k + length (macro_marks m)) ms (omega arith) (omega arith))
+
+-- a list without a part between two others
+pub cut_middle : (a b c : List ℕ) (i j : ℕ) → length a ≡ i → i + length b ≡ j → remove_range (a ++ (b ++ c)) i j ≡ a ++ c
+cut_middle a b c i j e f =
+    ap (λ (l : List ℕ). l ++ drop j (a ++ (b ++ c))) (take_at a (b ++ c) i e)
+    ∙ ap (λ (l : List ℕ). a ++ l) (ap (drop j) (sym (append_assoc a b c)) ∙ drop_at (a ++ b) c j (omega (arith, length-append a b)))
 
 cut_bytes : (xs : List Macro) (m : Macro) (ys : List Macro) → remove_range (table_bytes (xs ++ m ∷ ys)) (table_size xs) (table_size xs + macro_size m) ≡ table_bytes (xs ++ ys)
 cut_bytes xs m ys =
-    let whole : table_bytes (xs ++ m ∷ ys) ≡ table_bytes xs ++ (macro_bytes m ++ table_bytes ys) = table_bytes-append xs (m ∷ ys) ∙ ap (λ (bs : List ℕ). table_bytes xs ++ bs) (table_bytes-cons m ys) in
-    let front : take (table_size xs) (table_bytes xs ++ (macro_bytes m ++ table_bytes ys)) ≡ table_bytes xs = take_at (table_bytes xs) _ _ (length_table_bytes xs) in
-    let n : length (table_bytes xs ++ macro_bytes m) ≡ table_size xs + macro_size m = omega (arith, length-append (table_bytes xs) (macro_bytes m), length_table_bytes xs, length_macro_bytes m) in
-    let back : drop (table_size xs + macro_size m) (table_bytes xs ++ (macro_bytes m ++ table_bytes ys)) ≡ table_bytes ys =
-    ap (drop (table_size xs + macro_size m)) (sym (append_assoc (table_bytes xs) (macro_bytes m) (table_bytes ys))) ∙ drop_at (table_bytes xs ++ macro_bytes m) (table_bytes ys) _ n in
-    ap (λ (bs : List ℕ). remove_range bs (table_size xs) (table_size xs + macro_size m)) whole
-    ∙ (ap (λ (bs : List ℕ). bs ++ drop (table_size xs + macro_size m) (table_bytes xs ++ (macro_bytes m ++ table_bytes ys))) front
-    ∙ (ap (λ (bs : List ℕ). table_bytes xs ++ bs) back ∙ sym (table_bytes-append xs ys)))
+    ap (λ (bs : List ℕ). remove_range bs (table_size xs) (table_size xs + macro_size m)) (table_bytes-append xs (m ∷ ys) ∙ ap (λ (bs : List ℕ). table_bytes xs ++ bs) (table_bytes-cons m ys))
+    ∙ (cut_middle (table_bytes xs) (macro_bytes m) (table_bytes ys) _ _ (length_table_bytes xs) (omega (arith, length_macro_bytes m))
+    ∙ sym (table_bytes-append xs ys))
+
+-- the same of marks
+cut_marks : (xs : List Macro) (m : Macro) (ys : List Macro) → remove_range (table_marks (xs ++ m ∷ ys)) (length (table_marks xs)) (length (table_marks xs) + length (macro_marks m)) ≡ table_marks (xs ++ ys)
+cut_marks xs m ys =
+    ap (λ (l : List ℕ). remove_range l (length (table_marks xs)) (length (table_marks xs) + length (macro_marks m))) (table_marks-append xs (m ∷ ys) ∙ ap (λ (l : List ℕ). table_marks xs ++ l) (table_marks-cons m ys))
+    ∙ (cut_middle (table_marks xs) (macro_marks m) (table_marks ys) _ _ refl refl
+    ∙ sym (table_marks-append xs ys))
 
 -- without the element at the end of a front
 remove_at : {A : Type 0} (front : List A) (x : A) (back : List A) (n : ℕ) → length front ≡ n → remove (front ++ x ∷ back) n ≡ front ++ back
@@ -79,66 +111,116 @@ pub split_at : (ms : List Macro) (place : ℕ) → place < length ms → ms ≡ 
 split_at ms place h = sym (take-append-drop place ms) ∙ ap (λ (l : List Macro). take place ms ++ l) (drop_more ms place no_macro h)
 
 -- what is left of the lists without the macro between others
-taken_between : (bytes : List ℕ) (entries : List Entry) (xs : List Macro) (m : Macro) (ys : List Macro) → IsStored bytes entries (xs ++ m ∷ ys) → IsStored (remove_range bytes (table_size xs) (table_size xs + macro_size m)) (entries_of 0 xs ++ map (moved_down (macro_size m)) (entries_of (table_size xs + macro_size m) ys)) (xs ++ ys)
+taken_between : (bytes : List ℕ) (entries : List Entry) (xs : List Macro) (m : Macro) (ys : List Macro) → IsStored bytes entries (xs ++ m ∷ ys) → IsStored (remove_range bytes (table_size xs) (table_size xs + macro_size m)) (entries_of 0 0 xs ++ map (moved_down (macro_size m) (length (macro_marks m))) (entries_of (table_size xs + macro_size m) (length (table_marks xs) + length (macro_marks m)) ys)) (xs ++ ys)
 taken_between bytes entries xs m ys s = record {
   bytes_are = ap (λ (bs : List ℕ). remove_range bs (table_size xs) (table_size xs + macro_size m)) s.bytes_are ∙ cut_bytes xs m ys;
-  entries_are = ap (λ (es : List Entry). entries_of 0 xs ++ es) (moved_entries (table_size xs) (macro_size m) ys) ∙ (ap (λ (n : ℕ). entries_of 0 xs ++ entries_of n ys) (sym (zero-add (table_size xs))) ∙ sym (entries_of-append 0 xs ys));
+  entries_are =
+      ap (λ (es : List Entry). entries_of 0 0 xs ++ es) (moved_entries (table_size xs) (macro_size m) (length (table_marks xs)) (length (macro_marks m)) ys)
+      ∙ (ap (λ (n : ℕ). entries_of 0 0 xs ++ entries_of n (length (table_marks xs)) ys) (sym (zero-add (table_size xs)))
+      ∙ (ap (λ (n : ℕ). entries_of 0 0 xs ++ entries_of (0 + table_size xs) n ys) (sym (zero-add (length (table_marks xs))))
+      ∙ sym (entries_of-append 0 0 xs ys)));
   plain =
       let p = and_parts (list_all is_plain_macro xs) (list_all is_plain_macro (m ∷ ys)) (sym (list_all-append is_plain_macro xs (m ∷ ys)) ∙ s.plain) in
       list_all-append is_plain_macro xs ys ∙ and_from _ _ p.0 (and_parts (is_plain_macro m) (list_all is_plain_macro ys) p.1).1;
 }
 
 -- the entries round one of them
-entries_between : (entries : List Entry) (xs : List Macro) (m : Macro) (ys : List Macro) → entries ≡ entries_of 0 (xs ++ m ∷ ys) → entries ≡ entries_of 0 xs ++ entry_of (table_size xs) m ∷ entries_of (table_size xs + macro_size m) ys
+entries_between : (entries : List Entry) (xs : List Macro) (m : Macro) (ys : List Macro) → entries ≡ entries_of 0 0 (xs ++ m ∷ ys) → entries ≡ entries_of 0 0 xs ++ entry_of (table_size xs) (length (table_marks xs)) m ∷ entries_of (table_size xs + macro_size m) (length (table_marks xs) + length (macro_marks m)) ys
 unfolding entries_of
-entries_between entries xs m ys e = e ∙ (entries_of-append 0 xs (m ∷ ys) ∙ ap (λ (n : ℕ). entries_of 0 xs ++ entries_of n (m ∷ ys)) (zero-add (table_size xs)))
+entries_between entries xs m ys e =
+    e
+    ∙ (entries_of-append 0 0 xs (m ∷ ys)
+    ∙ (ap (λ (n : ℕ). entries_of 0 0 xs ++ entries_of n (0 + length (table_marks xs)) (m ∷ ys)) (zero-add (table_size xs))
+    ∙ ap (λ (n : ℕ). entries_of 0 0 xs ++ entries_of (table_size xs) n (m ∷ ys)) (zero-add (length (table_marks xs)))))
 
 -- what the entry that was taken out says, and what the entries without it are
-pub record Taken (entries rest : List Entry) (entry : Entry) (ms : List Macro) (place size : ℕ) : Type 0 where
+pub record Taken (entries rest : List Entry) (entry : Entry) (ms : List Macro) (place size marks : ℕ) : Type 0 where
   pub start : entry.start ≡ table_size (take place ms)
   pub size_is : size ≡ macro_size (macro_at ms place)
-  pub front : take place rest ≡ entries_of 0 (take place ms)
-  pub back : drop place rest ≡ entries_of (table_size (take place ms) + macro_size (macro_at ms place)) (drop (place + 1) ms)
+  pub marks_from : entry.marks ≡ length (table_marks (take place ms))
+  pub marks_are : marks ≡ length (macro_marks (macro_at ms place))
+  pub front : take place rest ≡ entries_of 0 0 (take place ms)
+  pub back : drop place rest ≡ entries_of (table_size (take place ms) + macro_size (macro_at ms place)) (length (table_marks (take place ms)) + length (macro_marks (macro_at ms place))) (drop (place + 1) ms)
 
-pub size_of_entry : (n : ℕ) (m : Macro) → (entry_of n m).name_len + (entry_of n m).list_len + (entry_of n m).body_len ≡ macro_size m
+pub size_of_entry : (n k : ℕ) (m : Macro) → (entry_of n k m).name_len + (entry_of n k m).list_len + (entry_of n k m).body_len ≡ macro_size m
 unfolding entry_of list_size macro_size
-size_of_entry n m = omega arith
+size_of_entry n k m = omega arith
 
-pub taken : (entries rest : List Entry) (entry : Entry) (ms : List Macro) (place : ℕ) → entries ≡ entries_of 0 ms → place < length ms → entry ≡ get_or entries place entry → rest ≡ remove entries place → Taken entries rest entry ms place (entry.name_len + entry.list_len + entry.body_len)
-taken entries rest entry ms place e h q r =
+pub taken : (entries rest : List Entry) (entry : Entry) (ms : List Macro) (place marks : ℕ) → entries ≡ entries_of 0 0 ms → place < length ms → entry ≡ get_or entries place entry → rest ≡ remove entries place → marks ≡ marks_len entry → Taken entries rest entry ms place (entry.name_len + entry.list_len + entry.body_len) marks
+taken entries rest entry ms place marks e h q r f =
     let xs : List Macro = take place ms in
     let m : Macro = macro_at ms place in
     let ys : List Macro = drop (place + 1) ms in
-    let n : length (entries_of 0 xs) ≡ place = length_entries_of 0 xs ∙ length-take-le place ms (omega arith) in
-    let is : entry ≡ entry_of (0 + table_size xs) m = q ∙ (ap (λ (es : List Entry). get_or es place entry) e ∙ entry_of_macro 0 ms place entry h) in
-    let around : rest ≡ entries_of 0 xs ++ entries_of (table_size xs + macro_size m) ys =
-    r ∙ (ap (λ (es : List Entry). remove es place) (entries_between entries xs m ys (e ∙ ap (entries_of 0) (split_at ms place h))) ∙ remove_at (entries_of 0 xs) _ _ place n) in
+    let k : ℕ = length (table_marks xs) in
+    let n : length (entries_of 0 0 xs) ≡ place = length_entries_of 0 0 xs ∙ length-take-le place ms (omega arith) in
+    let is : entry ≡ entry_of (0 + table_size xs) (0 + k) m = q ∙ (ap (λ (es : List Entry). get_or es place entry) e ∙ entry_of_macro 0 0 ms place entry h) in
+    let around : rest ≡ entries_of 0 0 xs ++ entries_of (table_size xs + macro_size m) (k + length (macro_marks m)) ys =
+    r ∙ (ap (λ (es : List Entry). remove es place) (entries_between entries xs m ys (e ∙ ap (entries_of 0 0) (split_at ms place h))) ∙ remove_at (entries_of 0 0 xs) _ _ place n) in
     record {
-      start = ap (λ (x : Entry). x.start) is ∙ (start_of (0 + table_size xs) m ∙ zero-add (table_size xs));
-      size_is = ap (λ (x : Entry). x.name_len + x.list_len + x.body_len) is ∙ size_of_entry (0 + table_size xs) m;
-      front = ap (take place) around ∙ take_at (entries_of 0 xs) _ place n;
-      back = ap (drop place) around ∙ drop_at (entries_of 0 xs) _ place n;
+      start = ap (λ (x : Entry). x.start) is ∙ (start_of (0 + table_size xs) (0 + k) m ∙ zero-add (table_size xs));
+      size_is = ap (λ (x : Entry). x.name_len + x.list_len + x.body_len) is ∙ size_of_entry (0 + table_size xs) (0 + k) m;
+      marks_from = ap (λ (x : Entry). x.marks) is ∙ (marks_at (0 + table_size xs) (0 + k) m ∙ zero-add k);
+      marks_are = f ∙ (ap marks_len is ∙ marks_len_of (0 + table_size xs) (0 + k) m);
+      front = ap (take place) around ∙ take_at (entries_of 0 0 xs) _ place n;
+      back = ap (drop place) around ∙ drop_at (entries_of 0 0 xs) _ place n;
     }
 
-pub taken_stored : (bytes : List ℕ) (entries rest : List Entry) (entry : Entry) (ms : List Macro) (place size : ℕ) (bytes' : List ℕ) (entries' : List Entry) → IsStored bytes entries ms → Taken entries rest entry ms place size → place < length ms → bytes' ≡ remove_range bytes entry.start (entry.start + size) → entries' ≡ take place rest ++ map (moved_down size) (drop place rest) → IsStored bytes' entries' (remove ms place)
-taken_stored bytes entries rest entry ms place size bytes' entries' s t h b e =
-    let split : ms ≡ take place ms ++ macro_at ms place ∷ drop (place + 1) ms = split_at ms place h in
+pub taken_stored : (bytes : List ℕ) (entries rest : List Entry) (entry : Entry) (ms : List Macro) (place size marks : ℕ) (bytes' : List ℕ) (entries' : List Entry) → IsStored bytes entries ms → Taken entries rest entry ms place size marks → place < length ms → bytes' ≡ remove_range bytes entry.start (entry.start + size) → entries' ≡ take place rest ++ map (moved_down size marks) (drop place rest) → IsStored bytes' entries' (remove ms place)
+taken_stored bytes entries rest entry ms place size marks bytes' entries' s t h b e =
+    let xs : List Macro = take place ms in
+    let m : Macro = macro_at ms place in
+    let ys : List Macro = drop (place + 1) ms in
+    let split : ms ≡ xs ++ m ∷ ys = split_at ms place h in
     let P : List Macro → Type 0 = λ l. IsStored bytes entries l in
-    let between : IsStored _ _ (take place ms ++ drop (place + 1) ms) = taken_between bytes entries (take place ms) (macro_at ms place) (drop (place + 1) ms) (subst P split s) in
-    let bytes_are : bytes' ≡ remove_range bytes (table_size (take place ms)) (table_size (take place ms) + macro_size (macro_at ms place)) =
-    b ∙ (ap (λ (k : ℕ). remove_range bytes k (k + size)) t.start ∙ ap (λ (k : ℕ). remove_range bytes (table_size (take place ms)) (table_size (take place ms) + k)) t.size_is) in
-    let entries_are : entries' ≡ entries_of 0 (take place ms) ++ map (moved_down (macro_size (macro_at ms place))) (entries_of (table_size (take place ms) + macro_size (macro_at ms place)) (drop (place + 1) ms)) =
-    e ∙ (ap (λ (l : List Entry). l ++ map (moved_down size) (drop place rest)) t.front ∙ (ap (λ (l : List Entry). entries_of 0 (take place ms) ++ map (moved_down size) l) t.back ∙ ap (λ (k : ℕ). entries_of 0 (take place ms) ++ map (moved_down k) (entries_of (table_size (take place ms) + macro_size (macro_at ms place)) (drop (place + 1) ms))) t.size_is)) in
-    let after : remove ms place ≡ take place ms ++ drop (place + 1) ms = ap (λ (k : ℕ). take place ms ++ drop k ms) (sym (add-one place)) in
+    let between : IsStored _ _ (xs ++ ys) = taken_between bytes entries xs m ys (subst P split s) in
+    let bytes_are : bytes' ≡ remove_range bytes (table_size xs) (table_size xs + macro_size m) =
+    b ∙ (ap (λ (k : ℕ). remove_range bytes k (k + size)) t.start ∙ ap (λ (k : ℕ). remove_range bytes (table_size xs) (table_size xs + k)) t.size_is) in
+    let behind : List Entry = entries_of (table_size xs + macro_size m) (length (table_marks xs) + length (macro_marks m)) ys in
+    let entries_are : entries' ≡ entries_of 0 0 xs ++ map (moved_down (macro_size m) (length (macro_marks m))) behind =
+    e
+    ∙ (ap (λ (l : List Entry). l ++ map (moved_down size marks) (drop place rest)) t.front
+    ∙ (ap (λ (l : List Entry). entries_of 0 0 xs ++ map (moved_down size marks) l) t.back
+    ∙ (ap (λ (k : ℕ). entries_of 0 0 xs ++ map (moved_down k marks) behind) t.size_is
+    ∙ ap (λ (k : ℕ). entries_of 0 0 xs ++ map (moved_down (macro_size m) k) behind) t.marks_are))) in
+    let after : remove ms place ≡ xs ++ ys = ap (λ (k : ℕ). xs ++ drop k ms) (sym (add-one place)) in
     record {
       bytes_are = bytes_are ∙ (between.bytes_are ∙ ap table_bytes (sym after));
-      entries_are = entries_are ∙ (between.entries_are ∙ ap (entries_of 0) (sym after));
+      entries_are = entries_are ∙ (between.entries_are ∙ ap (entries_of 0 0) (sym after));
       plain = ap (list_all is_plain_macro) after ∙ between.plain;
     }
 
-pub taken_behind : (entries rest : List Entry) (entry : Entry) (ms : List Macro) (place size : ℕ) → Taken entries rest entry ms place size → AreBehind size (drop place rest)
-taken_behind entries rest entry ms place size t =
-    rw (t.back, t.size_is) (starts_behind (macro_size (macro_at ms place)) _ _ (omega arith))
+pub taken_behind : (entries rest : List Entry) (entry : Entry) (ms : List Macro) (place size marks : ℕ) → Taken entries rest entry ms place size marks → AreBehind size marks (drop place rest)
+taken_behind entries rest entry ms place size marks t =
+    rw (t.back, t.size_is, t.marks_are) (starts_behind (macro_size (macro_at ms place)) (length (macro_marks (macro_at ms place))) _ _ _ (omega arith) (omega arith))
+
+-- the marks of the macros that stay, behind an index of so many places
+pub taken_marks : (order : List ℕ) (entries rest : List Entry) (entry : Entry) (ms : List Macro) (place size marks n : ℕ) (order' : List ℕ) → n ≤ length order → drop n order ≡ table_marks ms → Taken entries rest entry ms place size marks → place < length ms → order' ≡ remove_range order (n + entry.marks) (n + entry.marks + marks) → (take n order' ≡ take n order) × (drop n order' ≡ table_marks (remove ms place))
+taken_marks order entries rest entry ms place size marks n order' l d t h o =
+    let xs : List Macro = take place ms in
+    let m : Macro = macro_at ms place in
+    let ys : List Macro = drop (place + 1) ms in
+    let front : List ℕ = take n order in
+    let long : length front ≡ n = length-take-le n order l in
+    let whole : order ≡ (front ++ table_marks xs) ++ (macro_marks m ++ table_marks ys) =
+    sym (take-append-drop n order)
+    ∙ (ap (λ (x : List ℕ). front ++ x) (d ∙ (ap table_marks (split_at ms place h) ∙ (table_marks-append xs (m ∷ ys) ∙ ap (λ (x : List ℕ). table_marks xs ++ x) (table_marks-cons m ys))))
+    ∙ sym (append_assoc front (table_marks xs) _)) in
+    let left : order' ≡ front ++ table_marks (remove ms place) =
+    o
+    ∙ (ap (λ (x : List ℕ). remove_range x (n + entry.marks) (n + entry.marks + marks)) whole
+    ∙ (cut_middle (front ++ table_marks xs) (macro_marks m) (table_marks ys) _ _ (omega (arith, length-append front (table_marks xs), t.marks_from)) (omega (arith, t.marks_are))
+    ∙ (append_assoc front (table_marks xs) (table_marks ys)
+    ∙ ap (λ (x : List ℕ). front ++ x) (sym (table_marks-append xs ys) ∙ ap (λ (k : ℕ). table_marks (xs ++ drop k ms)) (add-one place))))) in
+    (ap (take n) left ∙ take_at front _ n long, ap (drop n) left ∙ drop_at front _ n long)
+
+-- the marks of an entry lie among those of all
+pub marks_within : (entries rest : List Entry) (entry : Entry) (ms : List Macro) (place size marks : ℕ) → Taken entries rest entry ms place size marks → place < length ms → entry.marks + marks ≤ length (table_marks ms)
+marks_within entries rest entry ms place size marks t h =
+    omega (arith, t.marks_from, t.marks_are, ap (λ (l : List Macro). length (table_marks l)) (split_at ms place h), ap (length {A = ℕ}) (table_marks-append (take place ms) (macro_at ms place ∷ drop (place + 1) ms)), length-append (table_marks (take place ms)) (table_marks (macro_at ms place ∷ drop (place + 1) ms)), length_marks-cons (macro_at ms place) (drop (place + 1) ms))
+
+pub marks_end : (order : List ℕ) (entries rest : List Entry) (entry : Entry) (ms : List Macro) (place size marks n : ℕ) → n ≤ length order → drop n order ≡ table_marks ms → Taken entries rest entry ms place size marks → place < length ms → n + entry.marks + marks ≤ length order
+marks_end order entries rest entry ms place size marks n l d t h =
+    omega (arith, marks_within entries rest entry ms place size marks t h, ap (length {A = ℕ}) d, length-drop n order)
 
 pub bytes_fit : (v : Vec ℕ Global) → length v.items < 2 ^ 63
 bytes_fit v = omega (arith, v.ok.0, v.ok.1, v.small)
@@ -152,3 +234,10 @@ end_within bytes entries ms place entry s h q =
 
 pub capacity_small : (v : Vec ℕ Global) → vec_capacity v < 2 ^ 63
 capacity_small v = omega (arith, v.small)
+
+-- entries that were moved are as many
+pub count_moved : (new old : Vec Entry Global) (place size marks n : ℕ) → new.items ≡ take place old.items ++ map (moved_down size marks) (drop place old.items) → n ≡ vec_len old → vec_len new ≡ n
+count_moved new old place size marks n e h =
+    let moved : length new.items ≡ length (take place old.items) + length (drop place old.items) = ap length e ∙ (length-append (take place old.items) _ ∙ ap (λ (k : ℕ). length (take place old.items) + k) (length-map (drop place old.items) (moved_down size marks))) in
+    let whole : length old.items ≡ length (take place old.items) + length (drop place old.items) = ap length (sym (take-append-drop place old.items)) ∙ length-append (take place old.items) _ in
+    omega (arith, count_items new, count_items old)

@@ -1,17 +1,22 @@
 -- What holds of entries and the bytes that they point into.
 -- A definition that names no source is this project's own.
-use Rattle.std.specs.Prelude.{ℕ, ◌-◌, ◌≤◌, List, All}
+use Rattle.std.specs.Prelude.{ℕ, ◌-◌, ◌≤◌, List, All, unwrap_or, if◌then◌else◌}
 use Rattle.rdlpp_table.specs.declared.entry.Entry.{Entry}
+use Rattle.rdlpp_table.specs.Marks.{is_marked}
 use Rattle.rdlpp_table.specs.Store.{entry_end}
 
 -- each entry's bytes lie among so many
 abbrev pub AreWithin : ℕ → List Entry → Type 0
 AreWithin n entries = All (λ e. entry_end e ≤ n) entries
 
--- an entry whose bytes lie so much further to the front
-unfoldable pub moved_down : ℕ → Entry → Entry
-moved_down size e = record { start = e.start - size; name_len = e.name_len; list_len = e.list_len; body_len = e.body_len; arity = e.arity; is_copied = e.is_copied }
+-- an entry whose bytes lie so much further to the front, and its marks as much as another number says
+unfoldable pub moved_down : ℕ → ℕ → Entry → Entry
+moved_down size marks e = record { start = e.start - size; name_len = e.name_len; list_len = e.list_len; body_len = e.body_len; arity = e.arity; marks = e.marks - marks; is_copied = e.is_copied }
 
--- each entry's bytes lie behind so many
-abbrev pub AreBehind : ℕ → List Entry → Type 0
-AreBehind n entries = All (λ e. n ≤ e.start) entries
+-- each entry's bytes lie behind so many, and its marks behind as many as another number says
+abbrev pub AreBehind : ℕ → ℕ → List Entry → Type 0
+AreBehind n k entries = All (λ e. (n ≤ e.start) × (k ≤ e.marks)) entries
+
+-- how many marks an entry has
+unfoldable pub marks_len : Entry → ℕ
+marks_len e = if is_marked (unwrap_or e.arity 0) e.list_len then unwrap_or e.arity 0 else 0

@@ -1,7 +1,8 @@
 -- The fields of a table, and the table that they stand for.
 -- A definition that names no source is this project's own.
-use Rattle.std.specs.Prelude.{ℕ, ◌≤◌, List, vec_capacity}
+use Rattle.std.specs.Prelude.{◌≡◌, ℕ, ◌+◌, ◌/◌, ◌≤◌, List, drop, take, vec_capacity, vec_len}
 use Rattle.rdlpp_table.specs.View.{TableView, IsSound}
+use Rattle.rdlpp_table.specs.Marks.{table_marks}
 use Rattle.rdlpp_table.specs.Index.{IsIndexed, names_of}
 use Rattle.rdlpp_table.specs.Store.{IsStored, macros_in}
 use Rattle.rdlpp_table.specs.declared.entry.Entry.{Entry}
@@ -25,6 +26,8 @@ pub record IsLaidOut (t : Inside) : Type 0 where
   pub held : IsHeld t.bytes.items t.entries.items t.most_bytes t.most_macros
   pub room : t.most_bytes ≤ vec_capacity t.bytes
   pub entry_room : t.most_macros ≤ vec_capacity t.entries
-  pub indexed : IsIndexed (names_of (macros_in t.bytes.items t.entries.items)) t.order.items t.starts
-  pub index_room : t.most_macros ≤ vec_capacity t.order
+  pub indexed : IsIndexed (names_of (macros_in t.bytes.items t.entries.items)) (take (vec_len t.entries) t.order.items) t.starts
+  pub marked : drop (vec_len t.entries) t.order.items ≡ table_marks (macros_in t.bytes.items t.entries.items)
+  pub index_room : t.most_macros + t.most_bytes / 8 ≤ vec_capacity t.order
   pub few : t.most_macros ≤ 65536
+  pub small : t.most_bytes ≤ 16777216

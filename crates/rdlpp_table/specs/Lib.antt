@@ -2,6 +2,7 @@ pub mod Table
 pub mod View
 pub mod Stops
 pub mod Limits
+pub mod Marks
 pub mod Words
 pub mod Define
 pub mod Store

@@ -1,14 +1,15 @@
 -- How a table lies in its two lists: the bytes of its macros one after another, and an entry for each.
 -- A definition that names no source is this project's own.
 use Rattle.std.specs.Prelude.{◌≡◌, ℕ, zero, suc, ◌+◌, ◌-◌, Bool, true, not, ◌&&◌, ◌||◌, ◌==◌, List, [], ◌∷◌, length, take, drop, map, slice_index, slice_range, sum_by, Some, option_map, unwrap_or, is_none, if◌then◌else◌}
-use Rattle.std.specs.List.{prefix_len, list_all}
+use Rattle.std.specs.List.{flat_map, prefix_len, list_all}
 use Rattle.rdlpp_scan.specs.declared.token.Mode.TheVariants.{Plain}
 use Rattle.rdlpp_scan.specs.declared.token.Token.{Token}
 use Rattle.rdlpp_scan.specs.Comments.{is_line_comment}
 use Rattle.rdlpp_scan.specs.LexFaults.{lex_fault_from}
 use Rattle.rdlpp_scan.specs.Tokens.{tokens_from}
 use Rattle.rdlpp_lines.specs.Texts.{cleared, ends_default, level_behind, text_behind}
-use Rattle.rdlpp_table.specs.Table.{Formal, Macro, macro_size, table_bytes, formal_size}
+use Rattle.rdlpp_table.specs.Table.{Formal, Macro, macro_size, table_bytes, formal_bytes, formal_size}
+use Rattle.rdlpp_table.specs.Marks.{macro_marks, marks_of}
 use Rattle.rdlpp_table.specs.Stops.{is_copied}
 use Rattle.rdlpp_table.specs.declared.entry.Entry.{Entry}
 
@@ -16,14 +17,14 @@ use Rattle.rdlpp_table.specs.declared.entry.Entry.{Entry}
 unfoldable pub list_size : Macro → ℕ
 list_size m = sum_by formal_size (unwrap_or m.formals [])
 
--- the entry of a macro whose bytes begin at a place
-unfoldable pub entry_of : ℕ → Macro → Entry
-entry_of start m = record { start = start; name_len = length m.name; list_len = list_size m; body_len = length m.body; arity = option_map length m.formals; is_copied = is_copied m }
+-- the entry of a macro whose bytes begin at a place, and its marks at another one
+unfoldable pub entry_of : ℕ → ℕ → Macro → Entry
+entry_of start marks m = record { start = start; name_len = length m.name; list_len = list_size m; body_len = length m.body; arity = option_map length m.formals; marks = marks; is_copied = is_copied m }
 
--- the entries of macros whose bytes begin at a place
-unfoldable pub entries_of : ℕ → List Macro → List Entry
-entries_of start [] = []
-entries_of start (m ∷ ms) = entry_of start m ∷ entries_of (start + macro_size m) ms
+-- the entries of macros whose bytes begin at a place, and their marks at another one
+unfoldable pub entries_of : ℕ → ℕ → List Macro → List Entry
+entries_of start marks [] = []
+entries_of start marks (m ∷ ms) = entry_of start marks m ∷ entries_of (start + macro_size m) (marks + length (macro_marks m)) ms
 
 -- a byte of a formal's name in a table's bytes: neither the `,` nor the `=` that stands behind it
 unfoldable pub is_name_byte : ℕ → Bool
@@ -110,5 +111,11 @@ is_plain_macro m = list_all is_plain_formal (unwrap_or m.formals [])
 -- the bytes and the entries of macros
 pub record IsStored (bytes : List ℕ) (entries : List Entry) (macros : List Macro) : Type 0 where
   pub bytes_are : bytes ≡ table_bytes macros
-  pub entries_are : entries ≡ entries_of 0 macros
+  pub entries_are : entries ≡ entries_of 0 0 macros
   pub plain : list_all is_plain_macro macros ≡ true
+
+-- bytes are those of so many formals, and marks are those of these
+pub record IsListed (count : ℕ) (list marks : List ℕ) : Type 0 where
+  pub whole : flat_map formal_bytes (formals_read count list) ≡ list
+  pub plain : list_all is_plain_formal (formals_read count list) ≡ true
+  pub marked : marks ≡ marks_of (formals_read count list)

@@ -1,7 +1,9 @@
 // Where the parts of one definition lie in a table's bytes.
-ghost use Rattle.std.specs.Prelude.{◌≡◌, ◌≤◌, [], length, unwrap_or};
-ghost use Rattle.rdlpp_table.specs.Store.{body_of, entry_end, formals_read, list_of, macro_in, name_of};
-ghost use Rattle.rdlpp_table.specs.View.{formals_of};
+ghost use Rattle.std.specs.Prelude.{◌≡◌, ◌≤◌, ◌+◌, length, slice_range, unwrap_or};
+ghost use Rattle.rdlpp_table.specs.Entries.{marks_len};
+ghost use Rattle.rdlpp_table.specs.Store.{body_of, entry_end, list_of, name_of};
+
+use crate::marks::{Listed, is_marked};
 
 // A definition's name, its formals with a comma after each, and its body lie one after another.
 #[derive(Clone, Copy, Drop)]
@@ -12,6 +14,8 @@ pub(crate) struct Entry {
     pub(crate) body_len: usize,
     // How many formals it has, where it has a list.
     pub(crate) arity: Option<usize>,
+    // Where its marks begin.
+    pub(crate) marks: usize,
     // Whether its body is copied as it stands.
     pub(crate) is_copied: bool,
 }
@@ -35,15 +39,32 @@ pub(crate) fn list_in<'a>(bytes: &'a [u8], entry: &Entry) -> &'a [u8]
     &bytes[start..start + entry.list_len]
 }
 
-// The formals of a definition as they lie in a table; nothing where it has no list.
-#[tactic(auto, unfolding(crate::specs::Store::formals_read, crate::specs::Store::macro_in))]
-pub(crate) fn formals_in<'a>(bytes: &'a [u8], entry: &Entry) -> &'a [u8]
-    requires { entry_end entry.now ≤ length bytes.now }
-    ensures { formals_read (unwrap_or entry.now.arity 0) result.now ≡ formals_of (macro_in bytes.now entry.now) }
+// How many marks a definition has.
+#[tactic(auto, unfolding(crate::specs::Entries::marks_len))]
+pub(crate) fn marks_len(entry: &Entry) -> usize
+    ensures { result ≡ marks_len entry.now }
 {
-    match entry.arity {
-        Some(_) => list_in(bytes, entry),
-        None => &[],
+    let count = entry.arity.unwrap_or(0);
+    if is_marked(count, entry.list_len) {
+        count
+    } else {
+        0
+    }
+}
+
+// The formals of a definition as they lie in a table, and their marks among those of all macros.
+pub(crate) fn listed_in<'a>(bytes: &'a [u8], marks: &'a [u32], entry: &Entry) -> Listed<'a>
+    requires bytes { entry_end entry.now ≤ length bytes.now }
+    requires marks { entry.now.marks + marks_len entry.now ≤ length marks.now }
+    ensures list { result.list.now ≡ list_of bytes.now entry.now }
+    ensures count { result.count ≡ unwrap_or entry.now.arity 0 }
+    ensures marks { result.marks.now ≡ slice_range marks.now entry.now.marks (entry.now.marks + marks_len entry.now) }
+{
+    let end = entry.marks + marks_len(entry);
+    Listed {
+        list: list_in(bytes, entry),
+        count: entry.arity.unwrap_or(0),
+        marks: &marks[entry.marks..end],
     }
 }
 

@@ -1,5 +1,6 @@
-// The index of a table: the places of its entries, sorted by the parts in which their names stand, and then by name.
-ghost use Rattle.std.specs.Prelude.{◌≡◌, ◌+◌, ◌<◌, ◌≤◌, ◌^◌, MatchResult, None, insert, length, map, remove, slice_index, vec_capacity, vec_len};
+// The index of a table: the places of its entries, sorted by the parts in which their names stand, and then by name. Behind it, in
+// the same list, lie the marks of its macros.
+ghost use Rattle.std.specs.Prelude.{◌≡◌, ◌+◌, ◌<◌, ◌≤◌, ◌^◌, ◌-◌, ◌++◌, MatchResult, None, drop, insert, length, map, remove, slice_index, take, vec_capacity, vec_len};
 ghost use Rattle.rdlpp_table.specs.Entries.{AreWithin};
 ghost use Rattle.rdlpp_table.specs.Index.{closed, names_of, IsCounted, IsGap, IsIndexed, IsMiddle, IsPlace};
 ghost use Rattle.rdlpp_table.specs.Store.{macros_in};
@@ -103,24 +104,28 @@ fn closed(taken: u32, place: u32) -> u32
     if taken < place { place - 1 } else { place }
 }
 
-// The places lie closer, once one was taken out.
-fn close_up(order: &mut [u32], taken: u32)
-    ensures { order.new ≡ map (closed taken) order.old }
+// The first places, so many of them, lie closer, once one was taken out.
+fn close_up(order: &mut [u32], count: usize, taken: u32)
+    requires { count ≤ length order.old }
+    ensures { order.new ≡ map (closed taken) (take count order.old) ++ drop count order.old }
 {
-    for place in order.iter_mut() {
-        *place = closed(taken, *place);
+    for at in 0..count {
+        order[at] = closed(taken, order[at]);
     }
 }
 
-// Takes a place out of the index, and answers it.
-pub(crate) fn leave(order: &mut Vec<u32>, at: usize) -> usize
-    requires { at < vec_len order.old }
-    ensures value { result ≡ slice_index order.old.items at }
-    ensures items { order.new.items ≡ map (closed result) (remove order.old.items at) }
+// Takes a place out of the index, which has so many, and answers it.
+pub(crate) fn leave(order: &mut Vec<u32>, count: usize, at: usize) -> usize
+    requires at { at < count }
+    requires count { count ≤ vec_len order.old }
+    ensures value { result ≡ slice_index (take count order.old.items) at }
+    ensures index { take (count - 1) order.new.items ≡ map (closed result) (remove (take count order.old.items) at) }
+    ensures marks { drop (count - 1) order.new.items ≡ drop count order.old.items }
+    ensures len { vec_len order.new + 1 ≡ vec_len order.old }
     ensures capacity { vec_capacity order.new ≡ vec_capacity order.old }
 {
     let taken = order.remove(at);
-    close_up(order.as_mut_slice(), taken);
+    close_up(order.as_mut_slice(), count - 1, taken);
     taken as usize
 }
 
@@ -130,6 +135,7 @@ pub(crate) fn enter(order: &mut Vec<u32>, gap: usize, place: usize)
     requires room { vec_len order.old < vec_capacity order.old }
     requires place { place < 2 ^ 32 }
     ensures items { order.new.items ≡ insert order.old.items gap place }
+    ensures len { vec_len order.new ≡ vec_len order.old + 1 }
     ensures capacity { vec_capacity order.new ≡ vec_capacity order.old }
 {
     let _ = order.insert(gap, place as u32);

@@ -7,6 +7,7 @@ mod formals;
 mod header;
 mod index;
 mod limits;
+mod marks;
 mod name;
 mod parts;
 mod removal;

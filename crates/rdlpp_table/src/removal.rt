@@ -1,35 +1,37 @@
 // A definition is taken out of a table's lists, which close up.
-ghost use Rattle.std.specs.Prelude.{◌≡◌, ◌+◌, ◌<◌, ◌≤◌, ◌++◌, drop, length, map, remove, take, vec_len, vec_capacity, bytes_eq, is_some};
+ghost use Rattle.std.specs.Prelude.{◌≡◌, ◌+◌, ◌-◌, ◌<◌, ◌≤◌, ◌++◌, drop, length, map, remove, take, vec_len, vec_capacity, bytes_eq, is_some};
 ghost use Rattle.rdlpp_table.specs.Table.{macro_named, without};
 ghost use Rattle.std.specs.List.{remove_range, IsDistinct};
 ghost use Rattle.rdlpp_table.specs.Entries.{moved_down, AreBehind};
 ghost use Rattle.rdlpp_table.specs.Index.{names_of, IsIndexed};
+ghost use Rattle.rdlpp_table.specs.Marks.{table_marks};
 ghost use Rattle.rdlpp_table.specs.Store.{IsStored, macros_in};
 
-use crate::entry::Entry;
+use crate::entry::{Entry, marks_len};
 use crate::index::{leave, seek};
 use crate::parts::{begin_sooner, part_of};
 use crate::sought::{Sought, Steps};
 
-// The bytes of these entries were moved so much further to the front.
+// The bytes of these entries were moved so much further to the front, and their marks as much as another number says.
 #[tactic(auto, unfolding(crate::specs::Entries::moved_down))]
-fn move_down(entries: &mut [Entry], size: usize)
-    requires { AreBehind size entries.old }
-    ensures { entries.new ≡ map (moved_down size) entries.old }
+fn move_down(entries: &mut [Entry], size: usize, marks: usize)
+    requires { AreBehind size marks entries.old }
+    ensures { entries.new ≡ map (moved_down size marks) entries.old }
 {
     for entry in entries.iter_mut() {
         entry.start -= size;
+        entry.marks -= marks;
     }
 }
 
-// The bytes of the entries from a place on were moved so much further to the front.
-fn move_down_from(entries: &mut Vec<Entry>, place: usize, size: usize)
+// The bytes and the marks of the entries from a place on were moved so much further to the front.
+fn move_down_from(entries: &mut Vec<Entry>, place: usize, size: usize, marks: usize)
     requires place { place ≤ vec_len entries.old }
-    requires behind { AreBehind size (drop place entries.old.items) }
-    ensures items { entries.new.items ≡ take place entries.old.items ++ map (moved_down size) (drop place entries.old.items) }
+    requires behind { AreBehind size marks (drop place entries.old.items) }
+    ensures items { entries.new.items ≡ take place entries.old.items ++ map (moved_down size marks) (drop place entries.old.items) }
     ensures capacity { vec_capacity entries.new ≡ vec_capacity entries.old }
 {
-    move_down(&mut entries[place..], size);
+    move_down(&mut entries[place..], size, marks);
 }
 
 // Takes bytes out of the middle.
@@ -41,17 +43,33 @@ fn cut(bytes: &mut Vec<u8>, from: usize, to: usize)
     bytes.drain(from..to);
 }
 
-// Takes out the macro at a place.
-fn take_out(bytes: &mut Vec<u8>, entries: &mut Vec<Entry>, place: usize)
+// Takes marks out of the middle.
+fn cut_marks(order: &mut Vec<u32>, from: usize, to: usize)
+    requires { (from ≤ to) × (to ≤ vec_len order.old) }
+    ensures items { order.new.items ≡ remove_range order.old.items from to }
+    ensures capacity { vec_capacity order.new ≡ vec_capacity order.old }
+{
+    order.drain(from..to);
+}
+
+// Takes out the macro at a place, of which the index has no place any more.
+fn take_out(bytes: &mut Vec<u8>, entries: &mut Vec<Entry>, order: &mut Vec<u32>, place: usize)
     requires stored { IsStored bytes.old.items entries.old.items (macros_in bytes.old.items entries.old.items) }
     requires place { place < vec_len entries.old }
+    requires index { vec_len entries.old ≤ vec_len order.old + 1 }
+    requires marked { drop (vec_len entries.old - 1) order.old.items ≡ table_marks (macros_in bytes.old.items entries.old.items) }
     ensures stored { IsStored bytes.new.items entries.new.items (remove (macros_in bytes.old.items entries.old.items) place) }
-    ensures capacity { (vec_capacity bytes.new ≡ vec_capacity bytes.old) × (vec_capacity entries.new ≡ vec_capacity entries.old) }
+    ensures index { take (vec_len entries.new) order.new.items ≡ take (vec_len entries.old - 1) order.old.items }
+    ensures marked { drop (vec_len entries.new) order.new.items ≡ table_marks (remove (macros_in bytes.old.items entries.old.items) place) }
+    ensures capacity { (vec_capacity bytes.new ≡ vec_capacity bytes.old) × (vec_capacity entries.new ≡ vec_capacity entries.old) × (vec_capacity order.new ≡ vec_capacity order.old) }
 {
     let entry = entries.remove(place);
     let size = entry.name_len + entry.list_len + entry.body_len;
+    let marks = marks_len(&entry);
+    let first = entries.len() + entry.marks;
     cut(bytes, entry.start, entry.start + size);
-    move_down_from(entries, place, size);
+    cut_marks(order, first, first + marks);
+    move_down_from(entries, place, size, marks);
 }
 
 // Takes out the macro of a name, and answers whether there was one.
@@ -64,25 +82,28 @@ pub(crate) fn take_out_named(
 ) -> bool
     requires stored { IsStored bytes.old.items entries.old.items (macros_in bytes.old.items entries.old.items) }
     requires distinct { IsDistinct bytes_eq (map (λ m. m.name) (macros_in bytes.old.items entries.old.items)) }
-    requires indexed { IsIndexed (names_of (macros_in bytes.old.items entries.old.items)) order.old.items starts.old }
+    requires indexed { IsIndexed (names_of (macros_in bytes.old.items entries.old.items)) (take (vec_len entries.old) order.old.items) starts.old }
+    requires marked { drop (vec_len entries.old) order.old.items ≡ table_marks (macros_in bytes.old.items entries.old.items) }
     requires few { vec_len entries.old ≤ 65536 }
     ensures value { result ≡ is_some (macro_named (macros_in bytes.old.items entries.old.items) name.now) }
     ensures stored { IsStored bytes.new.items entries.new.items (without name.now (macros_in bytes.old.items entries.old.items)) }
-    ensures indexed { IsIndexed (names_of (without name.now (macros_in bytes.old.items entries.old.items))) order.new.items starts.new }
+    ensures indexed { IsIndexed (names_of (without name.now (macros_in bytes.old.items entries.old.items))) (take (vec_len entries.new) order.new.items) starts.new }
+    ensures marked { drop (vec_len entries.new) order.new.items ≡ table_marks (without name.now (macros_in bytes.old.items entries.old.items)) }
     ensures capacity { (vec_capacity bytes.new ≡ vec_capacity bytes.old) × (vec_capacity entries.new ≡ vec_capacity entries.old) × (vec_capacity order.new ≡ vec_capacity order.old) }
 {
+    let count = entries.len();
     match seek(
         bytes,
         entries,
-        order,
+        &order[..count],
         starts,
         &Sought::new(name),
         &mut Steps::new(),
     ) {
         Ok(at) => {
-            let place = leave(order, at);
+            let place = leave(order, count, at);
             begin_sooner(starts, part_of(name));
-            take_out(bytes, entries, place);
+            take_out(bytes, entries, order, place);
             true
         }
         Err(_) => false,

@@ -1,9 +1,9 @@
 // Where the text of a body isn't copied as it stands.
 ghost use Rattle.std.specs.Prelude.{[], length, slice_index, ◌+◌, ◌<◌, ◌≡◌, ◌≤◌, ◌^◌};
 ghost use Rattle.rdlpp_table.specs.Stops.{is_none, quiet_len, stop_at, stop_of};
-ghost use Rattle.rdlpp_table.specs.Store.{formals_read};
+ghost use Rattle.rdlpp_table.specs.Store.{formals_read, IsListed};
 
-use crate::stored::place_in_list;
+use crate::marks::{Listed, place_of};
 use rdlpp_scan::{Kind, Mode, Token, first_token, quiet_bytes};
 
 /// The first place of a range of a body that isn't copied as it stands.
@@ -44,15 +44,16 @@ fn is_none(stop: Stop) -> bool
     matches!(stop, Stop::None)
 }
 
-// What a token at a place is, among so many formals as they lie in a table.
+// What a token at a place is, among formals as they lie in a table.
 #[tactic(auto, unfolding(crate::specs::Stops::stop_at))]
-fn stop_at(list: &[u8], count: usize, at: usize, token: Token, text: &[u8]) -> Stop
-    ensures { result ≡ stop_at (formals_read count list.now) at token text.now }
+fn stop_at(formals: &Listed, at: usize, token: Token, text: &[u8]) -> Stop
+    requires { IsListed formals.now.count formals.now.list.now formals.now.marks.now }
+    ensures { result ≡ stop_at (formals_read formals.now.count formals.now.list.now) at token text.now }
 {
     match token.kind {
         Kind::Back => Stop::Usage { at, len: token.len },
         Kind::BareBackquote => Stop::Bare { at },
-        Kind::Name => match place_in_list(list, count, text) {
+        Kind::Name => match place_of(formals, text) {
             Some(place) => Stop::Formal {
                 at,
                 len: token.len,
@@ -76,10 +77,11 @@ fn quiet_len(mode: Mode, text: &[u8]) -> usize
     }
 }
 
-// The first stop of a text whose first byte stands at a place, among so many formals as they lie in a table.
-pub(crate) fn first_stop(list: &[u8], count: usize, text: &[u8], from: usize) -> Stop
-    requires { from + length text.now < 2 ^ 64 }
-    ensures { result ≡ stop_of (formals_read count list.now) from text.now }
+// The first stop of a text whose first byte stands at a place, among formals as they lie in a table.
+pub(crate) fn first_stop(formals: &Listed, text: &[u8], from: usize) -> Stop
+    requires listed { IsListed formals.now.count formals.now.list.now formals.now.marks.now }
+    requires short { from + length text.now < 2 ^ 64 }
+    ensures { result ≡ stop_of (formals_read formals.now.count formals.now.list.now) from text.now }
 {
     let mut mode = Mode::Plain;
     let mut rest = text;
@@ -93,7 +95,7 @@ pub(crate) fn first_stop(list: &[u8], count: usize, text: &[u8], from: usize) ->
         }
         let token = first_token(mode, rest);
         let (here, after) = rest.split_at(token.len);
-        let stop = stop_at(list, count, at, token, here);
+        let stop = stop_at(formals, at, token, here);
         if !is_none(stop) {
             return stop;
         }
@@ -104,10 +106,11 @@ pub(crate) fn first_stop(list: &[u8], count: usize, text: &[u8], from: usize) ->
     Stop::None
 }
 
-// Whether a body is copied as it stands, by so many formals as they lie in a table.
-pub(crate) fn is_copied(list: &[u8], count: usize, body: &[u8]) -> bool
-    requires { length body.now < 2 ^ 64 }
-    ensures { result ≡ is_none (stop_of (formals_read count list.now) 0 body.now) }
+// Whether a body is copied as it stands, by formals as they lie in a table.
+pub(crate) fn is_copied(formals: &Listed, body: &[u8]) -> bool
+    requires listed { IsListed formals.now.count formals.now.list.now formals.now.marks.now }
+    requires short { length body.now < 2 ^ 64 }
+    ensures { result ≡ is_none (stop_of (formals_read formals.now.count formals.now.list.now) 0 body.now) }
 {
-    is_none(first_stop(list, count, body, 0))
+    is_none(first_stop(formals, body, 0))
 }

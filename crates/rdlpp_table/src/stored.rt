@@ -16,7 +16,7 @@ struct StoredFormal<'a> {
 
 // How many bytes of a formal's name bytes begin with.
 #[tactic(auto, unfolding(crate::specs::Store::is_name_byte))]
-fn name_len(bytes: &[u8]) -> usize
+pub(crate) fn name_len(bytes: &[u8]) -> usize
     ensures value { result ≡ prefix_len is_name_byte bytes.now }
     ensures inside { result ≤ length bytes.now }
 {
@@ -73,7 +73,7 @@ fn first_formal(bytes: &[u8]) -> StoredFormal<'_>
 
 // The name of the formal with which bytes begin.
 #[tactic(auto, unfolding(crate::specs::Store::formal_read, crate::specs::Store::formal_behind))]
-fn formal_name(bytes: &[u8]) -> &[u8]
+pub(crate) fn formal_name(bytes: &[u8]) -> &[u8]
     ensures name { result.now ≡ (formal_read bytes.now).formal.name }
     ensures len { length result.now ≡ prefix_len is_name_byte bytes.now }
     ensures inside { length result.now ≤ length bytes.now }
@@ -83,7 +83,7 @@ fn formal_name(bytes: &[u8]) -> &[u8]
 
 // What stands behind the comma of the formal with which bytes begin, whose name has so many bytes.
 #[tactic(auto, unfolding(crate::specs::Store::formal_read, crate::specs::Store::formal_behind, crate::specs::Store::behind_stored))]
-fn behind_formal(bytes: &[u8], name_len: usize) -> &[u8]
+pub(crate) fn behind_formal(bytes: &[u8], name_len: usize) -> &[u8]
     requires len { name_len ≡ prefix_len is_name_byte bytes.now }
     requires inside { name_len ≤ length bytes.now }
     ensures { result.now ≡ (formal_read bytes.now).behind }

@@ -2,8 +2,11 @@
 ghost use Rattle.std.specs.Prelude.{
   [],
   bytes_eq,
+  drop,
   length,
   map,
+  slice_range,
+  take,
   unwrap_or,
   vec_capacity,
   vec_len,
@@ -13,6 +16,7 @@ ghost use Rattle.std.specs.Prelude.{
   ◌+◌,
   ◌++◌,
   ◌-◌,
+  ◌/◌,
   ◌<◌,
   ◌≡◌,
   ◌≤◌,
@@ -21,13 +25,15 @@ ghost use Rattle.std.specs.Prelude.{
 };
 ghost use Rattle.std.specs.List.{flat_map, IsDistinct};
 ghost use Rattle.rdlpp_table.specs.Index.{names_of, IsIndexed};
-ghost use Rattle.rdlpp_table.specs.Store.{macros_in, IsStored};
+ghost use Rattle.rdlpp_table.specs.Marks.{table_marks};
+ghost use Rattle.rdlpp_table.specs.Store.{macros_in, IsListed, IsStored};
 ghost use Rattle.rdlpp_table.specs.Table.{formal_bytes, table_size, without};
 ghost use Rattle.rdlpp_table.specs.New.{copied_told, list_formals, new_macro, IsList, IsNew};
 
 use crate::entry::Entry;
 use crate::formals::append_list;
 use crate::index::{enter, gap_in, place_in};
+use crate::marks::{Listed, push_marks};
 use crate::parts::{begin_later, part_of};
 use crate::removal::take_out_named;
 use crate::sought::Steps;
@@ -68,37 +74,53 @@ fn append_formals(bytes: &mut Vec<u8>, new: &New)
     }
 }
 
-// Whether the body behind a place is copied as it stands, by the formals between two places.
-fn copied_at(bytes: &[u8], list: usize, body: usize, count: usize) -> bool
+// Whether the body behind a place is copied as it stands, by the formals between two places and their marks.
+fn copied_at(bytes: &[u8], list: usize, body: usize, count: usize, marks: &[u32]) -> bool
     requires order { (list ≤ body) × (body ≤ length bytes.now) }
     requires short { length bytes.now < 2 ^ 64 }
+    requires listed { IsListed count (slice_range bytes.now list body) marks.now }
     ensures { result ≡ copied_told bytes.now list body count }
 {
-    is_copied(&bytes[list..body], count, &bytes[body..])
+    let formals = Listed {
+        list: &bytes[list..body],
+        count,
+        marks,
+    };
+    is_copied(&formals, &bytes[body..])
 }
 
-// Puts a macro behind the others.
-fn put(bytes: &mut Vec<u8>, entries: &mut Vec<Entry>, new: &New)
+// Puts a macro behind the others, of which the index has a place already.
+fn put(bytes: &mut Vec<u8>, entries: &mut Vec<Entry>, order: &mut Vec<u32>, new: &New)
     requires stored { IsStored bytes.old.items entries.old.items (macros_in bytes.old.items entries.old.items) }
     requires counted { IsNew new.now.name.now new.now.arity new.now.list.now new.now.list_len new.now.is_logical new.now.text.now new.now.body_len }
+    requires index { vec_len entries.old < vec_len order.old }
+    requires marked { drop (vec_len entries.old + 1) order.old.items ≡ table_marks (macros_in bytes.old.items entries.old.items) }
     requires room { vec_len bytes.old + (length new.now.name.now + (new.now.list_len + new.now.body_len)) ≤ vec_capacity bytes.old }
     requires entry_room { vec_len entries.old < vec_capacity entries.old }
+    requires mark_room { vec_len order.old + new.now.list_len / 8 ≤ vec_capacity order.old }
+    requires small { new.now.list_len < 2 ^ 32 }
     ensures stored { IsStored bytes.new.items entries.new.items (macros_in bytes.old.items entries.old.items ++ new_macro new.now.name.now new.now.arity new.now.list.now new.now.is_logical new.now.text.now ∷ []) }
-    ensures capacity { (vec_capacity bytes.old ≤ vec_capacity bytes.new) × (vec_capacity entries.new ≡ vec_capacity entries.old) }
+    ensures index { take (vec_len entries.new) order.new.items ≡ take (vec_len entries.old + 1) order.old.items }
+    ensures marked { drop (vec_len entries.new) order.new.items ≡ table_marks (macros_in bytes.old.items entries.old.items ++ new_macro new.now.name.now new.now.arity new.now.list.now new.now.is_logical new.now.text.now ∷ []) }
+    ensures capacity { (vec_capacity bytes.old ≤ vec_capacity bytes.new) × (vec_capacity entries.new ≡ vec_capacity entries.old) × (vec_capacity order.new ≡ vec_capacity order.old) }
 {
     let start = bytes.len();
     append(bytes, new.name);
     let list = bytes.len();
     append_formals(bytes, new);
     let body = bytes.len();
+    let first = order.len();
+    let count = new.arity.unwrap_or(0);
+    push_marks(order, &bytes[list..], count);
     append_trimmed(bytes, new.text, new.is_logical, false, new.body_len);
-    let is_copied = copied_at(bytes.as_slice(), list, body, new.arity.unwrap_or(0));
+    let is_copied = copied_at(bytes.as_slice(), list, body, count, &order[first..]);
     entries.push_reserved(Entry {
         start,
         name_len: new.name.len(),
         list_len: new.list_len,
         body_len: new.body_len,
         arity: new.arity,
+        marks: first - (entries.len() + 1),
         is_copied,
     });
 }
@@ -150,19 +172,23 @@ pub(crate) fn replace(
 )
     requires stored { IsStored bytes.old.items entries.old.items (macros_in bytes.old.items entries.old.items) }
     requires distinct { IsDistinct bytes_eq (map (λ m. m.name) (macros_in bytes.old.items entries.old.items)) }
-    requires indexed { IsIndexed (names_of (macros_in bytes.old.items entries.old.items)) order.old.items starts.old }
+    requires indexed { IsIndexed (names_of (macros_in bytes.old.items entries.old.items)) (take (vec_len entries.old) order.old.items) starts.old }
+    requires marked { drop (vec_len entries.old) order.old.items ≡ table_marks (macros_in bytes.old.items entries.old.items) }
     requires few { vec_len entries.old ≤ 65536 }
+    requires small { new.now.list_len < 2 ^ 32 }
     requires counted { IsNew new.now.name.now new.now.arity new.now.list.now new.now.list_len new.now.is_logical new.now.text.now new.now.body_len }
     requires room { table_size (without new.now.name.now (macros_in bytes.old.items entries.old.items)) + (length new.now.name.now + (new.now.list_len + new.now.body_len)) ≤ vec_capacity bytes.old }
     requires entry_room { length (without new.now.name.now (macros_in bytes.old.items entries.old.items)) < vec_capacity entries.old }
-    requires index_room { length (without new.now.name.now (macros_in bytes.old.items entries.old.items)) < vec_capacity order.old }
+    requires index_room { length (without new.now.name.now (macros_in bytes.old.items entries.old.items)) + (table_size (without new.now.name.now (macros_in bytes.old.items entries.old.items)) + new.now.list_len) / 8 < vec_capacity order.old }
     ensures stored { IsStored bytes.new.items entries.new.items (without new.now.name.now (macros_in bytes.old.items entries.old.items) ++ new_macro new.now.name.now new.now.arity new.now.list.now new.now.is_logical new.now.text.now ∷ []) }
-    ensures indexed { IsIndexed (names_of (without new.now.name.now (macros_in bytes.old.items entries.old.items) ++ new_macro new.now.name.now new.now.arity new.now.list.now new.now.is_logical new.now.text.now ∷ [])) order.new.items starts.new }
+    ensures indexed { IsIndexed (names_of (without new.now.name.now (macros_in bytes.old.items entries.old.items) ++ new_macro new.now.name.now new.now.arity new.now.list.now new.now.is_logical new.now.text.now ∷ [])) (take (vec_len entries.new) order.new.items) starts.new }
+    ensures marked { drop (vec_len entries.new) order.new.items ≡ table_marks (without new.now.name.now (macros_in bytes.old.items entries.old.items) ++ new_macro new.now.name.now new.now.arity new.now.list.now new.now.is_logical new.now.text.now ∷ []) }
     ensures capacity { (vec_capacity bytes.old ≤ vec_capacity bytes.new) × (vec_capacity entries.new ≡ vec_capacity entries.old) × (vec_capacity order.new ≡ vec_capacity order.old) }
 {
     take_out_named(bytes, entries, order, starts, new.name);
-    let gap = gap_in(bytes, entries, order, starts, new.name);
-    enter(order, gap, entries.len());
+    let count = entries.len();
+    let gap = gap_in(bytes, entries, &order[..count], starts, new.name);
+    enter(order, gap, count);
     begin_later(starts, part_of(new.name));
-    put(bytes, entries, new);
+    put(bytes, entries, order, new);
 }

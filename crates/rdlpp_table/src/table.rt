@@ -8,20 +8,21 @@ ghost use Rattle.rdlpp_table.specs.Stops.{is_copied, stop_in};
 ghost use Rattle.rdlpp_table.specs.Table.{macro_named, table_bytes, table_size, without};
 ghost use Rattle.rdlpp_scan.specs.SourceTokens.{logical_len};
 ghost use Rattle.rdlpp_table.specs.Define.{define_of, name_fault, observed, set_of, stored, stored_draft, with_body, with_list};
+ghost use Rattle.rdlpp_table.specs.Store.{formals_read, IsListed};
 ghost use Rattle.rdlpp_table.specs.View.{TableView, AreSoundFormals, IsSound, IsSoundMacro, formal_at, formal_named, formals_of, macro_at, place_named};
 
-use crate::entry::{Entry, body_in, formals_in, list_in};
+use crate::entry::{Entry, body_in, listed_in};
 use crate::fault::{DefineFault, DefineKind, NoMemory, lexical, refusal};
 use crate::formals::read_list;
 use crate::header::{after_space, leading_name, list_behind, unended};
 use crate::index::place_in;
 use crate::limits::Limits;
+use crate::marks::{LONG_FORMAL, Listed, default_of, place_of};
 use crate::name::check_name;
 use crate::parts::STARTS;
 use crate::removal::take_out_named;
 use crate::sought::Steps;
 use crate::stop::{Stop, first_stop};
-use crate::stored::{default_in_list, place_in_list};
 use crate::storing::{New, Rest, beside, replace};
 use rdlpp_lines::trimmed_len;
 use rdlpp_scan::is_name;
@@ -35,7 +36,8 @@ use std::marker::Model;
 pub struct Table {
     bytes: Vec<u8>,
     entries: Vec<Entry>,
-    // The places of the entries, sorted by the parts in which their names stand, and then by name.
+    // The places of the entries, sorted by the parts in which their names stand, and then by name; and behind them where
+    // the formals of each macro begin among their bytes, where these are long.
     order: Vec<u32>,
     // Where each part of the index begins, and where the last one ends.
     starts: [u32; STARTS],
@@ -97,7 +99,8 @@ impl Table {
             Ok(entries) => entries,
             Err(_) => return Err(NoMemory),
         };
-        let order = match Vec::with_capacity(alloc, limits.definitions) {
+        let marks = limits.definition_bytes / LONG_FORMAL;
+        let order = match Vec::with_capacity(alloc, limits.definitions + marks) {
             Ok(order) => order,
             Err(_) => return Err(NoMemory),
         };
@@ -157,7 +160,7 @@ impl Table {
         let index = place_in(
             &self.bytes,
             &self.entries,
-            &self.order,
+            &self.order[..self.entries.len()],
             &self.starts,
             name,
             steps,
@@ -207,8 +210,7 @@ impl Table {
         if entry.is_copied && to - from == body.len() {
             return Stop::None;
         }
-        let list = formals_in(self.bytes.as_slice(), entry);
-        first_stop(list, entry.arity.unwrap_or(0), &body[from..to], from)
+        first_stop(&self.formals(id), &body[from..to], from)
     }
 
     /// The place of a formal among a macro's formals, counted from 0; `None` where the macro has no list,
@@ -217,11 +219,7 @@ impl Table {
         requires { id < length self.now.macros }
         ensures { result ≡ formal_named (formals_of (macro_at self.now.macros id)) name.now }
     {
-        let entry = &self.entries[id.index];
-        match entry.arity {
-            Some(count) => place_in_list(list_in(self.bytes.as_slice(), entry), count, name),
-            None => None,
-        }
+        place_of(&self.formals(id), name)
     }
 
     /// The default text of a macro's formal at a place, counted from 0; empty where it has none (this project's profile).
@@ -230,9 +228,17 @@ impl Table {
         requires i { i < length (formals_of (macro_at self.now.macros id)) }
         ensures { result.now ≡ (formal_at (formals_of (macro_at self.now.macros id)) i).text }
     {
-        let entry = &self.entries[id.index];
-        let count = entry.arity.unwrap_or(0);
-        default_in_list(list_in(self.bytes.as_slice(), entry), count, i)
+        default_of(&self.formals(id), i)
+    }
+
+    // The formals of a macro as they lie in the table, and their marks.
+    fn formals(&self, id: MacroId) -> Listed<'_>
+        requires { id < length self.now.macros }
+        ensures formals { formals_read result.count result.list.now ≡ formals_of (macro_at self.now.macros id) }
+        ensures listed { IsListed result.count result.list.now result.marks.now }
+    {
+        let (_, marks) = self.order.split_at(self.entries.len());
+        listed_in(self.bytes.as_slice(), marks, &self.entries[id.index])
     }
 
     /// Takes out the macro of a name, and answers whether there was one.
@@ -304,7 +310,13 @@ impl Table {
         ensures count { result.count ≡ length (without name.now self.now.macros) }
         ensures sound { IsSound self.now }
     {
-        beside(&self.bytes, &self.entries, &self.order, &self.starts, name)
+        beside(
+            &self.bytes,
+            &self.entries,
+            &self.order[..self.entries.len()],
+            &self.starts,
+            name,
+        )
     }
 
     // Stores a macro of a name with what stands behind the name in a logical line.

@@ -201,6 +201,27 @@ fn defaults_are_read_and_found_again(rt: HostRuntime) {
 }
 
 #[test]
+fn formals_with_long_defaults_are_found(rt: HostRuntime) {
+    let mut table = table(&rt, 1_024, 4);
+    let first = b" E(a=(0123456789), b=[0123456789]) a b\n";
+    let second = b" F(a=(0123456789), long, b=[a, b, c, d], c=0123456789) a b\n";
+    assert_eq!(rt; define(&rt, &mut table, first.as_slice()), None);
+    assert_eq!(rt; define(&rt, &mut table, second.as_slice()), None);
+    for has_both in [true, false] {
+        assert_eq!(rt; table.find(b"E".as_slice()).is_some(), has_both);
+        assert_eq!(rt; formal(&table, b"long".as_slice()), Some(1));
+        assert_eq!(rt; formal(&table, b"c".as_slice()), Some(3));
+        assert_eq!(rt; formal(&table, b"lon".as_slice()), None);
+        assert_eq!(rt; formal(&table, b"d".as_slice()), None);
+        assert!(rt; default_text(&table, 0) == b"(0123456789)".as_slice());
+        assert!(rt; default_text(&table, 1).is_empty());
+        assert!(rt; default_text(&table, 2) == b"[a, b, c, d]".as_slice());
+        assert!(rt; default_text(&table, 3) == b"0123456789".as_slice());
+        let _ = table.remove(b"E".as_slice());
+    }
+}
+
+#[test]
 fn broken_defaults_are_refused(rt: HostRuntime) {
     let mut table = table(&rt, 1_024, 4);
     let refused = Some(DefineKind::BadFormals);

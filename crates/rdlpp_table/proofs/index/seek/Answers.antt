@@ -14,7 +14,7 @@ bounds-entries-order c =
 
 pub name_in-name-requires : goal.name_in-name-requires
 name_in-name-requires c =
-    let blank : Entry = record { start = 0; name_len = 0; list_len = 0; body_len = 0; arity = None; is_copied = false } in
+    let blank : Entry = record { start = 0; name_len = 0; list_len = 0; body_len = 0; arity = None; marks = 0; is_copied = false } in
     let h : c.middle_of-middle.result < length c.args.order.now = omega (arith, c.loop-low.invariant.fits, c.middle_of-middle.ensures.to) in
     end_of_entry _ _ _ _ blank c.requires.within c.requires.indexed.index h
 

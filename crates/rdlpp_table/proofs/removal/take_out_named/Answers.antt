@@ -1,46 +1,97 @@
-use Rattle.std.proofs.Common.{◌∙◌, Some, None, ap, arith, sym}
+use Rattle.std.proofs.Common.{◌≡◌, ◌+◌, ◌-◌, ◌<◌, ◌≤◌, ◌∙◌, ℕ, List, Some, None, ap, arith, drop, get_or, length, map, remove, subst, sym, take, vec_len}
+use Rattle.std.proofs.lemmas.List.{length-take-le}
+use Rattle.rdlpp_table.specs.Index.{closed, names_of, IsGap, IsIndexed, IsPlace}
+use Rattle.rdlpp_table.specs.Marks.{table_marks}
+use Rattle.rdlpp_table.specs.Store.{macros_in}
+use Rattle.rdlpp_table.specs.Table.{without}
 use Rattle.rdlpp_table.proofs.Sizes.{count_items}
 use Rattle.rdlpp_table.proofs.Laid.{is_named, stored_slices_within}
 use Rattle.rdlpp_table.proofs.Held.{stored_without, stored_nowhere}
-use Rattle.rdlpp_table.proofs.Keyed.{entry_inside, gapped, left_nowhere, left_without, placed}
-use Rattle.rdlpp_table.proofs.Divided.{sooner_is}
+use Rattle.rdlpp_table.proofs.Keyed.{entry_inside, gapped, index_front, left_nowhere, left_without, marks_nowhere, length_front, marks_without, placed}
+use Rattle.rdlpp_table.proofs.Divided.{sooner_is, sooner_more}
 use Rattle.rdlpp_table.proofs.Orders.{indexed_gap, indexed_place}
 use Rattle.rdlpp_table.proofs.removal.take_out_named.Goals as goal
 
+pub slice_bounds-seek-end : goal.slice_bounds-seek-end
+slice_bounds-seek-end c =
+    sym (length-take-le c.len-count.result c.deref-3.result.now (omega (arith, index_front c.args.bytes.now.items c.args.entries.now c.args.order.now.items c.requires.indexed.index, c.len-count.ensures, ap (length {A = ℕ}) c.deref-3.ensures.value)))
+
 pub seek-requires-clause-within : goal.seek-requires-clause-within
-seek-requires-clause-within c = stored_slices_within _ _ _ _ _ c.deref.ensures.value c.deref-2.ensures.value c.requires.stored
+seek-requires-clause-within c =
+    stored_slices_within _ _ _ _ _ c.deref.ensures.value c.deref-2.ensures.value c.requires.stored
+
+pub leave-place-requires-clause-at : goal.leave-place-requires-clause-at
+leave-place-requires-clause-at c =
+    let p = placed _ _ _ _ _ _ _ _ _ c.deref.ensures.value c.deref-2.ensures.value (ap (take c.len-count.result) c.deref-3.ensures.value ∙ ap (λ (n : ℕ). take n c.args.order.now.items) c.len-count.ensures) c.new.ensures c.in-Ok.ensures.found in
+    omega (arith, p.inside, index_front c.args.bytes.now.items c.args.entries.now c.args.order.now.items c.requires.indexed.index, length_front c.args.order.now.items (vec_len c.args.entries.now), c.len-count.ensures)
+
+pub leave-place-requires-clause-count : goal.leave-place-requires-clause-count
+leave-place-requires-clause-count c =
+    omega (arith, index_front c.args.bytes.now.items c.args.entries.now c.args.order.now.items c.requires.indexed.index, c.len-count.ensures, count_items c.args.order.now)
+
+pub begin_sooner-requires-clause-more : goal.begin_sooner-requires-clause-more
+begin_sooner-requires-clause-more c =
+    let p = placed _ _ _ _ _ _ _ _ _ c.deref.ensures.value c.deref-2.ensures.value (ap (take c.len-count.result) c.deref-3.ensures.value ∙ ap (λ (n : ℕ). take n c.args.order.now.items) c.len-count.ensures) c.new.ensures c.in-Ok.ensures.found in
+    sooner_more _ _ _ _ _ _ c.requires.indexed.divided p c.part_of.ensures.value
 
 pub take_out-requires-clause-place : goal.take_out-requires-clause-place
 take_out-requires-clause-place c =
-    let p = placed _ _ _ _ _ _ _ _ _ c.deref.ensures.value c.deref-2.ensures.value c.deref-3.ensures.value c.new.ensures c.in-Ok.ensures.found in
-    omega (arith, c.leave-place.ensures.value, entry_inside _ _ _ _ c.requires.indexed.index p.inside, count_items c.args.entries.now)
+    let p = placed _ _ _ _ _ _ _ _ _ c.deref.ensures.value c.deref-2.ensures.value (ap (take c.len-count.result) c.deref-3.ensures.value ∙ ap (λ (n : ℕ). take n c.args.order.now.items) c.len-count.ensures) c.new.ensures c.in-Ok.ensures.found in
+    let value : c.leave-place.result ≡ get_or (take (vec_len c.args.entries.now) c.args.order.now.items) c.in-Ok.at 0 = c.leave-place.ensures.value ∙ ap (λ (n : ℕ). get_or (take n c.args.order.now.items) c.in-Ok.at 0) c.len-count.ensures in
+    omega (arith, value, entry_inside _ _ _ _ c.requires.indexed.index p.inside, count_items c.args.entries.now)
+
+pub take_out-requires-clause-index : goal.take_out-requires-clause-index
+take_out-requires-clause-index c =
+    omega (arith, index_front c.args.bytes.now.items c.args.entries.now c.args.order.now.items c.requires.indexed.index, count_items c.args.order.now, c.leave-place.ensures.len)
+
+pub take_out-requires-clause-marked : goal.take_out-requires-clause-marked
+take_out-requires-clause-marked c =
+    ap (λ (n : ℕ). drop (n - 1) c.leave-place.new.order.items) (sym c.len-count.ensures) ∙ (c.leave-place.ensures.marks ∙ (ap (λ (n : ℕ). drop n c.args.order.now.items) c.len-count.ensures ∙ c.requires.marked))
 
 pub returns-in-Ok-clause-value : goal.returns-in-Ok-clause-value
 returns-in-Ok-clause-value c =
-    let p = placed _ _ _ _ _ _ _ _ _ c.deref.ensures.value c.deref-2.ensures.value c.deref-3.ensures.value c.new.ensures c.in-Ok.ensures.found in
+    let p = placed _ _ _ _ _ _ _ _ _ c.deref.ensures.value c.deref-2.ensures.value (ap (take c.len-count.result) c.deref-3.ensures.value ∙ ap (λ (n : ℕ). take n c.args.order.now.items) c.len-count.ensures) c.new.ensures c.in-Ok.ensures.found in
     is_named _ _ (Some _) (sym (indexed_place _ _ _ _ c.requires.indexed.index p))
 
 pub returns-in-Ok-clause-stored : goal.returns-in-Ok-clause-stored
 returns-in-Ok-clause-stored c =
-    let p = placed _ _ _ _ _ _ _ _ _ c.deref.ensures.value c.deref-2.ensures.value c.deref-3.ensures.value c.new.ensures c.in-Ok.ensures.found in
-    stored_without _ _ _ _ _ c.requires.distinct (indexed_place _ _ _ _ c.requires.indexed.index p ∙ ap Some (sym c.leave-place.ensures.value)) c.take_out.ensures.stored
+    let p = placed _ _ _ _ _ _ _ _ _ c.deref.ensures.value c.deref-2.ensures.value (ap (take c.len-count.result) c.deref-3.ensures.value ∙ ap (λ (n : ℕ). take n c.args.order.now.items) c.len-count.ensures) c.new.ensures c.in-Ok.ensures.found in
+    let value : c.leave-place.result ≡ get_or (take (vec_len c.args.entries.now) c.args.order.now.items) c.in-Ok.at 0 = c.leave-place.ensures.value ∙ ap (λ (n : ℕ). get_or (take n c.args.order.now.items) c.in-Ok.at 0) c.len-count.ensures in
+    stored_without _ _ _ _ _ c.requires.distinct (indexed_place _ _ _ _ c.requires.indexed.index p ∙ ap Some (sym value)) c.take_out.ensures.stored
 
 pub returns-in-Ok-clause-indexed : goal.returns-in-Ok-clause-indexed
 returns-in-Ok-clause-indexed c =
-    let p = placed _ _ _ _ _ _ _ _ _ c.deref.ensures.value c.deref-2.ensures.value c.deref-3.ensures.value c.new.ensures c.in-Ok.ensures.found in
-    left_without _ _ _ _ _ _ _ _ _ c.requires.distinct c.requires.indexed p c.leave-place.ensures.value c.leave-place.ensures.items c.part_of.ensures.value (sooner_is _ _ _ (omega (arith, c.part_of.ensures.small, c.requires.indexed.divided.long)) c.begin_sooner.ensures)
+    let p = placed _ _ _ _ _ _ _ _ _ c.deref.ensures.value c.deref-2.ensures.value (ap (take c.len-count.result) c.deref-3.ensures.value ∙ ap (λ (n : ℕ). take n c.args.order.now.items) c.len-count.ensures) c.new.ensures c.in-Ok.ensures.found in
+    let value : c.leave-place.result ≡ get_or (take (vec_len c.args.entries.now) c.args.order.now.items) c.in-Ok.at 0 = c.leave-place.ensures.value ∙ ap (λ (n : ℕ). get_or (take n c.args.order.now.items) c.in-Ok.at 0) c.len-count.ensures in
+    let left : take (vec_len c.take_out.new.entries) c.take_out.new.order.items ≡ map (closed c.leave-place.result) (remove (take (vec_len c.args.entries.now) c.args.order.now.items) c.in-Ok.at) =
+    c.take_out.ensures.index
+    ∙ (ap (λ (n : ℕ). take (n - 1) c.leave-place.new.order.items) (sym c.len-count.ensures)
+    ∙ (c.leave-place.ensures.index
+    ∙ ap (λ (n : ℕ). map (closed c.leave-place.result) (remove (take n c.args.order.now.items) c.in-Ok.at)) c.len-count.ensures)) in
+    left_without _ _ _ _ _ _ _ _ _ c.requires.distinct c.requires.indexed p value left c.part_of.ensures.value (sooner_is _ _ _ (omega (arith, c.part_of.ensures.small, c.requires.indexed.divided.long)) c.begin_sooner.ensures)
+
+pub returns-in-Ok-clause-marked : goal.returns-in-Ok-clause-marked
+returns-in-Ok-clause-marked c =
+    let p = placed _ _ _ _ _ _ _ _ _ c.deref.ensures.value c.deref-2.ensures.value (ap (take c.len-count.result) c.deref-3.ensures.value ∙ ap (λ (n : ℕ). take n c.args.order.now.items) c.len-count.ensures) c.new.ensures c.in-Ok.ensures.found in
+    let value : c.leave-place.result ≡ get_or (take (vec_len c.args.entries.now) c.args.order.now.items) c.in-Ok.at 0 = c.leave-place.ensures.value ∙ ap (λ (n : ℕ). get_or (take n c.args.order.now.items) c.in-Ok.at 0) c.len-count.ensures in
+    c.take_out.ensures.marked ∙ marks_without _ _ _ c.requires.distinct (indexed_place _ _ _ _ c.requires.indexed.index p ∙ ap Some (sym value))
 
 pub returns-clause-value : goal.returns-clause-value
 returns-clause-value c =
-    let g = gapped _ _ _ _ _ _ _ _ _ c.deref.ensures.value c.deref-2.ensures.value c.deref-3.ensures.value c.new.ensures c.in-Err.ensures.found in
+    let g = gapped _ _ _ _ _ _ _ _ _ c.deref.ensures.value c.deref-2.ensures.value (ap (take c.len-count.result) c.deref-3.ensures.value ∙ ap (λ (n : ℕ). take n c.args.order.now.items) c.len-count.ensures) c.new.ensures c.in-Err.ensures.found in
     is_named _ _ None (sym (indexed_gap _ _ _ _ c.requires.indexed.index g))
 
 pub returns-clause-stored : goal.returns-clause-stored
 returns-clause-stored c =
-    let g = gapped _ _ _ _ _ _ _ _ _ c.deref.ensures.value c.deref-2.ensures.value c.deref-3.ensures.value c.new.ensures c.in-Err.ensures.found in
+    let g = gapped _ _ _ _ _ _ _ _ _ c.deref.ensures.value c.deref-2.ensures.value (ap (take c.len-count.result) c.deref-3.ensures.value ∙ ap (λ (n : ℕ). take n c.args.order.now.items) c.len-count.ensures) c.new.ensures c.in-Err.ensures.found in
     stored_nowhere _ _ _ _ (indexed_gap _ _ _ _ c.requires.indexed.index g) c.requires.stored
 
 pub returns-clause-indexed : goal.returns-clause-indexed
 returns-clause-indexed c =
-    let g = gapped _ _ _ _ _ _ _ _ _ c.deref.ensures.value c.deref-2.ensures.value c.deref-3.ensures.value c.new.ensures c.in-Err.ensures.found in
+    let g = gapped _ _ _ _ _ _ _ _ _ c.deref.ensures.value c.deref-2.ensures.value (ap (take c.len-count.result) c.deref-3.ensures.value ∙ ap (λ (n : ℕ). take n c.args.order.now.items) c.len-count.ensures) c.new.ensures c.in-Err.ensures.found in
     left_nowhere _ _ _ _ (indexed_gap _ _ _ _ c.requires.indexed.index g) c.requires.indexed
+
+pub returns-clause-marked : goal.returns-clause-marked
+returns-clause-marked c =
+    let g = gapped _ _ _ _ _ _ _ _ _ c.deref.ensures.value c.deref-2.ensures.value (ap (take c.len-count.result) c.deref-3.ensures.value ∙ ap (λ (n : ℕ). take n c.args.order.now.items) c.len-count.ensures) c.new.ensures c.in-Err.ensures.found in
+    c.requires.marked ∙ marks_nowhere _ _ (indexed_gap _ _ _ _ c.requires.indexed.index g)

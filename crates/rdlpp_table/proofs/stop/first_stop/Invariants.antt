@@ -4,7 +4,7 @@ use Rattle.rdlpp_table.proofs.Stopping.{IsStopping}
 use Rattle.rdlpp_table.proofs.stop.first_stop.Given as goal
 
 abbrev pub invariant-loop-rest : goal.invariant-loop-rest
-invariant-loop-rest l = IsStopping (formals_read l.count l.list) l.from l.text l.mode l.at l.rest
+invariant-loop-rest l = IsStopping (formals_read l.formals.count l.formals.list.now) l.from l.text l.mode l.at l.rest
 
 abbrev pub decreases-loop-rest : goal.decreases-loop-rest
 decreases-loop-rest l = length l.rest

@@ -25,31 +25,31 @@ overflow_sub-result-in-Some c =
 pub overflow_add-result : goal.overflow_add-result
 overflow_add-result c =
     let at : place_named (macros_in c.args.bytes.now c.args.entries.now) c.args.name.now ≡ Some c.in-Some.place = sym c.place_in.ensures.value ∙ c.in-Some.is in
-    let blank : Entry = record { start = 0; name_len = 0; list_len = 0; body_len = 0; arity = None; is_copied = false } in
+    let blank : Entry = record { start = 0; name_len = 0; list_len = 0; body_len = 0; arity = None; marks = 0; is_copied = false } in
     omega (arith, beside_size _ _ _ _ _ blank c.requires.stored c.requires.distinct at)
 
 pub overflow_add-result-in-Some : goal.overflow_add-result-in-Some
 overflow_add-result-in-Some c =
     let at : place_named (macros_in c.args.bytes.now c.args.entries.now) c.args.name.now ≡ Some c.in-Some.place = sym c.place_in.ensures.value ∙ c.in-Some.is in
-    let blank : Entry = record { start = 0; name_len = 0; list_len = 0; body_len = 0; arity = None; is_copied = false } in
+    let blank : Entry = record { start = 0; name_len = 0; list_len = 0; body_len = 0; arity = None; marks = 0; is_copied = false } in
     omega (arith, beside_size _ _ _ _ _ blank c.requires.stored c.requires.distinct at)
 
 pub overflow_sub-result : goal.overflow_sub-result
 overflow_sub-result c =
     let at : place_named (macros_in c.args.bytes.now c.args.entries.now) c.args.name.now ≡ Some c.in-Some.place = sym c.place_in.ensures.value ∙ c.in-Some.is in
-    let blank : Entry = record { start = 0; name_len = 0; list_len = 0; body_len = 0; arity = None; is_copied = false } in
+    let blank : Entry = record { start = 0; name_len = 0; list_len = 0; body_len = 0; arity = None; marks = 0; is_copied = false } in
     omega (arith, beside_size _ _ _ _ _ blank c.requires.stored c.requires.distinct at)
 
 pub returns-in-Some-clause-size : goal.returns-in-Some-clause-size
 returns-in-Some-clause-size c =
     let at : place_named (macros_in c.args.bytes.now c.args.entries.now) c.args.name.now ≡ Some c.in-Some.place = sym c.place_in.ensures.value ∙ c.in-Some.is in
-    let blank : Entry = record { start = 0; name_len = 0; list_len = 0; body_len = 0; arity = None; is_copied = false } in
+    let blank : Entry = record { start = 0; name_len = 0; list_len = 0; body_len = 0; arity = None; marks = 0; is_copied = false } in
     omega (arith, beside_size _ _ _ _ _ blank c.requires.stored c.requires.distinct at)
 
 pub returns-in-Some-clause-count : goal.returns-in-Some-clause-count
 returns-in-Some-clause-count c =
     let at : place_named (macros_in c.args.bytes.now c.args.entries.now) c.args.name.now ≡ Some c.in-Some.place = sym c.place_in.ensures.value ∙ c.in-Some.is in
-    let blank : Entry = record { start = 0; name_len = 0; list_len = 0; body_len = 0; arity = None; is_copied = false } in
+    let blank : Entry = record { start = 0; name_len = 0; list_len = 0; body_len = 0; arity = None; marks = 0; is_copied = false } in
     omega (arith, beside_count _ _ _ _ _ c.requires.stored c.requires.distinct at)
 
 pub returns-clause-size : goal.returns-clause-size

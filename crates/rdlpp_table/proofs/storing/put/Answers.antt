@@ -1,12 +1,15 @@
-use Rattle.std.proofs.Common.{◌∙◌, ◌++◌, ◌∷◌, [], ap, arith, length, length-append, unwrap_or, List, ℕ}
+use Rattle.std.proofs.Common.{◌≡◌, ◌+◌, ◌-◌, ◌*◌, ◌≤◌, ◌∙◌, ◌++◌, drop, sym, take, vec_len, ◌∷◌, [], ap, arith, length, length-append, unwrap_or, List, ℕ}
 use Rattle.std.specs.List.{flat_map}
 use Rattle.rdlpp_lines.specs.Texts.{start_level}
 use Rattle.rdlpp_table.specs.Table.{Formal, formal_bytes}
 use Rattle.rdlpp_table.proofs.Sizes.{count_items, length_list_bytes}
 use Rattle.rdlpp_table.specs.declared.entry.Entry.{Entry}
 use Rattle.rdlpp_table.specs.New.{list_formals, new_macro}
-use Rattle.rdlpp_table.proofs.Put.{put_stored}
-use Rattle.rdlpp_table.proofs.News.{body_is, new_bytes, new_copied, new_entry, new_plain}
+use Rattle.std.proofs.lemmas.List.{length-drop, take-append-le}
+use Rattle.rdlpp_table.specs.Marks.{marks_of, table_marks}
+use Rattle.rdlpp_table.specs.Store.{macros_in}
+use Rattle.rdlpp_table.proofs.Put.{put_marks, put_stored}
+use Rattle.rdlpp_table.proofs.News.{appended_between, appended_few, appended_last, appended_listed, appended_marks, body_is, new_bytes, new_copied, new_entry, new_plain}
 use Rattle.rdlpp_table.specs.New.{copied_told}
 use Rattle.rdlpp_table.proofs.storing.put.Goals as goal
 
@@ -21,13 +24,52 @@ append_trimmed-requires-clause-room c =
     let listed = length-append c.append.new.bytes.items (flat_map formal_bytes formals) in
     omega (arith, c.requires.room, count_items c.args.bytes.now, count_items c.append_formals.new.bytes, ap (length {A = ℕ}) c.append.ensures.items, named, ap (length {A = ℕ}) c.append_formals.ensures.items, listed, length_list_bytes formals, c.requires.counted.listed.size_is, c.append.ensures.capacity, c.append_formals.ensures.capacity)
 
+pub push_marks-requires-clause-whole : goal.push_marks-requires-clause-whole
+push_marks-requires-clause-whole c =
+    let a = appended_last c.append.new.bytes.items _ c.deref.result.now _ _ _ c.unwrap_or-count.result c.len-list.result c.requires.counted.listed c.append_formals.ensures.items (c.len-list.ensures ∙ count_items c.append.new.bytes) c.unwrap_or-count.ensures c.deref.ensures.value in
+    a.whole
+
+pub push_marks-requires-clause-plain : goal.push_marks-requires-clause-plain
+push_marks-requires-clause-plain c =
+    let a = appended_last c.append.new.bytes.items _ c.deref.result.now _ _ _ c.unwrap_or-count.result c.len-list.result c.requires.counted.listed c.append_formals.ensures.items (c.len-list.ensures ∙ count_items c.append.new.bytes) c.unwrap_or-count.ensures c.deref.ensures.value in
+    a.plain
+
+pub push_marks-requires-clause-short : goal.push_marks-requires-clause-short
+push_marks-requires-clause-short c =
+    let a = appended_last c.append.new.bytes.items _ c.deref.result.now _ _ _ c.unwrap_or-count.result c.len-list.result c.requires.counted.listed c.append_formals.ensures.items (c.len-list.ensures ∙ count_items c.append.new.bytes) c.unwrap_or-count.ensures c.deref.ensures.value in
+    omega (arith, a.long, c.requires.small)
+
+pub push_marks-requires-clause-room : goal.push_marks-requires-clause-room
+push_marks-requires-clause-room c =
+    let a = appended_last c.append.new.bytes.items _ c.deref.result.now _ _ _ c.unwrap_or-count.result c.len-list.result c.requires.counted.listed c.append_formals.ensures.items (c.len-list.ensures ∙ count_items c.append.new.bytes) c.unwrap_or-count.ensures c.deref.ensures.value in
+    omega (arith, appended_few _ _ _ c.unwrap_or-count.result _ c.requires.counted.listed a, c.requires.mark_room)
+
+pub copied_at-is_copied-requires-clause-listed : goal.copied_at-is_copied-requires-clause-listed
+copied_at-is_copied-requires-clause-listed c =
+    let a = appended_last c.append.new.bytes.items _ c.deref.result.now _ _ _ c.unwrap_or-count.result c.len-list.result c.requires.counted.listed c.append_formals.ensures.items (c.len-list.ensures ∙ count_items c.append.new.bytes) c.unwrap_or-count.ensures c.deref.ensures.value in
+    let b = appended_between c.append.new.bytes.items _ _ c.as_slice.result.now _ _ _ c.unwrap_or-count.result c.len-list.result c.len-body.result _ c.requires.counted.listed c.append_formals.ensures.items (c.append_trimmed.ensures.items ∙ ap (λ (l : List ℕ). c.append_formals.new.bytes.items ++ l) (body_is _ _)) (c.len-list.ensures ∙ count_items c.append.new.bytes) (c.len-body.ensures ∙ count_items c.append_formals.new.bytes) c.unwrap_or-count.ensures c.as_slice.ensures.value in
+    appended_listed _ _ _ _ _ _ c.args.order.now.items c.deref-2.result.now c.len-first.result a b (c.deref-2.ensures.value ∙ c.push_marks.ensures.items) (c.len-first.ensures ∙ count_items c.args.order.now)
+
 pub returns-clause-stored : goal.returns-clause-stored
 returns-clause-stored c =
-    put_stored _ _ _ (new_macro c.args.new.now.name.now c.args.new.now.arity c.args.new.now.list.now c.args.new.now.is_logical c.args.new.now.text.now) c.len-start.result _ _
+    put_stored _ _ _ (new_macro c.args.new.now.name.now c.args.new.now.arity c.args.new.now.list.now c.args.new.now.is_logical c.args.new.now.text.now) c.len-start.result (c.len-first.result - (c.len.result + 1)) _ _
     c.requires.stored
     (new_plain _ _ _ _ _ _ c.requires.counted.listed)
     (c.len-start.ensures ∙ count_items c.args.bytes.now)
+    (omega (arith, c.len-first.ensures, count_items c.args.order.now, c.len.ensures, length-drop (vec_len c.args.entries.now + 1) c.args.order.now.items, ap (length {A = ℕ}) c.requires.marked))
     (new_bytes _ _ _ _ _ _ _ _ _ c.append.ensures.items c.append_formals.ensures.items (c.append_trimmed.ensures.items ∙ ap (λ (l : List ℕ). c.append_formals.new.bytes.items ++ l) (body_is _ _)))
-    (c.push_reserved.ensures.items ∙ ap (λ (e : Entry). c.args.entries.now.items ++ e ∷ []) (new_entry c.len-start.result _ _ _ _ _ _ _ _ c.requires.counted
+    (c.push_reserved.ensures.items ∙ ap (λ (e : Entry). c.args.entries.now.items ++ e ∷ []) (new_entry c.len-start.result (c.len-first.result - (c.len.result + 1)) _ _ _ _ _ _ _ _ c.requires.counted
     (new_copied c.args.new.now.name.now _ _ _ _ _ _ _ _ _ _ _ _ c.requires.counted.listed c.append_formals.ensures.items (c.append_trimmed.ensures.items ∙ ap (λ (l : List ℕ). c.append_formals.new.bytes.items ++ l) (body_is _ _))
-    (c.len-list.ensures ∙ count_items c.append.new.bytes) (c.len-body.ensures ∙ count_items c.append_formals.new.bytes) c.unwrap_or.ensures (c.copied_at-is_copied.ensures ∙ ap (λ (x : List ℕ). copied_told x c.len-list.result c.len-body.result c.unwrap_or.result) c.as_slice.ensures.value))))
+    (c.len-list.ensures ∙ count_items c.append.new.bytes) (c.len-body.ensures ∙ count_items c.append_formals.new.bytes) c.unwrap_or-count.ensures (c.copied_at-is_copied.ensures ∙ ap (λ (x : List ℕ). copied_told x c.len-list.result c.len-body.result c.unwrap_or-count.result) c.as_slice.ensures.value))))
+
+pub returns-clause-marked : goal.returns-clause-marked
+returns-clause-marked c =
+    let a = appended_last c.append.new.bytes.items _ c.deref.result.now _ _ _ c.unwrap_or-count.result c.len-list.result c.requires.counted.listed c.append_formals.ensures.items (c.len-list.ensures ∙ count_items c.append.new.bytes) c.unwrap_or-count.ensures c.deref.ensures.value in
+    let n : vec_len c.push_reserved.new.self ≡ vec_len c.args.entries.now + 1 = omega (arith, c.push_reserved.ensures.len) in
+    let m = put_marks c.args.order.now.items (marks_of _) c.push_marks.new.marks.items (macros_in c.args.bytes.now.items c.args.entries.now.items) (new_macro c.args.new.now.name.now c.args.new.now.arity c.args.new.now.list.now c.args.new.now.is_logical c.args.new.now.text.now) (vec_len c.args.entries.now + 1) (omega (arith, c.requires.index, count_items c.args.order.now)) c.requires.marked (appended_marks _ _ _ _ _ _ _ _ a) c.push_marks.ensures.items in
+    ap (λ (k : ℕ). drop k c.push_marks.new.marks.items) n ∙ m.1
+
+pub returns-clause-index : goal.returns-clause-index
+returns-clause-index c =
+    let n : vec_len c.push_reserved.new.self ≡ vec_len c.args.entries.now + 1 = omega (arith, c.push_reserved.ensures.len) in
+    ap (λ (k : ℕ). take k c.push_marks.new.marks.items) n ∙ (ap (take (vec_len c.args.entries.now + 1)) c.push_marks.ensures.items ∙ take-append-le (vec_len c.args.entries.now + 1) c.args.order.now.items _ (omega (arith, c.requires.index, count_items c.args.order.now)))

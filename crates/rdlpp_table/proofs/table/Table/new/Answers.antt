@@ -1,7 +1,7 @@
 use Rattle.std.proofs.Common.{refl}
 use Rattle.std.proofs.lemmas.List.{get_or-replicate}
 use Rattle.rdlpp_table.proofs.Laid.{held_when_empty, empty_view}
-use Rattle.rdlpp_table.proofs.Keyed.{index_of_nothing}
+use Rattle.rdlpp_table.proofs.Keyed.{index_of_nothing, nothing_front, nothing_marked}
 use Rattle.rdlpp_table.proofs.table.Table.new.Goals as goal
 
 pub invariant_of-result : goal.invariant_of-result
@@ -9,9 +9,11 @@ invariant_of-result c = record {
   held = held_when_empty _ _ _ _ c.in-Ok.ensures.items c.in-Ok-with_capacity.ensures.items;
   room = c.in-Ok.ensures.capacity;
   entry_room = c.in-Ok-with_capacity.ensures.capacity;
-  indexed = index_of_nothing _ _ _ _ c.in-Ok-with_capacity.ensures.items c.in-Ok-with_capacity-2.ensures.items refl (λ p h. get_or-replicate 1025 p 0 0 h);
+  indexed = index_of_nothing _ _ _ _ c.in-Ok-with_capacity.ensures.items (nothing_front _ _ c.in-Ok-with_capacity-2.ensures.items) refl (λ p h. get_or-replicate 1025 p 0 0 h);
+  marked = nothing_marked _ _ _ _ c.in-Ok-with_capacity.ensures.items c.in-Ok-with_capacity-2.ensures.items;
   index_room = c.in-Ok-with_capacity-2.ensures.capacity;
   few = c.requires.definitions.1;
+  small = c.requires.definition_bytes.1;
 }
 
 pub returns : goal.returns

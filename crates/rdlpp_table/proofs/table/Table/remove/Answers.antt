@@ -4,7 +4,7 @@ use Rattle.rdlpp_table.specs.View.{TableView}
 use Rattle.rdlpp_table.specs.Layout.{view_of}
 use Rattle.rdlpp_table.proofs.Sizes.{count_items}
 use Rattle.rdlpp_table.proofs.Held.{table_of, held_of, view_after, sound_without}
-use Rattle.rdlpp_table.proofs.Keyed.{few_entries, indexed_after}
+use Rattle.rdlpp_table.proofs.Keyed.{few_entries, indexed_after, marked_after}
 use Rattle.rdlpp_table.proofs.table.Table.remove.Goals as goal
 
 pub take_out_named-requires-clause-stored : goal.take_out_named-requires-clause-stored
@@ -23,8 +23,10 @@ invariant_of-self c = record {
   room = omega (arith, c.take_out_named.ensures.capacity.0, c.self.invariant.room);
   entry_room = omega (arith, c.take_out_named.ensures.capacity.1, c.self.invariant.entry_room);
   indexed = indexed_after _ _ _ _ _ c.take_out_named.ensures.stored c.take_out_named.ensures.indexed;
+  marked = marked_after _ _ _ _ c.take_out_named.ensures.stored c.take_out_named.ensures.marked;
   index_room = omega (arith, c.take_out_named.ensures.capacity.2, c.self.invariant.index_room);
   few = c.self.invariant.few;
+  small = c.self.invariant.small;
 }
 
 pub returns-clause-value : goal.returns-clause-value

@@ -1,7 +1,12 @@
-use Rattle.std.proofs.Common.{◌∙◌, Some, ap, arith, length, sym}
+use Rattle.std.proofs.Common.{◌∙◌, ℕ, Some, ap, arith, length, sym}
+use Rattle.std.proofs.lemmas.List.{length-take-le}
 use Rattle.rdlpp_table.proofs.Laid.{named_at, stored_slices_within}
-use Rattle.rdlpp_table.proofs.Keyed.{few_entries, viewed_place}
+use Rattle.rdlpp_table.proofs.Keyed.{few_entries, index_front, viewed_place}
 use Rattle.rdlpp_table.proofs.table.Table.search.Goals as goal
+
+pub slice_bounds-place_in-end : goal.slice_bounds-place_in-end
+slice_bounds-place_in-end c =
+    sym (length-take-le c.len.result c.deref-3.result.now (omega (arith, index_front c.self.inside.bytes.items c.self.inside.entries c.self.inside.order.items c.self.invariant.indexed.index, c.len.ensures, ap (length {A = ℕ}) c.deref-3.ensures.value)))
 
 pub place_in-requires-clause-within : goal.place_in-requires-clause-within
 place_in-requires-clause-within c = stored_slices_within _ _ _ _ _ c.deref.ensures.value c.deref-2.ensures.value c.self.invariant.held.stored

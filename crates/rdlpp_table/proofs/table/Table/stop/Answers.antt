@@ -1,9 +1,8 @@
 use Rattle.std.proofs.Common.{◌≡◌, ◌<◌, ℕ, ap, length, arith, ◌∙◌}
-use Rattle.rdlpp_table.specs.Store.{formals_read}
 use Rattle.rdlpp_table.specs.View.{macro_at}
 use Rattle.rdlpp_table.proofs.Sizes.{count_items}
 use Rattle.rdlpp_table.proofs.Laid.{copied_at, entry_within, len_of_view}
-use Rattle.rdlpp_table.proofs.Stopped.{body_here, formals_here, no_stop, some_stop}
+use Rattle.rdlpp_table.proofs.Stopped.{body_here, no_stop, some_stop}
 use Rattle.rdlpp_table.proofs.table.Table.stop.Goals as goal
 
 pub index-entry-requires : goal.index-entry-requires
@@ -13,11 +12,6 @@ pub body_in-body-requires : goal.body_in-body-requires
 body_in-body-requires c =
     let h : c.id.inside.index < length c.self.inside.entries.items = omega (arith, c.requires.id, len_of_view _ _ _ _ _ c.self.view_is, c.id.view_is) in
     entry_within _ _ _ _ _ _ _ c.as_slice.ensures.value c.self.invariant.held h c.index-entry.ensures
-
-pub formals_in-list-requires : goal.formals_in-list-requires
-formals_in-list-requires c =
-    let h : c.id.inside.index < length c.self.inside.entries.items = omega (arith, c.requires.id, len_of_view _ _ _ _ _ c.self.view_is, c.id.view_is) in
-    entry_within _ _ _ _ _ _ _ c.as_slice-2.ensures.value c.self.invariant.held h c.index-entry.ensures
 
 pub slice_bounds-first_stop-end : goal.slice_bounds-first_stop-end
 slice_bounds-first_stop-end c =
@@ -29,7 +23,7 @@ pub returns : goal.returns
 returns c =
     let h : c.id.inside.index < length c.self.inside.entries.items = omega (arith, c.requires.id, len_of_view _ _ _ _ _ c.self.view_is, c.id.view_is) in
     let b : c.body_in-body.result.now ≡ (macro_at c.args.self.now.macros c.args.id).body = body_here _ _ _ _ _ _ _ _ _ _ c.as_slice.ensures.value c.self.view_is c.id.view_is h c.index-entry.ensures c.body_in-body.ensures in
-    some_stop (macro_at c.args.self.now.macros c.args.id) _ _ _ _ _ (formals_here _ _ _ _ _ _ _ _ _ _ c.as_slice-2.ensures.value c.self.view_is c.id.view_is h c.index-entry.ensures (ap (λ (n : ℕ). formals_read n c.formals_in-list.result.now) c.unwrap_or.ensures ∙ c.formals_in-list.ensures)) b c.first_stop.ensures
+    some_stop (macro_at c.args.self.now.macros c.args.id) _ _ _ _ _ c.formals.ensures.formals b c.first_stop.ensures
 
 pub returns-then-to-from : goal.returns-then-to-from
 returns-then-to-from c =

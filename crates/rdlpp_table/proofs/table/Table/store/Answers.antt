@@ -11,7 +11,7 @@ use Rattle.rdlpp_table.proofs.News.{new_size}
 use Rattle.rdlpp_table.proofs.Held.{held_of, sound_with, too_large, too_many, fits, refused_is, accepted_is}
 use Rattle.rdlpp_table.proofs.Without.{without_size}
 use Rattle.rdlpp_table.proofs.Taken.{capacity_small}
-use Rattle.rdlpp_table.proofs.Keyed.{few_entries, indexed_after}
+use Rattle.rdlpp_table.proofs.Keyed.{few_entries, indexed_after, marked_after}
 use Rattle.rdlpp_table.proofs.table.Table.store.Goals as goal
 
 pub overflow_sub-self-inside : goal.overflow_sub-self-inside
@@ -45,6 +45,17 @@ replace-requires-clause-room c =
     let small : table_size (without c.args.new.now.name.now c.args.self.now.macros) ≤ c.args.self.now.most_bytes = omega (arith, without_size c.args.new.now.name.now c.args.self.now.macros, c.rest-rest.ensures.sound.bytes_fit) in
     omega (arith, c.rest-rest.ensures.size, c.saturating_add.ensures, c.saturating_add-size.ensures, c.self.invariant.room, capacity_small c.self.inside.bytes, ap (λ (v : TableView). v.most_bytes) c.self.view_is)
 
+pub replace-requires-clause-small : goal.replace-requires-clause-small
+replace-requires-clause-small c =
+    omega (arith, c.rest-rest.ensures.size, c.saturating_add.ensures, c.saturating_add-size.ensures, c.self.invariant.small, ap (λ (v : TableView). v.most_bytes) c.self.view_is)
+
+pub replace-requires-clause-index_room : goal.replace-requires-clause-index_room
+replace-requires-clause-index_room c =
+    let same : table_size (without c.args.new.now.name.now (macros_in c.self.inside.bytes.items c.self.inside.entries.items)) ≡ table_size (without c.args.new.now.name.now c.args.self.now.macros) = ap (λ (v : TableView). table_size (without c.args.new.now.name.now v.macros)) c.self.view_is in
+    let count : length (without c.args.new.now.name.now (macros_in c.self.inside.bytes.items c.self.inside.entries.items)) ≡ length (without c.args.new.now.name.now c.args.self.now.macros) = ap (λ (v : TableView). length (without c.args.new.now.name.now v.macros)) c.self.view_is in
+    let small : table_size (without c.args.new.now.name.now c.args.self.now.macros) ≤ c.args.self.now.most_bytes = omega (arith, without_size c.args.new.now.name.now c.args.self.now.macros, c.rest-rest.ensures.sound.bytes_fit) in
+    omega (arith, c.rest-rest.ensures.size, c.rest-rest.ensures.count, c.saturating_add.ensures, c.saturating_add-size.ensures, c.self.invariant.small, c.self.invariant.index_room, ap (λ (v : TableView). v.most_bytes) c.self.view_is, ap (λ (v : TableView). v.most_macros) c.self.view_is)
+
 pub invariant_of-self : goal.invariant_of-self
 invariant_of-self c =
     let m : Macro = new_macro c.args.new.now.name.now c.args.new.now.arity c.args.new.now.list.now c.args.new.now.is_logical c.args.new.now.text.now in
@@ -60,8 +71,10 @@ invariant_of-self c =
       room = omega (arith, c.replace.ensures.capacity.0, c.self.invariant.room);
       entry_room = omega (arith, c.replace.ensures.capacity.1, c.self.invariant.entry_room);
       indexed = indexed_after _ _ _ _ _ c.replace.ensures.stored c.replace.ensures.indexed;
+      marked = marked_after _ _ _ _ c.replace.ensures.stored c.replace.ensures.marked;
       index_room = omega (arith, c.replace.ensures.capacity.2, c.self.invariant.index_room);
       few = c.self.invariant.few;
+      small = c.self.invariant.small;
     }
 
 pub returns-clause-outcome : goal.returns-clause-outcome

@@ -1,0 +1,35 @@
+use Rattle.std.proofs.Common.{◌<◌, ◌≤◌, ◌∙◌, List, ℕ, bytes_eq, length, drop, get_or, ap, sym, arith, rules, refl}
+use Rattle.std.specs.List.{flat_map}
+use Rattle.std.proofs.lemmas.List.{take_rest}
+use Rattle.rdlpp_table.specs.Table.{formal_bytes}
+use Rattle.rdlpp_table.specs.Store.{formal_read, formals_read}
+use Rattle.rdlpp_table.proofs.Marked.{bytes_from, count_marks, mark_inside, passed_at, start_listed}
+use Rattle.rdlpp_table.proofs.ReadBack.{reached_found, reached_none}
+use Rattle.rdlpp_table.proofs.marks.place_by_marks.Goals as goal
+
+pub loop-place-init : goal.loop-place-init
+loop-place-init c = start_listed _ _ _ _ c.requires.listed
+
+pub slice_bounds-is_named-count : goal.slice_bounds-is_named-count
+slice_bounds-is_named-count c = mark_inside _ _ _ c.loop-place.place c.requires.listed c.requires.marked (omega arith)
+
+pub slice_bounds-is_named-start : goal.slice_bounds-is_named-start
+slice_bounds-is_named-start c =
+    let h : get_or c.args.marks.now c.loop-place.place 0 ≤ length c.args.list.now = mark_inside _ _ _ c.loop-place.place c.requires.listed c.requires.marked (omega arith) in
+    search rules
+
+pub returns-then-is_named : goal.returns-then-is_named
+returns-then-is_named c =
+    let rest : List ℕ = flat_map formal_bytes (drop c.loop-place.place (formals_read c.args.count c.args.list.now)) in
+    let place : c.loop-place.place < c.args.count = omega (arith, count_marks _ _ _ c.requires.listed c.requires.marked) in
+    let here = bytes_from _ _ _ _ c.loop-place.place c.requires.listed c.requires.marked (omega arith) (take_rest c.args.list.now (get_or c.args.marks.now c.loop-place.place 0)) in
+    reached_found _ _ rest _ c.args.count c.loop-place.place place c.loop-place.invariant refl (ap (λ (l : List ℕ). bytes_eq (formal_read l).formal.name c.args.name.now) (sym here) ∙ (sym c.is_named.ensures ∙ c.if-is_named.true))
+
+pub loop-place-preserved : goal.loop-place-preserved
+loop-place-preserved c =
+    let place : c.loop-place.place < c.args.count = omega (arith, count_marks _ _ _ c.requires.listed c.requires.marked) in
+    let here = bytes_from _ _ _ _ c.loop-place.place c.requires.listed c.requires.marked (omega arith) (take_rest c.args.list.now (get_or c.args.marks.now c.loop-place.place 0)) in
+    passed_at _ _ _ _ c.loop-place.place c.requires.listed place c.loop-place.invariant (ap (λ (l : List ℕ). bytes_eq (formal_read l).formal.name c.args.name.now) (sym here) ∙ (sym c.is_named.ensures ∙ c.if-is_named.false))
+
+pub returns : goal.returns
+returns c = reached_none _ _ _ c.args.count c.loop-place.place (omega (arith, count_marks _ _ _ c.requires.listed c.requires.marked)) c.loop-place.invariant

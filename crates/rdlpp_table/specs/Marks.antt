@@ -1,0 +1,27 @@
+-- Where the formals of a macro begin among their bytes, kept where those bytes are many.
+-- A definition that names no source is this project's own.
+use Rattle.std.specs.Prelude.{ℕ, ◌+◌, ◌*◌, Bool, List, [], ◌∷◌, length, nat_le, sum_by, if◌then◌else◌}
+use Rattle.std.specs.List.{flat_map}
+use Rattle.rdlpp_table.specs.Table.{Formal, Macro, formal_size}
+use Rattle.rdlpp_table.specs.View.{formals_of}
+
+-- where each formal begins among the bytes of formals, of which the first begins at a place
+unfoldable pub starts_of : ℕ → List Formal → List ℕ
+starts_of at [] = []
+starts_of at (f ∷ fs) = at ∷ starts_of (at + formal_size f) fs
+
+-- whether it is kept where so many formals begin, which take so many bytes: where they take eight each, or more
+unfoldable pub is_marked : ℕ → ℕ → Bool
+is_marked count size = nat_le (8 * count) size
+
+-- what is kept of where formals begin
+unfoldable pub marks_of : List Formal → List ℕ
+marks_of formals = if is_marked (length formals) (sum_by formal_size formals) then starts_of 0 formals else []
+
+-- what is kept of where the formals of a macro begin
+unfoldable pub macro_marks : Macro → List ℕ
+macro_marks m = marks_of (formals_of m)
+
+-- what is kept of where the formals of macros begin
+unfoldable pub table_marks : List Macro → List ℕ
+table_marks macros = flat_map macro_marks macros

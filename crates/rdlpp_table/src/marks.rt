@@ -1,0 +1,146 @@
+// The formals of a macro in a table's bytes, and where each of them begins, which is kept where they are long.
+ghost use Rattle.std.specs.Prelude.{bytes_eq, length, not, slice_index_or, true, vec_capacity, vec_len, ◌+◌, ◌++◌, ◌<◌, ◌≡◌, ◌≤◌, ◌^◌};
+ghost use Rattle.std.specs.List.{flat_map, list_all};
+ghost use Rattle.rdlpp_table.specs.Marks.{is_marked, marks_of};
+ghost use Rattle.rdlpp_table.specs.Store.{formal_read, formals_read, is_name_byte, is_plain_formal, IsListed};
+ghost use Rattle.rdlpp_table.specs.Table.{formal_bytes};
+ghost use Rattle.rdlpp_table.specs.View.{formal_at, formal_named};
+
+use crate::stored::{behind_formal, default_in_list, formal_name, name_len, place_in_list};
+
+// How many bytes each formal takes, on average, where it is kept where they begin.
+pub(crate) const LONG_FORMAL: usize = 8;
+
+// So many formals as they lie in a table, and where each of them begins, or nothing where they are short.
+#[derive(Clone, Copy, Drop)]
+pub(crate) struct Listed<'a> {
+    pub(crate) list: &'a [u8],
+    pub(crate) count: usize,
+    pub(crate) marks: &'a [u32],
+}
+
+// Whether it is kept where so many formals begin, which take so many bytes.
+#[tactic(auto, unfolding(crate::specs::Marks::is_marked))]
+pub(crate) fn is_marked(count: usize, size: usize) -> bool
+    ensures { result ≡ is_marked count size }
+{
+    count <= size / LONG_FORMAL
+}
+
+// Keeps where so many formals begin, where they are long.
+pub(crate) fn push_marks(marks: &mut Vec<u32>, list: &[u8], count: usize)
+    requires whole { flat_map formal_bytes (formals_read count list.now) ≡ list.now }
+    requires plain { list_all is_plain_formal (formals_read count list.now) ≡ true }
+    requires short { length list.now < 2 ^ 32 }
+    requires room { vec_len marks.old + length (marks_of (formals_read count list.now)) ≤ vec_capacity marks.old }
+    ensures items { marks.new.items ≡ marks.old.items ++ marks_of (formals_read count list.now) }
+    ensures capacity { vec_capacity marks.new ≡ vec_capacity marks.old }
+{
+    if !is_marked(count, list.len()) {
+        return;
+    }
+    let mut rest = list;
+    for _ in 0..count {
+        marks.push_reserved((list.len() - rest.len()) as u32);
+        rest = behind_formal(rest, name_len(rest));
+    }
+}
+
+// The place of the formal of a name.
+pub(crate) fn place_of(formals: &Listed, name: &[u8]) -> Option<usize>
+    requires { IsListed formals.now.count formals.now.list.now formals.now.marks.now }
+    ensures { result ≡ formal_named (formals_read formals.now.count formals.now.list.now) name.now }
+{
+    if is_marked(formals.count, formals.list.len()) {
+        place_by_marks(formals.list, formals.count, formals.marks, name)
+    } else {
+        place_in_list(formals.list, formals.count, name)
+    }
+}
+
+// The default text of the formal at a place.
+pub(crate) fn default_of<'a>(formals: &Listed<'a>, place: usize) -> &'a [u8]
+    requires listed { IsListed formals.now.count formals.now.list.now formals.now.marks.now }
+    requires place { place < formals.now.count }
+    ensures { result.now ≡ (formal_at (formals_read formals.now.count formals.now.list.now) place).text }
+{
+    if is_marked(formals.count, formals.list.len()) {
+        default_by_marks(formals.list, formals.count, formals.marks, place)
+    } else {
+        default_in_list(formals.list, formals.count, place)
+    }
+}
+
+// The byte at a place, or the comma of a formal's end where there is none.
+fn byte_at(bytes: &[u8], place: usize) -> u8
+    ensures { result ≡ slice_index_or bytes.now place 44 }
+{
+    bytes.get(place).copied().unwrap_or(b',')
+}
+
+// Whether no name goes on at a place.
+#[tactic(auto, unfolding(crate::specs::Store::is_name_byte))]
+fn ends_name(bytes: &[u8], place: usize) -> bool
+    ensures { result ≡ not (is_name_byte (slice_index_or bytes.now place 44)) }
+{
+    let next = byte_at(bytes, place);
+    next == b',' || next == b'='
+}
+
+// Whether the formal with which bytes begin has a name.
+fn is_named(bytes: &[u8], name: &[u8]) -> bool
+    ensures { result ≡ bytes_eq (formal_read bytes.now).formal.name name.now }
+{
+    ends_name(bytes, name.len())
+        && bytes.starts_with(name)
+        && formal_name(bytes).len() == name.len()
+}
+
+// The place of the formal of a name, by where each formal begins.
+fn place_by_marks(list: &[u8], count: usize, marks: &[u32], name: &[u8]) -> Option<usize>
+    requires listed { IsListed count list.now marks.now }
+    requires marked { is_marked count (length list.now) ≡ true }
+    ensures { result ≡ formal_named (formals_read count list.now) name.now }
+{
+    for (place, start) in marks.iter().enumerate() {
+        if is_named(&list[*start as usize..], name) {
+            return Some(place);
+        }
+    }
+    None
+}
+
+// The default text of a formal, of which the bytes are given.
+fn default_in(bytes: &[u8]) -> &[u8]
+    requires { formal_bytes (formal_read bytes.now).formal ≡ bytes.now }
+    ensures { result.now ≡ (formal_read bytes.now).formal.text }
+{
+    let len = name_len(bytes);
+    if byte_at(bytes, len) == b'=' {
+        &bytes[len + 1..bytes.len() - 1]
+    } else {
+        &[]
+    }
+}
+
+// Where the formal at a place ends: where the next one begins, or where the list ends.
+fn end_by_marks(list: &[u8], marks: &[u32], place: usize) -> usize
+    requires { place < length marks.now }
+    ensures { result ≡ slice_index_or marks.now (place + 1) (length list.now) }
+{
+    match marks.get(place + 1) {
+        Some(next) => *next as usize,
+        None => list.len(),
+    }
+}
+
+// The default text of the formal at a place, by where each formal begins.
+fn default_by_marks<'a>(list: &'a [u8], count: usize, marks: &[u32], place: usize) -> &'a [u8]
+    requires listed { IsListed count list.now marks.now }
+    requires marked { is_marked count (length list.now) ≡ true }
+    requires place { place < count }
+    ensures { result.now ≡ (formal_at (formals_read count list.now) place).text }
+{
+    let start = marks[place] as usize;
+    default_in(&list[start..end_by_marks(list, marks, place)])
+}
