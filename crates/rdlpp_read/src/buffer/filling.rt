@@ -14,8 +14,8 @@ use super::SourceBuffer;
 use super::ahead::{Ahead, look_ahead};
 use rdlpp_source::{SourceFault, Sources};
 
-// How many bytes the first read of a source asks for at most: a page.
-const FIRST_ROOM: usize = 4_096;
+// How many bytes the first read of a source asks for at most: room is made byte by byte, and many included files are short.
+const FIRST_ROOM: usize = 512;
 
 /// What stands before the next byte of a source.
 #[derive(Clone, Copy, Debug, PartialEq, Eq)]
@@ -95,7 +95,7 @@ fn fill_room(bytes: &mut Vec<u8>, len: usize)
     }
 }
 
-// Makes room behind the first `filled` bytes where there is none: a page for the first read of a source, and as much again
+// Makes room behind the first `filled` bytes where there is none: a little for the first read of a source, and as much again
 // where a read took all, so that a short source touches no more of the memory that is reserved than it needs.
 fn make_room(bytes: &mut Vec<u8>, filled: usize, line_bytes: usize)
     requires inside { filled ≤ vec_len bytes.old }
