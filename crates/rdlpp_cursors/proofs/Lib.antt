@@ -11,6 +11,7 @@ pub mod Scoping
 pub mod Stacking
 pub mod Stepping
 pub mod Stopping
+pub mod Unquoted
 pub mod Usages
 pub mod Falling
 pub mod Standing

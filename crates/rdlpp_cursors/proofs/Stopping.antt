@@ -425,7 +425,7 @@ run-step formals mode text none some e =
     ∙ ap (λ (b : Bool). if b then t.len + run_len formals ts (drop t.len text) else 0) e
 
 -- without formals those are the stops
-back-none : (len : ℕ) (next : Mode) (kind : Kind) (bytes : List ℕ)
+pub back-none : (len : ℕ) (next : Mode) (kind : Kind) (bytes : List ℕ)
     → is_none (stop_at [] 0 (record { kind = kind; len = len; next_mode = next }) bytes) ≡ not (is_back kind)
 unfolding is_none stop_at stop_name is_back
 back-none len next Name bytes = refl

@@ -11,6 +11,7 @@ ghost use Rattle.rdlpp_cursors.specs.Steps.{AreSound};
 use crate::place::TextSource;
 use crate::scopes::{front_source, text_of};
 use crate::slot::Slot;
+use memchr::memchr;
 use rdlpp_calls::Range;
 use rdlpp_scan::{Kind, Mode, first_token};
 use rdlpp_table::{Stop, Table};
@@ -155,6 +156,9 @@ fn run_len(text: &[u8]) -> usize
     ensures value { result ≡ run_len [] (tokens_from Mode.Plain 0 text.now) text.now }
     ensures inside { result ≤ length text.now }
 {
+    if memchr(b'`', text).is_none() {
+        return text.len();
+    }
     let mut mode = Mode::Plain;
     let mut at = 0;
     while at < text.len() {

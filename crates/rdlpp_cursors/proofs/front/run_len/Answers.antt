@@ -1,8 +1,12 @@
-use Rattle.std.proofs.Common.{List, ℕ, ap, sym, ◌∙◌}
+use Rattle.std.proofs.Common.{List, ℕ, not, ap, sym, ◌∙◌}
 use Rattle.std.proofs.lemmas.List.{take_rest}
 use Rattle.rdlpp_scan.specs.Tokens.{token_of}
 use Rattle.rdlpp_cursors.proofs.Stopping.{running-end, running-more, running-start, running-stop}
+use Rattle.rdlpp_cursors.proofs.Unquoted.{run_searched}
 use Rattle.rdlpp_cursors.proofs.front.run_len.Goals as goal
+
+pub returns-then-is_none-clause-value : goal.returns-then-is_none-clause-value
+returns-then-is_none-clause-value c = run_searched c.args.text.now c.memchr.result (c.is_none.ensures ∙ ap not c.if-is_none.true) c.memchr.ensures
 
 pub loop-at-init : goal.loop-at-init
 loop-at-init c = running-start _
