@@ -18,6 +18,9 @@ use rdlpp_table::{DefineFault, Limits, Table};
 use rdlpp_usages::Expansion;
 use std::alloc::Global;
 
+// How many bytes of a path are shown at most.
+const SHOWN_BYTES: usize = 1_024;
+
 impl<S: Sources> Engine<S> {
     /// A fresh engine with an empty table, which writes origin lines where `origins` says so.
     ///
@@ -154,7 +157,7 @@ fn cut_name(name: &str) -> ArrayString<1024>
     ensures { result.bytes ≡ name_cut name.now }
 {
     let mut cut = ArrayString::new();
-    let kept = name.floor_char_boundary(1_024);
+    let kept = name.floor_char_boundary(SHOWN_BYTES);
     cut.push_str(&name[..kept]);
     cut
 }
