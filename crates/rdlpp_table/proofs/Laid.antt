@@ -1,14 +1,14 @@
 -- What follows from how a table lies in its lists.
-use Rattle.std.proofs.Common.{◌≡◌, ℕ, ◌<◌, ◌≤◌, List, [], length, get_or, Option, Some, option_map, is_some, unwrap_or, None, refl, ap, sym, ◌∙◌, arith}
+use Rattle.std.proofs.Common.{◌≡◌, ℕ, ◌<◌, ◌≤◌, List, [], length, get_or, Option, Some, option_map, is_some, None, refl, ap, sym, ◌∙◌, arith}
 use Rattle.std.specs.List.{IsDistinct}
 use Rattle.std.proofs.lemmas.List.{length-map, get_or-map}
 use Rattle.std.proofs.lemmas.List.Elements.{All-nil}
 use Rattle.std.proofs.lemmas.List.Quantifiers.{position-Some}
 use Rattle.rdlpp_table.specs.declared.entry.Entry.{Entry}
 use Rattle.rdlpp_table.specs.Stops.{is_copied}
-use Rattle.rdlpp_table.specs.Table.{Formal, Macro, table_bytes, table_size, macro_named}
-use Rattle.rdlpp_table.specs.View.{TableView, formal_at, formal_named, formals_of, macro_at, no_macro, place_named}
-use Rattle.rdlpp_table.specs.Store.{IsStored, formals_read, list_of, macros_in, macro_in, body_of, entry_end, entry_of, entries_of}
+use Rattle.rdlpp_table.specs.Table.{Macro, table_bytes, table_size, macro_named}
+use Rattle.rdlpp_table.specs.View.{TableView, macro_at, no_macro, place_named}
+use Rattle.rdlpp_table.specs.Store.{IsStored, macros_in, macro_in, body_of, entry_end, entry_of, entries_of}
 use Rattle.rdlpp_table.specs.Entries.{AreWithin}
 use Rattle.rdlpp_table.proofs.Sizes.{stored_within, entry_of_macro}
 use Rattle.rdlpp_table.proofs.Lookup.{find_by_position}
@@ -84,42 +84,3 @@ some_map f (Some x) = refl
 
 pub is_named : (ms : List Macro) (name : List ℕ) (r : Option ℕ) → r ≡ place_named ms name → is_some r ≡ is_some (macro_named ms name)
 is_named ms name r e = some_map (macro_at ms) r ∙ ap is_some (sym (named_at ms name r e))
-
--- the formals of the macro at a place, by its entry
-formals_at : (bs bytes : List ℕ) (entries : List Entry) (a b : ℕ) (view : TableView) (i j : ℕ) (entry : Entry) → bs ≡ bytes → view_of bytes entries a b ≡ view → i ≡ j → i < length entries → entry ≡ get_or entries i entry → formals_of (macro_at view.macros j) ≡ unwrap_or (option_map (λ (n : ℕ). formals_read n (list_of bs entry)) entry.arity) []
-unfolding macro_in
-formals_at bs bytes entries a b view i j entry p e s h q =
-    sym (ap (λ (x : List ℕ). unwrap_or (option_map (λ (n : ℕ). formals_read n (list_of x entry)) entry.arity) []) p
-    ∙ (ap (λ (x : Entry). formals_of (macro_in bytes x)) q
-    ∙ (sym (ap (λ (m : Macro). formals_of m) (macro_at_entry bytes entries a b view i entry e h))
-    ∙ ap (λ (k : ℕ). formals_of (macro_at view.macros k)) s)))
-
-pub formal_found : (bs bytes : List ℕ) (entries : List Entry) (a b : ℕ) (view : TableView) (i j : ℕ) (entry : Entry) (n : ℕ) (list name : List ℕ) (r : Option ℕ) → bs ≡ bytes → view_of bytes entries a b ≡ view → i ≡ j → i < length entries → entry ≡ get_or entries i entry → entry.arity ≡ Some n → list ≡ list_of bs entry → r ≡ formal_named (formals_read n list) name → r ≡ formal_named (formals_of (macro_at view.macros j)) name
-formal_found bs bytes entries a b view i j entry n list name r p e s h q some l f =
-    f
-    ∙ (ap (λ (x : List ℕ). formal_named (formals_read n x) name) l
-    ∙ (sym (ap (λ (o : Option ℕ). formal_named (unwrap_or (option_map (λ (k : ℕ). formals_read k (list_of bs entry)) o) []) name) some)
-    ∙ sym (ap (λ (fs : List Formal). formal_named fs name) (formals_at bs bytes entries a b view i j entry p e s h q))))
-
-pub no_formal : (bytes : List ℕ) (entries : List Entry) (a b : ℕ) (view : TableView) (i j : ℕ) (entry : Entry) (name : List ℕ) → view_of bytes entries a b ≡ view → i ≡ j → i < length entries → entry ≡ get_or entries i entry → entry.arity ≡ None → None ≡ formal_named (formals_of (macro_at view.macros j)) name
-no_formal bytes entries a b view i j entry name e s h q none =
-    sym (ap (λ (fs : List Formal). formal_named fs name) (formals_at bytes bytes entries a b view i j entry refl e s h q)
-    ∙ ap (λ (o : Option ℕ). formal_named (unwrap_or (option_map (λ (k : ℕ). formals_read k (list_of bytes entry)) o) []) name) none)
-
-pub default_found : (bs bytes : List ℕ) (entries : List Entry) (a b : ℕ) (view : TableView) (i j : ℕ) (entry : Entry) (n : ℕ) (list : List ℕ) (place : ℕ) (r : List ℕ) → bs ≡ bytes → view_of bytes entries a b ≡ view → i ≡ j → i < length entries → entry ≡ get_or entries i entry → entry.arity ≡ Some n → list ≡ list_of bs entry → r ≡ (formal_at (formals_read n list) place).text → r ≡ (formal_at (formals_of (macro_at view.macros j)) place).text
-default_found bs bytes entries a b view i j entry n list place r p e s h q some l f =
-    f
-    ∙ (ap (λ (x : List ℕ). (formal_at (formals_read n x) place).text) l
-    ∙ (sym (ap (λ (o : Option ℕ). (formal_at (unwrap_or (option_map (λ (k : ℕ). formals_read k (list_of bs entry)) o) []) place).text) some)
-    ∙ sym (ap (λ (fs : List Formal). (formal_at fs place).text) (formals_at bs bytes entries a b view i j entry p e s h q))))
-
--- a macro with a formal at a place has a list
-some_count : (o : Option (List Formal)) (r : Option ℕ) (place : ℕ) → r ≡ option_map length o → place < length (unwrap_or o []) → (r ≡ Some (unwrap_or r 0)) × (place < unwrap_or r 0)
-some_count None r place e h = absurd (omega arith)
-some_count (Some fs) r place e h =
-    let n : unwrap_or r 0 ≡ length fs = ap (λ (x : Option ℕ). unwrap_or x 0) e in
-    (e ∙ ap Some (sym n), omega arith)
-
-pub arity_found : (bytes : List ℕ) (entries : List Entry) (a b : ℕ) (view : TableView) (i j : ℕ) (entry : Entry) (place : ℕ) → view_of bytes entries a b ≡ view → IsHeld bytes entries a b → i ≡ j → i < length entries → entry ≡ get_or entries i entry → place < length (formals_of (macro_at view.macros j)) → (entry.arity ≡ Some (unwrap_or entry.arity 0)) × (place < unwrap_or entry.arity 0)
-arity_found bytes entries a b view i j entry place e held s h q k =
-    some_count (macro_at view.macros j).formals entry.arity place (arity_at bytes entries a b view i j entry e held s h q) k

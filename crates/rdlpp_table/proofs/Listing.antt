@@ -7,12 +7,12 @@ use Rattle.rdlpp_table.specs.declared.entry.Entry.{Entry}
 use Rattle.rdlpp_table.specs.Entries.{marks_len}
 use Rattle.rdlpp_table.specs.Marks.{macro_marks, marks_of, table_marks}
 use Rattle.rdlpp_table.specs.Store.{entry_of, formal_read, formals_read, is_plain_formal, is_plain_macro, list_of, macro_in, macros_in, IsListed, IsStored}
-use Rattle.rdlpp_table.specs.Table.{Formal, Macro, formal_bytes, macro_bytes, table_bytes, table_size}
-use Rattle.rdlpp_table.specs.View.{formals_of, macro_at, no_macro}
+use Rattle.rdlpp_table.specs.Table.{Macro, formal_bytes, macro_bytes, table_bytes, table_size}
+use Rattle.rdlpp_table.specs.View.{formals_of, macro_at}
 use Rattle.rdlpp_table.specs.Layout.{view_of}
 use Rattle.rdlpp_table.proofs.Laid.{length_macros_in, macro_at_entry}
 use Rattle.rdlpp_table.proofs.RoundTrip.{between_parts, list_back}
-use Rattle.rdlpp_table.proofs.Sizes.{entry_of_macro, length_marks-cons, length_table_bytes, marks_len_of}
+use Rattle.rdlpp_table.proofs.Sizes.{entry_of_macro, length_table_bytes, marks_len_of}
 use Rattle.rdlpp_table.proofs.Taken.{marks_at, split_at, table_bytes-append, table_bytes-cons, table_marks-append, table_marks-cons}
 
 -- so many formals, also where there is no list

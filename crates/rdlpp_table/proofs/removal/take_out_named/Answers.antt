@@ -1,9 +1,6 @@
-use Rattle.std.proofs.Common.{◌≡◌, ◌+◌, ◌-◌, ◌<◌, ◌≤◌, ◌∙◌, ℕ, List, Some, None, ap, arith, drop, get_or, length, map, remove, subst, sym, take, vec_len}
+use Rattle.std.proofs.Common.{◌≡◌, ◌-◌, ◌∙◌, ℕ, Some, None, ap, arith, drop, get_or, length, map, remove, sym, take, vec_len}
 use Rattle.std.proofs.lemmas.List.{length-take-le}
-use Rattle.rdlpp_table.specs.Index.{closed, names_of, IsGap, IsIndexed, IsPlace}
-use Rattle.rdlpp_table.specs.Marks.{table_marks}
-use Rattle.rdlpp_table.specs.Store.{macros_in}
-use Rattle.rdlpp_table.specs.Table.{without}
+use Rattle.rdlpp_table.specs.Index.{closed}
 use Rattle.rdlpp_table.proofs.Sizes.{count_items}
 use Rattle.rdlpp_table.proofs.Laid.{is_named, stored_slices_within}
 use Rattle.rdlpp_table.proofs.Held.{stored_without, stored_nowhere}

@@ -1,4 +1,4 @@
-use Rattle.std.proofs.Common.{◌∙◌, ◌<◌, length, arith, sym, refl}
+use Rattle.std.proofs.Common.{◌∙◌, ◌<◌, length, arith, sym}
 use Rattle.std.proofs.lemmas.Bool.{eqb-true}
 use Rattle.rdlpp_table.proofs.Stopping.{behind_place, stopping_ended, stopping_found, stopping_more, stopping_quiet, stopping_start}
 use Rattle.rdlpp_table.proofs.stop.first_stop.Goals as goal

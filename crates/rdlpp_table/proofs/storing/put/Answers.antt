@@ -1,4 +1,4 @@
-use Rattle.std.proofs.Common.{◌≡◌, ◌+◌, ◌-◌, ◌*◌, ◌≤◌, ◌∙◌, ◌++◌, drop, sym, take, vec_len, ◌∷◌, [], ap, arith, length, length-append, unwrap_or, List, ℕ}
+use Rattle.std.proofs.Common.{◌≡◌, ◌+◌, ◌-◌, ◌∙◌, ◌++◌, drop, take, vec_len, ◌∷◌, [], ap, arith, length, length-append, unwrap_or, List, ℕ}
 use Rattle.std.specs.List.{flat_map}
 use Rattle.rdlpp_lines.specs.Texts.{start_level}
 use Rattle.rdlpp_table.specs.Table.{Formal, formal_bytes}
@@ -6,7 +6,7 @@ use Rattle.rdlpp_table.proofs.Sizes.{count_items, length_list_bytes}
 use Rattle.rdlpp_table.specs.declared.entry.Entry.{Entry}
 use Rattle.rdlpp_table.specs.New.{list_formals, new_macro}
 use Rattle.std.proofs.lemmas.List.{length-drop, take-append-le}
-use Rattle.rdlpp_table.specs.Marks.{marks_of, table_marks}
+use Rattle.rdlpp_table.specs.Marks.{marks_of}
 use Rattle.rdlpp_table.specs.Store.{macros_in}
 use Rattle.rdlpp_table.proofs.Put.{put_marks, put_stored}
 use Rattle.rdlpp_table.proofs.News.{appended_between, appended_few, appended_last, appended_listed, appended_marks, body_is, new_bytes, new_copied, new_entry, new_plain}

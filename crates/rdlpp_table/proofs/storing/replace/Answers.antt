@@ -1,4 +1,4 @@
-use Rattle.std.proofs.Common.{◌≡◌, ◌+◌, ◌*◌, ◌≤◌, ◌++◌, ◌∷◌, ◌∙◌, [], List, ap, drop, insert, length, subst, sym, take, vec_len, arith, ℕ}
+use Rattle.std.proofs.Common.{◌≡◌, ◌+◌, ◌≤◌, ◌++◌, ◌∷◌, ◌∙◌, [], List, ap, drop, insert, length, subst, sym, take, vec_len, arith, ℕ}
 use Rattle.std.proofs.lemmas.List.{length-drop, length-take-le}
 use Rattle.rdlpp_table.specs.Marks.{table_marks}
 use Rattle.rdlpp_table.specs.Table.{Macro, without}

@@ -1,6 +1,5 @@
-use Rattle.std.proofs.Common.{◌<◌, ◌∙◌, ap, arith, length, sym}
+use Rattle.std.proofs.Common.{ap, arith, length}
 use Rattle.rdlpp_table.specs.Table.{Formal}
-use Rattle.rdlpp_table.specs.View.{formal_at, formals_of, macro_at}
 use Rattle.rdlpp_table.proofs.Listing.{count_read}
 use Rattle.rdlpp_table.proofs.table.Table.default_text.Goals as goal
 

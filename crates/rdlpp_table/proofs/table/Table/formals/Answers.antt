@@ -1,7 +1,6 @@
-use Rattle.std.proofs.Common.{◌≡◌, ◌+◌, ◌<◌, ◌∙◌, ℕ, List, ap, drop, length, slice_range, subst, sym, arith}
+use Rattle.std.proofs.Common.{◌≡◌, ◌<◌, ◌∙◌, ℕ, List, ap, drop, length, subst, sym, arith}
 use Rattle.rdlpp_table.specs.Marks.{table_marks}
-use Rattle.rdlpp_table.specs.Store.{formals_read, macros_in, IsListed, IsStored}
-use Rattle.rdlpp_table.proofs.Sizes.{count_items}
+use Rattle.rdlpp_table.specs.Store.{formals_read, macros_in, IsStored}
 use Rattle.rdlpp_table.proofs.Keyed.{index_front}
 use Rattle.rdlpp_table.proofs.Laid.{entry_within, len_of_view}
 use Rattle.rdlpp_table.proofs.Listing.{entry_listed, listed_as, read_here}

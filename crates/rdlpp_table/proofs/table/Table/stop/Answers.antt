@@ -1,4 +1,4 @@
-use Rattle.std.proofs.Common.{◌≡◌, ◌<◌, ℕ, ap, length, arith, ◌∙◌}
+use Rattle.std.proofs.Common.{◌≡◌, ◌<◌, ap, length, arith}
 use Rattle.rdlpp_table.specs.View.{macro_at}
 use Rattle.rdlpp_table.proofs.Sizes.{count_items}
 use Rattle.rdlpp_table.proofs.Laid.{copied_at, entry_within, len_of_view}
