@@ -1,5 +1,5 @@
 // The store of a call's kept bytes.
-ghost use Rattle.std.specs.Prelude.{◌≡◌, ◌+◌, ◌-◌, ◌≤◌, ◌++◌, [], length, take, IfOk, vec_len};
+ghost use Rattle.std.specs.Prelude.{◌≡◌, ◌+◌, ◌-◌, ◌≤◌, ◌++◌, [], length, IfOk};
 ghost use Rattle.rdlpp_arguments.specs.Store.{StoreView};
 
 use std::alloc::{AllocError, Global};
@@ -8,24 +8,24 @@ use std::marker::Model;
 /// The kept bytes of a call, of which there may be so many. No call but `new` takes memory.
 #[derive(Drop)]
 pub struct ArgumentStore {
-    // as many bytes as may be kept, of which the first `len` are
     bytes: Vec<u8>,
-    len: usize,
+    // how many bytes may be kept, for which there is room
+    most: usize,
 }
 
 impl Model for ArgumentStore {
-    ghost use Rattle.std.specs.Prelude.{◌≤◌, take, vec_len};
+    ghost use Rattle.std.specs.Prelude.{◌≤◌, vec_capacity, vec_len};
     ghost use Rattle.rdlpp_arguments.specs.Store.{StoreView};
 
     ghost Value = { StoreView };
 
-    ghost view = { λ s. record { bytes = take s.len s.bytes.items; most = vec_len s.bytes } };
+    ghost view = { λ s. record { bytes = s.bytes.items; most = s.most } };
 
-    ghost invariant = { λ s. s.len ≤ vec_len s.bytes };
+    ghost invariant = { λ s. (vec_len s.bytes ≤ s.most) × (s.most ≤ vec_capacity s.bytes) };
 }
 
 impl ArgumentStore {
-    /// An empty store with room for `argument_bytes` bytes: one growth.
+    /// An empty store with room for `argument_bytes` bytes: one growth, whose memory isn't touched before it is used.
     ///
     /// # Errors
     ///
@@ -34,8 +34,8 @@ impl ArgumentStore {
         ensures { IfOk result (λ store. store ≡ record { bytes = []; most = argument_bytes }) }
     {
         Ok(ArgumentStore {
-            bytes: vec![in alloc; 0u8; argument_bytes]?,
-            len: 0,
+            bytes: Vec::with_capacity(alloc, argument_bytes)?,
+            most: argument_bytes,
         })
     }
 
@@ -43,7 +43,7 @@ impl ArgumentStore {
     pub fn clear(&mut self)
         ensures { self.new ≡ record self.old { bytes = [] } }
     {
-        self.len = 0;
+        self.bytes.clear();
     }
 
     /// The kept bytes.
@@ -51,7 +51,7 @@ impl ArgumentStore {
         ensures value { result.now ≡ self.now.bytes }
         ensures fits { length self.now.bytes ≤ self.now.most }
     {
-        &self.bytes[..self.len]
+        self.bytes.as_slice()
     }
 
     /// How many more bytes may be kept.
@@ -60,7 +60,7 @@ impl ArgumentStore {
         ensures fits { length self.now.bytes ≤ self.now.most }
         ensures counted { self.now.most ≤ usize.MAX }
     {
-        self.bytes.len() - self.len
+        self.most - self.bytes.len()
     }
 
     /// Keeps bytes behind those that are kept, for which there is room.
@@ -68,8 +68,6 @@ impl ArgumentStore {
         requires { length self.old.bytes + length more.now ≤ self.old.most }
         ensures { self.new ≡ record self.old { bytes = self.old.bytes ++ more.now } }
     {
-        let end = self.len + more.len();
-        self.bytes[self.len..end].copy_from_slice(more);
-        self.len = end;
+        let _ = self.bytes.extend_from_slice(more);
     }
 }

@@ -14,7 +14,7 @@ use super::SourceBuffer;
 use super::ahead::{Ahead, look_ahead};
 use rdlpp_source::{SourceFault, Sources};
 
-// How many bytes the first read of a source asks for at most: room is made byte by byte, and many included files are short.
+// How many bytes the first read of a source asks for at most: room is cleared, and many included files are short.
 const FIRST_ROOM: usize = 512;
 
 /// What stands before the next byte of a source.
@@ -88,11 +88,9 @@ fn fill_room(bytes: &mut Vec<u8>, len: usize)
     requires reserved { len ≤ vec_capacity bytes.old }
     ensures len { vec_len bytes.new ≡ len }
     ensures kept { (n : ℕ) → n ≤ vec_len bytes.old → take n bytes.new.items ≡ take n bytes.old.items }
-    ensures capacity { vec_capacity bytes.new ≡ vec_capacity bytes.old }
+    ensures capacity { vec_capacity bytes.old ≤ vec_capacity bytes.new }
 {
-    for _byte in bytes.len()..len {
-        bytes.push_reserved(0);
-    }
+    let _ = bytes.resize(len, 0);
 }
 
 // Makes room behind the first `filled` bytes where there is none: a little for the first read of a source, and as much again
@@ -105,7 +103,7 @@ fn make_room(bytes: &mut Vec<u8>, filled: usize, line_bytes: usize)
     ensures inside { filled ≤ vec_len bytes.new }
     ensures within { vec_len bytes.new ≤ line_bytes }
     ensures kept { take filled bytes.new.items ≡ take filled bytes.old.items }
-    ensures capacity { vec_capacity bytes.new ≡ vec_capacity bytes.old }
+    ensures capacity { vec_capacity bytes.old ≤ vec_capacity bytes.new }
 {
     if filled == bytes.len() {
         fill_room(
