@@ -60,9 +60,8 @@ pub(crate) fn look_at(slots: &[Slot], bindings: &[Range], table: &Table, argumen
     let _bound = bindings.len();
     let slot = &slots[0];
     let (from, end) = (slot.from, slot.end);
-    let text = front_source(slots);
-    let fronts = front_of(table, arguments, text, from, end);
     let source = front_source(slots);
+    let fronts = front_of(table, arguments, &source, from, end);
     Look {
         source,
         from,
@@ -76,13 +75,13 @@ pub(crate) fn look_at(slots: &[Slot], bindings: &[Range], table: &Table, argumen
 pub(crate) fn front_of(
     table: &Table,
     arguments: &[u8],
-    source: TextSource,
+    source: &TextSource,
     from: usize,
     end: usize,
 ) -> Fronts
-    requires source { IsSource (texts_of table.now.macros arguments.now) source }
-    requires inside { end ≤ length (source_text (texts_of table.now.macros arguments.now) source) }
-    ensures { AreFronts (source_formals (texts_of table.now.macros arguments.now) source) (slice_range (source_text (texts_of table.now.macros arguments.now) source) from end) result }
+    requires source { IsSource (texts_of table.now.macros arguments.now) source.now }
+    requires inside { end ≤ length (source_text (texts_of table.now.macros arguments.now) source.now) }
+    ensures { AreFronts (source_formals (texts_of table.now.macros arguments.now) source.now) (slice_range (source_text (texts_of table.now.macros arguments.now) source.now) from end) result }
 {
     if end <= from {
         return Fronts {
@@ -90,10 +89,10 @@ pub(crate) fn front_of(
             behind: Front::Ended,
         };
     }
-    if let TextSource::Body(id) = source {
+    if let TextSource::Body(id) = *source {
         return stop_front(table.stop(id, from, end), from, end);
     }
-    let text = text_of(table, arguments, source);
+    let text = text_of(table, arguments, *source);
     plain_front(&text[from..end])
 }
 

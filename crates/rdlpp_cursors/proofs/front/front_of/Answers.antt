@@ -9,14 +9,14 @@ pub returns-then-end-from : goal.returns-then-end-from
 returns-then-end-from c = fronts-ended _ _ c.args.from c.args.end c.if-end-from.true
 
 pub stop-requires-clause-inside : goal.stop-requires-clause-inside
-stop-requires-clause-inside c = body-inside (texts_of c.args.table.now.macros c.args.arguments.now) c.args.source _ _ c.in-Body.is c.requires.inside
+stop-requires-clause-inside c = body-inside (texts_of c.args.table.now.macros c.args.arguments.now) c.args.source.now _ _ c.in-Body.is c.requires.inside
 
 pub returns-in-Body : goal.returns-in-Body
 returns-in-Body c =
-    fronts-body (texts_of c.args.table.now.macros c.args.arguments.now) c.args.source _ c.args.from c.args.end _ _ c.in-Body.is c.if-end-from.false c.requires.inside
+    fronts-body (texts_of c.args.table.now.macros c.args.arguments.now) c.args.source.now _ c.args.from c.args.end _ _ c.in-Body.is c.if-end-from.false c.requires.inside
     c.stop.ensures c.stop_front.ensures
 
 pub returns : goal.returns
 returns c =
-    plain-source (texts_of c.args.table.now.macros c.args.arguments.now) c.args.source _ c.plain_front.result (λ id. c.in_default.not-Body id)
+    plain-source (texts_of c.args.table.now.macros c.args.arguments.now) c.args.source.now _ c.plain_front.result (λ id. c.in_default.not-Body id)
     (subst (λ (bytes : List ℕ). AreFronts [] (slice_range bytes c.args.from c.args.end) c.plain_front.result) c.text_of-text.ensures c.plain_front.ensures)
