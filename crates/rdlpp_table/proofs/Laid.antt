@@ -5,9 +5,9 @@ use Rattle.std.proofs.lemmas.List.{length-map, get_or-map}
 use Rattle.std.proofs.lemmas.List.Elements.{All-nil}
 use Rattle.std.proofs.lemmas.List.Quantifiers.{position-Some}
 use Rattle.rdlpp_table.specs.declared.entry.Entry.{Entry}
-use Rattle.rdlpp_table.specs.Stops.{is_copied}
+use Rattle.rdlpp_table.specs.Kept.{first_stops}
 use Rattle.rdlpp_table.specs.Table.{Macro, table_bytes, table_size, macro_named}
-use Rattle.rdlpp_table.specs.View.{TableView, macro_at, no_macro, place_named}
+use Rattle.rdlpp_table.specs.View.{TableView, formals_of, macro_at, no_macro, place_named}
 use Rattle.rdlpp_table.specs.Store.{IsStored, macros_in, macro_in, body_of, entry_end, entry_of, entries_of}
 use Rattle.rdlpp_table.specs.Entries.{AreWithin}
 use Rattle.rdlpp_table.proofs.Sizes.{stored_within, entry_of_macro}
@@ -68,12 +68,12 @@ arity_at bytes entries a b view i j entry e held s h q =
     ap (λ (x : Entry). x.arity) (q ∙ (ap (λ (es : List Entry). get_or es i entry) held.stored.entries_are ∙ entry_of_macro 0 0 (macros_in bytes entries) i entry at))
     ∙ (ap (λ (v : TableView). option_map length (macro_at v.macros i).formals) e ∙ ap (λ (k : ℕ). option_map length (macro_at view.macros k).formals) s)
 
-pub copied_at : (bytes : List ℕ) (entries : List Entry) (a b : ℕ) (view : TableView) (i j : ℕ) (entry : Entry) → view_of bytes entries a b ≡ view → IsHeld bytes entries a b → i ≡ j → i < length entries → entry ≡ get_or entries i entry → entry.is_copied ≡ is_copied (macro_at view.macros j)
+pub stops_at : (bytes : List ℕ) (entries : List Entry) (a b : ℕ) (view : TableView) (i j : ℕ) (entry : Entry) → view_of bytes entries a b ≡ view → IsHeld bytes entries a b → i ≡ j → i < length entries → entry ≡ get_or entries i entry → entry.stops ≡ first_stops (formals_of (macro_at view.macros j)) (macro_at view.macros j).body
 unfolding entry_of
-copied_at bytes entries a b view i j entry e held s h q =
+stops_at bytes entries a b view i j entry e held s h q =
     let at : i < length (macros_in bytes entries) = omega (arith, length_macros_in bytes entries) in
-    ap (λ (x : Entry). x.is_copied) (q ∙ (ap (λ (es : List Entry). get_or es i entry) held.stored.entries_are ∙ entry_of_macro 0 0 (macros_in bytes entries) i entry at))
-    ∙ (ap (λ (v : TableView). is_copied (macro_at v.macros i)) e ∙ ap (λ (k : ℕ). is_copied (macro_at view.macros k)) s)
+    ap (λ (x : Entry). x.stops) (q ∙ (ap (λ (es : List Entry). get_or es i entry) held.stored.entries_are ∙ entry_of_macro 0 0 (macros_in bytes entries) i entry at))
+    ∙ (ap (λ (v : TableView). first_stops (formals_of (macro_at v.macros i)) (macro_at v.macros i).body) e ∙ ap (λ (k : ℕ). first_stops (formals_of (macro_at view.macros k)) (macro_at view.macros k).body) s)
 
 pub stored_slices_within : (bs : List ℕ) (es : List Entry) (bytes : List ℕ) (entries : List Entry) (ms : List Macro) → bs ≡ bytes → es ≡ entries → IsStored bytes entries ms → AreWithin (length bs) es
 stored_slices_within bs es bytes entries ms p q s = rw (p, q) (stored_within bytes entries ms s)

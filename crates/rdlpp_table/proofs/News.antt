@@ -3,11 +3,13 @@ use Rattle.std.proofs.Common.{◌≡◌, ℕ, ◌+◌, ◌-◌, ◌*◌, ◌<◌
 use Rattle.std.specs.List.{flat_map}
 use Rattle.std.proofs.lemmas.Bool.{cases_Bool, cond-true, cond-false}
 use Rattle.std.proofs.lemmas.List.{drop_at, nil_from_length}
-use Rattle.rdlpp_table.specs.Stops.{is_copied, is_none, stop_of}
+use Rattle.rdlpp_table.specs.Kept.{first_stops}
+use Rattle.rdlpp_table.specs.View.{formals_of}
+use Rattle.rdlpp_table.specs.declared.kept.FirstStops.{FirstStops}
 use Rattle.rdlpp_lines.proofs.Measures.{left_len}
 use Rattle.rdlpp_table.proofs.RoundTrip.{between_parts, read_list}
 use Rattle.rdlpp_table.specs.declared.entry.Entry.{Entry}
-use Rattle.rdlpp_table.specs.Table.{Formal, formal_bytes, formal_size, macro_bytes, macro_size}
+use Rattle.rdlpp_table.specs.Table.{Formal, Macro, formal_bytes, formal_size, macro_bytes, macro_size}
 use Rattle.rdlpp_table.specs.Define.{FormalList, Listed, after_space, formals_in, formals_of_list}
 use Rattle.rdlpp_lines.specs.Continuations.{joined}
 use Rattle.rdlpp_lines.specs.Texts.{trimmed_left, trims, start_level, cleared}
@@ -17,7 +19,7 @@ use Rattle.rdlpp_table.specs.Marks.{macro_marks, marks_of}
 use Rattle.rdlpp_table.specs.Store.{entry_of, formals_read, is_plain_formal, is_plain_macro, list_size, IsListed}
 use Rattle.rdlpp_table.proofs.Sizes.{few_marks_of, length_list_bytes}
 use Rattle.rdlpp_table.proofs.Stopping.{behind_place}
-use Rattle.rdlpp_table.specs.New.{list_formals, new_macro, IsList, IsNew}
+use Rattle.rdlpp_table.specs.New.{list_formals, new_macro, stops_told, IsList, IsNew}
 
 -- what is left of a body's text
 abbrev pub body_of_text : Bool → List ℕ → List ℕ
@@ -101,10 +103,9 @@ pub appended_few : (arity : Option ℕ) (list : List ℕ) (size count : ℕ) (la
 appended_few arity list size count last l a =
     omega (arith, ap (λ (fs : List Formal). length (marks_of fs)) a.read, few_marks_of (unwrap_or (list_formals arity list) []), l.size_is)
 
--- whether its body is copied is told by its formals and its body
-pub new_copied : (name : List ℕ) (arity : Option ℕ) (list : List ℕ) (size : ℕ) (is_logical : Bool) (text named listed all : List ℕ) (from to count : ℕ) (copied : Bool) → IsList arity list size → listed ≡ named ++ flat_map formal_bytes (unwrap_or (list_formals arity list) []) → all ≡ listed ++ body_of_text is_logical text → from ≡ length named → to ≡ length listed → count ≡ unwrap_or arity 0 → copied ≡ is_none (stop_of (formals_read count (slice_range all from to)) 0 (drop to all)) → copied ≡ is_copied (new_macro name arity list is_logical text)
-unfolding is_copied
-new_copied name arity list size is_logical text named listed all from to count copied l e f i j n h =
+-- the first stops of its body are told by its formals and its body
+pub new_stops : (name : List ℕ) (arity : Option ℕ) (list : List ℕ) (size : ℕ) (is_logical : Bool) (text named listed all : List ℕ) (from to count : ℕ) (stops : FirstStops) → IsList arity list size → listed ≡ named ++ flat_map formal_bytes (unwrap_or (list_formals arity list) []) → all ≡ listed ++ body_of_text is_logical text → from ≡ length named → to ≡ length listed → count ≡ unwrap_or arity 0 → stops ≡ stops_told all from to count → (let m : Macro = new_macro name arity list is_logical text in stops ≡ first_stops (formals_of m) m.body)
+new_stops name arity list size is_logical text named listed all from to count stops l e f i j n h =
     let formals : List Formal = unwrap_or (list_formals arity list) [] in
     let body : List ℕ = body_of_text is_logical text in
     let whole : all ≡ named ++ (flat_map formal_bytes formals ++ body) = f ∙ (ap (λ (x : List ℕ). x ++ body) e ∙ append_assoc named (flat_map formal_bytes formals) body) in
@@ -112,20 +113,20 @@ new_copied name arity list size is_logical text named listed all from to count c
     ap (λ (x : List ℕ). slice_range x from to) whole ∙ between_parts named (flat_map formal_bytes formals) body from to (sym i) (omega (arith, i, j, ap (length {A = ℕ}) e, length-append named (flat_map formal_bytes formals))) in
     let rest : drop to all ≡ body = ap (drop to) f ∙ drop_at listed body to (sym j) in
     h
-    ∙ (ap (λ (x : List ℕ). is_none (stop_of (formals_read count (slice_range all from to)) 0 x)) rest
-    ∙ (ap (λ (x : List ℕ). is_none (stop_of (formals_read count x) 0 body)) slice
-    ∙ (ap (λ (k : ℕ). is_none (stop_of (formals_read k (flat_map formal_bytes formals)) 0 body)) n
-    ∙ ap (λ (fs : List Formal). is_none (stop_of fs 0 body)) (same_formals arity list size l))))
+    ∙ (ap (λ (x : List ℕ). first_stops (formals_read count (slice_range all from to)) x) rest
+    ∙ (ap (λ (x : List ℕ). first_stops (formals_read count x) body) slice
+    ∙ (ap (λ (k : ℕ). first_stops (formals_read k (flat_map formal_bytes formals)) body) n
+    ∙ ap (λ (fs : List Formal). first_stops fs body) (same_formals arity list size l))))
 
-pub new_entry : (start marks : ℕ) (name : List ℕ) (arity : Option ℕ) (list : List ℕ) (size : ℕ) (is_logical : Bool) (text : List ℕ) (len : ℕ) (copied : Bool) → IsNew name arity list size is_logical text len → copied ≡ is_copied (new_macro name arity list is_logical text) → (let e : Entry = record { start = start; name_len = length name; list_len = size; body_len = len; arity = arity; marks = marks; is_copied = copied } in e) ≡ entry_of start marks (new_macro name arity list is_logical text)
+pub new_entry : (start marks : ℕ) (name : List ℕ) (arity : Option ℕ) (list : List ℕ) (size : ℕ) (is_logical : Bool) (text : List ℕ) (len : ℕ) (stops : FirstStops) → IsNew name arity list size is_logical text len → (let m : Macro = new_macro name arity list is_logical text in stops ≡ first_stops (formals_of m) m.body) → (let e : Entry = record { start = start; name_len = length name; list_len = size; body_len = len; arity = arity; marks = marks; stops = stops } in e) ≡ entry_of start marks (new_macro name arity list is_logical text)
 unfolding entry_of list_size
-new_entry start marks name arity list size is_logical text len copied n h =
+new_entry start marks name arity list size is_logical text len stops n h =
     let body : ℕ = length (body_of_text is_logical text) in
     let sum : ℕ = sum_by formal_size (unwrap_or (list_formals arity list) []) in
-    ap (λ (k : ℕ). let e : Entry = record { start = start; name_len = length name; list_len = k; body_len = len; arity = arity; marks = marks; is_copied = copied } in e) (sym n.listed.size_is)
-    ∙ (ap (λ (k : ℕ). let e : Entry = record { start = start; name_len = length name; list_len = sum; body_len = k; arity = arity; marks = marks; is_copied = copied } in e) (sym (left_len (trims false) (cleared None (joined is_logical text)) len n.body_is))
-    ∙ (ap (λ (a : Option ℕ). let e : Entry = record { start = start; name_len = length name; list_len = sum; body_len = body; arity = a; marks = marks; is_copied = copied } in e) (sym n.listed.arity_is)
-    ∙ ap (λ (b : Bool). let e : Entry = record { start = start; name_len = length name; list_len = sum; body_len = body; arity = option_map length (list_formals arity list); marks = marks; is_copied = b } in e) h))
+    ap (λ (k : ℕ). let e : Entry = record { start = start; name_len = length name; list_len = k; body_len = len; arity = arity; marks = marks; stops = stops } in e) (sym n.listed.size_is)
+    ∙ (ap (λ (k : ℕ). let e : Entry = record { start = start; name_len = length name; list_len = sum; body_len = k; arity = arity; marks = marks; stops = stops } in e) (sym (left_len (trims false) (cleared None (joined is_logical text)) len n.body_is))
+    ∙ (ap (λ (a : Option ℕ). let e : Entry = record { start = start; name_len = length name; list_len = sum; body_len = body; arity = a; marks = marks; stops = stops } in e) (sym n.listed.arity_is)
+    ∙ ap (λ (b : FirstStops). let e : Entry = record { start = start; name_len = length name; list_len = sum; body_len = body; arity = option_map length (list_formals arity list); marks = marks; stops = b } in e) h))
 
 pub new_plain : (name : List ℕ) (arity : Option ℕ) (list : List ℕ) (size : ℕ) (is_logical : Bool) (text : List ℕ) → IsList arity list size → is_plain_macro (new_macro name arity list is_logical text) ≡ true
 unfolding is_plain_macro

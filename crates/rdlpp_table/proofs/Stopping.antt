@@ -1,5 +1,5 @@
 -- The first stop of a text, token by token.
-use Rattle.std.proofs.Common.{◌≡◌, ℕ, suc, ◌+◌, ◌-◌, ◌<◌, ◌≤◌, Bool, true, false, cond, List, [], ◌∷◌, ⊎_elim, length, take, drop, Option, Some, None, refl, ap, sym, ◌∙◌, arith}
+use Rattle.std.proofs.Common.{◌≡◌, ℕ, zero, suc, ◌+◌, ◌-◌, ◌<◌, ◌≤◌, Bool, true, false, cond, List, [], ◌∷◌, ⊎_elim, length, take, drop, Option, Some, None, refl, ap, sym, ◌∙◌, arith}
 use Rattle.std.specs.List.{prefix_len}
 use Rattle.std.proofs.lemmas.Bool.{cases_Bool, false≢true}
 use Rattle.std.proofs.lemmas.List.{length-drop, nil_from_length, take_all}
@@ -177,6 +177,18 @@ unfolding quiet_len
 quiet_passed formals Plain at bs = quiet_run formals at bs
 quiet_passed formals InStr at bs = ap (λ (n : ℕ). first_stop formals n (tokens_from InStr 0 bs) bs) (omega arith)
 quiet_passed formals InBlock at bs = ap (λ (n : ℕ). first_stop formals n (tokens_from InBlock 0 bs) bs) (omega arith)
+
+-- as are some of them
+pub quiet_some : (formals : List Formal) (at n : ℕ) (bs : List ℕ) → n ≤ prefix_len is_quiet bs
+    → first_stop formals (at + n) (tokens_from Plain 0 (drop n bs)) (drop n bs) ≡ first_stop formals at (tokens_from Plain 0 bs) bs
+quiet_some formals at zero bs h = ap (λ (m : ℕ). first_stop formals m (tokens_from Plain 0 bs) bs) (omega arith)
+quiet_some formals at (suc n) [] h = absurd (omega arith)
+quiet_some formals at (suc n) (b ∷ bs) h =
+    ⊎_elim
+    (λ q. ap (λ (m : ℕ). first_stop formals m (tokens_from Plain 0 (drop n bs)) (drop n bs)) (omega arith)
+    ∙ (quiet_some formals (at + 1) n bs (omega (arith, prefix_more is_quiet b bs q)) ∙ sym (quiet_one formals at b bs q)))
+    (λ q. absurd (omega (arith, prefix_none is_quiet b bs q)))
+    (cases_Bool (is_quiet b))
 
 -- what stands behind a place, as a range up to the end
 pub behind_place : (n : ℕ) (xs : List ℕ) → take (length xs - n) (drop n xs) ≡ drop n xs

@@ -11,7 +11,7 @@ AreWithin n entries = All (λ e. entry_end e ≤ n) entries
 
 -- an entry whose bytes lie so much further to the front, and its marks as much as another number says
 unfoldable pub moved_down : ℕ → ℕ → Entry → Entry
-moved_down size marks e = record { start = e.start - size; name_len = e.name_len; list_len = e.list_len; body_len = e.body_len; arity = e.arity; marks = e.marks - marks; is_copied = e.is_copied }
+moved_down size marks e = record { start = e.start - size; name_len = e.name_len; list_len = e.list_len; body_len = e.body_len; arity = e.arity; marks = e.marks - marks; stops = e.stops }
 
 -- each entry's bytes lie behind so many, and its marks behind as many as another number says
 abbrev pub AreBehind : ℕ → ℕ → List Entry → Type 0

@@ -7,7 +7,8 @@ use Rattle.rdlpp_table.specs.Define.{formals_of_list}
 use Rattle.rdlpp_table.specs.Formals.{listed}
 use Rattle.rdlpp_lines.specs.Continuations.{joined}
 use Rattle.rdlpp_lines.specs.Texts.{cleared, trimmed_left, trimmed_len, trims}
-use Rattle.rdlpp_table.specs.Stops.{is_none, stop_of}
+use Rattle.rdlpp_table.specs.declared.kept.FirstStops.{FirstStops}
+use Rattle.rdlpp_table.specs.Kept.{first_stops}
 use Rattle.rdlpp_table.specs.Store.{formals_read, is_plain_formal}
 
 -- the formals of a list's text, where there is a list
@@ -31,6 +32,6 @@ pub record IsNew (name : List ℕ) (arity : Option ℕ) (list : List ℕ) (size 
   pub listed : IsList arity list size
   pub body_is : trimmed_len (trims false) (cleared None (joined is_logical text)) ≡ Ok len
 
--- whether the body behind a place of a table's bytes is copied as it stands, by so many formals between two places
-abbrev pub copied_told : List ℕ → ℕ → ℕ → ℕ → Bool
-copied_told bytes list body count = is_none (stop_of (formals_read count (slice_range bytes list body)) 0 (drop body bytes))
+-- the first stops of the body behind a place of a table's bytes, by so many formals between two places
+abbrev pub stops_told : List ℕ → ℕ → ℕ → ℕ → FirstStops
+stops_told bytes list body count = first_stops (formals_read count (slice_range bytes list body)) (drop body bytes)

@@ -3,6 +3,7 @@ ghost use Rattle.std.specs.Prelude.{◌≡◌, ◌≤◌, ◌+◌, length, slice
 ghost use Rattle.rdlpp_table.specs.Entries.{marks_len};
 ghost use Rattle.rdlpp_table.specs.Store.{body_of, entry_end, list_of, name_of};
 
+use crate::kept::FirstStops;
 use crate::marks::{Listed, is_marked};
 
 // A definition's name, its formals with a comma after each, and its body lie one after another.
@@ -16,8 +17,8 @@ pub(crate) struct Entry {
     pub(crate) arity: Option<usize>,
     // Where its marks begin.
     pub(crate) marks: usize,
-    // Whether its body is copied as it stands.
-    pub(crate) is_copied: bool,
+    // The first stops of its body.
+    pub(crate) stops: FirstStops,
 }
 
 // The name of a definition.

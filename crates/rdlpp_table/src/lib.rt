@@ -6,6 +6,7 @@ mod fault;
 mod formals;
 mod header;
 mod index;
+mod kept;
 mod limits;
 mod marks;
 mod name;

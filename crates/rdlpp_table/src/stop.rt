@@ -1,5 +1,6 @@
 // Where the text of a body isn't copied as it stands.
 ghost use Rattle.std.specs.Prelude.{[], length, slice_index, ◌+◌, ◌<◌, ◌≡◌, ◌≤◌, ◌^◌};
+ghost use Rattle.rdlpp_table.specs.Kept.{stop_end};
 ghost use Rattle.rdlpp_table.specs.Stops.{is_none, quiet_len, stop_at, stop_of};
 ghost use Rattle.rdlpp_table.specs.Store.{formals_read, IsListed};
 
@@ -81,7 +82,8 @@ fn quiet_len(mode: Mode, text: &[u8]) -> usize
 pub(crate) fn first_stop(formals: &Listed, text: &[u8], from: usize) -> Stop
     requires listed { IsListed formals.now.count formals.now.list.now formals.now.marks.now }
     requires short { from + length text.now < 2 ^ 64 }
-    ensures { result ≡ stop_of (formals_read formals.now.count formals.now.list.now) from text.now }
+    ensures value { result ≡ stop_of (formals_read formals.now.count formals.now.list.now) from text.now }
+    ensures end { stop_end result ≤ from + length text.now }
 {
     let mut mode = Mode::Plain;
     let mut rest = text;
@@ -104,13 +106,4 @@ pub(crate) fn first_stop(formals: &Listed, text: &[u8], from: usize) -> Stop
         rest = after;
     }
     Stop::None
-}
-
-// Whether a body is copied as it stands, by formals as they lie in a table.
-pub(crate) fn is_copied(formals: &Listed, body: &[u8]) -> bool
-    requires listed { IsListed formals.now.count formals.now.list.now formals.now.marks.now }
-    requires short { length body.now < 2 ^ 64 }
-    ensures { result ≡ is_none (stop_of (formals_read formals.now.count formals.now.list.now) 0 body.now) }
-{
-    is_none(first_stop(formals, body, 0))
 }

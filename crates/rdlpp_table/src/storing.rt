@@ -28,16 +28,16 @@ ghost use Rattle.rdlpp_table.specs.Index.{names_of, IsIndexed};
 ghost use Rattle.rdlpp_table.specs.Marks.{table_marks};
 ghost use Rattle.rdlpp_table.specs.Store.{macros_in, IsListed, IsStored};
 ghost use Rattle.rdlpp_table.specs.Table.{formal_bytes, table_size, without};
-ghost use Rattle.rdlpp_table.specs.New.{copied_told, list_formals, new_macro, IsList, IsNew};
+ghost use Rattle.rdlpp_table.specs.New.{list_formals, new_macro, stops_told, IsList, IsNew};
 
 use crate::entry::Entry;
 use crate::formals::append_list;
 use crate::index::{enter, gap_in, place_in};
+use crate::kept::{FirstStops, first_stops};
 use crate::marks::{Listed, push_marks};
 use crate::parts::{begin_later, part_of};
 use crate::removal::take_out_named;
 use crate::sought::Steps;
-use crate::stop::is_copied;
 use rdlpp_lines::append_trimmed;
 
 // Appends bytes for which there is room.
@@ -74,19 +74,19 @@ fn append_formals(bytes: &mut Vec<u8>, new: &New)
     }
 }
 
-// Whether the body behind a place is copied as it stands, by the formals between two places and their marks.
-fn copied_at(bytes: &[u8], list: usize, body: usize, count: usize, marks: &[u32]) -> bool
+// The first stops of the body behind a place, by the formals between two places and their marks.
+fn stops_at(bytes: &[u8], list: usize, body: usize, count: usize, marks: &[u32]) -> FirstStops
     requires order { (list ≤ body) × (body ≤ length bytes.now) }
     requires short { length bytes.now < 2 ^ 64 }
     requires listed { IsListed count (slice_range bytes.now list body) marks.now }
-    ensures { result ≡ copied_told bytes.now list body count }
+    ensures { result ≡ stops_told bytes.now list body count }
 {
     let formals = Listed {
         list: &bytes[list..body],
         count,
         marks,
     };
-    is_copied(&formals, &bytes[body..])
+    first_stops(&formals, &bytes[body..])
 }
 
 // Puts a macro behind the others, of which the index has a place already.
@@ -113,7 +113,7 @@ fn put(bytes: &mut Vec<u8>, entries: &mut Vec<Entry>, order: &mut Vec<u32>, new:
     let count = new.arity.unwrap_or(0);
     push_marks(order, &bytes[list..], count);
     append_trimmed(bytes, new.text, new.is_logical, false, new.body_len);
-    let is_copied = copied_at(bytes.as_slice(), list, body, count, &order[first..]);
+    let stops = stops_at(bytes.as_slice(), list, body, count, &order[first..]);
     entries.push_reserved(Entry {
         start,
         name_len: new.name.len(),
@@ -121,7 +121,7 @@ fn put(bytes: &mut Vec<u8>, entries: &mut Vec<Entry>, order: &mut Vec<u32>, new:
         body_len: new.body_len,
         arity: new.arity,
         marks: first - (entries.len() + 1),
-        is_copied,
+        stops,
     });
 }
 

@@ -16,6 +16,7 @@ use crate::fault::{DefineFault, DefineKind, NoMemory, lexical, refusal};
 use crate::formals::read_list;
 use crate::header::{after_space, leading_name, list_behind, unended};
 use crate::index::place_in;
+use crate::kept::{is_kept_none, known_stop};
 use crate::limits::Limits;
 use crate::marks::{LONG_FORMAL, Listed, default_of, place_of};
 use crate::name::check_name;
@@ -190,15 +191,16 @@ impl Table {
         requires { id < length self.now.macros }
         ensures { result ≡ is_copied (macro_at self.now.macros id) }
     {
-        self.entries[id.index].is_copied
+        is_kept_none(self.entries[id.index].stops.first)
     }
 
     /// The first place, from `from` on and before `to`, of the body of a macro that isn't copied as it stands:
     /// a usage, a lone backquote or a formal of the macro. The bytes of the range are read as a text of their own,
     /// from plain text on. `from` and `to` are counted in bytes from the front of the body.
     ///
-    /// Takes time linear in the distance to that place, and none where the whole of a body is asked for that
-    /// is copied as it stands.
+    /// Takes time linear in the distance to that place, but where one of the first four stops of the body is known to be
+    /// it: `to` is the end of the body, and between `from` and the front of the body, or the end of the stop before that
+    /// one, nothing stands but blanks and bytes that are tokens by themselves. Then only these are read.
     pub fn stop(&self, id: MacroId, from: usize, to: usize) -> Stop
         requires id { id < length self.now.macros }
         requires order { from ≤ to }
@@ -207,8 +209,10 @@ impl Table {
     {
         let entry = &self.entries[id.index];
         let body = body_in(self.bytes.as_slice(), entry);
-        if entry.is_copied && to - from == body.len() {
-            return Stop::None;
+        if to == body.len()
+            && let Some(stop) = known_stop(&entry.stops, body, from)
+        {
+            return stop;
         }
         first_stop(&self.formals(id), &body[from..to], from)
     }

@@ -1,7 +1,7 @@
-use Rattle.std.proofs.Common.{◌<◌, length, None, false, arith, refl}
-use Rattle.rdlpp_table.specs.declared.entry.Entry.{Entry}
+use Rattle.std.proofs.Common.{◌<◌, length, arith, refl}
 use Rattle.rdlpp_table.proofs.Keyed.{compared_key, end_of_entry, entry_inside, index_length}
 use Rattle.rdlpp_table.proofs.Seeking.{start_seeking, seek_down, seek_found, seek_up}
+use Rattle.rdlpp_table.proofs.Sizes.{no_entry}
 use Rattle.rdlpp_table.proofs.index.seek.Goals as goal
 
 pub loop-low-init : goal.loop-low-init
@@ -14,9 +14,8 @@ bounds-entries-order c =
 
 pub name_in-name-requires : goal.name_in-name-requires
 name_in-name-requires c =
-    let blank : Entry = record { start = 0; name_len = 0; list_len = 0; body_len = 0; arity = None; marks = 0; is_copied = false } in
     let h : c.middle_of-middle.result < length c.args.order.now = omega (arith, c.loop-low.invariant.fits, c.middle_of-middle.ensures.to) in
-    end_of_entry _ _ _ _ blank c.requires.within c.requires.indexed.index h
+    end_of_entry _ _ _ _ no_entry c.requires.within c.requires.indexed.index h
 
 pub loop-low-preserved-in-Less : goal.loop-low-preserved-in-Less
 loop-low-preserved-in-Less c =

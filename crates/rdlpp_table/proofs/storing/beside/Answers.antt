@@ -1,9 +1,9 @@
-use Rattle.std.proofs.Common.{◌≡◌, ◌∙◌, ◌<◌, length, sym, arith, refl, None, false, Some}
-use Rattle.rdlpp_table.specs.declared.entry.Entry.{Entry}
+use Rattle.std.proofs.Common.{◌≡◌, ◌∙◌, ◌<◌, length, sym, arith, refl, None, Some}
 use Rattle.rdlpp_table.specs.View.{place_named}
 use Rattle.rdlpp_table.specs.Store.{macros_in}
 use Rattle.rdlpp_table.proofs.Laid.{inside_by_place, length_macros_in, stored_slices_within}
 use Rattle.rdlpp_table.proofs.Put.{beside_size, beside_count, beside_none}
+use Rattle.rdlpp_table.proofs.Sizes.{no_entry}
 use Rattle.rdlpp_table.proofs.storing.beside.Goals as goal
 
 pub place_in-requires-clause-within : goal.place_in-requires-clause-within
@@ -25,31 +25,26 @@ overflow_sub-result-in-Some c =
 pub overflow_add-result : goal.overflow_add-result
 overflow_add-result c =
     let at : place_named (macros_in c.args.bytes.now c.args.entries.now) c.args.name.now ≡ Some c.in-Some.place = sym c.place_in.ensures.value ∙ c.in-Some.is in
-    let blank : Entry = record { start = 0; name_len = 0; list_len = 0; body_len = 0; arity = None; marks = 0; is_copied = false } in
-    omega (arith, beside_size _ _ _ _ _ blank c.requires.stored c.requires.distinct at)
+    omega (arith, beside_size _ _ _ _ _ no_entry c.requires.stored c.requires.distinct at)
 
 pub overflow_add-result-in-Some : goal.overflow_add-result-in-Some
 overflow_add-result-in-Some c =
     let at : place_named (macros_in c.args.bytes.now c.args.entries.now) c.args.name.now ≡ Some c.in-Some.place = sym c.place_in.ensures.value ∙ c.in-Some.is in
-    let blank : Entry = record { start = 0; name_len = 0; list_len = 0; body_len = 0; arity = None; marks = 0; is_copied = false } in
-    omega (arith, beside_size _ _ _ _ _ blank c.requires.stored c.requires.distinct at)
+    omega (arith, beside_size _ _ _ _ _ no_entry c.requires.stored c.requires.distinct at)
 
 pub overflow_sub-result : goal.overflow_sub-result
 overflow_sub-result c =
     let at : place_named (macros_in c.args.bytes.now c.args.entries.now) c.args.name.now ≡ Some c.in-Some.place = sym c.place_in.ensures.value ∙ c.in-Some.is in
-    let blank : Entry = record { start = 0; name_len = 0; list_len = 0; body_len = 0; arity = None; marks = 0; is_copied = false } in
-    omega (arith, beside_size _ _ _ _ _ blank c.requires.stored c.requires.distinct at)
+    omega (arith, beside_size _ _ _ _ _ no_entry c.requires.stored c.requires.distinct at)
 
 pub returns-in-Some-clause-size : goal.returns-in-Some-clause-size
 returns-in-Some-clause-size c =
     let at : place_named (macros_in c.args.bytes.now c.args.entries.now) c.args.name.now ≡ Some c.in-Some.place = sym c.place_in.ensures.value ∙ c.in-Some.is in
-    let blank : Entry = record { start = 0; name_len = 0; list_len = 0; body_len = 0; arity = None; marks = 0; is_copied = false } in
-    omega (arith, beside_size _ _ _ _ _ blank c.requires.stored c.requires.distinct at)
+    omega (arith, beside_size _ _ _ _ _ no_entry c.requires.stored c.requires.distinct at)
 
 pub returns-in-Some-clause-count : goal.returns-in-Some-clause-count
 returns-in-Some-clause-count c =
     let at : place_named (macros_in c.args.bytes.now c.args.entries.now) c.args.name.now ≡ Some c.in-Some.place = sym c.place_in.ensures.value ∙ c.in-Some.is in
-    let blank : Entry = record { start = 0; name_len = 0; list_len = 0; body_len = 0; arity = None; marks = 0; is_copied = false } in
     omega (arith, beside_count _ _ _ _ _ c.requires.stored c.requires.distinct at)
 
 pub returns-clause-size : goal.returns-clause-size

@@ -9,8 +9,8 @@ use Rattle.std.proofs.lemmas.List.{length-drop, take-append-le}
 use Rattle.rdlpp_table.specs.Marks.{marks_of}
 use Rattle.rdlpp_table.specs.Store.{macros_in}
 use Rattle.rdlpp_table.proofs.Put.{put_marks, put_stored}
-use Rattle.rdlpp_table.proofs.News.{appended_between, appended_few, appended_last, appended_listed, appended_marks, body_is, new_bytes, new_copied, new_entry, new_plain}
-use Rattle.rdlpp_table.specs.New.{copied_told}
+use Rattle.rdlpp_table.proofs.News.{appended_between, appended_few, appended_last, appended_listed, appended_marks, body_is, new_bytes, new_stops, new_entry, new_plain}
+use Rattle.rdlpp_table.specs.New.{stops_told}
 use Rattle.rdlpp_table.proofs.storing.put.Goals as goal
 
 pub append_trimmed-requires-clause-len : goal.append_trimmed-requires-clause-len
@@ -44,8 +44,8 @@ push_marks-requires-clause-room c =
     let a = appended_last c.append.new.bytes.items _ c.deref.result.now _ _ _ c.unwrap_or-count.result c.len-list.result c.requires.counted.listed c.append_formals.ensures.items (c.len-list.ensures ∙ count_items c.append.new.bytes) c.unwrap_or-count.ensures c.deref.ensures.value in
     omega (arith, appended_few _ _ _ c.unwrap_or-count.result _ c.requires.counted.listed a, c.requires.mark_room)
 
-pub copied_at-is_copied-requires-clause-listed : goal.copied_at-is_copied-requires-clause-listed
-copied_at-is_copied-requires-clause-listed c =
+pub stops_at-stops-requires-clause-listed : goal.stops_at-stops-requires-clause-listed
+stops_at-stops-requires-clause-listed c =
     let a = appended_last c.append.new.bytes.items _ c.deref.result.now _ _ _ c.unwrap_or-count.result c.len-list.result c.requires.counted.listed c.append_formals.ensures.items (c.len-list.ensures ∙ count_items c.append.new.bytes) c.unwrap_or-count.ensures c.deref.ensures.value in
     let b = appended_between c.append.new.bytes.items _ _ c.as_slice.result.now _ _ _ c.unwrap_or-count.result c.len-list.result c.len-body.result _ c.requires.counted.listed c.append_formals.ensures.items (c.append_trimmed.ensures.items ∙ ap (λ (l : List ℕ). c.append_formals.new.bytes.items ++ l) (body_is _ _)) (c.len-list.ensures ∙ count_items c.append.new.bytes) (c.len-body.ensures ∙ count_items c.append_formals.new.bytes) c.unwrap_or-count.ensures c.as_slice.ensures.value in
     appended_listed _ _ _ _ _ _ c.args.order.now.items c.deref-2.result.now c.len-first.result a b (c.deref-2.ensures.value ∙ c.push_marks.ensures.items) (c.len-first.ensures ∙ count_items c.args.order.now)
@@ -59,8 +59,8 @@ returns-clause-stored c =
     (omega (arith, c.len-first.ensures, count_items c.args.order.now, c.len.ensures, length-drop (vec_len c.args.entries.now + 1) c.args.order.now.items, ap (length {A = ℕ}) c.requires.marked))
     (new_bytes _ _ _ _ _ _ _ _ _ c.append.ensures.items c.append_formals.ensures.items (c.append_trimmed.ensures.items ∙ ap (λ (l : List ℕ). c.append_formals.new.bytes.items ++ l) (body_is _ _)))
     (c.push_reserved.ensures.items ∙ ap (λ (e : Entry). c.args.entries.now.items ++ e ∷ []) (new_entry c.len-start.result (c.len-first.result - (c.len.result + 1)) _ _ _ _ _ _ _ _ c.requires.counted
-    (new_copied c.args.new.now.name.now _ _ _ _ _ _ _ _ _ _ _ _ c.requires.counted.listed c.append_formals.ensures.items (c.append_trimmed.ensures.items ∙ ap (λ (l : List ℕ). c.append_formals.new.bytes.items ++ l) (body_is _ _))
-    (c.len-list.ensures ∙ count_items c.append.new.bytes) (c.len-body.ensures ∙ count_items c.append_formals.new.bytes) c.unwrap_or-count.ensures (c.copied_at-is_copied.ensures ∙ ap (λ (x : List ℕ). copied_told x c.len-list.result c.len-body.result c.unwrap_or-count.result) c.as_slice.ensures.value))))
+    (new_stops c.args.new.now.name.now _ _ _ _ _ _ _ _ _ _ _ _ c.requires.counted.listed c.append_formals.ensures.items (c.append_trimmed.ensures.items ∙ ap (λ (l : List ℕ). c.append_formals.new.bytes.items ++ l) (body_is _ _))
+    (c.len-list.ensures ∙ count_items c.append.new.bytes) (c.len-body.ensures ∙ count_items c.append_formals.new.bytes) c.unwrap_or-count.ensures (c.stops_at-stops.ensures ∙ ap (λ (x : List ℕ). stops_told x c.len-list.result c.len-body.result c.unwrap_or-count.result) c.as_slice.ensures.value))))
 
 pub returns-clause-marked : goal.returns-clause-marked
 returns-clause-marked c =

@@ -1,6 +1,8 @@
 use Rattle.std.proofs.Common.{◌<◌, length, arith}
+use Rattle.rdlpp_table.specs.View.{macro_at}
 use Rattle.rdlpp_table.proofs.Sizes.{count_items}
-use Rattle.rdlpp_table.proofs.Laid.{copied_at, len_of_view}
+use Rattle.rdlpp_table.proofs.Laid.{len_of_view, stops_at}
+use Rattle.rdlpp_table.proofs.Stopped.{copied_of}
 use Rattle.rdlpp_table.proofs.table.Table.is_copied.Goals as goal
 
 pub index-requires : goal.index-requires
@@ -9,4 +11,4 @@ index-requires c = omega (arith, c.requires, len_of_view _ _ _ _ _ c.self.view_i
 pub returns : goal.returns
 returns c =
     let h : c.id.inside.index < length c.self.inside.entries.items = omega (arith, c.requires, len_of_view _ _ _ _ _ c.self.view_is, c.id.view_is) in
-    copied_at _ _ _ _ _ _ _ _ c.self.view_is c.self.invariant.held c.id.view_is h c.index.ensures
+    copied_of (macro_at c.args.self.now.macros c.args.id) _ _ (stops_at _ _ _ _ _ _ _ _ c.self.view_is c.self.invariant.held c.id.view_is h c.index.ensures) c.is_kept_none.ensures

@@ -1,8 +1,9 @@
-use Rattle.std.proofs.Common.{◌≡◌, ◌<◌, ap, length, arith}
+use Rattle.std.proofs.Common.{◌≡◌, ◌<◌, ◌∙◌, ap, length, sym, arith}
+use Rattle.rdlpp_table.specs.Kept.{first_stops}
 use Rattle.rdlpp_table.specs.View.{macro_at}
 use Rattle.rdlpp_table.proofs.Sizes.{count_items}
-use Rattle.rdlpp_table.proofs.Laid.{copied_at, entry_within, len_of_view}
-use Rattle.rdlpp_table.proofs.Stopped.{body_here, no_stop, some_stop}
+use Rattle.rdlpp_table.proofs.Laid.{entry_within, len_of_view, stops_at}
+use Rattle.rdlpp_table.proofs.Stopped.{body_here, known_of, some_stop}
 use Rattle.rdlpp_table.proofs.table.Table.stop.Goals as goal
 
 pub index-entry-requires : goal.index-entry-requires
@@ -23,10 +24,11 @@ pub returns : goal.returns
 returns c =
     let h : c.id.inside.index < length c.self.inside.entries.items = omega (arith, c.requires.id, len_of_view _ _ _ _ _ c.self.view_is, c.id.view_is) in
     let b : c.body_in-body.result.now ≡ (macro_at c.args.self.now.macros c.args.id).body = body_here _ _ _ _ _ _ _ _ _ _ c.as_slice.ensures.value c.self.view_is c.id.view_is h c.index-entry.ensures c.body_in-body.ensures in
-    some_stop (macro_at c.args.self.now.macros c.args.id) _ _ _ _ _ c.formals.ensures.formals b c.first_stop.ensures
+    let stops = stops_at _ _ _ _ _ _ _ _ c.self.view_is c.self.invariant.held c.id.view_is h c.index-entry.ensures in
+    known_of (macro_at c.args.self.now.macros c.args.id) _ _ _ _ b c.if-to-body.true (c.in-Some.ensures _ (stops ∙ ap (first_stops _) (sym b)))
 
-pub returns-then-to-from : goal.returns-then-to-from
-returns-then-to-from c =
+pub returns-2 : goal.returns-2
+returns-2 c =
     let h : c.id.inside.index < length c.self.inside.entries.items = omega (arith, c.requires.id, len_of_view _ _ _ _ _ c.self.view_is, c.id.view_is) in
     let b : c.body_in-body.result.now ≡ (macro_at c.args.self.now.macros c.args.id).body = body_here _ _ _ _ _ _ _ _ _ _ c.as_slice.ensures.value c.self.view_is c.id.view_is h c.index-entry.ensures c.body_in-body.ensures in
-    no_stop (macro_at c.args.self.now.macros c.args.id) _ _ _ _ (copied_at _ _ _ _ _ _ _ _ c.self.view_is c.self.invariant.held c.id.view_is h c.index-entry.ensures) c.if-entry.true b c.requires.order c.requires.inside c.if-to-from.true
+    some_stop (macro_at c.args.self.now.macros c.args.id) _ _ _ _ _ c.formals.ensures.formals b c.first_stop.ensures.value
