@@ -17,3 +17,4 @@ pub mod Falling
 pub mod Standing
 pub mod ShortTexts
 pub mod Words
+pub mod Taking

@@ -24,6 +24,22 @@ is_back Back = true
 is_back BareBackquote = true
 is_back kind = false
 
+-- whether a run stands at a front
+unfoldable pub is_run : Front → Bool
+is_run Ended = false
+is_run (Run len) = true
+is_run (FormalName len place) = false
+is_run (Usage len) = false
+is_run Bare = false
+
+-- the look at what stands behind a run, and the same look where none stands at the front
+unfoldable pub behind_run : Front → Look → Look
+behind_run Ended look = look
+behind_run (Run len) look = record { source = look.source; from = look.from + len; end = look.end; front = look.behind; behind = Ended }
+behind_run (FormalName len place) look = look
+behind_run (Usage len) look = look
+behind_run Bare look = look
+
 -- how many bytes the tokens have that come before the first stop
 unfoldable pub run_len : List Formal → List Token → List ℕ → ℕ
 run_len formals [] text = 0

@@ -6,3 +6,4 @@ pub mod Steps
 pub mod Usages
 pub mod Calls
 pub mod Digits
+pub mod Taking

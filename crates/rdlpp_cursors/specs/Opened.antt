@@ -1,6 +1,6 @@
 -- Open texts as they lie in slots, with the ranges that calls have bound.
 -- A definition that names no source is this project's own.
-use Rattle.std.specs.Prelude.{◌≡◌, ℕ, ◌+◌, ◌*◌, ◌≤◌, ◌==◌, nat_lt, ◌||◌, Bool, false, List, [], ◌∷◌, map, length, take, drop, vec_capacity, Vec}
+use Rattle.std.specs.Prelude.{◌≡◌, ℕ, ◌+◌, ◌*◌, ◌≤◌, ◌==◌, nat_le, nat_lt, ◌||◌, Bool, false, true, List, [], ◌∷◌, map, length, take, drop, vec_capacity, Vec}
 use Rattle.std.specs.List.{AllByRecursion}
 use Rattle.rdlpp_scan.specs.declared.token.Mode.TheVariants.{Plain}
 use Rattle.rdlpp_meaning.specs.Opens.{OpenKind, OpenBody, OpenActual, OpenDefault, Open}
@@ -95,6 +95,11 @@ IsNoBody (Default id place) = Unit
 unfoldable pub moved_to : ℕ → List Open → List Open
 moved_to at [] = []
 moved_to at (x ∷ below) = record { part = record { from = at; end = x.part.end; mode = Plain }; home = x.home; kind = x.kind } ∷ below
+
+-- whether nothing is left of the innermost open text
+unfoldable pub is_spent : List Open → Bool
+is_spent [] = true
+is_spent (x ∷ below) = nat_le x.part.end x.part.from
 
 -- each home of the slots is a scope further out
 abbrev pub AreHomedSlots : List Slot → Type 0

@@ -1,32 +1,33 @@
 // The stack of open texts.
-ghost use Rattle.std.specs.Prelude.{[], length, IfOk, List, None, ℕ, ◌==◌, ◌<◌, ◌≡◌, ◌≤◌, ◌∷◌, ◌^◌, drop, nat_le};
+ghost use Rattle.std.specs.Prelude.{[], length, true, IfOk, List, None, ℕ, ◌==◌, ◌<◌, ◌≡◌, ◌≤◌, ◌∷◌, ◌^◌, drop, nat_le};
 ghost use Rattle.rdlpp_scan.specs.declared.token.Mode.TheVariants.{Plain};
 ghost use Rattle.std.specs.Option.{option_map};
 ghost use Rattle.rdlpp_table.specs.View.{macro_at};
-ghost use Rattle.rdlpp_meaning.specs.Opens.{open_body, OpenBody};
+ghost use Rattle.rdlpp_meaning.specs.Opens.{open_body, OpenBody, Texts};
 ghost use Rattle.rdlpp_cursors.specs.Digits.{IsFalling};
 ghost use Rattle.rdlpp_cursors.specs.Fronts.{IsLook, IsLookBehind};
-ghost use Rattle.rdlpp_cursors.specs.Opened.{bound_by, kept_by, moved_to, open_of, IsNoBody};
+ghost use Rattle.rdlpp_cursors.specs.Opened.{bound_by, is_spent, kept_by, moved_to, open_of, IsNoBody};
 ghost use Rattle.rdlpp_cursors.specs.Places.{texts_of};
 ghost use Rattle.rdlpp_cursors.specs.Usages.{IsTextFault};
 ghost use Rattle.rdlpp_cursors.specs.Steps.{AreSound, IsStep, KeepsOpen, StaysRefused, IsPlacedStep, NamesWord};
+ghost use Rattle.rdlpp_cursors.specs.Taking.{IsTaken};
+ghost use Rattle.rdlpp_cursors.specs.declared.step.CursorStep.TheVariants.{Silent};
 
 mod call;
 mod usage;
 
-use crate::front::{Front, Look, look_at};
+use crate::front::{Look, behind_run, is_run, look_at};
 use crate::place::TextPlace;
-use crate::scopes::{body_bounds, scope_bounds};
+use crate::scopes::{body_bounds, is_spent, scope_bounds};
 use crate::slot::{NO_BOUNDS, Slot, SlotKind};
-use crate::step::{CursorStep, wordless};
+use crate::step::CursorStep;
 use rdlpp_calls::Range;
-use rdlpp_meaning::FaultKind;
 use rdlpp_table::{MacroId, Table};
 use std::alloc::{AllocError, Global};
 use std::marker::Model;
 
 mod formal;
-mod run;
+mod opening;
 
 // The most ranges that the call of one open body binds: one for each formal of its macro (this project's profile).
 const MOST_BINDINGS: usize = 255;
@@ -142,6 +143,28 @@ impl Cursors {
         self.first += 1;
     }
 
+    // Whether nothing is left of the innermost text.
+    fn is_spent(&self) -> bool
+        requires { 0 < length self.now.opens }
+        ensures { result ≡ is_spent self.now.opens }
+    {
+        let slots = self.slots.as_slice();
+        is_spent(&slots[self.first..])
+    }
+
+    // Closes the innermost text, of which nothing is left, and those around it of which nothing is left either, up to the
+    // outermost, which stays open if it isn't the innermost.
+    fn close_spent(&mut self)
+        requires { 0 < length self.old.opens }
+        ensures spent { (texts : Texts) → AreSound texts self.old.opens → is_spent self.old.opens ≡ true → IsTaken texts self.old Silent self.new }
+        ensures keeps { 1 < length self.old.opens → 0 < length self.new.opens }
+    {
+        self.close();
+        while self.len() > 1 && self.is_spent() {
+            self.close();
+        }
+    }
+
     // Goes on at a place of the innermost text.
     fn move_to(&mut self, at: usize)
         requires { 0 < length self.old.opens }
@@ -216,8 +239,8 @@ impl Cursors {
     ///
     /// It lends the longest run of bytes that are copied, in one piece as they lie. It opens the actual of a formal, its default
     /// where the actual is empty, or the body of a macro, and goes on behind the name or the call. Or it closes a text of which
-    /// nothing is left. Where it lends a run, what stands behind that is opened in the same step, or a text that ends there is
-    /// closed while others are open around it.
+    /// nothing is left, and those around it of which nothing is left either, but for the outermost. Where it lends a run, what
+    /// stands behind that is opened in the same step, or a text that ends there is closed while others are open around it.
     ///
     /// # Faults
     /// They are told at the line of the usage in the source, in a step of their own. Nothing changes then, and the same fault
@@ -244,15 +267,18 @@ impl Cursors {
         ensures word { NamesWord (texts_of table.now.macros arguments.now) result }
     {
         let look = self.look(table, arguments);
-        match look.front {
-            Front::Ended => {
-                self.close();
-                CursorStep::Silent
-            }
-            Front::Run(len) => self.run(table, arguments, &look, len),
-            Front::Formal { len, place } => self.formal(table, arguments, &look, len, place),
-            Front::Usage(len) => self.usage(table, arguments, &look, len),
-            Front::Bare => wordless(FaultKind::BareBackquote),
+        let lent = is_run(look.front);
+        let next = behind_run(&look);
+        self.move_to(next.from);
+        let opened = self.open_front(table, arguments, &next, lent);
+        if lent {
+            CursorStep::Lends(TextPlace {
+                source: look.source,
+                from: look.from,
+                end: next.from,
+            })
+        } else {
+            opened
         }
     }
 }

@@ -3,7 +3,7 @@ ghost use Rattle.std.specs.Prelude.{[], length, slice_range, nat_lt, if◌then�
 ghost use Rattle.rdlpp_scan.specs.Tokens.{tokens_from};
 ghost use Rattle.rdlpp_table.specs.Stops.{stop_of};
 ghost use Rattle.rdlpp_table.specs.Table.{Formal};
-ghost use Rattle.rdlpp_cursors.specs.Fronts.{is_back, run_len, AreFronts, IsFront, IsLook, IsLookBehind};
+ghost use Rattle.rdlpp_cursors.specs.Fronts.{behind_run, is_back, is_run, run_len, AreFronts, IsFront, IsLook, IsLookBehind};
 ghost use Rattle.rdlpp_cursors.specs.Opened.{opens_of};
 ghost use Rattle.rdlpp_cursors.specs.Places.{source_formals, source_text, texts_of, IsSource};
 ghost use Rattle.rdlpp_cursors.specs.Steps.{AreSound};
@@ -68,6 +68,32 @@ pub(crate) fn look_at(slots: &[Slot], bindings: &[Range], table: &Table, argumen
         end,
         front: fronts.first,
         behind: fronts.behind,
+    }
+}
+
+// Whether a run stands there.
+#[tactic(auto, unfolding(crate::specs::Fronts::is_run))]
+pub(crate) fn is_run(front: Front) -> bool
+    ensures { result ≡ is_run front }
+{
+    matches!(front, Front::Run(_))
+}
+
+// The look at what stands behind a run, and the same look where none stands at the front.
+#[tactic(auto, unfolding(crate::specs::Fronts::behind_run))]
+pub(crate) fn behind_run(look: &Look) -> Look
+    requires { (n : ℕ) → look.now.front ≡ Front.Run n → look.now.from + n < 2 ^ 64 }
+    ensures { result ≡ behind_run look.now.front look.now }
+{
+    match look.front {
+        Front::Run(len) => Look {
+            source: look.source,
+            from: look.from + len,
+            end: look.end,
+            front: look.behind,
+            behind: Front::Ended,
+        },
+        _ => *look,
     }
 }
 

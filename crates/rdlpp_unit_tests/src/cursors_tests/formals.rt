@@ -50,7 +50,7 @@ fn an_actual_stands_in_a_body_and_a_default_for_an_empty_one(rt: HostRuntime) ->
         end: 1,
     };
     expect_step(&rt, &mut cursors, &table, CursorStep::Lends(default));
-    expect_step(&rt, &mut cursors, &table, CursorStep::Silent);
+    assert_eq!(&rt; cursors.len(), 1);
     expect_step(&rt, &mut cursors, &table, lent(outer, 6, 7));
     expect_step(&rt, &mut cursors, &table, CursorStep::Silent);
     assert!(&rt; cursors.is_empty());
