@@ -8,7 +8,7 @@ use Rattle.rdlpp_table.specs.declared.entry.Entry.{Entry}
 use Rattle.rdlpp_table.specs.Kept.{first_stops}
 use Rattle.rdlpp_table.specs.Table.{Macro, table_bytes, table_size, macro_named}
 use Rattle.rdlpp_table.specs.View.{TableView, formals_of, macro_at, no_macro, place_named}
-use Rattle.rdlpp_table.specs.Store.{IsStored, macros_in, macro_in, body_of, entry_end, entry_of, entries_of}
+use Rattle.rdlpp_table.specs.Store.{IsStored, macros_in, macro_in, body_of, entry_end, entry_of, entries_of, name_of}
 use Rattle.rdlpp_table.specs.Entries.{AreWithin}
 use Rattle.rdlpp_table.proofs.Sizes.{stored_within, entry_of_macro}
 use Rattle.rdlpp_table.proofs.Lookup.{find_by_position}
@@ -60,6 +60,11 @@ pub body_at : (bs bytes : List ℕ) (entries : List Entry) (a b : ℕ) (view : T
 unfolding macro_in
 body_at bs bytes entries a b view i j entry r p e s h q f =
     f ∙ (ap (λ (x : List ℕ). body_of x entry) p ∙ (ap (body_of bytes) q ∙ (sym (ap (λ (m : Macro). m.body) (macro_at_entry bytes entries a b view i entry e h)) ∙ ap (λ (k : ℕ). (macro_at view.macros k).body) s)))
+
+pub name_at : (bs bytes : List ℕ) (entries : List Entry) (a b : ℕ) (view : TableView) (i j : ℕ) (entry : Entry) (r : List ℕ) → bs ≡ bytes → view_of bytes entries a b ≡ view → i ≡ j → i < length entries → entry ≡ get_or entries i entry → r ≡ name_of bs entry → r ≡ (macro_at view.macros j).name
+unfolding macro_in
+name_at bs bytes entries a b view i j entry r p e s h q f =
+    f ∙ (ap (λ (x : List ℕ). name_of x entry) p ∙ (ap (name_of bytes) q ∙ (sym (ap (λ (m : Macro). m.name) (macro_at_entry bytes entries a b view i entry e h)) ∙ ap (λ (k : ℕ). (macro_at view.macros k).name) s)))
 
 pub arity_at : (bytes : List ℕ) (entries : List Entry) (a b : ℕ) (view : TableView) (i j : ℕ) (entry : Entry) → view_of bytes entries a b ≡ view → IsHeld bytes entries a b → i ≡ j → i < length entries → entry ≡ get_or entries i entry → entry.arity ≡ option_map length (macro_at view.macros j).formals
 unfolding entry_of

@@ -8,6 +8,7 @@ use Rattle.std.proofs.lemmas.Map.Keys.{IsDistinct-head, IsDistinct-tail}
 use Rattle.std.proofs.lemmas.Slice.Eq.{bytes_eq-Decides}
 use Rattle.rdlpp_table.specs.Table.{Formal, Macro}
 use Rattle.rdlpp_table.specs.View.{formal_named, macro_at, no_macro, place_named}
+use Rattle.rdlpp_table.proofs.Orders.{position_is}
 
 all_at : {X : Type 0} (P : List ℕ → Type 0) (f : X → List ℕ) (xs : List X) (k : ℕ) (d : X) → AllByRecursion P (map f xs) → k < length xs → P (f (get_or xs k d))
 all_at P f [] k d h l = absurd (omega arith)
@@ -40,6 +41,13 @@ name_of_place f xs d name i j h e l =
 -- the macro at a place has the name by which that place was found, and no other has
 pub place_of_name : (ms : List Macro) (name : List ℕ) (id j : ℕ) → IsDistinct bytes_eq (map (λ m. m.name) ms) → place_named ms name ≡ Some id → j < length ms → bytes_eq name (macro_at ms j).name ≡ (id == j)
 place_of_name ms name id j h e l = name_of_place (λ m. m.name) ms no_macro name id j h e l
+
+-- the macro at a place is the one that is found by its name
+pub place_of_own : (ms : List Macro) (name : List ℕ) (i : ℕ) → IsDistinct bytes_eq (map (λ m. m.name) ms) → i < length ms → (macro_at ms i).name ≡ name → place_named ms name ≡ Some i
+place_of_own ms name i d h e =
+    position_is (λ m. bytes_eq m.name name) ms i no_macro h
+    (λ k g. ap (bytes_eq (macro_at ms k).name) (sym e) ∙ apart (λ m. m.name) ms k i no_macro d g h)
+    ((bytes_eq-Decides _ _).1 e)
 
 -- the same of the formals of a macro
 pub formal_of_name : (fs : List Formal) (d : Formal) (name : List ℕ) (i j : ℕ) → IsDistinct bytes_eq (map (λ f. f.name) fs) → formal_named fs name ≡ Some i → j < length fs → bytes_eq name (get_or fs j d).name ≡ (i == j)

@@ -11,7 +11,7 @@ ghost use Rattle.rdlpp_table.specs.Define.{define_of, name_fault, observed, set_
 ghost use Rattle.rdlpp_table.specs.Store.{formals_read, IsListed};
 ghost use Rattle.rdlpp_table.specs.View.{TableView, AreSoundFormals, IsSound, IsSoundMacro, formal_at, formal_named, formals_of, macro_at, place_named};
 
-use crate::entry::{Entry, body_in, listed_in};
+use crate::entry::{Entry, body_in, listed_in, name_in};
 use crate::fault::{DefineFault, DefineKind, NoMemory, lexical, refusal};
 use crate::formals::read_list;
 use crate::header::{after_space, leading_name, list_behind, unended};
@@ -167,6 +167,29 @@ impl Table {
             steps,
         )?;
         Some(MacroId { index })
+    }
+
+    /// As `find`, but looks at the macro at a guessed place first, which costs one comparison: a caller that keeps the
+    /// place at which a name was found last is answered without a search while that macro stays there. Places may have
+    /// changed since then, so that any number may be guessed: a guess is never trusted.
+    pub fn find_near(&self, guess: usize, name: &[u8]) -> Option<MacroId>
+        ensures value { result ≡ place_named self.now.macros name.now }
+        ensures inside { IfSome result (λ id. id < length self.now.macros) }
+        ensures named { macro_named self.now.macros name.now ≡ option_map (macro_at self.now.macros) result }
+        ensures sound { IsSound self.now }
+    {
+        if guess < self.len() && self.name(MacroId { index: guess }) == name {
+            return Some(MacroId { index: guess });
+        }
+        self.find(name)
+    }
+
+    /// The name of a macro.
+    pub fn name(&self, id: MacroId) -> &[u8]
+        requires { id < length self.now.macros }
+        ensures { result.now ≡ (macro_at self.now.macros id).name }
+    {
+        name_in(self.bytes.as_slice(), &self.entries[id.index])
     }
 
     /// The body of a macro.
