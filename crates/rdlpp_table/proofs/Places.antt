@@ -1,5 +1,5 @@
 -- In a table with distinct names, and in a macro with distinct formals, place and name are one.
-use Rattle.std.proofs.Common.{◌≡◌, ℕ, zero, suc, ◌<◌, ◌==◌, false, List, [], ◌∷◌, length, map, get_or, bytes_eq, Some, ap, sym, ◌∙◌, arith, inl, inr}
+use Rattle.std.proofs.Common.{◌≡◌, ℕ, zero, suc, ◌<◌, ◌==◌, false, true, List, [], ◌∷◌, length, map, get_or, bytes_eq, Some, ap, sym, ◌∙◌, arith, inl, inr}
 use Rattle.std.specs.List.{AllByRecursion, IsDistinct, position}
 use Rattle.std.proofs.lemmas.Bool.{cases_lt, eq-eqb, ne_eqb}
 use Rattle.std.proofs.lemmas.Cmp.{nat_list_eq_equiv}
@@ -49,6 +49,10 @@ place_of_own ms name i d h e =
     (λ k g. ap (bytes_eq (macro_at ms k).name) (sym e) ∙ apart (λ m. m.name) ms k i no_macro d g h)
     ((bytes_eq-Decides _ _).1 e)
 
--- the same of the formals of a macro
+-- the same, where the name at that place was compared with the one that is looked for
+pub place_compared : (ms : List Macro) (own name : List ℕ) (i : ℕ) → IsDistinct bytes_eq (map (λ m. m.name) ms) → i < length ms → own ≡ (macro_at ms i).name → bytes_eq own name ≡ true → Some i ≡ place_named ms name
+place_compared ms own name i d h e t = sym (place_of_own ms name i d h (sym e ∙ (bytes_eq-Decides own name).0 t))
+
+-- the same as `place_of_name` of the formals of a macro
 pub formal_of_name : (fs : List Formal) (d : Formal) (name : List ℕ) (i j : ℕ) → IsDistinct bytes_eq (map (λ f. f.name) fs) → formal_named fs name ≡ Some i → j < length fs → bytes_eq name (get_or fs j d).name ≡ (i == j)
 formal_of_name fs d name i j h e l = name_of_place (λ f. f.name) fs d name i j h e l
