@@ -24,7 +24,6 @@ use Rattle.rdlpp_cursors.specs.Usages.{IsTextFault}
 use Rattle.rdlpp_cursors.proofs.Falling.{falls-twice}
 use Rattle.rdlpp_cursors.proofs.Moving.{goes-on, goes-reaches}
 use Rattle.rdlpp_cursors.proofs.Passing.{look-next, pass-behind, pass-ended, pass-run, IsPassed}
-use Rattle.rdlpp_cursors.proofs.Stepping.{look-inside}
 use Rattle.rdlpp_cursors.proofs.Usages.{open-run, placed-run}
 
 -- what such a step has left

@@ -7,3 +7,4 @@ pub mod Usages
 pub mod Calls
 pub mod Digits
 pub mod Taking
+pub mod Guesses

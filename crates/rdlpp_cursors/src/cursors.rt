@@ -17,6 +17,7 @@ mod call;
 mod usage;
 
 use crate::front::{Look, behind_run, is_run, look_at};
+use crate::guesses::Guesses;
 use crate::place::TextPlace;
 use crate::scopes::{body_bounds, is_spent, scope_bounds};
 use crate::slot::{NO_BOUNDS, Slot, SlotKind};
@@ -43,6 +44,7 @@ pub struct Cursors {
     // the ranges that the calls of the open bodies have bound, those of the innermost last
     bindings: Vec<Range>,
     line: u64,
+    guesses: Guesses,
 }
 
 impl Model for Cursors {
@@ -93,6 +95,7 @@ impl Cursors {
             first: depth,
             bindings,
             line: 0,
+            guesses: Guesses::new(),
         })
     }
 

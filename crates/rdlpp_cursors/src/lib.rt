@@ -3,6 +3,7 @@
 
 mod cursors;
 mod front;
+mod guesses;
 mod place;
 mod scopes;
 mod slot;

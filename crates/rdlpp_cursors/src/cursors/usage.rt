@@ -85,7 +85,7 @@ impl Cursors {
     {
         let word = word_of(look, len);
         let name = text_at(table, arguments, word);
-        let Some(id) = table.find(name) else {
+        let Some(id) = table.find_near(self.guesses.of(name), name) else {
             return Err(unknown_kind(name));
         };
         if self.is_inside(id) {
@@ -115,6 +115,7 @@ impl Cursors {
         let home = self.scope();
         self.move_to(at);
         self.push_body(id, table.body(id).len(), home);
+        self.guesses.keep(table.name(id), id);
     }
 
     // The scope of the innermost text.

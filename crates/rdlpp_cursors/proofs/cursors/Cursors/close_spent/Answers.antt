@@ -1,5 +1,5 @@
 use Rattle.std.proofs.Common.{◌<◌, length, sym, ◌∙◌, arith}
-use Rattle.rdlpp_cursors.proofs.Taking.{rest-fewer, rest-open, spent-closed, taken-twice}
+use Rattle.rdlpp_cursors.proofs.Taking.{rest-open, spent-closed, taken-twice}
 use Rattle.rdlpp_cursors.proofs.cursors.Cursors.close_spent.Goals as goal
 
 pub loop-self-init : goal.loop-self-init

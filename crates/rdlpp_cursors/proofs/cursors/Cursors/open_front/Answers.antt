@@ -3,7 +3,7 @@ use Rattle.std.specs.Prelude.{nat_le}
 use Rattle.std.proofs.lemmas.Bool.{true≢false, le-leb, lt-leb}
 use Rattle.rdlpp_cursors.specs.Places.{texts_of}
 use Rattle.rdlpp_cursors.proofs.Passing.{pass-bare}
-use Rattle.rdlpp_cursors.proofs.Taking.{ended-spent, idle-bare, idle-closed, idle-formal, idle-last, idle-run, idle-usage, taken-by, unlent-wordless}
+use Rattle.rdlpp_cursors.proofs.Taking.{ended-spent, idle-closed, idle-formal, idle-last, idle-run, idle-usage, taken-by, unlent-wordless}
 use Rattle.rdlpp_cursors.proofs.Usages.{fault-bare, placed-wordless}
 use Rattle.rdlpp_cursors.proofs.Words.{word-none}
 use Rattle.rdlpp_cursors.proofs.cursors.Cursors.open_front.Goals as goal
