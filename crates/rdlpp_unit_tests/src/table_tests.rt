@@ -168,3 +168,45 @@ fn a_name_is_set_to_a_text(rt: HostRuntime) {
     );
     assert_eq!(rt; table.bytes(), b"W8Ax\\\ny".as_slice());
 }
+
+#[test]
+fn a_macro_is_known_by_its_place(rt: HostRuntime) {
+    let mut table = table(&rt, 1_024, 4);
+    assert_eq!(rt; kind(table.set(b"A".as_slice(), b"1".as_slice())), None);
+    assert_eq!(rt;
+        kind(table.set(b"long_name".as_slice(), b"2".as_slice())),
+        None
+    );
+    match table.find(b"long_name".as_slice()) {
+        Some(id) => assert_eq!(rt; table.name(id), b"long_name".as_slice()),
+        None => panic!(rt; "the macro isn't found"),
+    }
+    match table.find(b"A".as_slice()) {
+        Some(id) => assert_eq!(rt; table.name(id), b"A".as_slice()),
+        None => panic!(rt; "the macro isn't found"),
+    }
+}
+
+#[test]
+fn a_guessed_place_is_never_trusted(rt: HostRuntime) {
+    let mut table = table(&rt, 1_024, 4);
+    assert_eq!(rt; table.find_near(0, b"A".as_slice()), None);
+    assert_eq!(rt; kind(table.set(b"A".as_slice(), b"1".as_slice())), None);
+    assert_eq!(rt; kind(table.set(b"B".as_slice(), b"2".as_slice())), None);
+    assert_eq!(rt; kind(table.set(b"C".as_slice(), b"3".as_slice())), None);
+    for guess in [0, 1, 2, 3, usize::MAX] {
+        match table.find_near(guess, b"B".as_slice()) {
+            Some(id) => assert_eq!(rt; id.index(), 1),
+            None => panic!(rt; "the macro isn't found"),
+        }
+        assert_eq!(rt; table.find_near(guess, b"D".as_slice()), None);
+    }
+    assert!(rt; table.remove(b"A".as_slice()));
+    for guess in [0, 1, 2] {
+        match table.find_near(guess, b"B".as_slice()) {
+            Some(id) => assert_eq!(rt; table.body(id), b"2".as_slice()),
+            None => panic!(rt; "the macro isn't found"),
+        }
+        assert_eq!(rt; table.find_near(guess, b"A".as_slice()), None);
+    }
+}
