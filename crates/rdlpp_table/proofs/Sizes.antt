@@ -4,7 +4,8 @@ use Rattle.std.specs.List.{All, flat_map}
 use Rattle.std.proofs.lemmas.List.Elements.{All-cons, All-nil}
 use Rattle.std.proofs.lemmas.List.Sums.{sum_by-cons, sum_by-append}
 use Rattle.rdlpp_table.specs.declared.entry.Entry.{Entry}
-use Rattle.rdlpp_table.specs.declared.kept.Kept.TheVariants as kept
+use Rattle.rdlpp_table.specs.declared.kept.Kept.{Kept}
+use Rattle.rdlpp_table.specs.declared.kept.KeptKind.TheVariants as kept
 use Rattle.rdlpp_table.specs.Table.{Formal, Macro, default_bytes, default_size, formal_size, macro_size, table_size, formal_bytes, macro_bytes, table_bytes}
 use Rattle.rdlpp_table.specs.View.{macro_at}
 use Rattle.rdlpp_table.specs.Store.{entry_of, entries_of, entry_end, body_start, list_start, list_size, IsStored}
@@ -13,9 +14,13 @@ use Rattle.rdlpp_table.specs.Entries.{marks_len, AreWithin}
 use Rattle.std.proofs.lemmas.Bool.{cond-true, cond-false}
 use Rattle.std.proofs.lemmas.Bool.Decides.{leb_tells}
 
+-- a stop without anything
+abbrev no_stop : Kept
+no_stop = record { end = 0; len = 0; place = 0; quiet = 0; kind = kept.Unknown }
+
 -- an entry without anything
 abbrev pub no_entry : Entry
-no_entry = record { start = 0; name_len = 0; list_len = 0; body_len = 0; arity = None; marks = 0; stops = record { first = kept.Unknown; second = kept.Unknown; third = kept.Unknown; fourth = kept.Unknown } }
+no_entry = record { start = 0; name_len = 0; list_len = 0; body_len = 0; arity = None; marks = 0; stops = record { first = no_stop; second = no_stop; third = no_stop; fourth = no_stop } }
 
 -- a list counts its items
 pub count_items : {A : Type 0} (v : Vec A Global) → vec_len v ≡ length v.items

@@ -1,5 +1,5 @@
 -- The stops of the body of a macro in a table.
-use Rattle.std.proofs.Common.{◌≡◌, ℕ, ◌<◌, Bool, List, drop, length, get_or, slice_range, ap, sym, ◌∙◌}
+use Rattle.std.proofs.Common.{◌≡◌, ℕ, ◌<◌, Bool, List, length, get_or, slice_range, ap, sym, ◌∙◌}
 use Rattle.rdlpp_table.specs.declared.entry.Entry.{Entry}
 use Rattle.rdlpp_table.specs.declared.stop.Stop.{Stop}
 use Rattle.rdlpp_table.specs.declared.kept.FirstStops.{FirstStops}
@@ -7,15 +7,10 @@ use Rattle.rdlpp_table.specs.Table.{Formal, Macro}
 use Rattle.rdlpp_table.specs.View.{TableView, formals_of, macro_at}
 use Rattle.rdlpp_table.specs.Store.{body_of, macro_in}
 use Rattle.rdlpp_table.specs.Layout.{view_of}
-use Rattle.rdlpp_table.specs.Kept.{first_stops, is_kept_none, kept_from}
+use Rattle.rdlpp_table.specs.Kept.{first_stops, is_kept_none, kept_from, quiet_kept}
 use Rattle.rdlpp_table.specs.Stops.{is_copied, stop_in, stop_of}
 use Rattle.rdlpp_table.proofs.KeptStops.{first_of, kept_none}
 use Rattle.rdlpp_table.proofs.Laid.{macro_at_entry}
-use Rattle.rdlpp_table.proofs.Stopping.{behind_place}
-
--- the rest of a body, as a range up to its end
-rest_of : (m : Macro) (from to : ℕ) → to ≡ length m.body → drop from m.body ≡ slice_range m.body from to
-rest_of m from to e = sym (behind_place from m.body) ∙ ap (λ (n : ℕ). slice_range m.body from n) (sym e)
 
 -- the macro of an entry that was read
 macro_here : (bs bytes : List ℕ) (entries : List Entry) (a b : ℕ) (view : TableView) (i j : ℕ) (entry : Entry) → bs ≡ bytes → view_of bytes entries a b ≡ view → i ≡ j → i < length entries → entry ≡ get_or entries i entry → macro_in bs entry ≡ macro_at view.macros j
@@ -36,14 +31,9 @@ formals_here bs bytes entries a b view i j entry formals p e s h q f =
 pub copied_of : (m : Macro) (stops : FirstStops) (b : Bool) → stops ≡ first_stops (formals_of m) m.body → b ≡ is_kept_none stops.first → b ≡ is_copied m
 unfolding is_copied kept_from
 copied_of m stops b e n =
-    n ∙ (ap is_kept_none (first_of (formals_of m) m.body stops e) ∙ kept_none (stop_of (formals_of m) 0 m.body))
+    n ∙ (ap is_kept_none (first_of (formals_of m) m.body stops e) ∙ kept_none (stop_of (formals_of m) 0 m.body) (quiet_kept m.body))
 
--- a stop that is known of a body as it was read
-pub known_of : (m : Macro) (body : List ℕ) (from to : ℕ) (s : Stop) → body ≡ m.body → to ≡ length body → s ≡ stop_of (formals_of m) from (drop from body) → s ≡ stop_in m from to
-unfolding stop_in
-known_of m body from to s b e h =
-    h ∙ (ap (λ (l : List ℕ). stop_of (formals_of m) from (drop from l)) b ∙ ap (stop_of (formals_of m) from) (rest_of m from to (e ∙ ap length b)))
-
+-- a stop that was read of a body
 pub some_stop : (m : Macro) (formals : List Formal) (body : List ℕ) (from to : ℕ) (s : Stop) → formals ≡ formals_of m → body ≡ m.body → s ≡ stop_of formals from (slice_range body from to) → s ≡ stop_in m from to
 unfolding stop_in
 some_stop m formals body from to s f b e =

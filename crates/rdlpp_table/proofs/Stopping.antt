@@ -40,7 +40,7 @@ or_some (stop.Formal at len place) other h = refl
 or_some (stop.Usage at len) other h = refl
 or_some (stop.Bare at) other h = refl
 
-one_token : (formals : List Formal) (at : ℕ) (mode : Mode) (rest : List ℕ) → 0 < length rest → 0 < (token_of mode rest).len → first_stop formals at (tokens_from mode 0 rest) rest ≡ or_stop (stop_at formals at (token_of mode rest) (take (token_of mode rest).len rest)) (first_stop formals (at + (token_of mode rest).len) (tokens_from (token_of mode rest).next_mode 0 (drop (token_of mode rest).len rest)) (drop (token_of mode rest).len rest))
+pub one_token : (formals : List Formal) (at : ℕ) (mode : Mode) (rest : List ℕ) → 0 < length rest → 0 < (token_of mode rest).len → first_stop formals at (tokens_from mode 0 rest) rest ≡ or_stop (stop_at formals at (token_of mode rest) (take (token_of mode rest).len rest)) (first_stop formals (at + (token_of mode rest).len) (tokens_from (token_of mode rest).next_mode 0 (drop (token_of mode rest).len rest)) (drop (token_of mode rest).len rest))
 unfolding first_stop
 one_token formals at mode rest h l = ap (λ (ts : List Token). first_stop formals at ts rest) (tokens_from-step mode rest h l)
 

@@ -1,11 +1,12 @@
 -- The first stops of a body, as they are kept in its entry.
 -- A definition that names no source is this project's own.
-use Rattle.std.specs.Prelude.{ℕ, ◌+◌, ◌-◌, Bool, true, false, nat_le, nat_lt, if◌then◌else◌, ◌&&◌, ◌==◌, List, drop, slice_range, Option, Some, None, option_map, unwrap_or}
+use Rattle.std.specs.Prelude.{ℕ, ◌+◌, ◌-◌, Bool, true, false, nat_le, nat_lt, if◌then◌else◌, ◌&&◌, ◌||◌, ◌==◌, List, drop, Option, Some, None}
 use Rattle.std.specs.List.{prefix_len}
 use Rattle.rdlpp_scan.specs.Bytes.{is_quiet}
 use Rattle.rdlpp_table.specs.declared.kept.FirstStops.{FirstStops}
 use Rattle.rdlpp_table.specs.declared.kept.Kept.{Kept}
-use Rattle.rdlpp_table.specs.declared.kept.Kept.TheVariants as kept
+use Rattle.rdlpp_table.specs.declared.kept.KeptKind.{KeptKind}
+use Rattle.rdlpp_table.specs.declared.kept.KeptKind.TheVariants as kept
 use Rattle.rdlpp_table.specs.declared.stop.Stop.{Stop}
 use Rattle.rdlpp_table.specs.declared.stop.Stop.TheVariants as stop
 use Rattle.rdlpp_table.specs.Stops.{stop_of}
@@ -18,52 +19,61 @@ stop_end (stop.Formal at len place) = at + len
 stop_end (stop.Usage at len) = at + len
 stop_end (stop.Bare at) = at + 1
 
--- a stop as it is kept: unknown, where its numbers are too large
-unfoldable pub kept_of : Stop → Kept
-kept_of stop.None = kept.None
-kept_of (stop.Formal at len place) = if nat_lt at 65536 && (nat_lt len 256 && nat_lt place 256) then kept.Formal at len place else kept.Unknown
-kept_of (stop.Usage at len) = if nat_lt at 65536 && nat_lt len 256 then kept.Usage at len else kept.Unknown
-kept_of (stop.Bare at) = if nat_lt at 65536 then kept.Bare at else kept.Unknown
+-- what is kept where no stop is known to end
+unfoldable pub endless : KeptKind → ℕ → Kept
+endless kind quiet = record { end = 65535; len = 0; place = 0; quiet = quiet; kind = kind }
+
+-- a stop as it is kept, by its numbers: unknown, where these are too large
+unfoldable pub placed : KeptKind → ℕ → ℕ → ℕ → ℕ → Kept
+placed kind at len place quiet =
+    if nat_lt at 65535 && (nat_lt len 256 && (nat_lt place 256 && nat_lt (at + len) 65535))
+    then record { end = at + len; len = len; place = place; quiet = quiet; kind = kind }
+    else endless kept.Unknown 0
+
+-- a stop as it is kept, with how many quiet bytes stand first in its text
+unfoldable pub kept_of : Stop → ℕ → Kept
+kept_of stop.None quiet = endless kept.None quiet
+kept_of (stop.Formal at len place) quiet = placed kept.Formal at len place quiet
+kept_of (stop.Usage at len) quiet = placed kept.Usage at len 0 quiet
+kept_of (stop.Bare at) quiet = placed kept.Bare at 1 0 quiet
+
+-- the stop of a kind between two places
+unfoldable pub stop_by : KeptKind → ℕ → ℕ → ℕ → Option Stop
+stop_by kept.Unknown at len place = None
+stop_by kept.None at len place = Some stop.None
+stop_by kept.Formal at len place = Some (stop.Formal at len place)
+stop_by kept.Usage at len place = Some (stop.Usage at len)
+stop_by kept.Bare at len place = Some (stop.Bare at)
 
 -- the stop that is kept, where it is known
 unfoldable pub stop_kept : Kept → Option Stop
-stop_kept kept.Unknown = None
-stop_kept kept.None = Some stop.None
-stop_kept (kept.Formal at len place) = Some (stop.Formal at len place)
-stop_kept (kept.Usage at len) = Some (stop.Usage at len)
-stop_kept (kept.Bare at) = Some (stop.Bare at)
+stop_kept k = stop_by k.kind (k.end - k.len) k.len k.place
 
 -- whether it is kept that there is no stop
 unfoldable pub is_kept_none : Kept → Bool
-is_kept_none kept.None = true
-is_kept_none _ = false
+is_kept_none k = elim k.kind [ kept.None ↦ true | _ ↦ false ]
 
--- where the text behind a stop that is kept begins
-unfoldable pub behind : Kept → Option ℕ
-behind kept.Unknown = None
-behind kept.None = None
-behind (kept.Formal at len place) = Some (at + len)
-behind (kept.Usage at len) = Some (at + len)
-behind (kept.Bare at) = Some (at + 1)
+-- how many quiet bytes a text begins with, as they are kept
+unfoldable pub quiet_kept : List ℕ → ℕ
+quiet_kept text = let quiet = prefix_len is_quiet text in if nat_lt quiet 255 then quiet else 255
 
--- whether what stands behind a stop that is kept begins no further on than at a place
-unfoldable pub is_passed : Kept → ℕ → Bool
-is_passed k from = unwrap_or (option_map (λ end. nat_le end from) (behind k)) false
-
--- the first stop of a text from a place on: unknown, where there is no place
-unfoldable pub kept_from : List Formal → List ℕ → Option ℕ → Kept
-kept_from formals text None = kept.Unknown
-kept_from formals text (Some from) = kept_of (stop_of formals from (drop from text))
+-- the first stop of a text from a place on, as it is kept: unknown, where the place is too far behind
+unfoldable pub kept_from : List Formal → List ℕ → ℕ → Kept
+kept_from formals text from =
+    if nat_lt from 65535 then kept_of (stop_of formals from (drop from text)) (quiet_kept (drop from text)) else endless kept.Unknown 0
 
 -- the first stops of a text, each of them the first one behind the one before
 unfoldable pub first_stops : List Formal → List ℕ → FirstStops
 first_stops formals text =
-    let first : Kept = kept_from formals text (Some 0) in
-    let second : Kept = kept_from formals text (behind first) in
-    let third : Kept = kept_from formals text (behind second) in
-    record { first = first; second = second; third = third; fourth = kept_from formals text (behind third) }
+    let first : Kept = kept_from formals text 0 in
+    let second : Kept = kept_from formals text first.end in
+    let third : Kept = kept_from formals text second.end in
+    record { first = first; second = second; third = third; fourth = kept_from formals text third.end }
 
--- whether a text from a place on begins at another one with quiet bytes alone between them, or at once
-unfoldable pub is_near : List ℕ → Option ℕ → ℕ → Bool
-is_near text None from = false
-is_near text (Some start) from = nat_le start from && prefix_len is_quiet (slice_range text start from) == from - start
+-- whether a stop that is kept as the first one from a place on stands behind quiet bytes alone, and ends no further on than at another
+unfoldable pub is_behind_quiet : ℕ → Kept → ℕ → Bool
+is_behind_quiet start k to = nat_lt 0 k.len && (start + k.quiet + k.len == k.end && nat_le k.end to)
+
+-- whether the stop that is kept as the first one from a place on is known to be that of a range further on, in a text of so many bytes
+unfoldable pub is_known : ℕ → ℕ → Kept → ℕ → ℕ → Bool
+is_known size start k from to = nat_le from (start + k.quiet) && (to == size || is_behind_quiet start k to)

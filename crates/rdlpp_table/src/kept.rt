@@ -1,13 +1,16 @@
 // The first stops of a body, which are looked for once and kept in its entry.
-ghost use Rattle.std.specs.Prelude.{drop, length, IfSome, List, ◌<◌, ◌≡◌, ◌≤◌, ◌^◌};
+ghost use Rattle.std.specs.Prelude.{drop, length, slice_range, IfSome, List, ℕ, ◌+◌, ◌<◌, ◌≡◌, ◌≤◌, ◌^◌};
 ghost use Rattle.rdlpp_table.specs.Kept.{
-  behind,
+  endless,
   first_stops,
+  is_behind_quiet,
   is_kept_none,
-  is_near,
-  is_passed,
+  is_known,
   kept_from,
   kept_of,
+  placed,
+  quiet_kept,
+  stop_by,
   stop_end,
   stop_kept,
 };
@@ -19,14 +22,27 @@ use crate::marks::Listed;
 use crate::stop::{Stop, first_stop};
 use rdlpp_scan::quiet_bytes;
 
-// A stop as it is kept: in small numbers, which all have but those far behind in a long body and names that no macro has.
+// What a stop is that is kept: unknown, where its numbers are too large.
 #[derive(Clone, Copy, Drop)]
-pub(crate) enum Kept {
+pub(crate) enum KeptKind {
     Unknown,
     None,
-    Formal { at: u16, len: u8, place: u8 },
-    Usage { at: u16, len: u8 },
-    Bare { at: u16 },
+    Formal,
+    Usage,
+    Bare,
+}
+
+// A stop as it is kept: in small numbers, which all have but those far behind in a long body and names that no macro has.
+#[derive(Clone, Copy, Drop)]
+pub(crate) struct Kept {
+    // Where it ends; 65,535 where there is none, or where it is unknown.
+    pub(crate) end: u16,
+    pub(crate) len: u8,
+    // Which formal it is.
+    pub(crate) place: u8,
+    // How many quiet bytes stand first in the text of which it is the first stop: 255, where there are more.
+    pub(crate) quiet: u8,
+    pub(crate) kind: KeptKind,
 }
 
 // The first stops of a body, each of them the first one behind the one before.
@@ -38,25 +54,64 @@ pub(crate) struct FirstStops {
     pub(crate) fourth: Kept,
 }
 
-// A stop as it is kept.
-#[tactic(auto, unfolding(crate::specs::Kept::kept_of, crate::specs::Kept::behind, crate::specs::Kept::stop_end))]
-fn kept_of(stop: Stop) -> Kept
-    ensures value { result ≡ kept_of stop }
-    ensures end { IfSome (behind result) (λ from. from ≡ stop_end stop) }
+// What is kept where no stop is known to end.
+#[tactic(auto, unfolding(crate::specs::Kept::endless))]
+fn endless(kind: KeptKind, quiet: u8) -> Kept
+    ensures { result ≡ endless kind quiet }
 {
-    match stop {
-        Stop::None => Kept::None,
-        Stop::Formal { at, len, place } if at < 65536 && len < 256 && place < 256 => Kept::Formal {
-            at: at as u16,
+    Kept {
+        end: 65535,
+        len: 0,
+        place: 0,
+        quiet,
+        kind,
+    }
+}
+
+// What is kept of a stop by its numbers.
+#[tactic(auto, unfolding(crate::specs::Kept::placed, crate::specs::Kept::endless))]
+fn placed(kind: KeptKind, at: usize, len: usize, place: usize, quiet: u8) -> Kept
+    ensures value { result ≡ placed kind at len place quiet }
+    ensures end { result.end < 65535 → result.end ≡ at + len }
+{
+    if at < 65535 && len < 256 && place < 256 && at + len < 65535 {
+        Kept {
+            end: (at + len) as u16,
             len: len as u8,
             place: place as u8,
-        },
-        Stop::Usage { at, len } if at < 65536 && len < 256 => Kept::Usage {
-            at: at as u16,
-            len: len as u8,
-        },
-        Stop::Bare { at } if at < 65536 => Kept::Bare { at: at as u16 },
-        _ => Kept::Unknown,
+            quiet,
+            kind,
+        }
+    } else {
+        endless(KeptKind::Unknown, 0)
+    }
+}
+
+// A stop as it is kept, with how many quiet bytes stand first in its text.
+#[tactic(auto, unfolding(crate::specs::Kept::kept_of, crate::specs::Kept::endless, crate::specs::Kept::stop_end))]
+fn kept_of(stop: Stop, quiet: u8) -> Kept
+    ensures value { result ≡ kept_of stop quiet }
+    ensures end { result.end < 65535 → result.end ≡ stop_end stop }
+{
+    match stop {
+        Stop::None => endless(KeptKind::None, quiet),
+        Stop::Formal { at, len, place } => placed(KeptKind::Formal, at, len, place, quiet),
+        Stop::Usage { at, len } => placed(KeptKind::Usage, at, len, 0, quiet),
+        Stop::Bare { at } => placed(KeptKind::Bare, at, 1, 0, quiet),
+    }
+}
+
+// The stop of a kind at a place.
+#[tactic(auto, unfolding(crate::specs::Kept::stop_by))]
+fn stop_by(kind: KeptKind, at: usize, len: usize, place: usize) -> Option<Stop>
+    ensures { result ≡ stop_by kind at len place }
+{
+    match kind {
+        KeptKind::Unknown => None,
+        KeptKind::None => Some(Stop::None),
+        KeptKind::Formal => Some(Stop::Formal { at, len, place }),
+        KeptKind::Usage => Some(Stop::Usage { at, len }),
+        KeptKind::Bare => Some(Stop::Bare { at }),
     }
 }
 
@@ -65,20 +120,9 @@ fn kept_of(stop: Stop) -> Kept
 fn stop_kept(kept: Kept) -> Option<Stop>
     ensures { result ≡ stop_kept kept }
 {
-    match kept {
-        Kept::Unknown => None,
-        Kept::None => Some(Stop::None),
-        Kept::Formal { at, len, place } => Some(Stop::Formal {
-            at: at as usize,
-            len: len as usize,
-            place: place as usize,
-        }),
-        Kept::Usage { at, len } => Some(Stop::Usage {
-            at: at as usize,
-            len: len as usize,
-        }),
-        Kept::Bare { at } => Some(Stop::Bare { at: at as usize }),
-    }
+    let len = kept.len as usize;
+    let at = (kept.end as usize).saturating_sub(len);
+    stop_by(kept.kind, at, len, kept.place as usize)
 }
 
 // Whether it is kept that there is no stop.
@@ -86,35 +130,33 @@ fn stop_kept(kept: Kept) -> Option<Stop>
 pub(crate) fn is_kept_none(kept: Kept) -> bool
     ensures { result ≡ is_kept_none kept }
 {
-    matches!(kept, Kept::None)
+    matches!(kept.kind, KeptKind::None)
 }
 
-// Where the text behind a stop that is kept begins.
-#[tactic(auto, unfolding(crate::specs::Kept::behind))]
-fn behind(kept: Kept) -> Option<usize>
-    ensures { result ≡ behind kept }
+// How many quiet bytes a text begins with, as they are kept.
+#[tactic(auto, unfolding(crate::specs::Kept::quiet_kept))]
+fn quiet_kept(text: &[u8]) -> u8
+    ensures { result ≡ quiet_kept text.now }
 {
-    match kept {
-        Kept::Unknown => None,
-        Kept::None => None,
-        Kept::Formal { at, len, .. } => Some(at as usize + len as usize),
-        Kept::Usage { at, len } => Some(at as usize + len as usize),
-        Kept::Bare { at } => Some(at as usize + 1),
-    }
+    let quiet = quiet_bytes(text);
+    if quiet < 255 { quiet as u8 } else { 255 }
 }
 
 // The first stop of a body from a place on.
-#[tactic(auto, unfolding(crate::specs::Kept::kept_from, crate::specs::Kept::behind))]
-fn kept_from(formals: &Listed, body: &[u8], from: Option<usize>) -> Kept
+#[tactic(auto, unfolding(crate::specs::Kept::kept_from, crate::specs::Kept::endless))]
+fn kept_from(formals: &Listed, body: &[u8], from: u16) -> Kept
     requires listed { IsListed formals.now.count formals.now.list.now formals.now.marks.now }
     requires short { length body.now < 2 ^ 64 }
-    requires inside { IfSome from (λ place. place ≤ length body.now) }
+    requires inside { from < 65535 → from ≤ length body.now }
     ensures value { result ≡ kept_from (formals_read formals.now.count formals.now.list.now) body.now from }
-    ensures inside { IfSome (behind result) (λ place. place ≤ length body.now) }
+    ensures inside { result.end < 65535 → result.end ≤ length body.now }
 {
-    match from {
-        Some(from) => kept_of(first_stop(formals, &body[from..], from)),
-        None => Kept::Unknown,
+    if from < 65535 {
+        let from = from as usize;
+        let text = &body[from..];
+        kept_of(first_stop(formals, text, from), quiet_kept(text))
+    } else {
+        endless(KeptKind::Unknown, 0)
     }
 }
 
@@ -124,10 +166,10 @@ pub(crate) fn first_stops(formals: &Listed, body: &[u8]) -> FirstStops
     requires short { length body.now < 2 ^ 64 }
     ensures { result ≡ first_stops (formals_read formals.now.count formals.now.list.now) body.now }
 {
-    let first = kept_from(formals, body, Some(0));
-    let second = kept_from(formals, body, behind(first));
-    let third = kept_from(formals, body, behind(second));
-    let fourth = kept_from(formals, body, behind(third));
+    let first = kept_from(formals, body, 0);
+    let second = kept_from(formals, body, first.end);
+    let third = kept_from(formals, body, second.end);
+    let fourth = kept_from(formals, body, third.end);
     FirstStops {
         first,
         second,
@@ -136,54 +178,53 @@ pub(crate) fn first_stops(formals: &Listed, body: &[u8]) -> FirstStops
     }
 }
 
-// Whether a body from a place on begins at another one with quiet bytes alone between them, or at once.
-#[tactic(auto, unfolding(crate::specs::Kept::is_near))]
-fn is_near(body: &[u8], start: Option<usize>, from: usize) -> bool
-    requires { from ≤ length body.now }
-    ensures { result ≡ is_near body.now start from }
+// Whether a stop that is kept as the first one from a place on stands behind quiet bytes alone, and ends in a range.
+#[tactic(auto, unfolding(crate::specs::Kept::is_behind_quiet))]
+fn is_behind_quiet(start: u16, kept: Kept, to: usize) -> bool
+    ensures { result ≡ is_behind_quiet start kept to }
 {
-    match start {
-        Some(start) => start <= from && quiet_bytes(&body[start..from]) == from - start,
-        None => false,
-    }
+    let end = kept.end as usize;
+    kept.len > 0 && start as usize + kept.quiet as usize + kept.len as usize == end && end <= to
 }
 
-// Whether what stands behind a stop that is kept begins no further on than at a place.
-#[tactic(auto, unfolding(crate::specs::Kept::is_passed))]
-fn is_passed(kept: Kept, from: usize) -> bool
-    ensures { result ≡ is_passed kept from }
+// Whether the stop that is kept as the first one of a body from a place on is known to be that of a range further on.
+#[tactic(auto, unfolding(crate::specs::Kept::is_known))]
+fn is_known(size: usize, start: u16, kept: Kept, from: usize, to: usize) -> bool
+    ensures { result ≡ is_known size start kept from to }
 {
-    match behind(kept) {
-        Some(end) => end <= from,
-        None => false,
-    }
+    from <= start as usize + kept.quiet as usize && (to == size || is_behind_quiet(start, kept, to))
 }
 
-// A stop that is kept as the first one of a body from a place on, where that is near another one: the first one from there.
-fn kept_near(body: &[u8], start: Option<usize>, kept: Kept, from: usize) -> Option<Stop>
-    requires { from ≤ length body.now }
-    ensures { (formals : List Formal) → kept ≡ kept_from formals body.now start → IfSome result (λ stop. stop ≡ stop_of formals from (drop from body.now)) }
+// A stop that is kept as the first one of a body from a place on, where it is known to be the first one of a range.
+fn known_behind(size: usize, start: u16, kept: Kept, from: usize, to: usize) -> Option<Stop>
+    requires order { (start ≤ from) × (from ≤ to) }
+    requires inside { to ≤ size }
+    ensures { (formals : List Formal) (text : List ℕ) → length text ≡ size → kept ≡ kept_from formals text start → IfSome result (λ stop. stop ≡ stop_of formals from (slice_range text from to)) }
 {
-    if is_near(body, start, from) {
+    if is_known(size, start, kept, from, to) {
         stop_kept(kept)
     } else {
         None
     }
 }
 
-// The first stop of a body from a place on, where one that is kept is known to be it.
-pub(crate) fn known_stop(stops: &FirstStops, body: &[u8], from: usize) -> Option<Stop>
-    requires { from ≤ length body.now }
-    ensures { (formals : List Formal) → stops.now ≡ first_stops formals body.now → IfSome result (λ stop. stop ≡ stop_of formals from (drop from body.now)) }
+// The first stop of a range of a body of so many bytes, where one that is kept is known to be it.
+pub(crate) fn known_stop(stops: &FirstStops, size: usize, from: usize, to: usize) -> Option<Stop>
+    requires order { from ≤ to }
+    requires inside { to ≤ size }
+    ensures { (formals : List Formal) (text : List ℕ) → length text ≡ size → stops.now ≡ first_stops formals text → IfSome result (λ stop. stop ≡ stop_of formals from (slice_range text from to)) }
 {
-    if !is_passed(stops.first, from) {
-        return kept_near(body, Some(0), stops.first, from);
+    let first = stops.first.end;
+    if from < first as usize {
+        return known_behind(size, 0, stops.first, from, to);
     }
-    if !is_passed(stops.second, from) {
-        return kept_near(body, behind(stops.first), stops.second, from);
+    let second = stops.second.end;
+    if from < second as usize {
+        return known_behind(size, first, stops.second, from, to);
     }
-    if !is_passed(stops.third, from) {
-        return kept_near(body, behind(stops.second), stops.third, from);
+    let third = stops.third.end;
+    if from < third as usize {
+        return known_behind(size, second, stops.third, from, to);
     }
-    kept_near(body, behind(stops.third), stops.fourth, from)
+    known_behind(size, third, stops.fourth, from, to)
 }

@@ -232,9 +232,7 @@ impl Table {
     {
         let entry = &self.entries[id.index];
         let body = body_in(self.bytes.as_slice(), entry);
-        if to == body.len()
-            && let Some(stop) = known_stop(&entry.stops, body, from)
-        {
+        if let Some(stop) = known_stop(&entry.stops, body.len(), from, to) {
             return stop;
         }
         first_stop(&self.formals(id), &body[from..to], from)
