@@ -208,23 +208,51 @@ fn known_behind(size: usize, start: u16, kept: Kept, from: usize, to: usize) -> 
     }
 }
 
+// A stop that is kept, and the place from which on it is the first one.
+#[derive(Clone, Copy, Drop)]
+struct Candidate {
+    start: u16,
+    kept: Kept,
+}
+
+// The first of the stops that are kept that doesn't end in front of a place, or at it; or else the last of them.
+fn candidate_at(stops: &FirstStops, from: usize) -> Candidate
+    ensures order { result.start ≤ from }
+    ensures kept { (formals : List Formal) (text : List ℕ) → stops.now ≡ first_stops formals text → result.kept ≡ kept_from formals text result.start }
+{
+    let first = stops.first.end;
+    if from < first as usize {
+        return Candidate {
+            start: 0,
+            kept: stops.first,
+        };
+    }
+    let second = stops.second.end;
+    if from < second as usize {
+        return Candidate {
+            start: first,
+            kept: stops.second,
+        };
+    }
+    let third = stops.third.end;
+    if from < third as usize {
+        return Candidate {
+            start: second,
+            kept: stops.third,
+        };
+    }
+    Candidate {
+        start: third,
+        kept: stops.fourth,
+    }
+}
+
 // The first stop of a range of a body of so many bytes, where one that is kept is known to be it.
 pub(crate) fn known_stop(stops: &FirstStops, size: usize, from: usize, to: usize) -> Option<Stop>
     requires order { from ≤ to }
     requires inside { to ≤ size }
     ensures { (formals : List Formal) (text : List ℕ) → length text ≡ size → stops.now ≡ first_stops formals text → IfSome result (λ stop. stop ≡ stop_of formals from (slice_range text from to)) }
 {
-    let first = stops.first.end;
-    if from < first as usize {
-        return known_behind(size, 0, stops.first, from, to);
-    }
-    let second = stops.second.end;
-    if from < second as usize {
-        return known_behind(size, first, stops.second, from, to);
-    }
-    let third = stops.third.end;
-    if from < third as usize {
-        return known_behind(size, second, stops.third, from, to);
-    }
-    known_behind(size, third, stops.fourth, from, to)
+    let found = candidate_at(stops, from);
+    known_behind(size, found.start, found.kept, from, to)
 }

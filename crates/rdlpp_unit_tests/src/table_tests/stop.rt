@@ -54,3 +54,43 @@ fn a_body_without_stops_is_copied(rt: HostRuntime) {
     assert!(rt; table.is_copied(id));
     assert_eq!(rt; table.stop(id, 0, table.body(id).len()), Stop::None);
 }
+
+#[test]
+fn a_range_of_a_body_is_read_as_a_text_of_its_own(rt: HostRuntime) {
+    let table = table_of(&rt, b" P(w, r) `F(w, r) wr w".as_slice());
+    let Some(id) = table.find(b"P".as_slice()) else {
+        panic!(rt; "the macro isn't found");
+    };
+    let first = Stop::Formal {
+        at: 3,
+        len: 1,
+        place: 0,
+    };
+    let second = Stop::Formal {
+        at: 6,
+        len: 1,
+        place: 1,
+    };
+    let cut = Stop::Formal {
+        at: 9,
+        len: 1,
+        place: 0,
+    };
+    assert_eq!(rt; table.stop(id, 0, 2), Stop::Usage { at: 0, len: 2 });
+    assert_eq!(rt; table.stop(id, 0, 1), Stop::Bare { at: 0 });
+    assert_eq!(rt; table.stop(id, 2, 4), first);
+    assert_eq!(rt; table.stop(id, 3, 4), first);
+    assert_eq!(rt; table.stop(id, 4, 6), Stop::None);
+    assert_eq!(rt; table.stop(id, 4, 7), second);
+    assert_eq!(rt; table.stop(id, 5, 8), second);
+    assert_eq!(rt; table.stop(id, 8, 10), cut);
+    assert_eq!(rt; table.stop(id, 8, 11), Stop::None);
+    assert_eq!(rt;
+        table.stop(id, 7, table.body(id).len()),
+        Stop::Formal {
+            at: 12,
+            len: 1,
+            place: 0
+        }
+    );
+}
