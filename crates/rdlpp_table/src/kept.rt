@@ -210,40 +210,40 @@ fn known_behind(size: usize, start: u16, kept: Kept, from: usize, to: usize) -> 
 
 // A stop that is kept, and the place from which on it is the first one.
 #[derive(Clone, Copy, Drop)]
-struct Candidate {
+struct Candidate<'a> {
     start: u16,
-    kept: Kept,
+    kept: &'a Kept,
 }
 
 // The first of the stops that are kept that doesn't end in front of a place, or at it; or else the last of them.
-fn candidate_at(stops: &FirstStops, from: usize) -> Candidate
+fn candidate_at(stops: &FirstStops, from: usize) -> Candidate<'_>
     ensures order { result.start ≤ from }
-    ensures kept { (formals : List Formal) (text : List ℕ) → stops.now ≡ first_stops formals text → result.kept ≡ kept_from formals text result.start }
+    ensures kept { (formals : List Formal) (text : List ℕ) → stops.now ≡ first_stops formals text → result.kept.now ≡ kept_from formals text result.start }
 {
     let first = stops.first.end;
     if from < first as usize {
         return Candidate {
             start: 0,
-            kept: stops.first,
+            kept: &stops.first,
         };
     }
     let second = stops.second.end;
     if from < second as usize {
         return Candidate {
             start: first,
-            kept: stops.second,
+            kept: &stops.second,
         };
     }
     let third = stops.third.end;
     if from < third as usize {
         return Candidate {
             start: second,
-            kept: stops.third,
+            kept: &stops.third,
         };
     }
     Candidate {
         start: third,
-        kept: stops.fourth,
+        kept: &stops.fourth,
     }
 }
 
@@ -254,5 +254,5 @@ pub(crate) fn known_stop(stops: &FirstStops, size: usize, from: usize, to: usize
     ensures { (formals : List Formal) (text : List ℕ) → length text ≡ size → stops.now ≡ first_stops formals text → IfSome result (λ stop. stop ≡ stop_of formals from (slice_range text from to)) }
 {
     let found = candidate_at(stops, from);
-    known_behind(size, found.start, found.kept, from, to)
+    known_behind(size, found.start, *found.kept, from, to)
 }

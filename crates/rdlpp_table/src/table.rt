@@ -222,8 +222,9 @@ impl Table {
     /// from plain text on. `from` and `to` are counted in bytes from the front of the body.
     ///
     /// Takes time linear in the distance to that place, but where one of the first four stops of the body is known to be
-    /// it: `to` is the end of the body, and between `from` and the front of the body, or the end of the stop before that
-    /// one, nothing stands but blanks and bytes that are tokens by themselves. Then only these are read.
+    /// it: then no byte is read. `from` is no further on than what stands first behind the stop before that one, or at the
+    /// front of the body, and is a blank or a token by itself, at most 255 bytes; and `to` is the end of the body, or no
+    /// nearer than the end of the stop, in front of which nothing else stands there.
     pub fn stop(&self, id: MacroId, from: usize, to: usize) -> Stop
         requires id { id < length self.now.macros }
         requires order { from ≤ to }
@@ -232,9 +233,21 @@ impl Table {
     {
         let entry = &self.entries[id.index];
         let body = body_in(self.bytes.as_slice(), entry);
-        if let Some(stop) = known_stop(&entry.stops, body.len(), from, to) {
-            return stop;
+        match known_stop(&entry.stops, body.len(), from, to) {
+            Some(stop) => stop,
+            None => self.sought_stop(id, from, to),
         }
+    }
+
+    // The first stop of a range of the body of a macro, which is looked for.
+    #[inline(never)]
+    fn sought_stop(&self, id: MacroId, from: usize, to: usize) -> Stop
+        requires id { id < length self.now.macros }
+        requires order { from ≤ to }
+        requires inside { to ≤ length (macro_at self.now.macros id).body }
+        ensures { result ≡ stop_in (macro_at self.now.macros id) from to }
+    {
+        let body = self.body(id);
         first_stop(&self.formals(id), &body[from..to], from)
     }
 

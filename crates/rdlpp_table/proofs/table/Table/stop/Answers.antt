@@ -3,7 +3,7 @@ use Rattle.rdlpp_table.specs.Stops.{stop_in}
 use Rattle.rdlpp_table.specs.View.{macro_at}
 use Rattle.rdlpp_table.proofs.Sizes.{count_items}
 use Rattle.rdlpp_table.proofs.Laid.{entry_within, len_of_view, stops_at}
-use Rattle.rdlpp_table.proofs.Stopped.{body_here, some_stop}
+use Rattle.rdlpp_table.proofs.Stopped.{body_here}
 use Rattle.rdlpp_table.proofs.table.Table.stop.Goals as goal
 
 pub index-entry-requires : goal.index-entry-requires
@@ -20,21 +20,9 @@ known_stop-requires-clause-inside c =
     let b : c.body_in-body.result.now ≡ (macro_at c.args.self.now.macros c.args.id).body = body_here _ _ _ _ _ _ _ _ _ _ c.as_slice.ensures.value c.self.view_is c.id.view_is h c.index-entry.ensures c.body_in-body.ensures in
     omega (arith, ap length b, c.requires.inside)
 
-pub slice_bounds-first_stop-end : goal.slice_bounds-first_stop-end
-slice_bounds-first_stop-end c =
-    let h : c.id.inside.index < length c.self.inside.entries.items = omega (arith, c.requires.id, len_of_view _ _ _ _ _ c.self.view_is, c.id.view_is) in
-    let b : c.body_in-body.result.now ≡ (macro_at c.args.self.now.macros c.args.id).body = body_here _ _ _ _ _ _ _ _ _ _ c.as_slice.ensures.value c.self.view_is c.id.view_is h c.index-entry.ensures c.body_in-body.ensures in
-    omega (arith, ap length b, c.requires.order, c.requires.inside)
-
 pub returns-in-Some : goal.returns-in-Some
 unfolding stop_in
 returns-in-Some c =
     let h : c.id.inside.index < length c.self.inside.entries.items = omega (arith, c.requires.id, len_of_view _ _ _ _ _ c.self.view_is, c.id.view_is) in
     let b : c.body_in-body.result.now ≡ (macro_at c.args.self.now.macros c.args.id).body = body_here _ _ _ _ _ _ _ _ _ _ c.as_slice.ensures.value c.self.view_is c.id.view_is h c.index-entry.ensures c.body_in-body.ensures in
     c.in-Some.ensures _ _ (ap length (sym b)) (stops_at _ _ _ _ _ _ _ _ c.self.view_is c.self.invariant.held c.id.view_is h c.index-entry.ensures)
-
-pub returns : goal.returns
-returns c =
-    let h : c.id.inside.index < length c.self.inside.entries.items = omega (arith, c.requires.id, len_of_view _ _ _ _ _ c.self.view_is, c.id.view_is) in
-    let b : c.body_in-body.result.now ≡ (macro_at c.args.self.now.macros c.args.id).body = body_here _ _ _ _ _ _ _ _ _ _ c.as_slice.ensures.value c.self.view_is c.id.view_is h c.index-entry.ensures c.body_in-body.ensures in
-    some_stop (macro_at c.args.self.now.macros c.args.id) _ _ _ _ _ c.formals.ensures.formals b c.first_stop.ensures.value
