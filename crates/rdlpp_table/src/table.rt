@@ -222,9 +222,9 @@ impl Table {
     /// from plain text on. `from` and `to` are counted in bytes from the front of the body.
     ///
     /// Takes time linear in the distance to that place, but where one of the first four stops of the body is known to be
-    /// it: then no byte is read. `from` is no further on than what stands first behind the stop before that one, or at the
-    /// front of the body, and is a blank or a token by itself, at most 255 bytes; and `to` is the end of the body, or no
-    /// nearer than the end of the stop, in front of which nothing else stands there.
+    /// it: then no byte is read. It is where `from` lies among the blanks and the bytes that are tokens by themselves with
+    /// which the body begins, or the text behind the stop before that one, or right behind them (255 of them count at most);
+    /// and `to` is the end of the body, or the stop follows these bytes at once and ends at `to` or before it.
     pub fn stop(&self, id: MacroId, from: usize, to: usize) -> Stop
         requires id { id < length self.now.macros }
         requires order { from ≤ to }
