@@ -10,3 +10,4 @@ pub mod BoundActuals
 pub mod BoundUsages
 pub mod BoundSourceCalls
 pub mod KeptTexts
+mod WhiteSpace

@@ -1,6 +1,7 @@
 -- Where the `(` and the `)` of a call stand in a text, and its next part.
 -- A definition that names no source is this project's own.
-use Rattle.std.specs.Prelude.{◌≡◌, ℕ, zero, ◌+◌, ◌-◌, ◌<◌, ◌≤◌, Bool, true, false, nat_lt, List, [], ◌∷◌, length, take, drop, filter, Option, None, Some, Result, Ok, Err, if◌then◌else◌}
+use Rattle.std.specs.Prelude.{◌≡◌, ℕ, zero, ◌+◌, ◌-◌, ◌<◌, ◌≤◌, ◌||◌, Bool, true, false, nat_lt, List, [], ◌∷◌, length, take, drop, filter, Option, None, Some, Result, Ok, Err, if◌then◌else◌}
+use Rattle.rdlpp_scan.specs.Bytes.{is_blank, is_line_end}
 use Rattle.rdlpp_scan.specs.SourceTokens.{SourceToken}
 use Rattle.rdlpp_meaning.specs.declared.fault.FaultKind.{FaultKind}
 use Rattle.rdlpp_meaning.specs.declared.fault.FaultKind.TheVariants.{ArgumentsMissing, ArgumentsOpen}
@@ -43,6 +44,10 @@ closer_from at level (t ∷ ts) =
 unfoldable pub space_from : ℕ → List SourceToken → ℕ
 space_from at [] = at
 space_from at (t ∷ ts) = if is_space (token_role t) then space_from (at + length t.bytes) ts else at
+
+-- a byte of white space: a blank or LF (source: this project's profile)
+unfoldable pub is_white : ℕ → Bool
+is_white b = is_blank b || is_line_end b
 
 -- whether a token of a role at a level of openers ends a part
 unfoldable pub ends_part : Role → ℕ → Bool

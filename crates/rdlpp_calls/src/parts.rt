@@ -1,11 +1,12 @@
 // The `(` and the `)` of a call in a text, and the parts between them.
 ghost use Rattle.std.specs.Prelude.{◌≡◌, ◌+◌, ◌≤◌, ◌<◌, IfSome, length, drop, nat_lt};
+ghost use Rattle.std.specs.List.{prefix_len};
 ghost use Rattle.rdlpp_meaning.specs.Substitution.{body_tokens};
-ghost use Rattle.rdlpp_calls.specs.CallParts.{IsCall, IsNextPart, call_fault_kind, closer_from, opener_from, part_from, space_from};
+ghost use Rattle.rdlpp_calls.specs.CallParts.{IsCall, IsNextPart, call_fault_kind, closer_from, is_white, opener_from, part_from, space_from};
 
 use crate::tokens::{CallRole, ends_call, ends_part, is_space, level_behind, token_in_call};
 use rdlpp_meaning::FaultKind;
-use rdlpp_scan::Mode;
+use rdlpp_scan::{Mode, is_blank};
 
 /// The arguments of a call in a text: what stands between its parentheses.
 #[derive(Clone, Copy, Debug, PartialEq, Eq)]
@@ -142,17 +143,23 @@ fn space_len(text: &[u8]) -> usize
     ensures value { result ≡ space_from 0 (body_tokens text.now) }
     ensures inside { result ≤ length text.now }
 {
-    let mut at = 0;
-    let mut mode = Mode::Plain;
-    while at < text.len() {
-        let token = token_in_call(mode, &text[at..]);
-        if !is_space(token.role) {
-            return at;
-        }
-        at += token.len;
-        mode = token.next_mode;
-    }
-    at
+    white_bytes(text)
+}
+
+// How many bytes of a text in front of any other are white space.
+fn white_bytes(text: &[u8]) -> usize
+    ensures value { result ≡ prefix_len is_white text.now }
+    ensures inside { result ≤ length text.now }
+{
+    text.iter().take_while(|b| is_white(**b)).count()
+}
+
+// Whether a byte is white space: a blank or LF.
+#[tactic(auto, unfolding(crate::specs::CallParts::is_white, rdlpp_scan::specs::Bytes::is_line_end))]
+fn is_white(b: u8) -> bool
+    ensures { result ≡ is_white b }
+{
+    is_blank(b) || b == b'\n'
 }
 
 // The part that begins at a place, in the text between the parentheses of a call.
