@@ -131,7 +131,7 @@ others_some text from to at len count old new part below inside p some b =
     (omega (arith, fits, below), bound_by text from to count (others_from text at to) (actuals_of (slice_range text (at + len) to)) old new same b)
 
 -- the ranges that were added are those that are bound
-added_is : (text : List ℕ) (from to count : ℕ) (others : List (List SourceToken)) (old new : List Range) (b : HasBound text from to count others old new)
+pub added_is : (text : List ℕ) (from to count : ℕ) (others : List (List SourceToken)) (old new : List Range) (b : HasBound text from to count others old new)
     → added old new ≡ b.ranges
 added_is text from to count others old new b = ap (drop (length old)) b.whole ∙ drop-append_seam old b.ranges
 
@@ -158,11 +158,11 @@ unfolding actuals_of all_parts
 some_actual text = let n = length-map (split token_role 0 (body_tokens text)).further (trimmed token_role) in omega (arith, n)
 
 -- a test of two numbers that differ
-differ : (n m : ℕ) → m < n → false ≡ (n == m)
+pub differ : (n m : ℕ) → m < n → false ≡ (n == m)
 differ n m less = grind (arith, nat_tests)
 
 -- a test of two that are one
-agree : (n m : ℕ) → n ≡ m → true ≡ (n == m)
+pub agree : (n m : ℕ) → n ≡ m → true ≡ (n == m)
 agree n m same = grind (arith, nat_tests)
 
 -- where all actuals are bound and there are fewer than wanted

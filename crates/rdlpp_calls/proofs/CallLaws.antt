@@ -190,7 +190,7 @@ closer_none (t ∷ ts) at k room all e =
     (λ h. closer_none ts (at + length t.bytes) (level_behind r k) later (All-tail P t ts all) h) e
 
 -- the `)` of a call is one
-ends_is : (r : Role) (k : ℕ) → ends_call r k ≡ true → r ≡ End
+pub ends_is : (r : Role) (k : ℕ) → ends_call r k ≡ true → r ≡ End
 unfolding ends_call
 ends_is End zero e = refl
 ends_is End (suc k) e = absurd (false≢true e)

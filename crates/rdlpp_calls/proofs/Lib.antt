@@ -11,3 +11,8 @@ pub mod BoundUsages
 pub mod BoundSourceCalls
 pub mod KeptTexts
 mod WhiteSpace
+mod CalledParts
+mod CalledTexts
+mod CalledBounds
+mod CalledCounts
+mod CalledCalls

@@ -129,17 +129,17 @@ part_in (t ∷ ts) start at level end =
     part_by (ends_part (token_role t) level) start at level end t ts (part_from start here k e ts) refl (part_in ts start here k e)
 
 -- the white space in front of a call's parts: what is behind it has the same parts, but for that white space
-record HasLead (at : ℕ) (ts : List SourceToken) : Type 0 where
-  lead : List SourceToken
-  rest : List SourceToken
-  whole : ts ≡ lead ++ rest
-  spaces : All (λ t. token_role t ≡ Space) lead
-  place : space_from at ts ≡ at + length (bytes_of lead)
-  first : behind_space token_role (split token_role 0 ts).first ≡ (split token_role 0 rest).first
-  further : (split token_role 0 ts).further ≡ (split token_role 0 rest).further
+pub record HasLead (at : ℕ) (ts : List SourceToken) : Type 0 where
+  pub lead : List SourceToken
+  pub rest : List SourceToken
+  pub whole : ts ≡ lead ++ rest
+  pub spaces : All (λ t. token_role t ≡ Space) lead
+  pub place : space_from at ts ≡ at + length (bytes_of lead)
+  pub first : behind_space token_role (split token_role 0 ts).first ≡ (split token_role 0 rest).first
+  pub further : (split token_role 0 ts).further ≡ (split token_role 0 rest).further
 
 -- a role that is white space
-space_is : (r : Role) → is_space r ≡ true → r ≡ Space
+pub space_is : (r : Role) → is_space r ≡ true → r ≡ Space
 unfolding is_space
 space_is Space e = refl
 space_is r e = absurd (false≢true e)
@@ -196,7 +196,7 @@ lead_by false at t ts e h =
     }
 
 -- there is such white space, or none
-has_lead : (ts : List SourceToken) (at : ℕ) → HasLead at ts
+pub has_lead : (ts : List SourceToken) (at : ℕ) → HasLead at ts
 unfolding space_from split
 has_lead [] at =
     record {
@@ -211,7 +211,7 @@ has_lead [] at =
 has_lead (t ∷ ts) at = lead_by (is_space (token_role t)) at t ts refl (has_lead ts (at + length t.bytes))
 
 -- behind white space a text goes on as plain text
-lead_behind : (lead rest : List SourceToken) (bs : List ℕ) → text_tokens Plain bs ≡ lead ++ rest → All (λ t. token_role t ≡ Space) lead
+pub lead_behind : (lead rest : List SourceToken) (bs : List ℕ) → text_tokens Plain bs ≡ lead ++ rest → All (λ t. token_role t ≡ Space) lead
     → (text_tokens Plain (drop (length (bytes_of lead)) bs) ≡ rest) × (length (bytes_of lead) ≤ length bs)
 unfolding closes_text
 lead_behind [] rest bs e spaces = (e, omega arith)

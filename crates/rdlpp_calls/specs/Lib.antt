@@ -3,3 +3,4 @@ pub mod CallParts
 pub mod BoundCalls
 pub mod SourceBound
 pub mod KeptTexts
+pub mod CalledParts

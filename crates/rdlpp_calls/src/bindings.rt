@@ -1,12 +1,14 @@
 // The actuals of a call as ranges of the text in which the call stands.
-ghost use Rattle.std.specs.Prelude.{◌≡◌, ℕ, ◌+◌, ◌^◌, ◌≤◌, ◌<◌, ◌==◌, ◌++◌, ◌||◌, not, nat_lt, max, List, true, length, map, drop, slice_range, IfOk, IfErr, is_ok, vec_len, vec_capacity};
+ghost use Rattle.std.specs.Prelude.{◌≡◌, ℕ, ◌+◌, ◌^◌, ◌≤◌, ◌<◌, ◌==◌, ◌++◌, ◌||◌, not, nat_lt, max, List, true, length, map, drop, slice_range, IfOk, IfErr, IfSome, None, is_ok, vec_len, vec_capacity};
 ghost use Rattle.rdlpp_meaning.specs.Cursors.{is_token_count};
 ghost use Rattle.rdlpp_meaning.specs.Substitution.{body_tokens};
 ghost use Rattle.rdlpp_meaning.specs.declared.fault.FaultKind.TheVariants.{ArgumentCount};
 ghost use Rattle.rdlpp_table.specs.Table.{Formal};
+ghost use Rattle.rdlpp_calls.specs.CalledParts.{IsBoundBehind};
 ghost use Rattle.rdlpp_calls.specs.BoundCalls.{actuals_of, first_actual, added, is_call_fault, ranges_tokens, AreWithin, IsBoundCall, KeepsAll};
 
-use crate::parts::{Part, arguments_of, next_part};
+use crate::called::push_call;
+use crate::parts::{Part, call_end, call_start, next_part};
 use rdlpp_meaning::FaultKind;
 
 /// Where an actual stands in the text of its call: from one byte up to another.
@@ -27,7 +29,7 @@ pub struct Range {
 /// [`FaultKind::ArgumentsMissing`] where no `(` follows, but for white space, line ends and comments; else
 /// [`FaultKind::ArgumentsOpen`] where no `)` closes the call outside strings, comments and further openers; else
 /// [`FaultKind::ArgumentCount`] where the call has more or fewer parts. No binding is appended then.
-#[tactic(auto, unfolding(crate::specs::CallParts::IsCall))]
+#[tactic(auto, unfolding(crate::specs::BoundCalls::is_call_fault))]
 pub fn bind_call(
     text: &[u8],
     at: usize,
@@ -46,13 +48,42 @@ pub fn bind_call(
     ensures place { IfOk result (λ behind. (at ≤ behind) × (behind ≤ end)) }
     ensures call { KeepsAll (body_tokens (slice_range text.now at end)) → IsBoundCall text.now at end formals (added bindings.old.items bindings.new.items) result }
 {
-    let arguments = match arguments_of(&text[at..end]) {
-        Ok(arguments) => arguments,
-        Err(fault) => return Err(fault.kind()),
+    let Some(len) = call_start(&text[at..end]) else {
+        return Err(FaultKind::ArgumentsMissing);
     };
-    let to = at + arguments.to;
-    bind_parts(text, at + arguments.from, to, formals, bindings)?;
-    Ok(to + 1)
+    let from = at + len;
+    if let Some(to) = bind_behind(&text[..end], from, formals, bindings) {
+        return Ok(to + 1);
+    }
+    match call_end(&text[from..end]) {
+        Some(_) => Err(FaultKind::ArgumentCount),
+        None => Err(FaultKind::ArgumentsOpen),
+    }
+}
+
+// Binds the call of a macro with so many formals that goes on in a text from the place behind its `(`, and answers where its `)`
+// stands. Appends nothing where the call isn't closed or has more or fewer parts.
+fn bind_behind(text: &[u8], from: usize, formals: usize, bindings: &mut Vec<Range>) -> Option<usize>
+    requires range { from ≤ length text.now }
+    requires room { (vec_len bindings.old + formals ≤ vec_capacity bindings.old) × (vec_len bindings.old < vec_capacity bindings.old) }
+    ensures whole { bindings.new.items ≡ bindings.old.items ++ added bindings.old.items bindings.new.items }
+    ensures len { vec_len bindings.new ≤ vec_len bindings.old + max formals 1 }
+    ensures capacity { vec_capacity bindings.new ≡ vec_capacity bindings.old }
+    ensures refused { result ≡ None → bindings.new.items ≡ bindings.old.items }
+    ensures inside { IfSome result (λ to. (from ≤ to) × (to < length text.now)) }
+    ensures call { IsBoundBehind text.now from formals (added bindings.old.items bindings.new.items) result }
+{
+    let kept = bindings.len();
+    let count = if formals > 0 { formals } else { 1 };
+    let Some(to) = push_call(text, from, count, bindings) else {
+        bindings.truncate(kept);
+        return None;
+    };
+    if !admits(&text[from..to], formals) {
+        bindings.truncate(kept);
+        return None;
+    }
+    Some(to)
 }
 
 /// Binds the actuals of a call between its parentheses, two places of a text: appends where each part stands, without the

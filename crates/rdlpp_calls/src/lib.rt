@@ -3,6 +3,7 @@
 #![tactic(auto)]
 
 mod bindings;
+mod called;
 mod kept;
 mod parts;
 mod tokens;

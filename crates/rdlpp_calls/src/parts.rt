@@ -139,7 +139,7 @@ pub fn next_part(text: &[u8]) -> Part
 }
 
 // How many bytes of white space a text begins with.
-fn space_len(text: &[u8]) -> usize
+pub(crate) fn space_len(text: &[u8]) -> usize
     ensures value { result ≡ space_from 0 (body_tokens text.now) }
     ensures inside { result ≤ length text.now }
 {

@@ -1,0 +1,66 @@
+-- Whether a call whose parts are pushed while its `)` is sought has as many as the formals of its macro.
+use Rattle.std.proofs.Common.{◌≡◌, ◌<◌, ℕ, ◌||◌, Bool, true, false, not, List, length, refl, sym, ◌∙◌, subst, Option, Some, None}
+use Rattle.std.specs.Prelude.{nat_lt, slice_range}
+use Rattle.rdlpp_table.specs.Table.{Formal}
+use Rattle.rdlpp_meaning.specs.Cursors.{is_token_count}
+use Rattle.rdlpp_calls.specs.BoundCalls.{actuals_of, added, first_actual}
+use Rattle.rdlpp_calls.specs.CalledParts.{IsBoundBehind, IsPushed, IsPushedTo}
+use Rattle.rdlpp_calls.specs.declared.bindings.Range.{Range}
+use Rattle.rdlpp_calls.proofs.BoundParts.{agree}
+use Rattle.rdlpp_calls.proofs.PartCounts.{count_is}
+
+-- so many parts as are wanted of so many formals
+pub record IsWanted (formals count : ℕ) : Type 0 where
+  pub none : formals ≡ 0 → count ≡ 1
+  pub some : 0 < formals → count ≡ formals
+
+-- where nothing is pushed
+pub bound_none : (text : List ℕ) (from formals count : ℕ) (old new ranges : List Range) (pushed : Option ℕ) → IsWanted formals count → pushed ≡ None
+    → IsPushed text from count old new pushed → IsBoundBehind text from formals ranges None
+unfolding IsPushed IsBoundBehind
+bound_none text from formals count old new ranges pushed w e p = λ to closes fs is.
+    let inner = slice_range text from to in
+    let q = subst (λ (x : Option ℕ). IsPushed text from count old new x) e p in
+    let other : Bool = nat_lt 0 formals || not (nat_lt 0 (length (first_actual inner))) in
+    count_is inner formals count false other fs is w.none w.some (sym (q to closes)) refl
+
+-- what was pushed
+pushed_to : (text : List ℕ) (from count to : ℕ) (old new : List Range) (pushed : Option ℕ) → pushed ≡ Some to → IsPushed text from count old new pushed
+    → IsPushedTo text from count old new to
+unfolding IsPushed
+pushed_to text from count to old new pushed e p = subst (λ (x : Option ℕ). IsPushed text from count old new x) e p
+
+-- the count by whether the first part is admitted
+pushed_count : (text : List ℕ) (from formals count to : ℕ) (old new : List Range) (admitted : Bool) → IsWanted formals count → IsPushedTo text from count old new to
+    → admitted ≡ (nat_lt 0 formals || not (nat_lt 0 (length (first_actual (slice_range text from to)))))
+    → (fs : List Formal) → length fs ≡ formals → admitted ≡ is_token_count fs (actuals_of (slice_range text from to))
+pushed_count text from formals count to old new admitted w q a fs is =
+    count_is (slice_range text from to) formals count true admitted fs is w.none w.some
+    (agree (length (actuals_of (slice_range text from to))) count q.many) a
+
+-- where what is pushed has an item and no formals are wanted
+pub bound_unadmitted : (text : List ℕ) (from formals count to : ℕ) (old new ranges : List Range) (pushed : Option ℕ) (admitted : Bool) → IsWanted formals count → pushed ≡ Some to
+    → IsPushed text from count old new pushed → admitted ≡ (nat_lt 0 formals || not (nat_lt 0 (length (first_actual (slice_range text from to)))))
+    → admitted ≡ false → IsBoundBehind text from formals ranges None
+unfolding IsBoundBehind
+bound_unadmitted text from formals count to old new ranges pushed admitted w e p a is = λ other closes fs same.
+    let q = pushed_to text from count to old new pushed e p in
+    let there : to ≡ other = let h : Some to ≡ Some other = sym q.closes ∙ closes in cc in
+    subst (λ (n : ℕ). false ≡ is_token_count fs (actuals_of (slice_range text from n))) there
+    (sym is ∙ pushed_count text from formals count to old new admitted w q a fs same)
+
+-- where all is bound
+pub bound_admitted : (text : List ℕ) (from formals count to : ℕ) (old new : List Range) (pushed : Option ℕ) (admitted : Bool) → IsWanted formals count → pushed ≡ Some to
+    → IsPushed text from count old new pushed → admitted ≡ (nat_lt 0 formals || not (nat_lt 0 (length (first_actual (slice_range text from to)))))
+    → admitted ≡ true → IsBoundBehind text from formals (added old new) (Some to)
+unfolding IsBoundBehind
+bound_admitted text from formals count to old new pushed admitted w e p a is =
+    let q = pushed_to text from count to old new pushed e p in
+    record {
+      closes = q.closes;
+      ordered = q.ordered;
+      inside = q.inside;
+      within = q.within;
+      actuals = q.actuals;
+      count = λ fs same. sym is ∙ pushed_count text from formals count to old new admitted w q a fs same;
+    }

@@ -1,0 +1,32 @@
+use Rattle.std.proofs.Common.{arith}
+use Rattle.rdlpp_calls.specs.BoundCalls.{added}
+use Rattle.rdlpp_calls.proofs.CalledCounts.{IsWanted, bound_none, bound_unadmitted, bound_admitted}
+use Rattle.rdlpp_calls.proofs.bindings.bind_behind.Goals as goal
+use Rattle.rdlpp_calls.proofs.bindings.bind_behind.Goals.{then-formals-gt0, else-formals-gt0}
+
+pub returns-in_default-clause-call : goal.returns-in_default-clause-call
+returns-in_default-clause-call c =
+    let w : IsWanted c.args.formals c.if-formals-gt0.count = record {
+      none = λ e. elim c.if-formals-gt0.branch [ then-formals-gt0 w ↦ omega (arith, e, w.if-formals-gt0.true) | else-formals-gt0 w ↦ w.count-is ];
+      some = λ h. elim c.if-formals-gt0.branch [ then-formals-gt0 w ↦ w.count-is | else-formals-gt0 w ↦ omega (arith, h, w.if-formals-gt0.false) ];
+    } in
+    bound_none c.args.text.now c.args.from c.args.formals c.if-formals-gt0.count c.args.bindings.now.items c.push_call.new.bindings.items
+    (added c.args.bindings.now.items c.truncate.new.self.items) c.push_call.result w c.in_default.is c.push_call.ensures.call
+
+pub returns-then-not-admits-clause-call : goal.returns-then-not-admits-clause-call
+returns-then-not-admits-clause-call c =
+    let w : IsWanted c.args.formals c.if-formals-gt0.count = record {
+      none = λ e. elim c.if-formals-gt0.branch [ then-formals-gt0 w ↦ omega (arith, e, w.if-formals-gt0.true) | else-formals-gt0 w ↦ w.count-is ];
+      some = λ h. elim c.if-formals-gt0.branch [ then-formals-gt0 w ↦ w.count-is | else-formals-gt0 w ↦ omega (arith, h, w.if-formals-gt0.false) ];
+    } in
+    bound_unadmitted c.args.text.now c.args.from c.args.formals c.if-formals-gt0.count c.in-Some.to c.args.bindings.now.items c.push_call.new.bindings.items
+    (added c.args.bindings.now.items c.truncate-then-not-admits.new.self.items) c.push_call.result c.admits.result w c.in-Some.is c.push_call.ensures.call c.admits.ensures c.if-not-admits.true
+
+pub returns-clause-call : goal.returns-clause-call
+returns-clause-call c =
+    let w : IsWanted c.args.formals c.if-formals-gt0.count = record {
+      none = λ e. elim c.if-formals-gt0.branch [ then-formals-gt0 w ↦ omega (arith, e, w.if-formals-gt0.true) | else-formals-gt0 w ↦ w.count-is ];
+      some = λ h. elim c.if-formals-gt0.branch [ then-formals-gt0 w ↦ w.count-is | else-formals-gt0 w ↦ omega (arith, h, w.if-formals-gt0.false) ];
+    } in
+    bound_admitted c.args.text.now c.args.from c.args.formals c.if-formals-gt0.count c.in-Some.to c.args.bindings.now.items c.push_call.new.bindings.items
+    c.push_call.result c.admits.result w c.in-Some.is c.push_call.ensures.call c.admits.ensures c.if-not-admits.false
