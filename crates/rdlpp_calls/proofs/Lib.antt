@@ -16,3 +16,5 @@ mod CalledTexts
 mod CalledBounds
 mod CalledCounts
 mod CalledCalls
+mod FirstOpeners
+mod NoSlashes

@@ -6,7 +6,7 @@ ghost use Rattle.rdlpp_calls.specs.CallParts.{IsCall, IsNextPart, call_fault_kin
 
 use crate::tokens::{CallRole, ends_call, ends_part, is_space, level_behind, token_in_call};
 use rdlpp_meaning::FaultKind;
-use rdlpp_scan::{Mode, is_blank};
+use rdlpp_scan::{Mode, byte_at, is_blank};
 
 /// The arguments of a call in a text: what stands between its parentheses.
 #[derive(Clone, Copy, Debug, PartialEq, Eq)]
@@ -84,6 +84,17 @@ pub fn arguments_of(text: &[u8]) -> Result<Arguments, CallFault>
 /// How many bytes of a text stand up to and with the `(` of a call, behind white space, line ends and comments; none where
 /// anything else stands before it, or where the text ends (this project's profile).
 pub fn call_start(text: &[u8]) -> Option<usize>
+    ensures value { result ≡ opener_from 0 (body_tokens text.now) }
+    ensures inside { IfSome result (λ n. n ≤ length text.now) }
+{
+    if byte_at(text, 0) == b'(' {
+        return Some(1);
+    }
+    spaced_start(text)
+}
+
+// The same, token by token.
+fn spaced_start(text: &[u8]) -> Option<usize>
     ensures value { result ≡ opener_from 0 (body_tokens text.now) }
     ensures inside { IfSome result (λ n. n ≤ length text.now) }
 {

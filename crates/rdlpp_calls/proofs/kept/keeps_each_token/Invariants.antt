@@ -3,7 +3,7 @@ use Rattle.std.proofs.Common.{◌≡◌, ◌≤◌, ◌-◌, length, drop}
 use Rattle.rdlpp_meaning.specs.Substitution.{body_tokens}
 use Rattle.rdlpp_meaning.specs.TextTokens.{text_tokens}
 use Rattle.rdlpp_calls.specs.KeptTexts.{keeps_each}
-use Rattle.rdlpp_calls.proofs.kept.keeps_each.Given as goal
+use Rattle.rdlpp_calls.proofs.kept.keeps_each_token.Given as goal
 
 abbrev pub invariant-loop-at : goal.invariant-loop-at
 invariant-loop-at l = record {
