@@ -18,3 +18,4 @@ mod CalledCounts
 mod CalledCalls
 mod FirstOpeners
 mod NoSlashes
+mod QuickTokens

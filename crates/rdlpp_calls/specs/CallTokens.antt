@@ -2,6 +2,7 @@
 -- A definition that names no source is this project's own.
 use Rattle.std.specs.Prelude.{◌≡◌, ℕ, ◌<◌, ◌≤◌, List, ◌∷◌, length, drop}
 use Rattle.rdlpp_scan.specs.declared.token.Mode.{Mode}
+use Rattle.rdlpp_scan.specs.declared.token.Mode.TheVariants.{Plain}
 use Rattle.rdlpp_scan.specs.SourceTokens.{SourceToken}
 use Rattle.rdlpp_meaning.specs.Actuals.{Role, token_role}
 use Rattle.rdlpp_meaning.specs.Actuals as role
@@ -30,3 +31,7 @@ pub record IsFirstToken (mode : Mode) (text : List ℕ) (token : CallToken) : Ty
   pub size : length first.bytes ≡ token.len
   pub not_empty : 0 < token.len
   pub inside : token.len ≤ length text
+
+-- a token of a role and a size with plain text behind it
+abbrev pub plain_token : CallRole → ℕ → CallToken
+plain_token r n = record { role = r; len = n; next_mode = Plain }

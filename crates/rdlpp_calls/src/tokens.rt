@@ -1,10 +1,11 @@
 // The tokens of a text by the role that each has in a call.
 ghost use Rattle.std.specs.Prelude.{◌≡◌, ◌+◌, ◌-◌, ◌<◌, ◌∷◌, [], length};
+ghost use Rattle.rdlpp_scan.specs.declared.token.Mode.TheVariants.{Plain};
 ghost use Rattle.rdlpp_meaning.specs.Actuals.{is_space, kind_role, level_behind};
 ghost use Rattle.rdlpp_calls.specs.CallParts.{ends_call, ends_part};
-ghost use Rattle.rdlpp_calls.specs.CallTokens.{role_meant, IsFirstToken};
+ghost use Rattle.rdlpp_calls.specs.CallTokens.{plain_token, role_meant, IsFirstToken};
 
-use rdlpp_scan::{Kind, Mode, first_token};
+use rdlpp_scan::{Kind, Mode, first_token, word_bytes};
 
 /// What a token is in a call (this project's profile).
 #[derive(Clone, Copy)]
@@ -37,8 +38,48 @@ pub(crate) struct CallToken {
     pub(crate) next_mode: Mode,
 }
 
-// The first token of a text that isn't empty.
+// The first token of a text that isn't empty. Most tokens of calls are words, commas and parentheses, which are told by their
+// bytes alone.
 pub(crate) fn token_in_call(mode: Mode, text: &[u8]) -> CallToken
+    requires { 0 < length text.now }
+    ensures { IsFirstToken mode text.now result }
+{
+    match mode {
+        Mode::Plain => plain_token_in_call(text),
+        _ => any_token_in_call(mode, text),
+    }
+}
+
+// The first token of plain text.
+fn plain_token_in_call(text: &[u8]) -> CallToken
+    requires { 0 < length text.now }
+    ensures { IsFirstToken Plain text.now result }
+{
+    let word = word_bytes(text);
+    if word > 0 {
+        return plain_token(CallRole::Text, word);
+    }
+    match text[0] {
+        b',' => plain_token(CallRole::Comma, 1),
+        b'(' => plain_token(CallRole::Start, 1),
+        b')' => plain_token(CallRole::End, 1),
+        _ => any_token_in_call(Mode::Plain, text),
+    }
+}
+
+// A token of plain text with plain text behind it.
+fn plain_token(role: CallRole, len: usize) -> CallToken
+    ensures { result ≡ plain_token role len }
+{
+    CallToken {
+        role,
+        len,
+        next_mode: Mode::Plain,
+    }
+}
+
+// The first token of a text of any kind.
+fn any_token_in_call(mode: Mode, text: &[u8]) -> CallToken
     requires { 0 < length text.now }
     ensures { IsFirstToken mode text.now result }
 {

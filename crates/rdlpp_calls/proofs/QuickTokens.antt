@@ -1,0 +1,102 @@
+-- Words, commas and parentheses of a call, which are told by their bytes.
+use Rattle.std.proofs.Common.{◌≡◌, ◌≤◌, ◌<◌, ℕ, suc, Bool, true, false, cond, List, [], ◌∷◌, length, get_or, refl, sym, ap, ◌∙◌, subst, arith, inl, inr, ⊎_elim}
+use Rattle.std.specs.List.{prefix_len}
+use Rattle.std.proofs.lemmas.Bool.{false≢true, cases_Bool, eqb-true, or_cases}
+use Rattle.rdlpp_scan.specs.declared.token.Kind.{Kind}
+use Rattle.rdlpp_scan.specs.declared.token.Kind.TheVariants.{Name, Word, Blank, Comma, Opener, Closer}
+use Rattle.rdlpp_scan.specs.declared.token.Mode.TheVariants.{Plain}
+use Rattle.rdlpp_scan.specs.declared.token.Token.{Token}
+use Rattle.rdlpp_scan.specs.Bytes.{begins_perl, begins_line_comment, begins_block_comment, is_blank, is_line_end, is_letter, is_digit, is_word, is_opener, is_closer, takes_word}
+use Rattle.rdlpp_scan.specs.Tokens.{plain_token, token_of, whole}
+use Rattle.rdlpp_scan.specs.TokenParts.{kind_of, len_of, mark_kind, mode_behind, plain_kind, stop_of}
+use Rattle.rdlpp_scan.proofs.TokenParts.{parts, token_parts}
+use Rattle.rdlpp_meaning.specs.Actuals.{kind_role}
+use Rattle.rdlpp_calls.specs.CallTokens as call
+use Rattle.rdlpp_calls.specs.CallTokens.{role_meant, IsFirstToken}
+use Rattle.rdlpp_calls.specs.declared.tokens.CallRole.{CallRole}
+use Rattle.rdlpp_calls.specs.declared.tokens.CallRole.TheVariants as role
+use Rattle.rdlpp_calls.specs.declared.tokens.CallToken.{CallToken}
+use Rattle.rdlpp_calls.proofs.FirstTokens.{first_token_is}
+
+-- the token of a word that begins with a letter
+letter_token : (b : ℕ) (bs : List ℕ) → is_letter b ≡ true → token_of Plain (b ∷ bs) ≡ whole Name (prefix_len is_word (b ∷ bs))
+unfolding kind_of parts stop_of mode_behind len_of plain_kind whole
+letter_token b bs e =
+    let T = b ∷ bs in
+    token_parts Plain T
+    ∙ ap (λ (t : Bool). parts Plain (cond t Name (plain_kind_else b (get_or T 1 0))) T) e
+  where
+    plain_kind_else : ℕ → ℕ → Kind
+    plain_kind_else b c = cond (is_blank b) Blank (cond (is_digit b) Word (mark_kind b c))
+
+-- no digit is a blank
+digit_dark : (b : ℕ) → is_digit b ≡ true → is_blank b ≡ true → ⊥
+unfolding is_digit is_blank
+digit_dark b d h =
+    let P : ℕ → Type 0 = λ n. is_digit n ≡ true in
+    ⊎_elim (λ h4. ⊎_elim (λ h3. ⊎_elim (λ h2. ⊎_elim
+    (λ e. false≢true (subst P (eqb-true b 32 e) d)) (λ e. false≢true (subst P (eqb-true b 9 e) d)) (or_cases _ _ h2))
+    (λ e. false≢true (subst P (eqb-true b 13 e) d)) (or_cases _ _ h3))
+    (λ e. false≢true (subst P (eqb-true b 11 e) d)) (or_cases _ _ h4))
+    (λ e. false≢true (subst P (eqb-true b 12 e) d)) (or_cases _ _ h)
+
+not_true : (p : Bool) → (p ≡ true → ⊥) → p ≡ false
+not_true true h = absurd (h refl)
+not_true false h = refl
+
+-- the token of a word that begins with a digit
+digit_token : (b : ℕ) (bs : List ℕ) → is_letter b ≡ false → is_digit b ≡ true → token_of Plain (b ∷ bs) ≡ whole Word (prefix_len is_word (b ∷ bs))
+unfolding kind_of parts stop_of mode_behind len_of plain_kind whole
+digit_token b bs l d =
+    let T = b ∷ bs in
+    let kind : plain_kind b (get_or T 1 0) ≡ Word =
+    rw (l, not_true (is_blank b) (digit_dark b d), d) refl in
+    token_parts Plain T
+    ∙ ap (λ (k : Kind). parts Plain k T) kind
+    ∙ ap (λ (t : Bool). whole Word (cond t (prefix_len is_word T) (suc (prefix_len is_word bs)))) d
+
+-- a token by what it is
+named : (text : List ℕ) (t : Token) (r : CallRole) → t ≡ token_of Plain text → 0 < t.len → t.len ≤ length text → role_meant r ≡ kind_role t.kind (get_or text 0 0 ∷ [])
+    → IsFirstToken Plain text (record { role = r; len = t.len; next_mode = t.next_mode })
+named text t r is long inside role = first_token_is Plain text t r (omega (arith, long, inside)) is long inside role
+
+-- a word is a token of text
+pub word_first : (text : List ℕ) (n : ℕ) → n ≡ prefix_len is_word text → 0 < n → n ≤ length text → IsFirstToken Plain text (call.plain_token role.Text n)
+unfolding whole role_meant kind_role is_word
+word_first [] n is some inside = absurd (omega (arith, some, inside))
+word_first (b ∷ bs) n is some inside = elim (cases_Bool (is_letter b)) [
+  | inl l ↦ named (b ∷ bs) (whole Name n) role.Text (ap (λ (k : ℕ). whole Name k) is ∙ sym (letter_token b bs l)) some inside refl
+  | inr l ↦ elim (cases_Bool (is_digit b)) [
+    | inl d ↦ named (b ∷ bs) (whole Word n) role.Text (ap (λ (k : ℕ). whole Word k) is ∙ sym (digit_token b bs l d)) some inside refl
+    | inr d ↦
+        let none : prefix_len is_word (b ∷ bs) ≡ 0 = rw (l, d) refl in
+        absurd (omega (arith, is, none, some))
+  ]
+]
+
+-- a comma is a token
+comma_here : (bs : List ℕ) → IsFirstToken Plain (44 ∷ bs) (call.plain_token role.Comma 1)
+unfolding token_of plain_token whole role_meant kind_role begins_perl begins_line_comment begins_block_comment is_blank is_line_end is_letter is_digit is_opener is_closer takes_word
+comma_here bs = named (44 ∷ bs) (whole Comma 1) role.Comma refl (omega arith) (omega arith) refl
+
+start_here : (bs : List ℕ) → IsFirstToken Plain (40 ∷ bs) (call.plain_token role.Start 1)
+unfolding token_of plain_token whole role_meant kind_role begins_perl begins_line_comment begins_block_comment is_blank is_line_end is_letter is_digit is_opener is_closer takes_word
+start_here bs = named (40 ∷ bs) (whole Opener 1) role.Start refl (omega arith) (omega arith) refl
+
+end_here : (bs : List ℕ) → IsFirstToken Plain (41 ∷ bs) (call.plain_token role.End 1)
+unfolding token_of plain_token whole role_meant kind_role begins_perl begins_line_comment begins_block_comment is_blank is_line_end is_letter is_digit is_opener is_closer takes_word
+end_here bs = named (41 ∷ bs) (whole Closer 1) role.End refl (omega arith) (omega arith) refl
+
+-- so at the front of a text
+front_of : (n : ℕ) (text : List ℕ) (t : CallToken) → 0 < n → get_or text 0 0 ≡ n → ((bs : List ℕ) → IsFirstToken Plain (n ∷ bs) t) → IsFirstToken Plain text t
+front_of n [] t some e h = absurd (omega (arith, some, e))
+front_of n (b ∷ bs) t some e h = subst (λ (m : ℕ). IsFirstToken Plain (m ∷ bs) t) (sym e) (h bs)
+
+pub comma_first : (text : List ℕ) → get_or text 0 0 ≡ 44 → IsFirstToken Plain text (call.plain_token role.Comma 1)
+comma_first text e = front_of 44 text (call.plain_token role.Comma 1) (omega arith) e comma_here
+
+pub start_first : (text : List ℕ) → get_or text 0 0 ≡ 40 → IsFirstToken Plain text (call.plain_token role.Start 1)
+start_first text e = front_of 40 text (call.plain_token role.Start 1) (omega arith) e start_here
+
+pub end_first : (text : List ℕ) → get_or text 0 0 ≡ 41 → IsFirstToken Plain text (call.plain_token role.End 1)
+end_first text e = front_of 41 text (call.plain_token role.End 1) (omega arith) e end_here
