@@ -1,7 +1,7 @@
 -- Words, commas and parentheses of a call, which are told by their bytes.
-use Rattle.std.proofs.Common.{◌≡◌, ◌≤◌, ◌<◌, ℕ, suc, Bool, true, false, cond, List, [], ◌∷◌, length, get_or, refl, sym, ap, ◌∙◌, subst, arith, inl, inr, ⊎_elim}
+use Rattle.std.proofs.Common.{◌≡◌, ◌==◌, ◌||◌, ◌+◌, ◌≤◌, ◌<◌, ℕ, suc, Bool, true, false, cond, List, [], ◌∷◌, length, get_or, refl, sym, ap, ◌∙◌, subst, arith, inl, inr, ⊎_elim}
 use Rattle.std.specs.List.{prefix_len}
-use Rattle.std.proofs.lemmas.Bool.{false≢true, cases_Bool, eqb-true, or_cases}
+use Rattle.std.proofs.lemmas.Bool.{false≢true, cases_Bool, cond_both, eqb-true, or_cases}
 use Rattle.rdlpp_scan.specs.declared.token.Kind.{Kind}
 use Rattle.rdlpp_scan.specs.declared.token.Kind.TheVariants.{Name, Word, Blank, Comma, Opener, Closer}
 use Rattle.rdlpp_scan.specs.declared.token.Mode.TheVariants.{Plain}
@@ -61,10 +61,10 @@ named : (text : List ℕ) (t : Token) (r : CallRole) → t ≡ token_of Plain te
 named text t r is long inside role = first_token_is Plain text t r (omega (arith, long, inside)) is long inside role
 
 -- a word is a token of text
-pub word_first : (text : List ℕ) (n : ℕ) → n ≡ prefix_len is_word text → 0 < n → n ≤ length text → IsFirstToken Plain text (call.plain_token role.Text n)
+word_text : (text : List ℕ) (n : ℕ) → n ≡ prefix_len is_word text → 0 < n → n ≤ length text → IsFirstToken Plain text (call.plain_token role.Text n)
 unfolding whole role_meant kind_role is_word
-word_first [] n is some inside = absurd (omega (arith, some, inside))
-word_first (b ∷ bs) n is some inside = elim (cases_Bool (is_letter b)) [
+word_text [] n is some inside = absurd (omega (arith, some, inside))
+word_text (b ∷ bs) n is some inside = elim (cases_Bool (is_letter b)) [
   | inl l ↦ named (b ∷ bs) (whole Name n) role.Text (ap (λ (k : ℕ). whole Name k) is ∙ sym (letter_token b bs l)) some inside refl
   | inr l ↦ elim (cases_Bool (is_digit b)) [
     | inl d ↦ named (b ∷ bs) (whole Word n) role.Text (ap (λ (k : ℕ). whole Word k) is ∙ sym (digit_token b bs l d)) some inside refl
@@ -92,11 +92,42 @@ front_of : (n : ℕ) (text : List ℕ) (t : CallToken) → 0 < n → get_or text
 front_of n [] t some e h = absurd (omega (arith, some, e))
 front_of n (b ∷ bs) t some e h = subst (λ (m : ℕ). IsFirstToken Plain (m ∷ bs) t) (sym e) (h bs)
 
-pub comma_first : (text : List ℕ) → get_or text 0 0 ≡ 44 → IsFirstToken Plain text (call.plain_token role.Comma 1)
-comma_first text e = front_of 44 text (call.plain_token role.Comma 1) (omega arith) e comma_here
+-- a byte of a word is none of the others
+word_role : (b : ℕ) → is_word b ≡ true → call.quick_role b ≡ role.Text
+unfolding call.quick_role is_word is_letter is_digit
+word_role b w =
+    let W : ℕ → Type 0 = λ n. is_word n ≡ true in
+    let P : CallRole → Type 0 = λ r. r ≡ role.Text in
+    cond_both (b == 44) _ _ P (λ e. absurd (false≢true (subst W (eqb-true b 44 e) w))) (λ _.
+    cond_both (b == 40) _ _ P (λ e. absurd (false≢true (subst W (eqb-true b 40 e) w))) (λ _.
+    cond_both (b == 41) _ _ P (λ e. absurd (false≢true (subst W (eqb-true b 41 e) w))) (λ _. refl)))
 
-pub start_first : (text : List ℕ) → get_or text 0 0 ≡ 40 → IsFirstToken Plain text (call.plain_token role.Start 1)
-start_first text e = front_of 40 text (call.plain_token role.Start 1) (omega arith) e start_here
+-- a word has such a first byte
+first_word : (text : List ℕ) → 0 < prefix_len is_word text → is_word (get_or text 0 0) ≡ true
+first_word [] some = absurd (omega (arith, some))
+first_word (b ∷ bs) some = elim (cases_Bool (is_word b)) [
+  | inl e ↦ e
+  | inr e ↦
+      let none : prefix_len is_word (b ∷ bs) ≡ 0 = ap (λ (t : Bool). cond t (1 + prefix_len is_word bs) 0) e in
+      absurd (omega (arith, none, some))
+]
 
-pub end_first : (text : List ℕ) → get_or text 0 0 ≡ 41 → IsFirstToken Plain text (call.plain_token role.End 1)
-end_first text e = front_of 41 text (call.plain_token role.End 1) (omega arith) e end_here
+-- a word is a token
+pub word_first : (text : List ℕ) (n : ℕ) → n ≡ prefix_len is_word text → 0 < n → n ≤ length text
+    → IsFirstToken Plain text (call.plain_token (call.quick_role (get_or text 0 0)) n)
+word_first text n is some inside =
+    let r = word_role (get_or text 0 0) (first_word text (omega (arith, is, some))) in
+    subst (λ (q : CallRole). IsFirstToken Plain text (call.plain_token q n)) (sym r) (word_text text n is some inside)
+
+-- a comma or a parenthesis is one
+pub mark_first : (text : List ℕ) → (get_or text 0 0 == 44 || (get_or text 0 0 == 40 || get_or text 0 0 == 41)) ≡ true
+    → IsFirstToken Plain text (call.plain_token (call.quick_role (get_or text 0 0)) 1)
+unfolding call.quick_role
+mark_first text h =
+    let b = get_or text 0 0 in
+    let P : CallRole → Type 0 = λ r. IsFirstToken Plain text (call.plain_token r 1) in
+    let by : (n : ℕ) (r : CallRole) → (b == n) ≡ true → call.quick_role n ≡ r → ((b ≡ n) → P r) → P (call.quick_role b) =
+    λ n r e f g. subst P (sym (ap (λ (k : ℕ). call.quick_role k) (eqb-true b n e) ∙ f)) (g (eqb-true b n e)) in
+    ⊎_elim (λ e. by 44 role.Comma e refl (λ is. front_of 44 text (call.plain_token role.Comma 1) (omega arith) is comma_here))
+    (λ i. ⊎_elim (λ e. by 40 role.Start e refl (λ is. front_of 40 text (call.plain_token role.Start 1) (omega arith) is start_here))
+    (λ e. by 41 role.End e refl (λ is. front_of 41 text (call.plain_token role.End 1) (omega arith) is end_here)) (or_cases _ _ i)) (or_cases _ _ h)

@@ -1,6 +1,6 @@
 -- The tokens of a text by the role that each has in a call.
 -- A definition that names no source is this project's own.
-use Rattle.std.specs.Prelude.{◌≡◌, ℕ, ◌<◌, ◌≤◌, List, ◌∷◌, length, drop}
+use Rattle.std.specs.Prelude.{◌≡◌, ℕ, ◌<◌, ◌≤◌, List, ◌∷◌, ◌==◌, length, drop, if◌then◌else◌}
 use Rattle.rdlpp_scan.specs.declared.token.Mode.{Mode}
 use Rattle.rdlpp_scan.specs.declared.token.Mode.TheVariants.{Plain}
 use Rattle.rdlpp_scan.specs.SourceTokens.{SourceToken}
@@ -31,6 +31,10 @@ pub record IsFirstToken (mode : Mode) (text : List ℕ) (token : CallToken) : Ty
   pub size : length first.bytes ≡ token.len
   pub not_empty : 0 < token.len
   pub inside : token.len ≤ length text
+
+-- the role of a word, a comma or a parenthesis by its first byte (source: this project's profile)
+unfoldable pub quick_role : ℕ → CallRole
+quick_role b = if b == 44 then Comma else (if b == 40 then Start else (if b == 41 then End else Text))
 
 -- a token of a role and a size with plain text behind it
 abbrev pub plain_token : CallRole → ℕ → CallToken

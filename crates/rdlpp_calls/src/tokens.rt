@@ -1,9 +1,9 @@
 // The tokens of a text by the role that each has in a call.
-ghost use Rattle.std.specs.Prelude.{◌≡◌, ◌+◌, ◌-◌, ◌<◌, ◌∷◌, [], length};
+ghost use Rattle.std.specs.Prelude.{◌≡◌, ◌+◌, ◌-◌, ◌<◌, ◌∷◌, ◌==◌, ◌||◌, [], length, slice_index};
 ghost use Rattle.rdlpp_scan.specs.declared.token.Mode.TheVariants.{Plain};
 ghost use Rattle.rdlpp_meaning.specs.Actuals.{is_space, kind_role, level_behind};
 ghost use Rattle.rdlpp_calls.specs.CallParts.{ends_call, ends_part};
-ghost use Rattle.rdlpp_calls.specs.CallTokens.{plain_token, role_meant, IsFirstToken};
+ghost use Rattle.rdlpp_calls.specs.CallTokens.{plain_token, quick_role, role_meant, IsFirstToken};
 
 use rdlpp_scan::{Kind, Mode, first_token, word_bytes};
 
@@ -38,56 +38,68 @@ pub(crate) struct CallToken {
     pub(crate) next_mode: Mode,
 }
 
-// The first token of a text that isn't empty. Most tokens of calls are words, commas and parentheses, which are told by their
-// bytes alone.
+// The first token of a text that isn't empty. It is built once, from scalars: a copy of it costs more than most tokens.
 pub(crate) fn token_in_call(mode: Mode, text: &[u8]) -> CallToken
     requires { 0 < length text.now }
     ensures { IsFirstToken mode text.now result }
 {
-    match mode {
-        Mode::Plain => plain_token_in_call(text),
-        _ => any_token_in_call(mode, text),
+    let len = quick_len(mode, text);
+    if len > 0 {
+        return CallToken {
+            role: quick_role(text[0]),
+            len,
+            next_mode: Mode::Plain,
+        };
     }
-}
-
-// The first token of plain text.
-fn plain_token_in_call(text: &[u8]) -> CallToken
-    requires { 0 < length text.now }
-    ensures { IsFirstToken Plain text.now result }
-{
-    let word = word_bytes(text);
-    if word > 0 {
-        return plain_token(CallRole::Text, word);
-    }
-    match text[0] {
-        b',' => plain_token(CallRole::Comma, 1),
-        b'(' => plain_token(CallRole::Start, 1),
-        b')' => plain_token(CallRole::End, 1),
-        _ => any_token_in_call(Mode::Plain, text),
-    }
-}
-
-// A token of plain text with plain text behind it.
-fn plain_token(role: CallRole, len: usize) -> CallToken
-    ensures { result ≡ plain_token role len }
-{
-    CallToken {
-        role,
-        len,
-        next_mode: Mode::Plain,
-    }
-}
-
-// The first token of a text of any kind.
-fn any_token_in_call(mode: Mode, text: &[u8]) -> CallToken
-    requires { 0 < length text.now }
-    ensures { IsFirstToken mode text.now result }
-{
     let token = first_token(mode, text);
     CallToken {
         role: role_of(token.kind, text[0]),
         len: token.len,
         next_mode: token.next_mode,
+    }
+}
+
+// How many bytes the first token of a text has that isn't empty, if it is a word, a comma or a parenthesis, as most tokens of calls
+// are; else 0.
+fn quick_len(mode: Mode, text: &[u8]) -> usize
+    requires { 0 < length text.now }
+    ensures quick { 0 < result → IsFirstToken mode text.now (plain_token (quick_role (slice_index text.now 0)) result) }
+{
+    match mode {
+        Mode::Plain => plain_quick_len(text),
+        _ => 0,
+    }
+}
+
+// The same in plain text.
+fn plain_quick_len(text: &[u8]) -> usize
+    requires { 0 < length text.now }
+    ensures quick { 0 < result → IsFirstToken Plain text.now (plain_token (quick_role (slice_index text.now 0)) result) }
+{
+    let word = word_bytes(text);
+    if word > 0 {
+        return word;
+    }
+    if is_mark(text[0]) { 1 } else { 0 }
+}
+
+// Whether a byte is a comma or a parenthesis.
+fn is_mark(b: u8) -> bool
+    ensures { result ≡ (b == 44 || (b == 40 || b == 41)) }
+{
+    b == b',' || (b == b'(' || b == b')')
+}
+
+// The role of a word, a comma or a parenthesis by its first byte.
+#[tactic(auto, unfolding(crate::specs::CallTokens::quick_role))]
+fn quick_role(b: u8) -> CallRole
+    ensures { result ≡ quick_role b }
+{
+    match b {
+        b',' => CallRole::Comma,
+        b'(' => CallRole::Start,
+        b')' => CallRole::End,
+        _ => CallRole::Text,
     }
 }
 
