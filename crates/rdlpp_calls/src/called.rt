@@ -68,6 +68,7 @@ fn called_part(text: &[u8], from: usize) -> CalledPart
 
 // Appends the ranges of the parts of a call that goes on in a text from the place behind its `(`, but of no more than so many, and
 // answers where its `)` stands, if it is closed and has so many parts.
+#[inline(never)]
 pub(crate) fn push_call(
     text: &[u8],
     from: usize,

@@ -39,6 +39,7 @@ pub(crate) struct CallToken {
 }
 
 // The first token of a text that isn't empty. It is built once, from scalars: a copy of it costs more than most tokens.
+#[inline]
 pub(crate) fn token_in_call(mode: Mode, text: &[u8]) -> CallToken
     requires { 0 < length text.now }
     ensures { IsFirstToken mode text.now result }
