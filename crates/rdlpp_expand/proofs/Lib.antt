@@ -1,2 +1,3 @@
 pub mod RunFacts
 pub mod Readings
+pub mod TextFacts

@@ -334,6 +334,10 @@ quiet_same h w = record { failed_flushes = refl; flushes = refl }
 pub pulled_none : {S R W : Type 0} (g : Ghosts S R) (h : SinkGhosts W) (old new : EngineView S R) (w : W) → Steps g old new (Ok None) → Pulls g h old new w w 0 (Some Finished)
 pulled_none g h old new w s = record { bytes = []; taken = appends_none (h.taken w); count = refl; writes = refl; quiet = quiet_same h w; ends = (s, refl) }
 
+-- a pull that lent nothing
+pub pulled_silent : {S R W : Type 0} (g : Ghosts S R) (h : SinkGhosts W) (old new : EngineView S R) (w : W) → Steps g old new (Ok (Some [])) → Pulls g h old new w w 0 None
+pulled_silent g h old new w s = record { bytes = []; taken = appends_none (h.taken w); count = refl; writes = refl; quiet = quiet_same h w; ends = s }
+
 -- a pull that came to a fault
 pub pulled_fault : {S R W : Type 0} (g : Ghosts S R) (h : SinkGhosts W) (old new : EngineView S R) (w : W) (f : Told) → Steps g old new (Err f) → Pulls g h old new w w 0 (Some Stopped)
 pulled_fault g h old new w f s = record {

@@ -1,5 +1,5 @@
 // The engine: it reads sources by lines, expands usages, and lends its output piece by piece.
-ghost use Rattle.std.specs.Prelude.{◌≡◌, ◌↔◌, ℕ, ◌+◌, ◌-◌, ◌^◌, ◌≤◌, ◌<◌, true, false, [], length, take, drop, None, Some, IfNone, IfSome, IsTrue, not};
+ghost use Rattle.std.specs.Prelude.{◌≡◌, ◌↔◌, ℕ, ◌+◌, ◌-◌, ◌^◌, ◌≤◌, ◌<◌, true, false, [], List, length, take, drop, None, Some, Ok, IfSome, IsTrue, not};
 ghost use Rattle.std.specs.Borrow.{sem};
 ghost use Rattle.std.specs.Option.{option_map};
 ghost use Rattle.std.specs.Io.BufRead.{Rests};
@@ -19,7 +19,7 @@ ghost use Rattle.rdlpp_front.specs.Names.{IsWordBytes};
 ghost use Rattle.rdlpp_front.specs.Fronts.{HasName, IsDirective, IsNamed, IsText, IsUsage, usage_name};
 ghost use Rattle.rdlpp_usages.specs.Usages.{IsRoomy};
 ghost use Rattle.rdlpp_steps.specs.Conditionals.{unclosed_fault};
-ghost use Rattle.rdlpp_steps.specs.Engine.{AreOpenTexts, IsSoundEngine};
+ghost use Rattle.rdlpp_steps.specs.Engine.{AreOpenTexts, EngineView, IsSoundEngine};
 ghost use Rattle.rdlpp_steps.specs.Held.{IsBounded, held_told};
 ghost use Rattle.rdlpp_steps.specs.Moves.{Ends, IsReady, IsUnowed, ReadsDefine};
 ghost use Rattle.rdlpp_steps.specs.OpenConditionals.{inner_below};
@@ -35,12 +35,15 @@ mod include;
 mod line;
 mod opening;
 mod skipping;
+mod texts;
 mod usage;
 mod words;
 
+pub(crate) use texts::TextStep;
+
 use arrayvec::ArrayString;
 use rdlpp_conditions::Conditions;
-use rdlpp_cursors::{CursorFault, CursorStep, TextPlace, text_at};
+use rdlpp_cursors::{CursorFault, TextPlace};
 use rdlpp_front::{Argument, Front, front_of};
 use rdlpp_meaning::{Fault, FaultKind};
 use rdlpp_read::{Files, Fill, LogicalLine};
@@ -135,14 +138,38 @@ impl<S: Sources> Engine<S> {
         self.answer(place)
     }
 
-    // The step that `next` and `run` share: goes on to the next piece, cut to what the limit on the
-    // output leaves, and answers where it stands.
+    // The step of `next`: goes on to the next piece, cut to what the limit on the output leaves, and answers where it stands.
     pub(crate) fn advance(&mut self) -> Place
         requires { IsStarted self.old }
         ensures place { IsPlaced self.new result }
         ensures steps { Steps S.Sources self.old self.new (lent_answer self.new result) }
     {
-        match self.walk() {
+        let place = self.walk();
+        self.cut(place)
+    }
+
+    // The step of `run` that is none over the open texts of a usage, cut to what the limit on the output leaves; it may lend
+    // nothing.
+    pub(crate) fn advance_outside(&mut self) -> Option<Place>
+        requires started { IsStarted self.old }
+        requires outside { IsUnowed self.old → self.old.expansion.opens ≡ [] }
+        ensures place { IfSome result (IsPlaced self.new) }
+        ensures steps { Steps S.Sources self.old self.new (step_answer self.new result) }
+    {
+        match self.step_outside() {
+            Some(place) => Some(self.cut(place)),
+            None => None,
+        }
+    }
+
+    // Cuts a piece, to which a walk has led, to what the limit on the output leaves.
+    fn cut(&mut self, place: Place) -> Place
+        requires placed { IsPlaced self.old place }
+        requires open { (lent : List ℕ) → lent_answer self.old place ≡ Ok (Some lent) → self.old.phase ≡ Phase.Open }
+        ensures place { IsPlaced self.new result }
+        ensures steps { (before : EngineView S S.Reader) → Walks S.Sources before self.old (lent_answer self.old place) → Steps S.Sources before self.new (lent_answer self.new result) }
+    {
+        match place {
             Place::Source(start, end) => {
                 let len = self.spend(end - start);
                 Place::Source(start, start + len)
@@ -203,6 +230,21 @@ impl<S: Sources> Engine<S> {
         ensures place { IfSome result (IsPlaced self.new) }
         ensures walks { Walks S.Sources self.old self.new (step_answer self.new result) }
     {
+        if !self.is_in_texts() {
+            return self.step_outside();
+        }
+        let step = self.walk_texts();
+        self.facts();
+        step.place()
+    }
+
+    // Takes one step that is none over the open texts of a usage.
+    fn step_outside(&mut self) -> Option<Place>
+        requires started { IsStarted self.old }
+        requires outside { IsUnowed self.old → self.old.expansion.opens ≡ [] }
+        ensures place { IfSome result (IsPlaced self.new) }
+        ensures walks { Walks S.Sources self.old self.new (step_answer self.new result) }
+    {
         self.facts();
         if self.kept.is_some() {
             return Some(Place::Kept);
@@ -222,6 +264,7 @@ impl<S: Sources> Engine<S> {
     fn step_open(&mut self) -> Option<Place>
         requires open { self.old.phase ≡ Phase.Open }
         requires free { self.old.kept ≡ None }
+        requires outside { IsUnowed self.old → self.old.expansion.opens ≡ [] }
         ensures place { IfSome result (IsPlaced self.new) }
         ensures walks { IsBounded self.new → Walks S.Sources self.old self.new (step_answer self.new result) }
     {
@@ -229,57 +272,7 @@ impl<S: Sources> Engine<S> {
         let name_len = self.files.file().name.len();
         match self.owed.take(name_len) {
             Some(piece) => Some(Place::Owed(piece)),
-            None => self.step_unowed(),
-        }
-    }
-
-    // Takes one step where nothing is owed: over the open texts of a usage, where there are any, and else over the
-    // open sources.
-    fn step_unowed(&mut self) -> Option<Place>
-        requires { IsUnowed self.old }
-        ensures place { IfSome result (IsPlaced self.new) }
-        ensures walks { IsBounded self.new → Walks S.Sources self.old self.new (step_answer self.new result) }
-    {
-        self.facts();
-        if self.expansion.is_empty() {
-            return self.step_sources();
-        }
-        self.walk_texts()
-    }
-
-    // Takes steps over the open texts of a usage, until one lends something or no text is open any more.
-    fn walk_texts(&mut self) -> Option<Place>
-        requires unowed { IsUnowed self.old }
-        requires some { 0 < length self.old.expansion.opens }
-        ensures place { IfSome result (IsPlaced self.new) }
-        ensures walks { IsBounded self.new → Walks S.Sources self.old self.new (step_answer self.new result) }
-    {
-        'stepping: loop {
-            if let Some(place) = self.step_text() {
-                return Some(place);
-            }
-            self.facts();
-            if self.expansion.is_empty() {
-                return None;
-            }
-        }
-    }
-
-    // Takes one step over the open texts of a usage.
-    fn step_text(&mut self) -> Option<Place>
-        requires unowed { IsUnowed self.old }
-        requires some { 0 < length self.old.expansion.opens }
-        ensures place { IfSome result (IsPlaced self.new) }
-        ensures walks { IsBounded self.new → Walks S.Sources self.old self.new (step_answer self.new result) }
-        ensures goes_on { IfNone result (IsUnowed self.new) }
-    {
-        self.facts();
-        let step = self.expansion.step(&self.table);
-        self.expansion.facts();
-        match step {
-            CursorStep::Lends(place) => Some(Place::Text(place)),
-            CursorStep::Silent => None,
-            CursorStep::Refused(fault) => Some(self.refuse_text(fault)),
+            None => self.step_sources(),
         }
     }
 
@@ -573,7 +566,7 @@ impl<S: Sources> Engine<S> {
         ensures place { result ≡ Place.Kept }
         ensures kept { self.new ≡ record self.old { kept = Some (fault_at fault.kind self.old.expansion.line (place_bytes (held_texts self.old) fault.word) (state_of self.old)) } }
     {
-        let word = word_of(text_at(&self.table, self.expansion.arguments(), fault.word));
+        let word = word_of(self.text(fault.word));
         let line = self.expansion.line();
         self.refuse_at(fault.kind, line, word)
     }
@@ -691,11 +684,7 @@ impl<S: Sources> Engine<S> {
         match place {
             Place::Source(start, end) => Piece::Bytes(self.files.file().buffer.part(start, end)),
             Place::Body(id, start, end) => Piece::Bytes(&self.table.body(id)[start..end]),
-            Place::Text(place) => Piece::Bytes(text_at(
-                &self.table,
-                self.expansion.arguments(),
-                place,
-            )),
+            Place::Text(place) => Piece::Bytes(self.text(place)),
             Place::Owed(piece) => Piece::Bytes(
                 self.owed.bytes(piece, self.files.file().name.as_str()),
             ),

@@ -1,11 +1,13 @@
 // Runs: the output, written to a sink.
-ghost use Rattle.std.specs.Prelude.{◌≡◌, ◌≤◌, length, take, false, not};
+ghost use Rattle.std.specs.Prelude.{[], ◌≡◌, ◌↔◌, ◌≤◌, IsTrue, length, take, false, not};
 ghost use Rattle.std.specs.Io.KnownBytes.{Appends};
 ghost use Rattle.rdlpp_source.specs.Counts.{Counts};
 ghost use Rattle.rdlpp_expand.specs.Run.{Flushes, Pulls, Runs, Unflushed, Wrote, count_of, fault_of};
+ghost use Rattle.rdlpp_expand.specs.Texts.{IsInTexts};
+ghost use Rattle.rdlpp_steps.specs.Moves.{IsUnowed};
 ghost use Rattle.rdlpp_steps.specs.Steps.{IsStarted};
 
-use crate::engine::Engine;
+use crate::engine::{Engine, TextStep};
 use rdlpp_meaning::Fault;
 use rdlpp_source::{Sink, Sources};
 use rdlpp_steps::Piece;
@@ -90,6 +92,15 @@ struct Pulled {
     ending: Option<Ending>,
 }
 
+// What was written of a piece of an open text: how many bytes, and how the output ended with it, if it did; and whether the next
+// step is one over open texts too.
+#[derive(Clone, Copy)]
+struct TextPulled {
+    len: usize,
+    ending: Option<Ending>,
+    in_texts: bool,
+}
+
 // What was written of the output: how many bytes, up to `u64::MAX`, and how the output ended.
 #[derive(Clone, Copy)]
 struct Output {
@@ -125,12 +136,18 @@ fn write_part<W: Sink>(writer: &mut W, part: &[u8]) -> PartWritten
     PartWritten { len, failed: false }
 }
 
-// Writes the next piece of the output.
+// Writes the next piece of the output, where the next step is none over open texts.
 fn pull<S: Sources, W: Sink>(engine: &mut Engine<S>, writer: &mut W) -> Pulled
-    requires { IsStarted engine.old }
+    requires started { IsStarted engine.old }
+    requires outside { IsUnowed engine.old → engine.old.expansion.opens ≡ [] }
     ensures { Pulls S.Sources W.Sink engine.old engine.new writer.old writer.new result.len result.ending }
 {
-    let place = engine.advance();
+    let Some(place) = engine.advance_outside() else {
+        return Pulled {
+            len: 0,
+            ending: None,
+        };
+    };
     match engine.answer(place) {
         Ok(Piece::Bytes(part)) => {
             let written = write_part(writer, part);
@@ -154,17 +171,62 @@ fn pull<S: Sources, W: Sink>(engine: &mut Engine<S>, writer: &mut W) -> Pulled
     }
 }
 
-// Writes the output piece by piece, until it ends.
+// Writes the next piece of the open texts of a usage.
+fn pull_text<S: Sources, W: Sink>(engine: &mut Engine<S>, writer: &mut W) -> TextPulled
+    requires { IsInTexts engine.old }
+    ensures pulls { Pulls S.Sources W.Sink engine.old engine.new writer.old writer.new result.len result.ending }
+    ensures next { result.ending ≡ None → IsTrue result.in_texts ↔ IsInTexts engine.new }
+{
+    match engine.advance_text() {
+        TextStep::Lent(place) => {
+            let written = write_part(writer, engine.text(place));
+            let in_texts = engine.is_open();
+            TextPulled {
+                len: written.len,
+                in_texts,
+                ending: if written.failed {
+                    Some(Ending::Unwritten)
+                } else {
+                    None
+                },
+            }
+        }
+        TextStep::Silent => TextPulled {
+            len: 0,
+            ending: None,
+            in_texts: false,
+        },
+        TextStep::Kept => TextPulled {
+            len: 0,
+            ending: Some(Ending::Stopped),
+            in_texts: false,
+        },
+    }
+}
+
+// Writes the output piece by piece, until it ends. Open texts, which may write millions of short pieces, have a branch of their
+// own: behind a piece of one of them it is known that the next step is one over open texts too.
 fn write_output<S: Sources, W: Sink>(engine: &mut Engine<S>, writer: &mut W) -> Output
     requires { IsStarted engine.old }
     ensures { Wrote S.Sources W.Sink engine.old engine.new writer.old writer.new result.written (Some result.ending) }
 {
     let mut written: u64 = 0;
+    let mut in_texts = engine.is_in_texts();
     loop {
-        let pulled = pull(engine, writer);
-        written = written.saturating_add(pulled.len as u64);
-        if let Some(ending) = pulled.ending {
-            return Output { written, ending };
+        if in_texts {
+            let pulled = pull_text(engine, writer);
+            written = written.saturating_add(pulled.len as u64);
+            if let Some(ending) = pulled.ending {
+                return Output { written, ending };
+            }
+            in_texts = pulled.in_texts;
+        } else {
+            let pulled = pull(engine, writer);
+            written = written.saturating_add(pulled.len as u64);
+            if let Some(ending) = pulled.ending {
+                return Output { written, ending };
+            }
+            in_texts = engine.is_in_texts();
         }
     }
 }

@@ -240,7 +240,7 @@ spent_part mid new n len spent =
     ]
 
 -- a piece, cut to what may still be lent
-cut_piece : {S R : Type 0} (g : Ghosts S R) (old mid new : EngineView S R) (xs : List ℕ) (n len : ℕ) → Walks g old mid (Ok (Some xs)) → length xs ≡ n → IsSpent mid new n len → Steps g old new (Ok (Some (take len xs)))
+pub cut_piece : {S R : Type 0} (g : Ghosts S R) (old mid new : EngineView S R) (xs : List ℕ) (n len : ℕ) → Walks g old mid (Ok (Some xs)) → length xs ≡ n → IsSpent mid new n len → Steps g old new (Ok (Some (take len xs)))
 unfolding no_len
 cut_piece {S} {R} g old mid new xs n len w size spent =
     let quota : mid.quota ≡ old.quota = (let q = w.quota in omega arith) in

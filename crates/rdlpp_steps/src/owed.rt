@@ -1,5 +1,5 @@
 // Texts that are owed: they are lent before anything that follows in the source.
-ghost use Rattle.std.specs.Prelude.{◌≡◌, ℕ, List, ◌+◌, ◌<◌, ◌≤◌, ◌^◌, IfNone, IfSome, decimal, length, take};
+ghost use Rattle.std.specs.Prelude.{◌≡◌, ◌↔◌, ℕ, List, ◌+◌, ◌<◌, ◌≤◌, ◌^◌, IfNone, IfSome, IsTrue, decimal, length, take};
 ghost use Rattle.rdlpp_steps.specs.Owed.{TakesPiece, behind_piece, cut_to, digits_of, first_piece, nothing_owed, origin_owed, part_bytes};
 
 use arrayvec::ArrayString;
@@ -141,6 +141,13 @@ impl Owed {
             line_ends: 0,
             origin: None,
         }
+    }
+
+    /// Whether nothing is owed.
+    pub fn is_nothing(&self) -> bool
+        ensures { IsTrue result ↔ (self.now ≡ nothing_owed) }
+    {
+        self.line_ends == 0 && self.origin.is_none()
     }
 
     /// Owes so many LF bytes more, before the origin line that is owed.

@@ -1,12 +1,10 @@
-use Rattle.std.proofs.Common.{◌≡◌, [], take, Some, ap, ◌∙◌, subst, arith}
-use Rattle.rdlpp_meaning.specs.State.{fault_at}
+use Rattle.std.proofs.Common.{◌≡◌, take, ap, ◌∙◌, subst}
 use Rattle.rdlpp_read.specs.Buffer.{held_of}
 use Rattle.rdlpp_read.specs.Files.{inner_buffer}
 use Rattle.rdlpp_front.specs.Fronts.{usage_name}
 use Rattle.rdlpp_front.proofs.Insides.{usage_inside, usage_word}
 use Rattle.rdlpp_usages.specs.declared.expansion.Opening.{Opening}
 use Rattle.rdlpp_steps.specs.Moves.{OpensUsage}
-use Rattle.rdlpp_steps.specs.Remaining.{state_of}
 use Rattle.rdlpp_steps.proofs.FrontSteps.{kept_cut}
 use Rattle.rdlpp_steps.proofs.UsageWalks.{breaks_step, fails_step, opens_step, refuses_step}
 use Rattle.rdlpp_expand.proofs.engine.Engine.open_usage.Goals as goal

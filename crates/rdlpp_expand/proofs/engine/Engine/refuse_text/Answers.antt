@@ -1,5 +1,5 @@
 use Rattle.std.proofs.Common.{◌≡◌, take, Some, ap, ◌∙◌}
-use Rattle.rdlpp_cursors.specs.Places.{place_bytes, texts_of}
+use Rattle.rdlpp_cursors.specs.Places.{place_bytes}
 use Rattle.rdlpp_meaning.specs.State.{fault_at}
 use Rattle.rdlpp_steps.specs.Pieces.{held_texts}
 use Rattle.rdlpp_steps.specs.Remaining.{state_of}
@@ -9,9 +9,7 @@ use Rattle.rdlpp_expand.proofs.engine.Engine.refuse_text.Goals as goal
 pub returns-clause-kept : goal.returns-clause-kept
 returns-clause-kept g c =
     let e = c.args.self.now in
-    let text : c.text_at.result.now ≡ place_bytes (held_texts e) c.args.fault.word =
-    c.text_at.ensures ∙ (ap (λ a. place_bytes (texts_of c.self.inside.table.macros a) c.args.fault.word) c.arguments.ensures.value
-    ∙ ap (λ v. place_bytes (texts_of v.table.macros v.expansion.arguments) c.args.fault.word) c.self.view_is) in
+    let text : c.text.result.now ≡ place_bytes (held_texts e) c.args.fault.word = c.text.ensures in
     let line : c.line-line.result ≡ e.expansion.line = c.line-line.ensures ∙ ap (λ v. v.expansion.line) c.self.view_is in
     kept_cut e c.refuse_at.new.self c.args.fault.kind e.expansion.line c.word_of-word.result.bytes (place_bytes (held_texts e) c.args.fault.word) (state_of e)
     (c.refuse_at.ensures.kept ∙ ap (λ n. record e { kept = Some (fault_at c.args.fault.kind n c.word_of-word.result.bytes (state_of e)) }) line)

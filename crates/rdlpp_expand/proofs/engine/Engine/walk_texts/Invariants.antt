@@ -1,11 +1,10 @@
-use Rattle.std.specs.Prelude.{◌<◌, length}
-use Rattle.rdlpp_steps.specs.Moves.{IsUnowed}
 use Rattle.rdlpp_steps.specs.Remaining.{work_left}
 use Rattle.rdlpp_steps.proofs.EngineSteps.{Passes}
+use Rattle.rdlpp_expand.specs.Texts.{IsInTexts}
 use Rattle.rdlpp_expand.proofs.engine.Engine.walk_texts.Given as goal
 
 abbrev pub invariant-stepping : goal.invariant-stepping
-invariant-stepping g l = Passes g.S.Sources l.initial.self l.self × (IsUnowed l.self × (0 < length l.self.expansion.opens))
+invariant-stepping g l = Passes g.S.Sources l.initial.self l.self × IsInTexts l.self
 
 abbrev pub decreases-stepping : goal.decreases-stepping
 decreases-stepping g l = work_left l.self

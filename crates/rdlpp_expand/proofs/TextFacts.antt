@@ -1,0 +1,103 @@
+-- Steps over open texts, and what is known between them.
+use Rattle.std.proofs.Common.{◌≡◌, ℕ, ◌-◌, ◌<◌, Bool, true, false, List, [], ◌∷◌, length, Option, None, Some, Ok, Err, refl, sym, ap, subst, ◌∙◌, inl, inr, arith}
+use Rattle.std.specs.Prelude.{◌↔◌, IsTrue, is_some}
+use Rattle.std.proofs.lemmas.Bool.{cases_lt, true≢false}
+use Rattle.rdlpp_source.specs.declared.sources.Sources.{Ghosts}
+use Rattle.rdlpp_meaning.specs.Outcome.{Told}
+use Rattle.rdlpp_cursors.specs.declared.place.TextPlace.{TextPlace}
+use Rattle.rdlpp_cursors.specs.declared.step.CursorStep.{CursorStep}
+use Rattle.rdlpp_cursors.specs.declared.step.CursorStep.TheVariants.{Lends}
+use Rattle.rdlpp_usages.specs.Usages.{ExpansionView, StaysLent}
+use Rattle.rdlpp_steps.specs.Engine.{EngineView}
+use Rattle.rdlpp_steps.specs.Moves.{IsUnowed}
+use Rattle.rdlpp_steps.specs.Pieces.{kept_answer, lent_answer, step_answer}
+use Rattle.rdlpp_steps.specs.Steps.{Steps, Walks}
+use Rattle.rdlpp_steps.specs.declared.place.Place.{Place}
+use Rattle.rdlpp_steps.specs.declared.phase.Phase.TheVariants.{Open, Passed}
+use Rattle.rdlpp_steps.proofs.Cuts.{cut_kept, cut_piece, IsSpent}
+use Rattle.rdlpp_steps.proofs.EngineSteps.{follows}
+use Rattle.rdlpp_expand.specs.Texts.{IsInTexts, LeavesTexts, StaysUnowed, place_of}
+use Rattle.rdlpp_expand.specs.declared.engine.texts.TextStep.{TextStep}
+use Rattle.rdlpp_expand.specs.declared.engine.texts.TextStep.TheVariants.{Lent, Silent, Kept}
+
+-- where bytes are lent, the main text is open
+pub open-lent : {S R : Type 0} (g : Ghosts S R) (old new : EngineView S R) (place : Place) (lent : List ℕ) → Walks g old new (lent_answer new place)
+    → lent_answer new place ≡ Ok (Some lent) → new.phase ≡ Open
+open-lent g old new place lent w e = follows new.phase (w.lends lent e).1
+
+-- nothing that is lent needs no room
+silent-spent : {S R : Type 0} (e : EngineView S R) → IsSpent e e 0 0
+silent-spent {S} {R} e = record {
+  fits = λ h. (refl, ap (λ (q : ℕ). record e { quota = q }) same);
+  passes = λ h. absurd (omega (arith, h));
+}
+  where
+    same : e.quota ≡ e.quota - 0
+    same = omega arith
+
+-- a step that lends nothing is one within the limit on the output
+pub silent-steps : {S R : Type 0} (g : Ghosts S R) (old new : EngineView S R) → Walks g old new (Ok (Some [])) → Steps g old new (Ok (Some []))
+silent-steps g old new w = cut_piece g old new new [] 0 0 w refl (silent-spent new)
+
+-- where the next step is none over open texts, and nothing is owed, no text is open
+pub outside-idle : {S R : Type 0} (e : EngineView S R) (b : Bool) → (IsTrue b ↔ IsInTexts e) → b ≡ false → IsUnowed e → e.expansion.opens ≡ []
+outside-idle e b both no_texts unowed = by e.expansion.opens refl
+  where
+    by : (opens : List _) → e.expansion.opens ≡ opens → e.expansion.opens ≡ []
+    by [] is = is
+    by (x ∷ below) is =
+        let some : 0 < length e.expansion.opens = subst (λ os. 0 < length os) (sym is) (omega arith) in
+        absurd (true≢false (sym (both.1 (unowed, some)) ∙ no_texts))
+
+-- a fault that is kept is answered
+pub kept-some : (kept : Option Told) → is_some kept ≡ true → (f : Told) × (kept ≡ Some f)
+kept-some None e = absurd (true≢false (sym e))
+kept-some (Some f) e = (f, refl)
+
+-- where texts are open behind a piece, the next step is one over them unless the limit is passed
+pub open-texts : {S R : Type 0} (e : EngineView S R) (b : Bool) → (IsTrue b ↔ (e.phase ≡ Open)) → (e.phase ≡ Open → IsInTexts e) → IsTrue b ↔ IsInTexts e
+open-texts e b both leaves = (λ t. leaves (both.0 t), λ t. both.1 t.0.open_)
+
+-- where none is open, it is none over them
+pub none-texts : {S R : Type 0} (e : EngineView S R) → e.expansion.opens ≡ [] → IsTrue false ↔ IsInTexts e
+none-texts e none = (
+  λ t. absurd (true≢false (sym t)),
+  λ t. (let some = t.1 in let size : length e.expansion.opens ≡ 0 = ap length none in absurd (omega (arith, some, size))),
+)
+
+-- other open texts change nothing of what is owed or kept
+pub unowed-texts : {S R : Type 0} (old new : EngineView S R) (x : ExpansionView) → IsUnowed old → new ≡ record old { expansion = x } → IsUnowed new
+unowed-texts old new x unowed becomes = rw becomes (record { open_ = unowed.open_; free = unowed.free; owed = unowed.owed })
+
+-- behind bytes that were lent a text is open
+pub lent-texts : {S R : Type 0} (old new : EngineView S R) (x : ExpansionView) (result : CursorStep) (place : TextPlace) → IsUnowed old → result ≡ Lends place
+    → StaysLent old.expansion result x → new ≡ record old { expansion = x } → IsInTexts new
+unfolding StaysLent
+lent-texts old new x result place unowed is lent becomes =
+    let open_now : (0 < length x.opens) × (x.arguments ≡ old.expansion.arguments) = subst (λ r. StaysLent old.expansion r x) is lent in
+    (unowed-texts old new x unowed becomes, rw becomes open_now.0)
+
+-- where a piece of open texts was cut, the next step is one over them, unless the limit is passed
+pub cut-texts : {S R : Type 0} (mid new : EngineView S R) (n len : ℕ) → IsInTexts mid → IsSpent mid new n len → new.phase ≡ Open → IsInTexts new
+cut-texts mid new n len texts spent open_now =
+    elim (cases_lt mid.quota n) [
+      | inl over ↦ (let p = spent.passes over in absurd (let phase : Passed ≡ Open = sym (ap (λ e. e.phase) p.1) ∙ open_now in cc))
+      | inr under ↦ rw (spent.fits under).1 (record { open_ = texts.0.open_; free = texts.0.free; owed = texts.0.owed }, texts.1)
+    ]
+
+-- the fault of an engine that keeps one is what it answers
+pub answer-kept : {S R : Type 0} (g : Ghosts S R) (old new : EngineView S R) (f : Told) → new.kept ≡ Some f → Steps g old new (kept_answer new.kept) → Steps g old new (Err f)
+answer-kept g old new f e s = subst (λ k. Steps g old new (kept_answer k)) e s
+
+-- what steps over open texts answer that lend no piece is within the limit on the output
+pub other-steps : {S R : Type 0} (g : Ghosts S R) (old new : EngineView S R) (step : TextStep) → ((place : TextPlace) → step ≡ Lent place → ⊥)
+    → Walks g old new (step_answer new (place_of step)) → Steps g old new (step_answer new (place_of step))
+other-steps g old new (Lent place) other w = absurd (other place refl)
+other-steps g old new Silent other w = silent-steps g old new w
+other-steps g old new Kept other w = cut_kept g old new new.kept w
+
+-- what holds behind one step that lends a piece or keeps a fault holds behind the steps up to it
+pub other-leaves : {S R : Type 0} (step : TextStep) (e : EngineView S R) → (step ≡ Silent → ⊥) → StaysUnowed step e → LeavesTexts step e
+other-leaves (Lent place) e other stays = λ _. stays
+other-leaves Silent e other stays = absurd (other refl)
+other-leaves Kept e other stays = stays

@@ -1,0 +1,35 @@
+use Rattle.std.proofs.Common.{Ok, Some, false, true, ap}
+use Rattle.rdlpp_expand.proofs.RunFacts.{answer_step, counts_as, pulled_fault, pulled_part, pulled_silent, pulled_whole}
+use Rattle.rdlpp_expand.proofs.TextFacts.{answer-kept, kept-some, none-texts, open-texts}
+use Rattle.rdlpp_expand.proofs.writing.pull_text.Goals as goal
+
+pub text-requires : goal.text-requires
+text-requires g c = c.in-Lent.ensures.place
+
+pub returns-then-written-clause-pulls : goal.returns-then-written-clause-pulls
+returns-then-written-clause-pulls g c =
+    let w = c.write_part-written.ensures in
+    pulled_part g.S.Sources g.W.Sink _ _ _ _ _ _
+    (answer_step g.S.Sources _ _ _ _ c.in-Lent.ensures.steps (ap (λ xs. Ok (Some xs)) c.text.ensures))
+    w.inside w.taken (counts_as _ true _ _ c.if-written.true w.writes) w.quiet
+
+pub returns-else-written-clause-pulls : goal.returns-else-written-clause-pulls
+returns-else-written-clause-pulls g c =
+    let w = c.write_part-written.ensures in
+    pulled_whole g.S.Sources g.W.Sink _ _ _ _ _ _
+    (answer_step g.S.Sources _ _ _ _ c.in-Lent.ensures.steps (ap (λ xs. Ok (Some xs)) c.text.ensures))
+    (w.whole c.if-written.false) w.taken (counts_as _ false _ _ c.if-written.false w.writes) w.quiet
+
+pub returns-else-written-clause-next : goal.returns-else-written-clause-next
+returns-else-written-clause-next g c = λ _. open-texts _ _ c.is_open-in_texts.ensures c.in-Lent.ensures.leaves
+
+pub returns-in-Silent-clause-pulls : goal.returns-in-Silent-clause-pulls
+returns-in-Silent-clause-pulls g c = pulled_silent g.S.Sources g.W.Sink _ _ _ c.in-Silent.ensures.steps
+
+pub returns-in-Silent-clause-next : goal.returns-in-Silent-clause-next
+returns-in-Silent-clause-next g c = λ _. none-texts _ c.in-Silent.ensures.leaves
+
+pub returns-in-Kept-clause-pulls : goal.returns-in-Kept-clause-pulls
+returns-in-Kept-clause-pulls g c =
+    let kept = kept-some _ c.in-Kept.ensures.leaves in
+    pulled_fault g.S.Sources g.W.Sink _ _ _ kept.0 (answer-kept g.S.Sources _ _ kept.0 kept.1 c.in-Kept.ensures.steps)

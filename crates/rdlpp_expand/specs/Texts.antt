@@ -1,0 +1,34 @@
+-- Steps over the open texts of a usage.
+-- A definition that names no source is this project's own.
+use Rattle.std.specs.Prelude.{◌≡◌, ◌<◌, true, [], length, is_some, Option, None, Some}
+use Rattle.rdlpp_steps.specs.Engine.{EngineView}
+use Rattle.rdlpp_steps.specs.Moves.{IsUnowed}
+use Rattle.rdlpp_steps.specs.declared.phase.Phase.TheVariants.{Open}
+use Rattle.rdlpp_steps.specs.declared.place.Place.{Place}
+use Rattle.rdlpp_steps.specs.declared.place.Place.TheVariants as spot
+use Rattle.rdlpp_expand.specs.declared.engine.texts.TextStep.{TextStep}
+use Rattle.rdlpp_expand.specs.declared.engine.texts.TextStep.TheVariants.{Lent, Silent, Kept}
+
+-- where such a step's piece stands, or the fault that is kept; none where nothing is lent
+abbrev pub place_of : TextStep → Option Place
+place_of (Lent place) = Some (spot.Text place)
+place_of Silent = None
+place_of Kept = Some spot.Kept
+
+-- an engine whose next step is one over open texts: its main text is open, it keeps no fault and owes nothing, and a text of a
+-- usage is open
+abbrev pub IsInTexts : {S R : Type 0} → EngineView S R → Type 0
+IsInTexts e = IsUnowed e × (0 < length e.expansion.opens)
+
+-- what holds behind one step: texts stay open behind a piece, and behind nothing that is lent no fault is kept
+abbrev pub StaysUnowed : {S R : Type 0} → TextStep → EngineView S R → Type 0
+StaysUnowed (Lent place) e = IsInTexts e
+StaysUnowed Silent e = IsUnowed e
+StaysUnowed Kept e = is_some e.kept ≡ true
+
+-- what holds behind steps up to the next piece: behind that the next step is one over open texts too, where more may be lent; and
+-- where nothing is lent, none is open
+abbrev pub LeavesTexts : {S R : Type 0} → TextStep → EngineView S R → Type 0
+LeavesTexts (Lent place) e = e.phase ≡ Open → IsInTexts e
+LeavesTexts Silent e = e.expansion.opens ≡ []
+LeavesTexts Kept e = is_some e.kept ≡ true

@@ -1,0 +1,127 @@
+// Steps over the open texts of a usage.
+ghost use Rattle.std.specs.Prelude.{◌≡◌, ◌↔◌, ◌<◌, IfSome, IsTrue, length};
+ghost use Rattle.rdlpp_cursors.specs.Places.{IsPlaced as IsTextPlaced, place_bytes};
+ghost use Rattle.rdlpp_steps.specs.Held.{IsBounded};
+ghost use Rattle.rdlpp_steps.specs.Moves.{IsUnowed};
+ghost use Rattle.rdlpp_steps.specs.Pieces.{IsPlaced, held_texts, step_answer};
+ghost use Rattle.rdlpp_steps.specs.Steps.{Steps, Walks};
+ghost use Rattle.rdlpp_expand.specs.Texts.{IsInTexts, LeavesTexts, StaysUnowed, place_of};
+
+use crate::engine::Engine;
+use rdlpp_cursors::{CursorStep, TextPlace, text_at};
+use rdlpp_source::Sources;
+use rdlpp_steps::{Phase, Place};
+
+// What steps over open texts come to.
+#[derive(Clone, Copy)]
+pub(crate) enum TextStep {
+    // The piece at a place of a text is lent.
+    Lent(TextPlace),
+    // Nothing is lent.
+    Silent,
+    // The engine keeps a fault.
+    Kept,
+}
+
+impl TextStep {
+    // Where it stands, as of other steps.
+    pub(super) fn place(self) -> Option<Place>
+        ensures { result ≡ place_of self }
+    {
+        match self {
+            TextStep::Lent(place) => Some(Place::Text(place)),
+            TextStep::Silent => None,
+            TextStep::Kept => Some(Place::Kept),
+        }
+    }
+}
+
+impl<S: Sources> Engine<S> {
+    // Whether the next step is one over the open texts of a usage.
+    pub(crate) fn is_in_texts(&self) -> bool
+        ensures { IsTrue result ↔ IsInTexts self.now }
+    {
+        self.kept.is_none()
+            && self.phase == Phase::Open
+            && self.owed.is_nothing()
+            && !self.expansion.is_empty()
+    }
+
+    // Whether more may be lent of the text.
+    pub(crate) fn is_open(&self) -> bool
+        ensures { IsTrue result ↔ (self.now.phase ≡ Phase.Open) }
+    {
+        self.phase == Phase::Open
+    }
+
+    // The step of `run` over the open texts of a usage: goes on to the next piece of one of them, cut to what the limit on the
+    // output leaves, or until none is open.
+    pub(crate) fn advance_text(&mut self) -> TextStep
+        requires { IsInTexts self.old }
+        ensures place { IfSome (place_of result) (IsPlaced self.new) }
+        ensures steps { Steps S.Sources self.old self.new (step_answer self.new (place_of result)) }
+        ensures leaves { LeavesTexts result self.new }
+    {
+        let step = self.walk_texts();
+        self.facts();
+        match step {
+            TextStep::Lent(place) => {
+                let len = self.spend(place.end - place.from);
+                TextStep::Lent(TextPlace {
+                    source: place.source,
+                    from: place.from,
+                    end: place.from + len,
+                })
+            }
+            step => step,
+        }
+    }
+
+    // Takes steps over the open texts of a usage, until one lends something or no text is open any more.
+    pub(super) fn walk_texts(&mut self) -> TextStep
+        requires { IsInTexts self.old }
+        ensures place { IfSome (place_of result) (IsPlaced self.new) }
+        ensures walks { IsBounded self.new → Walks S.Sources self.old self.new (step_answer self.new (place_of result)) }
+        ensures leaves { LeavesTexts result self.new }
+    {
+        'stepping: loop {
+            match self.step_text() {
+                TextStep::Silent => {
+                    self.facts();
+                    if self.expansion.is_empty() {
+                        return TextStep::Silent;
+                    }
+                }
+                step => return step,
+            }
+        }
+    }
+
+    // Takes one step over the open texts of a usage.
+    fn step_text(&mut self) -> TextStep
+        requires { IsInTexts self.old }
+        ensures place { IfSome (place_of result) (IsPlaced self.new) }
+        ensures walks { IsBounded self.new → Walks S.Sources self.old self.new (step_answer self.new (place_of result)) }
+        ensures stays { StaysUnowed result self.new }
+    {
+        self.facts();
+        let step = self.expansion.step(&self.table);
+        self.expansion.facts();
+        match step {
+            CursorStep::Lends(place) => TextStep::Lent(place),
+            CursorStep::Silent => TextStep::Silent,
+            CursorStep::Refused(fault) => {
+                let _kept = self.refuse_text(fault);
+                TextStep::Kept
+            }
+        }
+    }
+
+    // The bytes at a place of a text.
+    pub(crate) fn text(&self, place: TextPlace) -> &[u8]
+        requires { IsTextPlaced (held_texts self.now) place }
+        ensures { result.now ≡ place_bytes (held_texts self.now) place }
+    {
+        text_at(&self.table, self.expansion.arguments(), place)
+    }
+}
