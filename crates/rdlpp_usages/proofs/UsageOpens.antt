@@ -1,7 +1,7 @@
 -- A call that is read and bound, as a usage in a source.
-use Rattle.std.proofs.Common.{◌≡◌, ℕ, zero, suc, ◌<◌, true, List, [], ◌∷◌, map, length, None, Some, refl, sym, ap, ◌∙◌, subst, arith}
-use Rattle.std.proofs.lemmas.Bool.{eqb-true, false≢true}
-use Rattle.std.specs.Prelude.{◌==◌}
+use Rattle.std.proofs.Common.{◌≡◌, ℕ, zero, suc, ◌<◌, Bool, true, false, List, [], ◌∷◌, map, length, None, Some, refl, sym, ap, ◌∙◌, subst, arith}
+use Rattle.std.proofs.lemmas.Bool.{eqb-true, false≢true, true≢false}
+use Rattle.std.specs.Prelude.{◌==◌, ◌↔◌, IsTrue}
 use Rattle.rdlpp_scan.specs.SourceTokens.{SourceToken}
 use Rattle.rdlpp_scan.specs.declared.token.Mode.TheVariants.{Plain}
 use Rattle.rdlpp_table.specs.Table.{Formal, Macro, macro_named}
@@ -34,7 +34,7 @@ use Rattle.rdlpp_cursors.specs.declared.step.CursorStep.{CursorStep}
 use Rattle.rdlpp_cursors.specs.declared.step.CursorStep.TheVariants.{Lends, Silent, Refused as Fault}
 use Rattle.rdlpp_front.specs.Fronts.{IsUsage, usage_name}
 use Rattle.rdlpp_front.specs.SourceLeft.{HoldsFront}
-use Rattle.rdlpp_usages.specs.Usages.{is_usage_fault, IsUsageFault, BindsKept, ExpansionView, IsRun, RefusesCall, StaysAt, StaysLent, TellsCallUsage, TellsUsage, inner_left, texts_left}
+use Rattle.rdlpp_usages.specs.Usages.{is_usage_fault, IsUsageFault, BindsKept, ExpansionView, IsRun, RefusesCall, StaysAt, StaysLent, TellsCallUsage, TellsUsage, inner_left, texts_left, IsExpansion}
 use Rattle.rdlpp_usages.specs.declared.expansion.Opening.{Opening}
 use Rattle.rdlpp_usages.specs.declared.expansion.Opening.TheVariants.{Opened, Refused, Broken}
 use Rattle.rdlpp_usages.proofs.CallLeft.{IsBehind, body_opens, call_opens, call_refused}
@@ -194,6 +194,21 @@ unfolding StaysLent
 lent_open (Lends place) old new now some same kept = (subst (λ (xs : List Open). 0 < length xs) (sym same) some, kept)
 lent_open Silent old new now some same kept = tt
 lent_open (Fault fault) old new now some same kept = tt
+
+-- a step that isn't said to be silent isn't
+pub not-silent : (step : CursorStep) (b : Bool) → (IsTrue b ↔ (step ≡ Silent)) → b ≡ false → step ≡ Silent → ⊥
+not-silent step b both none is = true≢false (sym (both.1 is) ∙ none)
+
+-- behind bytes that are lent, and behind a fault, a text is open, so that bytes may be kept
+pub still_open : (step : CursorStep) (old : List Open) (c now : CursorsView) (bytes : List ℕ) → (step ≡ Silent → ⊥) → KeepsOpen step now.opens → StaysRefused c step now
+    → c.opens ≡ old → 0 < length old → IsExpansion now.opens bytes
+unfolding StaysRefused
+still_open (Lends place) old c now bytes other lends stays same some =
+    record { lets_go = λ none. (let size : length now.opens ≡ 0 = ap length none in absurd (omega (arith, lends, size))) }
+still_open Silent old c now bytes other lends stays same some = absurd (other refl)
+still_open (Fault fault) old c now bytes other lends stays same some =
+    let count : length now.opens ≡ length old = ap (λ (v : CursorsView). length v.opens) stays ∙ ap length same in
+    record { lets_go = λ none. (let size : length now.opens ≡ 0 = ap length none in absurd (omega (arith, count, size, some))) }
 
 -- neither bytes nor a fault come with the last text that is closed, so that nothing has to lie among the kept bytes
 pub placed_empty : (step : CursorStep) (texts : Texts) (old : List Open) (c now : CursorsView) → KeepsOpen step now.opens → StaysRefused c step now → c.opens ≡ old → 0 < length old

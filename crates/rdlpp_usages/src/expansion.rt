@@ -1,5 +1,5 @@
 // The expansion of a usage in a source.
-ghost use Rattle.std.specs.Prelude.{◌≡◌, ◌<◌, ◌≤◌, ◌==◌, List, [], length, IfOk, Some, is_some, if◌then◌else◌, true, false};
+ghost use Rattle.std.specs.Prelude.{◌≡◌, ◌↔◌, ◌<◌, ◌≤◌, ◌==◌, List, [], length, IfOk, IsTrue, Some, is_some, if◌then◌else◌, true, false};
 ghost use Rattle.rdlpp_scan.specs.declared.token.Mode.TheVariants.{Plain};
 ghost use Rattle.rdlpp_table.specs.Table.{macro_named};
 ghost use Rattle.rdlpp_table.specs.View.{macro_at};
@@ -145,6 +145,9 @@ impl Expansion {
         ensures word { NamesWord (texts_of table.now.macros self.new.arguments) result }
     {
         let step = self.cursors.step(table, self.arguments.bytes());
+        if !is_silent(&step) {
+            return step;
+        }
         if self.cursors.is_empty() {
             self.arguments.clear();
         }
@@ -282,4 +285,11 @@ fn open_call<S: Sources>(
         CallRead::Broken(kind, own) => refuse(arguments, Opening::Broken(kind, own)),
         CallRead::Failed => refuse(arguments, Opening::Failed),
     }
+}
+
+// Whether a step lends nothing and isn't refused.
+fn is_silent(step: &CursorStep) -> bool
+    ensures { IsTrue result ↔ (step.now ≡ CursorStep.Silent) }
+{
+    matches!(step, CursorStep::Silent)
 }
