@@ -1,6 +1,7 @@
 -- Pulls in a row, and the run that they are.
 use Rattle.std.proofs.Common.{◌≡◌, ◌≢◌, ℕ, ◌+◌, ◌-◌, ◌^◌, ◌≤◌, ◌<◌, ◌==◌, min, Bool, true, false, ◌&&◌, ◌||◌, not, List, [], ◌++◌, length, take, drop, Option, None, Some, Result, Ok, Err, IfSome, refl, sym, ap, subst, ◌∙◌, append_assoc, append-nil, length-append, ne_eqb, arith, inl, inr}
 use Rattle.std.proofs.lemmas.List.{take_all, length-take-le, take-append-drop}
+use Rattle.std.specs.Prelude.{if◌then◌else◌}
 use Rattle.std.specs.Io.KnownBytes.{Appends, Keeps}
 use Rattle.rdlpp_source.specs.Counts.{Counts}
 use Rattle.rdlpp_source.specs.declared.sources.Sources.{Ghosts}
@@ -325,6 +326,16 @@ pulled_part g h old new before after piece len s inside taken writes quiet = rec
   quiet = quiet;
   ends = (drop len piece, let P : List ℕ → Type 0 = λ xs. Steps g old new (Ok (Some xs)) in subst P (sym (take-append-drop len piece)) s);
 }
+
+-- a pull of a piece, by what was written of it
+pub pulled_written : {S R W : Type 0} (g : Ghosts S R) (h : SinkGhosts W) (old new : EngineView S R) (before after : W) (piece : List ℕ) (len : ℕ) (failed : Bool) (ending : Option Ending)
+    → Steps g old new (Ok (Some piece)) → ending ≡ (if failed then Some Unwritten else None) → len ≤ length piece → (failed ≡ false → len ≡ length piece)
+    → Appends (h.taken before) (h.taken after) (take len piece) → Counts failed (h.failed_writes before) (h.failed_writes after)
+    → Unflushed h before after → Pulls g h old new before after len ending
+pulled_written g h old new before after piece len true ending s e inside whole taken writes quiet =
+    subst (λ (x : Option Ending). Pulls g h old new before after len x) (sym e) (pulled_part g h old new before after piece len s inside taken writes quiet)
+pulled_written g h old new before after piece len false ending s e inside whole taken writes quiet =
+    subst (λ (x : Option Ending). Pulls g h old new before after len x) (sym e) (pulled_whole g h old new before after piece len s (whole refl) taken writes quiet)
 
 -- a sink of which nothing was asked
 quiet_same : {W : Type 0} (h : SinkGhosts W) (w : W) → Unflushed h w w

@@ -39,8 +39,6 @@ mod texts;
 mod usage;
 mod words;
 
-pub(crate) use texts::TextStep;
-
 use arrayvec::ArrayString;
 use rdlpp_conditions::Conditions;
 use rdlpp_cursors::{CursorFault, TextPlace};
@@ -54,6 +52,7 @@ use rdlpp_table::{Limits, MacroId, Table};
 use rdlpp_usages::Expansion;
 use std::alloc::Global;
 use std::marker::Model;
+pub(crate) use texts::TextStep;
 use words::DEFINE_BYTES;
 
 /// Preprocesses one main text of its sources.

@@ -1,5 +1,5 @@
 // Runs: the output, written to a sink.
-ghost use Rattle.std.specs.Prelude.{[], ◌≡◌, ◌↔◌, ◌≤◌, IsTrue, length, take, false, not};
+ghost use Rattle.std.specs.Prelude.{[], ◌≡◌, ◌↔◌, ◌≤◌, if◌then◌else◌, IsTrue, None, Some, length, take, false, not};
 ghost use Rattle.std.specs.Io.KnownBytes.{Appends};
 ghost use Rattle.rdlpp_source.specs.Counts.{Counts};
 ghost use Rattle.rdlpp_expand.specs.Run.{Flushes, Pulls, Runs, Unflushed, Wrote, count_of, fault_of};
@@ -115,8 +115,48 @@ fn is_flushed<W: Sink>(writer: &mut W) -> bool
     writer.flush().is_ok()
 }
 
-// Writes a part, until the sink has taken all of it or fails.
+// Writes a part, until the sink has taken all of it or fails. Most sinks take a part at once.
 fn write_part<W: Sink>(writer: &mut W, part: &[u8]) -> PartWritten
+    ensures inside { result.len ≤ length part.now }
+    ensures whole { result.failed ≡ false → result.len ≡ length part.now }
+    ensures taken { Appends (W.taken writer.old) (W.taken writer.new) (take result.len part.now) }
+    ensures writes { Counts result.failed (W.failed_writes writer.old) (W.failed_writes writer.new) }
+    ensures quiet { Unflushed W.Sink writer.old writer.new }
+{
+    if part.is_empty() {
+        return PartWritten {
+            len: 0,
+            failed: false,
+        };
+    }
+    let Ok(taken) = writer.write(part) else {
+        return PartWritten {
+            len: 0,
+            failed: true,
+        };
+    };
+    if taken == part.len() {
+        return PartWritten {
+            len: taken,
+            failed: false,
+        };
+    }
+    if taken == 0 {
+        return PartWritten {
+            len: 0,
+            failed: true,
+        };
+    }
+    let rest = write_rest(writer, &part[taken..]);
+    PartWritten {
+        len: taken + rest.len,
+        failed: rest.failed,
+    }
+}
+
+// Writes what a first write has left of a part, until the sink has taken all of it or fails.
+#[inline(never)]
+fn write_rest<W: Sink>(writer: &mut W, part: &[u8]) -> PartWritten
     ensures inside { result.len ≤ length part.now }
     ensures whole { result.failed ≡ false → result.len ≡ length part.now }
     ensures taken { Appends (W.taken writer.old) (W.taken writer.new) (take result.len part.now) }
@@ -136,6 +176,17 @@ fn write_part<W: Sink>(writer: &mut W, part: &[u8]) -> PartWritten
     PartWritten { len, failed: false }
 }
 
+// How the output ended with a part, if it did.
+fn ending_of(written: &PartWritten) -> Option<Ending>
+    ensures { result ≡ (if written.now.failed then Some Ending.Unwritten else None) }
+{
+    if written.failed {
+        Some(Ending::Unwritten)
+    } else {
+        None
+    }
+}
+
 // Writes the next piece of the output, where the next step is none over open texts.
 fn pull<S: Sources, W: Sink>(engine: &mut Engine<S>, writer: &mut W) -> Pulled
     requires started { IsStarted engine.old }
@@ -153,11 +204,7 @@ fn pull<S: Sources, W: Sink>(engine: &mut Engine<S>, writer: &mut W) -> Pulled
             let written = write_part(writer, part);
             Pulled {
                 len: written.len,
-                ending: if written.failed {
-                    Some(Ending::Unwritten)
-                } else {
-                    None
-                },
+                ending: ending_of(&written),
             }
         }
         Ok(Piece::Done) => Pulled {
@@ -180,15 +227,10 @@ fn pull_text<S: Sources, W: Sink>(engine: &mut Engine<S>, writer: &mut W) -> Tex
     match engine.advance_text() {
         TextStep::Lent(place) => {
             let written = write_part(writer, engine.text(place));
-            let in_texts = engine.is_open();
             TextPulled {
                 len: written.len,
-                in_texts,
-                ending: if written.failed {
-                    Some(Ending::Unwritten)
-                } else {
-                    None
-                },
+                ending: ending_of(&written),
+                in_texts: engine.is_open(),
             }
         }
         TextStep::Silent => TextPulled {

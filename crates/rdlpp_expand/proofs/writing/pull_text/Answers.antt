@@ -1,27 +1,20 @@
-use Rattle.std.proofs.Common.{Ok, Some, false, true, ap}
-use Rattle.rdlpp_expand.proofs.RunFacts.{answer_step, counts_as, pulled_fault, pulled_part, pulled_silent, pulled_whole}
+use Rattle.std.proofs.Common.{Ok, Some, ap}
+use Rattle.rdlpp_expand.proofs.RunFacts.{answer_step, pulled_fault, pulled_silent, pulled_written}
 use Rattle.rdlpp_expand.proofs.TextFacts.{answer-kept, kept-some, none-texts, open-texts}
 use Rattle.rdlpp_expand.proofs.writing.pull_text.Goals as goal
 
 pub text-requires : goal.text-requires
 text-requires g c = c.in-Lent.ensures.place
 
-pub returns-then-written-clause-pulls : goal.returns-then-written-clause-pulls
-returns-then-written-clause-pulls g c =
+pub returns-in-Lent-clause-pulls : goal.returns-in-Lent-clause-pulls
+returns-in-Lent-clause-pulls g c =
     let w = c.write_part-written.ensures in
-    pulled_part g.S.Sources g.W.Sink _ _ _ _ _ _
+    pulled_written g.S.Sources g.W.Sink _ _ _ _ _ _ _ _
     (answer_step g.S.Sources _ _ _ _ c.in-Lent.ensures.steps (ap (λ xs. Ok (Some xs)) c.text.ensures))
-    w.inside w.taken (counts_as _ true _ _ c.if-written.true w.writes) w.quiet
+    c.ending_of.ensures w.inside w.whole w.taken w.writes w.quiet
 
-pub returns-else-written-clause-pulls : goal.returns-else-written-clause-pulls
-returns-else-written-clause-pulls g c =
-    let w = c.write_part-written.ensures in
-    pulled_whole g.S.Sources g.W.Sink _ _ _ _ _ _
-    (answer_step g.S.Sources _ _ _ _ c.in-Lent.ensures.steps (ap (λ xs. Ok (Some xs)) c.text.ensures))
-    (w.whole c.if-written.false) w.taken (counts_as _ false _ _ c.if-written.false w.writes) w.quiet
-
-pub returns-else-written-clause-next : goal.returns-else-written-clause-next
-returns-else-written-clause-next g c = λ _. open-texts _ _ c.is_open-in_texts.ensures c.in-Lent.ensures.leaves
+pub returns-in-Lent-clause-next : goal.returns-in-Lent-clause-next
+returns-in-Lent-clause-next g c = λ _. open-texts _ _ c.is_open.ensures c.in-Lent.ensures.leaves
 
 pub returns-in-Silent-clause-pulls : goal.returns-in-Silent-clause-pulls
 returns-in-Silent-clause-pulls g c = pulled_silent g.S.Sources g.W.Sink _ _ _ c.in-Silent.ensures.steps

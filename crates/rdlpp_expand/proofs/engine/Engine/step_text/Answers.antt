@@ -55,7 +55,6 @@ returns-in-Refused-clause-walks g c = λ bounded.
     refuse_step g.S.Sources c.args.self.now x c.step-step.result c.requires.0 takes _ c.refuse_text-kept.new.self place.Kept c.in-Refused.fault c.in-Refused.is
     (opening _ c.args.self.now x c.self.view_is) bounded refl c.refuse_text-kept.ensures.kept (fault_text c.step-step.result c.in-Refused.fault c.in-Refused.is e.fault)
 
-
 pub returns-in-Lends-clause-stays : goal.returns-in-Lends-clause-stays
 returns-in-Lends-clause-stays g c =
     lent-texts c.args.self.now _ c.step-step.new.self c.step-step.result c.in-Lends.place c.requires.0 c.in-Lends.is

@@ -1,7 +1,7 @@
 use Rattle.std.proofs.Common.{◌≡◌, ◌≤◌, ◌-◌, length, take}
 use Rattle.std.specs.Io.KnownBytes.{Appends}
 use Rattle.rdlpp_expand.specs.Run.{Unflushed}
-use Rattle.rdlpp_expand.proofs.writing.write_part.Given as goal
+use Rattle.rdlpp_expand.proofs.writing.write_rest.Given as goal
 
 abbrev pub invariant-loop-len : goal.invariant-loop-len
 invariant-loop-len g l = record {
