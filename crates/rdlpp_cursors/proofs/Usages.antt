@@ -1,6 +1,6 @@
 -- A usage at the front of the innermost open text: its name, and what it comes to.
 use Rattle.std.proofs.Common.{◌≡◌, ℕ, suc, ◌+◌, ◌-◌, ◌<◌, ◌≤◌, Bool, true, false, true≢false, List, [], ◌∷◌, length, take, drop, refl, sym, ap, subst, ◌∙◌, arith, Option, None, Some}
-use Rattle.std.specs.Prelude.{if◌then◌else◌, ◌==◌, ◌||◌, bytes_eq, slice_range, is_some}
+use Rattle.std.specs.Prelude.{if◌then◌else◌, ◌==◌, ◌||◌, bytes_eq, nat_le, slice_range, is_some}
 use Rattle.std.specs.List.{list_any}
 use Rattle.std.specs.Option.{option_map}
 use Rattle.std.proofs.lemmas.Bool.{eq-eqb}
@@ -328,6 +328,15 @@ pub homes-out : (texts : Texts) (opens : List Open) → AreOpen texts opens → 
 homes-out texts [] h = tt
 homes-out texts (x ∷ below) h = (h.0, homes-out texts below (h.1).1)
 
+-- they are so in open texts that are the same
+pub homes-same : (view mid : CursorsView) → mid ≡ view → AreFurtherOut view.opens → AreFurtherOut mid.opens
+homes-same view mid e h = subst (λ (v : CursorsView). AreFurtherOut v.opens) (sym e) h
+
+-- whose scope is in the text of the same macros
+pub inside-same : (view mid : CursorsView) (id : ℕ) (written : Bool) → mid ≡ view → written ≡ list_any (λ own. id == own) (writer_ids mid.opens (front_scope mid.opens))
+    → written ≡ list_any (λ own. id == own) (writer_ids view.opens (front_scope view.opens))
+inside-same view mid id written e w = subst (λ (v : CursorsView). written ≡ list_any (λ own. id == own) (writer_ids v.opens (front_scope v.opens))) e w
+
 -- the homes of open texts are those of their slots
 pub slots-homed : (slots : List Slot) (bindings : List Range) → AreFurtherOut (opens_of slots bindings) → AreHomedSlots slots
 unfolding opens_of
@@ -474,6 +483,21 @@ entered macros id end home at view mid new e h m n =
     ∙ ap (λ (v : CursorsView). record { opens = record { part = record { from = 0; end = end; mode = Plain }; home = home; kind = OpenBody id [] } ∷ v.opens; line = v.line; depth = v.depth }) m
     ∙ ap (λ (k : ℕ). record { opens = record { part = record { from = 0; end = k; mode = Plain }; home = home; kind = OpenBody id [] } ∷ moved_to at view.opens; line = view.line; depth = view.depth }) e
     ∙ ap (λ (k : ℕ). record { opens = record { part = record { from = 0; end = length (macro_at macros id).body; mode = Plain }; home = k; kind = OpenBody id [] } ∷ moved_to at view.opens; line = view.line; depth = view.depth }) h
+
+-- so it is in front of those that are the same
+pub entered-same : (macros : List Macro) (id at : ℕ) (view mid new : CursorsView) → mid ≡ view
+    → new ≡ record { opens = open_body (texts_of macros []) id [] (front_scope mid.opens) ∷ moved_to at mid.opens; line = mid.line; depth = mid.depth }
+    → new ≡ record { opens = open_body (texts_of macros []) id [] (front_scope view.opens) ∷ moved_to at view.opens; line = view.line; depth = view.depth }
+entered-same macros id at view mid new e n =
+    n ∙ ap (λ (v : CursorsView). record { opens = open_body (texts_of macros []) id [] (front_scope v.opens) ∷ moved_to at v.opens; line = v.line; depth = v.depth }) e
+
+-- and there is as much room
+pub full-same : (view mid : CursorsView) (full : Bool) → mid ≡ view → full ≡ nat_le mid.depth (length mid.opens) → full ≡ nat_le view.depth (length view.opens)
+full-same view mid full e f = f ∙ ap (λ (v : CursorsView). nat_le v.depth (length v.opens)) e
+
+-- what changes nothing leaves the same
+pub pass-same : (texts : Texts) (view mid : CursorsView) (step : CursorStep) → mid ≡ view → IsPassed texts view view step → IsPassed texts view mid step
+pass-same texts view mid step e p = subst (λ (v : CursorsView). IsPassed texts view v step) (sym e) p
 
 -- open texts that go on leave as much room
 pub moved-room : (view new : CursorsView) (at : ℕ) → new ≡ record { opens = moved_to at view.opens; line = view.line; depth = view.depth } → length view.opens < view.depth

@@ -156,7 +156,6 @@ impl Cursors {
             bounds,
         };
         self.first = first - 1;
-        self.guesses.keep(table.name(id), id);
         Opening::Opened
     }
 }

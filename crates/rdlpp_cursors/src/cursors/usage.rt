@@ -69,23 +69,24 @@ impl Cursors {
 
     // The macro of the usage at the front of the innermost text, or why it is refused.
     fn used_macro(
-        &self,
+        &mut self,
         table: &Table,
         arguments: &[u8],
         look: &Look,
         len: usize,
     ) -> Result<MacroId, FaultKind>
-        requires some { 0 < length self.now.opens }
-        requires sound { AreSound (texts_of table.now.macros arguments.now) self.now.opens }
-        requires look { IsLook (texts_of table.now.macros arguments.now) self.now.opens look.now }
+        requires some { 0 < length self.old.opens }
+        requires sound { AreSound (texts_of table.now.macros arguments.now) self.old.opens }
+        requires look { IsLook (texts_of table.now.macros arguments.now) self.old.opens look.now }
         requires short { look.now.end < 2 ^ 64 }
         requires front { look.now.front ≡ Front.Usage len }
+        ensures same { self.new ≡ self.old }
         ensures fault { IfErr result (λ kind. is_text_fault kind ≡ true) }
-        ensures used { MatchResult result (λ id. IsUsed (texts_of table.now.macros arguments.now) self.now.opens (front_name (texts_of table.now.macros arguments.now) self.now.opens len) id) (λ kind. IsRefused (texts_of table.now.macros arguments.now) self.now.opens (front_name (texts_of table.now.macros arguments.now) self.now.opens len) kind) }
+        ensures used { MatchResult result (λ id. IsUsed (texts_of table.now.macros arguments.now) self.old.opens (front_name (texts_of table.now.macros arguments.now) self.old.opens len) id) (λ kind. IsRefused (texts_of table.now.macros arguments.now) self.old.opens (front_name (texts_of table.now.macros arguments.now) self.old.opens len) kind) }
     {
         let word = word_of(look, len);
         let name = text_at(table, arguments, word);
-        let Some(id) = table.find_near(self.guesses.of(name), name) else {
+        let Some(id) = self.guesses.find(table, name) else {
             return Err(unknown_kind(name));
         };
         if self.is_inside(id) {
@@ -115,7 +116,6 @@ impl Cursors {
         let home = self.scope();
         self.move_to(at);
         self.push_body(id, table.body(id).len(), home);
-        self.guesses.keep(table.name(id), id);
     }
 
     // The scope of the innermost text.

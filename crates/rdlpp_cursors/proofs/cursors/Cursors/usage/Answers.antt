@@ -3,7 +3,7 @@ use Rattle.std.proofs.lemmas.Bool.{leb-true, leb-false}
 use Rattle.rdlpp_cursors.specs.Places.{texts_of}
 use Rattle.rdlpp_cursors.specs.declared.step.CursorStep.TheVariants.{Silent, Refused}
 use Rattle.rdlpp_cursors.proofs.Passing.{IsPassed}
-use Rattle.rdlpp_cursors.proofs.Usages.{fault-deep, open-wordless, has-list, no-list, pass-deep, pass-opened, pass-refused, placed-silent, placed-word, placed-wordless, usage-place}
+use Rattle.rdlpp_cursors.proofs.Usages.{entered-same, fault-deep, full-same, open-wordless, has-list, no-list, pass-deep, pass-opened, pass-refused, pass-same, placed-silent, placed-word, placed-wordless, usage-place}
 use Rattle.rdlpp_cursors.proofs.Words.{word-named, word-none}
 use Rattle.rdlpp_cursors.proofs.cursors.Cursors.usage.Goals as goal
 
@@ -18,8 +18,9 @@ pub word_of-word-requires-clause-some : goal.word_of-word-requires-clause-some
 word_of-word-requires-clause-some c = (usage-place _ _ _ _ c.requires.sound c.requires.look c.requires.front).some
 
 refused : (c : goal.After-word_of-word)
-    → IsPassed (texts_of c.args.table.now.macros c.args.arguments.now) c.args.self.now c.args.self.now (Refused (record { kind = c.in-Err.kind; word = c.word_of-word.result }))
-refused c = pass-refused _ _ c.args.look.now c.args.len _ _ c.requires.sound c.requires.look c.requires.front c.word_of-word.ensures c.in-Err.ensures.used
+    → IsPassed (texts_of c.args.table.now.macros c.args.arguments.now) c.args.self.now c.used_macro.new.self (Refused (record { kind = c.in-Err.kind; word = c.word_of-word.result }))
+refused c =
+    pass-same _ _ _ _ c.used_macro.ensures.same (pass-refused _ _ c.args.look.now c.args.len _ _ c.requires.sound c.requires.look c.requires.front c.word_of-word.ensures c.in-Err.ensures.used)
 
 pub returns-in-Err-clause-step : goal.returns-in-Err-clause-step
 returns-in-Err-clause-step c = (refused c).is_step
@@ -33,10 +34,10 @@ returns-in-Err-clause-refused c = (refused c).refused
 pub call-requires-clause-list : goal.call-requires-clause-list
 call-requires-clause-list c = has-list _ _ _ c.arity.ensures c.is_some.ensures c.if-is_some.true
 
-deep : (c : goal.After-wordless) → IsPassed (texts_of c.args.table.now.macros c.args.arguments.now) c.args.self.now c.args.self.now c.wordless.result
+deep : (c : goal.After-wordless) → IsPassed (texts_of c.args.table.now.macros c.args.arguments.now) c.args.self.now c.used_macro.new.self c.wordless.result
 deep c =
-    pass-deep _ _ c.args.look.now c.args.len c.in-Ok.id _ c.requires.sound c.requires.look c.requires.front c.in-Ok.ensures.used
-    (no-list _ _ _ c.arity.ensures c.is_some.ensures c.if-is_some.false) (leb-true _ _ (sym c.is_full.ensures ∙ c.if-is_full.true)) c.wordless.ensures
+    pass-same _ _ _ _ c.used_macro.ensures.same (pass-deep _ _ c.args.look.now c.args.len c.in-Ok.id _ c.requires.sound c.requires.look c.requires.front c.in-Ok.ensures.used
+    (no-list _ _ _ c.arity.ensures c.is_some.ensures c.if-is_some.false) (leb-true _ _ (sym (full-same _ _ _ c.used_macro.ensures.same c.is_full.ensures) ∙ c.if-is_full.true)) c.wordless.ensures)
 
 pub returns-then-is_full-clause-step : goal.returns-then-is_full-clause-step
 returns-then-is_full-clause-step c = (deep c).is_step
@@ -57,7 +58,8 @@ overflow_add-look c =
 opened : (c : goal.After-enter) → IsPassed (texts_of c.args.table.now.macros c.args.arguments.now) c.args.self.now c.enter.new.self Silent
 opened c =
     pass-opened _ _ _ _ c.args.look.now c.args.len c.in-Ok.id _ c.len-macros.ensures.sound c.requires.sound c.requires.look c.requires.front c.in-Ok.ensures.used
-    (no-list _ _ _ c.arity.ensures c.is_some.ensures c.if-is_some.false) (leb-false _ _ (sym c.is_full.ensures ∙ c.if-is_full.false)) refl c.enter.ensures
+    (no-list _ _ _ c.arity.ensures c.is_some.ensures c.if-is_some.false) (leb-false _ _ (sym (full-same _ _ _ c.used_macro.ensures.same c.is_full.ensures) ∙ c.if-is_full.false)) refl
+    (entered-same _ _ _ _ _ _ c.used_macro.ensures.same c.enter.ensures)
 
 pub returns-clause-step : goal.returns-clause-step
 returns-clause-step c = (opened c).is_step
