@@ -169,6 +169,7 @@ pub record IsOn (texts : Texts) (view mid : CursorsView) (look next : Look) : Ty
   pub looks : IsLook texts mid.opens next
   pub some : 0 < length mid.opens
   pub end : next.end ≡ look.end
+  pub source : next.source ≡ look.source
   pub runs : is_run look.front ≡ true
       → IsPassed texts view mid (Lends (record { source = look.source; from = look.from; end = next.from }))
       × IsPlacedStep texts (Lends (record { source = look.source; from = look.from; end = next.from }))
@@ -186,6 +187,7 @@ on-same texts view mid look next h l some none e is =
       looks = subst (λ (v : CursorsView). IsLook texts v.opens next) (sym same) (subst (λ (k : Look). IsLook texts view.opens k) (sym e) l);
       some = subst (λ (v : CursorsView). 0 < length v.opens) (sym same) some;
       end = ap (λ (k : Look). k.end) e;
+      source = ap (λ (k : Look). k.source) e;
       runs = λ r. absurd (true≢false (sym r ∙ none));
       stays = λ r. same;
       front = λ r. ap (λ (k : Look). is_run k.front) e ∙ r;
@@ -209,6 +211,7 @@ on-run texts view mid look next n h l b some f e is =
       looks = subst (λ (k : Look). IsLook texts mid.opens k) (sym e) (look-next texts view mid look n (look.from + n) b f refl on);
       some = open-run view mid next.from some is;
       end = ap (λ (k : Look). k.end) e;
+      source = ap (λ (k : Look). k.source) e;
       runs = λ r. (p, placed-run texts view.opens look n next.from h l f from);
       stays = λ r. absurd (true≢false (sym run ∙ r));
       front = λ r. absurd (true≢false (sym run ∙ r));

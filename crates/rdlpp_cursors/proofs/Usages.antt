@@ -532,12 +532,22 @@ word-inside texts opens look len word h l e is =
       inside = omega (arith, inside, within);
     })
 
--- its bytes are the name
-pub word-is : (texts : Texts) (opens : List Open) (look : Look) (len : ℕ) (word : TextPlace) (name : List ℕ) → AreSound texts opens → IsLook texts opens look
-    → look.front ≡ front.Usage len → word ≡ record { source = look.source; from = look.from + 1; end = look.from + len } → name ≡ place_bytes texts word
-    → name ≡ front_name texts opens len
-word-is texts opens look len word name h l e is bytes =
-    bytes ∙ ap (λ (w : TextPlace). place_bytes texts w) is ∙ usage-word texts opens look len (look.from + 1) (look.from + len) h l e refl refl
+-- the name of a usage lies in its text
+pub name-inside : (texts : Texts) (opens : List Open) (look : Look) (len : ℕ) (text : List ℕ) → AreSound texts opens → IsLook texts opens look → look.front ≡ front.Usage len
+    → text ≡ source_text texts look.source → (look.from + 1 ≤ look.from + len) × (look.from + len ≤ length text)
+name-inside texts opens look len text h l e is =
+    let place = usage-place texts opens look len h l e in
+    let some = place.some in
+    let inside = place.inside in
+    let within : look.end ≤ length text = subst (λ (t : List ℕ). look.end ≤ length t) (sym is) place.within in
+    (omega (arith, some), omega (arith, inside, within))
+
+-- and is what stands there
+pub name-is : (texts : Texts) (opens : List Open) (look : Look) (len : ℕ) (text : List ℕ) → AreSound texts opens → IsLook texts opens look → look.front ≡ front.Usage len
+    → text ≡ source_text texts look.source → slice_range text (look.from + 1) (look.from + len) ≡ front_name texts opens len
+unfolding place_bytes
+name-is texts opens look len text h l e is =
+    ap (λ (t : List ℕ). slice_range t (look.from + 1) (look.from + len)) is ∙ usage-word texts opens look len (look.from + 1) (look.from + len) h l e refl refl
 
 -- a name that a table hasn't is refused
 pub unknown-given : (texts : Texts) (opens : List Open) (name given : List ℕ) (kind : FaultKind) → given ≡ name → macro_named texts.macros given ≡ None

@@ -49,25 +49,42 @@ pub(crate) struct Look {
     pub(crate) behind: Front,
 }
 
+// A look at the innermost open text, with the bytes of the text in which that lies.
+#[derive(Clone, Copy, Drop)]
+pub(crate) struct Sight<'a> {
+    pub(crate) look: Look,
+    pub(crate) text: &'a [u8],
+}
+
 // A look at open texts, which lie in slots, the innermost first.
-pub(crate) fn look_at(slots: &[Slot], bindings: &[Range], table: &Table, arguments: &[u8]) -> Look
+pub(crate) fn look_at<'a>(
+    slots: &[Slot],
+    bindings: &[Range],
+    table: &'a Table,
+    arguments: &'a [u8],
+) -> Sight<'a>
     requires some { 0 < length slots.now }
     requires sound { AreSound (texts_of table.now.macros arguments.now) (opens_of slots.now bindings.now) }
-    ensures look { IsLook (texts_of table.now.macros arguments.now) (opens_of slots.now bindings.now) result }
-    ensures behind { IsLookBehind (texts_of table.now.macros arguments.now) (opens_of slots.now bindings.now) result }
-    ensures short { result.end < 2 ^ 64 }
+    ensures look { IsLook (texts_of table.now.macros arguments.now) (opens_of slots.now bindings.now) result.look }
+    ensures behind { IsLookBehind (texts_of table.now.macros arguments.now) (opens_of slots.now bindings.now) result.look }
+    ensures short { result.look.end < 2 ^ 64 }
+    ensures text { result.text.now ≡ source_text (texts_of table.now.macros arguments.now) result.look.source }
 {
     let _bound = bindings.len();
     let slot = &slots[0];
     let (from, end) = (slot.from, slot.end);
     let source = front_source(slots);
-    let fronts = front_of(table, arguments, &source, from, end);
-    Look {
-        source,
-        from,
-        end,
-        front: fronts.first,
-        behind: fronts.behind,
+    let text = text_of(table, arguments, source);
+    let fronts = front_of(table, arguments, text, &source, from, end);
+    Sight {
+        look: Look {
+            source,
+            from,
+            end,
+            front: fronts.first,
+            behind: fronts.behind,
+        },
+        text,
     }
 }
 
@@ -97,15 +114,17 @@ pub(crate) fn behind_run(look: &Look) -> Look
     }
 }
 
-// What stands at the front of a range of a text.
+// What stands at the front of a range of a text, whose bytes are given.
 pub(crate) fn front_of(
     table: &Table,
     arguments: &[u8],
+    text: &[u8],
     source: &TextSource,
     from: usize,
     end: usize,
 ) -> Fronts
     requires source { IsSource (texts_of table.now.macros arguments.now) source.now }
+    requires text { text.now ≡ source_text (texts_of table.now.macros arguments.now) source.now }
     requires inside { end ≤ length (source_text (texts_of table.now.macros arguments.now) source.now) }
     ensures { AreFronts (source_formals (texts_of table.now.macros arguments.now) source.now) (slice_range (source_text (texts_of table.now.macros arguments.now) source.now) from end) result }
 {
@@ -118,7 +137,6 @@ pub(crate) fn front_of(
     if let TextSource::Body(id) = *source {
         return stop_front(table.stop(id, from, end), from, end);
     }
-    let text = text_of(table, arguments, *source);
     plain_front(&text[from..end])
 }
 

@@ -1,19 +1,19 @@
 // Usages of macros with a list in an open text.
-ghost use Rattle.std.specs.Prelude.{[], IfErr, IfOk, is_some, length, slice_range, true, ◌<◌, ◌≡◌, ◌≤◌};
+ghost use Rattle.std.specs.Prelude.{[], IfErr, IfOk, is_some, length, slice_range, true, ◌<◌, ◌≡◌, ◌≤◌, ◌^◌};
 ghost use Rattle.rdlpp_table.specs.View.{macro_at};
 ghost use Rattle.rdlpp_meaning.specs.Substitution.{body_tokens};
 ghost use Rattle.rdlpp_calls.specs.BoundCalls.{KeepsAll};
 ghost use Rattle.rdlpp_cursors.specs.Calls.{IsCallFault, IsCallMiscounted, IsCallStarted, IsOpening};
 ghost use Rattle.rdlpp_cursors.specs.Digits.{IsFalling};
 ghost use Rattle.rdlpp_cursors.specs.Fronts.{IsLook};
-ghost use Rattle.rdlpp_cursors.specs.Places.{texts_of};
+ghost use Rattle.rdlpp_cursors.specs.Places.{source_text, texts_of};
 ghost use Rattle.rdlpp_cursors.specs.Steps.{AreSound, IsStep, IsUnlent, KeepsOpen, StaysRefused, IsPlacedStep, NamesWord};
 ghost use Rattle.rdlpp_cursors.specs.Usages.{front_name, IsTextFault, IsUsed};
 
 use crate::cursors::Cursors;
 use crate::cursors::usage::word_of;
 use crate::front::{Front, Look};
-use crate::scopes::{body_bounds, text_of};
+use crate::scopes::body_bounds;
 use crate::slot::{Slot, SlotKind};
 use crate::step::{CursorFault, CursorStep, wordless};
 use rdlpp_calls::{bind_call, bind_parts, keeps_each};
@@ -80,6 +80,7 @@ impl Cursors {
         &mut self,
         table: &Table,
         arguments: &[u8],
+        text: &[u8],
         look: &Look,
         len: usize,
         id: MacroId,
@@ -87,6 +88,8 @@ impl Cursors {
         requires some { 0 < length self.old.opens }
         requires sound { AreSound (texts_of table.now.macros arguments.now) self.old.opens }
         requires look { IsLook (texts_of table.now.macros arguments.now) self.old.opens look.now }
+        requires text { text.now ≡ source_text (texts_of table.now.macros arguments.now) look.now.source }
+        requires short { look.now.end < 2 ^ 64 }
         requires front { look.now.front ≡ Front.Usage len }
         requires used { IsUsed (texts_of table.now.macros arguments.now) self.old.opens (front_name (texts_of table.now.macros arguments.now) self.old.opens len) id }
         requires list { is_some (macro_at table.now.macros id).formals ≡ true }
@@ -104,7 +107,6 @@ impl Cursors {
     {
         let _macros = table.len();
         let home = self.scope();
-        let text = text_of(table, arguments, look.source);
         let at = look.from + len;
         match self.open_bound(table, text, at, look.end, id, home) {
             Opening::Opened => CursorStep::Silent,

@@ -16,7 +16,7 @@ ghost use Rattle.rdlpp_cursors.specs.Usages.{front_name, is_text_fault, unknown_
 use crate::cursors::Cursors;
 use crate::front::{Front, Look};
 use crate::place::TextPlace;
-use crate::scopes::{front_scope, is_written_in, text_at};
+use crate::scopes::{front_scope, is_written_in};
 use crate::step::{CursorFault, CursorStep, wordless};
 use rdlpp_meaning::FaultKind;
 use rdlpp_scan::reserved;
@@ -29,12 +29,14 @@ impl Cursors {
         &mut self,
         table: &Table,
         arguments: &[u8],
+        text: &[u8],
         look: &Look,
         len: usize,
     ) -> CursorStep
         requires some { 0 < length self.old.opens }
         requires sound { AreSound (texts_of table.now.macros arguments.now) self.old.opens }
         requires look { IsLook (texts_of table.now.macros arguments.now) self.old.opens look.now }
+        requires text { text.now ≡ source_text (texts_of table.now.macros arguments.now) look.now.source }
         requires short { look.now.end < 2 ^ 64 }
         requires front { look.now.front ≡ Front.Usage len }
         ensures step { IsStep self.old.line self.old.depth (texts_of table.now.macros arguments.now) self.old.opens result self.new.opens }
@@ -50,7 +52,7 @@ impl Cursors {
         ensures word { NamesWord (texts_of table.now.macros arguments.now) result }
     {
         let _macros = table.len();
-        let id = match self.used_macro(table, arguments, look, len) {
+        let id = match self.used_macro(table, arguments, text, look, len) {
             Ok(id) => id,
             Err(kind) => {
                 let word = word_of(look, len);
@@ -58,7 +60,7 @@ impl Cursors {
             }
         };
         if table.arity(id).is_some() {
-            return self.call(table, arguments, look, len, id);
+            return self.call(table, arguments, text, look, len, id);
         }
         if self.is_full() {
             return wordless(FaultKind::DepthPassed);
@@ -72,20 +74,21 @@ impl Cursors {
         &mut self,
         table: &Table,
         arguments: &[u8],
+        text: &[u8],
         look: &Look,
         len: usize,
     ) -> Result<MacroId, FaultKind>
         requires some { 0 < length self.old.opens }
         requires sound { AreSound (texts_of table.now.macros arguments.now) self.old.opens }
         requires look { IsLook (texts_of table.now.macros arguments.now) self.old.opens look.now }
+        requires text { text.now ≡ source_text (texts_of table.now.macros arguments.now) look.now.source }
         requires short { look.now.end < 2 ^ 64 }
         requires front { look.now.front ≡ Front.Usage len }
         ensures same { self.new ≡ self.old }
         ensures fault { IfErr result (λ kind. is_text_fault kind ≡ true) }
         ensures used { MatchResult result (λ id. IsUsed (texts_of table.now.macros arguments.now) self.old.opens (front_name (texts_of table.now.macros arguments.now) self.old.opens len) id) (λ kind. IsRefused (texts_of table.now.macros arguments.now) self.old.opens (front_name (texts_of table.now.macros arguments.now) self.old.opens len) kind) }
     {
-        let word = word_of(look, len);
-        let name = text_at(table, arguments, word);
+        let name = &text[look.from + 1..look.from + len];
         let Some(id) = self.guesses.find(table, name) else {
             return Err(unknown_kind(name));
         };

@@ -19,4 +19,4 @@ returns-in-Body c =
 pub returns : goal.returns
 returns c =
     plain-source (texts_of c.args.table.now.macros c.args.arguments.now) c.args.source.now _ c.plain_front.result (λ id. c.in_default.not-Body id)
-    (subst (λ (bytes : List ℕ). AreFronts [] (slice_range bytes c.args.from c.args.end) c.plain_front.result) c.text_of-text.ensures c.plain_front.ensures)
+    (subst (λ (bytes : List ℕ). AreFronts [] (slice_range bytes c.args.from c.args.end) c.plain_front.result) c.requires.text c.plain_front.ensures)

@@ -3,6 +3,11 @@ use Rattle.rdlpp_cursors.proofs.Looking.{look-is, look-known}
 use Rattle.std.proofs.Common.{refl}
 use Rattle.rdlpp_cursors.proofs.front.look_at.Goals as goal
 
+pub text_of-text-requires : goal.text_of-text-requires
+text_of-text-requires c =
+    (look-known (texts_of c.args.table.now.macros c.args.arguments.now) c.args.slots.now c.args.bindings.now _ _ c.requires.some c.index-slots-0.is c.requires.sound
+    (c.front_source-source.ensures c.args.bindings.now)).0
+
 pub front_of-fronts-requires-clause-source : goal.front_of-fronts-requires-clause-source
 front_of-fronts-requires-clause-source c =
     (look-known (texts_of c.args.table.now.macros c.args.arguments.now) c.args.slots.now c.args.bindings.now _ _ c.requires.some c.index-slots-0.is c.requires.sound
