@@ -69,7 +69,7 @@ pub record IsCallPlace (texts : Texts) (x : Open) (below : List Open) (len : ℕ
 
 -- by a look
 call-place : (texts : Texts) (x : Open) (below : List Open) (look : Look) (len : ℕ) (text : List ℕ) (at : ℕ) → AreSound texts (x ∷ below) → IsLook texts (x ∷ below) look
-    → look.front ≡ front.Usage len → text ≡ source_text texts look.source → at ≡ look.from + len
+    → look.front ≡ front.Usage len → text ≡ source_text texts look.source → at ≡ look.at + len
     → IsCallPlace texts x below len text at look.end
 unfolding IsLook IsFront open_bytes
 call-place texts x below look len text at h l e is k =
@@ -288,7 +288,7 @@ pub record IsCallInside (look : Look) (text : List ℕ) (at : ℕ) : Type 0 wher
 
 -- it stands so, by a look
 pub look-call : (texts : Texts) (opens : List Open) (look : Look) (len : ℕ) (text : List ℕ) (at : ℕ) → AreSound texts opens → IsLook texts opens look → look.front ≡ front.Usage len
-    → text ≡ source_text texts look.source → at ≡ look.from + len → IsCallInside look text at
+    → text ≡ source_text texts look.source → at ≡ look.at + len → IsCallInside look text at
 unfolding IsLook
 look-call texts opens look len text at h l e is k =
     let place = usage-place texts opens look len h l e in
@@ -312,17 +312,17 @@ pub record IsListUsed (texts : Texts) (opens : List Open) (look : Look) (len id 
   pub used : IsUsed texts opens (front_name texts opens len) id
   pub list : is_some (macro_at texts.macros id).formals ≡ true
   pub text_is : text ≡ source_text texts look.source
-  pub at_is : at ≡ look.from + len
+  pub at_is : at ≡ look.at + len
 
 -- that there is one
 pub list-used : (texts : Texts) (opens : List Open) (look : Look) (len id : ℕ) (text : List ℕ) (at : ℕ) → AreSound texts opens → IsLook texts opens look → look.front ≡ front.Usage len
-    → IsUsed texts opens (front_name texts opens len) id → is_some (macro_at texts.macros id).formals ≡ true → text ≡ source_text texts look.source → at ≡ look.from + len
+    → IsUsed texts opens (front_name texts opens len) id → is_some (macro_at texts.macros id).formals ≡ true → text ≡ source_text texts look.source → at ≡ look.at + len
     → IsListUsed texts opens look len id text at
 list-used texts opens look len id text at h l e used list is k = record { sound = h; look_is = l; front_is = e; used = used; list = list; text_is = is; at_is = k }
 
 -- a call that is refused, by a look
 look-call_refused : (line depth : ℕ) (texts : Texts) (opens : List Open) (look : Look) (len id : ℕ) (text : List ℕ) (at from : ℕ) (kind : FaultKind)
-    → IsListUsed texts opens look len id text at → from ≡ look.from + 1
+    → IsListUsed texts opens look len id text at → from ≡ look.at + 1
     → IsBoundCall text at look.end (length (formals_of (macro_at texts.macros id))) [] (Err kind)
     → IsStep line depth texts opens (Refused (record { kind = kind; word = record { source = look.source; from = from; end = at } })) opens
 unfolding IsLook
@@ -361,14 +361,14 @@ look-call_opened line depth table arguments (x ∷ below) look len id text at c 
 -- a call that is refused
 pub pass-call_refused : (texts : Texts) (view new : CursorsView) (look : Look) (len id home : ℕ) (text : List ℕ) (at : ℕ) (kind : FaultKind) (o : Opening) (word : TextPlace)
     → IsListUsed texts view.opens look len id text at → o ≡ opening.Refused kind → IsOpening texts.macros text at look.end id home view o new
-    → word ≡ record { source = look.source; from = look.from + 1; end = at }
+    → word ≡ record { source = look.source; from = look.at + 1; end = at }
     → IsPassed texts view new (Refused (record { kind = kind; word = word }))
 unfolding IsOpening IsFalling StaysRefused
 pass-call_refused texts view new look len id home text at kind o word h e b w =
     let both = subst (λ (r : Opening). IsOpening texts.macros text at look.end id home view r new) e b in
     subst (λ (v : CursorsView). IsPassed texts view v (Refused (record { kind = kind; word = word }))) (sym both.0) (record {
       is_step = subst (λ (p : TextPlace). IsStep view.line view.depth texts view.opens (Refused (record { kind = kind; word = p })) view.opens) (sym w)
-          (look-call_refused view.line view.depth texts view.opens look len id text at (look.from + 1) kind h refl both.1);
+          (look-call_refused view.line view.depth texts view.opens look len id text at (look.at + 1) kind h refl both.1);
       sound = h.sound;
       kept = (refl, refl);
       digits = tt;

@@ -9,7 +9,7 @@ use Rattle.rdlpp_cursors.specs.declared.front.Front.{Front}
 use Rattle.rdlpp_cursors.specs.declared.front.Front.TheVariants as front
 use Rattle.rdlpp_cursors.specs.declared.front.Look.{Look}
 use Rattle.rdlpp_cursors.specs.Digits.{open_digit, cursor_digits, AreFalling}
-use Rattle.rdlpp_cursors.specs.Fronts.{IsFront, IsLook}
+use Rattle.rdlpp_cursors.specs.Fronts.{AreCopied, IsFront, IsLook, IsLookAhead}
 use Rattle.rdlpp_cursors.specs.Opened.{moved_to}
 use Rattle.rdlpp_cursors.specs.Places.{source_formals}
 use Rattle.rdlpp_cursors.specs.Scopes.{front_source}
@@ -64,18 +64,25 @@ unfolding IsLook
 falls-drop texts [] look l = absurd l
 falls-drop texts (x ∷ below) look l = falls-closed x below
 
--- the innermost open text goes on at a place further on in it, by a look
-pub look-moves : (texts : Texts) (opens : List Open) (look : Look) (at : ℕ) → IsLook texts opens look → look.from < at → at ≤ look.end
-    → AreFalling (cursor_digits opens) (cursor_digits (moved_to at opens))
-unfolding IsLook moved_to
-look-moves texts [] look at l more inside = absurd l
-look-moves texts (x ∷ below) look at l more inside =
-    let from = l.1 in
-    let end = l.2 in
-    falls-moved x _ below (digit-less x.part.from at x.part.end (omega (arith, from, more)) (omega (arith, end, inside)))
+-- so many bytes of an open text end in it
+pub run-ends : (texts : Texts) (x : Open) (below : List Open) (n : ℕ) → 0 < n → n ≤ length (open_bytes texts x below) → x.part.from + n ≤ x.part.end
+unfolding open_bytes
+run-ends texts x below n some inside =
+    let size = length-take (x.part.end - x.part.from) (drop x.part.from (text_around texts x.kind x.home below)) in
+    omega (arith, size, some, inside)
 
--- and another one is opened
-pub look-opens : (texts : Texts) (opens : List Open) (look : Look) (at : ℕ) (new : Open) → IsLook texts opens look → look.from < at → at ≤ look.end
+-- the innermost open text goes on behind what is copied, by a look
+pub look-moves : (texts : Texts) (opens : List Open) (look : Look) → IsLookAhead texts opens look → look.from < look.at
+    → AreFalling (cursor_digits opens) (cursor_digits (moved_to look.at opens))
+unfolding IsLookAhead AreCopied moved_to
+look-moves texts [] look l more = absurd l
+look-moves texts (x ∷ below) look l more =
+    let from = l.1 in
+    let ends = run-ends texts x below (look.at - look.from) (omega (arith, more)) l.3.0 in
+    falls-moved x _ below (digit-less x.part.from look.at x.part.end (omega (arith, from, more)) (omega (arith, from, more, ends)))
+
+-- it goes on at a place further on in it, and another one is opened
+pub look-opens : (texts : Texts) (opens : List Open) (look : Look) (at : ℕ) (new : Open) → IsLook texts opens look → look.at < at → at ≤ look.end
     → AreFalling (cursor_digits opens) (cursor_digits (new ∷ moved_to at opens))
 unfolding IsLook moved_to
 look-opens texts [] look at new l more inside = absurd l
@@ -97,7 +104,7 @@ token-inside texts x below len some e =
 
 -- the name of a formal at the front ends in its text
 pub formal-inside : (texts : Texts) (opens : List Open) (look : Look) (len place : ℕ) → IsLook texts opens look → look.front ≡ front.Formal len place
-    → (look.from < look.from + len) × (look.from + len ≤ look.end)
+    → (look.at < look.at + len) × (look.at + len ≤ look.end)
 unfolding IsLook IsFront
 formal-inside texts [] look len place l e = absurd l
 formal-inside texts (x ∷ below) look len place l e =
@@ -111,7 +118,7 @@ formal-inside texts (x ∷ below) look len place l e =
 
 -- so does a usage
 pub usage-inside : (texts : Texts) (opens : List Open) (look : Look) (len : ℕ) → IsLook texts opens look → look.front ≡ front.Usage len
-    → (look.from < look.from + len) × (look.from + len ≤ look.end)
+    → (look.at < look.at + len) × (look.at + len ≤ look.end)
 unfolding IsLook IsFront
 usage-inside texts [] look len l e = absurd l
 usage-inside texts (x ∷ below) look len l e =

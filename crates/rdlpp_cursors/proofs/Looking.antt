@@ -3,15 +3,12 @@ use Rattle.std.proofs.Common.{◌≡◌, ℕ, suc, ◌+◌, ◌-◌, ◌<◌, �
 use Rattle.std.specs.Prelude.{if◌then◌else◌, ◌==◌, slice_range}
 use Rattle.rdlpp_scan.specs.declared.token.Mode.TheVariants.{Plain}
 use Rattle.rdlpp_meaning.specs.Opens.{OpenKind, OpenBody, OpenActual, OpenDefault, Open, Texts, text_around, open_behind, open_bytes}
-use Rattle.rdlpp_table.specs.Table.{Formal}
-use Rattle.rdlpp_cursors.specs.declared.front.Front.{Front}
 use Rattle.rdlpp_cursors.specs.declared.front.Look.{Look}
 use Rattle.rdlpp_cursors.specs.declared.place.TextSource.{TextSource}
 use Rattle.rdlpp_calls.specs.declared.bindings.Range.{Range}
 use Rattle.rdlpp_cursors.specs.declared.slot.Slot.{Slot}
-use Rattle.rdlpp_cursors.specs.Fronts.{AreFronts, IsFront, IsLook, IsLookBehind}
-use Rattle.rdlpp_cursors.specs.declared.front.Front.TheVariants as front
-use Rattle.rdlpp_cursors.specs.declared.front.Fronts.{Fronts}
+use Rattle.rdlpp_cursors.specs.Fronts.{AreCopied, IsAhead, IsFront, IsLook, IsLookAhead}
+use Rattle.rdlpp_cursors.specs.declared.front.Ahead.{Ahead}
 use Rattle.rdlpp_cursors.specs.Opened.{bindings_below, moved_to, open_of, opens_of}
 use Rattle.rdlpp_cursors.specs.Places.{source_text, source_formals, IsSource}
 use Rattle.rdlpp_cursors.specs.Scopes.{scope_open, kind_source, found_source, own_source, front_source}
@@ -62,35 +59,37 @@ same-range [] other from end h e =
     ap (λ (n : ℕ). take n (drop from other)) none ∙ sym (ap (λ (n : ℕ). take n (drop from [])) none)
 same-range (b ∷ bs) other from end h e = ap (λ (t : List ℕ). slice_range t from end) (e (omega arith))
 
--- what stands at the front of the range in its text stands at the front of the open text
-pub look-front : (texts : Texts) (x : Open) (below : List Open) (source : TextSource) (f : Fronts) → AreInside texts (x ∷ below) → source ≡ front_source (x ∷ below)
-    → AreFronts (source_formals texts source) (slice_range (source_text texts source) x.part.from x.part.end) f
-    → AreFronts (source_formals texts (front_source (x ∷ below))) (open_bytes texts x below) f
+-- what stands ahead in the range in its text stands ahead in the open text
+pub look-front : (texts : Texts) (x : Open) (below : List Open) (source : TextSource) (f : Ahead) → AreInside texts (x ∷ below) → source ≡ front_source (x ∷ below)
+    → IsAhead (source_formals texts source) (slice_range (source_text texts source) x.part.from x.part.end) x.part.from f
+    → IsAhead (source_formals texts (front_source (x ∷ below))) (open_bytes texts x below) x.part.from f
 unfolding open_bytes
 look-front texts x below source f h e is =
-    subst (λ (bytes : List ℕ). AreFronts (source_formals texts (front_source (x ∷ below))) bytes f)
+    subst (λ (bytes : List ℕ). IsAhead (source_formals texts (front_source (x ∷ below))) bytes x.part.from f)
     (same-range (text_around texts x.kind x.home below) (source_text texts (front_source (x ∷ below))) x.part.from x.part.end (h.1).0 (source-around texts x below))
-    (subst (λ (s : TextSource). AreFronts (source_formals texts s) (slice_range (source_text texts s) x.part.from x.part.end) f) e is)
+    (subst (λ (s : TextSource). IsAhead (source_formals texts s) (slice_range (source_text texts s) x.part.from x.part.end) x.part.from f) e is)
 
--- so many bytes that are copied stand in the text
-run-inside : (formals : List Formal) (text : List ℕ) (f : Front) (n : ℕ) → IsFront formals text f → f ≡ front.Run n → n ≤ length text
-unfolding IsFront
-run-inside formals text f n h e = (subst (λ (g : Front). IsFront formals text g) e h).1
-
--- what stands behind a run is what a look tells of the open texts of which the innermost goes on there
-look-behind : (texts : Texts) (x : Open) (below : List Open) (look : Look) → look.source ≡ front_source (x ∷ below) → look.from ≡ x.part.from → look.end ≡ x.part.end
-    → AreFronts (source_formals texts (front_source (x ∷ below))) (open_bytes texts x below) (record { first = look.front; behind = look.behind })
-    → IsLookBehind texts (x ∷ below) look
-unfolding AreFronts IsLookBehind IsLook moved_to front_source open_behind
-look-behind texts x below look source from end f n e =
+-- what stands behind what is copied is what a look tells of the open texts of which the innermost goes on there
+look-ahead : (texts : Texts) (x : Open) (below : List Open) (look : Look) → look.source ≡ front_source (x ∷ below) → look.from ≡ x.part.from → look.end ≡ x.part.end
+    → IsAhead (source_formals texts (front_source (x ∷ below))) (open_bytes texts x below) x.part.from (record { at = look.at; front = look.front })
+    → IsLookAhead texts (x ∷ below) look
+unfolding IsAhead AreCopied IsLookAhead IsLook moved_to front_source open_behind
+look-ahead texts x below look source from end f =
     let formals = source_formals texts (front_source (x ∷ below)) in
-    let inside = run-inside formals (open_bytes texts x below) look.front n f.0 e in (
+    let order = f.0 in
+    let back : x.part.from + (look.at - x.part.from) ≡ look.at = omega (arith, order) in (
       source,
-      refl,
-      end,
-      subst (λ (bytes : List ℕ). IsFront formals bytes look.behind)
-          (sym (bytes-behind texts x below n Plain inside) ∙ ap (λ (k : ℕ). open_bytes texts (record { part = record { from = k + n; end = x.part.end; mode = Plain }; home = x.home; kind = x.kind }) below) (sym from))
-          (f.1 n e),
+      from,
+      omega (arith, from, order),
+      subst (λ (k : ℕ). AreCopied formals (open_bytes texts x below) (look.at - k)) (sym from) f.1,
+      (
+        source,
+        refl,
+        end,
+        subst (λ (bytes : List ℕ). IsFront formals bytes look.front)
+            (sym (bytes-behind texts x below (look.at - x.part.from) Plain f.1.0) ∙ ap (λ (k : ℕ). open_bytes texts (record { part = record { from = k; end = x.part.end; mode = Plain }; home = x.home; kind = x.kind }) below) back)
+            f.2,
+      ),
     )
 
 -- slots from a place on, of which one is read
@@ -105,22 +104,20 @@ inner-is [] bindings own some e = absurd (omega (arith, some))
 inner-is (y ∷ ys) bindings own some e =
     record { rest = ys; is = ap (λ (z : Slot). open_of z bindings ∷ opens_of ys (bindings_below z.kind bindings)) (sym e) }
 
--- a look at them tells that, and what stands behind a run
+-- a look at them tells that
 pub look-is : (texts : Texts) (slots : List Slot) (bindings : List Range) (own : Slot) (look : Look) → 0 < length slots → own ≡ get_or slots 0 own
     → AreSound texts (opens_of slots bindings)
     → look.source ≡ front_source (opens_of slots bindings) → look.from ≡ own.from → look.end ≡ own.end
-    → AreFronts (source_formals texts look.source) (slice_range (source_text texts look.source) own.from own.end) (record { first = look.front; behind = look.behind })
-    → IsLook texts (opens_of slots bindings) look × IsLookBehind texts (opens_of slots bindings) look
-unfolding IsLook AreFronts
+    → IsAhead (source_formals texts look.source) (slice_range (source_text texts look.source) own.from own.end) own.from (record { at = look.at; front = look.front })
+    → IsLookAhead texts (opens_of slots bindings) look
 look-is texts slots bindings own look some e sound source from end f =
     let inner = inner-is slots bindings own some e in
     let x = open_of own bindings in
     let below = opens_of inner.rest (bindings_below own.kind bindings) in
     let s : AreSound texts (x ∷ below) = subst (λ (o : List Open). AreSound texts o) inner.is sound in
     let at : look.source ≡ front_source (x ∷ below) = source ∙ ap (λ (o : List Open). front_source o) inner.is in
-    let fronts = look-front texts x below look.source (record { first = look.front; behind = look.behind }) s.are_inside at f in
-    subst (λ (o : List Open). IsLook texts o look × IsLookBehind texts o look) (sym inner.is)
-    ((at, from, end, fronts.0), look-behind texts x below look at from end fronts)
+    subst (λ (o : List Open). IsLookAhead texts o look) (sym inner.is)
+    (look-ahead texts x below look at from end (look-front texts x below look.source (record { at = look.at; front = look.front }) s.are_inside at f))
 
 -- where they lie there is a text
 pub look-known : (texts : Texts) (slots : List Slot) (bindings : List Range) (own : Slot) (source : TextSource) → 0 < length slots → own ≡ get_or slots 0 own

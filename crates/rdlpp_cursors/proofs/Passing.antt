@@ -20,7 +20,7 @@ use Rattle.rdlpp_cursors.specs.declared.place.TextSource.TheVariants.{Arguments}
 use Rattle.rdlpp_cursors.specs.declared.step.CursorFault.{CursorFault}
 use Rattle.rdlpp_cursors.specs.declared.step.CursorStep.{CursorStep}
 use Rattle.rdlpp_cursors.specs.declared.step.CursorStep.TheVariants.{Lends, Silent, Refused}
-use Rattle.rdlpp_cursors.specs.Fronts.{IsFront, IsLook, IsLookBehind}
+use Rattle.rdlpp_cursors.specs.Fronts.{AreCopied, IsFront, IsLook, IsLookAhead}
 use Rattle.rdlpp_cursors.specs.Opened.{moved_to, CursorsView}
 use Rattle.rdlpp_cursors.specs.Places.{texts_of, place_bytes, source_text, source_formals}
 use Rattle.rdlpp_cursors.specs.Scopes.{front_source}
@@ -30,7 +30,7 @@ use Rattle.rdlpp_cursors.proofs.Falling.{falls-drop, falls-twice, look-moves}
 use Rattle.rdlpp_cursors.proofs.Keeping.{body-keeps, run-sound}
 use Rattle.rdlpp_cursors.proofs.Moving.{goes-bytes, goes-on, goes-reaches}
 use Rattle.rdlpp_cursors.proofs.Scoping.{source-around}
-use Rattle.rdlpp_cursors.proofs.Stepping.{step-run, step-bare, look-ended, look-inside}
+use Rattle.rdlpp_cursors.proofs.Stepping.{step-run, step-bare, look-ended}
 
 -- the first bytes of a range of a text are those of a range of another one, which is the same if it has a byte
 pub same-front : (text other : List ℕ) (from end n : ℕ) → 0 < n → n ≤ length (slice_range text from end) → (0 < length text → other ≡ text)
@@ -45,33 +45,34 @@ same-front text other from end n some inside e =
     ∙ ap (λ (t : List ℕ). take n (drop from t)) (sym (e byte))
     ∙ ap (λ (k : ℕ). take k (drop from other)) back
 
--- a run is lent
-pub look-run : (line depth : ℕ) (texts : Texts) (opens : List Open) (look : Look) (n end : ℕ) → AreSound texts opens → IsLook texts opens look → look.front ≡ front.Run n
-    → end ≡ look.from + n
-    → IsStep line depth texts opens (Lends (record { source = look.source; from = look.from; end = end })) (moved_to end opens)
-unfolding IsLook IsFront open_bytes place_bytes
-look-run line depth texts [] look n end h l e k = absurd l
-look-run line depth texts (x ∷ below) look n end h l e k =
-    let f = subst (λ (f : Front). IsFront (source_formals texts (front_source (x ∷ below))) (open_bytes texts x below) f) e l.3 in
+-- what is copied is lent
+pub look-run : (line depth : ℕ) (texts : Texts) (opens : List Open) (look : Look) → AreSound texts opens → IsLookAhead texts opens look → look.from < look.at
+    → IsStep line depth texts opens (Lends (record { source = look.source; from = look.from; end = look.at })) (moved_to look.at opens)
+unfolding IsLookAhead AreCopied open_bytes place_bytes
+look-run line depth texts [] look h l more = absurd l
+look-run line depth texts (x ∷ below) look h l more =
+    let n = look.at - look.from in
+    let from = l.1 in
+    let some : 0 < n = omega (arith, more) in
     let place : TextPlace = record { source = front_source (x ∷ below); from = x.part.from; end = x.part.from + n } in
     let step : IsStep line depth texts (x ∷ below) (Lends place) (moved_to (x.part.from + n) (x ∷ below)) =
-    step-run line depth texts x below n place h f
-    (same-front (text_around texts x.kind x.home below) (source_text texts (front_source (x ∷ below))) x.part.from x.part.end n f.0 f.1 (source-around texts x below)) in
-    let at : end ≡ x.part.from + n = k ∙ ap (λ (m : ℕ). m + n) l.1 in
-    subst (λ (s : TextSource). IsStep line depth texts (x ∷ below) (Lends (record { source = s; from = look.from; end = end })) (moved_to end (x ∷ below))) (sym l.0)
-    (subst (λ (m : ℕ). IsStep line depth texts (x ∷ below) (Lends (record { source = front_source (x ∷ below); from = m; end = end })) (moved_to end (x ∷ below))) (sym l.1)
+    step-run line depth texts x below n place h some l.3
+    (same-front (text_around texts x.kind x.home below) (source_text texts (front_source (x ∷ below))) x.part.from x.part.end n some l.3.0 (source-around texts x below)) in
+    let at : look.at ≡ x.part.from + n = omega (arith, from, more) in
+    subst (λ (s : TextSource). IsStep line depth texts (x ∷ below) (Lends (record { source = s; from = look.from; end = look.at })) (moved_to look.at (x ∷ below))) (sym l.0)
+    (subst (λ (m : ℕ). IsStep line depth texts (x ∷ below) (Lends (record { source = front_source (x ∷ below); from = m; end = look.at })) (moved_to look.at (x ∷ below))) (sym l.1)
     (subst (λ (m : ℕ). IsStep line depth texts (x ∷ below) (Lends (record { source = front_source (x ∷ below); from = x.part.from; end = m })) (moved_to m (x ∷ below))) (sym at) step))
 
--- behind a run the open texts are sound
-pub look-passed : (texts : Texts) (opens : List Open) (look : Look) (n end : ℕ) → AreSound texts opens → IsLook texts opens look → look.front ≡ front.Run n → end ≡ look.from + n
-    → AreSound texts (moved_to end opens)
-unfolding IsLook IsFront
-look-passed texts [] look n end h l e k = absurd l
-look-passed texts (x ∷ below) look n end h l e k =
-    let f = subst (λ (f : Front). IsFront (source_formals texts (front_source (x ∷ below))) (open_bytes texts x below) f) e l.3 in
-    let at : end ≡ x.part.from + n = k ∙ ap (λ (m : ℕ). m + n) l.1 in
+-- behind what is copied the open texts are sound
+pub look-passed : (texts : Texts) (opens : List Open) (look : Look) → AreSound texts opens → IsLookAhead texts opens look → AreSound texts (moved_to look.at opens)
+unfolding IsLookAhead AreCopied
+look-passed texts [] look h l = absurd l
+look-passed texts (x ∷ below) look h l =
+    let from = l.1 in
+    let order = l.2 in
+    let at : look.at ≡ x.part.from + (look.at - look.from) = omega (arith, from, order) in
     subst (λ (m : ℕ). AreSound texts (moved_to m (x ∷ below))) (sym at)
-    (run-sound texts (source_formals texts (front_source (x ∷ below))) x below n h f.1 f.2)
+    (run-sound texts (source_formals texts (front_source (x ∷ below))) x below (look.at - look.from) h l.3.0 l.3.1)
 
 -- a lone backquote is a fault
 pub look-bare : (line depth : ℕ) (texts : Texts) (opens new : List Open) (look : Look) (fault : CursorFault) → AreSound texts opens → IsLook texts opens look → look.front ≡ front.Bare
@@ -135,27 +136,17 @@ pass-ended texts view new look h l e is =
       refused = tt;
     })
 
--- a run has a byte
-run-some : (texts : Texts) (opens : List Open) (look : Look) (n : ℕ) → IsLook texts opens look → look.front ≡ front.Run n → 0 < n
-unfolding IsLook IsFront
-run-some texts [] look n l e = absurd l
-run-some texts (x ∷ below) look n l e =
-    (subst (λ (f : Front). IsFront (source_formals texts (front_source (x ∷ below))) (open_bytes texts x below) f) e l.3).0
-
--- a run is lent
-pub pass-run : (texts : Texts) (view new : CursorsView) (look : Look) (n end : ℕ) → AreSound texts view.opens → IsLook texts view.opens look → look.front ≡ front.Run n
-    → end ≡ look.from + n
-    → new ≡ record { opens = moved_to end view.opens; line = view.line; depth = view.depth }
-    → IsPassed texts view new (Lends (record { source = look.source; from = look.from; end = end }))
+-- what is copied is lent
+pub pass-run : (texts : Texts) (view new : CursorsView) (look : Look) → AreSound texts view.opens → IsLookAhead texts view.opens look → look.from < look.at
+    → new ≡ record { opens = moved_to look.at view.opens; line = view.line; depth = view.depth }
+    → IsPassed texts view new (Lends (record { source = look.source; from = look.from; end = look.at }))
 unfolding IsFalling StaysRefused
-pass-run texts view new look n end h l e k is =
-    let some = run-some texts view.opens look n l e in
-    let inside = look-inside texts view.opens look n l e in
-    subst (λ (v : CursorsView). IsPassed texts view v (Lends (record { source = look.source; from = look.from; end = end }))) (sym is) (record {
-      is_step = look-run view.line view.depth texts view.opens look n end h l e k;
-      sound = look-passed texts view.opens look n end h l e k;
+pass-run texts view new look h l more is =
+    subst (λ (v : CursorsView). IsPassed texts view v (Lends (record { source = look.source; from = look.from; end = look.at }))) (sym is) (record {
+      is_step = look-run view.line view.depth texts view.opens look h l more;
+      sound = look-passed texts view.opens look h l;
       kept = (refl, refl);
-      digits = look-moves texts view.opens look end l (omega (arith, some, k)) (omega (arith, inside, k));
+      digits = look-moves texts view.opens look l more;
       refused = tt;
     })
 
@@ -196,12 +187,3 @@ unfolding StaysRefused
 pass-behind texts view mid new place (Lends other) p q none = absurd none
 pass-behind texts view mid new place Silent p q none = pass-on texts view mid new place p q
 pass-behind texts view mid new place (Refused fault) p q none = subst (λ (v : CursorsView). IsPassed texts view v (Lends place)) (sym q.refused) p
-
--- what stands behind a run is what a look at the open texts tells that have gone on behind it
-pub look-next : (texts : Texts) (view mid : CursorsView) (look : Look) (n end : ℕ) → IsLookBehind texts view.opens look → look.front ≡ front.Run n → end ≡ look.from + n
-    → mid ≡ record { opens = moved_to end view.opens; line = view.line; depth = view.depth }
-    → IsLook texts mid.opens (record { source = look.source; from = end; end = look.end; front = look.behind; behind = front.Ended })
-unfolding IsLookBehind
-look-next texts view mid look n end h e k is =
-    subst (λ (v : CursorsView). IsLook texts v.opens (record { source = look.source; from = end; end = look.end; front = look.behind; behind = front.Ended })) (sym is)
-    (subst (λ (m : ℕ). IsLook texts (moved_to m view.opens) (record { source = look.source; from = m; end = look.end; front = look.behind; behind = front.Ended })) (sym k) (h n e))

@@ -241,7 +241,7 @@ no-body new t = by new.kind t
 pub formal-sound : (table : TableView) (texts : Texts) (opens : List Open) (look : Look) (len place : ℕ) (slot : Slot) → IsSound table → texts.macros ≡ table.macros
     → AreSound texts opens → IsLook texts opens look → look.front ≡ front.Formal len place
     → found_standing texts.macros (scope_open opens (front_scope opens)) (front_scope opens) place ≡ Some (open_of slot [])
-    → AreSound texts (open_of slot [] ∷ moved_to (look.from + len) opens)
+    → AreSound texts (open_of slot [] ∷ moved_to (look.at + len) opens)
 unfolding IsLook IsFront
 formal-sound table texts [] look len place slot sound e h l f is = absurd l
 formal-sound table texts (x ∷ below) look len place slot sound e h l f is =
@@ -263,7 +263,7 @@ formal-text table texts opens look len place new sound e h l f is =
 formal-step : (line depth : ℕ) (texts : Texts) (opens : List Open) (look : Look) (len place : ℕ) (slot : Slot) → AreSound texts opens → IsLook texts opens look
     → look.front ≡ front.Formal len place
     → found_standing texts.macros (scope_open opens (front_scope opens)) (front_scope opens) place ≡ Some (open_of slot [])
-    → length opens < depth → IsStep line depth texts opens Silent (open_of slot [] ∷ moved_to (look.from + len) opens)
+    → length opens < depth → IsStep line depth texts opens Silent (open_of slot [] ∷ moved_to (look.at + len) opens)
 unfolding IsLook front_scope
 formal-step line depth texts [] look len place slot h l f is room = absurd l
 formal-step line depth texts (x ∷ below) look len place slot h l f is room =
@@ -302,7 +302,7 @@ room-moved view mid at room e = moved-room view mid at e (leb-false view.depth (
 pub pass-formal : (table : TableView) (texts : Texts) (view mid new : CursorsView) (look : Look) (len place at : ℕ) (slot : Slot) → IsSound table → texts.macros ≡ table.macros
     → AreSound texts view.opens → IsLook texts view.opens look → look.front ≡ front.Formal len place
     → Some (open_of slot []) ≡ found_standing texts.macros (scope_open view.opens (front_scope view.opens)) (front_scope view.opens) place
-    → nat_le view.depth (length view.opens) ≡ false → at ≡ look.from + len
+    → nat_le view.depth (length view.opens) ≡ false → at ≡ look.at + len
     → mid ≡ record { opens = moved_to at view.opens; line = view.line; depth = view.depth }
     → new ≡ record { opens = open_of slot [] ∷ mid.opens; line = mid.line; depth = mid.depth }
     → IsPassed texts view new Silent
@@ -315,7 +315,7 @@ pass-formal table texts view mid new look len place at slot sound same h l f is 
       is_step = formal-step view.line view.depth texts view.opens look len place slot h l f (sym is) (leb-false view.depth (length view.opens) room);
       sound = formal-sound table texts view.opens look len place slot sound same h l f (sym is);
       kept = (refl, refl);
-      digits = look-opens texts view.opens look (look.from + len) (open_of slot []) l inside.0 inside.1;
+      digits = look-opens texts view.opens look (look.at + len) (open_of slot []) l inside.0 inside.1;
       refused = tt;
     })))
 

@@ -1,6 +1,5 @@
 -- One step of open texts, by what stands at the front of the innermost.
-use Rattle.std.proofs.Common.{◌≡◌, ℕ, ◌+◌, ◌-◌, ◌<◌, ◌≤◌, false, List, [], ◌∷◌, length, take, drop, sym, ap, subst, ◌∙◌, arith, Some}
-use Rattle.std.proofs.lemmas.List.{length-take}
+use Rattle.std.proofs.Common.{◌≡◌, ℕ, ◌+◌, ◌<◌, ◌≤◌, false, List, [], ◌∷◌, length, take, drop, sym, ap, subst, ◌∙◌, Some}
 use Rattle.rdlpp_scan.specs.declared.token.Kind.{Kind}
 use Rattle.rdlpp_scan.specs.declared.token.Kind.TheVariants.{Name, BareBackquote}
 use Rattle.rdlpp_scan.specs.declared.token.Mode.{Mode}
@@ -11,7 +10,7 @@ use Rattle.rdlpp_scan.proofs.ClosedKinds.{closed_kind_plain}
 use Rattle.rdlpp_meaning.specs.declared.fault.FaultKind.TheVariants.{BareBackquote as NoName, DepthPassed}
 use Rattle.rdlpp_meaning.specs.State.{fault_at}
 use Rattle.rdlpp_meaning.specs.Slots.{SlotStops}
-use Rattle.rdlpp_meaning.specs.Opens.{Open, Texts, text_around, open_bytes, open_behind, open_scope, open_at}
+use Rattle.rdlpp_meaning.specs.Opens.{Open, Texts, open_bytes, open_behind, open_scope, open_at}
 use Rattle.rdlpp_meaning.proofs.OpenMoves.{first_kind, first_bytes, first_behind, open-closes, open-bare, open-formal, open-formal_deep}
 use Rattle.rdlpp_cursors.specs.declared.front.Front.{Front}
 use Rattle.rdlpp_cursors.specs.declared.front.Front.TheVariants as front
@@ -19,7 +18,7 @@ use Rattle.rdlpp_cursors.specs.declared.place.TextPlace.{TextPlace}
 use Rattle.rdlpp_cursors.specs.declared.step.CursorFault.{CursorFault}
 use Rattle.rdlpp_cursors.specs.declared.step.CursorStep.TheVariants.{Lends, Silent, Refused}
 use Rattle.rdlpp_cursors.specs.declared.front.Look.{Look}
-use Rattle.rdlpp_cursors.specs.Fronts.{run_len, IsFront, IsLook}
+use Rattle.rdlpp_cursors.specs.Fronts.{run_len, AreCopied, IsFront, IsLook}
 use Rattle.rdlpp_cursors.specs.Opened.{moved_to}
 use Rattle.rdlpp_cursors.specs.Places.{place_bytes, source_formals}
 use Rattle.rdlpp_cursors.specs.Scopes.{front_source, scope_open, found_standing}
@@ -38,15 +37,15 @@ step-ended line depth texts x below h e rules s m =
 
 -- a run is lent
 pub step-run : (line depth : ℕ) (texts : Texts) (x : Open) (below : List Open) (n : ℕ) (place : TextPlace) → AreSound texts (x ∷ below)
-    → IsFront (source_formals texts (front_source (x ∷ below))) (open_bytes texts x below) (front.Run n)
+    → 0 < n → AreCopied (source_formals texts (front_source (x ∷ below))) (open_bytes texts x below) n
     → take n (open_bytes texts x below) ≡ place_bytes texts place
     → IsStep line depth texts (x ∷ below) (Lends place) (moved_to (x.part.from + n) (x ∷ below))
-unfolding IsStep StepsTo IsFront moved_to open_behind
-step-run line depth texts x below n place h f p rules s m =
+unfolding IsStep StepsTo AreCopied moved_to open_behind
+step-run line depth texts x below n place h some f p rules s m =
     let mode : x.part.mode ≡ Plain = (h.are_inside).1.1.0 in
     goes-bytes rules s line depth texts (x ∷ below) (open_behind x n Plain ∷ below) (take n (open_bytes texts x below)) (place_bytes texts place) p
     (run-goes rules s line depth texts (source_formals texts (front_source (x ∷ below))) x below n h.are_open (front-formals texts x below (h.are_open).0)
-    (ap (λ (md : Mode). run_len (source_formals texts (front_source (x ∷ below))) (tokens_from md 0 (open_bytes texts x below)) (open_bytes texts x below)) mode ∙ f.2) f.0)
+    (ap (λ (md : Mode). run_len (source_formals texts (front_source (x ∷ below))) (tokens_from md 0 (open_bytes texts x below)) (open_bytes texts x below)) mode ∙ f.1) some)
 
 -- the kind of the first token
 pub kind-first : (texts : Texts) (x : Open) (below : List Open) (kind : Kind) → x.part.mode ≡ Plain → (token_of Plain (open_bytes texts x below)).kind ≡ kind
@@ -135,16 +134,3 @@ unfolding IsLook
 look-ended line depth texts [] look h l e = absurd l
 look-ended line depth texts (x ∷ below) look h l e =
     (step-ended line depth texts x below h (subst (λ (f : Front). IsFront (source_formals texts (front_source (x ∷ below))) (open_bytes texts x below) f) e l.3), sound-tail texts x below h)
-
--- a run ends in its text
-pub look-inside : (texts : Texts) (opens : List Open) (look : Look) (n : ℕ) → IsLook texts opens look → look.front ≡ front.Run n → look.from + n ≤ look.end
-unfolding IsLook IsFront open_bytes
-look-inside texts [] look n l e = absurd l
-look-inside texts (x ∷ below) look n l e =
-    let f : (0 < n) × (n ≤ length (open_bytes texts x below)) × _ = subst (λ (f : Front). IsFront (source_formals texts (front_source (x ∷ below))) (open_bytes texts x below) f) e l.3 in
-    let size = length-take (x.part.end - x.part.from) (drop x.part.from (text_around texts x.kind x.home below)) in
-    let from = l.1 in
-    let end = l.2 in
-    let some = f.0 in
-    let inside = f.1 in
-    omega (arith, size, from, end, some, inside)

@@ -1,7 +1,6 @@
 -- The first stop of a text, and what stands at its front.
 use Rattle.std.proofs.Common.{◌≡◌, ℕ, ◌+◌, ◌-◌, ◌<◌, ◌≤◌, Bool, true, false, true≢false, List, [], ◌∷◌, length, take, drop, refl, sym, ap, subst, ◌∙◌, arith, Option, None, Some}
-use Rattle.std.specs.Prelude.{if◌then◌else◌, nat_lt, not, slice_range}
-use Rattle.std.proofs.lemmas.Bool.{ltb-true, ltb-false}
+use Rattle.std.specs.Prelude.{if◌then◌else◌, not, slice_range}
 use Rattle.std.proofs.lemmas.List.{length-drop, length-take, drop-drop, drop_all}
 use Rattle.rdlpp_scan.specs.declared.token.Kind.{Kind}
 use Rattle.rdlpp_scan.specs.declared.token.Kind.TheVariants.{Name, Back, BareBackquote}
@@ -18,8 +17,8 @@ use Rattle.rdlpp_table.specs.declared.stop.Stop.{Stop}
 use Rattle.rdlpp_table.specs.declared.stop.Stop.TheVariants as stop
 use Rattle.rdlpp_table.specs.Stops.{is_none, or_stop, stop_name, stop_at, first_stop, stop_of, stop_in}
 use Rattle.rdlpp_table.proofs.Stopping.{or_none, or_some}
-use Rattle.rdlpp_cursors.specs.Fronts.{is_back, run_len, AreFronts, IsFront}
-use Rattle.rdlpp_cursors.specs.declared.front.Fronts.{Fronts}
+use Rattle.rdlpp_cursors.specs.Fronts.{is_back, run_len, AreCopied, IsAhead, IsFront}
+use Rattle.rdlpp_cursors.specs.declared.front.Ahead.{Ahead}
 use Rattle.rdlpp_cursors.proofs.Runs.{stop-plain}
 use Rattle.rdlpp_meaning.specs.Opens.{Texts}
 use Rattle.rdlpp_cursors.specs.Places.{source_formals, source_text}
@@ -203,23 +202,6 @@ stop-behind formals at (t ∷ ts) mode text e found =
         ap (λ (k : ℕ). first_stop formals k (tokens_from Plain 0 text) text) place
         ∙ ap (λ (us : List Token). first_stop formals at us text) (ap (λ (x : Mode). tokens_from x 0 text) (sym m) ∙ e)
 
--- a front that is no run
-unfoldable pub IsNoRun : Front → Type 0
-IsNoRun f = (n : ℕ) → f ≡ front.Run n → ⊥
-
--- the name of a formal, a usage and a lone backquote are none
-pub formal-none : (len place : ℕ) → IsNoRun (front.Formal len place)
-unfolding IsNoRun
-formal-none len place n e = cc
-
-pub usage-none : (len : ℕ) → IsNoRun (front.Usage len)
-unfolding IsNoRun
-usage-none len n e = cc
-
-pub bare-none : IsNoRun front.Bare
-unfolding IsNoRun
-bare-none n e = cc
-
 -- a stop that stands at a place isn't none
 place-some : (s : Stop) (at : ℕ) → stop_place s ≡ Some at → is_none s ≡ false
 unfolding is_none
@@ -272,29 +254,6 @@ run-behind formals text n e =
         let own = tells.0 in
         omega (arith, own)
 
--- no stop: all of the text is a run
-pub front-whole : (formals : List Formal) (from end : ℕ) (text : List ℕ) → from < end → from + length text ≡ end → stop.None ≡ stop_of formals from text
-    → IsFront formals text (front.Run (end - from))
-unfolding stop_of IsFront PlaceTells
-front-whole formals from end text h e s =
-    let tells : run_len formals (tokens_from Plain 0 text) text ≡ length text =
-    subst (λ (o : Stop). PlaceTells from (run_len formals (tokens_from Plain 0 text) text) (length text) (stop_place o)) (sym s)
-    (stops-at formals from (tokens_from Plain 0 text) Plain text refl) in
-    (omega (arith, h), omega (arith, e), omega (arith, tells, e))
-
--- a stop further on: what stands before it is a run
-pub front-run : (formals : List Formal) (from at : ℕ) (text : List ℕ) (s : Stop) → s ≡ stop_of formals from text → stop_place s ≡ Some at → from < at
-    → IsFront formals text (front.Run (at - from))
-unfolding stop_of IsFront PlaceTells
-front-run formals from at text s e p h =
-    let n = run_len formals (tokens_from Plain 0 text) text in
-    let tells : (at ≡ from + n) × (n < length text) =
-    subst (λ (o : Option ℕ). PlaceTells from n (length text) o) (ap (λ (o : Stop). stop_place o) (sym e) ∙ p)
-    (stops-at formals from (tokens_from Plain 0 text) Plain text refl) in
-    let a = tells.0 in
-    let b = tells.1 in
-    (omega (arith, h), omega (arith, a, b), omega (arith, a))
-
 -- a stop at the front: its token
 pub stop-front : (formals : List Formal) (from at : ℕ) (text : List ℕ) (s : Stop) → s ≡ stop_of formals from text → stop_place s ≡ Some at → at ≤ from
     → (0 < length text) × (stop_at formals from (token_of Plain text) (take (token_of Plain text).len text) ≡ s)
@@ -338,70 +297,37 @@ front-bare formals from at text e h =
     let t = token_of Plain text in
     (s.0, bare-by formals from t.len t.next_mode t.kind (take t.len text) at s.1)
 
--- where no run stands in front, what stands there is none
-pub plain-none : (text : List ℕ) (f : Front) → run_len [] (tokens_from Plain 0 text) text ≡ 0 → IsFront [] text f → IsNoRun f
-unfolding IsFront IsNoRun
-plain-none text f e h n is =
-    let run = subst (λ (g : Front). IsFront [] text g) is h in
-    let some = run.0 in
-    let len = run.2 in
-    absurd (omega (arith, some, len, e))
+-- what stands before a stop is copied
+pub ahead-stop : (formals : List Formal) (from at : ℕ) (text : List ℕ) (s : Stop) (own : Front) → s ≡ stop_of formals from text → stop_place s ≡ Some at
+    → ((from : ℕ) (text : List ℕ) → s ≡ stop_of formals from text → at ≤ from → IsFront formals text own)
+    → IsAhead formals text from (record { at = at; front = own })
+unfolding stop_of AreCopied IsAhead PlaceTells
+ahead-stop formals from at text s own e p h =
+    let n = run_len formals (tokens_from Plain 0 text) text in
+    let tells : (at ≡ from + n) × (n < length text) =
+    subst (λ (o : Option ℕ). PlaceTells from n (length text) o) (ap (λ (o : Stop). stop_place o) (sym e) ∙ p)
+    (stops-at formals from (tokens_from Plain 0 text) Plain text refl) in
+    let a = tells.0 in
+    let b = tells.1 in
+    (omega (arith, a), (omega (arith, a, b), omega (arith, a)), h at (drop (at - from) text) (stop-moved formals from at text s e p) (omega arith))
 
--- what stands at a stop, and before it
-pub fronts-ahead : (formals : List Formal) (from at : ℕ) (text : List ℕ) (own : Front) (result : Fronts)
-    → (from < at → IsFront formals text (front.Run (at - from))) → (at ≤ from → IsFront formals text own) → (from < at → IsFront formals (drop (at - from) text) own)
-    → IsNoRun own
-    → result ≡ (if nat_lt from at then record { first = front.Run (at - from); behind = own } else record { first = own; behind = front.Ended })
-    → AreFronts formals text result
-unfolding AreFronts IsNoRun
-fronts-ahead formals from at text own result before here behind none r = subst (λ (f : Fronts). AreFronts formals text f) (sym r) (by (nat_lt from at) refl)
-  where
-    by : (less : Bool) → nat_lt from at ≡ less
-        → AreFronts formals text (if less then record { first = front.Run (at - from); behind = own } else record { first = own; behind = front.Ended })
-    by true l = (before (ltb-true from at l), λ n e. subst (λ (k : ℕ). IsFront formals (drop k text) own) (run-same (at - from) n e) (behind (ltb-true from at l)))
-      where
-        run-same : (m n : ℕ) → front.Run m ≡ front.Run n → m ≡ n
-        run-same m n e = cc
-    by false l = (here (ltb-false from at l), λ n e. absurd (none n e))
-
--- what stands at a stop, or before it
-pub fronts-stop : (formals : List Formal) (from at : ℕ) (text : List ℕ) (s : Stop) (own : Front) (result : Fronts) → s ≡ stop_of formals from text → stop_place s ≡ Some at
-    → ((from : ℕ) (text : List ℕ) → s ≡ stop_of formals from text → at ≤ from → IsFront formals text own) → IsNoRun own
-    → result ≡ (if nat_lt from at then record { first = front.Run (at - from); behind = own } else record { first = own; behind = front.Ended })
-    → AreFronts formals text result
-fronts-stop formals from at text s own result e p h none r =
-    fronts-ahead formals from at text own result
-    (λ l. front-run formals from at text s e p l)
-    (λ l. h from text e l)
-    (λ l. h at (drop (at - from) text) (stop-moved formals from at text s e p) (omega arith))
-    none r
-
--- no stop: all of the text is a run
-pub fronts-whole : (formals : List Formal) (from end : ℕ) (text : List ℕ) (result : Fronts) → from < end → from + length text ≡ end → stop.None ≡ stop_of formals from text
-    → result ≡ (if nat_lt from end then record { first = front.Run (end - from); behind = front.Ended } else record { first = front.Ended; behind = front.Ended })
-    → AreFronts formals text result
-unfolding IsFront IsNoRun
-fronts-whole formals from end text result h e s r =
-    fronts-ahead formals from end text front.Ended result
-    (λ l. front-whole formals from end text h e s)
-    (λ l. absurd (omega (arith, h, l)))
-    (λ l. drop_all (end - from) text (omega (arith, e)))
-    (λ n q. cc)
-    r
+-- no stop: all of the text is copied
+pub ahead-whole : (formals : List Formal) (from end : ℕ) (text : List ℕ) → from + length text ≡ end → stop.None ≡ stop_of formals from text
+    → IsAhead formals text from (record { at = end; front = front.Ended })
+unfolding stop_of AreCopied IsAhead IsFront PlaceTells
+ahead-whole formals from end text e s =
+    let tells : run_len formals (tokens_from Plain 0 text) text ≡ length text =
+    subst (λ (o : Stop). PlaceTells from (run_len formals (tokens_from Plain 0 text) text) (length text) (stop_place o)) (sym s)
+    (stops-at formals from (tokens_from Plain 0 text) Plain text refl) in
+    (omega (arith, e), (omega (arith, e), omega (arith, tells, e)), drop_all (end - from) text (omega (arith, e)))
 
 -- the run of a text without formals, and what stands behind it
-pub fronts-plain : (text : List ℕ) (n : ℕ) (own : Front) (result : Fronts) → n ≡ run_len [] (tokens_from Plain 0 text) text → n ≤ length text
-    → IsFront [] (drop n text) own → IsNoRun own
-    → result ≡ (if nat_lt 0 n then record { first = front.Run (n - 0); behind = own } else record { first = own; behind = front.Ended })
-    → AreFronts [] text result
-unfolding IsFront
-fronts-plain text n own result e inside f none r =
-    let same : n - 0 ≡ n = omega arith in
-    fronts-ahead [] 0 n text own result
-    (λ l. (omega (arith, l), omega (arith, inside), sym e ∙ sym same))
-    (λ l. let zero : n ≡ 0 = omega (arith, l) in subst (λ (k : ℕ). IsFront [] (drop k text) own) zero f)
-    (λ l. subst (λ (k : ℕ). IsFront [] (drop k text) own) (sym same) f)
-    none r
+pub ahead-plain : (text : List ℕ) (n from : ℕ) (own : Front) → n ≡ run_len [] (tokens_from Plain 0 text) text → n ≤ length text
+    → IsFront [] (drop n text) own → IsAhead [] text from (record { at = from + n; front = own })
+unfolding AreCopied IsAhead
+ahead-plain text n from own e inside f =
+    let same : from + n - from ≡ n = omega arith in
+    (omega arith, (omega (arith, inside), sym e ∙ sym same), subst (λ (k : ℕ). IsFront [] (drop k text) own) (sym same) f)
 
 -- the run in front of a text without formals, where so many of its bytes are passed and the rest is read in a mode
 pub record IsRunning (text : List ℕ) (mode : Mode) (at : ℕ) : Type 0 where
@@ -508,36 +434,38 @@ front-plain text t some e is =
         absurd (omega (arith, step, positive, e))
 
 -- a text that isn't a body has no formals
-pub plain-source : (texts : Texts) (source : TextSource) (text : List ℕ) (f : Fronts) → ((id : ℕ) → source ≡ place_of.Body id → ⊥) → AreFronts [] text f
-    → AreFronts (source_formals texts source) text f
+pub plain-source : (texts : Texts) (source : TextSource) (text : List ℕ) (from : ℕ) (f : Ahead) → ((id : ℕ) → source ≡ place_of.Body id → ⊥) → IsAhead [] text from f
+    → IsAhead (source_formals texts source) text from f
 unfolding source_formals
-plain-source texts place_of.Arguments text f other h = h
-plain-source texts (place_of.Body id) text f other h = absurd (other id refl)
-plain-source texts (place_of.Default id place) text f other h = h
+plain-source texts place_of.Arguments text from f other h = h
+plain-source texts (place_of.Body id) text from f other h = absurd (other id refl)
+plain-source texts (place_of.Default id place) text from f other h = h
 
 -- a range of a text that has no byte
-pub fronts-ended : (formals : List Formal) (text : List ℕ) (from end : ℕ) → end ≤ from → AreFronts formals (slice_range text from end) (record { first = front.Ended; behind = front.Ended })
-unfolding AreFronts IsFront
-fronts-ended formals text from end h =
+pub ahead-ended : (formals : List Formal) (text : List ℕ) (from end : ℕ) → end ≤ from → IsAhead formals (slice_range text from end) from (record { at = from; front = front.Ended })
+unfolding AreCopied IsAhead IsFront
+ahead-ended formals text from end h =
     let e : end - from ≡ 0 = omega (arith, h) in
-    (ap (λ (n : ℕ). take n (drop from text)) e, λ n r. absurd (no-run n r))
+    let none : take (end - from) (drop from text) ≡ [] = ap (λ (n : ℕ). take n (drop from text)) e in
+    subst (λ (bytes : List ℕ). IsAhead formals bytes from (record { at = from; front = front.Ended })) (sym none) (ended formals from (from - from) (omega arith) refl)
   where
-    no-run : (n : ℕ) → front.Ended ≡ front.Run n → ⊥
-    no-run n r = cc
+    ended : (formals : List Formal) (from n : ℕ) → n ≡ 0 → from - from ≡ n → IsAhead formals [] from (record { at = from; front = front.Ended })
+    ended formals from n zero same =
+        (omega arith, (omega (arith, zero, same), run-empty formals [] refl ∙ sym (same ∙ zero)), drop_all (from - from) [] (omega arith))
 
--- the front of a range of a body, by its first stop
-pub fronts-body : (texts : Texts) (source : TextSource) (id from end : ℕ) (s : Stop) (f : Fronts) → source ≡ place_of.Body id → from < end
+-- what stands ahead in a range of a body, by its first stop
+pub ahead-body : (texts : Texts) (source : TextSource) (id from end : ℕ) (s : Stop) (f : Ahead) → source ≡ place_of.Body id → from < end
     → end ≤ length (source_text texts source) → s ≡ stop_in (macro_at texts.macros id) from end
-    → ((formals : List Formal) (text : List ℕ) → from + length text ≡ end → s ≡ stop_of formals from text → AreFronts formals text f)
-    → AreFronts (source_formals texts source) (slice_range (source_text texts source) from end) f
+    → ((formals : List Formal) (from : ℕ) (text : List ℕ) → from + length text ≡ end → s ≡ stop_of formals from text → IsAhead formals text from f)
+    → IsAhead (source_formals texts source) (slice_range (source_text texts source) from end) from f
 unfolding source_formals source_text stop_in
-fronts-body texts source id from end s f e h inside is each =
+ahead-body texts source id from end s f e h inside is each =
     let body = (macro_at texts.macros id).body in
     let within : end ≤ length body = subst (λ (x : TextSource). end ≤ length (source_text texts x)) e inside in
     let size = length-take (end - from) (drop from body) in
     let rest = length-drop from body in
-    subst (λ (x : TextSource). AreFronts (source_formals texts x) (slice_range (source_text texts x) from end) f) (sym e)
-    (each (formals_of (macro_at texts.macros id)) (slice_range body from end) (omega (arith, h, within, size, rest)) is)
+    subst (λ (x : TextSource). IsAhead (source_formals texts x) (slice_range (source_text texts x) from end) from f) (sym e)
+    (each (formals_of (macro_at texts.macros id)) from (slice_range body from end) (omega (arith, h, within, size, rest)) is)
 
 -- a range of a body lies in it
 pub body-inside : (texts : Texts) (source : TextSource) (id end : ℕ) → source ≡ place_of.Body id → end ≤ length (source_text texts source)

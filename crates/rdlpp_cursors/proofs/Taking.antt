@@ -1,5 +1,5 @@
 -- Steps of open texts that lend nothing, and what holds behind a run that is lent.
-use Rattle.std.proofs.Common.{◌≡◌, ℕ, ◌+◌, ◌-◌, ◌<◌, ◌≤◌, Bool, true, false, List, [], ◌∷◌, length, take, drop, refl, sym, ap, subst, ◌∙◌, arith}
+use Rattle.std.proofs.Common.{◌≡◌, ℕ, ◌-◌, ◌<◌, ◌≤◌, Bool, true, false, List, [], ◌∷◌, length, take, drop, refl, sym, ap, subst, ◌∙◌, arith}
 use Rattle.std.specs.Prelude.{nat_le}
 use Rattle.std.proofs.lemmas.Bool.{true≢false, le-leb, leb-true}
 use Rattle.std.proofs.lemmas.List.{length-take, length-drop}
@@ -14,7 +14,7 @@ use Rattle.rdlpp_cursors.specs.declared.place.TextPlace.{TextPlace}
 use Rattle.rdlpp_cursors.specs.declared.step.CursorStep.{CursorStep}
 use Rattle.rdlpp_cursors.specs.declared.step.CursorStep.TheVariants.{Lends, Silent, Refused}
 use Rattle.rdlpp_cursors.specs.Digits.{cursor_digits, IsFalling}
-use Rattle.rdlpp_cursors.specs.Fronts.{behind_run, is_run, IsFront, IsLook, IsLookBehind}
+use Rattle.rdlpp_cursors.specs.Fronts.{IsFront, IsLook, IsLookAhead}
 use Rattle.rdlpp_cursors.specs.Opened.{is_spent, moved_to, CursorsView}
 use Rattle.rdlpp_cursors.specs.Places.{source_formals}
 use Rattle.rdlpp_cursors.specs.Scopes.{front_source}
@@ -23,7 +23,7 @@ use Rattle.rdlpp_cursors.specs.Taking.{is_idle, IsTaken}
 use Rattle.rdlpp_cursors.specs.Usages.{IsTextFault}
 use Rattle.rdlpp_cursors.proofs.Falling.{falls-twice}
 use Rattle.rdlpp_cursors.proofs.Moving.{goes-on, goes-reaches}
-use Rattle.rdlpp_cursors.proofs.Passing.{look-next, pass-behind, pass-ended, pass-run, IsPassed}
+use Rattle.rdlpp_cursors.proofs.Passing.{look-passed, pass-behind, pass-ended, pass-run, IsPassed}
 use Rattle.rdlpp_cursors.proofs.Usages.{open-run, placed-run}
 
 -- what such a step has left
@@ -65,7 +65,7 @@ no-bytes texts x below e =
 
 -- a look at it
 spent-look : (texts : Texts) (x : Open) (below : List Open) → nat_le x.part.end x.part.from ≡ true
-    → IsLook texts (x ∷ below) (record { source = front_source (x ∷ below); from = x.part.from; end = x.part.end; front = front.Ended; behind = front.Ended })
+    → IsLook texts (x ∷ below) (record { source = front_source (x ∷ below); from = x.part.from; end = x.part.end; at = x.part.from; front = front.Ended })
 unfolding IsLook IsFront
 spent-look texts x below e = (refl, refl, refl, no-bytes texts x below e)
 
@@ -115,13 +115,7 @@ ended-spent texts (x ∷ below) look h l e =
     by : (end from : ℕ) → end ≤ from → nat_le end from ≡ true
     by end from less = le-leb end from less
 
--- nothing is done at another run, since a run that is looked at first is lent
-pub idle-run : (lent : Bool) (count n : ℕ) (f : Front) → f ≡ front.Run n → (lent ≡ false → is_run f ≡ false) → is_idle lent count f ≡ true
-unfolding is_idle is_run
-idle-run true count n f e fresh = ap (λ (g : Front). is_idle true count g) e
-idle-run false count n f e fresh = absurd (true≢false (sym (ap is_run e) ∙ fresh refl))
-
--- nor where the last text has ended
+-- nothing is done where the last text has ended, behind a run that is lent
 pub idle-last : (lent : Bool) (count : ℕ) (f : Front) → f ≡ front.Ended → lent ≡ true → nat_le count 1 ≡ true → is_idle lent count f ≡ true
 unfolding is_idle
 idle-last true count f e l last = ap (λ (g : Front). is_idle true count g) e ∙ last
@@ -152,118 +146,77 @@ idle-bare true count f e = ap (λ (g : Front). is_idle true count g) e
 idle-bare false count f e = refl
 
 -- open texts that go on where they do are the same
-pub moved-same : (texts : Texts) (view mid : CursorsView) (look : Look) → AreSound texts view.opens → IsLook texts view.opens look
-    → mid ≡ record { opens = moved_to look.from view.opens; line = view.line; depth = view.depth } → mid ≡ view
-unfolding moved_to IsLook
-moved-same texts view mid look h l is = is ∙ ap (λ (opens : List Open). record { opens = opens; line = view.line; depth = view.depth }) (by view.opens h l)
+moved-same : (texts : Texts) (view mid : CursorsView) (look : Look) → AreSound texts view.opens → IsLookAhead texts view.opens look → look.at ≤ look.from
+    → mid ≡ record { opens = moved_to look.at view.opens; line = view.line; depth = view.depth } → mid ≡ view
+unfolding moved_to IsLookAhead
+moved-same texts view mid look h l less is = is ∙ ap (λ (opens : List Open). record { opens = opens; line = view.line; depth = view.depth }) (by view.opens h l)
   where
-    by : (opens : List Open) → AreSound texts opens → IsLook texts opens look → moved_to look.from opens ≡ opens
+    by : (opens : List Open) → AreSound texts opens → IsLookAhead texts opens look → moved_to look.at opens ≡ opens
     by [] h l = refl
     by (x ∷ below) h l =
-        ap (λ (from : ℕ). record { part = record { from = from; end = x.part.end; mode = Plain }; home = x.home; kind = x.kind } ∷ below) l.1
+        let from = l.1 in
+        let order = l.2 in
+        let at : look.at ≡ x.part.from = omega (arith, from, order, less) in
+        ap (λ (from : ℕ). record { part = record { from = from; end = x.part.end; mode = Plain }; home = x.home; kind = x.kind } ∷ below) at
         ∙ ap (λ (mode : Mode). record { part = record { from = x.part.from; end = x.part.end; mode = mode }; home = x.home; kind = x.kind } ∷ below) (sym (h.are_inside).1.1.0)
 
--- what holds of open texts where a run at their front, if one stands there, is passed
-pub record IsOn (texts : Texts) (view mid : CursorsView) (look next : Look) : Type 0 where
+-- what a look tells of the open texts that go on behind what is copied
+look-behind : (texts : Texts) (opens : List Open) (look : Look) → IsLookAhead texts opens look → IsLook texts (moved_to look.at opens) look
+unfolding IsLookAhead
+look-behind texts [] look l = absurd l
+look-behind texts (x ∷ below) look l = l.4
+
+-- what holds of open texts where what is copied at their front is passed
+pub record IsOn (texts : Texts) (view mid : CursorsView) (look : Look) : Type 0 where
   pub sound : AreSound texts mid.opens
-  pub looks : IsLook texts mid.opens next
+  pub looks : IsLook texts mid.opens look
   pub some : 0 < length mid.opens
-  pub end : next.end ≡ look.end
-  pub source : next.source ≡ look.source
-  pub runs : is_run look.front ≡ true
-      → IsPassed texts view mid (Lends (record { source = look.source; from = look.from; end = next.from }))
-      × IsPlacedStep texts (Lends (record { source = look.source; from = look.from; end = next.from }))
-  pub stays : is_run look.front ≡ false → mid ≡ view
-  pub front : is_run look.front ≡ false → is_run next.front ≡ false
+  pub runs : look.from < look.at
+      → IsPassed texts view mid (Lends (record { source = look.source; from = look.from; end = look.at }))
+      × IsPlacedStep texts (Lends (record { source = look.source; from = look.from; end = look.at }))
+  pub stays : look.at ≤ look.from → mid ≡ view
 
--- where none stands there
-on-same : (texts : Texts) (view mid : CursorsView) (look next : Look) → AreSound texts view.opens → IsLook texts view.opens look → 0 < length view.opens
-    → is_run look.front ≡ false → next ≡ look → mid ≡ record { opens = moved_to next.from view.opens; line = view.line; depth = view.depth }
-    → IsOn texts view mid look next
-on-same texts view mid look next h l some none e is =
-    let same : mid ≡ view = moved-same texts view mid look h l (is ∙ ap (λ (k : Look). record { opens = moved_to k.from view.opens; line = view.line; depth = view.depth }) e) in
-    record {
-      sound = subst (λ (v : CursorsView). AreSound texts v.opens) (sym same) h;
-      looks = subst (λ (v : CursorsView). IsLook texts v.opens next) (sym same) (subst (λ (k : Look). IsLook texts view.opens k) (sym e) l);
-      some = subst (λ (v : CursorsView). 0 < length v.opens) (sym same) some;
-      end = ap (λ (k : Look). k.end) e;
-      source = ap (λ (k : Look). k.source) e;
-      runs = λ r. absurd (true≢false (sym r ∙ none));
-      stays = λ r. same;
-      front = λ r. ap (λ (k : Look). is_run k.front) e ∙ r;
-    }
-
--- where one stands there
-on-run : (texts : Texts) (view mid : CursorsView) (look next : Look) (n : ℕ) → AreSound texts view.opens → IsLook texts view.opens look
-    → IsLookBehind texts view.opens look → 0 < length view.opens → look.front ≡ front.Run n
-    → next ≡ record { source = look.source; from = look.from + n; end = look.end; front = look.behind; behind = front.Ended }
-    → mid ≡ record { opens = moved_to next.from view.opens; line = view.line; depth = view.depth }
-    → IsOn texts view mid look next
-unfolding is_run
-on-run texts view mid look next n h l b some f e is =
-    let from : next.from ≡ look.from + n = ap (λ (k : Look). k.from) e in
-    let on : mid ≡ record { opens = moved_to (look.from + n) view.opens; line = view.line; depth = view.depth } =
-    is ∙ ap (λ (k : ℕ). record { opens = moved_to k view.opens; line = view.line; depth = view.depth }) from in
-    let p = pass-run texts view mid look n next.from h l f from is in
-    let run : is_run look.front ≡ true = ap is_run f in
-    record {
-      sound = p.sound;
-      looks = subst (λ (k : Look). IsLook texts mid.opens k) (sym e) (look-next texts view mid look n (look.from + n) b f refl on);
-      some = open-run view mid next.from some is;
-      end = ap (λ (k : Look). k.end) e;
-      source = ap (λ (k : Look). k.source) e;
-      runs = λ r. (p, placed-run texts view.opens look n next.from h l f from);
-      stays = λ r. absurd (true≢false (sym run ∙ r));
-      front = λ r. absurd (true≢false (sym run ∙ r));
-    }
-
--- in both cases
-pub on-next : (texts : Texts) (view mid : CursorsView) (look next : Look) → AreSound texts view.opens → IsLook texts view.opens look → IsLookBehind texts view.opens look
-    → 0 < length view.opens → next ≡ behind_run look.front look
-    → mid ≡ record { opens = moved_to next.from view.opens; line = view.line; depth = view.depth }
-    → IsOn texts view mid look next
-unfolding is_run behind_run
-on-next texts view mid look next h l b some e is = by look.front refl e
-  where
-    by : (f : Front) → look.front ≡ f → next ≡ behind_run f look → IsOn texts view mid look next
-    by (front.Run n) f e = on-run texts view mid look next n h l b some f e is
-    by front.Ended f e = on-same texts view mid look next h l some (ap is_run f) e is
-    by (front.Formal len place) f e = on-same texts view mid look next h l some (ap is_run f) e is
-    by (front.Usage len) f e = on-same texts view mid look next h l some (ap is_run f) e is
-    by front.Bare f e = on-same texts view mid look next h l some (ap is_run f) e is
+-- so it is behind a look
+pub on-look : (texts : Texts) (view mid : CursorsView) (look : Look) → AreSound texts view.opens → IsLookAhead texts view.opens look → 0 < length view.opens
+    → mid ≡ record { opens = moved_to look.at view.opens; line = view.line; depth = view.depth } → IsOn texts view mid look
+on-look texts view mid look h l some is = record {
+  sound = subst (λ (v : CursorsView). AreSound texts v.opens) (sym is) (look-passed texts view.opens look h l);
+  looks = subst (λ (v : CursorsView). IsLook texts v.opens look) (sym is) (look-behind texts view.opens look l);
+  some = open-run view mid look.at some is;
+  runs = λ more. (pass-run texts view mid look h l more is, placed-run texts view.opens look h l more);
+  stays = λ less. moved-same texts view mid look h l less is;
+}
 
 -- a run that is lent is a step, with what is done behind it
-pub on-lent : (texts : Texts) (view mid new : CursorsView) (look next : Look) (lent : Bool) (step : CursorStep) → IsOn texts view mid look next
-    → lent ≡ is_run look.front → lent ≡ true
-    → (is_idle lent (length mid.opens) next.front ≡ false → IsTaken texts mid step new)
-    → (is_idle lent (length mid.opens) next.front ≡ true → new ≡ mid)
-    → IsPassed texts view new (Lends (record { source = look.source; from = look.from; end = next.from }))
-on-lent texts view mid new look next lent step on is hit taken idle = by (is_idle lent (length mid.opens) next.front) refl
+pub on-lent : (texts : Texts) (view mid new : CursorsView) (look : Look) (lent : Bool) (step : CursorStep) → IsOn texts view mid look → look.from < look.at
+    → (is_idle lent (length mid.opens) look.front ≡ false → IsTaken texts mid step new)
+    → (is_idle lent (length mid.opens) look.front ≡ true → new ≡ mid)
+    → IsPassed texts view new (Lends (record { source = look.source; from = look.from; end = look.at }))
+on-lent texts view mid new look lent step on more taken idle = by (is_idle lent (length mid.opens) look.front) refl
   where
     place : TextPlace
-    place = record { source = look.source; from = look.from; end = next.from }
+    place = record { source = look.source; from = look.from; end = look.at }
 
-    by : (none : Bool) → is_idle lent (length mid.opens) next.front ≡ none → IsPassed texts view new (Lends place)
-    by true e = subst (λ (v : CursorsView). IsPassed texts view v (Lends place)) (sym (idle e)) (on.runs (sym is ∙ hit)).0
+    by : (none : Bool) → is_idle lent (length mid.opens) look.front ≡ none → IsPassed texts view new (Lends place)
+    by true e = subst (λ (v : CursorsView). IsPassed texts view v (Lends place)) (sym (idle e)) (on.runs more).0
     by false e =
         let t = taken e in
-        pass-behind texts view mid new place step (on.runs (sym is ∙ hit)).0 (taken-passed texts mid new step t) t.unlent
+        pass-behind texts view mid new place step (on.runs more).0 (taken-passed texts mid new step t) t.unlent
 
 -- it is placed
-pub on-placed : (texts : Texts) (view mid : CursorsView) (look next : Look) (lent : Bool) → IsOn texts view mid look next → lent ≡ is_run look.front → lent ≡ true
-    → IsPlacedStep texts (Lends (record { source = look.source; from = look.from; end = next.from }))
-on-placed texts view mid look next lent on is hit = (on.runs (sym is ∙ hit)).1
+pub on-placed : (texts : Texts) (view mid : CursorsView) (look : Look) → IsOn texts view mid look → look.from < look.at
+    → IsPlacedStep texts (Lends (record { source = look.source; from = look.from; end = look.at }))
+on-placed texts view mid look on more = (on.runs more).1
 
 -- where no run is lent, what is opened is the step
-pub on-taken : (texts : Texts) (view mid new : CursorsView) (look next : Look) (lent : Bool) (step : CursorStep) → IsOn texts view mid look next
-    → lent ≡ is_run look.front → lent ≡ false
-    → (is_idle lent (length mid.opens) next.front ≡ false → IsTaken texts mid step new)
+pub on-taken : (texts : Texts) (view mid new : CursorsView) (look : Look) (lent : Bool) (step : CursorStep) → IsOn texts view mid look → look.at ≤ look.from → lent ≡ false
+    → (is_idle lent (length mid.opens) look.front ≡ false → IsTaken texts mid step new)
     → IsTaken texts view step new
 unfolding is_idle
-on-taken texts view mid new look next lent step on is miss taken =
-    subst (λ (v : CursorsView). IsTaken texts v step new) (on.stays (sym is ∙ miss)) (taken (by lent miss))
+on-taken texts view mid new look lent step on less miss taken =
+    subst (λ (v : CursorsView). IsTaken texts v step new) (on.stays less) (taken (by lent miss))
   where
-    by : (l : Bool) → l ≡ false → is_idle l (length mid.opens) next.front ≡ false
+    by : (l : Bool) → l ≡ false → is_idle l (length mid.opens) look.front ≡ false
     by false e = refl
     by true e = absurd (true≢false e)
 

@@ -39,13 +39,13 @@ use Rattle.rdlpp_cursors.specs.declared.step.CursorFault.{CursorFault}
 use Rattle.rdlpp_cursors.specs.declared.step.CursorStep.{CursorStep}
 use Rattle.rdlpp_cursors.specs.declared.step.CursorStep.TheVariants.{Lends, Silent, Refused}
 use Rattle.rdlpp_cursors.specs.Digits.{IsFalling}
-use Rattle.rdlpp_cursors.specs.Fronts.{IsFront, IsLook}
+use Rattle.rdlpp_cursors.specs.Fronts.{AreCopied, IsFront, IsLook, IsLookAhead}
 use Rattle.rdlpp_cursors.specs.Opened.{bindings_below, opens_of, moved_to, AreHomedSlots, CursorsView}
 use Rattle.rdlpp_cursors.specs.Places.{texts_of, place_bytes, source_text, source_formals, IsSource, IsPlaced}
 use Rattle.rdlpp_cursors.specs.Scopes.{front_scope, front_source, own_ids, writer_ids, AreFurtherOut}
 use Rattle.rdlpp_cursors.specs.Steps.{IsKnown, AreInside, AreSound, IsStep, StepsTo, StaysRefused, KeepsOpen, IsPlacedStep, wordless}
 use Rattle.rdlpp_cursors.specs.Usages.{front_name, is_text_fault, unknown_kind, IsRefused, IsTextFault, IsUsed}
-use Rattle.rdlpp_cursors.proofs.Falling.{look-opens, usage-inside as falls-inside}
+use Rattle.rdlpp_cursors.proofs.Falling.{look-opens, run-ends, usage-inside as falls-inside}
 use Rattle.rdlpp_cursors.proofs.Keeping.{body-keeps, first-sound}
 use Rattle.rdlpp_cursors.proofs.Looking.{source-known, source-inside}
 use Rattle.rdlpp_cursors.proofs.Moving.{goes-by, ends-by}
@@ -53,12 +53,12 @@ use Rattle.rdlpp_cursors.proofs.Passing.{same-front, no-formals, no-word, IsPass
 use Rattle.rdlpp_cursors.proofs.Runs.{slice-behind}
 use Rattle.rdlpp_cursors.proofs.Scoping.{source-around, opens-length}
 use Rattle.rdlpp_cursors.proofs.Stacking.{tail-is}
-use Rattle.rdlpp_cursors.proofs.Stepping.{kind-first, bytes-first, first-moved, look-inside}
+use Rattle.rdlpp_cursors.proofs.Stepping.{kind-first, bytes-first, first-moved}
 
 -- where a usage lies in its text: it has its backquote, and ends in what is left of the open text, which ends in its text
 pub record IsUsageInside (texts : Texts) (look : Look) (len : ℕ) : Type 0 where
   pub some : 0 < len
-  pub inside : look.from + len ≤ look.end
+  pub inside : look.at + len ≤ look.end
   pub source : IsSource texts look.source
   pub within : look.end ≤ length (source_text texts look.source)
 
@@ -86,7 +86,7 @@ usage-place texts [] look len h l e = absurd l
 usage-place texts (x ∷ below) look len h l e =
     let s = usage-some texts x below len (front-is texts x below look len e l.3) in
     let size = length-take (x.part.end - x.part.from) (drop x.part.from (text_around texts x.kind x.home below)) in
-    let from : look.from ≡ x.part.from = l.1 in
+    let from : look.at ≡ x.part.from = l.1 in
     let end : look.end ≡ x.part.end = l.2 in
     let some : 0 < len = s.0 in
     let inside = s.1 in
@@ -107,7 +107,7 @@ behind-first text from n h some =
 
 -- the name of a usage is what stands behind its backquote
 pub usage-word : (texts : Texts) (opens : List Open) (look : Look) (len from end : ℕ) → AreSound texts opens → IsLook texts opens look → look.front ≡ front.Usage len
-    → from ≡ look.from + 1 → end ≡ look.from + len
+    → from ≡ look.at + 1 → end ≡ look.at + len
     → place_bytes texts (record { source = look.source; from = from; end = end }) ≡ front_name texts opens len
 unfolding IsLook front_name place_bytes open_bytes
 usage-word texts [] look len from end h l e f g = absurd l
@@ -116,13 +116,13 @@ usage-word texts (x ∷ below) look len from end h l e f g =
     let within = usage-place texts (x ∷ below) look len h l e in
     let inside = within.inside in
     let ends = within.within in
-    let at : look.from ≡ x.part.from = l.1 in
+    let at : look.at ≡ x.part.from = l.1 in
     let own = source_text texts (front_source (x ∷ below)) in
     ap (λ (t : TextSource). slice_range (source_text texts t) from end) l.0
     ∙ ap (λ (n : ℕ). slice_range own n end) f
-    ∙ ap (λ (n : ℕ). slice_range own (look.from + 1) n) g
-    ∙ behind-first own look.from len
-    (subst (λ (t : TextSource). look.from + len ≤ length (source_text texts t)) l.0 (omega (arith, inside, ends))) s.0
+    ∙ ap (λ (n : ℕ). slice_range own (look.at + 1) n) g
+    ∙ behind-first own look.at len
+    (subst (λ (t : TextSource). look.at + len ≤ length (source_text texts t)) l.0 (omega (arith, inside, ends))) s.0
     ∙ ap (λ (n : ℕ). drop 1 (slice_range own n (n + len))) at
     ∙ ap (λ (bytes : List ℕ). drop 1 bytes)
     (sym (same-front (text_around texts x.kind x.home below) own x.part.from x.part.end len s.0 s.1 (source-around texts x below)))
@@ -366,7 +366,7 @@ moved-length (x ∷ below) at = refl
 
 -- behind a usage open texts are sound
 pub sound-behind : (texts : Texts) (opens : List Open) (look : Look) (len at : ℕ) → AreSound texts opens → IsLook texts opens look → look.front ≡ front.Usage len
-    → at ≡ look.from + len → AreSound texts (moved_to at opens)
+    → at ≡ look.at + len → AreSound texts (moved_to at opens)
 unfolding IsLook IsFront
 sound-behind texts [] look len at h l e k = absurd l
 sound-behind texts (x ∷ below) look len at h l e k =
@@ -390,7 +390,7 @@ sound-used table arguments opens id at sound moved scope inside none =
 
 -- by a look: a usage that is refused
 look-refused : (line depth : ℕ) (texts : Texts) (opens : List Open) (look : Look) (len from end : ℕ) (kind own : FaultKind) → AreSound texts opens → IsLook texts opens look
-    → look.front ≡ front.Usage len → from ≡ look.from + 1 → end ≡ look.from + len → own ≡ kind
+    → look.front ≡ front.Usage len → from ≡ look.at + 1 → end ≡ look.at + len → own ≡ kind
     → IsRefused texts opens (front_name texts opens len) kind
     → IsStep line depth texts opens (Refused (record { kind = own; word = record { source = look.source; from = from; end = end } })) opens
 unfolding IsLook
@@ -412,7 +412,7 @@ look-deep line depth texts (x ∷ below) look len id h l e used none deep =
 -- a body that is opened
 look-opened : (line depth : ℕ) (texts : Texts) (opens : List Open) (look : Look) (len id at : ℕ) → AreSound texts opens → IsLook texts opens look
     → look.front ≡ front.Usage len → IsUsed texts opens (front_name texts opens len) id → (macro_at texts.macros id).formals ≡ None → length opens < depth
-    → at ≡ look.from + len
+    → at ≡ look.at + len
     → IsStep line depth texts opens Silent (open_body texts id [] (front_scope opens) ∷ moved_to at opens)
 unfolding IsLook front_scope
 look-opened line depth texts [] look len id at h l e used none room k = absurd l
@@ -423,13 +423,13 @@ look-opened line depth texts (x ∷ below) look len id at h l e used none room k
 
 -- a usage that is refused
 pub pass-refused : (texts : Texts) (view : CursorsView) (look : Look) (len : ℕ) (kind : FaultKind) (word : TextPlace) → AreSound texts view.opens → IsLook texts view.opens look
-    → look.front ≡ front.Usage len → word ≡ record { source = look.source; from = look.from + 1; end = look.from + len }
+    → look.front ≡ front.Usage len → word ≡ record { source = look.source; from = look.at + 1; end = look.at + len }
     → IsRefused texts view.opens (front_name texts view.opens len) kind
     → IsPassed texts view view (Refused (record { kind = kind; word = word }))
 unfolding IsFalling StaysRefused
 pass-refused texts view look len kind word h l e w r =
     subst (λ (place : TextPlace). IsPassed texts view view (Refused (record { kind = kind; word = place }))) (sym w) (record {
-      is_step = look-refused view.line view.depth texts view.opens look len (look.from + 1) (look.from + len) kind kind h l e refl refl refl r;
+      is_step = look-refused view.line view.depth texts view.opens look len (look.at + 1) (look.at + len) kind kind h l e refl refl refl r;
       sound = h;
       kept = (refl, refl);
       digits = tt;
@@ -455,7 +455,7 @@ pass-deep texts view look len id step h l e used none deep is =
 pub pass-opened : (table : TableView) (arguments : List ℕ) (view new : CursorsView) (look : Look) (len id at : ℕ) → IsSound table
     → AreSound (texts_of table.macros arguments) view.opens → IsLook (texts_of table.macros arguments) view.opens look
     → look.front ≡ front.Usage len → IsUsed (texts_of table.macros arguments) view.opens (front_name (texts_of table.macros arguments) view.opens len) id
-    → (macro_at table.macros id).formals ≡ None → length view.opens < view.depth → at ≡ look.from + len
+    → (macro_at table.macros id).formals ≡ None → length view.opens < view.depth → at ≡ look.at + len
     → new ≡ record { opens = open_body (texts_of table.macros []) id [] (front_scope view.opens) ∷ moved_to at view.opens; line = view.line; depth = view.depth }
     → IsPassed (texts_of table.macros arguments) view new Silent
 unfolding IsFalling StaysRefused open_body
@@ -520,7 +520,7 @@ rest-homed part items first bindings e homed =
 
 -- the place of the name of a usage lies in its text
 pub word-inside : (texts : Texts) (opens : List Open) (look : Look) (len : ℕ) (word : TextPlace) → AreSound texts opens → IsLook texts opens look → look.front ≡ front.Usage len
-    → word ≡ record { source = look.source; from = look.from + 1; end = look.from + len } → IsPlaced texts word
+    → word ≡ record { source = look.source; from = look.at + 1; end = look.at + len } → IsPlaced texts word
 word-inside texts opens look len word h l e is =
     let place = usage-place texts opens look len h l e in
     let some = place.some in
@@ -534,7 +534,7 @@ word-inside texts opens look len word h l e is =
 
 -- the name of a usage lies in its text
 pub name-inside : (texts : Texts) (opens : List Open) (look : Look) (len : ℕ) (text : List ℕ) → AreSound texts opens → IsLook texts opens look → look.front ≡ front.Usage len
-    → text ≡ source_text texts look.source → (look.from + 1 ≤ look.from + len) × (look.from + len ≤ length text)
+    → text ≡ source_text texts look.source → (look.at + 1 ≤ look.at + len) × (look.at + len ≤ length text)
 name-inside texts opens look len text h l e is =
     let place = usage-place texts opens look len h l e in
     let some = place.some in
@@ -544,10 +544,10 @@ name-inside texts opens look len text h l e is =
 
 -- and is what stands there
 pub name-is : (texts : Texts) (opens : List Open) (look : Look) (len : ℕ) (text : List ℕ) → AreSound texts opens → IsLook texts opens look → look.front ≡ front.Usage len
-    → text ≡ source_text texts look.source → slice_range text (look.from + 1) (look.from + len) ≡ front_name texts opens len
+    → text ≡ source_text texts look.source → slice_range text (look.at + 1) (look.at + len) ≡ front_name texts opens len
 unfolding place_bytes
 name-is texts opens look len text h l e is =
-    ap (λ (t : List ℕ). slice_range t (look.from + 1) (look.from + len)) is ∙ usage-word texts opens look len (look.from + 1) (look.from + len) h l e refl refl
+    ap (λ (t : List ℕ). slice_range t (look.at + 1) (look.at + len)) is ∙ usage-word texts opens look len (look.at + 1) (look.at + len) h l e refl refl
 
 -- a name that a table hasn't is refused
 pub unknown-given : (texts : Texts) (opens : List Open) (name given : List ℕ) (kind : FaultKind) → given ≡ name → macro_named texts.macros given ≡ None
@@ -570,7 +570,7 @@ has-list (Some fs) count some e s f = refl
 
 -- a fault under the name of a usage is placed
 pub placed-word : (texts : Texts) (opens : List Open) (look : Look) (len : ℕ) (kind : FaultKind) (word : TextPlace) → AreSound texts opens → IsLook texts opens look
-    → look.front ≡ front.Usage len → word ≡ record { source = look.source; from = look.from + 1; end = look.from + len }
+    → look.front ≡ front.Usage len → word ≡ record { source = look.source; from = look.at + 1; end = look.at + len }
     → IsPlacedStep texts (Refused (record { kind = kind; word = word }))
 unfolding IsPlacedStep
 placed-word texts opens look len kind word h l e is = word-inside texts opens look len word h l e is
@@ -587,19 +587,19 @@ unfolding IsPlacedStep
 placed-silent texts = tt
 
 -- a run that is lent is placed
-pub placed-run : (texts : Texts) (opens : List Open) (look : Look) (n end : ℕ) → AreSound texts opens → IsLook texts opens look → look.front ≡ front.Run n
-    → end ≡ look.from + n → IsPlacedStep texts (Lends (record { source = look.source; from = look.from; end = end }))
-unfolding IsLook IsPlacedStep
-placed-run texts [] look n end h l e k = absurd l
-placed-run texts (x ∷ below) look n end h l e k =
-    let inside = look-inside texts (x ∷ below) look n l e in
-    let own : look.end ≤ length (source_text texts look.source) =
-    subst (λ (t : TextSource). look.end ≤ length (source_text texts t)) (sym l.0)
-    (subst (λ (m : ℕ). m ≤ length (source_text texts (front_source (x ∷ below)))) (sym l.2) (source-inside texts x below h.are_inside)) in
+pub placed-run : (texts : Texts) (opens : List Open) (look : Look) → AreSound texts opens → IsLookAhead texts opens look → look.from < look.at
+    → IsPlacedStep texts (Lends (record { source = look.source; from = look.from; end = look.at }))
+unfolding IsLookAhead AreCopied IsPlacedStep
+placed-run texts [] look h l more = absurd l
+placed-run texts (x ∷ below) look h l more =
+    let from = l.1 in
+    let ends = run-ends texts x below (look.at - look.from) (omega (arith, more)) l.3.0 in
+    let own : x.part.end ≤ length (source_text texts look.source) =
+    subst (λ (t : TextSource). x.part.end ≤ length (source_text texts t)) (sym l.0) (source-inside texts x below h.are_inside) in
     record {
       source = subst (λ (t : TextSource). IsSource texts t) (sym l.0) (source-known texts x below h.are_inside);
-      order = omega (arith, k);
-      inside = omega (arith, k, inside, own);
+      order = omega (arith, more);
+      inside = omega (arith, from, more, ends, own);
     }
 
 -- a text stays open behind a run that is lent

@@ -61,11 +61,11 @@ front-word texts (x ∷ below) look len l e =
 
 -- a fault under the name of a usage has a word
 pub word-named : (texts : Texts) (opens : List Open) (look : Look) (len : ℕ) (kind : FaultKind) (word : TextPlace) → AreSound texts opens → IsLook texts opens look
-    → look.front ≡ front.Usage len → word ≡ record { source = look.source; from = look.from + 1; end = look.from + len }
+    → look.front ≡ front.Usage len → word ≡ record { source = look.source; from = look.at + 1; end = look.at + len }
     → NamesWord texts (Refused (record { kind = kind; word = word }))
 word-named texts opens look len kind word h l e is =
     ap (λ (bytes : List ℕ). list_all is_word bytes)
-    (ap (λ (w : TextPlace). place_bytes texts w) is ∙ usage-word texts opens look len (look.from + 1) (look.from + len) h l e refl refl)
+    (ap (λ (w : TextPlace). place_bytes texts w) is ∙ usage-word texts opens look len (look.at + 1) (look.at + len) h l e refl refl)
     ∙ front-word texts opens look len l e
 
 -- one without a word has an empty one

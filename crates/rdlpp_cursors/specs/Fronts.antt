@@ -1,6 +1,6 @@
 -- What stands at the front of an open text.
 -- A definition that names no source is this project's own.
-use Rattle.std.specs.Prelude.{◌≡◌, ℕ, ◌+◌, ◌<◌, ◌≤◌, Bool, true, false, List, [], ◌∷◌, length, take, drop, Some, if◌then◌else◌}
+use Rattle.std.specs.Prelude.{◌≡◌, ℕ, ◌+◌, ◌-◌, ◌<◌, ◌≤◌, Bool, true, false, List, [], ◌∷◌, length, take, drop, Some, if◌then◌else◌}
 use Rattle.rdlpp_scan.specs.declared.token.Kind.{Kind}
 use Rattle.rdlpp_scan.specs.declared.token.Kind.TheVariants.{Name, Back, BareBackquote}
 use Rattle.rdlpp_scan.specs.declared.token.Mode.TheVariants.{Plain}
@@ -13,10 +13,10 @@ use Rattle.rdlpp_meaning.specs.Opens.{Open, Texts, open_bytes}
 use Rattle.rdlpp_cursors.specs.Places.{source_formals}
 use Rattle.rdlpp_cursors.specs.Scopes.{front_source}
 use Rattle.rdlpp_cursors.specs.declared.front.Front.{Front}
-use Rattle.rdlpp_cursors.specs.declared.front.Fronts.{Fronts}
+use Rattle.rdlpp_cursors.specs.declared.front.Ahead.{Ahead}
 use Rattle.rdlpp_cursors.specs.declared.front.Look.{Look}
 use Rattle.rdlpp_cursors.specs.Opened.{moved_to}
-use Rattle.rdlpp_cursors.specs.declared.front.Front.TheVariants.{Ended, Run, Formal as FormalName, Usage, Bare}
+use Rattle.rdlpp_cursors.specs.declared.front.Front.TheVariants.{Ended, Formal as FormalName, Usage, Bare}
 
 -- whether a kind is that of a usage or a lone backquote
 unfoldable pub is_back : Kind → Bool
@@ -24,53 +24,43 @@ is_back Back = true
 is_back BareBackquote = true
 is_back kind = false
 
--- whether a run stands at a front
-unfoldable pub is_run : Front → Bool
-is_run Ended = false
-is_run (Run len) = true
-is_run (FormalName len place) = false
-is_run (Usage len) = false
-is_run Bare = false
-
--- the look at what stands behind a run, and the same look where none stands at the front
-unfoldable pub behind_run : Front → Look → Look
-behind_run Ended look = look
-behind_run (Run len) look = record { source = look.source; from = look.from + len; end = look.end; front = look.behind; behind = Ended }
-behind_run (FormalName len place) look = look
-behind_run (Usage len) look = look
-behind_run Bare look = look
-
 -- how many bytes the tokens have that come before the first stop
 unfoldable pub run_len : List Formal → List Token → List ℕ → ℕ
 run_len formals [] text = 0
 run_len formals (t ∷ ts) text =
     if is_none (stop_at formals 0 t (take t.len text)) then t.len + run_len formals ts (drop t.len text) else 0
 
--- what stands at the front of a text with these formals: nothing; so many bytes of tokens that are copied; the name of a formal,
--- so long, with its place; a usage, so long; or a backquote alone
+-- so many bytes at the front of a text with these formals are copied, up to its first stop or its end
+unfoldable pub AreCopied : List Formal → List ℕ → ℕ → Type 0
+AreCopied formals text n = (n ≤ length text) × (run_len formals (tokens_from Plain 0 text) text ≡ n)
+
+-- what stands at the front of a text with these formals, where no byte is copied: nothing; the name of a formal, so long, with its
+-- place; a usage, so long; or a backquote alone
 unfoldable pub IsFront : List Formal → List ℕ → Front → Type 0
 IsFront formals text Ended = text ≡ []
-IsFront formals text (Run len) = (0 < len) × (len ≤ length text) × (run_len formals (tokens_from Plain 0 text) text ≡ len)
 IsFront formals text (FormalName len place) =
     (0 < length text) × ((token_of Plain text).kind ≡ Name) × ((token_of Plain text).len ≡ len) × (formal_named formals (take len text) ≡ Some place)
 IsFront formals text (Usage len) =
     (0 < length text) × ((token_of Plain text).kind ≡ Back) × ((token_of Plain text).len ≡ len)
 IsFront formals text Bare = (0 < length text) × ((token_of Plain text).kind ≡ BareBackquote)
 
--- what a look at open texts tells: where the innermost lies, where it goes on and ends, and what stands there
+-- a look tells what stands at the front of open texts: where the innermost lies, where it goes on and ends, and what stands there
 unfoldable pub IsLook : Texts → List Open → Look → Type 0
 IsLook texts [] look = ⊥
 IsLook texts (x ∷ below) look =
-    (look.source ≡ front_source (x ∷ below)) × (look.from ≡ x.part.from) × (look.end ≡ x.part.end)
+    (look.source ≡ front_source (x ∷ below)) × (look.at ≡ x.part.from) × (look.end ≡ x.part.end)
     × IsFront (source_formals texts (front_source (x ∷ below))) (open_bytes texts x below) look.front
 
--- what stands at the front of a text with these formals, and behind that where it is a run
-unfoldable pub AreFronts : List Formal → List ℕ → Fronts → Type 0
-AreFronts formals text fronts =
-    IsFront formals text fronts.first × ((n : ℕ) → fronts.first ≡ Run n → IsFront formals (drop n text) fronts.behind)
+-- what stands in a text with these formals that begins at a place: what is copied up to another place, and what stands there
+unfoldable pub IsAhead : List Formal → List ℕ → ℕ → Ahead → Type 0
+IsAhead formals text from ahead =
+    (from ≤ ahead.at) × AreCopied formals text (ahead.at - from) × IsFront formals (drop (ahead.at - from) text) ahead.front
 
--- a look tells what stands behind a run too: it is a look at the open texts of which the innermost goes on there
-unfoldable pub IsLookBehind : Texts → List Open → Look → Type 0
-IsLookBehind texts opens look =
-    (n : ℕ) → look.front ≡ Run n
-    → IsLook texts (moved_to (look.from + n) opens) (record { source = look.source; from = look.from + n; end = look.end; front = look.behind; behind = Ended })
+-- what a look at open texts tells: where the innermost lies and goes on, what is copied from there up to another place, and what
+-- stands at the front where it goes on at that place
+unfoldable pub IsLookAhead : Texts → List Open → Look → Type 0
+IsLookAhead texts [] look = ⊥
+IsLookAhead texts (x ∷ below) look =
+    (look.source ≡ front_source (x ∷ below)) × (look.from ≡ x.part.from) × (look.from ≤ look.at)
+    × AreCopied (source_formals texts (front_source (x ∷ below))) (open_bytes texts x below) (look.at - look.from)
+    × IsLook texts (moved_to look.at (x ∷ below)) look

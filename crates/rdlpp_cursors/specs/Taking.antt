@@ -7,7 +7,7 @@ use Rattle.rdlpp_cursors.specs.Opened.{CursorsView}
 use Rattle.rdlpp_cursors.specs.Steps.{AreSound, IsStep, IsUnlent, StaysRefused, IsPlacedStep, NamesWord}
 use Rattle.rdlpp_cursors.specs.Usages.{IsTextFault}
 use Rattle.rdlpp_cursors.specs.declared.front.Front.{Front}
-use Rattle.rdlpp_cursors.specs.declared.front.Front.TheVariants.{Ended, Run, Formal as FormalName, Usage, Bare}
+use Rattle.rdlpp_cursors.specs.declared.front.Front.TheVariants.{Ended, Formal as FormalName, Usage, Bare}
 use Rattle.rdlpp_cursors.specs.declared.step.CursorStep.{CursorStep}
 
 -- a step that lends nothing: what is open behind it is sound, at the same line and for as many texts; the digits of the work left
@@ -23,12 +23,10 @@ pub record IsTaken (texts : Texts) (view : CursorsView) (step : CursorStep) (new
   pub fault : IsTextFault step
   pub word : NamesWord texts step
 
--- whether nothing is done at the front of so many open texts, behind a run that is lent: where the last one has ended, and at
--- another run
+-- whether nothing is done at the front of so many open texts, behind a run that is lent: where the last one has ended
 unfoldable pub is_idle : Bool → ℕ → Front → Bool
 is_idle false count front = false
 is_idle true count Ended = nat_le count 1
-is_idle true count (Run n) = true
 is_idle true count (FormalName len place) = false
 is_idle true count (Usage len) = false
 is_idle true count Bare = false

@@ -5,7 +5,7 @@ ghost use Rattle.std.specs.Option.{option_map};
 ghost use Rattle.rdlpp_table.specs.View.{macro_at};
 ghost use Rattle.rdlpp_meaning.specs.Opens.{open_body, OpenBody, Texts};
 ghost use Rattle.rdlpp_cursors.specs.Digits.{IsFalling};
-ghost use Rattle.rdlpp_cursors.specs.Fronts.{IsLook, IsLookBehind};
+ghost use Rattle.rdlpp_cursors.specs.Fronts.{IsLookAhead};
 ghost use Rattle.rdlpp_cursors.specs.Opened.{bound_by, is_spent, kept_by, moved_to, open_of, IsNoBody};
 ghost use Rattle.rdlpp_cursors.specs.Places.{source_text, texts_of};
 ghost use Rattle.rdlpp_cursors.specs.Usages.{IsTextFault};
@@ -16,7 +16,7 @@ ghost use Rattle.rdlpp_cursors.specs.declared.step.CursorStep.TheVariants.{Silen
 mod call;
 mod usage;
 
-use crate::front::{Sight, behind_run, is_run, look_at};
+use crate::front::{Sight, look_at};
 use crate::guesses::Guesses;
 use crate::place::TextPlace;
 use crate::scopes::{body_bounds, is_spent, scope_bounds};
@@ -207,12 +207,12 @@ impl Cursors {
         self.first = first;
     }
 
-    // Where the innermost text lies, where it goes on and ends, and what stands there, with the bytes of the text in which it lies.
+    // Where the innermost text lies, where it goes on and ends, up to where it is copied, and what stands there, with the bytes of
+    // the text in which it lies.
     fn look<'a>(&self, table: &'a Table, arguments: &'a [u8]) -> Sight<'a>
         requires some { 0 < length self.now.opens }
         requires sound { AreSound (texts_of table.now.macros arguments.now) self.now.opens }
-        ensures look { IsLook (texts_of table.now.macros arguments.now) self.now.opens result.look }
-        ensures behind { IsLookBehind (texts_of table.now.macros arguments.now) self.now.opens result.look }
+        ensures look { IsLookAhead (texts_of table.now.macros arguments.now) self.now.opens result.look }
         ensures short { result.look.end < 2 ^ 64 }
         ensures text { result.text.now ≡ source_text (texts_of table.now.macros arguments.now) result.look.source }
     {
@@ -272,15 +272,14 @@ impl Cursors {
     {
         let sight = self.look(table, arguments);
         let look = sight.look;
-        let lent = is_run(look.front);
-        let next = behind_run(&look);
-        self.move_to(next.from);
-        let opened = self.open_front(table, arguments, sight.text, &next, lent);
+        let lent = look.from < look.at;
+        self.move_to(look.at);
+        let opened = self.open_front(table, arguments, sight.text, &look, lent);
         if lent {
             CursorStep::Lends(TextPlace {
                 source: look.source,
                 from: look.from,
-                end: next.from,
+                end: look.at,
             })
         } else {
             opened

@@ -1,9 +1,9 @@
 // What stands at the front of an open text.
-ghost use Rattle.std.specs.Prelude.{[], length, slice_range, nat_lt, if◌then◌else◌, List, ℕ, ◌+◌, ◌-◌, ◌<◌, ◌≡◌, ◌≤◌, ◌^◌};
+ghost use Rattle.std.specs.Prelude.{[], length, slice_range, List, ℕ, ◌+◌, ◌<◌, ◌≡◌, ◌≤◌, ◌^◌};
 ghost use Rattle.rdlpp_scan.specs.Tokens.{tokens_from};
 ghost use Rattle.rdlpp_table.specs.Stops.{stop_of};
 ghost use Rattle.rdlpp_table.specs.Table.{Formal};
-ghost use Rattle.rdlpp_cursors.specs.Fronts.{behind_run, is_back, is_run, run_len, AreFronts, IsFront, IsLook, IsLookBehind};
+ghost use Rattle.rdlpp_cursors.specs.Fronts.{is_back, run_len, IsAhead, IsFront, IsLookAhead};
 ghost use Rattle.rdlpp_cursors.specs.Opened.{opens_of};
 ghost use Rattle.rdlpp_cursors.specs.Places.{source_formals, source_text, texts_of, IsSource};
 ghost use Rattle.rdlpp_cursors.specs.Steps.{AreSound};
@@ -21,8 +21,6 @@ use rdlpp_table::{Stop, Table};
 pub(crate) enum Front {
     // Nothing.
     Ended,
-    // So many bytes that are copied.
-    Run(usize),
     // The name of a formal.
     Formal { len: usize, place: usize },
     // A backquote and a name, with so many bytes together.
@@ -31,22 +29,21 @@ pub(crate) enum Front {
     Bare,
 }
 
-// What stands at the front of an open text, and behind that where it is a run.
+// Where what is copied at the front of an open text ends, and what stands there.
 #[derive(Clone, Copy)]
-pub(crate) struct Fronts {
-    pub(crate) first: Front,
-    pub(crate) behind: Front,
+pub(crate) struct Ahead {
+    pub(crate) at: usize,
+    pub(crate) front: Front,
 }
 
-// A look at the innermost open text: where it lies, where it goes on and ends, what stands there, and what stands behind that
-// where it is a run.
+// A look at the innermost open text: where it lies, where it goes on and ends, up to where it is copied, and what stands there.
 #[derive(Clone, Copy)]
 pub(crate) struct Look {
     pub(crate) source: TextSource,
     pub(crate) from: usize,
     pub(crate) end: usize,
+    pub(crate) at: usize,
     pub(crate) front: Front,
-    pub(crate) behind: Front,
 }
 
 // A look at the innermost open text, with the bytes of the text in which that lies.
@@ -65,8 +62,7 @@ pub(crate) fn look_at<'a>(
 ) -> Sight<'a>
     requires some { 0 < length slots.now }
     requires sound { AreSound (texts_of table.now.macros arguments.now) (opens_of slots.now bindings.now) }
-    ensures look { IsLook (texts_of table.now.macros arguments.now) (opens_of slots.now bindings.now) result.look }
-    ensures behind { IsLookBehind (texts_of table.now.macros arguments.now) (opens_of slots.now bindings.now) result.look }
+    ensures look { IsLookAhead (texts_of table.now.macros arguments.now) (opens_of slots.now bindings.now) result.look }
     ensures short { result.look.end < 2 ^ 64 }
     ensures text { result.text.now ≡ source_text (texts_of table.now.macros arguments.now) result.look.source }
 {
@@ -75,46 +71,20 @@ pub(crate) fn look_at<'a>(
     let (from, end) = (slot.from, slot.end);
     let source = front_source(slots);
     let text = text_of(table, arguments, source);
-    let fronts = front_of(table, arguments, text, &source, from, end);
+    let ahead = front_of(table, arguments, text, &source, from, end);
     Sight {
         look: Look {
             source,
             from,
             end,
-            front: fronts.first,
-            behind: fronts.behind,
+            at: ahead.at,
+            front: ahead.front,
         },
         text,
     }
 }
 
-// Whether a run stands there.
-#[tactic(auto, unfolding(crate::specs::Fronts::is_run))]
-pub(crate) fn is_run(front: Front) -> bool
-    ensures { result ≡ is_run front }
-{
-    matches!(front, Front::Run(_))
-}
-
-// The look at what stands behind a run, and the same look where none stands at the front.
-#[tactic(auto, unfolding(crate::specs::Fronts::behind_run))]
-pub(crate) fn behind_run(look: &Look) -> Look
-    requires { (n : ℕ) → look.now.front ≡ Front.Run n → look.now.from + n < 2 ^ 64 }
-    ensures { result ≡ behind_run look.now.front look.now }
-{
-    match look.front {
-        Front::Run(len) => Look {
-            source: look.source,
-            from: look.from + len,
-            end: look.end,
-            front: look.behind,
-            behind: Front::Ended,
-        },
-        _ => *look,
-    }
-}
-
-// What stands at the front of a range of a text, whose bytes are given.
+// What stands ahead in a range of a text, whose bytes are given.
 pub(crate) fn front_of(
     table: &Table,
     arguments: &[u8],
@@ -122,60 +92,57 @@ pub(crate) fn front_of(
     source: &TextSource,
     from: usize,
     end: usize,
-) -> Fronts
+) -> Ahead
     requires source { IsSource (texts_of table.now.macros arguments.now) source.now }
     requires text { text.now ≡ source_text (texts_of table.now.macros arguments.now) source.now }
     requires inside { end ≤ length (source_text (texts_of table.now.macros arguments.now) source.now) }
-    ensures { AreFronts (source_formals (texts_of table.now.macros arguments.now) source.now) (slice_range (source_text (texts_of table.now.macros arguments.now) source.now) from end) result }
+    ensures { IsAhead (source_formals (texts_of table.now.macros arguments.now) source.now) (slice_range (source_text (texts_of table.now.macros arguments.now) source.now) from end) from result }
 {
     if end <= from {
-        return Fronts {
-            first: Front::Ended,
-            behind: Front::Ended,
+        return Ahead {
+            at: from,
+            front: Front::Ended,
         };
     }
     if let TextSource::Body(id) = *source {
-        return stop_front(table.stop(id, from, end), from, end);
+        return stop_front(table.stop(id, from, end), end);
     }
-    plain_front(&text[from..end])
+    plain_front(&text[from..end], from)
 }
 
-// What stands at the front of a text between two places, by its first stop.
-fn stop_front(stop: Stop, from: usize, end: usize) -> Fronts
-    requires { from < end }
-    ensures { (formals : List Formal) (text : List ℕ) → from + length text ≡ end → stop ≡ stop_of formals from text → AreFronts formals text result }
+// What stands ahead in a text that ends at a place, by its first stop.
+fn stop_front(stop: Stop, end: usize) -> Ahead
+    ensures { (formals : List Formal) (from : ℕ) (text : List ℕ) → from + length text ≡ end → stop ≡ stop_of formals from text → IsAhead formals text from result }
 {
     match stop {
-        Stop::None => ahead(from, end, Front::Ended),
-        Stop::Formal { at, len, place } => ahead(from, at, Front::Formal { len, place }),
-        Stop::Usage { at, len } => ahead(from, at, Front::Usage(len)),
-        Stop::Bare { at } => ahead(from, at, Front::Bare),
+        Stop::None => Ahead {
+            at: end,
+            front: Front::Ended,
+        },
+        Stop::Formal { at, len, place } => Ahead {
+            at,
+            front: Front::Formal { len, place },
+        },
+        Stop::Usage { at, len } => Ahead {
+            at,
+            front: Front::Usage(len),
+        },
+        Stop::Bare { at } => Ahead {
+            at,
+            front: Front::Bare,
+        },
     }
 }
 
-// What stands at the front of a text without formals.
-fn plain_front(text: &[u8]) -> Fronts
-    ensures { AreFronts [] text.now result }
+// What stands ahead in a text without formals that begins at a place.
+fn plain_front(text: &[u8], from: usize) -> Ahead
+    requires { from + length text.now < 2 ^ 64 }
+    ensures { IsAhead [] text.now from result }
 {
     let len = run_len(text);
-    ahead(0, len, plain_stop(&text[len..]))
-}
-
-// What stands at the front of a text that begins at a place, where something stands at a stop: what is copied before it, if
-// that is further on.
-fn ahead(from: usize, at: usize, front: Front) -> Fronts
-    ensures { result ≡ (if nat_lt from at then record { first = Front.Run (at - from); behind = front } else record { first = front; behind = Front.Ended }) }
-{
-    if from < at {
-        Fronts {
-            first: Front::Run(at - from),
-            behind: front,
-        }
-    } else {
-        Fronts {
-            first: front,
-            behind: Front::Ended,
-        }
+    Ahead {
+        at: from + len,
+        front: plain_stop(&text[len..]),
     }
 }
 

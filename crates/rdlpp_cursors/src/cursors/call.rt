@@ -107,7 +107,7 @@ impl Cursors {
     {
         let _macros = table.len();
         let home = self.scope();
-        let at = look.from + len;
+        let at = look.at + len;
         match self.open_bound(table, text, at, look.end, id, home) {
             Opening::Opened => CursorStep::Silent,
             Opening::Refused(kind) => CursorStep::Refused(CursorFault {

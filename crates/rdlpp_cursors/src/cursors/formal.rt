@@ -55,7 +55,7 @@ impl Cursors {
         if self.is_full() {
             return wordless(FaultKind::DepthPassed);
         }
-        self.move_to(look.from + len);
+        self.move_to(look.at + len);
         self.push_text(new);
         CursorStep::Silent
     }

@@ -1,6 +1,6 @@
 // The opening of what stands at the front of open texts.
 ghost use Rattle.std.specs.Prelude.{false, length, true, ◌<◌, ◌≡◌, ◌^◌};
-ghost use Rattle.rdlpp_cursors.specs.Fronts.{is_run, IsLook};
+ghost use Rattle.rdlpp_cursors.specs.Fronts.{IsLook};
 ghost use Rattle.rdlpp_cursors.specs.Places.{source_text, texts_of};
 ghost use Rattle.rdlpp_cursors.specs.Steps.{AreSound};
 ghost use Rattle.rdlpp_cursors.specs.Taking.{is_idle, IsTaken};
@@ -14,7 +14,7 @@ use rdlpp_table::Table;
 impl Cursors {
     // Opens what stands at the front of the innermost text, or closes that text where nothing is left of it.
     //
-    // Behind a run that is lent, the last open text isn't closed, and nothing is opened at another run.
+    // Behind a run that is lent, the last open text isn't closed.
     //
     // `text` is the text in which the innermost lies, as it is for all that is opened there.
     pub(super) fn open_front(
@@ -30,7 +30,6 @@ impl Cursors {
         requires look { IsLook (texts_of table.now.macros arguments.now) self.old.opens look.now }
         requires text { text.now ≡ source_text (texts_of table.now.macros arguments.now) look.now.source }
         requires short { look.now.end < 2 ^ 64 }
-        requires fresh { lent ≡ false → is_run look.now.front ≡ false }
         ensures taken { is_idle lent (length self.old.opens) look.now.front ≡ false → IsTaken (texts_of table.now.macros arguments.now) self.old result self.new }
         ensures idle { is_idle lent (length self.old.opens) look.now.front ≡ true → self.new ≡ self.old }
         ensures open { lent ≡ true → 0 < length self.new.opens }
@@ -41,7 +40,6 @@ impl Cursors {
                 self.close_spent();
                 CursorStep::Silent
             }
-            Front::Run(_) => CursorStep::Silent,
             Front::Formal { len, place } => self.formal(table, arguments, look, len, place),
             Front::Usage(len) => self.usage(table, arguments, text, look, len),
             Front::Bare => wordless(FaultKind::BareBackquote),

@@ -65,7 +65,7 @@ impl Cursors {
         if self.is_full() {
             return wordless(FaultKind::DepthPassed);
         }
-        self.enter(table, id, look.from + len);
+        self.enter(table, id, look.at + len);
         CursorStep::Silent
     }
 
@@ -88,7 +88,7 @@ impl Cursors {
         ensures fault { IfErr result (λ kind. is_text_fault kind ≡ true) }
         ensures used { MatchResult result (λ id. IsUsed (texts_of table.now.macros arguments.now) self.old.opens (front_name (texts_of table.now.macros arguments.now) self.old.opens len) id) (λ kind. IsRefused (texts_of table.now.macros arguments.now) self.old.opens (front_name (texts_of table.now.macros arguments.now) self.old.opens len) kind) }
     {
-        let name = &text[look.from + 1..look.from + len];
+        let name = &text[look.at + 1..look.at + len];
         let Some(id) = self.guesses.find(table, name) else {
             return Err(unknown_kind(name));
         };
@@ -144,13 +144,13 @@ fn unknown_kind(name: &[u8]) -> FaultKind
 
 // Where the name of a usage stands: behind its backquote.
 pub(super) fn word_of(look: &Look, len: usize) -> TextPlace
-    requires short { look.now.from + len < 2 ^ 64 }
+    requires short { look.now.at + len < 2 ^ 64 }
     requires some { 0 < len }
-    ensures { result ≡ record { source = look.now.source; from = look.now.from + 1; end = look.now.from + len } }
+    ensures { result ≡ record { source = look.now.source; from = look.now.at + 1; end = look.now.at + len } }
 {
     TextPlace {
         source: look.source,
-        from: look.from + 1,
-        end: look.from + len,
+        from: look.at + 1,
+        end: look.at + len,
     }
 }

@@ -3,7 +3,7 @@ use Rattle.std.proofs.lemmas.List.{take_rest}
 use Rattle.rdlpp_scan.specs.declared.token.Mode.TheVariants.{Plain}
 use Rattle.rdlpp_scan.specs.Tokens.{tokens_from}
 use Rattle.rdlpp_cursors.specs.Fronts.{run_len, IsFront}
-use Rattle.rdlpp_cursors.proofs.Stopping.{fronts-plain, plain-none, run-behind}
+use Rattle.rdlpp_cursors.proofs.Stopping.{ahead-plain, run-behind}
 use Rattle.rdlpp_cursors.proofs.front.plain_front.Goals as goal
 
 pub plain_stop-requires : goal.plain_stop-requires
@@ -12,6 +12,5 @@ plain_stop-requires c =
 
 pub returns : goal.returns
 returns c =
-    let behind = subst (λ (b : List ℕ). IsFront [] b c.plain_stop.result) (take_rest c.args.text.now c.run_len-len.result) c.plain_stop.ensures in
-    fronts-plain c.args.text.now _ _ _ c.run_len-len.ensures.value c.run_len-len.ensures.inside behind
-    (plain-none _ _ (run-behind [] c.args.text.now _ c.run_len-len.ensures.value) behind) c.ahead.ensures
+    ahead-plain c.args.text.now _ c.args.from _ c.run_len-len.ensures.value c.run_len-len.ensures.inside
+    (subst (λ (b : List ℕ). IsFront [] b c.plain_stop.result) (take_rest c.args.text.now c.run_len-len.result) c.plain_stop.ensures)

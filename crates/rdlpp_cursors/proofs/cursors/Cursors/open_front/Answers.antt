@@ -3,7 +3,7 @@ use Rattle.std.specs.Prelude.{nat_le}
 use Rattle.std.proofs.lemmas.Bool.{true≢false, le-leb, lt-leb}
 use Rattle.rdlpp_cursors.specs.Places.{texts_of}
 use Rattle.rdlpp_cursors.proofs.Passing.{pass-bare}
-use Rattle.rdlpp_cursors.proofs.Taking.{ended-spent, idle-closed, idle-formal, idle-last, idle-run, idle-usage, taken-by, unlent-wordless}
+use Rattle.rdlpp_cursors.proofs.Taking.{ended-spent, idle-closed, idle-formal, idle-last, idle-usage, taken-by, unlent-wordless}
 use Rattle.rdlpp_cursors.proofs.Usages.{fault-bare, placed-wordless}
 use Rattle.rdlpp_cursors.proofs.Words.{word-none}
 use Rattle.rdlpp_cursors.proofs.cursors.Cursors.open_front.Goals as goal
@@ -24,9 +24,6 @@ returns-in-Ended-2-clause-idle c hit = absurd (true≢false (sym hit ∙ idle-cl
       | then-lent+else-len-le1 w ↦ lt-leb _ _ (omega (arith, w.if-len-le1.false, w.len.ensures.value))
       | else-lent w ↦ absurd (true≢false (sym l ∙ w.if-lent.false))
     ]
-
-pub returns-in-Run-clause-taken : goal.returns-in-Run-clause-taken
-returns-in-Run-clause-taken c miss = absurd (true≢false (sym (idle-run _ _ _ _ c.in-Run.is c.requires.fresh) ∙ miss))
 
 pub returns-in-Formal-clause-idle : goal.returns-in-Formal-clause-idle
 returns-in-Formal-clause-idle c hit = absurd (true≢false (sym hit ∙ idle-formal _ _ _ _ _ c.in-Formal.is))

@@ -1,73 +1,103 @@
-use Rattle.std.proofs.Common.{sym, ap, ◌∙◌, arith}
-use Rattle.rdlpp_cursors.specs.Places.{source_text, texts_of}
-use Rattle.rdlpp_cursors.specs.declared.place.TextSource.{TextSource}
-use Rattle.rdlpp_cursors.proofs.Stepping.{look-inside}
-use Rattle.rdlpp_cursors.proofs.Taking.{on-lent, on-next, on-placed, on-taken, open-unlent}
+use Rattle.std.proofs.lemmas.Bool.{le-ltb}
+use Rattle.rdlpp_cursors.specs.Places.{texts_of}
+use Rattle.rdlpp_cursors.proofs.Taking.{on-lent, on-look, on-placed, on-taken, open-unlent}
 use Rattle.rdlpp_cursors.proofs.cursors.Cursors.step.Goals as goal
 
-pub behind_run-next-requires : goal.behind_run-next-requires
-behind_run-next-requires c n e =
-    let inside = look-inside _ _ _ n c.look-sight.ensures.look e in
-    omega (arith, inside, c.look-sight.ensures.short)
-
 pub open_front-opened-requires-clause-some : goal.open_front-opened-requires-clause-some
-open_front-opened-requires-clause-some c = (on-next (texts_of c.args.table.now.macros c.args.arguments.now) c.args.self.now c.move_to.new.self c.look-sight.result.look c.behind_run-next.result c.requires.sound c.look-sight.ensures.look c.look-sight.ensures.behind c.requires.some c.behind_run-next.ensures c.move_to.ensures).some
+open_front-opened-requires-clause-some c =
+    (on-look (texts_of c.args.table.now.macros c.args.arguments.now) c.args.self.now c.move_to.new.self c.look-sight.result.look c.requires.sound c.look-sight.ensures.look c.requires.some c.move_to.ensures).some
 
 pub open_front-opened-requires-clause-sound : goal.open_front-opened-requires-clause-sound
-open_front-opened-requires-clause-sound c = (on-next (texts_of c.args.table.now.macros c.args.arguments.now) c.args.self.now c.move_to.new.self c.look-sight.result.look c.behind_run-next.result c.requires.sound c.look-sight.ensures.look c.look-sight.ensures.behind c.requires.some c.behind_run-next.ensures c.move_to.ensures).sound
+open_front-opened-requires-clause-sound c =
+    (on-look (texts_of c.args.table.now.macros c.args.arguments.now) c.args.self.now c.move_to.new.self c.look-sight.result.look c.requires.sound c.look-sight.ensures.look c.requires.some c.move_to.ensures).sound
 
 pub open_front-opened-requires-clause-look : goal.open_front-opened-requires-clause-look
-open_front-opened-requires-clause-look c = (on-next (texts_of c.args.table.now.macros c.args.arguments.now) c.args.self.now c.move_to.new.self c.look-sight.result.look c.behind_run-next.result c.requires.sound c.look-sight.ensures.look c.look-sight.ensures.behind c.requires.some c.behind_run-next.ensures c.move_to.ensures).looks
-
-pub open_front-opened-requires-clause-fresh : goal.open_front-opened-requires-clause-fresh
-open_front-opened-requires-clause-fresh c miss = (on-next (texts_of c.args.table.now.macros c.args.arguments.now) c.args.self.now c.move_to.new.self c.look-sight.result.look c.behind_run-next.result c.requires.sound c.look-sight.ensures.look c.look-sight.ensures.behind c.requires.some c.behind_run-next.ensures c.move_to.ensures).front (sym c.is_run-lent.ensures ∙ miss)
-
-pub open_front-opened-requires-clause-text : goal.open_front-opened-requires-clause-text
-open_front-opened-requires-clause-text c =
-    c.look-sight.ensures.text
-    ∙ ap (λ (s : TextSource). source_text (texts_of c.args.table.now.macros c.args.arguments.now) s) (sym (on-next (texts_of c.args.table.now.macros c.args.arguments.now) c.args.self.now c.move_to.new.self c.look-sight.result.look c.behind_run-next.result c.requires.sound c.look-sight.ensures.look c.look-sight.ensures.behind c.requires.some c.behind_run-next.ensures c.move_to.ensures).source)
+open_front-opened-requires-clause-look c =
+    (on-look (texts_of c.args.table.now.macros c.args.arguments.now) c.args.self.now c.move_to.new.self c.look-sight.result.look c.requires.sound c.look-sight.ensures.look c.requires.some c.move_to.ensures).looks
 
 pub returns-then-lent-clause-step : goal.returns-then-lent-clause-step
-returns-then-lent-clause-step c = (on-lent (texts_of c.args.table.now.macros c.args.arguments.now) c.args.self.now c.move_to.new.self c.open_front-opened.new.self c.look-sight.result.look c.behind_run-next.result c.is_run-lent.result c.open_front-opened.result (on-next (texts_of c.args.table.now.macros c.args.arguments.now) c.args.self.now c.move_to.new.self c.look-sight.result.look c.behind_run-next.result c.requires.sound c.look-sight.ensures.look c.look-sight.ensures.behind c.requires.some c.behind_run-next.ensures c.move_to.ensures) c.is_run-lent.ensures c.if-lent.true c.open_front-opened.ensures.taken c.open_front-opened.ensures.idle).is_step
+returns-then-lent-clause-step c =
+    (on-lent (texts_of c.args.table.now.macros c.args.arguments.now) c.args.self.now c.move_to.new.self c.open_front-opened.new.self c.look-sight.result.look _ c.open_front-opened.result
+    (on-look (texts_of c.args.table.now.macros c.args.arguments.now) c.args.self.now c.move_to.new.self c.look-sight.result.look c.requires.sound c.look-sight.ensures.look c.requires.some c.move_to.ensures)
+    c.if-lent.true c.open_front-opened.ensures.taken c.open_front-opened.ensures.idle).is_step
 
 pub returns-then-lent-clause-sound : goal.returns-then-lent-clause-sound
-returns-then-lent-clause-sound c = (on-lent (texts_of c.args.table.now.macros c.args.arguments.now) c.args.self.now c.move_to.new.self c.open_front-opened.new.self c.look-sight.result.look c.behind_run-next.result c.is_run-lent.result c.open_front-opened.result (on-next (texts_of c.args.table.now.macros c.args.arguments.now) c.args.self.now c.move_to.new.self c.look-sight.result.look c.behind_run-next.result c.requires.sound c.look-sight.ensures.look c.look-sight.ensures.behind c.requires.some c.behind_run-next.ensures c.move_to.ensures) c.is_run-lent.ensures c.if-lent.true c.open_front-opened.ensures.taken c.open_front-opened.ensures.idle).sound
+returns-then-lent-clause-sound c =
+    (on-lent (texts_of c.args.table.now.macros c.args.arguments.now) c.args.self.now c.move_to.new.self c.open_front-opened.new.self c.look-sight.result.look _ c.open_front-opened.result
+    (on-look (texts_of c.args.table.now.macros c.args.arguments.now) c.args.self.now c.move_to.new.self c.look-sight.result.look c.requires.sound c.look-sight.ensures.look c.requires.some c.move_to.ensures)
+    c.if-lent.true c.open_front-opened.ensures.taken c.open_front-opened.ensures.idle).sound
 
 pub returns-then-lent-clause-kept : goal.returns-then-lent-clause-kept
-returns-then-lent-clause-kept c = (on-lent (texts_of c.args.table.now.macros c.args.arguments.now) c.args.self.now c.move_to.new.self c.open_front-opened.new.self c.look-sight.result.look c.behind_run-next.result c.is_run-lent.result c.open_front-opened.result (on-next (texts_of c.args.table.now.macros c.args.arguments.now) c.args.self.now c.move_to.new.self c.look-sight.result.look c.behind_run-next.result c.requires.sound c.look-sight.ensures.look c.look-sight.ensures.behind c.requires.some c.behind_run-next.ensures c.move_to.ensures) c.is_run-lent.ensures c.if-lent.true c.open_front-opened.ensures.taken c.open_front-opened.ensures.idle).kept
+returns-then-lent-clause-kept c =
+    (on-lent (texts_of c.args.table.now.macros c.args.arguments.now) c.args.self.now c.move_to.new.self c.open_front-opened.new.self c.look-sight.result.look _ c.open_front-opened.result
+    (on-look (texts_of c.args.table.now.macros c.args.arguments.now) c.args.self.now c.move_to.new.self c.look-sight.result.look c.requires.sound c.look-sight.ensures.look c.requires.some c.move_to.ensures)
+    c.if-lent.true c.open_front-opened.ensures.taken c.open_front-opened.ensures.idle).kept
 
 pub returns-then-lent-clause-digits : goal.returns-then-lent-clause-digits
-returns-then-lent-clause-digits c = (on-lent (texts_of c.args.table.now.macros c.args.arguments.now) c.args.self.now c.move_to.new.self c.open_front-opened.new.self c.look-sight.result.look c.behind_run-next.result c.is_run-lent.result c.open_front-opened.result (on-next (texts_of c.args.table.now.macros c.args.arguments.now) c.args.self.now c.move_to.new.self c.look-sight.result.look c.behind_run-next.result c.requires.sound c.look-sight.ensures.look c.look-sight.ensures.behind c.requires.some c.behind_run-next.ensures c.move_to.ensures) c.is_run-lent.ensures c.if-lent.true c.open_front-opened.ensures.taken c.open_front-opened.ensures.idle).digits
+returns-then-lent-clause-digits c =
+    (on-lent (texts_of c.args.table.now.macros c.args.arguments.now) c.args.self.now c.move_to.new.self c.open_front-opened.new.self c.look-sight.result.look _ c.open_front-opened.result
+    (on-look (texts_of c.args.table.now.macros c.args.arguments.now) c.args.self.now c.move_to.new.self c.look-sight.result.look c.requires.sound c.look-sight.ensures.look c.requires.some c.move_to.ensures)
+    c.if-lent.true c.open_front-opened.ensures.taken c.open_front-opened.ensures.idle).digits
 
 pub returns-then-lent-clause-refused : goal.returns-then-lent-clause-refused
-returns-then-lent-clause-refused c = (on-lent (texts_of c.args.table.now.macros c.args.arguments.now) c.args.self.now c.move_to.new.self c.open_front-opened.new.self c.look-sight.result.look c.behind_run-next.result c.is_run-lent.result c.open_front-opened.result (on-next (texts_of c.args.table.now.macros c.args.arguments.now) c.args.self.now c.move_to.new.self c.look-sight.result.look c.behind_run-next.result c.requires.sound c.look-sight.ensures.look c.look-sight.ensures.behind c.requires.some c.behind_run-next.ensures c.move_to.ensures) c.is_run-lent.ensures c.if-lent.true c.open_front-opened.ensures.taken c.open_front-opened.ensures.idle).refused
+returns-then-lent-clause-refused c =
+    (on-lent (texts_of c.args.table.now.macros c.args.arguments.now) c.args.self.now c.move_to.new.self c.open_front-opened.new.self c.look-sight.result.look _ c.open_front-opened.result
+    (on-look (texts_of c.args.table.now.macros c.args.arguments.now) c.args.self.now c.move_to.new.self c.look-sight.result.look c.requires.sound c.look-sight.ensures.look c.requires.some c.move_to.ensures)
+    c.if-lent.true c.open_front-opened.ensures.taken c.open_front-opened.ensures.idle).refused
 
 pub returns-then-lent-clause-placed : goal.returns-then-lent-clause-placed
-returns-then-lent-clause-placed c = on-placed _ _ _ _ _ _ (on-next (texts_of c.args.table.now.macros c.args.arguments.now) c.args.self.now c.move_to.new.self c.look-sight.result.look c.behind_run-next.result c.requires.sound c.look-sight.ensures.look c.look-sight.ensures.behind c.requires.some c.behind_run-next.ensures c.move_to.ensures) c.is_run-lent.ensures c.if-lent.true
+returns-then-lent-clause-placed c = on-placed _ _ _ _ (on-look (texts_of c.args.table.now.macros c.args.arguments.now) c.args.self.now c.move_to.new.self c.look-sight.result.look c.requires.sound c.look-sight.ensures.look c.requires.some c.move_to.ensures) c.if-lent.true
 
 pub returns-else-lent-clause-step : goal.returns-else-lent-clause-step
-returns-else-lent-clause-step c = (on-taken (texts_of c.args.table.now.macros c.args.arguments.now) c.args.self.now c.move_to.new.self c.open_front-opened.new.self c.look-sight.result.look c.behind_run-next.result c.is_run-lent.result c.open_front-opened.result (on-next (texts_of c.args.table.now.macros c.args.arguments.now) c.args.self.now c.move_to.new.self c.look-sight.result.look c.behind_run-next.result c.requires.sound c.look-sight.ensures.look c.look-sight.ensures.behind c.requires.some c.behind_run-next.ensures c.move_to.ensures) c.is_run-lent.ensures c.if-lent.false c.open_front-opened.ensures.taken).is_step
+returns-else-lent-clause-step c =
+    (on-taken (texts_of c.args.table.now.macros c.args.arguments.now) c.args.self.now c.move_to.new.self c.open_front-opened.new.self c.look-sight.result.look _ c.open_front-opened.result
+    (on-look (texts_of c.args.table.now.macros c.args.arguments.now) c.args.self.now c.move_to.new.self c.look-sight.result.look c.requires.sound c.look-sight.ensures.look c.requires.some c.move_to.ensures)
+    c.if-lent.false (le-ltb _ _ c.if-lent.false) c.open_front-opened.ensures.taken).is_step
 
 pub returns-else-lent-clause-sound : goal.returns-else-lent-clause-sound
-returns-else-lent-clause-sound c = (on-taken (texts_of c.args.table.now.macros c.args.arguments.now) c.args.self.now c.move_to.new.self c.open_front-opened.new.self c.look-sight.result.look c.behind_run-next.result c.is_run-lent.result c.open_front-opened.result (on-next (texts_of c.args.table.now.macros c.args.arguments.now) c.args.self.now c.move_to.new.self c.look-sight.result.look c.behind_run-next.result c.requires.sound c.look-sight.ensures.look c.look-sight.ensures.behind c.requires.some c.behind_run-next.ensures c.move_to.ensures) c.is_run-lent.ensures c.if-lent.false c.open_front-opened.ensures.taken).sound
+returns-else-lent-clause-sound c =
+    (on-taken (texts_of c.args.table.now.macros c.args.arguments.now) c.args.self.now c.move_to.new.self c.open_front-opened.new.self c.look-sight.result.look _ c.open_front-opened.result
+    (on-look (texts_of c.args.table.now.macros c.args.arguments.now) c.args.self.now c.move_to.new.self c.look-sight.result.look c.requires.sound c.look-sight.ensures.look c.requires.some c.move_to.ensures)
+    c.if-lent.false (le-ltb _ _ c.if-lent.false) c.open_front-opened.ensures.taken).sound
 
 pub returns-else-lent-clause-kept : goal.returns-else-lent-clause-kept
-returns-else-lent-clause-kept c = (on-taken (texts_of c.args.table.now.macros c.args.arguments.now) c.args.self.now c.move_to.new.self c.open_front-opened.new.self c.look-sight.result.look c.behind_run-next.result c.is_run-lent.result c.open_front-opened.result (on-next (texts_of c.args.table.now.macros c.args.arguments.now) c.args.self.now c.move_to.new.self c.look-sight.result.look c.behind_run-next.result c.requires.sound c.look-sight.ensures.look c.look-sight.ensures.behind c.requires.some c.behind_run-next.ensures c.move_to.ensures) c.is_run-lent.ensures c.if-lent.false c.open_front-opened.ensures.taken).kept
+returns-else-lent-clause-kept c =
+    (on-taken (texts_of c.args.table.now.macros c.args.arguments.now) c.args.self.now c.move_to.new.self c.open_front-opened.new.self c.look-sight.result.look _ c.open_front-opened.result
+    (on-look (texts_of c.args.table.now.macros c.args.arguments.now) c.args.self.now c.move_to.new.self c.look-sight.result.look c.requires.sound c.look-sight.ensures.look c.requires.some c.move_to.ensures)
+    c.if-lent.false (le-ltb _ _ c.if-lent.false) c.open_front-opened.ensures.taken).kept
 
 pub returns-else-lent-clause-digits : goal.returns-else-lent-clause-digits
-returns-else-lent-clause-digits c = (on-taken (texts_of c.args.table.now.macros c.args.arguments.now) c.args.self.now c.move_to.new.self c.open_front-opened.new.self c.look-sight.result.look c.behind_run-next.result c.is_run-lent.result c.open_front-opened.result (on-next (texts_of c.args.table.now.macros c.args.arguments.now) c.args.self.now c.move_to.new.self c.look-sight.result.look c.behind_run-next.result c.requires.sound c.look-sight.ensures.look c.look-sight.ensures.behind c.requires.some c.behind_run-next.ensures c.move_to.ensures) c.is_run-lent.ensures c.if-lent.false c.open_front-opened.ensures.taken).digits
+returns-else-lent-clause-digits c =
+    (on-taken (texts_of c.args.table.now.macros c.args.arguments.now) c.args.self.now c.move_to.new.self c.open_front-opened.new.self c.look-sight.result.look _ c.open_front-opened.result
+    (on-look (texts_of c.args.table.now.macros c.args.arguments.now) c.args.self.now c.move_to.new.self c.look-sight.result.look c.requires.sound c.look-sight.ensures.look c.requires.some c.move_to.ensures)
+    c.if-lent.false (le-ltb _ _ c.if-lent.false) c.open_front-opened.ensures.taken).digits
 
 pub returns-else-lent-clause-refused : goal.returns-else-lent-clause-refused
-returns-else-lent-clause-refused c = (on-taken (texts_of c.args.table.now.macros c.args.arguments.now) c.args.self.now c.move_to.new.self c.open_front-opened.new.self c.look-sight.result.look c.behind_run-next.result c.is_run-lent.result c.open_front-opened.result (on-next (texts_of c.args.table.now.macros c.args.arguments.now) c.args.self.now c.move_to.new.self c.look-sight.result.look c.behind_run-next.result c.requires.sound c.look-sight.ensures.look c.look-sight.ensures.behind c.requires.some c.behind_run-next.ensures c.move_to.ensures) c.is_run-lent.ensures c.if-lent.false c.open_front-opened.ensures.taken).refused
+returns-else-lent-clause-refused c =
+    (on-taken (texts_of c.args.table.now.macros c.args.arguments.now) c.args.self.now c.move_to.new.self c.open_front-opened.new.self c.look-sight.result.look _ c.open_front-opened.result
+    (on-look (texts_of c.args.table.now.macros c.args.arguments.now) c.args.self.now c.move_to.new.self c.look-sight.result.look c.requires.sound c.look-sight.ensures.look c.requires.some c.move_to.ensures)
+    c.if-lent.false (le-ltb _ _ c.if-lent.false) c.open_front-opened.ensures.taken).refused
 
 pub returns-else-lent-clause-placed : goal.returns-else-lent-clause-placed
-returns-else-lent-clause-placed c = (on-taken (texts_of c.args.table.now.macros c.args.arguments.now) c.args.self.now c.move_to.new.self c.open_front-opened.new.self c.look-sight.result.look c.behind_run-next.result c.is_run-lent.result c.open_front-opened.result (on-next (texts_of c.args.table.now.macros c.args.arguments.now) c.args.self.now c.move_to.new.self c.look-sight.result.look c.behind_run-next.result c.requires.sound c.look-sight.ensures.look c.look-sight.ensures.behind c.requires.some c.behind_run-next.ensures c.move_to.ensures) c.is_run-lent.ensures c.if-lent.false c.open_front-opened.ensures.taken).placed
+returns-else-lent-clause-placed c =
+    (on-taken (texts_of c.args.table.now.macros c.args.arguments.now) c.args.self.now c.move_to.new.self c.open_front-opened.new.self c.look-sight.result.look _ c.open_front-opened.result
+    (on-look (texts_of c.args.table.now.macros c.args.arguments.now) c.args.self.now c.move_to.new.self c.look-sight.result.look c.requires.sound c.look-sight.ensures.look c.requires.some c.move_to.ensures)
+    c.if-lent.false (le-ltb _ _ c.if-lent.false) c.open_front-opened.ensures.taken).placed
 
 pub returns-else-lent-clause-fault : goal.returns-else-lent-clause-fault
-returns-else-lent-clause-fault c = (on-taken (texts_of c.args.table.now.macros c.args.arguments.now) c.args.self.now c.move_to.new.self c.open_front-opened.new.self c.look-sight.result.look c.behind_run-next.result c.is_run-lent.result c.open_front-opened.result (on-next (texts_of c.args.table.now.macros c.args.arguments.now) c.args.self.now c.move_to.new.self c.look-sight.result.look c.behind_run-next.result c.requires.sound c.look-sight.ensures.look c.look-sight.ensures.behind c.requires.some c.behind_run-next.ensures c.move_to.ensures) c.is_run-lent.ensures c.if-lent.false c.open_front-opened.ensures.taken).fault
+returns-else-lent-clause-fault c =
+    (on-taken (texts_of c.args.table.now.macros c.args.arguments.now) c.args.self.now c.move_to.new.self c.open_front-opened.new.self c.look-sight.result.look _ c.open_front-opened.result
+    (on-look (texts_of c.args.table.now.macros c.args.arguments.now) c.args.self.now c.move_to.new.self c.look-sight.result.look c.requires.sound c.look-sight.ensures.look c.requires.some c.move_to.ensures)
+    c.if-lent.false (le-ltb _ _ c.if-lent.false) c.open_front-opened.ensures.taken).fault
 
 pub returns-else-lent-clause-word : goal.returns-else-lent-clause-word
-returns-else-lent-clause-word c = (on-taken (texts_of c.args.table.now.macros c.args.arguments.now) c.args.self.now c.move_to.new.self c.open_front-opened.new.self c.look-sight.result.look c.behind_run-next.result c.is_run-lent.result c.open_front-opened.result (on-next (texts_of c.args.table.now.macros c.args.arguments.now) c.args.self.now c.move_to.new.self c.look-sight.result.look c.behind_run-next.result c.requires.sound c.look-sight.ensures.look c.look-sight.ensures.behind c.requires.some c.behind_run-next.ensures c.move_to.ensures) c.is_run-lent.ensures c.if-lent.false c.open_front-opened.ensures.taken).word
+returns-else-lent-clause-word c =
+    (on-taken (texts_of c.args.table.now.macros c.args.arguments.now) c.args.self.now c.move_to.new.self c.open_front-opened.new.self c.look-sight.result.look _ c.open_front-opened.result
+    (on-look (texts_of c.args.table.now.macros c.args.arguments.now) c.args.self.now c.move_to.new.self c.look-sight.result.look c.requires.sound c.look-sight.ensures.look c.requires.some c.move_to.ensures)
+    c.if-lent.false (le-ltb _ _ c.if-lent.false) c.open_front-opened.ensures.taken).word
 
 pub returns-else-lent-clause-lends : goal.returns-else-lent-clause-lends
-returns-else-lent-clause-lends c = open-unlent _ _ (on-taken (texts_of c.args.table.now.macros c.args.arguments.now) c.args.self.now c.move_to.new.self c.open_front-opened.new.self c.look-sight.result.look c.behind_run-next.result c.is_run-lent.result c.open_front-opened.result (on-next (texts_of c.args.table.now.macros c.args.arguments.now) c.args.self.now c.move_to.new.self c.look-sight.result.look c.behind_run-next.result c.requires.sound c.look-sight.ensures.look c.look-sight.ensures.behind c.requires.some c.behind_run-next.ensures c.move_to.ensures) c.is_run-lent.ensures c.if-lent.false c.open_front-opened.ensures.taken).unlent
+returns-else-lent-clause-lends c =
+    open-unlent _ _ (on-taken (texts_of c.args.table.now.macros c.args.arguments.now) c.args.self.now c.move_to.new.self c.open_front-opened.new.self c.look-sight.result.look _ c.open_front-opened.result
+    (on-look (texts_of c.args.table.now.macros c.args.arguments.now) c.args.self.now c.move_to.new.self c.look-sight.result.look c.requires.sound c.look-sight.ensures.look c.requires.some c.move_to.ensures)
+    c.if-lent.false (le-ltb _ _ c.if-lent.false) c.open_front-opened.ensures.taken).unlent
