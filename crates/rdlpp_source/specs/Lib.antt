@@ -4,3 +4,4 @@ pub mod Sinks
 pub mod Search
 pub mod Texts
 pub mod Counted
+pub mod Buffered

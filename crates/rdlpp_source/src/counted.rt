@@ -45,7 +45,7 @@ impl<W> Counted<W> {
 }
 
 // A count with one more, up to `u64::MAX`.
-fn one_more(count: u64) -> u64
+pub(crate) fn one_more(count: u64) -> u64
     ensures { Counts true count result }
 {
     count.saturating_add(1)

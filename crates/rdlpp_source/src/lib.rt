@@ -1,13 +1,15 @@
 //! Where a preprocessor's texts come from and where its text goes: the traits `Sources` and `Sink`,
-//! sources in memory, and a sink over any writer.
+//! sources in memory, and sinks over any writer.
 #![tactic(auto)]
 
+mod buffered;
 mod counted;
 mod paths;
 mod sinks;
 mod sources;
 mod texts;
 
+pub use buffered::Buffered;
 pub use counted::Counted;
 pub use paths::{folder_of, joined_path};
 pub use sinks::{Sink, SinkFault};
