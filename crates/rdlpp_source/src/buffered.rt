@@ -14,10 +14,10 @@ use std::io::{ErrorKind, Write};
 /// A sink that gathers bytes in front of a writer, as a `BufWriter` under a `Counted` does.
 ///
 /// What it took is what the writer holds and then what is held back. A part that fits is held back,
-/// and costs no call of the writer's; where it doesn't fit, what is held back is passed on first,
-/// and a part as long as the buffer is then written by one call of the writer's. An interrupted
-/// write of what is held back is tried again, and what the writer refuses stays held back. A
-/// flush passes on what is held back and flushes the writer, and so does a drop, but for the flush.
+/// with no call of the writer's. Where one doesn't fit, what is held back is passed on first, and a
+/// part as long as the buffer, or longer, is then one write of the writer's. A flush passes on what
+/// is held back and flushes the writer; a drop passes it on too, and tells no failure. Passing on
+/// repeats a write that was interrupted, and keeps what the writer didn't take.
 pub struct Buffered<W: Write + Drop> {
     writer: W,
     // what is held back; its capacity never grows
@@ -77,11 +77,10 @@ impl<W: Write + Drop> Buffered<W> {
         ensures bytes { WriteAppends (buffered_bytes W.contents self.old) (buffered_bytes W.contents self.new) result part.now }
         ensures counts { SameCounts self.old self.new }
     {
-        let is_long = part.len() >= self.held.capacity();
-        if (is_long || part.len() > self.held.capacity() - self.held.len()) && !self.pass_on() {
+        if part.len() > self.held.capacity() - self.held.len() && !self.pass_on() {
             return Err(SinkFault);
         }
-        if is_long {
+        if part.len() >= self.held.capacity() {
             return self.writer.write(part).map_err(|_| SinkFault);
         }
         hold(&mut self.held, part);
