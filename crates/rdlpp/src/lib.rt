@@ -20,7 +20,7 @@ pub use opening::open_reading;
 pub use options::Options;
 pub use preprocessing::preprocess;
 pub use rdlpp_expand::{Fault, FaultKind, ReadEnd, ReadPart, Reading, RunFault};
-pub use rdlpp_source::{Counted, Found, Sink, SinkFault, SourceFault, Sources, Texts};
+pub use rdlpp_source::{Buffered, Counted, Found, Sink, SinkFault, SourceFault, Sources, Texts};
 pub use rdlpp_table::{LimitFault, Limits, NoMemory};
 pub use reporting::report;
 pub use status::exit_status;

@@ -7,7 +7,7 @@ mod output;
 mod words;
 
 use output::{Output, open_output};
-use rdlpp::{Counted, Folders, Invocation, PrepFault, UsageFault, exit_status, preprocess, report};
+use rdlpp::{Buffered, Folders, Invocation, PrepFault, UsageFault, exit_status, preprocess, report};
 use std::alloc::AllocError;
 use std::io::{BufWriter, Write};
 use std::process::ExitCode;
@@ -52,7 +52,7 @@ fn preprocess_to(
     invocation: &Invocation,
     output: Output,
 ) -> Result<u64, PrepFault> {
-    let Ok(writer) = BufWriter::with_capacity(rt.alloc(), OUTPUT_BYTES, output) else {
+    let Ok(mut writer) = Buffered::with_capacity(rt.alloc(), OUTPUT_BYTES, output) else {
         return Err(PrepFault::NoMemory);
     };
     let Ok(sources) = folders_of(rt, invocation) else {
@@ -63,7 +63,7 @@ fn preprocess_to(
         &invocation.options,
         sources,
         invocation.source.as_str(),
-        &mut Counted::new(writer),
+        &mut writer,
     )
 }
 

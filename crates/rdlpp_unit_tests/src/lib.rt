@@ -1,9 +1,11 @@
-//! Tests of the crates below the engine, each by its public items: tokens, lines, the macro table, sources, calls,
+//! Tests of the crates below the engine, each by its public items: tokens, lines, the macro table, sources, sinks, calls,
 //! conditionals, open texts, open sources, arguments, fronts, and what an engine owes.
 #![tactic(auto)]
 
 #[cfg(test)]
 mod arguments_tests;
+#[cfg(test)]
+mod buffered_tests;
 #[cfg(test)]
 mod calls_tests;
 #[cfg(test)]
