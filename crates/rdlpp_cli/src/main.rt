@@ -7,7 +7,9 @@ mod output;
 mod words;
 
 use output::{Output, open_output};
-use rdlpp::{Buffered, Folders, Invocation, PrepFault, UsageFault, exit_status, preprocess, report};
+use rdlpp::{
+    Buffered, Folders, Invocation, PrepFault, UsageFault, exit_status, preprocess, report,
+};
 use std::alloc::AllocError;
 use std::io::{BufWriter, Write};
 use std::process::ExitCode;
