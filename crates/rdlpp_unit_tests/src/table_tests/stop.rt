@@ -61,6 +61,8 @@ fn a_range_of_a_body_is_read_as_a_text_of_its_own(rt: HostRuntime) {
     let Some(id) = table.find(b"P".as_slice()) else {
         panic!(rt; "the macro isn't found");
     };
+    let len = table.body(id).len();
+    assert_eq!(rt; len, 13);
     let first = Stop::Formal {
         at: 3,
         len: 1,
@@ -86,7 +88,7 @@ fn a_range_of_a_body_is_read_as_a_text_of_its_own(rt: HostRuntime) {
     assert_eq!(rt; table.stop(id, 8, 10), cut);
     assert_eq!(rt; table.stop(id, 8, 11), Stop::None);
     assert_eq!(rt;
-        table.stop(id, 7, table.body(id).len()),
+        table.stop(id, 7, len),
         Stop::Formal {
             at: 12,
             len: 1,
