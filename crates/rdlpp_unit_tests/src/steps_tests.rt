@@ -26,6 +26,7 @@ const ITS_WORD: &str =
 #[test]
 fn owes_nothing_at_first(rt: HostRuntime) {
     let mut owed = Owed::nothing();
+    assert!(rt; owed.is_nothing());
     assert!(rt; owed.take(5).is_none());
 }
 
@@ -45,6 +46,7 @@ fn owes_line_ends(rt: HostRuntime) {
 fn owes_an_origin_line(rt: HostRuntime) {
     let mut owed = Owed::nothing();
     owed.owe_origin(true, 120);
+    assert!(rt; !owed.is_nothing());
     expect_piece(&rt, &mut owed, OwedPart::Label, b"// origin: ");
     expect_piece(&rt, &mut owed, OwedPart::Name, b"m.rdl");
     expect_piece(&rt, &mut owed, OwedPart::Colon, b":");
