@@ -37,7 +37,7 @@ const MOST_BINDINGS: usize = 255;
 ///
 /// No call but `new` takes memory.
 #[derive(Drop)]
-pub struct Cursors {
+pub(crate) struct Cursors {
     slots: Vec<Slot>,
     // the open texts stand from here on, the innermost first
     first: usize,
@@ -77,7 +77,7 @@ impl Cursors {
     ///
     /// # Errors
     /// `AllocError` where there was no memory for them.
-    pub fn new(alloc: Global, depth: usize) -> Result<Cursors, AllocError>
+    pub(crate) fn new(alloc: Global, depth: usize) -> Result<Cursors, AllocError>
         requires { depth ≤ 1024 }
         ensures { IfOk result (λ c. c ≡ record { opens = []; line = 0; depth = depth }) }
     {
@@ -100,14 +100,14 @@ impl Cursors {
     }
 
     /// Whether no text is open.
-    pub fn is_empty(&self) -> bool
+    pub(crate) fn is_empty(&self) -> bool
         ensures { result ≡ (length self.now.opens == 0) }
     {
         self.len() == 0
     }
 
     /// How many texts are open.
-    pub fn len(&self) -> usize
+    pub(crate) fn len(&self) -> usize
         ensures value { result ≡ length self.now.opens }
         ensures few { length self.now.opens ≤ self.now.depth }
     {
@@ -115,14 +115,14 @@ impl Cursors {
     }
 
     /// The line of the usage in the source that opened them.
-    pub fn line(&self) -> u64
+    pub(crate) fn line(&self) -> u64
         ensures { result ≡ self.now.line }
     {
         self.line
     }
 
     /// How many ranges the calls of the open bodies have bound.
-    pub fn bound(&self) -> usize
+    pub(crate) fn bound(&self) -> usize
         ensures { result ≡ bound_by self.now.opens }
     {
         let _first = self.first;
@@ -226,7 +226,7 @@ impl Cursors {
     }
 
     /// Opens the body of a macro for a usage without arguments, which stands in a source at a line.
-    pub fn open_body(&mut self, table: &Table, id: MacroId, line: u64)
+    pub(crate) fn open_body(&mut self, table: &Table, id: MacroId, line: u64)
         requires id { id < length table.now.macros }
         requires plain { option_map length (macro_at table.now.macros id).formals ≡ None }
         requires closed { self.old.opens ≡ [] }
@@ -257,7 +257,7 @@ impl Cursors {
     /// - `ArgumentsMissing`, `ArgumentsOpen` and `ArgumentCount` for a call of a macro with a list, with that name
     ///   (IEEE 1364-2001, `define`).
     /// - `DepthPassed` where as many texts are open as there is room for, without a word (this project's profile).
-    pub fn step(&mut self, table: &Table, arguments: &[u8]) -> CursorStep
+    pub(crate) fn step(&mut self, table: &Table, arguments: &[u8]) -> CursorStep
         requires some { 0 < length self.old.opens }
         requires sound { AreSound (texts_of table.now.macros arguments.now) self.old.opens }
         ensures step { IsStep self.old.line self.old.depth (texts_of table.now.macros arguments.now) self.old.opens result self.new.opens }

@@ -4,12 +4,15 @@
 mod cursors;
 mod front;
 mod guesses;
+mod macros;
+mod open_texts;
 mod place;
 mod scopes;
 mod slot;
 mod step;
 
-pub use cursors::Cursors;
+pub use macros::Macros;
+pub use open_texts::OpenTexts;
 pub use place::{TextPlace, TextSource};
 pub use scopes::text_at;
 pub use step::{CursorFault, CursorStep};

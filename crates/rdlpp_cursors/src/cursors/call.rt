@@ -39,7 +39,7 @@ impl Cursors {
     ///
     /// [`FaultKind::ArgumentCount`] where the call has more or fewer parts than the macro has formals, or where a `//` comment
     /// stands in what is kept of it, as it does of no call that was read. Nothing changes then.
-    pub fn open_call(
+    pub(crate) fn open_call(
         &mut self,
         table: &Table,
         arguments: &[u8],
