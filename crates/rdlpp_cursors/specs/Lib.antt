@@ -8,3 +8,4 @@ pub mod Calls
 pub mod Digits
 pub mod Taking
 pub mod Guesses
+pub mod Flats

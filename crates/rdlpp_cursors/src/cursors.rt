@@ -1,21 +1,23 @@
 // The stack of open texts.
-ghost use Rattle.std.specs.Prelude.{[], length, true, IfOk, List, None, ℕ, ◌==◌, ◌<◌, ◌≡◌, ◌≤◌, ◌∷◌, ◌^◌, drop, nat_le};
+ghost use Rattle.std.specs.Prelude.{[], length, true, IfOk, IfSome, IsTrue, List, None, ℕ, ◌==◌, ◌<◌, ◌≡◌, ◌≤◌, ◌∷◌, ◌^◌, drop, nat_le};
 ghost use Rattle.rdlpp_scan.specs.declared.token.Mode.TheVariants.{Plain};
 ghost use Rattle.std.specs.Option.{option_map};
 ghost use Rattle.rdlpp_table.specs.View.{macro_at};
 ghost use Rattle.rdlpp_meaning.specs.Opens.{open_body, OpenBody, Texts};
 ghost use Rattle.rdlpp_cursors.specs.Digits.{IsFalling};
+ghost use Rattle.rdlpp_cursors.specs.Flats.{HasMovedOn, IsAdmitted, IsWholeBody};
 ghost use Rattle.rdlpp_cursors.specs.Fronts.{IsLookAhead};
 ghost use Rattle.rdlpp_cursors.specs.Opened.{bound_by, is_spent, kept_by, moved_to, open_of, IsNoBody};
 ghost use Rattle.rdlpp_cursors.specs.Places.{source_text, texts_of};
 ghost use Rattle.rdlpp_cursors.specs.Usages.{IsTextFault};
-ghost use Rattle.rdlpp_cursors.specs.Steps.{AreSound, IsStep, KeepsOpen, StaysRefused, IsPlacedStep, NamesWord};
+ghost use Rattle.rdlpp_cursors.specs.Steps.{AreKnown, AreSound, IsStep, KeepsOpen, StaysRefused, IsPlacedStep, NamesWord};
 ghost use Rattle.rdlpp_cursors.specs.Taking.{IsTaken};
 ghost use Rattle.rdlpp_cursors.specs.declared.step.CursorStep.TheVariants.{Silent};
 
 mod call;
 mod usage;
 
+use crate::flat::Flat;
 use crate::front::{Sight, look_at};
 use crate::guesses::Guesses;
 use crate::place::TextPlace;
@@ -137,7 +139,7 @@ impl Cursors {
     }
 
     // Closes the innermost text, with the ranges that its call has bound.
-    fn close(&mut self)
+    pub(crate) fn close(&mut self)
         requires { 0 < length self.old.opens }
         ensures { self.new ≡ record self.old { opens = drop 1 self.old.opens } }
     {
@@ -225,6 +227,40 @@ impl Cursors {
         )
     }
 
+    // The macro whose whole body is the innermost text, where that has bound no range.
+    pub(crate) fn whole_body(&self, table: &Table) -> Option<MacroId>
+        requires some { 0 < length self.now.opens }
+        requires known { AreKnown table.now.macros self.now.opens }
+        ensures { IfSome result (λ id. IsWholeBody table.now.macros self.now.opens id) }
+    {
+        let slot = &self.slots[self.first];
+        match slot.kind {
+            SlotKind::Body { id, first } if first == self.bindings.len() => {
+                if slot.from == 0 && slot.end == table.body(id).len() {
+                    Some(id)
+                } else {
+                    None
+                }
+            }
+            _ => None,
+        }
+    }
+
+    // Whether the expansion of a macro may be lent in place of the innermost text, which is its body: there is room for as many
+    // texts as its usages open and for as many as it has runs, and no usage in it is in the text of its macro.
+    pub(crate) fn admits(&self, flat: &Flat) -> bool
+        requires some { 0 < length self.now.opens }
+        ensures { IsTrue result → IsAdmitted self.now flat.now }
+    {
+        let room = self.first + 1;
+        if room < flat.levels || room < flat.runs.left {
+            return false;
+        }
+        let slots = &self.slots.as_slice()[self.first..];
+        let bounds = scope_bounds(&slots[1..], slots[0].home);
+        flat.bounds.greatest < bounds.least || bounds.greatest < flat.bounds.least
+    }
+
     /// Opens the body of a macro for a usage without arguments, which stands in a source at a line.
     pub(crate) fn open_body(&mut self, table: &Table, id: MacroId, line: u64)
         requires id { id < length table.now.macros }
@@ -269,6 +305,7 @@ impl Cursors {
         ensures lends { KeepsOpen result self.new.opens }
         ensures fault { IsTextFault result }
         ensures word { NamesWord (texts_of table.now.macros arguments.now) result }
+        ensures moved { length self.old.opens < length self.new.opens → HasMovedOn self.old.opens (drop 1 self.new.opens) }
     {
         let sight = self.look(table, arguments);
         let look = sight.look;

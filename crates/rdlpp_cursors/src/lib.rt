@@ -2,11 +2,13 @@
 #![tactic(auto)]
 
 mod cursors;
+mod flat;
 mod front;
 mod guesses;
 mod macros;
 mod open_texts;
 mod place;
+mod run_list;
 mod scopes;
 mod slot;
 mod step;

@@ -1,17 +1,34 @@
 // The macros of a run.
 ghost use Rattle.std.specs.Prelude.{◌≡◌, IfSome, OnErr, is_some, length};
+ghost use Rattle.rdlpp_cursors.specs.Flats.{IsFlat};
 ghost use Rattle.rdlpp_scan.specs.SourceTokens.{logical_len};
 ghost use Rattle.rdlpp_table.specs.Define.{define_of, observed, set_of};
 ghost use Rattle.rdlpp_table.specs.Table.{macro_named, without};
 
-use rdlpp_table::{DefineFault, Table};
+use crate::flat::Flat;
+use rdlpp_table::{DefineFault, MacroId, Table};
 use std::marker::Model;
+
+mod flattening;
+
+// How many expansions are kept.
+const MOST_FLATS: usize = 8;
+
+// How often an expansion is looked for, while no other macro's is.
+const MOST_TRIES: u8 = 8;
 
 /// The macros of a run: their table, and the expansions of some of them that hold no more than a few runs of text, which are
 /// found while a text that uses them is open, and kept until the table changes.
 #[derive(Drop)]
 pub struct Macros {
     table: Table,
+    // each macro has one place, by its own place in the table
+    flats: [Flat; MOST_FLATS],
+    // whether what stands there is the expansion of its macro
+    known: [bool; MOST_FLATS],
+    // the macro whose body was opened there last, and how often its expansion was looked for
+    last: [usize; MOST_FLATS],
+    tries: [u8; MOST_FLATS],
 }
 
 impl Model for Macros {
@@ -20,6 +37,10 @@ impl Model for Macros {
     ghost Value = { TableView };
 
     ghost view = { λ m. m.table };
+
+    ghost use Rattle.rdlpp_cursors.specs.Flats.{AreKept};
+
+    ghost invariant = { λ m. AreKept m.table.macros m.known m.flats };
 }
 
 impl Macros {
@@ -27,7 +48,13 @@ impl Macros {
     pub fn new(table: Table) -> Macros
         ensures { result ≡ table }
     {
-        Macros { table }
+        Macros {
+            table,
+            flats: [Flat::new(0); MOST_FLATS],
+            known: [false; MOST_FLATS],
+            last: [0; MOST_FLATS],
+            tries: [0; MOST_FLATS],
+        }
     }
 
     /// Their table.
@@ -47,6 +74,7 @@ impl Macros {
         ensures refused { OnErr result (self.new ≡ self.old) }
         ensures limits { (self.new.most_bytes ≡ self.old.most_bytes) × (self.new.most_macros ≡ self.old.most_macros) }
     {
+        self.known = [false; MOST_FLATS];
         self.table.read_define(rest)
     }
 
@@ -59,6 +87,7 @@ impl Macros {
         ensures refused { OnErr result (self.new ≡ self.old) }
         ensures limits { (self.new.most_bytes ≡ self.old.most_bytes) × (self.new.most_macros ≡ self.old.most_macros) }
     {
+        self.known = [false; MOST_FLATS];
         self.table.set(name, text)
     }
 
@@ -67,6 +96,7 @@ impl Macros {
         ensures value { result ≡ is_some (macro_named self.old.macros name.now) }
         ensures table { self.new ≡ record self.old { macros = without name.now self.old.macros } }
     {
+        self.known = [false; MOST_FLATS];
         self.table.remove(name)
     }
 }

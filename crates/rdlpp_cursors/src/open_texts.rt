@@ -1,17 +1,19 @@
 // The open texts of a usage in a source.
-ghost use Rattle.std.specs.Prelude.{[], length, true, IfErr, IfOk, List, None, is_some, ℕ, ◌==◌, ◌<◌, ◌≡◌, ◌≤◌, ◌∷◌, ◌^◌};
+ghost use Rattle.std.specs.Prelude.{[], length, true, IfErr, IfOk, List, None, is_some, ℕ, ◌==◌, ◌<◌, ◌≡◌, ◌≤◌, ◌∷◌, ◌⊎◌, ◌^◌};
 ghost use Rattle.std.specs.Option.{option_map};
 ghost use Rattle.rdlpp_table.specs.View.{macro_at};
 ghost use Rattle.rdlpp_meaning.specs.Opens.{open_body};
 ghost use Rattle.rdlpp_cursors.specs.Calls.{IsCallMiscounted, IsCallStarted};
 ghost use Rattle.rdlpp_cursors.specs.Digits.{IsFalling};
+ghost use Rattle.rdlpp_cursors.specs.Flats.{IsSwapped};
 ghost use Rattle.rdlpp_cursors.specs.Opened.{bound_by};
 ghost use Rattle.rdlpp_cursors.specs.Places.{texts_of};
 ghost use Rattle.rdlpp_cursors.specs.Usages.{IsTextFault};
-ghost use Rattle.rdlpp_cursors.specs.Steps.{AreSound, IsStep, KeepsOpen, StaysRefused, IsPlacedStep, NamesWord};
+ghost use Rattle.rdlpp_cursors.specs.Steps.{AreKnown, AreSound, IsStep, KeepsOpen, StaysRefused, IsPlacedStep, NamesWord};
 
 use crate::cursors::Cursors;
 use crate::macros::Macros;
+use crate::run_list::Runs;
 use crate::step::CursorStep;
 use rdlpp_meaning::FaultKind;
 use rdlpp_table::{MacroId, Table};
@@ -24,6 +26,8 @@ use std::marker::Model;
 #[derive(Drop)]
 pub struct OpenTexts {
     cursors: Cursors,
+    // the runs that are lent before the innermost of them goes on
+    waiting: Runs,
 }
 
 impl Model for OpenTexts {
@@ -31,7 +35,11 @@ impl Model for OpenTexts {
 
     ghost Value = { CursorsView };
 
-    ghost view = { λ t. t.cursors };
+    ghost use Rattle.rdlpp_cursors.specs.Flats.{waiting_view, IsWaiting};
+
+    ghost view = { λ t. waiting_view t.waiting t.cursors };
+
+    ghost invariant = { λ t. IsWaiting t.waiting t.cursors };
 }
 
 impl OpenTexts {
@@ -44,7 +52,10 @@ impl OpenTexts {
         ensures { IfOk result (λ c. c ≡ record { opens = []; line = 0; depth = depth }) }
     {
         let cursors = Cursors::new(alloc, depth)?;
-        Ok(OpenTexts { cursors })
+        Ok(OpenTexts {
+            cursors,
+            waiting: Runs::new(),
+        })
     }
 
     /// Whether no text is open.
@@ -59,7 +70,7 @@ impl OpenTexts {
         ensures value { result ≡ length self.now.opens }
         ensures few { length self.now.opens ≤ self.now.depth }
     {
-        self.cursors.len()
+        self.waiting.left + self.cursors.len()
     }
 
     /// The line of the usage in the source that opened them.
@@ -145,6 +156,34 @@ impl OpenTexts {
         ensures fault { IsTextFault result }
         ensures word { NamesWord (texts_of macros.old.macros arguments.now) result }
     {
-        self.cursors.step(macros.table(), arguments)
+        if self.waiting.left > 0 {
+            return CursorStep::Lends(self.waiting.take());
+        }
+        let open = self.cursors.len();
+        let step = self.cursors.step(macros.table(), arguments);
+        if open < self.cursors.len() {
+            expand_known(&mut self.cursors, macros, &mut self.waiting);
+        }
+        step
+    }
+}
+
+// Where the innermost text is a body whose expansion is known to be a few runs, these wait in place of it.
+fn expand_known(cursors: &mut Cursors, macros: &mut Macros, waiting: &mut Runs)
+    requires some { 0 < length cursors.old.opens }
+    requires known { AreKnown macros.old.macros cursors.old.opens }
+    ensures table { macros.new ≡ macros.old }
+    ensures swapped { ((cursors.new ≡ cursors.old) × (waiting.new ≡ waiting.old)) ⊎ IsSwapped macros.old.macros cursors.old cursors.new waiting.new }
+{
+    let Some(id) = cursors.whole_body(macros.table()) else {
+        return;
+    };
+    macros.note(id);
+    let Some(flat) = macros.flat(id) else {
+        return;
+    };
+    if cursors.admits(flat) {
+        cursors.close();
+        *waiting = flat.runs;
     }
 }

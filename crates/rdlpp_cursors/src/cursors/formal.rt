@@ -1,7 +1,8 @@
 // The opening of what a formal stands for.
-ghost use Rattle.std.specs.Prelude.{[], length, ◌+◌, ◌<◌, ◌≡◌, ◌≤◌};
+ghost use Rattle.std.specs.Prelude.{drop, [], length, ◌+◌, ◌<◌, ◌≡◌, ◌≤◌};
 ghost use Rattle.std.specs.Option.{option_map};
 ghost use Rattle.rdlpp_cursors.specs.Digits.{IsFalling};
+ghost use Rattle.rdlpp_cursors.specs.Flats.{HasMovedOn};
 ghost use Rattle.rdlpp_cursors.specs.Fronts.{IsLook};
 ghost use Rattle.rdlpp_cursors.specs.Opened.{open_of};
 ghost use Rattle.rdlpp_cursors.specs.Places.{source_formals, texts_of};
@@ -45,6 +46,7 @@ impl Cursors {
         ensures unlent { IsUnlent result }
         ensures fault { IsTextFault result }
         ensures word { NamesWord (texts_of table.now.macros arguments.now) result }
+        ensures moved { length self.old.opens < length self.new.opens → HasMovedOn self.old.opens (drop 1 self.new.opens) }
     {
         let look = *look;
         let _macros = table.len();

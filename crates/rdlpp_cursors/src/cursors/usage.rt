@@ -1,11 +1,12 @@
 // Usages in open texts: their names, their faults, and the bodies of macros without a list.
-ghost use Rattle.std.specs.Prelude.{◌≡◌, IfErr, true, ◌==◌, ◌∷◌, ◌+◌, ◌<◌, ◌≤◌, ◌^◌, [], length};
+ghost use Rattle.std.specs.Prelude.{drop, ◌≡◌, IfErr, true, ◌==◌, ◌∷◌, ◌+◌, ◌<◌, ◌≤◌, ◌^◌, [], length};
 ghost use Rattle.std.specs.List.{list_any};
 ghost use Rattle.std.specs.Result.{MatchResult};
 ghost use Rattle.rdlpp_scan.specs.Reserved.{is_reserved};
 ghost use Rattle.rdlpp_table.specs.View.{macro_at};
 ghost use Rattle.rdlpp_meaning.specs.Opens.{open_body};
 ghost use Rattle.rdlpp_cursors.specs.Digits.{IsFalling};
+ghost use Rattle.rdlpp_cursors.specs.Flats.{HasMovedOn};
 ghost use Rattle.rdlpp_cursors.specs.Fronts.{IsLook};
 ghost use Rattle.rdlpp_cursors.specs.Opened.{moved_to};
 ghost use Rattle.rdlpp_cursors.specs.Places.{place_bytes, source_text, texts_of, IsSource};
@@ -50,6 +51,7 @@ impl Cursors {
         ensures unlent { IsUnlent result }
         ensures fault { IsTextFault result }
         ensures word { NamesWord (texts_of table.now.macros arguments.now) result }
+        ensures moved { length self.old.opens < length self.new.opens → HasMovedOn self.old.opens (drop 1 self.new.opens) }
     {
         let _macros = table.len();
         let id = match self.used_macro(table, arguments, text, look, len) {
