@@ -102,7 +102,7 @@ GivesUpTo macros id at bytes levels bounds =
     → length below + levels ≤ depth
     → AreSound (texts_of macros arguments) (moved_to at (open_body (texts_of macros []) id [] home ∷ below))
     × (left rules s line (cursors_of depth (slots_of (texts_of macros arguments) (open_body (texts_of macros []) id [] home ∷ below)))
-      ≡ and_then (gives bytes) (left rules s line (cursors_of depth (slots_of (texts_of macros arguments) (moved_to at (open_body (texts_of macros []) id [] home ∷ below))))))
+    ≡ and_then (gives bytes) (left rules s line (cursors_of depth (slots_of (texts_of macros arguments) (moved_to at (open_body (texts_of macros []) id [] home ∷ below))))))
 
 -- the runs of a macro without a list are what its body gives up to a place
 pub record IsFlatUpTo (macros : List Macro) (id at : ℕ) (flat : Flat) : Type 0 where

@@ -1,11 +1,11 @@
 // The stack of open texts.
-ghost use Rattle.std.specs.Prelude.{[], length, true, IfOk, IfSome, IsTrue, List, None, ℕ, ◌==◌, ◌<◌, ◌≡◌, ◌≤◌, ◌∷◌, ◌^◌, drop, nat_le};
+ghost use Rattle.std.specs.Prelude.{[], length, true, IfOk, IfSome, IsTrue, List, None, ℕ, ◌==◌, ◌<◌, ◌≡◌, ◌≤◌, ◌∷◌, ◌^◌, ◌+◌, ◌++◌, drop, nat_le};
 ghost use Rattle.rdlpp_scan.specs.declared.token.Mode.TheVariants.{Plain};
 ghost use Rattle.std.specs.Option.{option_map};
 ghost use Rattle.rdlpp_table.specs.View.{macro_at};
 ghost use Rattle.rdlpp_meaning.specs.Opens.{open_body, OpenBody, Texts};
 ghost use Rattle.rdlpp_cursors.specs.Digits.{IsFalling};
-ghost use Rattle.rdlpp_cursors.specs.Flats.{HasMovedOn, IsAdmitted, IsWholeBody};
+ghost use Rattle.rdlpp_cursors.specs.Flats.{place_open, waiting_opens, HasMovedOn, IsAdmitted, IsListed, IsWholeBody};
 ghost use Rattle.rdlpp_cursors.specs.Fronts.{IsLookAhead};
 ghost use Rattle.rdlpp_cursors.specs.Opened.{bound_by, is_spent, kept_by, moved_to, open_of, IsNoBody};
 ghost use Rattle.rdlpp_cursors.specs.Places.{source_text, texts_of};
@@ -20,7 +20,8 @@ mod usage;
 use crate::flat::Flat;
 use crate::front::{Sight, look_at};
 use crate::guesses::Guesses;
-use crate::place::TextPlace;
+use crate::place::{TextPlace, TextSource};
+use crate::run_list::Runs;
 use crate::scopes::{body_bounds, is_spent, scope_bounds};
 use crate::slot::{NO_BOUNDS, Slot, SlotKind};
 use crate::step::CursorStep;
@@ -259,6 +260,45 @@ impl Cursors {
         let slots = &self.slots.as_slice()[self.first..];
         let bounds = scope_bounds(&slots[1..], slots[0].home);
         flat.bounds.greatest < bounds.least || bounds.greatest < flat.bounds.least
+    }
+
+    // Opens waiting runs, the first of them as the innermost text, none of which waits any more.
+    pub(crate) fn open_runs(&mut self, waiting: &mut Runs)
+        requires listed { IsListed waiting.old }
+        requires room { waiting.old.left + length self.old.opens ≤ self.old.depth }
+        ensures opens { self.new ≡ record self.old { opens = waiting_opens waiting.old ++ self.old.opens } }
+        ensures none { waiting.new.left ≡ 0 }
+        ensures listed { IsListed waiting.new }
+    {
+        while waiting.left > 0 {
+            waiting.left -= 1;
+            self.open_place(waiting.places[waiting.next + waiting.left]);
+        }
+    }
+
+    // Opens a range of a text.
+    fn open_place(&mut self, place: TextPlace)
+        requires { length self.old.opens < self.old.depth }
+        ensures { self.new ≡ record self.old { opens = place_open place ∷ self.old.opens } }
+    {
+        let mut slot = Slot {
+            from: place.from,
+            end: place.end,
+            home: 0,
+            kind: SlotKind::Actual,
+            bounds: NO_BOUNDS,
+        };
+        match place.source {
+            TextSource::Body(id) => {
+                self.push_body(id, place.end, 0);
+                self.move_to(place.from);
+            }
+            TextSource::Arguments => self.push_text(slot),
+            TextSource::Default { id, place } => {
+                slot.kind = SlotKind::Default { id, place };
+                self.push_text(slot);
+            }
+        }
     }
 
     /// Opens the body of a macro for a usage without arguments, which stands in a source at a line.

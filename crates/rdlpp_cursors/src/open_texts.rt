@@ -12,7 +12,7 @@ ghost use Rattle.rdlpp_cursors.specs.Usages.{IsTextFault};
 ghost use Rattle.rdlpp_cursors.specs.Steps.{AreKnown, AreSound, IsStep, KeepsOpen, StaysRefused, IsPlacedStep, NamesWord};
 
 use crate::cursors::Cursors;
-use crate::macros::Macros;
+use crate::macros::{MOST_FLATS, Macros};
 use crate::run_list::Runs;
 use crate::step::CursorStep;
 use rdlpp_meaning::FaultKind;
@@ -28,6 +28,8 @@ pub struct OpenTexts {
     cursors: Cursors,
     // the runs that are lent before the innermost of them goes on
     waiting: Runs,
+    // where the macro of these is kept
+    key: usize,
 }
 
 impl Model for OpenTexts {
@@ -55,6 +57,7 @@ impl OpenTexts {
         Ok(OpenTexts {
             cursors,
             waiting: Runs::new(),
+            key: 0,
         })
     }
 
@@ -157,33 +160,38 @@ impl OpenTexts {
         ensures word { NamesWord (texts_of macros.old.macros arguments.now) result }
     {
         if self.waiting.left > 0 {
-            return CursorStep::Lends(self.waiting.take());
+            if macros.is_next_run(self.key, &self.waiting) {
+                return CursorStep::Lends(self.waiting.take());
+            }
+            self.cursors.open_runs(&mut self.waiting);
         }
         let open = self.cursors.len();
         let step = self.cursors.step(macros.table(), arguments);
         if open < self.cursors.len() {
-            expand_known(&mut self.cursors, macros, &mut self.waiting);
+            self.key = expand_known(&mut self.cursors, macros, &mut self.waiting);
         }
         step
     }
 }
 
-// Where the innermost text is a body whose expansion is known to be a few runs, these wait in place of it.
-fn expand_known(cursors: &mut Cursors, macros: &mut Macros, waiting: &mut Runs)
+// Where the innermost text is a body whose expansion is known to be a few runs, these wait in place of it. Tells where its macro
+// is kept.
+fn expand_known(cursors: &mut Cursors, macros: &mut Macros, waiting: &mut Runs) -> usize
     requires some { 0 < length cursors.old.opens }
     requires known { AreKnown macros.old.macros cursors.old.opens }
     ensures table { macros.new ≡ macros.old }
     ensures swapped { ((cursors.new ≡ cursors.old) × (waiting.new ≡ waiting.old)) ⊎ IsSwapped macros.old.macros cursors.old cursors.new waiting.new }
 {
     let Some(id) = cursors.whole_body(macros.table()) else {
-        return;
+        return 0;
     };
     macros.note(id);
     let Some(flat) = macros.flat(id) else {
-        return;
+        return 0;
     };
     if cursors.admits(flat) {
         cursors.close();
         *waiting = flat.runs;
     }
+    id.index() % MOST_FLATS
 }

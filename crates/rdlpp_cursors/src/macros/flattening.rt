@@ -1,15 +1,17 @@
 // Macros whose expansions are a few runs of bodies: how they are found and kept.
-ghost use Rattle.std.specs.Prelude.{[], IfSome, None, length, true, ◌+◌, ◌<◌, ◌≡◌, ◌≤◌};
+ghost use Rattle.std.specs.Prelude.{[], IfSome, IsTrue, None, slice_index_or, length, true, ◌+◌, ◌<◌, ◌≡◌, ◌≤◌};
 ghost use Rattle.std.specs.Option.{option_map};
 ghost use Rattle.rdlpp_table.specs.View.{formals_of, macro_at};
-ghost use Rattle.rdlpp_cursors.specs.Flats.{IsBodyRun, IsFlat, IsFlatUpTo, IsUsageAt};
+ghost use Rattle.rdlpp_cursors.specs.Flats.{IsBodyRun, IsFlat, IsFlatUpTo, IsListed, IsRun, IsUsageAt};
 ghost use Rattle.rdlpp_cursors.specs.Fronts.{IsAhead};
+ghost use Rattle.rdlpp_cursors.specs.declared.place.TextPlace.{TextPlace};
 ghost use Rattle.rdlpp_cursors.specs.declared.place.TextSource.TheVariants as source;
 
 use crate::flat::Flat;
 use crate::front::{Ahead, Front, front_of};
 use crate::macros::{MOST_FLATS, MOST_TRIES, Macros};
 use crate::place::{TextPlace, TextSource};
+use crate::run_list::Runs;
 use crate::slot::is_excluded;
 use rdlpp_calls::keeps_each;
 use rdlpp_table::{MacroId, Table};
@@ -26,6 +28,19 @@ impl Macros {
         } else {
             None
         }
+    }
+
+    // Whether the first of waiting runs is that of the macro that is kept at a place.
+    pub(crate) fn is_next_run(&self, key: usize, waiting: &Runs) -> bool
+        requires some { 0 < waiting.now.left }
+        requires listed { IsListed waiting.now }
+        ensures { IsTrue result → (place : TextPlace) → place ≡ slice_index_or waiting.now.places waiting.now.next place → IsRun self.now.macros place }
+    {
+        if key >= MOST_FLATS || !self.known[key] {
+            return false;
+        }
+        let runs = &self.flats[key].runs;
+        waiting.next < runs.left && runs.places[waiting.next] == waiting.places[waiting.next]
     }
 
     // Notes that the body of a macro was opened, and looks for its expansion where that isn't the first time.
