@@ -18,3 +18,4 @@ pub mod Standing
 pub mod ShortTexts
 pub mod Words
 pub mod Taking
+pub mod MovedOn
