@@ -19,3 +19,6 @@ pub mod ShortTexts
 pub mod Words
 pub mod Taking
 pub mod MovedOn
+pub mod Admitting
+pub mod Kept
+pub mod Waits

@@ -130,6 +130,7 @@ impl Cursors {
     pub(crate) fn len(&self) -> usize
         ensures value { result ≡ length self.now.opens }
         ensures few { length self.now.opens ≤ self.now.depth }
+        ensures short { self.now.depth < 2 ^ 64 }
     {
         self.slots.len() - self.first
     }
@@ -275,8 +276,8 @@ impl Cursors {
         if room < flat.levels || room < flat.runs.left {
             return false;
         }
-        let slots = &self.slots.as_slice()[self.first..];
-        let bounds = scope_bounds(&slots[1..], slots[0].home);
+        let home = self.slots[self.first].home;
+        let bounds = scope_bounds(&self.slots.as_slice()[room..], home);
         flat.bounds.greatest < bounds.least || bounds.greatest < flat.bounds.least
     }
 

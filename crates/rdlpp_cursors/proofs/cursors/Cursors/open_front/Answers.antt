@@ -9,7 +9,6 @@ use Rattle.rdlpp_cursors.proofs.Words.{word-none}
 use Rattle.rdlpp_cursors.proofs.cursors.Cursors.open_front.Goals as goal
 use Rattle.rdlpp_cursors.proofs.cursors.Cursors.open_front.Goals.{then-lent+else-len-le1, else-lent}
 
-
 pub returns-in-Ended-clause-taken : goal.returns-in-Ended-clause-taken
 returns-in-Ended-clause-taken c miss =
     absurd (true≢false (sym (idle-last _ _ _ c.in-Ended.is c.if-lent.true (le-leb _ _ (omega (arith, c.if-len-le1.true, c.len.ensures.value)))) ∙ miss))
