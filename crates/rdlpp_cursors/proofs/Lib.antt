@@ -18,3 +18,5 @@ pub mod Standing
 pub mod ShortTexts
 pub mod Words
 pub mod Taking
+pub mod Waiting
+pub mod WaitingWork
