@@ -24,7 +24,7 @@ use Rattle.rdlpp_cursors.specs.declared.place.TextSource.TheVariants.{Arguments,
 use Rattle.rdlpp_cursors.specs.declared.run_list.Runs.{Runs}
 use Rattle.rdlpp_cursors.specs.declared.step.CursorStep.{CursorStep}
 use Rattle.rdlpp_cursors.specs.declared.step.CursorStep.TheVariants.{Lends, Silent, Refused}
-use Rattle.rdlpp_cursors.specs.Digits.{open_digit, cursor_digits, AreFalling, IsFalling}
+use Rattle.rdlpp_cursors.specs.Digits.{cursor_digits, AreFalling, IsFalling}
 use Rattle.rdlpp_cursors.specs.Flats.{places_bytes, place_open, places_of, IsRunOf, IsRun, AreAway, Gives, waiting_opens, waiting_view, HasMovedOn, outer_ids, IsSwapped}
 use Rattle.rdlpp_cursors.specs.Fronts.{IsFront, IsLook, IsLookAhead}
 use Rattle.rdlpp_cursors.specs.Opened.{moved_to, CursorsView}
@@ -33,7 +33,7 @@ use Rattle.rdlpp_cursors.specs.Scopes.{front_source}
 use Rattle.rdlpp_cursors.specs.Steps.{AreSound, Goes, IsStep, StepsTo, StaysRefused, IsPlacedStep}
 use Rattle.rdlpp_cursors.proofs.Passing.{IsPassed, look-passed, pass-run, pass-ended, pass-on}
 use Rattle.rdlpp_cursors.proofs.Stepping.{sound-tail}
-use Rattle.rdlpp_cursors.proofs.WaitingWork.{places-count, waiting-length, HasRoom, runs-room, moved-room, room-less, falls-behind}
+use Rattle.rdlpp_cursors.proofs.WaitingWork.{places-count, HasRoom, runs-room, moved-room, room-less, falls-behind}
 
 -- open texts at a line, of which there may be so many
 abbrev seen : ℕ → ℕ → List Open → CursorsView
@@ -62,11 +62,12 @@ run-lent texts line depth (Body id) from end rest h run =
     let place : TextPlace = record { source = Body id; from = from; end = end } in
     let look : Look = record { source = Body id; from = from; end = end; at = end; front = front.Ended } in
     let ended : IsLook texts (moved_to end opens) look = (refl, refl, refl, empty-range (macro_at texts.macros id).body end) in
-    let ahead : IsLookAhead texts opens look = (refl, refl, order, run.copied, ended) in
-    (pass-on texts (seen line depth opens) (seen line depth (moved_to end opens)) (seen line depth rest) place
-      (pass-run texts (seen line depth opens) (seen line depth (moved_to end opens)) look h ahead some refl)
-      (pass-ended texts (seen line depth (moved_to end opens)) (seen line depth rest) look (look-passed texts opens look h ahead) ended refl refl),
-      record { source = run.inside; order = order; inside = run.within })
+    let ahead : IsLookAhead texts opens look = (refl, refl, order, run.copied, ended) in (
+      pass-on texts (seen line depth opens) (seen line depth (moved_to end opens)) (seen line depth rest) place
+          (pass-run texts (seen line depth opens) (seen line depth (moved_to end opens)) look h ahead some refl)
+          (pass-ended texts (seen line depth (moved_to end opens)) (seen line depth rest) look (look-passed texts opens look h ahead) ended refl refl),
+      record { source = run.inside; order = order; inside = run.within },
+    )
 
 -- the first of waiting runs is lent
 pub waiting-lent : (texts : Texts) (view new : CursorsView) (place : TextPlace) (rest : List Open)
@@ -74,10 +75,11 @@ pub waiting-lent : (texts : Texts) (view new : CursorsView) (place : TextPlace) 
     → new ≡ record { opens = rest; line = view.line; depth = view.depth }
     → IsPassed texts view new (Lends place) × IsPlacedStep texts (Lends place)
 waiting-lent texts view new place rest h e run some is =
-    let p = run-lent texts view.line view.depth place.source place.from place.end rest (subst (λ (opens : List Open). AreSound texts opens) e h) run in
-    (subst (λ (v : CursorsView). IsPassed texts view v (Lends place)) (sym is)
-      (subst (λ (opens : List Open). IsPassed texts (seen view.line view.depth opens) (seen view.line view.depth rest) (Lends place)) (sym e) p.0),
-      p.1)
+    let p = run-lent texts view.line view.depth place.source place.from place.end rest (subst (λ (opens : List Open). AreSound texts opens) e h) run in (
+      subst (λ (v : CursorsView). IsPassed texts view v (Lends place)) (sym is)
+          (subst (λ (opens : List Open). IsPassed texts (seen view.line view.depth opens) (seen view.line view.depth rest) (Lends place)) (sym e) p.0),
+      p.1,
+    )
 
 -- open texts in front of which a run waits are sound
 run-sound : (texts : Texts) (source : TextSource) (from end : ℕ) (rest : List Open) → IsRunOf texts.macros source from end → AreSound texts rest

@@ -1,5 +1,5 @@
 -- The work left of open texts in front of which runs wait, and its digits.
-use Rattle.std.proofs.Common.{◌≡◌, ℕ, zero, suc, ◌+◌, ◌-◌, ◌*◌, ◌^◌, ◌<◌, ◌≤◌, Bool, true, false, inl, inr, List, [], ◌∷◌, ◌++◌, map, reverse, length, refl, sym, ap, subst, ◌∙◌, append_assoc, arith, mul-le-mul_right, pow-suc, mul_comm, length-append}
+use Rattle.std.proofs.Common.{◌≡◌, ℕ, zero, suc, ◌+◌, ◌-◌, ◌*◌, ◌^◌, ◌<◌, ◌≤◌, Bool, false, inl, inr, List, [], ◌∷◌, ◌++◌, map, reverse, length, refl, sym, ap, subst, ◌∙◌, append_assoc, arith, mul-le-mul_right, pow-suc, mul_comm, length-append}
 use Rattle.std.specs.Prelude.{if◌then◌else◌, ◌==◌, slice_range}
 use Rattle.std.specs.List.{AllByRecursion}
 use Rattle.std.proofs.lemmas.Bool.{eq-eqb, ne_eqb}
@@ -7,12 +7,11 @@ use Rattle.std.proofs.lemmas.List.{length-map, map-append, reverse-append}
 use Rattle.rdlpp_scan.specs.declared.token.Mode.{Mode}
 use Rattle.rdlpp_scan.specs.declared.token.Mode.TheVariants.{Plain}
 use Rattle.rdlpp_scan.specs.SourceTokens.{SourceToken}
-use Rattle.rdlpp_table.specs.Table.{Macro}
 use Rattle.rdlpp_table.specs.View.{macro_at, formals_of, no_macro}
 use Rattle.rdlpp_meaning.specs.Expansion.{bytes_of}
 use Rattle.rdlpp_meaning.specs.Cursors.{Binding}
 use Rattle.rdlpp_meaning.specs.CursorWork.{cursors_work, IsCounted, HasCountedDefault, IsCountedMacro, IsCountedBinding, IsCountedCursor}
-use Rattle.rdlpp_meaning.specs.Slots.{Slot, SlotKind, own_frame, writer_at, frame_at, scope_of, cursors_of}
+use Rattle.rdlpp_meaning.specs.Slots.{Slot, own_frame, writer_at, frame_at, scope_of, cursors_of}
 use Rattle.rdlpp_meaning.specs.Opens.{Open, Texts, Part, text_around, own_text, part_tokens, slot_kind, slot_of, slots_of}
 use Rattle.rdlpp_meaning.specs.Substitution.{body_tokens}
 use Rattle.rdlpp_meaning.specs.TextTokens.{text_tokens}
@@ -25,7 +24,7 @@ use Rattle.rdlpp_cursors.specs.declared.place.TextPlace.{TextPlace}
 use Rattle.rdlpp_cursors.specs.declared.place.TextSource.{TextSource}
 use Rattle.rdlpp_cursors.specs.declared.place.TextSource.TheVariants.{Arguments, Body, Default}
 use Rattle.rdlpp_cursors.specs.Digits.{open_digit, cursor_digits, AreFalling}
-use Rattle.rdlpp_cursors.specs.Flats.{place_open, places_from, IsBodyRun, IsRunOf, IsRun}
+use Rattle.rdlpp_cursors.specs.Flats.{place_open, places_from, IsRunOf, IsRun}
 use Rattle.rdlpp_cursors.specs.Opened.{moved_to}
 use Rattle.rdlpp_cursors.specs.Steps.{AreSound}
 use Rattle.rdlpp_cursors.proofs.Falling.{digits-inner}
@@ -38,7 +37,7 @@ places-count zero next places = refl
 places-count (suc n) next places = ap (λ (m : ℕ). suc m) (places-count n (suc next) places)
 
 -- so many open texts lie behind runs that wait
-pub waiting-length : (places : List TextPlace) (below : List Open) → length (map place_open places ++ below) ≡ length places + length below
+waiting-length : (places : List TextPlace) (below : List Open) → length (map place_open places ++ below) ≡ length places + length below
 waiting-length places below = length-append (map place_open places) below ∙ ap (λ (n : ℕ). n + length below) (length-map places place_open)
 
 -- the tokens of a part of a text have its bytes
@@ -121,10 +120,11 @@ body-frame base texts id from end rest defaults =
     let below = slots_of texts rest in
     let kind = (slot_of texts (place_open (record { source = Body id; from = from; end = end })) rest).kind in
     subst (λ (here : Bool). AllByRecursion (IsCountedBinding base)
-        (if here then own_frame kind (writer_at below 0) (frame_at below 0) else frame_at below (suc (length below))))
-    (sym (eq-eqb (suc (length below)) (suc (length below)) refl))
-    (record { actuals = tt; defaults = defaults },
-      subst (λ (frame : List Binding). AllByRecursion (IsCountedBinding base) frame) (sym (no-frame below)) tt)
+    (if here then own_frame kind (writer_at below 0) (frame_at below 0) else frame_at below (suc (length below))))
+    (sym (eq-eqb (suc (length below)) (suc (length below)) refl)) (
+      record { actuals = tt; defaults = defaults },
+      subst (λ (frame : List Binding). AllByRecursion (IsCountedBinding base) frame) (sym (no-frame below)) tt,
+    )
 
 -- so it is in front of open texts where a run waits
 run-room : (base depth total : ℕ) (texts : Texts) (source : TextSource) (from end : ℕ) (rest : List Open) → IsRunOf texts.macros source from end
