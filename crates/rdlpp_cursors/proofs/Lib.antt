@@ -22,3 +22,5 @@ pub mod MovedOn
 pub mod Admitting
 pub mod Kept
 pub mod Waits
+pub mod Waiting
+pub mod WaitingWork

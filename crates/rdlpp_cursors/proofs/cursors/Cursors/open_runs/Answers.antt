@@ -15,8 +15,8 @@ loop-waiting-preserved c =
     let depth : c.open_place.new.self.depth ≡ c.loop-waiting.self.depth = ap (λ (v : CursorsView). v.depth) c.open_place.ensures in (
       record { size = size; inside = omega (arith, inside) },
       ap (λ (v : CursorsView). waiting_opens (record { places = c.loop-waiting.waiting.places; next = c.loop-waiting.waiting.next; left = c.loop-waiting.waiting.left - 1 }) ++ v.opens) c.open_place.ensures
-      ∙ one-left c.loop-waiting.waiting c.index-waiting-waiting.result c.loop-waiting.self.opens some size inside c.index-waiting-waiting.is
-      ∙ c.loop-waiting.invariant.1,
+          ∙ one-left c.loop-waiting.waiting c.index-waiting-waiting.result c.loop-waiting.self.opens some size inside c.index-waiting-waiting.is
+          ∙ c.loop-waiting.invariant.1,
       omega (arith, room, some, many, depth),
       ap (λ (v : CursorsView). v.line) c.open_place.ensures ∙ c.loop-waiting.invariant.3,
       depth ∙ c.loop-waiting.invariant.4,
