@@ -31,20 +31,18 @@ scope_bounds-bounds-requires c =
     subst (λ (slots : List Slot). AreBounded slots) (sym (tail-is c.as_slice.result.now c.self.inside.slots.items (c.self.inside.first + 1) c.as_slice.ensures.value))
     (closed-bounded c.self.inside.slots.items c.self.inside.first c.index.result.now some c.index.ensures c.self.invariant.bounded)
 
-within : (c : goal.After-scope_bounds-bounds) (ranges : List Range)
-    → AllByRecursion (IsWithin c.scope_bounds-bounds.result) (writer_ids (opens_of (drop (c.self.inside.first + 1) c.self.inside.slots.items) ranges) c.index.result.now.home)
-within c ranges =
-    subst (λ (slots : List Slot). AllByRecursion (IsWithin c.scope_bounds-bounds.result) (writer_ids (opens_of slots ranges) c.index.result.now.home))
-    (tail-is c.as_slice.result.now c.self.inside.slots.items (c.self.inside.first + 1) c.as_slice.ensures.value) (c.scope_bounds-bounds.ensures ranges)
-
 pub returns-then-flat-bounds : goal.returns-then-flat-bounds
 returns-then-flat-bounds c _ =
     let some : c.self.inside.first < length c.self.inside.slots.items = some-open c.self.inside.slots.items c.self.inside.first c.self.inside.bindings.items (rw (← c.self.view_is) at c.requires.some) in
     rw (← c.self.view_is) (admitted-by c.self.inside.slots c.self.inside.first c.self.inside.bindings.items c.self.inside.line c.index.result.now c.scope_bounds-bounds.result c.args.flat.now some c.index.ensures
-    c.if-room-flat.false c.if-room-flat-2.false (within c) (inl c.if-flat-bounds.true))
+    c.if-room-flat.false c.if-room-flat-2.false
+    (λ (ranges : List Range). subst (λ (slots : List Slot). AllByRecursion (IsWithin c.scope_bounds-bounds.result) (writer_ids (opens_of slots ranges) c.index.result.now.home)) (tail-is c.as_slice.result.now c.self.inside.slots.items (c.self.inside.first + 1) c.as_slice.ensures.value) (c.scope_bounds-bounds.ensures ranges))
+    (inl c.if-flat-bounds.true))
 
 pub returns-else-flat-bounds : goal.returns-else-flat-bounds
 returns-else-flat-bounds c e =
     let some : c.self.inside.first < length c.self.inside.slots.items = some-open c.self.inside.slots.items c.self.inside.first c.self.inside.bindings.items (rw (← c.self.view_is) at c.requires.some) in
     rw (← c.self.view_is) (admitted-by c.self.inside.slots c.self.inside.first c.self.inside.bindings.items c.self.inside.line c.index.result.now c.scope_bounds-bounds.result c.args.flat.now some c.index.ensures
-    c.if-room-flat.false c.if-room-flat-2.false (within c) (inr (ltb-true c.scope_bounds-bounds.result.greatest c.args.flat.now.bounds.least e)))
+    c.if-room-flat.false c.if-room-flat-2.false
+    (λ (ranges : List Range). subst (λ (slots : List Slot). AllByRecursion (IsWithin c.scope_bounds-bounds.result) (writer_ids (opens_of slots ranges) c.index.result.now.home)) (tail-is c.as_slice.result.now c.self.inside.slots.items (c.self.inside.first + 1) c.as_slice.ensures.value) (c.scope_bounds-bounds.ensures ranges))
+    (inr (ltb-true c.scope_bounds-bounds.result.greatest c.args.flat.now.bounds.least e)))
