@@ -5,6 +5,7 @@ pub mod Starting
 pub mod Keeping
 pub mod Looking
 pub mod Passing
+pub mod Places
 pub mod Moving
 pub mod Runs
 pub mod Scoping
