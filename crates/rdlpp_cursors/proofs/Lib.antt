@@ -15,6 +15,7 @@ pub mod Stopping
 pub mod Unquoted
 pub mod Usages
 pub mod Falling
+pub mod Flattening
 pub mod Standing
 pub mod ShortTexts
 pub mod Words
