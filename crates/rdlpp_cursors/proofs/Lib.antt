@@ -5,6 +5,7 @@ pub mod Starting
 pub mod Keeping
 pub mod Looking
 pub mod Passing
+pub mod Places
 pub mod Moving
 pub mod Runs
 pub mod Scoping
@@ -14,6 +15,7 @@ pub mod Stopping
 pub mod Unquoted
 pub mod Usages
 pub mod Falling
+pub mod Flattening
 pub mod Standing
 pub mod ShortTexts
 pub mod Words
