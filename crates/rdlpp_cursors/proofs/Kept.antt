@@ -1,6 +1,7 @@
 -- The expansions of macros that are kept.
 use Rattle.std.proofs.Common.{◌≡◌, ℕ, zero, suc, ◌+◌, ◌<◌, ◌≤◌, Bool, true, false, true≢false, List, [], ◌∷◌, length, refl, sym, ap, subst, ◌∙◌, arith}
 use Rattle.std.specs.Prelude.{slice_index_or}
+use Rattle.std.proofs.Math.ListN.{set, length-set}
 use Rattle.rdlpp_table.specs.Table.{Macro}
 use Rattle.rdlpp_cursors.specs.declared.flat.Flat.{Flat}
 use Rattle.rdlpp_cursors.specs.Flats.{no_place, AreFlat, AreKept, IsFlat, IsRun}
@@ -56,3 +57,22 @@ kept-run macros known flats key at flat d h e f low high =
     subst (λ (x : Flat). IsRun macros (slice_index_or x.runs.places at d)) f
     (subst (λ (p : TextPlace). IsRun macros p) (index-any flat.runs.places at no_place d (omega (arith, size, room, within)))
     (place-in (λ p. IsRun macros p) flat.runs.left flat.runs.next at flat.runs.places own.are_runs inside within))
+
+-- one more is kept
+set-flat : (macros : List Macro) (known : List Bool) (flats : List Flat) (key : ℕ) (flat : Flat) → AreFlat macros known flats → IsFlat macros flat.index flat
+    → AreFlat macros (set known key true) (set flats key flat)
+unfolding AreFlat
+set-flat macros [] flats key flat h f = tt
+set-flat macros (b ∷ bs) [] zero flat h f = tt
+set-flat macros (b ∷ bs) [] (suc key) flat h f = tt
+set-flat macros (b ∷ bs) (own ∷ flats) zero flat h f = (λ _. f, h.1)
+set-flat macros (b ∷ bs) (own ∷ flats) (suc key) flat h f = (h.0, set-flat macros bs flats key flat h.1 f)
+
+-- the others are as they were
+pub more-kept : (macros : List Macro) (known : List Bool) (flats : List Flat) (key id : ℕ) (flat : Flat) → AreKept macros known flats → IsFlat macros id flat → flat.index ≡ id
+    → AreKept macros (set known key true) (set flats key flat)
+more-kept macros known flats key id flat h f e = record {
+  size = length-set known key true ∙ h.size;
+  flats_size = length-set flats key flat ∙ h.flats_size;
+  are_flat = set-flat macros known flats key flat h.are_flat (subst (λ (n : ℕ). IsFlat macros n flat) (sym e) f);
+}

@@ -26,3 +26,4 @@ pub mod Kept
 pub mod Waits
 pub mod Waiting
 pub mod WaitingWork
+pub mod Lending

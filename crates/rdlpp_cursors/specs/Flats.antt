@@ -170,6 +170,13 @@ waiting_opens waiting = map place_open (places_of waiting)
 abbrev pub waiting_view : Runs → CursorsView → CursorsView
 waiting_view waiting view = record view { opens = waiting_opens waiting ++ view.opens }
 
+-- the first of waiting runs is lent, which is one
+pub record IsLent (macros : List Macro) (place : TextPlace) (waiting new : Runs) : Type 0 where
+  pub some : 0 < waiting.left
+  pub first : places_of waiting ≡ place ∷ places_of new
+  pub left : waiting.left ≡ suc new.left
+  pub run : IsRun macros place
+
 -- how runs wait in front of open texts: a text is open behind them, and there is room for as many open texts
 pub record IsWaiting (waiting : Runs) (view : CursorsView) : Type 0 where
   pub listed : IsListed waiting

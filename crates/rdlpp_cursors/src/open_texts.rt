@@ -1,11 +1,11 @@
 // The open texts of a usage in a source.
-ghost use Rattle.std.specs.Prelude.{[], length, true, IfErr, IfOk, List, None, is_some, ℕ, ◌==◌, ◌<◌, ◌≡◌, ◌≤◌, ◌∷◌, ◌⊎◌, ◌^◌};
+ghost use Rattle.std.specs.Prelude.{[], length, true, IfErr, IfNone, IfOk, IfSome, List, None, is_some, ℕ, ◌==◌, ◌<◌, ◌≡◌, ◌≤◌, ◌∷◌, ◌⊎◌, ◌^◌};
 ghost use Rattle.std.specs.Option.{option_map};
 ghost use Rattle.rdlpp_table.specs.View.{macro_at};
 ghost use Rattle.rdlpp_meaning.specs.Opens.{open_body};
 ghost use Rattle.rdlpp_cursors.specs.Calls.{IsCallMiscounted, IsCallStarted};
 ghost use Rattle.rdlpp_cursors.specs.Digits.{IsFalling};
-ghost use Rattle.rdlpp_cursors.specs.Flats.{IsSwapped};
+ghost use Rattle.rdlpp_cursors.specs.Flats.{waiting_view, IsLent, IsListed, IsSwapped, IsWaiting};
 ghost use Rattle.rdlpp_cursors.specs.Opened.{bound_by};
 ghost use Rattle.rdlpp_cursors.specs.Places.{texts_of};
 ghost use Rattle.rdlpp_cursors.specs.Usages.{IsTextFault};
@@ -13,6 +13,7 @@ ghost use Rattle.rdlpp_cursors.specs.Steps.{AreKnown, AreSound, IsStep, KeepsOpe
 
 use crate::cursors::Cursors;
 use crate::macros::{MOST_FLATS, Macros};
+use crate::place::TextPlace;
 use crate::run_list::Runs;
 use crate::step::CursorStep;
 use rdlpp_meaning::FaultKind;
@@ -159,11 +160,8 @@ impl OpenTexts {
         ensures fault { IsTextFault result }
         ensures word { NamesWord (texts_of macros.old.macros arguments.now) result }
     {
-        if self.waiting.left > 0 {
-            if macros.is_next_run(self.key, &self.waiting) {
-                return CursorStep::Lends(self.waiting.take());
-            }
-            self.cursors.open_runs(&mut self.waiting);
+        if let Some(place) = lend_run(&mut self.cursors, macros, &mut self.waiting, self.key) {
+            return CursorStep::Lends(place);
         }
         let open = self.cursors.len();
         let step = self.cursors.step(macros.table(), arguments);
@@ -172,6 +170,29 @@ impl OpenTexts {
         }
         step
     }
+}
+
+// The first of waiting runs, where it still is one of the macro that is kept at a place. If it isn't, they are opened, and none
+// waits any more.
+fn lend_run(
+    cursors: &mut Cursors,
+    macros: &Macros,
+    waiting: &mut Runs,
+    key: usize,
+) -> Option<TextPlace>
+    requires waits { IsWaiting waiting.old cursors.old }
+    ensures lends { IfSome result (λ place. IsLent macros.now.macros place waiting.old waiting.new × (cursors.new ≡ cursors.old)) }
+    ensures none { IfNone result ((waiting.new.left ≡ 0) × (cursors.new ≡ waiting_view waiting.old cursors.old)) }
+    ensures listed { IsListed waiting.new }
+{
+    if waiting.left == 0 {
+        return None;
+    }
+    if macros.is_next_run(key, waiting) {
+        return Some(waiting.take());
+    }
+    cursors.open_runs(waiting);
+    None
 }
 
 // Where the innermost text is a body whose expansion is known to be a few runs, these wait in place of it. Tells where its macro

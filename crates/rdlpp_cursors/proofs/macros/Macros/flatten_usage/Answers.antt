@@ -50,8 +50,10 @@ returns c =
     let at = c.args.at in
     let len = c.args.len in
     let name = ap (λ (text : List ℕ). slice_range text (at + 1) (at + len)) c.body.ensures in
-    rw (← view) (omega (arith, some),
-    flat-used c.self.inside.table c.args.id at len c.in_ok-find.field-0 (slice_range c.body.result.now (at + 1) (at + len)) c.args.flat.now c.in_ok-used.used.now c.widen.new.self c.append.new.self
-    c.len-macros.ensures.sound (rw (← view) at c.requires.up_to) usage (rw (← view) at c.in_ok-used.ensures) (sym c.in_ok-find.ensures.value) c.in_ok-find.ensures.named name
-    (sym c.is_excluded.ensures ∙ c.if-not-is_excluded.false) c.in_ok-append.ensures.listed c.in_ok-append.ensures.places c.in_ok-widen.ensures.same
-    c.in_ok-widen.ensures.levels.0 c.in_ok-widen.ensures.levels.1 c.in_ok-widen.ensures.bounds.0 c.in_ok-widen.ensures.bounds.1)
+    rw (← view) (
+      omega (arith, some),
+      flat-used c.self.inside.table c.args.id at len c.in_ok-find.field-0 (slice_range c.body.result.now (at + 1) (at + len)) c.args.flat.now c.in_ok-used.used.now c.widen.new.self c.append.new.self
+          c.len-macros.ensures.sound (rw (← view) at c.requires.up_to) usage (rw (← view) at c.in_ok-used.ensures) (sym c.in_ok-find.ensures.value) c.in_ok-find.ensures.named name
+          (sym c.is_excluded.ensures ∙ c.if-not-is_excluded.false) c.in_ok-append.ensures.listed c.in_ok-append.ensures.places c.in_ok-widen.ensures.same
+          c.in_ok-widen.ensures.levels.0 c.in_ok-widen.ensures.levels.1 c.in_ok-widen.ensures.bounds.0 c.in_ok-widen.ensures.bounds.1,
+    )

@@ -1,0 +1,121 @@
+-- A step of open texts in front of which runs may wait.
+use Rattle.std.proofs.Common.{◌≡◌, ℕ, zero, suc, ◌+◌, ◌<◌, ◌≤◌, ◌⊎◌, inl, inr, Bool, true, List, [], ◌∷◌, ◌++◌, map, length, drop, refl, sym, ap, subst, ◌∙◌, arith}
+use Rattle.std.proofs.Math.ListN.{set}
+use Rattle.rdlpp_table.specs.Table.{Macro}
+use Rattle.rdlpp_meaning.specs.Opens.{Open, Texts, open_body}
+use Rattle.rdlpp_cursors.specs.declared.flat.Flat.{Flat}
+use Rattle.rdlpp_cursors.specs.declared.place.TextPlace.{TextPlace}
+use Rattle.rdlpp_cursors.specs.declared.run_list.Runs.{Runs}
+use Rattle.rdlpp_cursors.specs.declared.step.CursorStep.{CursorStep}
+use Rattle.rdlpp_cursors.specs.declared.step.CursorStep.TheVariants.{Lends, Silent, Refused}
+use Rattle.rdlpp_cursors.specs.Flats.{place_open, places_of, waiting_opens, waiting_view, AreFlat, AreKept, HasMovedOn, IsFlat, IsLent, IsListed, IsSwapped, IsWaiting}
+use Rattle.rdlpp_cursors.specs.Opened.{CursorsView}
+use Rattle.rdlpp_cursors.specs.Steps.{AreInside, AreKnown, AreSound, IsPlacedStep, KeepsOpen}
+use Rattle.rdlpp_cursors.proofs.Passing.{IsPassed}
+use Rattle.rdlpp_cursors.proofs.Waiting.{swapped-passed, waiting-lent}
+use Rattle.rdlpp_cursors.proofs.Waits.{none-waits, view-many}
+
+-- a run that is lent is a step
+pub lent-passed : (texts : Texts) (view now : CursorsView) (waiting new : Runs) (place : TextPlace) → waiting_view waiting view ≡ now → AreSound texts now.opens
+    → IsWaiting waiting view → IsLent texts.macros place waiting new
+    → IsPassed texts now (waiting_view new view) (Lends place) × IsPlacedStep texts (Lends place)
+lent-passed texts view now waiting new place is h w l =
+    let behind = w.behind l.some in
+    let many = view-many new view in
+    let first : now.opens ≡ place_open place ∷ (waiting_opens new ++ view.opens) =
+    ap (λ (v : CursorsView). v.opens) (sym is) ∙ ap (λ (places : List TextPlace). map place_open places ++ view.opens) l.first in
+    waiting-lent texts now (waiting_view new view) place (waiting_opens new ++ view.opens) h first l.run (omega (arith, many, behind))
+    (ap (λ (v : CursorsView). record { opens = waiting_opens new ++ view.opens; line = v.line; depth = v.depth }) is)
+
+-- the others wait
+pub lent-waits : (macros : List Macro) (view : CursorsView) (waiting new : Runs) (place : TextPlace) → IsWaiting waiting view → IsListed new → IsLent macros place waiting new → IsWaiting new view
+lent-waits macros view waiting new place w listed l =
+    let few = w.few in
+    let left = l.left in
+    record { listed = listed; behind = λ some. w.behind l.some; few = omega (arith, few, left) }
+
+-- where none waits, a step of the open texts is one
+pub passed-settled : (texts : Texts) (now mid new : CursorsView) (waiting : Runs) (step : CursorStep) → mid ≡ now → waiting.left ≡ 0 → IsPassed texts mid new step
+    → IsPassed texts now (waiting_view waiting new) step
+passed-settled texts now mid new waiting step same none p =
+    subst (λ (v : CursorsView). IsPassed texts now v step) (sym (none-waits waiting new none))
+    (subst (λ (v : CursorsView). IsPassed texts v new step) same p)
+
+-- whether runs wait then in place of a body
+abbrev pub MaySwap : List Macro → CursorsView → CursorsView → Runs → Runs → Type 0
+MaySwap macros view new waiting now = ((new ≡ view) × (now ≡ waiting)) ⊎ IsSwapped macros view new now
+
+-- it is one where a body was opened in place of which runs wait
+pub passed-expanded : (texts : Texts) (now mid opened new : CursorsView) (waiting swapped : Runs) (step : CursorStep) → mid ≡ now → waiting.left ≡ 0
+    → AreSound texts now.opens → IsPassed texts mid opened step → length mid.opens < length opened.opens
+    → (length mid.opens < length opened.opens → HasMovedOn mid.opens (drop 1 opened.opens))
+    → MaySwap texts.macros opened new waiting swapped
+    → IsPassed texts now (waiting_view swapped new) step
+passed-expanded texts now mid opened new waiting swapped step same none h p more moved (inl e) =
+    subst (λ (v : CursorsView). IsPassed texts now (waiting_view swapped v) step) (sym e.0)
+    (subst (λ (w : Runs). IsPassed texts now (waiting_view w opened) step) (sym e.1) (passed-settled texts now mid opened waiting step same none p))
+passed-expanded texts now mid opened new waiting swapped step same none h p more moved (inr e) =
+    swapped-passed texts now opened new swapped step h (subst (λ (v : CursorsView). IsPassed texts v opened step) same p)
+    (subst (λ (v : CursorsView). length v.opens < length opened.opens) same more)
+    (subst (λ (v : CursorsView). HasMovedOn v.opens (drop 1 opened.opens)) same (moved more)) e
+
+-- a text is open behind a body in place of which runs wait
+behind-swapped : (macros : List Macro) (view new : CursorsView) (waiting : Runs) → 1 < length view.opens → IsSwapped macros view new waiting
+    → (length view.opens ≡ suc (length new.opens)) × (0 < length new.opens)
+behind-swapped macros view new waiting many e =
+    let whole = ap (λ (opens : List Open). length opens) (e.body).opens_are in
+    let rest = ap (λ (v : CursorsView). length v.opens) e.rest in
+    (omega (arith, whole, rest), omega (arith, whole, rest, many))
+
+-- so texts are open
+pub expanded-open : (macros : List Macro) (view new : CursorsView) (waiting swapped : Runs) → 1 < length view.opens → MaySwap macros view new waiting swapped
+    → 0 < length (waiting_view swapped new).opens
+expanded-open macros view new waiting swapped many (inl e) =
+    let count = view-many swapped new in
+    let same = ap (λ (v : CursorsView). length v.opens) e.0 in
+    omega (arith, count, same, many)
+expanded-open macros view new waiting swapped many (inr e) =
+    let count = view-many swapped new in
+    let some = (behind-swapped macros view new swapped many e).1 in
+    omega (arith, count, some)
+
+-- where none waits, runs wait as they do
+pub settled-waits : (waiting : Runs) (view : CursorsView) → IsListed waiting → waiting.left ≡ 0 → length view.opens ≤ view.depth → IsWaiting waiting view
+settled-waits waiting view listed none few = record {
+  listed = listed;
+  behind = λ some. absurd (omega (arith, some, none));
+  few = omega (arith, few, none);
+}
+
+-- so they do in place of a body
+pub expanded-waits : (macros : List Macro) (view new : CursorsView) (waiting swapped : Runs) → IsListed waiting → waiting.left ≡ 0 → 1 < length view.opens → length view.opens ≤ view.depth
+    → MaySwap macros view new waiting swapped → IsWaiting swapped new
+expanded-waits macros view new waiting swapped listed none many few (inl e) =
+    subst (λ (v : CursorsView). IsWaiting swapped v) (sym e.0)
+    (subst (λ (w : Runs). IsWaiting w view) (sym e.1) (settled-waits waiting view listed none few))
+expanded-waits macros view new waiting swapped listed none many few (inr e) =
+    let behind = behind-swapped macros view new swapped many e in
+    let size = behind.0 in
+    let runs = (e.admitted).runs in
+    let depth = ap (λ (v : CursorsView). v.depth) e.rest in
+    let left = ap (λ (w : Runs). w.left) e.waits in
+    record {
+      listed = subst (λ (w : Runs). IsListed w) (sym e.waits) (e.is_flat).listed;
+      behind = λ _. behind.1;
+      few = omega (arith, size, runs, depth, left);
+    }
+
+-- a text that is lent from stays open
+pub keeps-open : (step : CursorStep) (opens : List Open) → 0 < length opens → KeepsOpen step opens
+keeps-open (Lends place) opens some = some
+keeps-open Silent opens some = tt
+keeps-open (Refused fault) opens some = tt
+
+-- so it does where none waits
+pub keeps-settled : (step : CursorStep) (waiting : Runs) (view : CursorsView) → waiting.left ≡ 0 → KeepsOpen step view.opens → KeepsOpen step (waiting_view waiting view).opens
+keeps-settled step waiting view none k = subst (λ (v : CursorsView). KeepsOpen step v.opens) (sym (none-waits waiting view none)) k
+
+-- the macros of sound open texts are in the table
+pub inside-known : (texts : Texts) (opens : List Open) → AreInside texts opens → AreKnown texts.macros opens
+inside-known texts [] h = tt
+inside-known texts (x ∷ below) h = (h.0, inside-known texts below ((h.1).1).1)
