@@ -23,6 +23,7 @@ use Rattle.rdlpp_calls.specs.KeptTexts.{keeps_each}
 use Rattle.rdlpp_calls.proofs.KeptTexts.{each_kept}
 use Rattle.rdlpp_cursors.specs.declared.flat.Flat.{Flat}
 use Rattle.rdlpp_cursors.specs.declared.front.Ahead.{Ahead}
+use Rattle.rdlpp_cursors.specs.declared.front.Front.{Front}
 use Rattle.rdlpp_cursors.specs.declared.front.Front.TheVariants as front
 use Rattle.rdlpp_cursors.specs.declared.front.Look.{Look}
 use Rattle.rdlpp_cursors.specs.declared.place.TextPlace.{TextPlace}
@@ -256,6 +257,41 @@ flat-none macros id flat inside plain is listed =
       own = (omega arith, omega arith);
       gives_up = up-none macros id 1 (record { least = id; greatest = id });
     })
+
+-- what is copied ahead in a body ends in it
+pub ahead-inside : (macros : List Macro) (id at : ℕ) (body : List ℕ) (ahead : Ahead) → body ≡ (macro_at macros id).body
+    → IsAhead (source_formals (texts_of macros []) (Body id)) (slice_range (source_text (texts_of macros []) (Body id)) at (length body)) at ahead
+    → at < ahead.at → ahead.at ≤ length (macro_at macros id).body
+unfolding IsAhead AreCopied source_text
+ahead-inside macros id at body ahead is h more =
+    let own = (macro_at macros id).body in
+    let same : length body ≡ length own = ap (λ (text : List ℕ). length text) is in
+    let size = length-take (length body - at) (drop at own) in
+    let rest = length-drop at own in
+    let fits : ahead.at - at ≤ length (slice_range own at (length body)) = h.1.0 in
+    omega (arith, same, size, rest, fits, more)
+
+-- what stands at the front of a body, where nothing is copied
+ahead-front : (formals : List Formal) (text : List ℕ) (at : ℕ) (ahead : Ahead) → IsAhead formals text at ahead → ahead.at ≤ at → IsFront formals text ahead.front
+unfolding IsAhead
+ahead-front formals text at ahead h less =
+    let zeroth : ahead.at - at ≡ 0 = omega (arith, less) in
+    subst (λ (n : ℕ). IsFront formals (drop n text) ahead.front) zeroth h.2
+
+-- a usage that stands ahead in a body, where nothing is copied
+pub ahead-usage : (macros : List Macro) (id at len : ℕ) (body : List ℕ) (ahead : Ahead) → body ≡ (macro_at macros id).body
+    → IsAhead (source_formals (texts_of macros []) (Body id)) (slice_range (source_text (texts_of macros []) (Body id)) at (length body)) at ahead
+    → ahead.at ≤ at → ahead.front ≡ front.Usage len → at < length (macro_at macros id).body → IsUsageAt (macro_at macros id).body at len
+unfolding source_text IsFront
+ahead-usage macros id at len body ahead is h less front_is more =
+    let own = (macro_at macros id).body in
+    let formals = source_formals (texts_of macros []) (Body id) in
+    let stands : IsFront formals (drop at own) (front.Usage len) =
+    subst (λ (text : List ℕ). IsFront formals text (front.Usage len)) (rest-is own at)
+    (subst (λ (text : List ℕ). IsFront formals (slice_range own at (length text)) (front.Usage len)) is
+    (subst (λ (f : Front). IsFront formals (slice_range own at (length body)) f) front_is
+    (ahead-front formals (slice_range own at (length body)) at ahead h less))) in
+    record { some = more; kind = stands.1; len_is = stands.2 }
 
 -- a macro that is gone over on a run
 pub flat-run : (macros : List Macro) (id at next : ℕ) (flat new : Flat) (runs : Runs) (place : TextPlace) (ahead : Ahead) (body : List ℕ) → IsFlatUpTo macros id at flat
