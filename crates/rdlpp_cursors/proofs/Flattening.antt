@@ -241,21 +241,22 @@ run-own macros id from end body ahead inside plain some within h more is keeps =
     }
 
 -- a macro of which nothing is gone over
-pub flat-none : (macros : List Macro) (id : ℕ) (flat : Flat) → id < length macros → option_map (λ (fs : List Formal). length fs) (macro_at macros id).formals ≡ None
-    → flat ≡ record { index = id; runs = record { places = flat.runs.places; next = 0; left = 0 }; levels = 1; bounds = record { least = id; greatest = id } }
+pub flat-none : (macros : List Macro) (id index : ℕ) (flat : Flat) → id < length macros → option_map (λ (fs : List Formal). length fs) (macro_at macros id).formals ≡ None
+    → index ≡ id
+    → flat ≡ record { index = index; runs = record { places = flat.runs.places; next = 0; left = 0 }; levels = 1; bounds = record { least = index; greatest = index } }
     → IsListed flat.runs → IsFlatUpTo macros id 0 flat
 unfolding places_from places_bytes
-flat-none macros id flat inside plain is listed =
+flat-none macros id index flat inside plain e is listed =
     subst (λ (f : Flat). IsFlatUpTo macros id 0 f) (sym is) (record {
-      index = refl;
+      index = e;
       inside = inside;
       plain = plain;
       within = omega arith;
       listed = subst (λ (f : Flat). IsListed f.runs) is listed;
       are_runs = tt;
       levels = omega arith;
-      own = (omega arith, omega arith);
-      gives_up = up-none macros id 1 (record { least = id; greatest = id });
+      own = (omega (arith, e), omega (arith, e));
+      gives_up = up-none macros id 1 (record { least = index; greatest = index });
     })
 
 -- what is copied ahead in a body ends in it
