@@ -20,3 +20,9 @@ pub mod Standing
 pub mod ShortTexts
 pub mod Words
 pub mod Taking
+pub mod MovedOn
+pub mod Admitting
+pub mod Kept
+pub mod Waits
+pub mod Waiting
+pub mod WaitingWork

@@ -21,6 +21,8 @@ use Rattle.rdlpp_cursors.specs.declared.place.TextSource.{TextSource}
 use Rattle.rdlpp_cursors.specs.declared.place.TextSource.TheVariants.{Arguments, Body, Default}
 use Rattle.rdlpp_cursors.specs.declared.run_list.Runs.{Runs}
 use Rattle.rdlpp_cursors.specs.declared.slot.Bounds.{Bounds}
+use Rattle.rdlpp_cursors.specs.declared.slot.SlotKind.{SlotKind}
+use Rattle.rdlpp_cursors.specs.declared.slot.SlotKind.TheVariants as slot
 use Rattle.rdlpp_cursors.specs.Fronts.{AreCopied}
 use Rattle.rdlpp_cursors.specs.Opened.{is_excluded, moved_to, IsWithin, CursorsView}
 use Rattle.rdlpp_cursors.specs.Places.{place_bytes, texts_of}
@@ -46,6 +48,12 @@ abbrev pub source_kind : TextSource → OpenKind
 source_kind Arguments = OpenActual
 source_kind (Body id) = OpenBody id []
 source_kind (Default id place) = OpenDefault id place
+
+-- and as what its slot has, where it is no body
+abbrev pub range_kind : TextSource → SlotKind
+range_kind Arguments = slot.Actual
+range_kind (Body id) = slot.Actual
+range_kind (Default id place) = slot.Default id place
 
 -- a range of a text as an open text
 abbrev pub place_open : TextPlace → Open

@@ -5,7 +5,7 @@ ghost use Rattle.std.specs.Option.{option_map};
 ghost use Rattle.rdlpp_table.specs.View.{macro_at};
 ghost use Rattle.rdlpp_meaning.specs.Opens.{open_body, OpenBody, Texts};
 ghost use Rattle.rdlpp_cursors.specs.Digits.{IsFalling};
-ghost use Rattle.rdlpp_cursors.specs.Flats.{place_open, waiting_opens, HasMovedOn, IsAdmitted, IsListed, IsWholeBody};
+ghost use Rattle.rdlpp_cursors.specs.Flats.{place_open, range_kind, waiting_opens, HasMovedOn, IsAdmitted, IsListed, IsWholeBody};
 ghost use Rattle.rdlpp_cursors.specs.Fronts.{IsLookAhead};
 ghost use Rattle.rdlpp_cursors.specs.Opened.{bound_by, is_spent, kept_by, moved_to, open_of, IsNoBody};
 ghost use Rattle.rdlpp_cursors.specs.Places.{source_text, texts_of};
@@ -75,6 +75,23 @@ fn kept_by(slot: &Slot, bound: usize) -> usize
     }
 }
 
+// A range of a text that is no body, or of what is kept of the call, as a slot.
+fn range_slot(source: TextSource, from: usize, end: usize) -> Slot
+    ensures { result ≡ record { from = from; end = end; home = 0; kind = range_kind source; bounds = result.bounds } }
+{
+    let kind = match source {
+        TextSource::Default { id, place } => SlotKind::Default { id, place },
+        _ => SlotKind::Actual,
+    };
+    Slot {
+        from,
+        end,
+        home: 0,
+        kind,
+        bounds: NO_BOUNDS,
+    }
+}
+
 impl Cursors {
     /// No open texts, with room for `depth` of them, each of which may bind 255 ranges (this project's profile).
     ///
@@ -113,6 +130,7 @@ impl Cursors {
     pub(crate) fn len(&self) -> usize
         ensures value { result ≡ length self.now.opens }
         ensures few { length self.now.opens ≤ self.now.depth }
+        ensures short { self.now.depth < 2 ^ 64 }
     {
         self.slots.len() - self.first
     }
@@ -164,6 +182,7 @@ impl Cursors {
         requires { 0 < length self.old.opens }
         ensures spent { (texts : Texts) → AreSound texts self.old.opens → is_spent self.old.opens ≡ true → IsTaken texts self.old Silent self.new }
         ensures keeps { 1 < length self.old.opens → 0 < length self.new.opens }
+        ensures fewer { length self.new.opens < length self.old.opens }
     {
         self.close();
         while self.len() > 1 && self.is_spent() {
@@ -257,8 +276,8 @@ impl Cursors {
         if room < flat.levels || room < flat.runs.left {
             return false;
         }
-        let slots = &self.slots.as_slice()[self.first..];
-        let bounds = scope_bounds(&slots[1..], slots[0].home);
+        let home = self.slots[self.first].home;
+        let bounds = scope_bounds(&self.slots.as_slice()[room..], home);
         flat.bounds.greatest < bounds.least || bounds.greatest < flat.bounds.least
     }
 
@@ -272,33 +291,21 @@ impl Cursors {
     {
         while waiting.left > 0 {
             waiting.left -= 1;
-            self.open_place(waiting.places[waiting.next + waiting.left]);
+            let place = &waiting.places[waiting.next + waiting.left];
+            self.open_place(&place.source, place.from, place.end);
         }
     }
 
     // Opens a range of a text.
-    fn open_place(&mut self, place: TextPlace)
+    fn open_place(&mut self, source: &TextSource, from: usize, end: usize)
         requires { length self.old.opens < self.old.depth }
-        ensures { self.new ≡ record self.old { opens = place_open place ∷ self.old.opens } }
+        ensures { self.new ≡ record self.old { opens = place_open (record { source = source.now; from = from; end = end }) ∷ self.old.opens } }
     {
-        let mut slot = Slot {
-            from: place.from,
-            end: place.end,
-            home: 0,
-            kind: SlotKind::Actual,
-            bounds: NO_BOUNDS,
-        };
-        match place.source {
-            TextSource::Body(id) => {
-                self.push_body(id, place.end, 0);
-                self.move_to(place.from);
-            }
-            TextSource::Arguments => self.push_text(slot),
-            TextSource::Default { id, place } => {
-                slot.kind = SlotKind::Default { id, place };
-                self.push_text(slot);
-            }
+        if let TextSource::Body(id) = *source {
+            self.push_body(id, end, 0);
+            return self.move_to(from);
         }
+        self.push_text(range_slot(*source, from, end));
     }
 
     /// Opens the body of a macro for a usage without arguments, which stands in a source at a line.

@@ -2,9 +2,8 @@
 ghost use Rattle.std.specs.Prelude.{[], IfSome, IsTrue, None, slice_index_or, length, true, ◌+◌, ◌<◌, ◌≡◌, ◌≤◌};
 ghost use Rattle.std.specs.Option.{option_map};
 ghost use Rattle.rdlpp_table.specs.View.{formals_of, macro_at};
-ghost use Rattle.rdlpp_cursors.specs.Flats.{IsBodyRun, IsFlat, IsFlatUpTo, IsListed, IsRun, IsUsageAt};
+ghost use Rattle.rdlpp_cursors.specs.Flats.{no_place, IsBodyRun, IsFlat, IsFlatUpTo, IsListed, IsRun, IsUsageAt};
 ghost use Rattle.rdlpp_cursors.specs.Fronts.{IsAhead};
-ghost use Rattle.rdlpp_cursors.specs.declared.place.TextPlace.{TextPlace};
 ghost use Rattle.rdlpp_cursors.specs.declared.place.TextSource.TheVariants as source;
 
 use crate::flat::Flat;
@@ -34,13 +33,20 @@ impl Macros {
     pub(crate) fn is_next_run(&self, key: usize, waiting: &Runs) -> bool
         requires some { 0 < waiting.now.left }
         requires listed { IsListed waiting.now }
-        ensures { IsTrue result → (place : TextPlace) → place ≡ slice_index_or waiting.now.places waiting.now.next place → IsRun self.now.macros place }
+        ensures { IsTrue result → IsRun self.now.macros (slice_index_or waiting.now.places waiting.now.next no_place) }
     {
         if key >= MOST_FLATS || !self.known[key] {
             return false;
         }
         let runs = &self.flats[key].runs;
-        waiting.next < runs.left && runs.places[waiting.next] == waiting.places[waiting.next]
+        let next = waiting.next;
+        if next < runs.next {
+            return false;
+        }
+        if next >= runs.next + runs.left {
+            return false;
+        }
+        is_same(&runs.places[next], &waiting.places[next])
     }
 
     // Notes that the body of a macro was opened, and looks for its expansion where that isn't the first time.
@@ -129,6 +135,19 @@ impl Macros {
         flat.widen(used)?;
         Some(at + len)
     }
+}
+
+// Whether two places are the same place of a body.
+fn is_same(place: &TextPlace, other: &TextPlace) -> bool
+    ensures { IsTrue result → place.now ≡ other.now }
+{
+    let TextSource::Body(id) = place.source else {
+        return false;
+    };
+    let TextSource::Body(own) = other.source else {
+        return false;
+    };
+    id == own && place.from == other.from && place.end == other.end
 }
 
 // A run of the body of a macro without a list, where that is one if it is read as a text of its own.

@@ -1,18 +1,21 @@
 use Rattle.std.proofs.Common.{◌<◌, length, sym, ◌∙◌, arith}
-use Rattle.rdlpp_cursors.proofs.Taking.{rest-open, spent-closed, taken-twice}
+use Rattle.rdlpp_cursors.proofs.Taking.{rest-fewer, rest-open, spent-closed, taken-twice}
 use Rattle.rdlpp_cursors.proofs.cursors.Cursors.close_spent.Goals as goal
 
 pub loop-self-init : goal.loop-self-init
 loop-self-init c = (
   λ many. rest-open _ _ many c.close.ensures,
-  λ texts h e. spent-closed texts _ _ h c.requires e c.close.ensures,
+  (λ texts h e. spent-closed texts _ _ h c.requires e c.close.ensures, rest-fewer _ _ c.requires c.close.ensures),
 )
 
 pub loop-self-preserved : goal.loop-self-preserved
 loop-self-preserved c =
     let many : 1 < length c.loop-self.self.opens = omega (arith, c.loop-self-test.true, c.len.ensures.value) in (
       λ _. rest-open _ _ many c.close-in-loop-self.ensures,
-      λ texts h e.
-          let t = c.loop-self.invariant.1 texts h e in
-          taken-twice texts _ _ _ t (spent-closed texts _ _ t.sound (omega (arith, many)) (sym c.is_spent.ensures ∙ c.if-is_spent.true) c.close-in-loop-self.ensures),
+      (
+        λ texts h e.
+            let t = c.loop-self.invariant.1.0 texts h e in
+            taken-twice texts _ _ _ t (spent-closed texts _ _ t.sound (omega (arith, many)) (sym c.is_spent.ensures ∙ c.if-is_spent.true) c.close-in-loop-self.ensures),
+        (let fewer = c.loop-self.invariant.1.1 in let again = rest-fewer c.loop-self.self c.close-in-loop-self.new.self (omega (arith, many)) c.close-in-loop-self.ensures in omega (arith, fewer, again)),
+      ),
     )

@@ -9,7 +9,8 @@ use Rattle.rdlpp_cursors.proofs.cursors.Cursors.close_spent.Given as goal
 abbrev pub invariant-loop-self : goal.invariant-loop-self
 invariant-loop-self l =
     (1 < length l.fn.self.opens → 0 < length l.self.opens)
-    × ((texts : Texts) → AreSound texts l.fn.self.opens → is_spent l.fn.self.opens ≡ true → IsTaken texts l.fn.self Silent l.self)
+    × (((texts : Texts) → AreSound texts l.fn.self.opens → is_spent l.fn.self.opens ≡ true → IsTaken texts l.fn.self Silent l.self)
+    × (length l.self.opens < length l.fn.self.opens))
 
 abbrev pub decreases-loop-self : goal.decreases-loop-self
 decreases-loop-self l = length l.self.opens

@@ -10,4 +10,5 @@ returns c =
     rw (← c.self.view_is) (record {
       value = ap (λ (n : ℕ). n - c.self.inside.first) (c.len.ensures ∙ slots) ∙ sym count;
       few = omega arith;
+      short = (let size = c.len.ensures in let fits = c.len.type_inv in omega (arith, size, fits));
     })
