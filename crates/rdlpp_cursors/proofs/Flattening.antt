@@ -105,11 +105,12 @@ up-more : (macros : List Macro) (id at next : ℕ) (bytes more : List ℕ) (leve
 unfolding GivesUpTo
 up-more macros id at next bytes more levels wide bounds wider few within up on rules s line depth home arguments below m sound away room =
     let first = up rules s line depth home arguments below m sound (away-wider bounds wider (writer_ids below home) within away) (omega (arith, few, room)) in
-    let second = on rules s line depth home arguments below m first.0 away room in
-    (second.0,
-    first.1
-    ∙ ap (λ (o : Outcome). and_then (gives bytes) o) second.1
-    ∙ and_then-gives_gives bytes more (left_of rules s line depth (texts_of macros arguments) (body_at macros id next home below)))
+    let second = on rules s line depth home arguments below m first.0 away room in (
+      second.0,
+      first.1
+          ∙ ap (λ (o : Outcome). and_then (gives bytes) o) second.1
+          ∙ and_then-gives_gives bytes more (left_of rules s line depth (texts_of macros arguments) (body_at macros id next home below)),
+    )
 
 -- a body goes on over a run
 run-more : (macros : List Macro) (id at n levels : ℕ) (bounds : Bounds) → 0 < n
@@ -174,14 +175,15 @@ usage-more table id at len used name flat levels bounds ok usage is_flat placed 
     let opened = sound-used table arguments (x ∷ below) used (at + len) ok behind (scope-inside (x ∷ below) (homes-out texts (x ∷ below) sound.are_open)) is_flat.inside none in
     let after : AreAway flat.bounds (writer_ids (body_at macros id (at + len) home below) (suc (length below))) =
     subst (λ (ids : List ℕ). AreAway flat.bounds ids) (sym (writers-here macros id (at + len) home below)) all in
-    let fits : length (x ∷ below) + flat.levels ≤ depth = omega (arith, room, less) in
-    (behind,
-    (step rules s m).remains
-    ∙ and_then-gives_nil (left_of rules s line depth texts (open_body texts used [] (suc (length below)) ∷ moved_to (at + len) (x ∷ below)))
-    ∙ is_flat.gives_all rules s line depth (suc (length below)) arguments (body_at macros id (at + len) home below) m opened after fits)
+    let fits : length (x ∷ below) + flat.levels ≤ depth = omega (arith, room, less) in (
+      behind,
+      (step rules s m).remains
+          ∙ and_then-gives_nil (left_of rules s line depth texts (open_body texts used [] (suc (length below)) ∷ moved_to (at + len) (x ∷ below)))
+          ∙ is_flat.gives_all rules s line depth (suc (length below)) arguments (body_at macros id (at + len) home below) m opened after fits,
+    )
 
 -- a body of which nothing is left is closed
-pub up-all : (macros : List Macro) (id at : ℕ) (bytes : List ℕ) (levels : ℕ) (bounds : Bounds) → length (macro_at macros id).body ≤ at
+up-all : (macros : List Macro) (id at : ℕ) (bytes : List ℕ) (levels : ℕ) (bounds : Bounds) → length (macro_at macros id).body ≤ at
     → GivesUpTo macros id at bytes levels bounds → Gives macros id bytes levels bounds
 unfolding GivesUpTo Gives moved_to open_body open_bytes text_around own_text front_source source_formals source_text IsStep StepsTo IsFront
 up-all macros id at bytes levels bounds end up rules s line depth home arguments below m sound away room =
@@ -195,7 +197,7 @@ up-all macros id at bytes levels bounds end up rules s line depth home arguments
     first.1 ∙ ap (λ (o : Outcome). and_then (gives bytes) o) ((step rules s m).remains ∙ and_then-gives_nil (left_of rules s line depth texts below))
 
 -- a body has given nothing at its front
-pub up-none : (macros : List Macro) (id levels : ℕ) (bounds : Bounds) → GivesUpTo macros id 0 [] levels bounds
+up-none : (macros : List Macro) (id levels : ℕ) (bounds : Bounds) → GivesUpTo macros id 0 [] levels bounds
 unfolding GivesUpTo moved_to open_body
 up-none macros id levels bounds rules s line depth home arguments below m sound away room =
     (sound, sym (and_then-gives_nil (left_of rules s line depth (texts_of macros arguments) (body_at macros id 0 home below))))
@@ -390,13 +392,15 @@ pub flat-all : (macros : List Macro) (id at end : ℕ) (flat : Flat) (body : Lis
     → IsFlat macros id flat × (flat.index ≡ id)
 flat-all macros id at end flat body up body_is end_is done =
     let ends : length (macro_at macros id).body ≤ at =
-    subst (λ (text : List ℕ). length text ≤ at) body_is (subst (λ (n : ℕ). n ≤ at) end_is done) in
-    (record {
-      inside = up.inside;
-      plain = up.plain;
-      listed = up.listed;
-      are_runs = up.are_runs;
-      levels = up.levels;
-      own = up.own;
-      gives_all = up-all macros id at (places_bytes macros (places_of flat.runs)) flat.levels flat.bounds ends up.gives_up;
-    }, up.index)
+    subst (λ (text : List ℕ). length text ≤ at) body_is (subst (λ (n : ℕ). n ≤ at) end_is done) in (
+      record {
+        inside = up.inside;
+        plain = up.plain;
+        listed = up.listed;
+        are_runs = up.are_runs;
+        levels = up.levels;
+        own = up.own;
+        gives_all = up-all macros id at (places_bytes macros (places_of flat.runs)) flat.levels flat.bounds ends up.gives_up;
+      },
+      up.index,
+    )

@@ -1,8 +1,5 @@
 -- A macro is gone over to its end.
-use Rattle.std.proofs.Common.{length, ◌<◌, ◌≡◌, ◌≤◌, ℕ, ◌-◌, List, refl, sym, ap}
-use Rattle.std.specs.Option.{option_map}
-use Rattle.rdlpp_table.specs.View.{formals_of, macro_at}
-use Rattle.rdlpp_cursors.specs.Flats.{IsFlat, IsFlatUpTo, IsListed}
+use Rattle.std.proofs.Common.{length, refl}
 use Rattle.rdlpp_cursors.proofs.Flattening.{flat-all, flat-none}
 use Rattle.rdlpp_cursors.proofs.macros.Macros.flatten.Goals as goal
 

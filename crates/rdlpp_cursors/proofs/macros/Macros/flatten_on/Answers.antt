@@ -1,8 +1,6 @@
 -- A macro is gone over on a run or a usage.
-use Rattle.std.proofs.Common.{length, ◌+◌, ◌<◌, ◌≡◌, ◌≤◌, ℕ, ◌-◌, List, refl, sym, ap, arith}
-use Rattle.std.specs.Option.{option_map}
-use Rattle.rdlpp_table.specs.View.{formals_of, macro_at}
-use Rattle.rdlpp_cursors.specs.Flats.{IsBodyRun, IsFlatUpTo, IsListed, IsUsageAt}
+use Rattle.std.proofs.Common.{length, ◌≡◌, ℕ, List, refl, ap, arith}
+use Rattle.rdlpp_table.specs.View.{macro_at}
 use Rattle.rdlpp_cursors.specs.Places.{source_text}
 use Rattle.rdlpp_cursors.proofs.Flattening.{ahead-inside, ahead-usage, flat-run}
 use Rattle.rdlpp_cursors.proofs.macros.Macros.flatten_on.Goals as goal
@@ -23,10 +21,12 @@ run_of-requires-clause-within c =
 
 pub returns-then-at-ahead : goal.returns-then-at-ahead
 returns-then-at-ahead c =
-    rw (← c.self.view_is) (c.if-at-ahead.true,
-    flat-run c.self.inside.table.macros c.args.id c.args.at c.front_of-ahead.result.at c.args.flat.now _ c.add.new.self c.in_ok-run_of.field-0 c.front_of-ahead.result c.body-body.result.now
-    (rw (← c.self.view_is) at c.requires.up_to) c.body-body.ensures c.front_of-ahead.ensures refl c.if-at-ahead.true c.in_ok-run_of.ensures.run c.in_ok-run_of.ensures.place
-    c.in_ok-add.ensures.listed c.in_ok-add.ensures.places refl)
+    rw (← c.self.view_is) (
+      c.if-at-ahead.true,
+      flat-run c.self.inside.table.macros c.args.id c.args.at c.front_of-ahead.result.at c.args.flat.now _ c.add.new.self c.in_ok-run_of.field-0 c.front_of-ahead.result c.body-body.result.now
+          (rw (← c.self.view_is) at c.requires.up_to) c.body-body.ensures c.front_of-ahead.ensures refl c.if-at-ahead.true c.in_ok-run_of.ensures.run c.in_ok-run_of.ensures.place
+          c.in_ok-add.ensures.listed c.in_ok-add.ensures.places refl,
+    )
 
 pub flatten_usage-requires-clause-usage : goal.flatten_usage-requires-clause-usage
 flatten_usage-requires-clause-usage c =

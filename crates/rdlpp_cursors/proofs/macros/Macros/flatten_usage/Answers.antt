@@ -1,9 +1,6 @@
 -- A macro is gone over on a usage of one whose expansion is known.
-use Rattle.std.proofs.Common.{length, ◌+◌, ◌<◌, ◌≡◌, ◌≤◌, ℕ, ◌-◌, List, sym, ap, ◌∙◌, arith}
+use Rattle.std.proofs.Common.{◌+◌, ℕ, List, sym, ap, ◌∙◌, arith}
 use Rattle.std.specs.Prelude.{slice_range}
-use Rattle.std.specs.Option.{option_map}
-use Rattle.rdlpp_table.specs.View.{formals_of, macro_at}
-use Rattle.rdlpp_cursors.specs.Flats.{IsFlat, IsFlatUpTo, IsListed, IsUsageAt}
 use Rattle.rdlpp_cursors.proofs.Flattening.{flat-used, usage-fits}
 use Rattle.rdlpp_cursors.proofs.macros.Macros.flatten_usage.Goals as goal
 
@@ -50,8 +47,10 @@ returns c =
     let at = c.args.at in
     let len = c.args.len in
     let name = ap (λ (text : List ℕ). slice_range text (at + 1) (at + len)) c.body.ensures in
-    rw (← view) (omega (arith, some),
-    flat-used c.self.inside.table c.args.id at len c.in_ok-find.field-0 (slice_range c.body.result.now (at + 1) (at + len)) c.args.flat.now c.in_ok-used.used.now c.widen.new.self c.append.new.self
-    c.len-macros.ensures.sound (rw (← view) at c.requires.up_to) usage (rw (← view) at c.in_ok-used.ensures) (sym c.in_ok-find.ensures.value) c.in_ok-find.ensures.named name
-    (sym c.is_excluded.ensures ∙ c.if-not-is_excluded.false) c.in_ok-append.ensures.listed c.in_ok-append.ensures.places c.in_ok-widen.ensures.same
-    c.in_ok-widen.ensures.levels.0 c.in_ok-widen.ensures.levels.1 c.in_ok-widen.ensures.bounds.0 c.in_ok-widen.ensures.bounds.1)
+    rw (← view) (
+      omega (arith, some),
+      flat-used c.self.inside.table c.args.id at len c.in_ok-find.field-0 (slice_range c.body.result.now (at + 1) (at + len)) c.args.flat.now c.in_ok-used.used.now c.widen.new.self c.append.new.self
+          c.len-macros.ensures.sound (rw (← view) at c.requires.up_to) usage (rw (← view) at c.in_ok-used.ensures) (sym c.in_ok-find.ensures.value) c.in_ok-find.ensures.named name
+          (sym c.is_excluded.ensures ∙ c.if-not-is_excluded.false) c.in_ok-append.ensures.listed c.in_ok-append.ensures.places c.in_ok-widen.ensures.same
+          c.in_ok-widen.ensures.levels.0 c.in_ok-widen.ensures.levels.1 c.in_ok-widen.ensures.bounds.0 c.in_ok-widen.ensures.bounds.1,
+    )
