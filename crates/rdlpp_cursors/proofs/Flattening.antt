@@ -23,6 +23,7 @@ use Rattle.rdlpp_calls.specs.KeptTexts.{keeps_each}
 use Rattle.rdlpp_calls.proofs.KeptTexts.{each_kept}
 use Rattle.rdlpp_cursors.specs.declared.flat.Flat.{Flat}
 use Rattle.rdlpp_cursors.specs.declared.front.Ahead.{Ahead}
+use Rattle.rdlpp_cursors.specs.declared.front.Front.{Front}
 use Rattle.rdlpp_cursors.specs.declared.front.Front.TheVariants as front
 use Rattle.rdlpp_cursors.specs.declared.front.Look.{Look}
 use Rattle.rdlpp_cursors.specs.declared.place.TextPlace.{TextPlace}
@@ -182,7 +183,7 @@ usage-more table id at len used name flat levels bounds ok usage is_flat placed 
     )
 
 -- a body of which nothing is left is closed
-pub up-all : (macros : List Macro) (id at : ℕ) (bytes : List ℕ) (levels : ℕ) (bounds : Bounds) → length (macro_at macros id).body ≤ at
+up-all : (macros : List Macro) (id at : ℕ) (bytes : List ℕ) (levels : ℕ) (bounds : Bounds) → length (macro_at macros id).body ≤ at
     → GivesUpTo macros id at bytes levels bounds → Gives macros id bytes levels bounds
 unfolding GivesUpTo Gives moved_to open_body open_bytes text_around own_text front_source source_formals source_text IsStep StepsTo IsFront
 up-all macros id at bytes levels bounds end up rules s line depth home arguments below m sound away room =
@@ -196,7 +197,7 @@ up-all macros id at bytes levels bounds end up rules s line depth home arguments
     first.1 ∙ ap (λ (o : Outcome). and_then (gives bytes) o) ((step rules s m).remains ∙ and_then-gives_nil (left_of rules s line depth texts below))
 
 -- a body has given nothing at its front
-pub up-none : (macros : List Macro) (id levels : ℕ) (bounds : Bounds) → GivesUpTo macros id 0 [] levels bounds
+up-none : (macros : List Macro) (id levels : ℕ) (bounds : Bounds) → GivesUpTo macros id 0 [] levels bounds
 unfolding GivesUpTo moved_to open_body
 up-none macros id levels bounds rules s line depth home arguments below m sound away room =
     (sound, sym (and_then-gives_nil (left_of rules s line depth (texts_of macros arguments) (body_at macros id 0 home below))))
@@ -242,22 +243,58 @@ run-own macros id from end body ahead inside plain some within h more is keeps =
     }
 
 -- a macro of which nothing is gone over
-pub flat-none : (macros : List Macro) (id : ℕ) (flat : Flat) → id < length macros → option_map (λ (fs : List Formal). length fs) (macro_at macros id).formals ≡ None
-    → flat ≡ record { index = id; runs = record { places = flat.runs.places; next = 0; left = 0 }; levels = 1; bounds = record { least = id; greatest = id } }
+pub flat-none : (macros : List Macro) (id index : ℕ) (flat : Flat) → id < length macros → option_map (λ (fs : List Formal). length fs) (macro_at macros id).formals ≡ None
+    → index ≡ id
+    → flat ≡ record { index = index; runs = record { places = flat.runs.places; next = 0; left = 0 }; levels = 1; bounds = record { least = index; greatest = index } }
     → IsListed flat.runs → IsFlatUpTo macros id 0 flat
 unfolding places_from places_bytes
-flat-none macros id flat inside plain is listed =
+flat-none macros id index flat inside plain e is listed =
     subst (λ (f : Flat). IsFlatUpTo macros id 0 f) (sym is) (record {
-      index = refl;
+      index = e;
       inside = inside;
       plain = plain;
       within = omega arith;
       listed = subst (λ (f : Flat). IsListed f.runs) is listed;
       are_runs = tt;
       levels = omega arith;
-      own = (omega arith, omega arith);
-      gives_up = up-none macros id 1 (record { least = id; greatest = id });
+      own = (omega (arith, e), omega (arith, e));
+      gives_up = up-none macros id 1 (record { least = index; greatest = index });
     })
+
+-- what is copied ahead in a body ends in it
+pub ahead-inside : (macros : List Macro) (id at : ℕ) (body : List ℕ) (ahead : Ahead) → body ≡ (macro_at macros id).body
+    → IsAhead (source_formals (texts_of macros []) (Body id)) (slice_range (source_text (texts_of macros []) (Body id)) at (length body)) at ahead
+    → at < ahead.at → ahead.at ≤ length (macro_at macros id).body
+unfolding IsAhead AreCopied source_text
+ahead-inside macros id at body ahead is h more =
+    let own = (macro_at macros id).body in
+    let same : length body ≡ length own = ap (λ (text : List ℕ). length text) is in
+    let size = length-take (length body - at) (drop at own) in
+    let rest = length-drop at own in
+    let fits : ahead.at - at ≤ length (slice_range own at (length body)) = h.1.0 in
+    omega (arith, same, size, rest, fits, more)
+
+-- what stands at the front of a body, where nothing is copied
+ahead-front : (formals : List Formal) (text : List ℕ) (at : ℕ) (ahead : Ahead) → IsAhead formals text at ahead → ahead.at ≤ at → IsFront formals text ahead.front
+unfolding IsAhead
+ahead-front formals text at ahead h less =
+    let zeroth : ahead.at - at ≡ 0 = omega (arith, less) in
+    subst (λ (n : ℕ). IsFront formals (drop n text) ahead.front) zeroth h.2
+
+-- a usage that stands ahead in a body, where nothing is copied
+pub ahead-usage : (macros : List Macro) (id at len : ℕ) (body : List ℕ) (ahead : Ahead) → body ≡ (macro_at macros id).body
+    → IsAhead (source_formals (texts_of macros []) (Body id)) (slice_range (source_text (texts_of macros []) (Body id)) at (length body)) at ahead
+    → ahead.at ≤ at → ahead.front ≡ front.Usage len → at < length (macro_at macros id).body → IsUsageAt (macro_at macros id).body at len
+unfolding source_text IsFront
+ahead-usage macros id at len body ahead is h less front_is more =
+    let own = (macro_at macros id).body in
+    let formals = source_formals (texts_of macros []) (Body id) in
+    let stands : IsFront formals (drop at own) (front.Usage len) =
+    subst (λ (text : List ℕ). IsFront formals text (front.Usage len)) (rest-is own at)
+    (subst (λ (text : List ℕ). IsFront formals (slice_range own at (length text)) (front.Usage len)) is
+    (subst (λ (f : Front). IsFront formals (slice_range own at (length body)) f) front_is
+    (ahead-front formals (slice_range own at (length body)) at ahead h less))) in
+    record { some = more; kind = stands.1; len_is = stands.2 }
 
 -- a macro that is gone over on a run
 pub flat-run : (macros : List Macro) (id at next : ℕ) (flat new : Flat) (runs : Runs) (place : TextPlace) (ahead : Ahead) (body : List ℕ) → IsFlatUpTo macros id at flat

@@ -1,9 +1,6 @@
 -- A macro is gone over on a usage of one whose expansion is known.
-use Rattle.std.proofs.Common.{length, ◌+◌, ◌<◌, ◌≡◌, ◌≤◌, ℕ, ◌-◌, List, sym, ap, ◌∙◌, arith}
+use Rattle.std.proofs.Common.{◌+◌, ℕ, List, sym, ap, ◌∙◌, arith}
 use Rattle.std.specs.Prelude.{slice_range}
-use Rattle.std.specs.Option.{option_map}
-use Rattle.rdlpp_table.specs.View.{formals_of, macro_at}
-use Rattle.rdlpp_cursors.specs.Flats.{IsFlat, IsFlatUpTo, IsListed, IsUsageAt}
 use Rattle.rdlpp_cursors.proofs.Flattening.{flat-used, usage-fits}
 use Rattle.rdlpp_cursors.proofs.macros.Macros.flatten_usage.Goals as goal
 

@@ -1,5 +1,4 @@
 -- A run of a body is one as a text of its own.
-use Rattle.std.proofs.Common.{◌≡◌, ◌≤◌, length, List, ℕ, subst, sym, ◌∙◌}
 use Rattle.rdlpp_cursors.specs.Places.{source_text}
 use Rattle.rdlpp_cursors.proofs.Flattening.{run-own}
 use Rattle.rdlpp_cursors.proofs.macros.flattening.run_of.Goals as goal

@@ -1,5 +1,5 @@
 -- A run is added behind the others.
-use Rattle.std.proofs.Common.{length, ◌+◌, ◌<◌, ◌≡◌, ◌≤◌, refl, arith}
+use Rattle.std.proofs.Common.{length, ◌+◌, ◌≡◌, ◌≤◌, refl, arith}
 use Rattle.rdlpp_cursors.proofs.Places.{places-add}
 use Rattle.rdlpp_cursors.proofs.run_list.Runs.add.Goals as goal
 
