@@ -1,31 +1,35 @@
 -- A step of open texts in front of which runs may wait.
 use Rattle.std.proofs.Common.{◌≡◌, ℕ, zero, suc, ◌+◌, ◌<◌, ◌≤◌, ◌⊎◌, inl, inr, Bool, true, List, [], ◌∷◌, ◌++◌, map, length, drop, refl, sym, ap, subst, ◌∙◌, arith}
-use Rattle.std.proofs.Math.ListN.{set}
+use Rattle.std.specs.Prelude.{slice_index_or}
 use Rattle.rdlpp_table.specs.Table.{Macro}
+use Rattle.rdlpp_table.specs.View.{TableView}
 use Rattle.rdlpp_meaning.specs.Opens.{Open, Texts, open_body}
 use Rattle.rdlpp_cursors.specs.declared.flat.Flat.{Flat}
 use Rattle.rdlpp_cursors.specs.declared.place.TextPlace.{TextPlace}
 use Rattle.rdlpp_cursors.specs.declared.run_list.Runs.{Runs}
 use Rattle.rdlpp_cursors.specs.declared.step.CursorStep.{CursorStep}
 use Rattle.rdlpp_cursors.specs.declared.step.CursorStep.TheVariants.{Lends, Silent, Refused}
-use Rattle.rdlpp_cursors.specs.Flats.{place_open, places_of, waiting_opens, waiting_view, AreFlat, AreKept, HasMovedOn, IsFlat, IsLent, IsListed, IsSwapped, IsWaiting}
+use Rattle.rdlpp_cursors.specs.Flats.{no_place, place_open, places_of, waiting_opens, waiting_view, HasMovedOn, IsAdmitted, IsFlat, IsLent, IsListed, IsRun, IsSwapped, IsWaiting, IsWholeBody}
+use Rattle.rdlpp_cursors.specs.Digits.{IsFalling}
+use Rattle.rdlpp_cursors.specs.Places.{texts_of}
 use Rattle.rdlpp_cursors.specs.Opened.{CursorsView}
-use Rattle.rdlpp_cursors.specs.Steps.{AreInside, AreKnown, AreSound, IsPlacedStep, KeepsOpen}
+use Rattle.rdlpp_cursors.specs.Steps.{AreInside, AreKnown, AreSound, IsPlacedStep, IsStep, KeepsOpen, StaysRefused}
 use Rattle.rdlpp_cursors.proofs.Passing.{IsPassed}
 use Rattle.rdlpp_cursors.proofs.Waiting.{swapped-passed, waiting-lent}
-use Rattle.rdlpp_cursors.proofs.Waits.{none-waits, view-many}
+use Rattle.rdlpp_cursors.proofs.Waits.{none-waits, places-first, view-many}
 
 -- a run that is lent is a step
-pub lent-passed : (texts : Texts) (view now : CursorsView) (waiting new : Runs) (place : TextPlace) → waiting_view waiting view ≡ now → AreSound texts now.opens
-    → IsWaiting waiting view → IsLent texts.macros place waiting new
-    → IsPassed texts now (waiting_view new view) (Lends place) × IsPlacedStep texts (Lends place)
-lent-passed texts view now waiting new place is h w l =
+pub lent-passed : (texts : Texts) (view after now : CursorsView) (waiting new : Runs) (place : TextPlace) → waiting_view waiting view ≡ now → AreSound texts now.opens
+    → IsWaiting waiting view → IsLent texts.macros place waiting new → after ≡ view
+    → IsPassed texts now (waiting_view new after) (Lends place) × IsPlacedStep texts (Lends place)
+lent-passed texts view after now waiting new place is h w l same =
     let behind = w.behind l.some in
     let many = view-many new view in
     let first : now.opens ≡ place_open place ∷ (waiting_opens new ++ view.opens) =
     ap (λ (v : CursorsView). v.opens) (sym is) ∙ ap (λ (places : List TextPlace). map place_open places ++ view.opens) l.first in
-    waiting-lent texts now (waiting_view new view) place (waiting_opens new ++ view.opens) h first l.run (omega (arith, many, behind))
-    (ap (λ (v : CursorsView). record { opens = waiting_opens new ++ view.opens; line = v.line; depth = v.depth }) is)
+    let p = waiting-lent texts now (waiting_view new view) place (waiting_opens new ++ view.opens) h first l.run (omega (arith, many, behind))
+    (ap (λ (v : CursorsView). record { opens = waiting_opens new ++ view.opens; line = v.line; depth = v.depth }) is) in
+    (subst (λ (v : CursorsView). IsPassed texts now (waiting_view new v) (Lends place)) (sym same) p.0, p.1)
 
 -- the others wait
 pub lent-waits : (macros : List Macro) (view : CursorsView) (waiting new : Runs) (place : TextPlace) → IsWaiting waiting view → IsListed new → IsLent macros place waiting new → IsWaiting new view
@@ -119,3 +123,34 @@ keeps-settled step waiting view none k = subst (λ (v : CursorsView). KeepsOpen 
 pub inside-known : (texts : Texts) (opens : List Open) → AreInside texts opens → AreKnown texts.macros opens
 inside-known texts [] h = tt
 inside-known texts (x ∷ below) h = (h.0, inside-known texts below ((h.1).1).1)
+
+-- the first of waiting runs is lent, which is one
+pub lent-first : (macros : List Macro) (place : TextPlace) (waiting new : Runs) → 0 < waiting.left → places_of waiting ≡ place ∷ places_of new → waiting.left ≡ suc new.left
+    → IsRun macros (slice_index_or waiting.places waiting.next no_place) → IsLent macros place waiting new
+lent-first macros place waiting new some first left run =
+    let same : slice_index_or waiting.places waiting.next no_place ≡ place = heads (sym (places-first waiting.left waiting.next waiting.places some) ∙ first) in
+    record { some = some; first = first; left = left; run = subst (λ (p : TextPlace). IsRun macros p) same run }
+  where
+    heads : {x y : TextPlace} {xs ys : List TextPlace} → x ∷ xs ≡ y ∷ ys → x ≡ y
+    heads e = cc
+
+-- the runs of the macro whose body is the innermost open text wait in place of that
+pub swapped-by : (macros : List Macro) (view new : CursorsView) (id : ℕ) (flat : Flat) (waiting : Runs) → IsWholeBody macros view.opens id → IsFlat macros id flat → IsAdmitted view flat
+    → new ≡ record { opens = drop 1 view.opens; line = view.line; depth = view.depth } → waiting ≡ flat.runs → IsSwapped macros view new waiting
+swapped-by macros view new id flat waiting body is_flat admitted is waits = record {
+  id = id;
+  flat = flat;
+  body = body;
+  is_flat = is_flat;
+  admitted = admitted;
+  rest = is ∙ ap (λ (opens : List Open). record { opens = drop 1 opens; line = view.line; depth = view.depth }) body.opens_are;
+  waits = waits;
+}
+
+-- what the contract of a step says
+pub passed-step : (table own : TableView) (arguments : List ℕ) (view new : CursorsView) (step : CursorStep) → own ≡ table
+    → IsStep view.line view.depth (texts_of own.macros arguments) view.opens step new.opens → AreSound (texts_of own.macros arguments) new.opens
+    → (new.line ≡ view.line) × (new.depth ≡ view.depth) → IsFalling view.opens step new.opens → StaysRefused view step new
+    → IsPassed (texts_of table.macros arguments) view new step
+passed-step table own arguments view new step same s h kept d r =
+    subst (λ (v : TableView). IsPassed (texts_of v.macros arguments) view new step) same (record { is_step = s; sound = h; kept = kept; digits = d; refused = r })
