@@ -106,7 +106,10 @@ fn a_body_is_lent_in_one_piece_and_closed(rt: HostRuntime) -> Result<(), Fail> {
 #[test]
 fn the_bytes_at_a_place_are_those_of_its_text(rt: HostRuntime) -> Result<(), Fail> {
     let macros = macros_of(&rt, &[]);
-    assert_eq!(&rt; kept(macros.table(), b"(a, bc)".as_slice(), 4, 6), b"bc".as_slice());
+    assert_eq!(&rt;
+        kept(macros.table(), b"(a, bc)".as_slice(), 4, 6),
+        b"bc".as_slice()
+    );
     Ok(())
 }
 
@@ -145,7 +148,12 @@ fn what_is_refused_behind_a_run_is_told_by_the_next_step(rt: HostRuntime) -> Res
     let outer = id_of(&rt, &macros, b"A".as_slice());
     let mut texts = opened(&rt, &macros, b"A".as_slice(), 1);
     expect_step(&rt, &mut texts, &mut macros, lent(outer, 0, 2));
-    expect_step(&rt, &mut texts, &mut macros, wordless(FaultKind::DepthPassed));
+    expect_step(
+        &rt,
+        &mut texts,
+        &mut macros,
+        wordless(FaultKind::DepthPassed),
+    );
     assert_eq!(&rt; texts.len(), 1);
     Ok(())
 }

@@ -76,8 +76,18 @@ fn an_empty_actual_needs_a_slot(rt: HostRuntime) -> Result<(), Fail> {
     let mut macros = macros_of(&rt, b"`F(,)".as_slice());
     let mut texts = opened(&rt, &macros, b"A".as_slice(), 2);
     expect_step(&rt, &mut texts, &mut macros, CursorStep::Silent);
-    expect_step(&rt, &mut texts, &mut macros, wordless(FaultKind::DepthPassed));
-    expect_step(&rt, &mut texts, &mut macros, wordless(FaultKind::DepthPassed));
+    expect_step(
+        &rt,
+        &mut texts,
+        &mut macros,
+        wordless(FaultKind::DepthPassed),
+    );
+    expect_step(
+        &rt,
+        &mut texts,
+        &mut macros,
+        wordless(FaultKind::DepthPassed),
+    );
     Ok(())
 }
 
