@@ -3,7 +3,7 @@ ghost use Rattle.std.specs.Prelude.{[], length, ◌<◌, ◌≤◌};
 ghost use Rattle.rdlpp_cursors.specs.Places.{texts_of};
 ghost use Rattle.rdlpp_cursors.specs.Steps.{AreSound};
 
-use rdlpp_cursors::{CursorFault, CursorStep, Cursors, TextPlace, TextSource, text_at};
+use rdlpp_cursors::{CursorFault, CursorStep, Macros, OpenTexts, TextPlace, TextSource, text_at};
 use rdlpp_meaning::FaultKind;
 use rdlpp_table::{Limits, MacroId, Table};
 use std::process::Abort;
@@ -11,49 +11,50 @@ use std::test::Fail;
 
 mod formals;
 
-// A table of macros without lists.
-fn table_of<R: Abort + AllocGlobal>(rt: &R, macros: &[(&[u8], &[u8])]) -> Table {
+// Macros without lists.
+fn macros_of<R: Abort + AllocGlobal>(rt: &R, definitions: &[(&[u8], &[u8])]) -> Macros {
     let mut table = match Table::new(rt.alloc(), &Limits::standard()) {
         Ok(table) => table,
         Err(_) => panic!(rt; "no memory"),
     };
-    for (name, body) in macros {
+    for (name, body) in definitions {
         assert!(rt; table.set(name, body).is_ok());
     }
-    table
+    Macros::new(table)
 }
 
 // The macro of a name.
-fn id_of<R: Abort>(rt: &R, table: &Table, name: &[u8]) -> MacroId
-    ensures { result < length table.now.macros }
+fn id_of<R: Abort>(rt: &R, macros: &Macros, name: &[u8]) -> MacroId
+    ensures { result < length macros.now.macros }
 {
-    let Some(id) = table.find(name) else {
+    let Some(id) = macros.table().find(name) else {
         panic!(rt; "the macro isn't found");
     };
     id
 }
 
 // Open texts, of which the first is the body of the macro of a name.
-fn opened<R: Abort + AllocGlobal>(rt: &R, table: &Table, name: &[u8], depth: usize) -> Cursors
-    ensures { AreSound (texts_of table.now.macros []) result.opens }
+fn opened<R: Abort + AllocGlobal>(rt: &R, macros: &Macros, name: &[u8], depth: usize) -> OpenTexts
+    ensures { AreSound (texts_of macros.now.macros []) result.opens }
 {
     assert!(rt; 0 < depth && depth <= 16);
-    let id = id_of(rt, table, name);
+    let id = id_of(rt, macros, name);
+    let table = macros.table();
     assert!(rt; table.arity(id).is_none());
-    let Ok(mut cursors) = Cursors::new(rt.alloc(), depth) else {
+    let Ok(mut texts) = OpenTexts::new(rt.alloc(), depth) else {
         panic!(rt; "no memory");
     };
-    cursors.open_body(table, id, 7);
-    cursors
+    texts.open_body(table, id, 7);
+    texts
 }
 
 // One step comes to what is expected.
-fn expect_step<R: Abort>(rt: &R, cursors: &mut Cursors, table: &Table, expected: CursorStep)
-    requires { AreSound (texts_of table.now.macros []) cursors.old.opens }
-    ensures { AreSound (texts_of table.now.macros []) cursors.new.opens }
+fn expect_step<R: Abort>(rt: &R, texts: &mut OpenTexts, macros: &mut Macros, expected: CursorStep)
+    requires { AreSound (texts_of macros.old.macros []) texts.old.opens }
+    ensures { AreSound (texts_of macros.new.macros []) texts.new.opens }
 {
-    assert!(rt; !cursors.is_empty());
-    assert_eq!(rt; cursors.step(table, b"".as_slice()), expected);
+    assert!(rt; !texts.is_empty());
+    assert_eq!(rt; texts.step(macros, b"".as_slice()), expected);
 }
 
 // A range of what is kept of a call.
@@ -90,62 +91,70 @@ fn wordless(kind: FaultKind) -> CursorStep {
 
 #[test]
 fn a_body_is_lent_in_one_piece_and_closed(rt: HostRuntime) -> Result<(), Fail> {
-    let table = table_of(&rt, &[(b"A".as_slice(), b"x = \"`B\"; // y".as_slice())]);
-    let id = id_of(&rt, &table, b"A".as_slice());
-    let mut cursors = opened(&rt, &table, b"A".as_slice(), 4);
-    assert_eq!(&rt; cursors.len(), 1);
-    expect_step(&rt, &mut cursors, &table, lent(id, 0, 9));
-    assert!(&rt; !cursors.is_empty());
-    expect_step(&rt, &mut cursors, &table, CursorStep::Silent);
-    assert!(&rt; cursors.is_empty());
-    assert_eq!(&rt; cursors.bound(), 0);
+    let mut macros = macros_of(&rt, &[(b"A".as_slice(), b"x = \"`B\"; // y".as_slice())]);
+    let id = id_of(&rt, &macros, b"A".as_slice());
+    let mut texts = opened(&rt, &macros, b"A".as_slice(), 4);
+    assert_eq!(&rt; texts.len(), 1);
+    expect_step(&rt, &mut texts, &mut macros, lent(id, 0, 9));
+    assert!(&rt; !texts.is_empty());
+    expect_step(&rt, &mut texts, &mut macros, CursorStep::Silent);
+    assert!(&rt; texts.is_empty());
+    assert_eq!(&rt; texts.bound(), 0);
     Ok(())
 }
 
 #[test]
 fn the_bytes_at_a_place_are_those_of_its_text(rt: HostRuntime) -> Result<(), Fail> {
-    let table = table_of(&rt, &[]);
-    assert_eq!(&rt; kept(&table, b"(a, bc)".as_slice(), 4, 6), b"bc".as_slice());
+    let macros = macros_of(&rt, &[]);
+    assert_eq!(&rt;
+        kept(macros.table(), b"(a, bc)".as_slice(), 4, 6),
+        b"bc".as_slice()
+    );
     Ok(())
 }
 
 #[test]
 fn a_usage_opens_a_body_and_goes_on_behind_its_name(rt: HostRuntime) -> Result<(), Fail> {
-    let table = table_of(
+    let mut macros = macros_of(
         &rt,
         &[
             (b"A".as_slice(), b"x `B y".as_slice()),
             (b"B".as_slice(), b"z".as_slice()),
         ],
     );
-    let outer = id_of(&rt, &table, b"A".as_slice());
-    let inner = id_of(&rt, &table, b"B".as_slice());
-    let mut cursors = opened(&rt, &table, b"A".as_slice(), 2);
-    expect_step(&rt, &mut cursors, &table, lent(outer, 0, 2));
-    assert_eq!(&rt; cursors.len(), 2);
-    expect_step(&rt, &mut cursors, &table, lent(inner, 0, 1));
-    assert_eq!(&rt; cursors.len(), 1);
-    expect_step(&rt, &mut cursors, &table, lent(outer, 4, 6));
-    assert_eq!(&rt; cursors.len(), 1);
-    expect_step(&rt, &mut cursors, &table, CursorStep::Silent);
-    assert!(&rt; cursors.is_empty());
+    let outer = id_of(&rt, &macros, b"A".as_slice());
+    let inner = id_of(&rt, &macros, b"B".as_slice());
+    let mut texts = opened(&rt, &macros, b"A".as_slice(), 2);
+    expect_step(&rt, &mut texts, &mut macros, lent(outer, 0, 2));
+    assert_eq!(&rt; texts.len(), 2);
+    expect_step(&rt, &mut texts, &mut macros, lent(inner, 0, 1));
+    assert_eq!(&rt; texts.len(), 1);
+    expect_step(&rt, &mut texts, &mut macros, lent(outer, 4, 6));
+    assert_eq!(&rt; texts.len(), 1);
+    expect_step(&rt, &mut texts, &mut macros, CursorStep::Silent);
+    assert!(&rt; texts.is_empty());
     Ok(())
 }
 
 #[test]
 fn what_is_refused_behind_a_run_is_told_by_the_next_step(rt: HostRuntime) -> Result<(), Fail> {
-    let table = table_of(
+    let mut macros = macros_of(
         &rt,
         &[
             (b"A".as_slice(), b"x `B".as_slice()),
             (b"B".as_slice(), b"z".as_slice()),
         ],
     );
-    let outer = id_of(&rt, &table, b"A".as_slice());
-    let mut cursors = opened(&rt, &table, b"A".as_slice(), 1);
-    expect_step(&rt, &mut cursors, &table, lent(outer, 0, 2));
-    expect_step(&rt, &mut cursors, &table, wordless(FaultKind::DepthPassed));
-    assert_eq!(&rt; cursors.len(), 1);
+    let outer = id_of(&rt, &macros, b"A".as_slice());
+    let mut texts = opened(&rt, &macros, b"A".as_slice(), 1);
+    expect_step(&rt, &mut texts, &mut macros, lent(outer, 0, 2));
+    expect_step(
+        &rt,
+        &mut texts,
+        &mut macros,
+        wordless(FaultKind::DepthPassed),
+    );
+    assert_eq!(&rt; texts.len(), 1);
     Ok(())
 }
 
@@ -156,15 +165,15 @@ fn expect_refused<R: Abort + AllocGlobal>(
     kind: FaultKind,
     word: Option<(usize, usize)>,
 ) {
-    let table = table_of(
+    let mut macros = macros_of(
         rt,
         &[(b"A".as_slice(), body), (b"B".as_slice(), b"z".as_slice())],
     );
-    let id = id_of(rt, &table, b"A".as_slice());
-    let mut cursors = opened(rt, &table, b"A".as_slice(), 1);
+    let id = id_of(rt, &macros, b"A".as_slice());
+    let mut texts = opened(rt, &macros, b"A".as_slice(), 1);
     match word {
-        Some((from, end)) => expect_step(rt, &mut cursors, &table, refused(kind, id, from, end)),
-        None => expect_step(rt, &mut cursors, &table, wordless(kind)),
+        Some((from, end)) => expect_step(rt, &mut texts, &mut macros, refused(kind, id, from, end)),
+        None => expect_step(rt, &mut texts, &mut macros, wordless(kind)),
     }
 }
 

@@ -18,7 +18,7 @@ ghost use Rattle.rdlpp_front.specs.Fronts.{IsUsage, usage_name};
 ghost use Rattle.rdlpp_usages.specs.Usages.{BindsKept, IsRun, StaysAt, StaysOpen, TellsCallUsage, TellsUsage, UsesCall, UsesSource, IsRoomy, is_failed_opening, is_opened, StaysLent, IsUsageFault, IsOwnLine};
 
 use rdlpp_arguments::{ArgumentStore, CallRead, read_call};
-use rdlpp_cursors::{CursorStep, Cursors};
+use rdlpp_cursors::{CursorStep, Macros, OpenTexts};
 use rdlpp_meaning::FaultKind;
 use rdlpp_read::Files;
 use rdlpp_source::Sources;
@@ -46,7 +46,7 @@ pub enum Opening {
 #[derive(Drop)]
 pub struct Expansion {
     arguments: ArgumentStore,
-    cursors: Cursors,
+    texts: OpenTexts,
 }
 
 impl Model for Expansion {
@@ -55,14 +55,14 @@ impl Model for Expansion {
     ghost Value = { ExpansionView };
 
     ghost view = { λ e. record {
-      opens = e.cursors.opens;
+      opens = e.texts.opens;
       arguments = e.arguments.bytes;
-      line = e.cursors.line;
-      depth = e.cursors.depth;
+      line = e.texts.line;
+      depth = e.texts.depth;
       most = e.arguments.most;
     } };
 
-    ghost invariant = { λ e. IsExpansion e.cursors.opens e.arguments.bytes };
+    ghost invariant = { λ e. IsExpansion e.texts.opens e.arguments.bytes };
 }
 
 impl Expansion {
@@ -77,29 +77,29 @@ impl Expansion {
         ensures { IfOk result (λ e. e ≡ record { opens = []; arguments = []; line = 0; depth = depth; most = argument_bytes }) }
     {
         let arguments = ArgumentStore::new(alloc, argument_bytes)?;
-        let cursors = Cursors::new(alloc, depth)?;
-        Ok(Expansion { arguments, cursors })
+        let texts = OpenTexts::new(alloc, depth)?;
+        Ok(Expansion { arguments, texts })
     }
 
     /// Whether no text is open.
     pub fn is_empty(&self) -> bool
         ensures { result ≡ (length self.now.opens == 0) }
     {
-        self.cursors.is_empty()
+        self.texts.is_empty()
     }
 
     /// How many texts are open.
     pub fn len(&self) -> usize
         ensures { result ≡ length self.now.opens }
     {
-        self.cursors.len()
+        self.texts.len()
     }
 
     /// How many actuals are bound in them.
     pub fn bound(&self) -> usize
         ensures { result ≡ bound_by self.now.opens }
     {
-        self.cursors.bound()
+        self.texts.bound()
     }
 
     /// The kept bytes of the call.
@@ -114,41 +114,42 @@ impl Expansion {
     pub fn line(&self) -> u64
         ensures { result ≡ self.now.line }
     {
-        self.cursors.line()
+        self.texts.line()
     }
 
     /// What always holds of it.
     pub fn facts(&self)
         ensures { IsRoomy self.now }
     {
-        let _few = self.cursors.len();
+        let _few = self.texts.len();
         let _fits = self.arguments.bytes().len();
     }
 
-    /// Takes one step in the innermost text, as `Cursors::step` does. Behind the last open text nothing is
+    /// Takes one step in the innermost text, as `OpenTexts::step` does. Behind the last open text nothing is
     /// kept of the call.
     ///
     /// # Faults
     ///
-    /// Those of `Cursors::step`. Nothing changes then.
-    pub fn step(&mut self, table: &Table) -> CursorStep
+    /// Those of `OpenTexts::step`. Nothing changes then.
+    pub fn step(&mut self, macros: &mut Macros) -> CursorStep
         requires some { 0 < length self.old.opens }
-        requires sound { AreSound (texts_of table.now.macros self.old.arguments) self.old.opens }
-        ensures step { IsStep self.old.line self.old.depth (texts_of table.now.macros self.old.arguments) self.old.opens result self.new.opens }
-        ensures sound { AreSound (texts_of table.now.macros self.new.arguments) self.new.opens }
+        requires sound { AreSound (texts_of macros.old.macros self.old.arguments) self.old.opens }
+        ensures step { IsStep self.old.line self.old.depth (texts_of macros.old.macros self.old.arguments) self.old.opens result self.new.opens }
+        ensures sound { AreSound (texts_of macros.old.macros self.new.arguments) self.new.opens }
+        ensures table { macros.new ≡ macros.old }
         ensures stays { StaysOpen self.old self.new }
         ensures digits { IsFalling self.old.opens result self.new.opens }
         ensures refused { StaysAt self.old result self.new }
-        ensures placed { IsPlacedStep (texts_of table.now.macros self.new.arguments) result }
+        ensures placed { IsPlacedStep (texts_of macros.old.macros self.new.arguments) result }
         ensures lends { StaysLent self.old result self.new }
         ensures fault { IsTextFault result }
-        ensures word { NamesWord (texts_of table.now.macros self.new.arguments) result }
+        ensures word { NamesWord (texts_of macros.old.macros self.new.arguments) result }
     {
-        let step = self.cursors.step(table, self.arguments.bytes());
+        let step = self.texts.step(macros, self.arguments.bytes());
         if !is_silent(&step) {
             return step;
         }
-        if self.cursors.is_empty() {
+        if self.texts.is_empty() {
             self.arguments.clear();
         }
         step
@@ -196,7 +197,7 @@ impl Expansion {
         let line = files.file().buffer.line();
         files.consume(len, 0);
         if table.arity(id).is_none() {
-            self.cursors.open_body(table, id, line);
+            self.texts.open_body(table, id, line);
             return Opening::Opened;
         }
         let usage = Usage { id, line };
@@ -205,7 +206,7 @@ impl Expansion {
             sources,
             table,
             &mut self.arguments,
-            &mut self.cursors,
+            &mut self.texts,
             usage,
         )
     }
@@ -231,23 +232,23 @@ fn refuse(arguments: &mut ArgumentStore, opening: Opening) -> Opening
 fn bind_kept(
     table: &Table,
     arguments: &mut ArgumentStore,
-    cursors: &mut Cursors,
+    texts: &mut OpenTexts,
     usage: Usage,
 ) -> Opening
     requires inside { usage.id < length table.now.macros }
     requires listed { is_some (macro_at table.now.macros usage.id).formals ≡ true }
-    requires closed { cursors.old.opens ≡ [] }
-    requires room { 0 < cursors.old.depth }
+    requires closed { texts.old.opens ≡ [] }
+    requires room { 0 < texts.old.depth }
     ensures most { arguments.new.most ≡ arguments.old.most }
-    ensures depth { cursors.new.depth ≡ cursors.old.depth }
-    ensures line { cursors.new.line ≡ (if is_opened result then usage.line else cursors.old.line) }
-    ensures binds { BindsKept table.now.macros usage.id usage.line arguments.old.bytes arguments.new.bytes result cursors.new }
-    ensures lets_go { is_opened result ≡ false → (cursors.new.opens ≡ []) × (arguments.new.bytes ≡ []) }
+    ensures depth { texts.new.depth ≡ texts.old.depth }
+    ensures line { texts.new.line ≡ (if is_opened result then usage.line else texts.old.line) }
+    ensures binds { BindsKept table.now.macros usage.id usage.line arguments.old.bytes arguments.new.bytes result texts.new }
+    ensures lets_go { is_opened result ≡ false → (texts.new.opens ≡ []) × (arguments.new.bytes ≡ []) }
     ensures fault { IsUsageFault result }
     ensures own { IsOwnLine result }
-    ensures sound { AreSound (texts_of table.now.macros arguments.new.bytes) cursors.new.opens }
+    ensures sound { AreSound (texts_of table.now.macros arguments.new.bytes) texts.new.opens }
 {
-    match cursors.open_call(table, arguments.bytes(), usage.id, usage.line) {
+    match texts.open_call(table, arguments.bytes(), usage.id, usage.line) {
         Ok(()) => Opening::Opened,
         Err(kind) => refuse(arguments, Opening::Refused(kind)),
     }
@@ -259,28 +260,28 @@ fn open_call<S: Sources>(
     sources: &mut S,
     table: &Table,
     arguments: &mut ArgumentStore,
-    cursors: &mut Cursors,
+    texts: &mut OpenTexts,
     usage: Usage,
 ) -> Opening
     requires some { 0 < length files.old.nest }
     requires plain { (inner_buffer files.old.nest).mode ≡ Plain }
     requires inside { usage.id < length table.now.macros }
     requires listed { is_some (macro_at table.now.macros usage.id).formals ≡ true }
-    requires closed { cursors.old.opens ≡ [] }
-    requires room { 0 < cursors.old.depth }
-    ensures limits { (cursors.new.depth ≡ cursors.old.depth) × (arguments.new.most ≡ arguments.old.most) }
+    requires closed { texts.old.opens ≡ [] }
+    requires room { 0 < texts.old.depth }
+    ensures limits { (texts.new.depth ≡ texts.old.depth) × (arguments.new.most ≡ arguments.old.most) }
     ensures only { files.new ≡ record files.old { nest = files.new.nest } }
     ensures call { SourcesRead S.Sources (is_failed_opening result) sources.old sources.new }
     ensures uses { UsesCall (S.tells sources.old) S.unread result files.old.nest files.new.nest }
-    ensures sound { AreSound (texts_of table.now.macros arguments.new.bytes) cursors.new.opens }
-    ensures line { cursors.new.line ≡ (if is_opened result then usage.line else cursors.old.line) }
-    ensures lets_go { is_opened result ≡ false → (cursors.new.opens ≡ []) × (arguments.new.bytes ≡ []) }
+    ensures sound { AreSound (texts_of table.now.macros arguments.new.bytes) texts.new.opens }
+    ensures line { texts.new.line ≡ (if is_opened result then usage.line else texts.old.line) }
+    ensures lets_go { is_opened result ≡ false → (texts.new.opens ≡ []) × (arguments.new.bytes ≡ []) }
     ensures fault { IsUsageFault result }
     ensures own { IsOwnLine result }
-    ensures tells { TellsCallUsage (S.tells sources.old) S.unread arguments.old.most table.now.macros usage.id result cursors.new.opens arguments.new.bytes (inner_buffer files.old.nest) (inner_buffer files.new.nest) }
+    ensures tells { TellsCallUsage (S.tells sources.old) S.unread arguments.old.most table.now.macros usage.id result texts.new.opens arguments.new.bytes (inner_buffer files.old.nest) (inner_buffer files.new.nest) }
 {
     match read_call(files, sources, arguments) {
-        CallRead::Closed => bind_kept(table, arguments, cursors, usage),
+        CallRead::Closed => bind_kept(table, arguments, texts, usage),
         CallRead::Refused(kind) => refuse(arguments, Opening::Refused(kind)),
         CallRead::Broken(kind, own) => refuse(arguments, Opening::Broken(kind, own)),
         CallRead::Failed => refuse(arguments, Opening::Failed),

@@ -6,7 +6,7 @@ mod devices;
 use crate::{Expansion, Opening};
 use arrayvec::{ArrayString, ArrayVec};
 use devices::{ByteReader, OneText};
-use rdlpp_cursors::{CursorStep, text_at};
+use rdlpp_cursors::{CursorStep, Macros, text_at};
 use rdlpp_front::{Front, front_of};
 use rdlpp_meaning::FaultKind;
 use rdlpp_read::{Files, Fill};
@@ -16,8 +16,8 @@ use rdlpp_table::{Limits, Table};
 use std::process::Abort;
 use std::test::Fail;
 
-// A table of a macro A without a list, and of a macro F with one.
-fn table_of<R: Abort + AllocGlobal>(rt: &R) -> Table {
+// A macro A without a list, and a macro F with one.
+fn macros_of<R: Abort + AllocGlobal>(rt: &R) -> Macros {
     let mut table = match Table::new(rt.alloc(), &Limits::standard()) {
         Ok(table) => table,
         Err(_) => panic!(rt; "no memory"),
@@ -26,7 +26,7 @@ fn table_of<R: Abort + AllocGlobal>(rt: &R) -> Table {
     assert!(rt; logical_line(rest).is_none());
     assert!(rt; table.read_define(rest).is_ok());
     assert!(rt; table.set(b"A".as_slice(), b"x".as_slice()).is_ok());
-    table
+    Macros::new(table)
 }
 
 // What the usage at the front of a text comes to, and what is open behind it.
@@ -63,17 +63,17 @@ fn opened<R: Abort + AllocGlobal>(rt: &R, table: &Table, text: &[u8]) -> (Openin
 
 // The bytes that an expansion lends, up to its end.
 #[tactic(auto, unfolding(rdlpp_cursors::specs::Steps::IsPlacedStep))]
-fn lent<R: Abort>(rt: &R, table: &Table, expansion: &mut Expansion) -> ArrayVec<u8, 16>
-    requires { AreSound (texts_of table.now.macros expansion.old.arguments) expansion.old.opens }
+fn lent<R: Abort>(rt: &R, macros: &mut Macros, expansion: &mut Expansion) -> ArrayVec<u8, 16>
+    requires { AreSound (texts_of macros.old.macros expansion.old.arguments) expansion.old.opens }
 {
     let mut bytes = ArrayVec::new();
     for _step in 0..16 {
         if expansion.is_empty() {
             return bytes;
         }
-        match expansion.step(table) {
+        match expansion.step(macros) {
             CursorStep::Lends(place) => {
-                let piece = text_at(table, expansion.arguments(), place);
+                let piece = text_at(macros.table(), expansion.arguments(), place);
                 assert!(rt; bytes.try_extend_from_slice(piece).is_ok());
             }
             CursorStep::Silent => {}
@@ -85,15 +85,15 @@ fn lent<R: Abort>(rt: &R, table: &Table, expansion: &mut Expansion) -> ArrayVec<
 
 #[test]
 fn a_call_over_lines_is_expanded(rt: HostRuntime) -> Result<(), Fail> {
-    let table = table_of(&rt);
-    let (opening, mut expansion) = opened(&rt, &table, b"`F\n( a ,\n)b\n");
+    let mut macros = macros_of(&rt);
+    let (opening, mut expansion) = opened(&rt, macros.table(), b"`F\n( a ,\n)b\n");
     assert_eq!(&rt; opening, Opening::Opened);
     assert!(&rt; !expansion.is_empty());
     assert_eq!(&rt; expansion.len(), 1);
     assert_eq!(&rt; expansion.bound(), 2);
     assert_eq!(&rt; expansion.line(), 1);
     assert_eq!(&rt; expansion.arguments(), b" a ,\n".as_slice());
-    let bytes = lent(&rt, &table, &mut expansion);
+    let bytes = lent(&rt, &mut macros, &mut expansion);
     assert_eq!(&rt; bytes.as_slice(), b"a+d".as_slice());
     assert!(&rt; expansion.is_empty());
     assert!(&rt; expansion.arguments().is_empty());
@@ -102,17 +102,17 @@ fn a_call_over_lines_is_expanded(rt: HostRuntime) -> Result<(), Fail> {
 
 #[test]
 fn a_usage_without_a_list_is_expanded(rt: HostRuntime) -> Result<(), Fail> {
-    let table = table_of(&rt);
-    let (opening, mut expansion) = opened(&rt, &table, b"`A(b)\n");
+    let mut macros = macros_of(&rt);
+    let (opening, mut expansion) = opened(&rt, macros.table(), b"`A(b)\n");
     assert_eq!(&rt; opening, Opening::Opened);
-    let bytes = lent(&rt, &table, &mut expansion);
+    let bytes = lent(&rt, &mut macros, &mut expansion);
     assert_eq!(&rt; bytes.as_slice(), b"x".as_slice());
     Ok(())
 }
 
 #[test]
 fn a_usage_is_not_opened_for_a_fault(rt: HostRuntime) -> Result<(), Fail> {
-    let table = table_of(&rt);
+    let macros = macros_of(&rt);
     for (text, wanted) in [
         (
             b"`F a\n".as_slice(),
@@ -135,7 +135,7 @@ fn a_usage_is_not_opened_for_a_fault(rt: HostRuntime) -> Result<(), Fail> {
             Opening::Broken(FaultKind::EmbeddedPerl, 2),
         ),
     ] {
-        let (opening, expansion) = opened(&rt, &table, text);
+        let (opening, expansion) = opened(&rt, macros.table(), text);
         assert_eq!(&rt; opening, wanted);
         assert!(&rt; expansion.is_empty() && expansion.arguments().is_empty());
     }

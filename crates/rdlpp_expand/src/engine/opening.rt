@@ -10,6 +10,7 @@ ghost use Rattle.rdlpp_steps.specs.Opening.{Makes, Starts, opened_engine, start_
 use super::Engine;
 use arrayvec::ArrayString;
 use rdlpp_conditions::Conditions;
+use rdlpp_cursors::Macros;
 use rdlpp_meaning::{Fault, FaultKind};
 use rdlpp_read::Files;
 use rdlpp_source::{Found, SourceFault, Sources};
@@ -63,7 +64,7 @@ impl<S: Sources> Engine<S> {
             kept: None,
             main: ArrayString::new(),
             owed: Owed::nothing(),
-            table,
+            macros: Macros::new(table),
             conditions,
             sources,
             files,
@@ -86,8 +87,8 @@ impl<S: Sources> Engine<S> {
         ensures only { self.new ≡ record self.old { table = record self.old.table { macros = self.new.table.macros } } }
         ensures bounded { IsBounded self.new }
     {
-        let outcome = self.table.set(name, text);
-        let _len = self.table.len();
+        let outcome = self.macros.set(name, text);
+        let _len = self.macros.table().len();
         self.facts();
         outcome
     }

@@ -32,7 +32,7 @@ impl<S: Sources> Engine<S> {
         ensures walks { IsBounded self.new → Walks S.Sources self.old self.new (step_answer self.new result) }
     {
         let name = name_of(self.files.file().buffer.held(), len);
-        match self.table.find(name) {
+        match self.macros.table().find(name) {
             None => {
                 let word = word_of(name);
                 Some(self.refuse(FaultKind::UndefinedMacro, word))
@@ -53,7 +53,7 @@ impl<S: Sources> Engine<S> {
         ensures place { IfSome result (IsPlaced self.new) }
         ensures walks { IsBounded self.new → Walks S.Sources self.old self.new (step_answer self.new result) }
     {
-        if is_plain(&self.table, id) {
+        if is_plain(self.macros.table(), id) {
             return Some(self.lend_body(len, id));
         }
         self.open_usage(len, id)
@@ -72,7 +72,7 @@ impl<S: Sources> Engine<S> {
         ensures place { IsPlaced self.new result }
         ensures walks { IsBounded self.new → Walks S.Sources self.old self.new (lent_answer self.new result) }
     {
-        let end = self.table.body(id).len();
+        let end = self.macros.table().body(id).len();
         self.consume(len, 0);
         Place::Body(id, 0, end)
     }
@@ -112,9 +112,10 @@ impl<S: Sources> Engine<S> {
         ensures { OpensUsage S.Sources len self.old self.new result }
     {
         self.facts();
+        let table = self.macros.table();
         let opening = self
             .expansion
-            .open_usage(&mut self.files, &mut self.sources, &self.table, len, id);
+            .open_usage(&mut self.files, &mut self.sources, table, len, id);
         self.expansion.facts();
         opening
     }

@@ -34,5 +34,5 @@ invariant_of-self g c =
     (ap (λ e. e.phase) c.self.view_is ∙ c.requires.ready.open_)
     (o.only ∙ ap (λ ns. record files { nest = ns }) o.uses.inner) (λ f. refl)
     (subst (λ ns. unused_of (inner_buffer ns) ≤ unused_of (inner_buffer files.nest)) o.uses.inner less)
-    o.limits.0 o.limits.1 o.sound
+    o.limits.0 o.limits.1 (rw c.table-table.ensures at o.sound)
     (line_few c.open_usage-opening.result _ _ _ (2 ^ 63) o.line (omega arith) c.self.invariant.texts.line)

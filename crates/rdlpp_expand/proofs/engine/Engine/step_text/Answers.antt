@@ -9,13 +9,13 @@ use Rattle.rdlpp_steps.proofs.TextSteps.{HoldsTexts, TakesTexts, fault_text, len
 use Rattle.rdlpp_expand.proofs.engine.Engine.step_text.Goals as goal
 
 pub refuse_text-kept-requires-clause-placed : goal.refuse_text-kept-requires-clause-placed
-refuse_text-kept-requires-clause-placed g c = placed_word _ _ c.in-Refused.fault c.in-Refused.is c.step-step.ensures.placed
+refuse_text-kept-requires-clause-placed g c = rw c.step-step.ensures.table (placed_word _ _ c.in-Refused.fault c.in-Refused.is c.step-step.ensures.placed)
 
 pub returns-in-Lends-clause-place : goal.returns-in-Lends-clause-place
-returns-in-Lends-clause-place g c = placed_lent _ _ c.in-Lends.place c.in-Lends.is c.step-step.ensures.placed
+returns-in-Lends-clause-place g c = rw c.step-step.ensures.table (placed_lent _ _ c.in-Lends.place c.in-Lends.is c.step-step.ensures.placed)
 
 pub returns-in-Lends-clause-walks : goal.returns-in-Lends-clause-walks
-returns-in-Lends-clause-walks g c = λ bounded.
+returns-in-Lends-clause-walks g c = rw c.step-step.ensures.table (λ bounded.
     let e = c.step-step.ensures in
     let x = c.step-step.new.self in
     let takes : TakesTexts c.args.self.now x c.step-step.result =
@@ -28,10 +28,10 @@ returns-in-Lends-clause-walks g c = λ bounded.
       now_sound = subst (λ v. AreSound (texts_of v.table.macros x.arguments) x.opens) c.self.view_is e.sound;
       stays = subst (λ v. StaysOpen v.expansion x) c.self.view_is e.stays;
     } in
-    lend_step g.S.Sources c.args.self.now x c.step-step.result c.requires.0 takes _ c.in-Lends.place holds c.in-Lends.is (opening _ c.args.self.now x c.self.view_is) bounded
+    lend_step g.S.Sources c.args.self.now x c.step-step.result c.requires.0 takes _ c.in-Lends.place holds c.in-Lends.is (opening _ c.args.self.now x c.self.view_is) bounded)
 
 pub returns-in-Silent-clause-walks : goal.returns-in-Silent-clause-walks
-returns-in-Silent-clause-walks g c = λ bounded.
+returns-in-Silent-clause-walks g c = rw c.step-step.ensures.table (λ bounded.
     let e = c.step-step.ensures in
     let x = c.step-step.new.self in
     let takes : TakesTexts c.args.self.now x c.step-step.result =
@@ -44,7 +44,7 @@ returns-in-Silent-clause-walks g c = λ bounded.
       now_sound = subst (λ v. AreSound (texts_of v.table.macros x.arguments) x.opens) c.self.view_is e.sound;
       stays = subst (λ v. StaysOpen v.expansion x) c.self.view_is e.stays;
     } in
-    turn_step g.S.Sources c.args.self.now x c.step-step.result c.requires.0 takes _ holds c.in-Silent.is (opening _ c.args.self.now x c.self.view_is) bounded
+    turn_step g.S.Sources c.args.self.now x c.step-step.result c.requires.0 takes _ holds c.in-Silent.is (opening _ c.args.self.now x c.self.view_is) bounded)
 
 pub returns-in-Refused-clause-walks : goal.returns-in-Refused-clause-walks
 returns-in-Refused-clause-walks g c = λ bounded.
@@ -53,15 +53,17 @@ returns-in-Refused-clause-walks g c = λ bounded.
     let takes : TakesTexts c.args.self.now x c.step-step.result =
     subst (λ v. TakesTexts v x c.step-step.result) c.self.view_is (record { step = e.step; falls = e.digits; lends = e.lends; refused = e.refused }) in
     refuse_step g.S.Sources c.args.self.now x c.step-step.result c.requires.0 takes _ c.refuse_text-kept.new.self place.Kept c.in-Refused.fault c.in-Refused.is
-    (opening _ c.args.self.now x c.self.view_is) bounded refl c.refuse_text-kept.ensures.kept (fault_text c.step-step.result c.in-Refused.fault c.in-Refused.is e.fault)
+    (opening _ c.args.self.now x c.self.view_is) bounded refl (rw c.step-step.ensures.table at c.refuse_text-kept.ensures.kept) (fault_text c.step-step.result c.in-Refused.fault c.in-Refused.is e.fault)
 
 pub returns-in-Lends-clause-stays : goal.returns-in-Lends-clause-stays
 returns-in-Lends-clause-stays g c =
-    lent-texts c.args.self.now _ c.step-step.new.self c.step-step.result c.in-Lends.place c.requires.0 c.in-Lends.is
-    (subst (λ v. StaysLent v.expansion c.step-step.result c.step-step.new.self) c.self.view_is c.step-step.ensures.lends) (opening _ c.args.self.now c.step-step.new.self c.self.view_is)
+    rw c.step-step.ensures.table
+    (lent-texts c.args.self.now _ c.step-step.new.self c.step-step.result c.in-Lends.place c.requires.0 c.in-Lends.is
+    (subst (λ v. StaysLent v.expansion c.step-step.result c.step-step.new.self) c.self.view_is c.step-step.ensures.lends) (opening _ c.args.self.now c.step-step.new.self c.self.view_is))
 
 pub returns-in-Silent-clause-stays : goal.returns-in-Silent-clause-stays
-returns-in-Silent-clause-stays g c = unowed-texts c.args.self.now _ c.step-step.new.self c.requires.0 (opening _ c.args.self.now c.step-step.new.self c.self.view_is)
+returns-in-Silent-clause-stays g c =
+    rw c.step-step.ensures.table (unowed-texts c.args.self.now _ c.step-step.new.self c.requires.0 (opening _ c.args.self.now c.step-step.new.self c.self.view_is))
 
 pub returns-in-Refused-clause-stays : goal.returns-in-Refused-clause-stays
 returns-in-Refused-clause-stays g c = ap (λ e. is_some e.kept) c.refuse_text-kept.ensures.kept

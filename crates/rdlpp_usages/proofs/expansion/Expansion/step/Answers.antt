@@ -4,16 +4,16 @@ use Rattle.rdlpp_usages.proofs.expansion.Expansion.step.Goals as goal
 
 pub returns-then-is_empty-clause-refused : goal.returns-then-is_empty-clause-refused
 returns-then-is_empty-clause-refused c =
-    stays_empty c.step-step.result c.args.self.now _ c.self.inside.cursors c.step-step.new.self c.step-step.ensures.refused
+    stays_empty c.step-step.result c.args.self.now _ c.self.inside.texts c.step-step.new.self c.step-step.ensures.refused
     (ap (λ e. e.opens) c.self.view_is) c.requires.some (sym c.is_empty.ensures ∙ c.if-is_empty.true)
 
 pub returns-else-is_empty-clause-refused : goal.returns-else-is_empty-clause-refused
 returns-else-is_empty-clause-refused c =
-    stays_open c.step-step.result c.args.self.now _ c.self.inside.cursors c.step-step.new.self c.step-step.ensures.refused c.self.inside.arguments c.self.view_is refl
+    stays_open c.step-step.result c.args.self.now _ c.self.inside.texts c.step-step.new.self c.step-step.ensures.refused c.self.inside.arguments c.self.view_is refl
 
 pub returns-then-is_empty-clause-placed : goal.returns-then-is_empty-clause-placed
 returns-then-is_empty-clause-placed c =
-    placed_empty c.step-step.result _ c.args.self.now.opens c.self.inside.cursors c.step-step.new.self c.step-step.ensures.lends c.step-step.ensures.refused
+    placed_empty c.step-step.result _ c.args.self.now.opens c.self.inside.texts c.step-step.new.self c.step-step.ensures.lends c.step-step.ensures.refused
     (ap (λ e. e.opens) c.self.view_is) c.requires.some (sym c.is_empty.ensures ∙ c.if-is_empty.true)
 
 pub returns-then-is_empty-clause-lends : goal.returns-then-is_empty-clause-lends
@@ -26,12 +26,12 @@ returns-else-is_empty-clause-lends c =
 
 pub returns-then-is_empty-clause-word : goal.returns-then-is_empty-clause-word
 returns-then-is_empty-clause-word c =
-    named_empty c.step-step.result _ c.args.self.now.opens c.self.inside.cursors c.step-step.new.self c.step-step.ensures.lends c.step-step.ensures.refused
+    named_empty c.step-step.result _ c.args.self.now.opens c.self.inside.texts c.step-step.new.self c.step-step.ensures.lends c.step-step.ensures.refused
     (ap (λ e. e.opens) c.self.view_is) c.requires.some (sym c.is_empty.ensures ∙ c.if-is_empty.true)
 
 pub returns-then-not-is_silent-clause-refused : goal.returns-then-not-is_silent-clause-refused
 returns-then-not-is_silent-clause-refused c =
-    stays_open c.step-step.result c.args.self.now _ c.self.inside.cursors c.step-step.new.self c.step-step.ensures.refused c.self.inside.arguments c.self.view_is refl
+    stays_open c.step-step.result c.args.self.now _ c.self.inside.texts c.step-step.new.self c.step-step.ensures.refused c.self.inside.arguments c.self.view_is refl
 
 pub returns-then-not-is_silent-clause-lends : goal.returns-then-not-is_silent-clause-lends
 returns-then-not-is_silent-clause-lends c =
@@ -39,5 +39,5 @@ returns-then-not-is_silent-clause-lends c =
 
 pub invariant_of-self : goal.invariant_of-self
 invariant_of-self c =
-    still_open c.step-step.result c.args.self.now.opens c.self.inside.cursors c.step-step.new.self c.self.inside.arguments.bytes (not-silent _ _ c.is_silent.ensures c.if-not-is_silent.true) c.step-step.ensures.lends c.step-step.ensures.refused
+    still_open c.step-step.result c.args.self.now.opens c.self.inside.texts c.step-step.new.self c.self.inside.arguments.bytes (not-silent _ _ c.is_silent.ensures c.if-not-is_silent.true) c.step-step.ensures.lends c.step-step.ensures.refused
     (ap (λ e. e.opens) c.self.view_is) c.requires.some
