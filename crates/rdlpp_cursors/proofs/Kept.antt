@@ -38,10 +38,10 @@ kept-at macros (b ∷ bs) (own ∷ flats) (suc key) flat h size e f = kept-at ma
 
 -- its runs lie in their list
 pub kept-listed : (macros : List Macro) (known : List Bool) (flats : List Flat) (key : ℕ) (flat : Flat) → AreKept macros known flats
-    → slice_index_or known key false ≡ true → flat ≡ slice_index_or flats key flat → (slice_index_or flats key flat).runs.next + (slice_index_or flats key flat).runs.left ≤ 16
+    → slice_index_or known key false ≡ true → flat ≡ slice_index_or flats key flat → (slice_index_or flats key flat).runs.next + (slice_index_or flats key flat).runs.left ≤ 32
 kept-listed macros known flats key flat h e f =
     let own = kept-at macros known flats key flat h.are_flat (h.size ∙ sym h.flats_size) e f in
-    subst (λ (x : Flat). x.runs.next + x.runs.left ≤ 16) f (own.listed).inside
+    subst (λ (x : Flat). x.runs.next + x.runs.left ≤ 32) f (own.listed).inside
 
 -- each of them is a run
 pub kept-run : (macros : List Macro) (known : List Bool) (flats : List Flat) (key at : ℕ) (flat : Flat) (d : TextPlace) → AreKept macros known flats

@@ -95,7 +95,7 @@ places-first (suc n) next places some =
     more n = omega arith
 
 -- the first run that waits, and those behind it
-pub waiting-first : (waiting : Runs) (own : TextPlace) → 0 < waiting.left → length waiting.places ≡ 16 → waiting.next + waiting.left ≤ 16
+pub waiting-first : (waiting : Runs) (own : TextPlace) → 0 < waiting.left → length waiting.places ≡ 32 → waiting.next + waiting.left ≤ 32
     → own ≡ slice_index_or waiting.places waiting.next own
     → places_of waiting ≡ slice_index_or waiting.places waiting.next own ∷ places_of (record { places = waiting.places; next = waiting.next + 1; left = waiting.left - 1 })
 waiting-first waiting own some size inside is =
@@ -131,7 +131,7 @@ places-last (suc n) next places opens =
     later a b = omega arith
 
 -- where the last run is opened that waits, the others wait in front of it
-pub one-left : (waiting : Runs) (own : TextPlace) (opens : List Open) → 0 < waiting.left → length waiting.places ≡ 16 → waiting.next + waiting.left ≤ 16
+pub one-left : (waiting : Runs) (own : TextPlace) (opens : List Open) → 0 < waiting.left → length waiting.places ≡ 32 → waiting.next + waiting.left ≤ 32
     → own ≡ slice_index_or waiting.places (waiting.next + (waiting.left - 1)) own
     → waiting_opens (record { places = waiting.places; next = waiting.next; left = waiting.left - 1 }) ++ (place_open (slice_index_or waiting.places (waiting.next + (waiting.left - 1)) own) ∷ opens)
     ≡ waiting_opens waiting ++ opens

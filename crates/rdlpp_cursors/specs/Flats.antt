@@ -1,6 +1,6 @@
 -- Macros whose expansions are a few runs of bodies, one behind the other.
 -- A definition that names no source is this project's own.
-use Rattle.std.specs.Prelude.{◌≡◌, ℕ, zero, suc, ◌+◌, ◌-◌, ◌<◌, ◌≤◌, true, List, [], ◌∷◌, ◌++◌, map, length, drop, None, slice_range, slice_index_or, Bool}
+use Rattle.std.specs.Prelude.{◌≡◌, ℕ, zero, suc, ◌+◌, ◌-◌, ◌<◌, ◌≤◌, ◌⊎◌, true, List, [], ◌∷◌, ◌++◌, map, length, drop, None, slice_range, slice_index_or, Bool}
 use Rattle.std.specs.List.{AllByRecursion}
 use Rattle.std.specs.Option.{option_map}
 use Rattle.rdlpp_scan.specs.declared.token.Mode.TheVariants.{Plain}
@@ -88,8 +88,8 @@ places_of runs = places_from runs.left runs.next runs.places
 
 -- runs lie in their list
 pub record IsListed (runs : Runs) : Type 0 where
-  pub size : length runs.places ≡ 16
-  pub inside : runs.next + runs.left ≤ 16
+  pub size : length runs.places ≡ 32
+  pub inside : runs.next + runs.left ≤ 32
 
 -- bounds are within others
 pub record IsWider (bounds wider : Bounds) : Type 0 where
@@ -215,3 +215,8 @@ pub record IsSwapped (macros : List Macro) (view new : CursorsView) (waiting : R
   pub admitted : IsAdmitted view flat
   pub rest : new ≡ record view { opens = body.below }
   pub waits : waiting ≡ flat.runs
+
+-- runs wait in place of the body that was opened last, where there is less room than there was, or nothing changed
+abbrev pub MaySwap : List Macro → ℕ → CursorsView → CursorsView → Runs → Runs → Type 0
+MaySwap macros room view new waiting now =
+    ((new ≡ view) × (now ≡ waiting)) ⊎ ((view.depth < room + length view.opens) × IsSwapped macros view new now)

@@ -135,6 +135,13 @@ impl Cursors {
         self.slots.len() - self.first
     }
 
+    // How many further texts may be open.
+    pub(crate) fn room(&self) -> usize
+        ensures { result + length self.now.opens ≡ self.now.depth }
+    {
+        self.first
+    }
+
     /// The line of the usage in the source that opened them.
     pub(crate) fn line(&self) -> u64
         ensures { result ≡ self.now.line }
@@ -200,6 +207,7 @@ impl Cursors {
     }
 
     // Opens an actual or a default.
+    #[inline(always)]
     fn push_text(&mut self, mut new: Slot)
         requires text { IsNoBody new.kind }
         requires room { length self.old.opens < self.old.depth }
@@ -282,6 +290,7 @@ impl Cursors {
     }
 
     // Opens waiting runs, the first of them as the innermost text, none of which waits any more.
+    #[inline(never)]
     pub(crate) fn open_runs(&mut self, waiting: &mut Runs)
         requires listed { IsListed waiting.old }
         requires room { waiting.old.left + length self.old.opens ≤ self.old.depth }

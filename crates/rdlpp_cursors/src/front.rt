@@ -85,6 +85,7 @@ pub(crate) fn look_at<'a>(
 }
 
 // What stands ahead in a range of a text, whose bytes are given.
+#[inline(always)]
 pub(crate) fn front_of(
     table: &Table,
     arguments: &[u8],

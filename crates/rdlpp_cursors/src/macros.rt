@@ -12,7 +12,7 @@ use std::marker::Model;
 mod flattening;
 
 // How many expansions are kept.
-pub(crate) const MOST_FLATS: usize = 8;
+const MOST_FLATS: usize = 8;
 
 // How often an expansion is looked for, while no other macro's is.
 const MOST_TRIES: u8 = 8;

@@ -5,14 +5,14 @@ ghost use Rattle.rdlpp_table.specs.View.{macro_at};
 ghost use Rattle.rdlpp_meaning.specs.Opens.{open_body};
 ghost use Rattle.rdlpp_cursors.specs.Calls.{IsCallMiscounted, IsCallStarted};
 ghost use Rattle.rdlpp_cursors.specs.Digits.{IsFalling};
-ghost use Rattle.rdlpp_cursors.specs.Flats.{waiting_view, IsLent, IsListed, IsSwapped, IsWaiting};
+ghost use Rattle.rdlpp_cursors.specs.Flats.{waiting_view, IsLent, IsListed, IsWaiting, MaySwap};
 ghost use Rattle.rdlpp_cursors.specs.Opened.{bound_by};
 ghost use Rattle.rdlpp_cursors.specs.Places.{texts_of};
 ghost use Rattle.rdlpp_cursors.specs.Usages.{IsTextFault};
 ghost use Rattle.rdlpp_cursors.specs.Steps.{AreKnown, AreSound, IsStep, KeepsOpen, StaysRefused, IsPlacedStep, NamesWord};
 
 use crate::cursors::Cursors;
-use crate::macros::{MOST_FLATS, Macros};
+use crate::macros::Macros;
 use crate::place::TextPlace;
 use crate::run_list::Runs;
 use crate::step::CursorStep;
@@ -29,7 +29,7 @@ pub struct OpenTexts {
     cursors: Cursors,
     // the runs that are lent before the innermost of them goes on
     waiting: Runs,
-    // where the macro of these is kept
+    // the place in the table of the macro of these, when they were found
     key: usize,
 }
 
@@ -163,12 +163,30 @@ impl OpenTexts {
         if let Some(place) = lend_run(&mut self.cursors, macros, &mut self.waiting, self.key) {
             return CursorStep::Lends(place);
         }
-        let open = self.cursors.len();
-        let step = self.cursors.step(macros.table(), arguments);
-        if open < self.cursors.len() {
-            self.key = expand_known(&mut self.cursors, macros, &mut self.waiting);
+        let room = self.cursors.room();
+        match self.cursors.step(macros.table(), arguments) {
+            CursorStep::Silent => {
+                expand_opened(
+                    &mut self.cursors,
+                    macros,
+                    &mut self.waiting,
+                    &mut self.key,
+                    room,
+                );
+                CursorStep::Silent
+            }
+            CursorStep::Lends(place) => {
+                expand_opened(
+                    &mut self.cursors,
+                    macros,
+                    &mut self.waiting,
+                    &mut self.key,
+                    room,
+                );
+                CursorStep::Lends(place)
+            }
+            refused => refused,
         }
-        step
     }
 }
 
@@ -195,24 +213,33 @@ fn lend_run(
     None
 }
 
-// Where the innermost text is a body whose expansion is known to be a few runs, these wait in place of it. Tells where its macro
-// is kept.
-fn expand_known(cursors: &mut Cursors, macros: &mut Macros, waiting: &mut Runs) -> usize
-    requires some { 0 < length cursors.old.opens }
+// Where a text was opened, so that there is less room than there was, and it is a body whose expansion is known to be a few runs,
+// these wait in place of it, and the key is the place of its macro.
+fn expand_opened(
+    cursors: &mut Cursors,
+    macros: &mut Macros,
+    waiting: &mut Runs,
+    key: &mut usize,
+    room: usize,
+)
+    requires room { room ≤ cursors.old.depth }
     requires known { AreKnown macros.old.macros cursors.old.opens }
     ensures table { macros.new ≡ macros.old }
-    ensures swapped { ((cursors.new ≡ cursors.old) × (waiting.new ≡ waiting.old)) ⊎ IsSwapped macros.old.macros cursors.old cursors.new waiting.new }
+    ensures swapped { MaySwap macros.old.macros room cursors.old cursors.new waiting.old waiting.new }
 {
+    if cursors.room() >= room {
+        return;
+    }
     let Some(id) = cursors.whole_body(macros.table()) else {
-        return 0;
+        return;
     };
     macros.note(id);
     let Some(flat) = macros.flat(id) else {
-        return 0;
+        return;
     };
     if cursors.admits(flat) {
         cursors.close();
         *waiting = flat.runs;
+        *key = id.index();
     }
-    id.index() % MOST_FLATS
 }

@@ -5,7 +5,7 @@ ghost use Rattle.rdlpp_cursors.specs.Flats.{places_of, IsListed};
 use crate::place::{TextPlace, TextSource};
 
 // How many runs there are at most.
-const MOST_RUNS: usize = 16;
+const MOST_RUNS: usize = 32;
 
 // No place of a text.
 const NO_PLACE: TextPlace = TextPlace {

@@ -116,6 +116,7 @@ fn is_flushed<W: Sink>(writer: &mut W) -> bool
 }
 
 // Writes a part, until the sink has taken all of it or fails. Most sinks take a part at once.
+#[inline(always)]
 fn write_part<W: Sink>(writer: &mut W, part: &[u8]) -> PartWritten
     ensures inside { result.len ≤ length part.now }
     ensures whole { result.failed ≡ false → result.len ≡ length part.now }

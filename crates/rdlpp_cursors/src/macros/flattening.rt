@@ -29,13 +29,14 @@ impl Macros {
         }
     }
 
-    // Whether the first of waiting runs is that of the macro that is kept at a place.
-    pub(crate) fn is_next_run(&self, key: usize, waiting: &Runs) -> bool
+    // Whether the first of waiting runs is one of the macro that is kept where that at a place of the table is.
+    pub(crate) fn is_next_run(&self, index: usize, waiting: &Runs) -> bool
         requires some { 0 < waiting.now.left }
         requires listed { IsListed waiting.now }
         ensures { IsTrue result → IsRun self.now.macros (slice_index_or waiting.now.places waiting.now.next no_place) }
     {
-        if key >= MOST_FLATS || !self.known[key] {
+        let key = index % MOST_FLATS;
+        if !self.known[key] {
             return false;
         }
         let runs = &self.flats[key].runs;

@@ -16,8 +16,8 @@ loop-at-init c = record {
 pub loop-at-preserved : goal.loop-at-preserved
 loop-at-preserved c =
     let others = c.args.other.now in
-    let size : length others.places ≡ 16 = c.requires.other.size in
-    let inside : others.next + others.left ≤ 16 = c.requires.other.inside in
+    let size : length others.places ≡ 32 = c.requires.other.size in
+    let inside : others.next + others.left ≤ 32 = c.requires.other.inside in
     let here : others.next + c.loop-at.at < length others.places = omega (arith, size, inside, c.loop-at-test.true) in
     record {
       few = omega arith;
