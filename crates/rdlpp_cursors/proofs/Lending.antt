@@ -9,7 +9,7 @@ use Rattle.rdlpp_cursors.specs.declared.place.TextPlace.{TextPlace}
 use Rattle.rdlpp_cursors.specs.declared.run_list.Runs.{Runs}
 use Rattle.rdlpp_cursors.specs.declared.step.CursorStep.{CursorStep}
 use Rattle.rdlpp_cursors.specs.declared.step.CursorStep.TheVariants.{Lends, Silent, Refused}
-use Rattle.rdlpp_cursors.specs.Flats.{no_place, place_open, places_of, waiting_opens, waiting_view, HasMovedOn, IsAdmitted, IsFlat, IsLent, IsListed, IsRun, IsSwapped, IsWaiting, IsWholeBody}
+use Rattle.rdlpp_cursors.specs.Flats.{no_place, place_open, places_of, waiting_opens, waiting_view, HasMovedOn, IsAdmitted, IsFlat, IsLent, IsListed, IsRun, IsSwapped, IsWaiting, IsWholeBody, MaySwap}
 use Rattle.rdlpp_cursors.specs.Digits.{IsFalling}
 use Rattle.rdlpp_cursors.specs.Places.{texts_of}
 use Rattle.rdlpp_cursors.specs.Opened.{CursorsView}
@@ -45,23 +45,22 @@ passed-settled texts now mid new waiting step same none p =
     subst (λ (v : CursorsView). IsPassed texts now v step) (sym (none-waits waiting new none))
     (subst (λ (v : CursorsView). IsPassed texts v new step) same p)
 
--- whether runs wait then in place of a body
-abbrev pub MaySwap : List Macro → CursorsView → CursorsView → Runs → Runs → Type 0
-MaySwap macros view new waiting now = ((new ≡ view) × (now ≡ waiting)) ⊎ IsSwapped macros view new now
-
--- it is one where a body was opened in place of which runs wait
-pub passed-expanded : (texts : Texts) (now mid opened new : CursorsView) (waiting swapped : Runs) (step : CursorStep) → mid ≡ now → waiting.left ≡ 0
-    → AreSound texts now.opens → IsPassed texts mid opened step → length mid.opens < length opened.opens
+-- it is one where a body was opened in place of which runs wait, or nothing changed behind it
+pub passed-expanded : (texts : Texts) (now mid opened new : CursorsView) (waiting swapped : Runs) (room : ℕ) (step : CursorStep) → mid ≡ now → waiting.left ≡ 0
+    → AreSound texts now.opens → IsPassed texts mid opened step → room + length mid.opens ≡ mid.depth
     → (length mid.opens < length opened.opens → HasMovedOn mid.opens (drop 1 opened.opens))
-    → MaySwap texts.macros opened new waiting swapped
+    → MaySwap texts.macros room opened new waiting swapped
     → IsPassed texts now (waiting_view swapped new) step
-passed-expanded texts now mid opened new waiting swapped step same none h p more moved (inl e) =
+passed-expanded texts now mid opened new waiting swapped room step same none h p size moved (inl e) =
     subst (λ (v : CursorsView). IsPassed texts now (waiting_view swapped v) step) (sym e.0)
     (subst (λ (w : Runs). IsPassed texts now (waiting_view w opened) step) (sym e.1) (passed-settled texts now mid opened waiting step same none p))
-passed-expanded texts now mid opened new waiting swapped step same none h p more moved (inr e) =
+passed-expanded texts now mid opened new waiting swapped room step same none h p size moved (inr e) =
+    let less = e.0 in
+    let depth = (p.kept).1 in
+    let more : length mid.opens < length opened.opens = omega (arith, less, depth, size) in
     swapped-passed texts now opened new swapped step h (subst (λ (v : CursorsView). IsPassed texts v opened step) same p)
     (subst (λ (v : CursorsView). length v.opens < length opened.opens) same more)
-    (subst (λ (v : CursorsView). HasMovedOn v.opens (drop 1 opened.opens)) same (moved more)) e
+    (subst (λ (v : CursorsView). HasMovedOn v.opens (drop 1 opened.opens)) same (moved more)) e.1
 
 -- a text is open behind a body in place of which runs wait
 behind-swapped : (macros : List Macro) (view new : CursorsView) (waiting : Runs) → 1 < length view.opens → IsSwapped macros view new waiting
@@ -72,16 +71,18 @@ behind-swapped macros view new waiting many e =
     (omega (arith, whole, rest), omega (arith, whole, rest, many))
 
 -- so texts are open
-pub expanded-open : (macros : List Macro) (view new : CursorsView) (waiting swapped : Runs) → 1 < length view.opens → MaySwap macros view new waiting swapped
+pub expanded-open : (macros : List Macro) (old view new : CursorsView) (waiting swapped : Runs) (room : ℕ) → 0 < length old.opens → room + length old.opens ≡ old.depth
+    → view.depth ≡ old.depth → 0 < length view.opens → MaySwap macros room view new waiting swapped
     → 0 < length (waiting_view swapped new).opens
-expanded-open macros view new waiting swapped many (inl e) =
+expanded-open macros old view new waiting swapped room some size depth stays (inl e) =
     let count = view-many swapped new in
     let same = ap (λ (v : CursorsView). length v.opens) e.0 in
-    omega (arith, count, same, many)
-expanded-open macros view new waiting swapped many (inr e) =
+    omega (arith, count, same, stays)
+expanded-open macros old view new waiting swapped room some size depth stays (inr e) =
+    let less = e.0 in
     let count = view-many swapped new in
-    let some = (behind-swapped macros view new swapped many e).1 in
-    omega (arith, count, some)
+    let behind = (behind-swapped macros view new swapped (omega (arith, less, depth, size, some)) e.1).1 in
+    omega (arith, count, behind)
 
 -- where none waits, runs wait as they do
 pub settled-waits : (waiting : Runs) (view : CursorsView) → IsListed waiting → waiting.left ≡ 0 → length view.opens ≤ view.depth → IsWaiting waiting view
@@ -92,21 +93,22 @@ settled-waits waiting view listed none few = record {
 }
 
 -- so they do in place of a body
-pub expanded-waits : (macros : List Macro) (view new : CursorsView) (waiting swapped : Runs) → IsListed waiting → waiting.left ≡ 0 → 1 < length view.opens → length view.opens ≤ view.depth
-    → MaySwap macros view new waiting swapped → IsWaiting swapped new
-expanded-waits macros view new waiting swapped listed none many few (inl e) =
-    subst (λ (v : CursorsView). IsWaiting swapped v) (sym e.0)
-    (subst (λ (w : Runs). IsWaiting w view) (sym e.1) (settled-waits waiting view listed none few))
-expanded-waits macros view new waiting swapped listed none many few (inr e) =
-    let behind = behind-swapped macros view new swapped many e in
-    let size = behind.0 in
-    let runs = (e.admitted).runs in
-    let depth = ap (λ (v : CursorsView). v.depth) e.rest in
-    let left = ap (λ (w : Runs). w.left) e.waits in
+pub expanded-waits : (macros : List Macro) (old view new : CursorsView) (waiting swapped : Runs) (room : ℕ) → IsListed waiting → waiting.left ≡ 0 → 0 < length old.opens
+    → room + length old.opens ≡ old.depth → view.depth ≡ old.depth → length new.opens ≤ new.depth
+    → MaySwap macros room view new waiting swapped → IsWaiting swapped new
+expanded-waits macros old view new waiting swapped room listed none some size depth few (inl e) =
+    subst (λ (w : Runs). IsWaiting w new) (sym e.1) (settled-waits waiting new listed none few)
+expanded-waits macros old view new waiting swapped room listed none some size depth few (inr e) =
+    let less = e.0 in
+    let behind = behind-swapped macros view new swapped (omega (arith, less, depth, size, some)) e.1 in
+    let count = behind.0 in
+    let runs = ((e.1).admitted).runs in
+    let same = ap (λ (v : CursorsView). v.depth) (e.1).rest in
+    let left = ap (λ (w : Runs). w.left) (e.1).waits in
     record {
-      listed = subst (λ (w : Runs). IsListed w) (sym e.waits) (e.is_flat).listed;
+      listed = subst (λ (w : Runs). IsListed w) (sym (e.1).waits) ((e.1).is_flat).listed;
       behind = λ _. behind.1;
-      few = omega (arith, size, runs, depth, left);
+      few = omega (arith, count, runs, same, left);
     }
 
 -- a text that is lent from stays open
@@ -154,3 +156,15 @@ pub passed-step : (table own : TableView) (arguments : List ℕ) (view new : Cur
     → IsPassed (texts_of table.macros arguments) view new step
 passed-step table own arguments view new step same s h kept d r =
     subst (λ (v : TableView). IsPassed (texts_of v.macros arguments) view new step) same (record { is_step = s; sound = h; kept = kept; digits = d; refused = r })
+
+-- a step that is refused leaves what is open
+pub refused-same : (view new : CursorsView) (step own : CursorStep) → StaysRefused view step new → step ≡ own → (step ≡ Silent → ⊥) → ((place : TextPlace) → step ≡ Lends place → ⊥) → new ≡ view
+unfolding StaysRefused
+refused-same view new (Lends place) own s e silent lends = absurd (lends place refl)
+refused-same view new Silent own s e silent lends = absurd (silent refl)
+refused-same view new (Refused fault) own s e silent lends = s
+
+-- no run waits then
+pub refused-waits : (view new : CursorsView) (waiting : Runs) (room : ℕ) → new ≡ view → IsListed waiting → waiting.left ≡ 0 → room + length view.opens ≡ view.depth → IsWaiting waiting new
+refused-waits view new waiting room e listed none size =
+    subst (λ (v : CursorsView). IsWaiting waiting v) (sym e) (settled-waits waiting view listed none (omega (arith, size)))

@@ -226,6 +226,7 @@ fn expand_opened(
     requires known { AreKnown macros.old.macros cursors.old.opens }
     ensures table { macros.new ≡ macros.old }
     ensures swapped { MaySwap macros.old.macros room cursors.old cursors.new waiting.old waiting.new }
+    ensures few { length cursors.new.opens ≤ cursors.new.depth }
 {
     if cursors.room() >= room {
         return;
