@@ -36,9 +36,10 @@ mod opening;
 // The most ranges that the call of one open body binds: one for each formal of its macro (this project's profile).
 const MOST_BINDINGS: usize = 255;
 
-/// The open texts of a usage in a source, the innermost first: bodies, actuals and default texts, as ranges of bytes.
-///
-/// No call but `new` takes memory.
+// The open texts of a usage in a source that lie in slots, the innermost first: bodies, actuals and default texts, as ranges of
+// bytes.
+//
+// No call but `new` takes memory.
 #[derive(Drop)]
 pub(crate) struct Cursors {
     slots: Vec<Slot>,
@@ -93,10 +94,7 @@ fn range_slot(source: TextSource, from: usize, end: usize) -> Slot
 }
 
 impl Cursors {
-    /// No open texts, with room for `depth` of them, each of which may bind 255 ranges (this project's profile).
-    ///
-    /// # Errors
-    /// `AllocError` where there was no memory for them.
+    // No open texts, with room for `depth` of them, each of which may bind 255 ranges (this project's profile).
     pub(crate) fn new(alloc: Global, depth: usize) -> Result<Cursors, AllocError>
         requires { depth ≤ 1024 }
         ensures { IfOk result (λ c. c ≡ record { opens = []; line = 0; depth = depth }) }
@@ -119,14 +117,14 @@ impl Cursors {
         })
     }
 
-    /// Whether no text is open.
+    // Whether no text is open.
     pub(crate) fn is_empty(&self) -> bool
         ensures { result ≡ (length self.now.opens == 0) }
     {
         self.len() == 0
     }
 
-    /// How many texts are open.
+    // How many texts are open.
     pub(crate) fn len(&self) -> usize
         ensures value { result ≡ length self.now.opens }
         ensures few { length self.now.opens ≤ self.now.depth }
@@ -142,14 +140,14 @@ impl Cursors {
         self.first
     }
 
-    /// The line of the usage in the source that opened them.
+    // The line of the usage in the source that opened them.
     pub(crate) fn line(&self) -> u64
         ensures { result ≡ self.now.line }
     {
         self.line
     }
 
-    /// How many ranges the calls of the open bodies have bound.
+    // How many ranges the calls of the open bodies have bound.
     pub(crate) fn bound(&self) -> usize
         ensures { result ≡ bound_by self.now.opens }
     {
@@ -317,7 +315,7 @@ impl Cursors {
         self.push_text(range_slot(*source, from, end));
     }
 
-    /// Opens the body of a macro for a usage without arguments, which stands in a source at a line.
+    // Opens the body of a macro for a usage without arguments, which stands in a source at a line.
     pub(crate) fn open_body(&mut self, table: &Table, id: MacroId, line: u64)
         requires id { id < length table.now.macros }
         requires plain { option_map length (macro_at table.now.macros id).formals ≡ None }
@@ -331,24 +329,7 @@ impl Cursors {
         self.push_body(id, table.body(id).len(), 0);
     }
 
-    /// One step of the innermost text, by what stands at its front. `arguments` is what is kept of the call in the source.
-    ///
-    /// It lends the longest run of bytes that are copied, in one piece as they lie. It opens the actual of a formal, its default
-    /// where the actual is empty, or the body of a macro, and goes on behind the name or the call. Or it closes a text of which
-    /// nothing is left, and those around it of which nothing is left either, but for the outermost. Where it lends a run, what
-    /// stands behind that is opened in the same step, or a text that ends there is closed while others are open around it.
-    ///
-    /// # Faults
-    /// They are told at the line of the usage in the source, in a step of their own. Nothing changes then, and the same fault
-    /// comes again.
-    /// - `BareBackquote` for a backquote without a name (this project's profile).
-    /// - `DirectiveInText` for the name of a directive, with that name as its word (this project's profile).
-    /// - `UndefinedMacro` for a name that no macro has, with that name (IEEE 1364-2001, `define`).
-    /// - `RecursiveMacro` for a usage that is written in the body of its own macro, or in a text that is written there, with that
-    ///   name (IEEE 1364-2001, `define`); an actual is written where its call is.
-    /// - `ArgumentsMissing`, `ArgumentsOpen` and `ArgumentCount` for a call of a macro with a list, with that name
-    ///   (IEEE 1364-2001, `define`).
-    /// - `DepthPassed` where as many texts are open as there is room for, without a word (this project's profile).
+    // One step of the innermost text, as `OpenTexts::step` says, in front of which no run waits.
     pub(crate) fn step(&mut self, table: &Table, arguments: &[u8]) -> CursorStep
         requires some { 0 < length self.old.opens }
         requires sound { AreSound (texts_of table.now.macros arguments.now) self.old.opens }

@@ -14,6 +14,9 @@ mod flattening;
 // How many expansions are kept.
 const MOST_FLATS: usize = 8;
 
+// None of them is known.
+const NONE_KNOWN: [bool; MOST_FLATS] = [false; MOST_FLATS];
+
 // How often an expansion is looked for, while no other macro's is.
 const MOST_TRIES: u8 = 8;
 
@@ -51,7 +54,7 @@ impl Macros {
         Macros {
             table,
             flats: [Flat::new(0); MOST_FLATS],
-            known: [false; MOST_FLATS],
+            known: NONE_KNOWN,
             last: [0; MOST_FLATS],
             tries: [0; MOST_FLATS],
         }
@@ -74,7 +77,7 @@ impl Macros {
         ensures refused { OnErr result (self.new ≡ self.old) }
         ensures limits { (self.new.most_bytes ≡ self.old.most_bytes) × (self.new.most_macros ≡ self.old.most_macros) }
     {
-        self.known = [false; MOST_FLATS];
+        self.known = NONE_KNOWN;
         self.table.read_define(rest)
     }
 
@@ -87,7 +90,7 @@ impl Macros {
         ensures refused { OnErr result (self.new ≡ self.old) }
         ensures limits { (self.new.most_bytes ≡ self.old.most_bytes) × (self.new.most_macros ≡ self.old.most_macros) }
     {
-        self.known = [false; MOST_FLATS];
+        self.known = NONE_KNOWN;
         self.table.set(name, text)
     }
 
@@ -96,7 +99,7 @@ impl Macros {
         ensures value { result ≡ is_some (macro_named self.old.macros name.now) }
         ensures table { self.new ≡ record self.old { macros = without name.now self.old.macros } }
     {
-        self.known = [false; MOST_FLATS];
+        self.known = NONE_KNOWN;
         self.table.remove(name)
     }
 }

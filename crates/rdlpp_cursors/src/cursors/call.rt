@@ -32,14 +32,8 @@ enum Opening {
 }
 
 impl Cursors {
-    /// Opens the body of a macro with a list of formals for a call that stands in a source at a line. `arguments` is what is
-    /// kept of the text between the parentheses of the call, without its `//` comments (IEEE 1364-2001, `define`; what a call
-    /// may hold is this project's profile).
-    ///
-    /// # Errors
-    ///
-    /// [`FaultKind::ArgumentCount`] where the call has more or fewer parts than the macro has formals, or where a `//` comment
-    /// stands in what is kept of it, as it does of no call that was read. Nothing changes then.
+    // Opens the body of a macro with a list of formals for a call that stands in a source at a line, as `OpenTexts::open_call`
+    // says.
     pub(crate) fn open_call(
         &mut self,
         table: &Table,
