@@ -61,16 +61,22 @@ fn opened<R: Abort + AllocGlobal>(rt: &R, table: &Table, text: &[u8]) -> (Openin
     (opening, expansion)
 }
 
-// The bytes that an expansion lends, up to its end.
+// The bytes that an expansion lends, up to its end, and the most texts that are open on the way.
 #[tactic(auto, unfolding(rdlpp_cursors::specs::Steps::IsPlacedStep))]
-fn lent<R: Abort>(rt: &R, macros: &mut Macros, expansion: &mut Expansion) -> ArrayVec<u8, 16>
+fn lent<R: Abort>(
+    rt: &R,
+    macros: &mut Macros,
+    expansion: &mut Expansion,
+) -> (ArrayVec<u8, 16>, usize)
     requires { AreSound (texts_of macros.old.macros expansion.old.arguments) expansion.old.opens }
 {
     let mut bytes = ArrayVec::new();
+    let mut most = 0;
     for _step in 0..16 {
         if expansion.is_empty() {
-            return bytes;
+            return (bytes, most);
         }
+        most = most.max(expansion.len());
         match expansion.step(macros) {
             CursorStep::Lends(place) => {
                 let piece = text_at(macros.table(), expansion.arguments(), place);
@@ -93,7 +99,7 @@ fn a_call_over_lines_is_expanded(rt: HostRuntime) -> Result<(), Fail> {
     assert_eq!(&rt; expansion.bound(), 2);
     assert_eq!(&rt; expansion.line(), 1);
     assert_eq!(&rt; expansion.arguments(), b" a ,\n".as_slice());
-    let bytes = lent(&rt, &mut macros, &mut expansion);
+    let (bytes, _most) = lent(&rt, &mut macros, &mut expansion);
     assert_eq!(&rt; bytes.as_slice(), b"a+d".as_slice());
     assert!(&rt; expansion.is_empty());
     assert!(&rt; expansion.arguments().is_empty());
@@ -105,8 +111,22 @@ fn a_usage_without_a_list_is_expanded(rt: HostRuntime) -> Result<(), Fail> {
     let mut macros = macros_of(&rt);
     let (opening, mut expansion) = opened(&rt, macros.table(), b"`A(b)\n");
     assert_eq!(&rt; opening, Opening::Opened);
-    let bytes = lent(&rt, &mut macros, &mut expansion);
+    let (bytes, _most) = lent(&rt, &mut macros, &mut expansion);
     assert_eq!(&rt; bytes.as_slice(), b"x".as_slice());
+    Ok(())
+}
+
+#[test]
+fn the_runs_of_a_macro_used_again_wait(rt: HostRuntime) -> Result<(), Fail> {
+    let mut macros = macros_of(&rt);
+    assert!(&rt; macros.set(b"B".as_slice(), b"`A `A".as_slice()).is_ok());
+    assert!(&rt; macros.set(b"C".as_slice(), b"`B `B".as_slice()).is_ok());
+    let (opening, mut expansion) = opened(&rt, macros.table(), b"`C\n");
+    assert_eq!(&rt; opening, Opening::Opened);
+    let (bytes, most) = lent(&rt, &mut macros, &mut expansion);
+    assert_eq!(&rt; bytes.as_slice(), b"x x x x".as_slice());
+    // `C`, and the three runs of the second `B`; one by one they are `C`, `B` and `A`.
+    assert_eq!(&rt; most, 4);
     Ok(())
 }
 
