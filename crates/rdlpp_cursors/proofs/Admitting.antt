@@ -1,10 +1,10 @@
 -- Where the innermost open text is the body of a macro whose expansion may be lent in its place.
-use Rattle.std.proofs.Common.{◌≡◌, ℕ, suc, ◌+◌, ◌-◌, ◌<◌, ◌≤◌, ◌⊎◌, inl, inr, Bool, true, false, List, [], ◌∷◌, map, length, take, drop, get_or, refl, sym, ap, subst, ◌∙◌, arith}
+use Rattle.std.proofs.Common.{◌≡◌, ℕ, ◌+◌, ◌<◌, ◌≤◌, ◌⊎◌, inl, inr, Bool, true, false, List, [], ◌∷◌, map, length, drop, get_or, refl, sym, ap, subst, ◌∙◌, arith}
 use Rattle.std.proofs.Common.{Global}
 use Rattle.std.specs.Prelude.{◌||◌, nat_lt, Vec, vec_len}
 use Rattle.std.specs.List.{AllByRecursion}
 use Rattle.std.proofs.lemmas.Bool.{lt-ltb}
-use Rattle.std.proofs.lemmas.List.{drop_all, length-drop}
+use Rattle.std.proofs.lemmas.List.{drop_all}
 use Rattle.rdlpp_scan.specs.declared.token.Mode.TheVariants.{Plain}
 use Rattle.rdlpp_table.specs.Table.{Macro}
 use Rattle.rdlpp_table.specs.View.{macro_at}
@@ -18,7 +18,7 @@ use Rattle.rdlpp_cursors.specs.declared.slot.Slot.{Slot}
 use Rattle.rdlpp_cursors.specs.declared.slot.SlotKind.{SlotKind}
 use Rattle.rdlpp_cursors.specs.declared.slot.SlotKind.TheVariants as slot
 use Rattle.rdlpp_cursors.specs.Flats.{outer_ids, AreAway, IsAdmitted, IsWholeBody}
-use Rattle.rdlpp_cursors.specs.Opened.{bindings_below, is_excluded, kind_of, open_of, opens_of, AreBounded, CursorsView, IsWithin}
+use Rattle.rdlpp_cursors.specs.Opened.{bindings_below, is_excluded, kind_of, open_of, opens_of, IsWithin}
 use Rattle.rdlpp_cursors.specs.Places.{texts_of}
 use Rattle.rdlpp_cursors.specs.Scopes.{writer_ids}
 use Rattle.rdlpp_cursors.specs.Steps.{AreKnown, IsKnown}

@@ -1,4 +1,4 @@
-use Rattle.std.proofs.Common.{◌≡◌, ◌∙◌, ◌+◌, ◌<◌, ◌≤◌, length, inl, inr, subst, refl, arith}
+use Rattle.std.proofs.Common.{inr, subst, refl, arith}
 use Rattle.rdlpp_table.specs.View.{TableView}
 use Rattle.rdlpp_cursors.specs.Flats.{IsFlat, IsWholeBody}
 use Rattle.rdlpp_cursors.proofs.Lending.{swapped-by}

@@ -1,5 +1,4 @@
 use Rattle.std.proofs.Common.{◌≡◌, ◌<◌, ℕ, sym, refl, arith}
-use Rattle.rdlpp_cursors.specs.Flats.{no_place}
 use Rattle.rdlpp_cursors.proofs.Lending.{lent-first}
 use Rattle.rdlpp_cursors.proofs.Waits.{none-waits}
 use Rattle.rdlpp_cursors.proofs.open_texts.lend_run.Goals as goal

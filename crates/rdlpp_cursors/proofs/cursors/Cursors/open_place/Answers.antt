@@ -1,6 +1,4 @@
-use Rattle.std.proofs.Common.{◌≡◌, List, ap, sym, ◌∙◌, ◌∷◌, []}
-use Rattle.rdlpp_scan.specs.declared.token.Mode.TheVariants.{Plain}
-use Rattle.rdlpp_meaning.specs.Opens.{Open}
+use Rattle.std.proofs.Common.{ap, sym, ◌∙◌, ◌∷◌}
 use Rattle.rdlpp_cursors.specs.declared.place.TextSource.{TextSource}
 use Rattle.rdlpp_cursors.specs.Flats.{place_open}
 use Rattle.rdlpp_cursors.specs.Opened.{moved_to, CursorsView}

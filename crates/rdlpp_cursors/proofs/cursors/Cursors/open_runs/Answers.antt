@@ -1,7 +1,6 @@
-use Rattle.std.proofs.Common.{◌≡◌, ◌+◌, ◌-◌, ◌<◌, ◌≤◌, ℕ, List, ◌∷◌, ◌++◌, length, ap, sym, ◌∙◌, subst, arith}
-use Rattle.rdlpp_meaning.specs.Opens.{Open}
+use Rattle.std.proofs.Common.{◌≡◌, ◌+◌, ◌-◌, ◌++◌, length, ap, ◌∙◌, arith}
 use Rattle.rdlpp_cursors.specs.Opened.{CursorsView}
-use Rattle.rdlpp_cursors.specs.Flats.{waiting_opens, IsListed}
+use Rattle.rdlpp_cursors.specs.Flats.{waiting_opens}
 use Rattle.rdlpp_cursors.proofs.Waits.{none-left, one-left}
 use Rattle.rdlpp_cursors.proofs.cursors.Cursors.open_runs.Goals as goal
 

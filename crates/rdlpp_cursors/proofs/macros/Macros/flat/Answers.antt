@@ -1,4 +1,4 @@
-use Rattle.std.proofs.Common.{◌≡◌, ◌∙◌, ◌%◌, ℕ, subst, sym, ap, arith}
+use Rattle.std.proofs.Common.{◌∙◌, ◌%◌, ℕ, subst, sym}
 use Rattle.std.specs.Prelude.{slice_index_or}
 use Rattle.rdlpp_table.specs.View.{TableView}
 use Rattle.rdlpp_cursors.specs.declared.flat.Flat.{Flat}

@@ -1,4 +1,4 @@
-use Rattle.std.proofs.Common.{◌≡◌, ◌+◌, ◌≤◌, ◌∙◌, ◌%◌, subst, sym, arith}
+use Rattle.std.proofs.Common.{◌∙◌, ◌%◌, subst, arith}
 use Rattle.std.specs.Prelude.{slice_index_or}
 use Rattle.rdlpp_table.specs.View.{TableView}
 use Rattle.rdlpp_cursors.specs.declared.place.TextPlace.{TextPlace}

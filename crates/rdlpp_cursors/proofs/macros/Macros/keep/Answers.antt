@@ -1,4 +1,4 @@
-use Rattle.std.proofs.Common.{◌≡◌, subst, sym}
+use Rattle.std.proofs.Common.{subst, sym}
 use Rattle.rdlpp_table.specs.View.{TableView}
 use Rattle.rdlpp_cursors.specs.Flats.{IsFlat}
 use Rattle.rdlpp_cursors.proofs.Kept.{more-kept}

@@ -1,10 +1,10 @@
-use Rattle.std.proofs.Common.{◌≡◌, ◌∙◌, ◌<◌, ◌≤◌, length, ap, subst, sym, refl, arith}
+use Rattle.std.proofs.Common.{◌∙◌, ◌<◌, length, subst, sym, refl}
 use Rattle.rdlpp_table.specs.View.{TableView}
 use Rattle.rdlpp_cursors.specs.Opened.{CursorsView}
 use Rattle.rdlpp_cursors.specs.Places.{texts_of}
 use Rattle.rdlpp_cursors.specs.Steps.{AreSound}
 use Rattle.rdlpp_cursors.specs.declared.step.CursorStep.TheVariants.{Lends, Silent}
-use Rattle.rdlpp_cursors.proofs.Lending.{expanded-open, expanded-waits, inside-known, lent-passed, passed-expanded, passed-settled, passed-step, refused-same, refused-waits}
+use Rattle.rdlpp_cursors.proofs.Lending.{expanded-waits, inside-known, lent-passed, passed-expanded, passed-settled, passed-step, refused-same, refused-waits}
 use Rattle.rdlpp_cursors.proofs.open_texts.OpenTexts.step.Goals as goal
 
 pub expand_opened-requires-clause-known : goal.expand_opened-requires-clause-known
