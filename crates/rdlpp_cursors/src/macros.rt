@@ -14,6 +14,9 @@ mod flattening;
 // How many expansions are kept.
 const MOST_FLATS: usize = 8;
 
+// How many bytes a body has at most whose expansion is looked for: in a longer one what is lent outweighs what is opened.
+const MOST_BODY: usize = 256;
+
 // None of them is known.
 const NONE_KNOWN: [bool; MOST_FLATS] = [false; MOST_FLATS];
 

@@ -8,7 +8,7 @@ ghost use Rattle.rdlpp_cursors.specs.declared.place.TextSource.TheVariants as so
 
 use crate::flat::Flat;
 use crate::front::{Ahead, Front, front_of};
-use crate::macros::{MOST_FLATS, MOST_TRIES, Macros};
+use crate::macros::{MOST_BODY, MOST_FLATS, MOST_TRIES, Macros};
 use crate::place::{TextPlace, TextSource};
 use crate::run_list::Runs;
 use crate::slot::is_excluded;
@@ -57,6 +57,9 @@ impl Macros {
     {
         let key = id.index() % MOST_FLATS;
         if self.known[key] || self.table.arity(id).is_some() {
+            return;
+        }
+        if self.table.body(id).len() > MOST_BODY {
             return;
         }
         if self.last[key] != id.index() {
