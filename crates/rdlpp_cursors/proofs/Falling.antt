@@ -26,7 +26,7 @@ last-gone [] d h = h
 last-gone (c ∷ cs) d h = inr (refl, last-gone cs d h)
 
 -- the last digit is smaller, and others may stand behind it
-last-smaller : (ds rest : List ℕ) (d e : ℕ) → e < d → AreFalling (ds ++ d ∷ []) (ds ++ e ∷ rest)
+pub last-smaller : (ds rest : List ℕ) (d e : ℕ) → e < d → AreFalling (ds ++ d ∷ []) (ds ++ e ∷ rest)
 unfolding AreFalling
 last-smaller [] rest d e h = inl h
 last-smaller (c ∷ cs) rest d e h = inr (refl, last-smaller cs rest d e h)

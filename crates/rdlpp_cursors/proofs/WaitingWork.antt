@@ -27,7 +27,7 @@ use Rattle.rdlpp_cursors.specs.Digits.{open_digit, cursor_digits, AreFalling}
 use Rattle.rdlpp_cursors.specs.Flats.{place_open, places_from, IsRunOf, IsRun}
 use Rattle.rdlpp_cursors.specs.Opened.{moved_to}
 use Rattle.rdlpp_cursors.specs.Steps.{AreSound}
-use Rattle.rdlpp_cursors.proofs.Falling.{digits-inner}
+use Rattle.rdlpp_cursors.proofs.Falling.{digits-inner, last-smaller}
 use Rattle.rdlpp_cursors.proofs.Keeping.{at-each}
 
 -- so many places are taken of a list
@@ -183,12 +183,6 @@ room-less base depth total slots positive room =
   where
     less : (w p : ℕ) → 0 < p → w + p ≤ total → w < total
     less w p h k = omega (arith, h, k)
-
--- the last digit is smaller, and others may stand behind it
-last-smaller : (ds rest : List ℕ) (d e : ℕ) → e < d → AreFalling (ds ++ d ∷ []) (ds ++ e ∷ rest)
-unfolding AreFalling
-last-smaller [] rest d e h = inl h
-last-smaller (c ∷ cs) rest d e h = inr (refl, last-smaller cs rest d e h)
 
 -- the digits of open texts in front of others come behind theirs
 digits-apart : (news below : List Open) → cursor_digits (news ++ below) ≡ cursor_digits below ++ cursor_digits news

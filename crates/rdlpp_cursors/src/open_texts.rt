@@ -135,6 +135,9 @@ impl OpenTexts {
     /// nothing is left, and those around it of which nothing is left either, but for the outermost. Where it lends a run, what
     /// stands behind that is opened in the same step, or a text that ends there is closed while others are open around it.
     ///
+    /// Where a body would be opened whose expansion `macros` knows to be a few runs of bodies, these are open in its place, and
+    /// each of the next steps lends one of them.
+    ///
     /// # Faults
     /// They are told at the line of the usage in the source, in a step of their own. Nothing changes then, and the same fault
     /// comes again.
