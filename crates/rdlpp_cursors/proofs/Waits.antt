@@ -1,9 +1,9 @@
 -- Open texts in front of which runs wait.
-use Rattle.std.proofs.Common.{◌≡◌, ℕ, zero, suc, ◌+◌, ◌<◌, ◌≤◌, Bool, true, false, List, [], ◌∷◌, ◌++◌, map, length, refl, sym, ap, subst, ◌∙◌, arith}
+use Rattle.std.proofs.Common.{◌≡◌, ℕ, zero, suc, ◌+◌, ◌<◌, ◌≤◌, Bool, true, false, List, [], ◌∷◌, ◌++◌, map, length, refl, sym, ap, subst, ◌∙◌, append_assoc, arith}
 use Rattle.std.specs.Prelude.{◌==◌, ◌-◌, slice_index_or}
 use Rattle.std.specs.List.{AllByRecursion}
 use Rattle.std.proofs.lemmas.Bool.{ne_eqb, eqb-true, eqb-false}
-use Rattle.std.proofs.lemmas.List.{length-append, length-map}
+use Rattle.std.proofs.lemmas.List.{length-append, length-map, map-append}
 use Rattle.rdlpp_meaning.specs.Opens.{Open}
 use Rattle.rdlpp_cursors.specs.declared.place.TextPlace.{TextPlace}
 use Rattle.rdlpp_cursors.specs.declared.place.TextSource.{TextSource}
@@ -11,6 +11,7 @@ use Rattle.rdlpp_cursors.specs.declared.place.TextSource.TheVariants as source
 use Rattle.rdlpp_cursors.specs.declared.run_list.Runs.{Runs}
 use Rattle.rdlpp_cursors.specs.Flats.{no_place, place_open, places_from, places_of, source_kind, waiting_opens, waiting_view, IsWaiting}
 use Rattle.rdlpp_cursors.specs.Opened.{bound_by, bound_in, CursorsView}
+use Rattle.rdlpp_cursors.proofs.Places.{places-snoc}
 
 -- so many places
 pub places-many : (n next : ℕ) (places : List TextPlace) → length (places_from n next places) ≡ n
@@ -117,18 +118,11 @@ place-in P (suc n) next at places h low high =
 -- the last of some places
 pub places-last : (n next : ℕ) (places : List TextPlace) (opens : List Open)
     → map place_open (places_from (suc n) next places) ++ opens ≡ map place_open (places_from n next places) ++ (place_open (slice_index_or places (next + n) no_place) ∷ opens)
-unfolding places_from
-places-last zero next places opens = ap (λ (k : ℕ). place_open (slice_index_or places k no_place) ∷ opens) (same next)
-  where
-    same : (n : ℕ) → n ≡ n + 0
-    same n = omega arith
-places-last (suc n) next places opens =
-    ap (λ (rest : List Open). place_open (slice_index_or places next no_place) ∷ rest)
-    (places-last n (suc next) places opens
-    ∙ ap (λ (k : ℕ). map place_open (places_from n (suc next) places) ++ (place_open (slice_index_or places k no_place) ∷ opens)) (later next n))
-  where
-    later : (a b : ℕ) → suc a + b ≡ a + suc b
-    later a b = omega arith
+places-last n next places opens =
+    let last = slice_index_or places (next + n) no_place in
+    ap (λ (ps : List TextPlace). map place_open ps ++ opens) (places-snoc n next places)
+    ∙ ap (λ (os : List Open). os ++ opens) (map-append place_open (places_from n next places) (last ∷ []))
+    ∙ append_assoc (map place_open (places_from n next places)) (place_open last ∷ []) opens
 
 -- where the last run is opened that waits, the others wait in front of it
 pub one-left : (waiting : Runs) (own : TextPlace) (opens : List Open) → 0 < waiting.left → length waiting.places ≡ 32 → waiting.next + waiting.left ≤ 32
