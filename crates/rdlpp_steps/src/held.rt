@@ -9,7 +9,7 @@ pub struct Held {
     pub arguments: usize,
     /// Bytes of the open sources' buffers.
     pub buffers: usize,
-    /// Open bodies and actuals.
+    /// Open bodies, actuals and default texts, and the runs that wait in place of a body: at most `depth` of them.
     pub cursors: usize,
     /// Bound actuals.
     pub bindings: usize,

@@ -44,7 +44,8 @@ fn holds_the_arguments_of_an_open_call(rt: HostRuntime) -> Result<(), Fail> {
     Ok(())
 }
 
-// Twelve doublings: thousands of usages, and nothing held but the definitions and the source.
+// Twelve doublings: thousands of usages, and nothing held but the definitions and the source. No more texts are open than the thirteen
+// bodies, of which one may have given way to the 32 runs that it stands for.
 #[test]
 fn holds_nothing_of_doublings(rt: HostRuntime) -> Result<(), Fail> {
     let mut source = Vec::from_slice(rt.alloc(), b"`define E0 x\n")?;
@@ -77,7 +78,7 @@ fn holds_nothing_of_doublings(rt: HostRuntime) -> Result<(), Fail> {
         let held = engine.held();
         assert_eq!(rt; held.arguments, 0);
         assert!(rt; held.definitions <= 106 && held.buffers <= STANDARD.line_bytes);
-        assert!(rt; held.cursors <= 13);
+        assert!(rt; held.cursors <= 12 + 32);
         if done {
             assert_eq!(rt; held.definitions, 106);
             break;
