@@ -39,7 +39,7 @@ pub(crate) struct CallToken {
 }
 
 // The first token of a text that isn't empty. It is built once, from scalars: a copy of it costs more than most tokens.
-#[inline]
+#[inline(always)]
 pub(crate) fn token_in_call(mode: Mode, text: &[u8]) -> CallToken
     requires { 0 < length text.now }
     ensures { IsFirstToken mode text.now result }
@@ -52,6 +52,15 @@ pub(crate) fn token_in_call(mode: Mode, text: &[u8]) -> CallToken
             next_mode: Mode::Plain,
         };
     }
+    other_token(mode, text)
+}
+
+// The first token of a text that isn't empty, by its kind.
+#[inline(never)]
+fn other_token(mode: Mode, text: &[u8]) -> CallToken
+    requires { 0 < length text.now }
+    ensures { IsFirstToken mode text.now result }
+{
     let token = first_token(mode, text);
     CallToken {
         role: role_of(token.kind, text[0]),

@@ -189,6 +189,7 @@ fn ending_of(written: &PartWritten) -> Option<Ending>
 }
 
 // Writes the next piece of the output, where the next step is none over open texts.
+#[inline(never)]
 fn pull<S: Sources, W: Sink>(engine: &mut Engine<S>, writer: &mut W) -> Pulled
     requires started { IsStarted engine.old }
     requires outside { IsUnowed engine.old → engine.old.expansion.opens ≡ [] }

@@ -1,5 +1,5 @@
 use Rattle.rdlpp_calls.proofs.FirstTokens.{first_token_is}
-use Rattle.rdlpp_calls.proofs.tokens.token_in_call.Goals as goal
+use Rattle.rdlpp_calls.proofs.tokens.other_token.Goals as goal
 
 pub returns : goal.returns
 returns c =
