@@ -1,6 +1,7 @@
 -- What is done with the first token of the held bytes of a source, in a call, or with the part of it that is held.
 -- A definition that names no source is this project's own.
-use Rattle.std.specs.Prelude.{◌≡◌, ◌≢◌, ℕ, ◌+◌, ◌-◌, ◌≤◌, ◌<◌, Bool, nat_le, List, [], ◌++◌, length, take, drop, if◌then◌else◌}
+use Rattle.std.specs.Prelude.{◌≡◌, ◌≢◌, ℕ, ◌+◌, ◌-◌, ◌≤◌, ◌<◌, Bool, nat_le, ◌||◌, ◌==◌, List, [], ◌++◌, length, take, drop, if◌then◌else◌}
+use Rattle.rdlpp_scan.specs.Bytes.{is_blank, is_word}
 use Rattle.rdlpp_scan.specs.declared.token.Mode.{Mode}
 use Rattle.rdlpp_scan.specs.declared.token.Mode.TheVariants.{Plain, InStr}
 use Rattle.rdlpp_scan.specs.declared.token.Token.{Token}
@@ -90,6 +91,11 @@ pub record IsUse (at : scan.Stand) (mode : Mode) (room : ℕ) (held : List ℕ) 
       (read (stand_meant u.stand) (is_open u.next_mode) (room - length (kept_of u.is_kept (take u.len held))) (tokens_behind a mode held u.len u.next_mode))
   pub bytes : (a : Around) → IsAround held a
       → bytes_of (tokens_at a mode held) ≡ take u.len held ++ bytes_of (tokens_behind a mode held u.len u.next_mode)
+
+-- whether a byte is of a word or a blank, or a comma: tokens of such bytes open nothing and close nothing (source: this project's
+-- profile)
+unfoldable pub is_calm : ℕ → Bool
+is_calm b = is_word b || is_blank b || b == 44
 
 -- the first byte closes the call
 pub record IsClose (at : scan.Stand) (mode : Mode) (room : ℕ) (held : List ℕ) : Type 0 where

@@ -1,15 +1,16 @@
 // One token of a call, or the part of it that is held.
-ghost use Rattle.std.specs.Prelude.{◌≡◌, ◌≢◌, ℕ, ◌+◌, ◌≤◌, ◌<◌, ◌∷◌, [], length, false};
+ghost use Rattle.std.specs.Prelude.{◌≡◌, ◌≢◌, ℕ, ◌+◌, ◌≤◌, ◌<◌, ◌∷◌, [], length, false, IfSome};
+ghost use Rattle.std.specs.List.{prefix_len};
 ghost use Rattle.rdlpp_scan.specs.Tokens.{token_of};
 ghost use Rattle.rdlpp_scan.specs.declared.token.Kind.TheVariants.{Back};
 ghost use Rattle.rdlpp_scan.specs.declared.token.Mode.TheVariants.{InStr, Plain};
 ghost use Rattle.rdlpp_meaning.specs.CallScan.{Before, Inside, fault_at_end};
 ghost use Rattle.rdlpp_calls.specs.CallTokens.{role_meant};
-ghost use Rattle.rdlpp_arguments.specs.Taking.{Answers, IsKeptAt, IsTaking, level_in, stand_meant};
+ghost use Rattle.rdlpp_arguments.specs.Taking.{is_calm, Answers, IsKeptAt, IsTaking, IsUse, level_in, stand_meant};
 
 use rdlpp_calls::{CallRole, ends_call, level_behind, role_of};
 use rdlpp_meaning::FaultKind;
-use rdlpp_scan::{Kind, Mode, Token, first_token, reserved};
+use rdlpp_scan::{Kind, Mode, Token, first_token, is_blank, is_letter, reserved};
 
 // Where the reading of a call stands.
 #[derive(Clone, Copy)]
@@ -146,6 +147,52 @@ fn name_taking(stand: Stand, room: usize, held: &[u8], token: Token) -> Taking
     role_taking(stand, room, CallRole::Text, token)
 }
 
+// Whether a byte is of a word or a blank, or a comma.
+#[tactic(auto, unfolding(crate::specs::Taking::is_calm, rdlpp_scan::specs::Bytes::is_word, rdlpp_scan::specs::Bytes::is_digit))]
+fn is_calm(b: u8) -> bool
+    ensures { result ≡ is_calm b }
+{
+    is_letter(b) || b'0' <= b && b <= b'9' || is_blank(b) || b == b','
+}
+
+// How many such bytes a text begins with.
+fn calm_bytes(text: &[u8]) -> usize
+    ensures value { result ≡ prefix_len is_calm text.now }
+    ensures inside { result ≤ length text.now }
+{
+    text.iter().take_while(|b| is_calm(**b)).count()
+}
+
+// The use of the words, blanks and commas with which held bytes begin in plain text, at a level of further openers, if there are
+// some and they fit.
+fn plain_calm_use(level: usize, room: usize, held: &[u8]) -> Option<Use>
+    ensures { IfSome result (λ u. IsUse (Inside level) Plain room held.now u) }
+{
+    let len = calm_bytes(held);
+    if len == 0 || room < len {
+        return None;
+    }
+    Some(Use {
+        len,
+        next_mode: Mode::Plain,
+        stand: Stand::Inside(level),
+        is_kept: true,
+    })
+}
+
+// The same in any mode, and wherever the reading stands.
+fn calm_use(stand: Stand, mode: Mode, room: usize, held: &[u8]) -> Option<Use>
+    ensures { IfSome result (λ u. IsUse (stand_meant stand) mode room held.now u) }
+{
+    match stand {
+        Stand::Inside(level) => match mode {
+            Mode::Plain => plain_calm_use(level, room, held),
+            _ => None,
+        },
+        Stand::Before => None,
+    }
+}
+
 /// What is done in a call with the first token of held bytes, or with the part of it that is held: it
 /// is used, and kept where it stands between the parentheses and is no `//` comment; or it is the `)`;
 /// or it ends the call.
@@ -160,6 +207,9 @@ pub(crate) fn taking_of(stand: Stand, mode: Mode, room: usize, held: &[u8]) -> T
     requires lead { stand_meant stand ≡ Before → mode ≢ InStr }
     ensures { IsTaking (stand_meant stand) mode room held.now result }
 {
+    if let Some(calm) = calm_use(stand, mode, room, held) {
+        return Taking::Uses(calm);
+    }
     let token = first_token(mode, held);
     match token.kind {
         Kind::Perl => Taking::Perl,

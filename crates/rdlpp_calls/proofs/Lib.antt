@@ -18,4 +18,4 @@ mod CalledCounts
 mod CalledCalls
 mod FirstOpeners
 mod NoSlashes
-mod QuickTokens
+pub mod QuickTokens

@@ -19,7 +19,7 @@ use Rattle.rdlpp_calls.specs.declared.tokens.CallToken.{CallToken}
 use Rattle.rdlpp_calls.proofs.FirstTokens.{first_token_is}
 
 -- the token of a word that begins with a letter
-letter_token : (b : ℕ) (bs : List ℕ) → is_letter b ≡ true → token_of Plain (b ∷ bs) ≡ whole Name (prefix_len is_word (b ∷ bs))
+pub letter_token : (b : ℕ) (bs : List ℕ) → is_letter b ≡ true → token_of Plain (b ∷ bs) ≡ whole Name (prefix_len is_word (b ∷ bs))
 unfolding kind_of parts stop_of mode_behind len_of plain_kind whole
 letter_token b bs e =
     let T = b ∷ bs in
@@ -45,7 +45,7 @@ not_true true h = absurd (h refl)
 not_true false h = refl
 
 -- the token of a word that begins with a digit
-digit_token : (b : ℕ) (bs : List ℕ) → is_letter b ≡ false → is_digit b ≡ true → token_of Plain (b ∷ bs) ≡ whole Word (prefix_len is_word (b ∷ bs))
+pub digit_token : (b : ℕ) (bs : List ℕ) → is_letter b ≡ false → is_digit b ≡ true → token_of Plain (b ∷ bs) ≡ whole Word (prefix_len is_word (b ∷ bs))
 unfolding kind_of parts stop_of mode_behind len_of plain_kind whole
 digit_token b bs l d =
     let T = b ∷ bs in
@@ -54,6 +54,21 @@ digit_token b bs l d =
     token_parts Plain T
     ∙ ap (λ (k : Kind). parts Plain k T) kind
     ∙ ap (λ (t : Bool). whole Word (cond t (prefix_len is_word T) (suc (prefix_len is_word bs)))) d
+
+-- the token of blanks
+pub blank_token : (b : ℕ) (bs : List ℕ) → is_letter b ≡ false → is_blank b ≡ true → token_of Plain (b ∷ bs) ≡ whole Blank (prefix_len is_blank (b ∷ bs))
+unfolding kind_of parts stop_of mode_behind len_of plain_kind whole
+blank_token b bs l d =
+    let T = b ∷ bs in
+    let kind : plain_kind b (get_or T 1 0) ≡ Blank =
+    rw (l, d) refl in
+    token_parts Plain T
+    ∙ ap (λ (k : Kind). parts Plain k T) kind
+
+-- the token of a comma
+pub comma_token : (bs : List ℕ) → token_of Plain (44 ∷ bs) ≡ whole Comma 1
+unfolding token_of plain_token whole begins_perl begins_line_comment begins_block_comment is_blank is_line_end is_letter is_digit is_opener is_closer takes_word
+comma_token bs = refl
 
 -- a token by what it is
 named : (text : List ℕ) (t : Token) (r : CallRole) → t ≡ token_of Plain text → 0 < t.len → t.len ≤ length text → role_meant r ≡ kind_role t.kind (get_or text 0 0 ∷ [])
@@ -77,7 +92,7 @@ word_text (b ∷ bs) n is some inside = elim (cases_Bool (is_letter b)) [
 -- a comma is a token
 comma_here : (bs : List ℕ) → IsFirstToken Plain (44 ∷ bs) (call.plain_token role.Comma 1)
 unfolding token_of plain_token whole role_meant kind_role begins_perl begins_line_comment begins_block_comment is_blank is_line_end is_letter is_digit is_opener is_closer takes_word
-comma_here bs = named (44 ∷ bs) (whole Comma 1) role.Comma refl (omega arith) (omega arith) refl
+comma_here bs = named (44 ∷ bs) (whole Comma 1) role.Comma (sym (comma_token bs)) (omega arith) (omega arith) refl
 
 start_here : (bs : List ℕ) → IsFirstToken Plain (40 ∷ bs) (call.plain_token role.Start 1)
 unfolding token_of plain_token whole role_meant kind_role begins_perl begins_line_comment begins_block_comment is_blank is_line_end is_letter is_digit is_opener is_closer takes_word

@@ -22,7 +22,7 @@ returns-in-Back c =
     let kind : (token_of c.args.mode c.args.held.now).kind ≡ Back = ap (λ t. t.kind) (sym c.first_token-token.ensures.value) ∙ c.in-Back.is in
     subst (λ (m : Mode). IsTaking (stand_meant c.args.stand) m c.args.room c.args.held.now c.name_taking.result) (sym (back_mode c.args.mode c.args.held.now kind)) c.name_taking.ensures
 
-pub returns-in_default : goal.returns-in_default
-returns-in_default c =
+pub returns-in_default-kind : goal.returns-in_default-kind
+returns-in_default-kind c =
     role_taken (stand_meant c.args.stand) c.args.mode c.args.room c.args.held.now c.first_token-token.result (role_meant c.role_of.result) c.role_taking.result
-    c.requires.some c.first_token-token.ensures.value (kept_kind c.first_token-token.result.kind c.in_default.not-Perl c.in_default.not-Back) c.requires.lead c.role_of.ensures c.role_taking.ensures
+    c.requires.some c.first_token-token.ensures.value (kept_kind c.first_token-token.result.kind c.in_default-kind.not-Perl c.in_default-kind.not-Back) c.requires.lead c.role_of.ensures c.role_taking.ensures
