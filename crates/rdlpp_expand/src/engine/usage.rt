@@ -89,13 +89,14 @@ impl<S: Sources> Engine<S> {
         ensures place { IfSome result (IsPlaced self.new) }
         ensures walks { IsBounded self.new → Walks S.Sources self.old self.new (step_answer self.new result) }
     {
-        let buffer = &self.files.file().buffer;
-        let word = word_of(name_of(buffer.held(), len));
-        let line = buffer.line();
+        let line = self.files.file().buffer.line();
         self.facts();
         match self.open_macro(len, id) {
             Opening::Opened => None,
-            Opening::Refused(kind) => Some(self.refuse_at(kind, line, word)),
+            Opening::Refused(kind) => {
+                let word = word_of(self.macros.table().name(id));
+                Some(self.refuse_at(kind, line, word))
+            }
             Opening::Broken(kind, own) => Some(self.refuse_at(kind, own, ArrayString::new())),
             Opening::Failed => Some(self.refuse_read()),
         }
