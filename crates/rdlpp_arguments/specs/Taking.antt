@@ -1,4 +1,5 @@
--- What is done with the first token of the held bytes of a source, in a call, or with the part of it that is held.
+-- What is done with the first token of the held bytes of a source, in a call, or with the part of it that is held, or with a run of
+-- tokens that are words, blanks and commas.
 -- A definition that names no source is this project's own.
 use Rattle.std.specs.Prelude.{◌≡◌, ◌≢◌, ℕ, ◌+◌, ◌-◌, ◌≤◌, ◌<◌, Bool, nat_le, ◌||◌, ◌==◌, List, [], ◌++◌, length, take, drop, if◌then◌else◌}
 use Rattle.rdlpp_scan.specs.Bytes.{is_blank, is_word}

@@ -1,4 +1,4 @@
-// One token of a call, or the part of it that is held.
+// One token of a call, or the part of it that is held, or a run of words, blanks and commas.
 ghost use Rattle.std.specs.Prelude.{◌≡◌, ◌≢◌, ℕ, ◌+◌, ◌≤◌, ◌<◌, ◌∷◌, [], length, false, IfSome};
 ghost use Rattle.std.specs.List.{prefix_len};
 ghost use Rattle.rdlpp_scan.specs.Tokens.{token_of};
@@ -195,7 +195,8 @@ fn calm_use(stand: Stand, mode: Mode, room: usize, held: &[u8]) -> Option<Use>
 
 /// What is done in a call with the first token of held bytes, or with the part of it that is held: it
 /// is used, and kept where it stands between the parentheses and is no `//` comment; or it is the `)`;
-/// or it ends the call.
+/// or it ends the call. Words, blanks and commas that stand first between the parentheses are used at
+/// once, where they fit.
 ///
 /// # Rules
 ///
