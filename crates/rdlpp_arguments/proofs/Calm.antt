@@ -1,5 +1,5 @@
 -- Words, blanks and commas behind the `(` of a call are used at once.
-use Rattle.std.proofs.Common.{◌≡◌, ◌≢◌, ℕ, zero, suc, ◌+◌, ◌-◌, ◌≤◌, ◌<◌, ◌||◌, ◌==◌, Bool, true, false, cond, List, [], ◌∷◌, ◌++◌, length, take, drop, get_or, slice_index, refl, sym, ap, ◌∙◌, subst, inl, inr, ⊎_elim, append_assoc, arith}
+use Rattle.std.proofs.Common.{◌≡◌, ℕ, zero, suc, ◌+◌, ◌-◌, ◌≤◌, ◌<◌, ◌||◌, ◌==◌, Bool, true, false, cond, List, [], ◌∷◌, ◌++◌, length, take, drop, get_or, slice_index, refl, sym, ap, ◌∙◌, subst, inl, inr, ⊎_elim, append_assoc, arith}
 use Rattle.std.specs.Prelude.{nat_le}
 use Rattle.std.specs.List.{prefix_len}
 use Rattle.std.proofs.Math.Seq.{take-add}
@@ -22,11 +22,11 @@ use Rattle.rdlpp_scan.proofs.TokenSteps.{is_kept_kind}
 use Rattle.rdlpp_scan.proofs.WholeLines.{EndsLine-drop}
 use Rattle.rdlpp_meaning.specs.Actuals.{kept_size, kind_role, level_behind}
 use Rattle.rdlpp_meaning.specs.CallReading.{Reading, onto_kept, read}
-use Rattle.rdlpp_meaning.specs.CallScan.{Before, Inside, Keeps, turn_fitting, turn_inside}
+use Rattle.rdlpp_meaning.specs.CallScan.{Inside, Keeps, turn_fitting, turn_inside}
 use Rattle.rdlpp_meaning.specs.Expansion.{bytes_of}
 use Rattle.rdlpp_meaning.proofs.CallReadings.{onto_kept-append}
 use Rattle.rdlpp_calls.proofs.QuickTokens.{letter_token, digit_token, blank_token, comma_token}
-use Rattle.rdlpp_arguments.specs.Taking.{Around, IsAround, IsKeptAt, IsUse, is_calm, level_in, stand_meant, tokens_at, tokens_behind}
+use Rattle.rdlpp_arguments.specs.Taking.{Around, IsKeptAt, IsUse, is_calm, level_in, stand_meant, tokens_behind}
 use Rattle.rdlpp_arguments.specs.declared.taking.Stand.TheVariants.{Inside as InsideCall}
 use Rattle.rdlpp_arguments.specs.declared.taking.Taking.TheVariants.{Uses}
 use Rattle.rdlpp_arguments.specs.declared.taking.Use.{Use}

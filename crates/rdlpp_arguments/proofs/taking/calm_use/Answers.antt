@@ -1,7 +1,6 @@
-use Rattle.std.proofs.Common.{◌≡◌, sym, subst}
+use Rattle.std.proofs.Common.{sym, subst}
 use Rattle.std.specs.Prelude.{IfSome}
 use Rattle.rdlpp_scan.specs.declared.token.Mode.{Mode}
-use Rattle.rdlpp_scan.specs.declared.token.Mode.TheVariants.{Plain}
 use Rattle.rdlpp_arguments.specs.Taking.{IsUse, stand_meant}
 use Rattle.rdlpp_arguments.specs.declared.taking.Stand.{Stand}
 use Rattle.rdlpp_arguments.specs.declared.taking.Stand.TheVariants.{Inside as InsideCall}
