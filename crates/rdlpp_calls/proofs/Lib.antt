@@ -16,6 +16,7 @@ mod CalledTexts
 mod CalledBounds
 mod CalledCounts
 mod CalledCalls
+mod WordParts
 mod FirstOpeners
 mod NoSlashes
 pub mod QuickTokens

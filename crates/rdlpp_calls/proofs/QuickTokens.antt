@@ -76,7 +76,7 @@ named : (text : List ℕ) (t : Token) (r : CallRole) → t ≡ token_of Plain te
 named text t r is long inside role = first_token_is Plain text t r (omega (arith, long, inside)) is long inside role
 
 -- a word is a token of text
-word_text : (text : List ℕ) (n : ℕ) → n ≡ prefix_len is_word text → 0 < n → n ≤ length text → IsFirstToken Plain text (call.plain_token role.Text n)
+pub word_text : (text : List ℕ) (n : ℕ) → n ≡ prefix_len is_word text → 0 < n → n ≤ length text → IsFirstToken Plain text (call.plain_token role.Text n)
 unfolding whole role_meant kind_role is_word
 word_text [] n is some inside = absurd (omega (arith, some, inside))
 word_text (b ∷ bs) n is some inside = elim (cases_Bool (is_letter b)) [
@@ -90,7 +90,7 @@ word_text (b ∷ bs) n is some inside = elim (cases_Bool (is_letter b)) [
 ]
 
 -- a comma is a token
-comma_here : (bs : List ℕ) → IsFirstToken Plain (44 ∷ bs) (call.plain_token role.Comma 1)
+pub comma_here : (bs : List ℕ) → IsFirstToken Plain (44 ∷ bs) (call.plain_token role.Comma 1)
 unfolding token_of plain_token whole role_meant kind_role begins_perl begins_line_comment begins_block_comment is_blank is_line_end is_letter is_digit is_opener is_closer takes_word
 comma_here bs = named (44 ∷ bs) (whole Comma 1) role.Comma (sym (comma_token bs)) (omega arith) (omega arith) refl
 
@@ -98,12 +98,13 @@ start_here : (bs : List ℕ) → IsFirstToken Plain (40 ∷ bs) (call.plain_toke
 unfolding token_of plain_token whole role_meant kind_role begins_perl begins_line_comment begins_block_comment is_blank is_line_end is_letter is_digit is_opener is_closer takes_word
 start_here bs = named (40 ∷ bs) (whole Opener 1) role.Start refl (omega arith) (omega arith) refl
 
-end_here : (bs : List ℕ) → IsFirstToken Plain (41 ∷ bs) (call.plain_token role.End 1)
+-- and a `)` is one
+pub end_here : (bs : List ℕ) → IsFirstToken Plain (41 ∷ bs) (call.plain_token role.End 1)
 unfolding token_of plain_token whole role_meant kind_role begins_perl begins_line_comment begins_block_comment is_blank is_line_end is_letter is_digit is_opener is_closer takes_word
 end_here bs = named (41 ∷ bs) (whole Closer 1) role.End refl (omega arith) (omega arith) refl
 
 -- so at the front of a text
-front_of : (n : ℕ) (text : List ℕ) (t : CallToken) → 0 < n → get_or text 0 0 ≡ n → ((bs : List ℕ) → IsFirstToken Plain (n ∷ bs) t) → IsFirstToken Plain text t
+pub front_of : (n : ℕ) (text : List ℕ) (t : CallToken) → 0 < n → get_or text 0 0 ≡ n → ((bs : List ℕ) → IsFirstToken Plain (n ∷ bs) t) → IsFirstToken Plain text t
 front_of n [] t some e h = absurd (omega (arith, some, e))
 front_of n (b ∷ bs) t some e h = subst (λ (m : ℕ). IsFirstToken Plain (m ∷ bs) t) (sym e) (h bs)
 

@@ -7,7 +7,7 @@ ghost use Rattle.rdlpp_calls.specs.CalledParts.{called_from, IsPushed, TellsClos
 use crate::bindings::Range;
 use crate::parts::space_len;
 use crate::tokens::{ends_call, ends_part, is_space, level_behind, token_in_call};
-use rdlpp_scan::Mode;
+use rdlpp_scan::{Mode, byte_at, word_bytes};
 
 // Where a part of a call ends.
 #[derive(Clone, Copy, Debug, PartialEq, Eq)]
@@ -29,8 +29,32 @@ pub(crate) struct CalledPart {
     pub(crate) end: PartEnd,
 }
 
-// The part of a call that begins at a place of a text, behind white space.
+// The part of a call that begins at a place of a text, behind white space. Most parts are one word, or nothing.
 fn called_part(text: &[u8], from: usize) -> CalledPart
+    requires { from ≤ length text.now }
+    ensures value { result ≡ called_from from 0 from (body_tokens (drop from text.now)) }
+    ensures closer { TellsCloser text.now from result.end }
+{
+    let to = from + word_bytes(&text[from..]);
+    let next = byte_at(text, to);
+    if next == b',' {
+        return CalledPart {
+            to,
+            end: PartEnd::Comma(to + 1),
+        };
+    }
+    if next == b')' {
+        return CalledPart {
+            to,
+            end: PartEnd::Closed(to),
+        };
+    }
+    called_by_tokens(text, from)
+}
+
+// The same, token by token.
+#[inline(never)]
+fn called_by_tokens(text: &[u8], from: usize) -> CalledPart
     requires { from ≤ length text.now }
     ensures value { result ≡ called_from from 0 from (body_tokens (drop from text.now)) }
     ensures closer { TellsCloser text.now from result.end }

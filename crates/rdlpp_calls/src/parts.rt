@@ -6,7 +6,7 @@ ghost use Rattle.rdlpp_calls.specs.CallParts.{IsCall, IsNextPart, call_fault_kin
 
 use crate::tokens::{CallRole, ends_call, ends_part, is_space, level_behind, token_in_call};
 use rdlpp_meaning::FaultKind;
-use rdlpp_scan::{Mode, byte_at, is_blank};
+use rdlpp_scan::{Mode, byte_at, is_blank, word_bytes};
 
 /// The arguments of a call in a text: what stands between its parentheses.
 #[derive(Clone, Copy, Debug, PartialEq, Eq)]
@@ -173,8 +173,32 @@ fn is_white(b: u8) -> bool
     is_blank(b) || b == b'\n'
 }
 
-// The part that begins at a place, in the text between the parentheses of a call.
+// The part that begins at a place, in the text between the parentheses of a call. Most parts are one word, or nothing.
 fn part_at(text: &[u8], from: usize) -> Part
+    requires { from ≤ length text.now }
+    ensures { result ≡ part_from from from 0 from (body_tokens (drop from text.now)) }
+{
+    let to = from + word_bytes(&text[from..]);
+    if to >= text.len() {
+        return Part {
+            from,
+            to,
+            next: None,
+        };
+    }
+    if text[to] == b',' {
+        return Part {
+            from,
+            to,
+            next: Some(to + 1),
+        };
+    }
+    part_by_tokens(text, from)
+}
+
+// The same, token by token.
+#[inline(never)]
+fn part_by_tokens(text: &[u8], from: usize) -> Part
     requires { from ≤ length text.now }
     ensures { result ≡ part_from from from 0 from (body_tokens (drop from text.now)) }
 {

@@ -4,7 +4,7 @@ use Rattle.rdlpp_meaning.specs.Substitution.{body_tokens}
 use Rattle.rdlpp_meaning.specs.TextTokens.{text_tokens}
 use Rattle.rdlpp_calls.specs.CallParts.{closer_from}
 use Rattle.rdlpp_calls.specs.CalledParts.{called_from, closer_in}
-use Rattle.rdlpp_calls.proofs.called.called_part.Given as goal
+use Rattle.rdlpp_calls.proofs.called.called_by_tokens.Given as goal
 
 abbrev pub invariant-loop-at : goal.invariant-loop-at
 invariant-loop-at l = record {
