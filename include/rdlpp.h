@@ -35,8 +35,8 @@
  *     Calls share nothing, so they may run at once in several threads. They are not for signal handlers.
  *
  * MEMORY
- *     A call uses malloc, realloc and free, and gives all back before it returns. Beside lists as long as
- *     the arrays that were lent, and the definitions, it holds at most
+ *     A call uses malloc, realloc and free, and gives all back before it returns, but for what an open
+ *     handle owns. Beside lists as long as the arrays that were lent, and the definitions, it holds at most
  *     definition_bytes + argument_bytes + (includes + 1) * line_bytes bytes of text, and tables of fixed
  *     size; the output goes straight to `out`. An open handle holds copies of the arrays that were lent,
  *     and that same text and those tables; rdlpp_read asks for no memory.
@@ -56,7 +56,7 @@ extern "C" {
 
 /* How much of each thing a call may use. rdlpp_standard_limits gives the standard values. */
 typedef struct rdlpp_limits {
-    size_t depth;            /* macro bodies and actuals that are open at once: 1 to 1,024 */
+    size_t depth;            /* bodies, actuals and default texts open at once: 1 to 1,024 */
     size_t includes;         /* included sources that are open at once: 0 to 64 */
     size_t line_bytes;       /* bytes of a line or a logical line, with its LF: 256 to 1,048,576 */
     size_t source_bytes;     /* bytes of one source: 1 to 1,073,741,824 */

@@ -8,7 +8,7 @@ class Limits:
     """How much of each thing a run may use; each field has its standard value."""
 
     depth: int = 256
-    """Macro bodies and actuals that are open at once: 1 to 1,024."""
+    """Macro bodies, actuals and default texts that are open at once: 1 to 1,024."""
     includes: int = 16
     """Included sources that are open at once: 0 to 64."""
     line_bytes: int = 65_536

@@ -7,7 +7,8 @@ text that is skipped or in comments, name all that a run opens.
 import re
 from typing import Callable, Dict, List, Optional, Sequence, Tuple
 
-INCLUDE = re.compile(rb'`include[ \t\r\v\f]*"((?:[^"\\\n]|\\[^\n])*)"')
+# only the word is consumed, so that what looks like a directive's string, but isn't one, hides no directive
+INCLUDE = re.compile(rb'`include(?=[ \t\r\v\f]*"((?:[^"\\\n]|\\[^\n])*)")')
 
 Read = Callable[[str], Optional[bytes]]
 

@@ -116,6 +116,11 @@ class Sources(unittest.TestCase):
         files = {"a/m": b'`include "i"\n', "a/i": b'`include "j"\n', "inc/j": b"q\n"}
         self.assertEqual(rdlpp.preprocess("a/m", ["inc"], files=files), b"q\n\n\n")
 
+    def test_an_include_behind_what_looks_like_one(self):
+        for text in (b'x = "`include "; `include "i"\n', b'/* `include " */ `include "i"\n'):
+            answer = rdlpp.preprocess("m", files={"m": text, "i": b"q\n"})
+            self.assertEqual(answer, text.replace(b'`include "i"', b"q\n"))
+
     def test_what_is_gathered(self):
         files = {"a/m": b'`include "i" `include "/r"\n// `include "j"', "a/i": b'`include"m"', "inc/j": b"", "/r": b"r", "x": b""}
         found = _sources.gather("a/m", files["a/m"], ["inc", "more/"], files.get)
