@@ -9,6 +9,6 @@ pub enum PrepFault {
     BadLimits(LimitFault),
     /// There was no memory for the engine. Nothing was opened or written.
     NoMemory,
-    /// The fault that ended the run, and how many bytes were written before it.
+    /// The fault that ended the run or refused a definition, and how many bytes were written before it.
     Run(RunFault),
 }

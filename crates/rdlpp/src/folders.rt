@@ -88,8 +88,8 @@ impl<'r, R: Files + Input> Folders<'r, R> {
 
     /// Sources over the files of `rt`, with these include folders in the order of the search.
     ///
-    /// Nothing is opened here. Each later search asks `alloc` for one growth for each candidate but
-    /// standard input.
+    /// Nothing is opened here. Each later search asks `alloc` for one growth for each file that it tries
+    /// to open.
     ///
     /// # Errors
     /// `NoMemory` where there was no memory for the folders.

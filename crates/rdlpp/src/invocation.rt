@@ -55,7 +55,8 @@ impl From<AllocError> for UsageFault {
 /// # Errors
 /// `Help` where help or the version is asked for. `Bad` where a word is none of these, is empty,
 /// stands twice or lacks its value, where a number is none or is out of its range, and where there is
-/// no source or a second one. `NoMemory` only where memory was refused.
+/// no source or a second one. What asks for help or the version ends the reading: words behind it
+/// aren't looked at. `NoMemory` only where memory was refused.
 pub fn parse_words<'w>(alloc: Global, words: &'w [&'w str]) -> Result<Invocation, UsageFault>
     ensures { IfOk result (λ invocation. AreInRange invocation.options.limits) }
 {

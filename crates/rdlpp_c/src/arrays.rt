@@ -6,7 +6,7 @@ ghost use Rattle.rdlpp_c.specs.Request.{limits_of};
 #[repr(C)]
 #[derive(Clone, Copy)]
 pub struct Limits {
-    /// The most macro bodies and actuals that are open at once.
+    /// The most macro bodies, actuals and default texts that are open at once.
     pub depth: usize,
     /// The most included sources that are open at once.
     pub includes: usize,

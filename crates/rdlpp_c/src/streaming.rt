@@ -57,7 +57,8 @@ pub extern "C" fn rdlpp_open(
 /// Writes the next bytes of an output to `out`, until it is full or the output ends.
 ///
 /// The shown name and the word of the fault that ended it are told as by `rdlpp_preprocess`. After the
-/// end, and after a fault, each later read answers the same again with no bytes. It asks for no memory.
+/// end, and after a fault, each later read answers the same again with no bytes; but an empty `out` is
+/// always full. It asks for no memory.
 #[unsafe(no_mangle)]
 pub extern "C" fn rdlpp_read(
     alloc: Global,

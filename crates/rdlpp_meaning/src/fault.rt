@@ -30,10 +30,10 @@ pub enum FaultKind {
     /// F7: a usage of a macro that isn't defined.
     #[error("undefined macro")]
     UndefinedMacro,
-    /// F8: a usage of a macro in the text that came from it.
+    /// F8: a usage of a macro that is written in its own body, or in a body that was reached from there.
     #[error("recursive macro")]
     RecursiveMacro,
-    /// F9: a directive in a macro's body or in an actual.
+    /// F9: a directive in a body, an actual or a default text.
     #[error("directive in macro text")]
     DirectiveInText,
     /// F10: a usage of a macro with a list, without arguments.
@@ -48,7 +48,7 @@ pub enum FaultKind {
     /// F13: more or fewer actuals than formals.
     #[error("wrong number of arguments")]
     ArgumentCount,
-    /// F14: more bodies and actuals open than the limit on depth allows.
+    /// F14: more bodies, actuals and default texts open than the limit on depth allows.
     #[error("depth passed")]
     DepthPassed,
     /// F15: a directive without the name that it needs.
@@ -102,10 +102,10 @@ pub enum FaultKind {
     /// F31: a path of more than 1,024 bytes.
     #[error("path too long")]
     PathTooLong,
-    /// F32: a source that couldn't be read.
+    /// F32: a source that couldn't be opened or read.
     #[error("read failed")]
     ReadFailed,
-    /// F33: a writer that didn't take its bytes.
+    /// F33: a write or a flush that failed, or a write that took nothing.
     #[error("write failed")]
     WriteFailed,
     /// F34: no memory for a source.

@@ -5,7 +5,7 @@ ghost use Rattle.rdlpp_table.specs.Define.{lexical};
 use arrayvec::ArrayString;
 use rdlpp_scan::LexFault;
 
-/// There was no memory for a table.
+/// There was no memory for what was to be made, such as a table.
 #[derive(Clone, Copy, Debug, PartialEq, Eq)]
 pub struct NoMemory;
 

@@ -5,7 +5,7 @@ ghost use Rattle.rdlpp_table.specs.Limits.{is_within, limit_fault, AreInRange};
 /// How much of each thing a run may use (this project's profile).
 #[derive(Clone, Copy, Debug, PartialEq, Eq)]
 pub struct Limits {
-    /// The most macro bodies and actuals that are open at once: 1 to 1,024.
+    /// The most macro bodies, actuals and default texts that are open at once: 1 to 1,024.
     pub depth: usize,
     /// The most included sources that are open at once: 0 to 64.
     pub includes: usize,
