@@ -136,7 +136,7 @@ pub follows_output : {S R W : Type 0} (g : Ghosts S R) (h : SinkGhosts W) (limit
     (path : List ℕ) (before after : W) (count : ℕ) (fault : Option Told)
     → Follows g h limits what origins sources path before after count fault → g.tells sources
     → WritesOutput (h.taken before) (h.taken after) (output_given g limits origins sources path what) count fault
-unfolding fresh_engine
+unfolding fresh_engine looked_up_output
 follows_output g h limits (Taken macros) origins sources path before after count fault r tells =
     writes_output g h (engine_with limits origins sources macros) path before after count fault r tells
 follows_output g h limits (Declined f) origins sources path before after count fault (e, c, a) tells =

@@ -5,7 +5,7 @@ use Rattle.rdlpp_table.specs.declared.limits.Limits.{Limits}
 use Rattle.rdlpp_meaning.specs.Outcome.{Told, gives, and_then}
 use Rattle.rdlpp_meaning.proofs.Outcomes.{and_then-gives_nil}
 use Rattle.rdlpp_steps.specs.Engine.{EngineView}
-use Rattle.rdlpp_steps.specs.Opening.{Starts, fresh_engine, is_device_fault, is_memory_fault}
+use Rattle.rdlpp_steps.specs.Opening.{Starts, fresh_engine, looked_up_output, is_device_fault, is_memory_fault}
 use Rattle.rdlpp_steps.specs.Remaining.{left_of}
 use Rattle.rdlpp_expand.specs.Reading.{ReadingView, reading_left}
 use Rattle.rdlpp.specs.Definitions.{Pair, Given, Taken, Declined, given, given_in, with_macros}
@@ -42,7 +42,7 @@ pub opens_output : {S R : Type 0} (g : Ghosts S R) (limits : Limits) (what : Giv
     → OpensGiven g limits what origins sources path reading → g.tells sources
     → is_device_fault reading.engine.kept ≡ false → is_memory_fault reading.engine.kept ≡ false
     → reading_left g reading ≡ output_given g limits origins sources path what
-unfolding fresh_engine reading_left
+unfolding fresh_engine looked_up_output reading_left
 opens_output g limits (Taken macros) origins sources path reading o tells device memory =
     ap (λ (xs : List ℕ). and_then (gives xs) (left_of g reading.engine)) o.whole ∙ and_then-gives_nil (left_of g reading.engine)
     ∙ o.starts.remains_output (ap is_device_fault (sym o.starts.keeps) ∙ device) (ap is_memory_fault (sym o.starts.keeps) ∙ memory) tells

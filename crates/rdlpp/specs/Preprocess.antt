@@ -8,8 +8,9 @@ use Rattle.rdlpp_table.specs.Table.{Macro}
 use Rattle.rdlpp_table.specs.Limits.{limit_fault}
 use Rattle.rdlpp_table.specs.declared.limits.Limits.{Limits}
 use Rattle.rdlpp_meaning.specs.Outcome.{Told, told, Outcome, fails}
+use Rattle.rdlpp_meaning.specs.OutputLimit.{limited_output}
 use Rattle.rdlpp_steps.specs.Engine.{EngineView}
-use Rattle.rdlpp_steps.specs.Opening.{Starts, fresh_engine, looked_up_output, is_device_fault, is_memory_fault}
+use Rattle.rdlpp_steps.specs.Opening.{Starts, fresh_engine, searches_of, is_device_fault, is_memory_fault}
 use Rattle.rdlpp_expand.specs.Run.{Runs, Begins}
 use Rattle.rdlpp_steps.specs.Steps.{is_write_failed}
 use Rattle.rdlpp.specs.Definitions.{Given, Taken, Declined, given, with_macros}
@@ -51,7 +52,7 @@ Preprocesses g h options sources path before after (Err (Run f)) =
 
 -- the output of a main text, by what the definitions come to
 abbrev pub output_given : {S R : Type 0} → Ghosts S R → Limits → Bool → S → List ℕ → Given → Outcome
-output_given g limits origins sources path (Taken macros) = looked_up_output g (engine_with limits origins sources macros) path
+output_given g limits origins sources path (Taken macros) = limited_output limits (searches_of (g.catalog sources)) origins macros path
 output_given g limits origins sources path (Declined f) = fails f
 
 -- the output of a main text, where no opening fails (source: this project's profile)

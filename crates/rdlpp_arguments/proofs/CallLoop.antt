@@ -1,6 +1,6 @@
 -- The reading of a call as it goes on: what was read so far, and what each turn makes of it.
 use Rattle.std.proofs.Common.{◌≡◌, ◌≢◌, ℕ, ◌+◌, ◌-◌, ◌≤◌, ◌<◌, Bool, true, false, List, [], ◌∷◌, ◌++◌, length, take, refl, sym, ap, ◌∙◌, subst, arith, append-nil}
-use Rattle.std.proofs.lemmas.List.{length-append, length-take-le}
+use Rattle.std.proofs.lemmas.List.{length-append, length-take, length-take-le}
 use Rattle.rdlpp_scan.specs.declared.token.Mode.{Mode}
 use Rattle.rdlpp_scan.specs.declared.token.Mode.TheVariants.{Plain, InStr, InBlock}
 use Rattle.rdlpp_scan.specs.Front.{Breach, StringOpen, CommentOpen}
@@ -17,9 +17,9 @@ use Rattle.rdlpp_read.specs.Files.{FilesView, inner_buffer, torn_after, with_buf
 use Rattle.rdlpp_read.specs.Filling.{ended_tokens, only_broken}
 use Rattle.rdlpp_read.specs.declared.files.File.{File}
 use Rattle.rdlpp_read.proofs.Growing.{calls-on}
-use Rattle.rdlpp_read.proofs.Sliding.{moves-on, moves-past, text-on}
+use Rattle.rdlpp_read.proofs.Sliding.{moves-on, moves-past, moves-told, text-on}
 use Rattle.rdlpp_source.specs.declared.sources.Sources.{Ghosts}
-use Rattle.rdlpp_arguments.specs.CallReads.{IsEndOfText, IsEnded, IsExactCall, IsTaken, ReadsCall, TellsCall, is_failed_call, used_buffer, with_used}
+use Rattle.rdlpp_arguments.specs.CallReads.{IsEndOfText, IsEnded, IsExactCall, IsTaken, ReadsCall, ReadsUpTo, TellsCall, is_failed_call, used_buffer, with_used}
 use Rattle.rdlpp_arguments.specs.Reads.{Closes, GoesOn, reading}
 use Rattle.rdlpp_arguments.specs.Store.{StoreView}
 use Rattle.rdlpp_arguments.specs.Taking.{IsClose, IsTaking, IsUse, kept_of, level_in, stand_meant}
@@ -39,7 +39,7 @@ pub record IsReading {S R : Type 0} (g : Ghosts S R) (failed : Bool) (first now 
   pub room : store.most ≡ most
   pub level : level_in at ≤ length store.bytes
   pub lead : at ≡ Before → (inner_buffer new.nest).mode ≢ InStr
-  pub moves : MovesOver used (inner_buffer old.nest) (inner_buffer new.nest)
+  pub moves : MovesOver (g.tells first) g.unread used (inner_buffer old.nest) (inner_buffer new.nest)
   pub text : g.tells first → text_left g.unread (inner_buffer old.nest) ≡ used ++ text_left g.unread (inner_buffer new.nest)
   pub call : SourcesRead g failed first now
 
@@ -50,8 +50,13 @@ same_used [] = refl
 same_used (f ∷ outer) = refl
 
 -- a window that stays
-same_moves : {R : Type 0} (f : BufferView R) → MovesOver [] f f
-same_moves f = moves-past [] f f refl (omega arith)
+same_moves : {R : Type 0} (tells : Type 0) (unread : R → List ℕ) (f : BufferView R) → MovesOver tells unread [] f f
+same_moves tells unread f = moves-past tells unread [] f f refl (omega arith) refl
+
+-- nothing was kept yet
+reads_nothing : {R : Type 0} (tells : Type 0) (unread : R → List ℕ) (at : Stand) (room : ℕ) (f new : BufferView R) → unused_of f ≤ unused_of new + 1 → ReadsUpTo tells unread at room [] f new
+reads_nothing tells unread at room f new most =
+    record { to = at; used = []; there = f; goes_on = fill_goes_on tells unread at room f f refl refl (λ t. refl); whole = omega (arith, most) }
 
 -- sources that weren't asked
 not_asked : {S R : Type 0} (g : Ghosts S R) (s : S) → SourcesRead g false s s
@@ -71,7 +76,7 @@ reading_starts g s files most store none room plain =
       room = room;
       level = omega arith;
       lead = λ _ open_. (let no : Plain ≡ InStr = sym plain ∙ open_ in cc);
-      moves = same_moves (inner_buffer files.nest);
+      moves = same_moves (g.tells s) g.unread (inner_buffer files.nest);
       text = λ t. refl;
       call = not_asked g s;
     }
@@ -88,7 +93,7 @@ pub filled : {S R : Type 0} (g : Ghosts S R) (failed : Bool) (first now after : 
     → new ≡ record mid { nest = with_buffer (inner_buffer new.nest) mid.nest }
     → unused_of (inner_buffer new.nest) ≡ unused_of (inner_buffer mid.nest) → (inner_buffer new.nest).mode ≡ (inner_buffer mid.nest).mode
     → (g.tells now → tokens_left g.unread (inner_buffer new.nest) ≡ tokens_left g.unread (inner_buffer mid.nest))
-    → MovesOver [] (inner_buffer mid.nest) (inner_buffer new.nest)
+    → MovesOver (g.tells now) g.unread [] (inner_buffer mid.nest) (inner_buffer new.nest)
     → (g.tells now → text_left g.unread (inner_buffer new.nest) ≡ text_left g.unread (inner_buffer mid.nest))
     → SourcesRead g failed now after
     → IsReading g failed first after old new most store at
@@ -104,7 +109,7 @@ filled g failed first now after old mid new most store at r only unused mode tok
       room = r.room;
       level = r.level;
       lead = λ before open_. r.lead before (sym mode ∙ open_);
-      moves = moves-on r.used [] (inner_buffer old.nest) (inner_buffer mid.nest) (inner_buffer new.nest) r.moves moves;
+      moves = moves-on (g.tells first) (g.tells first) (g.tells now) g.unread r.used [] (inner_buffer old.nest) (inner_buffer mid.nest) (inner_buffer new.nest) (λ t. t) r.call.tells r.moves moves;
       text = λ t.
           text-on r.used [] (text_left g.unread (inner_buffer old.nest)) (text_left g.unread (inner_buffer mid.nest)) (text_left g.unread (inner_buffer new.nest))
           (r.text t) (sym (text (r.call.tells t)));
@@ -132,7 +137,7 @@ taken {R = R} g first now old mid new most store after at to r only room t =
       room = room ∙ r.room;
       level = omega arith;
       lead = t.lead;
-      moves = moves-on r.used t.used (inner_buffer old.nest) (inner_buffer mid.nest) (inner_buffer new.nest) r.moves t.moves;
+      moves = moves-on (g.tells first) (g.tells first) Unit g.unread r.used t.used (inner_buffer old.nest) (inner_buffer mid.nest) (inner_buffer new.nest) (λ t. t) (λ _. tt) r.moves (t.moves g.unread);
       text = λ told.
           text-on r.used t.used (text_left g.unread (inner_buffer old.nest)) (text_left g.unread (inner_buffer mid.nest)) (text_left g.unread (inner_buffer new.nest))
           (r.text told) (t.text g.unread);
@@ -143,17 +148,27 @@ taken {R = R} g first now old mid new most store after at to r only room t =
 pub answered : {S R : Type 0} (g : Ghosts S R) (first now : S) (old mid : FilesView R) (new : List (File R)) (most : ℕ) (store : StoreView) (at : Stand) (used : List ℕ) (result : CallRead)
     → IsReading g false first now old mid most store at
     → new ≡ with_used (inner_buffer new) used mid.nest → unused_of (inner_buffer new) + length used ≡ unused_of (inner_buffer mid.nest)
-    → MovesOver used (inner_buffer mid.nest) (inner_buffer new)
+    → MovesOver (IsExactCall result × g.tells first) g.unread used (inner_buffer mid.nest) (inner_buffer new)
     → (IsExactCall result → g.tells first → text_left g.unread (inner_buffer mid.nest) ≡ used ++ text_left g.unread (inner_buffer new))
     → TellsCall (g.tells first) g.unread at (most - length store.bytes) [] used (inner_buffer mid.nest) (inner_buffer new) result
+    → ReadsUpTo (g.tells first) g.unread at (most - length store.bytes) [] (inner_buffer mid.nest) (inner_buffer new)
     → ReadsCall (g.tells first) g.unread Before most store.bytes result old.nest new
-answered g first now old mid new most store at used result r inner unused moves text tells =
+answered g first now old mid new most store at used result r inner unused moves text tells so =
     let on = r.goes_on.unused in
     record {
       used = r.used ++ used;
       inner = used_on old.nest mid.nest new r.used used r.inner inner;
       unused = omega (arith, length-append r.used used);
-      moves = moves-on r.used used (inner_buffer old.nest) (inner_buffer mid.nest) (inner_buffer new) r.moves moves;
+      moves = moves-on (IsExactCall result × g.tells first) (g.tells first) (IsExactCall result × g.tells first) g.unread r.used used (inner_buffer old.nest) (inner_buffer mid.nest) (inner_buffer new)
+          (λ t. t.1) (λ t. t) r.moves moves;
+      so_far = record {
+        to = so.to;
+        used = r.used ++ so.used;
+        there = so.there;
+        goes_on = subst (λ (k : List ℕ). GoesOn (g.tells first) g.unread Before so.to most k (r.used ++ so.used) (inner_buffer old.nest) so.there) (append-nil store.bytes)
+            (goes_on_twice (g.tells first) g.unread Before at so.to most store.bytes [] r.used so.used (inner_buffer old.nest) (inner_buffer mid.nest) so.there r.goes_on so.goes_on);
+        whole = (let more = so.whole in omega (arith, length-append r.used so.used, on, more));
+      };
       text = λ exact t.
           text-on r.used used (text_left g.unread (inner_buffer old.nest)) (text_left g.unread (inner_buffer mid.nest)) (text_left g.unread (inner_buffer new))
           (r.text t) (text exact t);
@@ -169,28 +184,47 @@ pub answered_token : {S R : Type 0} (g : Ghosts S R) (first now : S) (old mid : 
 answered_token g first now old mid new most store after at result r e =
     let c = e.reads g.unread in
     subst (λ (k : List ℕ). ReadsCall (g.tells first) g.unread Before most k result old.nest new) (sym e.bytes)
-    (answered g first now old mid new most store at c.used result r c.inner c.unused c.moves (λ exact t. c.text exact tt)
+    (answered g first now old mid new most store at c.used result r c.inner c.unused (moves-told (IsExactCall result × g.tells first) (IsExactCall result × Unit) g.unread c.used (inner_buffer mid.nest) (inner_buffer new) (λ t. (t.0, tt)) c.moves)
+    (λ exact t. c.text exact tt)
     (tells_told (g.tells first) g.unread at (most - length store.bytes) [] c.used (inner_buffer mid.nest) (inner_buffer new) result
-    (subst (λ n. TellsCall Unit g.unread at (n - length store.bytes) [] c.used (inner_buffer mid.nest) (inner_buffer new) result) r.room c.answer)))
+    (subst (λ n. TellsCall Unit g.unread at (n - length store.bytes) [] c.used (inner_buffer mid.nest) (inner_buffer new) result) r.room c.answer))
+    (let so = subst (λ n. ReadsUpTo Unit g.unread at (n - length store.bytes) [] (inner_buffer mid.nest) (inner_buffer new)) r.room c.so_far in record {
+      to = so.to;
+      used = so.used;
+      there = so.there;
+      goes_on = goes_on_told (g.tells first) g.unread at so.to (most - length store.bytes) [] so.used (inner_buffer mid.nest) so.there so.goes_on;
+      whole = so.whole;
+    }))
 
 -- an answer where nothing more is held
 pub answered_unfilled : {S R : Type 0} (g : Ghosts S R) (first now : S) (old mid new : FilesView R) (most : ℕ) (store : StoreView) (at : Stand) (result : CallRead)
     → IsReading g false first now old mid most store at
     → new ≡ record mid { nest = with_buffer (inner_buffer new.nest) mid.nest } → unused_of (inner_buffer new.nest) ≡ unused_of (inner_buffer mid.nest)
-    → MovesOver [] (inner_buffer mid.nest) (inner_buffer new.nest)
+    → MovesOver (IsExactCall result × g.tells now) g.unread [] (inner_buffer mid.nest) (inner_buffer new.nest)
     → (IsExactCall result → g.tells now → text_left g.unread (inner_buffer new.nest) ≡ text_left g.unread (inner_buffer mid.nest))
     → TellsCall (g.tells first) g.unread at (most - length store.bytes) [] [] (inner_buffer mid.nest) (inner_buffer new.nest) result
     → ReadsCall (g.tells first) g.unread Before most store.bytes result old.nest new.nest
 answered_unfilled g first now old mid new most store at result r only unused moves text tells =
     answered g first now old mid new.nest most store at [] result r
-    (ap (λ f. f.nest) only ∙ used_none (inner_buffer new.nest) mid.nest) (omega (arith, unused)) moves (λ exact t. sym (text exact (r.call.tells t))) tells
+    (ap (λ f. f.nest) only ∙ used_none (inner_buffer new.nest) mid.nest) (omega (arith, unused))
+    (moves-told (IsExactCall result × g.tells first) (IsExactCall result × g.tells now) g.unread [] (inner_buffer mid.nest) (inner_buffer new.nest) (λ t. (t.0, r.call.tells t.1)) moves)
+    (λ exact t. sym (text exact (r.call.tells t))) tells
+    (reads_nothing (g.tells first) g.unread at (most - length store.bytes) (inner_buffer mid.nest) (inner_buffer new.nest) (omega (arith, unused)))
 
 -- a read failed behind what was read
 pub answered_failed : {S R : Type 0} (g : Ghosts S R) (first now : S) (old new : FilesView R) (most : ℕ) (store : StoreView) (at : Stand)
     → IsReading g true first now old new most store at
     → ReadsCall (g.tells first) g.unread Before most store.bytes Failed old.nest new.nest
 answered_failed g first now old new most store at r =
-    record { used = r.used; inner = r.inner; unused = r.goes_on.unused; moves = r.moves; text = λ exact t. r.text t; answer = record { to = at; goes_on = r.goes_on } }
+    record {
+      used = r.used;
+      inner = r.inner;
+      unused = r.goes_on.unused;
+      moves = moves-told (IsExactCall Failed × g.tells first) (g.tells first) g.unread r.used (inner_buffer old.nest) (inner_buffer new.nest) (λ t. t.1) r.moves;
+      so_far = record { to = at; used = r.used; there = inner_buffer new.nest; goes_on = r.goes_on; whole = (let on = r.goes_on.unused in omega (arith, on)) };
+      text = λ exact t. r.text t;
+      answer = record { to = at; goes_on = r.goes_on };
+    }
 
 -- what an answer at the end of a text tells
 pub end_tells : {R : Type 0} (tells : Type 0) (unread : R → List ℕ) (at : Stand) (room : ℕ) (old new : BufferView R) (result : CallRead)
@@ -264,7 +298,7 @@ token_used {R = R} at m room most held kept bytes after old new u some ends mode
       inner = uses ∙ ap (λ (b : BufferView R). with_used b used old) (sym inner);
       level = own.level;
       lead = λ before open_. own.lead before (sym (ap (λ (b : BufferView R). b.mode) inner) ∙ open_);
-      moves = subst (λ (b : BufferView R). MovesOver used f b) (sym inner) (used_moves f u.len u.next_mode own.inside);
+      moves = λ unread. subst (λ (b : BufferView R). MovesOver Unit unread used f b) (sym inner) (used_moves Unit unread f u.len u.next_mode own.inside);
       text = λ unread. used_text unread f u.len u.next_mode ∙ ap (λ (b : BufferView R). used ++ text_left unread b) (sym inner);
       goes_on = λ unread.
           subst (λ (b : BufferView R). GoesOn Unit unread at (stand_meant u.stand) (most - length bytes) (kept_of u.is_kept used) used f b) (sym inner)
@@ -293,7 +327,8 @@ token_closed {R = R} at m room most held bytes old new some ends there mode text
             used = used;
             inner = uses ∙ ap (λ (b : BufferView R). with_used b used old) (sym inner);
             unused = ap (λ (b : BufferView R). unused_of b + length used) inner ∙ closes.unused;
-            moves = subst (λ (b : BufferView R). MovesOver used f b) (sym inner) (used_moves f 1 Plain there);
+            moves = subst (λ (b : BufferView R). MovesOver (IsExactCall Closed × Unit) unread used f b) (sym inner) (used_moves (IsExactCall Closed × Unit) unread f 1 Plain there);
+            so_far = reads_nothing Unit unread at (most - length bytes) f (inner_buffer new) (let left = ap (λ (b : BufferView R). unused_of b) inner in let on = closes.unused in let size = length-take 1 (held_of f) in omega (arith, left, on, size));
             text = λ exact t. used_text unread f 1 Plain ∙ ap (λ (b : BufferView R). used ++ text_left unread b) (sym inner);
             answer = subst (λ (b : BufferView R). Closes Unit unread at (most - length bytes) [] used f b) (sym inner) closes;
           };
@@ -302,7 +337,7 @@ token_closed {R = R} at m room most held bytes old new some ends there mode text
 -- nothing was used
 nothing_used : {R : Type 0} (unread : R → List ℕ) (at : Stand) (room : ℕ) (nest : List (File R)) (result : CallRead)
     → TellsCall Unit unread at room [] [] (inner_buffer nest) (inner_buffer nest) result → ReadsCall Unit unread at room [] result nest nest
-nothing_used unread at room nest result tells = record { used = []; inner = same_used nest; unused = omega arith; moves = same_moves (inner_buffer nest); text = λ exact t. refl; answer = tells }
+nothing_used unread at room nest result tells = record { used = []; inner = same_used nest; unused = omega arith; moves = same_moves (IsExactCall result × Unit) unread (inner_buffer nest); so_far = reads_nothing Unit unread at room (inner_buffer nest) (inner_buffer nest) (omega arith); text = λ exact t. refl; answer = tells }
 
 -- a call that is refused at a token
 pub token_refused : {R : Type 0} (at : Stand) (m : Mode) (room most : ℕ) (held bytes : List ℕ) (nest : List (File R)) (kind : FaultKind)

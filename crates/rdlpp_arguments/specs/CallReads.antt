@@ -61,13 +61,22 @@ is_failed_call Failed = true
 abbrev pub IsExactCall : CallRead → Type 0
 IsExactCall result = (line : ℕ) → result ≡ Broken LineTooLong line → ⊥
 
+-- what was kept of a call so far: that of all its bytes that were used, but for a `)` behind them
+pub record ReadsUpTo {R : Type 0} (tells : Type 0) (unread : R → List ℕ) (at : Stand) (room : ℕ) (kept : List ℕ) (old new : BufferView R) : Type 0 where
+  pub to : Stand
+  pub used : List ℕ
+  pub there : BufferView R
+  pub goes_on : GoesOn tells unread at to room kept used old there
+  pub whole : unused_of old ≤ unused_of new + length used + 1
+
 -- a call was read: bytes of the innermost source were used, and nothing else of the sources changed; its window moved on over its
 -- text, which is what was used and what remains
 pub record ReadsCall {R : Type 0} (tells : Type 0) (unread : R → List ℕ) (at : Stand) (room : ℕ) (kept : List ℕ) (result : CallRead) (old new : List (File R)) : Type 0 where
   pub used : List ℕ
   pub inner : new ≡ with_used (inner_buffer new) used old
   pub unused : unused_of (inner_buffer new) + length used ≡ unused_of (inner_buffer old)
-  pub moves : MovesOver used (inner_buffer old) (inner_buffer new)
+  pub moves : MovesOver (IsExactCall result × tells) unread used (inner_buffer old) (inner_buffer new)
+  pub so_far : ReadsUpTo tells unread at room kept (inner_buffer old) (inner_buffer new)
   pub text : IsExactCall result → tells → text_left unread (inner_buffer old) ≡ used ++ text_left unread (inner_buffer new)
   pub answer : TellsCall tells unread at room kept used (inner_buffer old) (inner_buffer new) result
 
@@ -80,7 +89,7 @@ pub record IsTaken {R : Type 0} (at to : Stand) (room : ℕ) (old_bytes new_byte
   pub inner : new ≡ with_used (inner_buffer new) used old
   pub level : level_in to ≤ level_in at + length kept
   pub lead : to ≡ Before → (inner_buffer new).mode ≢ InStr
-  pub moves : MovesOver used (inner_buffer old) (inner_buffer new)
+  pub moves : (unread : R → List ℕ) → MovesOver Unit unread used (inner_buffer old) (inner_buffer new)
   pub text : (unread : R → List ℕ) → text_left unread (inner_buffer old) ≡ used ++ text_left unread (inner_buffer new)
   pub goes_on : (unread : R → List ℕ) → GoesOn Unit unread at to room kept used (inner_buffer old) (inner_buffer new)
 

@@ -13,6 +13,7 @@ use Rattle.rdlpp_meaning.specs.State.{Rules}
 use Rattle.rdlpp_meaning.specs.Actuals.{Role, Cut, Call, Lacking, Bound, call_of, is_space, behind_space, trimmed, token_role, level_behind}
 use Rattle.rdlpp_meaning.specs.CallScan.{Split, Closed, split_by, split, all_parts, call_of_scan, is_kept}
 use Rattle.rdlpp_meaning.specs.Cursors.{not_kept, Refuses, Opens, is_token_count, token_usage_of_call, token_usage_of_formals}
+use Rattle.rdlpp_meaning.specs.Expansion.{bound_parts}
 use Rattle.rdlpp_meaning.specs.Opens.{part_tokens}
 use Rattle.rdlpp_meaning.specs.Substitution.{body_tokens}
 use Rattle.rdlpp_calls.specs.declared.bindings.Range.{Range}
@@ -77,9 +78,15 @@ pub ranges_keep : (text : List ℕ) (ranges : List Range) → AllByRecursion Kee
 ranges_keep text [] all = tt
 ranges_keep text (r ∷ rs) all = (all.0, ranges_keep text rs all.1)
 
+-- what holds of each part holds of each actual
+pub all_bound : (P : List SourceToken → Type 0) (fs : List Formal) (parts : List (List SourceToken)) → AllByRecursion P parts → AllByRecursion P (bound_parts fs parts)
+unfolding bound_parts
+all_bound P [] parts h = tt
+all_bound P (f ∷ fs) parts h = h
+
 -- where as many actuals as formals are bound, none lacks
-pub count_many : (fs : List Formal) (actuals : List (List SourceToken)) → true ≡ is_token_count fs actuals → length fs ≤ length actuals
-unfolding is_token_count
+pub count_many : (fs : List Formal) (parts : List (List SourceToken)) → true ≡ is_token_count fs parts → length fs ≤ length (bound_parts fs parts)
+unfolding is_token_count bound_parts
 count_many [] actuals e = omega arith
 count_many (f ∷ fs) actuals e = let n = eqb-true (length actuals) (length (f ∷ fs)) (sym e) in omega (arith, n)
 
@@ -107,9 +114,9 @@ call_parts whole inner from to c all is room =
 -- a usage by the parts of its call and by whether they are so many as the formals
 usage_by : (m : Macro) (fs : List Formal) (line : ℕ) (name : List ℕ) (inner : List ℕ) (used : ℕ) (right : Bool) → right ≡ is_token_count fs (actuals_of inner)
     → token_usage_of_call m fs line name (Bound (split token_role 0 (body_tokens inner)).first (split token_role 0 (body_tokens inner)).further used)
-    ≡ cond right (Opens m (actuals_of inner) used) (Refuses ArgumentCount name line)
+    ≡ cond right (Opens m (bound_parts fs (actuals_of inner)) used) (Refuses ArgumentCount name line)
 unfolding token_usage_of_call actuals_of all_parts
-usage_by m fs line name inner used right e = ap (λ (b : Bool). cond b (Opens m (actuals_of inner) used) (Refuses ArgumentCount name line)) (sym e)
+usage_by m fs line name inner used right e = ap (λ (b : Bool). cond b (Opens m (bound_parts fs (actuals_of inner)) used) (Refuses ArgumentCount name line)) (sym e)
 
 -- a usage by what its call comes to
 usage_of_call : (rules : Rules) (line : ℕ) (name : List ℕ) (m : Macro) (fs : List Formal) (text : List ℕ) (at end : ℕ) (call : Call SourceToken)
@@ -139,7 +146,7 @@ counted_call text at end formals from to ranges inside c count all = λ rules li
 
 -- a call with as many parts is bound to their ranges
 pub bound_call : (text : List ℕ) (at end formals from to behind : ℕ) (ranges : List Range) → end ≤ length text → IsCallAt (slice_range text at end) from to
-    → actuals_of (slice_range text (at + from) (at + to)) ≡ ranges_tokens text ranges
+    → ((fs : List Formal) → length fs ≡ formals → bound_parts fs (actuals_of (slice_range text (at + from) (at + to))) ≡ ranges_tokens text ranges)
     → ((fs : List Formal) → length fs ≡ formals → true ≡ is_token_count fs (actuals_of (slice_range text (at + from) (at + to))))
     → behind ≡ at + to + 1
     → KeepsAll (body_tokens (slice_range text at end)) → IsBoundCall text at end formals ranges (Ok behind)
@@ -158,7 +165,7 @@ bound_call text at end formals from to behind ranges inside c tokens count place
     let fs = replicate formals (record { name = []; text = [] }) in
     let long = length-replicate formals (record { name = []; text = [] }) in
     let many = count_many fs (actuals_of inner) (count fs long) in
-    let same : length (actuals_of inner) ≡ length ranges = ap length tokens ∙ length-map (map range_part ranges) (part_tokens text) ∙ length-map ranges range_part in
+    let same : length (bound_parts fs (actuals_of inner)) ≡ length ranges = ap length (tokens fs long) ∙ length-map (map range_part ranges) (part_tokens text) ∙ length-map ranges range_part in
     let kept : KeepsAll (body_tokens inner) = subst (λ (x : List ℕ). KeepsAll (body_tokens x)) is (inner_keeps whole from to c all) in
     record {
       used = c.used;
@@ -166,9 +173,9 @@ bound_call text at end formals from to behind ranges inside c tokens count place
           usage_of_call rules line name m fs text at end (Bound (split token_role 0 (body_tokens inner)).first (split token_role 0 (body_tokens inner)).further c.used)
           (call_parts whole inner from to c all is)
           ∙ usage_by m fs line name inner c.used true (count fs n)
-          ∙ ap (λ (xs : List (List SourceToken)). Opens m xs c.used) tokens;
+          ∙ ap (λ (xs : List (List SourceToken)). Opens m xs c.used) (tokens fs n);
       behind_is = later;
-      keeps = ranges_keep text ranges (subst (λ (xs : List (List SourceToken)). AllByRecursion KeepsAll xs) tokens (actuals_keep inner kept));
+      keeps = ranges_keep text ranges (subst (λ (xs : List (List SourceToken)). AllByRecursion KeepsAll xs) (tokens fs long) (all_bound KeepsAll fs (actuals_of inner) (actuals_keep inner kept)));
       keeps_behind = subst (λ (ts : List SourceToken). All P ts) later (All-drop P c.used (body_tokens whole) all);
       many = omega (arith, long, many, same);
     }

@@ -14,7 +14,7 @@ use Rattle.rdlpp_meaning.specs.State.{Rules, State}
 use Rattle.rdlpp_meaning.specs.Actuals.{Call, Lacking, Broke, Bound, map_call, call_of, trimmed, token_role}
 use Rattle.rdlpp_meaning.specs.CallScan.{split, all_parts, call_of_scan}
 use Rattle.rdlpp_meaning.specs.Cursors.{kept, Refuses, Opens, is_token_count, token_usage_of_call, token_usage_of_formals, Cursor, left, first_cursor}
-use Rattle.rdlpp_meaning.specs.Expansion.{usage_token, bytes_of}
+use Rattle.rdlpp_meaning.specs.Expansion.{bound_parts, usage_token, bytes_of}
 use Rattle.rdlpp_meaning.specs.Meaning.{Passage, leaves, goes_on, Progress}
 use Rattle.rdlpp_meaning.specs.Opens.{Texts, own_text, scope_text, text_around, slot_kind, slot_of, slots_of, open_body}
 use Rattle.rdlpp_meaning.specs.Parts.{only_blanks}
@@ -22,6 +22,7 @@ use Rattle.rdlpp_meaning.specs.Resumed.{Live, resumed, leading}
 use Rattle.rdlpp_meaning.specs.Slots.{Body, body_slot, first_slot, cursors_of}
 use Rattle.rdlpp_meaning.specs.Substitution.{body_tokens}
 use Rattle.rdlpp_meaning.specs.TextTokens.{unlined}
+use Rattle.rdlpp_meaning.proofs.CursorSteps.{bound-map}
 use Rattle.rdlpp_meaning.proofs.OpenScopes.{part-whole}
 use Rattle.rdlpp_meaning.proofs.ReadCalls.{IsReadCall}
 use Rattle.rdlpp_meaning.proofs.SlotSteps.{first_slot_is}
@@ -103,14 +104,14 @@ has_actuals room ts bytes behind c =
 usage_counted : (m : Macro) (fs : List Formal) (line : ℕ) (name : List ℕ) (first : List SourceToken) (further : List (List SourceToken)) (used : ℕ) (right : Bool)
     → right ≡ is_token_count fs (map (trimmed token_role) (first ∷ further))
     → token_usage_of_call m fs line name (Bound first further used)
-    ≡ cond right (Opens m (map (trimmed token_role) (first ∷ further)) used) (Refuses ArgumentCount name line)
+    ≡ cond right (Opens m (bound_parts fs (map (trimmed token_role) (first ∷ further))) used) (Refuses ArgumentCount name line)
 unfolding token_usage_of_call
 usage_counted m fs line name first further used right e =
-    ap (λ (b : Bool). cond b (Opens m (map (trimmed token_role) (first ∷ further)) used) (Refuses ArgumentCount name line)) (sym e)
+    ap (λ (b : Bool). cond b (Opens m (bound_parts fs (map (trimmed token_role) (first ∷ further))) used) (Refuses ArgumentCount name line)) (sym e)
 
 -- a call that was read and bound opens its macro so
 pub source_bound : (rules : Rules) (line : ℕ) (name : List ℕ) (ts : List SourceToken) (m : Macro) (fs : List Formal) (bytes : List ℕ) (ranges : List Range) (behind : List SourceToken)
-    → IsReadCall rules.argument_bytes ts bytes behind → true ≡ is_token_count fs (actuals_of bytes) → actuals_of bytes ≡ ranges_tokens bytes ranges
+    → IsReadCall rules.argument_bytes ts bytes behind → true ≡ is_token_count fs (actuals_of bytes) → bound_parts fs (actuals_of bytes) ≡ ranges_tokens bytes ranges
     → OpensBound rules line name ts m fs bytes ranges behind
 unfolding token_usage_of_formals
 source_bound rules line name ts m fs bytes ranges behind c count tokens =
@@ -118,10 +119,10 @@ source_bound rules line name ts m fs bytes ranges behind c count tokens =
     let actuals = map (trimmed token_role) (h.first ∷ h.further) in
     let right : true ≡ is_token_count fs actuals = count ∙ ap (is_token_count fs) (sym h.same) ∙ count_unlined fs actuals in
     record {
-      actuals = actuals;
+      actuals = bound_parts fs actuals;
       used = c.used;
       opens = ap (token_usage_of_call m fs line name) h.call ∙ usage_counted m fs line name h.first h.further c.used true right;
-      same = h.same ∙ tokens;
+      same = sym (bound-map (map unlined) fs actuals) ∙ ap (λ (xs : List (List SourceToken)). bound_parts fs xs) h.same ∙ tokens;
       rest = c.rest;
     }
 

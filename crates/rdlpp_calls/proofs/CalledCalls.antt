@@ -6,6 +6,7 @@ use Rattle.rdlpp_scan.specs.SourceTokens.{SourceToken}
 use Rattle.rdlpp_meaning.specs.declared.fault.FaultKind.TheVariants.{ArgumentsMissing, ArgumentsOpen, ArgumentCount}
 use Rattle.rdlpp_meaning.specs.Actuals.{level_behind, token_role}
 use Rattle.rdlpp_meaning.specs.Cursors.{is_token_count}
+use Rattle.rdlpp_meaning.specs.Expansion.{bound_parts}
 use Rattle.rdlpp_meaning.specs.Opens.{part_tokens}
 use Rattle.rdlpp_meaning.specs.Substitution.{body_tokens}
 use Rattle.rdlpp_meaning.proofs.OpenMoves.{range_behind}
@@ -161,7 +162,7 @@ bound text at end formals len to ranges found o e b all =
     let inner : slice_range (take end text) from to ≡ slice_range text from (at + (len + more)) =
     front_range text end from to low fits ∙ ap (λ (k : ℕ). slice_range text from k) place in
     bound_call text at end formals len (len + more) (to + 1) ranges o.high c
-    (ap (λ (x : List ℕ). actuals_of x) (sym inner) ∙ q.actuals ∙ front_tokens text end from to ranges fits q.within)
+    (λ fs is. ap (λ (x : List ℕ). bound_parts fs (actuals_of x)) (sym inner) ∙ q.actuals fs is ∙ front_tokens text end from to ranges fits q.within)
     (λ fs is. q.count fs is ∙ ap (λ (x : List ℕ). is_token_count fs (actuals_of x)) inner)
     (omega (arith, place)) all
 

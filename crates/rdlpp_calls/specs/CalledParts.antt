@@ -5,6 +5,7 @@ use Rattle.rdlpp_scan.specs.SourceTokens.{SourceToken}
 use Rattle.rdlpp_table.specs.Table.{Formal}
 use Rattle.rdlpp_meaning.specs.Actuals.{level_behind, is_space, token_role}
 use Rattle.rdlpp_meaning.specs.Cursors.{is_token_count}
+use Rattle.rdlpp_meaning.specs.Expansion.{bound_parts}
 use Rattle.rdlpp_meaning.specs.Substitution.{body_tokens}
 use Rattle.rdlpp_calls.specs.BoundCalls.{AreWithin, actuals_of, added, ranges_tokens}
 use Rattle.rdlpp_calls.specs.CallParts.{closer_from, ends_call, ends_part}
@@ -53,7 +54,7 @@ pub record IsBoundTo (text : List ℕ) (from formals : ℕ) (ranges : List Range
   pub ordered : from ≤ to
   pub inside : to < length text
   pub within : AreWithin from to ranges
-  pub actuals : actuals_of (slice_range text from to) ≡ ranges_tokens text ranges
+  pub actuals : (fs : List Formal) → length fs ≡ formals → bound_parts fs (actuals_of (slice_range text from to)) ≡ ranges_tokens text ranges
   pub count : (fs : List Formal) → length fs ≡ formals → true ≡ is_token_count fs (actuals_of (slice_range text from to))
 
 -- ranges are bound so, or the call isn't closed or has more or fewer parts

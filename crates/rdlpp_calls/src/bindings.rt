@@ -1,6 +1,7 @@
 // The actuals of a call as ranges of the text in which the call stands.
 ghost use Rattle.std.specs.Prelude.{◌≡◌, ℕ, ◌+◌, ◌^◌, ◌≤◌, ◌<◌, ◌==◌, ◌++◌, ◌||◌, not, nat_lt, max, List, true, length, map, drop, slice_range, IfOk, IfErr, IfSome, None, is_ok, vec_len, vec_capacity};
 ghost use Rattle.rdlpp_meaning.specs.Cursors.{is_token_count};
+ghost use Rattle.rdlpp_meaning.specs.Expansion.{bound_parts};
 ghost use Rattle.rdlpp_meaning.specs.Substitution.{body_tokens};
 ghost use Rattle.rdlpp_meaning.specs.declared.fault.FaultKind.TheVariants.{ArgumentCount};
 ghost use Rattle.rdlpp_table.specs.Table.{Formal};
@@ -41,7 +42,7 @@ pub fn bind_call(
     requires room { (vec_len bindings.old + formals ≤ vec_capacity bindings.old) × (vec_len bindings.old < vec_capacity bindings.old) }
     ensures whole { bindings.new.items ≡ bindings.old.items ++ added bindings.old.items bindings.new.items }
     ensures within { AreWithin at end (added bindings.old.items bindings.new.items) }
-    ensures len { vec_len bindings.new ≤ vec_len bindings.old + max formals 1 }
+    ensures len { vec_len bindings.new ≤ vec_len bindings.old + formals }
     ensures capacity { vec_capacity bindings.new ≡ vec_capacity bindings.old }
     ensures refused { IfErr result (λ _. bindings.new.items ≡ bindings.old.items) }
     ensures kind { IfErr result (λ kind. is_call_fault kind ≡ true) }
@@ -67,7 +68,7 @@ fn bind_behind(text: &[u8], from: usize, formals: usize, bindings: &mut Vec<Rang
     requires range { from ≤ length text.now }
     requires room { (vec_len bindings.old + formals ≤ vec_capacity bindings.old) × (vec_len bindings.old < vec_capacity bindings.old) }
     ensures whole { bindings.new.items ≡ bindings.old.items ++ added bindings.old.items bindings.new.items }
-    ensures len { vec_len bindings.new ≤ vec_len bindings.old + max formals 1 }
+    ensures len { vec_len bindings.new ≤ vec_len bindings.old + formals }
     ensures capacity { vec_capacity bindings.new ≡ vec_capacity bindings.old }
     ensures refused { result ≡ None → bindings.new.items ≡ bindings.old.items }
     ensures inside { IfSome result (λ to. (from ≤ to) × (to < length text.now)) }
@@ -83,6 +84,9 @@ fn bind_behind(text: &[u8], from: usize, formals: usize, bindings: &mut Vec<Rang
         bindings.truncate(kept);
         return None;
     }
+    if formals == 0 {
+        bindings.truncate(kept);
+    }
     Some(to)
 }
 
@@ -92,7 +96,7 @@ fn bind_behind(text: &[u8], from: usize, formals: usize, bindings: &mut Vec<Rang
 ///
 /// # Rules
 ///
-/// So many formals need as many parts. A list of no formals needs one part, without items, and its empty range is appended.
+/// So many formals need as many parts. A list of no formals needs one part, without items, and nothing is appended for it.
 ///
 /// # Errors
 ///
@@ -108,20 +112,23 @@ pub fn bind_parts(
     requires room { (vec_len bindings.old + formals ≤ vec_capacity bindings.old) × (vec_len bindings.old < vec_capacity bindings.old) }
     ensures whole { bindings.new.items ≡ bindings.old.items ++ added bindings.old.items bindings.new.items }
     ensures within { AreWithin from to (added bindings.old.items bindings.new.items) }
-    ensures len { vec_len bindings.new ≤ vec_len bindings.old + max formals 1 }
+    ensures len { vec_len bindings.new ≤ vec_len bindings.old + formals }
     ensures capacity { vec_capacity bindings.new ≡ vec_capacity bindings.old }
     ensures refused { IfErr result (λ kind. (kind ≡ ArgumentCount) × (bindings.new.items ≡ bindings.old.items)) }
-    ensures actuals { IfOk result (λ _. actuals_of (slice_range text.now from to) ≡ ranges_tokens text.now (added bindings.old.items bindings.new.items)) }
+    ensures actuals { IfOk result (λ _. (fs : List Formal) → length fs ≡ formals → bound_parts fs (actuals_of (slice_range text.now from to)) ≡ ranges_tokens text.now (added bindings.old.items bindings.new.items)) }
     ensures count { (fs : List Formal) → length fs ≡ formals → is_ok result ≡ is_token_count fs (actuals_of (slice_range text.now from to)) }
 {
     let before = bindings.len();
     let count = if formals > 0 { formals } else { 1 };
     let all = push_parts(text, from, to, count, bindings);
-    if all && admits(&text[from..to], formals) {
-        return Ok(());
+    if !all || !admits(&text[from..to], formals) {
+        bindings.truncate(before);
+        return Err(FaultKind::ArgumentCount);
     }
-    bindings.truncate(before);
-    Err(FaultKind::ArgumentCount)
+    if formals == 0 {
+        bindings.truncate(before);
+    }
+    Ok(())
 }
 
 // Appends the ranges of the parts between two places of a text, but of no more than so many, and answers whether these are all

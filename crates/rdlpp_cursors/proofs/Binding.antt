@@ -1,7 +1,7 @@
 -- The slots of open texts and the ranges that they have bound, as a call is bound and its body opens.
 use Rattle.std.proofs.Common.{◌≡◌, ℕ, ◌+◌, ◌-◌, ◌*◌, ◌<◌, ◌≤◌, List, [], ◌∷◌, ◌++◌, map, length, take, drop, get_or, refl, sym, ap, subst, ◌∙◌, arith}
 use Rattle.std.proofs.Common.{Global, Option, None, Some, unwrap_or, Ok, Err}
-use Rattle.std.specs.Prelude.{vec_capacity, vec_len, Vec, max, Result}
+use Rattle.std.specs.Prelude.{vec_capacity, vec_len, Vec, Result}
 use Rattle.std.specs.Option.{option_map}
 use Rattle.std.proofs.lemmas.List.{length-append, length-drop}
 use Rattle.std.proofs.lemmas.List.Elements.{recursion_from_All}
@@ -78,7 +78,7 @@ entered-laid slots first bindings more id end home n bounds some inside is few l
 
 -- and are so with their room
 pub stack-entered : (slots : List Slot) (first : ℕ) (bindings new : Vec Range Global) (more : List Range) (id end home n m : ℕ) (bounds : Bounds) → 0 < first → n ≡ vec_len bindings → m ≤ 255
-    → vec_len new ≤ vec_len bindings + max m 1 → new.items ≡ bindings.items ++ more → vec_capacity new ≡ vec_capacity bindings
+    → vec_len new ≤ vec_len bindings + m → new.items ≡ bindings.items ++ more → vec_capacity new ≡ vec_capacity bindings
     → IsBoundedOn (body-slot id end home n bounds) (drop first slots) → IsStack slots first bindings → IsStack (set slots (first - 1) (body-slot id end home n bounds)) (first - 1) new
 stack-entered slots first bindings new more id end home n m bounds some is few size whole same own h =
     let one = length-set slots (first - 1) (body-slot id end home n bounds) in
@@ -115,7 +115,7 @@ called-opens slots first behind bindings more new own id end home n bounds some 
 
 -- they lie as slots do, with their room
 pub stack-called : (slots : List Slot) (first behind : ℕ) (bindings new : Vec Range Global) (more : List Range) (own : Slot) (id end home n m : ℕ) (bounds : Bounds) → (first ≡ 0 → ⊥) → first < length slots
-    → own ≡ get_or slots first own → n ≡ vec_len bindings → m ≤ 255 → vec_len new ≤ vec_len bindings + max m 1
+    → own ≡ get_or slots first own → n ≡ vec_len bindings → m ≤ 255 → vec_len new ≤ vec_len bindings + m
     → new.items ≡ bindings.items ++ more → vec_capacity new ≡ vec_capacity bindings
     → IsBoundedOn (body-slot id end home n bounds) (drop first slots) → IsStack slots first bindings → IsStack (called slots first behind own (body-slot id end home n bounds)) (first - 1) new
 stack-called slots first behind bindings new more own id end home n m bounds some inside e is few size whole same on h =

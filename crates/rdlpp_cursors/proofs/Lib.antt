@@ -5,7 +5,6 @@ pub mod Starting
 pub mod Keeping
 pub mod Looking
 pub mod Passing
-pub mod Places
 pub mod Moving
 pub mod Runs
 pub mod Scoping
@@ -15,15 +14,8 @@ pub mod Stopping
 pub mod Unquoted
 pub mod Usages
 pub mod Falling
-pub mod Flattening
 pub mod Standing
 pub mod ShortTexts
+pub mod Outermost
 pub mod Words
 pub mod Taking
-pub mod MovedOn
-pub mod Admitting
-pub mod Kept
-pub mod Waits
-pub mod Waiting
-pub mod WaitingWork
-pub mod Lending

@@ -58,6 +58,16 @@ laid-bound (y ∷ ys) bindings h = by y.kind (laid-bound ys (bindings_below y.ki
     by slot.Actual e = omega (arith, e)
     by (slot.Default id place) e = omega (arith, e)
 
+-- no more ranges are bound than the slots have room for
+pub bound-few : (v : Vec Slot Global) (first : ℕ) (bindings : List Range) → AreLaid (drop first v.items) bindings
+    → bound_by (opens_of (drop first v.items) bindings) ≤ vec_len v * 255
+bound-few v first bindings laid =
+    let n = count_items v in
+    let few = laid-few (drop first v.items) bindings laid in
+    let bound = laid-bound (drop first v.items) bindings laid in
+    let short = length-drop first v.items in
+    omega (arith, n, few, bound, short)
+
 -- the ranges that are kept where a slot is closed
 pub kept-below : (kind : SlotKind) (bindings : List Range) → take (kept_by kind (length bindings)) bindings ≡ bindings_below kind bindings
 kept-below (slot.Body id first) bindings = refl

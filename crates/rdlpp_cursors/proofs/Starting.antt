@@ -12,6 +12,7 @@ use Rattle.rdlpp_table.specs.View.{TableView, IsSound, macro_at, formals_of}
 use Rattle.rdlpp_meaning.specs.declared.fault.FaultKind.{FaultKind}
 use Rattle.rdlpp_meaning.specs.declared.fault.FaultKind.TheVariants.{ArgumentCount}
 use Rattle.rdlpp_meaning.specs.Cursors.{is_token_count}
+use Rattle.rdlpp_meaning.specs.Expansion.{bound_parts}
 use Rattle.rdlpp_meaning.specs.Opens.{Open, OpenBody, part_tokens, own_text, scope_text, text_around, open_body}
 use Rattle.rdlpp_meaning.specs.Substitution.{body_tokens}
 use Rattle.rdlpp_meaning.proofs.OpenScopes.{part-whole}
@@ -19,7 +20,7 @@ use Rattle.rdlpp_calls.specs.declared.bindings.Range.{Range}
 use Rattle.rdlpp_calls.specs.BoundCalls.{range_part, ranges_tokens, actuals_of, AreWithin, KeepsAll}
 use Rattle.rdlpp_calls.specs.KeptTexts.{keeps_each}
 use Rattle.rdlpp_calls.proofs.KeptTexts.{each_kept, kept_each}
-use Rattle.rdlpp_calls.proofs.BoundActuals.{actuals_keep, count_many, ranges_keep}
+use Rattle.rdlpp_calls.proofs.BoundActuals.{actuals_keep, all_bound, count_many, ranges_keep}
 use Rattle.rdlpp_calls.proofs.BoundUsages.{parts_inside}
 use Rattle.rdlpp_cursors.specs.declared.slot.Slot.{Slot}
 use Rattle.rdlpp_cursors.specs.Calls.{IsCallMiscounted, IsCallStarted}
@@ -39,21 +40,21 @@ whole-range text to e = ap (λ (n : ℕ). take n text) (same to ∙ e) ∙ take-
 
 -- the body that a call in a source opens is sound
 sound-started : (table : TableView) (arguments : List ℕ) (id : ℕ) (ranges : List Range) → IsSound table → id < length table.macros → KeepsAll (body_tokens arguments)
-    → actuals_of arguments ≡ ranges_tokens arguments ranges → true ≡ is_token_count (formals_of (macro_at table.macros id)) (actuals_of arguments)
+    → bound_parts (formals_of (macro_at table.macros id)) (actuals_of arguments) ≡ ranges_tokens arguments ranges → true ≡ is_token_count (formals_of (macro_at table.macros id)) (actuals_of arguments)
     → AreWithin 0 (length arguments) ranges
     → AreSound (texts_of table.macros arguments) (open_body (texts_of table.macros arguments) id (map range_part ranges) 0 ∷ [])
 unfolding open_body text_around own_text scope_text
 sound-started table arguments id ranges sound inside keeps tokens counted within =
     let own = macro_at table.macros id in
     let many = count_many (formals_of own) (actuals_of arguments) counted in
-    let same : length (actuals_of arguments) ≡ length ranges = ap length tokens ∙ length-map (map range_part ranges) (part_tokens arguments) ∙ length-map ranges range_part in
+    let same : length (bound_parts (formals_of own) (actuals_of arguments)) ≡ length ranges = ap length tokens ∙ length-map (map range_part ranges) (part_tokens arguments) ∙ length-map ranges range_part in
     let parts = length-map ranges range_part in
     record {
       are_open = (omega arith, ((omega (arith, many, same, parts), parts_inside (length arguments) 0 (length arguments) ranges (omega arith) within), tt));
       are_inside = (inside, (omega arith, (refl, tt)));
       are_kept = (
         subst (λ (ts : List SourceToken). KeepsAll ts) (sym (part-whole own.body)) (body-keeps table id sound inside),
-        (parts-keep arguments ranges (ranges_keep arguments ranges (subst (λ (xs : List (List SourceToken)). AllByRecursion KeepsAll xs) tokens (actuals_keep arguments keeps))), tt),
+        (parts-keep arguments ranges (ranges_keep arguments ranges (subst (λ (xs : List (List SourceToken)). AllByRecursion KeepsAll xs) tokens (all_bound KeepsAll (formals_of own) (actuals_of arguments) (actuals_keep arguments keeps)))), tt),
       );
     }
 
@@ -66,12 +67,13 @@ parts-counted arguments to n own right e k count = count own (sym k) ∙ ap (λ 
 -- a call whose parts are bound opens its body
 pub call-started : (table : TableView) (arguments : List ℕ) (id line to : ℕ) (ranges : List Range) (old new : CursorsView) → IsSound table → id < length table.macros
     → keeps_each (body_tokens arguments) ≡ true → to ≡ length arguments
-    → actuals_of (slice_range arguments 0 to) ≡ ranges_tokens arguments ranges → true ≡ is_token_count (formals_of (macro_at table.macros id)) (actuals_of arguments)
+    → bound_parts (formals_of (macro_at table.macros id)) (actuals_of (slice_range arguments 0 to)) ≡ ranges_tokens arguments ranges → true ≡ is_token_count (formals_of (macro_at table.macros id)) (actuals_of arguments)
     → AreWithin 0 to ranges
     → new ≡ record { opens = open_body (texts_of table.macros arguments) id (map range_part ranges) 0 ∷ []; line = line; depth = old.depth }
     → IsCallStarted (texts_of table.macros arguments) id line old new
 call-started table arguments id line to ranges old new sound inside keeps e tokens counted within is =
-    let same : actuals_of arguments ≡ ranges_tokens arguments ranges = ap (λ (text : List ℕ). actuals_of text) (sym (whole-range arguments to e)) ∙ tokens in
+    let own = formals_of (macro_at table.macros id) in
+    let same : bound_parts own (actuals_of arguments) ≡ ranges_tokens arguments ranges = ap (λ (text : List ℕ). bound_parts own (actuals_of text)) (sym (whole-range arguments to e)) ∙ tokens in
     record {
       ranges = ranges;
       actuals = same;

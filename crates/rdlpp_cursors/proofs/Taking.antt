@@ -14,7 +14,7 @@ use Rattle.rdlpp_cursors.specs.declared.place.TextPlace.{TextPlace}
 use Rattle.rdlpp_cursors.specs.declared.step.CursorStep.{CursorStep}
 use Rattle.rdlpp_cursors.specs.declared.step.CursorStep.TheVariants.{Lends, Silent, Refused}
 use Rattle.rdlpp_cursors.specs.Digits.{cursor_digits, IsFalling}
-use Rattle.rdlpp_cursors.specs.Fronts.{IsFront, IsLook, IsLookAhead}
+use Rattle.rdlpp_cursors.specs.Fronts.{IsFront, IsFrontPlace, IsLook, IsLookAhead, StandsAt}
 use Rattle.rdlpp_cursors.specs.Opened.{is_spent, moved_to, CursorsView}
 use Rattle.rdlpp_cursors.specs.Places.{source_formals}
 use Rattle.rdlpp_cursors.specs.Scopes.{front_source}
@@ -232,3 +232,15 @@ pub rest-fewer : (view new : CursorsView) → 0 < length view.opens → new ≡ 
 rest-fewer view new some is =
     let rest = length-drop 1 view.opens in
     subst (λ (v : CursorsView). length v.opens < length view.opens) (sym is) (omega (arith, rest, some))
+
+-- what a look tells that lies ahead begins where the innermost text stands
+pub stands-ahead : (texts : Texts) (opens : List Open) (look : Look) (end : ℕ) → IsLookAhead texts opens look → IsFrontPlace opens (record { source = look.source; from = look.from; end = end })
+unfolding IsLookAhead
+stands-ahead texts [] look end l = absurd l
+stands-ahead texts (x ∷ below) look end l = (l.0, l.1)
+
+-- a step that lends nothing stands anywhere
+pub stands-unlent : (opens : List Open) (step : CursorStep) → IsUnlent step → StandsAt opens step
+stands-unlent opens (Lends place) unlent = absurd unlent
+stands-unlent opens Silent unlent = tt
+stands-unlent opens (Refused fault) unlent = tt

@@ -6,6 +6,7 @@ use Rattle.rdlpp_table.specs.View.{macro_at, formals_of}
 use Rattle.rdlpp_meaning.specs.declared.fault.FaultKind.{FaultKind}
 use Rattle.rdlpp_meaning.specs.declared.fault.FaultKind.TheVariants.{ArgumentCount}
 use Rattle.rdlpp_meaning.specs.Cursors.{is_token_count}
+use Rattle.rdlpp_meaning.specs.Expansion.{bound_parts}
 use Rattle.rdlpp_meaning.specs.Opens.{Texts, open_body}
 use Rattle.rdlpp_meaning.specs.Substitution.{body_tokens}
 use Rattle.rdlpp_calls.specs.declared.bindings.Range.{Range}
@@ -45,7 +46,7 @@ IsOpening macros text at end id home old Deep new =
 -- the actuals of the call, as many as the formals (source: this project's profile)
 pub record IsCallStarted (texts : Texts) (id line : ℕ) (old new : CursorsView) : Type 0 where
   pub ranges : List Range
-  pub actuals : actuals_of texts.arguments ≡ ranges_tokens texts.arguments ranges
+  pub actuals : bound_parts (formals_of (macro_at texts.macros id)) (actuals_of texts.arguments) ≡ ranges_tokens texts.arguments ranges
   pub counted : is_token_count (formals_of (macro_at texts.macros id)) (actuals_of texts.arguments) ≡ true
   pub opens : new ≡ record { opens = open_body texts id (map range_part ranges) 0 ∷ []; line = line; depth = old.depth }
   pub sound : AreSound texts new.opens

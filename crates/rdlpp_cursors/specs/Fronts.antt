@@ -12,6 +12,9 @@ use Rattle.rdlpp_table.specs.Stops.{is_none, stop_at}
 use Rattle.rdlpp_meaning.specs.Opens.{Open, Texts, open_bytes}
 use Rattle.rdlpp_cursors.specs.Places.{source_formals}
 use Rattle.rdlpp_cursors.specs.Scopes.{front_source}
+use Rattle.rdlpp_cursors.specs.declared.place.TextPlace.{TextPlace}
+use Rattle.rdlpp_cursors.specs.declared.step.CursorStep.{CursorStep}
+use Rattle.rdlpp_cursors.specs.declared.step.CursorStep.TheVariants.{Lends, Silent, Refused}
 use Rattle.rdlpp_cursors.specs.declared.front.Front.{Front}
 use Rattle.rdlpp_cursors.specs.declared.front.Ahead.{Ahead}
 use Rattle.rdlpp_cursors.specs.declared.front.Look.{Look}
@@ -64,3 +67,14 @@ IsLookAhead texts (x ∷ below) look =
     (look.source ≡ front_source (x ∷ below)) × (look.from ≡ x.part.from) × (look.from ≤ look.at)
     × AreCopied (source_formals texts (front_source (x ∷ below))) (open_bytes texts x below) (look.at - look.from)
     × IsLook texts (moved_to look.at (x ∷ below)) look
+
+-- a place at which the innermost open text stands: it begins where that goes on
+abbrev pub IsFrontPlace : List Open → TextPlace → Type 0
+IsFrontPlace [] place = ⊥
+IsFrontPlace (x ∷ below) place = (place.source ≡ front_source (x ∷ below)) × (place.from ≡ x.part.from)
+
+-- bytes that a step lends are those at which the innermost open text stood
+abbrev pub StandsAt : List Open → CursorStep → Type 0
+StandsAt opens (Lends place) = IsFrontPlace opens place
+StandsAt opens Silent = Unit
+StandsAt opens (Refused fault) = Unit

@@ -8,4 +8,3 @@ pub mod Calls
 pub mod Digits
 pub mod Taking
 pub mod Guesses
-pub mod Flats

@@ -1,6 +1,6 @@
 -- Open texts as they lie in slots, with the ranges that calls have bound.
 -- A definition that names no source is this project's own.
-use Rattle.std.specs.Prelude.{◌≡◌, ℕ, ◌+◌, ◌*◌, ◌≤◌, ◌==◌, nat_le, nat_lt, ◌||◌, Bool, false, true, List, [], ◌∷◌, map, length, take, drop, vec_capacity, Vec}
+use Rattle.std.specs.Prelude.{◌≡◌, ℕ, ◌+◌, ◌*◌, ◌<◌, ◌≤◌, ◌==◌, nat_le, nat_lt, ◌||◌, Bool, false, true, List, [], ◌∷◌, map, length, take, drop, vec_capacity, Vec, Option, None, Some}
 use Rattle.std.specs.List.{AllByRecursion}
 use Rattle.rdlpp_scan.specs.declared.token.Mode.TheVariants.{Plain}
 use Rattle.rdlpp_meaning.specs.Opens.{OpenKind, OpenBody, OpenActual, OpenDefault, Open}
@@ -62,6 +62,22 @@ bound_in (OpenDefault id place) = 0
 unfoldable pub bound_by : List Open → ℕ
 bound_by [] = 0
 bound_by (x ∷ below) = bound_in x.kind + bound_by below
+
+-- the macro whose body an open text is, if it is one
+abbrev pub body_id : OpenKind → Option ℕ
+body_id (OpenBody id parts) = Some id
+body_id OpenActual = None
+body_id (OpenDefault id place) = None
+
+-- the macro of the usage in the source that opened the texts: that of the outermost one
+unfoldable pub usage_id : List Open → Option ℕ
+usage_id [] = None
+usage_id (x ∷ []) = body_id x.kind
+usage_id (x ∷ (y ∷ below)) = usage_id (y ∷ below)
+
+-- the outermost text stays, while one is open
+abbrev pub StaysOutermost : List Open → List Open → Type 0
+StaysOutermost old new = 0 < length new → usage_id new ≡ usage_id old
 
 -- a macro is neither below the least one nor above the greatest
 abbrev pub IsWithin : Bounds → ℕ → Type 0

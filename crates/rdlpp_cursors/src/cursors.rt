@@ -1,13 +1,12 @@
 // The stack of open texts.
-ghost use Rattle.std.specs.Prelude.{[], length, true, IfOk, IfSome, IsTrue, List, None, ℕ, ◌==◌, ◌<◌, ◌≡◌, ◌≤◌, ◌∷◌, ◌^◌, ◌+◌, ◌++◌, drop, nat_le};
+ghost use Rattle.std.specs.Prelude.{[], length, true, IfOk, IfSome, IsTrue, List, None, ℕ, ◌==◌, ◌<◌, ◌≡◌, ◌≤◌, ◌∷◌, ◌^◌, ◌+◌, ◌*◌, ◌++◌, drop, nat_le};
 ghost use Rattle.rdlpp_scan.specs.declared.token.Mode.TheVariants.{Plain};
 ghost use Rattle.std.specs.Option.{option_map};
 ghost use Rattle.rdlpp_table.specs.View.{macro_at};
 ghost use Rattle.rdlpp_meaning.specs.Opens.{open_body, OpenBody, Texts};
 ghost use Rattle.rdlpp_cursors.specs.Digits.{IsFalling};
-ghost use Rattle.rdlpp_cursors.specs.Flats.{place_open, range_kind, waiting_opens, HasMovedOn, IsAdmitted, IsListed, IsWholeBody};
-ghost use Rattle.rdlpp_cursors.specs.Fronts.{IsLookAhead};
-ghost use Rattle.rdlpp_cursors.specs.Opened.{bound_by, is_spent, kept_by, moved_to, open_of, IsNoBody};
+ghost use Rattle.rdlpp_cursors.specs.Fronts.{IsLookAhead, StandsAt};
+ghost use Rattle.rdlpp_cursors.specs.Opened.{bound_by, is_spent, kept_by, moved_to, open_of, IsNoBody, StaysOutermost};
 ghost use Rattle.rdlpp_cursors.specs.Places.{source_text, texts_of};
 ghost use Rattle.rdlpp_cursors.specs.Usages.{IsTextFault};
 ghost use Rattle.rdlpp_cursors.specs.Steps.{AreKnown, AreSound, IsStep, KeepsOpen, StaysRefused, IsPlacedStep, NamesWord};
@@ -17,11 +16,9 @@ ghost use Rattle.rdlpp_cursors.specs.declared.step.CursorStep.TheVariants.{Silen
 mod call;
 mod usage;
 
-use crate::flat::Flat;
 use crate::front::{Sight, look_at};
 use crate::guesses::Guesses;
 use crate::place::{TextPlace, TextSource};
-use crate::run_list::Runs;
 use crate::scopes::{body_bounds, is_spent, scope_bounds};
 use crate::slot::{NO_BOUNDS, Slot, SlotKind};
 use crate::step::CursorStep;
@@ -41,7 +38,7 @@ const MOST_BINDINGS: usize = 255;
 //
 // No call but `new` takes memory.
 #[derive(Drop)]
-pub(crate) struct Cursors {
+pub struct Cursors {
     slots: Vec<Slot>,
     // the open texts stand from here on, the innermost first
     first: usize,
@@ -76,26 +73,9 @@ fn kept_by(slot: &Slot, bound: usize) -> usize
     }
 }
 
-// A range of a text that is no body, or of what is kept of the call, as a slot.
-fn range_slot(source: TextSource, from: usize, end: usize) -> Slot
-    ensures { result ≡ record { from = from; end = end; home = 0; kind = range_kind source; bounds = result.bounds } }
-{
-    let kind = match source {
-        TextSource::Default { id, place } => SlotKind::Default { id, place },
-        _ => SlotKind::Actual,
-    };
-    Slot {
-        from,
-        end,
-        home: 0,
-        kind,
-        bounds: NO_BOUNDS,
-    }
-}
-
 impl Cursors {
     // No open texts, with room for `depth` of them, each of which may bind 255 ranges (this project's profile).
-    pub(crate) fn new(alloc: Global, depth: usize) -> Result<Cursors, AllocError>
+    pub fn new(alloc: Global, depth: usize) -> Result<Cursors, AllocError>
         requires { depth ≤ 1024 }
         ensures { IfOk result (λ c. c ≡ record { opens = []; line = 0; depth = depth }) }
     {
@@ -118,14 +98,14 @@ impl Cursors {
     }
 
     // Whether no text is open.
-    pub(crate) fn is_empty(&self) -> bool
+    pub fn is_empty(&self) -> bool
         ensures { result ≡ (length self.now.opens == 0) }
     {
         self.len() == 0
     }
 
     // How many texts are open.
-    pub(crate) fn len(&self) -> usize
+    pub fn len(&self) -> usize
         ensures value { result ≡ length self.now.opens }
         ensures few { length self.now.opens ≤ self.now.depth }
         ensures short { self.now.depth < 2 ^ 64 }
@@ -133,23 +113,17 @@ impl Cursors {
         self.slots.len() - self.first
     }
 
-    // How many further texts may be open.
-    pub(crate) fn room(&self) -> usize
-        ensures { result + length self.now.opens ≡ self.now.depth }
-    {
-        self.first
-    }
-
     // The line of the usage in the source that opened them.
-    pub(crate) fn line(&self) -> u64
+    pub fn line(&self) -> u64
         ensures { result ≡ self.now.line }
     {
         self.line
     }
 
     // How many ranges the calls of the open bodies have bound.
-    pub(crate) fn bound(&self) -> usize
-        ensures { result ≡ bound_by self.now.opens }
+    pub fn bound(&self) -> usize
+        ensures value { result ≡ bound_by self.now.opens }
+        ensures few { bound_by self.now.opens ≤ self.now.depth * 255 }
     {
         let _first = self.first;
         self.bindings.len()
@@ -163,7 +137,7 @@ impl Cursors {
     }
 
     // Closes the innermost text, with the ranges that its call has bound.
-    pub(crate) fn close(&mut self)
+    fn close(&mut self)
         requires { 0 < length self.old.opens }
         ensures { self.new ≡ record self.old { opens = drop 1 self.old.opens } }
     {
@@ -188,6 +162,7 @@ impl Cursors {
         ensures spent { (texts : Texts) → AreSound texts self.old.opens → is_spent self.old.opens ≡ true → IsTaken texts self.old Silent self.new }
         ensures keeps { 1 < length self.old.opens → 0 < length self.new.opens }
         ensures fewer { length self.new.opens < length self.old.opens }
+        ensures outer { StaysOutermost self.old.opens self.new.opens }
     {
         self.close();
         while self.len() > 1 && self.is_spent() {
@@ -253,70 +228,8 @@ impl Cursors {
         )
     }
 
-    // The macro whose whole body is the innermost text, where that has bound no range.
-    pub(crate) fn whole_body(&self, table: &Table) -> Option<MacroId>
-        requires some { 0 < length self.now.opens }
-        requires known { AreKnown table.now.macros self.now.opens }
-        ensures { IfSome result (λ id. IsWholeBody table.now.macros self.now.opens id) }
-    {
-        let slot = &self.slots[self.first];
-        match slot.kind {
-            SlotKind::Body { id, first } if first == self.bindings.len() => {
-                if slot.from == 0 && slot.end == table.body(id).len() {
-                    Some(id)
-                } else {
-                    None
-                }
-            }
-            _ => None,
-        }
-    }
-
-    // Whether the expansion of a macro may be lent in place of the innermost text, which is its body: there is room for as many
-    // texts as its usages open and for as many as it has runs, and no usage in it is in the text of its macro.
-    pub(crate) fn admits(&self, flat: &Flat) -> bool
-        requires some { 0 < length self.now.opens }
-        ensures { IsTrue result → IsAdmitted self.now flat.now }
-    {
-        let room = self.first + 1;
-        if room < flat.levels || room < flat.runs.left {
-            return false;
-        }
-        let home = self.slots[self.first].home;
-        let bounds = scope_bounds(&self.slots.as_slice()[room..], home);
-        flat.bounds.greatest < bounds.least || bounds.greatest < flat.bounds.least
-    }
-
-    // Opens waiting runs, the first of them as the innermost text, none of which waits any more.
-    #[inline(never)]
-    pub(crate) fn open_runs(&mut self, waiting: &mut Runs)
-        requires listed { IsListed waiting.old }
-        requires room { waiting.old.left + length self.old.opens ≤ self.old.depth }
-        ensures opens { self.new ≡ record self.old { opens = waiting_opens waiting.old ++ self.old.opens } }
-        ensures none { waiting.new.left ≡ 0 }
-        ensures listed { IsListed waiting.new }
-    {
-        while waiting.left > 0 {
-            waiting.left -= 1;
-            let place = &waiting.places[waiting.next + waiting.left];
-            self.open_place(&place.source, place.from, place.end);
-        }
-    }
-
-    // Opens a range of a text.
-    fn open_place(&mut self, source: &TextSource, from: usize, end: usize)
-        requires { length self.old.opens < self.old.depth }
-        ensures { self.new ≡ record self.old { opens = place_open (record { source = source.now; from = from; end = end }) ∷ self.old.opens } }
-    {
-        if let TextSource::Body(id) = *source {
-            self.push_body(id, end, 0);
-            return self.move_to(from);
-        }
-        self.push_text(range_slot(*source, from, end));
-    }
-
     // Opens the body of a macro for a usage without arguments, which stands in a source at a line.
-    pub(crate) fn open_body(&mut self, table: &Table, id: MacroId, line: u64)
+    pub fn open_body(&mut self, table: &Table, id: MacroId, line: u64)
         requires id { id < length table.now.macros }
         requires plain { option_map length (macro_at table.now.macros id).formals ≡ None }
         requires closed { self.old.opens ≡ [] }
@@ -329,8 +242,13 @@ impl Cursors {
         self.push_body(id, table.body(id).len(), 0);
     }
 
-    // One step of the innermost text, as `OpenTexts::step` says, in front of which no run waits.
-    pub(crate) fn step(&mut self, table: &Table, arguments: &[u8]) -> CursorStep
+    /// One step of the innermost text, by what stands at its front. `arguments` is what is kept of the call in the source.
+    ///
+    /// It lends the longest run of bytes that are copied, in one piece as they lie. It opens the actual of a formal, its default
+    /// where the actual is empty, or the body of a macro, and goes on behind the name or the call. Or it closes a text of which
+    /// nothing is left, and those around it of which nothing is left either, but for the outermost. Where it lends a run, what
+    /// stands behind that is opened in the same step, or a text that ends there is closed while others are open around it.
+    pub fn step(&mut self, table: &Table, arguments: &[u8]) -> CursorStep
         requires some { 0 < length self.old.opens }
         requires sound { AreSound (texts_of table.now.macros arguments.now) self.old.opens }
         ensures step { IsStep self.old.line self.old.depth (texts_of table.now.macros arguments.now) self.old.opens result self.new.opens }
@@ -342,7 +260,8 @@ impl Cursors {
         ensures lends { KeepsOpen result self.new.opens }
         ensures fault { IsTextFault result }
         ensures word { NamesWord (texts_of table.now.macros arguments.now) result }
-        ensures moved { length self.old.opens < length self.new.opens → HasMovedOn self.old.opens (drop 1 self.new.opens) }
+        ensures stands { StandsAt self.old.opens result }
+        ensures outer { StaysOutermost self.old.opens self.new.opens }
     {
         let sight = self.look(table, arguments);
         let look = sight.look;

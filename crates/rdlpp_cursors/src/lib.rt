@@ -2,19 +2,14 @@
 #![tactic(auto)]
 
 mod cursors;
-mod flat;
 mod front;
 mod guesses;
-mod macros;
-mod open_texts;
 mod place;
-mod run_list;
 mod scopes;
 mod slot;
 mod step;
 
-pub use macros::Macros;
-pub use open_texts::OpenTexts;
+pub use cursors::Cursors;
 pub use place::{TextPlace, TextSource};
 pub use scopes::text_at;
 pub use step::{CursorFault, CursorStep};

@@ -82,7 +82,7 @@ given_none g r out = record {
     limits = refl;
     origins = refl;
     main = refl;
-    ends = record { kept = refl; open_ = inl refl; tells = λ t. sym (and_then-gives_nil (left_of g r.engine)); again = λ f k. (refl, refl) };
+    ends = record { kept = refl; open_ = inl refl; tells = λ t. sym (and_then-gives_nil (left_of g r.engine)); again = λ f k. (refl, refl); lets_go = λ h. h; stores = λ t h. h };
   };
 }
 

@@ -14,6 +14,7 @@ use Rattle.rdlpp_meaning.proofs.Outcomes.{and_then-gives_nil, and_then-gives, an
 use Rattle.rdlpp_steps.specs.Calls.{SourcesCalled}
 use Rattle.rdlpp_steps.specs.Engine.{EngineView, is_open}
 use Rattle.rdlpp_steps.specs.Held.{IsBounded, stores_of}
+use Rattle.rdlpp_steps.proofs.Stores.{fault_lets_go, fault_stores}
 use Rattle.rdlpp_steps.specs.Owed.{nothing_owed}
 use Rattle.rdlpp_steps.specs.Remaining.{kept_uncut, left_of, output_fault, phase_uncut, state_of, text_of, uncut_of, work_left}
 use Rattle.rdlpp_expand.specs.Run.{Pulls, Wrote, WroteEnds, Going, Finishes, Stops, StopsAt, Breaks, Runs, Begins, Flushes, Unflushed, answered, is_fresh, is_kept, is_unwritten, write_fault}
@@ -125,7 +126,7 @@ wrote_none g h e w started = record {
   most_bytes = refl;
   most_macros = refl;
   started = started;
-  ends = record { kept = refl; open_ = inl refl; tells = λ t. sym (and_then-gives_nil (left_of g e)); again = λ f k. (refl, refl) };
+  ends = record { kept = refl; open_ = inl refl; tells = λ t. sym (and_then-gives_nil (left_of g e)); again = λ f k. (refl, refl); lets_go = λ h. h; stores = λ t h. h };
 }
 
 -- one pull more, where what it did to the engine is known
@@ -200,6 +201,8 @@ goes_on g old mid new xs ys told w s =
       open_ = inr (s.lends ys refl).1;
       tells = λ t. w.tells t ∙ ap (and_then (gives xs)) (ok_tells g mid new (Some ys) s (told t)) ∙ and_then-gives_gives xs ys (left_of g new);
       again = λ f k. (let bad : ⊥ = cc (k, free) in absurd bad);
+      lets_go = λ h. s.lets_go (w.lets_go h);
+      stores = λ t h. s.stores (told t) (w.stores t h);
     }
 
 -- nothing was left
@@ -214,6 +217,8 @@ finishes g old mid new xs ys told w s none =
       unowed = λ open_. (let was : is_open mid.phase ≡ true = elim w.open_ [ inl same ↦ opened_phase mid.phase (ap (λ e. e.phase) same ∙ open_) | inr still ↦ still ] in
           end_unowed g mid new mid.phase refl was (w.kept ∙ free) s);
       bounded = s.bounded;
+      lets_go = λ h. s.lets_go (w.lets_go h);
+      stores = λ t h. s.stores (told t) (w.stores t h);
     }
 
 -- a fault was answered
@@ -242,6 +247,8 @@ stops g old mid new xs ys told w stop =
       tells = λ fresh t. w.tells t ∙ ap (and_then (gives xs)) (s.tells (met is_call_failed ∙ fresh) (told t)) ∙ ap (λ (zs : List ℕ). and_then (gives zs) (fails f)) same;
       again = λ k e. (let was = w.again k e in let now = s.kept k (w.kept ∙ e) in (cc (now.0), sym same ∙ was.0, now.1 ∙ was.1));
       bounded = s.bounded;
+      lets_go = λ h. s.lets_go (w.lets_go h);
+      stores = λ t h. s.stores (told t) (w.stores t h);
     }
 
 -- a piece was written in part
@@ -255,6 +262,8 @@ breaks g old mid new xs ys rest told w s =
       begins = λ t. begins_of (xs ++ ys) (and_then (gives rest) left) (left_of g old)
           (w.tells t ∙ ap (and_then (gives xs)) (ok_tells g mid new (Some (ys ++ rest)) s (told t) ∙ sym (and_then-gives_gives ys rest left)) ∙ and_then-gives_gives xs ys (and_then (gives rest) left));
       bounded = s.bounded;
+      lets_go = λ h. s.lets_go (w.lets_go h);
+      stores = λ t h. s.stores (told t) (w.stores t h);
     }
 
 -- one pull more
@@ -422,8 +431,8 @@ or_false false = refl
 
 -- the bound doesn't speak of the fault that is kept
 pub bounded_kept : {S R : Type 0} (e : EngineView S R) (kept : Option Told) → IsBounded e → IsBounded (record e { kept = kept })
-unfolding IsBounded stores_of
-bounded_kept e kept b = b
+unfolding stores_of
+bounded_kept e kept b = record { bytes = b.bytes; cursors = b.cursors; bindings = b.bindings; conditions = b.conditions; sources = b.sources }
 
 -- the kept fault is no write that failed, where none is kept
 none_kept : (test : FaultKind → Bool) (kept : Option Told) → kept ≡ None → is_kept test kept ≡ false
@@ -473,6 +482,8 @@ runs_whole g h old new before between after n w flush =
       most_macros = w.most_macros;
       started = w.started;
       bounded = w.ends.bounded;
+      lets_go = w.ends.lets_go;
+      stores = w.ends.stores;
     }
 
 -- the fault of the engine was answered, and perhaps a flush was asked for
@@ -522,6 +533,8 @@ module _ {S R W : Type 0} (g : Ghosts S R) (h : SinkGhosts W) (old new : EngineV
         most_macros = w.most_macros;
         started = w.started;
         bounded = w.ends.bounded;
+        lets_go = w.ends.lets_go;
+        stores = w.ends.stores;
       }
 
   -- a fault came before the flush
@@ -580,6 +593,8 @@ runs_unwritten {S} {R} g h old mid new before between after n fault ending unwri
       most_macros = ap (λ e. e.table.most_macros) becomes ∙ w.most_macros;
       started = λ e. w.started (sym (ap (λ e. e.phase) becomes) ∙ e);
       bounded = subst IsBounded (sym becomes) (bounded_kept mid _ bounded);
+      lets_go = λ _. fault_lets_go new f (ap (λ e. e.kept) becomes);
+      stores = λ _ _. fault_stores g new f (ap (λ e. e.kept) becomes);
     }
 
 -- what is known stays, where nothing happens

@@ -11,6 +11,7 @@ use Rattle.rdlpp_meaning.specs.Outcome.{Told, told, Outcome, gives, fails, and_t
 use Rattle.rdlpp_steps.specs.Calls.{SourcesCalled}
 use Rattle.rdlpp_steps.specs.Engine.{EngineView, is_open}
 use Rattle.rdlpp_steps.specs.Held.{IsBounded}
+use Rattle.rdlpp_steps.specs.Stored.{HoldsStores, LetsGo}
 use Rattle.rdlpp_steps.specs.Owed.{nothing_owed}
 use Rattle.rdlpp_steps.specs.Remaining.{left_of}
 use Rattle.rdlpp_steps.specs.Steps.{Steps, FailsAt, IsStarted, Stood, is_call_failed, is_memory_kind, is_read_failed, is_write_failed}
@@ -102,6 +103,8 @@ pub record Going {S R : Type 0} (g : Ghosts S R) (old new : EngineView S R) (byt
   pub open_ : (new ≡ old) ⊎ (is_open new.phase ≡ true)
   pub tells : g.tells old.sources → left_of g old ≡ and_then (gives bytes) (left_of g new)
   pub again : (f : Told) → old.kept ≡ Some f → (bytes ≡ []) × (new ≡ old)
+  pub lets_go : LetsGo old → LetsGo new
+  pub stores : g.tells old.sources → HoldsStores g old → HoldsStores g new
 
 -- the whole output was written (source: this project's profile)
 pub record Finishes {S R : Type 0} (g : Ghosts S R) (old new : EngineView S R) (bytes : List ℕ) : Type 0 where
@@ -111,6 +114,8 @@ pub record Finishes {S R : Type 0} (g : Ghosts S R) (old new : EngineView S R) (
   pub tells : g.tells old.sources → left_of g old ≡ gives bytes
   pub unowed : old.phase ≡ Open → new.owed ≡ nothing_owed
   pub bounded : IsBounded new
+  pub lets_go : LetsGo old → LetsGo new
+  pub stores : g.tells old.sources → HoldsStores g old → HoldsStores g new
 
 -- the output was written up to a fault (source: this project's profile)
 pub record Stops {S R : Type 0} (g : Ghosts S R) (old new : EngineView S R) (bytes : List ℕ) : Type 0 where
@@ -123,6 +128,8 @@ pub record Stops {S R : Type 0} (g : Ghosts S R) (old new : EngineView S R) (byt
   pub tells : is_fresh is_call_failed old.kept (Some fault) ≡ false → g.tells old.sources → left_of g old ≡ and_then (gives bytes) (fails fault)
   pub again : (k : Told) → old.kept ≡ Some k → (k ≡ fault) × (bytes ≡ []) × (new ≡ old)
   pub bounded : IsBounded new
+  pub lets_go : LetsGo old → LetsGo new
+  pub stores : g.tells old.sources → HoldsStores g old → HoldsStores g new
 
 -- the output was written up to a write that failed (source: this project's profile)
 pub record Breaks {S R : Type 0} (g : Ghosts S R) (old new : EngineView S R) (bytes : List ℕ) : Type 0 where
@@ -130,6 +137,8 @@ pub record Breaks {S R : Type 0} (g : Ghosts S R) (old new : EngineView S R) (by
   pub kept : new.kept ≡ None
   pub begins : g.tells old.sources → Begins bytes (left_of g old)
   pub bounded : IsBounded new
+  pub lets_go : LetsGo old → LetsGo new
+  pub stores : g.tells old.sources → HoldsStores g old → HoldsStores g new
 
 -- how far the output was written, by how it ended (source: this project's profile)
 abbrev pub WroteEnds : {S R : Type 0} → Ghosts S R → EngineView S R → EngineView S R → List ℕ → Option Ending → Type 0
@@ -207,3 +216,5 @@ pub record Runs {S R W : Type 0} (g : Ghosts S R) (h : SinkGhosts W) (old new : 
   pub most_macros : new.table.most_macros ≡ old.table.most_macros
   pub started : IsStarted new
   pub bounded : IsBounded new
+  pub lets_go : LetsGo old → LetsGo new
+  pub stores : g.tells old.sources → HoldsStores g old → HoldsStores g new

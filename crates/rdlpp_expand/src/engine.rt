@@ -41,14 +41,14 @@ mod words;
 
 use arrayvec::ArrayString;
 use rdlpp_conditions::Conditions;
-use rdlpp_cursors::{CursorFault, Macros, TextPlace};
+use rdlpp_cursors::{CursorFault, TextPlace};
 use rdlpp_front::{Argument, Front, front_of};
 use rdlpp_meaning::{Fault, FaultKind};
 use rdlpp_read::{Files, Fill, LogicalLine};
 use rdlpp_scan::{Mode, line_ends_in, reserved};
 use rdlpp_source::Sources;
 use rdlpp_steps::{Held, Owed, Phase, Piece, Place, copied, copied_fault, fault_kind, word_of};
-use rdlpp_table::{Limits, MacroId};
+use rdlpp_table::{Limits, MacroId, Table};
 use rdlpp_usages::Expansion;
 use std::alloc::Global;
 use std::marker::Model;
@@ -64,10 +64,10 @@ pub struct Engine<S: Sources> {
     // how many bytes of output may still be lent
     quota: u64,
     kept: Option<Fault>,
-    // the name of the main text
+    // the path that was asked for, cut to 1,024 bytes or fewer at a character's boundary
     main: ArrayString<1024>,
     owed: Owed,
-    macros: Macros,
+    table: Table,
     conditions: Conditions,
     sources: S,
     files: Files<S::Reader>,
@@ -89,14 +89,14 @@ impl<S: Sources> Model for Engine<S> {
       kept = option_map told e.kept;
       main = e.main.bytes;
       owed = e.owed;
-      table = e.macros;
+      table = e.table;
       conditions = e.conditions;
       sources = e.sources;
       files = e.files;
       expansion = e.expansion;
     } };
 
-    ghost invariant = { λ e. IsWholeEngine e.limits e.phase e.macros e.files e.conditions e.expansion };
+    ghost invariant = { λ e. IsWholeEngine e.limits e.phase e.table e.files e.conditions e.expansion };
 }
 
 impl<S: Sources> Engine<S> {
@@ -114,7 +114,7 @@ impl<S: Sources> Engine<S> {
     {
         self.facts();
         Held {
-            definitions: self.macros.table().bytes().len(),
+            definitions: self.table.bytes().len(),
             arguments: self.expansion.arguments().len(),
             buffers: self.files.held_len(),
             cursors: self.expansion.len(),
@@ -385,10 +385,10 @@ impl<S: Sources> Engine<S> {
     {
         let line = &self.files.file().buffer.held()[..len];
         let lines = line_ends_in(line);
-        match self.macros.read_define(&line[len.min(DEFINE_BYTES)..]) {
+        match self.table.read_define(&line[len.min(DEFINE_BYTES)..]) {
             Err(fault) => Some(self.refuse(fault_kind(fault.kind), fault.word)),
             Ok(()) => {
-                let _count = self.macros.table().len();
+                let _count = self.table.len();
                 self.consume(len, lines);
                 self.owed.owe_line_ends(lines);
                 None
@@ -428,8 +428,8 @@ impl<S: Sources> Engine<S> {
             let word = word_of(name);
             return Some(self.refuse(FaultKind::ReservedName, word));
         }
-        let _found = self.macros.remove(name);
-        let _count = self.macros.table().len();
+        let _found = self.table.remove(name);
+        let _count = self.table.len();
         self.consume(stop, 0);
         None
     }
@@ -682,7 +682,7 @@ impl<S: Sources> Engine<S> {
     {
         match place {
             Place::Source(start, end) => Piece::Bytes(self.files.file().buffer.part(start, end)),
-            Place::Body(id, start, end) => Piece::Bytes(&self.macros.table().body(id)[start..end]),
+            Place::Body(id, start, end) => Piece::Bytes(&self.table.body(id)[start..end]),
             Place::Text(place) => Piece::Bytes(self.text(place)),
             Place::Owed(piece) => Piece::Bytes(
                 self.owed.bytes(piece, self.files.file().name.as_str()),

@@ -13,7 +13,7 @@ use Rattle.rdlpp_meaning.specs.State.{Rules, State, fault_at}
 use Rattle.rdlpp_meaning.specs.Items.{Item, Written, Arg}
 use Rattle.rdlpp_meaning.specs.Actuals.{Role, Space, Dropped, Remark, Start, Up, End, Down, Cut, Halt, Text, Ends, Stops, Call, Lacking, Broke, Bound, passed, put, parted, level_behind, kept_size, heed, inside_call, call_of, trimmed, item_role, item_size}
 use Rattle.rdlpp_meaning.specs.Substitution.{substituted}
-use Rattle.rdlpp_meaning.specs.Expansion.{Usage, Refuses, Opens, is_count, usage_of_call, usage_of_formals, usage_of_macro, usage_of, walk, run_outcome, usage_token, bytes_of}
+use Rattle.rdlpp_meaning.specs.Expansion.{Usage, Refuses, Opens, bound_parts, is_count, usage_of_call, usage_of_formals, usage_of_macro, usage_of, walk, run_outcome, usage_token, bytes_of}
 use Rattle.rdlpp_meaning.specs.Parts.{only_blanks}
 use Rattle.rdlpp_meaning.specs.Meaning.{Passage, leaves, goes_on, Progress}
 use Rattle.rdlpp_meaning.specs.Resumed.{Live, resumed, leading, trailing}
@@ -142,8 +142,8 @@ unfolding UsesUpTo usage_of_call TakesUpTo
 call_uses m formals line name n (Lacking f) h = tt
 call_uses m formals line name n (Broke f own) h = tt
 call_uses m formals line name n (Bound first further used) h =
-    let actuals = map (trimmed item_role) (first ∷ further) in
-    choice_uses (is_count formals actuals) n (Opens m actuals used) (Refuses ArgumentCount name line) h tt
+    let parts = map (trimmed item_role) (first ∷ further) in
+    choice_uses (is_count formals parts) n (Opens m (bound_parts formals parts) used) (Refuses ArgumentCount name line) h tt
 
 -- a usage by its macro's formals
 formals_use : (rules : Rules) (source : Option ℕ) (line : ℕ) (name : List ℕ) (xs : List Item) (m : Macro) (formals : Option (List Formal))

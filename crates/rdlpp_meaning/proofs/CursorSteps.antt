@@ -14,7 +14,7 @@ use Rattle.rdlpp_meaning.specs.State.{Rules, State, fault_at, breach_kind}
 use Rattle.rdlpp_meaning.specs.Items.{Item, Written, Arg, listed, packed}
 use Rattle.rdlpp_meaning.specs.Actuals.{Text, Call, Lacking, Broke, Bound, call_of, trimmed, kind_role, token_role, item_role, item_size, map_call}
 use Rattle.rdlpp_meaning.specs.Substitution.{body_tokens, Standing, Given, Defaulted, standing_of, bound_to, mark_of, mark_or, marked, substituted}
-use Rattle.rdlpp_meaning.specs.Expansion.{Usage, Refuses as RefusesItems, Opens as OpensItems, name_of, is_count, usage_of_call, usage_of_formals, usage_of_macro, usage_of, walk, expand}
+use Rattle.rdlpp_meaning.specs.Expansion.{Usage, Refuses as RefusesItems, Opens as OpensItems, bound_parts, name_of, is_count, usage_of_call, usage_of_formals, usage_of_macro, usage_of, walk, expand}
 use Rattle.rdlpp_meaning.specs.Cursors.{Binding, Cursor, stood_for, map_standing, image, Closure, closure_of, closure_at, cursor_items, left, TokenUsage, Refuses, Opens, kept, not_kept, is_token_count, token_usage_of_call, token_usage_of_formals, token_usage_of_macro, token_usage_of, Move, opened, with_text, usage_move, token_move, standing_move, move, left_behind}
 use Rattle.rdlpp_meaning.proofs.Outcomes.{and_then-nil, and_then-assoc, and_then-fails, and_then-gives_nil}
 use Rattle.rdlpp_meaning.proofs.Walks.{deeper_of, expand_walk}
@@ -91,6 +91,12 @@ unfolding is_count is_token_count
 count-map [] f parts = rw (length-map parts (map f), empty-map f parts) refl
 count-map (g ∷ gs) f parts = rw (length-map parts (map f)) refl
 
+-- the actuals of parts that change one by one
+pub bound-map : {A B : Type 0} (f : A → B) (formals : List Formal) (parts : List A) → bound_parts formals (map f parts) ≡ map f (bound_parts formals parts)
+unfolding bound_parts
+bound-map f [] parts = refl
+bound-map f (g ∷ gs) parts = refl
+
 -- a usage as items
 unfoldable pub image_usage : List Binding → TokenUsage → Usage
 image_usage frame (Refuses f word line) = RefusesItems f word line
@@ -110,11 +116,13 @@ call_commutes m formals line name frame (Lacking f) = refl
 call_commutes m formals line name frame (Broke f own) = refl
 call_commutes m formals line name frame (Bound first further used) =
     let parts = map (trimmed token_role) (first ∷ further) in
-    ap (λ (xs : List (List Item)). if is_count formals xs then OpensItems m xs used else RefusesItems ArgumentCount name line)
+    ap (λ (xs : List (List Item)). if is_count formals xs then OpensItems m (bound_parts formals xs) used else RefusesItems ArgumentCount name line)
     (parts_trimmed frame (first ∷ further))
-    ∙ ap (λ (b : Bool). if b then OpensItems m (map (map (image frame)) parts) used else RefusesItems ArgumentCount name line)
+    ∙ ap (λ (b : Bool). if b then OpensItems m (bound_parts formals (map (map (image frame)) parts)) used else RefusesItems ArgumentCount name line)
     (count-map formals (image frame) parts)
-    ∙ choice-image frame (is_token_count formals parts) (Opens m parts used) (Refuses ArgumentCount name line)
+    ∙ ap (λ (xs : List (List Item)). if is_token_count formals parts then OpensItems m xs used else RefusesItems ArgumentCount name line)
+    (bound-map (map (image frame)) formals parts)
+    ∙ choice-image frame (is_token_count formals parts) (Opens m (bound_parts formals parts) used) (Refuses ArgumentCount name line)
 
 -- a usage by its macro's formals
 formals_commute : (size : SourceToken → ℕ) (rules : Rules) (source : Option ℕ) (line : ℕ) (name : List ℕ) (frame : List Binding) → Keeps token_role size item_role (item_size source) (image frame) → (ts : List SourceToken) (m : Macro) (formals : Option (List Formal))

@@ -10,7 +10,7 @@ use Rattle.rdlpp_meaning.specs.declared.fault.FaultKind.TheVariants.{UndefinedMa
 use Rattle.rdlpp_meaning.specs.State.{Defined, Rules, State}
 use Rattle.rdlpp_meaning.specs.Items.{Item}
 use Rattle.rdlpp_meaning.specs.Actuals.{Role, Space, Dropped, Remark, Start, Up, End, Down, Cut, Halt, Text, Ends, Stops, Call, Lacking, Broke, Bound, passed, put, parted, level_behind, kept_size, heed, inside_call, call_of, trimmed, item_role, item_size}
-use Rattle.rdlpp_meaning.specs.Expansion.{Usage, Refuses, Opens, is_count, usage_of_call, usage_of_formals, usage_of_macro, usage_of}
+use Rattle.rdlpp_meaning.specs.Expansion.{Usage, Refuses, Opens, bound_parts, is_count, usage_of_call, usage_of_formals, usage_of_macro, usage_of}
 use Rattle.rdlpp_meaning.specs.LimitLaws.{is_limit}
 use Rattle.rdlpp_meaning.proofs.Calls.{TakesUpTo, passed_takes, put_takes, parted_takes, UsesUpTo}
 use Rattle.rdlpp_meaning.proofs.Commuting.{call_by, call_is}
@@ -275,8 +275,8 @@ unfolding TakesUpTo UsesUpTo usage_of_call
 call-uses n m formals line name (Lacking f) h = tt
 call-uses n m formals line name (Broke f own) h = tt
 call-uses n m formals line name (Bound first further used) h =
-    let actuals = map (trimmed item_role) (first ∷ further) in
-    count-uses n (is_count formals actuals) m actuals used name line h
+    let parts = map (trimmed item_role) (first ∷ further) in
+    count-uses n (is_count formals parts) m (bound_parts formals parts) used name line h
 
 -- a usage by its call
 call-usage-torn : (n : ℕ) (m : Macro) (formals : List Formal) (line : ℕ) (name : List ℕ) (c d : Call Item) → CallTorn n c d

@@ -18,11 +18,11 @@ use Rattle.rdlpp_meaning.specs.State.{Rules, State, fault_at}
 use Rattle.rdlpp_meaning.specs.Items.{Item, Items, Nothing, More, Written, Arg, listed, packed}
 use Rattle.rdlpp_meaning.specs.Actuals.{Call, Lacking, Broke, Bound, call_of, trimmed, item_role, item_size, map_call}
 use Rattle.rdlpp_meaning.specs.Substitution.{spelled, body_tokens, Standing, Given, Defaulted, bound_to, mark_of, mark_or, marked, substituted}
-use Rattle.rdlpp_meaning.specs.Expansion.{Usage, Refuses, Opens, is_count, usage_of_call, usage_of_formals, usage_of_macro, usage_of, walk, expand}
+use Rattle.rdlpp_meaning.specs.Expansion.{Usage, Refuses, Opens, bound_parts, is_count, usage_of_call, usage_of_formals, usage_of_macro, usage_of, walk, expand}
 use Rattle.rdlpp_meaning.specs.Cursors.{Binding, Cursor, stood_for, map_standing, image, cursor_items, left, first_cursor}
 use Rattle.rdlpp_meaning.specs.TextTokens.{broken_line, unlined}
 use Rattle.rdlpp_meaning.proofs.Commuting.{Keeps, call-map, trimmed-map}
-use Rattle.rdlpp_meaning.proofs.CursorSteps.{bound_image}
+use Rattle.rdlpp_meaning.proofs.CursorSteps.{bound-map, bound_image}
 use Rattle.rdlpp_meaning.proofs.LargerRuns.{usage_walk, usage_walks}
 use Rattle.rdlpp_meaning.proofs.UnlinedTokens.{unlined_role}
 
@@ -123,10 +123,11 @@ call-usage f keeps m formals line name (Lacking k) = refl
 call-usage f keeps m formals line name (Broke k own) = refl
 call-usage f keeps m formals line name (Bound first further used) =
     let parts = map (trimmed item_role) (first ∷ further) in
-    ap (λ (xs : List (List Item)). if is_count formals xs then Opens m xs used else Refuses ArgumentCount name line)
+    ap (λ (xs : List (List Item)). if is_count formals xs then Opens m (bound_parts formals xs) used else Refuses ArgumentCount name line)
     (trimmed-parts f keeps (first ∷ further))
-    ∙ ap (λ (b : Bool). if b then Opens m (map (map f) parts) used else Refuses ArgumentCount name line) (count-parts formals f parts)
-    ∙ choice-usage f (is_count formals parts) (Opens m parts used) (Refuses ArgumentCount name line)
+    ∙ ap (λ (b : Bool). if b then Opens m (bound_parts formals (map (map f) parts)) used else Refuses ArgumentCount name line) (count-parts formals f parts)
+    ∙ ap (λ (xs : List (List Item)). if is_count formals parts then Opens m xs used else Refuses ArgumentCount name line) (bound-map (map f) formals parts)
+    ∙ choice-usage f (is_count formals parts) (Opens m (bound_parts formals parts) used) (Refuses ArgumentCount name line)
 
 -- a usage by its macro's formals
 formals-usage : (f : Item → Item) (rules : Rules) (source : Option ℕ) (line : ℕ) (name : List ℕ)

@@ -16,7 +16,7 @@ use Rattle.rdlpp_meaning.specs.declared.fault.FaultKind.TheVariants.{UndefinedMa
 use Rattle.rdlpp_meaning.specs.State.{Rules, State}
 use Rattle.rdlpp_meaning.specs.Actuals.{Call, Lacking, Broke, Bound, call_of, trimmed, token_role}
 use Rattle.rdlpp_meaning.specs.Substitution.{spelled, body_tokens, Standing, Given, Defaulted, standing_of, bound_to}
-use Rattle.rdlpp_meaning.specs.Expansion.{name_of, bytes_of}
+use Rattle.rdlpp_meaning.specs.Expansion.{bound_parts, name_of, bytes_of}
 use Rattle.rdlpp_meaning.specs.Cursors.{Binding, Cursor, stood_for, Closure, closure_of, closure_at, TokenUsage, Refuses, Opens, not_kept, is_token_count, token_usage_of_call, token_usage_of_formals, token_usage_of_macro, token_usage_of, Move, Writes, Stops, opened, with_text, usage_move, token_move, standing_move, move, first_cursor}
 use Rattle.rdlpp_meaning.specs.CursorWork.{cursors_work, is_solid, IsCounted, HasCountedDefault, IsCountedMacro, IsCountedBinding, IsCountedCursor}
 use Rattle.rdlpp_meaning.proofs.Cover.{HasByte, token_has, body_covered}
@@ -39,6 +39,12 @@ choice-counted : (base : ℕ) (test : Bool) (u v : TokenUsage) → OpensCounted 
 choice-counted base true u v h k = h
 choice-counted base false u v h k = k
 
+-- what holds of each part holds of each actual
+all-bound : {A : Type 0} (P : A → Type 0) (formals : List Formal) (parts : List A) → AllByRecursion P parts → AllByRecursion P (bound_parts formals parts)
+unfolding bound_parts
+all-bound P [] parts h = tt
+all-bound P (f ∷ fs) parts h = h
+
 -- a usage by its call
 call-counted : (base n : ℕ) (m : Macro) (formals : List Formal) (line : ℕ) (name : List ℕ) (c : Call SourceToken)
     → suc n < base → IsCountedMacro base m → CallWithin n c → OpensCounted base (token_usage_of_call m formals line name c)
@@ -46,11 +52,11 @@ unfolding token_usage_of_call OpensCounted CallWithin
 call-counted base n m formals line name (Lacking f) small body h = tt
 call-counted base n m formals line name (Broke f own) small body h = tt
 call-counted base n m formals line name (Bound first further used) small body h =
-    let actuals = map (trimmed token_role) (first ∷ further) in
-    choice-counted base (is_token_count formals actuals) (Opens m actuals used) (Refuses ArgumentCount name line) (
+    let parts = map (trimmed token_role) (first ∷ further) in
+    choice-counted base (is_token_count formals parts) (Opens m (bound_parts formals parts) used) (Refuses ArgumentCount name line) (
       body,
-      all-map (IsWithin n) (IsCounted base) (trimmed token_role)
-          (λ ts w. counted-within base n small (trimmed token_role ts) (trimmed-within token_role n ts w)) (first ∷ further) h,
+      all-bound (IsCounted base) formals parts (all-map (IsWithin n) (IsCounted base) (trimmed token_role)
+          (λ ts w. counted-within base n small (trimmed token_role ts) (trimmed-within token_role n ts w)) (first ∷ further) h),
     ) tt
 
 -- a usage by its macro's formals

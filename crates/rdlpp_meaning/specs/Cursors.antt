@@ -14,7 +14,7 @@ use Rattle.rdlpp_meaning.specs.State.{Rules, State, fault_at, breach_kind}
 use Rattle.rdlpp_meaning.specs.Items.{Item, Written}
 use Rattle.rdlpp_meaning.specs.Actuals.{Call, Lacking, Broke, Bound, call_of, trimmed, token_role}
 use Rattle.rdlpp_meaning.specs.Substitution.{body_tokens, Standing, Given, Defaulted, bound_to, mark_or}
-use Rattle.rdlpp_meaning.specs.Expansion.{expand, is_copied, name_of}
+use Rattle.rdlpp_meaning.specs.Expansion.{bound_parts, expand, is_copied, name_of}
 
 -- what a call binds: the name of its macro, the formals, their actuals as tokens, and the macros in whose text the call is
 -- written
@@ -107,8 +107,8 @@ unfoldable pub token_usage_of_call : Macro → List Formal → ℕ → List ℕ 
 token_usage_of_call m formals line name (Lacking f) = Refuses f name line
 token_usage_of_call m formals line name (Broke f own) = Refuses f [] own
 token_usage_of_call m formals line name (Bound first further used) =
-    let actuals = map (trimmed token_role) (first ∷ further) in
-    if is_token_count formals actuals then Opens m actuals used else Refuses ArgumentCount name line
+    let parts = map (trimmed token_role) (first ∷ further) in
+    if is_token_count formals parts then Opens m (bound_parts formals parts) used else Refuses ArgumentCount name line
 
 -- a usage of a macro by the list of formals that it has, if it has one; `size` is how many bytes of a token count as kept
 unfoldable pub token_usage_of_formals : (SourceToken → ℕ) → Rules → ℕ → List ℕ → List SourceToken → Macro → Option (List Formal) → TokenUsage

@@ -29,13 +29,18 @@ unfoldable pub is_count : List Formal → List (List Item) → Bool
 is_count [] parts = length parts == 1 && list_any (λ part. length part == 0) parts
 is_count (f ∷ fs) parts = length parts == length (f ∷ fs)
 
+-- the actuals of a call by its parts: one part without items counts as none, where the macro has no formals (source: this project's profile)
+unfoldable pub bound_parts : {A : Type 0} → List Formal → List A → List A
+bound_parts [] parts = []
+bound_parts (f ∷ fs) parts = parts
+
 -- a call of a macro with these formals, by what it comes to (source: this project's profile)
 unfoldable pub usage_of_call : Macro → List Formal → ℕ → List ℕ → Call Item → Usage
 usage_of_call m formals line name (Lacking f) = Refuses f name line
 usage_of_call m formals line name (Broke f own) = Refuses f [] own
 usage_of_call m formals line name (Bound first further used) =
-    let actuals = map (trimmed item_role) (first ∷ further) in
-    if is_count formals actuals then Opens m actuals used else Refuses ArgumentCount name line
+    let parts = map (trimmed item_role) (first ∷ further) in
+    if is_count formals parts then Opens m (bound_parts formals parts) used else Refuses ArgumentCount name line
 
 -- a usage of a macro by the list of formals that it has, if it has one (source: IEEE 1364-2001, `define`)
 unfoldable pub usage_of_formals : Rules → Option ℕ → ℕ → List ℕ → List Item → Macro → Option (List Formal) → Usage

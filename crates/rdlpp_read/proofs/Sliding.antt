@@ -41,18 +41,25 @@ slides-compact tells unread old new dropped window used reader = record {
 }
 
 -- a window that slid, and of which nothing was used
-pub moves-slid : {R : Type 0} (tells : Type 0) (unread : R → List ℕ) (old new : BufferView R) → Slides tells unread old new → MovesOver [] old new
+pub moves-slid : {R : Type 0} (tells : Type 0) (unread : R → List ℕ) (old new : BufferView R) → Slides tells unread old new → MovesOver tells unread [] old new
 moves-slid tells unread old new slides =
     let used = slides.used in
-    record { dropped = slides.dropped; gained = slides.gained; window = slides.window; used = omega arith }
+    record { dropped = slides.dropped; gained = slides.gained; window = slides.window; used = omega arith; text = slides.text }
 
 -- a window of which bytes were used
-pub moves-past : {R : Type 0} (uses : List ℕ) (old new : BufferView R) → new.window ≡ old.window → new.at ≡ old.at + length uses → MovesOver uses old new
-moves-past uses old new window at = record { dropped = []; gained = []; window = append-nil old.window ∙ sym window; used = omega (arith, at) }
+pub moves-past : {R : Type 0} (tells : Type 0) (unread : R → List ℕ) (uses : List ℕ) (old new : BufferView R) → new.window ≡ old.window → new.at ≡ old.at + length uses → new.reader ≡ old.reader
+    → MovesOver tells unread uses old new
+moves-past tells unread uses old new window at reader =
+    record { dropped = []; gained = []; window = append-nil old.window ∙ sym window; used = omega (arith, at); text = λ t. ap (unread_of unread) (sym reader) }
+
+-- such a move where more is known
+pub moves-told : {R : Type 0} (tells own : Type 0) (unread : R → List ℕ) (uses : List ℕ) (old new : BufferView R) → (tells → own) → MovesOver own unread uses old new → MovesOver tells unread uses old new
+moves-told tells own unread uses old new t moves = record { dropped = moves.dropped; gained = moves.gained; window = moves.window; used = moves.used; text = λ x. moves.text (t x) }
 
 -- two such moves are one
-pub moves-on : {R : Type 0} (x y : List ℕ) (old mid new : BufferView R) → MovesOver x old mid → MovesOver y mid new → MovesOver (x ++ y) old new
-moves-on x y old mid new first then_ =
+pub moves-on : {R : Type 0} (tells one two : Type 0) (unread : R → List ℕ) (x y : List ℕ) (old mid new : BufferView R) → (tells → one) → (tells → two)
+    → MovesOver one unread x old mid → MovesOver two unread y mid new → MovesOver tells unread (x ++ y) old new
+moves-on tells one two unread x y old mid new t u first then_ =
     let used = first.used in
     let more = then_.used in
     record {
@@ -60,6 +67,7 @@ moves-on x y old mid new first then_ =
       gained = first.gained ++ then_.gained;
       window = joined old.window mid.window new.window first.gained first.dropped then_.gained then_.dropped first.window then_.window;
       used = omega (arith, length-append first.dropped then_.dropped, length-append x y);
+      text = λ z. first.text (t z) ∙ (ap (λ v. first.gained ++ v) (then_.text (u z)) ∙ sym (append_assoc first.gained then_.gained (unread_of unread new.reader)));
     }
 
 -- the text that isn't used, where the first held bytes were used

@@ -57,11 +57,12 @@ pub record Slides {R : Type 0} (tells : Type 0) (unread : R → List ℕ) (old n
 
 -- the window moved on over its text while these bytes were used: it dropped bytes in front, which were used before or are among
 -- these, and gained bytes behind
-pub record MovesOver {R : Type 0} (uses : List ℕ) (old new : BufferView R) : Type 0 where
+pub record MovesOver {R : Type 0} (tells : Type 0) (unread : R → List ℕ) (uses : List ℕ) (old new : BufferView R) : Type 0 where
   pub dropped : List ℕ
   pub gained : List ℕ
   pub window : old.window ++ gained ≡ dropped ++ new.window
   pub used : length dropped + new.at ≡ old.at + length uses
+  pub text : tells → unread_of unread old.reader ≡ gained ++ unread_of unread new.reader
 
 -- the bytes that the source may still give and that aren't used
 unfoldable pub unused_of : {R : Type 0} → BufferView R → ℕ

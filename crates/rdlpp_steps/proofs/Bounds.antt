@@ -13,7 +13,7 @@ use Rattle.rdlpp_steps.specs.Held.{IsBounded, stores_of, held_bytes, bound_of}
 -- an engine whose stores are within their limits is within the bound
 pub is_bounded : {S R : Type 0} (e : EngineView S R) → IsSoundEngine e.limits e.phase e.table e.files e.conditions → AreOpen e.files
     → AreOpenTexts e.limits e.phase e.table.macros e.expansion → IsRoomy e.expansion → IsBounded e
-unfolding IsBounded stores_of held_bytes bound_of
+unfolding stores_of held_bytes bound_of
 is_bounded e sound files texts room =
     let windows = held_windows-len e.files.nest in
     let most = held-bound e.files files in
@@ -23,7 +23,20 @@ is_bounded e sound files texts room =
     let most_kept = texts.most_is in
     let size = sound.size in
     let bytes = sound.definition_bytes in
-    omega (arith, length_table_bytes e.table.macros)
+    let few_texts = room.few in
+    let few_bound = room.bound in
+    let depth = texts.depth_is in
+    let few_open = sound.conditions_of.few in
+    let limit = sound.conditions_of.limit in
+    let few_sources = files.few in
+    let slots_are = sound.slots in
+    record {
+      bytes = omega (arith, length_table_bytes e.table.macros);
+      cursors = omega (arith, few_texts, depth);
+      bindings = omega (arith, few_bound, depth);
+      conditions = omega (arith, few_open, limit);
+      sources = omega (arith, few_sources, slots_are);
+    }
 
 -- as many bytes as all buffers have can be counted
 pub slots_fit : (limits : Limits) → AreInRange limits → (limits.includes + 1) * limits.line_bytes < 2 ^ 64

@@ -12,6 +12,8 @@ use Rattle.rdlpp_read.specs.Files.{inner_buffer}
 use Rattle.rdlpp_table.specs.View.{macro_at}
 use Rattle.rdlpp_steps.specs.Engine.{EngineView, is_open}
 use Rattle.rdlpp_steps.specs.Held.{IsBounded, stores_of}
+use Rattle.rdlpp_steps.specs.Stored.{HoldsStores, LetsGo}
+use Rattle.rdlpp_steps.proofs.Stores.{keeps_phase}
 use Rattle.rdlpp_steps.specs.Owed.{cut_to, digits_of, part_bytes}
 use Rattle.rdlpp_cursors.specs.Places.{IsPlaced as IsTextPlaced, place_bytes, source_text, texts_of}
 use Rattle.rdlpp_cursors.specs.declared.place.TextPlace.{TextPlace}
@@ -67,6 +69,9 @@ module _ {S R : Type 0} (g : Ghosts S R) (old new : EngineView S R) where
     most_bytes = w.most_bytes;
     most_macros = w.most_macros;
     bounded = w.bounded;
+    stands = λ _ _ bytes e. absurd (cc);
+    lets_go = w.lets_go;
+    stores = w.stores;
   }
 
   pub cut_fault : (f : Told) → Walks g old new (Err f) → Steps g old new (Err f)
@@ -95,6 +100,9 @@ module _ {S R : Type 0} (g : Ghosts S R) (old new : EngineView S R) where
     most_bytes = w.most_bytes;
     most_macros = w.most_macros;
     bounded = w.bounded;
+    stands = λ _ _ bytes e. absurd (cc);
+    lets_go = w.lets_go;
+    stores = w.stores;
   }
 
 -- what remains without the limit doesn't hang on what may still be lent
@@ -133,8 +141,8 @@ unfolding work_left
 same_work e phase quota = refl
 
 same_bound : {S R : Type 0} (e : EngineView S R) (phase : Phase) (quota : ℕ) → IsBounded e → IsBounded (record e { phase = phase; quota = quota })
-unfolding IsBounded stores_of
-same_bound e phase quota bounded = bounded
+unfolding stores_of
+same_bound e phase quota b = record { bytes = b.bytes; cursors = b.cursors; bindings = b.bindings; conditions = b.conditions; sources = b.sources }
 
 -- what a walk that lent bytes says of what remains
 module _ {S R : Type 0} (g : Ghosts S R) (old mid new : EngineView S R) (xs : List ℕ) (w : Walks g old mid (Ok (Some xs))) where
@@ -183,6 +191,12 @@ module _ {S R : Type 0} (g : Ghosts S R) (old mid new : EngineView S R) (xs : Li
         most_bytes = ap (λ e. e.table.most_bytes) becomes ∙ w.most_bytes;
         most_macros = ap (λ e. e.table.most_macros) becomes ∙ w.most_macros;
         bounded = subst IsBounded (sym becomes) (same_bound mid new.phase new.quota w.bounded);
+        stands = λ free open_ bytes e.
+            let l = w.stands free open_ xs refl in
+            let same : ys ≡ bytes = cc e in
+            record { at = l.at; text = l.text; after = l.after; becomes = becomes ∙ ap (λ (m : EngineView S R). record m { phase = new.phase; quota = new.quota }) l.becomes; piece = l.piece; lent = sym same ∙ part ∙ ap (take old.quota) l.lent; stands = l.stands };
+        lets_go = λ h. subst LetsGo (sym becomes) ((keeps_phase g mid new.phase new.quota).lets_go (w.lets_go h));
+        stores = λ t h. subst (HoldsStores g) (sym becomes) ((keeps_phase g mid new.phase new.quota).stores (w.call.tells t) (w.stores t h));
       }
 
   -- the whole piece may be lent

@@ -23,6 +23,8 @@ use Rattle.rdlpp_steps.specs.Calls.{SourcesCalled}
 use Rattle.rdlpp_steps.specs.Conditionals.{unclosed_fault}
 use Rattle.rdlpp_steps.specs.Engine.{AreIncluded, EngineView}
 use Rattle.rdlpp_steps.specs.Held.{IsBounded}
+use Rattle.rdlpp_steps.specs.Standing.{Nowhere}
+use Rattle.rdlpp_steps.proofs.Stores.{parts_around}
 use Rattle.rdlpp_steps.specs.Includes.{left_engine, owed_behind}
 use Rattle.rdlpp_steps.specs.Moves.{Closes, Ends, IsReady, Returns, StopsOpen, StopsUnclosed}
 use Rattle.rdlpp_steps.specs.OpenConditionals.{inner_below}
@@ -133,7 +135,7 @@ module _ {S R : Type 0} (g : Ghosts S R) (old mid new : EngineView S R) (ready :
       becomes ∙ (ap (λ (m : EngineView S R). record m { phase = Closed; files = files }) r.becomes
       ∙ (ap (λ (fs : FilesView R). closes fs mid.sources) (sym (ap (λ e. e.files) becomes)) ∙ ap (λ (s : S). closes new.files s) (sym sources))) in
       let P : S → Type 0 = λ s. SourcesCalled g false false old.sources s in
-      walks_end g old new ready.free ready.open_ bounded ends ready.owed (subst P (sym sources) call)
+      walks_end g old new ready.free ready.open_ bounded ends ready.owed ready.idle (subst P (sym sources) call)
       (λ t. record {
         last = nest_state old.limits old.table.macros old.conditions old.files.nest;
         text = text_unowed g old ready.owed ready.idle
@@ -186,7 +188,8 @@ module _ {S R : Type 0} (g : Ghosts S R) (old mid new : EngineView S R) (ready :
       (lends_by g old ready [] owed old.table.macros old.conditions (drop 1 before) mid.sources (subst IsBounded becomes bounded)
       (left_falls old (by owed (drop 1 before)) refl ready.idle ready.idle refl ready.nest (omega arith) (owed_behind-few old.origins before)) call
       (λ t. nest_back old.limits (run_rules g old) g.unread old.table.macros old.conditions live (g.tells old.sources) t before b inner ended fills (sym fills.mode ∙ back.mode)
-      ∙ ap (λ (x : List ℕ). behind_bytes x (left_by g old old.table.macros old.conditions (drop 1 before))) (sym (owed_ending (g.catalog old.sources) old.limits old.origins before inner))))
+      ∙ ap (λ (x : List ℕ). behind_bytes x (left_by g old old.table.macros old.conditions (drop 1 before))) (sym (owed_ending (g.catalog old.sources) old.limits old.origins before inner)))
+      (λ t. parts_around g.unread before (g.catalog old.sources)) (Nowhere refl))
 
   pub ended_steps : (place : Option Place) → Ends mid new place → Walks g old new (step_answer new place)
   ended_steps None ends = ended_back ends

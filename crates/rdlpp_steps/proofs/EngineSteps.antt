@@ -1,5 +1,5 @@
 -- The steps of an engine, by what they met.
-use Rattle.std.proofs.Common.{◌≡◌, ◌⊎◌, inl, inr, ℕ, ◌≤◌, ◌<◌, Bool, true, false, ◌&&◌, ◌||◌, List, [], Option, None, Some, Result, Ok, Err, refl, sym, ap, ◌∙◌, subst, arith}
+use Rattle.std.proofs.Common.{◌≡◌, ◌⊎◌, inl, inr, ℕ, ◌≤◌, ◌<◌, Bool, true, false, ◌&&◌, ◌||◌, List, [], Option, None, Some, Result, Ok, Err, length, refl, sym, ap, ◌∙◌, subst, arith}
 use Rattle.std.specs.Option.{is_some, option_map}
 use Rattle.rdlpp_source.specs.Counts.{Counts}
 use Rattle.rdlpp_source.specs.declared.sources.Sources.{Ghosts}
@@ -17,6 +17,10 @@ use Rattle.rdlpp_read.specs.Files.{inner_buffer, with_buffer}
 use Rattle.rdlpp_steps.specs.Calls.{SourcesCalled}
 use Rattle.rdlpp_steps.specs.Engine.{EngineView}
 use Rattle.rdlpp_steps.specs.Held.{IsBounded}
+use Rattle.rdlpp_steps.specs.Standing.{LendsWhere, StandsIn}
+use Rattle.rdlpp_steps.specs.Stored.{AreParts}
+use Rattle.rdlpp_read.specs.declared.files.File.{File}
+use Rattle.rdlpp_steps.proofs.Stores.{KeepsStores, fault_lets_go, fault_stores, none_called}
 use Rattle.rdlpp_steps.specs.Owed.{nothing_owed}
 use Rattle.rdlpp_steps.specs.Pieces.{kept_answer, lent_answer}
 use Rattle.rdlpp_steps.specs.Remaining.{uncut_of, kept_uncut, output_fault, phase_uncut, state_of, text_of, work_left}
@@ -66,6 +70,9 @@ steps_kept g e f started bounded kept = record {
   most_bytes = refl;
   most_macros = refl;
   bounded = bounded;
+  stands = λ none. absurd (let no : Some f ≡ None = sym kept ∙ none in cc);
+  lets_go = λ h. h;
+  stores = λ t h. h;
 }
 
 -- the end once more
@@ -95,6 +102,9 @@ steps_ended g e started bounded free closed = record {
   most_bytes = refl;
   most_macros = refl;
   bounded = bounded;
+  stands = λ _ _ bytes e. absurd (cc);
+  lets_go = λ h. h;
+  stores = λ t h. h;
 }
 
 -- an engine whose main text is open and that keeps no fault
@@ -104,9 +114,9 @@ module _ {S R : Type 0} (g : Ghosts S R) (old new : EngineView S R) (free : old.
       → (new.table.most_bytes ≡ old.table.most_bytes) × (new.table.most_macros ≡ old.table.most_macros)
       → SourcesCalled g false false old.sources new.sources
       → (g.tells old.sources → text_of g old ≡ behind_bytes bytes (text_of g new))
-      → work_left new < work_left old → Walks g old new (Ok (Some bytes))
+      → work_left new < work_left old → KeepsStores g old new → StandsIn old new bytes → Walks g old new (Ok (Some bytes))
   unfolding has_met no_len all_of may_follow
-  walks_lent bytes becomes room call text falls =
+  walks_lent bytes becomes room call text falls keeps from =
       let still : new.phase ≡ Open = ap (λ e. e.phase) becomes ∙ open_ in
       let none : new.kept ≡ None = ap (λ e. e.kept) becomes ∙ free in
       record {
@@ -133,6 +143,9 @@ module _ {S R : Type 0} (g : Ghosts S R) (old new : EngineView S R) (free : old.
         most_bytes = room.0;
         most_macros = room.1;
         bounded = bounded;
+        stands = λ _ _ xs e. (let same : bytes ≡ xs = cc e in record { at = old; text = λ _. refl; after = new; becomes = refl; piece = bytes; lent = sym same; stands = from });
+        lets_go = keeps.lets_go;
+        stores = keeps.stores;
       }
 
   -- what a fault leaves, where nothing is owed
@@ -151,8 +164,13 @@ module _ {S R : Type 0} (g : Ghosts S R) (old new : EngineView S R) (free : old.
         });
       }
 
+  -- the open texts stay
+  same_texts : (f : Told) → new ≡ record old { kept = Some f; files = new.files; sources = new.sources } → new ≡ record old { kept = Some f; files = new.files; sources = new.sources; expansion = new.expansion }
+  same_texts f becomes =
+      becomes ∙ ap (λ x. record old { kept = Some f; files = new.files; sources = new.sources; expansion = x }) (sym (ap (λ e. e.expansion) becomes))
+
   -- the text has a fault, which is kept, wherever that came
-  pub walks_kept : (f : Told) → IsOwn f.kind → new ≡ record old { kept = Some f; files = new.files; sources = new.sources } → HaltsAt g old new
+  pub walks_kept : (f : Told) → IsOwn f.kind → new ≡ record old { kept = Some f; files = new.files; sources = new.sources; expansion = new.expansion } → HaltsAt g old new
       → SourcesCalled g false false old.sources new.sources
       → (g.tells old.sources → text_of g old ≡ leaves (fails f) (state_of new)) → Walks g old new (Err f)
   unfolding has_met no_len is_call_failed
@@ -182,6 +200,9 @@ module _ {S R : Type 0} (g : Ghosts S R) (old new : EngineView S R) (free : old.
         most_bytes = ap (λ e. e.table.most_bytes) becomes;
         most_macros = ap (λ e. e.table.most_macros) becomes;
         bounded = bounded;
+        stands = λ _ _ bytes e. absurd (cc);
+        lets_go = λ _. fault_lets_go new f (ap (λ e. e.kept) becomes);
+        stores = λ _ _. fault_stores g new f (ap (λ e. e.kept) becomes);
       }
 
   -- a fault at the front of what is held
@@ -191,11 +212,11 @@ module _ {S R : Type 0} (g : Ghosts S R) (old new : EngineView S R) (free : old.
       → SourcesCalled g false false old.sources new.sources
       → (g.tells old.sources → text_of g old ≡ leaves (fails f) (state_of new)) → Walks g old new (Err f)
   walks_fault f own becomes only moves unowed call text =
-      walks_kept f own becomes (halts_at f becomes only moves unowed) call text
+      walks_kept f own (same_texts f becomes) (halts_at f becomes only moves unowed) call text
 
   -- a read or a search failed, wherever that was
   pub walks_ceased : (f : Told) → FailsAt new f → is_call_failed f.kind ≡ true → is_write_failed f.kind ≡ false
-      → new ≡ record old { kept = Some f; files = new.files; sources = new.sources } → HaltsAt g old new → StopsReading g old new
+      → new ≡ record old { kept = Some f; files = new.files; sources = new.sources; expansion = new.expansion } → HaltsAt g old new → StopsReading g old new
       → SourcesCalled g (is_read_failed f.kind) (is_memory_kind f.kind) old.sources new.sources → Walks g old new (Err f)
   unfolding has_met no_len
   walks_ceased f fails met write becomes halts reads call =
@@ -224,6 +245,9 @@ module _ {S R : Type 0} (g : Ghosts S R) (old new : EngineView S R) (free : old.
         most_bytes = ap (λ e. e.table.most_bytes) becomes;
         most_macros = ap (λ e. e.table.most_macros) becomes;
         bounded = bounded;
+        stands = λ _ _ bytes e. absurd (cc);
+        lets_go = λ _. fault_lets_go new f (ap (λ e. e.kept) becomes);
+        stores = λ _ _. fault_stores g new f (ap (λ e. e.kept) becomes);
       }
 
   -- at the front of what is held
@@ -235,7 +259,7 @@ module _ {S R : Type 0} (g : Ghosts S R) (old new : EngineView S R) (free : old.
       → (g.tells old.sources → text_of g old ≡ text_of g new) → Walks g old new (Err f)
   walks_stopped f fails met write becomes only moves unowed call text =
       let still : new.phase ≡ Open = ap (λ e. e.phase) becomes ∙ open_ in
-      walks_ceased f fails met write becomes (halts_at f becomes only moves unowed)
+      walks_ceased f fails met write (same_texts f becomes) (halts_at f becomes only moves unowed)
       (record { open_ = open_; still = still; at = new; stood = Itself refl; text = text }) call
 
   -- a read failed
@@ -253,11 +277,11 @@ module _ {S R : Type 0} (g : Ghosts S R) (old new : EngineView S R) (free : old.
       walks_stopped f (OnRead is) (ap (λ t. is_call_failed t.kind) is) write becomes only moves unowed (rw (read, memory) call) text
 
   -- the text has ended
-  pub walks_end : new ≡ record old { phase = Closed; files = new.files; sources = new.sources } → old.owed ≡ nothing_owed
+  pub walks_end : new ≡ record old { phase = Closed; files = new.files; sources = new.sources } → old.owed ≡ nothing_owed → old.expansion.opens ≡ []
       → SourcesCalled g false false old.sources new.sources
       → (g.tells old.sources → EndsText new (text_of g old)) → Walks g old new (Ok None)
   unfolding has_met no_len uncut_of kept_uncut phase_uncut
-  walks_end becomes unowed call text =
+  walks_end becomes unowed idle call text =
       let closed : new.phase ≡ Closed = ap (λ e. e.phase) becomes in
       let none : new.kept ≡ None = ap (λ e. e.kept) becomes ∙ free in
       record {
@@ -284,6 +308,12 @@ module _ {S R : Type 0} (g : Ghosts S R) (old new : EngineView S R) (free : old.
         most_bytes = ap (λ e. e.table.most_bytes) becomes;
         most_macros = ap (λ e. e.table.most_macros) becomes;
         bounded = bounded;
+        stands = λ _ _ bytes e. absurd (cc);
+        lets_go = λ h. record { idle = λ _ is. ap (λ e. e.expansion.arguments) becomes ∙ h.idle free (none_called old.table.macros old.expansion.opens idle) };
+        stores = λ t h. record {
+          parts = λ _. subst (λ (ns : List (File R)). AreParts g.unread (g.catalog new.sources) ns) (sym (text t).closed) tt;
+          call = λ _ fs called. absurd (let no : None ≡ Some fs = sym (none_called new.table.macros new.expansion.opens (ap (λ e. e.expansion.opens) becomes ∙ idle)) ∙ called in cc);
+        };
       }
 
 -- what a part of a step did that lends nothing, where no fault was kept
@@ -301,6 +331,7 @@ pub record IsSilent {S R : Type 0} (g : Ghosts S R) (old mid : EngineView S R) :
   pub call : SourcesCalled g false false old.sources mid.sources
   pub text : g.tells old.sources → text_of g old ≡ text_of g mid
   pub work : work_left mid ≤ work_left old
+  pub keeps : KeepsStores g old mid
 
 -- what a step says of the fault that is kept, where it answers none: none was kept
 pub free_before : {S R : Type 0} (g : Ghosts S R) (left : EngineView S R → Outcome) (spent : Result (Option (List ℕ)) Told → ℕ) (most : ℕ → List ℕ → List ℕ) (goes_on : Phase → Bool) (old new : EngineView S R) (kept : Option Told) (lent : Option (List ℕ)) →
@@ -359,6 +390,12 @@ halts_behind g (Err f) old mid new text tells halts = record {
   stopped = halts.stopped;
 }
 
+-- where bytes that are lent stand, behind such a part
+lends_behind : {S R : Type 0} (g : Ghosts S R) (old mid new : EngineView S R) (bytes : List ℕ) (a b : ℕ) → (g.tells old.sources → text_of g old ≡ text_of g mid) → (g.tells old.sources → g.tells mid.sources)
+    → LendsWhere g (all_of b) mid new bytes → LendsWhere g (all_of a) old new bytes
+unfolding all_of
+lends_behind g old mid new bytes a b text tells l = record { at = l.at; text = λ t. text t ∙ l.text (tells t); after = l.after; becomes = l.becomes; piece = l.piece; lent = l.lent; stands = l.stands }
+
 -- such a part, and then a step, are one step
 pub silent_then : {S R : Type 0} (g : Ghosts S R) (old mid new : EngineView S R) (answer : Result (Option (List ℕ)) Told) →
     IsSilent g old mid → Walks g mid new answer → Walks g old new answer
@@ -397,6 +434,9 @@ silent_then g old mid new answer first then_ =
       most_bytes = then_.most_bytes ∙ first.most_bytes;
       most_macros = then_.most_macros ∙ first.most_macros;
       bounded = then_.bounded;
+      stands = λ _ _ bytes is. lends_behind g old mid new bytes old.quota mid.quota (first.text) (first.call.tells) (then_.stands first.still first.stays bytes is);
+      lets_go = λ h. then_.lets_go (first.keeps.lets_go h);
+      stores = λ t h. then_.stores (first.call.tells t) (first.keeps.stores t h);
     }
 
 -- where bytes may follow, the main text is open
@@ -428,6 +468,7 @@ silent_step g old mid w =
       call = rw (none is_read_failed, none is_memory_kind) at w.call;
       text = λ t. silent_text old.quota (text_of g old) (text_of g mid) (w.text free lends.0 (none is_call_failed) t);
       work = (let less = w.falls [] refl in omega arith);
+      keeps = record { lets_go = w.lets_go; stores = w.stores };
     }
 
 -- a step that lent nothing, and then another, are one step
@@ -504,6 +545,9 @@ steps_passed g old new free past bounded becomes =
       most_bytes = ap (λ e. e.table.most_bytes) becomes;
       most_macros = ap (λ e. e.table.most_macros) becomes;
       bounded = bounded;
+      stands = λ _ _ bytes e. absurd (cc);
+      lets_go = λ _. fault_lets_go new (output_fault old.main) (ap (λ e. e.kept) becomes);
+      stores = λ _ _. fault_stores g new (output_fault old.main) (ap (λ e. e.kept) becomes);
     }
 
 -- a fault that is kept is what is answered

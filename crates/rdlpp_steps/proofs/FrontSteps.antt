@@ -30,8 +30,8 @@ use Rattle.rdlpp_meaning.proofs.OwedLineEnds.{line_ends_of-owed}
 use Rattle.rdlpp_cursors.proofs.Starting.{whole-range}
 use Rattle.rdlpp_read.specs.Buffer.{BufferView, entered_mode, held_of, reading_line_of, Slides}
 use Rattle.rdlpp_read.specs.Files.{AreOpen, FilesView, consumed_file, inner_buffer, with_buffer, with_inner}
-use Rattle.rdlpp_read.specs.Filling.{Fills}
-use Rattle.rdlpp_read.specs.LogicalLines.{HoldsLine}
+use Rattle.rdlpp_read.specs.Filling.{IsExact, Fills}
+use Rattle.rdlpp_read.specs.LogicalLines.{IsExactLine, HoldsLine}
 use Rattle.rdlpp_read.specs.declared.buffer.extending.LogicalLine.TheVariants as line
 use Rattle.rdlpp_read.specs.declared.buffer.filling.Fill.TheVariants as fill
 use Rattle.rdlpp_read.specs.declared.files.File.{File}
@@ -43,6 +43,9 @@ use Rattle.rdlpp_conditions.specs.Conditions.{ConditionsView}
 use Rattle.rdlpp_steps.specs.Calls.{SourcesCalled}
 use Rattle.rdlpp_steps.specs.Engine.{EngineView, IsSoundEngine, is_open}
 use Rattle.rdlpp_steps.specs.Held.{IsBounded}
+use Rattle.rdlpp_steps.specs.Standing.{AtOwed, AtSource, Nowhere, StandsIn}
+use Rattle.rdlpp_steps.specs.Stored.{AreParts}
+use Rattle.rdlpp_steps.proofs.Stores.{KeepsParts, KeepsStores, keeps_owed, keeps_sources, parts_mode, parts_on, parts_slid, parts_used}
 use Rattle.rdlpp_steps.specs.Moves.{Defines, IsReady, IsUnowed, ReadsDefine, RefusesDefine, define_rest}
 use Rattle.rdlpp_steps.specs.Owed.{OriginView, OwedView, TakesPiece, digits_of, line_ends_owed, nothing_owed, origin_bytes, origin_pieces, owed_bytes, owed_pieces, part_bytes}
 use Rattle.rdlpp_steps.specs.declared.owed.OwedPiece.{OwedPiece}
@@ -131,35 +134,38 @@ pub lends_by : {S R : Type 0} (g : Ghosts S R) (old : EngineView S R) (ready : I
     → let after = record old { owed = owed; table = record old.table { macros = macros }; conditions = v; files = record old.files { nest = nest }; sources = sources } in
     IsBounded after → work_left after < work_left old → SourcesCalled g false false old.sources sources
     → (g.tells old.sources → left_by g old old.table.macros old.conditions old.files.nest ≡ behind_bytes bytes (behind_bytes (owed_bytes (inner_name nest) owed) (left_by g old macros v nest)))
-    → Walks g old after (Ok (Some bytes))
-lends_by g old ready bytes owed macros v nest sources bounded falls call law =
+    → (g.tells old.sources → AreParts g.unread (g.catalog old.sources) old.files.nest → AreParts g.unread (g.catalog old.sources) nest)
+    → StandsIn old after bytes → Walks g old after (Ok (Some bytes))
+lends_by g old ready bytes owed macros v nest sources bounded falls call law parts from =
     let after = record old { owed = owed; table = record old.table { macros = macros }; conditions = v; files = record old.files { nest = nest }; sources = sources } in
     walks_lent g old after ready.free ready.open_ bounded bytes refl (refl, refl) call
     (λ t. text_unowed g old ready.owed ready.idle
     ∙ (law t ∙ (ap (λ (c : Catalog). behind_bytes bytes (behind_bytes (owed_bytes (inner_name nest) owed) (nest_left old.limits (source_rules c old.limits old.origins) g.unread macros v nest))) (sym call.catalog)
     ∙ ap (behind_bytes bytes) (sym (text_idle g after ready.idle)))))
-    falls
+    falls (keeps_sources g old owed macros v nest sources ready.idle call.catalog parts) from
 
 -- bytes of the innermost source are used, and a piece is lent
 pub lends_piece : {S R : Type 0} (g : Ghosts S R) (old : EngineView S R) (ready : IsReady old) (bytes : List ℕ) (owed : OwedView) (macros : List Macro) (v : ConditionsView) (nest : List (File R)) (sources : S)
     → let after = record old { owed = owed; table = record old.table { macros = macros }; conditions = v; files = record old.files { nest = nest }; sources = sources } in
     IsBounded after → owed_pieces owed < 2 ^ 31 → IsUsed old.files.nest nest → SourcesCalled g false false old.sources sources
     → (g.tells old.sources → left_by g old old.table.macros old.conditions old.files.nest ≡ behind_bytes bytes (behind_bytes (owed_bytes (inner_name nest) owed) (left_by g old macros v nest)))
-    → Walks g old after (Ok (Some bytes))
-lends_piece g old ready bytes owed macros v nest sources bounded few used call law =
+    → (g.tells old.sources → KeepsParts g.unread old.files.nest nest)
+    → StandsIn old after bytes → Walks g old after (Ok (Some bytes))
+lends_piece g old ready bytes owed macros v nest sources bounded few used call law parts from =
     let after = record old { owed = owed; table = record old.table { macros = macros }; conditions = v; files = record old.files { nest = nest }; sources = sources } in
-    lends_by g old ready bytes owed macros v nest sources bounded (work_falls old after refl used ready.idle ready.idle few) call law
+    lends_by g old ready bytes owed macros v nest sources bounded (work_falls old after refl used ready.idle ready.idle few) call law (λ t. parts t (g.catalog old.sources)) from
 
 -- and nothing is owed
 pub lends_source : {S R : Type 0} (g : Ghosts S R) (old new : EngineView S R) (ready : IsReady old) (bytes : List ℕ) (macros : List Macro) (v : ConditionsView) (nest : List (File R))
     → new ≡ record old { table = record old.table { macros = macros }; conditions = v; files = record old.files { nest = nest } }
     → IsBounded new → IsUsed old.files.nest nest
     → left_by g old old.table.macros old.conditions old.files.nest ≡ behind_bytes bytes (left_by g old macros v nest)
-    → Walks g old new (Ok (Some bytes))
-lends_source {S} {R} g old new ready bytes macros v nest becomes bounded used law =
+    → KeepsParts g.unread old.files.nest nest
+    → StandsIn old (record old { table = record old.table { macros = macros }; conditions = v; files = record old.files { nest = nest } }) bytes → Walks g old new (Ok (Some bytes))
+lends_source {S} {R} g old new ready bytes macros v nest becomes bounded used law parts from =
     subst (λ (e : EngineView S R). Walks g old e (Ok (Some bytes))) (sym becomes)
     (lends_piece g old ready bytes old.owed macros v nest old.sources (subst IsBounded becomes bounded) (unowed_few old.owed ready.owed) used (not_called g old.sources)
-    (λ t. law ∙ ap (behind_bytes bytes) (sym (unowed_behind (inner_name nest) old.owed (left_by g old macros v nest) ready.owed))))
+    (λ t. law ∙ ap (behind_bytes bytes) (sym (unowed_behind (inner_name nest) old.owed (left_by g old macros v nest) ready.owed))) (λ t. parts) from)
 
 -- what is refused in front isn't a failed read, a failed write or want of memory
 pub refused_kind : (mode : Mode) (held : List ℕ) (kind : FaultKind) → IsRefused mode held kind → IsOwn kind
@@ -380,28 +386,9 @@ take_text {S} {R} g old mid new len lines from to next ready live bounded some t
     subst (λ (xs : List ℕ). Walks g old new (Ok (Some xs))) (sym part)
     (lends_source g old new ready (take len (held_of b)) old.table.macros old.conditions nest becomes bounded
     (used_after old.files.nest (entered_mode b next) len lines ready.nest (entered_unused b next) within.0 (rw (held_entered b next) within.1))
-    (nest_text old.limits (run_rules g old) g.unread old.table.macros old.conditions live old.files.nest len lines next some inner.ends text counted))
-
--- a body is lent
-pub take_usage : {S R : Type 0} (g : Ghosts S R) (old new : EngineView S R) (len id end : ℕ) → IsReady old → old.conditions.skipped ≡ None → IsBounded new
-    → 0 < length (held_of (inner_buffer old.files.nest)) → (inner_buffer old.files.nest).mode ≡ Plain → IsUsage (held_of (inner_buffer old.files.nest)) len
-    → macro_named old.table.macros (usage_name (held_of (inner_buffer old.files.nest)) len) ≡ Some (macro_at old.table.macros id)
-    → stands_for_body (macro_at old.table.macros id) ≡ true
-    → new ≡ record old { files = record old.files { nest = with_inner (consumed_file len 0) old.files.nest } }
-    → end ≡ length (macro_at old.table.macros id).body → Walks g old new (lent_answer new (Body id 0 end))
-unfolding source_rules rules_of
-take_usage {S} {R} g old new len id end ready live bounded some plain usage named lies becomes whole =
-    let inner = inner_facts old.files ready.nest ready.files in
-    let held = held_of (inner_buffer old.files.nest) in
-    let within = usage_inside held len some usage in
-    let m = macro_at old.table.macros id in
-    let body : slice_range (macro_at new.table.macros id).body 0 end ≡ m.body =
-    ap (λ (e : EngineView S R). slice_range (macro_at e.table.macros id).body 0 end) becomes ∙ whole-range m.body end whole in
-    let depth = ready.sound.in_range.depth.0 in
-    subst (λ (xs : List ℕ). Walks g old new (Ok (Some xs))) (sym body)
-    (lends_source g old new ready m.body old.table.macros old.conditions (with_inner (consumed_file len 0) old.files.nest) becomes bounded
-    (used_bytes old.files.nest len 0 within.0 within.1)
-    (nest_body old.limits (run_rules g old) g.unread old.table.macros old.conditions live old.files.nest len m some inner.ends plain usage named lies (omega arith)))
+    (nest_text old.limits (run_rules g old) g.unread old.table.macros old.conditions live old.files.nest len lines next some inner.ends text counted)
+    (parts_on g.unread old.files.nest (with_buffer (entered_mode b next) old.files.nest) nest (parts_mode g.unread next old.files.nest) (parts_used g.unread len lines (with_buffer (entered_mode b next) old.files.nest)))
+    (AtSource len lines next ready.owed ready.idle refl refl))
 
 -- a macro is taken out
 pub take_undef : {S R : Type 0} (g : Ghosts S R) (old new : EngineView S R) (start stop : ℕ) → IsReady old → old.conditions.skipped ≡ None → IsBounded new
@@ -419,6 +406,7 @@ take_undef g old new start stop ready live bounded some plain named free becomes
     lends_source g old new ready [] (without (argument_name held start stop) old.table.macros) old.conditions (with_inner (consumed_file stop 0) old.files.nest) becomes bounded
     (used_bytes old.files.nest stop 0 (omega (arith, within.0, within.1)) within.2)
     (nest_undef old.limits (run_rules g old) g.unread old.table.macros old.conditions live old.files.nest start stop some inner.ends plain named free)
+    (parts_used g.unread stop 0 old.files.nest) (Nowhere refl)
 
 -- a `define` whose logical line is held, and what it comes to
 module _ {S R : Type 0} (g : Ghosts S R) (old mid new : EngineView S R) (len : ℕ) (ready : IsReady old) (live : old.conditions.skipped ≡ None) (r : IsRead old mid) (bounded : IsBounded new)
@@ -454,7 +442,9 @@ module _ {S R : Type 0} (g : Ghosts S R) (old mid new : EngineView S R) (len : �
       (used_after old.files.nest b len d.lines ready.nest holds.extends.unused (omega arith) inside) call
       (λ t. nest_defined old.limits (run_rules g old) g.unread old.table.macros old.conditions live (g.tells old.sources) t old.files.nest b len d.lines d.macros
       some inner.ends plain define holds (ap with_fault accepted) counted
-      ∙ ap (λ (x : List ℕ). behind_bytes x (left_by g old d.macros old.conditions after)) owed))
+      ∙ ap (λ (x : List ℕ). behind_bytes x (left_by g old d.macros old.conditions after)) owed)
+      (λ t. parts_on g.unread old.files.nest (with_buffer b old.files.nest) after (parts_slid (IsExactLine (line.Whole len) × g.tells old.sources) g.unread b old.files.nest ready.nest holds.slides (λ e. cc, t))
+      (parts_used g.unread len d.lines (with_buffer b old.files.nest))) (Nowhere refl))
 
   -- it is refused
   refused_steps : (place : Place) → place ≡ Kept → RefusesDefine len mid new → Walks g old new (lent_answer new place)
@@ -507,13 +497,25 @@ take_owed {S} {R} g old new piece owed free open_ bounded takes becomes =
     subst (λ (e : EngineView S R). Walks g old e (lent_answer e (Owed piece))) (sym becomes)
     (walks_lent g old after free open_ (subst IsBounded becomes bounded) bytes refl (refl, refl) (not_called g old.sources)
     (λ t. ap (λ (x : List ℕ). behind_bytes x rest) takes.bytes ∙ behind_twice bytes (owed_bytes name owed) rest)
-    (owed_falls old after refl refl refl takes.fewer))
+    (owed_falls old after refl refl refl takes.fewer) (keeps_owed g old owed) (AtOwed piece owed takes refl refl))
 
 -- and it is a place
 pub owed_is_placed : {S R : Type 0} (old new : EngineView S R) (piece : OwedPiece) (owed : OwedView) → 0 < length old.files.nest
     → TakesPiece (inner_name old.files.nest) old.owed owed piece → new ≡ record old { owed = owed } → IsPlaced new (Owed piece)
 owed_is_placed {S} {R} old new piece owed some takes becomes =
     subst (λ (e : EngineView S R). IsPlaced e (Owed piece)) (sym becomes) (some, takes.inside)
+
+-- what is held stays so
+filled_stores : {S R : Type 0} (g : Ghosts S R) (old mid : EngineView S R) → IsReady old → IsRead old mid
+    → Fills (g.tells old.sources) g.unread fill.Held (inner_buffer old.files.nest) (inner_buffer mid.files.nest) → SourcesCalled g false false old.sources mid.sources → KeepsStores g old mid
+filled_stores {S} {R} g old mid ready r fills call =
+    let b = inner_buffer mid.files.nest in
+    let nest = with_buffer b old.files.nest in
+    let is : mid ≡ record old { files = record old.files { nest = nest }; sources = mid.sources } =
+    r.becomes ∙ ap (λ (fs : FilesView R). record old { files = fs; sources = mid.sources }) r.only in
+    subst (λ (e : EngineView S R). KeepsStores g old e) (sym is)
+    (keeps_sources g old old.owed old.table.macros old.conditions nest mid.sources ready.idle call.catalog
+    (λ t. parts_slid (IsExact fill.Held × g.tells old.sources) g.unread b old.files.nest ready.nest fills.slides (λ e. cc, t) (g.catalog old.sources)))
 
 -- bytes are held that weren't, and nothing else changed
 pub silent_fill : {S R : Type 0} (g : Ghosts S R) (old mid : EngineView S R) → IsReady old → IsRead old mid
@@ -541,6 +543,7 @@ silent_fill {S} {R} g old mid ready r fills call =
       text = λ t. read_text g old mid ready.owed ready.idle r call.catalog
           (nest_filled old.limits (run_rules g old) g.unread old.table.macros old.conditions (g.tells old.sources) t old.files.nest b fills);
       work = (let same : work_left mid ≡ work_left old = work_same old mid b limits owed (ap (λ e. e.expansion) r.becomes) nest fills.unused in omega arith);
+      keeps = filled_stores g old mid ready r fills call;
     }
 
 -- the main text is open

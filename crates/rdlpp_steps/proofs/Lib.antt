@@ -14,6 +14,7 @@ pub mod SkippedSteps
 pub mod PaddedDigits
 pub mod PassedNests
 pub mod WorkFacts
+pub mod Stores
 pub mod OpeningFacts
 pub mod EngineSteps
 pub mod FrontSteps

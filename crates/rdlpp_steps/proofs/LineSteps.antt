@@ -27,6 +27,8 @@ use Rattle.rdlpp_front.proofs.LineGiven.{given_text, line_behind}
 use Rattle.rdlpp_front.proofs.LineLeft.{bad_line_left, late_line_left, line_text, renumbered_left}
 use Rattle.rdlpp_steps.specs.Engine.{EngineView, IsSoundEngine}
 use Rattle.rdlpp_steps.specs.Held.{IsBounded}
+use Rattle.rdlpp_steps.specs.Standing.{Nowhere}
+use Rattle.rdlpp_steps.proofs.Stores.{parts_on, parts_shown, parts_used}
 use Rattle.rdlpp_steps.specs.Lines.{Renumbers, inner_blanks, renumbered_file}
 use Rattle.rdlpp_steps.specs.Moves.{IsReady}
 use Rattle.rdlpp_steps.specs.Owed.{OwedView, nothing_owed, origin_owed, owed_bytes}
@@ -151,7 +153,8 @@ take_renumbered {S} {R} g old new given ready live bounded some plain is first h
     (shown_used old.files.nest used (renumbered_file from given.number given.name) (λ f. refl) (used_bytes old.files.nest len d.lines (omega arith) inside))
     (not_called g old.sources)
     (λ t. nest_line old.limits (run_rules g old) g.unread old.table.macros old.conditions live old.files.nest given from d.lines some inner.ends plain is first has (omega arith) d.counted
-    ∙ ap (λ (x : List ℕ). behind_bytes x (left_by g old old.table.macros old.conditions nest)) (sym bytes)))
+    ∙ ap (λ (x : List ℕ). behind_bytes x (left_by g old old.table.macros old.conditions nest)) (sym bytes))
+    (λ t. parts_on g.unread old.files.nest used nest (parts_used g.unread len d.lines old.files.nest) (parts_shown g.unread from given.number given.name used)) (Nowhere refl))
 
 -- what remains at a bad `line`
 module _ {S R : Type 0} (g : Ghosts S R) (e : EngineView S R) (ready : IsReady e) (live : e.conditions.skipped ≡ None) (some : 0 < length (held_of (inner_buffer e.files.nest)))

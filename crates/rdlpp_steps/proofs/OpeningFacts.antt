@@ -1,12 +1,12 @@
 -- The opening of a main text: the name that its fault tells, and what a start comes to.
-use Rattle.std.proofs.Common.{◌≡◌, ℕ, zero, suc, ◌-◌, ◌≤◌, ◌<◌, ◌&&◌, Bool, true, false, leb, List, [], length, get_or, take, None, Some, Err, refl, sym, ap, ◌∙◌, inl, inr, arith}
+use Rattle.std.proofs.Common.{◌≡◌, ℕ, zero, suc, ◌-◌, ◌≤◌, ◌<◌, ◌&&◌, Bool, true, false, leb, List, [], length, get_or, take, None, Some, Err, ◌∷◌, refl, sym, ap, subst, ◌∙◌, inl, inr, arith}
 use Rattle.std.specs.Str.{IsCharBoundary}
 use Rattle.std.proofs.lemmas.Bool.{cases_lt, cond-true, cond-false}
 use Rattle.std.proofs.lemmas.Bool.Decides.{nat_tests}
 use Rattle.std.proofs.lemmas.List.{take_all, get_or_past}
 use Rattle.rdlpp_scan.specs.SourceTokens.{whole_tokens}
 use Rattle.rdlpp_source.specs.Counts.{Counts}
-use Rattle.rdlpp_source.specs.Sources.{Answer, Present, Finds, is_device, is_no_memory}
+use Rattle.rdlpp_source.specs.Sources.{Answer, Catalog, Present, Finds, is_device, is_no_memory}
 use Rattle.rdlpp_source.specs.declared.sources.Found.{Found}
 use Rattle.rdlpp_source.specs.declared.sources.SourceFault.{SourceFault}
 use Rattle.rdlpp_source.specs.declared.sources.SourceFault.TheVariants as source
@@ -28,15 +28,19 @@ use Rattle.rdlpp_steps.proofs.ConditionalPlaces.{no_place}
 use Rattle.rdlpp_steps.proofs.IdleTexts.{text_idle}
 use Rattle.rdlpp_steps.proofs.OwedOrigins.{owed_origin}
 use Rattle.rdlpp_steps.specs.Held.{IsBounded, stores_of}
+use Rattle.rdlpp_steps.specs.Stored.{AreParts}
+use Rattle.rdlpp_steps.proofs.Stores.{fault_lets_go, fault_stores, none_called, parts_opened}
+use Rattle.rdlpp_read.specs.Files.{entered_file}
+use Rattle.rdlpp_read.specs.declared.files.File.{File}
 use Rattle.rdlpp_steps.specs.Owed.{origin_owed, owed_bytes}
 use Rattle.rdlpp_steps.specs.Remaining.{file_state, kept_uncut, left_of, lookup_of, nest_left, nest_state, output_fault, phase_uncut, run_rules, source_rules, uncut_of, waiting_around, inner_name}
-use Rattle.rdlpp_meaning.specs.OutputLimit.{limited}
+use Rattle.rdlpp_meaning.specs.OutputLimit.{limited, limited_output, search_rules, unlimited_output}
 use Rattle.rdlpp_meaning.proofs.OutputLimits.{limited-fails}
 use Rattle.rdlpp_meaning.specs.State.{Lookup, NoSource, LongPath, Rules, State, no_shift}
 use Rattle.rdlpp_meaning.specs.Profile.{rules_of}
 use Rattle.rdlpp_steps.specs.Steps.{is_memory_kind, is_read_failed}
 use Rattle.rdlpp_steps.specs.Includes.{kind_of_source}
-use Rattle.rdlpp_steps.specs.Opening.{opened_engine, unopened_engine, found_name, looked_up, looked_up_output, is_device_fault, is_memory_fault, Starts}
+use Rattle.rdlpp_steps.specs.Opening.{opened_engine, unopened_engine, looked_up_output, searches_of, is_device_fault, is_memory_fault, Starts}
 
 -- whether the byte at a place goes on with a character
 goes_on : List ℕ → ℕ → Bool
@@ -137,33 +141,33 @@ alone rules x ts s =
     ∙ ap (λ (p : Passage). and_then (gives x) (outcome p)) (all_resumed_alone rules (Live []) true ts s)
 
 -- what remains of a main text that was opened, where no text of a usage is
-left_idle : {S R : Type 0} (g : Ghosts S R) (e : EngineView S R) (s : S) (found : Found R) → e.expansion.opens ≡ []
-    → let o = opened_engine (record e { sources = s }) found in
-    left_of g o ≡ limited (output_fault found.path.bytes) e.limits.output_bytes
+left_idle : {S R : Type 0} (g : Ghosts S R) (e : EngineView S R) (s : S) (path : List ℕ) (found : Found R) → e.expansion.opens ≡ []
+    → let o = opened_engine (record e { sources = s }) path found in
+    left_of g o ≡ limited (output_fault (name_cut path)) e.limits.output_bytes
     (outcome (behind_bytes (owed_bytes (inner_name o.files.nest) o.owed) (nest_left o.limits (run_rules g o) g.unread o.table.macros o.conditions o.files.nest)))
 unfolding left_of uncut_of kept_uncut phase_uncut opened_engine
-left_idle g e s found idle =
-    ap (λ (p : Passage). limited (output_fault found.path.bytes) e.limits.output_bytes (outcome p)) (text_idle g (opened_engine (record e { sources = s }) found) idle)
+left_idle g e s path found idle =
+    ap (λ (p : Passage). limited (output_fault (name_cut path)) e.limits.output_bytes (outcome p)) (text_idle g (opened_engine (record e { sources = s }) path found) idle)
 
 -- what remains of a main text that was opened
-left_opened : {S R : Type 0} (g : Ghosts S R) (e : EngineView S R) (s : S) (found : Found R)
+left_opened : {S R : Type 0} (g : Ghosts S R) (e : EngineView S R) (s : S) (path : List ℕ) (found : Found R)
     → e.files.line_bytes ≡ e.limits.line_bytes → e.files.nest ≡ [] → e.conditions.open_now ≡ [] → e.expansion.opens ≡ [] → g.catalog s ≡ g.catalog e.sources
-    → left_of g (opened_engine (record e { sources = s }) found)
-    ≡ limited (output_fault found.path.bytes) e.limits.output_bytes
+    → left_of g (opened_engine (record e { sources = s }) path found)
+    ≡ limited (output_fault (name_cut path)) e.limits.output_bytes
     (and_then (gives (origin_line (run_rules g e) found.path.bytes 1))
     (remains (run_rules g e) (Live []) true ((run_rules g e).tokens (g.unread found.reader))
     (start_state e.table.macros e.limits.includes e.limits.conditions found.path.bytes)))
 unfolding nest_left waiting_around nest_state file_state source_left opened_engine opened_buffer tokens_left held_of rest_of ahead_of unread_of whole_tokens source_rules rules_of start_state no_shift
-left_opened g e s found most none unopened idle catalog =
+left_opened g e s path found most none unopened idle catalog =
     let rules = run_rules g e in
     let ts = whole_tokens e.limits.line_bytes e.limits.source_bytes (g.unread found.reader) in
     let starts : ℕ → State = λ n. record (start_state e.table.macros e.limits.includes e.limits.conditions found.path.bytes) { sources_left = n } in
     let count : e.limits.conditions - length {A = Progress} [] ≡ e.limits.conditions = omega arith in
     let all : e.limits.includes - 0 ≡ e.limits.includes = omega arith in
     let x = owed_bytes found.path.bytes (record { line_ends = 0; origin = origin_owed e.origins 1 }) in
-    let cuts : List ℕ → ℕ → Outcome = λ y n. limited (output_fault found.path.bytes) e.limits.output_bytes (and_then (gives y) (remains rules (Live []) true ts (starts n))) in
-    left_idle g e s found idle
-    ∙ rw (none, most, catalog, no_place 0 e.conditions unopened, unopened, count) (ap (limited (output_fault found.path.bytes) e.limits.output_bytes) (alone rules x ts (starts (e.limits.includes - 0)))
+    let cuts : List ℕ → ℕ → Outcome = λ y n. limited (output_fault (name_cut path)) e.limits.output_bytes (and_then (gives y) (remains rules (Live []) true ts (starts n))) in
+    left_idle g e s path found idle
+    ∙ rw (none, most, catalog, no_place 0 e.conditions unopened, unopened, count) (ap (limited (output_fault (name_cut path)) e.limits.output_bytes) (alone rules x ts (starts (e.limits.includes - 0)))
     ∙ (ap (cuts x) all ∙ ap (λ (y : List ℕ). cuts y e.limits.includes) (owed_origin (g.catalog e.sources) e.limits e.origins found.path.bytes 1)))
 
 -- what remains where no main text was opened
@@ -172,11 +176,17 @@ left_unopened : {S R : Type 0} (g : Ghosts S R) (e : EngineView S R) (s : S) (ki
 unfolding left_of uncut_of kept_uncut unopened_engine
 left_unopened g e s kind path = limited-fails (output_fault e.main) e.quota (opening_fault kind path)
 
+-- the output of a main path by what the search for it comes to
+unfoldable looked_up : {S R : Type 0} → Ghosts S R → EngineView S R → List ℕ → Lookup → Outcome
+looked_up g e path lookup =
+    limited (output_fault (name_cut path)) e.limits.output_bytes
+    (output (run_rules g e) e.table.macros e.limits.includes e.limits.conditions path lookup)
+
 -- the output is that of what is found at the main path
 found_output : {S R : Type 0} (g : Ghosts S R) (e : EngineView S R) (path : List ℕ) (answer : Answer)
     → (g.catalog e.sources).top path ≡ answer
     → looked_up_output g e path ≡ looked_up g e path (lookup_of answer)
-unfolding looked_up_output
+unfolding looked_up_output looked_up searches_of limited_output unlimited_output search_rules source_rules opening_fault output_fault
 found_output g e path answer found = ap (λ (a : Answer). looked_up g e path (lookup_of a)) found
 
 -- the output of a main path that is no text
@@ -185,7 +195,7 @@ looked_up-fails : {S R : Type 0} (g : Ghosts S R) (e : EngineView S R) (path : L
     → looked_up g e path lookup ≡ fails f
 unfolding looked_up
 looked_up-fails g e path lookup f is =
-    ap (limited (output_fault (found_name path lookup)) e.limits.output_bytes) is ∙ limited-fails (output_fault (found_name path lookup)) e.limits.output_bytes f
+    ap (limited (output_fault (name_cut path)) e.limits.output_bytes) is ∙ limited-fails (output_fault (name_cut path)) e.limits.output_bytes f
 
 -- a start that finds its main text
 pub starts_open : {S R : Type 0} (g : Ghosts S R) (e : EngineView S R) (s : S) (found : Found R) (path : List ℕ)
@@ -193,15 +203,15 @@ pub starts_open : {S R : Type 0} (g : Ghosts S R) (e : EngineView S R) (s : S) (
     → e.files.nest ≡ []
     → e.conditions.open_now ≡ []
     → e.expansion.opens ≡ []
-    → IsBounded (opened_engine (record e { sources = s }) found)
+    → IsBounded (opened_engine (record e { sources = s }) path found)
     → (g.tells e.sources → (g.catalog e.sources).top path ≡ Present found.path.bytes (g.unread found.reader))
     → g.failures s ≡ g.failures e.sources
     → g.refusals s ≡ g.refusals e.sources
     → (g.tells e.sources → g.tells s)
     → g.catalog s ≡ g.catalog e.sources
-    → Starts g e (opened_engine (record e { sources = s }) found) path None
-unfolding opened_engine is_device_fault is_memory_fault lookup_of looked_up found_name
-starts_open g e s found path most none unopened idle bounded answer failures refusals tells catalog = record {
+    → Starts g e (opened_engine (record e { sources = s }) path found) path None
+unfolding opened_engine is_device_fault is_memory_fault lookup_of looked_up
+starts_open {S} {R} g e s found path most none unopened idle bounded answer failures refusals tells catalog = record {
   limits = refl;
   origins = refl;
   table = refl;
@@ -211,12 +221,21 @@ starts_open g e s found path most none unopened idle bounded answer failures ref
   refused = λ f is. absurd (cc is);
   call = record { failures = failures; refusals = refusals; tells = tells; catalog = catalog };
   remains_output = λ _ _ telling.
-      left_opened g e s found most none unopened idle catalog
+      left_opened g e s path found most none unopened idle catalog
       ∙ sym (found_output g e path _ (answer telling)
-      ∙ ap (limited (output_fault found.path.bytes) e.limits.output_bytes)
+      ∙ ap (limited (output_fault (name_cut path)) e.limits.output_bytes)
       (output_found (run_rules g e) e.table.macros e.limits.includes e.limits.conditions path
       found.path.bytes (g.unread found.reader)));
   bounded = bounded;
+  lets_go = λ h. record { idle = λ _ _. h };
+  stores = λ telling. record {
+    parts = λ _.
+        let file : File R = entered_file found e.limits.source_bytes e.files.line_bytes 0 0 in
+        subst (λ (ns : List (File R)). AreParts g.unread (g.catalog s) (file ∷ ns)) (sym none)
+        (subst (λ (c : Catalog). AreParts g.unread c (file ∷ [])) (sym catalog)
+        (parts_opened g.unread (g.catalog e.sources) found e.limits.source_bytes e.files.line_bytes 0 0 path (answer telling)));
+    call = λ _ fs called. absurd (let no : None ≡ Some fs = sym (none_called e.table.macros e.expansion.opens idle) ∙ called in cc);
+  };
 }
 
 -- a start that is refused
@@ -229,7 +248,7 @@ starts_refused : {S R : Type 0} (g : Ghosts S R) (e : EngineView S R) (s : S) (k
     → (is_read_failed kind ≡ false → is_memory_kind kind ≡ false → g.tells e.sources
     → fails (opening_fault kind path) ≡ looked_up_output g e path)
     → Starts g e (unopened_engine (record e { sources = s }) (opening_fault kind path)) path (Some (opening_fault kind path))
-unfolding unopened_engine is_device_fault is_memory_fault opening_fault IsBounded stores_of
+unfolding unopened_engine is_device_fault is_memory_fault opening_fault stores_of
 starts_refused g e s kind path bounded failures refusals tells catalog told = record {
   limits = refl;
   origins = refl;
@@ -242,7 +261,15 @@ starts_refused g e s kind path bounded failures refusals tells catalog told = re
       (sym same ∙ ap (λ (t : Told). opening_fault t.kind path) same, ap (unopened_engine (record e { sources = s })) same);
   call = record { failures = failures; refusals = refusals; tells = tells; catalog = catalog };
   remains_output = λ device memory telling. left_unopened g e s kind path ∙ told device memory telling;
-  bounded = bounded;
+  bounded = record {
+    bytes = bounded.bytes;
+    cursors = bounded.cursors;
+    bindings = bounded.bindings;
+    conditions = bounded.conditions;
+    sources = bounded.sources;
+  };
+  lets_go = λ _. fault_lets_go (unopened_engine (record e { sources = s }) (opening_fault kind path)) (opening_fault kind path) refl;
+  stores = λ _. fault_stores g (unopened_engine (record e { sources = s }) (opening_fault kind path)) (opening_fault kind path) refl;
 }
 
 -- a start that the sources refuse

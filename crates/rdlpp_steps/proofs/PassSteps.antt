@@ -19,7 +19,7 @@ use Rattle.rdlpp_meaning.specs.declared.fault.FaultKind.TheVariants as fault
 use Rattle.rdlpp_meaning.proofs.OwedLineEnds.{line_ends_of-owed}
 use Rattle.rdlpp_read.specs.Buffer.{entered_mode, held_of, unused_of}
 use Rattle.rdlpp_read.specs.Files.{FilesView, consumed_file, inner_buffer, with_buffer, with_inner}
-use Rattle.rdlpp_read.specs.LogicalLines.{HoldsLine}
+use Rattle.rdlpp_read.specs.LogicalLines.{IsExactLine, HoldsLine}
 use Rattle.rdlpp_read.specs.declared.buffer.extending.LogicalLine.TheVariants as line
 use Rattle.rdlpp_read.specs.declared.files.File.{File}
 use Rattle.rdlpp_read.proofs.Slices.{line_ends_le}
@@ -34,6 +34,8 @@ use Rattle.rdlpp_steps.specs.Calls.{SourcesCalled}
 use Rattle.rdlpp_steps.specs.Conditionals.{AnyUsage, IncludeWord, IsSkippedWord, LoneBackquote, UndefWord, goes_past, opening_word, passes_over}
 use Rattle.rdlpp_steps.specs.Engine.{EngineView}
 use Rattle.rdlpp_steps.specs.Held.{IsBounded}
+use Rattle.rdlpp_steps.specs.Standing.{Nowhere}
+use Rattle.rdlpp_steps.proofs.Stores.{KeepsParts, parts_mode, parts_on, parts_slid, parts_used}
 use Rattle.rdlpp_steps.specs.Moves.{IsReady}
 use Rattle.rdlpp_steps.specs.OpenConditionals.{AreConditions, inner_below}
 use Rattle.rdlpp_steps.specs.Owed.{OwedView, line_ends_owed, nothing_owed, owed_bytes}
@@ -82,14 +84,15 @@ pub passes_text : {S R : Type 0} (g : Ghosts S R) (old new : EngineView S R) (so
     → IsUsed old.files.nest nest → SourcesCalled g false false old.sources sources
     → new ≡ record old { owed = line_ends_owed lines; files = record old.files { nest = nest }; sources = sources }
     → (g.tells old.sources → left_by g old old.table.macros old.conditions old.files.nest ≡ behind_bytes (line_ends_of w) (left_by g old old.table.macros old.conditions nest))
+    → (g.tells old.sources → KeepsParts g.unread old.files.nest nest)
     → Walks g old new (step_answer new None)
 unfolding behind_bytes
-passes_text {S} {R} g old new sources w lines nest ready bounded counted few used call becomes law =
+passes_text {S} {R} g old new sources w lines nest ready bounded counted few used call becomes law parts =
     let owed : line_ends_of w ≡ owed_bytes (inner_name nest) (line_ends_owed lines) =
     line_ends_of-owed w ∙ (ap (λ n. replicate n 10) (sym counted) ∙ sym (owed_lines (inner_name nest) lines)) in
     subst (λ (e : EngineView S R). Walks g old e (Ok (Some []))) (sym becomes)
     (lends_piece g old ready [] (line_ends_owed lines) old.table.macros old.conditions nest sources (subst IsBounded becomes bounded) (lines_few lines _ few) used call
-    (λ t. law t ∙ ap (λ (x : List ℕ). behind_bytes x (left_by g old old.table.macros old.conditions nest)) owed))
+    (λ t. law t ∙ ap (λ (x : List ℕ). behind_bytes x (left_by g old old.table.macros old.conditions nest)) owed) parts (Nowhere refl))
 
 -- what is refused in front is `<%`, or a lone backquote
 pub perl_is : (mode : Mode) (held : List ℕ) (kind : FaultKind) → IsRefused mode held kind → kind ≡ fault.EmbeddedPerl → (token_of mode held).kind ≡ Perl
@@ -186,6 +189,8 @@ module _ {S R : Type 0} (g : Ghosts S R) (old new : EngineView S R) (ready : IsR
       (uses ∙ ap (passes_over len lines) enters)
       (λ t. stretch.1 ∙ (ap (λ (n : ℕ). behind_bytes (line_ends_of w) (left_by g old old.table.macros old.conditions (nest n Plain))) (sym counted)
       ∙ ap (λ (m : Mode). behind_bytes (line_ends_of w) (left_by g old old.table.macros old.conditions (nest lines m))) (sym stretch.0)))
+      (λ t. parts_on g.unread old.files.nest (with_buffer (entered_mode b next) old.files.nest) (with_inner (consumed_file len lines) (with_buffer (entered_mode b next) old.files.nest)) (parts_mode g.unread next old.files.nest)
+      (parts_used g.unread len lines (with_buffer (entered_mode b next) old.files.nest)))
 
   -- a part of a text
   pub part_steps : (mid : EngineView S R) (len lines : ℕ) (next : Mode) → IsText (inner_buffer old.files.nest).mode (held_of (inner_buffer old.files.nest)) len next
@@ -200,6 +205,8 @@ module _ {S R : Type 0} (g : Ghosts S R) (old new : EngineView S R) (ready : IsR
       (used_after old.files.nest (entered_mode b next) len lines ready.nest (entered_unused b next) within.0 (rw (held_entered b next) within.1)) (not_called g old.sources)
       (uses ∙ ap (passes_over len lines) enters)
       (λ t. passes_part old.limits (run_rules g old) g.unread old.table.macros old.conditions s.count s.conditional s.around s.is_open s.skips old.files.nest len lines next front s.below text counted)
+      (λ t. parts_on g.unread old.files.nest (with_buffer (entered_mode b next) old.files.nest) (with_inner (consumed_file len lines) (with_buffer (entered_mode b next) old.files.nest)) (parts_mode g.unread next old.files.nest)
+      (parts_used g.unread len lines (with_buffer (entered_mode b next) old.files.nest)))
 
   -- `<%`
   pub left_perl : (token_of (inner_buffer old.files.nest).mode (held_of (inner_buffer old.files.nest))).kind ≡ Perl
@@ -217,6 +224,7 @@ module _ {S R : Type 0} (g : Ghosts S R) (old new : EngineView S R) (ready : IsR
         passes_text g old new old.sources w 0 (with_inner (consumed_file len 0) old.files.nest) ready bounded (sym within.none) (omega arith)
         (used_bytes old.files.nest len 0 within.positive within.inside) (not_called g old.sources) becomes
         (λ t. passes_word old.limits (run_rules g old) g.unread old.table.macros old.conditions s.count s.conditional s.around s.is_open s.skips old.files.nest len front plain s.below word)
+        (λ t. parts_used g.unread len 0 old.files.nest)
 
     -- a `line`
     pub line_steps : (len lines : ℕ) → IsDirective Line (held_of (inner_buffer old.files.nest)) → len ≡ line_len (held_of (inner_buffer old.files.nest))
@@ -230,6 +238,7 @@ module _ {S R : Type 0} (g : Ghosts S R) (old new : EngineView S R) (ready : IsR
         passes_text g old new old.sources (take len held) lines (with_inner (consumed_file len lines) old.files.nest) ready bounded counted (few_lines len lines inside counted)
         (used_bytes old.files.nest len lines positive inside) (not_called g old.sources) becomes
         (λ t. passes_line old.limits (run_rules g old) g.unread old.table.macros old.conditions s.count s.conditional s.around s.is_open s.skips old.files.nest len lines front plain s.below is whole counted)
+        (λ t. parts_used g.unread len lines old.files.nest)
 
     -- a conditional that opens in skipped text
     pub opening_steps : (defined : Bool) (v : ConditionsView) → IsDirective (opening_word defined) (held_of (inner_buffer old.files.nest)) → v ≡ with_count (s.count + 1) old.conditions
@@ -262,6 +271,8 @@ module _ {S R : Type 0} (g : Ghosts S R) (old new : EngineView S R) (ready : IsR
           ∙ ap (λ (ns : List (File R)). makes (with_inner (consumed_file len lines) ns)) nest)) in
           passes_text g old new mid.sources w lines after ready bounded counted (omega arith) (used_after old.files.nest b len lines ready.nest holds.extends.unused positive inside) call exact
           (λ t. passes_define old.limits (run_rules g old) g.unread old.table.macros old.conditions s.count s.conditional s.around s.is_open s.skips (g.tells old.sources) t old.files.nest b len lines front plain s.below is holds counted)
+          (λ t. parts_on g.unread old.files.nest (with_buffer b old.files.nest) after (parts_slid (IsExactLine (line.Whole len) × g.tells old.sources) g.unread b old.files.nest ready.nest holds.slides (λ e. cc, t))
+          (parts_used g.unread len lines (with_buffer b old.files.nest)))
 
       pub left_long : HoldsLine (g.tells old.sources) g.unread line.TooLong (inner_buffer old.files.nest) (inner_buffer mid.files.nest) → g.tells old.sources
           → left_by g old old.table.macros old.conditions old.files.nest ≡ leaves (fails (fault_at fault.LineTooLong (inner_buffer mid.files.nest).line [] (state_of old))) (state_of old)

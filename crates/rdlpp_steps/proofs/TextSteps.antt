@@ -26,6 +26,10 @@ use Rattle.rdlpp_usages.specs.Usages.{ExpansionView, IsRoomy, StaysAt, StaysLent
 use Rattle.rdlpp_steps.specs.Calls.{SourcesCalled}
 use Rattle.rdlpp_steps.specs.Engine.{AreOpenTexts, EngineView, IsSoundEngine}
 use Rattle.rdlpp_steps.specs.Held.{IsBounded}
+use Rattle.rdlpp_steps.specs.Standing.{AtCursor, Nowhere}
+use Rattle.rdlpp_cursors.specs.Fronts.{IsFrontPlace, StandsAt}
+use Rattle.rdlpp_cursors.specs.Opened.{StaysOutermost}
+use Rattle.rdlpp_steps.proofs.Stores.{keeps_texts}
 use Rattle.rdlpp_steps.specs.Moves.{IsUnowed}
 use Rattle.rdlpp_steps.specs.Owed.{owed_pieces}
 use Rattle.rdlpp_steps.specs.Pieces.{held_texts, lent_answer}
@@ -104,6 +108,8 @@ pub record HoldsTexts {S R : Type 0} (e : EngineView S R) (x : ExpansionView) : 
   pub now_room : IsRoomy x
   pub now_sound : AreSound (texts_of e.table.macros x.arguments) x.opens
   pub stays : StaysOpen e.expansion x
+  pub outer : StaysOutermost e.expansion.opens x.opens
+  pub lets_go : x.opens ≡ [] → x.arguments ≡ []
 
 module _ {S R : Type 0} (g : Ghosts S R) (old : EngineView S R) (x : ExpansionView) (unowed : IsUnowed old) (holds : HoldsTexts old x) where
   -- what remains of the text
@@ -141,13 +147,14 @@ module _ {S R : Type 0} (g : Ghosts S R) (old : EngineView S R) (x : ExpansionVi
 
   -- bytes of a text are lent
   pub texts_lend : (place : TextPlace) → IsBounded (record old { expansion = x }) → IsStep old.expansion.line old.expansion.depth (held_texts old) old.expansion.opens (Lends place) x.opens
-      → IsFalling old.expansion.opens (Lends place) x.opens → StaysLent old.expansion (Lends place) x → Walks g old (record old { expansion = x }) (lent_answer (record old { expansion = x }) (Text place))
+      → IsFalling old.expansion.opens (Lends place) x.opens → StaysLent old.expansion (Lends place) x → IsFrontPlace old.expansion.opens place → Walks g old (record old { expansion = x }) (lent_answer (record old { expansion = x }) (Text place))
   unfolding IsStep StepsTo IsFalling StaysLent state_of
-  texts_lend place bounded step falls lends =
+  texts_lend place bounded step falls lends stands =
       let goes = step (run_rules g old) (state_of old) (nest_macros old.limits old.table.macros old.conditions old.files.nest) in
       subst (λ (xs : List ℕ). Walks g old (record old { expansion = x }) (Ok (Some xs))) (ap (λ (a : List ℕ). place_bytes (texts_of old.table.macros a) place) (sym lends.1))
       (walks_lent g old (record old { expansion = x }) unowed.free unowed.open_ bounded (place_bytes (held_texts old) place) refl (refl, refl) (not_called g old.sources)
-      (λ t. text_goes (place_bytes (held_texts old) place) goes) (work_texts falls))
+      (λ t. text_goes (place_bytes (held_texts old) place) goes) (work_texts falls) (keeps_texts g old x holds.stays holds.outer holds.lets_go)
+      (AtCursor place unowed.owed stands refl refl))
 
   -- a text was opened or closed
   pub texts_turn : IsBounded (record old { expansion = x }) → IsStep old.expansion.line old.expansion.depth (held_texts old) old.expansion.opens Silent x.opens
@@ -155,7 +162,7 @@ module _ {S R : Type 0} (g : Ghosts S R) (old : EngineView S R) (x : ExpansionVi
   unfolding IsStep StepsTo IsFalling state_of
   texts_turn bounded step falls =
       walks_lent g old (record old { expansion = x }) unowed.free unowed.open_ bounded [] refl (refl, refl) (not_called g old.sources)
-      (λ t. text_goes [] (step (run_rules g old) (state_of old) (nest_macros old.limits old.table.macros old.conditions old.files.nest))) (work_texts falls)
+      (λ t. text_goes [] (step (run_rules g old) (state_of old) (nest_macros old.limits old.table.macros old.conditions old.files.nest))) (work_texts falls) (keeps_texts g old x holds.stays holds.outer holds.lets_go) (Nowhere refl)
 
 -- the open texts end with a fault, and nothing else changes
 pub texts_refuse : {S R : Type 0} (g : Ghosts S R) (old mid new : EngineView S R) (place : Place) (fault : CursorFault) → IsUnowed old → IsBounded new → mid ≡ old → place ≡ Kept
@@ -197,6 +204,7 @@ pub record TakesTexts {S R : Type 0} (old : EngineView S R) (x : ExpansionView) 
   pub falls : IsFalling old.expansion.opens result x.opens
   pub lends : StaysLent old.expansion result x
   pub refused : StaysAt old.expansion result x
+  pub stands : StandsAt old.expansion.opens result
 
 module _ {S R : Type 0} (g : Ghosts S R) (old : EngineView S R) (x : ExpansionView) (result : CursorStep) (unowed : IsUnowed old) (takes : TakesTexts old x result) where
   -- a step that lends bytes
@@ -204,7 +212,7 @@ module _ {S R : Type 0} (g : Ghosts S R) (old : EngineView S R) (x : ExpansionVi
   lend_step new place holds is becomes bounded =
       let t : TakesTexts old x (Lends place) = subst (λ (r : CursorStep). TakesTexts old x r) is takes in
       subst (λ (e : EngineView S R). Walks g old e (lent_answer e (Text place))) (sym becomes)
-      (texts_lend g old x unowed holds place (subst (λ (e : EngineView S R). IsBounded e) becomes bounded) t.step t.falls t.lends)
+      (texts_lend g old x unowed holds place (subst (λ (e : EngineView S R). IsBounded e) becomes bounded) t.step t.falls t.lends t.stands)
 
   -- one that lends none
   pub turn_step : (new : EngineView S R) → HoldsTexts old x → result ≡ Silent → new ≡ record old { expansion = x } → IsBounded new → Walks g old new (Ok (Some []))

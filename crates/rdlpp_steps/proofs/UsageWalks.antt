@@ -1,9 +1,9 @@
 -- The opening of a usage, as a step of the engine.
-use Rattle.std.proofs.Common.{◌≡◌, ◌+◌, ◌<◌, ◌^◌, ℕ, Bool, true, false, List, [], ◌∷◌, ◌++◌, length, drop, Option, None, Some, Ok, Err, refl, sym, ap, ◌∙◌, subst, arith}
+use Rattle.std.proofs.Common.{◌≤◌, ◌≡◌, ◌+◌, ◌<◌, ◌^◌, ℕ, Bool, true, false, List, [], ◌∷◌, ◌++◌, length, drop, Option, None, Some, Ok, Err, refl, sym, ap, ◌∙◌, subst, arith}
 use Rattle.rdlpp_scan.specs.declared.token.Mode.TheVariants.{Plain}
 use Rattle.rdlpp_source.specs.Sources.{Catalog}
 use Rattle.rdlpp_source.specs.declared.sources.Sources.{Ghosts}
-use Rattle.rdlpp_table.specs.Table.{Macro}
+use Rattle.rdlpp_table.specs.Table.{Macro, macro_named}
 use Rattle.rdlpp_meaning.specs.Meaning.{Passage, Progress, behind_bytes, goes_on, leaves}
 use Rattle.rdlpp_meaning.specs.Opened.{Waiting}
 use Rattle.rdlpp_meaning.specs.Opens.{Open}
@@ -12,20 +12,23 @@ use Rattle.rdlpp_meaning.specs.Profile.{rules_of}
 use Rattle.rdlpp_meaning.specs.State.{Rules, State, fault_at}
 use Rattle.rdlpp_meaning.specs.declared.fault.FaultKind.{FaultKind}
 use Rattle.rdlpp_meaning.specs.declared.fault.FaultKind.TheVariants as fault
-use Rattle.rdlpp_read.specs.Buffer.{held_of, reading_line_of, text_left, unused_of}
-use Rattle.rdlpp_read.specs.Files.{FilesView, inner_buffer, with_inner}
+use Rattle.rdlpp_read.specs.Buffer.{closed_buffer, held_of, reading_line_of, text_left, unused_of}
+use Rattle.rdlpp_read.specs.Files.{FilesView, consumed_file, inner_buffer, with_inner}
 use Rattle.rdlpp_read.specs.declared.files.File.{File}
 use Rattle.rdlpp_front.specs.Fronts.{IsUsage, usage_name}
 use Rattle.rdlpp_cursors.specs.Digits.{cursor_digits}
 use Rattle.rdlpp_cursors.specs.Places.{texts_of}
 use Rattle.rdlpp_cursors.specs.Steps.{AreSound}
 use Rattle.rdlpp_cursors.proofs.ShortTexts.{digits-count, digits-short}
-use Rattle.rdlpp_usages.specs.Usages.{ExpansionView, IsRoomy, IsRun, TellsUsage, UsesSource, is_opened, is_usage_fault}
+use Rattle.rdlpp_usages.specs.Usages.{ExpansionView, KeepsUsage, IsExactOpening, IsRoomy, IsRun, TellsUsage, UsesSource, is_opened, is_usage_fault}
 use Rattle.rdlpp_usages.specs.declared.expansion.Opening.{Opening}
 use Rattle.rdlpp_usages.specs.declared.expansion.Opening.TheVariants.{Opened, Refused, Broken, Failed}
 use Rattle.rdlpp_steps.specs.Calls.{SourcesCalled}
 use Rattle.rdlpp_steps.specs.Engine.{AreOpenTexts, EngineView}
 use Rattle.rdlpp_steps.specs.Held.{IsBounded}
+use Rattle.rdlpp_steps.specs.Standing.{Nowhere}
+use Rattle.rdlpp_front.proofs.Insides.{usage_inside}
+use Rattle.rdlpp_steps.proofs.Stores.{KeepsStores, keeps_opened, parts_moved}
 use Rattle.rdlpp_steps.specs.Moves.{IsReady, OpensUsage}
 use Rattle.rdlpp_steps.specs.Owed.{owed_bytes}
 use Rattle.rdlpp_steps.specs.Pieces.{lent_answer}
@@ -36,13 +39,19 @@ use Rattle.rdlpp_steps.specs.declared.place.Place.TheVariants.{Kept}
 use Rattle.rdlpp_steps.proofs.EngineSteps.{called, kept_at, walks_ceased, walks_kept, walks_lent}
 use Rattle.rdlpp_steps.proofs.FrontSteps.{told_kind, unowed_few}
 use Rattle.rdlpp_steps.proofs.UsageOpenings.{broken_text, opened_text, refused_text, text_by, used_file, used_state}
-use Rattle.rdlpp_steps.proofs.WorkFacts.{IsUsed, idle_digits, work_opens}
+use Rattle.rdlpp_steps.proofs.WorkFacts.{held_room, IsUsed, idle_digits, work_opens}
 
 -- the innermost source is used, and no other one changed
 used_nest : {R : Type 0} (nest new : List (File R)) (used : List ℕ) → 0 < length nest → new ≡ with_inner (used_file (inner_buffer new) used) nest
     → 0 < length used → unused_of (inner_buffer new) + length used ≡ unused_of (inner_buffer nest) → IsUsed nest new
 used_nest [] new used some uses has unused = absurd (omega arith)
 used_nest (f ∷ outer) new used some uses has unused = record { fewer = omega arith; outer = ap (drop 1) uses; size = ap length uses }
+
+-- the bytes of its name are accepted
+usage_within : {R : Type 0} (nest : List (File R)) (n : ℕ) → 0 < n → n ≤ length (held_of (inner_buffer nest)) → (inner_buffer (with_inner (consumed_file n 0) nest)).at ≤ (inner_buffer nest).accepted
+unfolding closed_buffer
+usage_within [] n some inside = omega arith
+usage_within (f ∷ outer) n some inside = let room = held_room f.buffer in omega (arith, room, some, inside)
 
 -- a fault of a usage is a text's own
 pub usage_kind : (kind : FaultKind) → is_usage_fault kind ≡ true → IsOwn kind
@@ -63,16 +72,14 @@ by_run : {S R : Type 0} (g : Ghosts S R) (e : EngineView S R) → text_of g e �
 unfolding text_of
 by_run g e = refl
 
--- an expansion in which nothing is open stays the same, where its line and its limits do
-pub unchanged : (old new : ExpansionView) → old.opens ≡ [] → new.opens ≡ [] → IsRoomy old → IsRoomy new → new.line ≡ old.line → new.depth ≡ old.depth → new.most ≡ old.most → new ≡ old
-unchanged old new idle none room now line depth most =
-    let view : List Open → List ℕ → ℕ → ℕ → ℕ → ExpansionView = λ o a l d m. record { opens = o; arguments = a; line = l; depth = d; most = m } in
-    let bytes : new.arguments ≡ old.arguments = now.lets_go none ∙ sym (room.lets_go idle) in
-    ap (λ (o : List Open). view o new.arguments new.line new.depth new.most) (none ∙ sym idle)
-    ∙ (ap (λ (a : List ℕ). view old.opens a new.line new.depth new.most) bytes
-    ∙ (ap (λ (l : ℕ). view old.opens old.arguments l new.depth new.most) line
-    ∙ (ap (λ (d : ℕ). view old.opens old.arguments old.line d new.most) depth
-    ∙ ap (λ (m : ℕ). view old.opens old.arguments old.line old.depth m) most)))
+-- an expansion in which nothing is open stays the same but for what is kept, where its line and its limits do
+pub unchanged : (old new : ExpansionView) → old.opens ≡ [] → new.opens ≡ [] → new.line ≡ old.line → new.depth ≡ old.depth → new.most ≡ old.most → new ≡ record old { arguments = new.arguments }
+unchanged old new idle none line depth most =
+    let view : List Open → ℕ → ℕ → ℕ → ExpansionView = λ o l d m. record { opens = o; arguments = new.arguments; line = l; depth = d; most = m } in
+    ap (λ (o : List Open). view o new.line new.depth new.most) (none ∙ sym idle)
+    ∙ (ap (λ (l : ℕ). view old.opens l new.depth new.most) line
+    ∙ (ap (λ (d : ℕ). view old.opens old.line d new.most) depth
+    ∙ ap (λ (m : ℕ). view old.opens old.line old.depth m) most))
 
 -- an engine of which the sources and the open texts changed
 module _ {S R : Type 0} (old mid : EngineView S R) (becomes : mid ≡ record old { files = mid.files; sources = mid.sources; expansion = mid.expansion }) (only : mid.files ≡ record old.files { nest = mid.files.nest }) where
@@ -80,9 +87,9 @@ module _ {S R : Type 0} (old mid : EngineView S R) (becomes : mid ≡ record old
   pub opened_is : mid ≡ record old { files = record old.files { nest = mid.files.nest }; sources = mid.sources; expansion = mid.expansion }
   opened_is = becomes ∙ ap (λ (fs : FilesView R). record old { files = fs; sources = mid.sources; expansion = mid.expansion }) only
 
-  -- and where a fault is kept, and no text was opened, the same open texts
-  pub stopped_is : (new : EngineView S R) (f : Told) → mid.expansion ≡ old.expansion → new ≡ record mid { kept = Some f }
-      → new ≡ record old { kept = Some f; files = record old.files { nest = mid.files.nest }; sources = mid.sources }
+  -- and where a fault is kept, and no text was opened, the same open texts, but for what is kept of the call
+  pub stopped_is : (new : EngineView S R) (f : Told) → mid.expansion ≡ record old.expansion { arguments = mid.expansion.arguments } → new ≡ record mid { kept = Some f }
+      → new ≡ record old { kept = Some f; files = record old.files { nest = mid.files.nest }; sources = mid.sources; expansion = record old.expansion { arguments = mid.expansion.arguments } }
   stopped_is new f same is =
       is ∙ (ap (λ (m : EngineView S R). record m { kept = Some f }) opened_is
       ∙ ap (λ (x : ExpansionView). record old { kept = Some f; files = record old.files { nest = mid.files.nest }; sources = mid.sources; expansion = x }) same)
@@ -129,25 +136,27 @@ module _ {S R : Type 0} (g : Ghosts S R) (old : EngineView S R) (ready : IsReady
   -- its texts are open: nothing is lent yet
   pub usage_opens : (line : ℕ) (name : List ℕ) → IsBounded opened_engine_at → SourcesCalled g false false old.sources s → work_left opened_engine_at < work_left old
       → (g.tells old.sources → text_left g.unread (inner_buffer old.files.nest) ≡ uses.used ++ text_left g.unread (inner_buffer nest))
-      → (g.tells old.sources → TellsAt Opened line name) → Walks g old opened_engine_at (Ok (Some []))
+      → (g.tells old.sources → TellsAt Opened line name) → KeepsStores g old opened_engine_at → Walks g old opened_engine_at (Ok (Some []))
   unfolding behind_bytes
-  usage_opens line name bounded call falls text means =
+  usage_opens line name bounded call falls text means keeps =
       let catalog : source_rules (g.catalog s) old.limits old.origins ≡ run_rules g old = ap (λ (c : Catalog). source_rules c old.limits old.origins) call.catalog in
       walks_lent g old opened_engine_at ready.free ready.open_ bounded [] refl (refl, refl) call
       (λ t. by_run g old
       ∙ (opened_text g (run_rules g old) old ready.owed ready.idle live ready.nest nest uses.used x s line name uses.inner (text t) (means t)
       ∙ (ap (λ (r : Rules). text_by r g opened_engine_at) (sym catalog)
       ∙ sym (by_run g opened_engine_at))))
-      falls
+      falls keeps (Nowhere refl)
 
   -- the one that keeps a fault of its call
   abbrev pub stopped_engine : Told → EngineView S R
-  stopped_engine f = record old { kept = Some f; files = record old.files { nest = nest }; sources = s }
+  stopped_engine f = record old { kept = Some f; files = record old.files { nest = nest }; sources = s; expansion = record old.expansion { arguments = x.arguments } }
 
-  module _ (len : ℕ) (mode : (inner_buffer old.files.nest).mode ≡ Plain) (usage : IsUsage (held_of (inner_buffer old.files.nest)) len) (unopened : is_opened opening ≡ false) where
+  module _ (len : ℕ) (mode : (inner_buffer old.files.nest).mode ≡ Plain) (usage : IsUsage (held_of (inner_buffer old.files.nest)) len) (unopened : is_opened opening ≡ false)
+      (macro : Macro) (named : macro_named old.table.macros (usage_name (held_of (inner_buffer old.files.nest)) len) ≡ Some macro)
+      (kept : KeepsUsage macro.formals (g.tells old.sources) g.unread old.expansion.most opening x.arguments (inner_buffer (with_inner (consumed_file len 0) old.files.nest)) (inner_buffer nest)) where
     -- it stopped in the call
     stops_in : (f : Told) → StopsInCall g old (stopped_engine f)
-    stops_in f = record { len = len; mode = mode; usage = usage; idle = ready.idle; becomes = refl; only = refl; opening = opening; unopened = unopened; uses = uses }
+    stops_in f = record { len = len; mode = mode; usage = usage; idle = ready.idle; becomes = refl; only = refl; opening = opening; unopened = unopened; macro = macro; named = named; kept = kept; uses = uses }
 
     halts_in : (f : Told) → HaltsAt g old (stopped_engine f)
     halts_in f = record { at = old; text = λ t. refl; unowed = ready.owed; stopped = InCall (stops_in f) }
@@ -207,7 +216,10 @@ module _ {S R : Type 0} (g : Ghosts S R) (old mid : EngineView S R) (len : ℕ) 
       (usage_opens g old ready live mid.files.nest mid.sources mid.expansion Opened o.uses (inner_buffer old.files.nest).line (usage_name (held_of (inner_buffer old.files.nest)) len)
       (subst (λ (e : EngineView S R). IsBounded e) is bounded) (called g false old.sources mid.sources o.call)
       (usage_work g old ready live mid.files.nest mid.sources mid.expansion Opened o.uses texts o.now_room o.depth o.most o.sound)
-      (λ t. o.uses.text (λ own e. cc e) t) (λ t s ws os macros. o.means (run_rules g old) s ws os (run_is s macros) t))
+      (λ t. o.uses.text (λ own e. cc e) t) (λ t s ws os macros. o.means (run_rules g old) s ws os (run_is s macros) t)
+      (keeps_opened g old mid.files.nest mid.sources mid.expansion o.uses.used len o.macro.formals ready.free ready.nest o.call.catalog o.uses.inner
+      (λ t. parts_moved (IsExactOpening Opened × g.tells old.sources) g.unread o.uses.used old.files.nest mid.files.nest ready.nest o.uses.inner o.uses.moves (λ own e. cc e, t))
+      (let within = usage_inside (held_of (inner_buffer old.files.nest)) len o.some usage in usage_within old.files.nest len within.0 within.1) (o.called refl) o.most o.keeps))
 
   -- it is refused
   pub refuses_step : (new : EngineView S R) (place : Place) (kind : FaultKind) → OpensUsage g len old mid (Refused kind) → IsBounded new → place ≡ Kept
@@ -217,11 +229,11 @@ module _ {S R : Type 0} (g : Ghosts S R) (old mid : EngineView S R) (len : ℕ) 
       let name = usage_name (held_of (inner_buffer old.files.nest)) len in
       let f = fault_at kind line name (state_of old) in
       let here = used_here old mid o.becomes o.only o.uses.used o.uses.inner in
-      let same = unchanged old.expansion mid.expansion ready.idle (o.lets_go refl) o.room o.now_room o.line o.depth o.most in
+      let same = unchanged old.expansion mid.expansion ready.idle (o.lets_go refl) o.line o.depth o.most in
       let is = stopped_is old mid o.becomes o.only new f same (kept ∙ ap (λ (s : State). record mid { kept = Some (fault_at kind line name s) }) here) in
       kept_at g old new place f at (ap (λ e. e.kept) is)
       (subst (λ (e : EngineView S R). Walks g old e (Err f)) (sym is)
-      (usage_refuses g old ready live mid.files.nest mid.sources mid.expansion (Refused kind) o.uses len mode usage refl kind line name o.fault (subst (λ (e : EngineView S R). IsBounded e) is bounded)
+      (usage_refuses g old ready live mid.files.nest mid.sources mid.expansion (Refused kind) o.uses len mode usage refl o.macro o.named o.keeps kind line name o.fault (subst (λ (e : EngineView S R). IsBounded e) is bounded)
       (called g false old.sources mid.sources o.call) (λ t s ws os macros. o.means (run_rules g old) s ws os (run_is s macros) t)))
 
   -- its call is broken
@@ -232,11 +244,11 @@ module _ {S R : Type 0} (g : Ghosts S R) (old mid : EngineView S R) (len : ℕ) 
       let name = usage_name (held_of (inner_buffer old.files.nest)) len in
       let f = fault_at kind own [] (state_of old) in
       let here = used_here old mid o.becomes o.only o.uses.used o.uses.inner in
-      let same = unchanged old.expansion mid.expansion ready.idle (o.lets_go refl) o.room o.now_room o.line o.depth o.most in
+      let same = unchanged old.expansion mid.expansion ready.idle (o.lets_go refl) o.line o.depth o.most in
       let is = stopped_is old mid o.becomes o.only new f same (kept ∙ ap (λ (s : State). record mid { kept = Some (fault_at kind own [] s) }) here) in
       kept_at g old new place f at (ap (λ e. e.kept) is)
       (subst (λ (e : EngineView S R). Walks g old e (Err f)) (sym is)
-      (usage_breaks g old ready live mid.files.nest mid.sources mid.expansion (Broken kind own) o.uses len mode usage refl kind own line name o.fault (subst (λ (e : EngineView S R). IsBounded e) is bounded)
+      (usage_breaks g old ready live mid.files.nest mid.sources mid.expansion (Broken kind own) o.uses len mode usage refl o.macro o.named o.keeps kind own line name o.fault (subst (λ (e : EngineView S R). IsBounded e) is bounded)
       (called g false old.sources mid.sources o.call) (λ t s ws os macros. o.means (run_rules g old) s ws os (run_is s macros) t)))
 
   -- a read failed in its call
@@ -246,9 +258,9 @@ module _ {S R : Type 0} (g : Ghosts S R) (old mid : EngineView S R) (len : ℕ) 
       let line = reading_line_of (inner_buffer mid.files.nest) in
       let f = fault_at fault.ReadFailed line [] (state_of old) in
       let here = used_here old mid o.becomes o.only o.uses.used o.uses.inner in
-      let same = unchanged old.expansion mid.expansion ready.idle (o.lets_go refl) o.room o.now_room o.line o.depth o.most in
+      let same = unchanged old.expansion mid.expansion ready.idle (o.lets_go refl) o.line o.depth o.most in
       let is = stopped_is old mid o.becomes o.only new f same (kept ∙ ap (λ (s : State). record mid { kept = Some (fault_at fault.ReadFailed line [] s) }) here) in
       kept_at g old new place f at (ap (λ e. e.kept) is)
       (subst (λ (e : EngineView S R). Walks g old e (Err f)) (sym is)
-      (usage_fails g old ready live mid.files.nest mid.sources mid.expansion Failed o.uses len mode usage refl (subst (λ (e : EngineView S R). IsBounded e) is bounded)
+      (usage_fails g old ready live mid.files.nest mid.sources mid.expansion Failed o.uses len mode usage refl o.macro o.named o.keeps (subst (λ (e : EngineView S R). IsBounded e) is bounded)
       (called g true old.sources mid.sources o.call)))

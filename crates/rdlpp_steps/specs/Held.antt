@@ -31,9 +31,14 @@ held_bytes s = length s.definitions + (length s.arguments + sum_by length s.buff
 unfoldable pub bound_of : Limits → ℕ
 bound_of limits = limits.definition_bytes + (limits.argument_bytes + (limits.includes + 1) * limits.line_bytes)
 
--- the bytes that are held are within their bound (this project's profile)
-unfoldable pub IsBounded : {S R : Type 0} → EngineView S R → Type 0
-IsBounded e = held_bytes (stores_of e) ≤ bound_of e.limits
+-- what is held is within its bounds: the bytes; and the counts of open texts, of the actuals that are bound in them, of open
+-- conditionals and of open sources (this project's profile)
+pub record IsBounded {S R : Type 0} (e : EngineView S R) : Type 0 where
+  pub bytes : held_bytes (stores_of e) ≤ bound_of e.limits
+  pub cursors : length e.expansion.opens ≤ e.limits.depth
+  pub bindings : bound_by e.expansion.opens ≤ e.limits.depth * 255
+  pub conditions : length e.conditions.open_now ≤ e.limits.conditions
+  pub sources : length e.files.nest ≤ e.limits.includes + 1
 
 -- what an engine tells of what it holds (this project's profile)
 unfoldable pub held_told : {S R : Type 0} → EngineView S R → Held

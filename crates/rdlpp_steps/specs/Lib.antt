@@ -6,9 +6,11 @@ pub mod Engine
 pub mod Held
 pub mod Remaining
 pub mod Includes
+pub mod Pieces
+pub mod Standing
+pub mod Stored
 pub mod Steps
 pub mod Moves
 pub mod Lines
 pub mod Conditionals
-pub mod Pieces
 pub mod Opening

@@ -1,11 +1,11 @@
 -- What the parts of a step over the open sources do.
 -- A definition that names no source is this project's own.
-use Rattle.std.specs.Prelude.{◌≡◌, ◌<◌, ◌≤◌, ◌⊎◌, ℕ, List, [], ◌∷◌, length, take, drop, Option, None, Some, false, if◌then◌else◌}
+use Rattle.std.specs.Prelude.{◌≡◌, ◌<◌, ◌≤◌, ◌⊎◌, ℕ, List, [], ◌∷◌, length, take, drop, Option, None, Some, true, false, if◌then◌else◌}
 use Rattle.rdlpp_scan.specs.Front.{Breach}
 use Rattle.rdlpp_scan.specs.SourceTokens.{line_ends}
 use Rattle.rdlpp_scan.specs.declared.token.Mode.TheVariants.{Plain}
 use Rattle.rdlpp_table.specs.Define.{Accepted, Refused, define_of}
-use Rattle.rdlpp_table.specs.Table.{Macro}
+use Rattle.rdlpp_table.specs.Table.{Macro, macro_named}
 use Rattle.rdlpp_table.specs.declared.fault.DefineKind.{DefineKind}
 use Rattle.rdlpp_meaning.specs.Meaning.{Progress}
 use Rattle.rdlpp_meaning.specs.Profile.{define_fault}
@@ -19,7 +19,7 @@ use Rattle.rdlpp_read.specs.Calls.{SourcesRead}
 use Rattle.rdlpp_front.specs.Fronts.{usage_name}
 use Rattle.rdlpp_cursors.specs.Places.{texts_of}
 use Rattle.rdlpp_cursors.specs.Steps.{AreSound}
-use Rattle.rdlpp_usages.specs.Usages.{IsOwnLine, IsRoomy, IsRun, IsUsageFault, TellsUsage, UsesSource, is_failed_opening, is_opened}
+use Rattle.rdlpp_usages.specs.Usages.{IsOwnLine, IsRoomy, IsRun, IsUsageFault, KeepsUsage, TellsUsage, UsesSource, is_failed_opening, is_opened}
 use Rattle.rdlpp_usages.specs.declared.expansion.Opening.{Opening}
 use Rattle.rdlpp_steps.specs.Engine.{EngineView, IsSoundEngine}
 use Rattle.rdlpp_steps.specs.Conditionals.{unclosed_fault}
@@ -27,6 +27,7 @@ use Rattle.rdlpp_steps.specs.Includes.{left_engine}
 use Rattle.rdlpp_steps.specs.OpenConditionals.{inner_below}
 use Rattle.rdlpp_steps.specs.Owed.{line_ends_owed, nothing_owed}
 use Rattle.rdlpp_steps.specs.Remaining.{state_of}
+use Rattle.rdlpp_steps.specs.Stored.{called_formals}
 use Rattle.rdlpp_steps.specs.Steps.{IsOwn}
 use Rattle.rdlpp_steps.specs.declared.place.Place.{Place}
 use Rattle.rdlpp_steps.specs.declared.place.Place.TheVariants.{Source, Body, Text, Owed, End, Kept}
@@ -136,6 +137,11 @@ pub record OpensUsage {S R : Type 0} (g : Ghosts S R) (len : ℕ) (old new : Eng
   pub now_room : IsRoomy new.expansion
   pub sound : AreSound (texts_of old.table.macros new.expansion.arguments) new.expansion.opens
   pub lets_go : is_opened opening ≡ false → new.expansion.opens ≡ []
+  pub some : 0 < length (held_of (inner_buffer old.files.nest))
+  pub macro : Macro
+  pub named : macro_named old.table.macros (usage_name (held_of (inner_buffer old.files.nest)) len) ≡ Some macro
+  pub called : is_opened opening ≡ true → called_formals old.table.macros new.expansion.opens ≡ macro.formals
+  pub keeps : KeepsUsage macro.formals (g.tells old.sources) g.unread old.expansion.most opening new.expansion.arguments (inner_buffer (with_inner (consumed_file len 0) old.files.nest)) (inner_buffer new.files.nest)
   pub fault : IsUsageFault opening
   pub own : IsOwnLine opening
   pub means : (rules : Rules) (s : State) (ws : List Waiting) (os : List Progress) → IsRun rules s old.table.macros old.expansion.depth old.expansion.most → g.tells old.sources

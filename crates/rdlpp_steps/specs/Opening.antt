@@ -2,21 +2,21 @@
 -- A definition that names no source is this project's own.
 use Rattle.std.specs.Prelude.{◌≡◌, ℕ, Bool, false, ◌+◌, List, [], ◌∷◌, Option, None, Some, Result, Ok, Err}
 use Rattle.rdlpp_steps.specs.Calls.{SourcesCalled}
-use Rattle.rdlpp_source.specs.Sources.{Present}
+use Rattle.rdlpp_source.specs.Sources.{Catalog, Present}
 use Rattle.rdlpp_source.specs.declared.sources.Found.{Found}
 use Rattle.rdlpp_source.specs.declared.sources.Sources.{Ghosts}
 use Rattle.rdlpp_table.specs.Limits.{limit_fault}
 use Rattle.rdlpp_table.specs.declared.limits.Limits.{Limits}
 use Rattle.rdlpp_meaning.specs.declared.fault.Fault.{Fault}
 use Rattle.rdlpp_meaning.specs.Outcome.{Told, told, Outcome}
-use Rattle.rdlpp_meaning.specs.State.{Lookup, NoSource, LongPath, Source}
-use Rattle.rdlpp_meaning.specs.Output.{opening_fault, output}
+use Rattle.rdlpp_meaning.specs.Output.{name_cut, opening_fault}
 use Rattle.rdlpp_steps.specs.Engine.{EngineView}
 use Rattle.rdlpp_read.specs.Files.{entered_file}
 use Rattle.rdlpp_steps.specs.Owed.{nothing_owed, origin_owed}
 use Rattle.rdlpp_steps.specs.Held.{IsBounded}
-use Rattle.rdlpp_steps.specs.Remaining.{left_of, lookup_of, output_fault, run_rules}
-use Rattle.rdlpp_meaning.specs.OutputLimit.{limited}
+use Rattle.rdlpp_steps.specs.Stored.{HoldsStores, LetsGo}
+use Rattle.rdlpp_steps.specs.Remaining.{find_of, left_of, lookup_of}
+use Rattle.rdlpp_meaning.specs.OutputLimit.{Searches, limited_output}
 use Rattle.rdlpp_steps.specs.Steps.{IsStarted, is_memory_kind, is_read_failed}
 use Rattle.rdlpp_steps.specs.declared.new_fault.NewFault.{NewFault}
 use Rattle.rdlpp_steps.specs.declared.new_fault.NewFault.TheVariants.{BadLimits, NoMemory}
@@ -45,13 +45,13 @@ Makes limits sources origins (Ok engine) = (limit_fault limits ≡ None) × (eng
 Makes limits sources origins (Err (BadLimits fault)) = limit_fault limits ≡ Some fault
 Makes limits sources origins (Err NoMemory) = limit_fault limits ≡ None
 
--- an engine whose main text was found, before which its origin line is owed, where asked for
-unfoldable pub opened_engine : {S R : Type 0} → EngineView S R → Found R → EngineView S R
-opened_engine e found = record e {
+-- an engine whose main text was found for a path, before which its origin line is owed, where asked for
+unfoldable pub opened_engine : {S R : Type 0} → EngineView S R → List ℕ → Found R → EngineView S R
+opened_engine e path found = record e {
   phase = Open;
   quota = e.limits.output_bytes;
   kept = None;
-  main = found.path.bytes;
+  main = name_cut path;
   owed = record { line_ends = 0; origin = origin_owed e.origins 1 };
   files = record e.files { nest = entered_file found e.limits.source_bytes e.files.line_bytes 0 0 ∷ e.files.nest };
 }
@@ -60,21 +60,13 @@ opened_engine e found = record e {
 unfoldable pub unopened_engine : {S R : Type 0} → EngineView S R → Told → EngineView S R
 unopened_engine e fault = record e { phase = Closed; kept = Some fault }
 
--- the name under which a main path is found: its own where it isn't
-unfoldable pub found_name : List ℕ → Lookup → List ℕ
-found_name path NoSource = path
-found_name path LongPath = path
-found_name path (Source found text) = found
+-- what the searches of sources come to that tell their texts
+unfoldable pub searches_of : Catalog → Searches
+searches_of catalog = record { main = λ path. lookup_of (catalog.top path); included = find_of catalog }
 
--- the output of a main path by what the search for it comes to, with at most as many bytes as the limit says
-unfoldable pub looked_up : {S R : Type 0} → Ghosts S R → EngineView S R → List ℕ → Lookup → Outcome
-looked_up g e path lookup =
-    limited (output_fault (found_name path lookup)) e.limits.output_bytes
-    (output (run_rules g e) e.table.macros e.limits.includes e.limits.conditions path lookup)
-
--- the output of a main path that is looked up in what the sources answer, where no opening fails (this project's profile)
+-- the output of a main path from an engine's macros over its sources, where no opening fails (this project's profile)
 unfoldable pub looked_up_output : {S R : Type 0} → Ghosts S R → EngineView S R → List ℕ → Outcome
-looked_up_output g e path = looked_up g e path (lookup_of ((g.catalog e.sources).top path))
+looked_up_output g e path = limited_output e.limits (searches_of (g.catalog e.sources)) e.origins e.table.macros path
 
 -- the fault that a start answers
 unfoldable pub start_fault : Result (Unit {0}) Fault → Option Told
@@ -95,7 +87,7 @@ is_memory_fault (Some f) = is_memory_kind f.kind
 -- shown name (this project's profile)
 pub record Opens {S R : Type 0} (g : Ghosts S R) (old new : EngineView S R) (path : List ℕ) : Type 0 where
   pub found : Found R
-  pub becomes : new ≡ opened_engine (record old { sources = new.sources }) found
+  pub becomes : new ≡ opened_engine (record old { sources = new.sources }) path found
   pub text : g.tells old.sources → (g.catalog old.sources).top path ≡ Present found.path.bytes (g.unread found.reader)
 
 -- what a start does: it keeps what it answers; the counts of failures; the text that was opened, or the fault of the opening
@@ -112,3 +104,5 @@ pub record Starts {S R : Type 0} (g : Ghosts S R) (old new : EngineView S R) (pa
   pub remains_output : is_device_fault answer ≡ false → is_memory_fault answer ≡ false → g.tells old.sources
       → left_of g new ≡ looked_up_output g old path
   pub bounded : IsBounded new
+  pub lets_go : old.expansion.arguments ≡ [] → LetsGo new
+  pub stores : g.tells old.sources → HoldsStores g new

@@ -9,15 +9,18 @@ use Rattle.rdlpp_meaning.specs.Meaning.{Passage, behind_bytes, leaves}
 use Rattle.rdlpp_meaning.specs.State.{State, fault_at}
 use Rattle.rdlpp_meaning.specs.Outcome.{Told, Outcome, gives, fails, and_then}
 use Rattle.rdlpp_read.specs.Buffer.{BufferView, held_of, reading_line_of}
-use Rattle.rdlpp_read.specs.Files.{inner_buffer, with_buffer}
-use Rattle.rdlpp_front.specs.Fronts.{IsUsage}
-use Rattle.rdlpp_usages.specs.Usages.{UsesSource, is_opened}
+use Rattle.rdlpp_table.specs.Table.{Macro, macro_named}
+use Rattle.rdlpp_read.specs.Files.{consumed_file, inner_buffer, with_buffer, with_inner}
+use Rattle.rdlpp_front.specs.Fronts.{IsUsage, usage_name}
+use Rattle.rdlpp_usages.specs.Usages.{KeepsUsage, UsesSource, is_opened}
 use Rattle.rdlpp_usages.specs.declared.expansion.Opening.{Opening}
 use Rattle.rdlpp_steps.specs.Calls.{SourcesCalled}
 use Rattle.rdlpp_steps.specs.Engine.{EngineView, is_open}
 use Rattle.rdlpp_steps.specs.Held.{IsBounded}
 use Rattle.rdlpp_steps.specs.Includes.{IsSearch}
 use Rattle.rdlpp_steps.specs.Owed.{nothing_owed}
+use Rattle.rdlpp_steps.specs.Standing.{LendsWhere}
+use Rattle.rdlpp_steps.specs.Stored.{HoldsStores, LetsGo}
 use Rattle.rdlpp_steps.specs.Remaining.{left_of, output_fault, uncut_of, state_of, text_of, work_left}
 use Rattle.rdlpp_steps.specs.declared.phase.Phase.{Phase}
 use Rattle.rdlpp_steps.specs.declared.phase.Phase.TheVariants.{Fresh, Open, Passed, Closed}
@@ -108,16 +111,19 @@ pub record MovesOn {R : Type 0} (old new : BufferView R) : Type 0 where
   pub used : length dropped + new.at ≡ old.at
 
 -- an engine that stopped in the call of a usage, before which another one stood: no text of a usage is open, and of the one before it nothing changed but
--- the fault that is kept and what is read and used of the innermost source
+-- the fault that is kept, what is read and used of the innermost source, and what is kept of the call, which stays
 pub record StopsInCall {S R : Type 0} (g : Ghosts S R) (at new : EngineView S R) : Type 0 where
   pub len : ℕ
   pub mode : (inner_buffer at.files.nest).mode ≡ Plain
   pub usage : IsUsage (held_of (inner_buffer at.files.nest)) len
   pub idle : at.expansion.opens ≡ []
-  pub becomes : new ≡ record at { kept = new.kept; files = new.files; sources = new.sources }
+  pub becomes : new ≡ record at { kept = new.kept; files = new.files; sources = new.sources; expansion = record at.expansion { arguments = new.expansion.arguments } }
   pub only : new.files ≡ record at.files { nest = new.files.nest }
   pub opening : Opening
   pub unopened : is_opened opening ≡ false
+  pub macro : Macro
+  pub named : macro_named at.table.macros (usage_name (held_of (inner_buffer at.files.nest)) len) ≡ Some macro
+  pub kept : KeepsUsage macro.formals (g.tells at.sources) g.unread at.expansion.most opening new.expansion.arguments (inner_buffer (with_inner (consumed_file len 0) at.files.nest)) (inner_buffer new.files.nest)
   pub uses : UsesSource (g.tells at.sources) g.unread opening at.files.nest new.files.nest
 
 -- which engine it is whose text remains where a read or a search failed: the one that stopped, or the one before the usage in whose call that is
@@ -193,6 +199,9 @@ pub record StepsOver {S R : Type 0} (g : Ghosts S R) (left : EngineView S R → 
   pub most_bytes : new.table.most_bytes ≡ old.table.most_bytes
   pub most_macros : new.table.most_macros ≡ old.table.most_macros
   pub bounded : IsBounded new
+  pub stands : old.kept ≡ None → old.phase ≡ Open → (bytes : List ℕ) → answer ≡ Ok (Some bytes) → LendsWhere g (most old.quota) old new bytes
+  pub lets_go : LetsGo old → LetsGo new
+  pub stores : g.tells old.sources → HoldsStores g old → HoldsStores g new
 
 -- how many bytes an answer lends
 unfoldable pub lent_len : Result (Option (List ℕ)) Told → ℕ

@@ -120,7 +120,7 @@ fn actuals_are_bound_where_they_stand(rt: HostRuntime) {
 
 #[test]
 fn no_formals_are_met_by_one_part_without_items(rt: HostRuntime) {
-    expect_bound(&rt, b"M( ) x", 0, 4, &[(3, 3)]);
+    expect_bound(&rt, b"M( ) x", 0, 4, &[]);
     expect_refused(&rt, b"M(a)", 0, FaultKind::ArgumentCount);
     expect_refused(&rt, b"M(,)", 0, FaultKind::ArgumentCount);
 }

@@ -3,7 +3,7 @@ ghost use Rattle.std.specs.Prelude.{[], length, ◌<◌, ◌≤◌};
 ghost use Rattle.rdlpp_cursors.specs.Places.{texts_of};
 ghost use Rattle.rdlpp_cursors.specs.Steps.{AreSound};
 
-use rdlpp_cursors::{CursorFault, CursorStep, Macros, OpenTexts, TextPlace, TextSource, text_at};
+use rdlpp_cursors::{CursorFault, CursorStep, Cursors, TextPlace, TextSource, text_at};
 use rdlpp_meaning::FaultKind;
 use rdlpp_table::{Limits, MacroId, Table};
 use std::process::Abort;
@@ -12,7 +12,7 @@ use std::test::Fail;
 mod formals;
 
 // Macros without lists.
-fn macros_of<R: Abort + AllocGlobal>(rt: &R, definitions: &[(&[u8], &[u8])]) -> Macros {
+fn macros_of<R: Abort + AllocGlobal>(rt: &R, definitions: &[(&[u8], &[u8])]) -> Table {
     let mut table = match Table::new(rt.alloc(), &Limits::standard()) {
         Ok(table) => table,
         Err(_) => panic!(rt; "no memory"),
@@ -20,28 +20,28 @@ fn macros_of<R: Abort + AllocGlobal>(rt: &R, definitions: &[(&[u8], &[u8])]) -> 
     for (name, body) in definitions {
         assert!(rt; table.set(name, body).is_ok());
     }
-    Macros::new(table)
+    table
 }
 
 // The macro of a name.
-fn id_of<R: Abort>(rt: &R, macros: &Macros, name: &[u8]) -> MacroId
+fn id_of<R: Abort>(rt: &R, macros: &Table, name: &[u8]) -> MacroId
     ensures { result < length macros.now.macros }
 {
-    let Some(id) = macros.table().find(name) else {
+    let Some(id) = macros.find(name) else {
         panic!(rt; "the macro isn't found");
     };
     id
 }
 
 // Open texts, of which the first is the body of the macro of a name.
-fn opened<R: Abort + AllocGlobal>(rt: &R, macros: &Macros, name: &[u8], depth: usize) -> OpenTexts
+fn opened<R: Abort + AllocGlobal>(rt: &R, macros: &Table, name: &[u8], depth: usize) -> Cursors
     ensures { AreSound (texts_of macros.now.macros []) result.opens }
 {
     assert!(rt; 0 < depth && depth <= 16);
     let id = id_of(rt, macros, name);
-    let table = macros.table();
+    let table = macros;
     assert!(rt; table.arity(id).is_none());
-    let Ok(mut texts) = OpenTexts::new(rt.alloc(), depth) else {
+    let Ok(mut texts) = Cursors::new(rt.alloc(), depth) else {
         panic!(rt; "no memory");
     };
     texts.open_body(table, id, 7);
@@ -49,9 +49,9 @@ fn opened<R: Abort + AllocGlobal>(rt: &R, macros: &Macros, name: &[u8], depth: u
 }
 
 // One step comes to what is expected.
-fn expect_step<R: Abort>(rt: &R, texts: &mut OpenTexts, macros: &mut Macros, expected: CursorStep)
-    requires { AreSound (texts_of macros.old.macros []) texts.old.opens }
-    ensures { AreSound (texts_of macros.new.macros []) texts.new.opens }
+fn expect_step<R: Abort>(rt: &R, texts: &mut Cursors, macros: &Table, expected: CursorStep)
+    requires { AreSound (texts_of macros.now.macros []) texts.old.opens }
+    ensures { AreSound (texts_of macros.now.macros []) texts.new.opens }
 {
     assert!(rt; !texts.is_empty());
     assert_eq!(rt; texts.step(macros, b"".as_slice()), expected);
@@ -91,13 +91,13 @@ fn wordless(kind: FaultKind) -> CursorStep {
 
 #[test]
 fn a_body_is_lent_in_one_piece_and_closed(rt: HostRuntime) -> Result<(), Fail> {
-    let mut macros = macros_of(&rt, &[(b"A".as_slice(), b"x = \"`B\"; // y".as_slice())]);
+    let macros = macros_of(&rt, &[(b"A".as_slice(), b"x = \"`B\"; // y".as_slice())]);
     let id = id_of(&rt, &macros, b"A".as_slice());
     let mut texts = opened(&rt, &macros, b"A".as_slice(), 4);
     assert_eq!(&rt; texts.len(), 1);
-    expect_step(&rt, &mut texts, &mut macros, lent(id, 0, 9));
+    expect_step(&rt, &mut texts, &macros, lent(id, 0, 9));
     assert!(&rt; !texts.is_empty());
-    expect_step(&rt, &mut texts, &mut macros, CursorStep::Silent);
+    expect_step(&rt, &mut texts, &macros, CursorStep::Silent);
     assert!(&rt; texts.is_empty());
     assert_eq!(&rt; texts.bound(), 0);
     Ok(())
@@ -107,7 +107,7 @@ fn a_body_is_lent_in_one_piece_and_closed(rt: HostRuntime) -> Result<(), Fail> {
 fn the_bytes_at_a_place_are_those_of_its_text(rt: HostRuntime) -> Result<(), Fail> {
     let macros = macros_of(&rt, &[]);
     assert_eq!(&rt;
-        kept(macros.table(), b"(a, bc)".as_slice(), 4, 6),
+        kept(&macros, b"(a, bc)".as_slice(), 4, 6),
         b"bc".as_slice()
     );
     Ok(())
@@ -115,7 +115,7 @@ fn the_bytes_at_a_place_are_those_of_its_text(rt: HostRuntime) -> Result<(), Fai
 
 #[test]
 fn a_usage_opens_a_body_and_goes_on_behind_its_name(rt: HostRuntime) -> Result<(), Fail> {
-    let mut macros = macros_of(
+    let macros = macros_of(
         &rt,
         &[
             (b"A".as_slice(), b"x `B y".as_slice()),
@@ -125,20 +125,20 @@ fn a_usage_opens_a_body_and_goes_on_behind_its_name(rt: HostRuntime) -> Result<(
     let outer = id_of(&rt, &macros, b"A".as_slice());
     let inner = id_of(&rt, &macros, b"B".as_slice());
     let mut texts = opened(&rt, &macros, b"A".as_slice(), 2);
-    expect_step(&rt, &mut texts, &mut macros, lent(outer, 0, 2));
+    expect_step(&rt, &mut texts, &macros, lent(outer, 0, 2));
     assert_eq!(&rt; texts.len(), 2);
-    expect_step(&rt, &mut texts, &mut macros, lent(inner, 0, 1));
+    expect_step(&rt, &mut texts, &macros, lent(inner, 0, 1));
     assert_eq!(&rt; texts.len(), 1);
-    expect_step(&rt, &mut texts, &mut macros, lent(outer, 4, 6));
+    expect_step(&rt, &mut texts, &macros, lent(outer, 4, 6));
     assert_eq!(&rt; texts.len(), 1);
-    expect_step(&rt, &mut texts, &mut macros, CursorStep::Silent);
+    expect_step(&rt, &mut texts, &macros, CursorStep::Silent);
     assert!(&rt; texts.is_empty());
     Ok(())
 }
 
 #[test]
 fn what_is_refused_behind_a_run_is_told_by_the_next_step(rt: HostRuntime) -> Result<(), Fail> {
-    let mut macros = macros_of(
+    let macros = macros_of(
         &rt,
         &[
             (b"A".as_slice(), b"x `B".as_slice()),
@@ -147,11 +147,11 @@ fn what_is_refused_behind_a_run_is_told_by_the_next_step(rt: HostRuntime) -> Res
     );
     let outer = id_of(&rt, &macros, b"A".as_slice());
     let mut texts = opened(&rt, &macros, b"A".as_slice(), 1);
-    expect_step(&rt, &mut texts, &mut macros, lent(outer, 0, 2));
+    expect_step(&rt, &mut texts, &macros, lent(outer, 0, 2));
     expect_step(
         &rt,
         &mut texts,
-        &mut macros,
+        &macros,
         wordless(FaultKind::DepthPassed),
     );
     assert_eq!(&rt; texts.len(), 1);
@@ -165,15 +165,15 @@ fn expect_refused<R: Abort + AllocGlobal>(
     kind: FaultKind,
     word: Option<(usize, usize)>,
 ) {
-    let mut macros = macros_of(
+    let macros = macros_of(
         rt,
         &[(b"A".as_slice(), body), (b"B".as_slice(), b"z".as_slice())],
     );
     let id = id_of(rt, &macros, b"A".as_slice());
     let mut texts = opened(rt, &macros, b"A".as_slice(), 1);
     match word {
-        Some((from, end)) => expect_step(rt, &mut texts, &mut macros, refused(kind, id, from, end)),
-        None => expect_step(rt, &mut texts, &mut macros, wordless(kind)),
+        Some((from, end)) => expect_step(rt, &mut texts, &macros, refused(kind, id, from, end)),
+        None => expect_step(rt, &mut texts, &macros, wordless(kind)),
     }
 }
 

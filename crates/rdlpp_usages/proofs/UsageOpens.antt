@@ -34,7 +34,7 @@ use Rattle.rdlpp_cursors.specs.declared.step.CursorStep.{CursorStep}
 use Rattle.rdlpp_cursors.specs.declared.step.CursorStep.TheVariants.{Lends, Silent, Refused as Fault}
 use Rattle.rdlpp_front.specs.Fronts.{IsUsage, usage_name}
 use Rattle.rdlpp_front.specs.SourceLeft.{HoldsFront}
-use Rattle.rdlpp_usages.specs.Usages.{is_usage_fault, IsUsageFault, BindsKept, ExpansionView, IsRun, RefusesCall, StaysAt, StaysLent, TellsCallUsage, TellsUsage, inner_left, texts_left, IsExpansion}
+use Rattle.rdlpp_usages.specs.Usages.{is_usage_fault, IsUsageFault, BindsKept, ExpansionView, IsRun, RefusesCall, StaysAt, StaysLent, TellsCallUsage, TellsUsage, inner_left, texts_left}
 use Rattle.rdlpp_usages.specs.declared.expansion.Opening.{Opening}
 use Rattle.rdlpp_usages.specs.declared.expansion.Opening.TheVariants.{Opened, Refused, Broken}
 use Rattle.rdlpp_usages.proofs.CallLeft.{IsBehind, body_opens, call_opens, call_refused}
@@ -58,7 +58,7 @@ kept_bound tells unread most macros id line bytes now c old new means binds =
           let behind = tokens_left unread new in
           subst (λ (bs : List ℕ). OpensBound rules at name ts (macro_at macros id) fs bs binds.ranges behind) (sym binds.stays)
           (source_bound rules at name ts (macro_at macros id) fs bytes binds.ranges behind
-          (read_call rules most ts bytes behind limit (means t)) (sym (binds.count fs formals)) binds.actuals);
+          (read_call rules most ts bytes behind limit (means t)) (sym (binds.count fs formals)) (binds.actuals fs formals));
     }
 
 -- one that was read and isn't bound is refused
@@ -199,16 +199,16 @@ lent_open (Fault fault) old new now some same kept = tt
 pub not-silent : (step : CursorStep) (b : Bool) → (IsTrue b ↔ (step ≡ Silent)) → b ≡ false → step ≡ Silent → ⊥
 not-silent step b both none is = true≢false (sym (both.1 is) ∙ none)
 
--- behind bytes that are lent, and behind a fault, a text is open, so that bytes may be kept
+-- behind bytes that are lent, and behind a fault, a text is open
 pub still_open : (step : CursorStep) (old : List Open) (c now : CursorsView) (bytes : List ℕ) → (step ≡ Silent → ⊥) → KeepsOpen step now.opens → StaysRefused c step now
-    → c.opens ≡ old → 0 < length old → IsExpansion now.opens bytes
+    → c.opens ≡ old → 0 < length old → now.opens ≡ [] → bytes ≡ []
 unfolding StaysRefused
-still_open (Lends place) old c now bytes other lends stays same some =
-    record { lets_go = λ none. (let size : length now.opens ≡ 0 = ap length none in absurd (omega (arith, lends, size))) }
-still_open Silent old c now bytes other lends stays same some = absurd (other refl)
-still_open (Fault fault) old c now bytes other lends stays same some =
+still_open (Lends place) old c now bytes other lends stays same some none =
+    let size : length now.opens ≡ 0 = ap length none in absurd (omega (arith, lends, size))
+still_open Silent old c now bytes other lends stays same some none = absurd (other refl)
+still_open (Fault fault) old c now bytes other lends stays same some none =
     let count : length now.opens ≡ length old = ap (λ (v : CursorsView). length v.opens) stays ∙ ap length same in
-    record { lets_go = λ none. (let size : length now.opens ≡ 0 = ap length none in absurd (omega (arith, count, size, some))) }
+    let size : length now.opens ≡ 0 = ap length none in absurd (omega (arith, count, size, some))
 
 -- neither bytes nor a fault come with the last text that is closed, so that nothing has to lie among the kept bytes
 pub placed_empty : (step : CursorStep) (texts : Texts) (old : List Open) (c now : CursorsView) → KeepsOpen step now.opens → StaysRefused c step now → c.opens ≡ old → 0 < length old

@@ -9,22 +9,22 @@ use Rattle.rdlpp_table.specs.View.{macro_at}
 use Rattle.rdlpp_meaning.specs.CallScan.{Before}
 use Rattle.rdlpp_meaning.specs.Meaning.{Progress}
 use Rattle.rdlpp_meaning.specs.Opened.{Waiting}
-use Rattle.rdlpp_meaning.specs.Opens.{open_body}
+use Rattle.rdlpp_meaning.specs.Opens.{Open, Part, Texts, open_body}
 use Rattle.rdlpp_meaning.specs.Parts.{only_blanks}
 use Rattle.rdlpp_meaning.specs.State.{Rules, State}
 use Rattle.rdlpp_meaning.specs.declared.fault.FaultKind.TheVariants.{LineTooLong}
 use Rattle.rdlpp_read.specs.Buffer.{BufferView, EndsHeld, MovesOver, ahead_of, held_of, rest_of, text_left, unused_of}
 use Rattle.rdlpp_read.specs.Files.{consumed_file, inner_buffer, torn_after, with_inner}
 use Rattle.rdlpp_read.specs.declared.files.File.{File}
-use Rattle.rdlpp_read.proofs.Sliding.{moves-on, moves-past, text-on, text-past}
-use Rattle.rdlpp_arguments.specs.CallReads.{MeansCall, ReadsCall, TellsCall, with_used}
+use Rattle.rdlpp_read.proofs.Sliding.{moves-on, moves-past, moves-told, text-on, text-past}
+use Rattle.rdlpp_arguments.specs.CallReads.{IsExactCall, MeansCall, ReadsCall, ReadsUpTo, TellsCall, with_used}
 use Rattle.rdlpp_arguments.specs.declared.reading.CallRead.{CallRead}
 use Rattle.rdlpp_arguments.specs.declared.reading.CallRead.TheVariants as call
 use Rattle.rdlpp_arguments.proofs.GoingOn.{used_twice}
-use Rattle.rdlpp_cursors.specs.Opened.{CursorsView}
+use Rattle.rdlpp_cursors.specs.Opened.{usage_id, CursorsView}
 use Rattle.rdlpp_cursors.specs.Places.{texts_of}
 use Rattle.rdlpp_front.specs.Fronts.{IsUsage, usage_name}
-use Rattle.rdlpp_usages.specs.Usages.{BindsKept, ExpansionView, IsRun, TellsCallUsage, TellsUsage, UsesCall, UsesSource, is_opened}
+use Rattle.rdlpp_usages.specs.Usages.{BindsKept, ExpansionView, IsExactOpening, IsRun, KeepsCall, KeepsOpening, KeepsUsage, TellsCallUsage, TellsUsage, UsesCall, UsesSource, is_opened}
 use Rattle.rdlpp_usages.specs.declared.expansion.Opening.{Opening}
 use Rattle.rdlpp_usages.specs.declared.expansion.Opening.TheVariants.{Opened, Refused, Broken, Failed}
 use Rattle.rdlpp_usages.proofs.UsageOpens.{kept_bound, kept_unbound, usage_opens_body, usage_opens_call, usage_refused}
@@ -36,6 +36,56 @@ kept_tells tells unread most macros id line bytes now Opened c old new means bin
 kept_tells tells unread most macros id line bytes now (Refused kind) c old new means binds = kept_unbound tells unread most macros id line bytes now kind c old new means binds
 kept_tells tells unread most macros id line bytes now (Broken kind own) c old new means binds = absurd binds
 kept_tells tells unread most macros id line bytes now Failed c old new means binds = absurd binds
+
+-- what is kept of a call that was read, by what binding it comes to
+pub kept_call : {R : Type 0} (tells : Type 0) (unread : R → List ℕ) (most : ℕ) (macros : List Macro) (id line : ℕ) (bytes now : List ℕ) (opening : Opening) (c : CursorsView) (old new : List (File R))
+    → (inner_buffer old).mode ≡ Plain → ReadsCall tells unread Before most bytes call.Closed old new → BindsKept macros id line bytes now opening c → KeepsOpening tells unread most opening bytes (inner_buffer old) (inner_buffer new)
+kept_call tells unread most macros id line bytes now Opened c old new plain r binds =
+    λ t. record { call = r.used; plain = plain; text = r.text (λ own e. cc e) t; kept = r.answer.reads t }
+kept_call tells unread most macros id line bytes now (Refused kind) c old new plain r binds = r.so_far
+kept_call tells unread most macros id line bytes now (Broken kind own) c old new plain r binds = absurd binds
+kept_call tells unread most macros id line bytes now Failed c old new plain r binds = absurd binds
+
+-- whether texts are open behind what binding comes to
+pub bound_opens : (macros : List Macro) (id line : ℕ) (bytes now : List ℕ) (opening : Opening) (c : CursorsView) → BindsKept macros id line bytes now opening c → is_opened opening ≡ true → 0 < length c.opens
+bound_opens macros id line bytes now Opened c binds e = rw binds.body (omega arith)
+bound_opens macros id line bytes now (Refused kind) c binds e = cc e
+bound_opens macros id line bytes now (Broken kind own) c binds e = cc e
+bound_opens macros id line bytes now Failed c binds e = cc e
+
+-- and of which macro they are
+pub bound_usage : (macros : List Macro) (id line : ℕ) (bytes now : List ℕ) (opening : Opening) (c : CursorsView) → BindsKept macros id line bytes now opening c → is_opened opening ≡ true → usage_id c.opens ≡ Some id
+unfolding usage_id open_body
+bound_usage macros id line bytes now Opened c binds e = ap usage_id binds.body
+bound_usage macros id line bytes now (Refused kind) c binds e = cc e
+bound_usage macros id line bytes now (Broken kind own) c binds e = cc e
+bound_usage macros id line bytes now Failed c binds e = cc e
+
+-- so it is with a body that is opened
+pub body_usage : (texts : Texts) (id : ℕ) (parts : List Part) (opens : List Open) → opens ≡ open_body texts id parts 0 ∷ [] → usage_id opens ≡ Some id
+unfolding usage_id open_body
+body_usage texts id parts opens e = ap usage_id e
+
+-- what is kept of a usage with a list
+pub keeps_listed : {R : Type 0} (formals : Option (List Formal)) (tells : Type 0) (unread : R → List ℕ) (most : ℕ) (opening : Opening) (arguments : List ℕ) (from now : BufferView R) → is_some formals ≡ true
+    → KeepsOpening tells unread most opening arguments from now → KeepsUsage formals tells unread most opening arguments from now
+keeps_listed None tells unread most opening arguments from now e keeps = cc e
+keeps_listed (Some fs) tells unread most opening arguments from now e keeps = keeps
+
+-- the same over sources of which the name was used, with a store of its own limit
+pub keeps_listed_by : {R : Type 0} (macros : List Macro) (id : ℕ) (tells : Type 0) (unread : R → List ℕ) (own most : ℕ) (opening : Opening) (arguments : List ℕ) (mid nest new : List (File R)) → own ≡ most → mid ≡ nest
+    → is_some (macro_at macros id).formals ≡ true
+    → KeepsOpening tells unread own opening arguments (inner_buffer mid) (inner_buffer new) → KeepsUsage (macro_at macros id).formals tells unread most opening arguments (inner_buffer nest) (inner_buffer new)
+keeps_listed_by {R} macros id tells unread own most opening arguments mid nest new same is listed keeps =
+    keeps_listed (macro_at macros id).formals tells unread most opening arguments (inner_buffer nest) (inner_buffer new) listed
+    (subst (λ (ns : List (File R)). KeepsOpening tells unread most opening arguments (inner_buffer ns) (inner_buffer new)) is
+    (subst (λ (n : ℕ). KeepsOpening tells unread n opening arguments (inner_buffer mid) (inner_buffer new)) same keeps))
+
+-- of one without a list
+pub keeps_plain : {R : Type 0} (formals : Option (List Formal)) (tells : Type 0) (unread : R → List ℕ) (most : ℕ) (opening : Opening) (arguments : List ℕ) (from now : BufferView R) → formals ≡ None
+    → arguments ≡ [] → KeepsUsage formals tells unread most opening arguments from now
+keeps_plain None tells unread most opening arguments from now e none = none
+keeps_plain (Some fs) tells unread most opening arguments from now e none = cc e
 
 -- a list that isn't there
 pub no_list : (o : Option (List Formal)) → is_some (option_map length o) ≡ false → o ≡ None
@@ -52,9 +102,9 @@ pub opened_line : (opening : Opening) (now line old : ℕ) → now ≡ (if is_op
 opened_line opening now line old e o = e ∙ ap (λ (x : Opening). if is_opened x then line else old) o
 
 -- the window behind the bytes of a usage
-name_moves : {R : Type 0} (f : File R) (len : ℕ) → len ≤ length (held_of f.buffer) → MovesOver (take len (held_of f.buffer)) f.buffer (consumed_file len 0 f).buffer
-name_moves f len inside =
-    moves-past (take len (held_of f.buffer)) f.buffer (consumed_file len 0 f).buffer refl (ap (λ (n : ℕ). f.buffer.at + n) (sym (length-take-le len (held_of f.buffer) inside)))
+name_moves : {R : Type 0} (tells : Type 0) (unread : R → List ℕ) (f : File R) (len : ℕ) → len ≤ length (held_of f.buffer) → MovesOver tells unread (take len (held_of f.buffer)) f.buffer (consumed_file len 0 f).buffer
+name_moves tells unread f len inside =
+    moves-past tells unread (take len (held_of f.buffer)) f.buffer (consumed_file len 0 f).buffer refl (ap (λ (n : ℕ). f.buffer.at + n) (sym (length-take-le len (held_of f.buffer) inside))) refl
 
 -- what is held behind them
 name_held : {R : Type 0} (f : File R) (len : ℕ) → held_of (consumed_file len 0 f).buffer ≡ drop len (held_of f.buffer)
@@ -84,7 +134,7 @@ uses_name tells unread opening (f ∷ outer) len some has inside =
       some = omega arith;
       inner = refl;
       unused = omega arith;
-      moves = name_moves f len inside;
+      moves = name_moves (IsExactOpening opening × tells) unread f len inside;
       text = λ exact t. name_text unread f len;
     }
 
@@ -97,7 +147,7 @@ uses_call tells unread most kept read opening old new r closed broken =
       used = r.used;
       inner = r.inner;
       unused = r.unused;
-      moves = r.moves;
+      moves = moves-told (IsExactOpening opening × tells) (IsExactCall read × tells) unread r.used (inner_buffer old) (inner_buffer new) (λ t. (λ own e. t.0 own (broken own e), t.1)) r.moves;
       text = λ exact t. r.text (λ own e. exact own (broken own e)) t;
       bytes = λ o t. (subst (λ (c : CallRead). TellsCall tells unread Before most kept r.used (inner_buffer old) (inner_buffer new) c) (closed o) r.answer).bytes t;
     }
@@ -115,7 +165,7 @@ uses_more {R} tells unread opening old mid new name c =
       some = omega arith;
       inner = c.inner ∙ ap (λ (nest : List (File R)). with_used (inner_buffer new) c.used nest) name.inner ∙ used_twice (inner_buffer mid) (inner_buffer new) name.used c.used old;
       unused = omega arith;
-      moves = moves-on name.used c.used (inner_buffer old) (inner_buffer mid) (inner_buffer new) name.moves c.moves;
+      moves = moves-on (IsExactOpening opening × tells) (IsExactOpening opening × tells) (IsExactOpening opening × tells) unread name.used c.used (inner_buffer old) (inner_buffer mid) (inner_buffer new) (λ t. t) (λ t. t) name.moves c.moves;
       text = λ exact t.
           text-on name.used c.used (text_left unread (inner_buffer old)) (text_left unread (inner_buffer mid)) (text_left unread (inner_buffer new))
           (name.text exact t) (c.text exact t);

@@ -1,13 +1,16 @@
 -- What a usage in a source comes to: open texts, and then what remains of the source behind it, or a fault.
 -- A definition that names no source is this project's own.
-use Rattle.std.specs.Prelude.{◌≡◌, ℕ, ◌+◌, ◌<◌, ◌≤◌, Bool, true, false, List, [], ◌∷◌, ◌++◌, ◌⊎◌, length, map, Some, ◌^◌}
+use Rattle.std.specs.Prelude.{◌≡◌, ℕ, ◌+◌, ◌*◌, ◌<◌, ◌≤◌, Bool, true, false, List, [], ◌∷◌, ◌++◌, ◌⊎◌, length, map, Option, None, Some, ◌^◌}
+use Rattle.rdlpp_scan.specs.declared.token.Mode.TheVariants.{Plain}
 use Rattle.rdlpp_table.specs.Table.{Formal, Macro}
 use Rattle.rdlpp_table.specs.View.{macro_at}
 use Rattle.rdlpp_calls.specs.BoundCalls.{KeepsAll, actuals_of, range_part, ranges_tokens}
 use Rattle.rdlpp_calls.specs.SourceBound.{OpensBound}
 use Rattle.rdlpp_calls.specs.declared.bindings.Range.{Range}
+use Rattle.rdlpp_meaning.specs.CallReading.{ReadClosed}
+use Rattle.rdlpp_meaning.specs.CallScan.{Before}
 use Rattle.rdlpp_meaning.specs.Cursors.{Refuses, is_token_count, kept, left, token_usage_of_formals}
-use Rattle.rdlpp_meaning.specs.Expansion.{bytes_of}
+use Rattle.rdlpp_meaning.specs.Expansion.{bound_parts, bytes_of}
 use Rattle.rdlpp_meaning.specs.Meaning.{Passage, Progress, goes_on, leaves}
 use Rattle.rdlpp_meaning.specs.Opened.{Waiting}
 use Rattle.rdlpp_meaning.specs.Opens.{Open, open_body, slots_of}
@@ -21,8 +24,9 @@ use Rattle.rdlpp_meaning.specs.declared.fault.FaultKind.TheVariants.{ArgumentsMi
 use Rattle.rdlpp_read.specs.Buffer.{BufferView, MovesOver, text_left, tokens_left, unused_of}
 use Rattle.rdlpp_read.specs.Files.{inner_buffer}
 use Rattle.rdlpp_read.specs.declared.files.File.{File}
-use Rattle.rdlpp_arguments.specs.CallReads.{with_used}
-use Rattle.rdlpp_cursors.specs.Opened.{CursorsView}
+use Rattle.rdlpp_arguments.specs.CallReads.{with_used, ReadsUpTo}
+use Rattle.rdlpp_arguments.specs.Reads.{reading}
+use Rattle.rdlpp_cursors.specs.Opened.{CursorsView, bound_by}
 use Rattle.rdlpp_cursors.specs.Places.{texts_of}
 use Rattle.rdlpp_cursors.specs.declared.step.CursorStep.{CursorStep}
 use Rattle.rdlpp_cursors.specs.declared.step.CursorStep.TheVariants.{Lends, Silent, Refused as Fault}
@@ -38,15 +42,11 @@ pub record ExpansionView : Type 0 where
   pub depth : ℕ
   pub most : ℕ
 
--- nothing is kept of a call where no text is open
-pub record IsExpansion (opens : List Open) (arguments : List ℕ) : Type 0 where
-  pub lets_go : opens ≡ [] → arguments ≡ []
-
--- no more texts are open and no more bytes are kept than there is room for, and nothing is kept of a call where no text is open
+-- no more texts are open, no more actuals are bound and no more bytes are kept than there is room for
 pub record IsRoomy (e : ExpansionView) : Type 0 where
   pub few : length e.opens ≤ e.depth
+  pub bound : bound_by e.opens ≤ e.depth * 255
   pub fits : length e.arguments ≤ e.most
-  pub lets_go : e.opens ≡ [] → e.arguments ≡ []
 
 -- a run goes on with these macros, and with these limits on open texts and on kept bytes
 pub record IsRun (rules : Rules) (s : State) (macros : List Macro) (depth most : ℕ) : Type 0 where
@@ -98,7 +98,7 @@ pub record UsesSource {R : Type 0} (tells : Type 0) (unread : R → List ℕ) (o
   pub some : 0 < length used
   pub inner : new ≡ with_used (inner_buffer new) used old
   pub unused : unused_of (inner_buffer new) + length used ≡ unused_of (inner_buffer old)
-  pub moves : MovesOver used (inner_buffer old) (inner_buffer new)
+  pub moves : MovesOver (IsExactOpening opening × tells) unread used (inner_buffer old) (inner_buffer new)
   pub text : IsExactOpening opening → tells → text_left unread (inner_buffer old) ≡ used ++ text_left unread (inner_buffer new)
 
 -- a call is refused by the tokens in front of it, about a name or none, in each run with that limit on kept bytes
@@ -127,7 +127,7 @@ pub record UsesCall {R : Type 0} (tells : Type 0) (unread : R → List ℕ) (ope
   pub used : List ℕ
   pub inner : new ≡ with_used (inner_buffer new) used old
   pub unused : unused_of (inner_buffer new) + length used ≡ unused_of (inner_buffer old)
-  pub moves : MovesOver used (inner_buffer old) (inner_buffer new)
+  pub moves : MovesOver (IsExactOpening opening × tells) unread used (inner_buffer old) (inner_buffer new)
   pub text : IsExactOpening opening → tells → text_left unread (inner_buffer old) ≡ used ++ text_left unread (inner_buffer new)
   pub bytes : opening ≡ Opened → tells
       → bytes_of (tokens_left unread (inner_buffer old)) ≡ used ++ bytes_of (tokens_left unread (inner_buffer new))
@@ -138,13 +138,13 @@ pub record Binds (macros : List Macro) (id line : ℕ) (bytes now : List ℕ) (c
   pub body : c.opens ≡ open_body (texts_of macros bytes) id (map range_part ranges) 0 ∷ []
   pub stays : now ≡ bytes
   pub line_is : c.line ≡ line
-  pub actuals : actuals_of bytes ≡ ranges_tokens bytes ranges
+  pub actuals : (fs : List Formal) → (macro_at macros id).formals ≡ Some fs → bound_parts fs (actuals_of bytes) ≡ ranges_tokens bytes ranges
   pub count : (fs : List Formal) → (macro_at macros id).formals ≡ Some fs → is_token_count fs (actuals_of bytes) ≡ true
 
--- a kept call has more or fewer actuals than its macro wants: nothing is open or kept
+-- a kept call has more or fewer actuals than its macro wants: nothing is open, and what was kept stays
 pub record Unbinds (macros : List Macro) (id : ℕ) (bytes now : List ℕ) (kind : FaultKind) (c : CursorsView) : Type 0 where
   pub none : c.opens ≡ []
-  pub lets_go : now ≡ []
+  pub stays : now ≡ bytes
   pub kind_is : kind ≡ ArgumentCount
   pub count : KeepsAll (body_tokens bytes) → (fs : List Formal) → (macro_at macros id).formals ≡ Some fs → is_token_count fs (actuals_of bytes) ≡ false
 
@@ -154,6 +154,25 @@ BindsKept macros id line bytes now Opened c = Binds macros id line bytes now c
 BindsKept macros id line bytes now (Refused kind) c = Unbinds macros id bytes now kind c
 BindsKept macros id line bytes now (Broken kind own) c = ⊥
 BindsKept macros id line bytes now Failed c = ⊥
+
+-- a call of a source was kept whole: reading it from a place on keeps these bytes, and leaves what remains of the source now
+pub record KeepsCall {R : Type 0} (unread : R → List ℕ) (most : ℕ) (arguments : List ℕ) (from now : BufferView R) : Type 0 where
+  pub call : List ℕ
+  pub plain : from.mode ≡ Plain
+  pub text : text_left unread from ≡ call ++ text_left unread now
+  pub kept : reading unread Before most from ≡ ReadClosed arguments (tokens_left unread now)
+
+-- what is kept of the call of a usage: all of it where its body is open, and what was kept so far where a fault came in it
+abbrev pub KeepsOpening : {R : Type 0} → Type 0 → (R → List ℕ) → ℕ → Opening → List ℕ → BufferView R → BufferView R → Type 0
+KeepsOpening tells unread most Opened arguments from now = tells → KeepsCall unread most arguments from now
+KeepsOpening tells unread most (Refused kind) arguments from now = ReadsUpTo tells unread Before most arguments from now
+KeepsOpening tells unread most (Broken kind own) arguments from now = ReadsUpTo tells unread Before most arguments from now
+KeepsOpening tells unread most Failed arguments from now = ReadsUpTo tells unread Before most arguments from now
+
+-- what is kept of a usage: nothing where its macro has no list, and else of its call
+abbrev pub KeepsUsage : {R : Type 0} → Option (List Formal) → Type 0 → (R → List ℕ) → ℕ → Opening → List ℕ → BufferView R → BufferView R → Type 0
+KeepsUsage None tells unread most opening arguments from now = arguments ≡ []
+KeepsUsage (Some fs) tells unread most opening arguments from now = KeepsOpening tells unread most opening arguments from now
 
 -- open texts went on: the line and the limits stay, and so do the kept bytes, until no text is open
 pub record StaysOpen (old new : ExpansionView) : Type 0 where

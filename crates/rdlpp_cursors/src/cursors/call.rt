@@ -5,8 +5,8 @@ ghost use Rattle.rdlpp_meaning.specs.Substitution.{body_tokens};
 ghost use Rattle.rdlpp_calls.specs.BoundCalls.{KeepsAll};
 ghost use Rattle.rdlpp_cursors.specs.Calls.{IsCallFault, IsCallMiscounted, IsCallStarted, IsOpening};
 ghost use Rattle.rdlpp_cursors.specs.Digits.{IsFalling};
-ghost use Rattle.rdlpp_cursors.specs.Flats.{HasMovedOn};
 ghost use Rattle.rdlpp_cursors.specs.Fronts.{IsLook};
+ghost use Rattle.rdlpp_cursors.specs.Opened.{StaysOutermost};
 ghost use Rattle.rdlpp_cursors.specs.Places.{source_text, texts_of};
 ghost use Rattle.rdlpp_cursors.specs.Steps.{AreSound, IsStep, IsUnlent, KeepsOpen, StaysRefused, IsPlacedStep, NamesWord};
 ghost use Rattle.rdlpp_cursors.specs.Usages.{front_name, IsTextFault, IsUsed};
@@ -32,9 +32,8 @@ enum Opening {
 }
 
 impl Cursors {
-    // Opens the body of a macro with a list of formals for a call that stands in a source at a line, as `OpenTexts::open_call`
-    // says.
-    pub(crate) fn open_call(
+    // Opens the body of a macro with a list of formals for a call that stands in a source at a line.
+    pub fn open_call(
         &mut self,
         table: &Table,
         arguments: &[u8],
@@ -96,10 +95,10 @@ impl Cursors {
         ensures placed { IsPlacedStep (texts_of table.now.macros arguments.now) result }
         ensures lends { KeepsOpen result self.new.opens }
         ensures open { 0 < length self.new.opens }
+        ensures outer { StaysOutermost self.old.opens self.new.opens }
         ensures unlent { IsUnlent result }
         ensures fault { IsTextFault result }
         ensures word { NamesWord (texts_of table.now.macros arguments.now) result }
-        ensures moved { length self.old.opens < length self.new.opens → HasMovedOn self.old.opens (drop 1 self.new.opens) }
     {
         let _macros = table.len();
         let home = self.scope();

@@ -2,9 +2,8 @@
 ghost use Rattle.std.specs.Prelude.{drop, [], length, ◌+◌, ◌<◌, ◌≡◌, ◌≤◌};
 ghost use Rattle.std.specs.Option.{option_map};
 ghost use Rattle.rdlpp_cursors.specs.Digits.{IsFalling};
-ghost use Rattle.rdlpp_cursors.specs.Flats.{HasMovedOn};
 ghost use Rattle.rdlpp_cursors.specs.Fronts.{IsLook};
-ghost use Rattle.rdlpp_cursors.specs.Opened.{open_of};
+ghost use Rattle.rdlpp_cursors.specs.Opened.{open_of, StaysOutermost};
 ghost use Rattle.rdlpp_cursors.specs.Places.{source_formals, texts_of};
 ghost use Rattle.rdlpp_cursors.specs.Scopes.{found_source, found_standing, front_scope, scope_open, AreBound};
 ghost use Rattle.rdlpp_cursors.specs.Steps.{AreSound, IsStep, IsUnlent, KeepsOpen, StaysRefused, IsPlacedStep, NamesWord};
@@ -43,10 +42,10 @@ impl Cursors {
         ensures placed { IsPlacedStep (texts_of table.now.macros arguments.now) result }
         ensures lends { KeepsOpen result self.new.opens }
         ensures open { 0 < length self.new.opens }
+        ensures outer { StaysOutermost self.old.opens self.new.opens }
         ensures unlent { IsUnlent result }
         ensures fault { IsTextFault result }
         ensures word { NamesWord (texts_of table.now.macros arguments.now) result }
-        ensures moved { length self.old.opens < length self.new.opens → HasMovedOn self.old.opens (drop 1 self.new.opens) }
     {
         let look = *look;
         let _macros = table.len();

@@ -1,7 +1,7 @@
 // The opening of what stands at the front of open texts.
 ghost use Rattle.std.specs.Prelude.{drop, false, length, true, ◌<◌, ◌≡◌, ◌^◌};
-ghost use Rattle.rdlpp_cursors.specs.Flats.{HasMovedOn};
 ghost use Rattle.rdlpp_cursors.specs.Fronts.{IsLook};
+ghost use Rattle.rdlpp_cursors.specs.Opened.{StaysOutermost};
 ghost use Rattle.rdlpp_cursors.specs.Places.{source_text, texts_of};
 ghost use Rattle.rdlpp_cursors.specs.Steps.{AreSound};
 ghost use Rattle.rdlpp_cursors.specs.Taking.{is_idle, IsTaken};
@@ -34,7 +34,7 @@ impl Cursors {
         ensures taken { is_idle lent (length self.old.opens) look.now.front ≡ false → IsTaken (texts_of table.now.macros arguments.now) self.old result self.new }
         ensures idle { is_idle lent (length self.old.opens) look.now.front ≡ true → self.new ≡ self.old }
         ensures open { lent ≡ true → 0 < length self.new.opens }
-        ensures moved { length self.old.opens < length self.new.opens → HasMovedOn self.old.opens (drop 1 self.new.opens) }
+        ensures outer { StaysOutermost self.old.opens self.new.opens }
     {
         match look.front {
             Front::Ended if lent && self.len() <= 1 => CursorStep::Silent,

@@ -6,9 +6,8 @@ ghost use Rattle.rdlpp_scan.specs.Reserved.{is_reserved};
 ghost use Rattle.rdlpp_table.specs.View.{macro_at};
 ghost use Rattle.rdlpp_meaning.specs.Opens.{open_body};
 ghost use Rattle.rdlpp_cursors.specs.Digits.{IsFalling};
-ghost use Rattle.rdlpp_cursors.specs.Flats.{HasMovedOn};
 ghost use Rattle.rdlpp_cursors.specs.Fronts.{IsLook};
-ghost use Rattle.rdlpp_cursors.specs.Opened.{moved_to};
+ghost use Rattle.rdlpp_cursors.specs.Opened.{moved_to, StaysOutermost};
 ghost use Rattle.rdlpp_cursors.specs.Places.{place_bytes, source_text, texts_of, IsSource};
 ghost use Rattle.rdlpp_cursors.specs.Scopes.{front_scope, writer_ids, AreFurtherOut};
 ghost use Rattle.rdlpp_cursors.specs.Steps.{AreSound, IsStep, IsUnlent, KeepsOpen, StaysRefused, IsPlacedStep, NamesWord};
@@ -48,10 +47,10 @@ impl Cursors {
         ensures placed { IsPlacedStep (texts_of table.now.macros arguments.now) result }
         ensures lends { KeepsOpen result self.new.opens }
         ensures open { 0 < length self.new.opens }
+        ensures outer { StaysOutermost self.old.opens self.new.opens }
         ensures unlent { IsUnlent result }
         ensures fault { IsTextFault result }
         ensures word { NamesWord (texts_of table.now.macros arguments.now) result }
-        ensures moved { length self.old.opens < length self.new.opens → HasMovedOn self.old.opens (drop 1 self.new.opens) }
     {
         let _macros = table.len();
         let id = match self.used_macro(table, arguments, text, look, len) {

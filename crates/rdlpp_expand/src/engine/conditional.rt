@@ -61,7 +61,7 @@ impl<S: Sources> Engine<S> {
             let word = word_of(name);
             return Some(self.refuse(FaultKind::ReservedName, word));
         }
-        let found = self.macros.table().find(name).is_some();
+        let found = self.table.find(name).is_some();
         self.open_tested(test_of(defined, found), stop)
     }
 
@@ -140,7 +140,7 @@ impl<S: Sources> Engine<S> {
             let word = word_of(name);
             return Some(self.refuse(FaultKind::ReservedName, word));
         }
-        let found = self.macros.table().find(name).is_some();
+        let found = self.table.find(name).is_some();
         self.turn(Directive::Elsif, found, stop);
         None
     }

@@ -10,7 +10,6 @@ ghost use Rattle.rdlpp_steps.specs.Opening.{Makes, Starts, opened_engine, start_
 use super::Engine;
 use arrayvec::ArrayString;
 use rdlpp_conditions::Conditions;
-use rdlpp_cursors::Macros;
 use rdlpp_meaning::{Fault, FaultKind};
 use rdlpp_read::Files;
 use rdlpp_source::{Found, SourceFault, Sources};
@@ -64,7 +63,7 @@ impl<S: Sources> Engine<S> {
             kept: None,
             main: ArrayString::new(),
             owed: Owed::nothing(),
-            macros: Macros::new(table),
+            table,
             conditions,
             sources,
             files,
@@ -87,8 +86,8 @@ impl<S: Sources> Engine<S> {
         ensures only { self.new ≡ record self.old { table = record self.old.table { macros = self.new.table.macros } } }
         ensures bounded { IsBounded self.new }
     {
-        let outcome = self.macros.set(name, text);
-        let _len = self.macros.table().len();
+        let outcome = self.table.set(name, text);
+        let _len = self.table.len();
         self.facts();
         outcome
     }
@@ -110,7 +109,7 @@ impl<S: Sources> Engine<S> {
         self.facts();
         match self.sources.top(path) {
             Ok(found) => {
-                self.open_main(found);
+                self.open_main(path, found);
                 self.facts();
                 Ok(())
             }
@@ -120,14 +119,14 @@ impl<S: Sources> Engine<S> {
 
     // Opens the main text that was found.
     #[tactic(auto, unfolding(rdlpp_steps::specs::Opening::opened_engine, rdlpp_steps::specs::Owed::nothing_owed))]
-    fn open_main(&mut self, found: Found<S::Reader>)
+    fn open_main(&mut self, path: &str, found: Found<S::Reader>)
         requires { self.old.phase ≡ Phase.Fresh }
-        ensures { self.new ≡ opened_engine self.old found }
+        ensures { self.new ≡ opened_engine self.old path.now found }
     {
         self.phase = Phase::Open;
         self.quota = self.limits.output_bytes;
         self.kept = None;
-        self.main = found.path;
+        self.main = cut_name(path);
         self.owed = Owed::nothing();
         self.owed.owe_origin(self.origins, 1);
         let source_bytes = self.limits.source_bytes;

@@ -105,7 +105,7 @@ impl<S: Sources> Engine<S> {
         ensures stays { StaysUnowed result self.new }
     {
         self.facts();
-        let step = self.expansion.step(&mut self.macros);
+        let step = self.expansion.step(&self.table);
         self.expansion.facts();
         match step {
             CursorStep::Lends(place) => TextStep::Lent(place),
@@ -122,6 +122,6 @@ impl<S: Sources> Engine<S> {
         requires { IsTextPlaced (held_texts self.now) place }
         ensures { result.now ≡ place_bytes (held_texts self.now) place }
     {
-        text_at(self.macros.table(), self.expansion.arguments(), place)
+        text_at(&self.table, self.expansion.arguments(), place)
     }
 }

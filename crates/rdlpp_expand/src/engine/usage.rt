@@ -2,7 +2,6 @@
 ghost use Rattle.std.specs.Prelude.{◌≡◌, ◌<◌, ◌≤◌, ◌^◌, true, length, None, Some, IfSome};
 ghost use Rattle.rdlpp_table.specs.Table.{macro_named};
 ghost use Rattle.rdlpp_table.specs.View.{macro_at};
-ghost use Rattle.rdlpp_meaning.specs.PlainMacros.{stands_for_body};
 ghost use Rattle.rdlpp_read.specs.Buffer.{held_of};
 ghost use Rattle.rdlpp_read.specs.Files.{inner_buffer};
 ghost use Rattle.rdlpp_front.specs.Fronts.{IsUsage, usage_name};
@@ -17,7 +16,7 @@ use rdlpp_meaning::FaultKind;
 use rdlpp_scan::Mode;
 use rdlpp_source::Sources;
 use rdlpp_steps::{Place, word_of};
-use rdlpp_table::{MacroId, Table};
+use rdlpp_table::MacroId;
 use rdlpp_usages::Opening;
 
 impl<S: Sources> Engine<S> {
@@ -32,49 +31,13 @@ impl<S: Sources> Engine<S> {
         ensures walks { IsBounded self.new → Walks S.Sources self.old self.new (step_answer self.new result) }
     {
         let name = name_of(self.files.file().buffer.held(), len);
-        match self.macros.table().find(name) {
+        match self.table.find(name) {
             None => {
                 let word = word_of(name);
                 Some(self.refuse(FaultKind::UndefinedMacro, word))
             }
-            Some(id) => self.take_usage(len, id),
+            Some(id) => self.open_usage(len, id),
         }
-    }
-
-    // Takes a usage of a macro: lends its body, where it stands for that as it lies, and opens it else.
-    fn take_usage(&mut self, len: usize, id: MacroId) -> Option<Place>
-        requires ready { IsReady self.old }
-        requires live { self.old.conditions.skipped ≡ None }
-        requires some { 0 < length (held_of (inner_buffer self.old.files.nest)) }
-        requires mode { (inner_buffer self.old.files.nest).mode ≡ Mode.Plain }
-        requires usage { IsUsage (held_of (inner_buffer self.old.files.nest)) len }
-        requires inside { id < length self.old.table.macros }
-        requires named { macro_named self.old.table.macros (usage_name (held_of (inner_buffer self.old.files.nest)) len) ≡ Some (macro_at self.old.table.macros id) }
-        ensures place { IfSome result (IsPlaced self.new) }
-        ensures walks { IsBounded self.new → Walks S.Sources self.old self.new (step_answer self.new result) }
-    {
-        if is_plain(self.macros.table(), id) {
-            return Some(self.lend_body(len, id));
-        }
-        self.open_usage(len, id)
-    }
-
-    // Lends the body of a macro whose usage, of `len` bytes, stands for it as it lies.
-    fn lend_body(&mut self, len: usize, id: MacroId) -> Place
-        requires ready { IsReady self.old }
-        requires live { self.old.conditions.skipped ≡ None }
-        requires some { 0 < length (held_of (inner_buffer self.old.files.nest)) }
-        requires mode { (inner_buffer self.old.files.nest).mode ≡ Mode.Plain }
-        requires usage { IsUsage (held_of (inner_buffer self.old.files.nest)) len }
-        requires inside { id < length self.old.table.macros }
-        requires named { macro_named self.old.table.macros (usage_name (held_of (inner_buffer self.old.files.nest)) len) ≡ Some (macro_at self.old.table.macros id) }
-        requires plain { stands_for_body (macro_at self.old.table.macros id) ≡ true }
-        ensures place { IsPlaced self.new result }
-        ensures walks { IsBounded self.new → Walks S.Sources self.old self.new (lent_answer self.new result) }
-    {
-        let end = self.macros.table().body(id).len();
-        self.consume(len, 0);
-        Place::Body(id, 0, end)
     }
 
     // Opens a usage of a macro, and lends nothing yet.
@@ -94,7 +57,7 @@ impl<S: Sources> Engine<S> {
         match self.open_macro(len, id) {
             Opening::Opened => None,
             Opening::Refused(kind) => {
-                let word = word_of(self.macros.table().name(id));
+                let word = word_of(self.table.name(id));
                 Some(self.refuse_at(kind, line, word))
             }
             Opening::Broken(kind, own) => Some(self.refuse_at(kind, own, ArrayString::new())),
@@ -113,7 +76,7 @@ impl<S: Sources> Engine<S> {
         ensures { OpensUsage S.Sources len self.old self.new result }
     {
         self.facts();
-        let table = self.macros.table();
+        let table = &self.table;
         let opening = self
             .expansion
             .open_usage(&mut self.files, &mut self.sources, table, len, id);
@@ -129,12 +92,4 @@ fn name_of(held: &[u8], len: usize) -> &[u8]
     ensures { result.now ≡ usage_name held.now len }
 {
     &held[1..len]
-}
-
-// Whether a usage of a macro stands for its body as it lies: without a list of formals, a usage or a lone backquote.
-fn is_plain(table: &Table, id: MacroId) -> bool
-    requires { id < length table.now.macros }
-    ensures { result ≡ stands_for_body (macro_at table.now.macros id) }
-{
-    table.arity(id).is_none() && table.is_copied(id)
 }

@@ -1,6 +1,6 @@
 use Rattle.std.proofs.Common.{Ok, sym, ap, ◌∙◌}
 use Rattle.rdlpp_steps.specs.Pieces.{answer_of}
-use Rattle.rdlpp_expand.proofs.RunFacts.{answer_step, pulled_written, pulled_none, pulled_fault}
+use Rattle.rdlpp_expand.proofs.RunFacts.{answer_step, pulled_written, pulled_none, pulled_fault, pulled_silent}
 use Rattle.rdlpp_expand.proofs.writing.pull.Goals as goal
 
 pub returns-in-Ok-Bytes : goal.returns-in-Ok-Bytes
@@ -19,3 +19,6 @@ pub returns-in-Err : goal.returns-in-Err
 returns-in-Err g c =
     pulled_fault g.S.Sources g.W.Sink _ _ _ _
     (answer_step g.S.Sources _ _ _ _ c.in-Some.ensures.steps (sym (ap answer_of c.in-Err.is) ∙ c.answer.ensures))
+
+pub returns-in_default : goal.returns-in_default
+returns-in_default g c = pulled_silent g.S.Sources g.W.Sink _ _ _ c.in_default.ensures.steps

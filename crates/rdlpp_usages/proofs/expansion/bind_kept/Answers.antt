@@ -1,5 +1,10 @@
-use Rattle.rdlpp_usages.proofs.UsageOpens.{count_usage, told_usage}
+use Rattle.std.proofs.Common.{ap}
+use Rattle.rdlpp_usages.proofs.UsageOpens.{count_usage}
+use Rattle.rdlpp_usages.proofs.UsageSteps.{body_usage}
 use Rattle.rdlpp_usages.proofs.expansion.bind_kept.Goals as goal
 
 pub returns-in-Err-clause-fault : goal.returns-in-Err-clause-fault
-returns-in-Err-clause-fault c = told_usage _ _ c.refuse.ensures.same (count_usage c.in-Err.kind c.in-Err.ensures.refused.kind_is)
+returns-in-Err-clause-fault c = count_usage c.in-Err.kind c.in-Err.ensures.refused.kind_is
+
+pub returns-in-Ok-clause-usage : goal.returns-in-Ok-clause-usage
+returns-in-Ok-clause-usage c = λ _. body_usage _ _ _ _ (ap (λ v. v.opens) c.in-Ok.ensures.opens.opens)

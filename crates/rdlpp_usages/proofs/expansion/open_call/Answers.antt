@@ -1,35 +1,36 @@
 use Rattle.std.proofs.Common.{refl}
 use Rattle.rdlpp_read.specs.Files.{inner_buffer}
 use Rattle.rdlpp_arguments.specs.declared.reading.CallRead.TheVariants as call
-use Rattle.rdlpp_usages.proofs.UsageOpens.{call_breaks, call_lacks, read_usage, told_usage}
-use Rattle.rdlpp_usages.proofs.UsageSteps.{kept_tells, uses_call}
+use Rattle.rdlpp_usages.specs.declared.expansion.Opening.TheVariants.{Refused, Broken, Failed}
+use Rattle.rdlpp_usages.proofs.UsageOpens.{call_breaks, call_lacks, read_usage}
+use Rattle.rdlpp_usages.proofs.UsageSteps.{kept_call, kept_tells, uses_call}
 use Rattle.rdlpp_usages.proofs.expansion.open_call.Goals as goal
 
 pub returns-in-Closed-clause-tells : goal.returns-in-Closed-clause-tells
 returns-in-Closed-clause-tells g c =
-    kept_tells _ _ _ c.args.table.now.macros c.args.usage.id c.args.usage.line _ c.bind_kept.new.arguments.bytes c.bind_kept.result c.bind_kept.new.texts _ _
+    kept_tells _ _ _ c.args.table.now.macros c.args.usage.id c.args.usage.line _ c.read_call.new.store.bytes c.bind_kept.result c.bind_kept.new.texts _ _
     c.in-Closed.ensures.means c.bind_kept.ensures.binds
+
+pub returns-in-Closed-clause-keeps : goal.returns-in-Closed-clause-keeps
+returns-in-Closed-clause-keeps g c =
+    kept_call _ _ _ c.args.table.now.macros c.args.usage.id c.args.usage.line _ c.read_call.new.store.bytes c.bind_kept.result c.bind_kept.new.texts _ _
+    c.requires.plain c.in-Closed.ensures.reads c.bind_kept.ensures.binds
 
 pub returns-in-Refused-clause-tells : goal.returns-in-Refused-clause-tells
 returns-in-Refused-clause-tells g c =
-    rw c.refuse.ensures.same
-    (call_lacks _ _ _ c.args.table.now.macros c.args.usage.id c.read_call.new.store.bytes c.refuse.new.arguments.bytes c.in-Refused.kind c.args.texts.now.opens
-    (inner_buffer c.args.files.now.nest) (inner_buffer c.read_call.new.files.nest) c.in-Refused.ensures.means)
+    call_lacks _ _ _ c.args.table.now.macros c.args.usage.id c.read_call.new.store.bytes c.read_call.new.store.bytes c.in-Refused.kind c.args.texts.now.opens
+    (inner_buffer c.args.files.now.nest) (inner_buffer c.read_call.new.files.nest) c.in-Refused.ensures.means
 
 pub returns-in-Broken-clause-tells : goal.returns-in-Broken-clause-tells
 returns-in-Broken-clause-tells g c =
-    rw c.refuse-in-Broken.ensures.same
-    (call_breaks _ _ _ c.args.table.now.macros c.args.usage.id c.read_call.new.store.bytes c.refuse-in-Broken.new.arguments.bytes c.in-Broken.kind c.in-Broken.own
-    c.args.texts.now.opens (inner_buffer c.args.files.now.nest) (inner_buffer c.read_call.new.files.nest) c.in-Broken.ensures.means)
+    call_breaks _ _ _ c.args.table.now.macros c.args.usage.id c.read_call.new.store.bytes c.read_call.new.store.bytes c.in-Broken.kind c.in-Broken.own
+    c.args.texts.now.opens (inner_buffer c.args.files.now.nest) (inner_buffer c.read_call.new.files.nest) c.in-Broken.ensures.means
 
 pub returns-in-Refused-clause-fault : goal.returns-in-Refused-clause-fault
-returns-in-Refused-clause-fault g c = told_usage _ _ c.refuse.ensures.same (read_usage c.in-Refused.kind c.in-Refused.ensures.fault)
+returns-in-Refused-clause-fault g c = read_usage c.in-Refused.kind c.in-Refused.ensures.fault
 
 pub returns-in-Broken-clause-fault : goal.returns-in-Broken-clause-fault
-returns-in-Broken-clause-fault g c = told_usage _ _ c.refuse-in-Broken.ensures.same (read_usage c.in-Broken.kind c.in-Broken.ensures.fault)
-
-pub returns-in-Failed-clause-fault : goal.returns-in-Failed-clause-fault
-returns-in-Failed-clause-fault g c = told_usage _ _ c.refuse-in-Failed.ensures.same tt
+returns-in-Broken-clause-fault g c = read_usage c.in-Broken.kind c.in-Broken.ensures.fault
 
 pub returns-in-Closed-clause-uses : goal.returns-in-Closed-clause-uses
 returns-in-Closed-clause-uses g c =
@@ -37,15 +38,12 @@ returns-in-Closed-clause-uses g c =
 
 pub returns-in-Refused-clause-uses : goal.returns-in-Refused-clause-uses
 returns-in-Refused-clause-uses g c =
-    uses_call _ _ _ _ (call.Refused c.in-Refused.kind) c.refuse.result _ _ c.in-Refused.ensures.reads
-    (λ o. (let same = c.refuse.ensures.same in absurd (cc))) (λ own e. absurd (cc))
+    uses_call _ _ _ _ (call.Refused c.in-Refused.kind) (Refused c.in-Refused.kind) _ _ c.in-Refused.ensures.reads (λ o. absurd (cc)) (λ own e. absurd (cc))
 
 pub returns-in-Broken-clause-uses : goal.returns-in-Broken-clause-uses
 returns-in-Broken-clause-uses g c =
-    uses_call _ _ _ _ (call.Broken c.in-Broken.kind c.in-Broken.own) c.refuse-in-Broken.result _ _ c.in-Broken.ensures.reads
-    (λ o. (let same = c.refuse-in-Broken.ensures.same in absurd (cc))) (λ own e. (let same = c.refuse-in-Broken.ensures.same in cc))
+    uses_call _ _ _ _ (call.Broken c.in-Broken.kind c.in-Broken.own) (Broken c.in-Broken.kind c.in-Broken.own) _ _ c.in-Broken.ensures.reads (λ o. absurd (cc)) (λ own e. cc)
 
 pub returns-in-Failed-clause-uses : goal.returns-in-Failed-clause-uses
 returns-in-Failed-clause-uses g c =
-    uses_call _ _ _ _ call.Failed c.refuse-in-Failed.result _ _ c.in-Failed.ensures.reads
-    (λ o. (let same = c.refuse-in-Failed.ensures.same in absurd (cc))) (λ own e. absurd (cc))
+    uses_call _ _ _ _ call.Failed Failed _ _ c.in-Failed.ensures.reads (λ o. absurd (cc)) (λ own e. absurd (cc))

@@ -4,8 +4,8 @@ use Rattle.rdlpp_cursors.specs.Places.{texts_of}
 use Rattle.rdlpp_cursors.proofs.Calling.{list-used, look-call, opening-open, pass-call_deep, pass-call_opened, pass-call_refused}
 use Rattle.rdlpp_cursors.proofs.Usages.{fault-deep, fault-call, open-wordless, placed-silent, placed-word, placed-wordless, usage-place}
 use Rattle.rdlpp_cursors.proofs.Words.{word-named, word-none}
+use Rattle.rdlpp_cursors.proofs.Outermost.{outer-called}
 use Rattle.rdlpp_cursors.proofs.cursors.Cursors.call.Goals as goal
-use Rattle.rdlpp_cursors.proofs.MovedOn.{no-call, on-called}
 
 pub overflow_add-at : goal.overflow_add-at
 overflow_add-at c =
@@ -139,20 +139,11 @@ returns-in-Refused-clause-open c = opening-open _ _ _ _ _ _ _ _ _ c.requires.som
 pub returns-in-Deep-clause-open : goal.returns-in-Deep-clause-open
 returns-in-Deep-clause-open c = opening-open _ _ _ _ _ _ _ _ _ c.requires.some c.open_bound.ensures.opening
 
-pub returns-in-Opened-clause-moved : goal.returns-in-Opened-clause-moved
-returns-in-Opened-clause-moved c _ =
-    on-called _ (texts_of c.args.table.now.macros c.args.arguments.now) _ c.args.self.now c.open_bound.new.self c.args.look.now c.args.len _ _ _ c.open_bound.result c.requires.sound c.requires.look c.requires.front refl c.in-Opened.is c.open_bound.ensures.opening
+pub returns-in-Opened-clause-outer : goal.returns-in-Opened-clause-outer
+returns-in-Opened-clause-outer c = outer-called _ _ c.args.self.now c.open_bound.new.self _ _ _ _ c.open_bound.result c.requires.some c.open_bound.ensures.opening
 
-pub returns-in-Refused-clause-moved : goal.returns-in-Refused-clause-moved
-returns-in-Refused-clause-moved c more =
-    no-call _ _ c.args.self.now c.open_bound.new.self _ _ _ _ c.open_bound.result (λ e. absurd-opened (sym c.in-Refused.is ∙ e)) c.open_bound.ensures.opening more
-  where
-    absurd-opened : Refused c.in-Refused.kind ≡ Opened → ⊥
-    absurd-opened e = cc
+pub returns-in-Refused-clause-outer : goal.returns-in-Refused-clause-outer
+returns-in-Refused-clause-outer c = outer-called _ _ c.args.self.now c.open_bound.new.self _ _ _ _ c.open_bound.result c.requires.some c.open_bound.ensures.opening
 
-pub returns-in-Deep-clause-moved : goal.returns-in-Deep-clause-moved
-returns-in-Deep-clause-moved c more =
-    no-call _ _ c.args.self.now c.open_bound.new.self _ _ _ _ c.open_bound.result (λ e. absurd-opened (sym c.in-Deep.is ∙ e)) c.open_bound.ensures.opening more
-  where
-    absurd-opened : Deep ≡ Opened → ⊥
-    absurd-opened e = cc
+pub returns-in-Deep-clause-outer : goal.returns-in-Deep-clause-outer
+returns-in-Deep-clause-outer c = outer-called _ _ c.args.self.now c.open_bound.new.self _ _ _ _ c.open_bound.result c.requires.some c.open_bound.ensures.opening

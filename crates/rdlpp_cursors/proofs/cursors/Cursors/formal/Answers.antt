@@ -1,11 +1,12 @@
-use Rattle.std.proofs.Common.{◌∙◌, refl, sym, arith}
+use Rattle.std.proofs.Common.{◌∙◌, ◌∷◌, [], ap, refl, sym, arith}
 use Rattle.rdlpp_cursors.specs.Places.{texts_of}
 use Rattle.rdlpp_cursors.proofs.Falling.{formal-inside}
 use Rattle.rdlpp_cursors.proofs.Standing.{formal-place, formal-text, pass-deep, pass-formal, pass-nothing, room-moved, sound-bound}
 use Rattle.rdlpp_cursors.proofs.Usages.{fault-deep, open-wordless, placed-silent, placed-wordless}
 use Rattle.rdlpp_cursors.proofs.Words.{word-none}
+use Rattle.rdlpp_cursors.specs.Opened.{open_of}
+use Rattle.rdlpp_cursors.proofs.Outermost.{outer-opened}
 use Rattle.rdlpp_cursors.proofs.cursors.Cursors.formal.Goals as goal
-use Rattle.rdlpp_cursors.proofs.MovedOn.{on-pushed}
 
 pub standing-requires-clause-bound : goal.standing-requires-clause-bound
 standing-requires-clause-bound c = sound-bound (texts_of c.args.table.now.macros c.args.arguments.now) c.args.self.now.opens c.requires.sound
@@ -104,7 +105,7 @@ returns-then-is_full-clause-word c = word-none _ _ _ c.wordless-then-is_full.ens
 pub returns-in_default-clause-word : goal.returns-in_default-clause-word
 returns-in_default-clause-word c = word-none _ _ _ c.wordless.ensures
 
-pub returns-clause-moved : goal.returns-clause-moved
-returns-clause-moved c _ =
-    let place = formal-inside (texts_of c.args.table.now.macros c.args.arguments.now) c.args.self.now.opens c.args.look.now c.args.len c.args.place c.requires.look c.requires.front in
-    on-pushed (texts_of c.args.table.now.macros c.args.arguments.now) c.args.self.now c.move_to.new.self c.push_text.new.self c.args.look.now _ _ c.requires.look place.0 place.1 c.move_to.ensures c.push_text.ensures
+pub returns-clause-outer : goal.returns-clause-outer
+returns-clause-outer c =
+    outer-opened c.args.self.now.opens c.push_text.new.self.opens _ _ c.requires.some
+    (ap (λ v. v.opens) c.push_text.ensures ∙ ap (λ v. open_of c.in-Some.new [] ∷ v.opens) c.move_to.ensures)

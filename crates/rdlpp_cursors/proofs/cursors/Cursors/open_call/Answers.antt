@@ -44,7 +44,7 @@ returns-clause-opens c =
     let n = c.unwrap_or-formals.ensures ∙ ap (λ (o : Option ℕ). unwrap_or o 0) c.arity.ensures ∙ arity-count (macro_at c.args.table.now.macros c.args.id).formals in
     let some = room-closed c.self.inside.slots c.self.inside.first c.self.inside.bindings.items c.self.invariant.inside (rw (← c.self.view_is) at c.requires.closed) (rw (← c.self.view_is) at c.requires.room) in
     call-started c.args.table.now c.args.arguments.now c.args.id c.args.line _ (added c.self.inside.bindings.items c.bind_parts.new.bindings.items) _ _ c.len-macros.ensures.sound c.requires.id
-    (sym c.keeps_each.ensures ∙ c.if-not-keeps_each.false) refl c.in_ok-bind_parts.ensures.actuals
+    (sym c.keeps_each.ensures ∙ c.if-not-keeps_each.false) refl (c.in_ok-bind_parts.ensures.actuals (formals_of (macro_at c.args.table.now.macros c.args.id)) (sym n))
     (parts-counted c.args.arguments.now _ c.unwrap_or-formals.result (formals_of (macro_at c.args.table.now.macros c.args.id)) _ refl n c.in_ok-bind_parts.ensures.count)
     c.bind_parts.ensures.within
     (view-is _ _ _ _ _

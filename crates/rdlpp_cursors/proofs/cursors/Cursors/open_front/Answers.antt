@@ -35,6 +35,3 @@ pub returns-in-Bare-clause-taken : goal.returns-in-Bare-clause-taken
 returns-in-Bare-clause-taken c miss =
     taken-by _ _ _ _ (pass-bare (texts_of c.args.table.now.macros c.args.arguments.now) c.args.self.now c.args.look.now c.wordless.result c.requires.sound c.requires.look c.in-Bare.is c.wordless.ensures)
     (placed-wordless _ _ _ c.wordless.ensures) (unlent-wordless _ c.wordless.ensures) (fault-bare _ c.wordless.ensures) (word-none _ _ _ c.wordless.ensures)
-
-pub returns-in-Ended-2-clause-moved : goal.returns-in-Ended-2-clause-moved
-returns-in-Ended-2-clause-moved c more = let fewer = c.close_spent.ensures.fewer in absurd (omega (arith, fewer, more))

@@ -1,8 +1,9 @@
+use Rattle.std.proofs.Common.{ap}
 use Rattle.std.proofs.lemmas.Bool.{le-ltb}
 use Rattle.rdlpp_cursors.specs.Places.{texts_of}
-use Rattle.rdlpp_cursors.proofs.Taking.{on-lent, on-look, on-placed, on-taken, open-unlent}
+use Rattle.rdlpp_cursors.proofs.Taking.{on-lent, on-look, on-placed, on-taken, open-unlent, stands-ahead, stands-unlent}
+use Rattle.rdlpp_cursors.proofs.Outermost.{outer-ahead}
 use Rattle.rdlpp_cursors.proofs.cursors.Cursors.step.Goals as goal
-use Rattle.rdlpp_cursors.proofs.MovedOn.{on-ahead}
 
 pub open_front-opened-requires-clause-some : goal.open_front-opened-requires-clause-some
 open_front-opened-requires-clause-some c =
@@ -103,10 +104,19 @@ returns-else-lent-clause-lends c =
     (on-look (texts_of c.args.table.now.macros c.args.arguments.now) c.args.self.now c.move_to.new.self c.look-sight.result.look c.requires.sound c.look-sight.ensures.look c.requires.some c.move_to.ensures)
     c.if-lent.false (le-ltb _ _ c.if-lent.false) c.open_front-opened.ensures.taken).unlent
 
-pub returns-then-lent-clause-moved : goal.returns-then-lent-clause-moved
-returns-then-lent-clause-moved c more =
-    on-ahead (texts_of c.args.table.now.macros c.args.arguments.now) c.args.self.now c.move_to.new.self c.open_front-opened.new.self c.look-sight.result.look c.look-sight.ensures.look c.move_to.ensures c.open_front-opened.ensures.moved more
+pub returns-then-lent-clause-stands : goal.returns-then-lent-clause-stands
+returns-then-lent-clause-stands c = stands-ahead _ c.args.self.now.opens c.look-sight.result.look _ c.look-sight.ensures.look
 
-pub returns-else-lent-clause-moved : goal.returns-else-lent-clause-moved
-returns-else-lent-clause-moved c more =
-    on-ahead (texts_of c.args.table.now.macros c.args.arguments.now) c.args.self.now c.move_to.new.self c.open_front-opened.new.self c.look-sight.result.look c.look-sight.ensures.look c.move_to.ensures c.open_front-opened.ensures.moved more
+pub returns-else-lent-clause-stands : goal.returns-else-lent-clause-stands
+returns-else-lent-clause-stands c =
+    stands-unlent _ _ (on-taken (texts_of c.args.table.now.macros c.args.arguments.now) c.args.self.now c.move_to.new.self c.open_front-opened.new.self c.look-sight.result.look _ c.open_front-opened.result
+    (on-look (texts_of c.args.table.now.macros c.args.arguments.now) c.args.self.now c.move_to.new.self c.look-sight.result.look c.requires.sound c.look-sight.ensures.look c.requires.some c.move_to.ensures)
+    c.if-lent.false (le-ltb _ _ c.if-lent.false) c.open_front-opened.ensures.taken).unlent
+
+pub returns-then-lent-clause-outer : goal.returns-then-lent-clause-outer
+returns-then-lent-clause-outer c =
+    outer-ahead c.args.self.now.opens c.move_to.new.self.opens c.open_front-opened.new.self.opens _ (ap (λ v. v.opens) c.move_to.ensures) c.open_front-opened.ensures.outer
+
+pub returns-else-lent-clause-outer : goal.returns-else-lent-clause-outer
+returns-else-lent-clause-outer c =
+    outer-ahead c.args.self.now.opens c.move_to.new.self.opens c.open_front-opened.new.self.opens _ (ap (λ v. v.opens) c.move_to.ensures) c.open_front-opened.ensures.outer

@@ -1,13 +1,13 @@
-use Rattle.std.proofs.Common.{sym, ◌∙◌, refl, arith}
+use Rattle.std.proofs.Common.{sym, ap, ◌∙◌, refl, arith}
 use Rattle.std.proofs.lemmas.Bool.{leb-true, leb-false}
 use Rattle.rdlpp_cursors.specs.Places.{texts_of}
 use Rattle.rdlpp_cursors.specs.declared.step.CursorStep.TheVariants.{Silent, Refused}
 use Rattle.rdlpp_cursors.proofs.Passing.{IsPassed}
 use Rattle.rdlpp_cursors.proofs.Usages.{entered-same, fault-deep, full-same, open-wordless, has-list, no-list, pass-deep, pass-opened, pass-refused, pass-same, placed-silent, placed-word, placed-wordless, usage-place}
 use Rattle.rdlpp_cursors.proofs.Words.{word-named, word-none}
+use Rattle.rdlpp_cursors.proofs.Outermost.{outer-opened}
 use Rattle.rdlpp_cursors.proofs.cursors.Cursors.usage.Goals as goal
 use Rattle.rdlpp_cursors.proofs.Falling.{usage-inside}
-use Rattle.rdlpp_cursors.proofs.MovedOn.{on-opened}
 
 pub word_of-word-requires-clause-short : goal.word_of-word-requires-clause-short
 word_of-word-requires-clause-short c =
@@ -99,7 +99,6 @@ returns-in-Err-clause-word c = word-named _ _ c.args.look.now c.args.len c.in-Er
 pub returns-then-is_full-clause-word : goal.returns-then-is_full-clause-word
 returns-then-is_full-clause-word c = word-none _ _ _ c.wordless.ensures
 
-pub returns-clause-moved : goal.returns-clause-moved
-returns-clause-moved c _ =
-    let place = usage-inside (texts_of c.args.table.now.macros c.args.arguments.now) c.args.self.now.opens c.args.look.now c.args.len c.requires.look c.requires.front in
-    on-opened (texts_of c.args.table.now.macros c.args.arguments.now) c.args.self.now c.enter.new.self c.args.look.now _ _ _ _ c.requires.look place.0 place.1 (entered-same _ _ _ _ _ _ c.used_macro.ensures.same c.enter.ensures)
+pub returns-clause-outer : goal.returns-clause-outer
+returns-clause-outer c =
+    outer-opened c.args.self.now.opens c.enter.new.self.opens _ _ c.requires.some (ap (λ v. v.opens) (entered-same _ _ _ _ _ _ c.used_macro.ensures.same c.enter.ensures))

@@ -27,7 +27,7 @@ returns-in-None-clause-walks g c = λ bounded.
     let e = c.args.self.now in
     let held : c.held.result.now ≡ held_of (inner_buffer e.files.nest) = c.held.ensures.value ∙ ap held_of (c.file.ensures.buffer ∙ ap (λ e. inner_buffer e.files.nest) c.self.view_is) in
     let name : c.name_of-name.result.now ≡ usage_name (held_of (inner_buffer e.files.nest)) c.args.len = c.name_of-name.ensures ∙ ap (λ h. usage_name h c.args.len) held in
-    let none : macro_named e.table.macros (usage_name (held_of (inner_buffer e.files.nest)) c.args.len) ≡ None = rw (← name, ← c.self.view_is, ← c.table.ensures) c.in-None.ensures.named in
+    let none : macro_named e.table.macros (usage_name (held_of (inner_buffer e.files.nest)) c.args.len) ≡ None = rw (← name, ← c.self.view_is) c.in-None.ensures.named in
     let word : c.word_of-word.result.bytes ≡ take 128 (usage_name (held_of (inner_buffer e.files.nest)) c.args.len) = c.word_of-word.ensures ∙ ap (take 128) name in
     refuses g.S.Sources e e c.refuse.new.self c.refuse.result fault.UndefinedMacro _ (usage_name (held_of (inner_buffer e.files.nest)) c.args.len) c.requires.ready (read_nothing e) bounded
     c.refuse.ensures.place (kept_cut e c.refuse.new.self _ _ _ _ _ c.refuse.ensures.kept word) undefined_kind (not_called g.S.Sources e.sources)

@@ -12,7 +12,6 @@ pub returns-clause-value : goal.returns-clause-value
 unfolding held_told stores_of
 returns-clause-value g c =
     let bytes : c.held_len.result ≡ sum_by length (held_windows c.self.inside.files.nest) = c.held_len.ensures ∙ sym (held_windows-len c.self.inside.files.nest) in
-    let table = c.table.ensures in
     let definitions = c.bytes.ensures.value in
     let kept = c.arguments.ensures.value in
     let texts = c.len-2.ensures in

@@ -8,7 +8,7 @@ use Rattle.rdlpp_expand.proofs.engine.Engine.new.Goals as goal
 pub invariant_of-result : goal.invariant_of-result
 unfolding is_open table_size closed_buffer unused_of
 invariant_of-result g c =
-    rw (c.new-6.ensures, c.in-Ok.ensures, c.in-Ok-new.ensures, c.in-Ok-new-2.ensures, c.in-Ok-new-3.ensures) (record {
+    rw (c.in-Ok.ensures, c.in-Ok-new.ensures, c.in-Ok-new-2.ensures, c.in-Ok-new-3.ensures) (record {
       sources = record {
         in_range = c.in_default.ensures.in_range;
         definition_bytes = refl;
@@ -28,5 +28,5 @@ pub returns : goal.returns
 unfolding fresh_engine
 returns g c = (
   c.in_default.ensures.value,
-  rw (c.new-6.ensures, c.in-Ok.ensures, c.in-Ok-new.ensures, c.in-Ok-new-2.ensures, c.in-Ok-new-3.ensures, c.new-5.ensures, c.nothing.ensures) refl,
+  rw (c.in-Ok.ensures, c.in-Ok-new.ensures, c.in-Ok-new-2.ensures, c.in-Ok-new-3.ensures, c.new-5.ensures, c.nothing.ensures) refl,
 )

@@ -1,11 +1,13 @@
 use Rattle.std.proofs.Common.{◌≡◌, ◌<◌, ◌≤◌, ◌^◌, ℕ, ap, ◌∙◌, refl, subst, arith}
 use Rattle.std.specs.Prelude.{if◌then◌else◌}
+use Rattle.rdlpp_table.specs.View.{macro_at}
 use Rattle.rdlpp_read.specs.Buffer.{unused_of}
 use Rattle.rdlpp_read.specs.Files.{inner_buffer}
 use Rattle.rdlpp_usages.specs.Usages.{is_opened}
 use Rattle.rdlpp_usages.specs.declared.expansion.Opening.{Opening}
 use Rattle.rdlpp_usages.specs.declared.expansion.Opening.TheVariants.{Opened, Refused, Broken, Failed}
 use Rattle.rdlpp_steps.proofs.Soundness.{inner_facts, whole_usage}
+use Rattle.rdlpp_steps.proofs.Stores.{called_by}
 use Rattle.rdlpp_steps.proofs.UsageOpenings.{used_file}
 use Rattle.rdlpp_expand.proofs.engine.Engine.open_macro.Goals as goal
 
@@ -34,5 +36,30 @@ invariant_of-self g c =
     (ap (λ e. e.phase) c.self.view_is ∙ c.requires.ready.open_)
     (o.only ∙ ap (λ ns. record files { nest = ns }) o.uses.inner) (λ f. refl)
     (subst (λ ns. unused_of (inner_buffer ns) ≤ unused_of (inner_buffer files.nest)) o.uses.inner less)
-    o.limits.0 o.limits.1 (rw c.table-table.ensures at o.sound)
+    o.limits.0 o.limits.1 (o.sound)
     (line_few c.open_usage-opening.result _ _ _ (2 ^ 63) o.line (omega arith) c.self.invariant.texts.line)
+
+pub returns : goal.returns
+returns g c =
+    let o = c.open_usage-opening.ensures in
+    rw (← c.self.view_is) (record {
+      becomes = refl;
+      only = o.only;
+      call = o.call;
+      uses = o.uses;
+      depth = o.limits.0;
+      most = o.limits.1;
+      line = o.line;
+      room = rw (← c.self.view_is) at c.facts.ensures.room;
+      now_room = c.facts-2.ensures;
+      sound = o.sound;
+      lets_go = o.lets_go;
+      some = rw (← c.self.view_is) at c.requires.some;
+      called = λ e. called_by c.self.inside.table.macros c.args.id c.open_usage-opening.new.self.opens (o.usage e);
+      macro = macro_at c.self.inside.table.macros c.args.id;
+      named = rw (← c.self.view_is) at c.requires.named;
+      keeps = o.keeps;
+      fault = o.fault;
+      own = o.own;
+      means = o.means;
+    })

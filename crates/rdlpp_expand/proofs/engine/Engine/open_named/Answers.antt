@@ -37,7 +37,7 @@ returns-clause-walks g c = λ bounded.
     let held : c.held.result.now ≡ held_of (inner_buffer c.args.self.now.files.nest) = c.held.ensures.value ∙ ap held_of (c.file.ensures.buffer ∙ ap (λ e. inner_buffer e.files.nest) c.self.view_is) in
     let free : is_reserved (argument_name h c.args.start c.args.stop) ≡ false =
     ap (λ x. is_reserved (argument_name x c.args.start c.args.stop)) (sym held) ∙ (sym c.reserved.ensures.reserved ∙ (sym c.is_some.ensures ∙ c.if-is_some.false)) in
-    let macros : macro_named e.table.macros (argument_name h c.args.start c.args.stop) ≡ option_map (macro_at e.table.macros) c.find.result = rw (← held, ← c.self.view_is, ← c.table.ensures) c.find.ensures.named in
+    let macros : macro_named e.table.macros (argument_name h c.args.start c.args.stop) ≡ option_map (macro_at e.table.macros) c.find.result = rw (← held, ← c.self.view_is) c.find.ensures.named in
     let found : c.is_some-found.result ≡ is_some (macro_named e.table.macros (argument_name h c.args.start c.args.stop)) = c.is_some-found.ensures ∙ found_by (macro_at e.table.macros) (macro_named e.table.macros (argument_name h c.args.start c.args.stop)) c.find.result macros in
     opens_steps g.S.Sources e c.open_tested.new.self c.requires.ready bounded c.requires.some c.requires.mode c.requires.live c.args.defined c.args.start c.args.stop c.open_tested.result c.requires.opening free
     (subst (λ (t : Bool). OpensOne t c.args.stop e c.open_tested.new.self c.open_tested.result) (c.test_of.ensures ∙ ap (test_of c.args.defined) found) c.open_tested.ensures)

@@ -36,8 +36,8 @@ returns-in-Refused-clause-walks g c = λ bounded.
     let line : c.line-line.result ≡ (inner_buffer e.files.nest).line = c.line-line.ensures ∙ ap (λ b. b.line) same in
     let name = usage_name (held_of (inner_buffer e.files.nest)) c.args.len in
     let word : c.word_of-word.result.bytes ≡ take 128 name = c.word_of-word.ensures ∙ ap (take 128)
-    (used_name c.table.result.now e.table name c.name.result.now c.args.id
-    (c.table.ensures ∙ ap (λ v. v.table) c.self-in-Refused.view_is ∙ ap (λ v. v.table) c.open_macro.ensures.becomes) c.name.ensures c.requires.named) in
+    (used_name c.self-in-Refused.inside.table e.table name c.name.result.now c.args.id
+    (ap (λ v. v.table) c.self-in-Refused.view_is ∙ ap (λ v. v.table) c.open_macro.ensures.becomes) c.name.ensures c.requires.named) in
     refuses_step g.S.Sources e c.open_macro.new.self c.args.len c.requires.ready c.requires.live c.requires.mode c.requires.usage c.facts.ensures.texts c.refuse_at.new.self c.refuse_at.result _
     (subst (λ (o : Opening). OpensUsage g.S.Sources c.args.len e c.open_macro.new.self o) c.in-Refused.is c.open_macro.ensures) bounded c.refuse_at.ensures.place
     (kept_cut c.open_macro.new.self c.refuse_at.new.self _ _ _ _ _ (rw line at c.refuse_at.ensures.kept) word)
@@ -47,8 +47,8 @@ word_of-word-requires g c =
     let e = c.args.self.now in
     let name = usage_name (held_of (inner_buffer e.files.nest)) c.args.len in
     let own : c.name.result.now ≡ name =
-    used_name c.table.result.now e.table name c.name.result.now c.args.id
-    (c.table.ensures ∙ ap (λ v. v.table) c.self-in-Refused.view_is ∙ ap (λ v. v.table) c.open_macro.ensures.becomes) c.name.ensures c.requires.named in
+    used_name c.self-in-Refused.inside.table e.table name c.name.result.now c.args.id
+    (ap (λ v. v.table) c.self-in-Refused.view_is ∙ ap (λ v. v.table) c.open_macro.ensures.becomes) c.name.ensures c.requires.named in
     rw own (usage_word _ _ c.requires.usage)
 
 pub refuse_at-requires-clause-line : goal.refuse_at-requires-clause-line

@@ -1,5 +1,6 @@
 use Rattle.std.proofs.Common.{ap, refl, subst}
 use Rattle.std.specs.Prelude.{is_some}
+use Rattle.rdlpp_cursors.specs.Opened.{StaysOutermost}
 use Rattle.rdlpp_cursors.specs.Places.{texts_of}
 use Rattle.rdlpp_cursors.specs.Steps.{AreSound}
 use Rattle.rdlpp_usages.specs.Usages.{StaysLent, StaysOpen}
@@ -9,17 +10,17 @@ use Rattle.rdlpp_steps.proofs.TextSteps.{HoldsTexts, TakesTexts, fault_text, len
 use Rattle.rdlpp_expand.proofs.engine.Engine.step_text.Goals as goal
 
 pub refuse_text-kept-requires-clause-placed : goal.refuse_text-kept-requires-clause-placed
-refuse_text-kept-requires-clause-placed g c = rw c.step-step.ensures.table (placed_word _ _ c.in-Refused.fault c.in-Refused.is c.step-step.ensures.placed)
+refuse_text-kept-requires-clause-placed g c = (placed_word _ _ c.in-Refused.fault c.in-Refused.is c.step-step.ensures.placed)
 
 pub returns-in-Lends-clause-place : goal.returns-in-Lends-clause-place
-returns-in-Lends-clause-place g c = rw c.step-step.ensures.table (placed_lent _ _ c.in-Lends.place c.in-Lends.is c.step-step.ensures.placed)
+returns-in-Lends-clause-place g c = (placed_lent _ _ c.in-Lends.place c.in-Lends.is c.step-step.ensures.placed)
 
 pub returns-in-Lends-clause-walks : goal.returns-in-Lends-clause-walks
-returns-in-Lends-clause-walks g c = rw c.step-step.ensures.table (λ bounded.
+returns-in-Lends-clause-walks g c = (λ bounded.
     let e = c.step-step.ensures in
     let x = c.step-step.new.self in
     let takes : TakesTexts c.args.self.now x c.step-step.result =
-    subst (λ v. TakesTexts v x c.step-step.result) c.self.view_is (record { step = e.step; falls = e.digits; lends = e.lends; refused = e.refused }) in
+    subst (λ v. TakesTexts v x c.step-step.result) c.self.view_is (record { step = e.step; falls = e.digits; lends = e.lends; refused = e.refused; stands = e.stands }) in
     let holds : HoldsTexts c.args.self.now x = record {
       sound = c.facts.ensures.sound;
       texts = c.facts.ensures.texts;
@@ -27,15 +28,17 @@ returns-in-Lends-clause-walks g c = rw c.step-step.ensures.table (λ bounded.
       now_room = c.facts-2.ensures;
       now_sound = subst (λ v. AreSound (texts_of v.table.macros x.arguments) x.opens) c.self.view_is e.sound;
       stays = subst (λ v. StaysOpen v.expansion x) c.self.view_is e.stays;
+      outer = subst (λ v. StaysOutermost v.expansion.opens x.opens) c.self.view_is e.outer;
+      lets_go = e.lets_go;
     } in
     lend_step g.S.Sources c.args.self.now x c.step-step.result c.requires.0 takes _ c.in-Lends.place holds c.in-Lends.is (opening _ c.args.self.now x c.self.view_is) bounded)
 
 pub returns-in-Silent-clause-walks : goal.returns-in-Silent-clause-walks
-returns-in-Silent-clause-walks g c = rw c.step-step.ensures.table (λ bounded.
+returns-in-Silent-clause-walks g c = (λ bounded.
     let e = c.step-step.ensures in
     let x = c.step-step.new.self in
     let takes : TakesTexts c.args.self.now x c.step-step.result =
-    subst (λ v. TakesTexts v x c.step-step.result) c.self.view_is (record { step = e.step; falls = e.digits; lends = e.lends; refused = e.refused }) in
+    subst (λ v. TakesTexts v x c.step-step.result) c.self.view_is (record { step = e.step; falls = e.digits; lends = e.lends; refused = e.refused; stands = e.stands }) in
     let holds : HoldsTexts c.args.self.now x = record {
       sound = c.facts.ensures.sound;
       texts = c.facts.ensures.texts;
@@ -43,6 +46,8 @@ returns-in-Silent-clause-walks g c = rw c.step-step.ensures.table (λ bounded.
       now_room = c.facts-2.ensures;
       now_sound = subst (λ v. AreSound (texts_of v.table.macros x.arguments) x.opens) c.self.view_is e.sound;
       stays = subst (λ v. StaysOpen v.expansion x) c.self.view_is e.stays;
+      outer = subst (λ v. StaysOutermost v.expansion.opens x.opens) c.self.view_is e.outer;
+      lets_go = e.lets_go;
     } in
     turn_step g.S.Sources c.args.self.now x c.step-step.result c.requires.0 takes _ holds c.in-Silent.is (opening _ c.args.self.now x c.self.view_is) bounded)
 
@@ -51,19 +56,18 @@ returns-in-Refused-clause-walks g c = λ bounded.
     let e = c.step-step.ensures in
     let x = c.step-step.new.self in
     let takes : TakesTexts c.args.self.now x c.step-step.result =
-    subst (λ v. TakesTexts v x c.step-step.result) c.self.view_is (record { step = e.step; falls = e.digits; lends = e.lends; refused = e.refused }) in
+    subst (λ v. TakesTexts v x c.step-step.result) c.self.view_is (record { step = e.step; falls = e.digits; lends = e.lends; refused = e.refused; stands = e.stands }) in
     refuse_step g.S.Sources c.args.self.now x c.step-step.result c.requires.0 takes _ c.refuse_text-kept.new.self place.Kept c.in-Refused.fault c.in-Refused.is
-    (opening _ c.args.self.now x c.self.view_is) bounded refl (rw c.step-step.ensures.table at c.refuse_text-kept.ensures.kept) (fault_text c.step-step.result c.in-Refused.fault c.in-Refused.is e.fault)
+    (opening _ c.args.self.now x c.self.view_is) bounded refl c.refuse_text-kept.ensures.kept (fault_text c.step-step.result c.in-Refused.fault c.in-Refused.is e.fault)
 
 pub returns-in-Lends-clause-stays : goal.returns-in-Lends-clause-stays
 returns-in-Lends-clause-stays g c =
-    rw c.step-step.ensures.table
     (lent-texts c.args.self.now _ c.step-step.new.self c.step-step.result c.in-Lends.place c.requires.0 c.in-Lends.is
     (subst (λ v. StaysLent v.expansion c.step-step.result c.step-step.new.self) c.self.view_is c.step-step.ensures.lends) (opening _ c.args.self.now c.step-step.new.self c.self.view_is))
 
 pub returns-in-Silent-clause-stays : goal.returns-in-Silent-clause-stays
 returns-in-Silent-clause-stays g c =
-    rw c.step-step.ensures.table (unowed-texts c.args.self.now _ c.step-step.new.self c.requires.0 (opening _ c.args.self.now c.step-step.new.self c.self.view_is))
+    (unowed-texts c.args.self.now _ c.step-step.new.self c.requires.0 (opening _ c.args.self.now c.step-step.new.self c.self.view_is))
 
 pub returns-in-Refused-clause-stays : goal.returns-in-Refused-clause-stays
 returns-in-Refused-clause-stays g c = ap (λ e. is_some e.kept) c.refuse_text-kept.ensures.kept

@@ -1,9 +1,10 @@
 use Rattle.std.proofs.Common.{Bool, not, sym, ap, ◌∙◌, subst}
 use Rattle.std.specs.Prelude.{is_some}
 use Rattle.rdlpp_read.specs.Buffer.{EndsHeld}
+use Rattle.rdlpp_table.specs.View.{macro_at}
 use Rattle.rdlpp_front.proofs.Insides.{usage_inside}
 use Rattle.rdlpp_usages.specs.declared.expansion.Opening.TheVariants.{Opened}
-use Rattle.rdlpp_usages.proofs.UsageSteps.{body_means, call_means_by, is_list, no_list, opened_line, uses_more, uses_name}
+use Rattle.rdlpp_usages.proofs.UsageSteps.{body_means, body_usage, call_means_by, is_list, keeps_listed_by, keeps_plain, no_list, opened_line, uses_more, uses_name}
 use Rattle.rdlpp_usages.proofs.expansion.Expansion.open_usage.Goals as goal
 
 pub consume-requires-clause-inside : goal.consume-requires-clause-inside
@@ -43,3 +44,17 @@ returns-clause-means g c =
     c.open_call.ensures.tells c.open_call.ensures.uses t
     (λ o. opened_line c.open_call.result _ c.line-line.result _ c.open_call.ensures.line o ∙ c.line-line.ensures ∙ ap (λ b. b.line) c.file.ensures.buffer)
     (c.open_call.ensures.limits.0 ∙ ap (λ e. e.depth) c.self.view_is)
+
+pub returns-then-is_none-clause-keeps : goal.returns-then-is_none-clause-keeps
+returns-then-is_none-clause-keeps g c =
+    keeps_plain (macro_at c.args.table.now.macros c.args.id).formals (g.S.Sources.tells c.args.sources.now) g.S.Sources.unread c.args.self.now.most Opened c.clear.new.self.bytes _ _
+    (no_list _ (ap is_some (sym c.arity.ensures) ∙ c.is_none.ensures ∙ ap (λ (b : Bool). not b) c.if-is_none.true)) (ap (λ s. s.bytes) c.clear.ensures)
+
+pub returns-clause-keeps : goal.returns-clause-keeps
+returns-clause-keeps g c =
+    keeps_listed_by c.args.table.now.macros c.args.id (g.S.Sources.tells c.args.sources.now) g.S.Sources.unread c.self.inside.arguments.most c.args.self.now.most c.open_call.result c.open_call.new.arguments.bytes
+    c.consume.new.self.nest _ c.open_call.new.files.nest (ap (λ e. e.most) c.self.view_is) (ap (λ fs. fs.nest) c.consume.ensures.used)
+    (is_list _ (ap is_some (sym c.arity.ensures) ∙ c.is_none.ensures ∙ ap (λ (b : Bool). not b) c.if-is_none.false)) c.open_call.ensures.keeps
+
+pub returns-then-is_none-clause-usage : goal.returns-then-is_none-clause-usage
+returns-then-is_none-clause-usage g c = λ _. body_usage _ _ _ _ (ap (λ v. v.opens) c.open_body.ensures.opens)

@@ -37,7 +37,7 @@ pub returns-then-not-is_silent-clause-lends : goal.returns-then-not-is_silent-cl
 returns-then-not-is_silent-clause-lends c =
     lent_open c.step-step.result c.args.self.now _ c.step-step.new.self c.step-step.ensures.lends refl (ap (λ e. e.arguments) c.self.view_is)
 
-pub invariant_of-self : goal.invariant_of-self
-invariant_of-self c =
+pub returns-then-not-is_silent-clause-lets_go : goal.returns-then-not-is_silent-clause-lets_go
+returns-then-not-is_silent-clause-lets_go c =
     still_open c.step-step.result c.args.self.now.opens c.self.inside.texts c.step-step.new.self c.self.inside.arguments.bytes (not-silent _ _ c.is_silent.ensures c.if-not-is_silent.true) c.step-step.ensures.lends c.step-step.ensures.refused
     (ap (λ e. e.opens) c.self.view_is) c.requires.some

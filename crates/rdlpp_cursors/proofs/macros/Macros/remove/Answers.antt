@@ -1,5 +1,0 @@
-use Rattle.rdlpp_cursors.proofs.Kept.{none-kept}
-use Rattle.rdlpp_cursors.proofs.macros.Macros.remove.Goals as goal
-
-pub invariant_of-self : goal.invariant_of-self
-invariant_of-self c = none-kept _ _ c.self.invariant.flats_size
