@@ -186,7 +186,7 @@ compacts-grows tells unread fill old mid new c g = record {
   mode = g.mode ∙ c.mode;
   open_token_line = g.open_token_line ∙ c.open_token_line;
   unused = g.unused ∙ c.unused;
-  slides = slides-on (IsExact fill × tells) tells (IsExact fill × tells) unread old mid new (λ x. x.1) (λ x. x) (slides-compact tells unread old mid c.dropped c.window c.used c.reader) g.slides;
+  slides = slides-on tells tells tells (IsExact fill) (IsExact fill) unread old mid new (λ t. t) (λ t. t) (λ e. e) (slides-compact tells Unit unread old mid c.dropped c.window c.used c.reader) g.slides;
   by = compacts-by tells unread fill old mid new c g.by;
 }
 
@@ -233,7 +233,7 @@ held-fills tells unread f some inside = record {
   open_token_line = refl;
   bytes = omega (arith, length-drop f.at (take f.accepted f.window), length-take-le f.accepted f.window inside);
   unused = refl;
-  slides = slides-same (IsExact Held × tells) unread f;
+  slides = slides-same tells (IsExact Held) unread f;
   text = λ other t. refl;
   ended = λ is. cc;
   tokens = λ t. refl;

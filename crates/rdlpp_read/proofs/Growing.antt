@@ -20,7 +20,7 @@ use Rattle.rdlpp_read.proofs.Sliding.{slides-kept, slides-on, slides-same}
 pub search-starts : {S R : Type 0} (g : Ghosts S R) (sources : S) (f : BufferView R) → f.accepted ≤ length f.window → EndsHeld f → Searches g sources sources f f 0
 unfolding whole_lines_len
 search-starts g sources f inside ends = record {
-  seeks = record { at = refl; accepted = refl; inside = inside; bytes_left = refl; line = refl; line_bytes = refl; mode = refl; open_token_line = refl; held = refl; text = λ t. refl; slides = slides-same (g.tells sources) g.unread f };
+  seeks = record { at = refl; accepted = refl; inside = inside; bytes_left = refl; line = refl; line_bytes = refl; mode = refl; open_token_line = refl; held = refl; text = λ t. refl; slides = slides-same (g.tells sources) Unit g.unread f };
   place = omega arith;
   none = refl;
   ends = ends;
@@ -46,13 +46,13 @@ reads-text told unread mid new inside reads t =
     ap (λ u. ahead_of mid ++ u) (reads.text t) ∙ (sym (append_assoc (ahead_of mid) reads.gained more) ∙ ap (λ w. w ++ more) (sym (reads-ahead told unread mid new inside reads)))
 
 -- what a turn adds came behind the window
-reads-slides : {R : Type 0} (told : Type 0) (unread : R → List ℕ) (mid new : BufferView R) → ReadsOn told unread mid new → Slides told unread mid new
+reads-slides : {R : Type 0} (told : Type 0) (unread : R → List ℕ) (mid new : BufferView R) → ReadsOn told unread mid new → Slides told Unit unread mid new
 reads-slides told unread mid new reads = record {
   dropped = [];
   gained = reads.gained;
   window = sym (ap (λ f. f.window) reads.becomes);
   used = (let at = ap (λ f. f.at) reads.becomes in omega arith);
-  text = reads.text;
+  text = λ t. record { rest = unread_of unread new.reader; whole = reads.text t; same = λ e. refl };
 }
 
 -- a turn that reads on keeps the text that remains
@@ -73,7 +73,7 @@ seeks-on tells told unread old mid new seeks tell reads =
       open_token_line = ap (λ f. f.open_token_line) reads.becomes ∙ seeks.open_token_line;
       held = reads-held told unread mid new inside reads ∙ seeks.held;
       text = λ t. seeks.text t ∙ reads-text told unread mid new inside reads (tell t);
-      slides = slides-on tells tells told unread old mid new (λ t. t) tell seeks.slides (reads-slides told unread mid new reads);
+      slides = slides-on tells tells told Unit Unit unread old mid new (λ t. t) tell (λ e. tt) seeks.slides (reads-slides told unread mid new reads);
     }
 
 -- two calls that read without a fault are one
@@ -300,19 +300,19 @@ finds-scalars LineLong mid new f = absurd f
 finds-scalars Failed mid new f = absurd f
 
 -- what is found leaves the window
-finds-slides : {R : Type 0} (tells : Type 0) (unread : R → List ℕ) (fill : Fill) (mid new : BufferView R) → Finds fill mid new → Slides tells unread mid new
+finds-slides : {R : Type 0} (tells : Type 0) (unread : R → List ℕ) (fill : Fill) (mid new : BufferView R) → Finds fill mid new → Slides tells (IsExact fill) unread mid new
 finds-slides tells unread Held mid new f =
-    slides-kept tells unread mid new (ap (λ f. f.window) f.becomes) (ap (λ f. f.at) f.becomes) (λ t. ap (unread_of unread) (sym (ap (λ f. f.reader) f.becomes)))
-finds-slides tells unread End mid new f = subst (Slides tells unread mid) (sym f.0) (slides-same tells unread mid)
-finds-slides tells unread SourceLong mid new f = subst (Slides tells unread mid) (sym f.0) (slides-same tells unread mid)
+    slides-kept tells (IsExact Held) unread mid new (ap (λ f. f.window) f.becomes) (ap (λ f. f.at) f.becomes) (λ e t. ap (unread_of unread) (sym (ap (λ f. f.reader) f.becomes)))
+finds-slides tells unread End mid new f = subst (Slides tells (IsExact End) unread mid) (sym f.0) (slides-same tells (IsExact End) unread mid)
+finds-slides tells unread SourceLong mid new f = subst (Slides tells (IsExact SourceLong) unread mid) (sym f.0) (slides-same tells (IsExact SourceLong) unread mid)
 finds-slides tells unread LineLong mid new f = absurd f
 finds-slides tells unread Failed mid new f = absurd f
 
 -- what stops a reading leaves the window, and a read that failed leaves what is unread
-stops-slides : {R : Type 0} (told : Type 0) (unread : R → List ℕ) (fill : Fill) (mid new : BufferView R) → Stops told unread fill mid new → Slides (IsExact fill × told) unread mid new
+stops-slides : {R : Type 0} (told : Type 0) (unread : R → List ℕ) (fill : Fill) (mid new : BufferView R) → Stops told unread fill mid new → Slides told (IsExact fill) unread mid new
 stops-slides told unread fill mid new stops =
-    slides-kept (IsExact fill × told) unread mid new (ap (λ f. f.window) stops.becomes) (ap (λ f. f.at) stops.becomes)
-    (λ x. elim stops.kind [ inl failed ↦ sym (stops.failed failed x.1) | inr long ↦ absurd (x.0 long) ])
+    slides-kept told (IsExact fill) unread mid new (ap (λ f. f.window) stops.becomes) (ap (λ f. f.at) stops.becomes)
+    (λ e t. elim stops.kind [ inl failed ↦ sym (stops.failed failed t) | inr long ↦ absurd (e long) ])
 
 -- the search came to an end in the window
 pub found-grows : {R : Type 0} (tells : Type 0) (unread : R → List ℕ) (fill : Fill) (old mid new : BufferView R) → old.at ≡ 0 → Seeks tells unread old mid → EndsHeld mid → IsBuffer mid →
@@ -325,7 +325,7 @@ found-grows tells unread fill old mid new at seeks ends sound f =
       mode = same.mode ∙ seeks.mode;
       open_token_line = same.open_token_line ∙ seeks.open_token_line;
       unused = finds-unused fill mid new sound.used f ∙ seeks-unused tells unread old mid seeks;
-      slides = slides-on (IsExact fill × tells) tells tells unread old mid new (λ x. x.1) (λ x. x.1) seeks.slides (finds-slides tells unread fill mid new f);
+      slides = slides-on tells tells tells (IsExact fill) (IsExact fill) unread old mid new (λ t. t) (λ t. t) (λ e. e) seeks.slides (finds-slides tells unread fill mid new f);
       by = found-by tells unread fill old mid new at seeks ends sound.within f;
     }
 
@@ -379,7 +379,7 @@ stops-grows tells told unread fill old mid new at seeks tell none stops = record
   mode = ap (λ f. f.mode) stops.becomes ∙ seeks.mode;
   open_token_line = ap (λ f. f.open_token_line) stops.becomes ∙ seeks.open_token_line;
   unused = ap unused_of stops.becomes ∙ seeks-unused tells unread old mid seeks;
-  slides = slides-on (IsExact fill × tells) tells (IsExact fill × told) unread old mid new (λ x. x.1) (λ x. (x.0, tell x.1)) seeks.slides (stops-slides told unread fill mid new stops);
+  slides = slides-on tells tells told (IsExact fill) (IsExact fill) unread old mid new (λ t. t) tell (λ e. e) seeks.slides (stops-slides told unread fill mid new stops);
   by = stops-by tells told unread fill old mid new at seeks tell none stops;
 }
 

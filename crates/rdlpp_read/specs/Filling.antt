@@ -74,7 +74,7 @@ pub record Seeks {R : Type 0} (tells : Type 0) (unread : R → List ℕ) (old ne
   pub open_token_line : new.open_token_line ≡ old.open_token_line
   pub held : held_of new ≡ held_of old
   pub text : tells → rest_of unread old ≡ rest_of unread new
-  pub slides : Slides tells unread old new
+  pub slides : Slides tells Unit unread old new
 
 -- how many turns of reading may still come
 unfoldable pub turns_left : {R : Type 0} → BufferView R → ℕ
@@ -128,7 +128,7 @@ pub record Grows {R : Type 0} (tells : Type 0) (unread : R → List ℕ) (fill :
   pub mode : new.mode ≡ old.mode
   pub open_token_line : new.open_token_line ≡ old.open_token_line
   pub unused : unused_of new ≡ unused_of old
-  pub slides : Slides (IsExact fill × tells) unread old new
+  pub slides : Slides tells (IsExact fill) unread old new
   pub by : GrowsBy tells unread fill old new
 
 -- a list that is one broken token without bytes
@@ -166,7 +166,7 @@ pub record Fills {R : Type 0} (tells : Type 0) (unread : R → List ℕ) (fill :
   pub open_token_line : new.open_token_line ≡ old.open_token_line
   pub bytes : HasBytes fill new
   pub unused : unused_of new ≡ unused_of old
-  pub slides : Slides (IsExact fill × tells) unread old new
+  pub slides : Slides tells (IsExact fill) unread old new
   pub text : IsExact fill → tells → text_left unread new ≡ text_left unread old
   pub ended : fill ≡ End → text_left unread new ≡ []
   pub tokens : tells → TellsTokens fill old (tokens_left unread old) (tokens_left unread new)
