@@ -22,7 +22,7 @@ use Rattle.rdlpp_calls.specs.declared.parts.CallFault.TheVariants.{Missing, Uncl
 use Rattle.rdlpp_calls.specs.CallParts.{call_fault_kind, IsCall, IsCallAt}
 use Rattle.rdlpp_calls.specs.BoundCalls.{range_part, ranges_tokens, actuals_of, KeepsAll, usage_in, IsBoundCall}
 use Rattle.rdlpp_calls.proofs.ArgumentLaws.{filter_all, front_all}
-use Rattle.rdlpp_meaning.proofs.OpenFronts.{range_behind}
+use Rattle.rdlpp_meaning.proofs.OpenScopes.{range_behind}
 use Rattle.rdlpp_meaning.proofs.UnlinedTokens.{actuals-body}
 use Rattle.rdlpp_calls.proofs.BoundParts.{range_within, range_size}
 use Rattle.rdlpp_calls.proofs.Trimming.{trimmed_is, has_solid, solid}

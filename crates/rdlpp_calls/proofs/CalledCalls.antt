@@ -9,7 +9,7 @@ use Rattle.rdlpp_meaning.specs.Actuals.{level_behind, token_role}
 use Rattle.rdlpp_meaning.specs.Expansion.{bound_parts}
 use Rattle.rdlpp_meaning.specs.Opens.{part_tokens}
 use Rattle.rdlpp_meaning.specs.Substitution.{body_tokens}
-use Rattle.rdlpp_meaning.proofs.OpenFronts.{range_behind}
+use Rattle.rdlpp_meaning.proofs.OpenScopes.{range_behind}
 use Rattle.rdlpp_meaning.proofs.TextRanges.{body_text}
 use Rattle.rdlpp_calls.specs.BoundCalls.{actuals_of, AreWithin, IsBoundCall, KeepsAll, range_part, ranges_tokens}
 use Rattle.rdlpp_calls.specs.CallParts.{call_fault_kind, closer_from, ends_call, opener_from, IsCall}

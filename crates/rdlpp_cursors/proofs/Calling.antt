@@ -18,8 +18,7 @@ use Rattle.rdlpp_meaning.specs.OpenItems.{open_left}
 use Rattle.rdlpp_meaning.specs.Substitution.{body_tokens}
 use Rattle.rdlpp_meaning.specs.Opens.{Part, OpenKind, OpenBody, OpenActual, OpenDefault, Open, Texts, part_tokens, own_text, scope_text, text_around, open_scope, open_bytes, open_behind, open_body}
 use Rattle.rdlpp_meaning.proofs.OpenCalls.{tokens_behind, first_usage, step-refused as left-refused, step-usage as left-usage, step-usage_deep as left-usage_deep}
-use Rattle.rdlpp_meaning.proofs.OpenScopes.{part-whole, text-around}
-use Rattle.rdlpp_meaning.proofs.ItemScopes.{next_is}
+use Rattle.rdlpp_meaning.proofs.OpenScopes.{part-whole, text-around, next_is}
 use Rattle.rdlpp_meaning.proofs.TextRanges.{body_text}
 use Rattle.rdlpp_calls.specs.declared.bindings.Range.{Range}
 use Rattle.rdlpp_calls.specs.BoundCalls.{range_part, ranges_tokens, usage_in, IsBoundAt, IsBoundCall, KeepsAll}

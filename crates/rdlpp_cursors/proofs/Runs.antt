@@ -25,7 +25,7 @@ use Rattle.rdlpp_meaning.specs.Opens.{Open, Texts, text_around, AreOpen, open_sc
 use Rattle.rdlpp_meaning.specs.OpenItems.{open_left}
 use Rattle.rdlpp_meaning.proofs.Outcomes.{and_then-gives_nil, and_then-gives_gives}
 use Rattle.rdlpp_meaning.proofs.TextRanges.{text_nil}
-use Rattle.rdlpp_meaning.proofs.OpenFronts.{Alone, first_kind, first_bytes, first_behind, behind-open, range_behind}
+use Rattle.rdlpp_meaning.proofs.OpenScopes.{Alone, first_kind, first_bytes, first_behind, behind-open, range_behind}
 use Rattle.rdlpp_meaning.proofs.FormalItems.{behind-formals}
 use Rattle.rdlpp_meaning.proofs.OpenSteps.{first_token, left-mode, step-copies}
 use Rattle.rdlpp_cursors.specs.Fronts.{run_len}

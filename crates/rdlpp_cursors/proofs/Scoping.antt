@@ -9,7 +9,7 @@ use Rattle.rdlpp_scan.specs.declared.token.Mode.TheVariants.{Plain}
 use Rattle.rdlpp_table.specs.Table.{Formal, Macro}
 use Rattle.rdlpp_table.specs.View.{macro_at, formals_of, formal_at}
 use Rattle.rdlpp_meaning.specs.Opens.{Part, part_at, OpenKind, OpenBody, OpenActual, OpenDefault, Open, Texts, own_text, scope_text, text_around, open_standing, open_scope, scope_open, kind_standing, found_standing, kind_formals, found_formals, scope_formals}
-use Rattle.rdlpp_meaning.proofs.ItemScopes.{not_next, next_is}
+use Rattle.rdlpp_meaning.proofs.OpenScopes.{not_next, next_is}
 use Rattle.rdlpp_calls.specs.BoundCalls.{range_part}
 use Rattle.rdlpp_calls.specs.declared.bindings.Range.{Range}
 use Rattle.rdlpp_cursors.specs.declared.place.TextSource.{TextSource}

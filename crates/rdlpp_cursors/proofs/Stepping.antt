@@ -13,7 +13,7 @@ use Rattle.rdlpp_meaning.specs.State.{State, fault_at}
 use Rattle.rdlpp_meaning.specs.OpenItems.{open_left}
 use Rattle.rdlpp_meaning.specs.declared.fault.FaultKind.{FaultKind}
 use Rattle.rdlpp_meaning.specs.Opens.{Open, Texts, open_bytes, open_behind, open_scope, scope_open, found_standing, scope_formals}
-use Rattle.rdlpp_meaning.proofs.OpenFronts.{first_kind, first_bytes, first_behind}
+use Rattle.rdlpp_meaning.proofs.OpenScopes.{first_kind, first_bytes, first_behind}
 use Rattle.rdlpp_meaning.proofs.FormalItems.{standing-found}
 use Rattle.rdlpp_table.specs.Table.{Formal}
 use Rattle.rdlpp_table.specs.View.{formal_named}

@@ -18,8 +18,7 @@ use Rattle.rdlpp_meaning.specs.TextTokens.{text_tokens}
 use Rattle.rdlpp_meaning.specs.Opens.{Part, OpenKind, OpenBody, OpenActual, OpenDefault, Open, Texts, formal_at, part_at, own_text, scope_text, text_around, part_tokens, open_standing, HasParts, AreOpen, open_scope, own_writers, writers_at, open_behind, scope_open, kind_formals, found_formals, scope_formals, kind_standing, found_standing}
 use Rattle.rdlpp_meaning.specs.OpenItems.{part_items, own_item, item_at, open_items, open_writers}
 use Rattle.rdlpp_meaning.proofs.TextRanges.{text_step, first_spelled}
-use Rattle.rdlpp_meaning.proofs.OpenScopes.{standing_of_place, bound-place, text-around, IsOpenText, part-empty, part-whole, standing_by, standing-text, standing-inside, part-inside, IsPlace, formal-place, further}
-use Rattle.rdlpp_meaning.proofs.ItemScopes.{item-around, item-own, writers-around, writers-own}
+use Rattle.rdlpp_meaning.proofs.OpenScopes.{standing_of_place, bound-place, text-around, IsOpenText, part-empty, part-whole, standing_by, standing-text, standing-inside, part-inside, IsPlace, formal-place, further, item-around, item-own, writers-around, writers-own}
 
 -- a name of a text
 abbrev pub name_token : List ℕ → SourceToken

@@ -64,8 +64,6 @@ pub mod UnlinedTokens
 pub mod KeptTexts
 pub mod ReadCalls
 pub mod OpenScopes
-pub mod OpenFronts
-pub mod ItemScopes
 pub mod FormalItems
 pub mod OpenSteps
 pub mod OpenCalls

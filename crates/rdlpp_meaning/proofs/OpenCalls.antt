@@ -21,10 +21,8 @@ use Rattle.rdlpp_meaning.proofs.Outcomes.{and_then-assoc, and_then-fails}
 use Rattle.rdlpp_meaning.proofs.Walks.{deeper_of}
 use Rattle.rdlpp_meaning.proofs.Calls.{walk_skip}
 use Rattle.rdlpp_meaning.proofs.LargerRuns.{usage_walk}
-use Rattle.rdlpp_meaning.proofs.OpenFronts.{first_kind, first_bytes, first_behind}
-use Rattle.rdlpp_meaning.proofs.OpenScopes.{text-around}
+use Rattle.rdlpp_meaning.proofs.OpenScopes.{first_kind, first_bytes, first_behind, text-around, next_is}
 use Rattle.rdlpp_meaning.proofs.OpenSteps.{room_in, usage-left, behind-walk, opens-room, opens-deep, body-items, body-writers, scope-writers}
-use Rattle.rdlpp_meaning.proofs.ItemScopes.{next_is}
 use Rattle.rdlpp_meaning.proofs.TokenUsages.{KeepsReads, map_usage, usage-map}
 
 -- a name has the role of text, whether it is marked or not

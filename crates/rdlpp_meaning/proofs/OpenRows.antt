@@ -13,7 +13,7 @@ use Rattle.rdlpp_meaning.specs.State.{Rules, State, Refused as RefusedDefine, No
 use Rattle.rdlpp_meaning.specs.Items.{Item, Written, Arg, listed, packed, unlined, broken_line, unlined_item}
 use Rattle.rdlpp_meaning.specs.Actuals.{passed, put, parted, level_behind, kept_size, heed, inside_call, call_of, is_space, behind_space, trimmed, kind_role, broken_role, token_role, item_role, item_size, actual_of}
 use Rattle.rdlpp_meaning.specs.Substitution.{spelled, body_tokens, standing_of, bound_to, mark_of, mark_or, marked, substituted}
-use Rattle.rdlpp_meaning.specs.Expansion.{name_of, is_count, usage_of_call, usage_of_formals, usage_of_macro, usage_of, walk, expand}
+use Rattle.rdlpp_meaning.specs.Expansion.{name_of, bound_parts, is_count, usage_of_call, usage_of_formals, usage_of_macro, usage_of, walk, expand}
 use Rattle.rdlpp_meaning.specs.TextTokens.{text_tokens}
 use Rattle.rdlpp_meaning.specs.Opens.{Part, OpenBody, OpenActual, OpenDefault, Open, Texts, own_text, scope_text, text_around, part_tokens, open_scope, open_body, own_writers, writers_at}
 use Rattle.rdlpp_meaning.specs.OpenItems.{own_item, item_at, open_items, open_left}
@@ -63,7 +63,7 @@ body_of_a from = record { part = range from 1; home = 1; kind = OpenBody 0 (rang
 
 -- what remains of open texts with that kept text
 unfoldable remains : ℕ → List Open → Outcome
-unfolding is_blank is_line_end is_letter is_digit is_word is_opener is_closer takes_word begins_perl begins_line_comment begins_block_comment ends_block_comment first_place string_stop whole string_token block_token plain_token token_of tokens_from stops_plain_text plain_len reserved_names is_reserved macro_named gives fails and_then no_shift shown_line fault_at breach_kind listed packed passed put parted level_behind kept_size heed inside_call call_of is_space behind_space trimmed kind_role broken_role token_role item_role item_size spelled body_tokens standing_of bound_to mark_of mark_or marked substituted name_of is_count actual_of unlined_item unlined broken_line usage_of_call usage_of_formals usage_of_macro usage_of walk expand text_tokens own_text scope_text text_around part_tokens open_scope open_body own_writers writers_at own_item item_at open_items open_left
+unfolding is_blank is_line_end is_letter is_digit is_word is_opener is_closer takes_word begins_perl begins_line_comment begins_block_comment ends_block_comment first_place string_stop whole string_token block_token plain_token token_of tokens_from stops_plain_text plain_len reserved_names is_reserved macro_named gives fails and_then no_shift shown_line fault_at breach_kind listed packed passed put parted level_behind kept_size heed inside_call call_of is_space behind_space trimmed kind_role broken_role token_role item_role item_size spelled body_tokens standing_of bound_to mark_of mark_or marked substituted name_of bound_parts is_count actual_of unlined_item unlined broken_line usage_of_call usage_of_formals usage_of_macro usage_of walk expand text_tokens own_text scope_text text_around part_tokens open_scope open_body own_writers writers_at own_item item_at open_items open_left
 remains depth opens = open_left rules start 5 depth (texts (codes "`W,")) opens
 
 -- what is left of an open text as items

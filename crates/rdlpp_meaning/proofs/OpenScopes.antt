@@ -1,19 +1,66 @@
--- What a name of a scope stands for: its place among the formals, and the open text that is opened for that.
-use Rattle.std.proofs.Common.{◌≡◌, ℕ, zero, suc, ◌+◌, ◌-◌, ◌<◌, ◌≤◌, Bool, true, false, cond, not, ◌&&◌, List, [], ◌∷◌, length, take, drop, refl, sym, ap, ◌∙◌, arith, Option, None, Some}
-use Rattle.std.specs.Prelude.{if◌then◌else◌, nat_lt, bytes_eq, slice_index_or}
+-- The scopes of open texts: their items and macros, what a name of a scope stands for, and the front of the innermost text.
+use Rattle.std.proofs.Common.{◌≡◌, ℕ, suc, ◌≤◌, Bool, true, false, List, ◌∷◌, length, refl, ap, arith, eq-eqb, zero, ◌+◌, ◌-◌, ◌<◌, cond, not, ◌&&◌, [], take, drop, sym, ◌∙◌, Option, None, Some}
+use Rattle.std.specs.Prelude.{if◌then◌else◌, ◌==◌, nat_lt, bytes_eq, slice_index_or, slice_range}
+use Rattle.std.proofs.lemmas.Bool.{eqb-true, lt-ltb, le-ltb, ltb-true, ltb-false}
+use Rattle.rdlpp_scan.specs.SourceTokens.{SourceToken}
+use Rattle.rdlpp_meaning.specs.Opens.{Open, Texts, scope_text, own_writers, writers_at, Part, OpenKind, OpenBody, OpenActual, OpenDefault, formal_at, part_at, part_tokens, AreOpen, open_bytes, open_behind}
+use Rattle.rdlpp_meaning.specs.OpenItems.{own_item, item_at}
 use Rattle.std.specs.List.{AllByRecursion, prefix_len}
 use Rattle.std.specs.Option.{option_map}
-use Rattle.std.proofs.lemmas.Bool.{lt-ltb, le-ltb, ltb-true, ltb-false}
 use Rattle.std.proofs.Math.Seq.{take-length}
 use Rattle.rdlpp_scan.specs.declared.token.Mode.TheVariants.{Plain}
 use Rattle.rdlpp_table.specs.Table.{Formal}
 use Rattle.rdlpp_table.specs.View.{formal_named}
-use Rattle.rdlpp_meaning.specs.Substitution.{Standing, standing_of, bound_to}
-use Rattle.rdlpp_meaning.specs.Substitution.{body_tokens}
+use Rattle.rdlpp_meaning.specs.Substitution.{Standing, standing_of, bound_to, body_tokens}
 use Rattle.rdlpp_meaning.specs.TextTokens.{text_tokens}
-use Rattle.rdlpp_meaning.specs.Opens.{Part, OpenKind, OpenBody, OpenActual, OpenDefault, Open, Texts, formal_at, part_at, scope_text, part_tokens}
-use Rattle.rdlpp_meaning.proofs.ItemScopes.{not_next}
 use Rattle.rdlpp_meaning.proofs.TextRanges.{body_text, text_nil}
+use Rattle.std.proofs.lemmas.List.{drop-take, drop-drop}
+use Rattle.rdlpp_scan.specs.declared.token.Kind.{Kind}
+use Rattle.rdlpp_scan.specs.declared.token.Kind.TheVariants.{Name}
+use Rattle.rdlpp_scan.specs.declared.token.Mode.{Mode}
+use Rattle.rdlpp_scan.specs.Tokens.{token_of}
+
+-- a test of two numbers that aren't equal fails
+unequal : (a b : ℕ) (x : Bool) → (a == b) ≡ x → (a ≡ b → ⊥) → x ≡ false
+unequal a b true e h = absurd (h (eqb-true a b e))
+unequal a b false e h = refl
+
+-- a scope further out isn't the next one
+pub not_next : (k n : ℕ) → k ≤ n → (k == suc n) ≡ false
+not_next k n h = unequal k (suc n) (k == suc n) refl (λ e. omega arith)
+
+-- the next one is
+pub next_is : (n : ℕ) → (n == n) ≡ true
+next_is n = eq-eqb n n refl
+
+-- one more open text changes nothing of the items of the scopes around it
+pub item-around : (texts : Texts) (x : Open) (below : List Open) (k : ℕ) → k ≤ length below → item_at texts (x ∷ below) k ≡ item_at texts below k
+unfolding item_at
+item-around texts x below k h =
+    ap (λ (b : Bool). λ (t : SourceToken).
+    if b then own_item texts x.kind (scope_text texts below x.home) (item_at texts below x.home) (writers_at texts below x.home) t
+    else item_at texts below k t) (not_next k (length below) h)
+
+-- nor of the macros in whose text they are
+pub writers-around : (texts : Texts) (x : Open) (below : List Open) (k : ℕ) → k ≤ length below → writers_at texts (x ∷ below) k ≡ writers_at texts below k
+unfolding writers_at
+writers-around texts x below k h = rw (not_next k (length below) h) refl
+
+-- the items of its own scope
+pub item-own : (texts : Texts) (x : Open) (below : List Open)
+    → item_at texts (x ∷ below) (suc (length below))
+    ≡ own_item texts x.kind (scope_text texts below x.home) (item_at texts below x.home) (writers_at texts below x.home)
+unfolding item_at
+item-own texts x below =
+    ap (λ (b : Bool). λ (t : SourceToken).
+    if b then own_item texts x.kind (scope_text texts below x.home) (item_at texts below x.home) (writers_at texts below x.home) t
+    else item_at texts below (suc (length below)) t) (next_is (suc (length below)))
+
+-- and its macros
+pub writers-own : (texts : Texts) (x : Open) (below : List Open)
+    → writers_at texts (x ∷ below) (suc (length below)) ≡ own_writers texts x.kind (writers_at texts below x.home)
+unfolding writers_at
+writers-own texts x below = rw (next_is (suc (length below))) refl
 
 -- the first place
 first-place : (k n : ℕ) → k ≡ 0 → cond (nat_lt k (suc n)) (Some k) None ≡ Some 0
@@ -171,3 +218,37 @@ formal-place formals name n h =
     by : (k : ℕ) (found : Bool) → nat_lt k (length formals) ≡ found → IsPlace n (cond found (Some k) None)
     by k true e = let l = ltb-true k (length formals) e in omega (arith, l, h)
     by k false e = tt
+
+-- a range of a text behind some of its bytes
+pub range_behind : (text : List ℕ) (from end n : ℕ) → n ≤ end - from → drop n (slice_range text from end) ≡ slice_range text (from + n) end
+range_behind text from end n h =
+    ap (λ (k : ℕ). drop n (take k (drop from text))) (whole from end n h)
+    ∙ drop-take n (end - (from + n)) (drop from text)
+    ∙ ap (λ (bytes : List ℕ). take (end - (from + n)) bytes) (drop-drop n from text)
+  where
+    whole : (a b k : ℕ) → k ≤ b - a → b - a ≡ k + (b - (a + k))
+    whole a b k h = omega (arith, h)
+
+-- what a token of a kind needs so that it stands for itself: a name is no formal
+unfoldable pub Alone : {A : Type 0} → Kind → Option A → Type 0
+Alone Name found = found ≡ None
+Alone kind found = Unit
+
+-- the kind of the first token of an open text
+unfoldable pub first_kind : Texts → Open → List Open → Kind
+first_kind texts x below = (token_of x.part.mode (open_bytes texts x below)).kind
+
+-- its bytes
+unfoldable pub first_bytes : Texts → Open → List Open → List ℕ
+first_bytes texts x below = take (token_of x.part.mode (open_bytes texts x below)).len (open_bytes texts x below)
+
+-- the open text behind it
+unfoldable pub first_behind : Texts → Open → List Open → Open
+first_behind texts x below =
+    open_behind x (token_of x.part.mode (open_bytes texts x below)).len (token_of x.part.mode (open_bytes texts x below)).next_mode
+
+-- an open text behind some of its bytes is still open
+pub behind-open : (texts : Texts) (x : Open) (below : List Open) (n : ℕ) (mode : Mode) → AreOpen texts (x ∷ below)
+    → AreOpen texts (open_behind x n mode ∷ below)
+unfolding open_behind
+behind-open texts x below n mode h = h
