@@ -1,4 +1,5 @@
 -- A call whose actuals are bound to ranges of its text is that of the definition.
+use Rattle.rdlpp_meaning.specs.Expansion.{Refuses, Opens, is_count, usage_of_call, usage_of_formals}
 use Rattle.std.proofs.Common.{◌≡◌, ◌≤◌, ◌<◌, ℕ, zero, suc, ◌+◌, Bool, true, false, cond, List, [], ◌∷◌, map, length, drop, filter, All, sym, ap, ◌∙◌, subst, arith}
 use Rattle.std.specs.Prelude.{slice_range, Ok, Err}
 use Rattle.std.specs.List.{AllByRecursion, prefix_len}
@@ -10,9 +11,8 @@ use Rattle.rdlpp_scan.specs.SourceTokens.{SourceToken}
 use Rattle.rdlpp_table.specs.Table.{Formal, Macro}
 use Rattle.rdlpp_meaning.specs.declared.fault.FaultKind.TheVariants.{ArgumentsMissing, ArgumentsOpen, ArgumentCount}
 use Rattle.rdlpp_meaning.specs.State.{Rules}
-use Rattle.rdlpp_meaning.specs.Actuals.{Role, Cut, Call, Lacking, Bound, call_of, is_space, behind_space, trimmed, token_role, level_behind}
+use Rattle.rdlpp_meaning.specs.Actuals.{Role, Cut, Call, Lacking, Bound, call_of, is_space, behind_space, trimmed, token_role, level_behind, not_kept, text_reads}
 use Rattle.rdlpp_meaning.specs.CallScan.{Split, Closed, split_by, split, all_parts, call_of_scan, is_kept}
-use Rattle.rdlpp_meaning.specs.Cursors.{not_kept, Refuses, Opens, is_token_count, token_usage_of_call, token_usage_of_formals}
 use Rattle.rdlpp_meaning.specs.Expansion.{bound_parts}
 use Rattle.rdlpp_meaning.specs.Opens.{part_tokens}
 use Rattle.rdlpp_meaning.specs.Substitution.{body_tokens}
@@ -22,7 +22,8 @@ use Rattle.rdlpp_calls.specs.declared.parts.CallFault.TheVariants.{Missing, Uncl
 use Rattle.rdlpp_calls.specs.CallParts.{call_fault_kind, IsCall, IsCallAt}
 use Rattle.rdlpp_calls.specs.BoundCalls.{range_part, ranges_tokens, actuals_of, KeepsAll, usage_in, IsBoundCall}
 use Rattle.rdlpp_calls.proofs.ArgumentLaws.{filter_all, front_all}
-use Rattle.rdlpp_meaning.proofs.OpenMoves.{range_behind}
+use Rattle.rdlpp_meaning.proofs.OpenScopes.{range_behind}
+use Rattle.rdlpp_meaning.proofs.UnlinedTokens.{actuals-body}
 use Rattle.rdlpp_calls.proofs.BoundParts.{range_within, range_size}
 use Rattle.rdlpp_calls.proofs.Trimming.{trimmed_is, has_solid, solid}
 
@@ -85,8 +86,8 @@ all_bound P [] parts h = tt
 all_bound P (f ∷ fs) parts h = h
 
 -- where as many actuals as formals are bound, none lacks
-pub count_many : (fs : List Formal) (parts : List (List SourceToken)) → true ≡ is_token_count fs parts → length fs ≤ length (bound_parts fs parts)
-unfolding is_token_count bound_parts
+pub count_many : (fs : List Formal) (parts : List (List SourceToken)) → true ≡ is_count fs parts → length fs ≤ length (bound_parts fs parts)
+unfolding is_count bound_parts
 count_many [] actuals e = omega arith
 count_many (f ∷ fs) actuals e = let n = eqb-true (length actuals) (length (f ∷ fs)) (sym e) in omega (arith, n)
 
@@ -112,42 +113,44 @@ call_parts whole inner from to c all is room =
     ∙ ap (λ (x : List ℕ). call_of_scan token_role 0 (Closed (body_tokens x) c.used)) is
 
 -- a usage by the parts of its call and by whether they are so many as the formals
-usage_by : (m : Macro) (fs : List Formal) (line : ℕ) (name : List ℕ) (inner : List ℕ) (used : ℕ) (right : Bool) → right ≡ is_token_count fs (actuals_of inner)
-    → token_usage_of_call m fs line name (Bound (split token_role 0 (body_tokens inner)).first (split token_role 0 (body_tokens inner)).further used)
+usage_by : (m : Macro) (fs : List Formal) (line : ℕ) (name : List ℕ) (inner : List ℕ) (used : ℕ) (right : Bool) → right ≡ is_count fs (actuals_of inner)
+    → usage_of_call text_reads m fs line name (Bound (split token_role 0 (body_tokens inner)).first (split token_role 0 (body_tokens inner)).further used)
     ≡ cond right (Opens m (bound_parts fs (actuals_of inner)) used) (Refuses ArgumentCount name line)
-unfolding token_usage_of_call actuals_of all_parts
-usage_by m fs line name inner used right e = ap (λ (b : Bool). cond b (Opens m (bound_parts fs (actuals_of inner)) used) (Refuses ArgumentCount name line)) (sym e)
+unfolding usage_of_call actuals_of all_parts
+usage_by m fs line name inner used right e =
+    ap (λ (parts : List (List SourceToken)). cond (is_count fs parts) (Opens m (bound_parts fs parts) used) (Refuses ArgumentCount name line)) (actuals-body inner)
+    ∙ ap (λ (b : Bool). cond b (Opens m (bound_parts fs (actuals_of inner)) used) (Refuses ArgumentCount name line)) (sym e)
 
 -- a usage by what its call comes to
-usage_of_call : (rules : Rules) (line : ℕ) (name : List ℕ) (m : Macro) (fs : List Formal) (text : List ℕ) (at end : ℕ) (call : Call SourceToken)
+usage_by_call : (rules : Rules) (line : ℕ) (name : List ℕ) (m : Macro) (fs : List Formal) (text : List ℕ) (at end : ℕ) (call : Call SourceToken)
     → ((room : ℕ) → call_of token_role not_kept room (body_tokens (slice_range text at end)) ≡ call)
-    → usage_in rules line name m fs text at end ≡ token_usage_of_call m fs line name call
-unfolding token_usage_of_formals
-usage_of_call rules line name m fs text at end call e = ap (token_usage_of_call m fs line name) (e rules.argument_bytes)
+    → usage_in rules line name m fs text at end ≡ usage_of_call text_reads m fs line name call
+unfolding usage_of_formals
+usage_by_call rules line name m fs text at end call e = ap (usage_of_call text_reads m fs line name) (e rules.argument_bytes)
 
 -- a call that lacks something is refused for it
 pub refused_call : (text : List ℕ) (at end formals : ℕ) (ranges : List Range) (fault : CallFault) → IsCall (slice_range text at end) (Err fault)
     → IsBoundCall text at end formals ranges (Err (call_fault_kind fault))
-unfolding IsBoundCall IsCall call_fault_kind token_usage_of_call
-refused_call text at end formals ranges Missing e = λ rules line name m fs is. usage_of_call rules line name m fs text at end (Lacking ArgumentsMissing) e
-refused_call text at end formals ranges Unclosed e = λ rules line name m fs is. usage_of_call rules line name m fs text at end (Lacking ArgumentsOpen) e
+unfolding IsBoundCall IsCall call_fault_kind usage_of_call
+refused_call text at end formals ranges Missing e = λ rules line name m fs is. usage_by_call rules line name m fs text at end (Lacking ArgumentsMissing) e
+refused_call text at end formals ranges Unclosed e = λ rules line name m fs is. usage_by_call rules line name m fs text at end (Lacking ArgumentsOpen) e
 
 -- a call with more or fewer parts is refused for that
 pub counted_call : (text : List ℕ) (at end formals from to : ℕ) (ranges : List Range) → end ≤ length text → IsCallAt (slice_range text at end) from to
-    → ((fs : List Formal) → length fs ≡ formals → false ≡ is_token_count fs (actuals_of (slice_range text (at + from) (at + to))))
+    → ((fs : List Formal) → length fs ≡ formals → false ≡ is_count fs (actuals_of (slice_range text (at + from) (at + to))))
     → KeepsAll (body_tokens (slice_range text at end)) → IsBoundCall text at end formals ranges (Err ArgumentCount)
 unfolding IsBoundCall
 counted_call text at end formals from to ranges inside c count all = λ rules line name m fs is.
     let whole = slice_range text at end in
     let inner = slice_range text (at + from) (at + to) in
-    usage_of_call rules line name m fs text at end (Bound (split token_role 0 (body_tokens inner)).first (split token_role 0 (body_tokens inner)).further c.used)
+    usage_by_call rules line name m fs text at end (Bound (split token_role 0 (body_tokens inner)).first (split token_role 0 (body_tokens inner)).further c.used)
     (call_parts whole inner from to c all (inner_text text at end from to inside c.ordered c.inside))
     ∙ usage_by m fs line name inner c.used false (count fs is)
 
 -- a call with as many parts is bound to their ranges
 pub bound_call : (text : List ℕ) (at end formals from to behind : ℕ) (ranges : List Range) → end ≤ length text → IsCallAt (slice_range text at end) from to
     → ((fs : List Formal) → length fs ≡ formals → bound_parts fs (actuals_of (slice_range text (at + from) (at + to))) ≡ ranges_tokens text ranges)
-    → ((fs : List Formal) → length fs ≡ formals → true ≡ is_token_count fs (actuals_of (slice_range text (at + from) (at + to))))
+    → ((fs : List Formal) → length fs ≡ formals → true ≡ is_count fs (actuals_of (slice_range text (at + from) (at + to))))
     → behind ≡ at + to + 1
     → KeepsAll (body_tokens (slice_range text at end)) → IsBoundCall text at end formals ranges (Ok behind)
 unfolding IsBoundCall
@@ -170,7 +173,7 @@ bound_call text at end formals from to behind ranges inside c tokens count place
     record {
       used = c.used;
       opens = λ rules line name m fs n.
-          usage_of_call rules line name m fs text at end (Bound (split token_role 0 (body_tokens inner)).first (split token_role 0 (body_tokens inner)).further c.used)
+          usage_by_call rules line name m fs text at end (Bound (split token_role 0 (body_tokens inner)).first (split token_role 0 (body_tokens inner)).further c.used)
           (call_parts whole inner from to c all is)
           ∙ usage_by m fs line name inner c.used true (count fs n)
           ∙ ap (λ (xs : List (List SourceToken)). Opens m xs c.used) (tokens fs n);

@@ -10,7 +10,7 @@ use Rattle.rdlpp_meaning.specs.Actuals.{trimmed, token_role}
 use Rattle.rdlpp_meaning.specs.CallScan.{split, all_parts}
 use Rattle.rdlpp_meaning.specs.Opens.{part_tokens}
 use Rattle.rdlpp_meaning.specs.Substitution.{body_tokens}
-use Rattle.rdlpp_meaning.proofs.OpenMoves.{range_behind}
+use Rattle.rdlpp_meaning.proofs.OpenScopes.{range_behind}
 use Rattle.rdlpp_meaning.proofs.TextRanges.{body_text}
 use Rattle.rdlpp_calls.specs.declared.bindings.Range.{Range}
 use Rattle.rdlpp_calls.specs.declared.parts.Part.{Part}

@@ -1,4 +1,6 @@
 -- A usage in an open text whose call was bound, by the ranges of the text that are its actuals.
+use Rattle.rdlpp_meaning.specs.Actuals.{Reads}
+use Rattle.rdlpp_meaning.specs.Expansion.{Usage, Refuses, usage_of_formals, usage_of_macro, usage_of}
 use Rattle.std.proofs.Common.{◌≡◌, ◌≤◌, ℕ, ◌+◌, ◌-◌, Bool, false, List, [], ◌∷◌, map, drop, ap, ◌∙◌, arith, Option, None, Some}
 use Rattle.std.specs.Prelude.{bytes_eq, slice_range, if◌then◌else◌}
 use Rattle.std.specs.List.{AllByRecursion, list_any}
@@ -8,7 +10,6 @@ use Rattle.rdlpp_scan.specs.Reserved.{is_reserved}
 use Rattle.rdlpp_table.specs.Table.{Formal, Macro, macro_named}
 use Rattle.rdlpp_meaning.specs.declared.fault.FaultKind.TheVariants.{UndefinedMacro, DirectiveInText, RecursiveMacro}
 use Rattle.rdlpp_meaning.specs.State.{Rules, State}
-use Rattle.rdlpp_meaning.specs.Cursors.{TokenUsage, Refuses, token_usage_of_formals, token_usage_of_macro, token_usage_of}
 use Rattle.rdlpp_meaning.specs.Opens.{part_tokens}
 use Rattle.rdlpp_meaning.specs.Substitution.{body_tokens}
 use Rattle.rdlpp_meaning.proofs.TextRanges.{body_text}
@@ -16,17 +17,17 @@ use Rattle.rdlpp_calls.specs.declared.bindings.Range.{Range}
 use Rattle.rdlpp_calls.specs.BoundCalls.{range_part, AreWithin, IsBoundAt}
 
 -- a usage of a macro that isn't recursive and has a list of formals, by what its call comes to
-pub usage_with_list : (size : SourceToken → ℕ) (rules : Rules) (s : State) (line : ℕ) (o : List (List ℕ)) (name : List ℕ) (ts : List SourceToken) (m : Macro) (fs : List Formal) (u : TokenUsage)
+pub usage_with_list : (reads : Reads SourceToken) (rules : Rules) (s : State) (line : ℕ) (o : List (List ℕ)) (name : List ℕ) (ts : List SourceToken) (m : Macro) (fs : List Formal) (u : Usage SourceToken)
     → is_reserved name ≡ false → macro_named s.macros name ≡ Some m → list_any (bytes_eq name) o ≡ false → m.formals ≡ Some fs
-    → token_usage_of_formals size rules line name ts m (Some fs) ≡ u → token_usage_of size rules s line o name ts ≡ u
-unfolding token_usage_of token_usage_of_macro
-usage_with_list size rules s line o name ts m fs u reserved found once formals e =
-    let named : Option Macro → TokenUsage = λ x. elim x [ None ↦ Refuses UndefinedMacro name line | Some y ↦ token_usage_of_macro size rules line o name ts y ] in
-    let own : TokenUsage = token_usage_of_formals size rules line name ts m m.formals in
+    → usage_of_formals rules reads line name ts m (Some fs) ≡ u → usage_of rules s reads line o name ts ≡ u
+unfolding usage_of usage_of_macro
+usage_with_list reads rules s line o name ts m fs u reserved found once formals e =
+    let named : Option Macro → Usage SourceToken = λ x. elim x [ None ↦ Refuses UndefinedMacro name line | Some y ↦ usage_of_macro rules reads line o name ts y ] in
+    let own : Usage SourceToken = usage_of_formals rules reads line name ts m m.formals in
     ap (λ (b : Bool). if b then Refuses DirectiveInText name line else named (macro_named s.macros name)) reserved
     ∙ ap named found
     ∙ ap (λ (b : Bool). if b then Refuses RecursiveMacro name line else own) once
-    ∙ ap (token_usage_of_formals size rules line name ts m) formals
+    ∙ ap (usage_of_formals rules reads line name ts m) formals
     ∙ e
 
 -- ranges between two places of a text lie in it as parts

@@ -13,9 +13,8 @@ use Rattle.rdlpp_scan.specs.SourceTokens.{Ordinary, SourceToken}
 use Rattle.rdlpp_scan.specs.Tokens.{tokens_from}
 use Rattle.rdlpp_meaning.specs.declared.fault.FaultKind.{FaultKind}
 use Rattle.rdlpp_meaning.specs.declared.fault.FaultKind.TheVariants.{ArgumentsMissing, ArgumentsOpen, ArgumentCount}
-use Rattle.rdlpp_meaning.specs.Actuals.{Role, Space, Dropped, Remark, Start, Up, End, Down, Halt, Ends, Stops, level_behind, kept_size, kind_role, token_role}
+use Rattle.rdlpp_meaning.specs.Actuals.{Role, Space, Dropped, Remark, Start, Up, End, Down, Halt, Ends, Stops, level_behind, kept_size, kind_role, token_role, not_kept}
 use Rattle.rdlpp_meaning.specs.CallScan.{Stand, Before, Inside, Turn, Passes, Keeps, Closes, turn_before, turn_fitting, turn_inside, turn, stand_behind_lead, stand_behind, room_behind, fault_at_end, Scanned, Refused, Closed, scan_passing, scan_keeping, scanned, scan, is_kept, is_call_text}
-use Rattle.rdlpp_meaning.specs.Cursors.{not_kept}
 use Rattle.rdlpp_meaning.specs.Expansion.{bytes_of}
 use Rattle.rdlpp_meaning.specs.Substitution.{spelled}
 use Rattle.rdlpp_meaning.specs.TextTokens.{text_tokens}

@@ -1,15 +1,15 @@
 -- A call that is bound while its `)` is sought is that of the definition.
+use Rattle.rdlpp_meaning.specs.Expansion.{is_count}
 use Rattle.std.proofs.Common.{◌≡◌, ◌≤◌, ◌<◌, ℕ, ◌+◌, ◌-◌, Bool, true, false, cond, List, [], ◌∷◌, length, take, drop, refl, sym, ap, ◌∙◌, subst, arith, Option, Some, None, Ok, Err}
 use Rattle.std.specs.Prelude.{slice_range}
 use Rattle.std.proofs.lemmas.List.{drop-take, length-take, take-take}
 use Rattle.rdlpp_scan.specs.SourceTokens.{SourceToken}
 use Rattle.rdlpp_meaning.specs.declared.fault.FaultKind.TheVariants.{ArgumentsMissing, ArgumentsOpen, ArgumentCount}
 use Rattle.rdlpp_meaning.specs.Actuals.{level_behind, token_role}
-use Rattle.rdlpp_meaning.specs.Cursors.{is_token_count}
 use Rattle.rdlpp_meaning.specs.Expansion.{bound_parts}
 use Rattle.rdlpp_meaning.specs.Opens.{part_tokens}
 use Rattle.rdlpp_meaning.specs.Substitution.{body_tokens}
-use Rattle.rdlpp_meaning.proofs.OpenMoves.{range_behind}
+use Rattle.rdlpp_meaning.proofs.OpenScopes.{range_behind}
 use Rattle.rdlpp_meaning.proofs.TextRanges.{body_text}
 use Rattle.rdlpp_calls.specs.BoundCalls.{actuals_of, AreWithin, IsBoundCall, KeepsAll, range_part, ranges_tokens}
 use Rattle.rdlpp_calls.specs.CallParts.{call_fault_kind, closer_from, ends_call, opener_from, IsCall}
@@ -139,7 +139,7 @@ miscounted text at end formals len more ranges others bound o e none b room all 
     let place : from + more ≡ at + (len + more) = omega arith in
     counted_call text at end formals len (len + more) ranges o.high c
     (λ fs is. q (from + more) there fs is
-    ∙ ap (λ (x : List ℕ). is_token_count fs (actuals_of x)) (inner ∙ ap (λ (n : ℕ). slice_range text from n) place)) all
+    ∙ ap (λ (x : List ℕ). is_count fs (actuals_of x)) (inner ∙ ap (λ (n : ℕ). slice_range text from n) place)) all
 
 -- a call with as many parts
 pub bound : (text : List ℕ) (at end formals len to : ℕ) (ranges : List Range) (found : Option ℕ) → IsOpenedAt text at end len → found ≡ Some to
@@ -163,7 +163,7 @@ bound text at end formals len to ranges found o e b all =
     front_range text end from to low fits ∙ ap (λ (k : ℕ). slice_range text from k) place in
     bound_call text at end formals len (len + more) (to + 1) ranges o.high c
     (λ fs is. ap (λ (x : List ℕ). bound_parts fs (actuals_of x)) (sym inner) ∙ q.actuals fs is ∙ front_tokens text end from to ranges fits q.within)
-    (λ fs is. q.count fs is ∙ ap (λ (x : List ℕ). is_token_count fs (actuals_of x)) inner)
+    (λ fs is. q.count fs is ∙ ap (λ (x : List ℕ). is_count fs (actuals_of x)) inner)
     (omega (arith, place)) all
 
 -- the ranges lie in the part of the text

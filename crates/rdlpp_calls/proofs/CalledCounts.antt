@@ -1,10 +1,9 @@
 -- Whether a call whose parts are pushed while its `)` is sought has as many as the formals of its macro.
+use Rattle.rdlpp_meaning.specs.Expansion.{bound_parts, is_count}
 use Rattle.std.proofs.Common.{◌≡◌, ◌<◌, ℕ, ◌||◌, Bool, true, false, not, List, [], ◌∷◌, length, take, refl, sym, ap, ◌∙◌, subst, arith, Option, Some, None}
 use Rattle.std.specs.Prelude.{nat_lt, slice_range}
 use Rattle.std.proofs.lemmas.List.{drop_all, length-take}
 use Rattle.rdlpp_table.specs.Table.{Formal}
-use Rattle.rdlpp_meaning.specs.Cursors.{is_token_count}
-use Rattle.rdlpp_meaning.specs.Expansion.{bound_parts}
 use Rattle.rdlpp_calls.specs.BoundCalls.{actuals_of, added, first_actual, ranges_tokens, AreWithin}
 use Rattle.rdlpp_calls.specs.CalledParts.{IsBoundBehind, IsPushed, IsPushedTo}
 use Rattle.rdlpp_calls.specs.declared.bindings.Range.{Range}
@@ -35,7 +34,7 @@ pushed_to text from count to old new pushed e p = subst (λ (x : Option ℕ). Is
 -- the count by whether the first part is admitted
 pushed_count : (text : List ℕ) (from formals count to : ℕ) (old new : List Range) (admitted : Bool) → IsWanted formals count → IsPushedTo text from count old new to
     → admitted ≡ (nat_lt 0 formals || not (nat_lt 0 (length (first_actual (slice_range text from to)))))
-    → (fs : List Formal) → length fs ≡ formals → admitted ≡ is_token_count fs (actuals_of (slice_range text from to))
+    → (fs : List Formal) → length fs ≡ formals → admitted ≡ is_count fs (actuals_of (slice_range text from to))
 pushed_count text from formals count to old new admitted w q a fs is =
     count_is (slice_range text from to) formals count true admitted fs is w.none w.some
     (agree (length (actuals_of (slice_range text from to))) count q.many) a
@@ -48,7 +47,7 @@ unfolding IsBoundBehind
 bound_unadmitted text from formals count to old new ranges pushed admitted w e p a is = λ other closes fs same.
     let q = pushed_to text from count to old new pushed e p in
     let there : to ≡ other = let h : Some to ≡ Some other = sym q.closes ∙ closes in cc in
-    subst (λ (n : ℕ). false ≡ is_token_count fs (actuals_of (slice_range text from n))) there
+    subst (λ (n : ℕ). false ≡ is_count fs (actuals_of (slice_range text from n))) there
     (sym is ∙ pushed_count text from formals count to old new admitted w q a fs same)
 
 -- all parts are actuals of some formals

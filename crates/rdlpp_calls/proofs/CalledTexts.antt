@@ -9,7 +9,7 @@ use Rattle.rdlpp_meaning.specs.Actuals.{Role, Space, End, level_behind, is_space
 use Rattle.rdlpp_meaning.specs.Expansion.{bytes_of}
 use Rattle.rdlpp_meaning.specs.Substitution.{body_tokens}
 use Rattle.rdlpp_meaning.specs.TextTokens.{text_tokens}
-use Rattle.rdlpp_meaning.proofs.OpenMoves.{range_behind}
+use Rattle.rdlpp_meaning.proofs.OpenScopes.{range_behind}
 use Rattle.rdlpp_meaning.proofs.TextRanges.{body_text, closes_text, is_one_role, text_cut, text_behind, text_one}
 use Rattle.rdlpp_calls.specs.CallParts.{closer_from, ends_call, ends_part, part_from, space_from, IsNextPart}
 use Rattle.rdlpp_calls.specs.CalledParts.{called_from, closer_in}

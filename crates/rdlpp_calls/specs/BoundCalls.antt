@@ -1,5 +1,6 @@
 -- The actuals of a call as ranges of the text in which the call stands.
 -- A definition that names no source is this project's own.
+use Rattle.rdlpp_meaning.specs.Expansion.{Usage, Refuses, Opens, usage_of_formals}
 use Rattle.std.specs.Prelude.{◌≡◌, ℕ, ◌≤◌, Bool, true, false, List, map, length, drop, slice_range, All, Some, Result, Ok, Err}
 use Rattle.std.specs.List.{AllByRecursion}
 use Rattle.rdlpp_scan.specs.declared.token.Mode.TheVariants.{Plain}
@@ -8,9 +9,8 @@ use Rattle.rdlpp_table.specs.Table.{Formal, Macro}
 use Rattle.rdlpp_meaning.specs.declared.fault.FaultKind.{FaultKind}
 use Rattle.rdlpp_meaning.specs.declared.fault.FaultKind.TheVariants.{ArgumentsMissing, ArgumentsOpen, ArgumentCount}
 use Rattle.rdlpp_meaning.specs.State.{Rules}
-use Rattle.rdlpp_meaning.specs.Actuals.{trimmed, token_role}
+use Rattle.rdlpp_meaning.specs.Actuals.{trimmed, token_role, text_reads}
 use Rattle.rdlpp_meaning.specs.CallScan.{split, all_parts, is_kept}
-use Rattle.rdlpp_meaning.specs.Cursors.{not_kept, TokenUsage, Refuses, Opens, token_usage_of_formals}
 use Rattle.rdlpp_meaning.specs.Opens.{Part, part_tokens}
 use Rattle.rdlpp_meaning.specs.Substitution.{body_tokens}
 use Rattle.rdlpp_calls.specs.declared.bindings.Range.{Range}
@@ -44,9 +44,9 @@ abbrev pub KeepsAll : List SourceToken → Type 0
 KeepsAll ts = All (λ t. is_kept (token_role t) ≡ true) ts
 
 -- what a usage of a macro with a list of formals comes to, where its name stands in front of a part of a text
-abbrev pub usage_in : Rules → ℕ → List ℕ → Macro → List Formal → List ℕ → ℕ → ℕ → TokenUsage
+abbrev pub usage_in : Rules → ℕ → List ℕ → Macro → List Formal → List ℕ → ℕ → ℕ → Usage SourceToken
 usage_in rules line name m formals text at end =
-    token_usage_of_formals not_kept rules line name (body_tokens (slice_range text at end)) m (Some formals)
+    usage_of_formals rules text_reads line name (body_tokens (slice_range text at end)) m (Some formals)
 
 -- a call of a macro with so many formals that is bound to ranges of its text: those are its actuals, behind it stands the text
 -- from a place on, and no call in them or behind it drops a token either

@@ -5,9 +5,8 @@ use Rattle.rdlpp_scan.specs.Bytes.{is_blank, is_line_end}
 use Rattle.rdlpp_scan.specs.SourceTokens.{SourceToken}
 use Rattle.rdlpp_meaning.specs.declared.fault.FaultKind.{FaultKind}
 use Rattle.rdlpp_meaning.specs.declared.fault.FaultKind.TheVariants.{ArgumentsMissing, ArgumentsOpen}
-use Rattle.rdlpp_meaning.specs.Actuals.{Role, Space, Dropped, Remark, Start, End, Cut, Lacking, call_of, level_behind, is_space, trimmed, token_role}
+use Rattle.rdlpp_meaning.specs.Actuals.{Role, Space, Dropped, Remark, Start, End, Cut, Lacking, call_of, level_behind, is_space, trimmed, token_role, not_kept}
 use Rattle.rdlpp_meaning.specs.CallScan.{Closed, split, all_parts, call_of_scan, is_kept}
-use Rattle.rdlpp_meaning.specs.Cursors.{not_kept}
 use Rattle.rdlpp_meaning.specs.Substitution.{body_tokens}
 use Rattle.rdlpp_calls.specs.declared.parts.Arguments.{Arguments}
 use Rattle.rdlpp_calls.specs.declared.parts.CallFault.{CallFault}

@@ -1,10 +1,10 @@
 -- The parts of a call that are found while its `)` is sought.
 -- A definition that names no source is this project's own.
+use Rattle.rdlpp_meaning.specs.Expansion.{is_count}
 use Rattle.std.specs.Prelude.{◌≡◌, ℕ, ◌+◌, ◌<◌, ◌≤◌, ◌==◌, true, false, List, [], ◌∷◌, length, drop, slice_range, Option, None, Some, if◌then◌else◌}
 use Rattle.rdlpp_scan.specs.SourceTokens.{SourceToken}
 use Rattle.rdlpp_table.specs.Table.{Formal}
 use Rattle.rdlpp_meaning.specs.Actuals.{level_behind, is_space, token_role}
-use Rattle.rdlpp_meaning.specs.Cursors.{is_token_count}
 use Rattle.rdlpp_meaning.specs.Expansion.{bound_parts}
 use Rattle.rdlpp_meaning.specs.Substitution.{body_tokens}
 use Rattle.rdlpp_calls.specs.BoundCalls.{AreWithin, actuals_of, added, ranges_tokens}
@@ -55,10 +55,10 @@ pub record IsBoundTo (text : List ℕ) (from formals : ℕ) (ranges : List Range
   pub inside : to < length text
   pub within : AreWithin from to ranges
   pub actuals : (fs : List Formal) → length fs ≡ formals → bound_parts fs (actuals_of (slice_range text from to)) ≡ ranges_tokens text ranges
-  pub count : (fs : List Formal) → length fs ≡ formals → true ≡ is_token_count fs (actuals_of (slice_range text from to))
+  pub count : (fs : List Formal) → length fs ≡ formals → true ≡ is_count fs (actuals_of (slice_range text from to))
 
 -- ranges are bound so, or the call isn't closed or has more or fewer parts
 unfoldable pub IsBoundBehind : List ℕ → ℕ → ℕ → List Range → Option ℕ → Type 0
 IsBoundBehind text from formals ranges (Some to) = IsBoundTo text from formals ranges to
 IsBoundBehind text from formals ranges None = (to : ℕ) → closer_in text from ≡ Some to
-    → (fs : List Formal) → length fs ≡ formals → false ≡ is_token_count fs (actuals_of (slice_range text from to))
+    → (fs : List Formal) → length fs ≡ formals → false ≡ is_count fs (actuals_of (slice_range text from to))

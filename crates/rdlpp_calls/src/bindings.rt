@@ -1,7 +1,6 @@
 // The actuals of a call as ranges of the text in which the call stands.
 ghost use Rattle.std.specs.Prelude.{◌≡◌, ℕ, ◌+◌, ◌^◌, ◌≤◌, ◌<◌, ◌==◌, ◌++◌, ◌||◌, not, nat_lt, max, List, true, length, map, drop, slice_range, IfOk, IfErr, IfSome, None, is_ok, vec_len, vec_capacity};
-ghost use Rattle.rdlpp_meaning.specs.Cursors.{is_token_count};
-ghost use Rattle.rdlpp_meaning.specs.Expansion.{bound_parts};
+ghost use Rattle.rdlpp_meaning.specs.Expansion.{bound_parts, is_count};
 ghost use Rattle.rdlpp_meaning.specs.Substitution.{body_tokens};
 ghost use Rattle.rdlpp_meaning.specs.declared.fault.FaultKind.TheVariants.{ArgumentCount};
 ghost use Rattle.rdlpp_table.specs.Table.{Formal};
@@ -116,7 +115,7 @@ pub fn bind_parts(
     ensures capacity { vec_capacity bindings.new ≡ vec_capacity bindings.old }
     ensures refused { IfErr result (λ kind. (kind ≡ ArgumentCount) × (bindings.new.items ≡ bindings.old.items)) }
     ensures actuals { IfOk result (λ _. (fs : List Formal) → length fs ≡ formals → bound_parts fs (actuals_of (slice_range text.now from to)) ≡ ranges_tokens text.now (added bindings.old.items bindings.new.items)) }
-    ensures count { (fs : List Formal) → length fs ≡ formals → is_ok result ≡ is_token_count fs (actuals_of (slice_range text.now from to)) }
+    ensures count { (fs : List Formal) → length fs ≡ formals → is_ok result ≡ is_count fs (actuals_of (slice_range text.now from to)) }
 {
     let before = bindings.len();
     let count = if formals > 0 { formals } else { 1 };

@@ -1,4 +1,6 @@
 -- A usage of a macro with a list in open texts: its call is bound and its body opens, or it is refused.
+use Rattle.rdlpp_meaning.specs.Actuals.{text_reads}
+use Rattle.rdlpp_meaning.specs.Expansion.{Opens, usage_of_formals}
 use Rattle.std.proofs.Common.{◌≡◌, ℕ, suc, ◌+◌, ◌-◌, ◌<◌, ◌≤◌, true, true≢false, List, [], ◌∷◌, map, length, drop, refl, sym, ap, subst, ◌∙◌, arith}
 use Rattle.std.proofs.Common.{Option, None, Some, is_some, unwrap_or, Err}
 use Rattle.std.specs.Prelude.{slice_range}
@@ -11,14 +13,12 @@ use Rattle.rdlpp_table.specs.Table.{Formal, Macro}
 use Rattle.rdlpp_table.specs.View.{TableView, IsSound, macro_at, formals_of}
 use Rattle.rdlpp_meaning.specs.declared.fault.FaultKind.{FaultKind}
 use Rattle.rdlpp_meaning.specs.declared.fault.FaultKind.TheVariants.{DepthPassed}
-use Rattle.rdlpp_meaning.specs.State.{Rules, State, fault_at}
-use Rattle.rdlpp_meaning.specs.Cursors.{not_kept, token_usage_of_formals}
-use Rattle.rdlpp_meaning.specs.Slots.{SlotStops}
+use Rattle.rdlpp_meaning.specs.State.{Rules, State}
+use Rattle.rdlpp_meaning.specs.OpenItems.{open_left}
 use Rattle.rdlpp_meaning.specs.Substitution.{body_tokens}
-use Rattle.rdlpp_meaning.specs.Opens.{Part, OpenKind, OpenBody, OpenActual, OpenDefault, Open, Texts, part_tokens, own_text, scope_text, slot_of, text_around, open_scope, open_bytes, open_behind, open_body}
-use Rattle.rdlpp_meaning.proofs.OpenMoves.{first_behind, first_usage, open-refused, open-usage, open-usage_deep}
-use Rattle.rdlpp_meaning.proofs.OpenScopes.{part-whole, text-around}
-use Rattle.rdlpp_meaning.proofs.SlotScopes.{next_is}
+use Rattle.rdlpp_meaning.specs.Opens.{Part, OpenKind, OpenBody, OpenActual, OpenDefault, Open, Texts, part_tokens, own_text, scope_text, text_around, open_scope, open_bytes, open_behind, open_body}
+use Rattle.rdlpp_meaning.proofs.OpenCalls.{tokens_behind, first_usage, step-refused as left-refused, step-usage as left-usage, step-usage_deep as left-usage_deep}
+use Rattle.rdlpp_meaning.proofs.OpenScopes.{part-whole, text-around, next_is}
 use Rattle.rdlpp_meaning.proofs.TextRanges.{body_text}
 use Rattle.rdlpp_calls.specs.declared.bindings.Range.{Range}
 use Rattle.rdlpp_calls.specs.BoundCalls.{range_part, ranges_tokens, usage_in, IsBoundAt, IsBoundCall, KeepsAll}
@@ -39,14 +39,13 @@ use Rattle.rdlpp_cursors.specs.Fronts.{IsFront, IsLook}
 use Rattle.rdlpp_cursors.specs.Opened.{moved_to, CursorsView}
 use Rattle.rdlpp_cursors.specs.Places.{texts_of, place_bytes, source_text, source_formals}
 use Rattle.rdlpp_cursors.specs.Scopes.{front_scope, front_source}
-use Rattle.rdlpp_cursors.specs.Steps.{wordless, AreSound, Goes, IsStep, StepsTo, StaysRefused}
+use Rattle.rdlpp_cursors.specs.Steps.{wordless, AreSound, IsStep, StepsTo, StaysRefused}
 use Rattle.rdlpp_cursors.specs.Usages.{front_name, IsUsed}
 use Rattle.rdlpp_cursors.proofs.Falling.{look-opens}
 use Rattle.rdlpp_cursors.proofs.Keeping.{body-keeps, first-sound, sound-moved}
-use Rattle.rdlpp_cursors.proofs.Moving.{goes-by, ends-by}
 use Rattle.rdlpp_cursors.proofs.Passing.{no-word, IsPassed}
 use Rattle.rdlpp_cursors.proofs.Scoping.{source-around}
-use Rattle.rdlpp_cursors.proofs.Stepping.{kind-first, first-moved}
+use Rattle.rdlpp_cursors.proofs.Stepping.{fault-same, kind-first, first-moved}
 use Rattle.rdlpp_cursors.proofs.Usages.{back-closes, first-used, front-is, homes-out, scope-inside, usage-place, usage-word}
 
 -- the list of formals of a macro that has one
@@ -84,11 +83,11 @@ call-place texts x below look len text at h l e is k =
 -- the tokens behind a usage
 call-tokens : (texts : Texts) (x : Open) (below : List Open) (len : ℕ) (text : List ℕ) (at end : ℕ) → AreSound texts (x ∷ below) → IsCallPlace texts x below len text at end
     → IsFront (source_formals texts (front_source (x ∷ below))) (open_bytes texts x below) (front.Usage len)
-    → (slot_of texts (first_behind texts x below) below).text ≡ body_tokens (slice_range text at end)
-unfolding IsFront slot_of part_tokens open_behind
+    → tokens_behind texts x below ≡ body_tokens (slice_range text at end)
+unfolding IsFront tokens_behind part_tokens open_behind
 call-tokens texts x below len text at end h p f =
     let mode = (h.are_inside).1.1.0 in
-    ap (λ (y : Open). (slot_of texts y below).text) (first-moved texts x below len mode (back-closes _ f.1) f.2)
+    ap (λ (y : Open). part_tokens (text_around texts x.kind x.home below) y.part) (first-moved texts x below len mode (back-closes _ f.1) f.2)
     ∙ sym (body_text (slice_range (text_around texts x.kind x.home below) (x.part.from + len) x.part.end))
     ∙ ap (λ (t : List ℕ). body_tokens (slice_range t (x.part.from + len) x.part.end)) (sym p.text_is)
     ∙ ap (λ (n : ℕ). body_tokens (slice_range text n x.part.end)) (sym p.at_is)
@@ -120,8 +119,8 @@ call-usage rules s line texts x below len id text at end fs h p f used list m =
     let name = front_name texts (x ∷ below) len in
     let own = macro_at texts.macros id in
     first-used rules s line texts x below len id (h.are_inside).1.1.0 f.2 used m
-    ∙ ap (λ (ts : List SourceToken). token_usage_of_formals not_kept rules line name ts own own.formals) (call-tokens texts x below len text at end h p f)
-    ∙ ap (λ (o : Option (List Formal)). token_usage_of_formals not_kept rules line name (body_tokens (slice_range text at end)) own o) list
+    ∙ ap (λ (ts : List SourceToken). usage_of_formals rules text_reads line name ts own own.formals) (call-tokens texts x below len text at end h p f)
+    ∙ ap (λ (o : Option (List Formal)). usage_of_formals rules text_reads line name (body_tokens (slice_range text at end)) own o) list
 
 -- as many formals as its list has
 list-count : (m : Macro) (fs : List Formal) → m.formals ≡ Some fs → length fs ≡ length (formals_of m)
@@ -141,10 +140,9 @@ step-call_refused line depth texts x below len id text at end kind new fault h p
     let name = front_name texts (x ∷ below) len in
     let own = macro_at texts.macros id in
     let fs = has-list own.formals list in
-    ends-by rules s line depth texts x below (fault_at fault.kind line (place_bytes texts fault.word) s) h.are_open
-    (open-refused rules s line depth texts x below kind name line f.0 (kind-first texts x below Back mode f.1)
+    left-refused rules s line depth texts x below kind name line f.0 (kind-first texts x below Back mode f.1)
     (call-usage rules s line texts x below len id text at end fs.0 h p f used fs.1 m ∙ b rules line name own fs.0 (list-count own fs.0 fs.1))
-    ∙ sym (ap (λ c. SlotStops [] (fault_at c line (place_bytes texts fault.word) s)) k ∙ ap (λ (bytes : List ℕ). SlotStops [] (fault_at kind line bytes s)) w))
+    ∙ sym (fault-same s line texts fault kind name k w)
 
 -- so is one that is bound where no further text may be open
 step-call_deep : (line depth : ℕ) (texts : Texts) (x : Open) (below : List Open) (len id : ℕ) (text : List ℕ) (at end : ℕ) (new : List Open) (fault : CursorFault)
@@ -161,10 +159,9 @@ step-call_deep line depth texts x below len id text at end new fault h p f used 
     let own = macro_at texts.macros id in
     let fs = has-list own.formals list in
     let b : IsBoundAt text at end (length (formals_of own)) c.ranges c.behind = c.bound in
-    ends-by rules s line depth texts x below (fault_at fault.kind line (place_bytes texts fault.word) s) h.are_open
-    (open-usage_deep rules s line depth texts x below own (ranges_tokens text c.ranges) b.used f.0 (kind-first texts x below Back mode f.1)
+    left-usage_deep rules s line depth texts x below own (ranges_tokens text c.ranges) b.used f.0 (kind-first texts x below Back mode f.1)
     (call-usage rules s line texts x below len id text at end fs.0 h p f used fs.1 m ∙ b.opens rules line name own fs.0 (list-count own fs.0 fs.1)) deep
-    ∙ sym (ap (λ c. SlotStops [] (fault_at c line (place_bytes texts fault.word) s)) k ∙ ap (λ (bytes : List ℕ). SlotStops [] (fault_at DepthPassed line bytes s)) w))
+    ∙ sym (fault-same s line texts fault DepthPassed [] k w)
 
 -- the scope of an open text that goes on has the text in which that lies
 scope-text : (texts : Texts) (x : Open) (below : List Open) (part : Part) → x.home ≤ length below
@@ -185,8 +182,8 @@ scope-text texts x below part h = by x.kind
 call-left : (texts : Texts) (x : Open) (below : List Open) (len : ℕ) (text : List ℕ) (at end formals : ℕ) (ranges : List Range) (behind : ℕ) (b : IsBoundAt text at end formals ranges behind)
     → AreSound texts (x ∷ below) → IsCallPlace texts x below len text at end
     → IsFront (source_formals texts (front_source (x ∷ below))) (open_bytes texts x below) (front.Usage len) → at ≤ behind
-    → drop b.used (slot_of texts (first_behind texts x below) below).text ≡ (slot_of texts (open_behind x (behind - x.part.from) Plain) below).text
-unfolding slot_of open_behind
+    → drop b.used (tokens_behind texts x below) ≡ part_tokens (text_around texts x.kind x.home below) (open_behind x (behind - x.part.from) Plain).part
+unfolding open_behind
 call-left texts x below len text at end formals ranges behind b h p f low =
     let from = x.part.from in
     let place = p.at_is in
@@ -212,16 +209,15 @@ step-call_opened line depth texts x below len id text at end c h p f used list r
     let from = x.part.from in
     let place = p.at_is in
     let low = (c.place).0 in
-    let rest : Part = record { from = from + (c.behind - from); end = x.part.end; mode = Plain } in
     let parts = map range_part c.ranges in
     let is : from + (c.behind - from) ≡ c.behind = omega (arith, place, low) in
-    subst (λ (n : ℕ). Goes rules s line depth texts (x ∷ below) []
+    left-usage rules s line depth texts x below id parts b.used (c.behind - from) Plain (h.are_open).0 f.0 (kind-first texts x below Back mode f.1)
+    (call-usage rules s line texts x below len id text at end fs.0 h p f used fs.1 m
+    ∙ b.opens rules line name own fs.0 (list-count own fs.0 fs.1)
+    ∙ ap (λ (t : List ℕ). Opens own (map (part_tokens t) parts) b.used) p.text_is)
+    (call-left texts x below len text at end (length (formals_of own)) c.ranges c.behind b h p f low) room
+    ∙ ap (λ (n : ℕ). open_left rules s line depth texts
     (open_body texts id parts (open_scope x below) ∷ record { part = record { from = n; end = x.part.end; mode = Plain }; home = x.home; kind = x.kind } ∷ below)) is
-    (goes-by rules s line depth texts x below [] (open_body texts id parts (open_scope x below) ∷ open_behind x (c.behind - from) Plain ∷ below) h.are_open
-    (open-usage rules s line depth texts x below id (ranges_tokens text c.ranges) b.used parts (c.behind - from) Plain f.0 (kind-first texts x below Back mode f.1)
-    (call-usage rules s line texts x below len id text at end fs.0 h p f used fs.1 m ∙ b.opens rules line name own fs.0 (list-count own fs.0 fs.1))
-    (ap (λ (t : List ℕ). map (part_tokens t) parts) (p.text_is ∙ sym (scope-text texts x below rest (h.are_open).0)))
-    (call-left texts x below len text at end (length (formals_of own)) c.ranges c.behind b h p f low) room))
 
 -- parts of a text keep all where its ranges do
 pub parts-keep : (text : List ℕ) (ranges : List Range) → AllByRecursion (λ r. KeepsAll (part_tokens text (range_part r))) ranges

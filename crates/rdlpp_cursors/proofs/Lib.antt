@@ -5,7 +5,6 @@ pub mod Starting
 pub mod Keeping
 pub mod Looking
 pub mod Passing
-pub mod Moving
 pub mod Runs
 pub mod Scoping
 pub mod Stacking

@@ -2,7 +2,7 @@
 use Rattle.std.proofs.Common.{◌≡◌, ℕ, suc, ◌+◌, ◌-◌, ◌<◌, ◌≤◌, Bool, true, false, List, [], ◌∷◌, length, take, drop, get_or, refl, sym, ap, subst, ◌∙◌, arith, Some}
 use Rattle.std.specs.Prelude.{if◌then◌else◌, ◌==◌, slice_range}
 use Rattle.rdlpp_scan.specs.declared.token.Mode.TheVariants.{Plain}
-use Rattle.rdlpp_meaning.specs.Opens.{OpenKind, OpenBody, OpenActual, OpenDefault, Open, Texts, text_around, open_behind, open_bytes}
+use Rattle.rdlpp_meaning.specs.Opens.{OpenKind, OpenBody, OpenActual, OpenDefault, Open, Texts, text_around, open_behind, open_bytes, scope_open}
 use Rattle.rdlpp_cursors.specs.declared.front.Look.{Look}
 use Rattle.rdlpp_cursors.specs.declared.place.TextSource.{TextSource}
 use Rattle.rdlpp_calls.specs.declared.bindings.Range.{Range}
@@ -11,7 +11,7 @@ use Rattle.rdlpp_cursors.specs.Fronts.{AreCopied, IsAhead, IsFront, IsLook, IsLo
 use Rattle.rdlpp_cursors.specs.declared.front.Ahead.{Ahead}
 use Rattle.rdlpp_cursors.specs.Opened.{bindings_below, moved_to, open_of, opens_of}
 use Rattle.rdlpp_cursors.specs.Places.{source_text, source_formals, IsSource}
-use Rattle.rdlpp_cursors.specs.Scopes.{scope_open, kind_source, found_source, own_source, front_source}
+use Rattle.rdlpp_cursors.specs.Scopes.{kind_source, found_source, own_source, front_source}
 use Rattle.rdlpp_cursors.specs.Steps.{IsKnown, AreInside, AreSound}
 use Rattle.rdlpp_cursors.proofs.Runs.{bytes-behind}
 use Rattle.rdlpp_cursors.proofs.Scoping.{source-around}

@@ -1,5 +1,5 @@
 -- A step of open texts where neither a formal nor a usage stands at the front of the innermost.
-use Rattle.std.proofs.Common.{◌≡◌, ℕ, ◌+◌, ◌-◌, ◌<◌, ◌≤◌, List, [], ◌∷◌, length, take, drop, refl, sym, ap, append-nil, subst, ◌∙◌, arith}
+use Rattle.std.proofs.Common.{◌≡◌, ℕ, ◌+◌, ◌-◌, ◌<◌, ◌≤◌, List, [], ◌∷◌, length, take, drop, refl, sym, ap, subst, ◌∙◌, arith}
 use Rattle.std.proofs.Common.{Option, None, Some, unwrap_or}
 use Rattle.std.specs.Prelude.{slice_range}
 use Rattle.std.specs.Option.{option_map}
@@ -9,6 +9,9 @@ use Rattle.rdlpp_table.specs.Table.{Formal}
 use Rattle.rdlpp_table.specs.View.{TableView, IsSound, macro_at}
 use Rattle.rdlpp_meaning.specs.declared.fault.FaultKind.TheVariants.{BareBackquote as NoName}
 use Rattle.rdlpp_meaning.specs.Opens.{Open, Texts, own_text, text_around, open_bytes, open_body}
+use Rattle.rdlpp_meaning.specs.Outcome.{Outcome, gives, and_then}
+use Rattle.rdlpp_meaning.specs.State.{Rules, State}
+use Rattle.rdlpp_meaning.specs.OpenItems.{open_left}
 use Rattle.rdlpp_meaning.proofs.OpenScopes.{part-whole}
 use Rattle.rdlpp_calls.specs.BoundCalls.{KeepsAll}
 use Rattle.rdlpp_cursors.specs.declared.front.Front.{Front}
@@ -24,11 +27,10 @@ use Rattle.rdlpp_cursors.specs.Fronts.{AreCopied, IsFront, IsLook, IsLookAhead}
 use Rattle.rdlpp_cursors.specs.Opened.{moved_to, CursorsView}
 use Rattle.rdlpp_cursors.specs.Places.{texts_of, place_bytes, source_text, source_formals}
 use Rattle.rdlpp_cursors.specs.Scopes.{front_source}
-use Rattle.rdlpp_cursors.specs.Steps.{AreSound, Goes, IsStep, IsUnlent, StaysRefused, StepsTo, wordless}
+use Rattle.rdlpp_cursors.specs.Steps.{AreSound, IsStep, IsUnlent, StaysRefused, StepsTo, wordless}
 use Rattle.rdlpp_cursors.specs.Digits.{cursor_digits, IsFalling}
 use Rattle.rdlpp_cursors.proofs.Falling.{falls-drop, falls-twice, look-moves}
 use Rattle.rdlpp_cursors.proofs.Keeping.{body-keeps, run-sound}
-use Rattle.rdlpp_cursors.proofs.Moving.{goes-bytes, goes-on, goes-reaches}
 use Rattle.rdlpp_cursors.proofs.Scoping.{source-around}
 use Rattle.rdlpp_cursors.proofs.Stepping.{step-run, step-bare, look-ended}
 
@@ -163,17 +165,21 @@ pass-bare texts view look step h l e is =
       refused = refl;
     })
 
+-- a silent step at another line and depth that are the same
+pub silent-on : (rules : Rules) (s : State) (texts : Texts) (view mid new : CursorsView) → (mid.line ≡ view.line) × (mid.depth ≡ view.depth)
+    → open_left rules s mid.line mid.depth texts mid.opens ≡ open_left rules s mid.line mid.depth texts new.opens
+    → open_left rules s view.line view.depth texts mid.opens ≡ open_left rules s view.line view.depth texts new.opens
+silent-on rules s texts view mid new kept e =
+    subst (λ (l : ℕ). open_left rules s l view.depth texts mid.opens ≡ open_left rules s l view.depth texts new.opens) kept.0
+    (subst (λ (d : ℕ). open_left rules s mid.line d texts mid.opens ≡ open_left rules s mid.line d texts new.opens) kept.1 e)
+
 -- a run that is lent, and behind it a step that lends nothing, are one step
 pub pass-on : (texts : Texts) (view mid new : CursorsView) (place : TextPlace) → IsPassed texts view mid (Lends place) → IsPassed texts mid new Silent
     → IsPassed texts view new (Lends place)
 unfolding IsFalling StaysRefused IsStep StepsTo
 pass-on texts view mid new place p q = record {
   is_step = λ rules s e.
-      goes-bytes rules s view.line view.depth texts view.opens new.opens _ (place_bytes texts place) (append-nil (place_bytes texts place))
-      (goes-on rules s view.line view.depth texts view.opens mid.opens new.opens (place_bytes texts place) [] (p.is_step rules s e)
-      (goes-reaches rules s view.line view.depth texts mid.opens [] new.opens
-      (subst (λ (l : ℕ). Goes rules s l view.depth texts mid.opens [] new.opens) p.kept.0
-      (subst (λ (d : ℕ). Goes rules s mid.line d texts mid.opens [] new.opens) p.kept.1 (q.is_step rules s e)))));
+      p.is_step rules s e ∙ ap (λ (o : Outcome). and_then (gives (place_bytes texts place)) o) (silent-on rules s texts view mid new p.kept (q.is_step rules s e));
   sound = q.sound;
   kept = (q.kept.0 ∙ p.kept.0, q.kept.1 ∙ p.kept.1);
   digits = falls-twice (cursor_digits view.opens) (cursor_digits mid.opens) (cursor_digits new.opens) p.digits q.digits;

@@ -9,7 +9,7 @@ use Rattle.rdlpp_scan.specs.declared.token.Mode.{Mode}
 use Rattle.rdlpp_scan.specs.declared.token.Mode.TheVariants.{Plain, InStr, InBlock}
 use Rattle.rdlpp_scan.specs.declared.token.Token.{Token}
 use Rattle.rdlpp_scan.specs.Bytes.{begins_perl, ends_block_comment}
-use Rattle.rdlpp_scan.specs.SourceTokens.{Ordinary, SourceToken}
+use Rattle.rdlpp_scan.specs.SourceTokens.{Ordinary}
 use Rattle.rdlpp_scan.specs.Tokens.{first_place, string_stop, whole, string_token, block_token, token_of, tokens_from}
 use Rattle.rdlpp_scan.proofs.RangeLaws.{tokens_from-first}
 use Rattle.rdlpp_scan.proofs.TokenLens.{token_of-part}
@@ -20,12 +20,15 @@ use Rattle.rdlpp_table.specs.Stops.{is_none, stop_name, stop_at}
 use Rattle.rdlpp_meaning.specs.State.{Rules, State}
 use Rattle.rdlpp_meaning.specs.Expansion.{is_copied}
 use Rattle.rdlpp_meaning.specs.TextTokens.{text_tokens}
-use Rattle.rdlpp_meaning.specs.Opens.{Open, Texts, scope_text, text_around, part_tokens, slot_kind, slot_of, slots_of, open_at, AreOpen, open_scope, open_bytes, open_behind}
+use Rattle.rdlpp_meaning.specs.Outcome.{Outcome, gives, and_then}
+use Rattle.rdlpp_meaning.specs.Opens.{Open, Texts, text_around, AreOpen, open_scope, open_bytes, open_behind, scope_formals}
+use Rattle.rdlpp_meaning.specs.OpenItems.{open_left}
+use Rattle.rdlpp_meaning.proofs.Outcomes.{and_then-gives_nil, and_then-gives_gives}
 use Rattle.rdlpp_meaning.proofs.TextRanges.{text_nil}
-use Rattle.rdlpp_meaning.proofs.OpenMoves.{Alone, first_kind, first_bytes, first_behind, open-lends, behind-open, range_behind}
+use Rattle.rdlpp_meaning.proofs.OpenScopes.{Alone, first_kind, first_bytes, first_behind, behind-open, range_behind}
+use Rattle.rdlpp_meaning.proofs.FormalItems.{behind-formals}
+use Rattle.rdlpp_meaning.proofs.OpenSteps.{first_token, left-mode, step-copies}
 use Rattle.rdlpp_cursors.specs.Fronts.{run_len}
-use Rattle.rdlpp_cursors.specs.Steps.{Goes}
-use Rattle.rdlpp_cursors.proofs.Moving.{Reaches, goes-by, goes-reaches, goes-on, goes-bytes, goes-same, reaches-same}
 
 -- a token of a kind
 of_kind : Kind → ℕ → Mode → Token
@@ -47,12 +50,11 @@ copied-by formals at len next BareBackquote bytes own e = absurd (true≢false (
 copied-by formals at len next kind bytes own e = refl
 
 -- and is no formal
-alone-by : (formals : List Formal) (at len : ℕ) (next : Mode) (kind : Kind) (bytes : List ℕ) (found : Option Open)
-    → is_none (stop_at formals at (of_kind kind len next) bytes) ≡ true
-    → (formal_named formals bytes ≡ None → found ≡ None) → Alone kind found
+alone-by : (formals : List Formal) (at len : ℕ) (next : Mode) (kind : Kind) (bytes : List ℕ)
+    → is_none (stop_at formals at (of_kind kind len next) bytes) ≡ true → Alone kind (formal_named formals bytes)
 unfolding stop_at Alone of_kind
-alone-by formals at len next Name bytes found e h = h (name-stop at len (formal_named formals bytes) e)
-alone-by formals at len next kind bytes found e h = tt
+alone-by formals at len next Name bytes e = name-stop at len (formal_named formals bytes) e
+alone-by formals at len next kind bytes e = tt
 
 -- the same of a choice of two tokens of which neither is a stop
 choice-none : (formals : List Formal) (at : ℕ) (bytes : List ℕ) (b : Bool) (t u : Token)
@@ -114,46 +116,37 @@ behind-behind x n m mode next =
     let e : x.part.from + n + m ≡ x.part.from + (n + m) = omega arith in
     ap (λ (from : ℕ). record { part = record { from = from; end = x.part.end; mode = next }; home = x.home; kind = x.kind }) e
 
--- the mode in which an open text is read makes no difference where its bytes have the same tokens in another one
-pub same-slots : (texts : Texts) (x : Open) (below : List Open) (n : ℕ) (mode next : Mode)
-    → text_tokens mode (open_bytes texts (open_behind x n mode) below) ≡ text_tokens next (open_bytes texts (open_behind x n mode) below)
-    → slots_of texts (open_behind x n mode ∷ below) ≡ slots_of texts (open_behind x n next ∷ below)
-unfolding slots_of slot_of part_tokens open_bytes open_behind
-same-slots texts x below n mode next e =
-    ap (λ (ts : List SourceToken). record { text = ts; home = x.home; kind = slot_kind texts (scope_text texts below x.home) x.kind } ∷ slots_of texts below) e
+-- the formals of the scope of an open text
+abbrev pub HasFormals : Texts → List Formal → Open → List Open → Type 0
+HasFormals texts formals x below = formals ≡ scope_formals texts.macros (x ∷ below) (open_scope x below)
 
--- names that aren't formals stand for nothing in the scope of an open text
-unfoldable pub HasFormals : Texts → List Formal → Open → List Open → Type 0
-HasFormals texts formals x below =
-    (name : List ℕ) → formal_named formals name ≡ None → open_at texts (x ∷ below) (open_scope x below) name ≡ None
-
--- they do so behind some of its bytes too
+-- they are so behind some of its bytes too
 formals-behind : (texts : Texts) (formals : List Formal) (x : Open) (below : List Open) (n : ℕ) (mode : Mode) → HasFormals texts formals x below
     → HasFormals texts formals (open_behind x n mode) below
-unfolding HasFormals open_at open_scope open_behind
-formals-behind texts formals x below n mode h = h
+unfolding open_scope open_behind
+formals-behind texts formals x below n mode h = h ∙ sym (behind-formals texts.macros x below (open_scope x below) n mode)
 
 -- the first token of an open text is lent where it is no stop
 first-goes : (rules : Rules) (s : State) (line depth : ℕ) (texts : Texts) (formals : List Formal) (x : Open) (below : List Open)
     → AreOpen texts (x ∷ below) → HasFormals texts formals x below → 0 < length (open_bytes texts x below)
     → is_none (stop_at formals 0 (token_of x.part.mode (open_bytes texts x below)) (first_bytes texts x below)) ≡ true
-    → Goes rules s line depth texts (x ∷ below) (first_bytes texts x below) (first_behind texts x below ∷ below)
-unfolding first_kind first_bytes HasFormals of_kind
+    → open_left rules s line depth texts (x ∷ below)
+    ≡ and_then (gives (first_bytes texts x below)) (open_left rules s line depth texts (first_behind texts x below ∷ below))
+unfolding first_kind first_bytes first_token of_kind
 first-goes rules s line depth texts formals x below h f some e =
     let t = token_of x.part.mode (open_bytes texts x below) in
     let own = take t.len (open_bytes texts x below) in
-    goes-by rules s line depth texts x below own (first_behind texts x below ∷ below) h
-    (open-lends rules s line depth texts x below h some
+    step-copies rules s line depth texts x below h some
     (copied-by formals 0 t.len t.next_mode t.kind own own e)
-    (alone-by formals 0 t.len t.next_mode t.kind own (open_at texts (x ∷ below) (open_scope x below) own) e (f own)))
+    (subst (λ (fs : List Formal). Alone t.kind (formal_named fs own)) f (alone-by formals 0 t.len t.next_mode t.kind own e))
 
 -- what is reached behind the tokens before the first stop
 pub record IsRun (rules : Rules) (s : State) (line depth : ℕ) (texts : Texts) (x : Open) (below : List Open) (n : ℕ) : Type 0 where
   pub inside : n ≤ length (open_bytes texts x below)
   pub mode : Mode
   pub plain : text_tokens mode (drop n (open_bytes texts x below)) ≡ text_tokens Plain (drop n (open_bytes texts x below))
-  pub reaches : Reaches rules s line depth texts (x ∷ below) (take n (open_bytes texts x below)) (open_behind x n mode ∷ below)
-  pub goes : 0 < n → Goes rules s line depth texts (x ∷ below) (take n (open_bytes texts x below)) (open_behind x n mode ∷ below)
+  pub goes : open_left rules s line depth texts (x ∷ below)
+      ≡ and_then (gives (take n (open_bytes texts x below))) (open_left rules s line depth texts (open_behind x n mode ∷ below))
 
 -- no tokens
 run-none : (rules : Rules) (s : State) (line depth : ℕ) (texts : Texts) (x : Open) (below : List Open)
@@ -164,13 +157,10 @@ run-none rules s line depth texts x below e = record {
   inside = omega arith;
   mode = x.part.mode;
   plain = e;
-  reaches = reaches-same rules s line depth texts (x ∷ below) (open_behind x 0 x.part.mode ∷ below) (ap (λ (y : Open). slots_of texts (y ∷ below)) same);
-  goes = λ h. absurd (none h);
+  goes = ap (λ (y : Open). open_left rules s line depth texts (y ∷ below)) same
+      ∙ sym (and_then-gives_nil (open_left rules s line depth texts (open_behind x 0 x.part.mode ∷ below)));
 }
   where
-    none : 0 < 0 → ⊥
-    none h = omega (arith, h)
-
     same : x ≡ open_behind x 0 x.part.mode
     same =
         let e : x.part.from ≡ x.part.from + 0 = omega arith in
@@ -192,17 +182,16 @@ run-more rules s line depth texts formals x below n h f some e r =
     ap (λ (b : List ℕ). take t.len bytes ++ take n b) rest ∙ sym (take-add t.len n bytes) in
     let left : drop n (open_bytes texts (open_behind x t.len t.next_mode) below) ≡ drop (t.len + n) bytes =
     ap (λ (b : List ℕ). drop n b) rest ∙ drop-drop n t.len bytes in
-    let g : Goes rules s line depth texts (x ∷ below) (take (t.len + n) bytes) (open_behind x (t.len + n) r.mode ∷ below) =
-    subst (λ (y : Open). Goes rules s line depth texts (x ∷ below) (take (t.len + n) bytes) (y ∷ below)) (behind-behind x t.len n t.next_mode r.mode)
-    (goes-bytes rules s line depth texts (x ∷ below) (open_behind (open_behind x t.len t.next_mode) n r.mode ∷ below) _ (take (t.len + n) bytes) own
-    (goes-on rules s line depth texts (x ∷ below) (open_behind x t.len t.next_mode ∷ below) (open_behind (open_behind x t.len t.next_mode) n r.mode ∷ below) _ _
-    (first-goes rules s line depth texts formals x below h f some e) r.reaches)) in
+    let last : Outcome = open_left rules s line depth texts (open_behind (open_behind x t.len t.next_mode) n r.mode ∷ below) in
     record {
       inside = fits t.len n (open_bytes texts (open_behind x t.len t.next_mode) below) bytes rest part.inside r.inside;
       mode = r.mode;
       plain = subst (λ (b : List ℕ). text_tokens r.mode b ≡ text_tokens Plain b) left r.plain;
-      reaches = goes-reaches rules s line depth texts (x ∷ below) (take (t.len + n) bytes) (open_behind x (t.len + n) r.mode ∷ below) g;
-      goes = λ _. g;
+      goes = first-goes rules s line depth texts formals x below h f some e
+          ∙ ap (λ (o : Outcome). and_then (gives (take t.len bytes)) o) r.goes
+          ∙ and_then-gives_gives (take t.len bytes) (take n (open_bytes texts (open_behind x t.len t.next_mode) below)) last
+          ∙ ap (λ (b : List ℕ). and_then (gives b) last) own
+          ∙ ap (λ (y : Open). and_then (gives (take (t.len + n) bytes)) (open_left rules s line depth texts (y ∷ below))) (behind-behind x t.len n t.next_mode r.mode);
     }
   where
     fits : (a b : ℕ) (xs ys : List ℕ) → xs ≡ drop a ys → a ≤ length ys → b ≤ length xs → a + b ≤ length ys
@@ -258,13 +247,14 @@ run-is rules s line depth texts formals (t ∷ ts) x below h f e =
 -- a run before the first stop is lent in one piece
 pub run-goes : (rules : Rules) (s : State) (line depth : ℕ) (texts : Texts) (formals : List Formal) (x : Open) (below : List Open) (n : ℕ)
     → AreOpen texts (x ∷ below) → HasFormals texts formals x below
-    → run_len formals (tokens_from x.part.mode 0 (open_bytes texts x below)) (open_bytes texts x below) ≡ n → 0 < n
-    → Goes rules s line depth texts (x ∷ below) (take n (open_bytes texts x below)) (open_behind x n Plain ∷ below)
-run-goes rules s line depth texts formals x below n h f e some =
+    → run_len formals (tokens_from x.part.mode 0 (open_bytes texts x below)) (open_bytes texts x below) ≡ n
+    → open_left rules s line depth texts (x ∷ below)
+    ≡ and_then (gives (take n (open_bytes texts x below))) (open_left rules s line depth texts (open_behind x n Plain ∷ below))
+run-goes rules s line depth texts formals x below n h f e =
     let r : IsRun rules s line depth texts x below n =
     subst (λ (k : ℕ). IsRun rules s line depth texts x below k) e
     (run-is rules s line depth texts formals (tokens_from x.part.mode 0 (open_bytes texts x below)) x below h f refl) in
-    goes-same rules s line depth texts (x ∷ below) (open_behind x n r.mode ∷ below) (open_behind x n Plain ∷ below) (take n (open_bytes texts x below))
-    (r.goes some)
-    (same-slots texts x below n r.mode Plain
+    r.goes
+    ∙ ap (λ (o : Outcome). and_then (gives (take n (open_bytes texts x below))) o)
+    (left-mode rules s line depth texts x below n r.mode Plain
     (subst (λ (b : List ℕ). text_tokens r.mode b ≡ text_tokens Plain b) (sym (bytes-behind texts x below n r.mode r.inside)) r.plain))

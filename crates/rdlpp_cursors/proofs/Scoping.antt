@@ -3,14 +3,13 @@ use Rattle.std.proofs.Common.{◌≡◌, ℕ, suc, ◌+◌, ◌-◌, ◌<◌, �
 use Rattle.std.specs.Prelude.{if◌then◌else◌, ◌==◌, nat_le, ◌&&◌, ◌||◌, not}
 use Rattle.std.specs.List.{list_any}
 use Rattle.std.proofs.Common.{◌⊎◌, inl, inr}
-use Rattle.std.specs.Option.{option_map}
 use Rattle.std.proofs.lemmas.Bool.{eqb-true, eqb-false, ne_eqb, leb-true, leb-false}
 use Rattle.std.proofs.lemmas.List.{take-take, take_all, length-take, length-drop, length-map, get_or-map, get_or-drop, get_or-take}
 use Rattle.rdlpp_scan.specs.declared.token.Mode.TheVariants.{Plain}
 use Rattle.rdlpp_table.specs.Table.{Formal, Macro}
-use Rattle.rdlpp_table.specs.View.{macro_at, formals_of, formal_at, formal_named}
-use Rattle.rdlpp_meaning.specs.Opens.{Part, part_at, OpenKind, OpenBody, OpenActual, OpenDefault, Open, Texts, own_text, scope_text, text_around, open_standing, own_open, open_at, open_scope}
-use Rattle.rdlpp_meaning.proofs.SlotScopes.{not_next, next_is}
+use Rattle.rdlpp_table.specs.View.{macro_at, formals_of, formal_at}
+use Rattle.rdlpp_meaning.specs.Opens.{Part, part_at, OpenKind, OpenBody, OpenActual, OpenDefault, Open, Texts, own_text, scope_text, text_around, open_standing, open_scope, scope_open, kind_standing, found_standing, kind_formals, found_formals, scope_formals}
+use Rattle.rdlpp_meaning.proofs.OpenScopes.{not_next, next_is}
 use Rattle.rdlpp_calls.specs.BoundCalls.{range_part}
 use Rattle.rdlpp_calls.specs.declared.bindings.Range.{Range}
 use Rattle.rdlpp_cursors.specs.declared.place.TextSource.{TextSource}
@@ -18,9 +17,8 @@ use Rattle.rdlpp_cursors.specs.declared.slot.Slot.{Slot}
 use Rattle.rdlpp_cursors.specs.declared.slot.SlotKind.{SlotKind}
 use Rattle.rdlpp_cursors.specs.declared.slot.SlotKind.TheVariants as slot
 use Rattle.rdlpp_cursors.specs.Opened.{is_spent, kind_of, bindings_below, open_of, opens_of, slot_source, is_body_of, kind_outer, outer_of, AreHomedSlots}
-use Rattle.rdlpp_cursors.proofs.Runs.{HasFormals}
 use Rattle.rdlpp_cursors.specs.Places.{texts_of, source_text, source_formals}
-use Rattle.rdlpp_cursors.specs.Scopes.{scope_open, kind_source, found_source, own_source, front_source, front_scope, kind_standing, found_standing, own_ids, writer_ids, IsBound, AreBound}
+use Rattle.rdlpp_cursors.specs.Scopes.{kind_source, found_source, own_source, front_source, front_scope, own_ids, writer_ids, IsBound, AreBound}
 
 -- the text of a scope, by the open text that it is
 unfoldable text_found : Texts → Option Open → List ℕ
@@ -35,22 +33,6 @@ text-found texts (x ∷ below) k = by (k == suc (length below)) (text-found text
   where
     by : (own : Bool) → scope_text texts below k ≡ text_found texts (scope_open below k)
         → (if own then own_text texts x.kind else scope_text texts below k) ≡ text_found texts (if own then Some x else scope_open below k)
-    by true e = refl
-    by false e = e
-
--- what a name stands for in a scope, by the open text that it is
-unfoldable open_found : Texts → Option Open → ℕ → List ℕ → Option Open
-open_found texts None k name = None
-open_found texts (Some x) k name = own_open texts x.kind k x.home name
-
--- it is that
-open-found : (texts : Texts) (opens : List Open) (k : ℕ) (name : List ℕ) → open_at texts opens k name ≡ open_found texts (scope_open opens k) k name
-unfolding open_at open_found scope_open
-open-found texts [] k name = refl
-open-found texts (x ∷ below) k name = by (k == suc (length below)) (open-found texts below k name)
-  where
-    by : (own : Bool) → open_at texts below k name ≡ open_found texts (scope_open below k) k name
-        → (if own then own_open texts x.kind k x.home name else open_at texts below k name) ≡ open_found texts (if own then Some x else scope_open below k) k name
     by true e = refl
     by false e = e
 
@@ -115,62 +97,22 @@ source-scope x below h = by x.kind refl
         ∙ sym (ap (λ (k : OpenKind). found_source (scope_open (x ∷ below) (elim k [ OpenActual ↦ x.home | _ ↦ suc (length below) ]))) e
         ∙ ap (λ (o : Option Open). found_source o) (scope-around x below x.home h))
 
--- what holds of a list of no formals
-no-formal : (name : List ℕ) (place : ℕ) → formal_named [] name ≡ Some place → ⊥
-no-formal name place e = cc
-
--- a name that is no formal of a scope's text stands for nothing there
-none-found : (texts : Texts) (found : Option Open) (k : ℕ) (name : List ℕ) → formal_named (source_formals texts (found_source found)) name ≡ None
-    → open_found texts found k name ≡ None
-unfolding open_found source_formals own_open
-none-found texts None k name e = refl
-none-found texts (Some x) k name e = by x.kind e
+-- the formals of the text of what a scope is are its own
+source-formals : (texts : Texts) (found : Option Open) → source_formals texts (found_source found) ≡ found_formals texts.macros found
+unfolding source_formals
+source-formals texts None = refl
+source-formals texts (Some x) = by x.kind
   where
-    by : (kind : OpenKind) → formal_named (source_formals texts (kind_source kind)) name ≡ None → own_open texts kind k x.home name ≡ None
-    by (OpenBody id parts) e = ap (λ (o : Option ℕ). option_map (open_standing (formals_of (macro_at texts.macros id)) id k x.home parts) o) e
-    by OpenActual e = refl
-    by (OpenDefault id place) e = refl
+    by : (kind : OpenKind) → source_formals texts (kind_source kind) ≡ kind_formals texts.macros kind
+    by (OpenBody id parts) = refl
+    by OpenActual = refl
+    by (OpenDefault id place) = refl
 
--- what a name stands for that is one
-pub record IsStanding (texts : Texts) (found : Option Open) (k place : ℕ) (standing : Option Open) : Type 0 where
-  pub new : Open
-  pub stands : standing ≡ Some new
-  pub standing_is : found_standing texts.macros found k place ≡ Some new
-
--- a name that is one stands for what the formal does
-some-found : (texts : Texts) (found : Option Open) (k place : ℕ) (name : List ℕ) → formal_named (source_formals texts (found_source found)) name ≡ Some place
-    → IsStanding texts found k place (open_found texts found k name)
-unfolding open_found source_formals own_open
-some-found texts None k place name e = absurd (no-formal name place e)
-some-found texts (Some x) k place name e = by x.kind e
-  where
-    by : (kind : OpenKind) → formal_named (source_formals texts (kind_source kind)) name ≡ Some place → IsStanding texts (Some (record x { kind = kind })) k place (own_open texts kind k x.home name)
-    by (OpenBody id parts) e = record {
-      new = open_standing (formals_of (macro_at texts.macros id)) id k x.home parts place;
-      stands = ap (λ (o : Option ℕ). option_map (open_standing (formals_of (macro_at texts.macros id)) id k x.home parts) o) e;
-      standing_is = refl;
-    }
-    by OpenActual e = absurd (no-formal name place e)
-    by (OpenDefault id own) e = absurd (no-formal name place e)
-
--- names that aren't formals of the text in which an open text lies stand for nothing in its scope
+-- those of the text in which an open text lies are those of its scope
 pub front-formals : (texts : Texts) (x : Open) (below : List Open) → x.home ≤ length below
-    → HasFormals texts (source_formals texts (front_source (x ∷ below))) x below
-unfolding HasFormals
-front-formals texts x below h name e =
-    open-found texts (x ∷ below) (open_scope x below) name
-    ∙ none-found texts (scope_open (x ∷ below) (open_scope x below)) (open_scope x below) name
-    (ap (λ (source : TextSource). formal_named (source_formals texts source) name) (sym (source-scope x below h)) ∙ e)
-
--- and a formal stands for what is found for it
-pub front-standing : (texts : Texts) (x : Open) (below : List Open) (name : List ℕ) (place : ℕ) → x.home ≤ length below
-    → formal_named (source_formals texts (front_source (x ∷ below))) name ≡ Some place
-    → IsStanding texts (scope_open (x ∷ below) (open_scope x below)) (open_scope x below) place (open_at texts (x ∷ below) (open_scope x below) name)
-front-standing texts x below name place h e =
-    subst (λ (o : Option Open). IsStanding texts (scope_open (x ∷ below) (open_scope x below)) (open_scope x below) place o)
-    (sym (open-found texts (x ∷ below) (open_scope x below) name))
-    (some-found texts (scope_open (x ∷ below) (open_scope x below)) (open_scope x below) place name
-    (ap (λ (source : TextSource). formal_named (source_formals texts source) name) (sym (source-scope x below h)) ∙ e))
+    → source_formals texts (front_source (x ∷ below)) ≡ scope_formals texts.macros (x ∷ below) (open_scope x below)
+front-formals texts x below h =
+    ap (λ (source : TextSource). source_formals texts source) (source-scope x below h) ∙ source-formals texts (scope_open (x ∷ below) (open_scope x below))
 
 -- there are as many open texts as slots
 pub opens-length : (slots : List Slot) (bindings : List Range) → length (opens_of slots bindings) ≡ length slots

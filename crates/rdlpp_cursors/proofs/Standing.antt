@@ -1,5 +1,5 @@
 -- What a formal of an open text's scope stands for: it is sound in front of the open texts.
-use Rattle.std.proofs.Common.{◌≡◌, ℕ, suc, ◌+◌, ◌-◌, ◌<◌, ◌≤◌, Bool, true, false, List, [], ◌∷◌, length, take, refl, sym, subst, ◌∙◌, arith, None, Some}
+use Rattle.std.proofs.Common.{ap, ◌≡◌, ℕ, suc, ◌+◌, ◌-◌, ◌<◌, ◌≤◌, Bool, true, false, List, [], ◌∷◌, length, take, refl, sym, subst, ◌∙◌, arith, None, Some}
 use Rattle.std.specs.Prelude.{if◌then◌else◌, ◌==◌, ◌&&◌, not, nat_le}
 use Rattle.std.specs.List.{AllByRecursion}
 use Rattle.std.proofs.lemmas.Bool.{eqb-true, leb-true, leb-false}
@@ -7,10 +7,11 @@ use Rattle.std.proofs.lemmas.List.Quantifiers.{position-Some}
 use Rattle.rdlpp_scan.specs.declared.token.Mode.TheVariants.{Plain}
 use Rattle.rdlpp_scan.specs.SourceTokens.{SourceToken}
 use Rattle.rdlpp_table.specs.Table.{Formal, Macro}
-use Rattle.rdlpp_table.specs.View.{TableView, IsSound, macro_at, formals_of, formal_at, no_formal}
+use Rattle.rdlpp_table.specs.View.{TableView, IsSound, macro_at, formals_of, formal_at, no_formal, formal_named}
 use Rattle.rdlpp_meaning.specs.declared.fault.FaultKind.TheVariants.{DepthPassed}
-use Rattle.rdlpp_meaning.specs.Opens.{Part, part_at, part_tokens, OpenKind, OpenBody, OpenActual, OpenDefault, Open, Texts, own_text, scope_text, text_around, open_standing, open_bytes, HasParts}
+use Rattle.rdlpp_meaning.specs.Opens.{Part, part_at, part_tokens, OpenKind, OpenBody, OpenActual, OpenDefault, Open, Texts, own_text, scope_text, text_around, open_standing, open_bytes, HasParts, found_standing, kind_standing, scope_open, scope_formals, open_scope}
 use Rattle.rdlpp_meaning.specs.Substitution.{body_tokens}
+use Rattle.rdlpp_meaning.proofs.FormalItems.{standing-found}
 use Rattle.rdlpp_meaning.proofs.OpenScopes.{IsOpenText, part-whole, text-around}
 use Rattle.rdlpp_calls.specs.BoundCalls.{KeepsAll}
 use Rattle.rdlpp_cursors.specs.declared.front.Front.{Front}
@@ -27,12 +28,12 @@ use Rattle.rdlpp_cursors.specs.Digits.{IsFalling}
 use Rattle.rdlpp_cursors.specs.Fronts.{IsFront, IsLook}
 use Rattle.rdlpp_cursors.specs.Opened.{kind_of, moved_to, open_of, CursorsView, IsNoBody}
 use Rattle.rdlpp_cursors.specs.Places.{source_formals, texts_of}
-use Rattle.rdlpp_cursors.specs.Scopes.{found_source, found_standing, front_scope, front_source, kind_source, kind_standing, scope_open, AreBound, IsBound}
+use Rattle.rdlpp_cursors.specs.Scopes.{found_source, front_scope, front_source, kind_source, AreBound, IsBound}
 use Rattle.rdlpp_cursors.specs.Steps.{AreSound, IsKnown, IsStep, KeepActuals, StaysRefused, wordless}
 use Rattle.rdlpp_cursors.proofs.Falling.{formal-inside, look-opens}
 use Rattle.rdlpp_cursors.proofs.Keeping.{at-each, default-keeps, first-sound}
 use Rattle.rdlpp_cursors.proofs.Passing.{no-word, IsPassed}
-use Rattle.rdlpp_cursors.proofs.Scoping.{front-standing, source-scope}
+use Rattle.rdlpp_cursors.proofs.Scoping.{front-formals, source-scope}
 use Rattle.rdlpp_cursors.proofs.Stepping.{name-closes, sound-tail, step-formal, step-formal_deep}
 use Rattle.rdlpp_cursors.proofs.Usages.{moved-room}
 
@@ -278,8 +279,10 @@ unfolding IsLook IsFront front_scope
 formal-found texts [] look len place h l f none = l
 formal-found texts (x ∷ below) look len place h l f none =
     let at = subst (λ (f : Front). IsFront (source_formals texts (front_source (x ∷ below))) (open_bytes texts x below) f) f l.3 in
-    let stands = front-standing texts x below (take len (open_bytes texts x below)) place (h.are_open).0 at.3 in
-    apart stands.new (sym stands.standing_is ∙ none)
+    let named : formal_named (scope_formals texts.macros (x ∷ below) (open_scope x below)) (take len (open_bytes texts x below)) ≡ Some place =
+    sym (ap (λ (fs : List Formal). formal_named fs (take len (open_bytes texts x below))) (front-formals texts x below (h.are_open).0)) ∙ at.3 in
+    let y = standing-found texts.macros (scope_open (x ∷ below) (open_scope x below)) (open_scope x below) place (take len (open_bytes texts x below)) named in
+    apart y.0 (sym y.1 ∙ none)
   where
     apart : (y : Open) → Some y ≡ None → ⊥
     apart y e = cc

@@ -1,4 +1,5 @@
 -- A call in a source, whose kept text is bound, opens the body of its macro.
+use Rattle.rdlpp_meaning.specs.Expansion.{is_count}
 use Rattle.std.proofs.Common.{◌≡◌, ℕ, ◌-◌, ◌<◌, ◌≤◌, Bool, true, false, true≢false, List, [], ◌∷◌, map, length, take, drop, refl, sym, ap, subst, ◌∙◌, arith}
 use Rattle.std.proofs.Common.{Global}
 use Rattle.std.specs.Prelude.{slice_range, vec_len, Vec}
@@ -11,7 +12,6 @@ use Rattle.rdlpp_table.specs.Table.{Formal}
 use Rattle.rdlpp_table.specs.View.{TableView, IsSound, macro_at, formals_of}
 use Rattle.rdlpp_meaning.specs.declared.fault.FaultKind.{FaultKind}
 use Rattle.rdlpp_meaning.specs.declared.fault.FaultKind.TheVariants.{ArgumentCount}
-use Rattle.rdlpp_meaning.specs.Cursors.{is_token_count}
 use Rattle.rdlpp_meaning.specs.Expansion.{bound_parts}
 use Rattle.rdlpp_meaning.specs.Opens.{Open, OpenBody, part_tokens, own_text, scope_text, text_around, open_body}
 use Rattle.rdlpp_meaning.specs.Substitution.{body_tokens}
@@ -40,7 +40,7 @@ whole-range text to e = ap (λ (n : ℕ). take n text) (same to ∙ e) ∙ take-
 
 -- the body that a call in a source opens is sound
 sound-started : (table : TableView) (arguments : List ℕ) (id : ℕ) (ranges : List Range) → IsSound table → id < length table.macros → KeepsAll (body_tokens arguments)
-    → bound_parts (formals_of (macro_at table.macros id)) (actuals_of arguments) ≡ ranges_tokens arguments ranges → true ≡ is_token_count (formals_of (macro_at table.macros id)) (actuals_of arguments)
+    → bound_parts (formals_of (macro_at table.macros id)) (actuals_of arguments) ≡ ranges_tokens arguments ranges → true ≡ is_count (formals_of (macro_at table.macros id)) (actuals_of arguments)
     → AreWithin 0 (length arguments) ranges
     → AreSound (texts_of table.macros arguments) (open_body (texts_of table.macros arguments) id (map range_part ranges) 0 ∷ [])
 unfolding open_body text_around own_text scope_text
@@ -60,14 +60,14 @@ sound-started table arguments id ranges sound inside keeps tokens counted within
 
 -- what binding the parts of all of a text tells of the count
 pub parts-counted : (arguments : List ℕ) (to n : ℕ) (own : List Formal) (right : Bool) → to ≡ length arguments → n ≡ length own
-    → ((fs : List Formal) → length fs ≡ n → right ≡ is_token_count fs (actuals_of (slice_range arguments 0 to)))
-    → right ≡ is_token_count own (actuals_of arguments)
-parts-counted arguments to n own right e k count = count own (sym k) ∙ ap (λ (text : List ℕ). is_token_count own (actuals_of text)) (whole-range arguments to e)
+    → ((fs : List Formal) → length fs ≡ n → right ≡ is_count fs (actuals_of (slice_range arguments 0 to)))
+    → right ≡ is_count own (actuals_of arguments)
+parts-counted arguments to n own right e k count = count own (sym k) ∙ ap (λ (text : List ℕ). is_count own (actuals_of text)) (whole-range arguments to e)
 
 -- a call whose parts are bound opens its body
 pub call-started : (table : TableView) (arguments : List ℕ) (id line to : ℕ) (ranges : List Range) (old new : CursorsView) → IsSound table → id < length table.macros
     → keeps_each (body_tokens arguments) ≡ true → to ≡ length arguments
-    → bound_parts (formals_of (macro_at table.macros id)) (actuals_of (slice_range arguments 0 to)) ≡ ranges_tokens arguments ranges → true ≡ is_token_count (formals_of (macro_at table.macros id)) (actuals_of arguments)
+    → bound_parts (formals_of (macro_at table.macros id)) (actuals_of (slice_range arguments 0 to)) ≡ ranges_tokens arguments ranges → true ≡ is_count (formals_of (macro_at table.macros id)) (actuals_of arguments)
     → AreWithin 0 to ranges
     → new ≡ record { opens = open_body (texts_of table.macros arguments) id (map range_part ranges) 0 ∷ []; line = line; depth = old.depth }
     → IsCallStarted (texts_of table.macros arguments) id line old new
@@ -85,7 +85,7 @@ call-started table arguments id line to ranges old new sound inside keeps e toke
 
 -- a call with more or fewer parts
 pub call-miscounted : (table : TableView) (arguments : List ℕ) (id : ℕ) (kind : FaultKind) (old new : CursorsView) → kind ≡ ArgumentCount
-    → false ≡ is_token_count (formals_of (macro_at table.macros id)) (actuals_of arguments) → new ≡ old → IsCallMiscounted (texts_of table.macros arguments) id kind old new
+    → false ≡ is_count (formals_of (macro_at table.macros id)) (actuals_of arguments) → new ≡ old → IsCallMiscounted (texts_of table.macros arguments) id kind old new
 call-miscounted table arguments id kind old new k counted same = record { kind_is = k; same = same; counted = λ keeps. sym counted }
 
 -- a text in which a call drops a token is kept of no call

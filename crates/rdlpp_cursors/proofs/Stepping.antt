@@ -8,10 +8,16 @@ use Rattle.rdlpp_scan.specs.TokenKinds.{opens_mode}
 use Rattle.rdlpp_scan.specs.Tokens.{token_of, tokens_from}
 use Rattle.rdlpp_scan.proofs.ClosedKinds.{closed_kind_plain}
 use Rattle.rdlpp_meaning.specs.declared.fault.FaultKind.TheVariants.{BareBackquote as NoName, DepthPassed}
-use Rattle.rdlpp_meaning.specs.State.{fault_at}
-use Rattle.rdlpp_meaning.specs.Slots.{SlotStops}
-use Rattle.rdlpp_meaning.specs.Opens.{Open, Texts, open_bytes, open_behind, open_scope, open_at}
-use Rattle.rdlpp_meaning.proofs.OpenMoves.{first_kind, first_bytes, first_behind, open-closes, open-bare, open-formal, open-formal_deep}
+use Rattle.rdlpp_meaning.specs.Outcome.{gives, fails, and_then}
+use Rattle.rdlpp_meaning.specs.State.{State, fault_at}
+use Rattle.rdlpp_meaning.specs.OpenItems.{open_left}
+use Rattle.rdlpp_meaning.specs.declared.fault.FaultKind.{FaultKind}
+use Rattle.rdlpp_meaning.specs.Opens.{Open, Texts, open_bytes, open_behind, open_scope, scope_open, found_standing, scope_formals}
+use Rattle.rdlpp_meaning.proofs.OpenScopes.{first_kind, first_bytes, first_behind}
+use Rattle.rdlpp_meaning.proofs.FormalItems.{standing-found}
+use Rattle.rdlpp_table.specs.Table.{Formal}
+use Rattle.rdlpp_table.specs.View.{formal_named}
+use Rattle.rdlpp_meaning.proofs.OpenSteps.{step-closes, step-bare as left-bare, step-formal as left-formal, step-formal_deep as left-formal_deep}
 use Rattle.rdlpp_cursors.specs.declared.front.Front.{Front}
 use Rattle.rdlpp_cursors.specs.declared.front.Front.TheVariants as front
 use Rattle.rdlpp_cursors.specs.declared.place.TextPlace.{TextPlace}
@@ -21,11 +27,10 @@ use Rattle.rdlpp_cursors.specs.declared.front.Look.{Look}
 use Rattle.rdlpp_cursors.specs.Fronts.{run_len, AreCopied, IsFront, IsLook}
 use Rattle.rdlpp_cursors.specs.Opened.{moved_to}
 use Rattle.rdlpp_cursors.specs.Places.{place_bytes, source_formals}
-use Rattle.rdlpp_cursors.specs.Scopes.{front_source, scope_open, found_standing}
-use Rattle.rdlpp_cursors.specs.Steps.{AreSound, IsStep, StepsTo, Goes}
-use Rattle.rdlpp_cursors.proofs.Moving.{goes-by, ends-by, goes-bytes}
+use Rattle.rdlpp_cursors.specs.Scopes.{front_source}
+use Rattle.rdlpp_cursors.specs.Steps.{AreSound, IsStep, StepsTo}
 use Rattle.rdlpp_cursors.proofs.Runs.{run-goes}
-use Rattle.rdlpp_cursors.proofs.Scoping.{front-formals, front-standing}
+use Rattle.rdlpp_cursors.proofs.Scoping.{front-formals}
 
 -- an open text of which nothing is left is closed
 pub step-ended : (line depth : ℕ) (texts : Texts) (x : Open) (below : List Open) → AreSound texts (x ∷ below)
@@ -33,7 +38,7 @@ pub step-ended : (line depth : ℕ) (texts : Texts) (x : Open) (below : List Ope
     → IsStep line depth texts (x ∷ below) Silent below
 unfolding IsStep StepsTo IsFront
 step-ended line depth texts x below h e rules s m =
-    goes-by rules s line depth texts x below [] below h.are_open (open-closes rules s line depth texts x below e)
+    step-closes rules s line depth texts x below e
 
 -- a run is lent
 pub step-run : (line depth : ℕ) (texts : Texts) (x : Open) (below : List Open) (n : ℕ) (place : TextPlace) → AreSound texts (x ∷ below)
@@ -43,15 +48,21 @@ pub step-run : (line depth : ℕ) (texts : Texts) (x : Open) (below : List Open)
 unfolding IsStep StepsTo AreCopied moved_to open_behind
 step-run line depth texts x below n place h some f p rules s m =
     let mode : x.part.mode ≡ Plain = (h.are_inside).1.1.0 in
-    goes-bytes rules s line depth texts (x ∷ below) (open_behind x n Plain ∷ below) (take n (open_bytes texts x below)) (place_bytes texts place) p
     (run-goes rules s line depth texts (source_formals texts (front_source (x ∷ below))) x below n h.are_open (front-formals texts x below (h.are_open).0)
-    (ap (λ (md : Mode). run_len (source_formals texts (front_source (x ∷ below))) (tokens_from md 0 (open_bytes texts x below)) (open_bytes texts x below)) mode ∙ f.1) some)
+    (ap (λ (md : Mode). run_len (source_formals texts (front_source (x ∷ below))) (tokens_from md 0 (open_bytes texts x below)) (open_bytes texts x below)) mode ∙ f.1))
+    ∙ ap (λ (bytes : List ℕ). and_then (gives bytes) (open_left rules s line depth texts (open_behind x n Plain ∷ below))) p
 
 -- the kind of the first token
 pub kind-first : (texts : Texts) (x : Open) (below : List Open) (kind : Kind) → x.part.mode ≡ Plain → (token_of Plain (open_bytes texts x below)).kind ≡ kind
     → first_kind texts x below ≡ kind
 unfolding first_kind
 kind-first texts x below kind m e = ap (λ (md : Mode). (token_of md (open_bytes texts x below)).kind) m ∙ e
+
+-- a fault that is told
+pub fault-same : (s : State) (line : ℕ) (texts : Texts) (fault : CursorFault) (kind : FaultKind) (word : List ℕ) → fault.kind ≡ kind → place_bytes texts fault.word ≡ word
+    → fails (fault_at fault.kind line (place_bytes texts fault.word) s) ≡ fails (fault_at kind line word s)
+fault-same s line texts fault kind word k w =
+    ap (λ (c : FaultKind). fails (fault_at c line (place_bytes texts fault.word) s)) k ∙ ap (λ (bytes : List ℕ). fails (fault_at kind line bytes s)) w
 
 -- a lone backquote is a fault
 pub step-bare : (line depth : ℕ) (texts : Texts) (x : Open) (below : List Open) (new : List Open) (fault : CursorFault) → AreSound texts (x ∷ below)
@@ -60,9 +71,8 @@ pub step-bare : (line depth : ℕ) (texts : Texts) (x : Open) (below : List Open
     → IsStep line depth texts (x ∷ below) (Refused fault) new
 unfolding IsStep StepsTo IsFront
 step-bare line depth texts x below new fault h f k w rules s m =
-    ends-by rules s line depth texts x below (fault_at fault.kind line (place_bytes texts fault.word) s) h.are_open
-    (open-bare rules s line depth texts x below f.0 (kind-first texts x below BareBackquote (h.are_inside).1.1.0 f.1)
-    ∙ sym (ap (λ c. SlotStops [] (fault_at c line (place_bytes texts fault.word) s)) k ∙ ap (λ (bytes : List ℕ). SlotStops [] (fault_at NoName line bytes s)) w))
+    left-bare rules s line depth texts x below f.0 (kind-first texts x below BareBackquote (h.are_inside).1.1.0 f.1)
+    ∙ sym (fault-same s line texts fault NoName [] k w)
 
 -- the bytes of the first token
 pub bytes-first : (texts : Texts) (x : Open) (below : List Open) (len : ℕ) → x.part.mode ≡ Plain → (token_of Plain (open_bytes texts x below)).len ≡ len
@@ -87,6 +97,16 @@ pub name-closes : (kind : Kind) → kind ≡ Name → opens_mode kind ≡ false
 unfolding opens_mode
 name-closes kind e = ap (λ (k : Kind). opens_mode k) e
 
+-- the first token names the formal that a look tells
+pub first-formal : (texts : Texts) (x : Open) (below : List Open) (len place : ℕ) → x.part.mode ≡ Plain → x.home ≤ length below
+    → (token_of Plain (open_bytes texts x below)).len ≡ len
+    → formal_named (source_formals texts (front_source (x ∷ below))) (take len (open_bytes texts x below)) ≡ Some place
+    → formal_named (scope_formals texts.macros (x ∷ below) (open_scope x below)) (first_bytes texts x below) ≡ Some place
+first-formal texts x below len place mode h e named =
+    ap (λ (name : List ℕ). formal_named (scope_formals texts.macros (x ∷ below) (open_scope x below)) name) (bytes-first texts x below len mode e)
+    ∙ sym (ap (λ (fs : List Formal). formal_named fs (take len (open_bytes texts x below))) (front-formals texts x below h))
+    ∙ named
+
 -- what a formal stands for is opened, where there is room
 pub step-formal : (line depth : ℕ) (texts : Texts) (x : Open) (below : List Open) (len place : ℕ) (new : Open) → AreSound texts (x ∷ below)
     → IsFront (source_formals texts (front_source (x ∷ below))) (open_bytes texts x below) (front.Formal len place)
@@ -96,17 +116,9 @@ pub step-formal : (line depth : ℕ) (texts : Texts) (x : Open) (below : List Op
 unfolding IsStep StepsTo IsFront moved_to open_behind
 step-formal line depth texts x below len place new h f standing room rules s m =
     let mode : x.part.mode ≡ Plain = (h.are_inside).1.1.0 in
-    let stands = front-standing texts x below (take len (open_bytes texts x below)) place (h.are_open).0 f.3 in
-    let same : stands.new ≡ new = one stands.new new (sym stands.standing_is ∙ standing) in
-    let found : open_at texts (x ∷ below) (open_scope x below) (first_bytes texts x below) ≡ Some new =
-    ap (λ (name : List ℕ). open_at texts (x ∷ below) (open_scope x below) name) (bytes-first texts x below len mode f.2)
-    ∙ stands.stands ∙ ap (λ (y : Open). Some y) same in
-    subst (λ (y : Open). Goes rules s line depth texts (x ∷ below) [] (new ∷ y ∷ below)) (first-moved texts x below len mode (name-closes _ f.1) f.2)
-    (goes-by rules s line depth texts x below [] (new ∷ first_behind texts x below ∷ below) h.are_open
-    (open-formal rules s line depth texts x below new h.are_open f.0 (kind-first texts x below Name mode f.1) found room))
-  where
-    one : (a b : Open) → Some a ≡ Some b → a ≡ b
-    one a b e = cc
+    let named : formal_named (scope_formals texts.macros (x ∷ below) (open_scope x below)) (first_bytes texts x below) ≡ Some place = first-formal texts x below len place mode (h.are_open).0 f.2 f.3 in
+    left-formal rules s line depth texts x below place new h.are_open f.0 (kind-first texts x below Name mode f.1) named standing room
+    ∙ ap (λ (y : Open). open_left rules s line depth texts (new ∷ y ∷ below)) (first-moved texts x below len mode (name-closes _ f.1) f.2)
 
 -- and is a fault where there is none
 pub step-formal_deep : (line depth : ℕ) (texts : Texts) (x : Open) (below : List Open) (len place : ℕ) (new : List Open) (fault : CursorFault) → AreSound texts (x ∷ below)
@@ -116,12 +128,10 @@ pub step-formal_deep : (line depth : ℕ) (texts : Texts) (x : Open) (below : Li
 unfolding IsStep StepsTo IsFront
 step-formal_deep line depth texts x below len place new fault h f deep k w rules s m =
     let mode : x.part.mode ≡ Plain = (h.are_inside).1.1.0 in
-    let stands = front-standing texts x below (take len (open_bytes texts x below)) place (h.are_open).0 f.3 in
-    let found : open_at texts (x ∷ below) (open_scope x below) (first_bytes texts x below) ≡ Some stands.new =
-    ap (λ (name : List ℕ). open_at texts (x ∷ below) (open_scope x below) name) (bytes-first texts x below len mode f.2) ∙ stands.stands in
-    ends-by rules s line depth texts x below (fault_at fault.kind line (place_bytes texts fault.word) s) h.are_open
-    (open-formal_deep rules s line depth texts x below stands.new h.are_open f.0 (kind-first texts x below Name mode f.1) found deep
-    ∙ sym (ap (λ c. SlotStops [] (fault_at c line (place_bytes texts fault.word) s)) k ∙ ap (λ (bytes : List ℕ). SlotStops [] (fault_at DepthPassed line bytes s)) w))
+    let named : formal_named (scope_formals texts.macros (x ∷ below) (open_scope x below)) (first_bytes texts x below) ≡ Some place = first-formal texts x below len place mode (h.are_open).0 f.2 f.3 in
+    let y = standing-found texts.macros (scope_open (x ∷ below) (open_scope x below)) (open_scope x below) place (first_bytes texts x below) named in
+    left-formal_deep rules s line depth texts x below place y.0 h.are_open f.0 (kind-first texts x below Name mode f.1) named y.1 deep
+    ∙ sym (fault-same s line texts fault DepthPassed [] k w)
 
 -- the texts around the innermost are sound
 pub sound-tail : (texts : Texts) (x : Open) (below : List Open) → AreSound texts (x ∷ below) → AreSound texts below

@@ -18,12 +18,11 @@ use Rattle.rdlpp_cursors.specs.Fronts.{IsFront, IsFrontPlace, IsLook, IsLookAhea
 use Rattle.rdlpp_cursors.specs.Opened.{is_spent, moved_to, CursorsView}
 use Rattle.rdlpp_cursors.specs.Places.{source_formals}
 use Rattle.rdlpp_cursors.specs.Scopes.{front_source}
-use Rattle.rdlpp_cursors.specs.Steps.{AreSound, Goes, IsStep, StepsTo, IsUnlent, KeepsOpen, StaysRefused, IsPlacedStep, NamesWord, wordless}
+use Rattle.rdlpp_cursors.specs.Steps.{AreSound, IsStep, StepsTo, IsUnlent, KeepsOpen, StaysRefused, IsPlacedStep, NamesWord, wordless}
 use Rattle.rdlpp_cursors.specs.Taking.{is_idle, IsTaken}
 use Rattle.rdlpp_cursors.specs.Usages.{IsTextFault}
 use Rattle.rdlpp_cursors.proofs.Falling.{falls-twice}
-use Rattle.rdlpp_cursors.proofs.Moving.{goes-on, goes-reaches}
-use Rattle.rdlpp_cursors.proofs.Passing.{look-passed, pass-behind, pass-ended, pass-run, IsPassed}
+use Rattle.rdlpp_cursors.proofs.Passing.{silent-on, look-passed, pass-behind, pass-ended, pass-run, IsPassed}
 use Rattle.rdlpp_cursors.proofs.Usages.{open-run, placed-run}
 
 -- what such a step has left
@@ -86,10 +85,7 @@ pub taken-twice : (texts : Texts) (view mid new : CursorsView) → IsTaken texts
 unfolding IsFalling StaysRefused IsStep StepsTo IsPlacedStep
 taken-twice texts view mid new p q = record {
   is_step = λ rules s e.
-      goes-on rules s view.line view.depth texts view.opens mid.opens new.opens [] [] (p.is_step rules s e)
-      (goes-reaches rules s view.line view.depth texts mid.opens [] new.opens
-      (subst (λ (l : ℕ). Goes rules s l view.depth texts mid.opens [] new.opens) p.kept.0
-      (subst (λ (d : ℕ). Goes rules s mid.line d texts mid.opens [] new.opens) p.kept.1 (q.is_step rules s e))));
+      p.is_step rules s e ∙ silent-on rules s texts view mid new p.kept (q.is_step rules s e);
   sound = q.sound;
   kept = (q.kept.0 ∙ p.kept.0, q.kept.1 ∙ p.kept.1);
   digits = falls-twice (cursor_digits view.opens) (cursor_digits mid.opens) (cursor_digits new.opens) p.digits q.digits;

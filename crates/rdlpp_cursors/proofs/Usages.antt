@@ -1,4 +1,6 @@
 -- A usage at the front of the innermost open text: its name, and what it comes to.
+use Rattle.rdlpp_meaning.specs.Actuals.{Reads, text_reads}
+use Rattle.rdlpp_meaning.specs.Expansion.{Refuses, Opens, usage_of_formals, usage_of_macro, usage_of}
 use Rattle.std.proofs.Common.{◌≡◌, ℕ, suc, ◌+◌, ◌-◌, ◌<◌, ◌≤◌, Bool, true, false, true≢false, List, [], ◌∷◌, length, take, drop, refl, sym, ap, subst, ◌∙◌, arith, Option, None, Some}
 use Rattle.std.specs.Prelude.{if◌then◌else◌, ◌==◌, ◌||◌, bytes_eq, nat_le, slice_range, is_some}
 use Rattle.std.specs.List.{list_any}
@@ -20,11 +22,9 @@ use Rattle.rdlpp_table.specs.View.{TableView, IsSound, IsSoundMacro, no_macro, m
 use Rattle.rdlpp_table.proofs.Places.{place_of_name}
 use Rattle.rdlpp_meaning.specs.declared.fault.FaultKind.{FaultKind}
 use Rattle.rdlpp_meaning.specs.declared.fault.FaultKind.TheVariants.{BareBackquote, UndefinedMacro, RecursiveMacro, DirectiveInText, ArgumentsMissing, ArgumentsOpen, ArgumentCount, DepthPassed}
-use Rattle.rdlpp_meaning.specs.State.{Rules, State, fault_at}
-use Rattle.rdlpp_meaning.specs.Cursors.{not_kept, Refuses, Opens, token_usage_of_formals, token_usage_of_macro, token_usage_of}
-use Rattle.rdlpp_meaning.specs.Slots.{SlotStops}
-use Rattle.rdlpp_meaning.specs.Opens.{OpenKind, OpenBody, OpenActual, OpenDefault, Open, Texts, slot_of, text_around, open_scope, open_bytes, open_behind, open_body, own_text, own_writers, writers_at, AreOpen}
-use Rattle.rdlpp_meaning.proofs.OpenMoves.{first_bytes, first_behind, first_usage, open-refused, open-usage, open-usage_deep, open-writers}
+use Rattle.rdlpp_meaning.specs.State.{Rules, State}
+use Rattle.rdlpp_meaning.specs.Opens.{OpenKind, OpenBody, OpenActual, OpenDefault, Open, Texts, part_tokens, text_around, open_scope, open_bytes, open_behind, open_body, own_text, own_writers, writers_at, AreOpen}
+use Rattle.rdlpp_meaning.proofs.OpenCalls.{tokens_behind, first_usage, step-refused as left-refused, step-usage as left-usage, step-usage_deep as left-usage_deep}
 use Rattle.rdlpp_calls.specs.BoundCalls.{is_call_fault, KeepsAll}
 use Rattle.rdlpp_calls.specs.declared.bindings.Range.{Range}
 use Rattle.rdlpp_cursors.specs.declared.front.Front.{Front}
@@ -48,12 +48,11 @@ use Rattle.rdlpp_cursors.specs.Usages.{front_name, is_text_fault, unknown_kind, 
 use Rattle.rdlpp_cursors.proofs.Falling.{look-opens, run-ends, usage-inside as falls-inside}
 use Rattle.rdlpp_cursors.proofs.Keeping.{body-keeps, first-sound}
 use Rattle.rdlpp_cursors.proofs.Looking.{source-known, source-inside}
-use Rattle.rdlpp_cursors.proofs.Moving.{goes-by, ends-by}
 use Rattle.rdlpp_cursors.proofs.Passing.{same-front, no-formals, no-word, IsPassed}
 use Rattle.rdlpp_cursors.proofs.Runs.{slice-behind}
 use Rattle.rdlpp_cursors.proofs.Scoping.{source-around, opens-length}
 use Rattle.rdlpp_cursors.proofs.Stacking.{tail-is}
-use Rattle.rdlpp_cursors.proofs.Stepping.{kind-first, bytes-first, first-moved}
+use Rattle.rdlpp_cursors.proofs.Stepping.{fault-same, kind-first, bytes-first, first-moved}
 
 -- where a usage lies in its text: it has its backquote, and ends in what is left of the open text, which ends in its text
 pub record IsUsageInside (texts : Texts) (look : Look) (len : ℕ) : Type 0 where
@@ -131,47 +130,45 @@ usage-word texts (x ∷ below) look len from end h l e f g =
 first-is : (rules : Rules) (s : State) (line : ℕ) (texts : Texts) (x : Open) (below : List Open) (len : ℕ) → x.part.mode ≡ Plain
     → (token_of Plain (open_bytes texts x below)).len ≡ len
     → first_usage rules s line texts x below
-    ≡ token_usage_of not_kept rules s line (writers_at texts (x ∷ below) (front_scope (x ∷ below))) (front_name texts (x ∷ below) len)
-    (slot_of texts (first_behind texts x below) below).text
+    ≡ usage_of rules s text_reads line (writers_at texts (x ∷ below) (front_scope (x ∷ below))) (front_name texts (x ∷ below) len)
+    (tokens_behind texts x below)
 unfolding first_usage front_name front_scope
 first-is rules s line texts x below len m e =
-    let ts = (slot_of texts (first_behind texts x below) below).text in
-    ap (λ (o : List (List ℕ)). token_usage_of not_kept rules s line o (drop 1 (first_bytes texts x below)) ts) (open-writers texts (x ∷ below) (open_scope x below))
-    ∙ ap (λ (bytes : List ℕ). token_usage_of not_kept rules s line (writers_at texts (x ∷ below) (open_scope x below)) (drop 1 bytes) ts) (bytes-first texts x below len m e)
+    ap (λ (bytes : List ℕ). usage_of rules s text_reads line (writers_at texts (x ∷ below) (open_scope x below)) (drop 1 bytes) (tokens_behind texts x below)) (bytes-first texts x below len m e)
 
 -- the name of a directive is refused
-reserved-is : (size : SourceToken → ℕ) (rules : Rules) (s : State) (line : ℕ) (o : List (List ℕ)) (name : List ℕ) (ts : List SourceToken) → is_reserved name ≡ true
-    → token_usage_of size rules s line o name ts ≡ Refuses DirectiveInText name line
-unfolding token_usage_of
-reserved-is size rules s line o name ts e = rw e refl
+reserved-is : (reads : Reads SourceToken) (rules : Rules) (s : State) (line : ℕ) (o : List (List ℕ)) (name : List ℕ) (ts : List SourceToken) → is_reserved name ≡ true
+    → usage_of rules s reads line o name ts ≡ Refuses DirectiveInText name line
+unfolding usage_of
+reserved-is reads rules s line o name ts e = rw e refl
 
 -- another name is that of a macro, or it is refused
-unreserved-is : (size : SourceToken → ℕ) (rules : Rules) (s : State) (line : ℕ) (o : List (List ℕ)) (name : List ℕ) (ts : List SourceToken) (found : Option Macro)
+unreserved-is : (reads : Reads SourceToken) (rules : Rules) (s : State) (line : ℕ) (o : List (List ℕ)) (name : List ℕ) (ts : List SourceToken) (found : Option Macro)
     → is_reserved name ≡ false → macro_named s.macros name ≡ found
-    → token_usage_of size rules s line o name ts ≡ elim found [ None ↦ Refuses UndefinedMacro name line | Some m ↦ token_usage_of_macro size rules line o name ts m ]
-unfolding token_usage_of
-unreserved-is size rules s line o name ts found e f = rw (e, f) refl
+    → usage_of rules s reads line o name ts ≡ elim found [ None ↦ Refuses UndefinedMacro name line | Some m ↦ usage_of_macro rules reads line o name ts m ]
+unfolding usage_of
+unreserved-is reads rules s line o name ts found e f = rw (e, f) refl
 
 -- a macro in whose text its name stands is refused
-recursive-is : (size : SourceToken → ℕ) (rules : Rules) (line : ℕ) (o : List (List ℕ)) (name : List ℕ) (ts : List SourceToken) (m : Macro)
-    → list_any (bytes_eq name) o ≡ true → token_usage_of_macro size rules line o name ts m ≡ Refuses RecursiveMacro name line
-unfolding token_usage_of_macro
-recursive-is size rules line o name ts m e = rw e refl
+recursive-is : (reads : Reads SourceToken) (rules : Rules) (line : ℕ) (o : List (List ℕ)) (name : List ℕ) (ts : List SourceToken) (m : Macro)
+    → list_any (bytes_eq name) o ≡ true → usage_of_macro rules reads line o name ts m ≡ Refuses RecursiveMacro name line
+unfolding usage_of_macro
+recursive-is reads rules line o name ts m e = rw e refl
 
 -- another one is used by its formals
-apart-is : (size : SourceToken → ℕ) (rules : Rules) (line : ℕ) (o : List (List ℕ)) (name : List ℕ) (ts : List SourceToken) (m : Macro)
+apart-is : (reads : Reads SourceToken) (rules : Rules) (line : ℕ) (o : List (List ℕ)) (name : List ℕ) (ts : List SourceToken) (m : Macro)
     → list_any (bytes_eq name) o ≡ false
-    → token_usage_of_macro size rules line o name ts m ≡ token_usage_of_formals size rules line name ts m m.formals
-unfolding token_usage_of_macro
-apart-is size rules line o name ts m e = rw e refl
+    → usage_of_macro rules reads line o name ts m ≡ usage_of_formals rules reads line name ts m m.formals
+unfolding usage_of_macro
+apart-is reads rules line o name ts m e = rw e refl
 
 -- a name that no macro has is refused
 pub unknown-refused : (texts : Texts) (opens : List Open) (name : List ℕ) (reserved : Bool) → macro_named texts.macros name ≡ None → is_reserved name ≡ reserved
     → IsRefused texts opens name (unknown_kind reserved)
 unfolding IsRefused
-unknown-refused texts opens name true e r rules s line ts m = reserved-is not_kept rules s line _ name ts r
+unknown-refused texts opens name true e r rules s line ts m = reserved-is text_reads rules s line _ name ts r
 unknown-refused texts opens name false e r rules s line ts m =
-    unreserved-is not_kept rules s line _ name ts None r (ap (λ (macros : List Macro). macro_named macros name) m ∙ e)
+    unreserved-is text_reads rules s line _ name ts None r (ap (λ (macros : List Macro). macro_named macros name) m ∙ e)
 
 -- so is a name that stands in the text of its macro
 pub recursive-refused : (texts : Texts) (opens : List Open) (name : List ℕ) (id : ℕ) → is_reserved name ≡ false
@@ -180,22 +177,22 @@ pub recursive-refused : (texts : Texts) (opens : List Open) (name : List ℕ) (i
     → IsRefused texts opens name RecursiveMacro
 unfolding IsRefused
 recursive-refused texts opens name id r e w rules s line ts m =
-    unreserved-is not_kept rules s line _ name ts (Some (macro_at texts.macros id)) r (ap (λ (macros : List Macro). macro_named macros name) m ∙ e)
-    ∙ recursive-is not_kept rules line _ name ts (macro_at texts.macros id) w
+    unreserved-is text_reads rules s line _ name ts (Some (macro_at texts.macros id)) r (ap (λ (macros : List Macro). macro_named macros name) m ∙ e)
+    ∙ recursive-is text_reads rules line _ name ts (macro_at texts.macros id) w
 
 -- a usage of a macro comes to what its formals tell
 pub first-used : (rules : Rules) (s : State) (line : ℕ) (texts : Texts) (x : Open) (below : List Open) (len id : ℕ) → x.part.mode ≡ Plain
     → (token_of Plain (open_bytes texts x below)).len ≡ len
     → IsUsed texts (x ∷ below) (front_name texts (x ∷ below) len) id → s.macros ≡ texts.macros
     → first_usage rules s line texts x below
-    ≡ token_usage_of_formals not_kept rules line (front_name texts (x ∷ below) len) (slot_of texts (first_behind texts x below) below).text
+    ≡ usage_of_formals rules text_reads line (front_name texts (x ∷ below) len) (tokens_behind texts x below)
     (macro_at texts.macros id) (macro_at texts.macros id).formals
 first-used rules s line texts x below len id mode e used m =
     let name = front_name texts (x ∷ below) len in
-    let ts = (slot_of texts (first_behind texts x below) below).text in
+    let ts = tokens_behind texts x below in
     first-is rules s line texts x below len mode e
-    ∙ unreserved-is not_kept rules s line _ name ts (Some (macro_at texts.macros id)) used.unreserved (ap (λ (macros : List Macro). macro_named macros name) m ∙ used.named)
-    ∙ apart-is not_kept rules line _ name ts (macro_at texts.macros id) used.apart
+    ∙ unreserved-is text_reads rules s line _ name ts (Some (macro_at texts.macros id)) used.unreserved (ap (λ (macros : List Macro). macro_named macros name) m ∙ used.named)
+    ∙ apart-is text_reads rules line _ name ts (macro_at texts.macros id) used.apart
 
 -- a usage that is refused
 pub step-refused : (line depth : ℕ) (texts : Texts) (x : Open) (below : List Open) (len : ℕ) (kind : FaultKind) (new : List Open) (fault : CursorFault) → AreSound texts (x ∷ below)
@@ -207,16 +204,15 @@ unfolding IsStep StepsTo IsFront IsRefused
 step-refused line depth texts x below len kind new fault h f r k w rules s m =
     let mode : x.part.mode ≡ Plain = (h.are_inside).1.1.0 in
     let name = front_name texts (x ∷ below) len in
-    ends-by rules s line depth texts x below (fault_at fault.kind line (place_bytes texts fault.word) s) h.are_open
-    (open-refused rules s line depth texts x below kind name line f.0 (kind-first texts x below Back mode f.1)
-    (first-is rules s line texts x below len mode f.2 ∙ r rules s line (slot_of texts (first_behind texts x below) below).text m)
-    ∙ sym (ap (λ c. SlotStops [] (fault_at c line (place_bytes texts fault.word) s)) k ∙ ap (λ (bytes : List ℕ). SlotStops [] (fault_at kind line bytes s)) w))
+    left-refused rules s line depth texts x below kind name line f.0 (kind-first texts x below Back mode f.1)
+    (first-is rules s line texts x below len mode f.2 ∙ r rules s line (tokens_behind texts x below) m)
+    ∙ sym (fault-same s line texts fault kind name k w)
 
 -- a usage of a macro without a list opens its body, whatever it is told by
-plain-opens : (size : SourceToken → ℕ) (rules : Rules) (line : ℕ) (name : List ℕ) (ts : List SourceToken) (m : Macro) → m.formals ≡ None
-    → token_usage_of_formals size rules line name ts m m.formals ≡ Opens m [] 0
-unfolding token_usage_of_formals
-plain-opens size rules line name ts m e = rw e refl
+plain-opens : (reads : Reads SourceToken) (rules : Rules) (line : ℕ) (name : List ℕ) (ts : List SourceToken) (m : Macro) → m.formals ≡ None
+    → usage_of_formals rules reads line name ts m m.formals ≡ Opens m [] 0
+unfolding usage_of_formals
+plain-opens reads rules line name ts m e = rw e refl
 
 -- a backquote with a name closes
 pub back-closes : (kind : Kind) → kind ≡ Back → opens_mode kind ≡ false
@@ -229,14 +225,13 @@ pub step-opened : (line depth : ℕ) (texts : Texts) (x : Open) (below : List Op
     → IsUsed texts (x ∷ below) (front_name texts (x ∷ below) len) id → (macro_at texts.macros id).formals ≡ None
     → length (x ∷ below) < depth
     → IsStep line depth texts (x ∷ below) Silent (open_body texts id [] (open_scope x below) ∷ moved_to (x.part.from + len) (x ∷ below))
-unfolding IsStep StepsTo IsFront moved_to open_behind
+unfolding IsStep StepsTo IsFront moved_to open_behind tokens_behind
 step-opened line depth texts x below len id h f used none room rules s m =
     let mode : x.part.mode ≡ Plain = (h.are_inside).1.1.0 in
-    let ts = (slot_of texts (first_behind texts x below) below).text in
-    goes-by rules s line depth texts x below [] (open_body texts id [] (open_scope x below) ∷ open_behind x len Plain ∷ below) h.are_open
-    (open-usage rules s line depth texts x below id [] 0 [] len Plain f.0 (kind-first texts x below Back mode f.1)
-    (first-used rules s line texts x below len id mode f.2 used m ∙ plain-opens not_kept rules line _ ts (macro_at texts.macros id) none)
-    refl (ap (λ (y : Open). (slot_of texts y below).text) (first-moved texts x below len mode (back-closes _ f.1) f.2)) room)
+    let ts = tokens_behind texts x below in
+    left-usage rules s line depth texts x below id [] 0 len Plain (h.are_open).0 f.0 (kind-first texts x below Back mode f.1)
+    (first-used rules s line texts x below len id mode f.2 used m ∙ plain-opens text_reads rules line _ ts (macro_at texts.macros id) none)
+    (ap (λ (y : Open). part_tokens (text_around texts x.kind x.home below) y.part) (first-moved texts x below len mode (back-closes _ f.1) f.2)) room
 
 -- and is a fault where there is none
 pub step-opened_deep : (line depth : ℕ) (texts : Texts) (x : Open) (below : List Open) (len id : ℕ) (new : List Open) (fault : CursorFault) → AreSound texts (x ∷ below)
@@ -247,11 +242,10 @@ pub step-opened_deep : (line depth : ℕ) (texts : Texts) (x : Open) (below : Li
 unfolding IsStep StepsTo IsFront
 step-opened_deep line depth texts x below len id new fault h f used none deep k w rules s m =
     let mode : x.part.mode ≡ Plain = (h.are_inside).1.1.0 in
-    let ts = (slot_of texts (first_behind texts x below) below).text in
-    ends-by rules s line depth texts x below (fault_at fault.kind line (place_bytes texts fault.word) s) h.are_open
-    (open-usage_deep rules s line depth texts x below (macro_at texts.macros id) [] 0 f.0 (kind-first texts x below Back mode f.1)
-    (first-used rules s line texts x below len id mode f.2 used m ∙ plain-opens not_kept rules line _ ts (macro_at texts.macros id) none) deep
-    ∙ sym (ap (λ c. SlotStops [] (fault_at c line (place_bytes texts fault.word) s)) k ∙ ap (λ (bytes : List ℕ). SlotStops [] (fault_at DepthPassed line bytes s)) w))
+    let ts = tokens_behind texts x below in
+    left-usage_deep rules s line depth texts x below (macro_at texts.macros id) [] 0 f.0 (kind-first texts x below Back mode f.1)
+    (first-used rules s line texts x below len id mode f.2 used m ∙ plain-opens text_reads rules line _ ts (macro_at texts.macros id) none) deep
+    ∙ sym (fault-same s line texts fault DepthPassed [] k w)
 
 -- the macros in whose text a scope is, by name and by place
 pub writers-ids : (texts : Texts) (opens : List Open) (k id : ℕ) (name : List ℕ) → AreInside texts opens

@@ -1,11 +1,11 @@
 -- A call that is bound in open texts.
 -- A definition that names no source is this project's own.
+use Rattle.rdlpp_meaning.specs.Expansion.{is_count}
 use Rattle.std.specs.Prelude.{◌≡◌, ℕ, ◌<◌, ◌≤◌, true, false, List, [], ◌∷◌, map, length, Ok, Err}
 use Rattle.rdlpp_table.specs.Table.{Macro}
 use Rattle.rdlpp_table.specs.View.{macro_at, formals_of}
 use Rattle.rdlpp_meaning.specs.declared.fault.FaultKind.{FaultKind}
 use Rattle.rdlpp_meaning.specs.declared.fault.FaultKind.TheVariants.{ArgumentCount}
-use Rattle.rdlpp_meaning.specs.Cursors.{is_token_count}
 use Rattle.rdlpp_meaning.specs.Expansion.{bound_parts}
 use Rattle.rdlpp_meaning.specs.Opens.{Texts, open_body}
 use Rattle.rdlpp_meaning.specs.Substitution.{body_tokens}
@@ -47,7 +47,7 @@ IsOpening macros text at end id home old Deep new =
 pub record IsCallStarted (texts : Texts) (id line : ℕ) (old new : CursorsView) : Type 0 where
   pub ranges : List Range
   pub actuals : bound_parts (formals_of (macro_at texts.macros id)) (actuals_of texts.arguments) ≡ ranges_tokens texts.arguments ranges
-  pub counted : is_token_count (formals_of (macro_at texts.macros id)) (actuals_of texts.arguments) ≡ true
+  pub counted : is_count (formals_of (macro_at texts.macros id)) (actuals_of texts.arguments) ≡ true
   pub opens : new ≡ record { opens = open_body texts id (map range_part ranges) 0 ∷ []; line = line; depth = old.depth }
   pub sound : AreSound texts new.opens
 
@@ -56,7 +56,7 @@ pub record IsCallStarted (texts : Texts) (id line : ℕ) (old new : CursorsView)
 pub record IsCallMiscounted (texts : Texts) (id : ℕ) (kind : FaultKind) (old new : CursorsView) : Type 0 where
   pub kind_is : kind ≡ ArgumentCount
   pub same : new ≡ old
-  pub counted : KeepsAll (body_tokens texts.arguments) → is_token_count (formals_of (macro_at texts.macros id)) (actuals_of texts.arguments) ≡ false
+  pub counted : KeepsAll (body_tokens texts.arguments) → is_count (formals_of (macro_at texts.macros id)) (actuals_of texts.arguments) ≡ false
 
 -- a call in an open text is refused for a fault of a call
 abbrev pub IsCallFault : Opening → Type 0

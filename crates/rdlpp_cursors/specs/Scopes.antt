@@ -3,14 +3,9 @@
 use Rattle.std.specs.Prelude.{ℕ, suc, ◌<◌, ◌≤◌, ◌==◌, List, [], ◌∷◌, length, Option, None, Some, if◌then◌else◌}
 use Rattle.rdlpp_table.specs.Table.{Macro}
 use Rattle.rdlpp_table.specs.View.{macro_at, formals_of}
-use Rattle.rdlpp_meaning.specs.Opens.{OpenKind, OpenBody, OpenActual, OpenDefault, Open, open_scope, open_standing}
+use Rattle.rdlpp_meaning.specs.Opens.{OpenKind, OpenBody, OpenActual, OpenDefault, Open, open_scope, scope_open}
 use Rattle.rdlpp_cursors.specs.declared.place.TextSource.{TextSource}
 use Rattle.rdlpp_cursors.specs.declared.place.TextSource.TheVariants.{Arguments, Body, Default}
-
--- the open text that a scope is; none where it is the source
-unfoldable pub scope_open : List Open → ℕ → Option Open
-scope_open [] k = None
-scope_open (x ∷ below) k = if k == suc (length below) then Some x else scope_open below k
 
 -- where the text of an open text lies, if it is a body or a default
 abbrev pub kind_source : OpenKind → TextSource
@@ -38,18 +33,6 @@ front_source (x ∷ below) = own_source x.kind x.home below
 unfoldable pub front_scope : List Open → ℕ
 front_scope [] = 0
 front_scope (x ∷ below) = open_scope x below
-
--- the open text that the formal at a place of a body stands for
-abbrev pub kind_standing : List Macro → OpenKind → ℕ → ℕ → ℕ → Option Open
-kind_standing macros (OpenBody id parts) scope home place =
-    Some (open_standing (formals_of (macro_at macros id)) id scope home parts place)
-kind_standing macros OpenActual scope home place = None
-kind_standing macros (OpenDefault id own) scope home place = None
-
--- the open text that the formal at a place stands for in a scope
-abbrev pub found_standing : List Macro → Option Open → ℕ → ℕ → Option Open
-found_standing macros None scope place = None
-found_standing macros (Some x) scope place = kind_standing macros x.kind scope x.home place
 
 -- the macros in whose text a scope is, by their places in the table: by what it is and those of its home
 abbrev pub own_ids : OpenKind → List ℕ → List ℕ

@@ -9,10 +9,8 @@ use Rattle.rdlpp_table.specs.View.{macro_at, formals_of}
 use Rattle.rdlpp_meaning.specs.declared.fault.FaultKind.{FaultKind}
 use Rattle.rdlpp_meaning.specs.Outcome.{gives, fails, and_then}
 use Rattle.rdlpp_meaning.specs.State.{Rules, State, fault_at}
-use Rattle.rdlpp_meaning.specs.Cursors.{left}
-use Rattle.rdlpp_meaning.specs.CursorWork.{cursors_work, IsCountedMacro, IsCountedCursor}
-use Rattle.rdlpp_meaning.specs.Slots.{cursors_of}
-use Rattle.rdlpp_meaning.specs.Opens.{OpenKind, OpenBody, OpenActual, OpenDefault, Open, Texts, scope_text, text_around, part_tokens, slots_of, AreOpen}
+use Rattle.rdlpp_meaning.specs.Opens.{OpenKind, OpenBody, OpenActual, OpenDefault, Open, Texts, scope_text, text_around, part_tokens, AreOpen}
+use Rattle.rdlpp_meaning.specs.OpenItems.{open_left}
 use Rattle.rdlpp_calls.specs.BoundCalls.{KeepsAll}
 use Rattle.rdlpp_cursors.specs.Opened.{CursorsView}
 use Rattle.rdlpp_cursors.specs.Places.{place_bytes, IsPlaced}
@@ -24,22 +22,14 @@ use Rattle.rdlpp_cursors.specs.declared.step.CursorStep.TheVariants.{Lends, Sile
 abbrev pub wordless : FaultKind → CursorStep
 wordless kind = Refused (record { kind = kind; word = record { source = Arguments; from = 0; end = 0 } })
 
--- open texts go on to others over some bytes: what remained is the bytes and what remains, and the work left, in which each text
--- has a digit, falls in any base that has the digits
-pub record Goes (rules : Rules) (s : State) (line depth : ℕ) (texts : Texts) (old : List Open) (bytes : List ℕ) (new : List Open) : Type 0 where
-  pub remains : left rules s line (cursors_of depth (slots_of texts old))
-      ≡ and_then (gives bytes) (left rules s line (cursors_of depth (slots_of texts new)))
-  pub work : (base : ℕ) → AllByRecursion (IsCountedMacro base) s.macros
-      → AllByRecursion (IsCountedCursor base) (cursors_of depth (slots_of texts old))
-      → (cursors_work base (cursors_of depth (slots_of texts new)) < cursors_work base (cursors_of depth (slots_of texts old)))
-      × AllByRecursion (IsCountedCursor base) (cursors_of depth (slots_of texts new))
-
--- what a step comes to by the rules of a run: bytes of a text, nothing, or a fault at the line of the usage in the source
+-- what a step comes to by the rules of a run: bytes of a text and then what remains, nothing but what remained, or a fault at the line
+-- of the usage in the source
 unfoldable pub StepsTo : Rules → State → ℕ → ℕ → Texts → List Open → CursorStep → List Open → Type 0
-StepsTo rules s line depth texts old (Lends place) new = Goes rules s line depth texts old (place_bytes texts place) new
-StepsTo rules s line depth texts old Silent new = Goes rules s line depth texts old [] new
+StepsTo rules s line depth texts old (Lends place) new =
+    open_left rules s line depth texts old ≡ and_then (gives (place_bytes texts place)) (open_left rules s line depth texts new)
+StepsTo rules s line depth texts old Silent new = open_left rules s line depth texts old ≡ open_left rules s line depth texts new
 StepsTo rules s line depth texts old (Refused fault) new =
-    left rules s line (cursors_of depth (slots_of texts old)) ≡ fails (fault_at fault.kind line (place_bytes texts fault.word) s)
+    open_left rules s line depth texts old ≡ fails (fault_at fault.kind line (place_bytes texts fault.word) s)
 
 -- a step is that of each run whose macros are those of the texts
 unfoldable pub IsStep : ℕ → ℕ → Texts → List Open → CursorStep → List Open → Type 0

@@ -1,5 +1,7 @@
 -- Usages in open texts: the name that stands there, and the macro that is used.
 -- A definition that names no source is this project's own.
+use Rattle.rdlpp_meaning.specs.Actuals.{text_reads}
+use Rattle.rdlpp_meaning.specs.Expansion.{Refuses, usage_of}
 use Rattle.std.specs.Prelude.{◌≡◌, ℕ, ◌<◌, Bool, true, false, List, [], ◌∷◌, length, take, drop, bytes_eq, Some, if◌then◌else◌}
 use Rattle.std.specs.List.{list_any}
 use Rattle.rdlpp_scan.specs.SourceTokens.{SourceToken}
@@ -8,7 +10,6 @@ use Rattle.rdlpp_table.specs.Table.{macro_named}
 use Rattle.rdlpp_table.specs.View.{macro_at}
 use Rattle.rdlpp_meaning.specs.declared.fault.FaultKind.{FaultKind}
 use Rattle.rdlpp_meaning.specs.declared.fault.FaultKind.TheVariants.{BareBackquote, UndefinedMacro, RecursiveMacro, DirectiveInText, ArgumentsMissing, ArgumentsOpen, ArgumentCount, DepthPassed}
-use Rattle.rdlpp_meaning.specs.Cursors.{not_kept, Refuses, token_usage_of}
 use Rattle.rdlpp_meaning.specs.State.{Rules, State}
 use Rattle.rdlpp_meaning.specs.Opens.{Open, Texts, open_bytes, writers_at}
 use Rattle.rdlpp_cursors.specs.Scopes.{front_scope}
@@ -37,7 +38,7 @@ unknown_kind reserved = if reserved then DirectiveInText else UndefinedMacro
 unfoldable pub IsRefused : Texts → List Open → List ℕ → FaultKind → Type 0
 IsRefused texts opens name kind =
     (rules : Rules) (s : State) (line : ℕ) (ts : List SourceToken) → s.macros ≡ texts.macros
-    → token_usage_of not_kept rules s line (writers_at texts opens (front_scope opens)) name ts ≡ Refuses kind name line
+    → usage_of rules s text_reads line (writers_at texts opens (front_scope opens)) name ts ≡ Refuses kind name line
 
 -- whether open texts end with a fault: for what stands in them, or since no further text may be open (source: this project's profile)
 unfoldable pub is_text_fault : FaultKind → Bool

@@ -3,18 +3,10 @@ ghost use Rattle.std.specs.Prelude.{[], length, nat_le, slice_index_or, if◌the
 ghost use Rattle.std.specs.List.{list_any, AllByRecursion};
 ghost use Rattle.std.specs.Option.{option_map};
 ghost use Rattle.rdlpp_table.specs.View.{formal_at, formals_of, macro_at};
-ghost use Rattle.rdlpp_meaning.specs.Opens.{open_standing, part_at, Part};
+ghost use Rattle.rdlpp_meaning.specs.Opens.{open_standing, part_at, Part, found_standing, scope_open};
 ghost use Rattle.rdlpp_cursors.specs.Opened.{is_body_of, is_spent, open_of, opens_of, outer_of, slot_source, AreBounded, AreHomedSlots, IsWithin};
 ghost use Rattle.rdlpp_cursors.specs.Places.{place_bytes, source_formals, source_text, texts_of, IsPlaced, IsSource};
-ghost use Rattle.rdlpp_cursors.specs.Scopes.{
-  found_source,
-  found_standing,
-  front_scope,
-  front_source,
-  scope_open,
-  writer_ids,
-  AreBound,
-};
+ghost use Rattle.rdlpp_cursors.specs.Scopes.{found_source, front_scope, front_source, writer_ids, AreBound};
 ghost use Rattle.rdlpp_calls.specs.BoundCalls.{range_part};
 ghost use Rattle.rdlpp_calls.specs.declared.bindings.Range.{Range as Bound};
 

@@ -10,10 +10,9 @@ use Rattle.rdlpp_scan.specs.SourceTokens.{Sort, Ordinary, Definition, Renumberin
 use Rattle.rdlpp_meaning.specs.declared.fault.FaultKind.{FaultKind}
 use Rattle.rdlpp_meaning.specs.declared.fault.FaultKind.TheVariants.{ArgumentsMissing}
 use Rattle.rdlpp_meaning.specs.State.{breach_kind}
-use Rattle.rdlpp_meaning.specs.Actuals.{Role, Ends, Stops, level_behind, kept_size, kind_role, broken_role, token_role}
+use Rattle.rdlpp_meaning.specs.Actuals.{Role, Ends, Stops, level_behind, kept_size, kind_role, broken_role, token_role, kept}
 use Rattle.rdlpp_meaning.specs.CallScan.{Stand, Before, Inside, Turn, Passes, Keeps, Closes, Refuses, Breaks, turn_before, turn_fitting, turn_inside, turn, stand_behind, stand_behind_lead, room_behind, Scanned, Refused, Stopped, Closed, scan_passing, scan_keeping, scanned, scan, source_role}
 use Rattle.rdlpp_meaning.specs.CallReading.{Reading, ReadRefused, ReadStopped, ReadClosed, onto_kept, rest_role, role_in, read_by, read, reading_of, is_part_breach, is_part_sort, part_kept}
-use Rattle.rdlpp_meaning.specs.Cursors.{kept}
 use Rattle.rdlpp_meaning.specs.Parts.{directive_of}
 
 -- no kept bytes in front

@@ -11,7 +11,7 @@ use Rattle.rdlpp_meaning.specs.declared.fault.FaultKind.TheVariants.{UndefinedMa
 use Rattle.rdlpp_meaning.specs.Outcome.{Outcome, fails, and_then}
 use Rattle.rdlpp_meaning.specs.State.{Rules, State, fault_at}
 use Rattle.rdlpp_meaning.specs.Items.{Item, Written, Arg}
-use Rattle.rdlpp_meaning.specs.Actuals.{Role, Space, Dropped, Remark, Start, Up, End, Down, Cut, Halt, Text, Ends, Stops, Call, Lacking, Broke, Bound, passed, put, parted, level_behind, kept_size, heed, inside_call, call_of, trimmed, item_role, item_size}
+use Rattle.rdlpp_meaning.specs.Actuals.{Role, Space, Dropped, Remark, Start, Up, End, Down, Cut, Halt, Text, Ends, Stops, Call, Lacking, Broke, Bound, passed, put, parted, level_behind, kept_size, heed, inside_call, call_of, item_role, item_size, item_reads, actual_of}
 use Rattle.rdlpp_meaning.specs.Substitution.{substituted}
 use Rattle.rdlpp_meaning.specs.Expansion.{Usage, Refuses, Opens, bound_parts, is_count, usage_of_call, usage_of_formals, usage_of_macro, usage_of, walk, run_outcome, usage_token, bytes_of}
 use Rattle.rdlpp_meaning.specs.Parts.{only_blanks}
@@ -126,65 +126,65 @@ call_takes role size room [] = tt
 call_takes role size room (x ∷ xs) = call_takes_by role size room xs (role x) (call_takes role size room xs)
 
 -- a usage takes at most so many items
-unfoldable pub UsesUpTo : ℕ → Usage → Type 0
+unfoldable pub UsesUpTo : ℕ → Usage Item → Type 0
 UsesUpTo n (Refuses f word line) = Unit
 UsesUpTo n (Opens m actuals used) = used ≤ n
 
 -- a choice of usages
-choice_uses : (b : Bool) (n : ℕ) (u v : Usage) → UsesUpTo n u → UsesUpTo n v → UsesUpTo n (if b then u else v)
+choice_uses : (b : Bool) (n : ℕ) (u v : Usage Item) → UsesUpTo n u → UsesUpTo n v → UsesUpTo n (if b then u else v)
 choice_uses true n u v h k = h
 choice_uses false n u v h k = k
 
 -- a usage by its call
-call_uses : (m : Macro) (formals : List Formal) (line : ℕ) (name : List ℕ) (n : ℕ) (c : Call Item) → TakesUpTo n c
-    → UsesUpTo n (usage_of_call m formals line name c)
+call_uses : (source : Option ℕ) (m : Macro) (formals : List Formal) (line : ℕ) (name : List ℕ) (n : ℕ) (c : Call Item) → TakesUpTo n c
+    → UsesUpTo n (usage_of_call (item_reads source) m formals line name c)
 unfolding UsesUpTo usage_of_call TakesUpTo
-call_uses m formals line name n (Lacking f) h = tt
-call_uses m formals line name n (Broke f own) h = tt
-call_uses m formals line name n (Bound first further used) h =
-    let parts = map (trimmed item_role) (first ∷ further) in
+call_uses source m formals line name n (Lacking f) h = tt
+call_uses source m formals line name n (Broke f own) h = tt
+call_uses source m formals line name n (Bound first further used) h =
+    let parts = map (actual_of (item_reads source)) (first ∷ further) in
     choice_uses (is_count formals parts) n (Opens m (bound_parts formals parts) used) (Refuses ArgumentCount name line) h tt
 
 -- a usage by its macro's formals
 formals_use : (rules : Rules) (source : Option ℕ) (line : ℕ) (name : List ℕ) (xs : List Item) (m : Macro) (formals : Option (List Formal))
-    → UsesUpTo (length xs) (usage_of_formals rules source line name xs m formals)
+    → UsesUpTo (length xs) (usage_of_formals rules (item_reads source) line name xs m formals)
 unfolding UsesUpTo usage_of_formals
 formals_use rules source line name xs m None = omega arith
 formals_use rules source line name xs m (Some formals) =
-    call_uses m formals line name (length xs) (call_of item_role (item_size source) rules.argument_bytes xs)
+    call_uses source m formals line name (length xs) (call_of item_role (item_size source) rules.argument_bytes xs)
     (call_takes item_role (item_size source) rules.argument_bytes xs)
 
 -- a usage of a macro
 macro_uses : (rules : Rules) (source : Option ℕ) (line : ℕ) (o : List (List ℕ)) (name : List ℕ) (xs : List Item) (m : Macro)
-    → UsesUpTo (length xs) (usage_of_macro rules source line o name xs m)
+    → UsesUpTo (length xs) (usage_of_macro rules (item_reads source) line o name xs m)
 unfolding UsesUpTo usage_of_macro
 macro_uses rules source line o name xs m =
     choice_uses (list_any (bytes_eq name) o) (length xs) _ _ tt (formals_use rules source line name xs m m.formals)
 
 -- a usage by what its name is
 found_uses : (rules : Rules) (source : Option ℕ) (line : ℕ) (o : List (List ℕ)) (name : List ℕ) (xs : List Item) (found : Option Macro)
-    → UsesUpTo (length xs) (elim found [ None ↦ Refuses UndefinedMacro name line | Some m ↦ usage_of_macro rules source line o name xs m ])
+    → UsesUpTo (length xs) (elim found [ None ↦ Refuses UndefinedMacro name line | Some m ↦ usage_of_macro rules (item_reads source) line o name xs m ])
 unfolding UsesUpTo
 found_uses rules source line o name xs None = tt
 found_uses rules source line o name xs (Some m) = macro_uses rules source line o name xs m
 
 -- a usage takes at most all items behind its name
 usage_uses : (rules : Rules) (s : State) (source : Option ℕ) (line : ℕ) (o : List (List ℕ)) (name : List ℕ) (xs : List Item)
-    → UsesUpTo (length xs) (usage_of rules s source line o name xs)
+    → UsesUpTo (length xs) (usage_of rules s (item_reads source) line o name xs)
 unfolding UsesUpTo usage_of
 usage_uses rules s source line o name xs =
     choice_uses (is_reserved name) (length xs) _ _ tt (found_uses rules source line o name xs (macro_named s.macros name))
 
 -- a usage that opens a macro takes at most all items behind its name
 pub usage_within : (rules : Rules) (s : State) (source : Option ℕ) (line : ℕ) (o : List (List ℕ)) (name : List ℕ) (xs : List Item) (m : Macro) (actuals : List (List Item)) (used : ℕ)
-    → usage_of rules s source line o name xs ≡ Opens m actuals used → used ≤ length xs
+    → usage_of rules s (item_reads source) line o name xs ≡ Opens m actuals used → used ≤ length xs
 unfolding UsesUpTo
 usage_within rules s source line o name xs m actuals used e =
-    subst (λ (u : Usage). UsesUpTo (length xs) u) e (usage_uses rules s source line o name xs)
+    subst (λ (u : Usage Item). UsesUpTo (length xs) u) e (usage_uses rules s source line o name xs)
 
 -- a run that begins with a usage is what the usage opens, and then the run behind its call
 run_usage : (rules : Rules) (s : State) (name : List ℕ) (line : ℕ) (us : List SourceToken) (m : Macro) (actuals : List (List Item)) (used : ℕ)
-    → usage_of rules s None line [] name (map Written us) ≡ Opens m actuals used
+    → usage_of rules s (item_reads None) line [] name (map Written us) ≡ Opens m actuals used
     → run_outcome rules s (usage_token name line ∷ us)
     ≡ and_then (deeper_of rules s rules.depth line (m.name ∷ []) (substituted m actuals [])) (run_outcome rules s (drop used us))
 unfolding run_outcome after_usage
@@ -202,7 +202,7 @@ run_usage rules s name line us m actuals used e =
 pub resumed_usage : (rules : Rules) (os : List Progress) (first : Bool) (name : List ℕ) (line : ℕ) (ts : List SourceToken) (s : State)
     (m : Macro) (actuals : List (List Item)) (used : ℕ)
     → is_reserved name ≡ false
-    → usage_of rules s None line [] name (map Written (leading ts)) ≡ Opens m actuals used
+    → usage_of rules s (item_reads None) line [] name (map Written (leading ts)) ≡ Opens m actuals used
     → resumed rules (Live os) first (usage_token name line ∷ ts) s
     ≡ goes_on (leaves (deeper_of rules s rules.depth line (m.name ∷ []) (substituted m actuals [])) s)
     (λ after. resumed rules (Live os) (only_blanks first (bytes_of (take (suc used) (usage_token name line ∷ ts)))) (drop used ts) after)
@@ -218,7 +218,7 @@ resumed_usage rules os first name line ts s m actuals used r e =
 pub resumed_refused : (rules : Rules) (os : List Progress) (first : Bool) (name : List ℕ) (line : ℕ) (ts : List SourceToken) (s : State)
     (f : FaultKind) (word : List ℕ) (at : ℕ)
     → is_reserved name ≡ false
-    → usage_of rules s None line [] name (map Written (leading ts)) ≡ Refuses f word at
+    → usage_of rules s (item_reads None) line [] name (map Written (leading ts)) ≡ Refuses f word at
     → resumed rules (Live os) first (usage_token name line ∷ ts) s ≡ leaves (fails (fault_at f at word s)) s
 resumed_refused rules os first name line ts s f word at r e =
     let t = usage_token name line in

@@ -20,7 +20,8 @@ use Rattle.rdlpp_meaning.specs.CallScan.{source_role, is_kept, is_call_text, IsC
 use Rattle.rdlpp_meaning.specs.Expansion.{bytes_of}
 use Rattle.rdlpp_meaning.specs.Parts.{directive_of}
 use Rattle.rdlpp_meaning.specs.Substitution.{spelled, body_tokens}
-use Rattle.rdlpp_meaning.specs.TextTokens.{text_tokens, unlined}
+use Rattle.rdlpp_meaning.specs.Items.{unlined}
+use Rattle.rdlpp_meaning.specs.TextTokens.{text_tokens}
 use Rattle.rdlpp_meaning.proofs.SourceRows.{mode_behind_last, source_row}
 use Rattle.rdlpp_meaning.proofs.TextRanges.{body_text, text_cut}
 use Rattle.rdlpp_meaning.proofs.UnlinedTokens.{unlined_role, unlined_bytes, kept-map, source_kept}

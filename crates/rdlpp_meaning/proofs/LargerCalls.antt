@@ -9,7 +9,7 @@ use Rattle.rdlpp_table.specs.Table.{Formal, Macro, macro_named}
 use Rattle.rdlpp_meaning.specs.declared.fault.FaultKind.TheVariants.{UndefinedMacro, RecursiveMacro, DirectiveInText, ArgumentBytes}
 use Rattle.rdlpp_meaning.specs.State.{Defined, Rules, State}
 use Rattle.rdlpp_meaning.specs.Items.{Item}
-use Rattle.rdlpp_meaning.specs.Actuals.{Role, Space, Dropped, Remark, Start, Up, End, Down, Cut, Halt, Text, Ends, Stops, Call, Lacking, passed, put, parted, level_behind, kept_size, heed, inside_call, call_of, item_role, item_size}
+use Rattle.rdlpp_meaning.specs.Actuals.{Role, Space, Dropped, Remark, Start, Up, End, Down, Cut, Halt, Text, Ends, Stops, Call, Lacking, passed, put, parted, level_behind, kept_size, heed, inside_call, call_of, item_role, item_size, item_reads}
 use Rattle.rdlpp_meaning.specs.Expansion.{Usage, Refuses, Opens, usage_of_call, usage_of_formals, usage_of_macro, usage_of}
 use Rattle.rdlpp_meaning.specs.LimitLaws.{is_limit}
 use Rattle.rdlpp_meaning.proofs.Commuting.{call_by, call_is}
@@ -131,60 +131,60 @@ call-agrees {A = A} role size room most (x ∷ xs) h =
     (call-agrees role size room most xs h) (inside-agrees role size 0 room most xs h)))
 
 -- a usage that no limit refuses
-unfoldable pub SparesUsage : Usage → Type 0
+unfoldable pub SparesUsage : Usage Item → Type 0
 SparesUsage (Refuses f word line) = is_limit f ≡ false
 SparesUsage (Opens m actuals used) = Unit
 
 -- a usage is the same as one that no limit refuses
-unfoldable pub UsageAgrees : Usage → Usage → Type 0
+unfoldable pub UsageAgrees : Usage Item → Usage Item → Type 0
 UsageAgrees u v = SparesUsage u → v ≡ u
 
 -- a choice of usages
-choice-agrees : (test : Bool) (u v u' v' : Usage) → UsageAgrees u v → UsageAgrees u' v'
+choice-agrees : (test : Bool) (u v u' v' : Usage Item) → UsageAgrees u v → UsageAgrees u' v'
     → UsageAgrees (if test then u else u') (if test then v else v')
 choice-agrees true u v u' v' h k = h
 choice-agrees false u v u' v' h k = k
 
 -- one that stays
-same-agrees : (u : Usage) → UsageAgrees u u
+same-agrees : (u : Usage Item) → UsageAgrees u u
 unfolding UsageAgrees
 same-agrees u = λ h. refl
 
 -- a usage by its call
-call-usage : (m : Macro) (formals : List Formal) (line : ℕ) (name : List ℕ) (c d : Call Item) → CallAgrees c d
-    → UsageAgrees (usage_of_call m formals line name c) (usage_of_call m formals line name d)
+call-usage : (source : Option ℕ) (m : Macro) (formals : List Formal) (line : ℕ) (name : List ℕ) (c d : Call Item) → CallAgrees c d
+    → UsageAgrees (usage_of_call (item_reads source) m formals line name c) (usage_of_call (item_reads source) m formals line name d)
 unfolding UsageAgrees CallAgrees usage_of_call SparesUsage is_limit
-call-usage m formals line name c d (inl e) =
-    λ h. absurd (true≢false (subst (λ (x : Call Item). SparesUsage (usage_of_call m formals line name x)) e h))
-call-usage m formals line name c d (inr e) = λ h. ap (usage_of_call m formals line name) e
+call-usage source m formals line name c d (inl e) =
+    λ h. absurd (true≢false (subst (λ (x : Call Item). SparesUsage (usage_of_call (item_reads source) m formals line name x)) e h))
+call-usage source m formals line name c d (inr e) = λ h. ap (usage_of_call (item_reads source) m formals line name) e
 
 -- a usage by its macro's formals
 formals-usage : (rules : Rules) (depth most : ℕ) (define : List Macro → List ℕ → Defined) (tokens : List ℕ → List SourceToken) (source : Option ℕ) (line : ℕ) (name : List ℕ) (items : List Item) (m : Macro) (formals : Option (List Formal))
     → rules.argument_bytes ≤ most
-    → UsageAgrees (usage_of_formals rules source line name items m formals) (usage_of_formals (wider rules depth most define tokens) source line name items m formals)
+    → UsageAgrees (usage_of_formals rules (item_reads source) line name items m formals) (usage_of_formals (wider rules depth most define tokens) (item_reads source) line name items m formals)
 unfolding usage_of_formals
 formals-usage rules depth most define tokens source line name items m None h = same-agrees (Opens m [] 0)
 formals-usage rules depth most define tokens source line name items m (Some formals) h =
-    call-usage m formals line name (call_of item_role (item_size source) rules.argument_bytes items) (call_of item_role (item_size source) most items)
+    call-usage source m formals line name (call_of item_role (item_size source) rules.argument_bytes items) (call_of item_role (item_size source) most items)
     (call-agrees item_role (item_size source) rules.argument_bytes most items h)
 
 -- a usage of a macro
 macro-usage : (rules : Rules) (depth most : ℕ) (define : List Macro → List ℕ → Defined) (tokens : List ℕ → List SourceToken) (source : Option ℕ) (line : ℕ) (o : List (List ℕ)) (name : List ℕ) (items : List Item) (m : Macro)
     → rules.argument_bytes ≤ most
-    → UsageAgrees (usage_of_macro rules source line o name items m) (usage_of_macro (wider rules depth most define tokens) source line o name items m)
+    → UsageAgrees (usage_of_macro rules (item_reads source) line o name items m) (usage_of_macro (wider rules depth most define tokens) (item_reads source) line o name items m)
 unfolding usage_of_macro
 macro-usage rules depth most define tokens source line o name items m h =
-    let u = usage_of_formals rules source line name items m m.formals in
-    let v = usage_of_formals (wider rules depth most define tokens) source line name items m m.formals in
-    let recursive : Usage = Refuses RecursiveMacro name line in
+    let u = usage_of_formals rules (item_reads source) line name items m m.formals in
+    let v = usage_of_formals (wider rules depth most define tokens) (item_reads source) line name items m m.formals in
+    let recursive : Usage Item = Refuses RecursiveMacro name line in
     choice-agrees (list_any (bytes_eq name) o) recursive recursive u v (same-agrees recursive)
     (formals-usage rules depth most define tokens source line name items m m.formals h)
 
 -- a usage by what its name is
 named-usage : (rules : Rules) (depth most : ℕ) (define : List Macro → List ℕ → Defined) (tokens : List ℕ → List SourceToken) (source : Option ℕ) (line : ℕ) (o : List (List ℕ)) (name : List ℕ) (items : List Item) (found : Option Macro)
     → rules.argument_bytes ≤ most
-    → UsageAgrees (elim found [ None ↦ Refuses UndefinedMacro name line | Some m ↦ usage_of_macro rules source line o name items m ])
-    (elim found [ None ↦ Refuses UndefinedMacro name line | Some m ↦ usage_of_macro (wider rules depth most define tokens) source line o name items m ])
+    → UsageAgrees (elim found [ None ↦ Refuses UndefinedMacro name line | Some m ↦ usage_of_macro rules (item_reads source) line o name items m ])
+    (elim found [ None ↦ Refuses UndefinedMacro name line | Some m ↦ usage_of_macro (wider rules depth most define tokens) (item_reads source) line o name items m ])
 named-usage rules depth most define tokens source line o name items None h = same-agrees (Refuses UndefinedMacro name line)
 named-usage rules depth most define tokens source line o name items (Some m) h = macro-usage rules depth most define tokens source line o name items m h
 
@@ -192,13 +192,13 @@ named-usage rules depth most define tokens source line o name items (Some m) h =
 pub usage-agrees : (rules : Rules) (depth most : ℕ) (define : List Macro → List ℕ → Defined) (tokens : List ℕ → List SourceToken) (s : State) (sources more : ℕ)
     (source : Option ℕ) (line : ℕ) (o : List (List ℕ)) (name : List ℕ) (items : List Item)
     → rules.argument_bytes ≤ most
-    → UsageAgrees (usage_of rules s source line o name items)
-    (usage_of (wider rules depth most define tokens) (roomier sources more s) source line o name items)
+    → UsageAgrees (usage_of rules s (item_reads source) line o name items)
+    (usage_of (wider rules depth most define tokens) (roomier sources more s) (item_reads source) line o name items)
 unfolding usage_of
 usage-agrees rules depth most define tokens s sources more source line o name items h =
-    let reserved : Usage = Refuses DirectiveInText name line in
+    let reserved : Usage Item = Refuses DirectiveInText name line in
     choice-agrees (is_reserved name) reserved reserved
-    (elim (macro_named s.macros name) [ None ↦ Refuses UndefinedMacro name line | Some m ↦ usage_of_macro rules source line o name items m ])
-    (elim (macro_named s.macros name) [ None ↦ Refuses UndefinedMacro name line | Some m ↦ usage_of_macro (wider rules depth most define tokens) source line o name items m ])
+    (elim (macro_named s.macros name) [ None ↦ Refuses UndefinedMacro name line | Some m ↦ usage_of_macro rules (item_reads source) line o name items m ])
+    (elim (macro_named s.macros name) [ None ↦ Refuses UndefinedMacro name line | Some m ↦ usage_of_macro (wider rules depth most define tokens) (item_reads source) line o name items m ])
     (same-agrees reserved)
     (named-usage rules depth most define tokens source line o name items (macro_named s.macros name) h)

@@ -1,4 +1,5 @@
 -- Expansion with larger limits: the same, but where a smaller limit was a fault.
+use Rattle.rdlpp_meaning.specs.Actuals.{item_reads}
 use Rattle.std.proofs.Common.{◌≡◌, ℕ, zero, suc, ◌≤◌, true, true≢false, List, [], ◌∷◌, map, drop, refl, sym, ap, subst, ◌∙◌, arith, Option, None, Some}
 use Rattle.std.specs.Prelude.{unwrap_or}
 use Rattle.rdlpp_scan.specs.declared.token.Kind.TheVariants.{Back, BareBackquote}
@@ -50,14 +51,14 @@ unfoldable pub Opening : (ℕ → List (List ℕ) → List Item → Outcome) →
 Opening deeper deeper' = (line : ℕ) (p : List (List ℕ)) (g : List Item) → Agrees (deeper line p g) (deeper' line p g)
 
 -- what a usage writes in front of further items, by what it comes to
-unfoldable pub usage_walk : Rules → State → (ℕ → List (List ℕ) → List Item → Outcome) → Option ℕ → List (List ℕ) → ℕ → List ℕ → List Item → Usage → Outcome
+unfoldable pub usage_walk : Rules → State → (ℕ → List (List ℕ) → List Item → Outcome) → Option ℕ → List (List ℕ) → ℕ → List ℕ → List Item → Usage Item → Outcome
 usage_walk rules s deeper source o line name xs (Refuses f word at) = fails (fault_at f at word s)
 usage_walk rules s deeper source o line name xs (Opens m actuals used) =
     and_then (deeper line (m.name ∷ o) (substituted m actuals o)) (walk rules s deeper source o used xs)
 
 -- a usage writes that
-pub usage_walks : (rules : Rules) (s : State) (deeper : ℕ → List (List ℕ) → List Item → Outcome) (source : Option ℕ) (o : List (List ℕ)) (bytes : List ℕ) (line : ℕ) (xs : List Item) (u : Usage)
-    → usage_of rules s source (unwrap_or source line) o (drop 1 bytes) xs ≡ u
+pub usage_walks : (rules : Rules) (s : State) (deeper : ℕ → List (List ℕ) → List Item → Outcome) (source : Option ℕ) (o : List (List ℕ)) (bytes : List ℕ) (line : ℕ) (xs : List Item) (u : Usage Item)
+    → usage_of rules s (item_reads source) (unwrap_or source line) o (drop 1 bytes) xs ≡ u
     → walk rules s deeper source o 0 (Written (record { sort = Ordinary Back; bytes = bytes; line = line }) ∷ xs)
     ≡ usage_walk rules s deeper source o (unwrap_or source line) (drop 1 bytes) xs u
 unfolding walk usage_walk name_of
@@ -71,15 +72,15 @@ Walks rules depth most define tokens s sources more deeper deeper' source o xs =
 
 -- what a usage writes agrees, by what it comes to
 usage-walk-agrees : (rules : Rules) (depth most : ℕ) (define : List Macro → List ℕ → Defined) (tokens : List ℕ → List SourceToken) (s : State) (sources more : ℕ)
-    (deeper deeper' : ℕ → List (List ℕ) → List Item → Outcome) (source : Option ℕ) (o : List (List ℕ)) (line : ℕ) (name : List ℕ) (xs : List Item) (u v : Usage)
+    (deeper deeper' : ℕ → List (List ℕ) → List Item → Outcome) (source : Option ℕ) (o : List (List ℕ)) (line : ℕ) (name : List ℕ) (xs : List Item) (u v : Usage Item)
     → Opening deeper deeper' → Walks rules depth most define tokens s sources more deeper deeper' source o xs → UsageAgrees u v
     → Agrees (usage_walk rules s deeper source o line name xs u)
     (usage_walk (wider rules depth most define tokens) (roomier sources more s) deeper' source o line name xs v)
 unfolding usage_walk Opening UsageAgrees SparesUsage fault_at fails Agrees
 usage-walk-agrees rules depth most define tokens s sources more deeper deeper' source o line name xs (Refuses f word at) v inner rest h =
-    λ n. ap (λ (u : Usage). usage_walk (wider rules depth most define tokens) (roomier sources more s) deeper' source o line name xs u) (h n)
+    λ n. ap (λ (u : Usage Item). usage_walk (wider rules depth most define tokens) (roomier sources more s) deeper' source o line name xs u) (h n)
 usage-walk-agrees rules depth most define tokens s sources more deeper deeper' source o line name xs (Opens m actuals used) v inner rest h =
-    λ n. ap (λ (u : Usage). usage_walk (wider rules depth most define tokens) (roomier sources more s) deeper' source o line name xs u) (h tt)
+    λ n. ap (λ (u : Usage Item). usage_walk (wider rules depth most define tokens) (roomier sources more s) deeper' source o line name xs u) (h tt)
     ∙ then-agrees (deeper line (m.name ∷ o) (substituted m actuals o)) (deeper' line (m.name ∷ o) (substituted m actuals o))
     (walk rules s deeper source o used xs) (walk (wider rules depth most define tokens) (roomier sources more s) deeper' source o used xs)
     (inner line (m.name ∷ o) (substituted m actuals o)) (rest used) n
@@ -92,8 +93,8 @@ token-agrees : (rules : Rules) (depth most : ℕ) (define : List Macro → List 
     (walk (wider rules depth most define tokens) (roomier sources more s) deeper' source o 0 (Written (record { sort = sort; bytes = bytes; line = line }) ∷ xs))
 unfolding walk fault_at
 token-agrees rules depth most define tokens s sources more deeper deeper' source o (Ordinary Back) bytes line xs h inner rest =
-    let u = usage_of rules s source (unwrap_or source line) o (drop 1 bytes) xs in
-    let v = usage_of (wider rules depth most define tokens) (roomier sources more s) source (unwrap_or source line) o (drop 1 bytes) xs in
+    let u = usage_of rules s (item_reads source) (unwrap_or source line) o (drop 1 bytes) xs in
+    let v = usage_of (wider rules depth most define tokens) (roomier sources more s) (item_reads source) (unwrap_or source line) o (drop 1 bytes) xs in
     let t : SourceToken = record { sort = Ordinary Back; bytes = bytes; line = line } in
     agrees-along (walk rules s deeper source o 0 (Written t ∷ xs))
     (usage_walk rules s deeper source o (unwrap_or source line) (drop 1 bytes) xs u)

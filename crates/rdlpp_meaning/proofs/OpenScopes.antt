@@ -1,25 +1,66 @@
--- What a name of a scope stands for, where open texts are parts of texts: the open text that the slots have there.
-use Rattle.std.proofs.Common.{◌≡◌, ℕ, zero, suc, ◌+◌, ◌-◌, ◌<◌, ◌≤◌, Bool, true, false, true≢false, cond, not, ◌&&◌, List, [], ◌∷◌, map, length, take, drop, refl, sym, ap, subst, ◌∙◌, arith, Option, None, Some}
-use Rattle.std.specs.Prelude.{if◌then◌else◌, ◌==◌, nat_lt, bytes_eq, slice_range, slice_index_or}
+-- The scopes of open texts: their items and macros, what a name of a scope stands for, and the front of the innermost text.
+use Rattle.std.proofs.Common.{◌≡◌, ℕ, suc, ◌≤◌, Bool, true, false, List, ◌∷◌, length, refl, ap, arith, eq-eqb, zero, ◌+◌, ◌-◌, ◌<◌, cond, not, ◌&&◌, [], take, drop, sym, ◌∙◌, Option, None, Some}
+use Rattle.std.specs.Prelude.{if◌then◌else◌, ◌==◌, nat_lt, bytes_eq, slice_index_or, slice_range}
+use Rattle.std.proofs.lemmas.Bool.{eqb-true, lt-ltb, le-ltb, ltb-true, ltb-false}
+use Rattle.rdlpp_scan.specs.SourceTokens.{SourceToken}
+use Rattle.rdlpp_meaning.specs.Opens.{Open, Texts, scope_text, own_writers, writers_at, Part, OpenKind, OpenBody, OpenActual, OpenDefault, formal_at, part_at, part_tokens, AreOpen, open_bytes, open_behind}
+use Rattle.rdlpp_meaning.specs.OpenItems.{own_item, item_at}
 use Rattle.std.specs.List.{AllByRecursion, prefix_len}
 use Rattle.std.specs.Option.{option_map}
-use Rattle.std.proofs.lemmas.Bool.{lt-ltb, le-ltb, ltb-true, ltb-false, eqb-true}
-use Rattle.std.proofs.lemmas.List.{length-take, length-drop, length-map, get_or-map}
 use Rattle.std.proofs.Math.Seq.{take-length}
-use Rattle.rdlpp_scan.specs.declared.token.Kind.TheVariants.{Name}
 use Rattle.rdlpp_scan.specs.declared.token.Mode.TheVariants.{Plain}
-use Rattle.rdlpp_scan.specs.SourceTokens.{Ordinary, SourceToken}
-use Rattle.rdlpp_scan.specs.Tokens.{token_of}
 use Rattle.rdlpp_table.specs.Table.{Formal}
-use Rattle.rdlpp_table.specs.View.{macro_at, formals_of, formal_named}
-use Rattle.rdlpp_meaning.specs.Substitution.{Standing, Given, Defaulted, standing_of, bound_to}
-use Rattle.rdlpp_meaning.specs.Substitution.{body_tokens}
-use Rattle.rdlpp_meaning.specs.Slots.{Actual, Default, Slot, standing_slot, own_standing, standing_at, AreHomed}
-use Rattle.rdlpp_meaning.specs.Cursors.{stood_for}
+use Rattle.rdlpp_table.specs.View.{formal_named}
+use Rattle.rdlpp_meaning.specs.Substitution.{Standing, standing_of, bound_to, body_tokens}
 use Rattle.rdlpp_meaning.specs.TextTokens.{text_tokens}
-use Rattle.rdlpp_meaning.specs.Opens.{Part, OpenKind, OpenBody, OpenActual, OpenDefault, Open, Texts, formal_at, part_at, own_text, scope_text, text_around, part_tokens, slot_kind, slot_of, slots_of, open_standing, own_open, open_at, HasParts, AreOpen}
-use Rattle.rdlpp_meaning.proofs.SlotScopes.{not_next}
-use Rattle.rdlpp_meaning.proofs.TextRanges.{body_text, text_step, text_nil, first_spelled}
+use Rattle.rdlpp_meaning.proofs.TextRanges.{body_text, text_nil}
+use Rattle.std.proofs.lemmas.List.{drop-take, drop-drop}
+use Rattle.rdlpp_scan.specs.declared.token.Kind.{Kind}
+use Rattle.rdlpp_scan.specs.declared.token.Kind.TheVariants.{Name}
+use Rattle.rdlpp_scan.specs.declared.token.Mode.{Mode}
+use Rattle.rdlpp_scan.specs.Tokens.{token_of}
+
+-- a test of two numbers that aren't equal fails
+unequal : (a b : ℕ) (x : Bool) → (a == b) ≡ x → (a ≡ b → ⊥) → x ≡ false
+unequal a b true e h = absurd (h (eqb-true a b e))
+unequal a b false e h = refl
+
+-- a scope further out isn't the next one
+pub not_next : (k n : ℕ) → k ≤ n → (k == suc n) ≡ false
+not_next k n h = unequal k (suc n) (k == suc n) refl (λ e. omega arith)
+
+-- the next one is
+pub next_is : (n : ℕ) → (n == n) ≡ true
+next_is n = eq-eqb n n refl
+
+-- one more open text changes nothing of the items of the scopes around it
+pub item-around : (texts : Texts) (x : Open) (below : List Open) (k : ℕ) → k ≤ length below → item_at texts (x ∷ below) k ≡ item_at texts below k
+unfolding item_at
+item-around texts x below k h =
+    ap (λ (b : Bool). λ (t : SourceToken).
+    if b then own_item texts x.kind (scope_text texts below x.home) (item_at texts below x.home) (writers_at texts below x.home) t
+    else item_at texts below k t) (not_next k (length below) h)
+
+-- nor of the macros in whose text they are
+pub writers-around : (texts : Texts) (x : Open) (below : List Open) (k : ℕ) → k ≤ length below → writers_at texts (x ∷ below) k ≡ writers_at texts below k
+unfolding writers_at
+writers-around texts x below k h = rw (not_next k (length below) h) refl
+
+-- the items of its own scope
+pub item-own : (texts : Texts) (x : Open) (below : List Open)
+    → item_at texts (x ∷ below) (suc (length below))
+    ≡ own_item texts x.kind (scope_text texts below x.home) (item_at texts below x.home) (writers_at texts below x.home)
+unfolding item_at
+item-own texts x below =
+    ap (λ (b : Bool). λ (t : SourceToken).
+    if b then own_item texts x.kind (scope_text texts below x.home) (item_at texts below x.home) (writers_at texts below x.home) t
+    else item_at texts below (suc (length below)) t) (next_is (suc (length below)))
+
+-- and its macros
+pub writers-own : (texts : Texts) (x : Open) (below : List Open)
+    → writers_at texts (x ∷ below) (suc (length below)) ≡ own_writers texts x.kind (writers_at texts below x.home)
+unfolding writers_at
+writers-own texts x below = rw (next_is (suc (length below))) refl
 
 -- the first place
 first-place : (k n : ℕ) → k ≡ 0 → cond (nat_lt k (suc n)) (Some k) None ≡ Some 0
@@ -99,12 +140,6 @@ bound-place [] actuals name h = refl
 bound-place (f ∷ fs) [] name h = absurd (omega (arith, h))
 bound-place (f ∷ fs) (a ∷ actuals) name h = bound-by f fs a actuals name (bytes_eq f.name name) refl (bound-place fs actuals name (omega (arith, h)))
 
--- there are as many slots as open texts
-pub slots-length : (texts : Texts) (opens : List Open) → length (slots_of texts opens) ≡ length opens
-unfolding slots_of
-slots-length texts [] = refl
-slots-length texts (x ∷ below) = ap (λ (n : ℕ). suc n) (slots-length texts below)
-
 -- one more open text changes nothing of the texts of the scopes around it
 pub text-around : (texts : Texts) (x : Open) (below : List Open) (k : ℕ) → k ≤ length below
     → scope_text texts (x ∷ below) k ≡ scope_text texts below k
@@ -117,17 +152,8 @@ IsOpenText (OpenBody id parts) = ⊥
 IsOpenText OpenActual = Unit
 IsOpenText (OpenDefault id place) = Unit
 
--- nor of an actual or a default that would be opened, by what it is
-slot-around-by : (texts : Texts) (part : Part) (home : ℕ) (kind : OpenKind) (x : Open) (below : List Open) → IsOpenText kind → home ≤ length below
-    → slot_of texts (record { part = part; home = home; kind = kind }) (x ∷ below) ≡ slot_of texts (record { part = part; home = home; kind = kind }) below
-unfolding IsOpenText slot_of text_around slot_kind own_text
-slot-around-by texts part home (OpenBody id parts) x below n h = absurd n
-slot-around-by texts part home OpenActual x below n h =
-    ap (λ (text : List ℕ). record { text = part_tokens text part; home = home; kind = Actual }) (text-around texts x below home h)
-slot-around-by texts part home (OpenDefault id place) x below n h = refl
-
 -- a part has no tokens where it has no bytes
-part-empty : (text : List ℕ) (part : Part) → part.end - part.from ≡ 0 → part_tokens text part ≡ []
+pub part-empty : (text : List ℕ) (part : Part) → part.end - part.from ≡ 0 → part_tokens text part ≡ []
 unfolding part_tokens
 part-empty text part e = ap (λ (n : ℕ). text_tokens part.mode (take n (drop part.from text))) e ∙ text_nil part.mode
 
@@ -141,25 +167,8 @@ part-whole text =
     same : (n : ℕ) → n - 0 ≡ n
     same n = omega arith
 
--- what a formal stands for by tokens of which there is one
-standing-some : (f : Formal) (t : SourceToken) (ts actual : List SourceToken) → actual ≡ t ∷ ts → standing_of f actual ≡ Given actual
-unfolding standing_of
-standing-some f t ts actual e =
-    ap (λ (xs : List SourceToken). standing_of f xs) e ∙ ap (λ (xs : List SourceToken). Given xs) (sym e)
-
--- what a formal stands for by a part that has bytes
-standing-part : (f : Formal) (text : List ℕ) (part : Part) → part.end ≤ length text → 0 < part.end - part.from
-    → standing_of f (part_tokens text part) ≡ Given (part_tokens text part)
-unfolding part_tokens
-standing-part f text part h some =
-    let bytes = slice_range text part.from part.end in
-    let n = length-take (part.end - part.from) (drop part.from text) in
-    let d = length-drop part.from text in
-    standing-some f (first_spelled part.mode bytes) (text_tokens (token_of part.mode bytes).next_mode (drop (token_of part.mode bytes).len bytes))
-    (text_tokens part.mode bytes) (text_step part.mode bytes (omega (arith, h, some, n, d)))
-
 -- the open text that a formal stands for, by whether its part has no bytes and whether it has no default
-unfoldable standing_by : Bool → Bool → List Formal → ℕ → ℕ → ℕ → List Part → ℕ → Open
+unfoldable pub standing_by : Bool → Bool → List Formal → ℕ → ℕ → ℕ → List Part → ℕ → Open
 standing_by empty none formals id scope home parts place =
     if empty && not none
     then record {
@@ -169,47 +178,8 @@ standing_by empty none formals id scope home parts place =
     }
     else record { part = part_at parts place; home = home; kind = OpenActual }
 
--- what a formal of a body stands for is the slot of the open text that it stands for, by whether its part has no bytes and whether
--- it has no default
-place-by : (texts : Texts) (id scope home place : ℕ) (parts : List Part) (opens : List Open) (text : List ℕ) (empty none : Bool)
-    → scope_text texts opens home ≡ text → (part_at parts place).end ≤ length text
-    → ((part_at parts place).end - (part_at parts place).from == 0) ≡ empty
-    → (length (formal_at (formals_of (macro_at texts.macros id)) place).text == 0) ≡ none
-    → standing_slot scope home (standing_of (formal_at (formals_of (macro_at texts.macros id)) place) (part_tokens text (part_at parts place)))
-    ≡ slot_of texts (standing_by empty none (formals_of (macro_at texts.macros id)) id scope home parts place) opens
-unfolding standing_by slot_of text_around slot_kind own_text standing_slot standing_of
-place-by texts id scope home place parts opens text true none around inside e n =
-    let part = part_at parts place in
-    let f = formal_at (formals_of (macro_at texts.macros id)) place in
-    let nothing : part_tokens text part ≡ [] = part-empty text part (eqb-true (part.end - part.from) 0 e) in
-    ap (λ (actual : List SourceToken). standing_slot scope home (standing_of f actual)) nothing
-    ∙ default none n nothing
-  where
-    default : (none : Bool) → (length (formal_at (formals_of (macro_at texts.macros id)) place).text == 0) ≡ none
-        → part_tokens text (part_at parts place) ≡ []
-        → standing_slot scope home (if length (formal_at (formals_of (macro_at texts.macros id)) place).text == 0 then Given [] else Defaulted (formal_at (formals_of (macro_at texts.macros id)) place).text)
-        ≡ slot_of texts (standing_by true none (formals_of (macro_at texts.macros id)) id scope home parts place) opens
-    default true n nothing =
-        ap (λ (b : Bool). standing_slot scope home (if b then Given [] else Defaulted (formal_at (formals_of (macro_at texts.macros id)) place).text)) n
-        ∙ ap (λ (ts : List SourceToken). record { text = ts; home = home; kind = Actual })
-        (sym nothing ∙ sym (ap (λ (bytes : List ℕ). part_tokens bytes (part_at parts place)) around))
-    default false n nothing =
-        ap (λ (b : Bool). standing_slot scope home (if b then Given [] else Defaulted (formal_at (formals_of (macro_at texts.macros id)) place).text)) n
-        ∙ ap (λ (ts : List SourceToken). record { text = ts; home = scope; kind = Default })
-        (sym (part-whole (formal_at (formals_of (macro_at texts.macros id)) place).text))
-place-by texts id scope home place parts opens text false none around inside e n =
-    let part = part_at parts place in
-    let f = formal_at (formals_of (macro_at texts.macros id)) place in
-    ap (λ (x : Standing SourceToken). standing_slot scope home x)
-    (standing-part f text part inside (positive (part.end - part.from) e))
-    ∙ ap (λ (bytes : List ℕ). record { text = part_tokens bytes part; home = home; kind = Actual }) (sym around)
-  where
-    positive : (n : ℕ) → (n == 0) ≡ false → 0 < n
-    positive zero e = absurd (true≢false e)
-    positive (suc n) e = omega arith
-
 -- what a formal stands for is no body
-standing-text : (empty none : Bool) (formals : List Formal) (id scope home : ℕ) (parts : List Part) (place : ℕ)
+pub standing-text : (empty none : Bool) (formals : List Formal) (id scope home : ℕ) (parts : List Part) (place : ℕ)
     → IsOpenText (standing_by empty none formals id scope home parts place).kind
 unfolding standing_by IsOpenText
 standing-text true true formals id scope home parts place = tt
@@ -217,7 +187,7 @@ standing-text true false formals id scope home parts place = tt
 standing-text false none formals id scope home parts place = tt
 
 -- and its home is the scope or one further out
-standing-inside : (empty none : Bool) (formals : List Formal) (id scope home : ℕ) (parts : List Part) (place n : ℕ) → scope ≡ n → home < n
+pub standing-inside : (empty none : Bool) (formals : List Formal) (id scope home : ℕ) (parts : List Part) (place n : ℕ) → scope ≡ n → home < n
     → (standing_by empty none formals id scope home parts place).home ≤ n
 unfolding standing_by
 standing-inside true true formals id scope home parts place n e h = omega (arith, e, h)
@@ -225,73 +195,23 @@ standing-inside true false formals id scope home parts place n e h = omega (arit
 standing-inside false none formals id scope home parts place n e h = omega (arith, e, h)
 
 -- a part lies in its text
-part-inside : (text : List ℕ) (parts : List Part) (place : ℕ) → AllByRecursion (λ part. part.end ≤ length text) parts → place < length parts
+pub part-inside : (text : List ℕ) (parts : List Part) (place : ℕ) → AllByRecursion (λ part. part.end ≤ length text) parts → place < length parts
     → (part_at parts place).end ≤ length text
 part-inside text [] place h k = absurd (omega (arith, k))
 part-inside text (p ∷ ps) zero h k = h.0
 part-inside text (p ∷ ps) (suc place) h k = part-inside text ps place h.1 (omega (arith, k))
 
 -- a place of a list of so many
-IsPlace : ℕ → Option ℕ → Type 0
+abbrev pub IsPlace : ℕ → Option ℕ → Type 0
 IsPlace n None = Unit
 IsPlace n (Some k) = k < n
 
--- a slot is that of an open text, which is no body and whose home is a scope around it
-pub record IsOpenFound (texts : Texts) (opens : List Open) (x : Open) (standing : Option Slot) : Type 0 where
-  pub slot : standing ≡ Some (slot_of texts x opens)
-  pub text : IsOpenText x.kind
-  pub inside : x.home ≤ length opens
-
--- what a name of a scope stands for by its slots, as its open texts have it
-unfoldable pub OpenFound : Texts → List Open → Option Open → Option Slot → Type 0
-OpenFound texts opens None standing = standing ≡ None
-OpenFound texts opens (Some x) standing = IsOpenFound texts opens x standing
-
 -- a scope further out comes before the next one
-further : (a b : ℕ) → a ≤ b → a < suc b
+pub further : (a b : ℕ) → a ≤ b → a < suc b
 further a b h = omega (arith, h)
 
--- what a formal of a body's own scope stands for, by its place
-place-found : (texts : Texts) (id scope : ℕ) (parts : List Part) (x : Open) (below : List Open) (place : ℕ)
-    → scope ≡ suc (length below) → x.home ≤ length below
-    → (part_at parts place).end ≤ length (scope_text texts below x.home)
-    → IsOpenFound texts (x ∷ below) (open_standing (formals_of (macro_at texts.macros id)) id scope x.home parts place)
-    (Some (standing_slot scope x.home (standing_of (formal_at (formals_of (macro_at texts.macros id)) place) (part_tokens (scope_text texts below x.home) (part_at parts place)))))
-unfolding open_standing standing_by
-place-found texts id scope parts x below place own h inside =
-    let formals = formals_of (macro_at texts.macros id) in
-    let empty : Bool = (part_at parts place).end - (part_at parts place).from == 0 in
-    let none : Bool = length (formal_at formals place).text == 0 in
-    record {
-      slot = ap (λ (y : Slot). Some y) (place-by texts id scope x.home place parts (x ∷ below) (scope_text texts below x.home) empty none
-          (text-around texts x below x.home h) inside refl refl);
-      text = standing-text empty none formals id scope x.home parts place;
-      inside = standing-inside empty none formals id scope x.home parts place (suc (length below)) own (further x.home (length below) h);
-    }
-
--- what a formal of a body's own scope stands for, if the name is one
-body-found : (texts : Texts) (id scope : ℕ) (parts : List Part) (x : Open) (below : List Open) (place : Option ℕ)
-    → scope ≡ suc (length below) → x.home ≤ length below
-    → AllByRecursion (λ part. part.end ≤ length (scope_text texts below x.home)) parts
-    → IsPlace (length parts) place
-    → OpenFound texts (x ∷ below)
-    (option_map (open_standing (formals_of (macro_at texts.macros id)) id scope x.home parts) place)
-    (option_map (standing_slot scope x.home)
-    (option_map (standing_of_place (formals_of (macro_at texts.macros id)) (map (part_tokens (scope_text texts below x.home)) parts)) place))
-unfolding OpenFound standing_of_place IsPlace
-body-found texts id scope parts x below None own h fits inside = refl
-body-found texts id scope parts x below (Some place) own h fits inside =
-    let text = scope_text texts below x.home in
-    let f = formal_at (formals_of (macro_at texts.macros id)) place in
-    subst (λ (actual : List SourceToken). IsOpenFound texts (x ∷ below)
-    (open_standing (formals_of (macro_at texts.macros id)) id scope x.home parts place)
-    (Some (standing_slot scope x.home (standing_of f actual))))
-    (sym (get_or-map (part_tokens text) parts place (record { from = 0; end = 0; mode = Plain }) [] inside))
-    (place-found texts id scope parts x below place own h (part-inside text parts place fits inside))
-
 -- the place of a name is one of its list
-formal-place : (formals : List Formal) (name : List ℕ) (n : ℕ) → length formals ≤ n → IsPlace n (formal_named formals name)
-unfolding IsPlace
+pub formal-place : (formals : List Formal) (name : List ℕ) (n : ℕ) → length formals ≤ n → IsPlace n (formal_named formals name)
 formal-place formals name n h =
     by (prefix_len (λ (g : Formal). not (bytes_eq g.name name)) formals) (nat_lt (prefix_len (λ (g : Formal). not (bytes_eq g.name name)) formals) (length formals)) refl
   where
@@ -299,72 +219,36 @@ formal-place formals name n h =
     by k true e = let l = ltb-true k (length formals) e in omega (arith, l, h)
     by k false e = tt
 
--- what a name of an open text's own scope stands for
-own-found : (texts : Texts) (part : Part) (home : ℕ) (kind : OpenKind) (below : List Open) (scope : ℕ) (bytes : List ℕ) (line : ℕ)
-    → scope ≡ suc (length below) → home ≤ length below → HasParts texts (scope_text texts below home) kind
-    → OpenFound texts (record { part = part; home = home; kind = kind } ∷ below) (own_open texts kind scope home bytes)
-    (own_standing (slot_kind texts (scope_text texts below home) kind) scope home (record { sort = Ordinary Name; bytes = bytes; line = line }))
-unfolding own_open own_standing slot_kind stood_for OpenFound
-own-found texts part home (OpenBody id parts) below scope bytes line own h has =
-    let x : Open = record { part = part; home = home; kind = OpenBody id parts } in
-    let formals = formals_of (macro_at texts.macros id) in
-    let actuals = map (part_tokens (scope_text texts below home)) parts in
-    let many : length formals ≤ length actuals = let l = length-map parts (part_tokens (scope_text texts below home)) in let k : length formals ≤ length parts = has.0 in omega (arith, l, k) in
-    subst (λ (o : Option (Standing SourceToken)). OpenFound texts (x ∷ below)
-    (option_map (open_standing formals id scope home parts) (formal_named formals bytes)) (option_map (standing_slot scope home) o))
-    (sym (bound-place formals actuals bytes many))
-    (body-found texts id scope parts x below (formal_named formals bytes) own h has.1 (formal-place formals bytes (length parts) has.0))
-own-found texts part home OpenActual below scope bytes line own h has = refl
-own-found texts part home (OpenDefault id place) below scope bytes line own h has = refl
+-- a range of a text behind some of its bytes
+pub range_behind : (text : List ℕ) (from end n : ℕ) → n ≤ end - from → drop n (slice_range text from end) ≡ slice_range text (from + n) end
+range_behind text from end n h =
+    ap (λ (k : ℕ). drop n (take k (drop from text))) (whole from end n h)
+    ∙ drop-take n (end - (from + n)) (drop from text)
+    ∙ ap (λ (bytes : List ℕ). take (end - (from + n)) bytes) (drop-drop n from text)
+  where
+    whole : (a b k : ℕ) → k ≤ b - a → b - a ≡ k + (b - (a + k))
+    whole a b k h = omega (arith, h)
 
--- what is found in a scope is found with one more open text
-found-around : (texts : Texts) (x : Open) (below : List Open) (found : Option Open) (standing : Option Slot)
-    → OpenFound texts below found standing → OpenFound texts (x ∷ below) found standing
-unfolding OpenFound
-found-around texts x below None standing m = m
-found-around texts x below (Some y) standing m = record {
-  slot = m.slot ∙ ap (λ (z : Slot). Some z) (sym (slot-around-by texts y.part y.home y.kind x below m.text m.inside));
-  text = m.text;
-  inside = let h : y.home ≤ length below = m.inside in omega arith;
-}
+-- what a token of a kind needs so that it stands for itself: a name is no formal
+unfoldable pub Alone : {A : Type 0} → Kind → Option A → Type 0
+Alone Name found = found ≡ None
+Alone kind found = Unit
 
--- by whether the scope is that of the innermost open text
-found-by : (texts : Texts) (x : Open) (below : List Open) (k : ℕ) (bytes : List ℕ) (line : ℕ) (own : Bool) → (k == suc (length below)) ≡ own
-    → x.home ≤ length below → HasParts texts (scope_text texts below x.home) x.kind
-    → OpenFound texts below (open_at texts below k bytes) (standing_at (slots_of texts below) k (record { sort = Ordinary Name; bytes = bytes; line = line }))
-    → OpenFound texts (x ∷ below) (open_at texts (x ∷ below) k bytes)
-    (standing_at (slots_of texts (x ∷ below)) k (record { sort = Ordinary Name; bytes = bytes; line = line }))
-unfolding open_at standing_at slots_of slot_of
-found-by texts x below k bytes line true e h has rest =
-    let t : SourceToken = record { sort = Ordinary Name; bytes = bytes; line = line } in
-    let kind = slot_kind texts (scope_text texts below x.home) x.kind in
-    let slots : (k == suc (length (slots_of texts below))) ≡ true = ap (λ (n : ℕ). k == suc n) (slots-length texts below) ∙ e in
-    subst (λ (o : Option Slot). OpenFound texts (x ∷ below) (open_at texts (x ∷ below) k bytes) o)
-    (sym (ap (λ (b : Bool). if b then own_standing kind k x.home t else standing_at (slots_of texts below) k t) slots))
-    (subst (λ (o : Option Open). OpenFound texts (x ∷ below) o (own_standing kind k x.home t))
-    (sym (ap (λ (b : Bool). if b then own_open texts x.kind k x.home bytes else open_at texts below k bytes) e))
-    (own-found texts x.part x.home x.kind below k bytes line (eqb-true k (suc (length below)) e) h has))
-found-by texts x below k bytes line false e h has rest =
-    let t : SourceToken = record { sort = Ordinary Name; bytes = bytes; line = line } in
-    let kind = slot_kind texts (scope_text texts below x.home) x.kind in
-    let slots : (k == suc (length (slots_of texts below))) ≡ false = ap (λ (n : ℕ). k == suc n) (slots-length texts below) ∙ e in
-    subst (λ (o : Option Slot). OpenFound texts (x ∷ below) (open_at texts (x ∷ below) k bytes) o)
-    (sym (ap (λ (b : Bool). if b then own_standing kind k x.home t else standing_at (slots_of texts below) k t) slots))
-    (subst (λ (o : Option Open). OpenFound texts (x ∷ below) o (standing_at (slots_of texts below) k t))
-    (sym (ap (λ (b : Bool). if b then own_open texts x.kind k x.home bytes else open_at texts below k bytes) e))
-    (found-around texts x below (open_at texts below k bytes) (standing_at (slots_of texts below) k t) rest))
+-- the kind of the first token of an open text
+unfoldable pub first_kind : Texts → Open → List Open → Kind
+first_kind texts x below = (token_of x.part.mode (open_bytes texts x below)).kind
 
--- a name of a scope stands for the slot of the open text that it stands for
-pub open-found : (texts : Texts) (opens : List Open) (k : ℕ) (bytes : List ℕ) (line : ℕ) → AreOpen texts opens
-    → OpenFound texts opens (open_at texts opens k bytes) (standing_at (slots_of texts opens) k (record { sort = Ordinary Name; bytes = bytes; line = line }))
-unfolding open_at standing_at slots_of OpenFound
-open-found texts [] k bytes line h = refl
-open-found texts (x ∷ below) k bytes line h =
-    found-by texts x below k bytes line (k == suc (length below)) refl h.0 (h.1).0 (open-found texts below k bytes line (h.1).1)
+-- its bytes
+unfoldable pub first_bytes : Texts → Open → List Open → List ℕ
+first_bytes texts x below = take (token_of x.part.mode (open_bytes texts x below)).len (open_bytes texts x below)
 
--- slots of open texts have homes further out
-pub slots-homed : (texts : Texts) (opens : List Open) → AreOpen texts opens → AreHomed (slots_of texts opens)
-unfolding slots_of slot_of
-slots-homed texts [] h = tt
-slots-homed texts (x ∷ below) h =
-    (let e = slots-length texts below in let n : x.home ≤ length below = h.0 in omega (arith, e, n), slots-homed texts below (h.1).1)
+-- the open text behind it
+unfoldable pub first_behind : Texts → Open → List Open → Open
+first_behind texts x below =
+    open_behind x (token_of x.part.mode (open_bytes texts x below)).len (token_of x.part.mode (open_bytes texts x below)).next_mode
+
+-- an open text behind some of its bytes is still open
+pub behind-open : (texts : Texts) (x : Open) (below : List Open) (n : ℕ) (mode : Mode) → AreOpen texts (x ∷ below)
+    → AreOpen texts (open_behind x n mode ∷ below)
+unfolding open_behind
+behind-open texts x below n mode h = h

@@ -4,14 +4,13 @@ use Rattle.std.specs.Prelude.{All}
 use Rattle.rdlpp_scan.specs.declared.token.Mode.{Mode}
 use Rattle.rdlpp_scan.specs.SourceTokens.{SourceToken, Course, source_tokens}
 use Rattle.rdlpp_meaning.specs.declared.fault.FaultKind.{FaultKind}
-use Rattle.rdlpp_meaning.specs.Actuals.{Lacking, Broke, map_call, call_of, token_role}
+use Rattle.rdlpp_meaning.specs.Actuals.{Lacking, Broke, map_call, call_of, token_role, kept}
 use Rattle.rdlpp_meaning.specs.CallReading.{ReadRefused, ReadStopped, ReadClosed, read, reading_of}
 use Rattle.rdlpp_meaning.specs.CallScan.{Before, Scanned, Refused, Stopped, Closed, scan, call_of_scan, is_kept, source_role}
-use Rattle.rdlpp_meaning.specs.Cursors.{kept}
 use Rattle.rdlpp_meaning.specs.Expansion.{bytes_of}
 use Rattle.rdlpp_meaning.specs.Resumed.{leading}
 use Rattle.rdlpp_meaning.specs.Substitution.{body_tokens}
-use Rattle.rdlpp_meaning.specs.TextTokens.{unlined}
+use Rattle.rdlpp_meaning.specs.Items.{unlined}
 use Rattle.rdlpp_meaning.proofs.CallReadings.{read_is_scan}
 use Rattle.rdlpp_meaning.proofs.ClosedScans.{closed_scan}
 use Rattle.rdlpp_meaning.proofs.KeptTexts.{kept_call_keeps, kept_call_text}

@@ -5,8 +5,8 @@ use Rattle.rdlpp_meaning.specs.Outcome.{Outcome, gives, and_then}
 use Rattle.rdlpp_meaning.specs.State.{Rules, State}
 use Rattle.rdlpp_meaning.specs.Expansion.{walk, run_outcome}
 use Rattle.rdlpp_meaning.specs.Parts.{Piece, Run, Single, Opening, Branching, Closing, only_blanks, directive_of, joined, pieces}
-use Rattle.rdlpp_meaning.specs.Meaning.{leaves, outcome, goes_on, Nest, Progress, nest_of}
-use Rattle.rdlpp_meaning.specs.Resumed.{Live, resume, resumed, remains}
+use Rattle.rdlpp_meaning.specs.Meaning.{leaves, goes_on, Nest, Progress, nest_of}
+use Rattle.rdlpp_meaning.specs.Resumed.{Live, resume, resumed}
 use Rattle.rdlpp_meaning.proofs.Outcomes.{and_then-nil}
 use Rattle.rdlpp_meaning.proofs.Passages.{on_leaves, leaves-and_then}
 use Rattle.rdlpp_meaning.proofs.Walks.{expand_walk}

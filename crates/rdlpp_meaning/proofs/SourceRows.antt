@@ -13,7 +13,8 @@ use Rattle.rdlpp_scan.proofs.OrdinaryTokens.{IsTokenOf, Gives, source_step_gives
 use Rattle.rdlpp_scan.proofs.SourceLaws.{source_tokens-next, source_tokens-last}
 use Rattle.rdlpp_scan.proofs.TokenLens.{token_of-part}
 use Rattle.rdlpp_meaning.specs.Expansion.{bytes_of}
-use Rattle.rdlpp_meaning.specs.TextTokens.{text_tokens, broken_line, unlined}
+use Rattle.rdlpp_meaning.specs.Items.{broken_line, unlined}
+use Rattle.rdlpp_meaning.specs.TextTokens.{text_tokens}
 use Rattle.rdlpp_meaning.proofs.TextRanges.{first_is, rest_is, first_spelled, text_step, first_size}
 
 -- where a text stands behind a row of tokens of the token table: in plain text, where there is one

@@ -6,7 +6,7 @@ use Rattle.rdlpp_meaning.specs.Outcome.{Outcome, gives}
 use Rattle.rdlpp_meaning.specs.State.{Rules, State}
 use Rattle.rdlpp_meaning.specs.Parts.{only_blanks, line_ends_of, directive_of}
 use Rattle.rdlpp_meaning.specs.Meaning.{Passage, leaves, goes_on, Progress}
-use Rattle.rdlpp_meaning.specs.Resumed.{Skipped, resumed, remains}
+use Rattle.rdlpp_meaning.specs.Resumed.{Skipped, resumed}
 use Rattle.rdlpp_meaning.proofs.Outcomes.{and_then-gives}
 use Rattle.rdlpp_meaning.proofs.TokenWrites.{only_blanks-append}
 use Rattle.rdlpp_meaning.proofs.Passages.{on_leaves, leaves-and_then}

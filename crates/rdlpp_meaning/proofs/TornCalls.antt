@@ -9,7 +9,7 @@ use Rattle.rdlpp_meaning.specs.declared.fault.FaultKind.{FaultKind}
 use Rattle.rdlpp_meaning.specs.declared.fault.FaultKind.TheVariants.{UndefinedMacro, RecursiveMacro, DirectiveInText, ArgumentsMissing, ArgumentsOpen, ArgumentCount}
 use Rattle.rdlpp_meaning.specs.State.{Defined, Rules, State}
 use Rattle.rdlpp_meaning.specs.Items.{Item}
-use Rattle.rdlpp_meaning.specs.Actuals.{Role, Space, Dropped, Remark, Start, Up, End, Down, Cut, Halt, Text, Ends, Stops, Call, Lacking, Broke, Bound, passed, put, parted, level_behind, kept_size, heed, inside_call, call_of, trimmed, item_role, item_size}
+use Rattle.rdlpp_meaning.specs.Actuals.{Role, Space, Dropped, Remark, Start, Up, End, Down, Cut, Halt, Text, Ends, Stops, Call, Lacking, Broke, Bound, passed, put, parted, level_behind, kept_size, heed, inside_call, call_of, item_role, item_size, item_reads, actual_of}
 use Rattle.rdlpp_meaning.specs.Expansion.{Usage, Refuses, Opens, bound_parts, is_count, usage_of_call, usage_of_formals, usage_of_macro, usage_of}
 use Rattle.rdlpp_meaning.specs.LimitLaws.{is_limit}
 use Rattle.rdlpp_meaning.proofs.Calls.{TakesUpTo, passed_takes, put_takes, parted_takes, UsesUpTo}
@@ -234,16 +234,16 @@ call-torn {A = A} role size room most (x ∷ xs) t us h torn =
     (call-torn role size room most xs t us h torn) (inside-torn role size 0 room most xs t us h torn)))
 
 -- a usage that a limit refuses
-unfoldable pub IsLimitedUsage : Usage → Type 0
+unfoldable pub IsLimitedUsage : Usage Item → Type 0
 IsLimitedUsage (Refuses f word line) = is_limit f ≡ true
 IsLimitedUsage (Opens m actuals used) = ⊥
 
 -- a usage that a limit refuses, or the same, of at most so many items
-unfoldable pub UsageTorn : ℕ → Usage → Usage → Type 0
+unfoldable pub UsageTorn : ℕ → Usage Item → Usage Item → Type 0
 UsageTorn n u v = IsLimitedUsage u ⊎ ((v ≡ u) × UsesUpTo n u)
 
 -- a choice of usages
-choice-torn : (n : ℕ) (test : Bool) (u v u' v' : Usage) → UsageTorn n u v → UsageTorn n u' v'
+choice-torn : (n : ℕ) (test : Bool) (u v u' v' : Usage Item) → UsageTorn n u v → UsageTorn n u' v'
     → UsageTorn n (if test then u else u') (if test then v else v')
 choice-torn n true u v u' v' h k = h
 choice-torn n false u v u' v' h k = k
@@ -254,12 +254,12 @@ unfolding UsageTorn UsesUpTo
 refused-torn n f word line = inr (refl, tt)
 
 -- a usage whose call a limit ends
-call-limited : (m : Macro) (formals : List Formal) (line : ℕ) (name : List ℕ) (c : Call Item) → IsLimited c
-    → IsLimitedUsage (usage_of_call m formals line name c)
+call-limited : (source : Option ℕ) (m : Macro) (formals : List Formal) (line : ℕ) (name : List ℕ) (c : Call Item) → IsLimited c
+    → IsLimitedUsage (usage_of_call (item_reads source) m formals line name c)
 unfolding IsLimited IsLimitedUsage usage_of_call
-call-limited m formals line name (Lacking f) h = h
-call-limited m formals line name (Broke f own) h = h
-call-limited m formals line name (Bound first further used) h = absurd h
+call-limited source m formals line name (Lacking f) h = h
+call-limited source m formals line name (Broke f own) h = h
+call-limited source m formals line name (Bound first further used) h = absurd h
 
 -- a usage uses what its call takes
 count-uses : (n : ℕ) (test : Bool) (m : Macro) (actuals : List (List Item)) (used : ℕ) (name : List ℕ) (line : ℕ) → used ≤ n
@@ -269,32 +269,32 @@ count-uses n true m actuals used name line h = h
 count-uses n false m actuals used name line h = tt
 
 -- that is what its call takes
-call-uses : (n : ℕ) (m : Macro) (formals : List Formal) (line : ℕ) (name : List ℕ) (c : Call Item) → TakesUpTo n c
-    → UsesUpTo n (usage_of_call m formals line name c)
+call-uses : (n : ℕ) (source : Option ℕ) (m : Macro) (formals : List Formal) (line : ℕ) (name : List ℕ) (c : Call Item) → TakesUpTo n c
+    → UsesUpTo n (usage_of_call (item_reads source) m formals line name c)
 unfolding TakesUpTo UsesUpTo usage_of_call
-call-uses n m formals line name (Lacking f) h = tt
-call-uses n m formals line name (Broke f own) h = tt
-call-uses n m formals line name (Bound first further used) h =
-    let parts = map (trimmed item_role) (first ∷ further) in
+call-uses n source m formals line name (Lacking f) h = tt
+call-uses n source m formals line name (Broke f own) h = tt
+call-uses n source m formals line name (Bound first further used) h =
+    let parts = map (actual_of (item_reads source)) (first ∷ further) in
     count-uses n (is_count formals parts) m (bound_parts formals parts) used name line h
 
 -- a usage by its call
-call-usage-torn : (n : ℕ) (m : Macro) (formals : List Formal) (line : ℕ) (name : List ℕ) (c d : Call Item) → CallTorn n c d
-    → UsageTorn n (usage_of_call m formals line name c) (usage_of_call m formals line name d)
+call-usage-torn : (n : ℕ) (source : Option ℕ) (m : Macro) (formals : List Formal) (line : ℕ) (name : List ℕ) (c d : Call Item) → CallTorn n c d
+    → UsageTorn n (usage_of_call (item_reads source) m formals line name c) (usage_of_call (item_reads source) m formals line name d)
 unfolding CallTorn UsageTorn
-call-usage-torn n m formals line name c d (inl h) = inl (call-limited m formals line name c h)
-call-usage-torn n m formals line name c d (inr h) = inr (ap (usage_of_call m formals line name) h.0, call-uses n m formals line name c h.1)
+call-usage-torn n source m formals line name c d (inl h) = inl (call-limited source m formals line name c h)
+call-usage-torn n source m formals line name c d (inr h) = inr (ap (usage_of_call (item_reads source) m formals line name) h.0, call-uses n source m formals line name c h.1)
 
 -- a usage by its macro's formals
 formals-torn : (rules : Rules) (depth most : ℕ) (define : List Macro → List ℕ → Defined) (tokens : List ℕ → List SourceToken) (source : Option ℕ) (line : ℕ) (name : List ℕ)
     (ys : List Item) (t : Item) (us : List Item) (m : Macro) (formals : Option (List Formal))
     → rules.argument_bytes ≤ most → TornBy item_role (item_role t) us
-    → UsageTorn (length ys) (usage_of_formals rules source line name (ys ++ t ∷ []) m formals)
-    (usage_of_formals (wider rules depth most define tokens) source line name (ys ++ us) m formals)
+    → UsageTorn (length ys) (usage_of_formals rules (item_reads source) line name (ys ++ t ∷ []) m formals)
+    (usage_of_formals (wider rules depth most define tokens) (item_reads source) line name (ys ++ us) m formals)
 unfolding usage_of_formals UsageTorn UsesUpTo
 formals-torn rules depth most define tokens source line name ys t us m None h torn = inr (refl, omega arith)
 formals-torn rules depth most define tokens source line name ys t us m (Some formals) h torn =
-    call-usage-torn (length ys) m formals line name (call_of item_role (item_size source) rules.argument_bytes (ys ++ t ∷ []))
+    call-usage-torn (length ys) source m formals line name (call_of item_role (item_size source) rules.argument_bytes (ys ++ t ∷ []))
     (call_of item_role (item_size source) most (ys ++ us))
     (call-torn item_role (item_size source) rules.argument_bytes most ys t us h torn)
 
@@ -302,13 +302,13 @@ formals-torn rules depth most define tokens source line name ys t us m (Some for
 macro-torn : (rules : Rules) (depth most : ℕ) (define : List Macro → List ℕ → Defined) (tokens : List ℕ → List SourceToken) (source : Option ℕ) (line : ℕ) (o : List (List ℕ)) (name : List ℕ)
     (ys : List Item) (t : Item) (us : List Item) (m : Macro)
     → rules.argument_bytes ≤ most → TornBy item_role (item_role t) us
-    → UsageTorn (length ys) (usage_of_macro rules source line o name (ys ++ t ∷ []) m)
-    (usage_of_macro (wider rules depth most define tokens) source line o name (ys ++ us) m)
+    → UsageTorn (length ys) (usage_of_macro rules (item_reads source) line o name (ys ++ t ∷ []) m)
+    (usage_of_macro (wider rules depth most define tokens) (item_reads source) line o name (ys ++ us) m)
 unfolding usage_of_macro
 macro-torn rules depth most define tokens source line o name ys t us m h torn =
-    let u = usage_of_formals rules source line name (ys ++ t ∷ []) m m.formals in
-    let v = usage_of_formals (wider rules depth most define tokens) source line name (ys ++ us) m m.formals in
-    let recursive : Usage = Refuses RecursiveMacro name line in
+    let u = usage_of_formals rules (item_reads source) line name (ys ++ t ∷ []) m m.formals in
+    let v = usage_of_formals (wider rules depth most define tokens) (item_reads source) line name (ys ++ us) m m.formals in
+    let recursive : Usage Item = Refuses RecursiveMacro name line in
     choice-torn (length ys) (list_any (bytes_eq name) o) recursive recursive u v (refused-torn (length ys) RecursiveMacro name line)
     (formals-torn rules depth most define tokens source line name ys t us m m.formals h torn)
 
@@ -317,8 +317,8 @@ named-torn : (rules : Rules) (depth most : ℕ) (define : List Macro → List �
     (ys : List Item) (t : Item) (us : List Item) (found : Option Macro)
     → rules.argument_bytes ≤ most → TornBy item_role (item_role t) us
     → UsageTorn (length ys)
-    (elim found [ None ↦ Refuses UndefinedMacro name line | Some m ↦ usage_of_macro rules source line o name (ys ++ t ∷ []) m ])
-    (elim found [ None ↦ Refuses UndefinedMacro name line | Some m ↦ usage_of_macro (wider rules depth most define tokens) source line o name (ys ++ us) m ])
+    (elim found [ None ↦ Refuses UndefinedMacro name line | Some m ↦ usage_of_macro rules (item_reads source) line o name (ys ++ t ∷ []) m ])
+    (elim found [ None ↦ Refuses UndefinedMacro name line | Some m ↦ usage_of_macro (wider rules depth most define tokens) (item_reads source) line o name (ys ++ us) m ])
 named-torn rules depth most define tokens source line o name ys t us None h torn = refused-torn (length ys) UndefinedMacro name line
 named-torn rules depth most define tokens source line o name ys t us (Some m) h torn =
     macro-torn rules depth most define tokens source line o name ys t us m h torn
@@ -327,13 +327,13 @@ named-torn rules depth most define tokens source line o name ys t us (Some m) h 
 pub usage-torn : (rules : Rules) (depth most : ℕ) (define : List Macro → List ℕ → Defined) (tokens : List ℕ → List SourceToken) (s : State) (sources more : ℕ)
     (source : Option ℕ) (line : ℕ) (o : List (List ℕ)) (name : List ℕ) (ys : List Item) (t : Item) (us : List Item)
     → rules.argument_bytes ≤ most → TornBy item_role (item_role t) us
-    → UsageTorn (length ys) (usage_of rules s source line o name (ys ++ t ∷ []))
-    (usage_of (wider rules depth most define tokens) (roomier sources more s) source line o name (ys ++ us))
+    → UsageTorn (length ys) (usage_of rules s (item_reads source) line o name (ys ++ t ∷ []))
+    (usage_of (wider rules depth most define tokens) (roomier sources more s) (item_reads source) line o name (ys ++ us))
 unfolding usage_of
 usage-torn rules depth most define tokens s sources more source line o name ys t us h torn =
-    let reserved : Usage = Refuses DirectiveInText name line in
+    let reserved : Usage Item = Refuses DirectiveInText name line in
     choice-torn (length ys) (is_reserved name) reserved reserved
-    (elim (macro_named s.macros name) [ None ↦ Refuses UndefinedMacro name line | Some m ↦ usage_of_macro rules source line o name (ys ++ t ∷ []) m ])
-    (elim (macro_named s.macros name) [ None ↦ Refuses UndefinedMacro name line | Some m ↦ usage_of_macro (wider rules depth most define tokens) source line o name (ys ++ us) m ])
+    (elim (macro_named s.macros name) [ None ↦ Refuses UndefinedMacro name line | Some m ↦ usage_of_macro rules (item_reads source) line o name (ys ++ t ∷ []) m ])
+    (elim (macro_named s.macros name) [ None ↦ Refuses UndefinedMacro name line | Some m ↦ usage_of_macro (wider rules depth most define tokens) (item_reads source) line o name (ys ++ us) m ])
     (refused-torn (length ys) DirectiveInText name line)
     (named-torn rules depth most define tokens source line o name ys t us (macro_named s.macros name) h torn)

@@ -9,7 +9,7 @@ use Rattle.rdlpp_table.specs.Table.{Macro}
 use Rattle.rdlpp_meaning.specs.Outcome.{Told, Outcome, gives, fails, and_then}
 use Rattle.rdlpp_meaning.specs.State.{Defined, Rules, State, fault_at, breach_kind}
 use Rattle.rdlpp_meaning.specs.Items.{Item, Written, Arg, listed}
-use Rattle.rdlpp_meaning.specs.Actuals.{Role, Space, Halt, Ends, Stops, token_role, item_role}
+use Rattle.rdlpp_meaning.specs.Actuals.{Role, Space, Halt, Ends, Stops, token_role, item_role, item_reads}
 use Rattle.rdlpp_meaning.specs.Substitution.{substituted}
 use Rattle.rdlpp_meaning.specs.Expansion.{Usage, Refuses, Opens, usage_of, walk, expand, run_outcome}
 use Rattle.rdlpp_meaning.specs.Parts.{line_ends_of}
@@ -56,7 +56,7 @@ TornWalks rules depth most define tokens s sources more deeper deeper' source o 
 
 -- what a usage writes in front of a torn item, by what it comes to
 usage-walk-torn : (rules : Rules) (depth most : ℕ) (define : List Macro → List ℕ → Defined) (tokens : List ℕ → List SourceToken) (s : State) (sources more : ℕ)
-    (deeper deeper' : ℕ → List (List ℕ) → List Item → Outcome) (source : Option ℕ) (o : List (List ℕ)) (line : ℕ) (name : List ℕ) (ys : List Item) (t : Item) (us : List Item) (u v : Usage)
+    (deeper deeper' : ℕ → List (List ℕ) → List Item → Outcome) (source : Option ℕ) (o : List (List ℕ)) (line : ℕ) (name : List ℕ) (ys : List Item) (t : Item) (us : List Item) (u v : Usage Item)
     → Opening deeper deeper' → TornWalks rules depth most define tokens s sources more deeper deeper' source o ys t us → UsageTorn (length ys) u v
     → TornAgrees (usage_walk rules s deeper source o line name (ys ++ t ∷ []) u)
     (usage_walk (wider rules depth most define tokens) (roomier sources more s) deeper' source o line name (ys ++ us) v)
@@ -67,7 +67,7 @@ usage-walk-torn rules depth most define tokens s sources more deeper deeper' sou
 usage-walk-torn rules depth most define tokens s sources more deeper deeper' source o line name ys t us (Refuses f word at) v inner rest (inr h) =
     record {
       faulty = tt;
-      agrees = λ n. ap (λ (u : Usage). usage_walk (wider rules depth most define tokens) (roomier sources more s) deeper' source o line name (ys ++ us) u) h.0;
+      agrees = λ n. ap (λ (u : Usage Item). usage_walk (wider rules depth most define tokens) (roomier sources more s) deeper' source o line name (ys ++ us) u) h.0;
     }
 usage-walk-torn rules depth most define tokens s sources more deeper deeper' source o line name ys t us (Opens m actuals used) v inner rest (inr h) =
     let small = and_then (deeper line (m.name ∷ o) (substituted m actuals o)) (walk rules s deeper source o used (ys ++ t ∷ [])) in
@@ -88,8 +88,8 @@ token-torn : (rules : Rules) (depth most : ℕ) (define : List Macro → List �
 unfolding walk fault_at IsFault and_then gives fails
 token-torn rules depth most define tokens s sources more deeper deeper' source o (Ordinary Back) bytes line ys t us h torn inner rest =
     let large = wider rules depth most define tokens in
-    let u = usage_of rules s source (unwrap_or source line) o (drop 1 bytes) (ys ++ t ∷ []) in
-    let v = usage_of large (roomier sources more s) source (unwrap_or source line) o (drop 1 bytes) (ys ++ us) in
+    let u = usage_of rules s (item_reads source) (unwrap_or source line) o (drop 1 bytes) (ys ++ t ∷ []) in
+    let v = usage_of large (roomier sources more s) (item_reads source) (unwrap_or source line) o (drop 1 bytes) (ys ++ us) in
     let w : SourceToken = record { sort = Ordinary Back; bytes = bytes; line = line } in
     torn-along (walk rules s deeper source o 0 (Written w ∷ (ys ++ t ∷ [])))
     (usage_walk rules s deeper source o (unwrap_or source line) (drop 1 bytes) (ys ++ t ∷ []) u)

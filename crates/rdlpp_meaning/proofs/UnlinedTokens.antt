@@ -1,14 +1,17 @@
 -- The lines of tokens that aren't broken count for nothing in a call: not for roles, parts, trimming or bytes.
-use Rattle.std.proofs.Common.{◌≡◌, ℕ, zero, suc, Bool, true, false, cond, List, [], ◌∷◌, ◌++◌, map, filter, refl, sym, ap, ◌∙◌, Option, None, Some}
+use Rattle.std.proofs.Common.{◌≡◌, ℕ, zero, suc, Bool, true, false, cond, List, [], ◌∷◌, ◌++◌, map, take, drop, filter, refl, sym, ap, ◌∙◌, Option, None, Some}
 use Rattle.rdlpp_scan.specs.declared.token.Directive.{Directive}
 use Rattle.rdlpp_scan.specs.declared.token.Kind.TheVariants.{Back}
+use Rattle.rdlpp_scan.specs.declared.token.Mode.TheVariants.{Plain}
+use Rattle.rdlpp_scan.specs.declared.token.Token.{Token}
+use Rattle.rdlpp_scan.specs.Tokens.{tokens_from}
 use Rattle.rdlpp_scan.specs.SourceTokens.{Sort, Ordinary, Definition, Renumbering, Broken, SourceToken}
-use Rattle.rdlpp_meaning.specs.Actuals.{Role, Cut, Halt, Text, map_call, level_behind, kind_role, token_role, trimmed}
-use Rattle.rdlpp_meaning.specs.CallScan.{Closed, Split, split_by, split, call_of_scan, source_role, is_kept}
+use Rattle.rdlpp_meaning.specs.Actuals.{Role, Cut, Halt, Text, map_call, level_behind, kind_role, token_role, trimmed, text_reads, actual_of}
+use Rattle.rdlpp_meaning.specs.CallScan.{Closed, Split, split_by, split, all_parts, call_of_scan, source_role, is_kept}
 use Rattle.rdlpp_meaning.specs.Expansion.{bytes_of}
 use Rattle.rdlpp_meaning.specs.Parts.{directive_named, directive_of}
-use Rattle.rdlpp_meaning.specs.TextTokens.{broken_line, unlined}
-use Rattle.rdlpp_meaning.proofs.Commuting.{trimmed-map}
+use Rattle.rdlpp_meaning.specs.Items.{broken_line, unlined}
+use Rattle.rdlpp_meaning.specs.Substitution.{spelled, body_tokens}
 
 -- a token without its line has its role, by its sort
 role_by : (sort : Sort) (bytes : List ℕ) (line : ℕ)
@@ -55,9 +58,30 @@ pub closed_call-map : {A B : Type 0} (role : A → Role) (role' : B → Role) (f
 unfolding call_of_scan map_call
 closed_call-map role role' f keeps k kept used = rw (split-map role role' f keeps k kept) refl
 
--- trimmed tokens without their lines
-pub unlined_trimmed : (ts : List SourceToken) → trimmed token_role (map unlined ts) ≡ map unlined (trimmed token_role ts)
-unlined_trimmed ts = trimmed-map token_role token_role unlined unlined_role ts
+-- tokens of a text have no line
+unlined-spelled : (ts : List Token) (bytes : List ℕ) → map unlined (spelled ts bytes) ≡ spelled ts bytes
+unfolding spelled unlined broken_line
+unlined-spelled [] bytes = refl
+unlined-spelled (t ∷ ts) bytes =
+    let first : SourceToken = record { sort = Ordinary t.kind; bytes = take t.len bytes; line = 0 } in
+    ap (λ (us : List SourceToken). first ∷ us) (unlined-spelled ts (drop t.len bytes))
+
+-- actuals are the parts without their lines, trimmed
+pub actuals-unlined : (parts : List (List SourceToken)) → map (actual_of text_reads) parts ≡ map (trimmed token_role) (map (map unlined) parts)
+unfolding actual_of
+actuals-unlined [] = refl
+actuals-unlined (p ∷ ps) = ap (λ (xs : List (List SourceToken)). trimmed token_role (map unlined p) ∷ xs) (actuals-unlined ps)
+
+-- those of a text are its parts, trimmed
+pub actuals-body : (text : List ℕ)
+    → map (actual_of text_reads) (all_parts (split token_role 0 (body_tokens text))) ≡ map (trimmed token_role) (all_parts (split token_role 0 (body_tokens text)))
+unfolding body_tokens all_parts
+actuals-body text =
+    let ts = spelled (tokens_from Plain 0 text) text in
+    let parts = λ (s : Split SourceToken). map (trimmed token_role) (s.first ∷ s.further) in
+    actuals-unlined (all_parts (split token_role 0 ts))
+    ∙ sym (ap parts (split-map token_role token_role unlined unlined_role 0 ts))
+    ∙ ap (λ (us : List SourceToken). parts (split token_role 0 us)) (unlined-spelled (tokens_from Plain 0 text) text)
 
 -- what is kept commutes with what keeps roles
 pub kept-map : {A B : Type 0} (role : A → Role) (role' : B → Role) (f : A → B) → ((x : A) → role' (f x) ≡ role x) → (xs : List A)

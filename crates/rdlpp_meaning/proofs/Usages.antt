@@ -1,4 +1,5 @@
 -- Laws of usages: of a name that isn't defined, and of a macro without a list.
+use Rattle.rdlpp_meaning.specs.Actuals.{item_reads}
 use Rattle.std.proofs.Common.{◌≡◌, ℕ, true, false, not, List, [], ◌∷◌, map, refl, ap, ◌∙◌, Option, None, Some}
 use Rattle.std.specs.Prelude.{is_some, unwrap_or}
 use Rattle.std.specs.List.{list_all}
@@ -61,33 +62,33 @@ substituted_none m o e =
 -- a usage of a name that isn't defined
 pub usage_none : (rules : Rules) (s : State) (source : Option ℕ) (line : ℕ) (o : List (List ℕ)) (name : List ℕ) (xs : List Item)
     → is_reserved name ≡ false → macro_named s.macros name ≡ None
-    → usage_of rules s source line o name xs ≡ Refuses UndefinedMacro name line
+    → usage_of rules s (item_reads source) line o name xs ≡ Refuses UndefinedMacro name line
 unfolding usage_of
 usage_none rules s source line o name xs r e = rw (r, e) refl
 
 -- a usage of a macro
 pub usage_some : (rules : Rules) (s : State) (source : Option ℕ) (line : ℕ) (o : List (List ℕ)) (name : List ℕ) (xs : List Item) (m : Macro)
     → is_reserved name ≡ false → macro_named s.macros name ≡ Some m
-    → usage_of rules s source line o name xs ≡ usage_of_macro rules source line o name xs m
+    → usage_of rules s (item_reads source) line o name xs ≡ usage_of_macro rules (item_reads source) line o name xs m
 unfolding usage_of
 usage_some rules s source line o name xs m r e = rw (r, e) refl
 
 -- a usage in a source of a macro without a list
 pub usage_plain : (rules : Rules) (source : Option ℕ) (line : ℕ) (name : List ℕ) (xs : List Item) (m : Macro)
     → m.formals ≡ None
-    → usage_of_macro rules source line [] name xs m ≡ Opens m [] 0
+    → usage_of_macro rules (item_reads source) line [] name xs m ≡ Opens m [] 0
 unfolding usage_of_macro usage_of_formals
-usage_plain rules source line name xs m f = ap (usage_of_formals rules source line name xs m) f
+usage_plain rules source line name xs m f = ap (usage_of_formals rules (item_reads source) line name xs m) f
 
 -- what a usage writes in front of further items, by what it comes to
-unfoldable pub after_usage : Rules → State → (ℕ → List (List ℕ) → List Item → Outcome) → ℕ → List Item → Usage → Outcome
+unfoldable pub after_usage : Rules → State → (ℕ → List (List ℕ) → List Item → Outcome) → ℕ → List Item → Usage Item → Outcome
 after_usage rules s deeper line xs (Refuses f word at) = fails (fault_at f at word s)
 after_usage rules s deeper line xs (Opens m actuals used) =
     and_then (deeper line (m.name ∷ []) (substituted m actuals [])) (walk rules s deeper None [] used xs)
 
 -- a usage in a source writes that
-pub walk_usage : (rules : Rules) (s : State) (deeper : ℕ → List (List ℕ) → List Item → Outcome) (name : List ℕ) (line : ℕ) (xs : List Item) (u : Usage)
-    → usage_of rules s None line [] name xs ≡ u
+pub walk_usage : (rules : Rules) (s : State) (deeper : ℕ → List (List ℕ) → List Item → Outcome) (name : List ℕ) (line : ℕ) (xs : List Item) (u : Usage Item)
+    → usage_of rules s (item_reads None) line [] name xs ≡ u
     → walk rules s deeper None [] 0 (Written (usage_token name line) ∷ xs) ≡ after_usage rules s deeper line xs u
 unfolding walk after_usage name_of
 walk_usage rules s deeper name line xs (Refuses f word at) e = rw (e, walk) refl
@@ -95,7 +96,7 @@ walk_usage rules s deeper name line xs (Opens m actuals used) e = rw (e, walk) r
 
 -- a run that begins with a usage that is refused fails with its fault
 pub run_refused : (rules : Rules) (s : State) (name : List ℕ) (line : ℕ) (us : List SourceToken) (f : FaultKind) (word : List ℕ) (at : ℕ)
-    → usage_of rules s None line [] name (map Written us) ≡ Refuses f word at
+    → usage_of rules s (item_reads None) line [] name (map Written us) ≡ Refuses f word at
     → run_outcome rules s (usage_token name line ∷ us) ≡ fails (fault_at f at word s)
 unfolding run_outcome after_usage
 run_refused rules s name line us f word at e =

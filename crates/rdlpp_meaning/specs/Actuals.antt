@@ -9,7 +9,7 @@ use Rattle.rdlpp_scan.specs.SourceTokens.{Ordinary, Broken, SourceToken}
 use Rattle.rdlpp_meaning.specs.declared.fault.FaultKind.{FaultKind}
 use Rattle.rdlpp_meaning.specs.declared.fault.FaultKind.TheVariants.{ArgumentsMissing, ArgumentsOpen, ArgumentBytes}
 use Rattle.rdlpp_meaning.specs.State.{breach_kind}
-use Rattle.rdlpp_meaning.specs.Items.{Item, Written, Arg}
+use Rattle.rdlpp_meaning.specs.Items.{Item, Written, Arg, unlined, unlined_item}
 
 -- the role of a thing in a call: white space, a comment that is dropped, one that is kept, `(`, a further opener, `)`,
 -- a further closer, a comma, a broken `define`, which ends the run, a broken string and another broken token with fault and
@@ -141,3 +141,34 @@ unfoldable pub item_size : Option ℕ → Item → ℕ
 item_size None (Written t) = length t.bytes
 item_size None (Arg o items) = 0
 item_size (Some line) x = 0
+
+-- how many bytes of a token of a source count as kept: all
+unfoldable pub kept : SourceToken → ℕ
+kept t = length t.bytes
+
+-- and of one of a body or an actual: none
+unfoldable pub not_kept : SourceToken → ℕ
+not_kept t = 0
+
+-- how the things behind the name of a macro are read: the role of each in a call, how many bytes of it count as kept, and each
+-- without its line
+pub record Reads (A : Type 0) : Type 0 where
+  pub role : A → Role
+  pub size : A → ℕ
+  pub plain : A → A
+
+-- items; `source` has the line of the outermost usage, and none in a source (source: this project's profile)
+abbrev pub item_reads : Option ℕ → Reads Item
+item_reads source = record { role = item_role; size = item_size source; plain = unlined_item }
+
+-- tokens of a source
+abbrev pub source_reads : Reads SourceToken
+source_reads = record { role = token_role; size = kept; plain = unlined }
+
+-- tokens of a body or an actual
+abbrev pub text_reads : Reads SourceToken
+text_reads = record { role = token_role; size = not_kept; plain = unlined }
+
+-- an actual of a call: a part of it without lines, and without the white space at both ends (source: this project's profile)
+unfoldable pub actual_of : {A : Type 0} → Reads A → List A → List A
+actual_of reads part = trimmed reads.role (map reads.plain part)

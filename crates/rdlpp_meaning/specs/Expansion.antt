@@ -11,21 +11,21 @@ use Rattle.rdlpp_meaning.specs.declared.fault.FaultKind.TheVariants.{BareBackquo
 use Rattle.rdlpp_meaning.specs.Outcome.{Outcome, gives, fails, and_then}
 use Rattle.rdlpp_meaning.specs.State.{Rules, State, fault_at, breach_kind}
 use Rattle.rdlpp_meaning.specs.Items.{Item, Written, Arg, listed}
-use Rattle.rdlpp_meaning.specs.Actuals.{Call, Lacking, Broke, Bound, call_of, trimmed, item_role, item_size}
+use Rattle.rdlpp_meaning.specs.Actuals.{Call, Lacking, Broke, Bound, call_of, Reads, item_reads, actual_of}
 use Rattle.rdlpp_meaning.specs.Substitution.{substituted}
 
--- what a usage comes to: a fault with its word and line, or a macro whose body is opened, its actuals, and how many items
+-- what a usage comes to: a fault with its word and line, or a macro whose body is opened, its actuals, and how many things
 -- the usage took behind its name (source: this project's profile)
-pub data Usage : Type 0 where
-  Refuses : FaultKind → List ℕ → ℕ → Usage
-  Opens : Macro → List (List Item) → ℕ → Usage
+pub data Usage (A : Type 0) : Type 0 where
+  Refuses : FaultKind → List ℕ → ℕ → Usage A
+  Opens : Macro → List (List A) → ℕ → Usage A
 
 -- the name behind a backquote
 unfoldable pub name_of : SourceToken → List ℕ
 name_of t = drop 1 t.bytes
 
--- whether a list of no formals is met by one part without items, or one of so many formals by as many parts (source: this project's profile)
-unfoldable pub is_count : List Formal → List (List Item) → Bool
+-- whether a list of no formals is met by one part without things, or one of so many formals by as many parts (source: this project's profile)
+unfoldable pub is_count : {A : Type 0} → List Formal → List (List A) → Bool
 is_count [] parts = length parts == 1 && list_any (λ part. length part == 0) parts
 is_count (f ∷ fs) parts = length parts == length (f ∷ fs)
 
@@ -35,33 +35,32 @@ bound_parts [] parts = []
 bound_parts (f ∷ fs) parts = parts
 
 -- a call of a macro with these formals, by what it comes to (source: this project's profile)
-unfoldable pub usage_of_call : Macro → List Formal → ℕ → List ℕ → Call Item → Usage
-usage_of_call m formals line name (Lacking f) = Refuses f name line
-usage_of_call m formals line name (Broke f own) = Refuses f [] own
-usage_of_call m formals line name (Bound first further used) =
-    let parts = map (trimmed item_role) (first ∷ further) in
+unfoldable pub usage_of_call : {A : Type 0} → Reads A → Macro → List Formal → ℕ → List ℕ → Call A → Usage A
+usage_of_call reads m formals line name (Lacking f) = Refuses f name line
+usage_of_call reads m formals line name (Broke f own) = Refuses f [] own
+usage_of_call reads m formals line name (Bound first further used) =
+    let parts = map (actual_of reads) (first ∷ further) in
     if is_count formals parts then Opens m (bound_parts formals parts) used else Refuses ArgumentCount name line
 
 -- a usage of a macro by the list of formals that it has, if it has one (source: IEEE 1364-2001, `define`)
-unfoldable pub usage_of_formals : Rules → Option ℕ → ℕ → List ℕ → List Item → Macro → Option (List Formal) → Usage
-usage_of_formals rules source line name items m None = Opens m [] 0
-usage_of_formals rules source line name items m (Some formals) =
-    usage_of_call m formals line name (call_of item_role (item_size source) rules.argument_bytes items)
+unfoldable pub usage_of_formals : {A : Type 0} → Rules → Reads A → ℕ → List ℕ → List A → Macro → Option (List Formal) → Usage A
+usage_of_formals rules reads line name xs m None = Opens m [] 0
+usage_of_formals rules reads line name xs m (Some formals) =
+    usage_of_call reads m formals line name (call_of reads.role reads.size rules.argument_bytes xs)
 
 -- a usage of a macro that is defined, in the text of the macros o (source: this project's profile)
-unfoldable pub usage_of_macro : Rules → Option ℕ → ℕ → List (List ℕ) → List ℕ → List Item → Macro → Usage
-usage_of_macro rules source line o name items m =
+unfoldable pub usage_of_macro : {A : Type 0} → Rules → Reads A → ℕ → List (List ℕ) → List ℕ → List A → Macro → Usage A
+usage_of_macro rules reads line o name xs m =
     if list_any (bytes_eq name) o then Refuses RecursiveMacro name line
-    else usage_of_formals rules source line name items m m.formals
+    else usage_of_formals rules reads line name xs m m.formals
 
--- a usage of a name, with the items behind it; `source` has the line of the outermost usage, and none in a source
--- (source: this project's profile)
-unfoldable pub usage_of : Rules → State → Option ℕ → ℕ → List (List ℕ) → List ℕ → List Item → Usage
-usage_of rules s source line o name items =
+-- a usage of a name, with the things behind it (source: this project's profile)
+unfoldable pub usage_of : {A : Type 0} → Rules → State → Reads A → ℕ → List (List ℕ) → List ℕ → List A → Usage A
+usage_of rules s reads line o name xs =
     if is_reserved name then Refuses DirectiveInText name line
     else elim (macro_named s.macros name) [
       | None ↦ Refuses UndefinedMacro name line
-      | Some m ↦ usage_of_macro rules source line o name items m
+      | Some m ↦ usage_of_macro rules reads line o name xs m
     ]
 
 -- the bytes of items in the text of the macros o, after so many items are passed over, where `deeper` expands the items of
@@ -74,7 +73,7 @@ walk rules s deeper source o zero (Arg p g ∷ xs) =
     and_then (deeper (unwrap_or source 0) p (listed g)) (walk rules s deeper source o 0 xs)
 walk rules s deeper source o zero (Written t ∷ xs) = elim t.sort [
   | Ordinary k ↦ elim k [
-    | Back ↦ elim (usage_of rules s source (unwrap_or source t.line) o (name_of t) xs) [
+    | Back ↦ elim (usage_of rules s (item_reads source) (unwrap_or source t.line) o (name_of t) xs) [
       | Refuses f word line ↦ fails (fault_at f line word s)
       | Opens m actuals used ↦ and_then
           (deeper (unwrap_or source t.line) (m.name ∷ o) (substituted m actuals o))

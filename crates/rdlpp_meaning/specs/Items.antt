@@ -1,7 +1,7 @@
 -- Items: tokens, and marks that stand for actuals.
 -- A definition that names no source is this project's own.
 use Rattle.std.specs.Prelude.{ℕ, List, [], ◌∷◌}
-use Rattle.rdlpp_scan.specs.SourceTokens.{SourceToken}
+use Rattle.rdlpp_scan.specs.SourceTokens.{Sort, Broken, SourceToken}
 
 -- an item is a token as written, or a mark: the items that were substituted as one actual, and the macros in whose text
 -- they were written (source: this project's profile)
@@ -24,3 +24,18 @@ listed (More x xs) = x ∷ listed xs
 unfoldable pub packed : List Item → Items
 packed [] = Nothing
 packed (x ∷ xs) = More x (packed xs)
+
+-- a line that is told by a broken token alone
+unfoldable pub broken_line : Sort → ℕ → ℕ
+broken_line (Broken b) line = line
+broken_line s line = 0
+
+-- a token without its line, where it isn't broken
+unfoldable pub unlined : SourceToken → SourceToken
+unlined t = record { sort = t.sort; bytes = t.bytes; line = broken_line t.sort t.line }
+
+-- an item without its line, if it is a token that isn't broken: each fault in an actual is told at the line of the outermost usage
+-- (source: this project's profile)
+unfoldable pub unlined_item : Item → Item
+unlined_item (Written t) = Written (unlined t)
+unlined_item (Arg o items) = Arg o items

@@ -13,14 +13,12 @@ pub mod Opened
 pub mod Output
 pub mod Profile
 pub mod OutputLimit
-pub mod Cursors
 pub mod Literal
 pub mod LiteralLaws
 pub mod PartBytes
-pub mod Slots
-pub mod CursorWork
 pub mod LimitLaws
 pub mod CallScan
 pub mod CallReading
 pub mod TextTokens
 pub mod Opens
+pub mod OpenItems

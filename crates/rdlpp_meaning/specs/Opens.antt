@@ -1,15 +1,13 @@
 -- Open texts as parts of the texts in which they lie: a body or a default in the table, an actual in the text in which its call
 -- is written. Nothing says where a text lies but its home and what it is.
 -- A definition that names no source is this project's own.
-use Rattle.std.specs.Prelude.{ℕ, suc, ◌+◌, ◌-◌, ◌≤◌, ◌==◌, ◌&&◌, not, List, [], ◌∷◌, map, length, slice_range, slice_index_or, Option, None, if◌then◌else◌}
+use Rattle.std.specs.Prelude.{ℕ, suc, ◌+◌, ◌-◌, ◌≤◌, ◌==◌, ◌&&◌, not, List, [], ◌∷◌, length, slice_range, slice_index_or, Option, None, Some, if◌then◌else◌}
 use Rattle.std.specs.List.{AllByRecursion}
-use Rattle.std.specs.Option.{option_map}
 use Rattle.rdlpp_scan.specs.declared.token.Mode.{Mode}
 use Rattle.rdlpp_scan.specs.declared.token.Mode.TheVariants.{Plain}
 use Rattle.rdlpp_scan.specs.SourceTokens.{SourceToken}
 use Rattle.rdlpp_table.specs.Table.{Formal, Macro}
-use Rattle.rdlpp_table.specs.View.{macro_at, formals_of, formal_named}
-use Rattle.rdlpp_meaning.specs.Slots.{SlotKind, Body, Actual, Default, Slot}
+use Rattle.rdlpp_table.specs.View.{macro_at, formals_of}
 use Rattle.rdlpp_meaning.specs.TextTokens.{text_tokens}
 
 -- a part of a text: its bytes from one place up to another, and the mode in which they are read
@@ -64,30 +62,6 @@ text_around texts kind home below = own_text texts kind
 unfoldable pub part_tokens : List ℕ → Part → List SourceToken
 part_tokens text part = text_tokens part.mode (slice_range text part.from part.end)
 
--- what an open text is as a slot, where its call or its actual is written in a text
-unfoldable pub slot_kind : Texts → List ℕ → OpenKind → SlotKind
-slot_kind texts text (OpenBody id parts) =
-    Body (record {
-      name = (macro_at texts.macros id).name;
-      formals = formals_of (macro_at texts.macros id);
-      actuals = map (part_tokens text) parts;
-    })
-slot_kind texts text OpenActual = Actual
-slot_kind texts text (OpenDefault id place) = Default
-
--- an open text as a slot, in front of others
-unfoldable pub slot_of : Texts → Open → List Open → Slot
-slot_of texts inner below = record {
-  text = part_tokens (text_around texts inner.kind inner.home below) inner.part;
-  home = inner.home;
-  kind = slot_kind texts (scope_text texts below inner.home) inner.kind;
-}
-
--- open texts as slots, innermost first
-unfoldable pub slots_of : Texts → List Open → List Slot
-slots_of texts [] = []
-slots_of texts (inner ∷ below) = slot_of texts inner below ∷ slots_of texts below
-
 -- the open text that the formal at a place of a macro stands for, in a scope whose call is written in its home: its default, where
 -- the part that is its actual has no bytes and there is a default
 unfoldable pub open_standing : List Formal → ℕ → ℕ → ℕ → List Part → ℕ → Open
@@ -100,19 +74,37 @@ open_standing formals id scope home parts place =
     }
     else record { part = part_at parts place; home = home; kind = OpenActual }
 
--- the open text that a name stands for, by what its scope is and its home
-unfoldable pub own_open : Texts → OpenKind → ℕ → ℕ → List ℕ → Option Open
-own_open texts (OpenBody id parts) scope home name =
-    option_map (open_standing (formals_of (macro_at texts.macros id)) id scope home parts)
-    (formal_named (formals_of (macro_at texts.macros id)) name)
-own_open texts OpenActual scope home name = None
-own_open texts (OpenDefault id place) scope home name = None
+-- the open text that a scope is; none where it is the source
+unfoldable pub scope_open : List Open → ℕ → Option Open
+scope_open [] k = None
+scope_open (x ∷ below) k = if k == suc (length below) then Some x else scope_open below k
 
--- the open text that a name of a scope stands for, if it is a formal
-unfoldable pub open_at : Texts → List Open → ℕ → List ℕ → Option Open
-open_at texts [] k name = None
-open_at texts (inner ∷ below) k name =
-    if k == suc (length below) then own_open texts inner.kind k inner.home name else open_at texts below k name
+-- the formals of an open text: those of the macro of a body, and else none
+abbrev pub kind_formals : List Macro → OpenKind → List Formal
+kind_formals macros (OpenBody id parts) = formals_of (macro_at macros id)
+kind_formals macros OpenActual = []
+kind_formals macros (OpenDefault id place) = []
+
+-- those of what a scope is
+abbrev pub found_formals : List Macro → Option Open → List Formal
+found_formals macros None = []
+found_formals macros (Some x) = kind_formals macros x.kind
+
+-- those of a scope
+abbrev pub scope_formals : List Macro → List Open → ℕ → List Formal
+scope_formals macros opens k = found_formals macros (scope_open opens k)
+
+-- the open text that the formal at a place of a body stands for
+abbrev pub kind_standing : List Macro → OpenKind → ℕ → ℕ → ℕ → Option Open
+kind_standing macros (OpenBody id parts) scope home place =
+    Some (open_standing (formals_of (macro_at macros id)) id scope home parts place)
+kind_standing macros OpenActual scope home place = None
+kind_standing macros (OpenDefault id own) scope home place = None
+
+-- the open text that the formal at a place stands for in a scope
+abbrev pub found_standing : List Macro → Option Open → ℕ → ℕ → Option Open
+found_standing macros None scope place = None
+found_standing macros (Some x) scope place = kind_standing macros x.kind scope x.home place
 
 -- a body has a part for each formal of its macro, and each part lies in the text in which its call is written
 abbrev pub HasParts : Texts → List ℕ → OpenKind → Type 0

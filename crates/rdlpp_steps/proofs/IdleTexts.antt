@@ -2,11 +2,10 @@
 use Rattle.std.proofs.Common.{◌≡◌, List, [], ap}
 use Rattle.rdlpp_source.specs.declared.sources.Sources.{Ghosts}
 use Rattle.rdlpp_table.specs.Table.{Macro}
-use Rattle.rdlpp_meaning.specs.Cursors.{left}
 use Rattle.rdlpp_meaning.specs.Meaning.{Passage, behind_bytes, goes_on, leaves}
-use Rattle.rdlpp_meaning.specs.Opens.{Open, Texts, slots_of}
+use Rattle.rdlpp_meaning.specs.Opens.{Open, Texts}
+use Rattle.rdlpp_meaning.specs.OpenItems.{open_left}
 use Rattle.rdlpp_meaning.specs.Outcome.{gives}
-use Rattle.rdlpp_meaning.specs.Slots.{cursors_of}
 use Rattle.rdlpp_meaning.specs.State.{Rules, State}
 use Rattle.rdlpp_cursors.specs.Places.{texts_of}
 use Rattle.rdlpp_cursors.specs.Steps.{AreSound}
@@ -17,9 +16,9 @@ use Rattle.rdlpp_steps.specs.Remaining.{inner_name, nest_left, run_rules, state_
 
 -- nothing remains of no text
 pub silent_texts : (rules : Rules) (s : State) (macros : List Macro) (x : ExpansionView) (p : Passage) → x.opens ≡ [] → goes_on (texts_left rules s macros x) (λ after. p) ≡ p
-unfolding texts_left goes_on leaves left cursors_of slots_of gives behind_bytes
+unfolding texts_left goes_on leaves open_left gives behind_bytes
 silent_texts rules s macros x p idle =
-    ap (λ (os : List Open). goes_on (leaves (left rules s x.line (cursors_of x.depth (slots_of (texts_of macros x.arguments) os))) s) (λ after. p)) idle
+    ap (λ (os : List Open). goes_on (leaves (open_left rules s x.line x.depth (texts_of macros x.arguments) os) s) (λ after. p)) idle
 
 -- no text is sound
 pub none_sound : (texts : Texts) (opens : List Open) → opens ≡ [] → AreSound texts opens

@@ -4,18 +4,18 @@ use Rattle.std.proofs.lemmas.Bool.{eqb-true}
 use Rattle.std.proofs.lemmas.List.{nil_from_length}
 use Rattle.rdlpp_source.specs.declared.sources.Sources.{Ghosts}
 use Rattle.rdlpp_table.specs.Table.{Macro}
-use Rattle.rdlpp_meaning.specs.Cursors.{left}
 use Rattle.rdlpp_meaning.specs.Meaning.{Passage, behind_bytes, goes_on, leaves}
-use Rattle.rdlpp_meaning.specs.Opens.{Open, Texts, slots_of}
+use Rattle.rdlpp_meaning.specs.Opens.{Open, Texts}
+use Rattle.rdlpp_meaning.specs.OpenItems.{open_left}
 use Rattle.rdlpp_meaning.specs.Outcome.{Told, Outcome, and_then, fails, gives}
-use Rattle.rdlpp_meaning.specs.Slots.{cursors_of}
 use Rattle.rdlpp_meaning.specs.State.{Rules, State, fault_at}
 use Rattle.rdlpp_meaning.specs.declared.fault.FaultKind.{FaultKind}
+use Rattle.rdlpp_meaning.proofs.Outcomes.{and_then-gives_nil}
 use Rattle.rdlpp_meaning.proofs.Passages.{fails-goes_on}
 use Rattle.rdlpp_read.specs.Files.{source_digits}
 use Rattle.rdlpp_cursors.specs.Digits.{AreFalling, IsFalling, cursor_digits}
 use Rattle.rdlpp_cursors.specs.Places.{IsPlaced as IsTextPlaced, place_bytes, texts_of}
-use Rattle.rdlpp_cursors.specs.Steps.{AreSound, Goes, IsPlacedStep, IsStep, StepsTo}
+use Rattle.rdlpp_cursors.specs.Steps.{AreSound, IsPlacedStep, IsStep, StepsTo}
 use Rattle.rdlpp_cursors.specs.Usages.{IsTextFault, is_text_fault}
 use Rattle.rdlpp_cursors.specs.declared.place.TextPlace.{TextPlace}
 use Rattle.rdlpp_cursors.specs.declared.step.CursorFault.{CursorFault}
@@ -53,37 +53,37 @@ pub goes_behind : (bytes : List ℕ) (o : Outcome) (s : State) (next : State →
 goes_behind bytes o s next = goes_by bytes o.bytes o.fault s next
 
 -- nothing is left where no text is open
-left_none : (rules : Rules) (s : State) (line depth : ℕ) (texts : Texts) (opens : List Open) → opens ≡ [] → left rules s line (cursors_of depth (slots_of texts opens)) ≡ gives []
-unfolding left cursors_of slots_of
-left_none rules s line depth texts opens none = ap (λ (os : List Open). left rules s line (cursors_of depth (slots_of texts os))) none
+left_none : (rules : Rules) (s : State) (line depth : ℕ) (texts : Texts) (opens : List Open) → opens ≡ [] → open_left rules s line depth texts opens ≡ gives []
+unfolding open_left
+left_none rules s line depth texts opens none = ap (λ (os : List Open). open_left rules s line depth texts os) none
 
 -- the kept bytes are the same, or no text is open in them
 same_kept : (rules : Rules) (s : State) (macros : List Macro) (line depth : ℕ) (opens : List Open) (a b : List ℕ) → (b ≡ a) ⊎ ((opens ≡ []) × (b ≡ []))
-    → left rules s line (cursors_of depth (slots_of (texts_of macros a) opens)) ≡ left rules s line (cursors_of depth (slots_of (texts_of macros b) opens))
-same_kept rules s macros line depth opens a b (inl same) = ap (λ (x : List ℕ). left rules s line (cursors_of depth (slots_of (texts_of macros x) opens))) (sym same)
+    → open_left rules s line depth (texts_of macros a) opens ≡ open_left rules s line depth (texts_of macros b) opens
+same_kept rules s macros line depth opens a b (inl same) = ap (λ (x : List ℕ). open_left rules s line depth (texts_of macros x) opens) (sym same)
 same_kept rules s macros line depth opens a b (inr none) =
     left_none rules s line depth (texts_of macros a) opens none.0 ∙ sym (left_none rules s line depth (texts_of macros b) opens none.0)
 
 same_left : (rules : Rules) (s : State) (macros : List Macro) (old new : ExpansionView) → StaysOpen old new
-    → left rules s old.line (cursors_of old.depth (slots_of (texts_of macros old.arguments) new.opens)) ≡ left rules s new.line (cursors_of new.depth (slots_of (texts_of macros new.arguments) new.opens))
+    → open_left rules s old.line old.depth (texts_of macros old.arguments) new.opens ≡ open_left rules s new.line new.depth (texts_of macros new.arguments) new.opens
 same_left rules s macros old new stays =
-    ap (λ (l : ℕ). left rules s l (cursors_of old.depth (slots_of (texts_of macros old.arguments) new.opens))) (sym stays.line)
-    ∙ (ap (λ (d : ℕ). left rules s new.line (cursors_of d (slots_of (texts_of macros old.arguments) new.opens))) (sym stays.depth)
+    ap (λ (l : ℕ). open_left rules s l old.depth (texts_of macros old.arguments) new.opens) (sym stays.line)
+    ∙ (ap (λ (d : ℕ). open_left rules s new.line d (texts_of macros old.arguments) new.opens) (sym stays.depth)
     ∙ same_kept rules s macros new.line new.depth new.opens old.arguments new.arguments stays.arguments)
 
 -- the open texts go on over some bytes, before what goes on behind them
 texts_go : (rules : Rules) (s : State) (macros : List Macro) (old new : ExpansionView) (bytes : List ℕ) (p : Passage)
-    → Goes rules s old.line old.depth (texts_of macros old.arguments) old.opens bytes new.opens → StaysOpen old new
+    → open_left rules s old.line old.depth (texts_of macros old.arguments) old.opens ≡ and_then (gives bytes) (open_left rules s old.line old.depth (texts_of macros old.arguments) new.opens) → StaysOpen old new
     → goes_on (texts_left rules s macros old) (λ after. p) ≡ behind_bytes bytes (goes_on (texts_left rules s macros new) (λ after. p))
 unfolding texts_left
 texts_go rules s macros old new bytes p goes stays =
-    ap (λ (o : Outcome). goes_on (leaves o s) (λ after. p)) goes.remains
-    ∙ (goes_behind bytes (left rules s old.line (cursors_of old.depth (slots_of (texts_of macros old.arguments) new.opens))) s (λ after. p)
+    ap (λ (o : Outcome). goes_on (leaves o s) (λ after. p)) goes
+    ∙ (goes_behind bytes (open_left rules s old.line old.depth (texts_of macros old.arguments) new.opens) s (λ after. p)
     ∙ ap (λ (o : Outcome). behind_bytes bytes (goes_on (leaves o s) (λ after. p))) (same_left rules s macros old new stays))
 
 -- or end with a fault
 texts_fail : (rules : Rules) (s : State) (macros : List Macro) (x : ExpansionView) (f : Told) (p : Passage)
-    → left rules s x.line (cursors_of x.depth (slots_of (texts_of macros x.arguments) x.opens)) ≡ fails f → goes_on (texts_left rules s macros x) (λ after. p) ≡ leaves (fails f) s
+    → open_left rules s x.line x.depth (texts_of macros x.arguments) x.opens ≡ fails f → goes_on (texts_left rules s macros x) (λ after. p) ≡ leaves (fails f) s
 unfolding texts_left
 texts_fail rules s macros x f p ends = ap (λ (o : Outcome). goes_on (leaves o s) (λ after. p)) ends ∙ fails-goes_on f s (λ after. p)
 
@@ -113,7 +113,9 @@ pub record HoldsTexts {S R : Type 0} (e : EngineView S R) (x : ExpansionView) : 
 
 module _ {S R : Type 0} (g : Ghosts S R) (old : EngineView S R) (x : ExpansionView) (unowed : IsUnowed old) (holds : HoldsTexts old x) where
   -- what remains of the text
-  text_goes : (bytes : List ℕ) → Goes (run_rules g old) (state_of old) old.expansion.line old.expansion.depth (held_texts old) old.expansion.opens bytes x.opens
+  text_goes : (bytes : List ℕ)
+      → open_left (run_rules g old) (state_of old) old.expansion.line old.expansion.depth (held_texts old) old.expansion.opens
+      ≡ and_then (gives bytes) (open_left (run_rules g old) (state_of old) old.expansion.line old.expansion.depth (held_texts old) x.opens)
       → text_of g old ≡ behind_bytes bytes (text_of g (record old { expansion = x }))
   unfolding text_of state_of
   text_goes bytes goes =
@@ -162,7 +164,9 @@ module _ {S R : Type 0} (g : Ghosts S R) (old : EngineView S R) (x : ExpansionVi
   unfolding IsStep StepsTo IsFalling state_of
   texts_turn bounded step falls =
       walks_lent g old (record old { expansion = x }) unowed.free unowed.open_ bounded [] refl (refl, refl) (not_called g old.sources)
-      (λ t. text_goes [] (step (run_rules g old) (state_of old) (nest_macros old.limits old.table.macros old.conditions old.files.nest))) (work_texts falls) (keeps_texts g old x unowed.free holds.stays holds.outer holds.lets_go) (Nowhere refl)
+      (λ t. text_goes [] (step (run_rules g old) (state_of old) (nest_macros old.limits old.table.macros old.conditions old.files.nest)
+      ∙ sym (and_then-gives_nil (open_left (run_rules g old) (state_of old) old.expansion.line old.expansion.depth (held_texts old) x.opens)))) (work_texts falls)
+      (keeps_texts g old x unowed.free holds.stays holds.outer holds.lets_go) (Nowhere refl)
 
 -- the open texts end with a fault, and nothing else changes
 pub texts_refuse : {S R : Type 0} (g : Ghosts S R) (old mid new : EngineView S R) (place : Place) (fault : CursorFault) → IsUnowed old → IsBounded new → mid ≡ old → place ≡ Kept

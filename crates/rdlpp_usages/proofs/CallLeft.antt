@@ -1,4 +1,5 @@
 -- What remains at a usage in a source: its open body and then what remains behind the usage, or the fault of its call.
+use Rattle.rdlpp_meaning.specs.Actuals.{source_reads}
 use Rattle.std.proofs.Common.{◌≡◌, ℕ, suc, Bool, false, List, [], ◌∷◌, ◌++◌, map, take, drop, Option, None, Some, refl, sym, ap, ◌∙◌}
 use Rattle.std.specs.Prelude.{if◌then◌else◌}
 use Rattle.std.proofs.lemmas.Grind.{flat_map-append}
@@ -11,23 +12,23 @@ use Rattle.rdlpp_table.specs.View.{macro_at}
 use Rattle.rdlpp_calls.specs.BoundCalls.{range_part}
 use Rattle.rdlpp_calls.specs.declared.bindings.Range.{Range}
 use Rattle.rdlpp_calls.specs.SourceBound.{OpensBound}
-use Rattle.rdlpp_calls.proofs.BoundSourceCalls.{first_open, resumed_open}
+use Rattle.rdlpp_calls.proofs.BoundSourceCalls.{resumed_open}
 use Rattle.rdlpp_calls.proofs.BoundUsages.{usage_with_list}
-use Rattle.rdlpp_meaning.specs.Cursors.{Cursor, Opens, Refuses, TokenUsage, first_cursor, kept, left, token_usage_of, token_usage_of_formals, token_usage_of_macro}
-use Rattle.rdlpp_meaning.specs.Expansion.{bytes_of, usage_token}
+use Rattle.rdlpp_meaning.specs.Expansion.{bytes_of, expand, usage_token, Usage, Refuses, Opens, usage_of_formals, usage_of_macro, usage_of}
+use Rattle.rdlpp_meaning.specs.Substitution.{substituted}
 use Rattle.rdlpp_meaning.specs.Meaning.{Passage, Progress, goes_on, leaves}
 use Rattle.rdlpp_meaning.specs.Opened.{Waiting, all_resumed, unwound}
-use Rattle.rdlpp_meaning.specs.Opens.{Texts, open_body, slots_of}
-use Rattle.rdlpp_meaning.specs.Outcome.{fails}
+use Rattle.rdlpp_meaning.specs.Opens.{Texts, open_body}
+use Rattle.rdlpp_meaning.specs.OpenItems.{open_left}
+use Rattle.rdlpp_meaning.specs.Outcome.{Outcome, fails}
 use Rattle.rdlpp_meaning.specs.Parts.{only_blanks}
 use Rattle.rdlpp_meaning.specs.Resumed.{Live, leading, resumed}
-use Rattle.rdlpp_meaning.specs.Slots.{cursors_of}
 use Rattle.rdlpp_meaning.specs.State.{Rules, State, fault_at}
 use Rattle.rdlpp_meaning.specs.declared.fault.FaultKind.{FaultKind}
 use Rattle.rdlpp_meaning.specs.declared.fault.FaultKind.TheVariants.{DirectiveInText, UndefinedMacro}
 use Rattle.rdlpp_meaning.proofs.NestMoves.{all_resumed_fails}
 use Rattle.rdlpp_meaning.proofs.Passages.{goes_on-assoc}
-use Rattle.rdlpp_meaning.proofs.SlotSteps.{first_slot_is}
+use Rattle.rdlpp_meaning.proofs.OpenSteps.{first-left}
 use Rattle.rdlpp_meaning.proofs.SourceCalls.{resumed_opens, resumed_refuses}
 use Rattle.rdlpp_meaning.proofs.TokenWrites.{only_blanks-append}
 use Rattle.rdlpp_read.specs.Buffer.{held_of, tokens_left}
@@ -56,14 +57,14 @@ blanks_behind first name line ts behind n used rest bytes =
 -- a usage of a macro without a list opens its macro
 usage_without_list : (rules : Rules) (s : State) (line : ℕ) (name : List ℕ) (ts : List SourceToken) (m : Macro)
     → is_reserved name ≡ false → macro_named s.macros name ≡ Some m → m.formals ≡ None
-    → token_usage_of kept rules s line [] name ts ≡ Opens m [] 0
-unfolding token_usage_of token_usage_of_macro token_usage_of_formals
+    → usage_of rules s source_reads line [] name ts ≡ Opens m [] 0
+unfolding usage_of usage_of_macro usage_of_formals
 usage_without_list rules s line name ts m reserved found formals =
-    let named : Option Macro → TokenUsage = λ x. elim x [ None ↦ Refuses UndefinedMacro name line | Some y ↦ token_usage_of_macro kept rules line [] name ts y ] in
-    let own : TokenUsage = token_usage_of_formals kept rules line name ts m m.formals in
+    let named : Option Macro → Usage SourceToken = λ x. elim x [ None ↦ Refuses UndefinedMacro name line | Some y ↦ usage_of_macro rules source_reads line [] name ts y ] in
+    let own : Usage SourceToken = usage_of_formals rules source_reads line name ts m m.formals in
     ap (λ (b : Bool). if b then Refuses DirectiveInText name line else named (macro_named s.macros name)) reserved
     ∙ ap named found
-    ∙ ap (token_usage_of_formals kept rules line name ts m) formals
+    ∙ ap (usage_of_formals rules source_reads line name ts m) formals
 
 -- what a source goes on with, it goes on with in front of those that wait
 all_resumed_on : (rules : Rules) (ws : List Waiting) (os : List Progress) (first flag : Bool) (ts behind : List SourceToken) (s : State) (p : Passage)
@@ -84,7 +85,7 @@ module _ {R : Type 0} (rules : Rules) (unread : R → List ℕ) (ws : List Waiti
   -- a usage that is refused by its tokens is a fault
   token_refused : HoldsFront f.buffer → f.buffer.mode ≡ Plain → IsUsage (held_of f.buffer) len
       → (kind : FaultKind) (word : List ℕ) (at : ℕ)
-      → token_usage_of kept rules s f.buffer.line [] (usage_name (held_of f.buffer) len) (leading (tokens_left unread (consumed_file len 0 f).buffer)) ≡ Refuses kind word at
+      → usage_of rules s source_reads f.buffer.line [] (usage_name (held_of f.buffer) len) (leading (tokens_left unread (consumed_file len 0 f).buffer)) ≡ Refuses kind word at
       → source_left rules unread ws (Live os) f s ≡ leaves (fails (fault_at kind at word s)) s
   token_refused holds plain usage kind word at e =
       let name = usage_name (held_of f.buffer) len in
@@ -97,13 +98,13 @@ module _ {R : Type 0} (rules : Rules) (unread : R → List ℕ) (ws : List Waiti
   pub call_refused : HoldsFront f.buffer → f.buffer.mode ≡ Plain → IsUsage (held_of f.buffer) len
       → (m : Macro) (fs : List Formal) (kind : FaultKind) (word : List ℕ) (at : ℕ)
       → macro_named s.macros (usage_name (held_of f.buffer) len) ≡ Some m → m.formals ≡ Some fs
-      → token_usage_of_formals kept rules f.buffer.line (usage_name (held_of f.buffer) len) (leading (tokens_left unread (consumed_file len 0 f).buffer)) m (Some fs) ≡ Refuses kind word at
+      → usage_of_formals rules source_reads f.buffer.line (usage_name (held_of f.buffer) len) (leading (tokens_left unread (consumed_file len 0 f).buffer)) m (Some fs) ≡ Refuses kind word at
       → source_left rules unread ws (Live os) f s ≡ leaves (fails (fault_at kind at word s)) s
   call_refused holds plain usage m fs kind word at found formals e =
       let name = usage_name (held_of f.buffer) len in
       let ts = tokens_left unread (consumed_file len 0 f).buffer in
       token_refused holds plain usage kind word at
-      (usage_with_list kept rules s f.buffer.line [] name (leading ts) m fs (Refuses kind word at) usage.free found refl formals e)
+      (usage_with_list source_reads rules s f.buffer.line [] name (leading ts) m fs (Refuses kind word at) usage.free found refl formals e)
 
   -- a call that is bound opens its body, and the source goes on behind it
   pub call_opens : HoldsFront f.buffer → f.buffer.mode ≡ Plain → IsUsage (held_of f.buffer) len
@@ -113,7 +114,7 @@ module _ {R : Type 0} (rules : Rules) (unread : R → List ℕ) (ws : List Waiti
       → OpensBound rules f.buffer.line (usage_name (held_of f.buffer) len) (tokens_left unread (consumed_file len 0 f).buffer) (macro_at texts.macros id) fs texts.arguments ranges (tokens_left unread new.buffer)
       → IsBehind unread f new len used
       → source_left rules unread ws (Live os) f s
-      ≡ goes_on (leaves (left rules s f.buffer.line (cursors_of (suc d) (slots_of texts (open_body texts id (map range_part ranges) 0 ∷ [])))) s)
+      ≡ goes_on (leaves (open_left rules s f.buffer.line (suc d) texts (open_body texts id (map range_part ranges) 0 ∷ [])) s)
       (λ after. source_left rules unread ws (Live os) new after)
   unfolding source_left
   call_opens holds plain usage d texts id fs ranges new used depth found formals b behind =
@@ -121,7 +122,7 @@ module _ {R : Type 0} (rules : Rules) (unread : R → List ℕ) (ws : List Waiti
       let line = f.buffer.line in
       let ts = tokens_left unread (consumed_file len 0 f).buffer in
       let rest = tokens_left unread new.buffer in
-      let opened : Passage = leaves (left rules s line (cursors_of (suc d) (slots_of texts (open_body texts id (map range_part ranges) 0 ∷ [])))) s in
+      let opened : Passage = leaves (open_left rules s line (suc d) texts (open_body texts id (map range_part ranges) 0 ∷ [])) s in
       let flag : Bool = only_blanks f.blanks (bytes_of (take (suc b.used) (usage_token name line ∷ ts))) in
       let same : flag ≡ new.blanks =
       blanks_behind f.blanks name line ts rest b.used used b.rest behind.bytes
@@ -138,7 +139,7 @@ module _ {R : Type 0} (rules : Rules) (unread : R → List ℕ) (ws : List Waiti
       → rules.depth ≡ suc d → macro_named s.macros (usage_name (held_of f.buffer) len) ≡ Some (macro_at texts.macros id)
       → (macro_at texts.macros id).formals ≡ None
       → source_left rules unread ws (Live os) f s
-      ≡ goes_on (leaves (left rules s f.buffer.line (cursors_of (suc d) (slots_of texts (open_body texts id [] 0 ∷ [])))) s)
+      ≡ goes_on (leaves (open_left rules s f.buffer.line (suc d) texts (open_body texts id [] 0 ∷ [])) s)
       (λ after. source_left rules unread ws (Live os) (consumed_file len 0 f) after)
   unfolding source_left only_blanks
   body_opens holds plain usage d texts id depth found formals =
@@ -146,15 +147,14 @@ module _ {R : Type 0} (rules : Rules) (unread : R → List ℕ) (ws : List Waiti
       let line = f.buffer.line in
       let m = macro_at texts.macros id in
       let ts = tokens_left unread (consumed_file len 0 f).buffer in
-      let opened : List Cursor → Passage = λ cursors. leaves (left rules s line cursors) s in
+      let opened : Outcome → Passage = λ o. leaves o s in
+      let body : Outcome = expand rules s d (Some line) (m.name ∷ []) (substituted m [] []) in
       let flag : Bool = only_blanks f.blanks (bytes_of (take 1 (usage_token name line ∷ ts))) in
       let same : flag ≡ (consumed_file len 0 f).blanks =
       blanks_behind f.blanks name line ts ts 0 [] refl refl
       ∙ ap (λ (bs : List ℕ). only_blanks (only_blanks f.blanks bs) []) (sym (usage_text (held_of f.buffer) len usage)) in
-      let cursors : first_cursor m [] d ∷ [] ≡ cursors_of (suc d) (slots_of texts (open_body texts id [] 0 ∷ [])) =
-      sym (first_slot_is m [] d) ∙ ap (cursors_of (suc d)) (sym (first_open texts id [])) in
       usage_left rules unread ws os f s len holds plain usage
-      ∙ all_resumed_on rules ws os f.blanks flag (usage_token name line ∷ ts) ts s (opened (first_cursor m [] d ∷ []))
+      ∙ all_resumed_on rules ws os f.blanks flag (usage_token name line ∷ ts) ts s (opened body)
       (resumed_opens rules os f.blanks name line ts s d m [] 0 usage.free depth (usage_without_list rules s line name (leading ts) m usage.free found formals))
-      ∙ ap (λ (x : Bool). goes_on (opened (first_cursor m [] d ∷ [])) (λ after. all_resumed rules ws (Live os) x ts after)) same
-      ∙ ap (λ (cs : List Cursor). goes_on (opened cs) (λ after. all_resumed rules ws (Live os) (consumed_file len 0 f).blanks ts after)) cursors
+      ∙ ap (λ (x : Bool). goes_on (opened body) (λ after. all_resumed rules ws (Live os) x ts after)) same
+      ∙ ap (λ (o : Outcome). goes_on (opened o) (λ after. all_resumed rules ws (Live os) (consumed_file len 0 f).blanks ts after)) (sym (first-left rules s line d texts id []))

@@ -1,4 +1,5 @@
 -- A call that is read and bound, as a usage in a source.
+use Rattle.rdlpp_meaning.specs.Expansion.{Refuses}
 use Rattle.std.proofs.Common.{◌≡◌, ℕ, zero, suc, ◌<◌, Bool, true, false, List, [], ◌∷◌, map, length, None, Some, refl, sym, ap, ◌∙◌, subst, arith}
 use Rattle.std.proofs.lemmas.Bool.{eqb-true, false≢true, true≢false}
 use Rattle.std.specs.Prelude.{◌==◌, ◌↔◌, IsTrue}
@@ -9,14 +10,13 @@ use Rattle.rdlpp_table.specs.View.{macro_at}
 use Rattle.rdlpp_calls.specs.BoundCalls.{range_part}
 use Rattle.rdlpp_calls.specs.SourceBound.{OpensBound}
 use Rattle.rdlpp_calls.proofs.BoundSourceCalls.{source_bound, source_breaks, source_counted, source_lacks}
-use Rattle.rdlpp_meaning.specs.Actuals.{call_of, token_role}
-use Rattle.rdlpp_meaning.specs.Cursors.{Refuses, kept, left}
+use Rattle.rdlpp_meaning.specs.Actuals.{call_of, token_role, kept}
 use Rattle.rdlpp_meaning.specs.Meaning.{Passage, Progress, goes_on, leaves}
 use Rattle.rdlpp_meaning.specs.Opened.{Waiting}
-use Rattle.rdlpp_meaning.specs.Opens.{Open, Texts, open_body, slots_of}
+use Rattle.rdlpp_meaning.specs.Opens.{Open, Texts, open_body}
+use Rattle.rdlpp_meaning.specs.OpenItems.{open_left}
 use Rattle.rdlpp_meaning.specs.Resumed.{leading}
 use Rattle.rdlpp_meaning.specs.State.{Rules, State, fault_at}
-use Rattle.rdlpp_meaning.specs.Slots.{cursors_of}
 use Rattle.rdlpp_meaning.specs.Outcome.{fails}
 use Rattle.rdlpp_meaning.specs.declared.fault.FaultKind.{FaultKind}
 use Rattle.rdlpp_meaning.specs.declared.fault.FaultKind.TheVariants.{ArgumentsMissing, ArgumentsOpen, ArgumentBytes, ArgumentCount, EmbeddedPerl, OpenString, OpenComment, LineTooLong, SourceTooLong}
@@ -100,10 +100,10 @@ deeper (suc d) some = (d, refl)
 -- what remains of open texts, in the terms of what is seen of them
 texts_same : (rules : Rules) (s : State) (macros : List Macro) (e : ExpansionView) (opens : List Open) (line d depth : ℕ) (next : State → Passage)
     → e.opens ≡ opens → e.line ≡ line → e.depth ≡ depth → depth ≡ suc d
-    → goes_on (leaves (left rules s line (cursors_of (suc d) (slots_of (texts_of macros e.arguments) opens))) s) next ≡ goes_on (texts_left rules s macros e) next
+    → goes_on (leaves (open_left rules s line (suc d) (texts_of macros e.arguments) opens) s) next ≡ goes_on (texts_left rules s macros e) next
 unfolding texts_left
 texts_same rules s macros e opens line d depth next o l same deep =
-    let remains : ℕ → ℕ → List Open → Passage = λ at n xs. goes_on (leaves (left rules s at (cursors_of n (slots_of (texts_of macros e.arguments) xs))) s) next in
+    let remains : ℕ → ℕ → List Open → Passage = λ at n xs. goes_on (leaves (open_left rules s at n (texts_of macros e.arguments) xs) s) next in
     ap (λ (n : ℕ). remains line n opens) (sym (same ∙ deep)) ∙ ap (λ (at : ℕ). remains at e.depth opens) (sym l) ∙ ap (λ (xs : List Open). remains e.line e.depth xs) (sym o)
 
 -- the macros of a run

@@ -7,16 +7,16 @@ use Rattle.rdlpp_table.specs.View.{macro_at}
 use Rattle.rdlpp_calls.specs.BoundCalls.{KeepsAll, actuals_of, range_part, ranges_tokens}
 use Rattle.rdlpp_calls.specs.SourceBound.{OpensBound}
 use Rattle.rdlpp_calls.specs.declared.bindings.Range.{Range}
+use Rattle.rdlpp_meaning.specs.Actuals.{kept, source_reads}
 use Rattle.rdlpp_meaning.specs.CallReading.{ReadClosed}
 use Rattle.rdlpp_meaning.specs.CallScan.{Before}
-use Rattle.rdlpp_meaning.specs.Cursors.{Refuses, is_token_count, kept, left, token_usage_of_formals}
-use Rattle.rdlpp_meaning.specs.Expansion.{bound_parts, bytes_of}
+use Rattle.rdlpp_meaning.specs.Expansion.{bytes_of, Refuses, bound_parts, is_count, usage_of_formals}
 use Rattle.rdlpp_meaning.specs.Meaning.{Passage, Progress, goes_on, leaves}
 use Rattle.rdlpp_meaning.specs.Opened.{Waiting}
-use Rattle.rdlpp_meaning.specs.Opens.{Open, open_body, slots_of}
+use Rattle.rdlpp_meaning.specs.Opens.{Open, open_body}
+use Rattle.rdlpp_meaning.specs.OpenItems.{open_left}
 use Rattle.rdlpp_meaning.specs.Outcome.{fails, gives}
 use Rattle.rdlpp_meaning.specs.Resumed.{Live, leading}
-use Rattle.rdlpp_meaning.specs.Slots.{cursors_of}
 use Rattle.rdlpp_meaning.specs.State.{Rules, State, fault_at}
 use Rattle.rdlpp_meaning.specs.Substitution.{body_tokens}
 use Rattle.rdlpp_meaning.specs.declared.fault.FaultKind.{FaultKind}
@@ -61,7 +61,7 @@ inner_left rules unread ws os (f ∷ outer) s = source_left rules unread ws (Liv
 
 -- what remains of open texts of a usage
 unfoldable pub texts_left : Rules → State → List Macro → ExpansionView → Passage
-texts_left rules s macros e = leaves (left rules s e.line (cursors_of e.depth (slots_of (texts_of macros e.arguments) e.opens))) s
+texts_left rules s macros e = leaves (open_left rules s e.line e.depth (texts_of macros e.arguments) e.opens) s
 
 -- what a usage of a name at a line comes to in live text: its open texts and then what remains behind it, or a fault (IEEE 1364-2001, `define`)
 abbrev pub TellsUsage : {R : Type 0} → Rules → State → (R → List ℕ) → List Waiting → List Progress → List Macro → ℕ → List ℕ → Opening → ExpansionView → List (File R) → List (File R) → Type 0
@@ -105,7 +105,7 @@ pub record UsesSource {R : Type 0} (tells : Type 0) (unread : R → List ℕ) (o
 abbrev pub RefusesCall : {R : Type 0} → Type 0 → (R → List ℕ) → ℕ → List Macro → ℕ → FaultKind → (List ℕ → List ℕ) → (ℕ → ℕ) → BufferView R → Type 0
 RefusesCall tells unread most macros id kind word at old =
     (rules : Rules) (line : ℕ) (name : List ℕ) (fs : List Formal) → rules.argument_bytes ≡ most → (macro_at macros id).formals ≡ Some fs → tells
-    → token_usage_of_formals kept rules line name (leading (tokens_left unread old)) (macro_at macros id) (Some fs) ≡ Refuses kind (word name) (at line)
+    → usage_of_formals rules source_reads line name (leading (tokens_left unread old)) (macro_at macros id) (Some fs) ≡ Refuses kind (word name) (at line)
 
 -- a call opens the body of its macro with ranges of the kept bytes as actuals, in each run with that limit on kept bytes
 pub record OpensCall {R : Type 0} (tells : Type 0) (unread : R → List ℕ) (most : ℕ) (macros : List Macro) (id : ℕ) (opens : List Open) (bytes : List ℕ) (old new : BufferView R) : Type 0 where
@@ -139,14 +139,14 @@ pub record Binds (macros : List Macro) (id line : ℕ) (bytes now : List ℕ) (c
   pub stays : now ≡ bytes
   pub line_is : c.line ≡ line
   pub actuals : (fs : List Formal) → (macro_at macros id).formals ≡ Some fs → bound_parts fs (actuals_of bytes) ≡ ranges_tokens bytes ranges
-  pub count : (fs : List Formal) → (macro_at macros id).formals ≡ Some fs → is_token_count fs (actuals_of bytes) ≡ true
+  pub count : (fs : List Formal) → (macro_at macros id).formals ≡ Some fs → is_count fs (actuals_of bytes) ≡ true
 
 -- a kept call has more or fewer actuals than its macro wants: nothing is open, and what was kept stays
 pub record Unbinds (macros : List Macro) (id : ℕ) (bytes now : List ℕ) (kind : FaultKind) (c : CursorsView) : Type 0 where
   pub none : c.opens ≡ []
   pub stays : now ≡ bytes
   pub kind_is : kind ≡ ArgumentCount
-  pub count : KeepsAll (body_tokens bytes) → (fs : List Formal) → (macro_at macros id).formals ≡ Some fs → is_token_count fs (actuals_of bytes) ≡ false
+  pub count : KeepsAll (body_tokens bytes) → (fs : List Formal) → (macro_at macros id).formals ≡ Some fs → is_count fs (actuals_of bytes) ≡ false
 
 -- what binding a kept call comes to (IEEE 1364-2001, `define`)
 abbrev pub BindsKept : List Macro → ℕ → ℕ → List ℕ → List ℕ → Opening → CursorsView → Type 0

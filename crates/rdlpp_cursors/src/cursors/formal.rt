@@ -5,7 +5,8 @@ ghost use Rattle.rdlpp_cursors.specs.Digits.{IsFalling};
 ghost use Rattle.rdlpp_cursors.specs.Fronts.{IsLook};
 ghost use Rattle.rdlpp_cursors.specs.Opened.{open_of, StaysOutermost};
 ghost use Rattle.rdlpp_cursors.specs.Places.{source_formals, texts_of};
-ghost use Rattle.rdlpp_cursors.specs.Scopes.{found_source, found_standing, front_scope, scope_open, AreBound};
+ghost use Rattle.rdlpp_meaning.specs.Opens.{found_standing, scope_open};
+ghost use Rattle.rdlpp_cursors.specs.Scopes.{found_source, front_scope, AreBound};
 ghost use Rattle.rdlpp_cursors.specs.Steps.{AreSound, IsStep, IsUnlent, KeepsOpen, StaysRefused, IsPlacedStep, NamesWord};
 ghost use Rattle.rdlpp_cursors.specs.Usages.{IsTextFault};
 

@@ -1,6 +1,5 @@
 use Rattle.std.proofs.Common.{sym, ap, Option}
-use Rattle.rdlpp_meaning.specs.Opens.{Open}
-use Rattle.rdlpp_cursors.specs.Scopes.{found_standing}
+use Rattle.rdlpp_meaning.specs.Opens.{Open, found_standing}
 use Rattle.rdlpp_cursors.proofs.Scoping.{range-inside, source-none, standing-body, standing-other}
 use Rattle.rdlpp_cursors.proofs.scopes.standing.Goals as goal
 

@@ -1,7 +1,7 @@
 use Rattle.std.proofs.Common.{◌≡◌, ◌∙◌, ap, ℕ, [], List, ◌-◌, take, drop, length}
-use Rattle.rdlpp_meaning.specs.Opens.{Open}
+use Rattle.rdlpp_meaning.specs.Opens.{Open, found_standing, scope_open}
 use Rattle.rdlpp_cursors.specs.Opened.{opens_of, CursorsView}
-use Rattle.rdlpp_cursors.specs.Scopes.{found_standing, front_scope, scope_open}
+use Rattle.rdlpp_cursors.specs.Scopes.{front_scope}
 use Rattle.rdlpp_cursors.proofs.Stacking.{lent-opens, lent-some}
 use Rattle.rdlpp_cursors.proofs.cursors.Cursors.standing.Goals as goal
 

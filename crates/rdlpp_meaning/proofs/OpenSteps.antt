@@ -1,0 +1,359 @@
+-- The steps of open texts: what remained is what a step lends and then what remains, or the fault that it ends with.
+use Rattle.rdlpp_meaning.specs.Actuals.{item_reads}
+use Rattle.std.proofs.Common.{◌≡◌, ℕ, suc, ◌-◌, ◌<◌, ◌≤◌, Bool, true, false, List, [], ◌∷◌, map, length, drop, refl, sym, ap, subst, ◌∙◌, arith, Option, Some}
+use Rattle.std.specs.Prelude.{if◌then◌else◌, ◌==◌, slice_range}
+use Rattle.std.proofs.lemmas.List.{length-take}
+use Rattle.rdlpp_scan.specs.declared.token.Kind.{Kind}
+use Rattle.rdlpp_scan.specs.declared.token.Kind.TheVariants.{Name, Back, BareBackquote}
+use Rattle.rdlpp_scan.specs.declared.token.Mode.{Mode}
+use Rattle.rdlpp_scan.specs.declared.token.Mode.TheVariants.{Plain}
+use Rattle.rdlpp_scan.specs.SourceTokens.{Ordinary, SourceToken}
+use Rattle.rdlpp_scan.specs.Tokens.{token_of}
+use Rattle.rdlpp_scan.proofs.TokenLens.{token_of-part}
+use Rattle.rdlpp_table.specs.Table.{Formal}
+use Rattle.rdlpp_table.specs.View.{macro_at, formals_of, formal_named}
+use Rattle.rdlpp_meaning.specs.declared.fault.FaultKind.TheVariants.{BareBackquote as NoName, DepthPassed}
+use Rattle.rdlpp_meaning.specs.Outcome.{Outcome, gives, fails, and_then}
+use Rattle.rdlpp_meaning.specs.State.{Rules, State, fault_at}
+use Rattle.rdlpp_meaning.specs.Items.{Item, Written, Arg, listed, packed}
+use Rattle.rdlpp_meaning.specs.Substitution.{marked, substituted}
+use Rattle.rdlpp_meaning.specs.Expansion.{Usage, usage_of, walk, expand, is_copied}
+use Rattle.rdlpp_meaning.specs.TextTokens.{text_tokens}
+use Rattle.rdlpp_meaning.specs.Opens.{Part, OpenKind, OpenBody, OpenActual, OpenDefault, Open, Texts, scope_text, text_around, part_tokens, AreOpen, open_scope, open_bytes, open_behind, open_body, own_text, own_writers, writers_at, scope_open, scope_formals, found_standing}
+use Rattle.rdlpp_meaning.specs.OpenItems.{part_items, own_item, item_at, open_items, open_writers, open_left}
+use Rattle.rdlpp_meaning.proofs.Outcomes.{and_then-nil, and_then-assoc, and_then-fails, and_then-gives_nil}
+use Rattle.rdlpp_meaning.proofs.Walks.{deeper_of, expand_walk, walk_copied}
+use Rattle.rdlpp_meaning.proofs.TextRanges.{text_step, text_nil, first_spelled}
+use Rattle.rdlpp_meaning.proofs.OpenScopes.{range_behind, first_kind, first_bytes, first_behind, Alone, part-whole, item-own, writers-own}
+use Rattle.rdlpp_meaning.proofs.LargerRuns.{usage_walk, usage_walks}
+use Rattle.rdlpp_meaning.proofs.FormalItems.{text-mark, IsMarkOf, StandsFor, name-stands, name_token}
+
+-- the items of a mark as a list are those that were packed
+pub listed-packed : (xs : List Item) → listed (packed xs) ≡ xs
+unfolding listed packed
+listed-packed [] = refl
+listed-packed (x ∷ xs) = ap (λ (ys : List Item). x ∷ ys) (listed-packed xs)
+
+-- the first token of an open text
+unfoldable pub first_token : Texts → Open → List Open → SourceToken
+first_token texts x below = record { sort = Ordinary (first_kind texts x below); bytes = first_bytes texts x below; line = 0 }
+
+-- the first token of an open text lies in its part
+first-inside : (text : List ℕ) (part : Part) → 0 < length (slice_range text part.from part.end)
+    → (token_of part.mode (slice_range text part.from part.end)).len ≤ part.end - part.from
+first-inside text part some =
+    let t = token_of-part part.mode (slice_range text part.from part.end) some in
+    let n = length-take (part.end - part.from) (drop part.from text) in
+    omega (arith, t.inside, n)
+
+-- an open text of which there is a byte has the item of its first token, and then those behind it
+first-items : (texts : Texts) (x : Open) (below : List Open) → 0 < length (open_bytes texts x below)
+    → open_items texts x below
+    ≡ item_at texts (x ∷ below) (open_scope x below) (first_token texts x below) ∷ open_items texts (first_behind texts x below) below
+unfolding open_items item_at part_tokens open_bytes open_behind first_token first_kind first_bytes first_behind first_spelled open_scope
+first-items texts x below some =
+    let text = text_around texts x.kind x.home below in
+    let bytes = slice_range text x.part.from x.part.end in
+    let t = token_of x.part.mode bytes in
+    ap (λ (ts : List SourceToken). map (item_at texts (x ∷ below) (open_scope x below)) ts)
+    (text_step x.part.mode bytes some
+    ∙ ap (λ (rest : List ℕ). first_spelled x.part.mode bytes ∷ text_tokens t.next_mode rest)
+    (range_behind text x.part.from x.part.end t.len (first-inside text x.part some)))
+
+-- an open text of which no byte is left has no item
+no-items : (texts : Texts) (x : Open) (below : List Open) → open_bytes texts x below ≡ [] → open_items texts x below ≡ []
+unfolding open_items part_tokens open_bytes
+no-items texts x below e =
+    ap (λ (bytes : List ℕ). map (item_at texts (x ∷ below) (open_scope x below)) (text_tokens x.part.mode bytes)) e
+    ∙ ap (λ (ts : List SourceToken). map (item_at texts (x ∷ below) (open_scope x below)) ts) (text_nil x.part.mode)
+
+-- how many texts may be open in an open text, in front of others
+abbrev pub room_in : ℕ → List Open → ℕ
+room_in depth below = depth - suc (length below)
+
+-- what remains of open texts is a walk of the items of the innermost, and then what remains of the others
+pub left-walk : (rules : Rules) (s : State) (line depth : ℕ) (texts : Texts) (x : Open) (below : List Open)
+    → open_left rules s line depth texts (x ∷ below)
+    ≡ and_then (walk rules s (deeper_of rules s (room_in depth below)) (Some line) (open_writers texts x below) 0 (open_items texts x below))
+    (open_left rules s line depth texts below)
+unfolding open_left
+left-walk rules s line depth texts x below =
+    ap (λ (o : Outcome). and_then o (open_left rules s line depth texts below))
+    (expand_walk rules s (room_in depth below) (Some line) (open_writers texts x below) (open_items texts x below))
+
+-- an open text goes on behind some of its bytes in the text of the same macros
+behind-writers : (texts : Texts) (x : Open) (below : List Open) (n : ℕ) (mode : Mode) → open_writers texts (open_behind x n mode) below ≡ open_writers texts x below
+unfolding open_behind open_scope writers_at
+behind-writers texts x below n mode = refl
+
+-- what remains behind some bytes of the innermost open text
+pub behind-walk : (rules : Rules) (s : State) (line depth : ℕ) (texts : Texts) (x : Open) (below : List Open) (n : ℕ) (mode : Mode)
+    → and_then (walk rules s (deeper_of rules s (room_in depth below)) (Some line) (open_writers texts x below) 0 (open_items texts (open_behind x n mode) below))
+    (open_left rules s line depth texts below)
+    ≡ open_left rules s line depth texts (open_behind x n mode ∷ below)
+behind-walk rules s line depth texts x below n mode =
+    ap (λ (o : List (List ℕ)). and_then (walk rules s (deeper_of rules s (room_in depth below)) (Some line) o 0 (open_items texts (open_behind x n mode) below)) (open_left rules s line depth texts below))
+    (sym (behind-writers texts x below n mode))
+    ∙ sym (left-walk rules s line depth texts (open_behind x n mode) below)
+
+-- what remains by the first token of the innermost open text
+first-walk : (rules : Rules) (s : State) (line depth : ℕ) (texts : Texts) (x : Open) (below : List Open) (item : Item) → 0 < length (open_bytes texts x below)
+    → item_at texts (x ∷ below) (open_scope x below) (first_token texts x below) ≡ item
+    → open_left rules s line depth texts (x ∷ below)
+    ≡ and_then (walk rules s (deeper_of rules s (room_in depth below)) (Some line) (open_writers texts x below) 0 (item ∷ open_items texts (first_behind texts x below) below))
+    (open_left rules s line depth texts below)
+first-walk rules s line depth texts x below item some e =
+    left-walk rules s line depth texts x below
+    ∙ ap (λ (items : List Item). and_then (walk rules s (deeper_of rules s (room_in depth below)) (Some line) (open_writers texts x below) 0 items) (open_left rules s line depth texts below))
+    (first-items texts x below some ∙ ap (λ (i : Item). i ∷ open_items texts (first_behind texts x below) below) e)
+
+-- (1) an open text of which nothing is left is closed
+pub step-closes : (rules : Rules) (s : State) (line depth : ℕ) (texts : Texts) (x : Open) (below : List Open) → open_bytes texts x below ≡ []
+    → open_left rules s line depth texts (x ∷ below) ≡ open_left rules s line depth texts below
+unfolding walk
+step-closes rules s line depth texts x below e =
+    left-walk rules s line depth texts x below
+    ∙ ap (λ (items : List Item). and_then (walk rules s (deeper_of rules s (room_in depth below)) (Some line) (open_writers texts x below) 0 items) (open_left rules s line depth texts below))
+    (no-items texts x below e)
+    ∙ and_then-gives_nil (open_left rules s line depth texts below)
+
+-- a text that is opened remains in front of the others, where there is room
+pub opens-room : (rules : Rules) (s : State) (line depth : ℕ) (texts : Texts) (new : Open) (opens : List Open) → length opens < depth
+    → and_then (deeper_of rules s (depth - length opens) line (open_writers texts new opens) (open_items texts new opens)) (open_left rules s line depth texts opens)
+    ≡ open_left rules s line depth texts (new ∷ opens)
+unfolding deeper_of open_left
+opens-room rules s line depth texts new opens h =
+    let r : depth - length opens ≡ suc (depth - suc (length opens)) = omega (arith, h) in
+    ap (λ (n : ℕ). and_then (deeper_of rules s n line (open_writers texts new opens) (open_items texts new opens)) (open_left rules s line depth texts opens)) r
+
+-- and is a fault where there is none
+pub opens-deep : (rules : Rules) (s : State) (line depth : ℕ) (o : List (List ℕ)) (items : List Item) (n : ℕ) (rest : Outcome) → depth ≤ n
+    → and_then (deeper_of rules s (depth - n) line o items) rest ≡ fails (fault_at DepthPassed line [] s)
+unfolding deeper_of
+opens-deep rules s line depth o items n rest h =
+    let r : depth - n ≡ 0 = omega (arith, h) in
+    ap (λ (k : ℕ). and_then (deeper_of rules s k line o items) rest) r
+    ∙ and_then-fails (fault_at DepthPassed line [] s) rest
+
+-- the item of a formal's name is the mark of what it stands for
+formal-item : (texts : Texts) (opens : List Open) (k : ℕ) (t : SourceToken) (bytes : List ℕ) (place : ℕ) (new : Open) → AreOpen texts opens
+    → t ≡ name_token bytes → formal_named (scope_formals texts.macros opens k) bytes ≡ Some place
+    → found_standing texts.macros (scope_open opens k) k place ≡ Some new → IsMarkOf texts opens new (item_at texts opens k t)
+unfolding StandsFor
+formal-item texts opens k t bytes place new h is named stands =
+    subst (λ (u : SourceToken). IsMarkOf texts opens new (item_at texts opens k u)) (sym is)
+    (subst (λ (p : Option ℕ). StandsFor texts opens (scope_open opens k) k p (name_token bytes) (item_at texts opens k (name_token bytes))) named (name-stands texts opens k bytes h) new stands)
+
+-- an open text is opened in the same way in front of another one behind some of its bytes, by what it is
+same-by : (texts : Texts) (x : Open) (below : List Open) (n : ℕ) (mode : Mode) (part : Part) (home : ℕ) (kind : OpenKind)
+    → Arg (open_writers texts (record { part = part; home = home; kind = kind }) (x ∷ below)) (packed (open_items texts (record { part = part; home = home; kind = kind }) (x ∷ below)))
+    ≡ Arg (open_writers texts (record { part = part; home = home; kind = kind }) (open_behind x n mode ∷ below)) (packed (open_items texts (record { part = part; home = home; kind = kind }) (open_behind x n mode ∷ below)))
+unfolding open_behind open_items item_at open_scope writers_at text_around scope_text
+same-by texts x below n mode part home (OpenBody id parts) = refl
+same-by texts x below n mode part home OpenActual = refl
+same-by texts x below n mode part home (OpenDefault id place) = refl
+
+-- an open text is opened in the same way in front of another one behind some of its bytes
+behind-mark : (texts : Texts) (x : Open) (below : List Open) (n : ℕ) (mode : Mode) (new : Open)
+    → Arg (open_writers texts new (x ∷ below)) (packed (open_items texts new (x ∷ below)))
+    ≡ Arg (open_writers texts new (open_behind x n mode ∷ below)) (packed (open_items texts new (open_behind x n mode ∷ below)))
+behind-mark texts x below n mode new = same-by texts x below n mode new.part new.home new.kind
+
+-- the first token of an open text, by its kind
+first-named : (texts : Texts) (x : Open) (below : List Open) (kind : Kind) → first_kind texts x below ≡ kind
+    → first_token texts x below ≡ record { sort = Ordinary kind; bytes = first_bytes texts x below; line = 0 }
+unfolding first_token
+first-named texts x below kind e = ap (λ (k : Kind). record { sort = Ordinary k; bytes = first_bytes texts x below; line = 0 }) e
+
+-- what remains at the name of a formal: what it stands for, and then what is left behind it
+formal-walk : (rules : Rules) (s : State) (line depth : ℕ) (texts : Texts) (x : Open) (below : List Open) (place : ℕ) (new : Open)
+    → AreOpen texts (x ∷ below) → 0 < length (open_bytes texts x below) → first_kind texts x below ≡ Name
+    → formal_named (scope_formals texts.macros (x ∷ below) (open_scope x below)) (first_bytes texts x below) ≡ Some place
+    → found_standing texts.macros (scope_open (x ∷ below) (open_scope x below)) (open_scope x below) place ≡ Some new
+    → open_left rules s line depth texts (x ∷ below)
+    ≡ and_then (deeper_of rules s (room_in depth below) line (open_writers texts new (first_behind texts x below ∷ below)) (open_items texts new (first_behind texts x below ∷ below)))
+    (open_left rules s line depth texts (first_behind texts x below ∷ below))
+unfolding walk first_behind
+formal-walk rules s line depth texts x below place new h some name named found =
+    let rest = first_behind texts x below in
+    let under = open_left rules s line depth texts below in
+    let deeper = deeper_of rules s (room_in depth below) in
+    let o = open_writers texts new (rest ∷ below) in
+    let items = open_items texts new (rest ∷ below) in
+    let t = token_of x.part.mode (open_bytes texts x below) in
+    let m : IsMarkOf texts (x ∷ below) new (item_at texts (x ∷ below) (open_scope x below) (first_token texts x below)) =
+    formal-item texts (x ∷ below) (open_scope x below) (first_token texts x below) (first_bytes texts x below) place new h (first-named texts x below Name name) named found in
+    let left = walk rules s deeper (Some line) (open_writers texts x below) 0 (open_items texts rest below) in
+    first-walk rules s line depth texts x below (Arg o (packed items)) some
+    (m.mark ∙ text-mark texts (x ∷ below) new m.text m.inside ∙ behind-mark texts x below t.len t.next_mode new)
+    ∙ and_then-assoc (deeper line o (listed (packed items))) left under
+    ∙ ap (λ (xs : List Item). and_then (deeper line o xs) (and_then left under)) (listed-packed items)
+    ∙ ap (λ (y : Outcome). and_then (deeper line o items) y) (behind-walk rules s line depth texts x below t.len t.next_mode)
+
+-- (3) the name of a formal opens what it stands for, where there is room
+pub step-formal : (rules : Rules) (s : State) (line depth : ℕ) (texts : Texts) (x : Open) (below : List Open) (place : ℕ) (new : Open)
+    → AreOpen texts (x ∷ below) → 0 < length (open_bytes texts x below) → first_kind texts x below ≡ Name
+    → formal_named (scope_formals texts.macros (x ∷ below) (open_scope x below)) (first_bytes texts x below) ≡ Some place
+    → found_standing texts.macros (scope_open (x ∷ below) (open_scope x below)) (open_scope x below) place ≡ Some new → length (x ∷ below) < depth
+    → open_left rules s line depth texts (x ∷ below) ≡ open_left rules s line depth texts (new ∷ first_behind texts x below ∷ below)
+step-formal rules s line depth texts x below place new h some name named found room =
+    formal-walk rules s line depth texts x below place new h some name named found
+    ∙ opens-room rules s line depth texts new (first_behind texts x below ∷ below) room
+
+-- and is a fault where there is none
+pub step-formal_deep : (rules : Rules) (s : State) (line depth : ℕ) (texts : Texts) (x : Open) (below : List Open) (place : ℕ) (new : Open)
+    → AreOpen texts (x ∷ below) → 0 < length (open_bytes texts x below) → first_kind texts x below ≡ Name
+    → formal_named (scope_formals texts.macros (x ∷ below) (open_scope x below)) (first_bytes texts x below) ≡ Some place
+    → found_standing texts.macros (scope_open (x ∷ below) (open_scope x below)) (open_scope x below) place ≡ Some new → depth ≤ length (x ∷ below)
+    → open_left rules s line depth texts (x ∷ below) ≡ fails (fault_at DepthPassed line [] s)
+step-formal_deep rules s line depth texts x below place new h some name named found deep =
+    let rest = first_behind texts x below in
+    formal-walk rules s line depth texts x below place new h some name named found
+    ∙ opens-deep rules s line depth (open_writers texts new (rest ∷ below)) (open_items texts new (rest ∷ below)) (suc (length below))
+    (open_left rules s line depth texts (rest ∷ below)) deep
+
+-- a token that no body marks is as it is written, in a scope of its own
+plain-own : (texts : Texts) (kind : OpenKind) (text : List ℕ) (item : SourceToken → Item) (o : List (List ℕ)) (t : SourceToken)
+    → ((macro : List ℕ) (formals : List Formal) (actuals : List (List Item)) → marked macro formals actuals o t ≡ Written t) → own_item texts kind text item o t ≡ Written t
+unfolding own_item
+plain-own texts (OpenBody id parts) text item o t e =
+    e (macro_at texts.macros id).name (formals_of (macro_at texts.macros id)) (part_items item text parts)
+plain-own texts OpenActual text item o t e = refl
+plain-own texts (OpenDefault id place) text item o t e = refl
+
+-- a choice of items that are one
+one-choice : (b : Bool) (x y z : Item) → x ≡ z → y ≡ z → (if b then x else y) ≡ z
+one-choice true x y z e f = e
+one-choice false x y z e f = f
+
+-- a token that no body marks is as it is written
+plain-item : (texts : Texts) (opens : List Open) (k : ℕ) (t : SourceToken)
+    → ((macro : List ℕ) (formals : List Formal) (actuals : List (List Item)) (o : List (List ℕ)) → marked macro formals actuals o t ≡ Written t)
+    → item_at texts opens k t ≡ Written t
+unfolding item_at
+plain-item texts [] k t e = refl
+plain-item texts (x ∷ below) k t e =
+    one-choice (k == suc (length below)) (own_item texts x.kind (scope_text texts below x.home) (item_at texts below x.home) (writers_at texts below x.home) t)
+    (item_at texts below k t) (Written t)
+    (plain-own texts x.kind (scope_text texts below x.home) (item_at texts below x.home) (writers_at texts below x.home) t
+    (λ macro formals actuals. e macro formals actuals (writers_at texts below x.home)))
+    (plain-item texts below k t e)
+
+-- a token that stands for itself is as it is written, by its kind
+alone-item : (texts : Texts) (opens : List Open) (k : ℕ) (kind : Kind) (bytes : List ℕ) → AreOpen texts opens → Alone kind (formal_named (scope_formals texts.macros opens k) bytes)
+    → item_at texts opens k (record { sort = Ordinary kind; bytes = bytes; line = 0 }) ≡ Written (record { sort = Ordinary kind; bytes = bytes; line = 0 })
+unfolding Alone StandsFor marked
+alone-item texts opens k Name bytes h a =
+    subst (λ (p : Option ℕ). StandsFor texts opens (scope_open opens k) k p (name_token bytes) (item_at texts opens k (name_token bytes))) a (name-stands texts opens k bytes h)
+alone-item texts opens k kind bytes h a =
+    plain-item texts opens k (record { sort = Ordinary kind; bytes = bytes; line = 0 }) (λ macro formals actuals o. refl)
+
+-- (2) a first token that is copied and stands for itself is lent
+pub step-copies : (rules : Rules) (s : State) (line depth : ℕ) (texts : Texts) (x : Open) (below : List Open)
+    → AreOpen texts (x ∷ below) → 0 < length (open_bytes texts x below) → is_copied (first_token texts x below) ≡ true
+    → Alone (first_kind texts x below) (formal_named (scope_formals texts.macros (x ∷ below) (open_scope x below)) (first_bytes texts x below))
+    → open_left rules s line depth texts (x ∷ below)
+    ≡ and_then (gives (first_bytes texts x below)) (open_left rules s line depth texts (first_behind texts x below ∷ below))
+unfolding first_token first_behind
+step-copies rules s line depth texts x below h some copied alone =
+    let t = token_of x.part.mode (open_bytes texts x below) in
+    let token : SourceToken = record { sort = Ordinary (first_kind texts x below); bytes = first_bytes texts x below; line = 0 } in
+    let deeper = deeper_of rules s (room_in depth below) in
+    let o = open_writers texts x below in
+    let items = open_items texts (first_behind texts x below) below in
+    let under = open_left rules s line depth texts below in
+    first-walk rules s line depth texts x below (Written token) some
+    (alone-item texts (x ∷ below) (open_scope x below) (first_kind texts x below) (first_bytes texts x below) h alone)
+    ∙ ap (λ (y : Outcome). and_then y under) (walk_copied rules s deeper (Some line) o token items copied)
+    ∙ and_then-assoc (gives (first_bytes texts x below)) (walk rules s deeper (Some line) o 0 items) under
+    ∙ ap (λ (y : Outcome). and_then (gives (first_bytes texts x below)) y) (behind-walk rules s line depth texts x below t.len t.next_mode)
+
+-- (6) a lone backquote is a fault
+pub step-bare : (rules : Rules) (s : State) (line depth : ℕ) (texts : Texts) (x : Open) (below : List Open)
+    → 0 < length (open_bytes texts x below) → first_kind texts x below ≡ BareBackquote
+    → open_left rules s line depth texts (x ∷ below) ≡ fails (fault_at NoName line [] s)
+unfolding walk marked
+step-bare rules s line depth texts x below some e =
+    let token : SourceToken = record { sort = Ordinary BareBackquote; bytes = first_bytes texts x below; line = 0 } in
+    first-walk rules s line depth texts x below (Written token) some
+    (ap (λ (t : SourceToken). item_at texts (x ∷ below) (open_scope x below) t) (first-named texts x below BareBackquote e)
+    ∙ plain-item texts (x ∷ below) (open_scope x below) token (λ macro formals actuals o. refl))
+    ∙ and_then-fails (fault_at NoName line [] s) (open_left rules s line depth texts below)
+
+-- what remains at a usage, by what it comes to
+pub usage-left : (rules : Rules) (s : State) (line depth : ℕ) (texts : Texts) (x : Open) (below : List Open) (u : Usage Item)
+    → 0 < length (open_bytes texts x below) → first_kind texts x below ≡ Back
+    → usage_of rules s (item_reads (Some line)) line (open_writers texts x below) (drop 1 (first_bytes texts x below)) (open_items texts (first_behind texts x below) below) ≡ u
+    → open_left rules s line depth texts (x ∷ below)
+    ≡ and_then (usage_walk rules s (deeper_of rules s (room_in depth below)) (Some line) (open_writers texts x below) line (drop 1 (first_bytes texts x below))
+    (open_items texts (first_behind texts x below) below) u) (open_left rules s line depth texts below)
+unfolding marked
+usage-left rules s line depth texts x below u some e comes =
+    let token : SourceToken = record { sort = Ordinary Back; bytes = first_bytes texts x below; line = 0 } in
+    let deeper = deeper_of rules s (room_in depth below) in
+    let o = open_writers texts x below in
+    let items = open_items texts (first_behind texts x below) below in
+    first-walk rules s line depth texts x below (Written token) some
+    (ap (λ (t : SourceToken). item_at texts (x ∷ below) (open_scope x below) t) (first-named texts x below Back e)
+    ∙ plain-item texts (x ∷ below) (open_scope x below) token (λ macro formals actuals o. refl))
+    ∙ ap (λ (y : Outcome). and_then y (open_left rules s line depth texts below)) (usage_walks rules s deeper (Some line) o (first_bytes texts x below) 0 items u comes)
+
+-- the items of the body that a call opens are its macro's, with the parts of the call as actuals
+pub body-items : (texts : Texts) (id : ℕ) (parts : List Part) (scope : ℕ) (opens : List Open)
+    → open_items texts (open_body texts id parts scope) opens
+    ≡ substituted (macro_at texts.macros id) (part_items (item_at texts opens scope) (scope_text texts opens scope) parts) (writers_at texts opens scope)
+unfolding open_items open_body open_scope own_item substituted text_around own_text
+body-items texts id parts scope opens =
+    let m = macro_at texts.macros id in
+    let new : Open = record { part = record { from = 0; end = length m.body; mode = Plain }; home = scope; kind = OpenBody id parts } in
+    ap (λ (f : SourceToken → Item). map f (part_tokens m.body (record { from = 0; end = length m.body; mode = Plain }))) (item-own texts new opens)
+    ∙ ap (λ (ts : List SourceToken). map (marked m.name (formals_of m) (part_items (item_at texts opens scope) (scope_text texts opens scope) parts) (writers_at texts opens scope)) ts)
+    (part-whole m.body)
+
+-- and it is written in the text of its macro, and of those around its call
+pub body-writers : (texts : Texts) (id : ℕ) (parts : List Part) (scope : ℕ) (opens : List Open)
+    → open_writers texts (open_body texts id parts scope) opens ≡ (macro_at texts.macros id).name ∷ writers_at texts opens scope
+unfolding open_body open_scope own_writers
+body-writers texts id parts scope opens =
+    writers-own texts (record { part = record { from = 0; end = length (macro_at texts.macros id).body; mode = Plain }; home = scope; kind = OpenBody id parts }) opens
+
+-- the scope of an open text that goes on is in the text of the same macros
+pub scope-writers : (texts : Texts) (x : Open) (below : List Open) (n : ℕ) (mode : Mode) → writers_at texts (open_behind x n mode ∷ below) (open_scope x below) ≡ open_writers texts x below
+unfolding open_behind writers_at
+scope-writers texts x below n mode = refl
+
+-- what remains of the body that a usage in a source opens is what its items expand to, with the parts of what is kept of its call as
+-- actuals
+pub first-left : (rules : Rules) (s : State) (line d : ℕ) (texts : Texts) (id : ℕ) (parts : List Part)
+    → open_left rules s line (suc d) texts (open_body texts id parts 0 ∷ [])
+    ≡ expand rules s d (Some line) ((macro_at texts.macros id).name ∷ [])
+    (substituted (macro_at texts.macros id) (map (map Written) (map (part_tokens texts.arguments) parts)) [])
+unfolding open_left writers_at item_at scope_text
+first-left rules s line d texts id parts =
+    let m = macro_at texts.macros id in
+    let new = open_body texts id parts 0 in
+    let same : suc d - 1 ≡ d = omega arith in
+    and_then-nil (expand rules s (suc d - 1) (Some line) (open_writers texts new []) (open_items texts new []))
+    ∙ ap (λ (n : ℕ). expand rules s n (Some line) (open_writers texts new []) (open_items texts new [])) same
+    ∙ ap (λ (w : List (List ℕ)). expand rules s d (Some line) w (open_items texts new [])) (body-writers texts id parts 0 [] ∙ none)
+    ∙ ap (λ (xs : List Item). expand rules s d (Some line) (m.name ∷ []) xs) (body-items texts id parts 0 [] ∙ actuals)
+  where
+    none : (macro_at texts.macros id).name ∷ writers_at texts [] 0 ≡ (macro_at texts.macros id).name ∷ []
+    none = refl
+
+    written : (ps : List Part) → part_items (item_at texts [] 0) texts.arguments ps ≡ map (map Written) (map (part_tokens texts.arguments) ps)
+    written [] = refl
+    written (p ∷ ps) = ap (λ (xs : List (List Item)). map Written (part_tokens texts.arguments p) ∷ xs) (written ps)
+
+    actuals : substituted (macro_at texts.macros id) (part_items (item_at texts [] 0) (scope_text texts [] 0) parts) (writers_at texts [] 0)
+        ≡ substituted (macro_at texts.macros id) (map (map Written) (map (part_tokens texts.arguments) parts)) []
+    actuals = ap (λ (xs : List (List Item)). substituted (macro_at texts.macros id) xs []) (written parts)
+
+-- the mode in which an open text is read makes no difference where its bytes have the same tokens in another one
+pub left-mode : (rules : Rules) (s : State) (line depth : ℕ) (texts : Texts) (x : Open) (below : List Open) (n : ℕ) (mode next : Mode)
+    → text_tokens mode (open_bytes texts (open_behind x n mode) below) ≡ text_tokens next (open_bytes texts (open_behind x n mode) below)
+    → open_left rules s line depth texts (open_behind x n mode ∷ below) ≡ open_left rules s line depth texts (open_behind x n next ∷ below)
+unfolding open_left open_items part_tokens open_bytes open_behind item_at open_scope writers_at
+left-mode rules s line depth texts x below n mode next e =
+    ap (λ (ts : List SourceToken). and_then (expand rules s (room_in depth below) (Some line) (open_writers texts x below) (map (item_at texts (x ∷ below) (open_scope x below)) ts))
+    (open_left rules s line depth texts below)) e
