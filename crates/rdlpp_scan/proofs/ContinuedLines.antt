@@ -1,25 +1,23 @@
 -- Logical lines over several physical lines.
-use Rattle.std.proofs.Common.{◌≡◌, ℕ, suc, ◌+◌, ◌<◌, ◌≤◌, Bool, true, false, not, cond, ◌&&◌, List, [], ◌∷◌, ◌++◌, Option, Some, None, length, get_or, take, refl, sym, ap, ◌∙◌, subst, inl, inr, ⊎_elim, arith}
-use Rattle.std.specs.Prelude.{codes, bytes_eq, slice_index}
+use Rattle.std.proofs.Common.{◌≡◌, ℕ, suc, ◌+◌, ◌<◌, Bool, true, false, not, cond, ◌&&◌, List, [], ◌∷◌, ◌++◌, Option, Some, None, length, get_or, take, refl, ap, ◌∙◌, inl, inr, ⊎_elim, arith}
+use Rattle.std.specs.Prelude.{codes, bytes_eq}
 use Rattle.std.specs.Option.{option_map}
-use Rattle.std.proofs.lemmas.Bool.{and_parts}
-use Rattle.std.proofs.lemmas.List.{length-append, length-take-le, take-append-le}
+use Rattle.std.proofs.lemmas.List.{length-append, take-append-le}
 use Rattle.rdlpp_scan.specs.declared.token.Mode.TheVariants.{Plain}
 use Rattle.rdlpp_scan.specs.declared.token.Token.{Token}
 use Rattle.rdlpp_scan.specs.Bytes.{is_line_end}
 use Rattle.rdlpp_scan.specs.Tokens.{token_of}
 use Rattle.rdlpp_scan.specs.SourceTokens.{is_continued, logical_len}
-use Rattle.rdlpp_scan.specs.Lines.{EndsLine, IsWholeLines, whole_lines_len, onto_whole_lines}
+use Rattle.rdlpp_scan.specs.Lines.{EndsLine, IsWholeLines}
 use Rattle.rdlpp_scan.specs.Defines.{HoldsDefine}
-use Rattle.rdlpp_scan.proofs.LineLaws.{none_suc, some_suc}
+use Rattle.rdlpp_scan.proofs.LineLaws.{none_suc}
 use Rattle.rdlpp_scan.proofs.LogicalLines.{logical_len-after, logical_len-start, option_map-twice}
-use Rattle.rdlpp_scan.proofs.WholeLines.{IsWholeLines-append, IsWholeLines-one, IsWholeLines-rest, whole_one}
+use Rattle.rdlpp_scan.proofs.WholeLines.{IsWholeLines-append, IsWholeLines-one, IsWholeLines-rest}
 use Rattle.rdlpp_scan.proofs.Seams.{line_end-ten}
 use Rattle.rdlpp_scan.proofs.Locality.{token_of-append}
 use Rattle.rdlpp_scan.proofs.StopKinds.{token_of-row}
 use Rattle.rdlpp_scan.proofs.StepLaws.{closed_kind}
 use Rattle.rdlpp_scan.proofs.TokenLens.{token_of-part}
-use Rattle.rdlpp_scan.proofs.DefineSteps.{logical_len-within}
 
 -- a logical line that doesn't end in the front of a text goes on behind it
 pub logical_len-goes_behind : (x y : ℕ) (xs ys : List ℕ) → logical_len x y xs ≡ None
@@ -47,39 +45,6 @@ logical_len-behind_lines (b ∷ xs) ys whole none =
     let x = get_or (0 ∷ 0 ∷ held) (length held) 0 in
     let ten = whole_lines-last 0 0 held (omega arith) whole in
     logical_len-goes_behind 0 0 held ys none ∙ ap (λ y. option_map (λ n. length held + n) (logical_len x y ys)) ten ∙ ap (option_map (λ n. length held + n)) (logical_len-after x ys)
-
-one_line : (b : ℕ) (bs : List ℕ) → is_line_end b ≡ true → IsWholeLines (take 1 (b ∷ bs))
-unfolding whole_lines_len onto_whole_lines
-one_line b bs h = ap (λ t. cond t 1 0) h
-
--- a logical line ends with its LF
-pub logical_len-whole : (x y : ℕ) (bs : List ℕ) (n : ℕ) → logical_len x y bs ≡ Some n → IsWholeLines (take n bs)
-unfolding logical_len
-logical_len-whole x y [] n h = absurd (cc)
-logical_len-whole x y (b ∷ bs) n h =
-    let L = logical_len y b bs in
-    let W : ℕ → Type 0 = λ k. IsWholeLines (take k (b ∷ bs)) in
-    let P : Bool → Type 0 = λ t. (is_line_end b && not (is_continued x y)) ≡ t → cond t (Some 1) (option_map suc L) ≡ Some n → W n in
-    let at_true : P true = λ e f. let one : 1 ≡ n = cc in subst W one (one_line b bs (and_parts (is_line_end b) (not (is_continued x y)) e).0) in
-    let at_false : P false = λ e f.
-    let p = some_suc L n f in
-    let within = logical_len-within y b bs p.0 p.1.0 in
-    let size = length-take-le p.0 bs within.1 in
-    subst W (sym p.1.1) (whole_one b (take p.0 bs) (logical_len-whole y b bs p.0 p.1.0) (omega (arith, within.0, size))) in
-    elim (is_line_end b && not (is_continued x y)) as P [ true ↦ at_true | false ↦ at_false ] refl h
-
--- a logical line that is found has a byte, lies in its text and ends with its LF
-pub logical_len-found : (bytes : List ℕ) (n : ℕ) → logical_len 0 0 bytes ≡ Some n → (0 < n) × ((n ≤ length bytes) × IsWholeLines (take n bytes))
-logical_len-found bytes n is = let within = logical_len-within 0 0 bytes n is in (within.0, (within.1, logical_len-whole 0 0 bytes n is))
-
--- a logical line that isn't found goes on behind what is held, with the last two bytes of that before it
-pub logical_len-goes_on : (held more : List ℕ) → logical_len 0 0 held ≡ None
-    → logical_len 0 0 (held ++ more)
-    ≡ option_map (λ n. length held + n) (logical_len (slice_index (0 ∷ 0 ∷ held) (length held)) (slice_index (0 ∷ 0 ∷ held) (length held + 1)) more)
-logical_len-goes_on held more none =
-    let one : suc (length held) ≡ length held + 1 = omega arith in
-    let there : ℕ → Option ℕ = λ i. option_map (λ n. length held + n) (logical_len (get_or (0 ∷ 0 ∷ held) (length held) 0) (get_or (0 ∷ 0 ∷ held) i 0) more) in
-    logical_len-goes_behind 0 0 held more none ∙ ap there one
 
 -- a `define` whose logical line goes on, with a further line taken in
 pub HoldsDefine-more : (held w rest : List ℕ) → HoldsDefine held (w ++ rest) → 0 < length w → EndsLine w rest → HoldsDefine (held ++ w) rest

@@ -103,12 +103,6 @@ step-logical c o l held more n d is fits =
     next_held c o l held more (record { sort = Definition; bytes = take n held; line = l }) n within.0 within.1 refl
     (define_here c o l held more d ∙ define_step-some c l (held ++ more) n (logical_len-append 0 0 held more n is) fits ∙ ap made (take-append-le n held more within.1))
 
--- a `define` whose logical line is too long
-pub step-logical_long : (c : Course) (o l : ℕ) (held more : List ℕ) (n : ℕ) → BeginsDefine c held more → logical_len 0 0 held ≡ Some n → c.most < n
-    → source_tokens c Plain o l 0 (held ++ more) ≡ record { sort = Broken DefineLong; bytes = []; line = l } ∷ []
-step-logical_long c o l held more n d is long =
-    broken_here c o l held more DefineLong d.some (define_here c o l held more d ∙ define_long c l (held ++ more) n (logical_len-append 0 0 held more n is) long)
-
 -- a `define` whose logical line goes on, and is too long with the next line
 pub step-logical_full : (c : Course) (o l : ℕ) (held more : List ℕ) → BeginsDefine c held more → logical_len 0 0 held ≡ None → 0 < length more → c.most < length held + line_len more
     → source_tokens c Plain o l 0 (held ++ more) ≡ record { sort = Broken DefineLong; bytes = []; line = l } ∷ []
@@ -137,17 +131,6 @@ step-logical_last c o l held d is last fits =
     define_here c o l held [] d ∙ ap (define_step c l) bare ∙ define_step-none c l held is last fits in
     ap (source_tokens c Plain o l 0) (sym bare) ∙ next_held c o l held [] tok (length held) d.some (omega arith) (sym all) step
     ∙ ap (λ z. tok ∷ source_tokens c Plain l (l + line_ends z) 0 (drop (length held) held ++ [])) all ∙ ap (λ z. tok ∷ source_tokens c Plain l (l + line_ends held) 0 z) gone
-
--- a `define` at the end of a source, which is too long
-pub step-logical_last_long : (c : Course) (o l : ℕ) (held : List ℕ) → BeginsDefine c held [] → logical_len 0 0 held ≡ None → c.break ≡ None → c.most < length held
-    → source_tokens c Plain o l 0 held ≡ record { sort = Broken DefineLong; bytes = []; line = l } ∷ []
-unfolding at_break
-step-logical_last_long c o l held d is last long =
-    let bare = append-nil held in
-    let tok : Step = Next (record { sort = Definition; bytes = held; line = l }) in
-    ap (source_tokens c Plain o l 0) (sym bare)
-    ∙ broken_here c o l held [] DefineLong d.some
-    (define_here c o l held [] d ∙ ap (define_step c l) bare ∙ define_open c l held is ∙ ap (at_break c l held) last ∙ ap (λ t. cond t (broken DefineLong [] l) tok) (lt-ltb c.most (length held) long))
 
 -- a `define` in whose logical line a source breaks
 pub step-logical_broken : (c : Course) (o l : ℕ) (held : List ℕ) (k : Break) → BeginsDefine c held [] → logical_len 0 0 held ≡ None → c.break ≡ Some k

@@ -1,4 +1,3 @@
-pub mod Rows
 pub mod Searches
 pub mod Places
 pub mod TokenLens
@@ -31,7 +30,6 @@ pub mod ResumedTokens
 pub mod FirstTokens
 pub mod ClosedKinds
 pub mod OrdinaryTokens
-pub mod LineTokens
 pub mod TokenEnds
 pub mod CleanTexts
 pub mod CommaBehind

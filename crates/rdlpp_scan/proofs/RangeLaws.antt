@@ -326,9 +326,3 @@ tokens_from-behind_some [] us m bs e = e
 tokens_from-behind_some (t ∷ ts) us m bs e =
     let p = tokens_from-first m bs t (ts ++ us) e in
     ap (tokens_from (mode_behind t.next_mode ts) 0) (sym (drop-drop (tokens_len ts) t.len bs)) ∙ tokens_from-behind_some ts us t.next_mode (drop t.len bs) p.1.1
-
--- a range of a text that is cut before and behind some of its tokens has those tokens
-pub tokens_from-range : (m : Mode) (bs : List ℕ) (before ts us : List Token) → tokens_from m 0 bs ≡ before ++ (ts ++ us)
-    → tokens_from (mode_behind m before) 0 (take (tokens_len ts) (drop (tokens_len before) bs)) ≡ ts
-tokens_from-range m bs before ts us e =
-    tokens_from-front ts us (mode_behind m before) (drop (tokens_len before) bs) (tokens_from-behind_some before (ts ++ us) m bs e)

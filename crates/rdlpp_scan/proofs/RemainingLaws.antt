@@ -7,13 +7,13 @@ use Rattle.rdlpp_scan.specs.declared.token.Kind.TheVariants.{Back, BareBackquote
 use Rattle.rdlpp_scan.specs.declared.token.Mode.{Mode}
 use Rattle.rdlpp_scan.specs.declared.token.Mode.TheVariants.{Plain}
 use Rattle.rdlpp_scan.specs.Tokens.{plain_len, token_of}
-use Rattle.rdlpp_scan.specs.Front.{LineLong, SourceLong, PerlFound, Break, Front, front, onto_front}
-use Rattle.rdlpp_scan.specs.SourceTokens.{SourceToken, Course, Ordinary, Broken, line_ends, line_len, source_end, source_tokens, remaining_tokens}
+use Rattle.rdlpp_scan.specs.Front.{PerlFound, Break, Front, front, onto_front}
+use Rattle.rdlpp_scan.specs.SourceTokens.{SourceToken, Course, Ordinary, Broken, line_ends, source_end, source_tokens, remaining_tokens}
 use Rattle.rdlpp_scan.specs.Lines.{EndsLine, IsWholeLines}
 use Rattle.rdlpp_scan.specs.Ordinary.{IsOrdinary, IsPlainToken}
 use Rattle.rdlpp_scan.proofs.SourceLaws.{source_tokens-opened}
 use Rattle.rdlpp_scan.proofs.OrdinaryFronts.{ordinary_front}
-use Rattle.rdlpp_scan.proofs.FrontLaws.{front-accept, front-none, front-line_long, front-source_long}
+use Rattle.rdlpp_scan.proofs.FrontLaws.{front-accept, front-none}
 use Rattle.rdlpp_scan.proofs.StepLaws.{step-perl, step-bare, step-back}
 
 -- what breaks or ends a source behind the text that is held
@@ -87,18 +87,6 @@ remaining-front most o l room r k is = ap (λ (g : Front). source_tokens (record
 pub remaining-end : (most o l room : ℕ) → remaining_tokens most Plain o l [] room [] ≡ []
 unfolding source_end
 remaining-end most o l room = remaining-front most o l room [] None (front-none most room)
-
--- a line that is too long
-pub remaining-line_long : (most o l room : ℕ) (r : List ℕ) → most < line_len r
-    → remaining_tokens most Plain o l [] room r ≡ record { sort = Broken LineLong; bytes = []; line = l } ∷ []
-unfolding source_end
-remaining-line_long most o l room r long = remaining-front most o l room r _ (front-line_long most room r long)
-
--- a line that is too much for the source
-pub remaining-source_long : (most o l room : ℕ) (r : List ℕ) → line_len r ≤ most → room < line_len r
-    → remaining_tokens most Plain o l [] room r ≡ record { sort = Broken SourceLong; bytes = []; line = l } ∷ []
-unfolding source_end
-remaining-source_long most o l room r fits long = remaining-front most o l room r _ (front-source_long most room r fits long)
 
 -- `<%` ends the list
 pub remaining-perl : (most o l : ℕ) (held : List ℕ) (room : ℕ) (rest : List ℕ) → 0 < length held → EndsLine held rest → (token_of Plain held).kind ≡ Perl

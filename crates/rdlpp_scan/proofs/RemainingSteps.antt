@@ -19,7 +19,7 @@ use Rattle.rdlpp_scan.proofs.LogicalLines.{line_len-le}
 use Rattle.rdlpp_scan.proofs.WholeLines.{whole_one}
 use Rattle.rdlpp_scan.proofs.Locality.{IsCut-from_line}
 use Rattle.rdlpp_scan.proofs.TokenSteps.{is_kept_kind, step-closed, step-open_string, step-open_comment, step-cut_string}
-use Rattle.rdlpp_scan.proofs.DefineSteps.{BeginsDefine, step-line, step-logical, step-logical_long, step-logical_full, step-logical_last, step-logical_last_long, step-logical_broken}
+use Rattle.rdlpp_scan.proofs.DefineSteps.{BeginsDefine, step-line, step-logical, step-logical_full, step-logical_last, step-logical_broken}
 use Rattle.rdlpp_scan.proofs.RemainingLaws.{behind, course}
 
 -- a token that is closed in what is held
@@ -51,22 +51,6 @@ remaining-open_comment most m o l held room rest some ends mode =
     let b = behind most room held rest ends in
     step-open_comment (course most room rest) m o l held more some (IsCut-from_line held more b.ends) mode
 
--- what is held of a string that was open before it, in front of what remains of its rest
-pub remaining-string_goes_on : (most o l : ℕ) (held : List ℕ) (room : ℕ) (rest : List ℕ) → 0 < length held → EndsLine held rest
-    → (token_of InStr held).next_mode ≡ InStr → (token_of InStr held).len ≡ length held
-    → remaining_tokens most InStr o l held room rest ≡ onto_tokens held l (remaining_tokens most InStr o (l + line_ends held) [] room rest)
-unfolding opening
-remaining-string_goes_on most o l held room rest some ends mode len =
-    remaining-open_string most InStr o l held room rest some ends mode len
-
--- what is held of a block comment that was open before it
-pub remaining-comment_goes_on : (most o l : ℕ) (held : List ℕ) (room : ℕ) (rest : List ℕ) → 0 < length held → EndsLine held rest
-    → (token_of InBlock held).next_mode ≡ InBlock
-    → remaining_tokens most InBlock o l held room rest ≡ onto_tokens held l (remaining_tokens most InBlock o (l + line_ends held) [] room rest)
-unfolding opening
-remaining-comment_goes_on most o l held room rest some ends mode =
-    remaining-open_comment most InBlock o l held room rest some ends mode
-
 -- a string that `<%` cuts in what is held
 pub remaining-cut_string : (most : ℕ) (m : Mode) (o l : ℕ) (held : List ℕ) (room : ℕ) (rest : List ℕ) → 0 < length held → EndsLine held rest → (token_of m held).kind ≡ Str → (token_of m held).next_mode ≡ InStr → (token_of m held).len < length held
     → remaining_tokens most m o l held room rest
@@ -89,13 +73,6 @@ pub remaining-logical : (most o l : ℕ) (held : List ℕ) (room : ℕ) (rest : 
 unfolding remaining_tokens
 remaining-logical most o l held room rest n h is fits =
     step-logical (course most room rest) o l held (front most room rest).text n (begins most held room rest h) is fits
-
--- a `define` whose logical line is too long
-pub remaining-logical_long : (most o l : ℕ) (held : List ℕ) (room : ℕ) (rest : List ℕ) (n : ℕ) → HoldsDefine held rest → logical_len 0 0 held ≡ Some n → most < n
-    → remaining_tokens most Plain o l held room rest ≡ record { sort = Broken DefineLong; bytes = []; line = l } ∷ []
-unfolding remaining_tokens
-remaining-logical_long most o l held room rest n h is long =
-    step-logical_long (course most room rest) o l held (front most room rest).text n (begins most held room rest h) is long
 
 -- a first line is as long with anything behind it
 first_line-within : (bs more : List ℕ) → line_len bs ≤ line_len (take (line_len bs) bs ++ more)
@@ -186,16 +163,6 @@ remaining-logical_last most o l held room h is fits =
     let tok : SourceToken = record { sort = Definition; bytes = held; line = l } in
     ap (of_front most o l held) (front-none most room) ∙ ap (source_tokens c Plain o l 0) (append-nil held)
     ∙ step-logical_last c o l held (record { some = h.some; ends = none; kind = h.kind; word = h.word }) is refl fits
-
--- a `define` at the end of a source, which is too long
-pub remaining-logical_last_long : (most o l : ℕ) (held : List ℕ) (room : ℕ) → HoldsDefine held [] → logical_len 0 0 held ≡ None → most < length held
-    → remaining_tokens most Plain o l held room [] ≡ record { sort = Broken DefineLong; bytes = []; line = l } ∷ []
-unfolding remaining_tokens of_front
-remaining-logical_last_long most o l held room h is long =
-    let c : Course = record { most = most; break = None } in
-    let none : EndsLine held [] = inr refl in
-    ap (of_front most o l held) (front-none most room) ∙ ap (source_tokens c Plain o l 0) (append-nil held)
-    ∙ step-logical_last_long c o l held (record { some = h.some; ends = none; kind = h.kind; word = h.word }) is refl long
 
 -- a `line` with its line
 pub remaining-line : (most o l : ℕ) (held : List ℕ) (room : ℕ) (rest : List ℕ) → 0 < length held → EndsLine held rest → (token_of Plain held).kind ≡ Back

@@ -92,13 +92,6 @@ cut_bytes xs m ys =
     ∙ (cut_middle (table_bytes xs) (macro_bytes m) (table_bytes ys) _ _ (length_table_bytes xs) (omega (arith, length_macro_bytes m))
     ∙ sym (table_bytes-append xs ys))
 
--- the same of marks
-cut_marks : (xs : List Macro) (m : Macro) (ys : List Macro) → remove_range (table_marks (xs ++ m ∷ ys)) (length (table_marks xs)) (length (table_marks xs) + length (macro_marks m)) ≡ table_marks (xs ++ ys)
-cut_marks xs m ys =
-    ap (λ (l : List ℕ). remove_range l (length (table_marks xs)) (length (table_marks xs) + length (macro_marks m))) (table_marks-append xs (m ∷ ys) ∙ ap (λ (l : List ℕ). table_marks xs ++ l) (table_marks-cons m ys))
-    ∙ (cut_middle (table_marks xs) (macro_marks m) (table_marks ys) _ _ refl refl
-    ∙ sym (table_marks-append xs ys))
-
 -- without the element at the end of a front
 remove_at : {A : Type 0} (front : List A) (x : A) (back : List A) (n : ℕ) → length front ≡ n → remove (front ++ x ∷ back) n ≡ front ++ back
 remove_at front x back n e =
