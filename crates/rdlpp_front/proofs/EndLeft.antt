@@ -9,8 +9,7 @@ use Rattle.rdlpp_scan.specs.Front as breach
 use Rattle.rdlpp_scan.specs.Lines.{EndsLine}
 use Rattle.rdlpp_scan.specs.SourceTokens.{SourceToken, remaining_tokens}
 use Rattle.rdlpp_scan.specs.Tokens.{token_of}
-use Rattle.rdlpp_scan.proofs.RemainingLaws.{remaining-bare, remaining-perl}
-use Rattle.rdlpp_scan.proofs.ResumedTokens.{remaining-perl_in_string, perl_in_string}
+use Rattle.rdlpp_scan.proofs.RemainingLaws.{remaining-bare, remaining-perl, remaining-perl_in_string, perl_in_string}
 use Rattle.rdlpp_scan.proofs.StopKinds.{block_token-kind}
 use Rattle.rdlpp_meaning.specs.declared.fault.FaultKind.{FaultKind}
 use Rattle.rdlpp_meaning.specs.declared.fault.FaultKind.TheVariants.{OpenConditional}
@@ -34,8 +33,7 @@ use Rattle.rdlpp_read.specs.LogicalLines.{HoldsLine}
 use Rattle.rdlpp_front.specs.Fronts.{AtBare, AtPerl, IsRefused}
 use Rattle.rdlpp_front.specs.SourceLeft.{HoldsFront, source_left, with_file_buffer}
 use Rattle.rdlpp_read.proofs.BufferTokens.{ends_line}
-use Rattle.rdlpp_front.proofs.SourceFacts.{tokens_plain}
-use Rattle.rdlpp_front.proofs.SourcePassages.{all_resumed_bare, all_resumed_only_broken}
+use Rattle.rdlpp_front.proofs.SourcePassages.{tokens_plain, all_resumed_bare, all_resumed_only_broken}
 
 -- nor is a comment
 no_perl_in_comment : (held : List ℕ) → (token_of InBlock held).kind ≡ Perl → ⊥

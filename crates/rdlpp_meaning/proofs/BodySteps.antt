@@ -9,7 +9,7 @@ use Rattle.rdlpp_scan.specs.declared.token.Mode.TheVariants.{Plain}
 use Rattle.rdlpp_scan.specs.declared.token.Token.{Token}
 use Rattle.rdlpp_scan.specs.Tokens.{token_of, tokens_from}
 use Rattle.rdlpp_scan.specs.SourceTokens.{Ordinary, SourceToken}
-use Rattle.rdlpp_scan.proofs.TokenLists.{tokens_from-skip}
+use Rattle.rdlpp_scan.proofs.TokenLens.{tokens_from-skip}
 use Rattle.rdlpp_meaning.specs.Outcome.{Outcome, gives, and_then}
 use Rattle.rdlpp_meaning.specs.State.{Rules, State}
 use Rattle.rdlpp_meaning.specs.Items.{Item, Written}
