@@ -61,11 +61,9 @@ install: out/rdlpp out/librdlpp_c.a ## put the program and the library for C, wi
 fmt: ## lay out every file
 	@for crate in crates/*/; do (cd $$crate && rt fmt); done
 
-bench: out/rdlpp out/librdlpp_c.a ## build the programs, compare speed and memory with cat, cpp, ivlpp and m4, calls from Python with the program, and the scanner with a search for LF
+bench: out/rdlpp out/librdlpp_c.a ## build the programs, compare speed and memory with cat, cpp, ivlpp and m4, and calls from Python with the program
 	@bench/compare out/rdlpp
 	@bench/python out/rdlpp
-	@cd crates/rdlpp_bench && rt run -- lines 0 < /dev/null > /dev/null
-	@bench/scan
 
 definitions: ## write the list of all definitions to out/definitions.md
 	@docs/list_definitions

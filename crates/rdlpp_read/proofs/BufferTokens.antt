@@ -7,8 +7,8 @@ use Rattle.rdlpp_scan.specs.Front.{front, Break}
 use Rattle.rdlpp_scan.specs.SourceTokens.{remaining_tokens, source_tokens, source_end, open_end, broken, line_ends, line_len}
 use Rattle.std.proofs.Math.Seq.{drop-nil}
 use Rattle.rdlpp_scan.specs.Lines.{EndsLine, IsWholeLines, whole_lines_len}
-use Rattle.rdlpp_scan.proofs.WholeLines.{IsWholeLines-drop}
-use Rattle.rdlpp_scan.proofs.FrontLaws.{front-none, front-line_long, front-source_long}
+use Rattle.rdlpp_scan.proofs.LineLaws.{IsWholeLines-drop}
+use Rattle.rdlpp_scan.proofs.SourceLaws.{front-none, front-line_long, front-source_long}
 use Rattle.rdlpp_scan.proofs.RemainingLaws.{remaining-accept}
 use Rattle.rdlpp_read.specs.Buffer.{BufferView, EndsHeld, ahead_of, held_of, rest_of, text_left, tokens_left, unread_of, unused_of}
 use Rattle.rdlpp_read.specs.Filling.{Fills, Grows, GrowsBy, HasBytes, IsExact, Lengthens, Stays, TellsTokens, ended_tokens, only_broken}

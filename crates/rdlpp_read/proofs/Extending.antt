@@ -8,10 +8,8 @@ use Rattle.rdlpp_scan.specs.Defines.{HoldsDefine}
 use Rattle.rdlpp_scan.specs.Front.{DefineCut, DefineLong}
 use Rattle.rdlpp_scan.specs.SourceTokens.{Definition, line_ends, logical_len, remaining_tokens}
 use Rattle.rdlpp_scan.specs.Lines.{IsWholeLines, whole_lines_len}
-use Rattle.rdlpp_scan.proofs.ContinuedLines.{HoldsDefine-more, logical_len-behind_lines}
-use Rattle.rdlpp_scan.proofs.DefineSteps.{logical_len-within}
-use Rattle.rdlpp_scan.proofs.RemainingLaws.{remaining-end, remaining-opened}
-use Rattle.rdlpp_scan.proofs.RemainingSteps.{remaining-logical, remaining-logical_full, remaining-logical_last, remaining-logical_source}
+use Rattle.rdlpp_scan.proofs.DefineSteps.{HoldsDefine-more, logical_len-behind_lines, logical_len-within}
+use Rattle.rdlpp_scan.proofs.RemainingLaws.{remaining-end, remaining-opened, remaining-logical, remaining-logical_full, remaining-logical_last, remaining-logical_source}
 use Rattle.rdlpp_source.specs.declared.sources.Sources.{Ghosts}
 use Rattle.rdlpp_read.specs.Calls.{SourcesRead}
 use Rattle.rdlpp_read.specs.Buffer.{BufferView, EndsHeld, IsBuffer, Slides, ahead_of, consumed, held_of, rest_of, tokens_left}

@@ -5,7 +5,7 @@ use Rattle.std.proofs.Math.Seq.{take-add, take-append_seam}
 use Rattle.std.specs.Option.{IsSome, is_none}
 use Rattle.rdlpp_scan.specs.SourceTokens.{line_len}
 use Rattle.rdlpp_scan.specs.Lines.{EndsLine, IsWholeLines, whole_lines_len}
-use Rattle.rdlpp_scan.proofs.WholeLines.{IsWholeLines-append}
+use Rattle.rdlpp_scan.proofs.LineLaws.{IsWholeLines-append}
 use Rattle.rdlpp_source.specs.declared.sources.Sources.{Ghosts}
 use Rattle.rdlpp_read.specs.Ahead.{IsPast}
 use Rattle.rdlpp_read.specs.Calls.{SourcesRead}

@@ -16,8 +16,7 @@ use Rattle.rdlpp_read.specs.Buffer.{held_of}
 use Rattle.rdlpp_read.specs.Files.{consumed_file, inner_buffer, with_inner}
 use Rattle.rdlpp_front.specs.Fronts.{HasName, IsDirective, IsNamed, LacksName, argument_name, word_of}
 use Rattle.rdlpp_front.specs.declared.front.Argument.{Argument}
-use Rattle.rdlpp_front.proofs.DirectiveFacts.{word_len}
-use Rattle.rdlpp_front.proofs.Insides.{name_inside}
+use Rattle.rdlpp_front.proofs.Insides.{word_len, name_inside}
 use Rattle.rdlpp_conditions.specs.Conditions.{ConditionsView, place_of}
 use Rattle.rdlpp_conditions.specs.Moves.{Closes, IsBranch, Opens, closed_one, opened_with, turned_with, with_inner as with_count}
 use Rattle.rdlpp_conditions.specs.declared.conditions.Branch.{Branch}

@@ -37,7 +37,7 @@ use Rattle.rdlpp_read.specs.declared.files.File.{File}
 use Rattle.rdlpp_read.proofs.Slices.{line_ends_le}
 use Rattle.rdlpp_front.specs.Fronts.{AtBare, AtPerl, HasName, IsDirective, IsRefused, IsText, IsUsage, LacksName, argument_name, usage_name}
 use Rattle.rdlpp_front.proofs.Insides.{name_inside, text_inside, usage_inside}
-use Rattle.rdlpp_front.proofs.SourceFacts.{held_entered}
+use Rattle.rdlpp_front.proofs.SourcePassages.{held_entered}
 use Rattle.rdlpp_conditions.specs.Conditions.{ConditionsView}
 use Rattle.rdlpp_steps.specs.Calls.{SourcesCalled}
 use Rattle.rdlpp_steps.specs.Engine.{EngineView, IsSoundEngine, is_open}

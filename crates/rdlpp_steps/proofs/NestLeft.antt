@@ -31,9 +31,8 @@ use Rattle.rdlpp_front.specs.SourceLeft.{HoldsFront, source_left, with_file_buff
 use Rattle.rdlpp_front.proofs.DefineLeft.{define_cut_left, define_left, define_long_left, define_refused_left, holds_define}
 use Rattle.rdlpp_front.proofs.EndLeft.{broken_left, ended_left, filled_left, held_left, refused_left}
 use Rattle.rdlpp_front.proofs.SkippedWords.{skipped_broken_left}
-use Rattle.rdlpp_front.proofs.TextLeft.{text_left as text_law}
-use Rattle.rdlpp_front.proofs.UndefLeft.{undef_left, undef_nameless_left, undef_reserved_left}
-use Rattle.rdlpp_front.proofs.UsageLeft.{undefined_left}
+use Rattle.rdlpp_front.proofs.TextLeft.{text_left as text_law, undefined_left}
+use Rattle.rdlpp_front.proofs.NamedDirectives.{undef_left, undef_nameless_left, undef_reserved_left}
 use Rattle.rdlpp_conditions.specs.Conditions.{ConditionsView, own_conditions, place_of}
 use Rattle.rdlpp_steps.specs.OpenConditionals.{inner_below, outer_open}
 use Rattle.rdlpp_steps.proofs.ConditionalPlaces.{live_place, place_outside}

@@ -25,8 +25,8 @@ use Rattle.rdlpp_read.specs.declared.files.File.{File}
 use Rattle.rdlpp_read.proofs.Slices.{line_ends_le}
 use Rattle.rdlpp_front.specs.Fronts.{AtBare, AtPerl, IsDirective, IsRefused, IsText, word_of}
 use Rattle.rdlpp_front.proofs.Insides.{text_inside, usage_inside}
-use Rattle.rdlpp_front.proofs.LineLeft.{line_inside}
-use Rattle.rdlpp_front.proofs.SourceFacts.{held_entered}
+use Rattle.rdlpp_front.proofs.DefineLeft.{line_inside}
+use Rattle.rdlpp_front.proofs.SourcePassages.{held_entered}
 use Rattle.rdlpp_conditions.specs.Conditions.{ConditionsView}
 use Rattle.rdlpp_conditions.specs.Moves.{with_inner as with_count}
 use Rattle.rdlpp_conditions.specs.SkippedText.{IsPassed}
