@@ -26,22 +26,6 @@ output_found rules macros sources conditions path found text =
     outcome-behind_bytes (origin_line rules found 1) (text_meaning rules s text)
     ∙ ap (λ (p : Passage). and_then (gives (origin_line rules found 1)) (outcome p)) (resumed_start rules s text)
 
--- no origin line is written where none is asked for
-pub no_origin_line : (rules : Rules) (name : List ℕ) (line : ℕ) → rules.origins ≡ false → origin_line rules name line ≡ []
-unfolding origin_line
-no_origin_line rules name line e = rw e refl
-
--- without origin lines the output of a main text that is found is what remains at its start
-pub output_plain : (rules : Rules) (macros : List Macro) (sources conditions : ℕ) (path found text : List ℕ)
-    → rules.origins ≡ false
-    → output rules macros sources conditions path (Source found text)
-    ≡ remains rules (Live []) true (rules.tokens text) (start_state macros sources conditions found)
-output_plain rules macros sources conditions path found text e =
-    let rest = remains rules (Live []) true (rules.tokens text) (start_state macros sources conditions found) in
-    output_found rules macros sources conditions path found text
-    ∙ ap (λ (x : List ℕ). and_then (gives x) rest) (no_origin_line rules found 1 e)
-    ∙ and_then-gives_nil rest
-
 -- the output of a main text that isn't found is its fault
 pub output_missing : (rules : Rules) (macros : List Macro) (sources conditions : ℕ) (path : List ℕ)
     → output rules macros sources conditions path NoSource ≡ fails (opening_fault SourceNotFound path)

@@ -44,7 +44,3 @@ unwound rules (w ∷ ws) s =
 unfoldable pub all_resumed : Rules → List Waiting → Place → Bool → List SourceToken → State → Passage
 all_resumed rules ws place first tokens s =
     goes_on (resumed rules place first tokens s) (λ after. unwound rules ws after)
-
--- the bytes and the fault that remain of a nest of open sources (source: this project's profile)
-unfoldable pub all_remains : Rules → List Waiting → Place → Bool → List SourceToken → State → Outcome
-all_remains rules ws place first tokens s = outcome (all_resumed rules ws place first tokens s)
