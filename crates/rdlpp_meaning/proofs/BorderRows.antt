@@ -4,9 +4,10 @@ use Rattle.std.specs.Fmt.{digits}
 use Rattle.rdlpp_table.specs.Table.{Macro}
 use Rattle.rdlpp_table.specs.View.{most_formals}
 use Rattle.rdlpp_meaning.specs.declared.fault.FaultKind.TheVariants as fault
+use Rattle.rdlpp_meaning.specs.Outcome.{Outcome}
 use Rattle.rdlpp_meaning.specs.State.{LongPath, Rules}
 use Rattle.rdlpp_meaning.specs.Output.{output}
-use Rattle.rdlpp_meaning.proofs.Rows.{standard, row, whole_output}
+use Rattle.rdlpp_meaning.proofs.Rows.{File, standard, row, whole_output}
 
 -- a `line` whose name has so many bytes, and a usage of a name that isn't defined
 unfoldable renumbering_to : ℕ → List ℕ

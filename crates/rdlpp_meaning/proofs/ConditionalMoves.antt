@@ -1,19 +1,13 @@
 -- Conditionals in a nest of open sources: what the words `ifdef`, `ifndef`, `elsif`, `else` and `endif` do in live text and in
 -- skipped text that they end, and the end of a source in an open conditional, where any sources wait.
-use Rattle.std.proofs.Common.{◌≡◌, ℕ, Bool, true, false, List, [], ◌∷◌, refl, ap, ◌∙◌, Some, append-nil}
+use Rattle.std.proofs.Common.{◌≡◌, ℕ, Bool, true, false, List, ◌∷◌, refl, ap, append-nil}
 use Rattle.rdlpp_scan.specs.declared.token.Directive.{Directive}
 use Rattle.rdlpp_scan.specs.declared.token.Directive.TheVariants.{Ifdef, Ifndef, Elsif, Else, Endif}
 use Rattle.rdlpp_scan.specs.SourceTokens.{SourceToken}
-use Rattle.rdlpp_meaning.specs.declared.fault.FaultKind.{FaultKind}
-use Rattle.rdlpp_meaning.specs.declared.fault.FaultKind.TheVariants.{StrayBranch, OpenConditional}
-use Rattle.rdlpp_meaning.specs.Outcome.{fails}
-use Rattle.rdlpp_meaning.specs.State.{Rules, State, fault_at}
-use Rattle.rdlpp_meaning.specs.Parts.{Opening, Branching, Closing, only_blanks, directive_of, argument_of, no_argument, command_of, command_in_front, behind_directive, piece_of}
-use Rattle.rdlpp_meaning.specs.Meaning.{Passage, refusal, Progress, Test, Stopped, Holds, by_test, opening, in_conditional, past_conditional, begun, turn, turned, unclosed}
+use Rattle.rdlpp_meaning.specs.State.{Rules, State}
+use Rattle.rdlpp_meaning.specs.Parts.{Opening, Branching, Closing, only_blanks, argument_of, no_argument, command_of, command_in_front, piece_of}
+use Rattle.rdlpp_meaning.specs.Meaning.{Progress}
 use Rattle.rdlpp_meaning.specs.Resumed.{Place, Live, Skipped, resumed, behind}
-use Rattle.rdlpp_meaning.specs.Opened.{Waiting}
-use Rattle.rdlpp_meaning.proofs.Directives.{live_opening, live_branching, live_stray_branch, live_stray_end, live_closing, skipped_branching, skipped_closing}
-use Rattle.rdlpp_meaning.proofs.Skipping.{live_unclosed, skipped_unclosed}
 
 -- whether a directive opens a conditional
 unfoldable pub opens_conditional : Directive → Bool

@@ -4,19 +4,16 @@ use Rattle.std.specs.Prelude.{if◌then◌else◌, not, ◌==◌}
 use Rattle.std.specs.Str.{is_utf8}
 use Rattle.rdlpp_scan.specs.declared.token.Directive.TheVariants.{Include}
 use Rattle.rdlpp_scan.specs.SourceTokens.{SourceToken}
-use Rattle.rdlpp_table.specs.Table.{Macro}
 use Rattle.rdlpp_meaning.specs.declared.fault.FaultKind.{FaultKind}
 use Rattle.rdlpp_meaning.specs.declared.fault.FaultKind.TheVariants.{IncludeName, SourceNotFound, TooManyIncludes, PathTooLong}
-use Rattle.rdlpp_meaning.specs.Outcome.{Told, Outcome, gives, and_then}
+use Rattle.rdlpp_meaning.specs.Outcome.{Told, gives}
 use Rattle.rdlpp_meaning.specs.State.{Lookup, NoSource, LongPath, Source, Rules, State}
-use Rattle.rdlpp_meaning.specs.Parts.{Command, directive_of, argument_of, command_of, command_in_front, piece_of, pieces, parts_of}
-use Rattle.rdlpp_meaning.specs.Meaning.{Passage, leaves, outcome, behind_bytes, goes_on, refusal, single, origin_line, at_start_of, back_in, includes, includes_found, includes_named, includes_given, unquoted, Progress, mean, nest_of, text_meaning}
-use Rattle.rdlpp_meaning.specs.Resumed.{Place, Live, resume, resumed, behind, remains}
+use Rattle.rdlpp_meaning.specs.Parts.{Command, directive_of, argument_of, command_of, command_in_front, piece_of, parts_of}
+use Rattle.rdlpp_meaning.specs.Meaning.{Passage, leaves, behind_bytes, goes_on, refusal, single, origin_line, at_start_of, back_in, includes, includes_found, includes_named, includes_given, unquoted, Progress, mean, nest_of, text_meaning}
+use Rattle.rdlpp_meaning.specs.Resumed.{Place, Live, resumed, behind}
 use Rattle.rdlpp_meaning.specs.Opened.{Waiting, ending_of, waiting, unwound, all_resumed}
-use Rattle.rdlpp_meaning.specs.Output.{start_state, output}
 use Rattle.rdlpp_meaning.proofs.Passages.{goes_on-gives, goes_on-assoc, refusal-goes_on}
 use Rattle.rdlpp_meaning.proofs.Resuming.{goes_on-same, resumed_start}
-use Rattle.rdlpp_meaning.proofs.Outputs.{outcome-behind_bytes, output_found}
 use Rattle.rdlpp_meaning.proofs.Directives.{live_single}
 
 -- bytes in front of a passage stay there where more goes on behind it, by its fault

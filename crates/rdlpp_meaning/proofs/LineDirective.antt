@@ -5,12 +5,11 @@ use Rattle.std.specs.Prelude.{drop}
 use Rattle.rdlpp_scan.specs.declared.token.Directive.TheVariants.{Line}
 use Rattle.rdlpp_scan.specs.SourceTokens.{Renumbering, SourceToken}
 use Rattle.rdlpp_meaning.specs.declared.fault.FaultKind.TheVariants.{BadLine}
-use Rattle.rdlpp_meaning.specs.Outcome.{gives, fails, and_then}
+use Rattle.rdlpp_meaning.specs.Outcome.{fails}
 use Rattle.rdlpp_meaning.specs.State.{Rules, State, fault_at}
 use Rattle.rdlpp_meaning.specs.Parts.{Command, only_blanks, line_ends_of, directive_of, argument_of, no_argument, command_of, piece_of}
 use Rattle.rdlpp_meaning.specs.Meaning.{Passage, leaves, behind_bytes, goes_on, refusal, origin_line, Renumbered, renumbered, renumbers, single, Progress}
 use Rattle.rdlpp_meaning.specs.Resumed.{Live, resumed}
-use Rattle.rdlpp_meaning.specs.Opened.{Waiting}
 use Rattle.rdlpp_meaning.proofs.Passages.{goes_on-gives, fails-goes_on}
 use Rattle.rdlpp_meaning.proofs.Directives.{live_single}
 

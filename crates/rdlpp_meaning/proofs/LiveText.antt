@@ -1,13 +1,12 @@
 -- Laws of live text, in any open conditionals: what remains of a source where a token stands in front that begins no directive,
 -- or a `define`. Nothing is lost of the state, so they hold in a nest of open sources too (`NestMoves`).
-use Rattle.std.proofs.Common.{◌≡◌, ℕ, ◌<◌, Bool, true, false, List, [], ◌∷◌, ◌++◌, length, map, refl, sym, ap, ◌∙◌, None, Some}
+use Rattle.std.proofs.Common.{◌≡◌, ℕ, ◌<◌, Bool, true, false, List, [], ◌∷◌, ◌++◌, map, refl, sym, ap, ◌∙◌, None, Some}
 use Rattle.std.specs.Prelude.{drop}
 use Rattle.std.proofs.lemmas.Bool.{and_parts}
 use Rattle.std.specs.List.{list_all}
 use Rattle.rdlpp_scan.specs.declared.token.Kind.{Kind}
 use Rattle.rdlpp_scan.specs.declared.token.Kind.TheVariants.{BareBackquote}
 use Rattle.rdlpp_scan.specs.Front.{Breach}
-use Rattle.rdlpp_scan.specs.Tokens.{plain_len}
 use Rattle.rdlpp_scan.specs.SourceTokens.{Ordinary, Definition, Broken, SourceToken}
 use Rattle.rdlpp_scan.specs.Reserved.{is_reserved}
 use Rattle.rdlpp_table.specs.Table.{Macro, macro_named}

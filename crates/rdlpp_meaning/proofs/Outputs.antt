@@ -1,5 +1,5 @@
 -- Laws of the output: it is what remains at the start of the main text.
-use Rattle.std.proofs.Common.{◌≡◌, ℕ, true, false, List, [], refl, ap, ◌∙◌}
+use Rattle.std.proofs.Common.{◌≡◌, ℕ, true, List, [], refl, ap, ◌∙◌}
 use Rattle.rdlpp_table.specs.Table.{Macro}
 use Rattle.rdlpp_meaning.specs.declared.fault.FaultKind.TheVariants.{SourceNotFound, PathTooLong}
 use Rattle.rdlpp_meaning.specs.Outcome.{gives, fails, and_then}
@@ -7,7 +7,6 @@ use Rattle.rdlpp_meaning.specs.State.{NoSource, LongPath, Source, Rules}
 use Rattle.rdlpp_meaning.specs.Meaning.{Passage, outcome, behind_bytes, origin_line, text_meaning}
 use Rattle.rdlpp_meaning.specs.Resumed.{Live, remains}
 use Rattle.rdlpp_meaning.specs.Output.{opening_fault, start_state, output}
-use Rattle.rdlpp_meaning.proofs.Outcomes.{and_then-gives_nil}
 use Rattle.rdlpp_meaning.proofs.Resuming.{resumed_start}
 
 -- bytes in front of a passage are bytes in front of what it writes

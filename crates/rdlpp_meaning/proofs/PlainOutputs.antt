@@ -1,34 +1,13 @@
 -- Plain text is its own output; an included text stands between what is before and behind its `include`.
-use Rattle.std.proofs.Common.{◌≡◌, ℕ, suc, ◌||◌, Bool, true, false, List, [], ◌∷◌, ◌++◌, length, refl, sym, ap, subst, ◌∙◌, inl, arith, None, Some, append-nil}
-use Rattle.std.specs.Prelude.{All, ◌==◌, not}
-use Rattle.std.specs.Str.{is_utf8}
-use Rattle.std.specs.List.{list_all}
+use Rattle.std.proofs.Common.{◌≡◌, ℕ, true, List, [], ◌∷◌, refl, ap, ◌∙◌}
+use Rattle.std.specs.Prelude.{All}
+use Rattle.std.specs.List.{list_all, AllByRecursion}
 use Rattle.std.proofs.lemmas.List.Elements.{recursion_from_All}
-use Rattle.std.specs.List.{AllByRecursion}
 use Rattle.rdlpp_scan.specs.declared.token.Kind.{Kind}
 use Rattle.rdlpp_scan.specs.declared.token.Kind.TheVariants.{Str, LineComment, BlockComment, Back, BareBackquote, Perl}
-use Rattle.rdlpp_scan.specs.declared.token.Directive.TheVariants.{Include}
-use Rattle.rdlpp_scan.specs.declared.token.Mode.TheVariants.{Plain}
-use Rattle.rdlpp_scan.specs.Front.{Front, front}
-use Rattle.rdlpp_scan.specs.Tokens.{plain_len}
-use Rattle.rdlpp_scan.specs.SourceTokens.{Sort, Ordinary, SourceToken, Course, source_tokens, source_end, remaining_tokens, whole_tokens}
-use Rattle.rdlpp_scan.specs.Ordinary.{is_plain_kind, IsPlainToken, IsOrdinary}
-use Rattle.rdlpp_scan.proofs.OrdinaryLaws.{ordinary_text}
-use Rattle.rdlpp_table.specs.Table.{Macro}
-use Rattle.rdlpp_table.specs.declared.limits.Limits.{Limits}
-use Rattle.rdlpp_meaning.specs.Outcome.{Outcome, gives, and_then}
-use Rattle.rdlpp_meaning.specs.State.{Lookup, Source, Rules, State}
-use Rattle.rdlpp_meaning.specs.Expansion.{is_copied, bytes_of}
-use Rattle.rdlpp_meaning.specs.Parts.{only_blanks, directive_of, argument_of}
-use Rattle.rdlpp_meaning.specs.Meaning.{Passage, outcome, behind_bytes, goes_on, origin_line, at_start_of, back_in, unquoted, Progress, text_meaning}
-use Rattle.rdlpp_meaning.specs.Resumed.{Live, resumed, behind, remains}
-use Rattle.rdlpp_meaning.specs.Opened.{ending_of}
-use Rattle.rdlpp_meaning.specs.Output.{start_state, output}
-use Rattle.rdlpp_meaning.specs.Profile.{rules_of}
-use Rattle.rdlpp_meaning.proofs.Outcomes.{and_then-nil, and_then-gives_gives}
-use Rattle.rdlpp_meaning.proofs.Outputs.{outcome-behind_bytes}
-use Rattle.rdlpp_meaning.proofs.Resuming.{resumed_start}
-use Rattle.rdlpp_meaning.proofs.Includes.{include_found}
+use Rattle.rdlpp_scan.specs.SourceTokens.{Sort, Ordinary, SourceToken}
+use Rattle.rdlpp_scan.specs.Ordinary.{is_plain_kind, IsPlainToken}
+use Rattle.rdlpp_meaning.specs.Expansion.{is_copied}
 
 -- a kind of ordinary text is copied
 plain_kind_copied : (k : Kind) (bytes : List ℕ) (line : ℕ) → is_plain_kind k ≡ true

@@ -6,7 +6,7 @@ use Rattle.std.specs.List.{list_all}
 use Rattle.rdlpp_scan.specs.declared.token.Kind.{Kind}
 use Rattle.rdlpp_scan.specs.declared.token.Kind.TheVariants.{Back, BareBackquote}
 use Rattle.rdlpp_scan.specs.declared.token.Directive.{Directive}
-use Rattle.rdlpp_scan.specs.declared.token.Directive.TheVariants.{Define, Undef, Ifdef, Ifndef, Elsif, Else, Endif, Include, Line}
+use Rattle.rdlpp_scan.specs.declared.token.Directive.TheVariants.{Define, Undef, Elsif, Else, Endif, Include, Line}
 use Rattle.rdlpp_scan.specs.Front.{Breach}
 use Rattle.rdlpp_scan.specs.SourceTokens.{Sort, Ordinary, Definition, Renumbering, Broken, SourceToken}
 use Rattle.rdlpp_scan.specs.Reserved.{is_reserved}
@@ -16,15 +16,13 @@ use Rattle.rdlpp_meaning.specs.Expansion.{is_copied, usage_token, bytes_of}
 use Rattle.rdlpp_meaning.specs.Parts.{command_of, piece_of, only_blanks, line_ends_of, directive_of}
 use Rattle.rdlpp_meaning.specs.Meaning.{Passage, leaves, behind_bytes, Progress}
 use Rattle.rdlpp_meaning.specs.Resumed.{Skipped, resumed}
-use Rattle.rdlpp_meaning.specs.Opened.{Waiting}
-use Rattle.rdlpp_meaning.proofs.Passages.{goes_on-gives, behind_bytes-nil, behind_bytes-twice, gives_fails-goes_on}
-use Rattle.rdlpp_meaning.proofs.TokenWrites.{usage_text}
-use Rattle.rdlpp_meaning.proofs.TokenWrites.{line_ends_of-append}
+use Rattle.rdlpp_meaning.proofs.Passages.{goes_on-gives, behind_bytes-twice, gives_fails-goes_on}
+use Rattle.rdlpp_meaning.proofs.TokenWrites.{usage_text, line_ends_of-append}
 use Rattle.rdlpp_meaning.proofs.Directives.{skipped_single, skipped_opening, skipped_inner_branch, skipped_inner_end}
 use Rattle.rdlpp_meaning.proofs.Skipping.{skipped_token, broken_skips}
 use Rattle.rdlpp_meaning.proofs.Splitting.{skipped_by_parts}
 use Rattle.rdlpp_meaning.proofs.ConditionalMoves.{opens_conditional, branches_conditional, opening_piece, branching_piece, closing_piece}
-use Rattle.rdlpp_meaning.proofs.DirectiveWords.{IsWord, has_own_token, directive_word}
+use Rattle.rdlpp_meaning.proofs.DirectiveWords.{has_own_token}
 use Rattle.rdlpp_meaning.proofs.SkippedText.{is_text, skipped_text_token, IsPassed, passed_one, passed_none, skips_token}
 
 -- whether a directive stands by itself: it belongs to no conditional
