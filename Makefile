@@ -1,44 +1,56 @@
 # The few commands that a reader of this repository needs. `make help` lists them.
 .PHONY: help build run test check c python fuzz install fmt bench definitions
+.DELETE_ON_ERROR:
 
 # Where `make install` puts the program and its manual page, below DESTDIR where that is given.
 PREFIX ?= /usr/local
 
+# How many crates `make build` and `make c` prove side by side.
+JOBS ?= $(shell nproc)
+
+# The folders of a crate and of all below it: crates.txt has the lowest first, so one walk from its end meets each.
+folders = $(shell tac crates.txt | awk -F '[ :]+' -v crate=$(1) \
+	'BEGIN { is[crate] } $$1 in is { for (i = 2; i <= NF; i++) is[$$i]; print "crates/" $$1 }')
+# The files that what is built of a crate comes from.
+sources = crates.txt $(shell find $(wildcard $(foreach folder,$(call folders,$(1)),$(addprefix $(folder)/,src specs proofs))) -type f)
+
 help: ## list these commands
 	@grep -E '^[a-z]+:.*##' $(MAKEFILE_LIST) | sed -E 's/^([a-z]+):.*## /  make \1\t/'
 
-build: ## prove and build the program, which becomes out/rdlpp
-	@cd crates/rdlpp_cli && rt run -- - < /dev/null
-	@mkdir -p out && cp crates/rdlpp_cli/out/rdlpp_cli out/rdlpp
+build: out/rdlpp ## prove and build the program, which becomes out/rdlpp
 
-run: ## build the program and show the worked examples with their output
-	@examples/show
+out/rdlpp: $(call sources,rdlpp_cli)
+	@cd crates/rdlpp_cli && rt all check --jobs $(JOBS) && rt run -- - < /dev/null
+	@mkdir -p out && cp crates/rdlpp_cli/out/rdlpp_cli $@
 
-test: ## the gate (every proof from nothing, the must-fail edits, the tests, the stored runs), and then `make check`
+run: ## show the worked examples with their output, in two minutes: by out/rdlpp, or by a program without a proof where that isn't built
+	@if $(MAKE) --silent --question out/rdlpp; then examples/show; else examples/show --unproved; fi
+
+test: ## the gate (every proof from nothing, the must-fail edits, the tests, the stored runs), and then the checks over what it built
 	@rt ci
-	@$(MAKE) --silent check
-
-check: ## build the program and run it over files, streams, examples, refused command lines and refused memory
-	@$(MAKE) --silent build
-	@$(MAKE) --silent c
-	@cd crates/rdlpp_refusals && rt run < stdin > /dev/null
+	@checks/from_gate
 	@checks/all
 
-c: ## prove and build the library for C, which becomes out/librdlpp_c.a, and out/librdlpp_c.so where there is a C compiler
-	@cd crates/rdlpp_c && rt lib
+check: out/rdlpp out/librdlpp_c.a crates/rdlpp_refusals/out/rdlpp_refusals ## run the built program over files, streams, examples, refused command lines and refused memory
+	@checks/all
+
+crates/rdlpp_refusals/out/rdlpp_refusals: $(call sources,rdlpp_refusals)
+	@cd crates/rdlpp_refusals && rt run < stdin > /dev/null
+	@touch $@
+
+c: out/librdlpp_c.a ## prove and build the library for C, which becomes out/librdlpp_c.a, and out/librdlpp_c.so where there is a C compiler
+
+out/librdlpp_c.a: $(call sources,rdlpp_c) checks/c/library
+	@cd crates/rdlpp_c && rt all check --jobs $(JOBS) && rt lib
 	@checks/c/library
 
-python: ## build the library for C and the wheel of the Python package, which goes to out/
-	@$(MAKE) --silent c
+python: out/librdlpp_c.a ## build the library for C and the wheel of the Python package, which goes to out/
 	@python3 python/wheel_backend.py out
 
-fuzz: ## run the program over random sources: SEED=1 CASES=2000, or other numbers
-	@$(MAKE) --silent build
+fuzz: out/rdlpp ## run the program over random sources: SEED=1 CASES=2000, or other numbers
 	@checks/random $(or $(SEED),1) $(or $(CASES),2000)
 
-install: ## build the program and the library for C and put them, with manual page, header and rdlpp.pc, below PREFIX (/usr/local)
-	@$(MAKE) --silent build
-	@$(MAKE) --silent c
+install: out/rdlpp out/librdlpp_c.a ## put the program and the library for C, with manual page, header and rdlpp.pc, below PREFIX (/usr/local)
 	install -D -m 755 out/rdlpp '$(DESTDIR)$(PREFIX)/bin/rdlpp'
 	install -D -m 644 docs/rdlpp.1 '$(DESTDIR)$(PREFIX)/share/man/man1/rdlpp.1'
 	install -D -m 644 out/librdlpp_c.a '$(DESTDIR)$(PREFIX)/lib/librdlpp_c.a'
@@ -49,13 +61,9 @@ install: ## build the program and the library for C and put them, with manual pa
 fmt: ## lay out every file
 	@for crate in crates/*/; do (cd $$crate && rt fmt); done
 
-bench: ## build the programs, compare speed and memory with cat, cpp, ivlpp and m4, calls from Python with the program, and the scanner with a search for LF
-	@$(MAKE) --silent build
-	@$(MAKE) --silent c
+bench: out/rdlpp out/librdlpp_c.a ## build the programs, compare speed and memory with cat, cpp, ivlpp and m4, and calls from Python with the program
 	@bench/compare out/rdlpp
 	@bench/python out/rdlpp
-	@cd crates/rdlpp_bench && rt run -- lines 0 < /dev/null > /dev/null
-	@bench/scan
 
 definitions: ## write the list of all definitions to out/definitions.md
 	@docs/list_definitions

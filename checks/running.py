@@ -5,6 +5,7 @@ The program is out/rdlpp, or what RDLPP names.
 
 import os
 import pathlib
+import shutil
 import subprocess
 import sys
 
@@ -41,10 +42,10 @@ def difference(wanted, got):
 
 
 class Tally:
-    """Counts what passed and failed, and tells each failure."""
+    """Counts what passed, failed and was skipped, and reports each failure and each skip."""
 
     def __init__(self, name):
-        self.name, self.passed, self.failed = name, 0, 0
+        self.name, self.passed, self.failed, self.skipped = name, 0, 0, 0
 
     def hold(self, name, holds, why=""):
         """Counts a fact that has to hold."""
@@ -53,6 +54,18 @@ class Tally:
         else:
             self.failed += 1
             print(f"{self.name}: {name}: failed {why}")
+
+    def skip(self, name, why):
+        """Counts a check for which something is missing here, and says what."""
+        self.skipped += 1
+        print(f"{self.name}: {name}: skipped, {why}")
+
+    def finds(self, name, *tools):
+        """Whether each of these tools is there; where one isn't, the check of this name is skipped."""
+        missing = [tool for tool in tools if not shutil.which(tool)]
+        if missing:
+            self.skip(name, f"no {' and no '.join(missing)} here")
+        return not missing
 
     def compare(self, name, wanted, got):
         """Counts an outcome that has to be the wanted one."""
@@ -67,8 +80,10 @@ class Tally:
         """Counts what another one counted."""
         self.passed += other.passed
         self.failed += other.failed
+        self.skipped += other.skipped
 
     def close(self):
         """Prints the counts as the last line, and ends with status 1 where a check failed."""
-        print(f"{self.name}: {self.passed} passed, {self.failed} failed")
+        skipped = f", {self.skipped} skipped" if self.skipped else ""
+        print(f"{self.name}: {self.passed} passed, {self.failed} failed{skipped}")
         sys.exit(1 if self.failed else 0)

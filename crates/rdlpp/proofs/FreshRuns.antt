@@ -1,20 +1,126 @@
--- What the run of a fresh engine says of the output.
-use Rattle.std.proofs.Common.{◌≡◌, ℕ, Bool, true, false, ◌||◌, List, [], ◌++◌, Option, None, Some, Result, IfSome, refl, sym, ap, subst, ◌∙◌}
-use Rattle.std.specs.Io.KnownBytes.{Appends}
+-- Definitions, opening and run of a fresh engine, and what they say of the output.
+use Rattle.std.proofs.Common.{◌≡◌, ℕ, ◌+◌, ◌<◌, ◌≤◌, length, List, ◌∷◌, drop, Result, Ok, Err, slice_index_or, sym, ap, ◌∙◌, Bool, false, [], Option, subst, true, ◌||◌, ◌++◌, None, Some, IfSome, refl}
+use Rattle.std.specs.String.{string_bytes}
+use Rattle.std.proofs.lemmas.List.{drop_more, drop_all}
+use Rattle.rdlpp_table.specs.Table.{Macro}
+use Rattle.rdlpp_table.specs.Define.{Accepted, Defined, Refused, observed, set_of}
+use Rattle.rdlpp_table.specs.declared.fault.DefineFault.{DefineFault}
+use Rattle.rdlpp_steps.specs.Engine.{EngineView}
+use Rattle.rdlpp.specs.Definitions.{Pair, Given, Taken, Declined, given, given_in, refused_definition, with_macros}
 use Rattle.rdlpp_source.specs.declared.sources.Sources.{Ghosts}
-use Rattle.rdlpp_source.specs.declared.sinks.Sink.{Ghosts as SinkGhosts}
 use Rattle.rdlpp_table.specs.declared.limits.Limits.{Limits}
-use Rattle.rdlpp_meaning.specs.declared.fault.FaultKind.{FaultKind}
-use Rattle.rdlpp_meaning.specs.Outcome.{Told, Outcome, fails}
+use Rattle.rdlpp_meaning.specs.Outcome.{Told, gives, and_then, Outcome, fails}
+use Rattle.rdlpp_meaning.proofs.Outcomes.{and_then-gives_nil}
 use Rattle.rdlpp_steps.specs.Opening.{Starts, fresh_engine, looked_up_output, is_device_fault, is_memory_fault}
 use Rattle.rdlpp_steps.specs.Remaining.{left_of}
+use Rattle.rdlpp_expand.specs.Reading.{ReadingView, reading_left}
+use Rattle.rdlpp.specs.Opening.{OpensGiven}
+use Rattle.rdlpp.specs.Preprocess.{engine_with, output_given, Follows, RunsFresh, WritesOutput, is_failure}
+use Rattle.std.specs.Io.KnownBytes.{Appends}
+use Rattle.rdlpp_source.specs.declared.sinks.Sink.{Ghosts as SinkGhosts}
+use Rattle.rdlpp_meaning.specs.declared.fault.FaultKind.{FaultKind}
 use Rattle.rdlpp_expand.specs.Run.{Begins, Runs, count_of, fault_of, is_fresh}
 use Rattle.rdlpp_expand.specs.declared.writing.RunFault.{RunFault}
 use Rattle.rdlpp_expand.proofs.RunFacts.{appends_none}
-use Rattle.rdlpp_steps.specs.Engine.{EngineView}
 use Rattle.rdlpp_steps.specs.Steps.{is_call_failed, is_memory_kind, is_read_failed, is_write_failed}
-use Rattle.rdlpp.specs.Definitions.{Pair, Given, Taken, Declined, given, given_in, with_macros}
-use Rattle.rdlpp.specs.Preprocess.{Follows, RunsFresh, WritesOutput, engine_with, is_failure, output_given}
+
+-- One definition after another is given to a table.
+
+-- what definitions come to in the table of an engine, where so many stand before them
+abbrev pub given_behind : {S R : Type 0} → EngineView S R → ℕ → List Pair → Given
+given_behind e before ds = given e.table.most_bytes e.table.most_macros before e.table.macros ds
+
+-- so many of the definitions were taken
+abbrev pub AreTaken : {S R : Type 0} → EngineView S R → EngineView S R → ℕ → List Pair → Type 0
+AreTaken start now i ds = (now ≡ with_macros start now.table.macros) × (given_in start ds ≡ given_behind now i (drop i ds))
+
+given_first : (mb mm i : ℕ) (macros : List Macro) (d : Pair) (ds : List Pair) (what : Defined)
+    → set_of mb mm macros (string_bytes d.0) (string_bytes d.1) ≡ what
+    → given mb mm i macros (d ∷ ds) ≡ elim what [
+      | Accepted more ↦ given mb mm (i + 1) more ds
+      | Refused kind word ↦ Declined (refused_definition kind word (i + 1))
+    ]
+unfolding given
+given_first mb mm i macros d ds what e =
+    ap (λ w. elim w [
+      | Accepted more ↦ given mb mm (i + 1) more ds
+      | Refused kind word ↦ Declined (refused_definition kind word (i + 1))
+    ]) e
+
+set_bytes : (mb mm : ℕ) (macros : List Macro) (name text : List ℕ) (d : Pair) → name ≡ string_bytes d.0 → text ≡ string_bytes d.1
+    → set_of mb mm macros name text ≡ set_of mb mm macros (string_bytes d.0) (string_bytes d.1)
+set_bytes mb mm macros name text d n t = ap (λ x. set_of mb mm macros x text) n ∙ ap (λ x. set_of mb mm macros (string_bytes d.0) x) t
+
+pub taken_more : {S R : Type 0} (start now new : EngineView S R) (i : ℕ) (ds : List Pair) (d : Pair) (name text : List ℕ) (result : Result (Unit {0}) DefineFault)
+    → AreTaken start now i ds → i < length ds → d ≡ slice_index_or ds i d
+    → observed result new.table.macros ≡ set_of now.table.most_bytes now.table.most_macros now.table.macros name text
+    → name ≡ string_bytes d.0 → text ≡ string_bytes d.1 → new ≡ with_macros now new.table.macros → result ≡ Ok tt
+    → AreTaken start new (i + 1) ds
+unfolding observed
+taken_more start now new i ds d name text result (is, gives) inside at outcome n t only ok =
+    let accepted : set_of now.table.most_bytes now.table.most_macros now.table.macros (string_bytes d.0) (string_bytes d.1) ≡ Accepted new.table.macros =
+    sym (set_bytes now.table.most_bytes now.table.most_macros now.table.macros name text d n t) ∙ sym outcome ∙ ap (λ r. observed r new.table.macros) ok in (
+      only ∙ ap (λ e. with_macros e new.table.macros) is,
+      gives ∙ ap (given_behind now i) (drop_more ds i d inside ∙ ap (λ x. x ∷ drop (i + 1) ds) (sym at))
+          ∙ given_first now.table.most_bytes now.table.most_macros i now.table.macros d (drop (i + 1) ds) (Accepted new.table.macros) accepted
+          ∙ ap (λ e. given e.table.most_bytes e.table.most_macros (i + 1) new.table.macros (drop (i + 1) ds)) (sym only),
+    )
+
+pub declined : {S R : Type 0} (start now : EngineView S R) (macros : List Macro) (i : ℕ) (ds : List Pair) (d : Pair) (name text : List ℕ) (result : Result (Unit {0}) DefineFault) (fault : DefineFault)
+    → AreTaken start now i ds → i < length ds → d ≡ slice_index_or ds i d
+    → observed result macros ≡ set_of now.table.most_bytes now.table.most_macros now.table.macros name text
+    → name ≡ string_bytes d.0 → text ≡ string_bytes d.1 → result ≡ Err fault
+    → given_in start ds ≡ Declined (refused_definition fault.kind fault.word.bytes (i + 1))
+unfolding observed
+declined start now macros i ds d name text result fault (is, gives) inside at outcome n t err =
+    gives ∙ ap (given_behind now i) (drop_more ds i d inside ∙ ap (λ x. x ∷ drop (i + 1) ds) (sym at))
+    ∙ given_first now.table.most_bytes now.table.most_macros i now.table.macros d (drop (i + 1) ds) (Refused fault.kind fault.word.bytes)
+    (sym (set_bytes now.table.most_bytes now.table.most_macros now.table.macros name text d n t) ∙ sym outcome ∙ ap (λ r. observed r macros) err)
+
+pub taken_all : {S R : Type 0} (start now : EngineView S R) (i : ℕ) (ds : List Pair)
+    → AreTaken start now i ds → length ds ≤ i → given_in start ds ≡ Taken now.table.macros
+unfolding given
+taken_all start now i ds (is, gives) all = gives ∙ ap (given_behind now i) (drop_all i ds all)
+
+-- What opening a fresh engine says of the output.
+
+-- an engine that is fresh was given definitions and started
+pub opens_given : {S R : Type 0} (g : Ghosts S R) (limits : Limits) (defines : List Pair) (origins : Bool) (sources : S)
+    (path : List ℕ) (fresh given_to started : EngineView S R) (opening : Option Told) (reading : ReadingView S R)
+    → fresh ≡ fresh_engine limits sources origins
+    → given_in fresh defines ≡ Taken given_to.table.macros → given_to ≡ with_macros fresh given_to.table.macros
+    → Starts g given_to started path opening → reading ≡ record { engine = started; rest = [] }
+    → OpensGiven g limits (given limits.definition_bytes limits.definitions 0 [] defines) origins sources path reading
+unfolding fresh_engine
+opens_given {S} {R} g limits defines origins sources path fresh given_to started opening reading e d m s r =
+    let macros = given_to.table.macros in
+    subst (λ w. OpensGiven g limits w origins sources path reading) (sym (ap (λ x. given_in x defines) (sym e) ∙ d))
+    record {
+      opening = opening;
+      starts = subst (λ x. Starts g (engine_with limits origins sources macros) x path opening) (sym (ap (λ (v : ReadingView S R). v.engine) r))
+          (subst (λ x. Starts g x started path opening) (m ∙ ap (λ x. with_macros x macros) e) s);
+      whole = ap (λ (v : ReadingView S R). v.rest) r;
+    }
+
+-- a definition was refused
+pub declines : {S R : Type 0} (limits : Limits) (defines : List Pair) (origins : Bool) (sources : S) (fresh : EngineView S R) (f : Told)
+    → fresh ≡ fresh_engine limits sources origins → given_in fresh defines ≡ Declined f
+    → given limits.definition_bytes limits.definitions 0 [] defines ≡ Declined f
+unfolding fresh_engine
+declines limits defines origins sources fresh f e d = ap (λ x. given_in x defines) (sym e) ∙ d
+
+-- what remains after an opening is the output
+pub opens_output : {S R : Type 0} (g : Ghosts S R) (limits : Limits) (what : Given) (origins : Bool) (sources : S) (path : List ℕ) (reading : ReadingView S R)
+    → OpensGiven g limits what origins sources path reading → g.tells sources
+    → is_device_fault reading.engine.kept ≡ false → is_memory_fault reading.engine.kept ≡ false
+    → reading_left g reading ≡ output_given g limits origins sources path what
+unfolding fresh_engine looked_up_output reading_left
+opens_output g limits (Taken macros) origins sources path reading o tells device memory =
+    ap (λ (xs : List ℕ). and_then (gives xs) (left_of g reading.engine)) o.whole ∙ and_then-gives_nil (left_of g reading.engine)
+    ∙ o.starts.remains_output (ap is_device_fault (sym o.starts.keeps) ∙ device) (ap is_memory_fault (sym o.starts.keeps) ∙ memory) tells
+opens_output g limits (Declined f) origins sources path reading o tells device memory = absurd o
+
+-- What the run of a fresh engine says of the output.
 
 or_left : (a b : Bool) → (a || b) ≡ false → a ≡ false
 or_left true b e = e

@@ -1,5 +1,3 @@
-pub mod Givings
 pub mod FreshRuns
 pub mod Reports
 pub mod Searches
-pub mod Openings

@@ -39,7 +39,7 @@ pub record IsReading {S R : Type 0} (g : Ghosts S R) (failed : Bool) (first now 
   pub room : store.most ≡ most
   pub level : level_in at ≤ length store.bytes
   pub lead : at ≡ Before → (inner_buffer new.nest).mode ≢ InStr
-  pub moves : MovesOver (g.tells first) g.unread used (inner_buffer old.nest) (inner_buffer new.nest)
+  pub moves : MovesOver (g.tells first) Unit g.unread used (inner_buffer old.nest) (inner_buffer new.nest)
   pub text : g.tells first → text_left g.unread (inner_buffer old.nest) ≡ used ++ text_left g.unread (inner_buffer new.nest)
   pub call : SourcesRead g failed first now
 
@@ -50,8 +50,8 @@ same_used [] = refl
 same_used (f ∷ outer) = refl
 
 -- a window that stays
-same_moves : {R : Type 0} (tells : Type 0) (unread : R → List ℕ) (f : BufferView R) → MovesOver tells unread [] f f
-same_moves tells unread f = moves-past tells unread [] f f refl (omega arith) refl
+same_moves : {R : Type 0} (tells exact : Type 0) (unread : R → List ℕ) (f : BufferView R) → MovesOver tells exact unread [] f f
+same_moves tells exact unread f = moves-past tells exact unread [] f f refl (omega arith) refl
 
 -- nothing was kept yet
 reads_nothing : {R : Type 0} (tells : Type 0) (unread : R → List ℕ) (at : Stand) (room : ℕ) (f new : BufferView R) → unused_of f ≤ unused_of new + 1 → ReadsUpTo tells unread at room [] f new
@@ -76,7 +76,7 @@ reading_starts g s files most store none room plain =
       room = room;
       level = omega arith;
       lead = λ _ open_. (let no : Plain ≡ InStr = sym plain ∙ open_ in cc);
-      moves = same_moves (g.tells s) g.unread (inner_buffer files.nest);
+      moves = same_moves (g.tells s) Unit g.unread (inner_buffer files.nest);
       text = λ t. refl;
       call = not_asked g s;
     }
@@ -93,7 +93,7 @@ pub filled : {S R : Type 0} (g : Ghosts S R) (failed : Bool) (first now after : 
     → new ≡ record mid { nest = with_buffer (inner_buffer new.nest) mid.nest }
     → unused_of (inner_buffer new.nest) ≡ unused_of (inner_buffer mid.nest) → (inner_buffer new.nest).mode ≡ (inner_buffer mid.nest).mode
     → (g.tells now → tokens_left g.unread (inner_buffer new.nest) ≡ tokens_left g.unread (inner_buffer mid.nest))
-    → MovesOver (g.tells now) g.unread [] (inner_buffer mid.nest) (inner_buffer new.nest)
+    → MovesOver (g.tells now) Unit g.unread [] (inner_buffer mid.nest) (inner_buffer new.nest)
     → (g.tells now → text_left g.unread (inner_buffer new.nest) ≡ text_left g.unread (inner_buffer mid.nest))
     → SourcesRead g failed now after
     → IsReading g failed first after old new most store at
@@ -109,7 +109,7 @@ filled g failed first now after old mid new most store at r only unused mode tok
       room = r.room;
       level = r.level;
       lead = λ before open_. r.lead before (sym mode ∙ open_);
-      moves = moves-on (g.tells first) (g.tells first) (g.tells now) g.unread r.used [] (inner_buffer old.nest) (inner_buffer mid.nest) (inner_buffer new.nest) (λ t. t) r.call.tells r.moves moves;
+      moves = moves-on (g.tells first) (g.tells first) (g.tells now) Unit Unit g.unread r.used [] (inner_buffer old.nest) (inner_buffer mid.nest) (inner_buffer new.nest) (λ t. t) r.call.tells (λ e. e) r.moves moves;
       text = λ t.
           text-on r.used [] (text_left g.unread (inner_buffer old.nest)) (text_left g.unread (inner_buffer mid.nest)) (text_left g.unread (inner_buffer new.nest))
           (r.text t) (sym (text (r.call.tells t)));
@@ -137,7 +137,7 @@ taken {R = R} g first now old mid new most store after at to r only room t =
       room = room ∙ r.room;
       level = omega arith;
       lead = t.lead;
-      moves = moves-on (g.tells first) (g.tells first) Unit g.unread r.used t.used (inner_buffer old.nest) (inner_buffer mid.nest) (inner_buffer new.nest) (λ t. t) (λ _. tt) r.moves (t.moves g.unread);
+      moves = moves-on (g.tells first) (g.tells first) Unit Unit Unit g.unread r.used t.used (inner_buffer old.nest) (inner_buffer mid.nest) (inner_buffer new.nest) (λ t. t) (λ _. tt) (λ e. e) r.moves (t.moves g.unread);
       text = λ told.
           text-on r.used t.used (text_left g.unread (inner_buffer old.nest)) (text_left g.unread (inner_buffer mid.nest)) (text_left g.unread (inner_buffer new.nest))
           (r.text told) (t.text g.unread);
@@ -148,7 +148,7 @@ taken {R = R} g first now old mid new most store after at to r only room t =
 pub answered : {S R : Type 0} (g : Ghosts S R) (first now : S) (old mid : FilesView R) (new : List (File R)) (most : ℕ) (store : StoreView) (at : Stand) (used : List ℕ) (result : CallRead)
     → IsReading g false first now old mid most store at
     → new ≡ with_used (inner_buffer new) used mid.nest → unused_of (inner_buffer new) + length used ≡ unused_of (inner_buffer mid.nest)
-    → MovesOver (IsExactCall result × g.tells first) g.unread used (inner_buffer mid.nest) (inner_buffer new)
+    → MovesOver (g.tells first) (IsExactCall result) g.unread used (inner_buffer mid.nest) (inner_buffer new)
     → (IsExactCall result → g.tells first → text_left g.unread (inner_buffer mid.nest) ≡ used ++ text_left g.unread (inner_buffer new))
     → TellsCall (g.tells first) g.unread at (most - length store.bytes) [] used (inner_buffer mid.nest) (inner_buffer new) result
     → ReadsUpTo (g.tells first) g.unread at (most - length store.bytes) [] (inner_buffer mid.nest) (inner_buffer new)
@@ -159,8 +159,8 @@ answered g first now old mid new most store at used result r inner unused moves 
       used = r.used ++ used;
       inner = used_on old.nest mid.nest new r.used used r.inner inner;
       unused = omega (arith, length-append r.used used);
-      moves = moves-on (IsExactCall result × g.tells first) (g.tells first) (IsExactCall result × g.tells first) g.unread r.used used (inner_buffer old.nest) (inner_buffer mid.nest) (inner_buffer new)
-          (λ t. t.1) (λ t. t) r.moves moves;
+      moves = moves-on (g.tells first) (g.tells first) (g.tells first) (IsExactCall result) (IsExactCall result) g.unread r.used used (inner_buffer old.nest) (inner_buffer mid.nest) (inner_buffer new)
+          (λ t. t) (λ t. t) (λ e. e) r.moves moves;
       so_far = record {
         to = so.to;
         used = r.used ++ so.used;
@@ -184,7 +184,7 @@ pub answered_token : {S R : Type 0} (g : Ghosts S R) (first now : S) (old mid : 
 answered_token g first now old mid new most store after at result r e =
     let c = e.reads g.unread in
     subst (λ (k : List ℕ). ReadsCall (g.tells first) g.unread Before most k result old.nest new) (sym e.bytes)
-    (answered g first now old mid new most store at c.used result r c.inner c.unused (moves-told (IsExactCall result × g.tells first) (IsExactCall result × Unit) g.unread c.used (inner_buffer mid.nest) (inner_buffer new) (λ t. (t.0, tt)) c.moves)
+    (answered g first now old mid new most store at c.used result r c.inner c.unused (moves-told (g.tells first) Unit (IsExactCall result) (IsExactCall result) g.unread c.used (inner_buffer mid.nest) (inner_buffer new) (λ t. tt) (λ e. e) c.moves)
     (λ exact t. c.text exact tt)
     (tells_told (g.tells first) g.unread at (most - length store.bytes) [] c.used (inner_buffer mid.nest) (inner_buffer new) result
     (subst (λ n. TellsCall Unit g.unread at (n - length store.bytes) [] c.used (inner_buffer mid.nest) (inner_buffer new) result) r.room c.answer))
@@ -200,14 +200,14 @@ answered_token g first now old mid new most store after at result r e =
 pub answered_unfilled : {S R : Type 0} (g : Ghosts S R) (first now : S) (old mid new : FilesView R) (most : ℕ) (store : StoreView) (at : Stand) (result : CallRead)
     → IsReading g false first now old mid most store at
     → new ≡ record mid { nest = with_buffer (inner_buffer new.nest) mid.nest } → unused_of (inner_buffer new.nest) ≡ unused_of (inner_buffer mid.nest)
-    → MovesOver (IsExactCall result × g.tells now) g.unread [] (inner_buffer mid.nest) (inner_buffer new.nest)
+    → MovesOver (g.tells now) (IsExactCall result) g.unread [] (inner_buffer mid.nest) (inner_buffer new.nest)
     → (IsExactCall result → g.tells now → text_left g.unread (inner_buffer new.nest) ≡ text_left g.unread (inner_buffer mid.nest))
     → TellsCall (g.tells first) g.unread at (most - length store.bytes) [] [] (inner_buffer mid.nest) (inner_buffer new.nest) result
     → ReadsCall (g.tells first) g.unread Before most store.bytes result old.nest new.nest
 answered_unfilled g first now old mid new most store at result r only unused moves text tells =
     answered g first now old mid new.nest most store at [] result r
     (ap (λ f. f.nest) only ∙ used_none (inner_buffer new.nest) mid.nest) (omega (arith, unused))
-    (moves-told (IsExactCall result × g.tells first) (IsExactCall result × g.tells now) g.unread [] (inner_buffer mid.nest) (inner_buffer new.nest) (λ t. (t.0, r.call.tells t.1)) moves)
+    (moves-told (g.tells first) (g.tells now) (IsExactCall result) (IsExactCall result) g.unread [] (inner_buffer mid.nest) (inner_buffer new.nest) r.call.tells (λ e. e) moves)
     (λ exact t. sym (text exact (r.call.tells t))) tells
     (reads_nothing (g.tells first) g.unread at (most - length store.bytes) (inner_buffer mid.nest) (inner_buffer new.nest) (omega (arith, unused)))
 
@@ -220,7 +220,7 @@ answered_failed g first now old new most store at r =
       used = r.used;
       inner = r.inner;
       unused = r.goes_on.unused;
-      moves = moves-told (IsExactCall Failed × g.tells first) (g.tells first) g.unread r.used (inner_buffer old.nest) (inner_buffer new.nest) (λ t. t.1) r.moves;
+      moves = moves-told (g.tells first) (g.tells first) (IsExactCall Failed) Unit g.unread r.used (inner_buffer old.nest) (inner_buffer new.nest) (λ t. t) (λ _. tt) r.moves;
       so_far = record { to = at; used = r.used; there = inner_buffer new.nest; goes_on = r.goes_on; whole = (let on = r.goes_on.unused in omega (arith, on)) };
       text = λ exact t. r.text t;
       answer = record { to = at; goes_on = r.goes_on };
@@ -298,7 +298,7 @@ token_used {R = R} at m room most held kept bytes after old new u some ends mode
       inner = uses ∙ ap (λ (b : BufferView R). with_used b used old) (sym inner);
       level = own.level;
       lead = λ before open_. own.lead before (sym (ap (λ (b : BufferView R). b.mode) inner) ∙ open_);
-      moves = λ unread. subst (λ (b : BufferView R). MovesOver Unit unread used f b) (sym inner) (used_moves Unit unread f u.len u.next_mode own.inside);
+      moves = λ unread. subst (λ (b : BufferView R). MovesOver Unit Unit unread used f b) (sym inner) (used_moves Unit Unit unread f u.len u.next_mode own.inside);
       text = λ unread. used_text unread f u.len u.next_mode ∙ ap (λ (b : BufferView R). used ++ text_left unread b) (sym inner);
       goes_on = λ unread.
           subst (λ (b : BufferView R). GoesOn Unit unread at (stand_meant u.stand) (most - length bytes) (kept_of u.is_kept used) used f b) (sym inner)
@@ -327,7 +327,7 @@ token_closed {R = R} at m room most held bytes old new some ends there mode text
             used = used;
             inner = uses ∙ ap (λ (b : BufferView R). with_used b used old) (sym inner);
             unused = ap (λ (b : BufferView R). unused_of b + length used) inner ∙ closes.unused;
-            moves = subst (λ (b : BufferView R). MovesOver (IsExactCall Closed × Unit) unread used f b) (sym inner) (used_moves (IsExactCall Closed × Unit) unread f 1 Plain there);
+            moves = subst (λ (b : BufferView R). MovesOver Unit (IsExactCall Closed) unread used f b) (sym inner) (used_moves Unit (IsExactCall Closed) unread f 1 Plain there);
             so_far = reads_nothing Unit unread at (most - length bytes) f (inner_buffer new) (let left = ap (λ (b : BufferView R). unused_of b) inner in let on = closes.unused in let size = length-take 1 (held_of f) in omega (arith, left, on, size));
             text = λ exact t. used_text unread f 1 Plain ∙ ap (λ (b : BufferView R). used ++ text_left unread b) (sym inner);
             answer = subst (λ (b : BufferView R). Closes Unit unread at (most - length bytes) [] used f b) (sym inner) closes;
@@ -337,7 +337,7 @@ token_closed {R = R} at m room most held bytes old new some ends there mode text
 -- nothing was used
 nothing_used : {R : Type 0} (unread : R → List ℕ) (at : Stand) (room : ℕ) (nest : List (File R)) (result : CallRead)
     → TellsCall Unit unread at room [] [] (inner_buffer nest) (inner_buffer nest) result → ReadsCall Unit unread at room [] result nest nest
-nothing_used unread at room nest result tells = record { used = []; inner = same_used nest; unused = omega arith; moves = same_moves (IsExactCall result × Unit) unread (inner_buffer nest); so_far = reads_nothing Unit unread at room (inner_buffer nest) (inner_buffer nest) (omega arith); text = λ exact t. refl; answer = tells }
+nothing_used unread at room nest result tells = record { used = []; inner = same_used nest; unused = omega arith; moves = same_moves Unit (IsExactCall result) unread (inner_buffer nest); so_far = reads_nothing Unit unread at room (inner_buffer nest) (inner_buffer nest) (omega arith); text = λ exact t. refl; answer = tells }
 
 -- a call that is refused at a token
 pub token_refused : {R : Type 0} (at : Stand) (m : Mode) (room most : ℕ) (held bytes : List ℕ) (nest : List (File R)) (kind : FaultKind)

@@ -57,10 +57,10 @@ less_unused f len next inside =
     omega (arith, size, length-drop f.at (take f.accepted f.window), length-take f.accepted f.window)
 
 -- a window of which the first held bytes are used
-pub used_moves : {R : Type 0} (tells : Type 0) (unread : R → List ℕ) (f : BufferView R) (len : ℕ) (next : Mode) → len ≤ length (held_of f) → MovesOver tells unread (take len (held_of f)) f (used_buffer f len next)
+pub used_moves : {R : Type 0} (tells exact : Type 0) (unread : R → List ℕ) (f : BufferView R) (len : ℕ) (next : Mode) → len ≤ length (held_of f) → MovesOver tells exact unread (take len (held_of f)) f (used_buffer f len next)
 unfolding entered_mode
-used_moves tells unread f len next inside =
-    moves-past tells unread (take len (held_of f)) f (used_buffer f len next) refl (ap (λ n. f.at + n) (sym (length-take-le len (held_of f) inside))) refl
+used_moves tells exact unread f len next inside =
+    moves-past tells exact unread (take len (held_of f)) f (used_buffer f len next) refl (ap (λ n. f.at + n) (sym (length-take-le len (held_of f) inside))) refl
 
 -- the text behind them
 pub used_text : {R : Type 0} (unread : R → List ℕ) (f : BufferView R) (len : ℕ) (next : Mode) → text_left unread f ≡ take len (held_of f) ++ text_left unread (used_buffer f len next)

@@ -1,8 +1,6 @@
-pub mod FirstReads
 pub mod Halts
 pub mod Takes
 pub mod Turns
-pub mod Calm
 pub mod GoingOn
 pub mod CallLoop
 pub mod CallLaws

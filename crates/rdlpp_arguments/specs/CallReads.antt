@@ -74,7 +74,7 @@ pub record ReadsCall {R : Type 0} (tells : Type 0) (unread : R → List ℕ) (at
   pub used : List ℕ
   pub inner : new ≡ with_used (inner_buffer new) used old
   pub unused : unused_of (inner_buffer new) + length used ≡ unused_of (inner_buffer old)
-  pub moves : MovesOver (IsExactCall result × tells) unread used (inner_buffer old) (inner_buffer new)
+  pub moves : MovesOver tells (IsExactCall result) unread used (inner_buffer old) (inner_buffer new)
   pub so_far : ReadsUpTo tells unread at room kept (inner_buffer old) (inner_buffer new)
   pub text : IsExactCall result → tells → text_left unread (inner_buffer old) ≡ used ++ text_left unread (inner_buffer new)
   pub answer : TellsCall tells unread at room kept used (inner_buffer old) (inner_buffer new) result
@@ -88,7 +88,7 @@ pub record IsTaken {R : Type 0} (at to : Stand) (room : ℕ) (old_bytes new_byte
   pub inner : new ≡ with_used (inner_buffer new) used old
   pub level : level_in to ≤ level_in at + length kept
   pub lead : to ≡ Before → (inner_buffer new).mode ≢ InStr
-  pub moves : (unread : R → List ℕ) → MovesOver Unit unread used (inner_buffer old) (inner_buffer new)
+  pub moves : (unread : R → List ℕ) → MovesOver Unit Unit unread used (inner_buffer old) (inner_buffer new)
   pub text : (unread : R → List ℕ) → text_left unread (inner_buffer old) ≡ used ++ text_left unread (inner_buffer new)
   pub goes_on : (unread : R → List ℕ) → GoesOn Unit unread at to room kept used (inner_buffer old) (inner_buffer new)
 

@@ -1,22 +1,32 @@
--- The output of lists that are what a call asks for is the output that it asks for, and so is what was read of it.
-use Rattle.std.proofs.Common.{◌≡◌, ℕ, List, [], map, Option, None, Some, Ok, Err, sym, ap, subst, ◌∙◌}
+-- The output that a call asks for: of lists, opened and read piece by piece, and told to buffers.
+use Rattle.std.proofs.Common.{◌≡◌, ℕ, List, [], map, Option, None, Some, Ok, Err, sym, ap, subst, ◌∙◌, false, Result}
 use Rattle.rdlpp_source.specs.declared.texts.Texts.{Texts}
 use Rattle.rdlpp_table.specs.Limits.{limit_fault}
 use Rattle.rdlpp_meaning.specs.Outcome.{Told, told, Outcome, fails}
-use Rattle.rdlpp_expand.specs.Reading.{reading_left}
+use Rattle.rdlpp_expand.specs.Reading.{reading_left, ReadingView}
 use Rattle.rdlpp_expand.specs.declared.writing.RunFault.{RunFault}
 use Rattle.rdlpp.specs.Opening.{Opens, OpensOutput}
 use Rattle.rdlpp.specs.Preprocess.{given_by, output_given, output_of}
 use Rattle.rdlpp.specs.declared.fault.PrepFault.{PrepFault}
 use Rattle.rdlpp.specs.declared.fault.PrepFault.TheVariants.{BadLimits, Run, NoMemory as NoneLeft}
 use Rattle.rdlpp_c.specs.Request.{Asked, file_bytes}
-use Rattle.rdlpp_c.specs.Answer.{AreLists, Gives, IsOutput, text_sources}
+use Rattle.rdlpp_c.specs.Answer.{AreLists, Gives, IsOutput, text_sources, output_bytes}
 use Rattle.rdlpp_c.specs.Output.{IsRead}
-use Rattle.rdlpp_c.specs.Streaming.{refused_answer}
+use Rattle.rdlpp_c.specs.Streaming.{refused_answer, AreOwned, IsStreamed, OpensStream, ReadBuffers, Reads, ReadsStream, StreamsOutput, owned_sources}
 use Rattle.rdlpp_c.specs.declared.asking.Answer.{Answer}
 use Rattle.rdlpp_c.specs.declared.asking.Answer.TheVariants.{Whole, Stopped}
 use Rattle.rdlpp_c.specs.declared.asking.Lists.{Lists}
 use Rattle.rdlpp_c.proofs.WholeReads.{View, opening_unfailed, overwritten_none}
+use Rattle.rdlpp_steps.specs.Opening.{is_device_fault, is_memory_fault}
+use Rattle.rdlpp_owned.specs.declared.owned.OwnedTexts.{OwnedTexts}
+use Rattle.rdlpp.specs.Definitions.{Declined}
+use Rattle.rdlpp_c.specs.declared.opening.Owned.{Owned}
+use Rattle.rdlpp_c.specs.declared.stream.Stream.{Stream}
+use Rattle.rdlpp_c.specs.declared.telling.Outcome.{Outcome as Numbers}
+use Rattle.rdlpp_c.specs.Buffers.{overwritten}
+use Rattle.rdlpp_c.specs.Telling.{Buffers, name_bytes, told_to, word_bytes}
+
+-- The output of lists that are what a call asks for is the output that it asks for, and so is what was read of it.
 
 pub output_asked : (a : Asked) (lists : Lists) (sources : Texts) (output : Outcome)
     → AreLists a lists → sources.files.now ≡ lists.files.items → sources.folders.now ≡ lists.folders.items → limit_fault a.limits ≡ None
@@ -88,3 +98,57 @@ gives_refused a lists sources buffer fault answer are files folders in_range ope
       );
       front = overwritten_none buffer;
     }
+
+-- An output that was opened is the one that a call asks for, and a read of what a handle owns is one of a stream.
+
+-- what remains of a stream over what a call asks for
+pub streams : (a : Asked) (owned : Owned) (reading : ReadingView OwnedTexts (List ℕ)) (stream : Stream) → AreOwned a owned → limit_fault a.limits ≡ None
+    → OpensOutput owned_sources (output_of owned_sources owned.options owned.sources owned.path.now) (Ok reading)
+    → stream ≡ record { reading = reading } → StreamsOutput a stream
+streams a owned reading stream are in_range opens same = record {
+  output = output_of owned_sources owned.options owned.sources owned.path.now;
+  is = record {
+    options = owned.options;
+    sources = owned.sources;
+    asks = are.asks;
+    in_range = in_range;
+    is = ap (output_of owned_sources owned.options owned.sources) (sym are.path);
+  };
+  remains = subst (λ (s : Stream). is_device_fault s.reading.engine.kept ≡ false → is_memory_fault s.reading.engine.kept ≡ false
+      → reading_left owned_sources s.reading ≡ output_of owned_sources owned.options owned.sources owned.path.now) (sym same) opens;
+}
+
+-- a definition that is refused is the output
+pub declined : (a : Asked) (owned : Owned) (f : Told) → AreOwned a owned → limit_fault a.limits ≡ None → given_by owned.options ≡ Declined f → IsStreamed a (fails f)
+declined a owned f are in_range refused = record {
+  options = owned.options;
+  sources = owned.sources;
+  asks = are.asks;
+  in_range = in_range;
+  is = ap (output_given owned_sources owned.options.limits owned.options.origins owned.sources a.path) refused;
+}
+
+-- an opening that is refused is answered so
+pub refused : (a : Asked) (owned : Owned) (fault : PrepFault) (result : Result Stream Answer) → AreOwned a owned → limit_fault a.limits ≡ None
+    → Opens owned_sources owned.options owned.sources owned.path.now (Err fault) → result ≡ Err (refused_answer fault) → OpensStream a result
+refused a owned fault result are in_range opens e = subst (λ (r : Result Stream Answer). OpensStream a r) (sym e) (by fault opens)
+  where
+    by : (fault : PrepFault) → Opens owned_sources owned.options owned.sources owned.path.now (Err fault) → OpensStream a (Err (refused_answer fault))
+    by (BadLimits limit) h = ap limit_fault (sym are.asks.limits) ∙ h
+    by NoneLeft h = in_range
+    by (Run run) h = (declined a owned (told run.fault) are in_range h.1, h.2)
+
+-- a read of the stream that a handle owns
+pub reads_held : (old new : ReadBuffers) (before after : Stream) (first last : Option Stream) (outcome : Numbers)
+    → first ≡ Some before → last ≡ Some after → ReadsStream old new before after outcome → Reads old new first last outcome
+reads_held old new before after first last outcome p q reads =
+    subst (λ (o : Option Stream). Reads old new o last outcome) (sym p) (after, q, reads)
+
+-- What is written to the buffers of a caller tells an answer.
+
+pub buffers_told : (answer : Answer) (bytes : List ℕ) (old new : Buffers) → new.out ≡ overwritten (output_bytes answer bytes) old.out
+    → new.name ≡ overwritten (name_bytes answer) old.name → new.word ≡ overwritten (word_bytes answer) old.word → new ≡ told_to answer bytes old
+buffers_told answer bytes old new out name word =
+    ap (λ o. record { out = o; name = new.name; word = new.word }) out
+    ∙ ap (λ n. record { out = overwritten (output_bytes answer bytes) old.out; name = n; word = new.word }) name
+    ∙ ap (λ w. record { out = overwritten (output_bytes answer bytes) old.out; name = overwritten (name_bytes answer) old.name; word = w }) word

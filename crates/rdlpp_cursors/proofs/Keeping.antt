@@ -11,7 +11,7 @@ use Rattle.rdlpp_scan.specs.CleanTexts.{IsCleanText}
 use Rattle.rdlpp_scan.specs.SourceTokens.{SourceToken}
 use Rattle.rdlpp_scan.specs.TokenKinds.{opens_mode}
 use Rattle.rdlpp_scan.specs.Tokens.{token_of, tokens_from}
-use Rattle.rdlpp_scan.proofs.ClosedKinds.{closed_kind_plain}
+use Rattle.rdlpp_scan.proofs.StopKinds.{closed_kind_plain}
 use Rattle.rdlpp_scan.proofs.RangeLaws.{tokens_from-first}
 use Rattle.rdlpp_scan.proofs.TokenLens.{token_of-part}
 use Rattle.rdlpp_table.specs.Table.{Formal}

@@ -12,8 +12,7 @@ use Rattle.rdlpp_scan.specs.Bytes.{begins_perl, ends_block_comment}
 use Rattle.rdlpp_scan.specs.SourceTokens.{Ordinary}
 use Rattle.rdlpp_scan.specs.Tokens.{first_place, string_stop, whole, string_token, block_token, token_of, tokens_from}
 use Rattle.rdlpp_scan.proofs.RangeLaws.{tokens_from-first}
-use Rattle.rdlpp_scan.proofs.TokenLens.{token_of-part}
-use Rattle.rdlpp_scan.proofs.TokenLists.{tokens_from-step}
+use Rattle.rdlpp_scan.proofs.TokenLens.{token_of-part, tokens_from-step}
 use Rattle.rdlpp_table.specs.Table.{Formal}
 use Rattle.rdlpp_table.specs.View.{formal_named}
 use Rattle.rdlpp_table.specs.Stops.{is_none, stop_name, stop_at}

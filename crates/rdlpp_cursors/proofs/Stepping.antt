@@ -6,7 +6,7 @@ use Rattle.rdlpp_scan.specs.declared.token.Mode.{Mode}
 use Rattle.rdlpp_scan.specs.declared.token.Mode.TheVariants.{Plain}
 use Rattle.rdlpp_scan.specs.TokenKinds.{opens_mode}
 use Rattle.rdlpp_scan.specs.Tokens.{token_of, tokens_from}
-use Rattle.rdlpp_scan.proofs.ClosedKinds.{closed_kind_plain}
+use Rattle.rdlpp_scan.proofs.StopKinds.{closed_kind_plain}
 use Rattle.rdlpp_meaning.specs.declared.fault.FaultKind.TheVariants.{BareBackquote as NoName, DepthPassed}
 use Rattle.rdlpp_meaning.specs.Outcome.{gives, fails, and_then}
 use Rattle.rdlpp_meaning.specs.State.{State, fault_at}

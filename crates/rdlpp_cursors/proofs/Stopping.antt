@@ -9,14 +9,13 @@ use Rattle.rdlpp_scan.specs.declared.token.Mode.TheVariants.{Plain}
 use Rattle.rdlpp_scan.specs.declared.token.Token.{Token}
 use Rattle.rdlpp_scan.specs.Tokens.{token_of, tokens_from}
 use Rattle.rdlpp_scan.proofs.RangeLaws.{tokens_from-first}
-use Rattle.rdlpp_scan.proofs.TokenLens.{token_of-part}
-use Rattle.rdlpp_scan.proofs.TokenLists.{tokens_from-step}
+use Rattle.rdlpp_scan.proofs.TokenLens.{token_of-part, tokens_from-step}
 use Rattle.rdlpp_table.specs.Table.{Formal}
 use Rattle.rdlpp_table.specs.View.{formal_named, formals_of, macro_at}
 use Rattle.rdlpp_table.specs.declared.stop.Stop.{Stop}
 use Rattle.rdlpp_table.specs.declared.stop.Stop.TheVariants as stop
 use Rattle.rdlpp_table.specs.Stops.{is_none, or_stop, stop_name, stop_at, first_stop, stop_of, stop_in}
-use Rattle.rdlpp_table.proofs.Stopping.{or_none, or_some}
+use Rattle.rdlpp_table.proofs.FirstStops.{or_none, or_some}
 use Rattle.rdlpp_cursors.specs.Fronts.{is_back, run_len, AreCopied, IsAhead, IsFront}
 use Rattle.rdlpp_cursors.specs.declared.front.Ahead.{Ahead}
 use Rattle.rdlpp_cursors.proofs.Runs.{stop-plain}

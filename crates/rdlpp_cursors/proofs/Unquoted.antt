@@ -14,8 +14,7 @@ use Rattle.rdlpp_scan.specs.Ordinary.{is_plain_kind}
 use Rattle.rdlpp_scan.specs.Tokens.{string_token, token_of, tokens_from, whole}
 use Rattle.rdlpp_scan.proofs.RangeLaws.{tokens_from-first}
 use Rattle.rdlpp_scan.proofs.StopKinds.{Row, AtPerl, AtLineComment, AtBlockComment, AtString, AtBack, AtBare, AtPlain, token_of-row, string_token-kind, block_token-kind}
-use Rattle.rdlpp_scan.proofs.TokenLens.{token_of-part}
-use Rattle.rdlpp_scan.proofs.TokenLists.{tokens_from-step}
+use Rattle.rdlpp_scan.proofs.TokenLens.{token_of-part, tokens_from-step}
 use Rattle.rdlpp_cursors.specs.Fronts.{is_back, run_len}
 use Rattle.rdlpp_cursors.proofs.Stopping.{back-none}
 

@@ -14,7 +14,7 @@ use Rattle.rdlpp_meaning.proofs.Outcomes.{and_then-gives_nil, and_then-gives, an
 use Rattle.rdlpp_steps.specs.Calls.{SourcesCalled}
 use Rattle.rdlpp_steps.specs.Engine.{EngineView, is_open}
 use Rattle.rdlpp_steps.specs.Held.{IsBounded, stores_of}
-use Rattle.rdlpp_steps.proofs.Stores.{fault_lets_go, fault_stores}
+use Rattle.rdlpp_steps.proofs.Stores.{KeepsStores, keeps_refused}
 use Rattle.rdlpp_steps.specs.Owed.{nothing_owed}
 use Rattle.rdlpp_steps.specs.Remaining.{kept_uncut, left_of, output_fault, phase_uncut, state_of, text_of, uncut_of, work_left}
 use Rattle.rdlpp_expand.specs.Run.{Pulls, Wrote, WroteEnds, Going, Finishes, Stops, StopsAt, Breaks, Runs, Begins, Flushes, Unflushed, answered, is_fresh, is_kept, is_unwritten, write_fault}
@@ -471,6 +471,7 @@ runs_whole g h old new before between after n w flush =
       write_failed = λ e. (let bad : ⊥ = cc (e, none_fresh is_write_failed old.kept) in absurd bad);
       unwritten_told = λ e. (let bad : ⊥ = cc e in absurd bad);
       unflushed_told = λ e. (let bad : ⊥ = cc e in absurd bad);
+      flushed = λ e. (let bad : ⊥ = cc (e, none_fresh is_write_failed old.kept) in absurd bad);
       again = λ f k. (let bad : ⊥ = cc (k, free) in absurd bad);
       kept = w.ends.kept;
       closed = λ e. w.ends.closed;
@@ -522,6 +523,7 @@ module _ {S R W : Type 0} (g : Ghosts S R) (h : SinkGhosts W) (old new : EngineV
         write_failed = λ e. (let bad : ⊥ = cc (e, same is_write_failed, own) in absurd bad);
         unwritten_told = λ e. (let bad : ⊥ = cc e in absurd bad);
         unflushed_told = λ e. inr (rw told (other e));
+        flushed = λ e. (let bad : ⊥ = cc (e, same is_write_failed, own) in absurd bad);
         again = λ k e. (let a = w.ends.again k e in (told ∙ ap Some (sym a.0), a.1, a.2));
         kept = sym is;
         closed = λ e. (let bad : ⊥ = cc (e, told) in absurd bad);
@@ -551,9 +553,11 @@ pub runs_unwritten : {S R W : Type 0} (g : Ghosts S R) (h : SinkGhosts W) (old m
     → Keeps (h.taken between) (h.taken after) → Counts unwritten (h.failed_writes before) (h.failed_writes after)
     → Counts unflushed (h.failed_flushes between) (h.failed_flushes after) → Counts asked (h.flushes between) (h.flushes after)
     → (unwritten || unflushed) ≡ true → asked ≡ not unwritten → (unflushed ≡ true → asked ≡ true)
-    → new ≡ record mid { kept = Some (write_fault mid.main) } → fault ≡ new.kept → Runs g h old new before after n fault
-runs_unwritten {S} {R} g h old mid new before between after n fault ending unwritten unflushed asked w quiet free begins bounded keeps writes failed flushes some asks first becomes is =
+    → new ≡ record mid { kept = Some (write_fault mid.main) } → fault ≡ new.kept → KeepsStores g old mid
+    → (unwritten ≡ false → (mid.phase ≡ Closed) × (g.tells old.sources → left_of g old ≡ gives w.bytes)) → Runs g h old new before after n fault
+runs_unwritten {S} {R} g h old mid new before between after n fault ending unwritten unflushed asked w quiet free begins bounded keeps writes failed flushes some asks first becomes is held whole =
     let f = write_fault mid.main in
+    let stores : KeepsStores g mid new = subst (λ (e : EngineView S R). KeepsStores g mid e) (sym becomes) (keeps_refused g mid f) in
     let told : fault ≡ Some f = is ∙ ap (λ e. e.kept) becomes in
     let fresh : is_fresh is_write_failed old.kept fault ≡ true = ap (is_fresh is_write_failed old.kept) told ∙ write_fresh old.kept mid.main f free refl in
     let P : Option Told → Type 0 = λ k. SourcesCalled g (is_fresh is_read_failed old.kept k) (is_fresh is_memory_kind old.kept k) old.sources mid.sources in
@@ -582,6 +586,7 @@ runs_unwritten {S} {R} g h old mid new before between after n fault ending unwri
       write_failed = λ e. (some, told ∙ ap Some (ap write_fault w.main));
       unwritten_told = λ e. fresh;
       unflushed_told = λ e. inl fresh;
+      flushed = λ _ e. (ap (λ m. m.phase) becomes ∙ (whole e).0, (whole e).1);
       again = λ k e. (let bad : ⊥ = cc (e, free) in absurd bad);
       kept = sym is;
       closed = λ e. (let bad : ⊥ = cc (e, told) in absurd bad);
@@ -593,8 +598,8 @@ runs_unwritten {S} {R} g h old mid new before between after n fault ending unwri
       most_macros = ap (λ e. e.table.most_macros) becomes ∙ w.most_macros;
       started = λ e. w.started (sym (ap (λ e. e.phase) becomes) ∙ e);
       bounded = subst IsBounded (sym becomes) (bounded_kept mid _ bounded);
-      lets_go = λ _. fault_lets_go new f (ap (λ e. e.kept) becomes);
-      stores = λ _ _. fault_stores g new f (ap (λ e. e.kept) becomes);
+      lets_go = λ h. stores.lets_go (held.lets_go h);
+      stores = λ t h. stores.stores (reads.tells t) (held.stores t h);
     }
 
 -- what is known stays, where nothing happens
@@ -609,6 +614,7 @@ pub runs_unflushed : {S R W : Type 0} (g : Ghosts S R) (h : SinkGhosts W) (old m
 runs_unflushed g h old mid new before between after n fault w flush becomes is =
     runs_unwritten g h old mid new before between after n fault (Some Finished) false true true w refl w.ends.free
     (λ t. begins_all w.bytes _ (w.ends.tells t)) w.ends.bounded flush.bytes (flush.writes ∙ w.writes) flush.failures flush.asked refl refl (λ e. refl) becomes is
+    (record { lets_go = w.ends.lets_go; stores = w.ends.stores }) (λ _. (w.ends.closed, w.ends.tells))
 
 -- a write failed
 pub runs_broken : {S R W : Type 0} (g : Ghosts S R) (h : SinkGhosts W) (old mid new : EngineView S R) (before after : W) (n : ℕ) (fault : Option Told)
@@ -617,6 +623,7 @@ pub runs_broken : {S R W : Type 0} (g : Ghosts S R) (h : SinkGhosts W) (old mid 
 runs_broken g h old mid new before after n fault w becomes is =
     runs_unwritten g h old mid new before after after n fault (Some Unwritten) true false false w refl w.ends.free
     w.ends.begins w.ends.bounded (keeps_same (h.taken after)) w.writes refl refl refl refl (λ e. (let bad : ⊥ = cc e in absurd bad)) becomes is
+    (record { lets_go = w.ends.lets_go; stores = w.ends.stores }) (λ e. absurd (cc))
 
 -- the fault of a write was kept, and nothing was flushed
 pub runs_unchanged : {S R W : Type 0} (g : Ghosts S R) (h : SinkGhosts W) (old new : EngineView S R) (before after : W) (n : ℕ) (fault : Option Told)

@@ -182,7 +182,8 @@ fault_of (Err f) = Some (told f.fault)
 -- the usage in whose call a read failed. Where the output
 -- ended, nothing is owed. A fault of a write that failed comes
 -- where the writer's count of failed writes or of failed flushes rose; and always where that of failed writes rose; and
--- where that of failed flushes rose, the answer is such a fault, or the one that came before the flush. A flush is asked for
+-- where that of failed flushes rose, the answer is such a fault, or the one that came before the flush; a flush alone is answered as such
+-- a fault only after the whole output. A flush is asked for
 -- once, unless a write failed, now or before. A kept fault is answered again, and then nothing is written and the engine
 -- stays as it is. The fault that is answered is kept, and after the end none is (source: this project's profile)
 pub record Runs {S R W : Type 0} (g : Ghosts S R) (h : SinkGhosts W) (old new : EngineView S R) (before after : W) (count : ℕ) (fault : Option Told) : Type 0 where
@@ -205,6 +206,7 @@ pub record Runs {S R W : Type 0} (g : Ghosts S R) (h : SinkGhosts W) (old new : 
   pub write_failed : is_fresh is_write_failed old.kept fault ≡ true → ((unwritten || unflushed) ≡ true) × (fault ≡ Some (write_fault old.main))
   pub unwritten_told : unwritten ≡ true → is_fresh is_write_failed old.kept fault ≡ true
   pub unflushed_told : unflushed ≡ true → (is_fresh is_write_failed old.kept fault ≡ true) ⊎ IsSomeAnd fault (λ f. is_write_failed f.kind ≡ false)
+  pub flushed : is_fresh is_write_failed old.kept fault ≡ true → unwritten ≡ false → (new.phase ≡ Closed) × (g.tells old.sources → left_of g old ≡ gives bytes)
   pub again : (f : Told) → old.kept ≡ Some f → (fault ≡ Some f) × (bytes ≡ []) × (new ≡ old)
   pub kept : new.kept ≡ fault
   pub closed : fault ≡ None → new.phase ≡ Closed

@@ -6,7 +6,6 @@ ghost use Rattle.std.specs.Io.BufRead.{Rests};
 ghost use Rattle.rdlpp_scan.specs.SourceTokens.{logical_len};
 ghost use Rattle.rdlpp_scan.specs.declared.token.Directive.TheVariants.{Define, Undef};
 ghost use Rattle.rdlpp_table.specs.Table.{macro_named};
-ghost use Rattle.rdlpp_table.specs.View.{macro_at};
 ghost use Rattle.rdlpp_meaning.specs.Outcome.{Told, told};
 ghost use Rattle.rdlpp_meaning.specs.State.{fault_at};
 ghost use Rattle.rdlpp_read.specs.Buffer.{entered_mode, held_of, reading_line_of};
@@ -48,7 +47,7 @@ use rdlpp_read::{Files, Fill, LogicalLine};
 use rdlpp_scan::{Mode, line_ends_in, reserved};
 use rdlpp_source::Sources;
 use rdlpp_steps::{Held, Owed, Phase, Piece, Place, copied, copied_fault, fault_kind, word_of};
-use rdlpp_table::{Limits, MacroId, Table};
+use rdlpp_table::{Limits, Table};
 use rdlpp_usages::Expansion;
 use std::alloc::Global;
 use std::marker::Model;
@@ -172,10 +171,6 @@ impl<S: Sources> Engine<S> {
             Place::Source(start, end) => {
                 let len = self.spend(end - start);
                 Place::Source(start, start + len)
-            }
-            Place::Body(id, start, end) => {
-                let len = self.spend(end - start);
-                Place::Body(id, start, start + len)
             }
             Place::Text(place) => {
                 let len = self.spend(place.end - place.from);
@@ -682,7 +677,6 @@ impl<S: Sources> Engine<S> {
     {
         match place {
             Place::Source(start, end) => Piece::Bytes(self.files.file().buffer.part(start, end)),
-            Place::Body(id, start, end) => Piece::Bytes(&self.table.body(id)[start..end]),
             Place::Text(place) => Piece::Bytes(self.text(place)),
             Place::Owed(piece) => Piece::Bytes(
                 self.owed.bytes(piece, self.files.file().name.as_str()),

@@ -4,16 +4,15 @@ use Rattle.std.proofs.Common.{◌≡◌, ◌⊎◌, ℕ, ◌<◌, Bool, List, []
 use Rattle.rdlpp_scan.specs.declared.token.Kind.TheVariants.{Perl}
 use Rattle.rdlpp_scan.specs.declared.token.Mode.{Mode}
 use Rattle.rdlpp_scan.specs.declared.token.Mode.TheVariants.{Plain, InStr, InBlock}
-use Rattle.rdlpp_scan.specs.Front.{Breach, CommentOpen, PerlFound, StringOpen}
+use Rattle.rdlpp_scan.specs.Front.{Breach, PerlFound}
 use Rattle.rdlpp_scan.specs.Front as breach
 use Rattle.rdlpp_scan.specs.Lines.{EndsLine}
 use Rattle.rdlpp_scan.specs.SourceTokens.{SourceToken, remaining_tokens}
 use Rattle.rdlpp_scan.specs.Tokens.{token_of}
-use Rattle.rdlpp_scan.proofs.RemainingLaws.{remaining-bare, remaining-perl}
-use Rattle.rdlpp_scan.proofs.ResumedTokens.{remaining-perl_in_string, perl_in_string}
+use Rattle.rdlpp_scan.proofs.RemainingLaws.{remaining-bare, remaining-perl, remaining-perl_in_string, perl_in_string}
 use Rattle.rdlpp_scan.proofs.StopKinds.{block_token-kind}
 use Rattle.rdlpp_meaning.specs.declared.fault.FaultKind.{FaultKind}
-use Rattle.rdlpp_meaning.specs.declared.fault.FaultKind.TheVariants.{LineTooLong, OpenComment, OpenConditional, OpenString, SourceTooLong}
+use Rattle.rdlpp_meaning.specs.declared.fault.FaultKind.TheVariants.{OpenConditional}
 use Rattle.rdlpp_meaning.specs.Outcome.{fails}
 use Rattle.rdlpp_meaning.specs.State.{Rules, State, breach_kind, fault_at}
 use Rattle.rdlpp_meaning.specs.Meaning.{Progress, leaves, unclosed}
@@ -34,8 +33,7 @@ use Rattle.rdlpp_read.specs.LogicalLines.{HoldsLine}
 use Rattle.rdlpp_front.specs.Fronts.{AtBare, AtPerl, IsRefused}
 use Rattle.rdlpp_front.specs.SourceLeft.{HoldsFront, source_left, with_file_buffer}
 use Rattle.rdlpp_read.proofs.BufferTokens.{ends_line}
-use Rattle.rdlpp_front.proofs.SourceFacts.{tokens_plain}
-use Rattle.rdlpp_front.proofs.SourcePassages.{all_resumed_bare, all_resumed_only_broken}
+use Rattle.rdlpp_front.proofs.SourcePassages.{tokens_plain, all_resumed_bare, all_resumed_only_broken}
 
 -- nor is a comment
 no_perl_in_comment : (held : List ℕ) → (token_of InBlock held).kind ≡ Perl → ⊥
@@ -66,34 +64,10 @@ module _ {R : Type 0} (rules : Rules) (unread : R → List ℕ) (ws : List Waiti
       ap (λ (ts : List SourceToken). all_resumed rules ws (Live os) f.blanks ts s) e
       ∙ all_resumed_only_broken rules ws os f.blanks b line [] s
 
-  -- a line that is too long is a fault
-  pub line_long_left : (tells : Type 0) (new : BufferView R) → Fills tells unread fill.LineLong f.buffer new → tells
-      → source_left rules unread ws (Live os) f s ≡ leaves (fails (fault_at LineTooLong f.buffer.line [] s)) s
-  unfolding breach_kind
-  line_long_left tells new fills t = broken_left breach.LineLong f.buffer.line (fills.tokens t)
-
-  -- and so is a line with which the source is too long
-  pub source_long_left : (tells : Type 0) (new : BufferView R) → Fills tells unread fill.SourceLong f.buffer new → tells
-      → source_left rules unread ws (Live os) f s ≡ leaves (fails (fault_at SourceTooLong f.buffer.line [] s)) s
-  unfolding breach_kind
-  source_long_left tells new fills t = broken_left breach.SourceLong f.buffer.line (fills.tokens t)
-
   -- the end of a text is told by its mode
   ended_by : (tells : Type 0) (new : BufferView R) (m : Mode) → Fills tells unread fill.End f.buffer new → tells → f.buffer.mode ≡ m
       → tokens_left unread f.buffer ≡ ended_tokens m f.buffer.open_token_line
   ended_by tells new m fills t mode = fills.tokens t ∙ ap (λ (n : Mode). ended_tokens n f.buffer.open_token_line) mode
-
-  -- a string that is open at the end is a fault
-  pub open_string_left : (tells : Type 0) (new : BufferView R) → Fills tells unread fill.End f.buffer new → tells → f.buffer.mode ≡ InStr
-      → source_left rules unread ws (Live os) f s ≡ leaves (fails (fault_at OpenString f.buffer.open_token_line [] s)) s
-  unfolding breach_kind
-  open_string_left tells new fills t mode = broken_left StringOpen f.buffer.open_token_line (ended_by tells new InStr fills t mode)
-
-  -- and so is a comment
-  pub open_comment_left : (tells : Type 0) (new : BufferView R) → Fills tells unread fill.End f.buffer new → tells → f.buffer.mode ≡ InBlock
-      → source_left rules unread ws (Live os) f s ≡ leaves (fails (fault_at OpenComment f.buffer.open_token_line [] s)) s
-  unfolding breach_kind
-  open_comment_left tells new fills t mode = broken_left CommentOpen f.buffer.open_token_line (ended_by tells new InBlock fills t mode)
 
   -- an open conditional at the end of its source is a fault
   pub unclosed_left : (o : Progress) (tells : Type 0) (new : BufferView R) → Fills tells unread fill.End f.buffer new → tells → f.buffer.mode ≡ Plain

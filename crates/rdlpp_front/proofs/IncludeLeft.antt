@@ -1,5 +1,5 @@
--- What an `include` with its string in front does to what remains: it opens the source that is found, or is a fault.
-use Rattle.std.proofs.Common.{◌≡◌, ℕ, suc, ◌+◌, ◌-◌, ◌<◌, Bool, true, false, cond, ◌||◌, List, [], ◌∷◌, ◌++◌, Some, None, length, take, drop, refl, sym, ap, ◌∙◌, subst, arith}
+-- What an `include` in front does to what remains, with its string and without one.
+use Rattle.std.proofs.Common.{◌≡◌, ℕ, suc, ◌+◌, ◌-◌, ◌<◌, Bool, true, false, cond, ◌||◌, List, [], ◌∷◌, ◌++◌, Some, None, length, take, drop, refl, sym, ap, ◌∙◌, subst, arith, ◌⊎◌, Option, inl, inr, ⊎_elim}
 use Rattle.std.specs.Prelude.{not, ◌==◌}
 use Rattle.std.specs.List.{list_any}
 use Rattle.std.specs.Option.{option_map}
@@ -8,39 +8,47 @@ use Rattle.std.proofs.Math.Seq.{take-add}
 use Rattle.std.proofs.lemmas.List.{drop-drop}
 use Rattle.rdlpp_scan.specs.declared.token.Directive.TheVariants.{Include}
 use Rattle.rdlpp_scan.specs.declared.token.Kind.{Kind}
-use Rattle.rdlpp_scan.specs.declared.token.Kind.TheVariants.{Blank}
-use Rattle.rdlpp_scan.specs.declared.token.Mode.TheVariants.{Plain}
+use Rattle.rdlpp_scan.specs.declared.token.Kind.TheVariants.{Blank, Str}
+use Rattle.rdlpp_scan.specs.declared.token.Mode.TheVariants.{Plain, InStr}
 use Rattle.rdlpp_scan.specs.Bytes.{is_line_end}
 use Rattle.rdlpp_scan.specs.Lines.{EndsLine, ended_line_len}
-use Rattle.rdlpp_scan.specs.SourceTokens.{Ordinary, SourceToken, line_ends, remaining_tokens}
+use Rattle.rdlpp_scan.specs.SourceTokens.{Ordinary, SourceToken, line_ends, remaining_tokens, Broken, Definition, Renumbering, Sort, broken, open_end, source_end, source_tokens}
 use Rattle.rdlpp_scan.specs.Tokens.{token_of}
-use Rattle.rdlpp_scan.proofs.LineLaws.{none_suc}
-use Rattle.rdlpp_scan.proofs.RemainingSteps.{remaining-closed}
-use Rattle.rdlpp_scan.proofs.SourceLaws.{line_ends-cons}
+use Rattle.rdlpp_scan.proofs.LineLaws.{none_suc, EndsLine-drop, some_suc}
+use Rattle.rdlpp_scan.proofs.RemainingLaws.{remaining-closed, remaining-cut_string, remaining-open_string, Breaks, Copies, Resumes, remaining-in_string}
+use Rattle.rdlpp_scan.proofs.SourceLaws.{line_ends-cons, front-none, line_ends-append}
 use Rattle.rdlpp_scan.proofs.TokenSteps.{is_kept_kind}
-use Rattle.rdlpp_scan.proofs.WholeLines.{EndsLine-drop}
 use Rattle.rdlpp_meaning.specs.declared.fault.FaultKind.TheVariants.{IncludeName, PathTooLong, SourceNotFound, TooManyIncludes}
 use Rattle.rdlpp_meaning.specs.Outcome.{fails}
 use Rattle.rdlpp_meaning.specs.State.{LongPath, NoSource, Rules, Source, State, fault_at, shown_line}
-use Rattle.rdlpp_meaning.specs.Parts.{behind_directive, command_of, only_blanks}
+use Rattle.rdlpp_meaning.specs.Parts.{behind_directive, command_of, only_blanks, Argument, argument_of, behind_blanks, no_argument, past_blanks, string_in_front}
 use Rattle.rdlpp_meaning.specs.Meaning.{Progress, added_end, at_start_of, behind_bytes, leaves, origin_line}
 use Rattle.rdlpp_meaning.specs.Resumed.{Live}
 use Rattle.rdlpp_meaning.specs.Opened.{Waiting, all_resumed, waiting}
 use Rattle.rdlpp_meaning.proofs.DirectiveWords.{has_own_token}
 use Rattle.rdlpp_meaning.proofs.IncludeArguments.{string_token, takes_string_at_once, takes_string_behind_blanks}
-use Rattle.rdlpp_meaning.proofs.Includes.{all_resumed_include, include_bad_name, include_long_path, include_not_found, include_too_deep}
+use Rattle.rdlpp_meaning.proofs.Includes.{all_resumed_include, include_bad_name, include_long_path, include_not_found, include_too_deep, include_nameless}
 use Rattle.rdlpp_meaning.proofs.Undefining.{blank_token}
 use Rattle.rdlpp_read.specs.declared.files.File.{File}
 use Rattle.rdlpp_read.specs.Arguments.{ClosesString, Closes, IsClosedString, IsLead, Lacks, Leads, Opens}
 use Rattle.rdlpp_read.specs.Buffer.{BufferView, held_of, rest_of, tokens_left}
 use Rattle.rdlpp_read.specs.Files.{consumed_file}
-use Rattle.rdlpp_front.specs.Fronts.{HasString, argument_name, word_of, include_name}
+use Rattle.rdlpp_front.specs.Fronts.{HasString, argument_name, word_of, include_name, LacksString}
 use Rattle.rdlpp_front.specs.SourceLeft.{HoldsFront, source_left}
-use Rattle.rdlpp_front.proofs.DefineLeft.{not_counted}
-use Rattle.rdlpp_front.proofs.DirectiveMoves.{refused_move}
-use Rattle.rdlpp_front.proofs.NamedDirectives.{IsGiven, NameInFront, blank_lead, given_of, word_at, word_directive, word_token, word_tokens}
+use Rattle.rdlpp_front.proofs.DefineLeft.{not_counted, counted}
+use Rattle.rdlpp_front.proofs.NamedDirectives.{refused_move, IsGiven, NameInFront, blank_lead, given_of, word_at, word_directive, word_token, word_tokens, gone_blanks, gone_word, nothing_tokens}
 use Rattle.rdlpp_read.proofs.BufferTokens.{ends_line}
-use Rattle.rdlpp_front.proofs.SourceFacts.{tokens_used, used_buffer}
+use Rattle.rdlpp_front.proofs.SourcePassages.{tokens_used, used_buffer}
+use Rattle.rdlpp_scan.specs.declared.token.Token.{Token}
+use Rattle.rdlpp_scan.specs.Front.{Front, StringOpen}
+use Rattle.rdlpp_scan.specs.Resumed.{line_with, onto_tokens, opening, with_part}
+use Rattle.rdlpp_scan.specs.TokenKinds.{is_ordinary}
+use Rattle.rdlpp_scan.proofs.FirstTokens.{FirstToken, remaining-first, whole-line_ends}
+use Rattle.rdlpp_scan.proofs.Seams.{BeforePerl, Closed, OpenComment, OpenString, Seam, token_of-seam}
+use Rattle.rdlpp_scan.proofs.TokenLens.{token_of-part}
+use Rattle.rdlpp_read.specs.Filling.{only_broken}
+
+-- What an `include` with its string in front does to what remains: it opens the source that is found, or is a fault.
 
 -- a text whose first line doesn't end has no LF
 no_line_end : (bytes : List ℕ) → ended_line_len bytes ≡ None → (line_ends bytes ≡ 0) × (list_any is_line_end bytes ≡ false)
@@ -217,3 +225,183 @@ module _ {R : Type 0} (rules : Rules) (unread : R → List ℕ) (ws : List Waiti
       refused_move rules unread ws f s Include front.tokens (Live os) PathTooLong [] front.all
       (include_long_path rules os f.blanks (word_token Include f.buffer.line) front.tokens s (argument_name (held_of f.buffer) start stop) k
       (word_directive Include f.buffer.line include_word) front.given name left found)
+
+-- An `include` in front behind which no string stands that closes on its line is a fault.
+
+-- a text with LF bytes has one
+any_line_end : (bytes : List ℕ) → 0 < line_ends bytes → list_any is_line_end bytes ≡ true
+unfolding line_ends
+any_line_end [] some = absurd (omega arith)
+any_line_end (b ∷ bs) some =
+    let P : Bool → Type 0 = λ t. is_line_end b ≡ t → list_any is_line_end (b ∷ bs) ≡ true in
+    let at_true : P true = λ e. rw e refl in
+    let at_false : P false = λ e.
+    let count : line_ends (b ∷ bs) ≡ line_ends bs = not_counted (is_line_end b) (line_ends (b ∷ bs)) (line_ends bs) e (line_ends-cons b bs) in
+    rw e (any_line_end bs (omega arith)) in
+    elim (is_line_end b) as P [ true ↦ at_true | false ↦ at_false ] refl
+
+-- a text whose first line ends has an LF
+ended_some : (bytes : List ℕ) (n : ℕ) → ended_line_len bytes ≡ Some n → 0 < line_ends bytes
+unfolding ended_line_len
+ended_some [] n h = cc
+ended_some (b ∷ bs) n h =
+    let P : Bool → Type 0 = λ t. is_line_end b ≡ t → cond t (Some 1) (option_map suc (ended_line_len bs)) ≡ Some n → 0 < line_ends (b ∷ bs) in
+    let at_true : P true = λ e k.
+    let count : line_ends (b ∷ bs) ≡ suc (line_ends bs) = counted (is_line_end b) (line_ends (b ∷ bs)) (line_ends bs) e (line_ends-cons b bs) in omega arith in
+    let at_false : P false = λ e k.
+    let count : line_ends (b ∷ bs) ≡ line_ends bs = not_counted (is_line_end b) (line_ends (b ∷ bs)) (line_ends bs) e (line_ends-cons b bs) in
+    let p = some_suc (ended_line_len bs) n k in
+    let rest = ended_some bs p.0 p.1.0 in omega arith in
+    elim (is_line_end b) as P [ true ↦ at_true | false ↦ at_false ] refl h
+
+-- a string is a string or it isn't
+kind_case : (k : Kind) → (k ≡ Str) ⊎ (k ≡ Str → ⊥)
+kind_case Str = inl refl
+kind_case k = inr (λ e. cc)
+
+-- a token of such a kind isn't a string
+no_string_by : (sort : Sort) (bytes : List ℕ) (line : ℕ) (ts : List SourceToken) → (k : Kind) → (sort ≡ Ordinary k) ⊎ (is_ordinary (record { sort = sort; bytes = bytes; line = line }) ≡ false) → (k ≡ Str → ⊥)
+    → string_in_front (record { sort = sort; bytes = bytes; line = line } ∷ ts) ≡ no_argument
+unfolding string_in_front is_ordinary
+no_string_by (Ordinary Str) bytes line ts k (inl e) other = absurd (other (let same : Ordinary Str ≡ Ordinary k = e in cc))
+no_string_by (Ordinary Str) bytes line ts k (inr e) other = cc
+no_string_by (Ordinary n) bytes line ts k h other = refl
+no_string_by Definition bytes line ts k h other = refl
+no_string_by Renumbering bytes line ts k h other = refl
+no_string_by (Broken b) bytes line ts k h other = refl
+
+-- nor are blanks in front of one
+no_blank_by : (sort : Sort) (bytes : List ℕ) (line : ℕ) (ts : List SourceToken) → (k : Kind) → (sort ≡ Ordinary k) ⊎ (is_ordinary (record { sort = sort; bytes = bytes; line = line }) ≡ false) → (k ≡ Blank → ⊥)
+    → past_blanks string_in_front (record { sort = sort; bytes = bytes; line = line } ∷ ts) ≡ string_in_front (record { sort = sort; bytes = bytes; line = line } ∷ ts)
+unfolding past_blanks string_in_front is_ordinary
+no_blank_by (Ordinary Blank) bytes line ts k (inl e) other = absurd (other (let same : Ordinary Blank ≡ Ordinary k = e in cc))
+no_blank_by (Ordinary Blank) bytes line ts k (inr e) other = cc
+no_blank_by (Ordinary n) bytes line ts k h other = refl
+no_blank_by Definition bytes line ts k h other = refl
+no_blank_by Renumbering bytes line ts k h other = refl
+no_blank_by (Broken b) bytes line ts k h other = refl
+
+-- a string with an LF is none
+long_string : (bytes : List ℕ) (line : ℕ) (ts : List SourceToken) → 0 < line_ends bytes → string_in_front (record { sort = Ordinary Str; bytes = bytes; line = line } ∷ ts) ≡ no_argument
+unfolding string_in_front
+long_string bytes line ts some = rw (any_line_end bytes some) refl
+
+-- a string that is open where the text ends
+open_at_end : (most o l room : ℕ) → remaining_tokens most InStr o l [] room [] ≡ only_broken StringOpen o
+unfolding remaining_tokens source_tokens source_end open_end broken
+open_at_end most o l room =
+    ap (λ (g : Front). source_tokens (record { most = most; break = g.break }) InStr o l 0 g.text) (front-none most room)
+
+-- the rest of a string behind a part of it that has an LF, or behind which the text ends
+resumed_string : (part : List ℕ) (l : ℕ) (ts : List SourceToken) (o : ℕ) → (0 < line_ends part) ⊎ (ts ≡ only_broken StringOpen o) → Resumes ts
+    → string_in_front (onto_tokens part l ts) ≡ no_argument
+unfolding onto_tokens with_part line_with string_in_front
+resumed_string part l ts o (inl some) (Copies k bytes line more (inl str) is) =
+    ap (λ (us : List SourceToken). string_in_front (onto_tokens part l us)) is
+    ∙ ap (λ (m : Kind). string_in_front (record { sort = Ordinary m; bytes = part ++ bytes; line = l } ∷ more)) str
+    ∙ long_string (part ++ bytes) l more (omega (arith, line_ends-append part bytes))
+resumed_string part l ts o (inl some) (Copies k bytes line more (inr block) is) =
+    ap (λ (us : List SourceToken). string_in_front (onto_tokens part l us)) is
+    ∙ ap (λ (m : Kind). string_in_front (record { sort = Ordinary m; bytes = part ++ bytes; line = l } ∷ more)) block
+resumed_string part l ts o (inr ended) (Copies k bytes line more open_ is) =
+    ap (λ (us : List SourceToken). string_in_front (onto_tokens part l us)) ended
+resumed_string part l ts o h (Breaks k bytes line is) =
+    ap (λ (us : List SourceToken). string_in_front (onto_tokens part l us)) is
+
+module _ (most l room : ℕ) (rest : List ℕ) where
+  -- the tokens of what is held and behind it, on the line of the directive
+  abbrev tokens_behind : List ℕ → List SourceToken
+  tokens_behind z = remaining_tokens most Plain l l z room rest
+
+  -- a string that closes, but not on its line
+  closed_long : (z : List ℕ) → EndsLine z rest → 0 < length z → (token_of Plain z).kind ≡ Str → (token_of Plain z).next_mode ≡ Plain
+      → ((n : ℕ) → ClosesString z n → ⊥) → string_in_front (tokens_behind z) ≡ no_argument
+  unfolding is_kept_kind
+  closed_long z ends some is closed none =
+      let t = token_of Plain z in
+      let w = take t.len z in
+      let P : Option ℕ → Type 0 = λ o. ended_line_len w ≡ o → 0 < line_ends w in
+      let at_none : P None = λ e. absurd (none t.len (record { some = some; kind = is; closed = closed; whole = refl; line = e })) in
+      let at_some : (n : ℕ) → P (Some n) = λ n e. ended_some w n e in
+      let has : 0 < line_ends w = elim (ended_line_len w) as P [ None ↦ at_none | Some n ↦ at_some n ] refl in
+      let behind = remaining_tokens most Plain l (l + line_ends w) (drop t.len z) room rest in
+      ap string_in_front (remaining-closed most Plain l l z room rest some ends (ap is_kept_kind is) closed)
+      ∙ ap (λ (k : Kind). string_in_front (record { sort = Ordinary k; bytes = w; line = l } ∷ behind)) is
+      ∙ long_string w l behind has
+
+  -- a string that doesn't close on its line, by what is held of it
+  string_by_seam : (z : List ℕ) (v : Token) → Seam z [] (token_of Plain z) v → EndsLine z rest → 0 < length z → (token_of Plain z).kind ≡ Str
+      → ((n : ℕ) → ClosesString z n → ⊥) → string_in_front (tokens_behind z) ≡ no_argument
+  unfolding string_in_front opening
+  string_by_seam z v (Closed e closed) ends some is none = closed_long z ends some is closed none
+  string_by_seam z v (BeforePerl e at lt perl) ends some is none =
+      ap string_in_front (remaining-cut_string most Plain l l z room rest some ends is (ap (λ (t : Token). t.next_mode) at) lt)
+  string_by_seam z v (OpenString at e) ends some is none =
+      let ts = remaining_tokens most InStr l (l + line_ends z) [] room rest in
+      let ended : (0 < line_ends z) ⊎ (ts ≡ only_broken StringOpen l) =
+      ⊎_elim (λ whole. inl (whole-line_ends z some whole))
+      (λ gone. inr (ap (λ (r : List ℕ). remaining_tokens most InStr l (l + line_ends z) [] room r) gone ∙ open_at_end most l (l + line_ends z) room)) ends in
+      ap string_in_front (remaining-open_string most Plain l l z room rest some ends (ap (λ (t : Token). t.next_mode) at) (ap (λ (t : Token). t.len) at))
+      ∙ resumed_string z l ts l ended (remaining-in_string most l (l + line_ends z) [] room rest)
+  string_by_seam z v (OpenComment at e) ends some is none = absurd (let block = ap (λ (t : Token). t.kind) at in cc)
+
+  -- no string in front that closes on its line
+  no_string : (z : List ℕ) → EndsLine z rest → (z ≡ [] → rest ≡ []) → ((n : ℕ) → ClosesString z n → ⊥) → string_in_front (tokens_behind z) ≡ no_argument
+  unfolding string_in_front
+  no_string [] ends gone none = ap string_in_front (nothing_tokens most l room rest (gone refl))
+  no_string (b ∷ w) ends gone none =
+      let z = b ∷ w in
+      let some : 0 < length z = omega arith in
+      let f : FirstToken (token_of Plain z).kind (tokens_behind z) = remaining-first most l l z room rest some ends in
+      ⊎_elim (λ is. string_by_seam z (token_of Plain (z ++ [])) (token_of-seam Plain z [] some (inl refl)) ends some is none)
+      (λ other. ap string_in_front f.is ∙ no_string_by f.first.sort f.first.bytes f.first.line f.more (token_of Plain z).kind f.kind other)
+      (kind_case (token_of Plain z).kind)
+
+  -- so it is where none closes
+  lacks_string : (z : List ℕ) → EndsLine z rest → (z ≡ [] → rest ≡ []) → IsClosedString z 0 → string_in_front (tokens_behind z) ≡ no_argument
+  lacks_string z ends gone (Closes c) = absurd (omega (arith, c.whole, (token_of-part Plain z c.some).not_empty))
+  lacks_string z ends gone (Opens none zero_is) = no_string z ends gone none
+
+  -- no blanks in front
+  lacks_blank : (z : List ℕ) → EndsLine z rest → (z ≡ [] → rest ≡ []) → (0 < length z → (token_of Plain z).kind ≡ Blank → ⊥) → past_blanks string_in_front (tokens_behind z) ≡ string_in_front (tokens_behind z)
+  unfolding string_in_front past_blanks
+  lacks_blank [] ends none other = let e = nothing_tokens most l room rest (none refl) in ap (past_blanks string_in_front) e ∙ sym (ap string_in_front e)
+  lacks_blank (b ∷ w) ends none other =
+      let f : FirstToken (token_of Plain (b ∷ w)).kind (tokens_behind (b ∷ w)) = remaining-first most l l (b ∷ w) room rest (omega arith) ends in
+      ap (past_blanks string_in_front) f.is ∙ no_blank_by f.first.sort f.first.bytes f.first.line f.more (token_of Plain (b ∷ w)).kind f.kind (other (omega arith)) ∙ sym (ap string_in_front f.is)
+
+  -- behind the word: no string
+  string_missing : (r : List ℕ) (bl : ℕ) → EndsLine r rest → (r ≡ [] → rest ≡ []) → (drop bl r ≡ [] → rest ≡ []) → IsLead Blank r bl → IsClosedString (drop bl r) 0
+      → argument_of Include (tokens_behind r) ≡ no_argument
+  unfolding argument_of past_blanks behind_blanks no_argument
+  string_missing r bl ends none gone (Leads some is len) closed =
+      ap (past_blanks string_in_front) (blank_lead most l room rest r bl ends some is len)
+      ∙ ap (behind_blanks (blank_token (take bl r) l)) (lacks_string (drop bl r) (EndsLine-drop bl r rest ends) gone closed)
+  string_missing r bl ends none gone (Lacks lacks zero_is) closed =
+      let at_zero : IsClosedString r 0 = subst (λ (m : ℕ). IsClosedString (drop m r) 0) zero_is closed in
+      lacks_blank r ends none lacks ∙ lacks_string r ends none at_zero
+
+module _ {R : Type 0} (rules : Rules) (unread : R → List ℕ) (ws : List Waiting) (os : List Progress) (f : File R) (s : State) where
+  -- an `include` without a string on its line is a fault
+  pub include_nameless_left : HoldsFront f.buffer → f.buffer.mode ≡ Plain → LacksString (held_of f.buffer) → source_left rules unread ws (Live os) f s ≡ leaves (fails (fault_at IncludeName f.buffer.line [] s)) s
+  unfolding no_argument
+  include_nameless_left holds mode lacks =
+      let b = f.buffer in
+      let held = held_of b in
+      let rest = rest_of unread b in
+      let n = length (word_of Include) in
+      let r = drop n held in
+      let ends = ends_line unread b holds.ends in
+      let bl = lacks.none.start in
+      let ts = remaining_tokens b.line_bytes Plain b.line b.line r b.bytes_left rest in
+      let line : b.line ≡ b.line + 0 = omega arith in
+      let used : ts ≡ tokens_left unread (used_buffer b n 0) =
+      ap (λ (m : ℕ). remaining_tokens b.line_bytes Plain b.line m r b.bytes_left rest) line ∙ tokens_used unread b n 0 b.line mode in
+      let all : tokens_left unread b ≡ word_token Include b.line ∷ ts =
+      word_tokens Include unread b include_word holds mode lacks.word ∙ ap (λ (us : List SourceToken). word_token Include b.line ∷ us) (sym used) in
+      let given : argument_of Include ts ≡ no_argument =
+      string_missing b.line_bytes b.line b.bytes_left rest r bl (EndsLine-drop n held rest ends)
+      (gone_word Include held rest holds.some ends lacks.word) (gone_blanks Include held rest holds.some ends lacks.word bl lacks.none.space)
+      lacks.none.space lacks.none.none in
+      refused_move rules unread ws f s Include ts (Live os) IncludeName [] all
+      (include_nameless rules os f.blanks (word_token Include b.line) ts s (word_directive Include b.line include_word) (ap (λ (a : Argument). a.given) given))

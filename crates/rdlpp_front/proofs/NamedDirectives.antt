@@ -1,4 +1,4 @@
--- A directive that wants a name in front of what remains: its token, the name that it is given, and what remains behind that.
+-- A directive that wants a name in front of what remains: its token, its name, what it does to what remains; and so an `undef`.
 use Rattle.std.proofs.Common.{◌≡◌, ◌⊎◌, ℕ, ◌+◌, ◌-◌, ◌<◌, Bool, true, false, List, [], ◌∷◌, ◌++◌, Some, length, take, drop, refl, sym, ap, ◌∙◌, subst, inl, inr, ⊎_elim, arith}
 use Rattle.std.specs.Prelude.{bytes_eq, codes}
 use Rattle.std.proofs.Math.Seq.{take-add}
@@ -15,26 +15,36 @@ use Rattle.rdlpp_scan.specs.SourceTokens.{Sort, SourceToken, Ordinary, Definitio
 use Rattle.rdlpp_scan.specs.Tokens.{token_of}
 use Rattle.rdlpp_scan.specs.TokenKinds.{is_ordinary}
 use Rattle.rdlpp_scan.proofs.FirstTokens.{FirstToken, blanks-line_ends, name-line_ends, plain_token-run, remaining-first, whole-line_ends}
-use Rattle.rdlpp_scan.proofs.RemainingLaws.{remaining-end}
-use Rattle.rdlpp_scan.proofs.RemainingSteps.{remaining-closed}
+use Rattle.rdlpp_scan.proofs.RemainingLaws.{remaining-end, remaining-closed}
 use Rattle.rdlpp_scan.proofs.SourceLaws.{line_ends-append}
 use Rattle.rdlpp_scan.proofs.TokenLens.{token_of-part}
 use Rattle.rdlpp_scan.proofs.TokenSteps.{is_kept_kind}
-use Rattle.rdlpp_scan.proofs.WholeLines.{EndsLine-drop}
-use Rattle.rdlpp_meaning.specs.State.{Rules, State}
+use Rattle.rdlpp_scan.proofs.LineLaws.{EndsLine-drop}
+use Rattle.rdlpp_meaning.specs.State.{Rules, State, fault_at}
 use Rattle.rdlpp_meaning.specs.Parts.{Argument, argument_of, behind_blanks, behind_directive, command_in_front, command_of, directive_named, directive_of, name_in_front, no_argument, only_blanks, past_blanks}
-use Rattle.rdlpp_meaning.specs.Resumed.{Place}
+use Rattle.rdlpp_meaning.specs.Resumed.{Place, behind, resumed, Live}
 use Rattle.rdlpp_meaning.specs.Opened.{Waiting, all_resumed}
 use Rattle.rdlpp_meaning.proofs.DirectiveWords.{has_own_token}
-use Rattle.rdlpp_meaning.proofs.Undefining.{blank_token, name_token, takes_name, takes_name_at_once, takes_name_behind_blanks, wants_name}
+use Rattle.rdlpp_meaning.proofs.Undefining.{blank_token, name_token, takes_name, takes_name_at_once, takes_name_behind_blanks, wants_name, macro_name_given, macro_name_missing, macro_name_reserved, resumed_bad_undef, resumed_undef}
 use Rattle.rdlpp_read.specs.Arguments.{IsLead, Leads, Lacks}
 use Rattle.rdlpp_read.specs.Buffer.{BufferView, held_of, rest_of, tokens_left}
 use Rattle.rdlpp_front.specs.Fronts.{HasName, IsDirective, LacksName, argument_name, word_of}
-use Rattle.rdlpp_front.specs.SourceLeft.{HoldsFront}
-use Rattle.rdlpp_front.proofs.DirectiveFacts.{word_len}
+use Rattle.rdlpp_front.specs.SourceLeft.{HoldsFront, source_left}
+use Rattle.rdlpp_front.proofs.Insides.{word_len}
 use Rattle.rdlpp_read.proofs.BufferTokens.{ends_line}
-use Rattle.rdlpp_front.proofs.SourceFacts.{tokens_used, used_buffer}
-use Rattle.rdlpp_front.proofs.UsageLeft.{back_tokens}
+use Rattle.rdlpp_front.proofs.SourcePassages.{tokens_used, used_buffer, all_resumed_refused}
+use Rattle.rdlpp_front.proofs.TextLeft.{back_tokens}
+use Rattle.rdlpp_meaning.specs.declared.fault.FaultKind.{FaultKind}
+use Rattle.rdlpp_meaning.specs.Outcome.{fails}
+use Rattle.rdlpp_meaning.specs.Meaning.{leaves, refusal, Faulty, Progress, macro_name}
+use Rattle.rdlpp_meaning.proofs.Includes.{all_resumed_move}
+use Rattle.rdlpp_read.specs.declared.files.File.{File}
+use Rattle.rdlpp_read.specs.Files.{consumed_file}
+use Rattle.rdlpp_scan.specs.Reserved.{is_reserved}
+use Rattle.rdlpp_table.specs.Table.{without}
+use Rattle.rdlpp_meaning.specs.declared.fault.FaultKind.TheVariants.{NameExpected, ReservedName}
+
+-- A directive that wants a name in front of what remains: its token, the name that it is given, and what remains behind that.
 
 -- the word of a directive as a token
 abbrev pub word_token : Directive → ℕ → SourceToken
@@ -357,3 +367,126 @@ unfolding command_of
 behind_name d unread b rules ws place first s start stop i =
     ap (λ (z : List ℕ). all_resumed rules ws place (only_blanks first z) (behind_directive d i.tokens) s) i.text
     ∙ ap (λ (ts : List SourceToken). all_resumed rules ws place (only_blanks first (take stop (held_of b))) ts s) i.behind
+
+-- A directive in front as a move: from what its token does to what remains of its source, to what it does to what remains of all.
+
+-- a directive that takes nothing but its word
+unfoldable pub stands_bare : Directive → Bool
+stands_bare Else = true
+stands_bare Endif = true
+stands_bare d = false
+
+-- such a directive takes nothing
+bare_takes : (d : Directive) (ts : List SourceToken) → stands_bare d ≡ true → argument_of d ts ≡ no_argument
+unfolding stands_bare argument_of
+bare_takes Else ts e = refl
+bare_takes Endif ts e = refl
+bare_takes d ts e = cc
+
+-- and is a token
+bare_word : (d : Directive) → stands_bare d ≡ true → has_own_token d ≡ false
+unfolding stands_bare has_own_token
+bare_word Else e = refl
+bare_word Endif e = refl
+bare_word d e = cc
+
+module _ {R : Type 0} (rules : Rules) (unread : R → List ℕ) (ws : List Waiting) (f : File R) (s : State) (d : Directive)
+    (holds : HoldsFront f.buffer) (mode : f.buffer.mode ≡ Plain) where
+  -- a directive that is given nothing
+  pub bare_move : IsDirective d (held_of f.buffer) → (i : NoNameInFront d unread f.buffer) (place new : Place) (t : State)
+      → resumed rules place f.blanks (word_token d f.buffer.line ∷ i.tokens) s ≡ behind rules new d f.blanks (word_token d f.buffer.line) i.tokens t
+      → source_left rules unread ws place f s ≡ source_left rules unread ws new (consumed_file (length (word_of d)) 0 f) t
+  unfolding source_left command_of no_argument
+  bare_move is i place new t e =
+      let tok = word_token d f.buffer.line in
+      let c = command_in_front d f.blanks tok i.tokens in
+      let held = held_of f.buffer in
+      let text : word_of d ++ (argument_of d i.tokens).text ≡ take (length (word_of d)) held =
+      ap (λ (a : Argument). word_of d ++ a.text) i.none ∙ append-nil (word_of d)
+      ∙ sym (word_at d held (rest_of unread f.buffer) holds.some (ends_line unread f.buffer holds.ends) is) in
+      let rest : behind_directive d i.tokens ≡ i.tokens = ap (λ (a : Argument). drop a.used i.tokens) i.none in
+      ap (λ (ts : List SourceToken). all_resumed rules ws place f.blanks ts s) i.all
+      ∙ all_resumed_move rules ws place new f.blanks (only_blanks f.blanks c.text) (tok ∷ i.tokens) (behind_directive d i.tokens) s t e
+      ∙ ap (λ (z : List ℕ). all_resumed rules ws new (only_blanks f.blanks z) (behind_directive d i.tokens) t) text
+      ∙ ap (λ (ts : List SourceToken). all_resumed rules ws new (only_blanks f.blanks (take (length (word_of d)) held)) ts t) (rest ∙ i.behind)
+
+  -- a directive that takes nothing but its word in front
+  pub bare_in_front : stands_bare d ≡ true → IsDirective d (held_of f.buffer) → NoNameInFront d unread f.buffer
+  bare_in_front bare is = record {
+    tokens = tokens_left unread (consumed_file (length (word_of d)) 0 f).buffer;
+    all = word_tokens d unread f.buffer (bare_word d bare) holds mode is;
+    none = bare_takes d (tokens_left unread (consumed_file (length (word_of d)) 0 f).buffer) bare;
+    behind = refl;
+  }
+
+module _ {R : Type 0} (rules : Rules) (unread : R → List ℕ) (ws : List Waiting) (f : File R) (s : State) (d : Directive) where
+  -- a directive that is refused
+  pub refused_move : (tokens : List SourceToken) (place : Place) (kind : FaultKind) (word : List ℕ)
+      → tokens_left unread f.buffer ≡ word_token d f.buffer.line ∷ tokens
+      → resumed rules place f.blanks (word_token d f.buffer.line ∷ tokens) s ≡ refusal kind word (command_in_front d f.blanks (word_token d f.buffer.line) tokens) s
+      → source_left rules unread ws place f s ≡ leaves (fails (fault_at kind f.buffer.line word s)) s
+  unfolding source_left command_of
+  refused_move tokens place kind word all e =
+      ap (λ (ts : List SourceToken). all_resumed rules ws place f.blanks ts s) all
+      ∙ all_resumed_refused rules ws place f.blanks (word_token d f.buffer.line ∷ tokens) s kind word (command_in_front d f.blanks (word_token d f.buffer.line) tokens) e
+
+  -- a directive that is given something and that changes the place or the state
+  pub named_move : (start stop : ℕ) (i : NameInFront d unread f.buffer start stop) (place new : Place) (t : State)
+      → resumed rules place f.blanks (word_token d f.buffer.line ∷ i.tokens) s ≡ behind rules new d f.blanks (word_token d f.buffer.line) i.tokens t
+      → source_left rules unread ws place f s ≡ source_left rules unread ws new (consumed_file stop 0 f) t
+  unfolding source_left
+  named_move start stop i place new t e =
+      let tok = word_token d f.buffer.line in
+      let c = command_in_front d f.blanks tok i.tokens in
+      ap (λ (ts : List SourceToken). all_resumed rules ws place f.blanks ts s) i.all
+      ∙ all_resumed_move rules ws place new f.blanks (only_blanks f.blanks c.text) (tok ∷ i.tokens) (behind_directive d i.tokens) s t e
+      ∙ behind_name d unread f.buffer rules ws new f.blanks t start stop i
+
+-- What an `undef` in front does to what remains.
+
+-- an `undef` wants a name
+undef_wants : wants_name Undef ≡ true
+unfolding wants_name
+undef_wants = refl
+
+module _ {R : Type 0} (rules : Rules) (unread : R → List ℕ) (ws : List Waiting) (os : List Progress) (f : File R) (s : State) where
+  -- an `undef` of a name takes out its macro
+  pub undef_left : (start stop : ℕ) → HoldsFront f.buffer → f.buffer.mode ≡ Plain → HasName Undef (held_of f.buffer) start stop
+      → is_reserved (argument_name (held_of f.buffer) start stop) ≡ false
+      → source_left rules unread ws (Live os) f s
+      ≡ source_left rules unread ws (Live os) (consumed_file stop 0 f) (record s { macros = without (argument_name (held_of f.buffer) start stop) s.macros })
+  undef_left start stop holds mode has free =
+      let name = argument_name (held_of f.buffer) start stop in
+      let i = name_in_front_of Undef unread f.buffer undef_wants holds mode start stop has in
+      let t = word_token Undef f.buffer.line in
+      let after = record s { macros = without name s.macros } in
+      named_move rules unread ws f s Undef start stop i (Live os) (Live os) after
+      (resumed_undef rules os f.blanks t i.tokens s name (word_directive Undef f.buffer.line (wants_word Undef undef_wants)) (macro_name_given Undef f.blanks t i.tokens name i.given free))
+
+  -- an `undef` whose name is refused, by its tokens
+  refused_tokens : (tokens : List SourceToken) (kind : FaultKind) (word : List ℕ)
+      → tokens_left unread f.buffer ≡ word_token Undef f.buffer.line ∷ tokens
+      → macro_name (command_in_front Undef f.blanks (word_token Undef f.buffer.line) tokens) ≡ Faulty kind word
+      → source_left rules unread ws (Live os) f s ≡ leaves (fails (fault_at kind f.buffer.line word s)) s
+  refused_tokens tokens kind word all e =
+      refused_move rules unread ws f s Undef tokens (Live os) kind word all
+      (resumed_bad_undef rules os f.blanks (word_token Undef f.buffer.line) tokens s kind word (word_directive Undef f.buffer.line (wants_word Undef undef_wants)) e)
+
+  -- an `undef` of a reserved name is a fault
+  pub undef_reserved_left : (start stop : ℕ) → HoldsFront f.buffer → f.buffer.mode ≡ Plain → HasName Undef (held_of f.buffer) start stop
+      → is_reserved (argument_name (held_of f.buffer) start stop) ≡ true
+      → source_left rules unread ws (Live os) f s
+      ≡ leaves (fails (fault_at ReservedName f.buffer.line (argument_name (held_of f.buffer) start stop) s)) s
+  undef_reserved_left start stop holds mode has taken =
+      let name = argument_name (held_of f.buffer) start stop in
+      let i = name_in_front_of Undef unread f.buffer undef_wants holds mode start stop has in
+      refused_tokens i.tokens ReservedName name i.all (macro_name_reserved Undef f.blanks (word_token Undef f.buffer.line) i.tokens name i.given taken)
+
+  -- and so is one without a name
+  pub undef_nameless_left : HoldsFront f.buffer → f.buffer.mode ≡ Plain → LacksName Undef (held_of f.buffer)
+      → source_left rules unread ws (Live os) f s ≡ leaves (fails (fault_at NameExpected f.buffer.line [] s)) s
+  unfolding no_argument
+  undef_nameless_left holds mode lacks =
+      let i = no_name_in_front_of Undef unread f.buffer undef_wants holds mode lacks in
+      refused_tokens i.tokens NameExpected [] i.all
+      (macro_name_missing Undef f.blanks (word_token Undef f.buffer.line) i.tokens (ap (λ (a : Argument). a.given) i.none))

@@ -13,7 +13,7 @@ use Rattle.rdlpp_scan.specs.Front.{DefineLong, DefineCut}
 use Rattle.rdlpp_scan.specs.SourceTokens.{Sort, Ordinary, Definition, Renumbering, Broken, SourceToken, Course, source_tokens}
 use Rattle.rdlpp_scan.specs.TokenKinds.{is_ordinary}
 use Rattle.rdlpp_scan.specs.Tokens.{tokens_from}
-use Rattle.rdlpp_scan.proofs.CommentLaws.{without-tokens, without-texts}
+use Rattle.rdlpp_scan.proofs.CleanTexts.{without-tokens, without-texts}
 use Rattle.rdlpp_meaning.specs.State.{breach_kind}
 use Rattle.rdlpp_meaning.specs.Actuals.{Role, Start, Up, End, Down, Ends, Stops, kind_role, broken_role, token_role}
 use Rattle.rdlpp_meaning.specs.CallScan.{source_role, is_kept, is_call_text, IsClosed}

@@ -12,8 +12,7 @@ use Rattle.rdlpp_scan.specs.Front.{Breach, PerlFound, StringOpen, CommentOpen, B
 use Rattle.rdlpp_scan.specs.SourceTokens.{SourceToken, Course, Step, Last, Next, Ordinary, Broken, broken, comment_step, line_ends, open_end, remaining_tokens, source_end, source_step, source_tokens, string_step}
 use Rattle.rdlpp_scan.proofs.StopKinds.{string_token-kind, block_token-kind}
 use Rattle.rdlpp_scan.proofs.TokenSteps.{string_rest, comment_rest, end_of}
-use Rattle.rdlpp_scan.proofs.ResumedTokens.{after_step, tokens_step, step-end_of}
-use Rattle.rdlpp_scan.proofs.RemainingLaws.{course}
+use Rattle.rdlpp_scan.proofs.RemainingLaws.{after_step, tokens_step, step-end_of, course}
 use Rattle.rdlpp_meaning.specs.CallReading.{is_part_breach}
 
 -- tokens that begin with the rest of a token of a kind, whole, or broken and the last

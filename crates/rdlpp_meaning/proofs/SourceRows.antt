@@ -9,7 +9,7 @@ use Rattle.rdlpp_scan.specs.Front.{Breach, StringOpen, CommentOpen, Break}
 use Rattle.rdlpp_scan.specs.SourceTokens.{Sort, Ordinary, Broken, SourceToken, Course, Step, Last, Next, broken, line_ends, line_after, open_end, source_end, source_step, source_tokens}
 use Rattle.rdlpp_scan.specs.TokenKinds.{is_ordinary}
 use Rattle.rdlpp_scan.specs.Tokens.{token_of}
-use Rattle.rdlpp_scan.proofs.OrdinaryTokens.{IsTokenOf, Gives, source_step_gives}
+use Rattle.rdlpp_scan.proofs.OrdinaryLaws.{IsTokenOf, Gives, source_step_gives}
 use Rattle.rdlpp_scan.proofs.SourceLaws.{source_tokens-next, source_tokens-last}
 use Rattle.rdlpp_scan.proofs.TokenLens.{token_of-part}
 use Rattle.rdlpp_meaning.specs.Expansion.{bytes_of}

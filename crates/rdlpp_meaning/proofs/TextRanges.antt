@@ -12,10 +12,9 @@ use Rattle.rdlpp_scan.specs.TokenKinds.{opens_mode, is_one_byte}
 use Rattle.rdlpp_scan.specs.Pieces.{mode_behind, tokens_len}
 use Rattle.rdlpp_scan.specs.SourceTokens.{Ordinary, SourceToken}
 use Rattle.rdlpp_scan.specs.Tokens.{token_of, tokens_from}
-use Rattle.rdlpp_scan.proofs.ClosedKinds.{closed_kind_plain, one_byte_len}
+use Rattle.rdlpp_scan.proofs.StopKinds.{closed_kind_plain, one_byte_len}
 use Rattle.rdlpp_scan.proofs.RangeLaws.{tokens_from-first, tokens_from-front, tokens_from-behind_some}
-use Rattle.rdlpp_scan.proofs.TokenLens.{token_of-part}
-use Rattle.rdlpp_scan.proofs.TokenLists.{tokens_from-step}
+use Rattle.rdlpp_scan.proofs.TokenLens.{token_of-part, tokens_from-step}
 use Rattle.rdlpp_meaning.specs.Actuals.{Role, Remark, Start, Up, End, Down, Cut, Text, kind_role, token_role}
 use Rattle.rdlpp_meaning.specs.Expansion.{bytes_of}
 use Rattle.rdlpp_meaning.specs.Substitution.{spelled, body_tokens}

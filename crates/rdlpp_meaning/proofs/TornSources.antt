@@ -16,13 +16,12 @@ use Rattle.rdlpp_scan.specs.Ordinary.{is_plain_kind}
 use Rattle.rdlpp_scan.specs.Front.{Breach, PerlFound, StringOpen, CommentOpen, LineLong, SourceLong, Break, Front, onto_first, lines_of, onto_front, front_of_lines, front}
 use Rattle.rdlpp_scan.specs.Lines.{whole_lines_len, onto_whole_lines, IsWholeLines}
 use Rattle.rdlpp_scan.specs.SourceTokens.{Broken, SourceToken, Course, Step, Last, Next, line_ends, line_after, broken, open_end, string_step, comment_step, step_by, source_step, source_end, source_tokens, remaining_tokens, whole_tokens}
-use Rattle.rdlpp_scan.proofs.WholeLines.{IsWholeLines-drop, IsWholeLines-append}
+use Rattle.rdlpp_scan.proofs.LineLaws.{IsWholeLines-drop, IsWholeLines-append}
 use Rattle.rdlpp_scan.proofs.SourceLaws.{source_tokens-last}
-use Rattle.rdlpp_scan.proofs.StepLaws.{next_held}
+use Rattle.rdlpp_scan.proofs.TokenSteps.{next_held}
 use Rattle.rdlpp_scan.proofs.TokenLens.{token_of-part}
 use Rattle.rdlpp_scan.proofs.StopKinds.{Row, AtPerl, AtLineComment, AtBlockComment, AtString, AtBack, AtBare, AtPlain, token_of-row, string_token-kind, block_token-kind}
-use Rattle.rdlpp_scan.proofs.Seams.{Seam, Closed, BeforePerl, OpenString, OpenComment, longer, token_of-seam}
-use Rattle.rdlpp_scan.proofs.Locality.{IsCut-from_line}
+use Rattle.rdlpp_scan.proofs.Seams.{Seam, Closed, BeforePerl, OpenString, OpenComment, longer, token_of-seam, IsCut-from_line}
 use Rattle.rdlpp_meaning.specs.State.{breach_kind}
 use Rattle.rdlpp_meaning.specs.Actuals.{token_role, broken_role}
 use Rattle.rdlpp_meaning.specs.LimitLaws.{is_limit}

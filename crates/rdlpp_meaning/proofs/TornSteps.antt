@@ -13,9 +13,7 @@ use Rattle.rdlpp_scan.specs.Tokens.{first_place, string_stop, whole, string_toke
 use Rattle.rdlpp_scan.specs.Front.{PerlFound, Break}
 use Rattle.rdlpp_scan.specs.Lines.{IsWholeLines, EndsLine}
 use Rattle.rdlpp_scan.specs.SourceTokens.{Ordinary, Renumbering, Broken, Step, Next, line_len, broken, string_step, comment_step, define_step, line_step, back_step, step_by}
-use Rattle.rdlpp_scan.proofs.WholeLines.{IsWholeLines-rest, IsWholeLines-one}
-use Rattle.rdlpp_scan.proofs.LineLaws.{line_len-append, line_len-some}
-use Rattle.rdlpp_scan.proofs.LogicalLines.{line_len-le}
+use Rattle.rdlpp_scan.proofs.LineLaws.{IsWholeLines-rest, IsWholeLines-one, line_len-append, line_len-some, line_len-le}
 use Rattle.rdlpp_scan.proofs.Seams.{line_end-ten}
 use Rattle.rdlpp_meaning.proofs.TornPieces.{ends_line}
 use Rattle.rdlpp_meaning.proofs.TornDefines.{StepTorn, Goes, Stays, Ends, define-torn, ends-line}

@@ -7,8 +7,8 @@ use Rattle.rdlpp_scan.specs.Front.{front, Break}
 use Rattle.rdlpp_scan.specs.SourceTokens.{remaining_tokens, source_tokens, source_end, open_end, broken, line_ends, line_len}
 use Rattle.std.proofs.Math.Seq.{drop-nil}
 use Rattle.rdlpp_scan.specs.Lines.{EndsLine, IsWholeLines, whole_lines_len}
-use Rattle.rdlpp_scan.proofs.WholeLines.{IsWholeLines-drop}
-use Rattle.rdlpp_scan.proofs.FrontLaws.{front-none, front-line_long, front-source_long}
+use Rattle.rdlpp_scan.proofs.LineLaws.{IsWholeLines-drop}
+use Rattle.rdlpp_scan.proofs.SourceLaws.{front-none, front-line_long, front-source_long}
 use Rattle.rdlpp_scan.proofs.RemainingLaws.{remaining-accept}
 use Rattle.rdlpp_read.specs.Buffer.{BufferView, EndsHeld, ahead_of, held_of, rest_of, text_left, tokens_left, unread_of, unused_of}
 use Rattle.rdlpp_read.specs.Filling.{Fills, Grows, GrowsBy, HasBytes, IsExact, Lengthens, Stays, TellsTokens, ended_tokens, only_broken}
@@ -176,7 +176,7 @@ compacts-by tells unread LineLong old mid new c by =
     let held : length (held_of mid) ≡ length (held_of old) = ap length c.held in
     let most = c.line_bytes in
     (stays-from old mid new c by.0, λ t. (let h = by.1 t in omega arith), λ t. (let h = by.2 t in omega arith))
-compacts-by tells unread Failed old mid new c by = (stays-from old mid new c by.0, λ t. by.1 t ∙ compacts-rest unread old mid c)
+compacts-by tells unread Failed old mid new c by = (stays-from old mid new c by.0, λ t. by.1 t ∙ compacts-rest unread old mid c, by.2)
 
 -- the same with all that goes with it
 pub compacts-grows : {R : Type 0} (tells : Type 0) (unread : R → List ℕ) (fill : Fill) (old mid new : BufferView R) → Compacts old mid → Grows tells unread fill mid new → Grows tells unread fill old new
@@ -186,7 +186,11 @@ compacts-grows tells unread fill old mid new c g = record {
   mode = g.mode ∙ c.mode;
   open_token_line = g.open_token_line ∙ c.open_token_line;
   unused = g.unused ∙ c.unused;
-  slides = slides-on (IsExact fill × tells) tells (IsExact fill × tells) unread old mid new (λ x. x.1) (λ x. x) (slides-compact tells unread old mid c.dropped c.window c.used c.reader) g.slides;
+  slides = slides-on tells tells tells (IsExact fill) (IsExact fill) unread old mid new (λ t. t) (λ t. t) (λ e. e) (slides-compact tells Unit unread old mid c.dropped c.window c.used c.reader) g.slides;
+  waits = elim g.waits [
+    | inl same ↦ inl (let window = ap length c.window in let used = c.used in omega (arith, length-append c.dropped mid.window))
+    | inr none ↦ inr (ap whole_lines_len (sym c.ahead) ∙ none)
+  ];
   by = compacts-by tells unread fill old mid new c g.by;
 }
 
@@ -208,6 +212,14 @@ grows-ended tells unread SourceLong old new none by is = cc
 grows-ended tells unread LineLong old new none by is = cc
 grows-ended tells unread Failed old new none by is = cc
 
+-- where a read failed, no whole line is ahead
+grows-short : {R : Type 0} (tells : Type 0) (unread : R → List ℕ) (fill : Fill) (old new : BufferView R) → GrowsBy tells unread fill old new → fill ≡ Failed → whole_lines_len (ahead_of new) ≡ 0
+grows-short tells unread Held old new by is = cc is
+grows-short tells unread End old new by is = cc is
+grows-short tells unread SourceLong old new by is = cc is
+grows-short tells unread LineLong old new by is = cc is
+grows-short tells unread Failed old new by is = by.2
+
 -- what a source has before its next byte, by what stood there
 pub grows-fills : {R : Type 0} (tells : Type 0) (unread : R → List ℕ) (fill : Fill) (old new : BufferView R) → held_of old ≡ [] → Grows tells unread fill old new → Fills tells unread fill old new
 grows-fills tells unread fill old new none g = record {
@@ -218,6 +230,8 @@ grows-fills tells unread fill old new none g = record {
   bytes = grows-bytes tells unread fill old new none g.by;
   unused = g.unused;
   slides = g.slides;
+  waits = g.waits;
+  short = grows-short tells unread fill old new g.by;
   text = grows-text tells unread fill old new g.by;
   ended = grows-ended tells unread fill old new none g.by;
   tokens = grows-tokens tells unread fill old new none g;
@@ -233,7 +247,9 @@ held-fills tells unread f some inside = record {
   open_token_line = refl;
   bytes = omega (arith, length-drop f.at (take f.accepted f.window), length-take-le f.accepted f.window inside);
   unused = refl;
-  slides = slides-same (IsExact Held × tells) unread f;
+  slides = slides-same tells (IsExact Held) unread f;
+  waits = inl refl;
+  short = λ is. cc is;
   text = λ other t. refl;
   ended = λ is. cc;
   tokens = λ t. refl;

@@ -8,10 +8,8 @@ use Rattle.rdlpp_scan.specs.Defines.{HoldsDefine}
 use Rattle.rdlpp_scan.specs.Front.{DefineCut, DefineLong}
 use Rattle.rdlpp_scan.specs.SourceTokens.{Definition, line_ends, logical_len, remaining_tokens}
 use Rattle.rdlpp_scan.specs.Lines.{IsWholeLines, whole_lines_len}
-use Rattle.rdlpp_scan.proofs.ContinuedLines.{HoldsDefine-more, logical_len-behind_lines}
-use Rattle.rdlpp_scan.proofs.DefineSteps.{logical_len-within}
-use Rattle.rdlpp_scan.proofs.RemainingLaws.{remaining-end, remaining-opened}
-use Rattle.rdlpp_scan.proofs.RemainingSteps.{remaining-logical, remaining-logical_full, remaining-logical_last, remaining-logical_source}
+use Rattle.rdlpp_scan.proofs.DefineSteps.{HoldsDefine-more, logical_len-behind_lines, logical_len-within}
+use Rattle.rdlpp_scan.proofs.RemainingLaws.{remaining-end, remaining-opened, remaining-logical, remaining-logical_full, remaining-logical_last, remaining-logical_source}
 use Rattle.rdlpp_source.specs.declared.sources.Sources.{Ghosts}
 use Rattle.rdlpp_read.specs.Calls.{SourcesRead}
 use Rattle.rdlpp_read.specs.Buffer.{BufferView, EndsHeld, IsBuffer, Slides, ahead_of, consumed, held_of, rest_of, tokens_left}
@@ -30,7 +28,7 @@ pub continues-starts : {S R : Type 0} (g : Ghosts S R) (sources : S) (f : Buffer
 unfolding whole_lines_len logical_len
 continues-starts g sources f ends = record {
   extends = record { line = refl; line_bytes = refl; mode = refl; open_token_line = refl; unused = refl; more = []; held = sym (append-nil (held_of f)) };
-  slides = slides-same (g.tells sources) g.unread f;
+  slides = slides-same (g.tells sources) Unit g.unread f;
   tokens = λ t. refl;
   text = λ t. refl;
   define = λ t h. h;
@@ -96,9 +94,9 @@ held-short f sound = let within = sound.within in omega (arith, held-le f)
 
 -- the window moved on, and then once more behind the last reading
 slides-behind : {S R : Type 0} (g : Ghosts S R) (first now : S) (fill : Fill) (answer : LogicalLine) (old mid new : BufferView R) (seen : ℕ) → Continues g first now old mid seen →
-    (IsExactLine answer → IsExact fill) → Grows (g.tells now) g.unread fill mid new → Slides (IsExactLine answer × g.tells first) g.unread old new
+    (IsExactLine answer → IsExact fill) → Grows (g.tells now) g.unread fill mid new → Slides (g.tells first) (IsExactLine answer) g.unread old new
 slides-behind g first now fill answer old mid new seen c exact grows =
-    slides-on (IsExactLine answer × g.tells first) (g.tells first) (IsExact fill × g.tells now) g.unread old mid new (λ x. x.1) (λ x. (exact x.0, c.call.tells x.1)) c.slides grows.slides
+    slides-on (g.tells first) (g.tells first) (g.tells now) (IsExactLine answer) (IsExact fill) g.unread old mid new (λ t. t) c.call.tells exact c.slides grows.slides
 
 -- the logical line was found
 pub found-line : {S R : Type 0} (g : Ghosts S R) (first now : S) (old mid : BufferView R) (seen len : ℕ) → Continues g first now old mid seen → IsBuffer mid →
@@ -110,7 +108,7 @@ found-line g first now old mid seen len c sound some =
     record {
       extends = c.extends;
       has = (within.1, inl found, c.tokens);
-      slides = slides-on (IsExactLine (Whole (seen + len)) × g.tells first) (g.tells first) (g.tells first) g.unread old mid mid (λ x. x.1) (λ x. x.1) c.slides (slides-same (g.tells first) g.unread mid);
+      slides = slides-on (g.tells first) (g.tells first) (g.tells first) (IsExactLine (Whole (seen + len))) Unit g.unread old mid mid (λ t. t) (λ t. t) (λ e. tt) c.slides (slides-same (g.tells first) Unit g.unread mid);
       text = λ other t. c.text t;
       define = λ t plain holds. sym (c.tokens t)
           ∙ (define-whole g.unread mid (seen + len) (c.extends.mode ∙ plain) (c.define t holds) found (held-short mid sound)
@@ -216,7 +214,7 @@ continues-on g first now after old mid new seen len c none all ends grows call =
         more = e.more ++ l.lines;
         held = l.held ∙ (ap (λ h. h ++ l.lines) e.held ∙ append_assoc (held_of old) e.more l.lines);
       };
-      slides = slides-on (g.tells first) (g.tells first) (IsExact Held × g.tells now) g.unread old mid new (λ t. t) (λ t. ((λ e. cc), c.call.tells t)) c.slides grows.slides;
+      slides = slides-on (g.tells first) (g.tells first) (g.tells now) Unit (IsExact Held) g.unread old mid new (λ t. t) c.call.tells (λ _ e. cc) c.slides grows.slides;
       tokens = λ t. lengthens-tokens (g.tells now) g.unread mid new grows.line grows.line_bytes grows.mode grows.open_token_line l (c.call.tells t) ∙ c.tokens t;
       text = λ t. grows-text (g.tells now) g.unread Held mid new grows.by (λ e. cc) (c.call.tells t) ∙ c.text t;
       define = λ t holds.

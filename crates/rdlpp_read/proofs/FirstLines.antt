@@ -6,7 +6,7 @@ use Rattle.std.proofs.Math.Seq.{take-append_seam, take-length}
 use Rattle.rdlpp_scan.specs.Bytes.{is_line_end}
 use Rattle.rdlpp_scan.specs.SourceTokens.{line_len}
 use Rattle.rdlpp_scan.specs.Lines.{whole_lines_len, onto_whole_lines}
-use Rattle.rdlpp_scan.proofs.LogicalLines.{line_len-le}
+use Rattle.rdlpp_scan.proofs.LineLaws.{line_len-le}
 use Rattle.rdlpp_read.specs.Ahead.{IsPast}
 
 -- whole lines behind a byte that is no line end

@@ -5,12 +5,12 @@ use Rattle.std.proofs.Math.Seq.{take-add, take-append_seam}
 use Rattle.std.specs.Option.{IsSome, is_none}
 use Rattle.rdlpp_scan.specs.SourceTokens.{line_len}
 use Rattle.rdlpp_scan.specs.Lines.{EndsLine, IsWholeLines, whole_lines_len}
-use Rattle.rdlpp_scan.proofs.WholeLines.{IsWholeLines-append}
+use Rattle.rdlpp_scan.proofs.LineLaws.{IsWholeLines-append}
 use Rattle.rdlpp_source.specs.declared.sources.Sources.{Ghosts}
 use Rattle.rdlpp_read.specs.Ahead.{IsPast}
 use Rattle.rdlpp_read.specs.Calls.{SourcesRead}
 use Rattle.rdlpp_read.specs.Buffer.{BufferView, EndsHeld, IsBuffer, Slides, ahead_of, held_of, unread_of, rest_of, unused_of}
-use Rattle.rdlpp_read.specs.Filling.{Accepts, Finds, Grows, GrowsBy, IsExact, Lengthens, ReadsOn, Seeks, Searches, Stays, Stops, turns_left}
+use Rattle.rdlpp_read.specs.Filling.{Accepts, Finds, Grows, GrowsBy, IsExact, Lengthens, ReadsOn, Seeks, Searches, Stays, Stops, WaitsForLines, turns_left}
 use Rattle.rdlpp_read.specs.declared.buffer.filling.Fill.{Fill}
 use Rattle.rdlpp_read.specs.declared.buffer.filling.Fill.TheVariants.{Held, End, SourceLong, LineLong, Failed}
 use Rattle.rdlpp_read.proofs.FirstLines.{line-longer}
@@ -20,7 +20,7 @@ use Rattle.rdlpp_read.proofs.Sliding.{slides-kept, slides-on, slides-same}
 pub search-starts : {S R : Type 0} (g : Ghosts S R) (sources : S) (f : BufferView R) → f.accepted ≤ length f.window → EndsHeld f → Searches g sources sources f f 0
 unfolding whole_lines_len
 search-starts g sources f inside ends = record {
-  seeks = record { at = refl; accepted = refl; inside = inside; bytes_left = refl; line = refl; line_bytes = refl; mode = refl; open_token_line = refl; held = refl; text = λ t. refl; slides = slides-same (g.tells sources) g.unread f };
+  seeks = record { at = refl; accepted = refl; inside = inside; bytes_left = refl; line = refl; line_bytes = refl; mode = refl; open_token_line = refl; held = refl; text = λ t. refl; slides = slides-same (g.tells sources) Unit g.unread f; waits = inl refl };
   place = omega arith;
   none = refl;
   ends = ends;
@@ -46,18 +46,33 @@ reads-text told unread mid new inside reads t =
     ap (λ u. ahead_of mid ++ u) (reads.text t) ∙ (sym (append_assoc (ahead_of mid) reads.gained more) ∙ ap (λ w. w ++ more) (sym (reads-ahead told unread mid new inside reads)))
 
 -- what a turn adds came behind the window
-reads-slides : {R : Type 0} (told : Type 0) (unread : R → List ℕ) (mid new : BufferView R) → ReadsOn told unread mid new → Slides told unread mid new
+reads-slides : {R : Type 0} (told : Type 0) (unread : R → List ℕ) (mid new : BufferView R) → ReadsOn told unread mid new → Slides told Unit unread mid new
 reads-slides told unread mid new reads = record {
   dropped = [];
   gained = reads.gained;
   window = sym (ap (λ f. f.window) reads.becomes);
   used = (let at = ap (λ f. f.at) reads.becomes in omega arith);
-  text = reads.text;
+  text = λ t. record { rest = unread_of unread new.reader; whole = reads.text t; same = λ e. refl };
 }
 
+-- where no whole line is ahead after the turns so far, none was before them
+none-before : {R : Type 0} (tells : Type 0) (unread : R → List ℕ) (old mid : BufferView R) → Seeks tells unread old mid → whole_lines_len (ahead_of mid) ≡ 0 → whole_lines_len (ahead_of old) ≡ 0
+unfolding ahead_of
+none-before tells unread old mid seeks none = elim seeks.waits [
+  | inl same ↦ ap (λ (w : List ℕ). whole_lines_len (drop old.accepted w)) (sym same) ∙ ap (λ n. whole_lines_len (drop n mid.window)) (sym seeks.accepted) ∙ none
+  | inr before ↦ before
+]
+
+-- bytes were read only where no whole line was ahead, if what came then leaves the window
+waits-on : {R : Type 0} (tells : Type 0) (unread : R → List ℕ) (old mid new : BufferView R) → Seeks tells unread old mid → new.window ≡ mid.window → new.at ≡ mid.at → WaitsForLines old new
+waits-on tells unread old mid new seeks window at = elim seeks.waits [
+  | inl same ↦ inl (let size = ap length (window ∙ same) in let place = at ∙ seeks.at in omega arith)
+  | inr none ↦ inr none
+]
+
 -- a turn that reads on keeps the text that remains
-seeks-on : {R : Type 0} (tells told : Type 0) (unread : R → List ℕ) (old mid new : BufferView R) → Seeks tells unread old mid → (tells → told) → ReadsOn told unread mid new → Seeks tells unread old new
-seeks-on tells told unread old mid new seeks tell reads =
+seeks-on : {R : Type 0} (tells told : Type 0) (unread : R → List ℕ) (old mid new : BufferView R) → Seeks tells unread old mid → whole_lines_len (ahead_of mid) ≡ 0 → (tells → told) → ReadsOn told unread mid new → Seeks tells unread old new
+seeks-on tells told unread old mid new seeks none tell reads =
     let window : new.window ≡ mid.window ++ reads.gained = ap (λ f. f.window) reads.becomes in
     let accepted : new.accepted ≡ mid.accepted = ap (λ f. f.accepted) reads.becomes in
     let size : length new.window ≡ length mid.window + length reads.gained = ap length window ∙ length-append mid.window reads.gained in
@@ -73,7 +88,8 @@ seeks-on tells told unread old mid new seeks tell reads =
       open_token_line = ap (λ f. f.open_token_line) reads.becomes ∙ seeks.open_token_line;
       held = reads-held told unread mid new inside reads ∙ seeks.held;
       text = λ t. seeks.text t ∙ reads-text told unread mid new inside reads (tell t);
-      slides = slides-on tells tells told unread old mid new (λ t. t) tell seeks.slides (reads-slides told unread mid new reads);
+      slides = slides-on tells tells told Unit Unit unread old mid new (λ t. t) tell (λ e. tt) seeks.slides (reads-slides told unread mid new reads);
+      waits = inr (none-before tells unread old mid seeks none);
     }
 
 -- two calls that read without a fault are one
@@ -108,7 +124,7 @@ search-goes-on g first before after old mid new seen len searches none some read
     let size : length (ahead_of new) ≡ length (ahead_of mid) + length reads.gained = ap length ahead ∙ length-append (ahead_of mid) reads.gained in
     let front_part : take len (ahead_of new) ≡ ahead_of mid = rw (whole, ahead) (take-append_seam (ahead_of mid) reads.gained) in
     record {
-      seeks = seeks-on (g.tells first) (g.tells before) g.unread old mid new searches.seeks searches.call.tells reads;
+      seeks = seeks-on (g.tells first) (g.tells before) g.unread old mid new searches.seeks none searches.call.tells reads;
       place = omega arith;
       none = ap whole_lines_len front_part ∙ none;
       ends = reads-ends (g.tells before) g.unread mid new inside some searches.ends reads;
@@ -299,20 +315,28 @@ finds-scalars SourceLong mid new f = same-scalars mid new f.0
 finds-scalars LineLong mid new f = absurd f
 finds-scalars Failed mid new f = absurd f
 
--- what is found leaves the window
-finds-slides : {R : Type 0} (tells : Type 0) (unread : R → List ℕ) (fill : Fill) (mid new : BufferView R) → Finds fill mid new → Slides tells unread mid new
+-- what is found leaves the window and the place in it
+finds-window : {R : Type 0} (fill : Fill) (mid new : BufferView R) → Finds fill mid new → (new.window ≡ mid.window) × (new.at ≡ mid.at)
+finds-window Held mid new f = (ap (λ f. f.window) f.becomes, ap (λ f. f.at) f.becomes)
+finds-window End mid new f = (ap (λ f. f.window) f.0, ap (λ f. f.at) f.0)
+finds-window SourceLong mid new f = (ap (λ f. f.window) f.0, ap (λ f. f.at) f.0)
+finds-window LineLong mid new f = absurd f
+finds-window Failed mid new f = absurd f
+
+-- so the window slid
+finds-slides : {R : Type 0} (tells : Type 0) (unread : R → List ℕ) (fill : Fill) (mid new : BufferView R) → Finds fill mid new → Slides tells (IsExact fill) unread mid new
 finds-slides tells unread Held mid new f =
-    slides-kept tells unread mid new (ap (λ f. f.window) f.becomes) (ap (λ f. f.at) f.becomes) (λ t. ap (unread_of unread) (sym (ap (λ f. f.reader) f.becomes)))
-finds-slides tells unread End mid new f = subst (Slides tells unread mid) (sym f.0) (slides-same tells unread mid)
-finds-slides tells unread SourceLong mid new f = subst (Slides tells unread mid) (sym f.0) (slides-same tells unread mid)
+    slides-kept tells (IsExact Held) unread mid new (ap (λ f. f.window) f.becomes) (ap (λ f. f.at) f.becomes) (λ e t. ap (unread_of unread) (sym (ap (λ f. f.reader) f.becomes)))
+finds-slides tells unread End mid new f = subst (Slides tells (IsExact End) unread mid) (sym f.0) (slides-same tells (IsExact End) unread mid)
+finds-slides tells unread SourceLong mid new f = subst (Slides tells (IsExact SourceLong) unread mid) (sym f.0) (slides-same tells (IsExact SourceLong) unread mid)
 finds-slides tells unread LineLong mid new f = absurd f
 finds-slides tells unread Failed mid new f = absurd f
 
 -- what stops a reading leaves the window, and a read that failed leaves what is unread
-stops-slides : {R : Type 0} (told : Type 0) (unread : R → List ℕ) (fill : Fill) (mid new : BufferView R) → Stops told unread fill mid new → Slides (IsExact fill × told) unread mid new
+stops-slides : {R : Type 0} (told : Type 0) (unread : R → List ℕ) (fill : Fill) (mid new : BufferView R) → Stops told unread fill mid new → Slides told (IsExact fill) unread mid new
 stops-slides told unread fill mid new stops =
-    slides-kept (IsExact fill × told) unread mid new (ap (λ f. f.window) stops.becomes) (ap (λ f. f.at) stops.becomes)
-    (λ x. elim stops.kind [ inl failed ↦ sym (stops.failed failed x.1) | inr long ↦ absurd (x.0 long) ])
+    slides-kept told (IsExact fill) unread mid new (ap (λ f. f.window) stops.becomes) (ap (λ f. f.at) stops.becomes)
+    (λ e t. elim stops.kind [ inl failed ↦ sym (stops.failed failed t) | inr long ↦ absurd (e long) ])
 
 -- the search came to an end in the window
 pub found-grows : {R : Type 0} (tells : Type 0) (unread : R → List ℕ) (fill : Fill) (old mid new : BufferView R) → old.at ≡ 0 → Seeks tells unread old mid → EndsHeld mid → IsBuffer mid →
@@ -325,7 +349,8 @@ found-grows tells unread fill old mid new at seeks ends sound f =
       mode = same.mode ∙ seeks.mode;
       open_token_line = same.open_token_line ∙ seeks.open_token_line;
       unused = finds-unused fill mid new sound.used f ∙ seeks-unused tells unread old mid seeks;
-      slides = slides-on (IsExact fill × tells) tells tells unread old mid new (λ x. x.1) (λ x. x.1) seeks.slides (finds-slides tells unread fill mid new f);
+      slides = slides-on tells tells tells (IsExact fill) (IsExact fill) unread old mid new (λ t. t) (λ t. t) (λ e. e) seeks.slides (finds-slides tells unread fill mid new f);
+      waits = (let there = finds-window fill mid new f in waits-on tells unread old mid new seeks there.0 there.1);
       by = found-by tells unread fill old mid new at seeks ends sound.within f;
     }
 
@@ -353,11 +378,12 @@ line-grows tells told unread old mid new at seeks tell none stops =
 
 -- a read failed
 failed-grows : {R : Type 0} (tells told : Type 0) (unread : R → List ℕ) (old mid new : BufferView R) → Seeks tells unread old mid → (tells → told) →
-    Stops told unread Failed mid new → GrowsBy tells unread Failed old new
+    whole_lines_len (ahead_of mid) ≡ 0 → Stops told unread Failed mid new → GrowsBy tells unread Failed old new
 unfolding rest_of ahead_of
-failed-grows tells told unread old mid new seeks tell stops = (
+failed-grows tells told unread old mid new seeks tell none stops = (
   seeks-stays tells unread old mid new seeks (stops-held told unread Failed mid new stops) (ap (λ f. f.bytes_left) stops.becomes),
   λ t. ap (λ f. drop f.accepted f.window ++ unread_of unread new.reader) stops.becomes ∙ (ap (λ u. drop mid.accepted mid.window ++ u) (stops.failed refl (tell t)) ∙ sym (seeks.text t)),
+  ap (λ f. whole_lines_len (drop f.accepted f.window)) stops.becomes ∙ none,
 )
 
 -- what stopped a reading
@@ -367,7 +393,7 @@ stops-by tells told unread Held old mid new at seeks tell none stops = absurd (e
 stops-by tells told unread End old mid new at seeks tell none stops = absurd (elim stops.kind [ inl e ↦ cc | inr e ↦ cc ])
 stops-by tells told unread SourceLong old mid new at seeks tell none stops = absurd (elim stops.kind [ inl e ↦ cc | inr e ↦ cc ])
 stops-by tells told unread LineLong old mid new at seeks tell none stops = line-grows tells told unread old mid new at seeks tell none stops
-stops-by tells told unread Failed old mid new at seeks tell none stops = failed-grows tells told unread old mid new seeks tell stops
+stops-by tells told unread Failed old mid new at seeks tell none stops = failed-grows tells told unread old mid new seeks tell none stops
 
 -- reading came to an end
 pub stops-grows : {R : Type 0} (tells told : Type 0) (unread : R → List ℕ) (fill : Fill) (old mid new : BufferView R) → old.at ≡ 0 → Seeks tells unread old mid → (tells → told) →
@@ -379,7 +405,8 @@ stops-grows tells told unread fill old mid new at seeks tell none stops = record
   mode = ap (λ f. f.mode) stops.becomes ∙ seeks.mode;
   open_token_line = ap (λ f. f.open_token_line) stops.becomes ∙ seeks.open_token_line;
   unused = ap unused_of stops.becomes ∙ seeks-unused tells unread old mid seeks;
-  slides = slides-on (IsExact fill × tells) tells (IsExact fill × told) unread old mid new (λ x. x.1) (λ x. (x.0, tell x.1)) seeks.slides (stops-slides told unread fill mid new stops);
+  slides = slides-on tells tells told (IsExact fill) (IsExact fill) unread old mid new (λ t. t) tell (λ e. e) seeks.slides (stops-slides told unread fill mid new stops);
+  waits = waits-on tells unread old mid new seeks (ap (λ f. f.window) stops.becomes) (ap (λ f. f.at) stops.becomes);
   by = stops-by tells told unread fill old mid new at seeks tell none stops;
 }
 

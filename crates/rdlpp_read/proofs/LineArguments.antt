@@ -12,7 +12,7 @@ use Rattle.std.proofs.lemmas.Bool.Decides.{eqb_tells, leb_tells}
 use Rattle.rdlpp_scan.specs.Bytes.{is_digit}
 use Rattle.rdlpp_scan.specs.Lines.{ended_line_len}
 use Rattle.rdlpp_scan.specs.SourceTokens.{line_len}
-use Rattle.rdlpp_scan.proofs.LogicalLines.{line_len-ended}
+use Rattle.rdlpp_scan.proofs.LineLaws.{line_len-ended}
 use Rattle.std.specs.Prelude.{IfOk, IsOk, Result, Ok, Err}
 use Rattle.std.specs.Result.{result_ok}
 use Rattle.std.specs.Str.{IsUtf8}

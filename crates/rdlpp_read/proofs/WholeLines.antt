@@ -3,7 +3,7 @@ use Rattle.std.proofs.Common.{◌≡◌, ℕ, zero, suc, ◌+◌, ◌-◌, ◌�
 use Rattle.std.proofs.lemmas.List.{take-take, take-append-drop, length-drop, length-take}
 use Rattle.std.proofs.Math.Seq.{take-length}
 use Rattle.rdlpp_scan.specs.Lines.{IsWholeLines, whole_lines_len, onto_whole_lines}
-use Rattle.rdlpp_scan.proofs.WholeLines.{IsWholeLines-take, whole_lines_len-le}
+use Rattle.rdlpp_scan.proofs.LineLaws.{IsWholeLines-take, whole_lines_len-le}
 
 -- a byte in front of whole lines
 onto_some : (b n : ℕ) → 0 < n → onto_whole_lines b n ≡ suc n

@@ -47,22 +47,29 @@ unfoldable pub tokens_left : {R : Type 0} → (R → List ℕ) → BufferView R 
 tokens_left unread f =
     remaining_tokens f.line_bytes f.mode f.open_token_line f.line (held_of f) f.bytes_left (rest_of unread f)
 
--- the window moved on over its text: bytes that were used went in front, and bytes that were unread came behind
-pub record Slides {R : Type 0} (tells : Type 0) (unread : R → List ℕ) (old new : BufferView R) : Type 0 where
+-- what was unread begins with bytes that were gained, and goes on with what is unread now, if no byte was lost
+pub record Gains (exact : Type 0) (gained old new : List ℕ) : Type 0 where
+  pub rest : List ℕ
+  pub whole : old ≡ gained ++ rest
+  pub same : exact → rest ≡ new
+
+-- the window moved on over its text: bytes that were used went in front, and bytes that were unread came after; none was lost where
+-- the move is exact
+pub record Slides {R : Type 0} (tells exact : Type 0) (unread : R → List ℕ) (old new : BufferView R) : Type 0 where
   pub dropped : List ℕ
   pub gained : List ℕ
   pub window : old.window ++ gained ≡ dropped ++ new.window
   pub used : length dropped + new.at ≡ old.at
-  pub text : tells → unread_of unread old.reader ≡ gained ++ unread_of unread new.reader
+  pub text : tells → Gains exact gained (unread_of unread old.reader) (unread_of unread new.reader)
 
 -- the window moved on over its text while these bytes were used: it dropped bytes in front, which were used before or are among
--- these, and gained bytes behind
-pub record MovesOver {R : Type 0} (tells : Type 0) (unread : R → List ℕ) (uses : List ℕ) (old new : BufferView R) : Type 0 where
+-- these, and gained bytes after; none was lost where the move is exact
+pub record MovesOver {R : Type 0} (tells exact : Type 0) (unread : R → List ℕ) (uses : List ℕ) (old new : BufferView R) : Type 0 where
   pub dropped : List ℕ
   pub gained : List ℕ
   pub window : old.window ++ gained ≡ dropped ++ new.window
   pub used : length dropped + new.at ≡ old.at + length uses
-  pub text : tells → unread_of unread old.reader ≡ gained ++ unread_of unread new.reader
+  pub text : tells → Gains exact gained (unread_of unread old.reader) (unread_of unread new.reader)
 
 -- the bytes that the source may still give and that aren't used
 unfoldable pub unused_of : {R : Type 0} → BufferView R → ℕ

@@ -62,7 +62,12 @@ abbrev pub is_failed_turn : Option Fill → Bool
 is_failed_turn None = false
 is_failed_turn (Some fill) = is_failed fill
 
--- nothing but the window and the reader changed, and what is held and the text that remains are the same
+-- bytes were read only where no whole line stood after the accepted ones: else the window has what it had, but for bytes that were used
+abbrev pub WaitsForLines : {R : Type 0} → BufferView R → BufferView R → Type 0
+WaitsForLines old new = (length new.window + old.at ≡ length old.window + new.at) ⊎ (whole_lines_len (ahead_of old) ≡ 0)
+
+-- nothing but the window and the reader changed, and what is held and the text that remains are the same; bytes were read only where no whole
+-- line was ahead
 pub record Seeks {R : Type 0} (tells : Type 0) (unread : R → List ℕ) (old new : BufferView R) : Type 0 where
   pub at : new.at ≡ old.at
   pub accepted : new.accepted ≡ old.accepted
@@ -74,7 +79,8 @@ pub record Seeks {R : Type 0} (tells : Type 0) (unread : R → List ℕ) (old ne
   pub open_token_line : new.open_token_line ≡ old.open_token_line
   pub held : held_of new ≡ held_of old
   pub text : tells → rest_of unread old ≡ rest_of unread new
-  pub slides : Slides tells unread old new
+  pub slides : Slides tells Unit unread old new
+  pub waits : (new.window ≡ old.window) ⊎ (whole_lines_len (ahead_of old) ≡ 0)
 
 -- how many turns of reading may still come
 unfoldable pub turns_left : {R : Type 0} → BufferView R → ℕ
@@ -106,7 +112,7 @@ pub record Stays {R : Type 0} (old new : BufferView R) : Type 0 where
   pub bytes_left : new.bytes_left ≡ old.bytes_left
 
 -- what stood behind the lines that are held: more lines; the end of the text; a line with which the source is too long, and
--- which fits behind what is held; a line that doesn't fit behind it; or it isn't known, since a read failed
+-- which fits behind what is held; a line that doesn't fit behind it; or it isn't known, since a read failed, and no whole line is ahead
 abbrev pub GrowsBy : {R : Type 0} → Type 0 → (R → List ℕ) → Fill → BufferView R → BufferView R → Type 0
 GrowsBy tells unread Held old new = Lengthens tells unread old new
 GrowsBy tells unread End old new = Stays old new × (tells → rest_of unread old ≡ []) × (rest_of unread new ≡ [])
@@ -115,7 +121,7 @@ GrowsBy tells unread SourceLong old new =
     × (tells → old.bytes_left < line_len (rest_of unread old)) × (tells → rest_of unread new ≡ rest_of unread old)
 GrowsBy tells unread LineLong old new =
     Stays old new × (tells → old.line_bytes < length (held_of old) + line_len (rest_of unread old)) × (tells → 0 < length (rest_of unread old))
-GrowsBy tells unread Failed old new = Stays old new × (tells → rest_of unread new ≡ rest_of unread old)
+GrowsBy tells unread Failed old new = Stays old new × (tells → rest_of unread new ≡ rest_of unread old) × (whole_lines_len (ahead_of new) ≡ 0)
 
 -- no byte was read beyond the window, as it is where a line is too long
 abbrev pub IsExact : Fill → Type 0
@@ -128,7 +134,8 @@ pub record Grows {R : Type 0} (tells : Type 0) (unread : R → List ℕ) (fill :
   pub mode : new.mode ≡ old.mode
   pub open_token_line : new.open_token_line ≡ old.open_token_line
   pub unused : unused_of new ≡ unused_of old
-  pub slides : Slides (IsExact fill × tells) unread old new
+  pub slides : Slides tells (IsExact fill) unread old new
+  pub waits : WaitsForLines old new
   pub by : GrowsBy tells unread fill old new
 
 -- a list that is one broken token without bytes
@@ -158,7 +165,8 @@ HasBytes LineLong f = held_of f ≡ []
 HasBytes Failed f = held_of f ≡ []
 
 -- what a source has before its next byte: its window moved on over its text; its text that isn't used stays the same, but where
--- a byte too many was read, and is empty where its end was met; and its tokens stay the same, or are told
+-- a byte too many was read, and is empty where its end was met; and its tokens stay the same, or are told. It is read only where no whole line
+-- is ahead, and where a read failed none is
 pub record Fills {R : Type 0} (tells : Type 0) (unread : R → List ℕ) (fill : Fill) (old new : BufferView R) : Type 0 where
   pub line : new.line ≡ old.line
   pub line_bytes : new.line_bytes ≡ old.line_bytes
@@ -166,7 +174,9 @@ pub record Fills {R : Type 0} (tells : Type 0) (unread : R → List ℕ) (fill :
   pub open_token_line : new.open_token_line ≡ old.open_token_line
   pub bytes : HasBytes fill new
   pub unused : unused_of new ≡ unused_of old
-  pub slides : Slides (IsExact fill × tells) unread old new
+  pub slides : Slides tells (IsExact fill) unread old new
+  pub waits : WaitsForLines old new
+  pub short : fill ≡ Failed → whole_lines_len (ahead_of new) ≡ 0
   pub text : IsExact fill → tells → text_left unread new ≡ text_left unread old
   pub ended : fill ≡ End → text_left unread new ≡ []
   pub tokens : tells → TellsTokens fill old (tokens_left unread old) (tokens_left unread new)

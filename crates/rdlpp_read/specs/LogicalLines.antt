@@ -65,7 +65,7 @@ IsExactLine answer = answer ≡ TooLong → ⊥
 pub record HoldsLine {R : Type 0} (tells : Type 0) (unread : R → List ℕ) (answer : LogicalLine) (old new : BufferView R) : Type 0 where
   pub extends : Extends old new
   pub has : HasLine tells unread answer old new
-  pub slides : Slides (IsExactLine answer × tells) unread old new
+  pub slides : Slides tells (IsExactLine answer) unread old new
   pub text : IsExactLine answer → tells → text_left unread new ≡ text_left unread old
   pub define : tells → old.mode ≡ Plain → HoldsDefine (held_of old) (rest_of unread old)
       → TellsDefine unread answer old new
@@ -73,7 +73,7 @@ pub record HoldsLine {R : Type 0} (tells : Type 0) (unread : R → List ℕ) (an
 -- what the search for the end of the logical line has done so far: it doesn't end in the first `seen` bytes, which are whole lines
 pub record Continues {S R : Type 0} (g : Ghosts S R) (sources new_sources : S) (old new : BufferView R) (seen : ℕ) : Type 0 where
   pub extends : Extends old new
-  pub slides : Slides (g.tells sources) g.unread old new
+  pub slides : Slides (g.tells sources) Unit g.unread old new
   pub tokens : SameTokens (g.tells sources) g.unread old new
   pub text : g.tells sources → text_left g.unread new ≡ text_left g.unread old
   pub define : g.tells sources → HoldsDefine (held_of old) (rest_of g.unread old)

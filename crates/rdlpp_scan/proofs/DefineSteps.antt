@@ -1,5 +1,5 @@
 -- A step at a `define` with its logical line, and at a `line` with its line.
-use Rattle.std.proofs.Common.{◌≡◌, ℕ, suc, ◌+◌, ◌<◌, ◌≤◌, Bool, true, false, not, ◌&&◌, cond, ltb, List, [], ◌∷◌, ◌++◌, Option, Some, None, length, take, drop, refl, sym, ap, ◌∙◌, arith}
+use Rattle.std.proofs.Common.{◌≡◌, ℕ, suc, ◌+◌, ◌<◌, ◌≤◌, Bool, true, false, not, ◌&&◌, cond, ltb, List, [], ◌∷◌, ◌++◌, Option, Some, None, length, take, drop, refl, sym, ap, ◌∙◌, arith, get_or, inl, inr, ⊎_elim}
 use Rattle.std.specs.Prelude.{codes, bytes_eq}
 use Rattle.std.specs.Option.{option_map}
 use Rattle.std.proofs.lemmas.Bool.{lt-ltb}
@@ -11,11 +11,17 @@ use Rattle.rdlpp_scan.specs.Bytes.{is_line_end}
 use Rattle.rdlpp_scan.specs.Tokens.{token_of}
 use Rattle.rdlpp_scan.specs.Front.{Breach, DefineLong, DefineCut, Break}
 use Rattle.rdlpp_scan.specs.SourceTokens.{SourceToken, Course, Step, Next, Ordinary, Definition, Renumbering, Broken, broken, define_step, is_continued, line_step, line_ends, line_len, logical_len, source_step, source_tokens}
-use Rattle.rdlpp_scan.specs.Lines.{EndsLine}
-use Rattle.rdlpp_scan.proofs.LineLaws.{line_len-append, line_len-some, logical_len-append, some_suc, none_suc}
-use Rattle.rdlpp_scan.proofs.LogicalLines.{line_len-le}
+use Rattle.rdlpp_scan.specs.Lines.{EndsLine, IsWholeLines}
+use Rattle.rdlpp_scan.proofs.LineLaws.{line_len-append, line_len-some, logical_len-append, some_suc, none_suc, line_len-le, logical_len-after, logical_len-start, option_map-twice, IsWholeLines-append, IsWholeLines-one, IsWholeLines-rest}
 use Rattle.rdlpp_scan.proofs.SourceLaws.{source_tokens-last}
-use Rattle.rdlpp_scan.proofs.StepLaws.{back_held, next_held, define_step-some, define_step-none}
+use Rattle.rdlpp_scan.proofs.TokenSteps.{back_held, next_held, define_step-some, define_step-none, closed_kind}
+use Rattle.rdlpp_scan.specs.declared.token.Token.{Token}
+use Rattle.rdlpp_scan.specs.Defines.{HoldsDefine}
+use Rattle.rdlpp_scan.proofs.Seams.{line_end-ten, token_of-append}
+use Rattle.rdlpp_scan.proofs.StopKinds.{token_of-row}
+use Rattle.rdlpp_scan.proofs.TokenLens.{token_of-part}
+
+-- A step at a `define` with its logical line, and at a `line` with its line.
 
 -- a logical line has a byte, and lies in its text
 pub logical_len-within : (x y : ℕ) (bs : List ℕ) (n : ℕ) → logical_len x y bs ≡ Some n → (0 < n) × (n ≤ length bs)
@@ -103,12 +109,6 @@ step-logical c o l held more n d is fits =
     next_held c o l held more (record { sort = Definition; bytes = take n held; line = l }) n within.0 within.1 refl
     (define_here c o l held more d ∙ define_step-some c l (held ++ more) n (logical_len-append 0 0 held more n is) fits ∙ ap made (take-append-le n held more within.1))
 
--- a `define` whose logical line is too long
-pub step-logical_long : (c : Course) (o l : ℕ) (held more : List ℕ) (n : ℕ) → BeginsDefine c held more → logical_len 0 0 held ≡ Some n → c.most < n
-    → source_tokens c Plain o l 0 (held ++ more) ≡ record { sort = Broken DefineLong; bytes = []; line = l } ∷ []
-step-logical_long c o l held more n d is long =
-    broken_here c o l held more DefineLong d.some (define_here c o l held more d ∙ define_long c l (held ++ more) n (logical_len-append 0 0 held more n is) long)
-
 -- a `define` whose logical line goes on, and is too long with the next line
 pub step-logical_full : (c : Course) (o l : ℕ) (held more : List ℕ) → BeginsDefine c held more → logical_len 0 0 held ≡ None → 0 < length more → c.most < length held + line_len more
     → source_tokens c Plain o l 0 (held ++ more) ≡ record { sort = Broken DefineLong; bytes = []; line = l } ∷ []
@@ -137,17 +137,6 @@ step-logical_last c o l held d is last fits =
     define_here c o l held [] d ∙ ap (define_step c l) bare ∙ define_step-none c l held is last fits in
     ap (source_tokens c Plain o l 0) (sym bare) ∙ next_held c o l held [] tok (length held) d.some (omega arith) (sym all) step
     ∙ ap (λ z. tok ∷ source_tokens c Plain l (l + line_ends z) 0 (drop (length held) held ++ [])) all ∙ ap (λ z. tok ∷ source_tokens c Plain l (l + line_ends held) 0 z) gone
-
--- a `define` at the end of a source, which is too long
-pub step-logical_last_long : (c : Course) (o l : ℕ) (held : List ℕ) → BeginsDefine c held [] → logical_len 0 0 held ≡ None → c.break ≡ None → c.most < length held
-    → source_tokens c Plain o l 0 held ≡ record { sort = Broken DefineLong; bytes = []; line = l } ∷ []
-unfolding at_break
-step-logical_last_long c o l held d is last long =
-    let bare = append-nil held in
-    let tok : Step = Next (record { sort = Definition; bytes = held; line = l }) in
-    ap (source_tokens c Plain o l 0) (sym bare)
-    ∙ broken_here c o l held [] DefineLong d.some
-    (define_here c o l held [] d ∙ ap (define_step c l) bare ∙ define_open c l held is ∙ ap (at_break c l held) last ∙ ap (λ t. cond t (broken DefineLong [] l) tok) (lt-ltb c.most (length held) long))
 
 -- a `define` in whose logical line a source breaks
 pub step-logical_broken : (c : Course) (o l : ℕ) (held : List ℕ) (k : Break) → BeginsDefine c held [] → logical_len 0 0 held ≡ None → c.break ≡ Some k
@@ -181,3 +170,50 @@ step-line c o l held more some ends is other also =
     ∙ ap (λ b. cond b (define_step c l bs) (cond line (line_step l bs) ordinary)) other ∙ ap (λ b. cond b (line_step l bs) ordinary) also
     ∙ ap (λ z. Next (record { sort = Renumbering; bytes = z; line = l })) own in
     next_held c o l held more tok n (line_len-some held some) (line_len-le held) refl step
+
+-- Logical lines over several physical lines.
+
+-- a logical line that doesn't end in the front of a text goes on behind it
+pub logical_len-goes_behind : (x y : ℕ) (xs ys : List ℕ) → logical_len x y xs ≡ None
+    → logical_len x y (xs ++ ys) ≡ option_map (λ n. length xs + n) (logical_len (get_or (x ∷ y ∷ xs) (length xs) 0) (get_or (x ∷ y ∷ xs) (suc (length xs)) 0) ys)
+unfolding logical_len
+logical_len-goes_behind x y [] ys none = elim (logical_len x y ys) as (λ (o : Option ℕ). o ≡ option_map (λ n. 0 + n) o) [ None ↦ refl | Some n ↦ ap Some (omega arith) ]
+logical_len-goes_behind x y (b ∷ xs) ys none =
+    let there = logical_len (get_or (y ∷ b ∷ xs) (length xs) 0) (get_or (y ∷ b ∷ xs) (suc (length xs)) 0) ys in
+    let P : Bool → Type 0 = λ t. cond t (Some 1) (option_map suc (logical_len y b xs)) ≡ None → cond t (Some 1) (option_map suc (logical_len y b (xs ++ ys))) ≡ option_map (λ n. suc (length xs) + n) there in
+    let at_true : P true = λ e. absurd (cc) in
+    let at_false : P false = λ e. ap (option_map suc) (logical_len-goes_behind y b xs ys (none_suc (logical_len y b xs) e)) ∙ option_map-twice (length xs) there in
+    elim (is_line_end b && not (is_continued x y)) as P [ true ↦ at_true | false ↦ at_false ] none
+
+-- the last byte of whole lines
+whole_lines-last : (x y : ℕ) (xs : List ℕ) → 0 < length xs → IsWholeLines xs → get_or (x ∷ y ∷ xs) (suc (length xs)) 0 ≡ 10
+whole_lines-last x y [] some whole = absurd (omega arith)
+whole_lines-last x y (b ∷ []) some whole = line_end-ten b (IsWholeLines-one b whole)
+whole_lines-last x y (b ∷ c ∷ xs) some whole = whole_lines-last y b (c ∷ xs) (omega arith) (IsWholeLines-rest b (c ∷ xs) whole)
+
+-- behind whole lines it goes on as at its beginning
+pub logical_len-behind_lines : (xs ys : List ℕ) → IsWholeLines xs → logical_len 0 0 xs ≡ None → logical_len 0 0 (xs ++ ys) ≡ option_map (λ n. length xs + n) (logical_len 0 0 ys)
+logical_len-behind_lines [] ys whole none = logical_len-start ys
+logical_len-behind_lines (b ∷ xs) ys whole none =
+    let held = b ∷ xs in
+    let x = get_or (0 ∷ 0 ∷ held) (length held) 0 in
+    let ten = whole_lines-last 0 0 held (omega arith) whole in
+    logical_len-goes_behind 0 0 held ys none ∙ ap (λ y. option_map (λ n. length held + n) (logical_len x y ys)) ten ∙ ap (option_map (λ n. length held + n)) (logical_len-after x ys)
+
+-- a `define` whose logical line goes on, with a further line taken in
+pub HoldsDefine-more : (held w rest : List ℕ) → HoldsDefine held (w ++ rest) → 0 < length w → EndsLine w rest → HoldsDefine (held ++ w) rest
+HoldsDefine-more held w rest h some ends =
+    let t = token_of Plain held in
+    let size = length-append held w in
+    let left = length-append w rest in
+    let whole : IsWholeLines held = ⊎_elim (λ whole. whole) (λ (none : (w ++ rest) ≡ []). let no : length (w ++ rest) ≡ 0 = ap length none in absurd (omega arith)) h.ends in
+    let closed : t.next_mode ≡ Plain = closed_kind held t (token_of-row held) (inr (inl h.kind)) in
+    let same : token_of Plain (held ++ w) ≡ t = token_of-append held w h.some (inl whole) closed in
+    let own : take (token_of Plain (held ++ w)).len (held ++ w) ≡ take t.len held =
+    ap (λ (v : Token). take v.len (held ++ w)) same ∙ take-append-le t.len held w (token_of-part Plain held h.some).inside in
+    record {
+      some = omega (arith, h.some);
+      ends = ⊎_elim (λ line. inl (IsWholeLines-append held w whole line)) (λ none. inr none) ends;
+      kind = ap (λ (v : Token). v.kind) same ∙ h.kind;
+      word = ap (λ own. bytes_eq own (codes "`define")) own ∙ h.word;
+    }

@@ -11,17 +11,15 @@ use Rattle.rdlpp_scan.specs.declared.token.Token.{Token}
 use Rattle.rdlpp_scan.specs.Bytes.{is_blank, is_line_end, is_letter, is_digit, is_word, is_opener, is_closer, takes_word, begins_perl, begins_line_comment, begins_block_comment}
 use Rattle.rdlpp_scan.specs.Tokens.{plain_token, token_of, string_token, block_token, whole}
 use Rattle.rdlpp_scan.specs.Front.{Breach, PerlFound, StringOpen, CommentOpen, DefineLong, DefineCut, Break, front}
-use Rattle.rdlpp_scan.proofs.RemainingLaws.{behind, course}
-use Rattle.rdlpp_scan.proofs.ResumedTokens.{after_step, tokens_step}
+use Rattle.rdlpp_scan.proofs.RemainingLaws.{behind, course, after_step, tokens_step}
 use Rattle.rdlpp_scan.specs.SourceTokens.{SourceToken, Course, Step, Last, Next, Ordinary, Definition, broken, back_step, comment_step, define_step, line_ends, line_step, logical_len, open_end, remaining_tokens, source_step, source_tokens, step_by, string_step}
 use Rattle.rdlpp_scan.specs.Lines.{EndsLine, IsWholeLines}
 use Rattle.rdlpp_scan.specs.TokenKinds.{is_ordinary}
 use Rattle.rdlpp_scan.proofs.Searches.{false_since}
-use Rattle.rdlpp_scan.proofs.Seams.{Seam, Closed, BeforePerl, OpenString, OpenComment, token_of-seam, line_end-ten, blank_ten, word_ten}
+use Rattle.rdlpp_scan.proofs.Seams.{Seam, Closed, BeforePerl, OpenString, OpenComment, token_of-seam, line_end-ten, blank_ten, word_ten, IsCut-from_line}
 use Rattle.rdlpp_scan.proofs.SourceLaws.{line_ends-cons}
 use Rattle.rdlpp_scan.proofs.StopKinds.{string_token-kind, block_token-kind}
-use Rattle.rdlpp_scan.proofs.WholeLines.{IsWholeLines-rest, IsWholeLines-one}
-use Rattle.rdlpp_scan.proofs.Locality.{IsCut-from_line}
+use Rattle.rdlpp_scan.proofs.LineLaws.{IsWholeLines-rest, IsWholeLines-one}
 
 -- blanks and names are runs of their bytes
 pub record IsRun (bs : List ℕ) (t : Token) : Type 0 where

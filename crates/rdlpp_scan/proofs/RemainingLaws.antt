@@ -1,20 +1,31 @@
--- What remains of a source, step by step, as the engine takes it: `held` ends at a line end or at the text's end.
-use Rattle.std.proofs.Common.{◌≡◌, ◌⊎◌, ℕ, ◌+◌, ◌-◌, ◌<◌, ◌≤◌, false, List, [], ◌∷◌, ◌++◌, Option, None, length, take, drop, sym, ap, ◌∙◌, inl, inr, ⊎_elim}
+-- What remains of a source, step by step, as the engine takes it.
+use Rattle.std.proofs.Common.{◌≡◌, ◌⊎◌, ℕ, ◌+◌, ◌-◌, ◌<◌, ◌≤◌, false, List, [], ◌∷◌, ◌++◌, Option, None, length, take, drop, sym, ap, ◌∙◌, inl, inr, ⊎_elim, suc, Bool, true, cond, ltb, Some, refl, arith, eqb, subst}
 use Rattle.std.specs.Prelude.{codes, bytes_eq}
 use Rattle.std.specs.List.{flat_map, All}
-use Rattle.std.proofs.lemmas.List.{append_assoc, take-append-drop}
-use Rattle.rdlpp_scan.specs.declared.token.Kind.TheVariants.{Back, BareBackquote, Perl}
+use Rattle.std.proofs.lemmas.List.{append_assoc, take-append-drop, append-nil, length-take-le, length-append}
+use Rattle.rdlpp_scan.specs.declared.token.Kind.TheVariants.{Back, BareBackquote, Perl, Str, BlockComment}
 use Rattle.rdlpp_scan.specs.declared.token.Mode.{Mode}
-use Rattle.rdlpp_scan.specs.declared.token.Mode.TheVariants.{Plain}
-use Rattle.rdlpp_scan.specs.Tokens.{plain_len, token_of}
-use Rattle.rdlpp_scan.specs.Front.{LineLong, SourceLong, PerlFound, Break, Front, front, onto_front}
-use Rattle.rdlpp_scan.specs.SourceTokens.{SourceToken, Course, Ordinary, Broken, line_ends, line_len, source_end, source_tokens, remaining_tokens}
-use Rattle.rdlpp_scan.specs.Lines.{EndsLine, IsWholeLines}
+use Rattle.rdlpp_scan.specs.declared.token.Mode.TheVariants.{Plain, InStr, InBlock}
+use Rattle.rdlpp_scan.specs.Tokens.{plain_len, token_of, whole, string_token, block_token}
+use Rattle.rdlpp_scan.specs.Front.{PerlFound, Break, Front, front, onto_front, Breach, LineLong, SourceLong, DefineLong, DefineCut, StringOpen, CommentOpen}
+use Rattle.rdlpp_scan.specs.SourceTokens.{SourceToken, Course, Ordinary, Broken, line_ends, source_end, source_tokens, remaining_tokens, Definition, Renumbering, line_len, logical_len, Step, Last, Next, broken, comment_step, line_after, open_end, source_step, step_by, string_step}
+use Rattle.rdlpp_scan.specs.Lines.{EndsLine, IsWholeLines, whole_lines_len, onto_whole_lines}
 use Rattle.rdlpp_scan.specs.Ordinary.{IsOrdinary, IsPlainToken}
-use Rattle.rdlpp_scan.proofs.SourceLaws.{source_tokens-opened}
-use Rattle.rdlpp_scan.proofs.OrdinaryFronts.{ordinary_front}
-use Rattle.rdlpp_scan.proofs.FrontLaws.{front-accept, front-none, front-line_long, front-source_long}
-use Rattle.rdlpp_scan.proofs.StepLaws.{step-perl, step-bare, step-back}
+use Rattle.rdlpp_scan.proofs.SourceLaws.{source_tokens-opened, source_tokens-last, front-accept, front-none, front-line_long, front-source_long}
+use Rattle.rdlpp_scan.proofs.OrdinaryLaws.{ordinary_front}
+use Rattle.rdlpp_scan.proofs.TokenSteps.{step-perl, step-bare, step-back, is_kept_kind, step-closed, step-open_string, step-open_comment, step-cut_string, string_rest, comment_rest, end_of}
+use Rattle.std.proofs.lemmas.Bool.{lt-ltb, le-ltb, cases_lt, false≢true}
+use Rattle.rdlpp_scan.specs.Bytes.{is_line_end, begins_perl}
+use Rattle.rdlpp_scan.specs.Defines.{HoldsDefine}
+use Rattle.rdlpp_scan.specs.Resumed.{opening, onto_tokens}
+use Rattle.rdlpp_scan.proofs.LineLaws.{line_len-some, line_len-le, whole_one}
+use Rattle.rdlpp_scan.proofs.Seams.{IsCut-from_line}
+use Rattle.rdlpp_scan.proofs.DefineSteps.{BeginsDefine, step-line, step-logical, step-logical_full, step-logical_last, step-logical_broken}
+use Rattle.std.proofs.Math.Bool.{and-false}
+use Rattle.rdlpp_scan.specs.declared.token.Kind.{Kind}
+use Rattle.rdlpp_scan.proofs.StopKinds.{string_token-kind, block_token-kind}
+
+-- What remains of a source, step by step, as the engine takes it: `held` ends at a line end or at the text's end.
 
 -- what breaks or ends a source behind the text that is held
 pub record IsBehind (held rest more : List ℕ) (break : Option Break) : Type 0 where
@@ -88,18 +99,6 @@ pub remaining-end : (most o l room : ℕ) → remaining_tokens most Plain o l []
 unfolding source_end
 remaining-end most o l room = remaining-front most o l room [] None (front-none most room)
 
--- a line that is too long
-pub remaining-line_long : (most o l room : ℕ) (r : List ℕ) → most < line_len r
-    → remaining_tokens most Plain o l [] room r ≡ record { sort = Broken LineLong; bytes = []; line = l } ∷ []
-unfolding source_end
-remaining-line_long most o l room r long = remaining-front most o l room r _ (front-line_long most room r long)
-
--- a line that is too much for the source
-pub remaining-source_long : (most o l room : ℕ) (r : List ℕ) → line_len r ≤ most → room < line_len r
-    → remaining_tokens most Plain o l [] room r ≡ record { sort = Broken SourceLong; bytes = []; line = l } ∷ []
-unfolding source_end
-remaining-source_long most o l room r fits long = remaining-front most o l room r _ (front-source_long most room r fits long)
-
 -- `<%` ends the list
 pub remaining-perl : (most o l : ℕ) (held : List ℕ) (room : ℕ) (rest : List ℕ) → 0 < length held → EndsLine held rest → (token_of Plain held).kind ≡ Perl
     → remaining_tokens most Plain o l held room rest ≡ record { sort = Broken PerlFound; bytes = []; line = l } ∷ []
@@ -128,3 +127,292 @@ remaining-back most o l held room rest some ends is other also =
     let more = (front most room rest).text in
     let b = behind most room held rest ends in
     step-back (course most room rest) o l held more some b.ends is other also
+
+-- What remains of a source at a string, a comment, a logical line or a `line`: `held` ends at a line end or at the text's end.
+
+-- a token that is closed in what is held
+pub remaining-closed : (most : ℕ) (m : Mode) (o l : ℕ) (held : List ℕ) (room : ℕ) (rest : List ℕ) → 0 < length held → EndsLine held rest → is_kept_kind (token_of m held).kind ≡ true → (token_of m held).next_mode ≡ Plain
+    → remaining_tokens most m o l held room rest
+    ≡ record { sort = Ordinary (token_of m held).kind; bytes = take (token_of m held).len held; line = l }
+    ∷ remaining_tokens most Plain l (l + line_ends (take (token_of m held).len held)) (drop (token_of m held).len held) room rest
+unfolding remaining_tokens
+remaining-closed most m o l held room rest some ends kept closed =
+    let more = (front most room rest).text in
+    let b = behind most room held rest ends in
+    step-closed (course most room rest) m o l held more some (IsCut-from_line held more b.ends) kept closed
+
+-- a string that is open in what is held: what is held of it, in front of what remains of its rest
+pub remaining-open_string : (most : ℕ) (m : Mode) (o l : ℕ) (held : List ℕ) (room : ℕ) (rest : List ℕ) → 0 < length held → EndsLine held rest → (token_of m held).next_mode ≡ InStr → (token_of m held).len ≡ length held
+    → remaining_tokens most m o l held room rest ≡ onto_tokens held l (remaining_tokens most InStr (opening m o l) (l + line_ends held) [] room rest)
+unfolding remaining_tokens
+remaining-open_string most m o l held room rest some ends mode len =
+    let more = (front most room rest).text in
+    let b = behind most room held rest ends in
+    step-open_string (course most room rest) m o l held more some (IsCut-from_line held more b.ends) mode len
+
+-- a block comment that is open in what is held
+pub remaining-open_comment : (most : ℕ) (m : Mode) (o l : ℕ) (held : List ℕ) (room : ℕ) (rest : List ℕ) → 0 < length held → EndsLine held rest → (token_of m held).next_mode ≡ InBlock
+    → remaining_tokens most m o l held room rest ≡ onto_tokens held l (remaining_tokens most InBlock (opening m o l) (l + line_ends held) [] room rest)
+unfolding remaining_tokens
+remaining-open_comment most m o l held room rest some ends mode =
+    let more = (front most room rest).text in
+    let b = behind most room held rest ends in
+    step-open_comment (course most room rest) m o l held more some (IsCut-from_line held more b.ends) mode
+
+-- a string that `<%` cuts in what is held
+pub remaining-cut_string : (most : ℕ) (m : Mode) (o l : ℕ) (held : List ℕ) (room : ℕ) (rest : List ℕ) → 0 < length held → EndsLine held rest → (token_of m held).kind ≡ Str → (token_of m held).next_mode ≡ InStr → (token_of m held).len < length held
+    → remaining_tokens most m o l held room rest
+    ≡ record { sort = Broken PerlFound; bytes = take (token_of m held).len held; line = l + line_ends (take (token_of m held).len held) } ∷ []
+unfolding remaining_tokens
+remaining-cut_string most m o l held room rest some ends kind mode lt =
+    let more = (front most room rest).text in
+    let b = behind most room held rest ends in
+    step-cut_string (course most room rest) m o l held more some (IsCut-from_line held more b.ends) kind mode lt
+
+begins : (most : ℕ) (held : List ℕ) (room : ℕ) (rest : List ℕ) → HoldsDefine held rest → BeginsDefine (course most room rest) held (front most room rest).text
+begins most held room rest h =
+    let b = behind most room held rest h.ends in
+    record { some = h.some; ends = b.ends; kind = h.kind; word = h.word }
+
+-- a `define` whose logical line ends in what is held
+pub remaining-logical : (most o l : ℕ) (held : List ℕ) (room : ℕ) (rest : List ℕ) (n : ℕ) → HoldsDefine held rest → logical_len 0 0 held ≡ Some n → n ≤ most
+    → remaining_tokens most Plain o l held room rest
+    ≡ record { sort = Definition; bytes = take n held; line = l } ∷ remaining_tokens most Plain l (l + line_ends (take n held)) (drop n held) room rest
+unfolding remaining_tokens
+remaining-logical most o l held room rest n h is fits =
+    step-logical (course most room rest) o l held (front most room rest).text n (begins most held room rest h) is fits
+
+-- a first line is as long with anything behind it
+first_line-within : (bs more : List ℕ) → line_len bs ≤ line_len (take (line_len bs) bs ++ more)
+unfolding line_len
+first_line-within [] more = omega arith
+first_line-within (b ∷ bs) more =
+    let n = line_len bs in
+    let P : Bool → Type 0 = λ t. is_line_end b ≡ t → cond t 1 (suc n) ≤ line_len (take (cond t 1 (suc n)) (b ∷ bs) ++ more) in
+    let at_true : P true = λ e. let one : cond (is_line_end b) 1 (suc (line_len more)) ≡ 1 = ap (λ t. cond t 1 (suc (line_len more))) e in omega arith in
+    let at_false : P false = λ e.
+    let later = line_len (take n bs ++ more) in
+    let next : cond (is_line_end b) 1 (suc later) ≡ suc later = ap (λ t. cond t 1 (suc later)) e in
+    omega (arith, next, first_line-within bs more) in
+    elim (is_line_end b) as P [ true ↦ at_true | false ↦ at_false ] refl
+
+-- a first line ends at a line end or at the text's end
+first_line-ends : (bs : List ℕ) → EndsLine (take (line_len bs) bs) (drop (line_len bs) bs)
+unfolding line_len whole_lines_len onto_whole_lines
+first_line-ends [] = inr refl
+first_line-ends (b ∷ []) =
+    let P : Bool → Type 0 = λ t. EndsLine (take (cond t 1 1) (b ∷ [])) (drop (cond t 1 1) (b ∷ [])) in
+    elim (is_line_end b) as P [ true ↦ inr refl | false ↦ inr refl ]
+first_line-ends (b ∷ c ∷ cs) =
+    let bs = c ∷ cs in
+    let n = line_len bs in
+    let some = line_len-some bs (omega arith) in
+    let size : length (take n bs) ≡ n = length-take-le n bs (line_len-le bs) in
+    let P : Bool → Type 0 = λ t. is_line_end b ≡ t → EndsLine (take (cond t 1 (suc n)) (b ∷ bs)) (drop (cond t 1 (suc n)) (b ∷ bs)) in
+    let at_true : P true = λ e. inl (ap (λ t. cond t 1 0) e) in
+    let at_false : P false = λ _. ⊎_elim (λ whole. inl (whole_one b (take n bs) whole (omega (arith, size)))) (λ none. inr none) (first_line-ends (c ∷ cs)) in
+    elim (is_line_end b) as P [ true ↦ at_true | false ↦ at_false ] refl
+
+-- tokens by the front that is behind what is held
+of_front : ℕ → ℕ → ℕ → List ℕ → Front → List SourceToken
+of_front most o l held f = source_tokens (record { most = most; break = f.break }) Plain o l 0 (held ++ f.text)
+
+-- a `define` in front of a broken line
+define_broken : (most o l : ℕ) (held rest : List ℕ) (k : Break) → HoldsDefine held rest → logical_len 0 0 held ≡ None
+    → of_front most o l held (record { text = []; break = Some k }) ≡ record { sort = Broken (cond (ltb most (length held + k.len)) DefineLong DefineCut); bytes = []; line = l } ∷ []
+unfolding of_front
+define_broken most o l held rest k h is =
+    let c : Course = record { most = most; break = Some k } in
+    let none : EndsLine held [] = inr refl in
+    ap (source_tokens c Plain o l 0) (append-nil held)
+    ∙ step-logical_broken c o l held k (record { some = h.some; ends = none; kind = h.kind; word = h.word }) is refl
+
+-- a `define` whose logical line goes on, and is too long with the next physical line
+pub remaining-logical_full : (most o l : ℕ) (held : List ℕ) (room : ℕ) (rest : List ℕ) → HoldsDefine held rest → logical_len 0 0 held ≡ None → 0 < length rest → most < length held + line_len rest
+    → remaining_tokens most Plain o l held room rest ≡ record { sort = Broken DefineLong; bytes = []; line = l } ∷ []
+unfolding remaining_tokens of_front onto_front
+remaining-logical_full most o l held room rest h is some long =
+    let n = line_len rest in
+    let F = front most room rest in
+    let broken_line : Breach → List SourceToken = λ k. record { sort = Broken k; bytes = []; line = l } ∷ [] in
+    let picked = ap (λ t. broken_line (cond t DefineLong DefineCut)) (lt-ltb most (length held + n) long) in
+    let at_line : most < n → of_front most o l held F ≡ broken_line DefineLong = λ more.
+    ap (of_front most o l held) (front-line_long most room rest more) ∙ define_broken most o l held rest (record { breach = LineLong; len = n }) h is ∙ picked in
+    let at_source : n ≤ most → room < n → of_front most o l held F ≡ broken_line DefineLong = λ fits much.
+    ap (of_front most o l held) (front-source_long most room rest fits much) ∙ define_broken most o l held rest (record { breach = SourceLong; len = n }) h is ∙ picked in
+    let accepted : n ≤ most → n ≤ room → of_front most o l held F ≡ broken_line DefineLong = λ fits within.
+    let w = take n rest in
+    let r = drop n rest in
+    let size : length w ≡ n = length-take-le n rest (line_len-le rest) in
+    let g = front most (room - length w) r in
+    let text : F.text ≡ w ++ g.text =
+    ap (λ (z : List ℕ). (front most room z).text) (sym (take-append-drop n rest)) ∙ ap (λ (f : Front). f.text) (front-accept most room w r (first_line-ends rest) (omega arith) (omega arith)) in
+    let line : n ≤ line_len F.text = omega (arith, first_line-within rest g.text, ap line_len text) in
+    let some_line = line_len-some rest some in
+    step-logical_full (course most room rest) o l held F.text (begins most held room rest h) is (omega (arith, line_len-le F.text)) (omega arith) in
+    ⊎_elim at_line (λ fits. ⊎_elim (at_source fits) (accepted fits) (cases_lt room n)) (cases_lt most n)
+
+-- a `define` in whose logical line a line is too much for the source
+pub remaining-logical_source : (most o l : ℕ) (held : List ℕ) (room : ℕ) (rest : List ℕ) → HoldsDefine held rest → logical_len 0 0 held ≡ None → length held + line_len rest ≤ most → room < line_len rest
+    → remaining_tokens most Plain o l held room rest ≡ record { sort = Broken DefineCut; bytes = []; line = l } ∷ []
+unfolding remaining_tokens of_front
+remaining-logical_source most o l held room rest h is fits much =
+    let n = line_len rest in
+    ap (of_front most o l held) (front-source_long most room rest (omega arith) much) ∙ define_broken most o l held rest (record { breach = SourceLong; len = n }) h is
+    ∙ ap (λ t. record { sort = Broken (cond t DefineLong DefineCut); bytes = []; line = l } ∷ []) (le-ltb most (length held + n) fits)
+
+-- a `define` at the end of a source
+pub remaining-logical_last : (most o l : ℕ) (held : List ℕ) (room : ℕ) → HoldsDefine held [] → logical_len 0 0 held ≡ None → length held ≤ most
+    → remaining_tokens most Plain o l held room [] ≡ record { sort = Definition; bytes = held; line = l } ∷ []
+unfolding remaining_tokens of_front source_tokens source_end
+remaining-logical_last most o l held room h is fits =
+    let c : Course = record { most = most; break = None } in
+    let none : EndsLine held [] = inr refl in
+    let tok : SourceToken = record { sort = Definition; bytes = held; line = l } in
+    ap (of_front most o l held) (front-none most room) ∙ ap (source_tokens c Plain o l 0) (append-nil held)
+    ∙ step-logical_last c o l held (record { some = h.some; ends = none; kind = h.kind; word = h.word }) is refl fits
+
+-- a `line` with its line
+pub remaining-line : (most o l : ℕ) (held : List ℕ) (room : ℕ) (rest : List ℕ) → 0 < length held → EndsLine held rest → (token_of Plain held).kind ≡ Back
+    → bytes_eq (take (token_of Plain held).len held) (codes "`define") ≡ false → bytes_eq (take (token_of Plain held).len held) (codes "`line") ≡ true
+    → remaining_tokens most Plain o l held room rest
+    ≡ record { sort = Renumbering; bytes = take (line_len held) held; line = l } ∷ remaining_tokens most Plain l (l + line_ends (take (line_len held) held)) (drop (line_len held) held) room rest
+unfolding remaining_tokens
+remaining-line most o l held room rest some ends is other also =
+    let more = (front most room rest).text in
+    let b = behind most room held rest ends in
+    step-line (course most room rest) o l held more some b.ends is other also
+
+-- What remains of a source in a string or in a block comment begins with the rest of it.
+
+-- a kind of token that may be open at the end of a text
+abbrev pub IsOpenKind : Kind → Type 0
+IsOpenKind k = (k ≡ Str) ⊎ (k ≡ BlockComment)
+
+-- a string, a block comment or a broken token, in front of whatever follows
+pub data Resumes (ts : List SourceToken) : Type 0 where
+  Copies : (k : Kind) (bytes : List ℕ) (line : ℕ) (more : List SourceToken) → IsOpenKind k → ts ≡ record { sort = Ordinary k; bytes = bytes; line = line } ∷ more → Resumes ts
+  Breaks : (b : Breach) (bytes : List ℕ) (line : ℕ) → ts ≡ record { sort = Broken b; bytes = bytes; line = line } ∷ [] → Resumes ts
+
+-- the same of a step
+data ResumesStep (s : Step) : Type 0 where
+  NextText : (k : Kind) (bytes : List ℕ) (line : ℕ) → IsOpenKind k → s ≡ Next (record { sort = Ordinary k; bytes = bytes; line = line }) → ResumesStep s
+  LastBroken : (b : Breach) (bytes : List ℕ) (line : ℕ) → s ≡ Last (record { sort = Broken b; bytes = bytes; line = line }) → ResumesStep s
+
+-- an open end is a broken token
+open_end-last : (c : Course) (k : Breach) (o l : ℕ) (own : List ℕ) → (b : Breach) × (line : ℕ) × (open_end c k o l own ≡ Last (record { sort = Broken b; bytes = own; line = line }))
+unfolding open_end broken
+open_end-last c k o l own =
+    elim c.break as (λ d. (b : Breach) × (line : ℕ) × ((elim d [ None ↦ broken k own o | Some d ↦ broken d.breach own (l + line_ends own) ]) ≡ Last (record { sort = Broken b; bytes = own; line = line }))) [
+      | None ↦ (k, o, refl)
+      | Some d ↦ (d.breach, l + line_ends own, refl)
+    ]
+
+open_end-breaks : (c : Course) (k : Breach) (o l : ℕ) (own : List ℕ) → ResumesStep (open_end c k o l own)
+open_end-breaks c k o l own = let p = open_end-last c k o l own in LastBroken p.0 own p.1 p.2
+
+string_open-resumes : (c : Course) (o l n : ℕ) (bs : List ℕ)
+    → ResumesStep (cond (ltb n (length bs)) (broken PerlFound (take n bs) (l + line_ends (take n bs))) (open_end c StringOpen o l (take n bs)))
+unfolding broken
+string_open-resumes c o l n bs =
+    elim (ltb n (length bs)) as (λ t. ResumesStep (cond t (broken PerlFound (take n bs) (l + line_ends (take n bs))) (open_end c StringOpen o l (take n bs)))) [
+      | true ↦ LastBroken PerlFound (take n bs) (l + line_ends (take n bs)) refl
+      | false ↦ open_end-breaks c StringOpen o l (take n bs)
+    ]
+
+string_by_mode : (c : Course) (o l : ℕ) (k : Kind) (n : ℕ) (m : Mode) (bs : List ℕ) → k ≡ Str → ResumesStep (string_step c o l (record { kind = k; len = n; next_mode = m }) bs)
+unfolding string_step
+string_by_mode c o l k n Plain bs is = NextText k (take n bs) l (inl is) refl
+string_by_mode c o l k n InStr bs is = string_open-resumes c o l n bs
+string_by_mode c o l k n InBlock bs is = string_open-resumes c o l n bs
+
+comment_by_mode : (c : Course) (o l : ℕ) (k : Kind) (n : ℕ) (m : Mode) (bs : List ℕ) → k ≡ BlockComment → ResumesStep (comment_step c o l (record { kind = k; len = n; next_mode = m }) bs)
+unfolding comment_step
+comment_by_mode c o l k n Plain bs is = NextText k (take n bs) l (inr is) refl
+comment_by_mode c o l k n InStr bs is = open_end-breaks c CommentOpen o l (take n bs)
+comment_by_mode c o l k n InBlock bs is = open_end-breaks c CommentOpen o l (take n bs)
+
+-- the tokens behind a step
+unfoldable pub after_step : (c : Course) (l b : ℕ) (bs : List ℕ) → Step → List SourceToken
+after_step c l b bs (Last t) = t ∷ []
+after_step c l b bs (Next t) = t ∷ source_tokens c Plain l (line_after b l) (length t.bytes - 1) bs
+
+pub tokens_step : (c : Course) (m : Mode) (o l b : ℕ) (bs : List ℕ) → source_tokens c m o l 0 (b ∷ bs) ≡ after_step c l b bs (source_step c m o l (b ∷ bs))
+unfolding source_tokens after_step
+tokens_step c m o l b bs =
+    elim (source_step c m o l (b ∷ bs)) as (λ s. (elim s [ Last t ↦ t ∷ [] | Next t ↦ t ∷ source_tokens c Plain l (line_after b l) (length t.bytes - 1) bs ]) ≡ after_step c l b bs s) [
+      | Last t ↦ refl
+      | Next t ↦ refl
+    ]
+
+step_resumes : (c : Course) (m : Mode) (o l b : ℕ) (bs : List ℕ) → ResumesStep (source_step c m o l (b ∷ bs)) → Resumes (source_tokens c m o l 0 (b ∷ bs))
+unfolding after_step
+step_resumes c m o l b bs (NextText k bytes line open_ is) = Copies k bytes line _ open_ (tokens_step c m o l b bs ∙ ap (after_step c l b bs) is)
+step_resumes c m o l b bs (LastBroken k bytes line is) = Breaks k bytes line (tokens_step c m o l b bs ∙ ap (after_step c l b bs) is)
+
+pub step-end_of : (s : Step) → (elim s as (λ _. List SourceToken) [ Last t ↦ t ∷ [] | Next t ↦ [] ]) ≡ end_of s
+unfolding end_of
+step-end_of (Last t) = refl
+step-end_of (Next t) = refl
+
+string_ends : (c : Course) (o l : ℕ) → source_tokens c InStr o l 0 [] ≡ end_of (open_end c StringOpen o l [])
+unfolding source_tokens source_end
+string_ends c o l = step-end_of (open_end c StringOpen o l [])
+
+comment_ends : (c : Course) (o l : ℕ) → source_tokens c InBlock o l 0 [] ≡ end_of (open_end c CommentOpen o l [])
+unfolding source_tokens source_end
+comment_ends c o l = step-end_of (open_end c CommentOpen o l [])
+
+string_tokens-resume : (c : Course) (o l : ℕ) (bs : List ℕ) → Resumes (source_tokens c InStr o l 0 bs)
+unfolding end_of
+string_tokens-resume c o l [] = let p = open_end-last c StringOpen o l [] in Breaks p.0 [] p.1 (string_ends c o l ∙ ap end_of p.2)
+string_tokens-resume c o l (b ∷ bs) =
+    let v = string_token 0 (b ∷ bs) in
+    step_resumes c InStr o l b bs (subst (λ (s : Step). ResumesStep s) (sym (string_rest c o l (b ∷ bs) (omega arith))) (string_by_mode c o l v.kind v.len v.next_mode (b ∷ bs) (string_token-kind 0 (b ∷ bs))))
+
+comment_tokens-resume : (c : Course) (o l : ℕ) (bs : List ℕ) → Resumes (source_tokens c InBlock o l 0 bs)
+unfolding end_of
+comment_tokens-resume c o l [] = let p = open_end-last c CommentOpen o l [] in Breaks p.0 [] p.1 (comment_ends c o l ∙ ap end_of p.2)
+comment_tokens-resume c o l (b ∷ bs) =
+    let v = block_token 0 (b ∷ bs) in
+    step_resumes c InBlock o l b bs (subst (λ (s : Step). ResumesStep s) (sym (comment_rest c o l (b ∷ bs))) (comment_by_mode c o l v.kind v.len v.next_mode (b ∷ bs) (block_token-kind 0 (b ∷ bs))))
+
+-- what remains in a string
+pub remaining-in_string : (most o l : ℕ) (held : List ℕ) (room : ℕ) (rest : List ℕ) → Resumes (remaining_tokens most InStr o l held room rest)
+unfolding remaining_tokens
+remaining-in_string most o l held room rest = string_tokens-resume (course most room rest) o l (held ++ (front most room rest).text)
+
+-- what remains in a block comment
+pub remaining-in_comment : (most o l : ℕ) (held : List ℕ) (room : ℕ) (rest : List ℕ) → Resumes (remaining_tokens most InBlock o l held room rest)
+unfolding remaining_tokens
+remaining-in_comment most o l held room rest = comment_tokens-resume (course most room rest) o l (held ++ (front most room rest).text)
+
+-- `<%` is told by two bytes
+perl-append : (bs more : List ℕ) → begins_perl bs ≡ true → begins_perl (bs ++ more) ≡ true
+unfolding begins_perl
+perl-append [] more h = absurd (false≢true h)
+perl-append (b ∷ []) more h = absurd (false≢true (sym (and-false (eqb b 60)) ∙ h))
+perl-append (b ∷ c ∷ bs) more h = h
+
+string_perl : (c : Course) (o l : ℕ) (bs : List ℕ) → 0 < length bs → begins_perl bs ≡ true → source_tokens c InStr o l 0 bs ≡ record { sort = Broken PerlFound; bytes = []; line = l } ∷ []
+unfolding source_step token_of step_by whole broken
+string_perl c o l bs some h =
+    source_tokens-last c InStr o l bs (record { sort = Broken PerlFound; bytes = []; line = l }) some
+    (ap (λ t. step_by c o l (cond t (whole Perl 2) (string_token 0 bs)) bs) h)
+
+-- `<%` in a string ends the list
+pub remaining-perl_in_string : (most o l : ℕ) (held : List ℕ) (room : ℕ) (rest : List ℕ) → 0 < length held → begins_perl held ≡ true
+    → remaining_tokens most InStr o l held room rest ≡ record { sort = Broken PerlFound; bytes = []; line = l } ∷ []
+unfolding remaining_tokens
+remaining-perl_in_string most o l held room rest some h =
+    let more = (front most room rest).text in
+    string_perl (course most room rest) o l (held ++ more) (omega (arith, length-append held more)) (perl-append held more h)
+
+-- a token in a string is `<%` only where its bytes are
+pub perl_in_string : (bs : List ℕ) → (token_of InStr bs).kind ≡ Perl → begins_perl bs ≡ true
+unfolding token_of
+perl_in_string bs is =
+    let P : Bool → Type 0 = λ t. (cond t (whole Perl 2) (string_token 0 bs)).kind ≡ Perl → t ≡ true in
+    let at_true : P true = λ e. refl in
+    let at_false : P false = λ e. absurd (cc (string_token-kind 0 bs)) in
+    elim (begins_perl bs) as P [ true ↦ at_true | false ↦ at_false ] is

@@ -11,7 +11,7 @@ use Rattle.rdlpp_scan.specs.declared.token.Token.{Token}
 use Rattle.rdlpp_scan.specs.Bytes.{is_blank, is_line_end, is_letter, is_digit, is_word, is_opener, is_closer, takes_word, begins_perl, begins_line_comment, begins_block_comment, ends_block_comment}
 use Rattle.rdlpp_scan.specs.Comments.{is_line_comment}
 use Rattle.rdlpp_scan.specs.Tokens.{first_place, string_stop, whole, string_token, block_token, plain_token, token_of}
-use Rattle.rdlpp_scan.proofs.Places.{first_place-at, at_zero}
+use Rattle.rdlpp_scan.proofs.Searches.{first_place-at, at_zero}
 use Rattle.rdlpp_scan.proofs.TokenLens.{prefix_len-some, inside_of, is_word-letter, is_word-digit, begins_block_comment-two}
 
 -- a byte that is a blank or LF

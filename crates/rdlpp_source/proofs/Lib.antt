@@ -1,2 +1,1 @@
-pub mod Folders
 pub mod Searches

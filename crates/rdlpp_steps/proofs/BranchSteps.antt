@@ -16,8 +16,7 @@ use Rattle.rdlpp_read.specs.Buffer.{held_of}
 use Rattle.rdlpp_read.specs.Files.{consumed_file, inner_buffer, with_inner}
 use Rattle.rdlpp_front.specs.Fronts.{HasName, IsDirective, IsNamed, LacksName, argument_name, word_of}
 use Rattle.rdlpp_front.specs.declared.front.Argument.{Argument}
-use Rattle.rdlpp_front.proofs.DirectiveFacts.{word_len}
-use Rattle.rdlpp_front.proofs.Insides.{name_inside}
+use Rattle.rdlpp_front.proofs.Insides.{word_len, name_inside}
 use Rattle.rdlpp_conditions.specs.Conditions.{ConditionsView, place_of}
 use Rattle.rdlpp_conditions.specs.Moves.{Closes, IsBranch, Opens, closed_one, opened_with, turned_with, with_inner as with_count}
 use Rattle.rdlpp_conditions.specs.declared.conditions.Branch.{Branch}
@@ -33,7 +32,7 @@ use Rattle.rdlpp_steps.specs.Pieces.{lent_answer, step_answer}
 use Rattle.rdlpp_steps.specs.Remaining.{run_rules, state_of}
 use Rattle.rdlpp_steps.specs.Steps.{IsOwn, Walks}
 use Rattle.rdlpp_steps.specs.declared.place.Place.{Place}
-use Rattle.rdlpp_steps.specs.declared.place.Place.TheVariants.{Source, Body, Text, Owed, End, Kept}
+use Rattle.rdlpp_steps.specs.declared.place.Place.TheVariants.{Source, Text, Owed, End, Kept}
 use Rattle.rdlpp_steps.proofs.ConditionalNests.{Continues, Faults, IsPlainFront, closes_at, decided_else, decided_elsif, decided_nameless, opens_at, opens_full, opens_nameless, opens_reserved, refused_else, refused_elsif, skips_else, skips_elsif, skips_end, stray_else, stray_elsif, stray_end, tested_elsif, tested_nameless, tested_reserved}
 use Rattle.rdlpp_steps.proofs.EngineSteps.{not_called}
 use Rattle.rdlpp_steps.proofs.FrontSteps.{kept_cut, late_branch_kind, lends_source, many_conditionals_kind, nameless_kind, read_nothing, refuses, reserved_kind, stray_kind}
@@ -151,7 +150,6 @@ module _ {S R : Type 0} (g : Ghosts S R) (old new : EngineView S R) (ready : IsR
         faults Kept fault.TooManyConditionals [] refl opens.1 many_conditionals_kind
         (opens_full old.limits (run_rules g old) g.unread old.table.macros old.conditions live defined old.files.nest start stop front has free opens.0)
     opens_steps start stop (Some (Source from to)) has free opens = absurd opens
-    opens_steps start stop (Some (Body id from to)) has free opens = absurd opens
     opens_steps start stop (Some (Text place)) has free opens = absurd opens
     opens_steps start stop (Some (Owed piece)) has free opens = absurd opens
     opens_steps start stop (Some End) has free opens = absurd opens

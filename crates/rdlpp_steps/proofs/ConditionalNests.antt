@@ -18,7 +18,7 @@ use Rattle.rdlpp_read.specs.Files.{consumed_file, inner_buffer, with_inner}
 use Rattle.rdlpp_read.specs.declared.files.File.{File}
 use Rattle.rdlpp_front.specs.Fronts.{HasName, IsDirective, LacksName, argument_name, word_of}
 use Rattle.rdlpp_front.specs.SourceLeft.{HoldsFront}
-use Rattle.rdlpp_front.proofs.BranchLeft.{elsif_branches, else_branches}
+use Rattle.rdlpp_front.proofs.ConditionalLeft.{elsif_branches, else_branches}
 use Rattle.rdlpp_conditions.specs.Conditions.{ConditionsView}
 use Rattle.rdlpp_conditions.specs.Moves.{HasTest, closed_one, opened_with, skipped_by, turned_with, with_inner as with_count}
 use Rattle.rdlpp_steps.specs.Conditionals.{opening_word, test_of}

@@ -20,8 +20,7 @@ use Rattle.rdlpp_read.specs.Files.{consumed_file, shift_of, torn_after}
 use Rattle.rdlpp_read.specs.declared.files.File.{File}
 use Rattle.rdlpp_front.specs.Fronts.{HasName, IsDirective, LacksName, argument_name, word_of}
 use Rattle.rdlpp_front.specs.SourceLeft.{HoldsFront, source_left}
-use Rattle.rdlpp_front.proofs.BranchLeft.{Turns, decided_else_left, decided_elsif_left, decided_nameless_left, refused_branch_left, tested_elsif_left, tested_nameless_left, tested_reserved_left}
-use Rattle.rdlpp_front.proofs.ConditionalLeft.{branched, closed_left, opened_left, opening_full_left, opening_nameless_left, opening_reserved_left, stray_branch_left, stray_end_left}
+use Rattle.rdlpp_front.proofs.ConditionalLeft.{Turns, decided_else_left, decided_elsif_left, decided_nameless_left, refused_branch_left, tested_elsif_left, tested_nameless_left, tested_reserved_left, branched, closed_left, opened_left, opening_full_left, opening_nameless_left, opening_reserved_left, stray_branch_left, stray_end_left}
 use Rattle.rdlpp_front.proofs.SkippedWords.{inner_branch_left, inner_end_left, skipped_opening_left}
 use Rattle.rdlpp_conditions.specs.Conditions.{ConditionsView, own_conditions, place_of}
 use Rattle.rdlpp_conditions.specs.Moves.{closed_one, opened_with, skipped_by, turned_open, turned_with, with_inner}

@@ -9,7 +9,6 @@ use Rattle.rdlpp_meaning.specs.OutputLimit.{limited}
 use Rattle.rdlpp_meaning.proofs.OutputLimits.{limited-fails, limited-gives, limited-past, limited-within}
 use Rattle.rdlpp_meaning.specs.Meaning.{behind_bytes}
 use Rattle.rdlpp_read.specs.Files.{inner_buffer}
-use Rattle.rdlpp_table.specs.View.{macro_at}
 use Rattle.rdlpp_steps.specs.Engine.{EngineView, is_open}
 use Rattle.rdlpp_steps.specs.Held.{IsBounded, stores_of}
 use Rattle.rdlpp_steps.specs.Stored.{HoldsStores, LetsGo}
@@ -19,7 +18,7 @@ use Rattle.rdlpp_cursors.specs.Places.{IsPlaced as IsTextPlaced, place_bytes, so
 use Rattle.rdlpp_cursors.specs.declared.place.TextPlace.{TextPlace}
 use Rattle.rdlpp_steps.specs.Pieces.{held_texts, IsPlaced, kept_answer, lent_answer, owed_part}
 use Rattle.rdlpp_steps.specs.declared.owed.OwedPiece.{OwedPiece}
-use Rattle.rdlpp_steps.specs.declared.place.Place.TheVariants.{Source, Body, Text, Owed}
+use Rattle.rdlpp_steps.specs.declared.place.Place.TheVariants.{Source, Text, Owed}
 use Rattle.rdlpp_steps.specs.Remaining.{inner_name, kept_uncut, left_of, output_fault, phase_uncut, state_of, text_of, uncut_of, work_left}
 use Rattle.rdlpp_steps.specs.Steps.{Steps, Walks, all_of, has_met, lent_len, may_follow, no_len, is_call_failed}
 use Rattle.rdlpp_steps.specs.declared.phase.Phase.{Phase}
@@ -282,16 +281,6 @@ cut_source {S} {R} g old mid new from to len w placed spent =
     told_bytes g old new (take len xs) (slice_range (inner_buffer new.files.nest).window from (from + len))
     (ap (λ f. slice_range (inner_buffer f.nest).window from (from + len)) part.files ∙ part_cut (inner_buffer mid.files.nest).window from to len part.inside)
     (cut_piece g old mid new xs (to - from) len w (part_len (inner_buffer mid.files.nest).window from to placed.1 placed.2) spent)
-
--- a part of a body, cut to what may still be lent
-pub cut_body : {S R : Type 0} (g : Ghosts S R) (old mid new : EngineView S R) (id from to len : ℕ) → Walks g old mid (lent_answer mid (Body id from to))
-    → IsPlaced mid (Body id from to) → IsSpent mid new (to - from) len → Steps g old new (lent_answer new (Body id from (from + len)))
-cut_body {S} {R} g old mid new id from to len w placed spent =
-    let part = spent_part mid new (to - from) len spent in
-    let body = (macro_at mid.table.macros id).body in
-    told_bytes g old new (take len (slice_range body from to)) (slice_range (macro_at new.table.macros id).body from (from + len))
-    (ap (λ t. slice_range (macro_at t.macros id).body from (from + len)) part.table ∙ part_cut body from to len part.inside)
-    (cut_piece g old mid new (slice_range body from to) (to - from) len w (part_len body from to placed.1 placed.2) spent)
 
 -- the beginning of a place of an open text
 abbrev pub cut_place : TextPlace → ℕ → TextPlace

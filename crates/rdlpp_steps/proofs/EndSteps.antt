@@ -34,7 +34,7 @@ use Rattle.rdlpp_steps.specs.Remaining.{ending_behind, file_state, inner_name, n
 use Rattle.rdlpp_steps.specs.Steps.{IsOwn, Walks}
 use Rattle.rdlpp_steps.specs.declared.phase.Phase.TheVariants.{Closed}
 use Rattle.rdlpp_steps.specs.declared.place.Place.{Place}
-use Rattle.rdlpp_steps.specs.declared.place.Place.TheVariants.{Source, Body, Text, Owed, End, Kept}
+use Rattle.rdlpp_steps.specs.declared.place.Place.TheVariants.{Source, Text, Owed, End, Kept}
 use Rattle.rdlpp_steps.proofs.ConditionalPlaces.{conditions_live, inner_below-same}
 use Rattle.rdlpp_steps.proofs.EngineSteps.{walks_end}
 use Rattle.rdlpp_steps.proofs.FrontSteps.{IsRead, left_by, lends_by, refuses, refuses_by, text_unowed, unclosed_kind}
@@ -102,7 +102,7 @@ drop_same b [] = refl
 drop_same b (f ∷ outer) = refl
 
 -- the end of the innermost source
-module _ {S R : Type 0} (g : Ghosts S R) (old mid new : EngineView S R) (ready : IsReady old) (r : IsRead old mid) (bounded : IsBounded new)
+module _ {S R : Type 0} (g : Ghosts S R) (old mid new : EngineView S R) (ready : IsReady old) (r : IsRead g old mid) (bounded : IsBounded new)
     (fills : Fills (g.tells old.sources) g.unread fill.End (inner_buffer old.files.nest) (inner_buffer mid.files.nest))
     (call : SourcesCalled g false false old.sources mid.sources) where
   -- the same conditionals are open, and around the innermost source
@@ -194,7 +194,6 @@ module _ {S R : Type 0} (g : Ghosts S R) (old mid new : EngineView S R) (ready :
   pub ended_steps : (place : Option Place) → Ends mid new place → Walks g old new (step_answer new place)
   ended_steps None ends = ended_back ends
   ended_steps (Some (Source start end)) ends = absurd ends
-  ended_steps (Some (Body id start end)) ends = absurd ends
   ended_steps (Some (Text p)) ends = absurd ends
   ended_steps (Some (Owed n)) ends = absurd ends
   ended_steps (Some End) ends = ended_text ends
@@ -205,7 +204,6 @@ module _ {S R : Type 0} (g : Ghosts S R) (old mid new : EngineView S R) (ready :
 pub ended_placed : {S R : Type 0} (mid new : EngineView S R) (place : Option Place) → Ends mid new place → IfSome place (IsPlaced new)
 ended_placed mid new None ends = tt
 ended_placed mid new (Some (Source start end)) ends = absurd ends
-ended_placed mid new (Some (Body id start end)) ends = absurd ends
 ended_placed mid new (Some (Text p)) ends = absurd ends
 ended_placed mid new (Some (Owed n)) ends = absurd ends
 ended_placed mid new (Some End) ends = tt

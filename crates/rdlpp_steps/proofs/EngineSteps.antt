@@ -11,7 +11,7 @@ use Rattle.rdlpp_meaning.specs.Outcome.{Told, told, Outcome, fails, gives}
 use Rattle.rdlpp_meaning.specs.State.{fault_at}
 use Rattle.rdlpp_meaning.proofs.Outputs.{outcome-behind_bytes}
 use Rattle.rdlpp_meaning.proofs.Passages.{outcome-leaves}
-use Rattle.rdlpp_read.specs.Buffer.{reading_line_of}
+use Rattle.rdlpp_read.specs.Buffer.{Slides, reading_line_of}
 use Rattle.rdlpp_read.specs.Calls.{SourcesRead}
 use Rattle.rdlpp_read.specs.Files.{inner_buffer, with_buffer}
 use Rattle.rdlpp_steps.specs.Calls.{SourcesCalled}
@@ -20,11 +20,11 @@ use Rattle.rdlpp_steps.specs.Held.{IsBounded}
 use Rattle.rdlpp_steps.specs.Standing.{LendsWhere, StandsIn}
 use Rattle.rdlpp_steps.specs.Stored.{AreParts}
 use Rattle.rdlpp_read.specs.declared.files.File.{File}
-use Rattle.rdlpp_steps.proofs.Stores.{KeepsStores, fault_lets_go, fault_stores, none_called}
+use Rattle.rdlpp_steps.proofs.Stores.{KeepsStores, keeps_refused, none_called}
 use Rattle.rdlpp_steps.specs.Owed.{nothing_owed}
 use Rattle.rdlpp_steps.specs.Pieces.{kept_answer, lent_answer}
 use Rattle.rdlpp_steps.specs.Remaining.{uncut_of, kept_uncut, output_fault, phase_uncut, state_of, text_of, work_left}
-use Rattle.rdlpp_steps.specs.Steps.{EndsText, FailsAt, OnRead, Halts, HaltsAt, AtFront, Itself, LendsText, MovesOn, StopsReading, StepsOver, TellsText, Walks, all_of, may_follow, no_len, Tells, IsOwn, IsStarted, has_failed, has_met, has_refused, is_call_failed, is_memory_kind, is_read_failed, is_write_failed}
+use Rattle.rdlpp_steps.specs.Steps.{EndsText, FailsAt, OnRead, Halts, HaltsAt, AtFront, Itself, LendsText, StopsReading, StepsOver, TellsText, Walks, all_of, may_follow, no_len, Tells, IsOwn, IsStarted, has_failed, has_met, has_refused, is_call_failed, is_memory_kind, is_read_failed, is_write_failed}
 use Rattle.rdlpp_steps.specs.declared.phase.Phase.{Phase}
 use Rattle.rdlpp_steps.specs.declared.phase.Phase.TheVariants.{Fresh, Open, Passed, Closed}
 use Rattle.rdlpp_steps.specs.declared.place.Place.{Place}
@@ -150,7 +150,7 @@ module _ {S R : Type 0} (g : Ghosts S R) (old new : EngineView S R) (free : old.
 
   -- what a fault leaves, where nothing is owed
   halts_at : (f : Told) → new ≡ record old { kept = Some f; files = new.files; sources = new.sources }
-      → new.files ≡ record old.files { nest = with_buffer (inner_buffer new.files.nest) old.files.nest } → MovesOn (inner_buffer old.files.nest) (inner_buffer new.files.nest) → old.owed ≡ nothing_owed → HaltsAt g old new
+      → new.files ≡ record old.files { nest = with_buffer (inner_buffer new.files.nest) old.files.nest } → Slides (g.tells old.sources) ⊥ g.unread (inner_buffer old.files.nest) (inner_buffer new.files.nest) → old.owed ≡ nothing_owed → HaltsAt g old new
   halts_at f becomes only moves unowed =
       let keeps : Option Told → EngineView S R = λ k. record old { kept = k; files = new.files; sources = new.sources } in
       record {
@@ -172,9 +172,9 @@ module _ {S R : Type 0} (g : Ghosts S R) (old new : EngineView S R) (free : old.
   -- the text has a fault, which is kept, wherever that came
   pub walks_kept : (f : Told) → IsOwn f.kind → new ≡ record old { kept = Some f; files = new.files; sources = new.sources; expansion = new.expansion } → HaltsAt g old new
       → SourcesCalled g false false old.sources new.sources
-      → (g.tells old.sources → text_of g old ≡ leaves (fails f) (state_of new)) → Walks g old new (Err f)
+      → (g.tells old.sources → text_of g old ≡ leaves (fails f) (state_of new)) → KeepsStores g old new → Walks g old new (Err f)
   unfolding has_met no_len is_call_failed
-  walks_kept f own becomes halts call text =
+  walks_kept f own becomes halts call text stores =
       let still : new.phase ≡ Open = ap (λ e. e.phase) becomes ∙ open_ in
       record {
         limits = ap (λ e. e.limits) becomes;
@@ -201,25 +201,25 @@ module _ {S R : Type 0} (g : Ghosts S R) (old new : EngineView S R) (free : old.
         most_macros = ap (λ e. e.table.most_macros) becomes;
         bounded = bounded;
         stands = λ _ _ bytes e. absurd (cc);
-        lets_go = λ _. fault_lets_go new f (ap (λ e. e.kept) becomes);
-        stores = λ _ _. fault_stores g new f (ap (λ e. e.kept) becomes);
+        lets_go = stores.lets_go;
+        stores = stores.stores;
       }
 
   -- a fault at the front of what is held
   pub walks_fault : (f : Told) → IsOwn f.kind → new ≡ record old { kept = Some f; files = new.files; sources = new.sources }
       → new.files ≡ record old.files { nest = with_buffer (inner_buffer new.files.nest) old.files.nest }
-      → MovesOn (inner_buffer old.files.nest) (inner_buffer new.files.nest) → old.owed ≡ nothing_owed
+      → Slides (g.tells old.sources) ⊥ g.unread (inner_buffer old.files.nest) (inner_buffer new.files.nest) → old.owed ≡ nothing_owed
       → SourcesCalled g false false old.sources new.sources
-      → (g.tells old.sources → text_of g old ≡ leaves (fails f) (state_of new)) → Walks g old new (Err f)
-  walks_fault f own becomes only moves unowed call text =
-      walks_kept f own (same_texts f becomes) (halts_at f becomes only moves unowed) call text
+      → (g.tells old.sources → text_of g old ≡ leaves (fails f) (state_of new)) → KeepsStores g old new → Walks g old new (Err f)
+  walks_fault f own becomes only moves unowed call text stores =
+      walks_kept f own (same_texts f becomes) (halts_at f becomes only moves unowed) call text stores
 
   -- a read or a search failed, wherever that was
   pub walks_ceased : (f : Told) → FailsAt new f → is_call_failed f.kind ≡ true → is_write_failed f.kind ≡ false
       → new ≡ record old { kept = Some f; files = new.files; sources = new.sources; expansion = new.expansion } → HaltsAt g old new → StopsReading g old new
-      → SourcesCalled g (is_read_failed f.kind) (is_memory_kind f.kind) old.sources new.sources → Walks g old new (Err f)
+      → SourcesCalled g (is_read_failed f.kind) (is_memory_kind f.kind) old.sources new.sources → KeepsStores g old new → Walks g old new (Err f)
   unfolding has_met no_len
-  walks_ceased f fails met write becomes halts reads call =
+  walks_ceased f fails met write becomes halts reads call stores =
       let still : new.phase ≡ Open = ap (λ e. e.phase) becomes ∙ open_ in
       record {
         limits = ap (λ e. e.limits) becomes;
@@ -246,35 +246,35 @@ module _ {S R : Type 0} (g : Ghosts S R) (old new : EngineView S R) (free : old.
         most_macros = ap (λ e. e.table.most_macros) becomes;
         bounded = bounded;
         stands = λ _ _ bytes e. absurd (cc);
-        lets_go = λ _. fault_lets_go new f (ap (λ e. e.kept) becomes);
-        stores = λ _ _. fault_stores g new f (ap (λ e. e.kept) becomes);
+        lets_go = stores.lets_go;
+        stores = stores.stores;
       }
 
   -- at the front of what is held
   pub walks_stopped : (f : Told) → FailsAt new f → is_call_failed f.kind ≡ true → is_write_failed f.kind ≡ false
       → new ≡ record old { kept = Some f; files = new.files; sources = new.sources }
       → new.files ≡ record old.files { nest = with_buffer (inner_buffer new.files.nest) old.files.nest }
-      → MovesOn (inner_buffer old.files.nest) (inner_buffer new.files.nest) → old.owed ≡ nothing_owed
+      → Slides (g.tells old.sources) ⊥ g.unread (inner_buffer old.files.nest) (inner_buffer new.files.nest) → old.owed ≡ nothing_owed
       → SourcesCalled g (is_read_failed f.kind) (is_memory_kind f.kind) old.sources new.sources
-      → (g.tells old.sources → text_of g old ≡ text_of g new) → Walks g old new (Err f)
-  walks_stopped f fails met write becomes only moves unowed call text =
+      → (g.tells old.sources → text_of g old ≡ text_of g new) → KeepsStores g old new → Walks g old new (Err f)
+  walks_stopped f fails met write becomes only moves unowed call text stores =
       let still : new.phase ≡ Open = ap (λ e. e.phase) becomes ∙ open_ in
       walks_ceased f fails met write (same_texts f becomes) (halts_at f becomes only moves unowed)
-      (record { open_ = open_; still = still; at = new; stood = Itself refl; text = text }) call
+      (record { open_ = open_; still = still; at = new; stood = Itself refl; text = text }) call stores
 
   -- a read failed
   pub walks_failed : (f : Told) → f ≡ fault_at fault.ReadFailed (reading_line_of (inner_buffer new.files.nest)) [] (state_of new)
       → new ≡ record old { kept = Some f; files = new.files; sources = new.sources }
       → new.files ≡ record old.files { nest = with_buffer (inner_buffer new.files.nest) old.files.nest }
-      → MovesOn (inner_buffer old.files.nest) (inner_buffer new.files.nest) → old.owed ≡ nothing_owed
+      → Slides (g.tells old.sources) ⊥ g.unread (inner_buffer old.files.nest) (inner_buffer new.files.nest) → old.owed ≡ nothing_owed
       → SourcesCalled g true false old.sources new.sources
-      → (g.tells old.sources → text_of g old ≡ text_of g new) → Walks g old new (Err f)
+      → (g.tells old.sources → text_of g old ≡ text_of g new) → KeepsStores g old new → Walks g old new (Err f)
   unfolding fault_at is_read_failed is_write_failed is_memory_kind is_call_failed
-  walks_failed f is becomes only moves unowed call text =
+  walks_failed f is becomes only moves unowed call text stores =
       let read : is_read_failed f.kind ≡ true = ap (λ t. is_read_failed t.kind) is in
       let write : is_write_failed f.kind ≡ false = ap (λ t. is_write_failed t.kind) is in
       let memory : is_memory_kind f.kind ≡ false = ap (λ t. is_memory_kind t.kind) is in
-      walks_stopped f (OnRead is) (ap (λ t. is_call_failed t.kind) is) write becomes only moves unowed (rw (read, memory) call) text
+      walks_stopped f (OnRead is) (ap (λ t. is_call_failed t.kind) is) write becomes only moves unowed (rw (read, memory) call) text stores
 
   -- the text has ended
   pub walks_end : new ≡ record old { phase = Closed; files = new.files; sources = new.sources } → old.owed ≡ nothing_owed → old.expansion.opens ≡ []
@@ -311,8 +311,10 @@ module _ {S R : Type 0} (g : Ghosts S R) (old new : EngineView S R) (free : old.
         stands = λ _ _ bytes e. absurd (cc);
         lets_go = λ h. record { idle = λ _ is. ap (λ e. e.expansion.arguments) becomes ∙ h.idle free (none_called old.table.macros old.expansion.opens idle) };
         stores = λ t h. record {
-          parts = λ _. subst (λ (ns : List (File R)). AreParts g.unread (g.catalog new.sources) ns) (sym (text t).closed) tt;
-          call = λ _ fs called. absurd (let no : None ≡ Some fs = sym (none_called new.table.macros new.expansion.opens (ap (λ e. e.expansion.opens) becomes ∙ idle)) ∙ called in cc);
+          lets_go = record { idle = λ _ is. ap (λ e. e.expansion.arguments) becomes ∙ h.lets_go.idle free (none_called old.table.macros old.expansion.opens idle) };
+          parts = subst (λ (ns : List (File R)). AreParts g.unread (g.catalog new.sources) (new.kept ≡ None) ns) (sym (text t).closed) tt;
+          begun = λ _. inl (ap (λ e. e.expansion.arguments) becomes ∙ h.lets_go.idle free (none_called old.table.macros old.expansion.opens idle));
+          call = λ fs called. absurd (let no : None ≡ Some fs = sym (none_called new.table.macros new.expansion.opens (ap (λ e. e.expansion.opens) becomes ∙ idle)) ∙ called in cc);
         };
       }
 
@@ -519,8 +521,9 @@ write_failed_by f t e = ap (λ (x : Told). is_write_failed x.kind) (let same : t
 pub steps_passed : {S R : Type 0} (g : Ghosts S R) (old new : EngineView S R) →
     old.kept ≡ None → old.phase ≡ Passed → IsBounded new → new ≡ record old { kept = Some (output_fault old.main) } → Walks g old new (Err (output_fault old.main))
 unfolding has_met uncut_of kept_uncut phase_uncut no_len output_fault is_call_failed is_read_failed is_write_failed is_memory_kind
-steps_passed g old new free past bounded becomes =
+steps_passed {S} {R} g old new free past bounded becomes =
     let still : new.phase ≡ Passed = ap (λ e. e.phase) becomes ∙ past in
+    let stores : KeepsStores g old new = subst (λ (e : EngineView S R). KeepsStores g old e) (sym becomes) (keeps_refused g old (output_fault old.main)) in
     record {
       limits = ap (λ e. e.limits) becomes;
       origins = ap (λ e. e.origins) becomes;
@@ -546,8 +549,8 @@ steps_passed g old new free past bounded becomes =
       most_macros = ap (λ e. e.table.most_macros) becomes;
       bounded = bounded;
       stands = λ _ _ bytes e. absurd (cc);
-      lets_go = λ _. fault_lets_go new (output_fault old.main) (ap (λ e. e.kept) becomes);
-      stores = λ _ _. fault_stores g new (output_fault old.main) (ap (λ e. e.kept) becomes);
+      lets_go = stores.lets_go;
+      stores = stores.stores;
     }
 
 -- a fault that is kept is what is answered

@@ -37,11 +37,11 @@ use Rattle.rdlpp_steps.specs.Moves.{IsReady}
 use Rattle.rdlpp_steps.specs.Owed.{OwedView, nothing_owed, origin_owed}
 use Rattle.rdlpp_steps.specs.Pieces.{lent_answer, step_answer}
 use Rattle.rdlpp_steps.specs.Remaining.{find_of, lookup_of, nest_left, nest_state, run_rules, source_rules, state_of}
-use Rattle.rdlpp_steps.specs.Steps.{IsOwn, MovesOn, OnSearch, Walks, is_call_failed, is_memory_kind, is_read_failed, is_write_failed}
+use Rattle.rdlpp_steps.specs.Steps.{IsOwn, OnSearch, Walks, is_call_failed, is_memory_kind, is_read_failed, is_write_failed}
 use Rattle.rdlpp_steps.specs.declared.place.Place.{Place}
 use Rattle.rdlpp_steps.specs.declared.place.Place.TheVariants.{Kept}
 use Rattle.rdlpp_steps.proofs.EngineSteps.{kept_at, not_called, walks_stopped}
-use Rattle.rdlpp_steps.proofs.FrontSteps.{Fails, IsRead, keeps_fault, keeps_files, keeps_moves, kept_text, left_by, lends_by, read_nothing, read_text, refuses}
+use Rattle.rdlpp_steps.proofs.FrontSteps.{Fails, IsRead, keeps_fault, keeps_files, keeps_moves, keeps_read, kept_text, left_by, lends_by, read_nothing, read_text, refuses}
 use Rattle.rdlpp_steps.proofs.IncludeSteps.{nest_include_absent, nest_include_bad, nest_include_deep, nest_include_nameless, nest_include_overlong, nest_included}
 use Rattle.rdlpp_steps.proofs.NestLeft.{none_held}
 use Rattle.rdlpp_steps.proofs.OwedOrigins.{owed_few, owed_origin}
@@ -128,14 +128,14 @@ module _ {R : Type 0} (limits : Limits) (rules : Rules) (unread : R → List ℕ
       ∙ ap (λ (n : ℕ). behind_bytes (origin_line rules found.path.bytes 1) (nest_left limits rules unread macros v (rest n))) (sym size)
 
 -- only the sources changed
-pub read_sources : {S R : Type 0} (old mid : EngineView S R) → mid ≡ record old { sources = mid.sources } → IsRead old mid
-read_sources {S} {R} old mid becomes =
+pub read_sources : {S R : Type 0} (g : Ghosts S R) (old mid : EngineView S R) → mid ≡ record old { sources = mid.sources } → IsRead g old mid
+read_sources {S} {R} g old mid becomes =
     let files : mid.files ≡ old.files = ap (λ e. e.files) becomes in
-    let nothing = read_nothing old in
+    let nothing : IsRead g old old = read_nothing old in
     record {
       becomes = becomes ∙ ap (λ (fs : FilesView R). record old { files = fs; sources = mid.sources }) (sym files);
       only = subst (λ (fs : FilesView R). fs ≡ record old.files { nest = with_buffer (inner_buffer fs.nest) old.files.nest }) (sym files) nothing.only;
-      moves = subst (λ (fs : FilesView R). MovesOn (inner_buffer old.files.nest) (inner_buffer fs.nest)) (sym files) nothing.moves;
+      moves = subst (λ (fs : FilesView R). Slides (g.tells old.sources) ⊥ g.unread (inner_buffer old.files.nest) (inner_buffer fs.nest)) (sym files) nothing.moves;
     }
 
 -- an `include` behind which no string stands that closes on its line
@@ -164,7 +164,7 @@ module _ {S R : Type 0} (g : Ghosts S R) (old mid new : EngineView S R) (start s
       → (g.tells old.sources → Fails g old kind (inner_buffer old.files.nest).line []) → Walks g old new (lent_answer new place)
   refuse_steps place is kind own call kept law =
       let keeps : FilesView R → EngineView S R = λ fs. record mid { kept = Some (fault_at kind (inner_buffer fs.nest).line [] (state_of mid)) } in
-      refuses g old mid new place kind (inner_buffer old.files.nest).line [] ready (read_sources old mid becomes) bounded is (kept ∙ ap keeps same_files) own call law
+      refuses g old mid new place kind (inner_buffer old.files.nest).line [] ready (read_sources g old mid becomes) bounded is (kept ∙ ap keeps same_files) own call law
 
   -- the search failed
   stopped_steps : (place : Place) → place ≡ Kept → (kind : FaultKind) → is_call_failed kind ≡ true → is_write_failed kind ≡ false → SourcesCalled g (is_read_failed kind) (is_memory_kind kind) old.sources mid.sources
@@ -172,7 +172,7 @@ module _ {S R : Type 0} (g : Ghosts S R) (old mid new : EngineView S R) (start s
   unfolding fault_at state_of
   stopped_steps place is kind met write call kept good room =
       let told : EngineView S R → Told = λ e. fault_at kind (inner_buffer e.files.nest).line [] (nest_state e.limits e.table.macros e.conditions e.files.nest) in
-      let r = read_sources old mid becomes in
+      let r = read_sources g old mid becomes in
       let files : new.files ≡ old.files = ap (λ e. e.files) kept ∙ same_files in
       let sources : new.sources ≡ mid.sources = ap (λ e. e.sources) kept in
       let P : S → Type 0 = λ s. SourcesCalled g (is_read_failed kind) (is_memory_kind kind) old.sources s in
@@ -188,7 +188,8 @@ module _ {S R : Type 0} (g : Ghosts S R) (old mid new : EngineView S R) (start s
       kept_at g old new place (told mid) is (ap (λ e. e.kept) kept)
       (walks_stopped g old new ready.free ready.open_ bounded (told mid) (OnSearch search kind met (sym (ap told kept))) met write
       (keeps_fault old mid new (told mid) r kept) (keeps_files old mid new (told mid) r kept) (keeps_moves old mid new (told mid) r kept) ready.owed (subst P (sym sources) call)
-      (λ t. read_text g old mid ready.owed ready.idle r call.catalog (ap (λ (ns : List (File R)). left_by g old old.table.macros old.conditions ns) nest) ∙ sym (kept_text g mid new (told mid) kept)))
+      (λ t. read_text g old mid ready.owed ready.idle r call.catalog (ap (λ (ns : List (File R)). left_by g old old.table.macros old.conditions ns) nest) ∙ sym (kept_text g mid new (told mid) kept))
+      (keeps_read g old mid new (told mid) ready r kept call.catalog))
 
   -- what is found is what the rules find
   finds_as : (fault : SourceFault) → Searches g old name_of mid.sources (Err fault) → (place : Place) → place ≡ Kept → KeepsKind (kind_of_source fault) → Walks g old new (lent_answer new place)

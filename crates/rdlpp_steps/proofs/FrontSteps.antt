@@ -24,7 +24,6 @@ use Rattle.rdlpp_meaning.specs.Meaning.{Passage, behind_bytes, goes_on, leaves}
 use Rattle.rdlpp_meaning.specs.Outcome.{Told, fails}
 use Rattle.rdlpp_meaning.specs.Parts.{line_ends_of}
 use Rattle.rdlpp_meaning.specs.Profile.{define_fault, rules_of, with_fault}
-use Rattle.rdlpp_meaning.specs.PlainMacros.{stands_for_body}
 use Rattle.rdlpp_meaning.specs.State.{State, fault_at}
 use Rattle.rdlpp_meaning.proofs.OwedLineEnds.{line_ends_of-owed}
 use Rattle.rdlpp_cursors.proofs.Starting.{whole-range}
@@ -38,28 +37,28 @@ use Rattle.rdlpp_read.specs.declared.files.File.{File}
 use Rattle.rdlpp_read.proofs.Slices.{line_ends_le}
 use Rattle.rdlpp_front.specs.Fronts.{AtBare, AtPerl, HasName, IsDirective, IsRefused, IsText, IsUsage, LacksName, argument_name, usage_name}
 use Rattle.rdlpp_front.proofs.Insides.{name_inside, text_inside, usage_inside}
-use Rattle.rdlpp_front.proofs.SourceFacts.{held_entered}
+use Rattle.rdlpp_front.proofs.SourcePassages.{held_entered}
 use Rattle.rdlpp_conditions.specs.Conditions.{ConditionsView}
 use Rattle.rdlpp_steps.specs.Calls.{SourcesCalled}
 use Rattle.rdlpp_steps.specs.Engine.{EngineView, IsSoundEngine, is_open}
 use Rattle.rdlpp_steps.specs.Held.{IsBounded}
 use Rattle.rdlpp_steps.specs.Standing.{AtOwed, AtSource, Nowhere, StandsIn}
 use Rattle.rdlpp_steps.specs.Stored.{AreParts}
-use Rattle.rdlpp_steps.proofs.Stores.{KeepsParts, KeepsStores, keeps_owed, keeps_sources, parts_mode, parts_on, parts_slid, parts_used}
+use Rattle.rdlpp_steps.proofs.Stores.{KeepsParts, KeepsStores, keeps_owed, keeps_sources, keeps_stopped, parts_mode, parts_on, parts_slid, parts_used}
 use Rattle.rdlpp_steps.specs.Moves.{Defines, IsReady, IsUnowed, ReadsDefine, RefusesDefine, define_rest}
 use Rattle.rdlpp_steps.specs.Owed.{OriginView, OwedView, TakesPiece, digits_of, line_ends_owed, nothing_owed, origin_bytes, origin_pieces, owed_bytes, owed_pieces, part_bytes}
 use Rattle.rdlpp_steps.specs.declared.owed.OwedPiece.{OwedPiece}
 use Rattle.rdlpp_steps.specs.Pieces.{IsPlaced, lent_answer, step_answer}
 use Rattle.rdlpp_steps.specs.Remaining.{file_state, inner_name, nest_left, nest_state, run_rules, source_rules, state_of, text_of, work_left}
-use Rattle.rdlpp_steps.specs.Steps.{IsOwn, Walks, is_memory_kind, is_read_failed, is_write_failed, MovesOn}
+use Rattle.rdlpp_steps.specs.Steps.{IsOwn, Walks, is_memory_kind, is_read_failed, is_write_failed}
 use Rattle.rdlpp_steps.specs.declared.phase.Phase.{Phase}
 use Rattle.rdlpp_steps.specs.declared.phase.Phase.TheVariants.{Open}
 use Rattle.rdlpp_steps.specs.declared.place.Place.{Place}
-use Rattle.rdlpp_steps.specs.declared.place.Place.TheVariants.{Source, Body, Text, Owed, End, Kept}
+use Rattle.rdlpp_steps.specs.declared.place.Place.TheVariants.{Source, Text, Owed, End, Kept}
 use Rattle.rdlpp_usages.specs.Usages.{texts_left}
 use Rattle.rdlpp_steps.proofs.IdleTexts.{text_idle}
 use Rattle.rdlpp_steps.proofs.EngineSteps.{IsSilent, kept_at, not_called, walks_failed, walks_fault, walks_lent}
-use Rattle.rdlpp_steps.proofs.NestLeft.{nest_body, nest_cut_define, nest_defined, nest_filled, nest_long_define, nest_long_line, nest_long_source, nest_nameless, nest_refused, nest_refused_define, nest_reserved, nest_text, nest_undef, nest_undefined, nest_unfilled, nest_unheld}
+use Rattle.rdlpp_steps.proofs.NestLeft.{nest_cut_define, nest_defined, nest_filled, nest_long_define, nest_long_line, nest_long_source, nest_nameless, nest_refused, nest_refused_define, nest_reserved, nest_text, nest_undef, nest_undefined, nest_unfilled, nest_unheld}
 use Rattle.rdlpp_steps.proofs.Soundness.{inner_facts, with_inner-length}
 use Rattle.rdlpp_steps.proofs.WorkFacts.{IsUsed, entered_unused, held_room, owed_falls, used_after, used_bytes, work_falls, work_same}
 
@@ -134,7 +133,7 @@ pub lends_by : {S R : Type 0} (g : Ghosts S R) (old : EngineView S R) (ready : I
     → let after = record old { owed = owed; table = record old.table { macros = macros }; conditions = v; files = record old.files { nest = nest }; sources = sources } in
     IsBounded after → work_left after < work_left old → SourcesCalled g false false old.sources sources
     → (g.tells old.sources → left_by g old old.table.macros old.conditions old.files.nest ≡ behind_bytes bytes (behind_bytes (owed_bytes (inner_name nest) owed) (left_by g old macros v nest)))
-    → (g.tells old.sources → AreParts g.unread (g.catalog old.sources) old.files.nest → AreParts g.unread (g.catalog old.sources) nest)
+    → (g.tells old.sources → AreParts g.unread (g.catalog old.sources) Unit old.files.nest → AreParts g.unread (g.catalog old.sources) Unit nest)
     → StandsIn old after bytes → Walks g old after (Ok (Some bytes))
 lends_by g old ready bytes owed macros v nest sources bounded falls call law parts from =
     let after = record old { owed = owed; table = record old.table { macros = macros }; conditions = v; files = record old.files { nest = nest }; sources = sources } in
@@ -142,7 +141,7 @@ lends_by g old ready bytes owed macros v nest sources bounded falls call law par
     (λ t. text_unowed g old ready.owed ready.idle
     ∙ (law t ∙ (ap (λ (c : Catalog). behind_bytes bytes (behind_bytes (owed_bytes (inner_name nest) owed) (nest_left old.limits (source_rules c old.limits old.origins) g.unread macros v nest))) (sym call.catalog)
     ∙ ap (behind_bytes bytes) (sym (text_idle g after ready.idle)))))
-    falls (keeps_sources g old owed macros v nest sources ready.idle call.catalog parts) from
+    falls (keeps_sources g old owed macros v nest sources ready.free ready.idle call.catalog parts) from
 
 -- bytes of the innermost source are used, and a piece is lent
 pub lends_piece : {S R : Type 0} (g : Ghosts S R) (old : EngineView S R) (ready : IsReady old) (bytes : List ℕ) (owed : OwedView) (macros : List Macro) (v : ConditionsView) (nest : List (File R)) (sources : S)
@@ -251,17 +250,17 @@ kept_cut {S} {R} old new kind line word name s becomes cut =
     becomes ∙ ap keeps (ap (λ w. fault_at kind line w s) cut ∙ cut_once kind line name s)
 
 -- only the innermost buffer and the sources changed
-pub record IsRead {S R : Type 0} (old mid : EngineView S R) : Type 0 where
+pub record IsRead {S R : Type 0} (g : Ghosts S R) (old mid : EngineView S R) : Type 0 where
   pub becomes : mid ≡ record old { files = mid.files; sources = mid.sources }
   pub only : mid.files ≡ record old.files { nest = with_buffer (inner_buffer mid.files.nest) old.files.nest }
-  pub moves : MovesOn (inner_buffer old.files.nest) (inner_buffer mid.files.nest)
+  pub moves : Slides (g.tells old.sources) ⊥ g.unread (inner_buffer old.files.nest) (inner_buffer mid.files.nest)
 
--- a window that moved on over its text
-pub slid : {R : Type 0} (tells : Type 0) (unread : R → List ℕ) (old new : BufferView R) → Slides tells unread old new → MovesOn old new
-slid tells unread old new slides = record { dropped = slides.dropped; gained = slides.gained; window = slides.window; used = slides.used }
+-- a window that moved on over its text, wherever bytes were lost
+pub slid : {R : Type 0} (tells exact : Type 0) (unread : R → List ℕ) (old new : BufferView R) → Slides tells exact unread old new → Slides tells ⊥ unread old new
+slid tells exact unread old new slides = slides-told tells tells ⊥ exact unread old new (λ t. t) (λ no. absurd no) slides
 
 -- the state is the same then
-pub read_state : {S R : Type 0} (old mid : EngineView S R) → IsRead old mid → state_of mid ≡ state_of old
+pub read_state : {S R : Type 0} {g : Ghosts S R} (old mid : EngineView S R) → IsRead g old mid → state_of mid ≡ state_of old
 unfolding state_of
 read_state {S} {R} old mid r =
     let limits : mid.limits ≡ old.limits = ap (λ e. e.limits) r.becomes in
@@ -273,7 +272,7 @@ read_state {S} {R} old mid r =
     ∙ rw (limits, table, conditions) refl)
 
 -- what keeping a fault makes of an engine
-pub keeps_fault : {S R : Type 0} (old mid new : EngineView S R) (f : Told) → IsRead old mid → new ≡ record mid { kept = Some f }
+pub keeps_fault : {S R : Type 0} {g : Ghosts S R} (old mid new : EngineView S R) (f : Told) → IsRead g old mid → new ≡ record mid { kept = Some f }
     → new ≡ record old { kept = Some f; files = new.files; sources = new.sources }
 keeps_fault {S} {R} old mid new f r becomes =
     let files : new.files ≡ mid.files = ap (λ e. e.files) becomes in
@@ -283,19 +282,28 @@ keeps_fault {S} {R} old mid new f r becomes =
     ∙ (ap (λ (fs : FilesView R). keeps fs mid.sources) (sym files) ∙ ap (λ (s : S). keeps new.files s) (sym sources)))
 
 -- and the innermost buffer alone
-pub keeps_files : {S R : Type 0} (old mid new : EngineView S R) (f : Told) → IsRead old mid → new ≡ record mid { kept = Some f }
+pub keeps_files : {S R : Type 0} {g : Ghosts S R} (old mid new : EngineView S R) (f : Told) → IsRead g old mid → new ≡ record mid { kept = Some f }
     → new.files ≡ record old.files { nest = with_buffer (inner_buffer new.files.nest) old.files.nest }
 keeps_files {S} {R} old mid new f r becomes =
     subst (λ (fs : FilesView R). fs ≡ record old.files { nest = with_buffer (inner_buffer fs.nest) old.files.nest }) (sym (ap (λ e. e.files) becomes)) r.only
 
 -- whose window moved on
-pub keeps_moves : {S R : Type 0} (old mid new : EngineView S R) (f : Told) → IsRead old mid → new ≡ record mid { kept = Some f }
-    → MovesOn (inner_buffer old.files.nest) (inner_buffer new.files.nest)
-keeps_moves {S} {R} old mid new f r becomes =
-    subst (λ (fs : FilesView R). MovesOn (inner_buffer old.files.nest) (inner_buffer fs.nest)) (sym (ap (λ e. e.files) becomes)) r.moves
+pub keeps_moves : {S R : Type 0} {g : Ghosts S R} (old mid new : EngineView S R) (f : Told) → IsRead g old mid → new ≡ record mid { kept = Some f }
+    → Slides (g.tells old.sources) ⊥ g.unread (inner_buffer old.files.nest) (inner_buffer new.files.nest)
+keeps_moves {S} {R} {g} old mid new f r becomes =
+    subst (λ (fs : FilesView R). Slides (g.tells old.sources) ⊥ g.unread (inner_buffer old.files.nest) (inner_buffer fs.nest)) (sym (ap (λ e. e.files) becomes)) r.moves
+
+-- and what is held stays
+pub keeps_read : {S R : Type 0} (g : Ghosts S R) (old mid new : EngineView S R) (f : Told) → IsReady old → IsRead g old mid → new ≡ record mid { kept = Some f } → g.catalog mid.sources ≡ g.catalog old.sources → KeepsStores g old new
+keeps_read {S} {R} g old mid new f ready r becomes catalog =
+    let b = inner_buffer mid.files.nest in
+    let is : new ≡ record old { kept = Some f; files = record old.files { nest = with_buffer b old.files.nest }; sources = mid.sources } =
+    becomes ∙ (ap (λ (m : EngineView S R). record m { kept = Some f }) r.becomes ∙ ap (λ (fs : FilesView R). record old { kept = Some f; files = fs; sources = mid.sources }) r.only) in
+    subst (λ (e : EngineView S R). KeepsStores g old e) (sym is)
+    (keeps_stopped g old f b mid.sources ready.free ready.idle ready.nest catalog r.moves)
 
 -- the text is the same where what remains of the open sources is
-pub read_text : {S R : Type 0} (g : Ghosts S R) (old mid : EngineView S R) → old.owed ≡ nothing_owed → old.expansion.opens ≡ [] → IsRead old mid → g.catalog mid.sources ≡ g.catalog old.sources
+pub read_text : {S R : Type 0} (g : Ghosts S R) (old mid : EngineView S R) → old.owed ≡ nothing_owed → old.expansion.opens ≡ [] → IsRead g old mid → g.catalog mid.sources ≡ g.catalog old.sources
     → left_by g old old.table.macros old.conditions old.files.nest ≡ left_by g old old.table.macros old.conditions (with_buffer (inner_buffer mid.files.nest) old.files.nest)
     → text_of g old ≡ text_of g mid
 read_text {S} {R} g old mid unowed idle r catalog law =
@@ -319,7 +327,7 @@ unfolding fault_at
 told_kind kind line word s own = own
 
 -- a fault of the text is kept, as it is told in the state that the text goes on from
-pub refuses_by : {S R : Type 0} (g : Ghosts S R) (old mid new : EngineView S R) (place : Place) (tell : State → Told) → ((s : State) → IsOwn (tell s).kind) → IsReady old → IsRead old mid → IsBounded new
+pub refuses_by : {S R : Type 0} (g : Ghosts S R) (old mid new : EngineView S R) (place : Place) (tell : State → Told) → ((s : State) → IsOwn (tell s).kind) → IsReady old → IsRead g old mid → IsBounded new
     → place ≡ Kept → new ≡ record mid { kept = Some (tell (state_of mid)) } → SourcesCalled g false false old.sources mid.sources
     → (g.tells old.sources → left_by g old old.table.macros old.conditions old.files.nest ≡ leaves (fails (tell (state_of old))) (state_of old))
     → Walks g old new (lent_answer new place)
@@ -332,10 +340,11 @@ refuses_by {S} {R} g old mid new place tell own ready r bounded is becomes call 
     let P : S → Type 0 = λ s. SourcesCalled g false false old.sources s in
     kept_at g old new place f is (ap (λ e. e.kept) becomes)
     (walks_fault g old new ready.free ready.open_ bounded f (own (state_of mid)) (keeps_fault old mid new f r becomes) (keeps_files old mid new f r becomes) (keeps_moves old mid new f r becomes) ready.owed (subst P (sym sources) call)
-    (λ t. text_unowed g old ready.owed ready.idle ∙ (law t ∙ (ap (λ (s : State). leaves (fails (tell s)) s) (sym same) ∙ ap (leaves (fails f)) (sym here)))))
+    (λ t. text_unowed g old ready.owed ready.idle ∙ (law t ∙ (ap (λ (s : State). leaves (fails (tell s)) s) (sym same) ∙ ap (leaves (fails f)) (sym here))))
+    (keeps_read g old mid new f ready r becomes call.catalog))
 
 -- a fault at a line of the source is kept
-pub refuses : {S R : Type 0} (g : Ghosts S R) (old mid new : EngineView S R) (place : Place) (kind : FaultKind) (line : ℕ) (word : List ℕ) → IsReady old → IsRead old mid → IsBounded new
+pub refuses : {S R : Type 0} (g : Ghosts S R) (old mid new : EngineView S R) (place : Place) (kind : FaultKind) (line : ℕ) (word : List ℕ) → IsReady old → IsRead g old mid → IsBounded new
     → place ≡ Kept → new ≡ record mid { kept = Some (fault_at kind line word (state_of mid)) } → IsOwn kind → SourcesCalled g false false old.sources mid.sources
     → (g.tells old.sources → left_by g old old.table.macros old.conditions old.files.nest ≡ leaves (fails (fault_at kind line word (state_of old))) (state_of old))
     → Walks g old new (lent_answer new place)
@@ -343,7 +352,7 @@ refuses g old mid new place kind line word ready r bounded is becomes own call l
     refuses_by g old mid new place (λ s. fault_at kind line word s) (λ s. told_kind kind line word s own) ready r bounded is becomes call law
 
 -- a failed read is kept
-pub fails_reading : {S R : Type 0} (g : Ghosts S R) (old mid new : EngineView S R) (place : Place) → IsReady old → IsRead old mid → IsBounded new
+pub fails_reading : {S R : Type 0} (g : Ghosts S R) (old mid new : EngineView S R) (place : Place) → IsReady old → IsRead g old mid → IsBounded new
     → place ≡ Kept → new ≡ record mid { kept = Some (fault_at fault.ReadFailed (reading_line_of (inner_buffer mid.files.nest)) [] (state_of mid)) } → SourcesCalled g true false old.sources mid.sources
     → (g.tells old.sources → left_by g old old.table.macros old.conditions old.files.nest ≡ left_by g old old.table.macros old.conditions (with_buffer (inner_buffer mid.files.nest) old.files.nest))
     → Walks g old new (lent_answer new place)
@@ -354,16 +363,17 @@ fails_reading {S} {R} g old mid new place ready r bounded is becomes call law =
     let P : S → Type 0 = λ s. SourcesCalled g true false old.sources s in
     kept_at g old new place (told mid) is (ap (λ e. e.kept) becomes)
     (walks_failed g old new ready.free ready.open_ bounded (told mid) (sym (ap told becomes)) (keeps_fault old mid new (told mid) r becomes) (keeps_files old mid new (told mid) r becomes) (keeps_moves old mid new (told mid) r becomes) ready.owed (subst P (sym sources) call)
-    (λ t. read_text g old mid ready.owed ready.idle r call.catalog (law t) ∙ sym (kept_text g mid new (told mid) becomes)))
+    (λ t. read_text g old mid ready.owed ready.idle r call.catalog (law t) ∙ sym (kept_text g mid new (told mid) becomes))
+    (keeps_read g old mid new (told mid) ready r becomes call.catalog))
 
 -- nothing changed
-pub read_nothing : {S R : Type 0} (e : EngineView S R) → IsRead e e
-read_nothing e =
+pub read_nothing : {S R : Type 0} {g : Ghosts S R} (e : EngineView S R) → IsRead g e e
+read_nothing {S} {R} {g} e =
     let b = inner_buffer e.files.nest in
     record {
       becomes = refl;
       only = ap (λ ns. record e.files { nest = ns }) (same_nest e.files.nest);
-      moves = record { dropped = []; gained = []; window = append-nil b.window; used = omega arith };
+      moves = slides-same (g.tells e.sources) ⊥ g.unread b;
     }
 
 -- text that is copied is lent
@@ -409,7 +419,7 @@ take_undef g old new start stop ready live bounded some plain named free becomes
     (parts_used g.unread stop 0 old.files.nest) (Nowhere refl)
 
 -- a `define` whose logical line is held, and what it comes to
-module _ {S R : Type 0} (g : Ghosts S R) (old mid new : EngineView S R) (len : ℕ) (ready : IsReady old) (live : old.conditions.skipped ≡ None) (r : IsRead old mid) (bounded : IsBounded new)
+module _ {S R : Type 0} (g : Ghosts S R) (old mid new : EngineView S R) (len : ℕ) (ready : IsReady old) (live : old.conditions.skipped ≡ None) (r : IsRead g old mid) (bounded : IsBounded new)
     (some : 0 < length (held_of (inner_buffer old.files.nest))) (plain : (inner_buffer old.files.nest).mode ≡ Plain) (define : IsDirective Define (held_of (inner_buffer old.files.nest)))
     (holds : HoldsLine (g.tells old.sources) g.unread (line.Whole len) (inner_buffer old.files.nest) (inner_buffer mid.files.nest))
     (call : SourcesCalled g false false old.sources mid.sources) where
@@ -443,7 +453,7 @@ module _ {S R : Type 0} (g : Ghosts S R) (old mid new : EngineView S R) (len : �
       (λ t. nest_defined old.limits (run_rules g old) g.unread old.table.macros old.conditions live (g.tells old.sources) t old.files.nest b len d.lines d.macros
       some inner.ends plain define holds (ap with_fault accepted) counted
       ∙ ap (λ (x : List ℕ). behind_bytes x (left_by g old d.macros old.conditions after)) owed)
-      (λ t. parts_on g.unread old.files.nest (with_buffer b old.files.nest) after (parts_slid (IsExactLine (line.Whole len) × g.tells old.sources) g.unread b old.files.nest ready.nest holds.slides (λ e. cc, t))
+      (λ t. parts_on g.unread old.files.nest (with_buffer b old.files.nest) after (parts_slid (g.tells old.sources) Unit g.unread b old.files.nest ready.nest (slides-told (g.tells old.sources) (g.tells old.sources) Unit (IsExactLine (line.Whole len)) g.unread (inner_buffer old.files.nest) b (λ x. x) (λ _ e. cc) holds.slides) t)
       (parts_used g.unread len d.lines (with_buffer b old.files.nest))) (Nowhere refl))
 
   -- it is refused
@@ -465,7 +475,6 @@ module _ {S R : Type 0} (g : Ghosts S R) (old mid new : EngineView S R) (len : �
   defined_steps None wide inside few reads = accepted_steps wide inside few reads
   defined_steps (Some Kept) wide inside few reads = refused_steps Kept refl reads
   defined_steps (Some (Source start end)) wide inside few reads = absurd reads
-  defined_steps (Some (Body id start end)) wide inside few reads = absurd reads
   defined_steps (Some (Text p)) wide inside few reads = absurd reads
   defined_steps (Some (Owed n)) wide inside few reads = absurd reads
   defined_steps (Some End) wide inside few reads = absurd reads
@@ -475,7 +484,6 @@ pub defined_placed : {S R : Type 0} (len : ℕ) (old new : EngineView S R) (resu
 defined_placed len old new None reads = tt
 defined_placed len old new (Some Kept) reads = tt
 defined_placed len old new (Some (Source start end)) reads = absurd reads
-defined_placed len old new (Some (Body id start end)) reads = absurd reads
 defined_placed len old new (Some (Text p)) reads = absurd reads
 defined_placed len old new (Some (Owed n)) reads = absurd reads
 defined_placed len old new (Some End) reads = absurd reads
@@ -506,7 +514,7 @@ owed_is_placed {S} {R} old new piece owed some takes becomes =
     subst (λ (e : EngineView S R). IsPlaced e (Owed piece)) (sym becomes) (some, takes.inside)
 
 -- what is held stays so
-filled_stores : {S R : Type 0} (g : Ghosts S R) (old mid : EngineView S R) → IsReady old → IsRead old mid
+filled_stores : {S R : Type 0} (g : Ghosts S R) (old mid : EngineView S R) → IsReady old → IsRead g old mid
     → Fills (g.tells old.sources) g.unread fill.Held (inner_buffer old.files.nest) (inner_buffer mid.files.nest) → SourcesCalled g false false old.sources mid.sources → KeepsStores g old mid
 filled_stores {S} {R} g old mid ready r fills call =
     let b = inner_buffer mid.files.nest in
@@ -514,11 +522,11 @@ filled_stores {S} {R} g old mid ready r fills call =
     let is : mid ≡ record old { files = record old.files { nest = nest }; sources = mid.sources } =
     r.becomes ∙ ap (λ (fs : FilesView R). record old { files = fs; sources = mid.sources }) r.only in
     subst (λ (e : EngineView S R). KeepsStores g old e) (sym is)
-    (keeps_sources g old old.owed old.table.macros old.conditions nest mid.sources ready.idle call.catalog
-    (λ t. parts_slid (IsExact fill.Held × g.tells old.sources) g.unread b old.files.nest ready.nest fills.slides (λ e. cc, t) (g.catalog old.sources)))
+    (keeps_sources g old old.owed old.table.macros old.conditions nest mid.sources ready.free ready.idle call.catalog
+    (λ t. parts_slid (g.tells old.sources) Unit g.unread b old.files.nest ready.nest (slides-told (g.tells old.sources) (g.tells old.sources) Unit (IsExact fill.Held) g.unread (inner_buffer old.files.nest) b (λ x. x) (λ _ e. cc) fills.slides) t (g.catalog old.sources)))
 
 -- bytes are held that weren't, and nothing else changed
-pub silent_fill : {S R : Type 0} (g : Ghosts S R) (old mid : EngineView S R) → IsReady old → IsRead old mid
+pub silent_fill : {S R : Type 0} (g : Ghosts S R) (old mid : EngineView S R) → IsReady old → IsRead g old mid
     → Fills (g.tells old.sources) g.unread fill.Held (inner_buffer old.files.nest) (inner_buffer mid.files.nest) → SourcesCalled g false false old.sources mid.sources → IsSilent g old mid
 silent_fill {S} {R} g old mid ready r fills call =
     let b = inner_buffer mid.files.nest in
@@ -552,7 +560,7 @@ unfolding is_open
 opened_phase p e = ap is_open e
 
 -- an engine that goes on still does where bytes were filled in
-pub ready_filled : {S R : Type 0} (old mid : EngineView S R) → IsReady old → IsRead old mid → IsSoundEngine mid.limits mid.phase mid.table mid.files mid.conditions → AreOpen mid.files → IsReady mid
+pub ready_filled : {S R : Type 0} (old mid : EngineView S R) → IsReady old → IsRead g old mid → IsSoundEngine mid.limits mid.phase mid.table mid.files mid.conditions → AreOpen mid.files → IsReady mid
 ready_filled old mid ready r sound files = record {
   open_ = ap (λ e. e.phase) r.becomes ∙ ready.open_;
   free = ap (λ e. e.kept) r.becomes ∙ ready.free;

@@ -24,8 +24,7 @@ use Rattle.rdlpp_read.specs.declared.files.File.{File}
 use Rattle.rdlpp_front.specs.Fronts.{HasString, LacksString, include_name}
 use Rattle.rdlpp_front.specs.SourceLeft.{source_left}
 use Rattle.rdlpp_front.proofs.EndLeft.{ended_left}
-use Rattle.rdlpp_front.proofs.IncludeLeft.{include_absent_left, include_bad_left, include_deep_left, include_left, include_overlong_left, waiting_file}
-use Rattle.rdlpp_front.proofs.IncludeMissing.{include_nameless_left}
+use Rattle.rdlpp_front.proofs.IncludeLeft.{include_absent_left, include_bad_left, include_deep_left, include_left, include_overlong_left, waiting_file, include_nameless_left}
 use Rattle.rdlpp_steps.specs.OpenConditionals.{outer_open}
 use Rattle.rdlpp_steps.specs.Remaining.{ending_behind, file_state, nest_left, nest_state, waiting_around}
 use Rattle.rdlpp_steps.proofs.ConditionalPlaces.{live_place}

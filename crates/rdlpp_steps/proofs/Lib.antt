@@ -4,7 +4,6 @@ pub mod WordFacts
 pub mod IdleTexts
 pub mod Soundness
 pub mod Bounds
-pub mod CopiedMacros
 pub mod ConditionalPlaces
 pub mod NestLeft
 pub mod ConditionalSteps

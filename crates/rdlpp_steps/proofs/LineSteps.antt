@@ -23,8 +23,7 @@ use Rattle.rdlpp_read.specs.declared.files.File.{File}
 use Rattle.rdlpp_read.proofs.Slices.{line_ends_le}
 use Rattle.rdlpp_front.specs.Fronts.{IsDirective}
 use Rattle.rdlpp_front.specs.SourceLeft.{source_left}
-use Rattle.rdlpp_front.proofs.LineGiven.{given_text, line_behind}
-use Rattle.rdlpp_front.proofs.LineLeft.{bad_line_left, late_line_left, line_text, renumbered_left}
+use Rattle.rdlpp_front.proofs.DefineLeft.{given_text, line_behind, bad_line_left, late_line_left, line_text, renumbered_left}
 use Rattle.rdlpp_steps.specs.Engine.{EngineView, IsSoundEngine}
 use Rattle.rdlpp_steps.specs.Held.{IsBounded}
 use Rattle.rdlpp_steps.specs.Standing.{Nowhere}

@@ -17,7 +17,6 @@ use Rattle.rdlpp_meaning.specs.Opened.{Waiting, unwound}
 use Rattle.rdlpp_meaning.specs.Outcome.{fails, gives}
 use Rattle.rdlpp_meaning.specs.Parts.{line_ends_of}
 use Rattle.rdlpp_meaning.specs.Resumed.{Place, Live, Skipped}
-use Rattle.rdlpp_meaning.specs.PlainMacros.{stands_for_body}
 use Rattle.rdlpp_meaning.specs.State.{Accepted, Refused, Rules, breach_kind, fault_at}
 use Rattle.rdlpp_read.specs.Buffer.{BufferView, EndsHeld, ahead_of, closed_buffer, entered_mode, held_of, rest_of, text_left, tokens_left}
 use Rattle.rdlpp_read.specs.Files.{consumed_file, inner_buffer, torn_after, with_buffer, with_inner}
@@ -32,9 +31,8 @@ use Rattle.rdlpp_front.specs.SourceLeft.{HoldsFront, source_left, with_file_buff
 use Rattle.rdlpp_front.proofs.DefineLeft.{define_cut_left, define_left, define_long_left, define_refused_left, holds_define}
 use Rattle.rdlpp_front.proofs.EndLeft.{broken_left, ended_left, filled_left, held_left, refused_left}
 use Rattle.rdlpp_front.proofs.SkippedWords.{skipped_broken_left}
-use Rattle.rdlpp_front.proofs.TextLeft.{text_left as text_law}
-use Rattle.rdlpp_front.proofs.UndefLeft.{undef_left, undef_nameless_left, undef_reserved_left}
-use Rattle.rdlpp_front.proofs.UsageLeft.{body_left, undefined_left}
+use Rattle.rdlpp_front.proofs.TextLeft.{text_left as text_law, undefined_left}
+use Rattle.rdlpp_front.proofs.NamedDirectives.{undef_left, undef_nameless_left, undef_reserved_left}
 use Rattle.rdlpp_conditions.specs.Conditions.{ConditionsView, own_conditions, place_of}
 use Rattle.rdlpp_steps.specs.OpenConditionals.{inner_below, outer_open}
 use Rattle.rdlpp_steps.proofs.ConditionalPlaces.{live_place, place_outside}
@@ -143,19 +141,6 @@ module _ {R : Type 0} (limits : Limits) (rules : Rules) (unread : R → List ℕ
           (text_law rules unread (around f outer) (own_conditions f.conditions_below v) f (nest_state limits macros v (f ∷ outer)) len lines next
           (record { some = some; ends = ends }) text counted)
           (torn_consumed unread entered len lines ∙ ap (torn_after f.torn) (text_entered unread f.buffer next)) refl refl
-
-      -- a usage whose body is copied
-      pub nest_body : (nest : List (File R)) (len : ℕ) (m : Macro) → 0 < length (held_of (inner_buffer nest)) → EndsHeld (inner_buffer nest)
-          → (inner_buffer nest).mode ≡ Plain → IsUsage (held_of (inner_buffer nest)) len → macro_named macros (usage_name (held_of (inner_buffer nest)) len) ≡ Some m
-          → stands_for_body m ≡ true → 0 < rules.depth
-          → nest_left limits rules unread macros v nest ≡ behind_bytes m.body (nest_left limits rules unread macros v (with_inner (consumed_file len 0) nest))
-      unfolding nest_state file_state
-      nest_body [] len m some ends plain usage named lies depth = absurd (none_held R some)
-      nest_body (f ∷ outer) len m some ends plain usage named lies depth =
-          moved_live f (consumed_file len 0 f) outer macros m.body
-          (body_left rules unread (around f outer) (own_conditions f.conditions_below v) f (nest_state limits macros v (f ∷ outer)) len m
-          (record { some = some; ends = ends }) plain usage named lies depth)
-          (torn_consumed unread f len 0) refl refl
 
       -- a usage of what isn't defined
       pub nest_undefined : (nest : List (File R)) (len : ℕ) → 0 < length (held_of (inner_buffer nest)) → EndsHeld (inner_buffer nest)

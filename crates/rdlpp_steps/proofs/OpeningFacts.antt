@@ -29,7 +29,7 @@ use Rattle.rdlpp_steps.proofs.IdleTexts.{text_idle}
 use Rattle.rdlpp_steps.proofs.OwedOrigins.{owed_origin}
 use Rattle.rdlpp_steps.specs.Held.{IsBounded, stores_of}
 use Rattle.rdlpp_steps.specs.Stored.{AreParts}
-use Rattle.rdlpp_steps.proofs.Stores.{fault_lets_go, fault_stores, none_called, parts_opened}
+use Rattle.rdlpp_steps.proofs.Stores.{fault_lets_go, none_called, parts_opened}
 use Rattle.rdlpp_read.specs.Files.{entered_file}
 use Rattle.rdlpp_read.specs.declared.files.File.{File}
 use Rattle.rdlpp_steps.specs.Owed.{origin_owed, owed_bytes}
@@ -228,18 +228,25 @@ starts_open {S} {R} g e s found path most none unopened idle bounded answer fail
       found.path.bytes (g.unread found.reader)));
   bounded = bounded;
   lets_go = λ h. record { idle = λ _ _. h };
-  stores = λ telling. record {
-    parts = λ _.
+  kinds = tt;
+  stores = λ h telling. record {
+    lets_go = record { idle = λ _ _. h };
+    parts =
         let file : File R = entered_file found e.limits.source_bytes e.files.line_bytes 0 0 in
-        subst (λ (ns : List (File R)). AreParts g.unread (g.catalog s) (file ∷ ns)) (sym none)
-        (subst (λ (c : Catalog). AreParts g.unread c (file ∷ [])) (sym catalog)
-        (parts_opened g.unread (g.catalog e.sources) found e.limits.source_bytes e.files.line_bytes 0 0 path (answer telling)));
-    call = λ _ fs called. absurd (let no : None ≡ Some fs = sym (none_called e.table.macros e.expansion.opens idle) ∙ called in cc);
+        let exact : Type 0 = None {A = Told} ≡ None in
+        subst (λ (ns : List (File R)). AreParts g.unread (g.catalog s) exact (file ∷ ns)) (sym none)
+        (subst (λ (c : Catalog). AreParts g.unread c exact (file ∷ [])) (sym catalog)
+        (parts_opened g.unread (g.catalog e.sources) exact found e.limits.source_bytes e.files.line_bytes 0 0 path (answer telling)));
+    begun = λ _. inl h;
+    call = λ fs called. absurd (let no : None ≡ Some fs = sym (none_called e.table.macros e.expansion.opens idle) ∙ called in cc);
   };
 }
 
 -- a start that is refused
 starts_refused : {S R : Type 0} (g : Ghosts S R) (e : EngineView S R) (s : S) (kind : FaultKind) (path : List ℕ)
+    → is_opening_kind kind ≡ true
+    → e.files.nest ≡ []
+    → e.expansion.opens ≡ []
     → IsBounded e
     → Counts (is_read_failed kind) (g.failures e.sources) (g.failures s)
     → Counts (is_memory_kind kind) (g.refusals e.sources) (g.refusals s)
@@ -249,7 +256,7 @@ starts_refused : {S R : Type 0} (g : Ghosts S R) (e : EngineView S R) (s : S) (k
     → fails (opening_fault kind path) ≡ looked_up_output g e path)
     → Starts g e (unopened_engine (record e { sources = s }) (opening_fault kind path)) path (Some (opening_fault kind path))
 unfolding unopened_engine is_device_fault is_memory_fault opening_fault stores_of
-starts_refused g e s kind path bounded failures refusals tells catalog told = record {
+starts_refused {S} {R} g e s kind path own none idle bounded failures refusals tells catalog told = record {
   limits = refl;
   origins = refl;
   table = refl;
@@ -268,12 +275,20 @@ starts_refused g e s kind path bounded failures refusals tells catalog told = re
     conditions = bounded.conditions;
     sources = bounded.sources;
   };
+  kinds = own;
   lets_go = λ _. fault_lets_go (unopened_engine (record e { sources = s }) (opening_fault kind path)) (opening_fault kind path) refl;
-  stores = λ _. fault_stores g (unopened_engine (record e { sources = s }) (opening_fault kind path)) (opening_fault kind path) refl;
+  stores = λ h _. record {
+    lets_go = fault_lets_go (unopened_engine (record e { sources = s }) (opening_fault kind path)) (opening_fault kind path) refl;
+    parts = subst (λ (ns : List (File R)). AreParts g.unread (g.catalog s) (Some (opening_fault kind path) ≡ None) ns) (sym none) tt;
+    begun = λ _. inl h;
+    call = λ fs called. absurd (let no : None ≡ Some fs = sym (none_called e.table.macros e.expansion.opens idle) ∙ called in cc);
+  };
 }
 
 -- a start that the sources refuse
 pub starts_not_found : {S R : Type 0} (g : Ghosts S R) (e : EngineView S R) (s : S) (fault : SourceFault) (path : List ℕ)
+    → e.files.nest ≡ []
+    → e.expansion.opens ≡ []
     → IsBounded e
     → (g.tells e.sources → Finds {R = R} g.unread ((g.catalog e.sources).top path) (Err fault))
     → Counts (is_device {A = Found R} (Err fault)) (g.failures e.sources) (g.failures s)
@@ -282,14 +297,14 @@ pub starts_not_found : {S R : Type 0} (g : Ghosts S R) (e : EngineView S R) (s :
     → g.catalog s ≡ g.catalog e.sources
     → Starts g e (unopened_engine (record e { sources = s }) (opening_fault (kind_of_source fault) path)) path
     (Some (opening_fault (kind_of_source fault) path))
-unfolding kind_of_source is_read_failed is_memory_kind lookup_of
-starts_not_found g e s source.Absent path bounded answer failures refusals tells catalog =
-    starts_refused g e s SourceNotFound path bounded failures refusals tells catalog
+unfolding kind_of_source is_read_failed is_memory_kind is_opening_kind lookup_of
+starts_not_found g e s source.Absent path none idle bounded answer failures refusals tells catalog =
+    starts_refused g e s SourceNotFound path refl none idle bounded failures refusals tells catalog
     (λ _ _ telling. sym (found_output g e path _ (answer telling) ∙ looked_up-fails g e path NoSource _ (output_missing _ _ _ _ _)))
-starts_not_found g e s source.PathTooLong path bounded answer failures refusals tells catalog =
-    starts_refused g e s PathTooLong path bounded failures refusals tells catalog
+starts_not_found g e s source.PathTooLong path none idle bounded answer failures refusals tells catalog =
+    starts_refused g e s PathTooLong path refl none idle bounded failures refusals tells catalog
     (λ _ _ telling. sym (found_output g e path _ (answer telling) ∙ looked_up-fails g e path LongPath _ (output_overlong _ _ _ _ _)))
-starts_not_found g e s source.Device path bounded answer failures refusals tells catalog =
-    starts_refused g e s ReadFailed path bounded failures refusals tells catalog (λ device _ _. cc)
-starts_not_found g e s source.NoMemory path bounded answer failures refusals tells catalog =
-    starts_refused g e s SourceMemory path bounded failures refusals tells catalog (λ _ memory _. cc)
+starts_not_found g e s source.Device path none idle bounded answer failures refusals tells catalog =
+    starts_refused g e s ReadFailed path refl none idle bounded failures refusals tells catalog (λ device _ _. cc)
+starts_not_found g e s source.NoMemory path none idle bounded answer failures refusals tells catalog =
+    starts_refused g e s SourceMemory path refl none idle bounded failures refusals tells catalog (λ _ memory _. cc)

@@ -25,8 +25,8 @@ use Rattle.rdlpp_read.specs.declared.files.File.{File}
 use Rattle.rdlpp_read.proofs.Slices.{line_ends_le}
 use Rattle.rdlpp_front.specs.Fronts.{AtBare, AtPerl, IsDirective, IsRefused, IsText, word_of}
 use Rattle.rdlpp_front.proofs.Insides.{text_inside, usage_inside}
-use Rattle.rdlpp_front.proofs.LineLeft.{line_inside}
-use Rattle.rdlpp_front.proofs.SourceFacts.{held_entered}
+use Rattle.rdlpp_front.proofs.DefineLeft.{line_inside}
+use Rattle.rdlpp_front.proofs.SourcePassages.{held_entered}
 use Rattle.rdlpp_conditions.specs.Conditions.{ConditionsView}
 use Rattle.rdlpp_conditions.specs.Moves.{with_inner as with_count}
 use Rattle.rdlpp_conditions.specs.SkippedText.{IsPassed}
@@ -252,7 +252,7 @@ module _ {S R : Type 0} (g : Ghosts S R) (old new : EngineView S R) (ready : IsR
         (skips_opening old.limits (run_rules g old) g.unread old.table.macros old.conditions s.count s.conditional s.around s.is_open old.files.nest defined (plain_front old ready some plain) s.below s.skips is)
 
     -- a `define`
-    module _ (is : IsDirective Define (held_of (inner_buffer old.files.nest))) (mid : EngineView S R) (r : IsRead old mid) where
+    module _ (is : IsDirective Define (held_of (inner_buffer old.files.nest))) (mid : EngineView S R) (r : IsRead g old mid) where
       pub define_steps : (len lines : ℕ) → HoldsLine (g.tells old.sources) g.unread (line.Whole len) (inner_buffer old.files.nest) (inner_buffer mid.files.nest) → SourcesCalled g false false old.sources mid.sources
           → 0 < len → len ≤ length (held_of (inner_buffer mid.files.nest)) → length (held_of (inner_buffer mid.files.nest)) < 2 ^ 31 → lines ≡ line_ends (take len (held_of (inner_buffer mid.files.nest)))
           → new ≡ passes_over len lines mid → Walks g old new (step_answer new None)
@@ -271,7 +271,7 @@ module _ {S R : Type 0} (g : Ghosts S R) (old new : EngineView S R) (ready : IsR
           ∙ ap (λ (ns : List (File R)). makes (with_inner (consumed_file len lines) ns)) nest)) in
           passes_text g old new mid.sources w lines after ready bounded counted (omega arith) (used_after old.files.nest b len lines ready.nest holds.extends.unused positive inside) call exact
           (λ t. passes_define old.limits (run_rules g old) g.unread old.table.macros old.conditions s.count s.conditional s.around s.is_open s.skips (g.tells old.sources) t old.files.nest b len lines front plain s.below is holds counted)
-          (λ t. parts_on g.unread old.files.nest (with_buffer b old.files.nest) after (parts_slid (IsExactLine (line.Whole len) × g.tells old.sources) g.unread b old.files.nest ready.nest holds.slides (λ e. cc, t))
+          (λ t. parts_on g.unread old.files.nest (with_buffer b old.files.nest) after (parts_slid (g.tells old.sources) Unit g.unread b old.files.nest ready.nest (slides-told (g.tells old.sources) (g.tells old.sources) Unit (IsExactLine (line.Whole len)) g.unread (inner_buffer old.files.nest) b (λ x. x) (λ _ e. cc) holds.slides) t)
           (parts_used g.unread len lines (with_buffer b old.files.nest)))
 
       pub left_long : HoldsLine (g.tells old.sources) g.unread line.TooLong (inner_buffer old.files.nest) (inner_buffer mid.files.nest) → g.tells old.sources

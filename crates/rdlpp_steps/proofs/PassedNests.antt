@@ -30,10 +30,9 @@ use Rattle.rdlpp_read.specs.declared.buffer.filling.Fill.TheVariants as fill
 use Rattle.rdlpp_read.specs.declared.files.File.{File}
 use Rattle.rdlpp_front.specs.Fronts.{IsDirective, IsText, word_of}
 use Rattle.rdlpp_front.specs.SourceLeft.{HoldsFront, source_left, with_file_buffer}
-use Rattle.rdlpp_front.proofs.DefineLeft.{holds_define}
+use Rattle.rdlpp_front.proofs.DefineLeft.{holds_define, line_text}
 use Rattle.rdlpp_front.proofs.EndLeft.{perl_tokens}
-use Rattle.rdlpp_front.proofs.LineLeft.{line_text}
-use Rattle.rdlpp_front.proofs.SkippedTokens.{skipped_bare_left, skipped_define_left, skipped_line_left, skipped_usage_left, skipped_word_left}
+use Rattle.rdlpp_front.proofs.SkippedWords.{skipped_bare_left, skipped_define_left, skipped_line_left, skipped_usage_left, skipped_word_left}
 use Rattle.rdlpp_front.proofs.TextLeft.{skipped_text_left}
 use Rattle.rdlpp_conditions.specs.Conditions.{ConditionsView, place_of}
 use Rattle.rdlpp_conditions.specs.Moves.{skipped_by}

@@ -20,7 +20,7 @@ use Rattle.rdlpp_scan.specs.declared.token.Mode.TheVariants.{Plain, InStr, InBlo
 use Rattle.rdlpp_scan.proofs.SourceLaws.{line_ends-append, line_ends-cons}
 use Rattle.rdlpp_scan.specs.Ordinary.{is_plain_kind}
 use Rattle.rdlpp_scan.proofs.StopKinds.{AtBack, AtBare, AtBlockComment, AtLineComment, AtPerl, AtPlain, AtString, Row, token_of-row}
-use Rattle.rdlpp_scan.proofs.StepLaws.{word-line_end}
+use Rattle.rdlpp_scan.proofs.TokenSteps.{word-line_end}
 use Rattle.rdlpp_scan.specs.declared.token.Token.{Token}
 use Rattle.rdlpp_meaning.specs.Meaning.{Passage, Progress, behind_bytes}
 use Rattle.rdlpp_meaning.specs.Opened.{Waiting, all_resumed}
@@ -37,12 +37,10 @@ use Rattle.rdlpp_read.specs.Files.{consumed_file}
 use Rattle.rdlpp_read.specs.declared.files.File.{File}
 use Rattle.rdlpp_front.specs.Fronts.{AtOrdinary, AtToken, IsDirective, IsUsage, is_text_kind, word_of}
 use Rattle.rdlpp_front.specs.SourceLeft.{HoldsFront, source_left, with_file_buffer}
-use Rattle.rdlpp_front.proofs.DirectiveFacts.{named_word, word_len}
-use Rattle.rdlpp_front.proofs.FirstBytes.{back_front, back_text, bare_at_front, stops_at_front, text_at_front}
-use Rattle.rdlpp_front.proofs.Insides.{usage_word}
+use Rattle.rdlpp_front.proofs.Insides.{named_word, word_len, back_front, back_text, bare_at_front, stops_at_front, text_at_front, usage_word}
 use Rattle.rdlpp_front.proofs.NamedDirectives.{word_line_ends}
-use Rattle.rdlpp_front.proofs.SkippedTokens.{skipped_bare_left, skipped_usage_left, skipped_word_left}
-use Rattle.rdlpp_front.proofs.SourceFacts.{held_used, tokens_entered, tokens_plain, tokens_used, used_buffer}
+use Rattle.rdlpp_front.proofs.SkippedWords.{skipped_bare_left, skipped_usage_left, skipped_word_left}
+use Rattle.rdlpp_front.proofs.SourcePassages.{held_used, tokens_entered, tokens_plain, tokens_used, used_buffer}
 use Rattle.rdlpp_front.proofs.TextLeft.{skipped_text_left}
 use Rattle.rdlpp_conditions.specs.SkippedText.{IsPassed, IsPassedOnce, Stretch, OneToken, Begins, Onward, counting_words, counts_skipped, stops_at, stops_closed, stops_skipping}
 

@@ -29,7 +29,7 @@ use Rattle.rdlpp_steps.specs.Held.{IsBounded}
 use Rattle.rdlpp_steps.specs.Standing.{AtCursor, Nowhere}
 use Rattle.rdlpp_cursors.specs.Fronts.{IsFrontPlace, StandsAt}
 use Rattle.rdlpp_cursors.specs.Opened.{StaysOutermost}
-use Rattle.rdlpp_steps.proofs.Stores.{keeps_texts}
+use Rattle.rdlpp_steps.proofs.Stores.{KeepsStores, keeps_refused, keeps_texts}
 use Rattle.rdlpp_steps.specs.Moves.{IsUnowed}
 use Rattle.rdlpp_steps.specs.Owed.{owed_pieces}
 use Rattle.rdlpp_steps.specs.Pieces.{held_texts, lent_answer}
@@ -155,7 +155,7 @@ module _ {S R : Type 0} (g : Ghosts S R) (old : EngineView S R) (x : ExpansionVi
       let goes = step (run_rules g old) (state_of old) (nest_macros old.limits old.table.macros old.conditions old.files.nest) in
       subst (λ (xs : List ℕ). Walks g old (record old { expansion = x }) (Ok (Some xs))) (ap (λ (a : List ℕ). place_bytes (texts_of old.table.macros a) place) (sym lends.1))
       (walks_lent g old (record old { expansion = x }) unowed.free unowed.open_ bounded (place_bytes (held_texts old) place) refl (refl, refl) (not_called g old.sources)
-      (λ t. text_goes (place_bytes (held_texts old) place) goes) (work_texts falls) (keeps_texts g old x holds.stays holds.outer holds.lets_go)
+      (λ t. text_goes (place_bytes (held_texts old) place) goes) (work_texts falls) (keeps_texts g old x unowed.free holds.stays holds.outer holds.lets_go)
       (AtCursor place unowed.owed stands refl refl))
 
   -- a text was opened or closed
@@ -166,7 +166,7 @@ module _ {S R : Type 0} (g : Ghosts S R) (old : EngineView S R) (x : ExpansionVi
       walks_lent g old (record old { expansion = x }) unowed.free unowed.open_ bounded [] refl (refl, refl) (not_called g old.sources)
       (λ t. text_goes [] (step (run_rules g old) (state_of old) (nest_macros old.limits old.table.macros old.conditions old.files.nest)
       ∙ sym (and_then-gives_nil (open_left (run_rules g old) (state_of old) old.expansion.line old.expansion.depth (held_texts old) x.opens)))) (work_texts falls)
-      (keeps_texts g old x holds.stays holds.outer holds.lets_go) (Nowhere refl)
+      (keeps_texts g old x unowed.free holds.stays holds.outer holds.lets_go) (Nowhere refl)
 
 -- the open texts end with a fault, and nothing else changes
 pub texts_refuse : {S R : Type 0} (g : Ghosts S R) (old mid new : EngineView S R) (place : Place) (fault : CursorFault) → IsUnowed old → IsBounded new → mid ≡ old → place ≡ Kept
@@ -178,7 +178,7 @@ texts_refuse {S} {R} g old mid new place fault unowed bounded same is kept own s
     let f : Told = fault_at fault.kind old.expansion.line word (state_of old) in
     let becomes : new ≡ record old { kept = Some f } =
     subst (λ (m : EngineView S R). new ≡ record m { kept = Some (fault_at fault.kind m.expansion.line (place_bytes (held_texts m) fault.word) (state_of m)) }) same kept in
-    let r = read_nothing old in
+    let r : IsRead g old old = read_nothing old in
     let P : S → Type 0 = λ s. SourcesCalled g false false old.sources s in
     let here : state_of old ≡ state_of new = sym (ap (λ (e : EngineView S R). nest_state e.limits e.table.macros e.conditions e.files.nest) becomes) in
     let p = left_by g old old.table.macros old.conditions old.files.nest in
@@ -188,7 +188,8 @@ texts_refuse {S} {R} g old mid new place fault unowed bounded same is kept own s
     (λ t. unowed_behind (inner_name old.files.nest) old.owed (goes_on (texts_left (run_rules g old) (state_of old) old.table.macros old.expansion) (λ after. p)) unowed.owed
     ∙ (texts_fail (run_rules g old) (state_of old) old.table.macros old.expansion f p
     (step (run_rules g old) (state_of old) (nest_macros old.limits old.table.macros old.conditions old.files.nest))
-    ∙ ap (leaves (fails f)) here)))
+    ∙ ap (leaves (fails f)) here))
+    (subst (λ (e : EngineView S R). KeepsStores g old e) (sym becomes) (keeps_refused g old f)))
 
 -- the same engine, with other open texts
 pub opening : {S R : Type 0} (a b : EngineView S R) (x : ExpansionView) → a ≡ b → record a { expansion = x } ≡ record b { expansion = x }

@@ -28,7 +28,8 @@ use Rattle.rdlpp_steps.specs.Engine.{AreOpenTexts, EngineView}
 use Rattle.rdlpp_steps.specs.Held.{IsBounded}
 use Rattle.rdlpp_steps.specs.Standing.{Nowhere}
 use Rattle.rdlpp_front.proofs.Insides.{usage_inside}
-use Rattle.rdlpp_steps.proofs.Stores.{KeepsStores, keeps_opened, parts_moved}
+use Rattle.rdlpp_steps.proofs.Stores.{KeepsStores, keeps_broken, keeps_opened, parts_moved}
+use Rattle.rdlpp_read.proofs.Sliding.{moves-told}
 use Rattle.rdlpp_steps.specs.Moves.{IsReady, OpensUsage}
 use Rattle.rdlpp_steps.specs.Owed.{owed_bytes}
 use Rattle.rdlpp_steps.specs.Pieces.{lent_answer}
@@ -153,10 +154,16 @@ module _ {S R : Type 0} (g : Ghosts S R) (old : EngineView S R) (ready : IsReady
 
   module _ (len : ℕ) (mode : (inner_buffer old.files.nest).mode ≡ Plain) (usage : IsUsage (held_of (inner_buffer old.files.nest)) len) (unopened : is_opened opening ≡ false)
       (macro : Macro) (named : macro_named old.table.macros (usage_name (held_of (inner_buffer old.files.nest)) len) ≡ Some macro)
-      (kept : KeepsUsage macro.formals (g.tells old.sources) g.unread old.expansion.most opening x.arguments (inner_buffer (with_inner (consumed_file len 0) old.files.nest)) (inner_buffer nest)) where
+      (kept : KeepsUsage macro.formals (g.tells old.sources) g.unread old.expansion.most opening x.arguments (inner_buffer (with_inner (consumed_file len 0) old.files.nest)) (inner_buffer nest))
+      (inside : (inner_buffer (with_inner (consumed_file len 0) old.files.nest)).at ≤ (inner_buffer old.files.nest).accepted) where
     -- it stopped in the call
     stops_in : (f : Told) → StopsInCall g old (stopped_engine f)
     stops_in f = record { len = len; mode = mode; usage = usage; idle = ready.idle; becomes = refl; only = refl; opening = opening; unopened = unopened; macro = macro; named = named; kept = kept; uses = uses }
+
+    -- and closes nothing
+    stores_in : (f : Told) → g.catalog s ≡ g.catalog old.sources → KeepsStores g old (stopped_engine f)
+    stores_in f catalog =
+        keeps_broken g old f nest s opening x.arguments uses.used len (IsExactOpening opening) macro.formals ready.free ready.idle ready.nest catalog uses.inner uses.moves inside mode unopened kept
 
     halts_in : (f : Told) → HaltsAt g old (stopped_engine f)
     halts_in f = record { at = old; text = λ t. refl; unowed = ready.owed; stopped = InCall (stops_in f) }
@@ -173,7 +180,7 @@ module _ {S R : Type 0} (g : Ghosts S R) (old : EngineView S R) (ready : IsReady
         → (g.tells old.sources → text_by (run_rules g old) g old ≡ leaves (fails f) (state_of old)) → Walks g old (stopped_engine f) (Err f)
     usage_faults f own bounded call law =
         walks_kept g old (stopped_engine f) ready.free ready.open_ bounded f own refl (halts_in f) call
-        (λ t. by_run g old ∙ (law t ∙ ap (leaves (fails f)) (sym (same_here f))))
+        (λ t. by_run g old ∙ (law t ∙ ap (leaves (fails f)) (sym (same_here f)))) (stores_in f call.catalog)
 
     -- the usage is refused, at its line about its name
     pub usage_refuses : (kind : FaultKind) (line : ℕ) (name : List ℕ) → is_usage_fault kind ≡ true → let f = fault_at kind line name (state_of old) in IsBounded (stopped_engine f)
@@ -198,7 +205,7 @@ module _ {S R : Type 0} (g : Ghosts S R) (old : EngineView S R) (ready : IsReady
         let here : f ≡ fault_at fault.ReadFailed (reading_line_of (inner_buffer nest)) [] (state_of (stopped_engine f)) =
         ap (fault_at fault.ReadFailed (reading_line_of (inner_buffer nest)) []) (sym (same_here f)) in
         walks_ceased g old (stopped_engine f) ready.free ready.open_ bounded f (OnRead here) refl refl refl (halts_in f)
-        (record { open_ = ready.open_; still = ready.open_; at = old; stood = BeforeCall (stops_in f); text = λ t. refl }) call
+        (record { open_ = ready.open_; still = ready.open_; at = old; stood = BeforeCall (stops_in f); text = λ t. refl }) call (stores_in f call.catalog)
 
 -- a usage as a step of the engine, by what its opening says
 module _ {S R : Type 0} (g : Ghosts S R) (old mid : EngineView S R) (len : ℕ) (ready : IsReady old) (live : old.conditions.skipped ≡ None) (mode : (inner_buffer old.files.nest).mode ≡ Plain)
@@ -207,6 +214,10 @@ module _ {S R : Type 0} (g : Ghosts S R) (old mid : EngineView S R) (len : ℕ) 
   run_is : (s : State) → s.macros ≡ old.table.macros → IsRun (run_rules g old) s old.table.macros old.expansion.depth old.expansion.most
   unfolding source_rules rules_of
   run_is s macros = record { macros_are = macros; depth_is = sym texts.depth_is; most_is = sym texts.most_is }
+
+  -- the name lies in the accepted lines
+  inside_of : 0 < length (held_of (inner_buffer old.files.nest)) → (inner_buffer (with_inner (consumed_file len 0) old.files.nest)).at ≤ (inner_buffer old.files.nest).accepted
+  inside_of some = let within = usage_inside (held_of (inner_buffer old.files.nest)) len some usage in usage_within old.files.nest len within.0 within.1
 
   -- its texts are open
   pub opens_step : OpensUsage g len old mid Opened → IsBounded mid → Walks g old mid (Ok (Some []))
@@ -218,8 +229,9 @@ module _ {S R : Type 0} (g : Ghosts S R) (old mid : EngineView S R) (len : ℕ) 
       (usage_work g old ready live mid.files.nest mid.sources mid.expansion Opened o.uses texts o.now_room o.depth o.most o.sound)
       (λ t. o.uses.text (λ own e. cc e) t) (λ t s ws os macros. o.means (run_rules g old) s ws os (run_is s macros) t)
       (keeps_opened g old mid.files.nest mid.sources mid.expansion o.uses.used len o.macro.formals ready.free ready.nest o.call.catalog o.uses.inner
-      (λ t. parts_moved (IsExactOpening Opened × g.tells old.sources) g.unread o.uses.used old.files.nest mid.files.nest ready.nest o.uses.inner o.uses.moves (λ own e. cc e, t))
-      (let within = usage_inside (held_of (inner_buffer old.files.nest)) len o.some usage in usage_within old.files.nest len within.0 within.1) (o.called refl) o.most o.keeps))
+      (λ t. parts_moved (g.tells old.sources) Unit g.unread o.uses.used old.files.nest mid.files.nest ready.nest o.uses.inner
+      (moves-told (g.tells old.sources) (g.tells old.sources) Unit (IsExactOpening Opened) g.unread o.uses.used (inner_buffer old.files.nest) (inner_buffer mid.files.nest) (λ x. x) (λ _ own e. cc e) o.uses.moves) t)
+      (inside_of o.some) (o.called refl) o.most o.keeps))
 
   -- it is refused
   pub refuses_step : (new : EngineView S R) (place : Place) (kind : FaultKind) → OpensUsage g len old mid (Refused kind) → IsBounded new → place ≡ Kept
@@ -233,7 +245,7 @@ module _ {S R : Type 0} (g : Ghosts S R) (old mid : EngineView S R) (len : ℕ) 
       let is = stopped_is old mid o.becomes o.only new f same (kept ∙ ap (λ (s : State). record mid { kept = Some (fault_at kind line name s) }) here) in
       kept_at g old new place f at (ap (λ e. e.kept) is)
       (subst (λ (e : EngineView S R). Walks g old e (Err f)) (sym is)
-      (usage_refuses g old ready live mid.files.nest mid.sources mid.expansion (Refused kind) o.uses len mode usage refl o.macro o.named o.keeps kind line name o.fault (subst (λ (e : EngineView S R). IsBounded e) is bounded)
+      (usage_refuses g old ready live mid.files.nest mid.sources mid.expansion (Refused kind) o.uses len mode usage refl o.macro o.named o.keeps (inside_of o.some) kind line name o.fault (subst (λ (e : EngineView S R). IsBounded e) is bounded)
       (called g false old.sources mid.sources o.call) (λ t s ws os macros. o.means (run_rules g old) s ws os (run_is s macros) t)))
 
   -- its call is broken
@@ -248,7 +260,7 @@ module _ {S R : Type 0} (g : Ghosts S R) (old mid : EngineView S R) (len : ℕ) 
       let is = stopped_is old mid o.becomes o.only new f same (kept ∙ ap (λ (s : State). record mid { kept = Some (fault_at kind own [] s) }) here) in
       kept_at g old new place f at (ap (λ e. e.kept) is)
       (subst (λ (e : EngineView S R). Walks g old e (Err f)) (sym is)
-      (usage_breaks g old ready live mid.files.nest mid.sources mid.expansion (Broken kind own) o.uses len mode usage refl o.macro o.named o.keeps kind own line name o.fault (subst (λ (e : EngineView S R). IsBounded e) is bounded)
+      (usage_breaks g old ready live mid.files.nest mid.sources mid.expansion (Broken kind own) o.uses len mode usage refl o.macro o.named o.keeps (inside_of o.some) kind own line name o.fault (subst (λ (e : EngineView S R). IsBounded e) is bounded)
       (called g false old.sources mid.sources o.call) (λ t s ws os macros. o.means (run_rules g old) s ws os (run_is s macros) t)))
 
   -- a read failed in its call
@@ -262,5 +274,5 @@ module _ {S R : Type 0} (g : Ghosts S R) (old mid : EngineView S R) (len : ℕ) 
       let is = stopped_is old mid o.becomes o.only new f same (kept ∙ ap (λ (s : State). record mid { kept = Some (fault_at fault.ReadFailed line [] s) }) here) in
       kept_at g old new place f at (ap (λ e. e.kept) is)
       (subst (λ (e : EngineView S R). Walks g old e (Err f)) (sym is)
-      (usage_fails g old ready live mid.files.nest mid.sources mid.expansion Failed o.uses len mode usage refl o.macro o.named o.keeps (subst (λ (e : EngineView S R). IsBounded e) is bounded)
+      (usage_fails g old ready live mid.files.nest mid.sources mid.expansion Failed o.uses len mode usage refl o.macro o.named o.keeps (inside_of o.some) (subst (λ (e : EngineView S R). IsBounded e) is bounded)
       (called g true old.sources mid.sources o.call)))

@@ -20,7 +20,7 @@ use Rattle.rdlpp_steps.specs.OpenConditionals.{inner_below, inner_shown}
 use Rattle.rdlpp_steps.specs.Owed.{line_ends_owed}
 use Rattle.rdlpp_steps.specs.Remaining.{state_of}
 use Rattle.rdlpp_steps.specs.declared.place.Place.{Place}
-use Rattle.rdlpp_steps.specs.declared.place.Place.TheVariants.{Source, Body, Text, Owed, End, Kept}
+use Rattle.rdlpp_steps.specs.declared.place.Place.TheVariants.{Source, Text, Owed, End, Kept}
 
 -- the directive that opens a conditional, by whether it wants its name defined (IEEE 1364-2001, `ifdef`, `ifndef`)
 abbrev pub opening_word : Bool → Directive
@@ -75,7 +75,6 @@ OpensOne holds len old new (Some Kept) =
     (old.limits.conditions ≤ length old.conditions.open_now)
     × (new ≡ record old { kept = Some (fault_at TooManyConditionals (inner_buffer old.files.nest).line [] (state_of old)) })
 OpensOne holds len old new (Some (Source start end)) = ⊥
-OpensOne holds len old new (Some (Body id start end)) = ⊥
 OpensOne holds len old new (Some (Text place)) = ⊥
 OpensOne holds len old new (Some (Owed piece)) = ⊥
 OpensOne holds len old new (Some End) = ⊥

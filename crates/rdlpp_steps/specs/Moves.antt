@@ -30,7 +30,7 @@ use Rattle.rdlpp_steps.specs.Remaining.{state_of}
 use Rattle.rdlpp_steps.specs.Stored.{called_formals}
 use Rattle.rdlpp_steps.specs.Steps.{IsOwn}
 use Rattle.rdlpp_steps.specs.declared.place.Place.{Place}
-use Rattle.rdlpp_steps.specs.declared.place.Place.TheVariants.{Source, Body, Text, Owed, End, Kept}
+use Rattle.rdlpp_steps.specs.declared.place.Place.TheVariants.{Source, Text, Owed, End, Kept}
 use Rattle.rdlpp_steps.specs.declared.phase.Phase.TheVariants.{Open, Closed}
 
 -- an engine whose main text is open, that keeps no fault and owes nothing
@@ -85,7 +85,6 @@ pub record Returns {S R : Type 0} (old new : EngineView S R) : Type 0 where
 abbrev pub Ends : {S R : Type 0} → EngineView S R → EngineView S R → Option Place → Type 0
 Ends old new None = Returns old new
 Ends old new (Some (Source start end)) = ⊥
-Ends old new (Some (Body id start end)) = ⊥
 Ends old new (Some (Text place)) = ⊥
 Ends old new (Some (Owed len)) = ⊥
 Ends old new (Some End) = Closes old new
@@ -119,7 +118,6 @@ abbrev pub ReadsDefine : {S R : Type 0} → ℕ → EngineView S R → EngineVie
 ReadsDefine len old new None = Defines len old new
 ReadsDefine len old new (Some Kept) = RefusesDefine len old new
 ReadsDefine len old new (Some (Source start end)) = ⊥
-ReadsDefine len old new (Some (Body id start end)) = ⊥
 ReadsDefine len old new (Some (Text place)) = ⊥
 ReadsDefine len old new (Some (Owed n)) = ⊥
 ReadsDefine len old new (Some End) = ⊥

@@ -83,6 +83,15 @@ unfoldable pub is_memory_fault : Option Told → Bool
 is_memory_fault None = false
 is_memory_fault (Some f) = is_memory_kind f.kind
 
+-- whether a fault is one of an opening: its source wasn't found, its path was too long, a device failed, or memory was refused (this
+-- project's profile)
+unfoldable pub is_opening_kind : FaultKind → Bool
+is_opening_kind SourceNotFound = true
+is_opening_kind PathTooLong = true
+is_opening_kind ReadFailed = true
+is_opening_kind SourceMemory = true
+is_opening_kind kind = false
+
 -- a start that found its main text: the engine is as it was, with that text open under the path of the sources, which is the
 -- shown name (this project's profile)
 pub record Opens {S R : Type 0} (g : Ghosts S R) (old new : EngineView S R) (path : List ℕ) : Type 0 where
@@ -91,7 +100,7 @@ pub record Opens {S R : Type 0} (g : Ghosts S R) (old new : EngineView S R) (pat
   pub text : g.tells old.sources → (g.catalog old.sources).top path ≡ Present found.path.bytes (g.unread found.reader)
 
 -- what a start does: it keeps what it answers; the counts of failures; the text that was opened, or the fault of the opening
--- for that path, where nothing else changed; the output that remains is that of the main path (this project's profile)
+-- for that path, of one of the four kinds that an opening has, where nothing else changed; the output that remains is that of the main path (this project's profile)
 pub record Starts {S R : Type 0} (g : Ghosts S R) (old new : EngineView S R) (path : List ℕ) (answer : Option Told) : Type 0 where
   pub limits : new.limits ≡ old.limits
   pub origins : new.origins ≡ old.origins
@@ -99,10 +108,11 @@ pub record Starts {S R : Type 0} (g : Ghosts S R) (old new : EngineView S R) (pa
   pub started : IsStarted new
   pub keeps : new.kept ≡ answer
   pub opens : answer ≡ None → Opens g old new path
+  pub kinds : IfSome answer (λ f. is_opening_kind f.kind ≡ true)
   pub refused : (f : Told) → answer ≡ Some f → (f ≡ opening_fault f.kind path) × (new ≡ unopened_engine (record old { sources = new.sources }) f)
   pub call : SourcesCalled g (is_device_fault answer) (is_memory_fault answer) old.sources new.sources
   pub remains_output : is_device_fault answer ≡ false → is_memory_fault answer ≡ false → g.tells old.sources
       → left_of g new ≡ looked_up_output g old path
   pub bounded : IsBounded new
   pub lets_go : old.expansion.arguments ≡ [] → LetsGo new
-  pub stores : g.tells old.sources → HoldsStores g new
+  pub stores : old.expansion.arguments ≡ [] → g.tells old.sources → HoldsStores g new

@@ -2,7 +2,6 @@
 -- A definition that names no source is this project's own.
 use Rattle.std.specs.Prelude.{◌≡◌, ℕ, ◌≤◌, ◌<◌, List, [], length, take, slice_range, Option, None, Some, Result, Ok, Err, ⊤}
 use Rattle.std.specs.Borrow.{Bor}
-use Rattle.rdlpp_table.specs.View.{macro_at}
 use Rattle.rdlpp_meaning.specs.Outcome.{Told, told}
 use Rattle.rdlpp_meaning.specs.declared.fault.Fault.{Fault}
 use Rattle.rdlpp_read.specs.Files.{inner_buffer}
@@ -13,7 +12,7 @@ use Rattle.rdlpp_steps.specs.Owed.{digits_of, part_bytes}
 use Rattle.rdlpp_steps.specs.Remaining.{inner_name}
 use Rattle.rdlpp_steps.specs.declared.owed.OwedPiece.{OwedPiece}
 use Rattle.rdlpp_steps.specs.declared.place.Place.{Place}
-use Rattle.rdlpp_steps.specs.declared.place.Place.TheVariants.{Source, Body, Text, Owed, End, Kept}
+use Rattle.rdlpp_steps.specs.declared.place.Place.TheVariants.{Source, Text, Owed, End, Kept}
 use Rattle.rdlpp_steps.specs.declared.place.Piece.{Piece}
 use Rattle.rdlpp_steps.specs.declared.place.Piece.TheVariants.{Bytes, Done}
 
@@ -28,16 +27,14 @@ held_texts e = texts_of e.table.macros e.expansion.arguments
 -- a place lies in the held stores, or in what is owed
 abbrev pub IsPlaced : {S R : Type 0} → EngineView S R → Place → Type 0
 IsPlaced e (Source start end) = (0 < length e.files.nest) × (start ≤ end) × (end ≤ length (inner_buffer e.files.nest).window)
-IsPlaced e (Body id start end) = (id < length e.table.macros) × (start ≤ end) × (end ≤ length (macro_at e.table.macros id).body)
 IsPlaced e (Text place) = IsTextPlaced (held_texts e) place
 IsPlaced e (Owed piece) = (0 < length e.files.nest) × (piece.len ≤ length (owed_part e piece))
 IsPlaced e End = ⊤
 IsPlaced e Kept = ⊤
 
--- the bytes at a place: a part of the innermost source's buffer, of a live body, or of an open text, or what is owed; none at the end
+-- the bytes at a place: a part of the innermost source's buffer, or of an open text, or what is owed; none at the end
 abbrev pub bytes_at : {S R : Type 0} → EngineView S R → Place → Option (List ℕ)
 bytes_at e (Source start end) = Some (slice_range (inner_buffer e.files.nest).window start end)
-bytes_at e (Body id start end) = Some (slice_range (macro_at e.table.macros id).body start end)
 bytes_at e (Text place) = Some (place_bytes (held_texts e) place)
 bytes_at e (Owed piece) = Some (take piece.len (owed_part e piece))
 bytes_at e End = None
@@ -61,7 +58,6 @@ kept_answer None = Ok None
 -- what is answered at a place
 abbrev pub lent_answer : {S R : Type 0} → EngineView S R → Place → Result (Option (List ℕ)) Told
 lent_answer e (Source start end) = Ok (bytes_at e (Source start end))
-lent_answer e (Body id start end) = Ok (bytes_at e (Body id start end))
 lent_answer e (Text place) = Ok (bytes_at e (Text place))
 lent_answer e (Owed piece) = Ok (bytes_at e (Owed piece))
 lent_answer e End = Ok None

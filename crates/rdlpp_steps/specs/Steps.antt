@@ -8,7 +8,7 @@ use Rattle.rdlpp_meaning.specs.declared.fault.FaultKind.TheVariants.{ReadFailed,
 use Rattle.rdlpp_meaning.specs.Meaning.{Passage, behind_bytes, leaves}
 use Rattle.rdlpp_meaning.specs.State.{State, fault_at}
 use Rattle.rdlpp_meaning.specs.Outcome.{Told, Outcome, gives, fails, and_then}
-use Rattle.rdlpp_read.specs.Buffer.{BufferView, held_of, reading_line_of}
+use Rattle.rdlpp_read.specs.Buffer.{BufferView, Slides, held_of, reading_line_of}
 use Rattle.rdlpp_table.specs.Table.{Macro, macro_named}
 use Rattle.rdlpp_read.specs.Files.{consumed_file, inner_buffer, with_buffer, with_inner}
 use Rattle.rdlpp_front.specs.Fronts.{IsUsage, usage_name}
@@ -103,13 +103,6 @@ pub data FailsAt {S R : Type 0} (e : EngineView S R) (f : Told) : Type 0 where
   OnRead : f ≡ fault_at ReadFailed (reading_line_of (inner_buffer e.files.nest)) [] (state_of e) → FailsAt e f
   OnSearch : IsSearch e → (kind : FaultKind) → is_call_failed kind ≡ true → f ≡ fault_at kind (inner_buffer e.files.nest).line [] (state_of e) → FailsAt e f
 
--- a window moved on over its text: it dropped bytes in front, which were used, and gained bytes behind
-pub record MovesOn {R : Type 0} (old new : BufferView R) : Type 0 where
-  pub dropped : List ℕ
-  pub gained : List ℕ
-  pub window : old.window ++ gained ≡ dropped ++ new.window
-  pub used : length dropped + new.at ≡ old.at
-
 -- an engine that stopped in the call of a usage, before which another one stood: no text of a usage is open, and of the one before it nothing changed but
 -- the fault that is kept, what is read and used of the innermost source, and what is kept of the call, which stays
 pub record StopsInCall {S R : Type 0} (g : Ghosts S R) (at new : EngineView S R) : Type 0 where
@@ -140,15 +133,15 @@ pub record StopsReading {S R : Type 0} (g : Ghosts S R) (old new : EngineView S 
   pub text : g.tells old.sources → text_of g old ≡ text_of g at
 
 -- an engine that stopped at the front of what is held: nothing changed but the fault that is kept and what is read of the innermost source, whose window
--- moved on, and no source was closed
-pub record StopsAtFront {S R : Type 0} (at new : EngineView S R) : Type 0 where
+-- moved on over its text, and no source was closed; a byte after a line that is too long may be lost
+pub record StopsAtFront {S R : Type 0} (g : Ghosts S R) (at new : EngineView S R) : Type 0 where
   pub becomes : new ≡ record at { kept = new.kept; files = new.files; sources = new.sources }
   pub only : new.files ≡ record at.files { nest = with_buffer (inner_buffer new.files.nest) at.files.nest }
-  pub moves : MovesOn (inner_buffer at.files.nest) (inner_buffer new.files.nest)
+  pub moves : Slides (g.tells at.sources) ⊥ g.unread (inner_buffer at.files.nest) (inner_buffer new.files.nest)
 
 -- where a fault comes: at the front of what is held, or in the call of a usage that stands there
 pub data Halted {S R : Type 0} (g : Ghosts S R) (at new : EngineView S R) : Type 0 where
-  AtFront : StopsAtFront at new → Halted g at new
+  AtFront : StopsAtFront g at new → Halted g at new
   InCall : StopsInCall g at new → Halted g at new
 
 -- a fault in an open text: it came to an engine of which the same text remained and that owed nothing

@@ -2,7 +2,6 @@
 
 use crate::owed::OwedPiece;
 use rdlpp_cursors::TextPlace;
-use rdlpp_table::MacroId;
 
 /// A piece of the output, lent by the engine.
 #[derive(Debug)]
@@ -18,8 +17,6 @@ pub enum Piece<'a> {
 pub enum Place {
     /// From a place up to another in the buffer of the innermost source.
     Source(usize, usize),
-    /// From a place up to another in a live body.
-    Body(MacroId, usize, usize),
     /// In a text that is open in a usage.
     Text(TextPlace),
     /// In the texts that are owed.

@@ -1,23 +1,430 @@
--- A default text that was read: by its tokens, and as it is read back from a table's bytes.
-use Rattle.std.proofs.Common.{◌≡◌, ℕ, zero, suc, ◌+◌, ◌-◌, Bool, true, false, cond, ◌&&◌, List, [], ◌∷◌, ◌++◌, length, take, drop, get_or, eqb, Option, Some, None, Ok, Err, option_map, refl, ap, sym, ◌∙◌, arith}
-use Rattle.std.proofs.lemmas.Bool.{cond-true, cond-false, ne_eqb}
+-- The default texts of formals: read, clean, and read back from a table's bytes.
+use Rattle.std.proofs.Common.{◌≡◌, ℕ, zero, suc, ◌+◌, ◌-◌, ◌<◌, ◌≤◌, Bool, true, false, cond, not, ◌&&◌, List, [], ◌∷◌, ◌++◌, length, take, drop, get_or, eqb, Option, Some, None, is_none, refl, ap, sym, ◌∙◌, subst, ⊎_elim, arith, option_map, inl, inr, Ok, Err}
+use Rattle.std.specs.List.{AllByRecursion, list_all, prefix_len, concat}
+use Rattle.std.proofs.lemmas.Bool.{cases_Bool, cond-true, cond-false, and_parts, and_from, and_right, not-true, or_cases, false≢true, or_left, ne_eqb}
+use Rattle.std.proofs.lemmas.List.{drop-append-le, drop-take, get_or-drop, length-drop, take-append-drop, take-append-le}
 use Rattle.rdlpp_scan.specs.declared.token.Kind.{Kind}
-use Rattle.rdlpp_scan.specs.declared.token.Kind.TheVariants.{Name, Word, Back, Blank, LineEnd, Str, LineComment, BlockComment, Opener, Closer, Comma, Other, Perl as PerlKind, BareBackquote}
+use Rattle.rdlpp_scan.specs.declared.token.Kind.TheVariants.{Blank, LineEnd, LineComment, Comma, Closer, Name, Word, Back, Str, BlockComment, Opener, Other, Perl as PerlKind, BareBackquote}
+use Rattle.rdlpp_scan.specs.declared.token.LexFault.{LexFault}
 use Rattle.rdlpp_scan.specs.declared.token.Mode.{Mode}
 use Rattle.rdlpp_scan.specs.declared.token.Mode.TheVariants.{Plain, InStr, InBlock}
 use Rattle.rdlpp_scan.specs.declared.token.Token.{Token}
-use Rattle.rdlpp_scan.specs.declared.token.LexFault.{LexFault}
-use Rattle.rdlpp_scan.specs.Tokens.{token_of, tokens_from}
-use Rattle.rdlpp_scan.specs.LexFaults.{fault_of_tokens, is_perl, lex_fault_from, open_fault}
-use Rattle.rdlpp_scan.proofs.TokenLens.{token_of-part}
-use Rattle.rdlpp_table.specs.Table.{default_size}
-use Rattle.rdlpp_table.specs.Define.{DefaultText, default_in, default_of_tokens, ends_default, level_behind, onto_default, trimmed_default, trimmed_of, without_end}
-use Rattle.rdlpp_lines.specs.Texts.{Cleared, Sound, Unsound, onto, cleared, start_level, text_behind, trimmed_left, trimmed_len, trims}
-use Rattle.rdlpp_table.specs.Formals.{IsDefault, default_behind, default_left}
+use Rattle.rdlpp_scan.specs.Bytes.{is_blank, is_line_end, is_letter, is_digit, is_opener, is_closer, takes_word, begins_perl, begins_line_comment, begins_block_comment}
+use Rattle.rdlpp_scan.specs.CleanTexts.{IsCleanText, IsCleanToken, AreSpaces}
+use Rattle.rdlpp_scan.specs.Comments.{is_line_comment, other_texts, other_tokens, token_texts, without_line_comments}
+use Rattle.rdlpp_scan.specs.LexFaults.{is_perl, lex_fault_from, fault_of_tokens, open_fault}
+use Rattle.rdlpp_scan.specs.Pieces.{tokens_len}
+use Rattle.rdlpp_scan.specs.Tokens.{whole, plain_token, token_of, tokens_from}
+use Rattle.rdlpp_scan.proofs.CleanTexts.{IsCleanTo, blank-step, clean_tokens, line-step, clean_nothing, clean_without, clean_behind_spaces, clean_to, clean_before_token, left_of}
+use Rattle.rdlpp_scan.proofs.RangeLaws.{clean_before_comma, tokens_from-first, tokens_from-front}
+use Rattle.rdlpp_scan.proofs.TokenLens.{token_of-part, tokens_from-step, tokens-some}
+use Rattle.rdlpp_lines.specs.LineTokens.{kept_of}
+use Rattle.rdlpp_lines.specs.Texts.{Sound, onto, cleared, ends_default, left_in, level_behind, Cleared, Unsound, start_level, text_behind, trimmed_left, trimmed_len, trims, told, read_by, kept_bytes}
+use Rattle.rdlpp_lines.proofs.Measures.{by_first, kept_own, left_first, left_len, ok_len}
 use Rattle.rdlpp_table.specs.Store.{fills, is_clean, is_default}
-use Rattle.rdlpp_lines.specs.Texts.{told, read_by, left_in, kept_bytes}
-use Rattle.rdlpp_lines.proofs.Measures.{left_len, ok_len}
-use Rattle.rdlpp_table.proofs.CleanParts.{default_behind_plain}
+use Rattle.rdlpp_scan.specs.TokenKinds.{opens_mode}
+use Rattle.rdlpp_table.specs.Table.{Formal, Macro, default_size}
+use Rattle.rdlpp_table.specs.Formals.{default_behind, IsDefault, default_left}
+use Rattle.rdlpp_table.specs.Define.{DefaultText, Drawn, Rejected, default_in, default_of_tokens, is_space, lexical, onto_default, onto_trimmed, trimmed, trimmed_default, trimmed_of, with_body, without_end, without_remarks}
+
+-- Default texts as they are read back from a table's bytes: the levels of their tokens, without `//` comments and without spaces at
+
+-- a text that is read whole
+none_is : (o : Option LexFault) → is_none o ≡ true → o ≡ None
+none_is None h = refl
+none_is (Some f) h = absurd (false≢true h)
+
+kept_each : (ts : List Token) → list_all (λ t. not (is_line_comment t.kind)) ts ≡ true → AllByRecursion (λ t. is_line_comment t.kind ≡ false) ts
+kept_each [] h = tt
+kept_each (t ∷ ts) h = let p = and_parts (not (is_line_comment t.kind)) _ h in (not-true _ p.0, kept_each ts p.1)
+
+each_kept : (ts : List Token) → AllByRecursion (λ t. is_line_comment t.kind ≡ false) ts → list_all (λ t. not (is_line_comment t.kind)) ts ≡ true
+each_kept [] all = refl
+each_kept (t ∷ ts) all = and_from _ _ (ap not all.0) (each_kept ts all.1)
+
+clean_text : (text : List ℕ) → is_clean text ≡ true → IsCleanText text
+unfolding is_clean
+clean_text text h = let p = and_parts (is_none (lex_fault_from Plain text)) _ h in record { faultless = none_is _ p.0; uncommented = kept_each _ p.1 }
+
+text_clean : (text : List ℕ) → IsCleanText text → is_clean text ≡ true
+unfolding is_clean
+text_clean text c = and_from _ _ (ap is_none c.faultless) (each_kept _ c.uncommented)
+
+pub default_from : (text : List ℕ) → IsCleanText text → fills 0 (tokens_from Plain 0 text) text ≡ true → is_default text ≡ true
+unfolding is_default
+default_from text c h = and_from _ _ (text_clean text c) h
+
+-- a token that neither ends a default text nor changes its level
+quiet_fill : (l : ℕ) (t : Token) (ts : List Token) (text : List ℕ) → ends_default t.kind (get_or text 0 0) ≡ false → level_behind t.kind l ≡ l → fills l (t ∷ ts) text ≡ fills l ts (drop t.len text)
+unfolding fills
+quiet_fill l t ts text e f =
+    ap (λ b. not b && fills (level_behind t.kind l) ts (drop t.len text)) (and_right (eqb l 0) _ e) ∙ ap (λ n. fills n ts (drop t.len text)) f
+
+blank_fill : (l n : ℕ) (ts : List Token) (text : List ℕ) → fills l (whole Blank n ∷ ts) text ≡ fills l ts (drop n text)
+unfolding whole ends_default level_behind
+blank_fill l n ts text = quiet_fill l (whole Blank n) ts text refl refl
+
+line_fill : (l : ℕ) (ts : List Token) (text : List ℕ) → fills l (whole LineEnd 1 ∷ ts) text ≡ fills l ts (drop 1 text)
+unfolding whole ends_default level_behind
+line_fill l ts text = quiet_fill l (whole LineEnd 1) ts text refl refl
+
+-- whether a text fills a level up
+abbrev fills_text : ℕ → List ℕ → Bool
+fills_text l text = fills l (tokens_from Plain 0 text) text
+
+blank_run : (l b : ℕ) (bs : List ℕ) → is_blank b ≡ true → fills_text l (b ∷ bs) ≡ fills_text l (drop (prefix_len is_blank (b ∷ bs)) (b ∷ bs))
+blank_run l b bs h = ap (λ ts. fills l ts (b ∷ bs)) (blank-step b bs h) ∙ blank_fill l (prefix_len is_blank (b ∷ bs)) _ (b ∷ bs)
+
+run_before : (l : ℕ) (bs : List ℕ) → fills_text l bs ≡ fills_text l (drop (prefix_len is_blank bs) bs)
+run_before l [] = refl
+run_before l (b ∷ bs) =
+    ⊎_elim (blank_run l b bs) (λ h. ap (λ t. fills_text l (drop (cond t (1 + prefix_len is_blank bs) 0) (b ∷ bs))) (sym h)) (cases_Bool (is_blank b))
+
+-- spaces in front don't change the level
+module _ (class : ℕ → Bool) (are : AreSpaces class) where
+  one_space : (l b : ℕ) (bs : List ℕ) → class b ≡ true → fills_text l (b ∷ bs) ≡ fills_text l bs
+  one_space l b bs is =
+      let n = prefix_len is_blank bs in
+      let one : 1 + n ≡ suc n = omega arith in
+      ⊎_elim
+      (λ h. blank_run l b bs h ∙ ap (λ i. fills_text l (drop i (b ∷ bs))) (ap (λ t. cond t (1 + n) 0) h ∙ one) ∙ sym (run_before l bs))
+      (λ h. ap (λ ts. fills l ts (b ∷ bs)) (line-step b bs h) ∙ line_fill l _ (b ∷ bs)) (or_cases (is_blank b) (is_line_end b) (are.alone b is))
+
+  pub behind_spaces_fill : (l : ℕ) (text : List ℕ) → fills_text l (drop (prefix_len class text) text) ≡ fills_text l text
+  behind_spaces_fill l [] = refl
+  behind_spaces_fill l (b ∷ bs) =
+      let n = prefix_len class bs in
+      let one : 1 + n ≡ suc n = omega arith in
+      ⊎_elim
+      (λ h. ap (λ i. fills_text l (drop i (b ∷ bs))) (ap (λ t. cond t (1 + n) 0) h ∙ one) ∙ behind_spaces_fill l bs ∙ sym (one_space l b bs h))
+      (λ h. ap (λ t. fills_text l (drop (cond t (1 + n) 0) (b ∷ bs))) h) (cases_Bool (class b))
+
+  all_spaces : (l : ℕ) (text : List ℕ) → ((k : ℕ) → k < length text → class (get_or text k 0) ≡ true) → fills_text l text ≡ eqb l 0
+  unfolding tokens_from fills
+  all_spaces l [] all = refl
+  all_spaces l (b ∷ bs) all = one_space l b bs (all 0 (omega arith)) ∙ all_spaces l bs (λ k lt. all (suc k) (omega arith))
+
+  -- tokens behind which spaces alone stand
+  front_fill : (ts us : List Token) (l : ℕ) (text : List ℕ) → tokens_from Plain 0 text ≡ ts ++ us → AllByRecursion IsCleanToken ts
+      → ((k : ℕ) → tokens_len ts ≤ k → k < length text → class (get_or text k 0) ≡ true) → fills l (ts ++ us) text ≡ true → fills l ts text ≡ true
+  unfolding fills tokens_len
+  front_fill [] us l text e all spaces h = sym (all_spaces l text (λ k lt. spaces k (omega arith) lt)) ∙ (ap (λ ts. fills l ts text) e ∙ h)
+  front_fill (t ∷ ts) us l text e all spaces h =
+      let p = tokens_from-first Plain text t (ts ++ us) e in
+      let q = and_parts (not (eqb l 0 && ends_default t.kind (get_or text 0 0))) (fills (level_behind t.kind l) (ts ++ us) (drop t.len text)) h in
+      let later : tokens_from Plain 0 (drop t.len text) ≡ ts ++ us = ap (λ (m : Mode). tokens_from m 0 (drop t.len text)) (sym all.0.next) ∙ p.1.1 in
+      let behind : (k : ℕ) → tokens_len ts ≤ k → k < length (drop t.len text) → class (get_or (drop t.len text) k 0) ≡ true = λ k le lt. ap class (get_or-drop t.len text k 0) ∙ spaces (t.len + k) (omega arith) (omega (arith, length-drop t.len text)) in
+      and_from _ _ q.0 (front_fill ts us (level_behind t.kind l) (drop t.len text) later all.1 behind q.1)
+
+-- the first byte of a front
+first_of : (n : ℕ) (text : List ℕ) → 0 < n → get_or (take n text) 0 0 ≡ get_or text 0 0
+first_of zero text h = absurd (omega arith)
+first_of (suc n) [] h = refl
+first_of (suc n) (b ∷ bs) h = refl
+
+-- tokens in the front of a text
+taken_fill : (ts : List Token) (l n : ℕ) (text : List ℕ) → AllByRecursion (λ t. 0 < t.len) ts → tokens_len ts ≤ n → fills l ts (take n text) ≡ fills l ts text
+unfolding fills tokens_len
+taken_fill [] l n text some le = refl
+taken_fill (t ∷ ts) l n text some le =
+    let split : t.len + (n - t.len) ≡ n = omega arith in
+    let behind : drop t.len (take n text) ≡ take (n - t.len) (drop t.len text) = ap (λ i. drop t.len (take i text)) (sym split) ∙ drop-take t.len (n - t.len) text in
+    let first : Bool = not (eqb l 0 && ends_default t.kind (get_or text 0 0)) in
+    ap (λ b. not (eqb l 0 && ends_default t.kind b) && fills (level_behind t.kind l) ts (drop t.len (take n text))) (first_of n text (omega (arith, some.0)))
+    ∙ ap (λ x. first && x) (ap (fills (level_behind t.kind l) ts) behind ∙ taken_fill ts (level_behind t.kind l) (n - t.len) (drop t.len text) some.1 (omega arith))
+
+-- the spaces at the end go
+pub before_spaces_fill : (class : ℕ → Bool) → AreSpaces class → (l : ℕ) (text : List ℕ) (n : ℕ) → IsCleanTo class text n → fills_text l text ≡ true → fills_text l (take n text) ≡ true
+before_spaces_fill class are l text n c h =
+    let own : tokens_from Plain 0 (take n text) ≡ c.front = ap (λ i. tokens_from Plain 0 (take i text)) c.len ∙ tokens_from-front c.front c.back Plain text c.is in
+    let C : List Token → Type 0 = λ ts. AllByRecursion IsCleanToken ts in
+    let S : List Token → Type 0 = λ ts. AllByRecursion (λ t. 0 < t.len) ts in
+    let clean : C c.front = subst C own (clean_tokens (take n text) c.clean) in
+    let some : S c.front = subst S own (tokens-some Plain (take n text)) in
+    ap (λ ts. fills l ts (take n text)) own
+    ∙ (taken_fill c.front l n text some (omega (arith, c.len))
+    ∙ front_fill class are c.front c.back l text c.is clean (λ k le lt. c.spaces k (omega (arith, c.len)) lt) (ap (λ ts. fills l ts text) (sym c.is) ∙ h))
+
+-- the same by the bytes of each token
+unfoldable fills_by : ℕ → List Token → List (List ℕ) → Bool
+fills_by l [] texts = eqb l 0
+fills_by l (t ∷ ts) [] = eqb l 0
+fills_by l (t ∷ ts) (x ∷ texts) = not (eqb l 0 && ends_default t.kind (get_or x 0 0)) && fills_by (level_behind t.kind l) ts texts
+
+by_texts : (ts : List Token) (l : ℕ) (text : List ℕ) → AllByRecursion (λ t. 0 < t.len) ts → fills l ts text ≡ fills_by l ts (token_texts ts text)
+unfolding fills fills_by token_texts
+by_texts [] l text some = refl
+by_texts (t ∷ ts) l text some =
+    let first : Bool = not (eqb l 0 && ends_default t.kind (get_or (take t.len text) 0 0)) in
+    ap (λ b. not (eqb l 0 && ends_default t.kind b) && fills (level_behind t.kind l) ts (drop t.len text)) (sym (first_of t.len text some.0))
+    ∙ ap (λ x. first && x) (by_texts ts (level_behind t.kind l) (drop t.len text) some.1)
+
+-- a `//` comment does neither
+comment_quiet : (k : Kind) (l b : ℕ) → is_line_comment k ≡ true → (ends_default k b ≡ false) × (level_behind k l ≡ l)
+unfolding is_line_comment ends_default level_behind
+comment_quiet LineComment l b h = (refl, refl)
+comment_quiet _ l b h = absurd (false≢true h)
+
+others_fill : (ts : List Token) (l : ℕ) (text : List ℕ) → fills_by l (other_tokens ts) (other_texts ts text) ≡ fills_by l ts (token_texts ts text)
+unfolding other_tokens other_texts token_texts fills_by
+others_fill [] l text = refl
+others_fill (t ∷ ts) l text =
+    let kept = other_tokens ts in
+    let own = take t.len text in
+    let texts = other_texts ts (drop t.len text) in
+    let all = token_texts ts (drop t.len text) in
+    let first : Bool = not (eqb l 0 && ends_default t.kind (get_or own 0 0)) in
+    let P : Bool → Type 0 = λ c. is_line_comment t.kind ≡ c → fills_by l (cond (not c) (t ∷ kept) kept) (cond c texts (own ∷ texts)) ≡ (first && fills_by (level_behind t.kind l) ts all) in
+    let at_comment : P true = λ h.
+    let q = comment_quiet t.kind l (get_or own 0 0) h in
+    others_fill ts l (drop t.len text)
+    ∙ sym (ap (λ b. not b && fills_by (level_behind t.kind l) ts all) (and_right (eqb l 0) _ q.0) ∙ ap (λ n. fills_by n ts all) q.1) in
+    let at_other : P false = λ _. ap (λ x. first && x) (others_fill ts (level_behind t.kind l) (drop t.len text)) in
+    elim (is_line_comment t.kind) as P [ true ↦ at_comment | false ↦ at_other ] refl
+
+-- tokens fill a level up as what is left of them without `//` comments does
+pub left_fill : (ts : List Token) (l : ℕ) (text left : List ℕ) → AllByRecursion (λ t. 0 < t.len) ts → tokens_from Plain 0 left ≡ other_tokens ts
+    → token_texts (other_tokens ts) left ≡ other_texts ts text → fills_text l left ≡ fills l ts text
+left_fill ts l text left some tokens texts =
+    by_texts (tokens_from Plain 0 left) l left (tokens-some Plain left)
+    ∙ (ap (λ us. fills_by l us (token_texts us left)) tokens
+    ∙ (ap (fills_by l (other_tokens ts)) texts
+    ∙ (others_fill ts l text ∙ sym (by_texts ts l text some))))
+
+-- a `,` at level 0
+comma_token : (rest : List ℕ) → token_of Plain (44 ∷ rest) ≡ whole Comma 1
+unfolding token_of plain_token begins_perl is_line_end is_blank begins_line_comment begins_block_comment is_letter is_digit takes_word is_opener is_closer
+comma_token rest = refl
+
+comma_read : (l : ℕ) (rest : List ℕ) → eqb l 0 ≡ true → left_in (Some l) Plain (44 ∷ rest) ≡ Sound [] (44 ∷ rest)
+unfolding whole is_perl ends_default
+comma_read l rest e =
+    left_first (Some l) Plain (44 ∷ rest) (omega arith) ∙ (ap (λ (t : Token). by_first (Some l) t (44 ∷ rest)) (comma_token rest) ∙ cond-true _ _ _ (and_from (eqb l 0) true e refl))
+
+-- a text that fills a level up is read up to a `,` behind it
+fills_read : (fuel l : ℕ) (xs rest : List ℕ) → length xs ≤ fuel → AllByRecursion IsCleanToken (tokens_from Plain 0 xs) → fills_text l xs ≡ true → left_in (Some l) Plain (xs ++ 44 ∷ rest) ≡ Sound xs (44 ∷ rest)
+unfolding tokens_from fills onto
+fills_read fuel l [] rest le all h = comma_read l rest h
+fills_read zero l (b ∷ bs) rest le all h = absurd (omega arith)
+fills_read (suc fuel) l (b ∷ bs) rest le all h =
+    let T = b ∷ bs in
+    let ys = 44 ∷ rest in
+    let t = token_of Plain T in
+    let m = level_behind t.kind l in
+    let some : 0 < length T = omega arith in
+    let part = token_of-part Plain T some in
+    let after = drop t.len T in
+    let C : List Token → Type 0 = λ ts. AllByRecursion IsCleanToken ts in
+    let step : tokens_from Plain 0 T ≡ t ∷ tokens_from t.next_mode 0 after = tokens_from-step Plain T some part.not_empty in
+    let each : C (t ∷ tokens_from t.next_mode 0 after) = subst C step all in
+    let next : t.next_mode ≡ Plain = each.0.next in
+    let each_after : C (tokens_from Plain 0 after) = subst (λ (v : Mode). C (tokens_from v 0 after)) next each.1 in
+    let fill = and_parts (not (eqb l 0 && ends_default t.kind b)) (fills m (tokens_from t.next_mode 0 after) after) (sym (ap (λ ts. fills l ts T) step) ∙ h) in
+    let fill_after : fills_text m after ≡ true = subst (λ (v : Mode). fills m (tokens_from v 0 after) after ≡ true) next fill.1 in
+    let read : left_in (Some m) Plain (after ++ ys) ≡ Sound after ys = fills_read fuel m after rest (omega (arith, length-drop t.len T, part.not_empty)) each_after fill_after in
+    let same : token_of Plain (T ++ ys) ≡ t = clean_before_comma T rest some each.0 in
+    let own : kept_of t.kind (take t.len (T ++ ys)) ≡ take t.len T = kept_own t.kind _ each.0.kept ∙ take-append-le t.len T ys part.inside in
+    let behind : drop t.len (T ++ ys) ≡ after ++ ys = drop-append-le t.len T ys part.inside in
+    left_first (Some l) Plain (T ++ ys) (omega arith)
+    ∙ (ap (λ (u : Token). by_first (Some l) u (T ++ ys)) same
+    ∙ (cond-false _ _ _ each.0.sound
+    ∙ (cond-false _ _ _ (not-true _ fill.0)
+    ∙ (ap (λ x. onto x (left_in (Some m) t.next_mode (drop t.len (T ++ ys)))) own
+    ∙ (ap (λ x. onto (take t.len T) (left_in (Some m) t.next_mode x)) behind
+    ∙ (ap (λ (v : Mode). onto (take t.len T) (left_in (Some m) v (after ++ ys))) next
+    ∙ (ap (onto (take t.len T)) read ∙ ap (λ x. Sound x ys) (take-append-drop t.len T))))))))
+
+-- a default text is read back up to the `,` behind it
+pub default_read_back : (text rest : List ℕ) → is_default text ≡ true → cleared (Some 0) (text ++ 44 ∷ rest) ≡ Sound text (44 ∷ rest)
+unfolding is_default cleared
+default_read_back text rest h =
+    let p = and_parts (is_clean text) (fills_text 0 text) h in
+    fills_read (length text) 0 text rest (omega arith) (clean_tokens text (clean_text text p.0)) p.1
+
+-- The body and the default texts of a definition are clean.
+
+-- a text without the bytes of a class at its end, by where those begin
+without_end_is : (class : ℕ → Bool) (bs : List ℕ) (n : ℕ) → n ≤ length bs → ((k : ℕ) → n ≤ k → k < length bs → class (get_or bs k 0) ≡ true)
+    → ((k : ℕ) → n ≡ suc k → class (get_or bs k 0) ≡ false) → without_end class bs ≡ take n bs
+unfolding without_end onto_trimmed
+without_end_is class [] zero inside spaces last = refl
+without_end_is class [] (suc n) inside spaces last = absurd (omega arith)
+without_end_is class (b ∷ bs) zero inside spaces last =
+    ap (onto_trimmed class b) (without_end_is class bs 0 (omega arith) (λ k _ lt. spaces (suc k) (omega arith) (omega arith)) (λ k e. absurd (omega arith)))
+    ∙ cond-true _ _ _ (spaces 0 (omega arith) (omega arith))
+without_end_is class (b ∷ bs) (suc zero) inside spaces last =
+    ap (onto_trimmed class b) (without_end_is class bs 0 (omega arith) (λ k _ lt. spaces (suc k) (omega arith) (omega arith)) (λ k e. absurd (omega arith)))
+    ∙ cond-false _ _ _ (last 0 refl)
+without_end_is class (b ∷ []) (suc (suc n)) inside spaces last = absurd (omega arith)
+without_end_is class (b ∷ c ∷ bs) (suc (suc n)) inside spaces last =
+    ap (onto_trimmed class b) (without_end_is class (c ∷ bs) (suc n) (omega arith) (λ k le lt. spaces (suc k) (omega arith) (omega arith)) (λ k e. last (suc k) (ap suc e)))
+
+-- a clean text without spaces at both ends is clean, and at the same level at its end
+record IsTrimmed (text trimmed : List ℕ) : Type 0 where
+  clean : IsCleanText trimmed
+  filled : fills 0 (tokens_from Plain 0 text) text ≡ true → fills 0 (tokens_from Plain 0 trimmed) trimmed ≡ true
+
+trimmed_clean : (class : ℕ → Bool) → AreSpaces class → (text : List ℕ) → IsCleanText text → IsTrimmed text (trimmed_of class text)
+unfolding trimmed_of
+trimmed_clean class are text clean =
+    let front = drop (prefix_len class text) text in
+    let end = clean_to class are front (clean_behind_spaces class are text clean) in
+    let trimmed : IsTrimmed text (take end.0 front) = record {
+      clean = end.1.clean;
+      filled = λ h. before_spaces_fill class are 0 front end.0 end.1 (behind_spaces_fill class are 0 text ∙ h);
+    } in
+    subst (IsTrimmed text) (sym (without_end_is class front end.0 end.1.inside end.1.spaces end.1.last)) trimmed
+
+blanks_are : AreSpaces is_blank
+blanks_are = record { blanks = λ b h. h; alone = λ b h. or_left (is_blank b) (is_line_end b) h }
+
+spaces_are : AreSpaces is_space
+unfolding is_space
+spaces_are = record { blanks = λ b h. or_left (is_blank b) (is_line_end b) h; alone = λ b h. h }
+
+-- what is kept of a token, by its kind
+kept_by : (k : Kind) (xs : List ℕ) (rest : List (List ℕ)) → (elim k [ LineComment ↦ concat rest | _ ↦ xs ++ concat rest ]) ≡ concat (cond (is_line_comment k) rest (xs ∷ rest))
+unfolding is_line_comment
+kept_by LineComment xs rest = refl
+kept_by _ xs rest = refl
+
+-- a text without its `//` comments
+without_remarks_is : (ts : List Token) (text : List ℕ) → without_remarks ts text ≡ concat (other_texts ts text)
+unfolding without_remarks other_texts
+without_remarks_is [] text = refl
+without_remarks_is (t ∷ ts) text =
+    ap (λ (x : List ℕ). elim t.kind [ LineComment ↦ x | _ ↦ take t.len text ++ x ]) (without_remarks_is ts (drop t.len text)) ∙ kept_by t.kind (take t.len text) (other_texts ts (drop t.len text))
+
+drawn_is : (m n : Macro) → Drawn m ≡ Drawn n → m ≡ n
+drawn_is m n e = cc
+
+-- the body of a definition is clean
+body_by : (name : List ℕ) (formals : Option (List Formal)) (text : List ℕ) (m : Macro) (fault : Option LexFault) → lex_fault_from Plain text ≡ fault
+    → (elim fault [ Some f ↦ Rejected (lexical f) [] | None ↦ Drawn (record { name = name; formals = formals; body = trimmed (without_remarks (tokens_from Plain 0 text) text) }) ]) ≡ Drawn m → IsCleanText m.body
+unfolding trimmed without_line_comments
+body_by name formals text m (Some f) is e = absurd (cc)
+body_by name formals text m None is e =
+    let left = without_remarks (tokens_from Plain 0 text) text in
+    let body : trimmed_of is_blank left ≡ m.body = ap (λ (x : Macro). x.body) (drawn_is (record { name = name; formals = formals; body = trimmed_of is_blank left }) m e) in
+    let clean : IsCleanText left = subst IsCleanText (sym (without_remarks_is (tokens_from Plain 0 text) text)) (clean_without text is) in
+    subst IsCleanText body (trimmed_clean is_blank blanks_are left clean).clean
+
+pub drawn_clean : (name : List ℕ) (formals : Option (List Formal)) (text : List ℕ) (m : Macro) → with_body name formals text ≡ Drawn m → IsCleanText m.body
+unfolding with_body
+drawn_clean name formals text m e = body_by name formals text m (lex_fault_from Plain text) refl e
+
+-- the tokens of a default text from a level on, and the one that ends it
+record IsFound (level : ℕ) (ts : List Token) (text : List ℕ) (d : DefaultText) : Type 0 where
+  before : List Token
+  ends : Token
+  after : List Token
+  is : ts ≡ before ++ ends ∷ after
+  text_is : d.text ≡ concat (other_texts before text)
+  filled : fills level before text ≡ true
+  sound : AllByRecursion (λ t. is_perl t.kind ≡ false) before
+  shut : opens_mode ends.kind ≡ false
+  whole : is_perl ends.kind ≡ false
+
+some_is : (d e : DefaultText) → Some d ≡ Some e → d ≡ e
+some_is d e h = cc
+
+-- a kind that ends a default text is neither a string nor a comment
+ends_shut : (k : Kind) (b : ℕ) → ends_default k b ≡ true → opens_mode k ≡ false
+unfolding ends_default opens_mode
+ends_shut Comma b h = refl
+ends_shut Closer b h = refl
+ends_shut _ b h = absurd (false≢true h)
+
+onto_kind : (k : Kind) (xs : List ℕ) (e d : DefaultText) (rest : List (List ℕ)) → (elim k [ LineComment ↦ Some e | _ ↦ Some (let x : DefaultText = record { text = xs ++ e.text; behind = e.behind } in x) ]) ≡ Some d → e.text ≡ concat rest → d.text ≡ concat (cond (is_line_comment k) rest (xs ∷ rest))
+unfolding is_line_comment
+onto_kind LineComment xs e d rest h same = sym (ap (λ (x : DefaultText). x.text) (some_is e d h)) ∙ same
+onto_kind _ xs e d rest h same = sym (ap (λ (x : DefaultText). x.text) (some_is (record { text = xs ++ e.text; behind = e.behind }) d h)) ∙ ap (λ z. xs ++ z) same
+
+found_first : (level : ℕ) (t : Token) (ts : List Token) (text : List ℕ) (d : DefaultText) → is_perl t.kind ≡ false → eqb level 0 ≡ true → opens_mode t.kind ≡ false → Some (let x : DefaultText = record { text = []; behind = text } in x) ≡ Some d → IsFound level (t ∷ ts) text d
+unfolding other_texts fills
+found_first level t ts text d whole none shut e =
+    record { before = []; ends = t; after = ts; is = refl; text_is = sym (ap (λ (x : DefaultText). x.text) (some_is (record { text = []; behind = text }) d e)); filled = none; sound = tt; shut = shut; whole = whole }
+
+found_next : (level : ℕ) (t : Token) (ts : List Token) (text : List ℕ) (e d : DefaultText) → is_perl t.kind ≡ false → (eqb level 0 && ends_default t.kind (get_or text 0 0)) ≡ false → onto_default t text (Some e) ≡ Some d
+    → IsFound (level_behind t.kind level) ts (drop t.len text) e → IsFound level (t ∷ ts) text d
+unfolding onto_default other_texts fills
+found_next level t ts text e d whole on h f =
+    record {
+      before = t ∷ f.before;
+      ends = f.ends;
+      after = f.after;
+      is = ap (λ us. t ∷ us) f.is;
+      text_is = onto_kind t.kind (take t.len text) e d (other_texts f.before (drop t.len text)) h f.text_is;
+      filled = and_from _ _ (ap not on) f.filled;
+      sound = (whole, f.sound);
+      shut = f.shut;
+      whole = f.whole;
+    }
+
+found_in : (level : ℕ) (ts : List Token) (text : List ℕ) (d : DefaultText) → default_of_tokens level ts text ≡ Some d → IsFound level ts text d
+unfolding default_of_tokens onto_default
+found_in level [] text d e = absurd (cc)
+found_in level (t ∷ ts) text d e =
+    let here : Option DefaultText = Some (record { text = []; behind = text }) in
+    let later : Option DefaultText = default_of_tokens (level_behind t.kind level) ts (drop t.len text) in
+    let stops = eqb level 0 && ends_default t.kind (get_or text 0 0) in
+    elim (cases_Bool (is_perl t.kind)) [
+      | inl perl ↦ let none : None ≡ Some d = sym (cond-true _ _ _ perl) ∙ e in absurd (cc)
+      | inr whole ↦ let rest : cond stops here (onto_default t text later) ≡ Some d = sym (cond-false _ _ _ whole) ∙ e in
+          elim (cases_Bool stops) [
+            | inl stop ↦
+                let both = and_parts (eqb level 0) (ends_default t.kind (get_or text 0 0)) stop in
+                found_first level t ts text d whole both.0 (ends_shut t.kind (get_or text 0 0) both.1) (sym (cond-true _ _ _ stop) ∙ rest)
+            | inr goes_on ↦
+                let onto : onto_default t text later ≡ Some d = sym (cond-false _ _ _ goes_on) ∙ rest in
+                (elim later as (λ o. later ≡ o → onto_default t text o ≡ Some d → IsFound level (t ∷ ts) text d) [
+                  | None ↦ λ _ h. absurd (cc)
+                  | Some x ↦ λ q h. found_next level t ts text x d whole goes_on h (found_in (level_behind t.kind level) ts (drop t.len text) x q)
+                ]) refl onto
+          ]
+    ]
+
+front_some : (ts us : List Token) → AllByRecursion (λ t. 0 < t.len) (ts ++ us) → AllByRecursion (λ t. 0 < t.len) ts
+front_some [] us all = tt
+front_some (t ∷ ts) us all = (all.0, front_some ts us all.1)
+
+-- a default text before it is trimmed is clean, and at level 0 at its end
+default_clean : (text : List ℕ) (d : DefaultText) → default_of_tokens 0 (tokens_from Plain 0 text) text ≡ Some d → IsCleanText d.text × (fills 0 (tokens_from Plain 0 d.text) d.text ≡ true)
+default_clean text d e =
+    let f = found_in 0 (tokens_from Plain 0 text) text d e in
+    let left = concat (other_texts f.before text) in
+    let l = left_of f.before (f.ends ∷ f.after) text f.is in
+    let S : List Token → Type 0 = λ ts. AllByRecursion (λ t. 0 < t.len) ts in
+    let some : S f.before = front_some f.before (f.ends ∷ f.after) (subst S f.is (tokens-some Plain text)) in
+    let filled : fills 0 (tokens_from Plain 0 left) left ≡ true = left_fill f.before 0 text left some l.tokens l.texts ∙ f.filled in
+    (subst IsCleanText (sym f.text_is) (clean_before_token f.before f.after f.ends text f.is f.sound f.shut f.whole), subst (λ (x : List ℕ). fills 0 (tokens_from Plain 0 x) x ≡ true) (sym f.text_is) filled)
+
+trimmed_by : (text : List ℕ) (o : Option DefaultText) (d : DefaultText) → default_of_tokens 0 (tokens_from Plain 0 text) text ≡ o → option_map trimmed_default o ≡ Some d → IsCleanText d.text × (is_default d.text ≡ true)
+unfolding trimmed_default
+trimmed_by text None d is e = absurd (cc)
+trimmed_by text (Some raw) d is e =
+    let same : trimmed_of is_space raw.text ≡ d.text = ap (λ (x : DefaultText). x.text) (some_is (record { text = trimmed_of is_space raw.text; behind = raw.behind }) d e) in
+    let c = default_clean text raw is in
+    let t = trimmed_clean is_space spaces_are raw.text c.0 in
+    (subst IsCleanText same t.clean, subst (λ (x : List ℕ). is_default x ≡ true) same (default_from (trimmed_of is_space raw.text) t.clean (t.filled c.1)))
+
+-- a default text that is read is read back
+pub default_behind_plain : (text : List ℕ) (d : DefaultText) → default_behind text ≡ Some d → is_default d.text ≡ true
+unfolding default_behind
+default_behind_plain text d e = (trimmed_by text (default_of_tokens 0 (tokens_from Plain 0 text) text) d refl e).1
+
+-- the default text of a formal is clean
+pub default_in_clean : (behind : List ℕ) (d : DefaultText) → default_in behind ≡ Some d → IsCleanText d.text
+unfolding default_in
+default_in_clean behind d e =
+    let text = drop 1 behind in
+    let nothing : DefaultText = record { text = []; behind = behind } in
+    elim (cases_Bool (eqb (get_or behind 0 0) 61)) [
+      | inl given ↦ (trimmed_by text (default_of_tokens 0 (tokens_from Plain 0 text) text) d refl (sym (cond-true _ _ _ given) ∙ e)).0
+      | inr none ↦ subst IsCleanText (ap (λ (x : DefaultText). x.text) (some_is nothing d (sym (cond-false _ _ _ none) ∙ e))) clean_nothing
+    ]
+
+-- A default text that was read: by its tokens, and as it is read back from a table's bytes.
 
 -- the default text of what is left
 abbrev found : Cleared → Option DefaultText

@@ -12,14 +12,11 @@ use Rattle.rdlpp_table.specs.View.{TableView, macro_at, no_macro, place_named}
 use Rattle.rdlpp_table.specs.Store.{IsStored, entry_end, macro_in, macros_in, name_of}
 use Rattle.rdlpp_table.specs.Layout.{IsHeld, view_of}
 use Rattle.rdlpp_table.specs.Index.{IsGap, IsIndex, IsIndexed, IsPlace, closed, key_at, name_order, names_of, part_of}
-use Rattle.rdlpp_table.proofs.Laid.{length_macros_in, macros_of_none}
-use Rattle.rdlpp_table.proofs.Sizes.{count_items}
-use Rattle.rdlpp_table.proofs.RoundTrip.{read_back}
-use Rattle.rdlpp_table.proofs.Put.{stored_count}
-use Rattle.rdlpp_table.proofs.Without.{without_at, without_length, without_nowhere}
+use Rattle.rdlpp_table.proofs.Sizes.{length_macros_in, macros_of_none, count_items}
+use Rattle.rdlpp_table.proofs.RoundTrip.{read_back, stored_count}
+use Rattle.rdlpp_table.proofs.Taken.{without_at, without_length, without_nowhere}
 use Rattle.rdlpp_table.proofs.Orders.{count_names, name_of_macro, indexed_place, position_none}
-use Rattle.rdlpp_table.proofs.Indexed.{entered_index, left_index, names_left}
-use Rattle.rdlpp_table.proofs.Divided.{IsLater, IsSooner, entered_divided, left_divided, nothing_divided}
+use Rattle.rdlpp_table.proofs.Indexed.{entered_index, left_index, names_left, IsLater, IsSooner, entered_divided, left_divided, nothing_divided}
 
 -- an index of entries has as many places, each that of an entry
 pub entry_inside : (bytes : List ℕ) (entries : List Entry) (order : List ℕ) (k : ℕ) → IsIndex (names_of (macros_in bytes entries)) order → k < length order → get_or order k 0 < length entries

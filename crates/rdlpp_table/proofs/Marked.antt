@@ -1,18 +1,216 @@
--- Where the formals of a macro begin among their bytes, and what is kept of that.
-use Rattle.std.proofs.Common.{◌≡◌, ℕ, zero, suc, ◌+◌, ◌-◌, ◌<◌, ◌≤◌, Bool, true, false, cond, inl, inr, List, [], ◌∷◌, ◌++◌, bytes_eq, length, take, drop, get_or, sum_by, refl, ap, sym, subst, ◌∙◌, arith, append_assoc, length-append, length-take, add-zero}
-use Rattle.std.specs.List.{flat_map, list_all}
-use Rattle.std.proofs.lemmas.List.{take_at, drop_at, take_all, take_more, drop_more, take-append-drop, append-nil, get_or_default, get_or_past}
-use Rattle.std.proofs.lemmas.List.Sums.{sum_by-cons, sum_by-append, sum_by-take-drop}
-use Rattle.std.proofs.lemmas.Bool.{and_parts}
+-- The formals of a macro, read from a table's bytes, and the marks of where they begin.
+use Rattle.std.proofs.Common.{◌≡◌, ℕ, ◌+◌, ◌-◌, ◌≤◌, Bool, true, false, not, eqb, nat_eq, inl, inr, List, [], ◌∷◌, ◌++◌, bytes_eq, length, take, drop, get_or, refl, ap, sym, ◌∙◌, arith, rules, length-append, length-drop, eq-eqb, suc, ◌<◌, cond, Option, Some, None, option_map, zero, sum_by, subst, append_assoc, length-take, add-zero}
+use Rattle.std.specs.List.{prefix_len, starts_with, flat_map, list_all}
+use Rattle.std.specs.Cmp.{unsigned_Decides}
+use Rattle.std.proofs.lemmas.Bool.{cases_Bool, eqb-true, false≢true, cond-true, cond-false, and_parts}
 use Rattle.std.proofs.lemmas.Bool.Decides.{leb_tells}
+use Rattle.std.proofs.lemmas.List.{drop_at, drop-drop, get_or-drop, get_or_past, length-take-le, take_at, take-append-drop, take_all, take_more, drop_more, append-nil, get_or_default}
+use Rattle.std.proofs.lemmas.List.Sums.{prefix_len-le-length, prefix_len_stops, sum_by-cons, sum_by-append, sum_by-take-drop}
+use Rattle.std.proofs.lemmas.Slice.Eq.{bytes_eq-Decides, starts_is}
+use Rattle.rdlpp_table.specs.Table.{Formal, default_bytes, formal_bytes, formal_size}
+use Rattle.rdlpp_table.specs.Store.{formal_behind, formal_read, is_name_byte, formals_read, StoredFormal, is_plain_formal, IsListed}
+use Rattle.rdlpp_table.specs.View.{formal_at, formal_named}
+use Rattle.rdlpp_table.proofs.Sizes.{position_first, length_formal_bytes, length_list_bytes, length_starts}
 use Rattle.std.proofs.lemmas.Grind.{flat_map-append}
-use Rattle.rdlpp_table.specs.Table.{Formal, formal_bytes, formal_size}
-use Rattle.rdlpp_table.specs.View.{formal_at}
 use Rattle.rdlpp_table.specs.Marks.{is_marked, marks_of, starts_of}
-use Rattle.rdlpp_table.specs.Store.{StoredFormal, formal_read, formals_read, is_plain_formal, IsListed}
-use Rattle.rdlpp_table.proofs.ReadBack.{IsReached, reached_more, reached_start}
 use Rattle.rdlpp_table.proofs.RoundTrip.{read_formal}
-use Rattle.rdlpp_table.proofs.Sizes.{length_formal_bytes, length_list_bytes, length_starts}
+
+-- What is told of the formal with which bytes begin, from the bytes of its name and from its size.
+
+-- the name of the formal is what begins the bytes, up to what is no byte of a name
+pub name_is : (bytes : List ℕ) → (formal_read bytes).formal.name ≡ take (prefix_len is_name_byte bytes) bytes
+unfolding formal_read formal_behind
+name_is bytes = search rules
+
+-- the name has as many bytes as begin the bytes, up to what is no byte of a name
+name_length : (bytes : List ℕ) → length (formal_read bytes).formal.name ≡ prefix_len is_name_byte bytes
+name_length bytes = ap length (name_is bytes) ∙ length-take-le _ bytes (prefix_len-le-length is_name_byte bytes)
+
+-- a test that tells whether two texts are the same is their comparison
+pub compared : (b : Bool) (xs ys : List ℕ) → (b ≡ true → xs ≡ ys) → (xs ≡ ys → b ≡ true) → b ≡ bytes_eq xs ys
+compared true xs ys f g = sym ((bytes_eq-Decides xs ys).1 (f refl))
+compared false xs ys f g = elim (cases_Bool (bytes_eq xs ys)) [
+  | inl h ↦ absurd (false≢true (g ((bytes_eq-Decides xs ys).0 h)))
+  | inr h ↦ sym h
+]
+
+-- behind the name no name goes on
+pub name_ended : (bytes name : List ℕ) → (formal_read bytes).formal.name ≡ name → not (is_name_byte (get_or bytes (length name) 44)) ≡ true
+unfolding is_name_byte
+name_ended bytes name e =
+    let p : ℕ = prefix_len is_name_byte bytes in
+    let n : length name ≡ p = ap length (sym e) ∙ name_length bytes in
+    ap (λ (k : ℕ). not (is_name_byte (get_or bytes k 44))) n
+    ∙ elim (leb_tells (length bytes) p) as (λ _. not (is_name_byte (get_or bytes p 44)) ≡ true) [
+      | inl h ↦ ap (λ (b : ℕ). not (is_name_byte b)) (get_or_past bytes p 44 h.1)
+      | inr h ↦ ap not (prefix_len_stops is_name_byte bytes 44 h.1)
+    ]
+
+-- and the bytes begin with the name
+pub name_starts : (bytes name : List ℕ) (starts : Bool) → starts ≡ starts_with nat_eq bytes name → (formal_read bytes).formal.name ≡ name → starts ≡ true
+name_starts bytes name starts s e =
+    let p : ℕ = prefix_len is_name_byte bytes in
+    (starts_is unsigned_Decides bytes name starts s).1 (drop p bytes) (sym (take-append-drop p bytes) ∙ ap (λ (l : List ℕ). l ++ drop p bytes) (sym (name_is bytes) ∙ e))
+
+-- bytes that begin with a name of the formal's size begin with the formal's name
+pub started_name : (bytes name : List ℕ) (starts : Bool) → starts ≡ starts_with nat_eq bytes name → starts ≡ true → prefix_len is_name_byte bytes ≡ length name → (formal_read bytes).formal.name ≡ name
+started_name bytes name starts s h n =
+    name_is bytes
+    ∙ (ap (λ (k : ℕ). take k bytes) n
+    ∙ (ap (take (length name)) ((starts_is unsigned_Decides bytes name starts s).0 h)
+    ∙ take_at name (drop (length name) bytes) (length name) refl))
+
+-- so the comparison is that of the sizes where the bytes begin with the name
+pub named_by_size : (bytes name : List ℕ) (starts : Bool) (len : ℕ) → starts ≡ starts_with nat_eq bytes name → starts ≡ true → len ≡ prefix_len is_name_byte bytes → eqb len (length name) ≡ bytes_eq (formal_read bytes).formal.name name
+named_by_size bytes name starts len s h n =
+    compared (eqb len (length name)) (formal_read bytes).formal.name name
+    (λ e. started_name bytes name starts s h (sym n ∙ eqb-true len (length name) e))
+    (λ e. eq-eqb len (length name) (n ∙ (sym (name_length bytes) ∙ ap length e)))
+
+-- behind the name of a formal with nothing behind it are its default text and its comma
+behind_name : (bytes : List ℕ) → formal_bytes (formal_read bytes).formal ≡ bytes → drop (prefix_len is_name_byte bytes) bytes ≡ default_bytes (formal_read bytes).formal.text ++ 44 ∷ []
+unfolding formal_bytes
+behind_name bytes h =
+    let f : Formal = (formal_read bytes).formal in
+    ap (drop (prefix_len is_name_byte bytes)) (sym h) ∙ drop_at f.name (default_bytes f.text ++ 44 ∷ []) (prefix_len is_name_byte bytes) (name_length bytes)
+
+-- behind the name, where an `=` stands, there are it, the default text and the comma
+with_default : (text rest : List ℕ) → rest ≡ default_bytes text ++ 44 ∷ [] → get_or rest 0 44 ≡ 61 → rest ≡ 61 ∷ (text ++ 44 ∷ [])
+unfolding default_bytes
+with_default [] rest e h = absurd (let a : 44 ≡ 61 = ap (λ (l : List ℕ). get_or l 0 44) (sym e) ∙ h in omega (arith, a))
+with_default (b ∷ bs) rest e h = e
+
+-- and where no `=` stands there is no default text
+without_default : (text rest : List ℕ) → rest ≡ default_bytes text ++ 44 ∷ [] → (get_or rest 0 44 ≡ 61 → ⊥) → [] ≡ text
+unfolding default_bytes
+without_default [] rest e h = refl
+without_default (b ∷ bs) rest e h = absurd (h (ap (λ (l : List ℕ). get_or l 0 44) e))
+
+-- the first byte behind so many is the one at that place
+first_behind_name : (bytes : List ℕ) (n : ℕ) → get_or (drop n bytes) 0 44 ≡ get_or bytes n 44
+first_behind_name bytes n = get_or-drop n bytes 0 44 ∙ ap (λ (k : ℕ). get_or bytes k 44) (let e : n + 0 ≡ n = omega arith in e)
+
+-- the same of the bytes behind the name of a formal
+default_behind : (bytes : List ℕ) (n : ℕ) → formal_bytes (formal_read bytes).formal ≡ bytes → n ≡ prefix_len is_name_byte bytes → get_or bytes n 44 ≡ 61 → drop n bytes ≡ 61 ∷ ((formal_read bytes).formal.text ++ 44 ∷ [])
+default_behind bytes n h e g =
+    with_default (formal_read bytes).formal.text (drop n bytes) (ap (λ (k : ℕ). drop k bytes) e ∙ behind_name bytes h) (first_behind_name bytes n ∙ g)
+
+-- so the bytes are those of the name and the default text, and two more
+default_size_behind : (bytes : List ℕ) (n : ℕ) → formal_bytes (formal_read bytes).formal ≡ bytes → n ≡ prefix_len is_name_byte bytes → get_or bytes n 44 ≡ 61 → length bytes ≡ n + length (formal_read bytes).formal.text + 2
+default_size_behind bytes n h e g =
+    omega (arith, ap length (default_behind bytes n h e g), length-drop n bytes, length-append (formal_read bytes).formal.text (44 ∷ []), prefix_len-le-length is_name_byte bytes, e)
+
+-- the default text ends in front of the last byte
+pub default_inside : (bytes : List ℕ) (n : ℕ) → formal_bytes (formal_read bytes).formal ≡ bytes → n ≡ prefix_len is_name_byte bytes → get_or bytes n 44 ≡ 61 → n + 1 ≤ length bytes - 1
+default_inside bytes n h e g = omega (arith, default_size_behind bytes n h e g)
+
+-- the default text stands between the `=` and the comma
+pub default_between : (bytes : List ℕ) (n : ℕ) → formal_bytes (formal_read bytes).formal ≡ bytes → n ≡ prefix_len is_name_byte bytes → get_or bytes n 44 ≡ 61 → take (length bytes - 1 - (n + 1)) (drop (n + 1) bytes) ≡ (formal_read bytes).formal.text
+default_between bytes n h e g =
+    let text : List ℕ = (formal_read bytes).formal.text in
+    let size : length text ≡ length bytes - 1 - (n + 1) = omega (arith, default_size_behind bytes n h e g) in
+    ap (take (length bytes - 1 - (n + 1))) (sym (drop-drop 1 n bytes) ∙ ap (drop 1) (default_behind bytes n h e g))
+    ∙ take_at text (44 ∷ []) (length bytes - 1 - (n + 1)) size
+
+-- and where no `=` is, there is none
+pub no_default_text : (bytes : List ℕ) (n : ℕ) → formal_bytes (formal_read bytes).formal ≡ bytes → n ≡ prefix_len is_name_byte bytes → (get_or bytes n 44 ≡ 61 → ⊥) → [] ≡ (formal_read bytes).formal.text
+no_default_text bytes n h e g =
+    without_default (formal_read bytes).formal.text (drop n bytes) (ap (λ (k : ℕ). drop k bytes) e ∙ behind_name bytes h) (λ a. g (sym (first_behind_name bytes n) ∙ a))
+
+-- The formals of a macro, read one after another from a table's bytes.
+
+no_shift : (o : Option ℕ) → option_map (λ i. 0 + i) o ≡ o
+no_shift None = refl
+no_shift (Some n) = let e : 0 + n ≡ n = omega arith in ap Some e
+
+one_shift : (place : ℕ) (o : Option ℕ) → option_map (λ i. place + i) (option_map suc o) ≡ option_map (λ i. place + 1 + i) o
+one_shift place None = refl
+one_shift place (Some n) = let e : place + suc n ≡ place + 1 + n = omega arith in ap Some e
+
+read_first : (n : ℕ) (bytes : List ℕ) → formals_read (suc n) bytes ≡ (formal_read bytes).formal ∷ formals_read n (formal_read bytes).behind
+unfolding formals_read
+read_first n bytes = refl
+
+read_none : (bytes : List ℕ) → formals_read 0 bytes ≡ []
+unfolding formals_read
+read_none bytes = refl
+
+-- a formal of a name is sought among so many, and so many of them were passed
+pub record IsReached (bytes name rest : List ℕ) (count place : ℕ) : Type 0 where
+  pub same : formal_named (formals_read count bytes) name ≡ option_map (λ i. place + i) (formal_named (formals_read (count - place) rest) name)
+
+pub reached_start : (bytes name : List ℕ) (count : ℕ) → IsReached bytes name bytes count 0
+reached_start bytes name count =
+    let n : count - 0 ≡ count = omega arith in
+    record { same = sym (ap (λ (k : ℕ). option_map (λ i. 0 + i) (formal_named (formals_read k bytes) name)) n ∙ no_shift (formal_named (formals_read count bytes) name)) }
+
+by_first : (rest name : List ℕ) (n : ℕ) → formal_named (formals_read (suc n) rest) name ≡ cond (bytes_eq (formal_read rest).formal.name name) (Some 0) (option_map suc (formal_named (formals_read n (formal_read rest).behind) name))
+by_first rest name n =
+    ap (λ (fs : List Formal). formal_named fs name) (read_first n rest)
+    ∙ position_first (λ (f : Formal). bytes_eq f.name name) (formal_read rest).formal (formals_read n (formal_read rest).behind)
+
+pub reached_more : (bytes name rest behind found : List ℕ) (count place : ℕ) → place < count → IsReached bytes name rest count place → found ≡ (formal_read rest).formal.name → bytes_eq found name ≡ false → behind ≡ (formal_read rest).behind → IsReached bytes name behind count (place + 1)
+reached_more bytes name rest behind found count place h r f other b =
+    let n : count - place ≡ suc (count - (place + 1)) = omega arith in
+    record {
+      same =
+          r.same
+          ∙ (ap (λ (k : ℕ). option_map (λ i. place + i) (formal_named (formals_read k rest) name)) n
+          ∙ (ap (option_map (λ i. place + i)) (by_first rest name (count - (place + 1)) ∙ cond-false _ (Some 0) _ (ap (λ (x : List ℕ). bytes_eq x name) (sym f) ∙ other))
+          ∙ (one_shift place (formal_named (formals_read (count - (place + 1)) (formal_read rest).behind) name)
+          ∙ ap (λ (x : List ℕ). option_map (λ i. place + 1 + i) (formal_named (formals_read (count - (place + 1)) x) name)) (sym b))));
+    }
+
+pub reached_found : (bytes name rest found : List ℕ) (count place : ℕ) → place < count → IsReached bytes name rest count place → found ≡ (formal_read rest).formal.name → bytes_eq found name ≡ true → Some place ≡ formal_named (formals_read count bytes) name
+reached_found bytes name rest found count place h r f same =
+    let n : count - place ≡ suc (count - (place + 1)) = omega arith in
+    let z : place + 0 ≡ place = omega arith in
+    sym (r.same
+    ∙ (ap (λ (k : ℕ). option_map (λ i. place + i) (formal_named (formals_read k rest) name)) n
+    ∙ (ap (option_map (λ i. place + i)) (by_first rest name (count - (place + 1)) ∙ cond-true _ (Some 0) _ (ap (λ (x : List ℕ). bytes_eq x name) (sym f) ∙ same))
+    ∙ ap Some z)))
+
+pub reached_none : (bytes name rest : List ℕ) (count place : ℕ) → count ≤ place → IsReached bytes name rest count place → None ≡ formal_named (formals_read count bytes) name
+reached_none bytes name rest count place h r =
+    let n : count - place ≡ 0 = omega arith in
+    sym (r.same
+    ∙ (ap (λ (k : ℕ). option_map (λ i. place + i) (formal_named (formals_read k rest) name)) n
+    ∙ ap (λ (fs : List Formal). option_map (λ i. place + i) (formal_named fs name)) (read_none rest)))
+
+-- the formal at a place is sought among so many, and so many before it were passed
+pub record IsPassed (bytes rest : List ℕ) (count place i : ℕ) : Type 0 where
+  pub same : formal_at (formals_read count bytes) place ≡ formal_at (formals_read (count - i) rest) (place - i)
+
+pub passed_start : (bytes : List ℕ) (count place : ℕ) → IsPassed bytes bytes count place 0
+passed_start bytes count place =
+    let n : count - 0 ≡ count = omega arith in
+    let m : place - 0 ≡ place = omega arith in
+    record { same = ap (λ (k : ℕ). formal_at (formals_read count bytes) k) (sym m) ∙ ap (λ (k : ℕ). formal_at (formals_read k bytes) (place - 0)) (sym n) }
+
+pub passed_more : (bytes rest behind : List ℕ) (count place i : ℕ) → place < count → i < place → IsPassed bytes rest count place i → behind ≡ (formal_read rest).behind → IsPassed bytes behind count place (i + 1)
+passed_more bytes rest behind count place i h k p b =
+    let n : count - i ≡ suc (count - (i + 1)) = omega arith in
+    let m : place - i ≡ suc (place - (i + 1)) = omega arith in
+    record {
+      same =
+          p.same
+          ∙ (ap (λ (x : ℕ). formal_at (formals_read x rest) (place - i)) n
+          ∙ (ap (λ (x : ℕ). formal_at (formals_read (suc (count - (i + 1))) rest) x) m
+          ∙ (ap (λ (fs : List Formal). formal_at fs (suc (place - (i + 1)))) (read_first (count - (i + 1)) rest)
+          ∙ ap (λ (x : List ℕ). formal_at (formals_read (count - (i + 1)) x) (place - (i + 1))) (sym b))));
+    }
+
+pub passed_last : (bytes rest text : List ℕ) (count place i : ℕ) → place < count → i ≡ place → IsPassed bytes rest count place i → text ≡ (formal_read rest).formal.text → text ≡ (formal_at (formals_read count bytes) place).text
+passed_last bytes rest text count place i h k p t =
+    let n : count - i ≡ suc (count - (place + 1)) = omega arith in
+    let m : place - i ≡ 0 = omega arith in
+    t
+    ∙ sym (ap (λ (f : Formal). f.text) (p.same
+    ∙ (ap (λ (x : ℕ). formal_at (formals_read x rest) (place - i)) n
+    ∙ (ap (λ (x : ℕ). formal_at (formals_read (suc (count - (place + 1))) rest) x) m
+    ∙ ap (λ (fs : List Formal). formal_at fs 0) (read_first (count - (place + 1)) rest)))))
+
+-- Where the formals of a macro begin among their bytes, and what is kept of that.
 
 -- as many formals are read as are asked for
 pub count_read : (n : ℕ) (bytes : List ℕ) → length (formals_read n bytes) ≡ n

@@ -1,25 +1,276 @@
--- A macro that is to be stored, in the lists of a table.
-use Rattle.std.proofs.Common.{◌≡◌, ℕ, ◌+◌, ◌-◌, ◌*◌, ◌<◌, ◌≤◌, take, Bool, true, false, List, [], ◌++◌, length, get_or, drop, eqb, slice_range, Option, Some, None, is_some, option_map, unwrap_or, sum_by, refl, ap, sym, ◌∙◌, arith, append_assoc, append-nil, length-append, inl, inr}
-use Rattle.std.specs.List.{flat_map}
-use Rattle.std.proofs.lemmas.Bool.{cases_Bool, cond-true, cond-false}
-use Rattle.std.proofs.lemmas.List.{drop_at, nil_from_length}
+-- A macro that is to be stored: its body, its formals, and the lists of a table with it.
+use Rattle.std.proofs.Common.{◌≡◌, ℕ, true, false, List, [], ◌∷◌, ◌++◌, take, drop, Option, Some, None, Ok, Err, refl, ap, sym, ◌∙◌, inl, inr, zero, suc, ◌+◌, ◌<◌, ◌≤◌, Bool, cond, ◌||◌, eqb, ltb, length, get_or, map, bytes_eq, unwrap_or, subst, arith, length-append, ◌-◌, ◌*◌, slice_range, is_some, option_map, sum_by, append_assoc, append-nil}
+use Rattle.rdlpp_scan.specs.declared.token.Kind.{Kind}
+use Rattle.rdlpp_scan.specs.declared.token.Kind.TheVariants.{Name, Word, Back, Blank, LineEnd, Str, LineComment, BlockComment, Opener, Closer, Comma, Other, Perl, BareBackquote}
+use Rattle.rdlpp_scan.specs.declared.token.Token.{Token}
+use Rattle.rdlpp_scan.specs.declared.token.Mode.{Mode}
+use Rattle.rdlpp_scan.specs.declared.token.Mode.TheVariants.{Plain}
+use Rattle.rdlpp_scan.specs.declared.token.LexFault.{LexFault}
+use Rattle.rdlpp_scan.specs.Tokens.{tokens_from}
+use Rattle.rdlpp_scan.specs.LexFaults.{is_perl, open_fault, fault_of_tokens, lex_fault_from}
+use Rattle.std.proofs.lemmas.Bool.{cases_Bool, cond-true, cond-false, eqb-false, ltb-false}
+use Rattle.rdlpp_scan.specs.Names.{is_name}
+use Rattle.rdlpp_table.specs.declared.fault.DefineKind.{DefineKind}
+use Rattle.rdlpp_table.specs.declared.fault.DefineFault.{DefineFault}
+use Rattle.rdlpp_table.specs.Table.{Formal, Macro, formal_bytes, formal_size, macro_bytes, macro_size}
+use Rattle.rdlpp_lines.specs.Continuations.{joined}
+use Rattle.rdlpp_lines.specs.Texts.{Cleared, Sound, Unsound, onto, trimmed_left, trimmed_len, trims, cleared, told, read_by, left_in, kept_bytes, start_level}
+use Rattle.rdlpp_table.specs.Define.{Draft, Drawn, Rejected, lexical, observed, macro_set, name_fault, refused_word, set_of, stored, stored_draft, trimmed, with_body, without_list, without_remarks, Bad, DefaultText, Good, Listed, Unlisted, after_space, behind_name, default_in, formal_fault, formal_in, formal_name, formals_in, formals_of_list, is_nothing, with_default, FormalList}
+use Rattle.rdlpp_table.proofs.RoundTrip.{refused_is, between_parts, read_list}
+use Rattle.std.specs.List.{IsDistinct, list_any, flat_map, list_all}
+use Rattle.std.proofs.lemmas.List.{map-append, drop_at, nil_from_length}
+use Rattle.std.proofs.lemmas.List.Elements.{All-nil, All-push}
+use Rattle.std.proofs.lemmas.Cmp.{nat_list_eq_equiv}
+use Rattle.std.proofs.lemmas.Map.Keys.{IsDistinct-push}
+use Rattle.rdlpp_table.specs.View.{AreSoundFormals, IsSoundMacro, formals_of}
+use Rattle.rdlpp_table.specs.New.{list_formals, new_macro, stops_told, IsList, IsNew}
+use Rattle.rdlpp_scan.specs.CleanTexts.{IsCleanText}
+use Rattle.rdlpp_scan.specs.Reserved.{is_reserved}
+use Rattle.rdlpp_table.proofs.Defaults.{default_in_clean, drawn_clean}
+use Rattle.rdlpp_table.proofs.Reading.{fault_three, formal_by, in_by, list_by, list_full, list_step, three}
 use Rattle.rdlpp_table.specs.Kept.{first_stops}
-use Rattle.rdlpp_table.specs.View.{formals_of}
 use Rattle.rdlpp_table.specs.declared.kept.FirstStops.{FirstStops}
 use Rattle.rdlpp_lines.proofs.Measures.{left_len}
-use Rattle.rdlpp_table.proofs.RoundTrip.{between_parts, read_list}
 use Rattle.rdlpp_table.specs.declared.entry.Entry.{Entry}
-use Rattle.rdlpp_table.specs.Table.{Formal, Macro, formal_bytes, formal_size, macro_bytes, macro_size}
-use Rattle.rdlpp_table.specs.Define.{FormalList, Listed, after_space, formals_in, formals_of_list}
-use Rattle.rdlpp_lines.specs.Continuations.{joined}
-use Rattle.rdlpp_lines.specs.Texts.{trimmed_left, trims, start_level, cleared}
-use Rattle.std.specs.List.{list_all}
 use Rattle.rdlpp_table.specs.Formals.{IsRead, listed}
 use Rattle.rdlpp_table.specs.Marks.{macro_marks, marks_of}
 use Rattle.rdlpp_table.specs.Store.{entry_of, formals_read, is_plain_formal, is_plain_macro, list_size, IsListed}
 use Rattle.rdlpp_table.proofs.Sizes.{few_marks_of, length_list_bytes}
-use Rattle.rdlpp_table.proofs.Stopping.{behind_place}
-use Rattle.rdlpp_table.specs.New.{list_formals, new_macro, stops_told, IsList, IsNew}
+use Rattle.rdlpp_table.proofs.FirstStops.{behind_place}
+use Rattle.rdlpp_table.specs.declared.fault.DefineKind.TheVariants as kind
+
+-- A macro with a body, by what is left of the body's text.
+
+-- the draft of what is left
+abbrev drafted_by : List ℕ → Option (List Formal) → Cleared → Draft
+drafted_by name formals (Sound rest last) = Drawn (record { name = name; formals = formals; body = trimmed rest })
+drafted_by name formals (Unsound fault) = Rejected (lexical fault) []
+
+by_fault : (name : List ℕ) (formals : Option (List Formal)) (fault : Option LexFault) (rest : List ℕ) → (elim fault [ Some f ↦ Rejected (lexical f) [] | None ↦ Drawn (record { name = name; formals = formals; body = trimmed rest }) ]) ≡ drafted_by name formals (told fault rest)
+by_fault name formals None rest = refl
+by_fault name formals (Some f) rest = refl
+
+none_left : (text : List ℕ) → without_remarks [] text ≡ []
+unfolding without_remarks
+none_left text = refl
+
+kept_front_of : (k : Kind) (xs ys : List ℕ) → (elim k [ LineComment ↦ ys | _ ↦ xs ++ ys ]) ≡ (elim k [ LineComment ↦ [] | _ ↦ xs ]) ++ ys
+kept_front_of Name xs ys = refl
+kept_front_of Word xs ys = refl
+kept_front_of Back xs ys = refl
+kept_front_of Blank xs ys = refl
+kept_front_of LineEnd xs ys = refl
+kept_front_of Str xs ys = refl
+kept_front_of LineComment xs ys = refl
+kept_front_of BlockComment xs ys = refl
+kept_front_of Opener xs ys = refl
+kept_front_of Closer xs ys = refl
+kept_front_of Comma xs ys = refl
+kept_front_of Other xs ys = refl
+kept_front_of Perl xs ys = refl
+kept_front_of BareBackquote xs ys = refl
+
+kept_front : (t : Token) (ts : List Token) (text : List ℕ) → without_remarks (t ∷ ts) text ≡ kept_bytes t text ++ without_remarks ts (drop t.len text)
+unfolding without_remarks
+kept_front t ts text = kept_front_of t.kind (take t.len text) (without_remarks ts (drop t.len text))
+
+told_onto : (fault : Option LexFault) (xs ys : List ℕ) → told fault (xs ++ ys) ≡ onto xs (told fault ys)
+unfolding onto
+told_onto None xs ys = refl
+told_onto (Some f) xs ys = refl
+
+-- a body's tokens leave what its text without `//` comments is, or its first fault
+body_read : (mode : Mode) (ts : List Token) (text : List ℕ) → read_by None mode ts text ≡ told (fault_of_tokens mode ts) (without_remarks ts text)
+unfolding fault_of_tokens
+body_read mode [] text = ap (told (open_fault mode)) (sym (none_left text))
+body_read mode (t ∷ ts) text =
+    elim (cases_Bool (is_perl t.kind)) [
+      | inl e ↦ cond-true _ _ _ e ∙ sym (ap (λ (f : Option LexFault). told f (without_remarks (t ∷ ts) text)) (cond-true _ _ _ e))
+      | inr e ↦
+          cond-false _ _ _ e
+          ∙ (ap (onto (kept_bytes t text)) (body_read t.next_mode ts (drop t.len text))
+          ∙ (sym (told_onto (fault_of_tokens t.next_mode ts) (kept_bytes t text) (without_remarks ts (drop t.len text)))
+          ∙ (ap (told (fault_of_tokens t.next_mode ts)) (sym (kept_front t ts text))
+          ∙ sym (ap (λ (f : Option LexFault). told f (without_remarks (t ∷ ts) text)) (cond-false _ _ _ e)))))
+    ]
+
+pub same_left : (text : List ℕ) → told (lex_fault_from Plain text) (without_remarks (tokens_from Plain 0 text) text) ≡ cleared None text
+unfolding lex_fault_from cleared left_in
+same_left text = sym (body_read Plain (tokens_from Plain 0 text) text)
+
+body_draft : (name : List ℕ) (formals : Option (List Formal)) (text : List ℕ) → with_body name formals text ≡ drafted_by name formals (cleared None text)
+unfolding with_body
+body_draft name formals text =
+    by_fault name formals (lex_fault_from Plain text) (without_remarks (tokens_from Plain 0 text) text) ∙ ap (drafted_by name formals) (same_left text)
+
+drawn_by : (name : List ℕ) (formals : Option (List Formal)) (c : Cleared) (len : ℕ) → Ok len ≡ trimmed_len (trims false) c → drafted_by name formals c ≡ Drawn (record { name = name; formals = formals; body = trimmed_left (trims false) c })
+unfolding trimmed_len trimmed_left trims trimmed
+drawn_by name formals (Sound rest last) len e = refl
+drawn_by name formals (Unsound fault) len e = absurd (cc)
+
+rejected_by : (name : List ℕ) (formals : Option (List Formal)) (c : Cleared) (fault : LexFault) → Err fault ≡ trimmed_len (trims false) c → drafted_by name formals c ≡ Rejected (lexical fault) []
+unfolding trimmed_len
+rejected_by name formals (Sound rest last) fault e = absurd (cc)
+rejected_by name formals (Unsound other) fault e = let same : other ≡ fault = cc in ap (λ (f : LexFault). Rejected (lexical f) []) same
+
+-- a body without a fault gives the macro
+pub body_drawn : (name : List ℕ) (formals : Option (List Formal)) (text : List ℕ) (len : ℕ) → Ok len ≡ trimmed_len (trims false) (cleared None text) → with_body name formals text ≡ Drawn (record { name = name; formals = formals; body = trimmed_left (trims false) (cleared None text) })
+body_drawn name formals text len e = body_draft name formals text ∙ drawn_by name formals (cleared None text) len e
+
+pub body_stores : (a b : ℕ) (ms : List Macro) (name : List ℕ) (formals : Option (List Formal)) (text : List ℕ) (len : ℕ) → Ok len ≡ trimmed_len (trims false) (cleared None text) → stored a b ms (record { name = name; formals = formals; body = trimmed_left (trims false) (cleared None text) }) ≡ stored_draft a b ms (with_body name formals text)
+unfolding stored_draft
+body_stores a b ms name formals text len e = sym (ap (stored_draft a b ms) (body_drawn name formals text len e))
+
+pub body_refuses : (a b : ℕ) (ms : List Macro) (name : List ℕ) (formals : Option (List Formal)) (text : List ℕ) (fault : LexFault) (refused : DefineFault) → Err fault ≡ trimmed_len (trims false) (cleared None text) → refused.kind ≡ lexical fault → refused.word.bytes ≡ [] → observed (Err refused) ms ≡ stored_draft a b ms (with_body name formals text)
+unfolding stored_draft
+body_refuses a b ms name formals text fault refused e k w =
+    refused_is refused (lexical fault) ms k w ∙ sym (ap (stored_draft a b ms) (body_draft name formals text ∙ rejected_by name formals (cleared None text) fault e))
+
+-- a macro that is set, by what is wrong with its name
+pub set_nameless : (a b : ℕ) (ms : List Macro) (name text : List ℕ) (fault : DefineFault) → is_name name ≡ false → fault.kind ≡ kind.NameExpected → fault.word.bytes ≡ [] → observed (Err fault) ms ≡ set_of a b ms name text
+unfolding set_of macro_set stored_draft
+set_nameless a b ms name text fault e k w = refused_is fault kind.NameExpected ms k w ∙ sym (ap (stored_draft a b ms) (cond-false _ _ _ e))
+
+pub set_refuses : (a b : ℕ) (ms : List Macro) (name text : List ℕ) (fault : DefineFault) → is_name name ≡ true → name_fault name ≡ Some fault.kind → fault.word.bytes ≡ refused_word fault.kind name → observed (Err fault) ms ≡ set_of a b ms name text
+unfolding set_of macro_set without_list stored_draft observed
+set_refuses a b ms name text fault e why word =
+    sym (ap (stored_draft a b ms)
+    (cond-true _ _ _ e
+    ∙ (ap (λ (f : Option DefineKind). elim f [ Some k ↦ Rejected k (refused_word k name) | None ↦ with_body name None text ]) why
+    ∙ ap (Rejected fault.kind) (sym word))))
+
+pub set_stores : (a b : ℕ) (ms : List Macro) (name text : List ℕ) → is_name name ≡ true → name_fault name ≡ None → stored_draft a b ms (with_body name None (joined false text)) ≡ set_of a b ms name text
+unfolding set_of macro_set without_list joined
+set_stores a b ms name text e ok =
+    sym (ap (stored_draft a b ms)
+    (cond-true _ _ _ e
+    ∙ ap (λ (f : Option DefineKind). elim f [ Some k ↦ Rejected k (refused_word k name) | None ↦ with_body name None text ]) ok))
+
+-- The formals that a list gives are sound.
+
+-- a formal that may stand behind others
+record IsNextFormal (before : List Formal) (f : Formal) : Type 0 where
+  short : length f.name ≤ 128
+  other : list_any (λ g. bytes_eq g.name f.name) before ≡ false
+  room : length before < 255
+  text : IsCleanText f.text
+
+three_none : (a b c : Bool) → three a b c ≡ None → (b ≡ false) × (c ≡ false)
+three_none true b c e = absurd (cc)
+three_none false true c e = absurd (cc)
+three_none false false true e = absurd (cc)
+three_none false false false e = (refl, refl)
+
+named_with : (name from : List ℕ) (d : Option DefaultText) (f : Formal) (behind : List ℕ) → default_in from ≡ d → with_default name d ≡ Good f behind → (name ≡ f.name) × IsCleanText f.text
+unfolding with_default
+named_with name from None f behind is e = absurd (cc)
+named_with name from (Some d) f behind is e =
+    let g : (let x : Formal = record { name = name; text = d.text } in x) ≡ f = cc in
+    (ap (λ (x : Formal). x.name) g, subst IsCleanText (ap (λ (x : Formal). x.text) g) (default_in_clean from d is))
+
+good_by : (o : Option DefineKind) (name from : List ℕ) (f : Formal) (behind : List ℕ) → formal_by o name (default_in from) ≡ Good f behind → (o ≡ None) × ((name ≡ f.name) × IsCleanText f.text)
+good_by None name from f behind e = (refl, named_with name from (default_in from) f behind refl e)
+good_by (Some k) name from f behind e = absurd (cc)
+
+next_formal : (before : List Formal) (text : List ℕ) (f : Formal) (behind : List ℕ) → length before < 255 → formal_in before text ≡ Good f behind → IsNextFormal before f
+next_formal before text f behind room e =
+    let g = good_by (formal_fault before (formal_name text)) (formal_name text) (behind_name text) f behind (sym (in_by before text) ∙ e) in
+    let t = three_none (is_nothing (formal_name text)) (ltb 128 (length (formal_name text))) (list_any (λ (g : Formal). bytes_eq g.name (formal_name text)) before) (sym (fault_three before (formal_name text)) ∙ g.0) in
+    record {
+      short = omega (arith, ap (length {A = ℕ}) g.1.0, ltb-false 128 (length (formal_name text)) t.0);
+      other = ap (λ (n : List ℕ). list_any (λ (g : Formal). bytes_eq g.name n) before) (sym g.1.0) ∙ t.1;
+      room = room;
+      text = g.1.1;
+    }
+
+turned_any : (name : List ℕ) (before : List Formal) → list_any (bytes_eq name) (map (λ g. g.name) before) ≡ list_any (λ g. bytes_eq g.name name) before
+turned_any name [] = refl
+turned_any name (g ∷ before) =
+    ap (λ (b : Bool). b || list_any (bytes_eq name) (map (λ (h : Formal). h.name) before)) (nat_list_eq_equiv.symm name g.name)
+    ∙ ap (λ (b : Bool). bytes_eq g.name name || b) (turned_any name before)
+
+pub no_formals_sound : AreSoundFormals []
+unfolding IsDistinct
+no_formals_sound = record { distinct = tt; few = omega arith; short = All-nil _; texts = All-nil _ }
+
+one_more_sound : (before : List Formal) (f : Formal) → AreSoundFormals before → IsNextFormal before f → AreSoundFormals (before ++ f ∷ [])
+one_more_sound before f s n =
+    let P : List (List ℕ) → Type 0 = λ l. IsDistinct bytes_eq l in
+    record {
+      distinct = subst P (sym (map-append (λ (g : Formal). g.name) before (f ∷ []))) (IsDistinct-push nat_list_eq_equiv (map (λ (g : Formal). g.name) before) f.name s.distinct (turned_any f.name before ∙ n.other));
+      few = omega (arith, length-append before (f ∷ []), n.room);
+      short = All-push (λ g. length g.name ≤ 128) before f s.short n.short;
+      texts = All-push (λ g. IsCleanText g.text) before f s.texts n.text;
+    }
+
+listed_same : (before fs : List Formal) (after' after : List ℕ) → Listed (Some before) after' ≡ Listed (Some fs) after → before ≡ fs
+listed_same before fs after' after e = cc
+
+-- by what stands behind the next formal
+behind_sound : (room : ℕ) (before : List Formal) (f : Formal) (behind : List ℕ) (fs : List Formal) (after : List ℕ) → AreSoundFormals (before ++ f ∷ []) → (formals_in room (before ++ f ∷ []) (drop 1 behind) ≡ Listed (Some fs) after → AreSoundFormals fs) → list_by room before (Good f behind) ≡ Listed (Some fs) after → AreSoundFormals fs
+behind_sound room before f behind fs after s next e =
+    elim (cases_Bool (eqb (get_or behind 0 0) 44)) [
+      | inl c ↦ next (sym (cond-true _ _ _ c) ∙ e)
+      | inr c ↦ elim (cases_Bool (eqb (get_or behind 0 0) 41)) [
+        | inl k ↦ subst AreSoundFormals (listed_same (before ++ f ∷ []) fs (drop 1 behind) after (sym (cond-true _ _ _ k) ∙ (sym (cond-false _ _ _ c) ∙ e))) s
+        | inr k ↦ let h : Unlisted kind.BadFormals ≡ Listed (Some fs) after = sym (cond-false _ _ _ k) ∙ (sym (cond-false _ _ _ c) ∙ e) in absurd (cc)
+      ]
+    ]
+
+in_sound : (room : ℕ) (before : List Formal) (text : List ℕ) (fs : List Formal) (after : List ℕ) → AreSoundFormals before → length before + room ≤ 255 → formals_in room before text ≡ Listed (Some fs) after → AreSoundFormals fs
+in_sound zero before text fs after s n e = let h : Unlisted (unwrap_or (formal_fault before (formal_name text)) kind.TooManyFormals) ≡ Listed (Some fs) after = sym (list_full before text) ∙ e in absurd (cc)
+in_sound (suc room) before text fs after s n e =
+    (elim (formal_in before text) as (λ o. formal_in before text ≡ o → list_by room before o ≡ Listed (Some fs) after → AreSoundFormals fs) [
+      | Bad k ↦ λ q h. absurd (cc)
+      | Good f behind ↦ λ q h.
+          behind_sound room before f behind fs after (one_more_sound before f s (next_formal before text f behind (omega arith) q))
+          (λ i. in_sound room (before ++ f ∷ []) (drop 1 behind) fs after (one_more_sound before f s (next_formal before text f behind (omega arith) q)) (omega (arith, length-append before (f ∷ []))) i) h
+    ]) refl (sym (list_step room before text) ∙ e)
+
+-- a name without a fault is that of a sound macro
+pub record IsGoodName (name : List ℕ) : Type 0 where
+  pub named : 0 < length name
+  pub short : length name ≤ 128
+  pub unreserved : is_reserved name ≡ false
+
+faultless : (c : Bool) (k : DefineKind) (y : Option DefineKind) → cond c (Some k) y ≡ None → (c ≡ false) × (y ≡ None)
+faultless true k y e = absurd (cc)
+faultless false k y e = (refl, e)
+
+pub good_name : (name : List ℕ) → name_fault name ≡ None → IsGoodName name
+unfolding name_fault
+good_name name e =
+    let t1 = faultless _ _ _ e in
+    let t2 = faultless _ _ _ t1.1 in
+    let t3 = faultless _ _ _ t2.1 in
+    let apart : (length name ≡ 0) → ⊥ = eqb-false _ _ t1.0 in
+    record { named = omega (arith, apart); short = ltb-false _ _ t3.0; unreserved = t2.0 }
+
+pub new_sound : (name : List ℕ) (arity : Option ℕ) (list : List ℕ) (is_logical : Bool) (text : List ℕ) (len : ℕ) → name_fault name ≡ None → AreSoundFormals (unwrap_or (list_formals arity list) [])
+    → Ok len ≡ trimmed_len (trims false) (cleared None (joined is_logical text)) → IsSoundMacro (new_macro name arity list is_logical text)
+new_sound name arity list is_logical text len e s read =
+    let g = good_name name e in
+    record {
+      named = g.named;
+      short = g.short;
+      unreserved = g.unreserved;
+      formals = s;
+      body = drawn_clean name (list_formals arity list) (joined is_logical text) (new_macro name arity list is_logical text) (body_drawn name (list_formals arity list) (joined is_logical text) len read);
+    }
+
+by_list : (text : List ℕ) (fs : List Formal) (after : List ℕ) → formals_of_list text ≡ Listed (Some fs) after → AreSoundFormals fs
+unfolding formals_of_list
+by_list text fs after e = elim (cases_Bool (eqb (get_or (after_space text) 0 0) 41)) [
+  | inl c ↦ subst AreSoundFormals (listed_same [] fs (drop 1 (after_space text)) after (sym (cond-true _ _ _ c) ∙ e)) no_formals_sound
+  | inr c ↦ in_sound 255 [] text fs after no_formals_sound (omega arith) (sym (cond-false _ _ _ c) ∙ e)
+]
+
+-- the formals of a list are sound (this project's profile)
+pub listed_sound : (text : List ℕ) (o : Option (List Formal)) (after : List ℕ) → formals_of_list text ≡ Listed o after → AreSoundFormals (unwrap_or o [])
+listed_sound text None after e = no_formals_sound
+listed_sound text (Some fs) after e = by_list text fs after e
+
+-- A macro that is to be stored, in the lists of a table.
 
 -- what is left of a body's text
 abbrev pub body_of_text : Bool → List ℕ → List ℕ

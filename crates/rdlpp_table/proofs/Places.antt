@@ -6,8 +6,8 @@ use Rattle.std.proofs.lemmas.Cmp.{nat_list_eq_equiv}
 use Rattle.std.proofs.lemmas.List.Quantifiers.{position-Some}
 use Rattle.std.proofs.lemmas.Map.Keys.{IsDistinct-head, IsDistinct-tail}
 use Rattle.std.proofs.lemmas.Slice.Eq.{bytes_eq-Decides}
-use Rattle.rdlpp_table.specs.Table.{Formal, Macro}
-use Rattle.rdlpp_table.specs.View.{formal_named, macro_at, no_macro, place_named}
+use Rattle.rdlpp_table.specs.Table.{Macro}
+use Rattle.rdlpp_table.specs.View.{macro_at, no_macro, place_named}
 use Rattle.rdlpp_table.proofs.Orders.{position_is}
 
 all_at : {X : Type 0} (P : List ℕ → Type 0) (f : X → List ℕ) (xs : List X) (k : ℕ) (d : X) → AllByRecursion P (map f xs) → k < length xs → P (f (get_or xs k d))
@@ -52,7 +52,3 @@ place_of_own ms name i d h e =
 -- the same, where the name at that place was compared with the one that is looked for
 pub place_compared : (ms : List Macro) (own name : List ℕ) (i : ℕ) → IsDistinct bytes_eq (map (λ m. m.name) ms) → i < length ms → own ≡ (macro_at ms i).name → bytes_eq own name ≡ true → Some i ≡ place_named ms name
 place_compared ms own name i d h e t = sym (place_of_own ms name i d h (sym e ∙ (bytes_eq-Decides own name).0 t))
-
--- the same as `place_of_name` of the formals of a macro
-pub formal_of_name : (fs : List Formal) (d : Formal) (name : List ℕ) (i j : ℕ) → IsDistinct bytes_eq (map (λ f. f.name) fs) → formal_named fs name ≡ Some i → j < length fs → bytes_eq name (get_or fs j d).name ≡ (i == j)
-formal_of_name fs d name i j h e l = name_of_place (λ f. f.name) fs d name i j h e l

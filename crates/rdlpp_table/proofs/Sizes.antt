@@ -1,18 +1,67 @@
--- Sizes are lengths, and entries lie among the bytes.
-use Rattle.std.proofs.Common.{◌*◌, true, false, cond, Option, Some, None, option_map, inl, inr, Vec, Global, vec_len, rules, ◌≡◌, ℕ, zero, suc, ◌+◌, ◌<◌, ◌≤◌, List, [], ◌∷◌, ◌++◌, length, take, get_or, unwrap_or, sum_by, refl, ap, sym, ◌∙◌, arith, length-append, add-zero}
-use Rattle.std.specs.List.{All, flat_map}
+-- Sizes are lengths, entries lie among the bytes, and what follows from how a table lies in its lists.
+use Rattle.std.proofs.Common.{◌≡◌, ℕ, zero, suc, ◌+◌, ◌≤◌, Bool, cond, not, ltb, one-add, List, [], ◌∷◌, length, get_or, Option, Some, None, option_map, refl, ap, sym, ◌∙◌, arith, inl, inr, ◌*◌, true, false, Vec, Global, vec_len, rules, ◌<◌, ◌++◌, take, unwrap_or, sum_by, length-append, add-zero, is_some}
+use Rattle.std.specs.List.{prefix_len, position_or_len, position, find, slice_get, All, flat_map, IsDistinct}
+use Rattle.std.proofs.lemmas.List.Folds.{find_at}
+use Rattle.std.proofs.lemmas.Option.{slice_get-get_or}
+use Rattle.std.proofs.lemmas.Bool.{cases_Bool, cases_lt, lt-ltb, le-ltb, cond-true, cond-false}
 use Rattle.std.proofs.lemmas.List.Elements.{All-cons, All-nil}
 use Rattle.std.proofs.lemmas.List.Sums.{sum_by-cons, sum_by-append}
 use Rattle.rdlpp_table.specs.declared.entry.Entry.{Entry}
 use Rattle.rdlpp_table.specs.declared.kept.Kept.{Kept}
-use Rattle.rdlpp_table.specs.declared.kept.KeptKind.TheVariants as kept
-use Rattle.rdlpp_table.specs.Table.{Formal, Macro, default_bytes, default_size, formal_size, macro_size, table_size, formal_bytes, macro_bytes, table_bytes}
-use Rattle.rdlpp_table.specs.View.{macro_at}
-use Rattle.rdlpp_table.specs.Store.{entry_of, entries_of, entry_end, body_start, list_start, list_size, IsStored}
+use Rattle.rdlpp_table.specs.Table.{Formal, Macro, default_bytes, default_size, formal_size, macro_size, table_size, formal_bytes, macro_bytes, table_bytes, macro_named}
+use Rattle.rdlpp_table.specs.View.{macro_at, TableView, formals_of, no_macro, place_named}
+use Rattle.rdlpp_table.specs.Store.{entry_of, entries_of, entry_end, body_start, list_start, list_size, IsStored, macros_in, macro_in, body_of, name_of}
 use Rattle.rdlpp_table.specs.Marks.{is_marked, macro_marks, marks_of, starts_of, table_marks}
 use Rattle.rdlpp_table.specs.Entries.{marks_len, AreWithin}
-use Rattle.std.proofs.lemmas.Bool.{cond-true, cond-false}
 use Rattle.std.proofs.lemmas.Bool.Decides.{leb_tells}
+use Rattle.std.proofs.lemmas.List.{length-map, get_or-map}
+use Rattle.std.proofs.lemmas.List.Quantifiers.{position-Some}
+use Rattle.rdlpp_table.specs.Kept.{first_stops}
+use Rattle.rdlpp_table.specs.Layout.{view_of, IsHeld}
+use Rattle.rdlpp_table.specs.declared.kept.KeptKind.TheVariants as kept
+
+-- Places in a list.
+
+slice_get_past : {X : Type 0} (xs : List X) (i : ℕ) → length xs ≤ i → slice_get xs i ≡ None
+slice_get_past [] i h = refl
+slice_get_past (x ∷ xs) zero h = absurd (omega arith)
+slice_get_past (x ∷ xs) (suc i) h = slice_get_past xs i (omega arith)
+
+pub find_by_position : {X : Type 0} (p : X → Bool) (xs : List X) (d : X) → find p xs ≡ option_map (λ i. get_or xs i d) (position p xs)
+find_by_position p xs d =
+    elim (cases_lt (position_or_len p xs) (length xs)) [
+      | inl h ↦ find_at p xs ∙ (slice_get-get_or xs _ d h ∙ sym (ap (option_map (λ i. get_or xs i d)) (cond-true _ (Some (position_or_len p xs)) None (lt-ltb _ _ h))))
+      | inr h ↦ find_at p xs ∙ (slice_get_past xs _ h ∙ sym (ap (option_map (λ i. get_or xs i d)) (cond-false _ (Some (position_or_len p xs)) None (le-ltb _ _ h))))
+    ]
+
+-- the first place, by the first element
+abbrev placed : ℕ → ℕ → Option ℕ
+placed n len = cond (ltb n len) (Some n) None
+
+placed_more : (n len : ℕ) → placed (suc n) (suc len) ≡ option_map suc (placed n len)
+placed_more n len =
+    elim (cases_lt n len) [
+      | inl h ↦ cond-true (ltb (suc n) (suc len)) (Some (suc n)) None (lt-ltb (suc n) (suc len) (omega arith)) ∙ sym (ap (option_map suc) (cond-true (ltb n len) (Some n) None (lt-ltb n len h)))
+      | inr h ↦ cond-false (ltb (suc n) (suc len)) (Some (suc n)) None (le-ltb (suc n) (suc len) (omega arith)) ∙ sym (ap (option_map suc) (cond-false (ltb n len) (Some n) None (le-ltb n len h)))
+    ]
+
+pub position_first : {X : Type 0} (p : X → Bool) (x : X) (xs : List X) → position p (x ∷ xs) ≡ cond (p x) (Some 0) (option_map suc (position p xs))
+position_first p x xs =
+    let m : ℕ = prefix_len (λ y. not (p y)) xs in
+    elim (cases_Bool (p x)) [
+      | inl e ↦
+          let n : cond (not (p x)) (1 + m) 0 ≡ 0 = ap (λ (t : Bool). cond (not t) (1 + m) 0) e in
+          ap (λ (k : ℕ). placed k (length (x ∷ xs))) n
+          ∙ (cond-true (ltb 0 (length (x ∷ xs))) (Some 0) None (lt-ltb 0 (length (x ∷ xs)) (omega arith))
+          ∙ sym (cond-true (p x) (Some 0) _ e))
+      | inr e ↦
+          let n : cond (not (p x)) (1 + m) 0 ≡ suc m = ap (λ (t : Bool). cond (not t) (1 + m) 0) e ∙ one-add m in
+          ap (λ (k : ℕ). placed k (length (x ∷ xs))) n
+          ∙ (placed_more m (length xs)
+          ∙ sym (cond-false (p x) (Some 0) _ e))
+    ]
+
+-- Sizes are lengths, and entries lie among the bytes.
 
 -- a stop without anything
 abbrev no_stop : Kept
@@ -149,3 +198,81 @@ few_marks (m ∷ ms) = omega (arith, length_marks-cons m ms, table_size-cons m m
 pub size_of_none : table_size [] ≡ 0
 unfolding table_size
 size_of_none = refl
+
+-- What follows from how a table lies in its lists.
+
+pub length_macros_in : (bytes : List ℕ) (entries : List Entry) → length (macros_in bytes entries) ≡ length entries
+unfolding macros_in
+length_macros_in bytes entries = length-map entries _
+
+pub len_of_view : (bytes : List ℕ) (entries : List Entry) (a b : ℕ) (view : TableView) → view_of bytes entries a b ≡ view → length view.macros ≡ length entries
+len_of_view bytes entries a b view e = ap (λ (v : TableView). length v.macros) (sym e) ∙ length_macros_in _ _
+
+pub macros_of_none : (bytes : List ℕ) (entries : List Entry) → entries ≡ [] → macros_in bytes entries ≡ []
+unfolding macros_in
+macros_of_none bytes entries e = rw e refl
+
+held_nothing : (a b : ℕ) → IsHeld [] [] a b
+unfolding macros_in entries_of table_bytes table_size IsDistinct
+held_nothing a b = record {
+  stored = record { bytes_are = refl; entries_are = refl; plain = refl };
+  sound = record { distinct = tt; each = All-nil _; bytes_fit = omega arith; macros_fit = omega arith };
+}
+
+pub held_when_empty : (bytes : List ℕ) (entries : List Entry) (a b : ℕ) → bytes ≡ [] → entries ≡ [] → IsHeld bytes entries a b
+held_when_empty bytes entries a b e f = rw (e, f) (held_nothing a b)
+
+pub empty_view : (bytes : List ℕ) (entries : List Entry) (a b : ℕ) → entries ≡ [] → view_of bytes entries a b ≡ record { macros = []; most_bytes = a; most_macros = b }
+empty_view bytes entries a b e = ap (λ (ms : List Macro). let v : TableView = record { macros = ms; most_bytes = a; most_macros = b } in v) (macros_of_none bytes entries e)
+
+-- the macro of an entry
+pub macro_at_entry : (bytes : List ℕ) (entries : List Entry) (a b : ℕ) (view : TableView) (i : ℕ) (d : Entry) → view_of bytes entries a b ≡ view → i < length entries → macro_at view.macros i ≡ macro_in bytes (get_or entries i d)
+unfolding macros_in
+macro_at_entry bytes entries a b view i d e h = ap (λ (v : TableView). macro_at v.macros i) (sym e) ∙ get_or-map (macro_in bytes) entries i d no_macro h
+
+pub named_by_place : (ms : List Macro) (name : List ℕ) → macro_named ms name ≡ option_map (macro_at ms) (place_named ms name)
+unfolding macro_named
+named_by_place ms name = find_by_position _ ms no_macro
+
+pub inside_by_place : (ms : List Macro) (name : List ℕ) (i : ℕ) → place_named ms name ≡ Some i → i < length ms
+inside_by_place ms name i e = (position-Some _ ms i no_macro e).0
+
+pub named_at : (ms : List Macro) (name : List ℕ) (r : Option ℕ) → r ≡ place_named ms name → macro_named ms name ≡ option_map (macro_at ms) r
+named_at ms name r e = named_by_place ms name ∙ ap (option_map (macro_at ms)) (sym e)
+
+pub entry_within : (bs bytes : List ℕ) (entries : List Entry) (a b : ℕ) (i : ℕ) (entry : Entry) → bs ≡ bytes → IsHeld bytes entries a b → i < length entries → entry ≡ get_or entries i entry → entry_end entry ≤ length bs
+entry_within bs bytes entries a b i entry p held h q = rw (p, q) (stored_within bytes entries _ held.stored i entry h)
+
+pub body_at : (bs bytes : List ℕ) (entries : List Entry) (a b : ℕ) (view : TableView) (i j : ℕ) (entry : Entry) (r : List ℕ) → bs ≡ bytes → view_of bytes entries a b ≡ view → i ≡ j → i < length entries → entry ≡ get_or entries i entry → r ≡ body_of bs entry → r ≡ (macro_at view.macros j).body
+unfolding macro_in
+body_at bs bytes entries a b view i j entry r p e s h q f =
+    f ∙ (ap (λ (x : List ℕ). body_of x entry) p ∙ (ap (body_of bytes) q ∙ (sym (ap (λ (m : Macro). m.body) (macro_at_entry bytes entries a b view i entry e h)) ∙ ap (λ (k : ℕ). (macro_at view.macros k).body) s)))
+
+pub name_at : (bs bytes : List ℕ) (entries : List Entry) (a b : ℕ) (view : TableView) (i j : ℕ) (entry : Entry) (r : List ℕ) → bs ≡ bytes → view_of bytes entries a b ≡ view → i ≡ j → i < length entries → entry ≡ get_or entries i entry → r ≡ name_of bs entry → r ≡ (macro_at view.macros j).name
+unfolding macro_in
+name_at bs bytes entries a b view i j entry r p e s h q f =
+    f ∙ (ap (λ (x : List ℕ). name_of x entry) p ∙ (ap (name_of bytes) q ∙ (sym (ap (λ (m : Macro). m.name) (macro_at_entry bytes entries a b view i entry e h)) ∙ ap (λ (k : ℕ). (macro_at view.macros k).name) s)))
+
+pub arity_at : (bytes : List ℕ) (entries : List Entry) (a b : ℕ) (view : TableView) (i j : ℕ) (entry : Entry) → view_of bytes entries a b ≡ view → IsHeld bytes entries a b → i ≡ j → i < length entries → entry ≡ get_or entries i entry → entry.arity ≡ option_map length (macro_at view.macros j).formals
+unfolding entry_of
+arity_at bytes entries a b view i j entry e held s h q =
+    let at : i < length (macros_in bytes entries) = omega (arith, length_macros_in bytes entries) in
+    ap (λ (x : Entry). x.arity) (q ∙ (ap (λ (es : List Entry). get_or es i entry) held.stored.entries_are ∙ entry_of_macro 0 0 (macros_in bytes entries) i entry at))
+    ∙ (ap (λ (v : TableView). option_map length (macro_at v.macros i).formals) e ∙ ap (λ (k : ℕ). option_map length (macro_at view.macros k).formals) s)
+
+pub stops_at : (bytes : List ℕ) (entries : List Entry) (a b : ℕ) (view : TableView) (i j : ℕ) (entry : Entry) → view_of bytes entries a b ≡ view → IsHeld bytes entries a b → i ≡ j → i < length entries → entry ≡ get_or entries i entry → entry.stops ≡ first_stops (formals_of (macro_at view.macros j)) (macro_at view.macros j).body
+unfolding entry_of
+stops_at bytes entries a b view i j entry e held s h q =
+    let at : i < length (macros_in bytes entries) = omega (arith, length_macros_in bytes entries) in
+    ap (λ (x : Entry). x.stops) (q ∙ (ap (λ (es : List Entry). get_or es i entry) held.stored.entries_are ∙ entry_of_macro 0 0 (macros_in bytes entries) i entry at))
+    ∙ (ap (λ (v : TableView). first_stops (formals_of (macro_at v.macros i)) (macro_at v.macros i).body) e ∙ ap (λ (k : ℕ). first_stops (formals_of (macro_at view.macros k)) (macro_at view.macros k).body) s)
+
+pub stored_slices_within : (bs : List ℕ) (es : List Entry) (bytes : List ℕ) (entries : List Entry) (ms : List Macro) → bs ≡ bytes → es ≡ entries → IsStored bytes entries ms → AreWithin (length bs) es
+stored_slices_within bs es bytes entries ms p q s = rw (p, q) (stored_within bytes entries ms s)
+
+some_map : (f : ℕ → Macro) (r : Option ℕ) → is_some r ≡ is_some (option_map f r)
+some_map f None = refl
+some_map f (Some x) = refl
+
+pub is_named : (ms : List Macro) (name : List ℕ) (r : Option ℕ) → r ≡ place_named ms name → is_some r ≡ is_some (macro_named ms name)
+is_named ms name r e = some_map (macro_at ms) r ∙ ap is_some (sym (named_at ms name r e))

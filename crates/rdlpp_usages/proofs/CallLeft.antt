@@ -36,7 +36,7 @@ use Rattle.rdlpp_read.specs.Files.{consumed_file}
 use Rattle.rdlpp_read.specs.declared.files.File.{File}
 use Rattle.rdlpp_front.specs.Fronts.{IsUsage, usage_name}
 use Rattle.rdlpp_front.specs.SourceLeft.{HoldsFront, source_left}
-use Rattle.rdlpp_front.proofs.UsageLeft.{usage_left, usage_text}
+use Rattle.rdlpp_front.proofs.TextLeft.{usage_left, usage_text}
 
 -- the bytes of tokens up to those that remain
 bytes_before : (ts behind : List SourceToken) (n : ℕ) (used : List ℕ) → drop n ts ≡ behind → bytes_of ts ≡ used ++ bytes_of behind → bytes_of (take n ts) ≡ used

@@ -87,9 +87,9 @@ pub opened_line : (opening : Opening) (now line old : ℕ) → now ≡ (if is_op
 opened_line opening now line old e o = e ∙ ap (λ (x : Opening). if is_opened x then line else old) o
 
 -- the window behind the bytes of a usage
-name_moves : {R : Type 0} (tells : Type 0) (unread : R → List ℕ) (f : File R) (len : ℕ) → len ≤ length (held_of f.buffer) → MovesOver tells unread (take len (held_of f.buffer)) f.buffer (consumed_file len 0 f).buffer
-name_moves tells unread f len inside =
-    moves-past tells unread (take len (held_of f.buffer)) f.buffer (consumed_file len 0 f).buffer refl (ap (λ (n : ℕ). f.buffer.at + n) (sym (length-take-le len (held_of f.buffer) inside))) refl
+name_moves : {R : Type 0} (tells exact : Type 0) (unread : R → List ℕ) (f : File R) (len : ℕ) → len ≤ length (held_of f.buffer) → MovesOver tells exact unread (take len (held_of f.buffer)) f.buffer (consumed_file len 0 f).buffer
+name_moves tells exact unread f len inside =
+    moves-past tells exact unread (take len (held_of f.buffer)) f.buffer (consumed_file len 0 f).buffer refl (ap (λ (n : ℕ). f.buffer.at + n) (sym (length-take-le len (held_of f.buffer) inside))) refl
 
 -- what is held behind them
 name_held : {R : Type 0} (f : File R) (len : ℕ) → held_of (consumed_file len 0 f).buffer ≡ drop len (held_of f.buffer)
@@ -119,7 +119,7 @@ uses_name tells unread opening (f ∷ outer) len some has inside =
       some = omega arith;
       inner = refl;
       unused = omega arith;
-      moves = name_moves (IsExactOpening opening × tells) unread f len inside;
+      moves = name_moves tells (IsExactOpening opening) unread f len inside;
       text = λ exact t. name_text unread f len;
     }
 
@@ -132,13 +132,13 @@ uses_call tells unread most kept read opening old new r closed broken =
       used = r.used;
       inner = r.inner;
       unused = r.unused;
-      moves = moves-told (IsExactOpening opening × tells) (IsExactCall read × tells) unread r.used (inner_buffer old) (inner_buffer new) (λ t. (λ own e. t.0 own (broken own e), t.1)) r.moves;
+      moves = moves-told tells tells (IsExactOpening opening) (IsExactCall read) unread r.used (inner_buffer old) (inner_buffer new) (λ t. t) (λ exact own e. exact own (broken own e)) r.moves;
       text = λ exact t. r.text (λ own e. exact own (broken own e)) t;
       bytes = λ o t. (subst (λ (c : CallRead). TellsCall tells unread Before most kept r.used (inner_buffer old) (inner_buffer new) c) (closed o) r.answer).bytes t;
     }
 
 -- and then those of its call
-pub uses_more : {R : Type 0} (tells : Type 0) (unread : R → List ℕ) (opening : Opening) (old mid new : List (File R)) → UsesSource tells unread opening old mid → UsesCall tells unread opening mid new
+pub uses_more : {R : Type 0} (tells : Type 0) (unread : R → List ℕ) (opening : Opening) (old mid new : List (File R)) → UsesSource tells unread Opened old mid → UsesCall tells unread opening mid new
     → UsesSource tells unread opening old new
 uses_more {R} tells unread opening old mid new name c =
     let size = length-append name.used c.used in
@@ -150,10 +150,11 @@ uses_more {R} tells unread opening old mid new name c =
       some = omega arith;
       inner = c.inner ∙ ap (λ (nest : List (File R)). with_used (inner_buffer new) c.used nest) name.inner ∙ used_twice (inner_buffer mid) (inner_buffer new) name.used c.used old;
       unused = omega arith;
-      moves = moves-on (IsExactOpening opening × tells) (IsExactOpening opening × tells) (IsExactOpening opening × tells) unread name.used c.used (inner_buffer old) (inner_buffer mid) (inner_buffer new) (λ t. t) (λ t. t) name.moves c.moves;
+      moves = moves-on tells tells tells (IsExactOpening opening) (IsExactOpening opening) unread name.used c.used (inner_buffer old) (inner_buffer mid) (inner_buffer new) (λ t. t) (λ t. t) (λ e. e)
+          (moves-told tells tells Unit (IsExactOpening Opened) unread name.used (inner_buffer old) (inner_buffer mid) (λ t. t) (λ _ own e. cc) name.moves) c.moves;
       text = λ exact t.
           text-on name.used c.used (text_left unread (inner_buffer old)) (text_left unread (inner_buffer mid)) (text_left unread (inner_buffer new))
-          (name.text exact t) (c.text exact t);
+          (name.text (λ own e. cc) t) (c.text exact t);
     }
 
 module _ {R : Type 0} (rules : Rules) (unread : R → List ℕ) (ws : List Waiting) (os : List Progress) (s : State) (macros : List Macro) (depth most id len : ℕ) where

@@ -98,7 +98,7 @@ pub record UsesSource {R : Type 0} (tells : Type 0) (unread : R → List ℕ) (o
   pub some : 0 < length used
   pub inner : new ≡ with_used (inner_buffer new) used old
   pub unused : unused_of (inner_buffer new) + length used ≡ unused_of (inner_buffer old)
-  pub moves : MovesOver (IsExactOpening opening × tells) unread used (inner_buffer old) (inner_buffer new)
+  pub moves : MovesOver tells (IsExactOpening opening) unread used (inner_buffer old) (inner_buffer new)
   pub text : IsExactOpening opening → tells → text_left unread (inner_buffer old) ≡ used ++ text_left unread (inner_buffer new)
 
 -- a call is refused by the tokens in front of it, about a name or none, in each run with that limit on kept bytes
@@ -127,7 +127,7 @@ pub record UsesCall {R : Type 0} (tells : Type 0) (unread : R → List ℕ) (ope
   pub used : List ℕ
   pub inner : new ≡ with_used (inner_buffer new) used old
   pub unused : unused_of (inner_buffer new) + length used ≡ unused_of (inner_buffer old)
-  pub moves : MovesOver (IsExactOpening opening × tells) unread used (inner_buffer old) (inner_buffer new)
+  pub moves : MovesOver tells (IsExactOpening opening) unread used (inner_buffer old) (inner_buffer new)
   pub text : IsExactOpening opening → tells → text_left unread (inner_buffer old) ≡ used ++ text_left unread (inner_buffer new)
   pub bytes : opening ≡ Opened → tells
       → bytes_of (tokens_left unread (inner_buffer old)) ≡ used ++ bytes_of (tokens_left unread (inner_buffer new))

@@ -28,7 +28,7 @@ tokens-preserved g c =
     (stand_meant c.tokens.stand) (stand_meant c.in-Goes.to)
     (filled g.S.Sources false c.args.sources.now c.tokens.sources c.fill.new.sources c.args.files.now c.tokens.files c.fill.new.self c.args.store.now.most c.tokens.store (stand_meant c.tokens.stand)
     c.tokens.invariant c.in-Held.ensures.only c.in-Held.ensures.fills.unused c.in-Held.ensures.fills.mode c.in-Held.ensures.fills.tokens
-    (moves-told _ _ _ [] _ _ (λ t. (λ e. cc, t)) (moves-slid _ _ _ _ c.in-Held.ensures.fills.slides)) (c.in-Held.ensures.fills.text (λ e. cc)) c.in-Held.ensures.call)
+    (moves-told _ _ Unit _ _ [] _ _ (λ t. t) (λ _ e. cc) (moves-slid _ _ _ _ _ c.in-Held.ensures.fills.slides)) (c.in-Held.ensures.fills.text (λ e. cc)) c.in-Held.ensures.call)
     c.in-Goes.ensures.only c.in-Goes.ensures.room c.in-Goes.ensures.takes
 
 pub returns-in-Ends-clause-reads : goal.returns-in-Ends-clause-reads
@@ -37,7 +37,7 @@ returns-in-Ends-clause-reads g c =
     (stand_meant c.tokens.stand) c.in-Ends.read
     (filled g.S.Sources false c.args.sources.now c.tokens.sources c.fill.new.sources c.args.files.now c.tokens.files c.fill.new.self c.args.store.now.most c.tokens.store (stand_meant c.tokens.stand)
     c.tokens.invariant c.in-Held.ensures.only c.in-Held.ensures.fills.unused c.in-Held.ensures.fills.mode c.in-Held.ensures.fills.tokens
-    (moves-told _ _ _ [] _ _ (λ t. (λ e. cc, t)) (moves-slid _ _ _ _ c.in-Held.ensures.fills.slides)) (c.in-Held.ensures.fills.text (λ e. cc)) c.in-Held.ensures.call)
+    (moves-told _ _ Unit _ _ [] _ _ (λ t. t) (λ _ e. cc) (moves-slid _ _ _ _ _ c.in-Held.ensures.fills.slides)) (c.in-Held.ensures.fills.text (λ e. cc)) c.in-Held.ensures.call)
     c.in-Ends.ensures.takes
 
 pub returns-in-End-clause-call : goal.returns-in-End-clause-call
@@ -53,7 +53,7 @@ returns-in-End-clause-reads g c =
     let room = c.args.store.now.most - length c.tokens.store.bytes in
     let fills = c.in-End.ensures.fills in
     answered_unfilled g.S.Sources c.args.sources.now c.tokens.sources c.args.files.now c.tokens.files c.fill.new.self c.args.store.now.most c.tokens.store at c.end_of_text.result
-    c.tokens.invariant c.in-End.ensures.only fills.unused (moves-told _ _ _ [] _ _ (λ t. (λ e. cc, t.1)) (moves-slid _ _ _ _ fills.slides)) (λ exact. fills.text (λ e. cc))
+    c.tokens.invariant c.in-End.ensures.only fills.unused (moves-told _ _ _ _ _ [] _ _ (λ t. t) (λ _ e. cc) (moves-slid _ _ _ _ _ fills.slides)) (λ exact. fills.text (λ e. cc))
     (end_tells (g.S.Sources.tells c.args.sources.now) g.S.Sources.unread at room (inner_buffer c.tokens.files.nest) (inner_buffer c.fill.new.self.nest) c.end_of_text.result
     (c.end_of_text.ensures.text room) fills.mode fills.open_token_line (λ t. fills.tokens (c.tokens.invariant.call.tells t)))
 
@@ -64,7 +64,7 @@ returns-in-SourceLong-clause-reads g c =
     let room = c.args.store.now.most - length c.tokens.store.bytes in
     let fills = c.in-SourceLong.ensures.fills in
     answered_unfilled g.S.Sources c.args.sources.now c.tokens.sources c.args.files.now c.tokens.files c.fill.new.self c.args.store.now.most c.tokens.store at _
-    c.tokens.invariant c.in-SourceLong.ensures.only fills.unused (moves-told _ _ _ [] _ _ (λ t. (λ e. cc, t.1)) (moves-slid _ _ _ _ fills.slides)) (λ exact. fills.text (λ e. cc))
+    c.tokens.invariant c.in-SourceLong.ensures.only fills.unused (moves-told _ _ _ _ _ [] _ _ (λ t. t) (λ _ e. cc) (moves-slid _ _ _ _ _ fills.slides)) (λ exact. fills.text (λ e. cc))
     (break_tells (g.S.Sources.tells c.args.sources.now) g.S.Sources.unread at room (inner_buffer c.tokens.files.nest) (inner_buffer c.fill.new.self.nest) SourceLong c.inner_line.result refl
     (c.inner_line.ensures.line ∙ fills.line) (λ t. fills.tokens (c.tokens.invariant.call.tells t)))
 
@@ -75,7 +75,7 @@ returns-in-LineLong-clause-reads g c =
     let room = c.args.store.now.most - length c.tokens.store.bytes in
     let fills = c.in-LineLong.ensures.fills in
     answered_unfilled g.S.Sources c.args.sources.now c.tokens.sources c.args.files.now c.tokens.files c.fill.new.self c.args.store.now.most c.tokens.store at _
-    c.tokens.invariant c.in-LineLong.ensures.only fills.unused (moves-told _ _ _ [] _ _ (λ t. (λ e. t.0 _ refl, t.1)) (moves-slid _ _ _ _ fills.slides)) (λ exact t. absurd (exact _ refl))
+    c.tokens.invariant c.in-LineLong.ensures.only fills.unused (moves-told _ _ _ _ _ [] _ _ (λ t. t) (λ exact e. exact _ refl) (moves-slid _ _ _ _ _ fills.slides)) (λ exact t. absurd (exact _ refl))
     (break_tells (g.S.Sources.tells c.args.sources.now) g.S.Sources.unread at room (inner_buffer c.tokens.files.nest) (inner_buffer c.fill.new.self.nest) LineLong c.inner_line-in-LineLong.result refl
     (c.inner_line-in-LineLong.ensures.line ∙ fills.line) (λ t. fills.tokens (c.tokens.invariant.call.tells t)))
 
@@ -84,7 +84,7 @@ returns-in-Failed-clause-reads g c =
     answered_failed g.S.Sources c.args.sources.now c.fill.new.sources c.args.files.now c.fill.new.self c.args.store.now.most c.tokens.store (stand_meant c.tokens.stand)
     (filled g.S.Sources true c.args.sources.now c.tokens.sources c.fill.new.sources c.args.files.now c.tokens.files c.fill.new.self c.args.store.now.most c.tokens.store (stand_meant c.tokens.stand)
     c.tokens.invariant c.in-Failed.ensures.only c.in-Failed.ensures.fills.unused c.in-Failed.ensures.fills.mode c.in-Failed.ensures.fills.tokens
-    (moves-told _ _ _ [] _ _ (λ t. (λ e. cc, t)) (moves-slid _ _ _ _ c.in-Failed.ensures.fills.slides)) (c.in-Failed.ensures.fills.text (λ e. cc)) c.in-Failed.ensures.call)
+    (moves-told _ _ Unit _ _ [] _ _ (λ t. t) (λ _ e. cc) (moves-slid _ _ _ _ _ c.in-Failed.ensures.fills.slides)) (c.in-Failed.ensures.fills.text (λ e. cc)) c.in-Failed.ensures.call)
 
 pub returns-in-SourceLong-clause-fault : goal.returns-in-SourceLong-clause-fault
 returns-in-SourceLong-clause-fault g c = source_fault

@@ -1,4 +1,4 @@
-use Rattle.rdlpp_arguments.proofs.Calm.{calm_used}
+use Rattle.rdlpp_arguments.proofs.Takes.{calm_used}
 use Rattle.rdlpp_arguments.proofs.taking.plain_calm_use.Goals as goal
 
 pub returns : goal.returns

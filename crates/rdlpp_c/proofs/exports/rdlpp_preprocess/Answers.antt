@@ -1,6 +1,6 @@
 use Rattle.std.proofs.Common.{subst}
 use Rattle.rdlpp_c.specs.Answer.{ComesTo}
-use Rattle.rdlpp_c.proofs.Tellings.{buffers_told}
+use Rattle.rdlpp_c.proofs.Outputs.{buffers_told}
 use Rattle.rdlpp_c.proofs.exports.rdlpp_preprocess.Goals as goal
 
 pub returns : goal.returns

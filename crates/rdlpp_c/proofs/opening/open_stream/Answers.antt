@@ -1,5 +1,5 @@
 use Rattle.std.proofs.Common.{Err, ap}
-use Rattle.rdlpp_c.proofs.Streams.{refused, streams}
+use Rattle.rdlpp_c.proofs.Outputs.{refused, streams}
 use Rattle.rdlpp_c.proofs.opening.open_stream.Goals as goal
 
 pub returns-in-Ok-new : goal.returns-in-Ok-new

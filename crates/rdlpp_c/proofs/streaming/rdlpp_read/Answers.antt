@@ -1,7 +1,7 @@
 use Rattle.std.proofs.Common.{Some, ap, sym, ◌∙◌}
 use Rattle.std.specs.Option.{option_map}
 use Rattle.rdlpp_c.specs.Streaming.{boxed}
-use Rattle.rdlpp_c.proofs.Streams.{reads_held}
+use Rattle.rdlpp_c.proofs.Outputs.{reads_held}
 use Rattle.rdlpp_c.proofs.streaming.rdlpp_read.Goals as goal
 
 pub returns : goal.returns

@@ -3,7 +3,7 @@ use Rattle.std.specs.List.{prefix_len}
 use Rattle.std.proofs.lemmas.List.{length-drop, take_all}
 use Rattle.rdlpp_scan.specs.Bytes.{is_letter, is_word}
 use Rattle.rdlpp_front.specs.Fronts.{AtBare}
-use Rattle.rdlpp_front.proofs.FirstBytes.{back_at_letter, back_len, bare_at_other}
+use Rattle.rdlpp_front.proofs.Insides.{back_at_letter, back_len, bare_at_other}
 use Rattle.rdlpp_front.proofs.front.backquote_front.Goals as goal
 
 pub name_front-requires-clause-kind : goal.name_front-requires-clause-kind

@@ -1,8 +1,7 @@
 use Rattle.std.proofs.Common.{◌≡◌, ◌∙◌, ℕ, ◌-◌, ◌∷◌, sym, ap, take, drop, arith}
 use Rattle.rdlpp_scan.specs.Tokens.{token_of}
 use Rattle.rdlpp_scan.specs.declared.token.Mode.TheVariants.{Plain}
-use Rattle.rdlpp_front.proofs.DirectiveFacts.{named_word}
-use Rattle.rdlpp_front.proofs.FirstBytes.{back_text}
+use Rattle.rdlpp_front.proofs.Insides.{named_word, back_text}
 use Rattle.rdlpp_front.proofs.front.name_front.Goals as goal
 
 pub directive_front-requires : goal.directive_front-requires

@@ -1,6 +1,6 @@
 use Rattle.std.proofs.Common.{◌≡◌, arith}
 use Rattle.rdlpp_scan.specs.Tokens.{plain_len}
-use Rattle.rdlpp_front.proofs.FirstBytes.{stops_at_front}
+use Rattle.rdlpp_front.proofs.Insides.{stops_at_front}
 use Rattle.rdlpp_front.proofs.front.plain_front.Goals as goal
 
 pub token_front-requires-clause-stops : goal.token_front-requires-clause-stops

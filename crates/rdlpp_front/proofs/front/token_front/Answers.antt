@@ -1,7 +1,7 @@
 use Rattle.std.proofs.Common.{◌∙◌, sym, ap}
 use Rattle.rdlpp_scan.specs.declared.token.Token.{Token}
 use Rattle.rdlpp_front.specs.Fronts.{AtPerl, AtToken}
-use Rattle.rdlpp_front.proofs.FirstBytes.{text_at_front}
+use Rattle.rdlpp_front.proofs.Insides.{text_at_front}
 use Rattle.rdlpp_front.proofs.front.token_front.Goals as goal
 
 pub returns-in-Perl : goal.returns-in-Perl

@@ -1,5 +1,5 @@
 use Rattle.std.proofs.Common.{sym}
-use Rattle.rdlpp_lines.proofs.OnePiece.{piece_none, piece_some}
+use Rattle.rdlpp_lines.proofs.Measures.{piece_none, piece_some}
 use Rattle.rdlpp_lines.proofs.piece.is_one_piece.Goals as goal
 
 pub returns-in-None : goal.returns-in-None

@@ -1,6 +1,6 @@
 use Rattle.std.proofs.Common.{◌≡◌, false, ◌∙◌, ◌+◌, ◌-◌, ◌<◌, ◌≤◌, ℕ, length, take, sym, ap, arith}
 use Rattle.rdlpp_lines.specs.Texts.{trims, without_end}
-use Rattle.rdlpp_lines.proofs.OnePiece.{end_blank, end_kept}
+use Rattle.rdlpp_lines.proofs.Measures.{end_blank, end_kept}
 use Rattle.rdlpp_lines.proofs.piece.unblanked_len.Goals as goal
 
 pub returns-then-not-trims-clause-value : goal.returns-then-not-trims-clause-value

@@ -3,7 +3,7 @@ use Rattle.std.specs.Prelude.{None}
 use Rattle.rdlpp_lines.specs.Continuations.{joined}
 use Rattle.rdlpp_lines.specs.OnePiece.{is_one_piece}
 use Rattle.rdlpp_lines.specs.Texts.{cleared, start_level, trimmed_left, trimmed_len, trims}
-use Rattle.rdlpp_lines.proofs.OnePiece.{measured_part, part_len}
+use Rattle.rdlpp_lines.proofs.Measures.{measured_part, part_len}
 use Rattle.rdlpp_lines.proofs.reading.append_trimmed.Goals as goal
 
 pub append_part-requires : goal.append_part-requires

@@ -2,8 +2,7 @@ use Rattle.std.proofs.Common.{◌∙◌, sym, ap, arith, refl, length}
 use Rattle.rdlpp_lines.specs.Texts.{start_level, text_behind}
 use Rattle.rdlpp_lines.specs.Reading.{IsAdvanced}
 use Rattle.rdlpp_lines.specs.Continuations.{joined}
-use Rattle.rdlpp_lines.proofs.Advancing.{more, last, passed_behind, ended_behind}
-use Rattle.rdlpp_lines.proofs.Measures.{behind_onto, behind_fault}
+use Rattle.rdlpp_lines.proofs.Measures.{more, last, passed_behind, ended_behind, behind_onto, behind_fault}
 use Rattle.rdlpp_lines.proofs.reading.behind_default.Goals as goal
 
 pub loop-reader-init : goal.loop-reader-init

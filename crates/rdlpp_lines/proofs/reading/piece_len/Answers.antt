@@ -2,7 +2,7 @@ use Rattle.std.proofs.Common.{◌≡◌, ◌∙◌, sym, arith, []}
 use Rattle.rdlpp_lines.specs.Texts.{Sound, cleared}
 use Rattle.rdlpp_lines.specs.Continuations.{joined}
 use Rattle.std.specs.Prelude.{None}
-use Rattle.rdlpp_lines.proofs.OnePiece.{piece_fault, piece_sound, sound_measured, sound_nothing}
+use Rattle.rdlpp_lines.proofs.Measures.{piece_fault, piece_sound, sound_measured, sound_nothing}
 use Rattle.rdlpp_lines.proofs.reading.piece_len.Goals as goal
 
 pub returns-in-Some-clause-len : goal.returns-in-Some-clause-len

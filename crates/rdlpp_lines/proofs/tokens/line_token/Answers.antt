@@ -1,4 +1,4 @@
-use Rattle.rdlpp_lines.proofs.JoinedTokens.{read_by_value}
+use Rattle.rdlpp_lines.proofs.Joins.{read_by_value}
 use Rattle.rdlpp_lines.proofs.tokens.line_token.Goals as goal
 
 pub returns-clause-is_read : goal.returns-clause-is_read

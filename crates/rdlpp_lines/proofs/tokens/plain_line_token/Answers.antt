@@ -1,4 +1,4 @@
-use Rattle.rdlpp_lines.proofs.JoinedTokens.{continued, continued_inside}
+use Rattle.rdlpp_lines.proofs.Joins.{continued, continued_inside}
 use Rattle.rdlpp_lines.proofs.tokens.plain_line_token.Goals as goal
 
 pub returns-else-len-eq0-clause-value : goal.returns-else-len-eq0-clause-value

@@ -5,7 +5,7 @@ use Rattle.rdlpp_scan.specs.declared.token.Mode.{Mode}
 use Rattle.rdlpp_scan.specs.declared.token.Token.{Token}
 use Rattle.rdlpp_scan.specs.Tokens.{token_of, tokens_from}
 use Rattle.rdlpp_scan.specs.LexFaults.{lex_fault_from, fault_of_tokens, is_perl}
-use Rattle.rdlpp_scan.proofs.TokenLists.{fault-perl, fault-next, fault-end}
+use Rattle.rdlpp_scan.proofs.TokenLens.{fault-perl, fault-next, fault-end}
 use Rattle.rdlpp_scan.proofs.faults.lex_fault.Goals as goal
 
 token_here : (t : Token) (m : Mode) (bs : List ℕ) (at : ℕ) → t ≡ token_of m (take (length bs - at) (drop at bs)) → t ≡ token_of m (drop at bs)

@@ -1,6 +1,6 @@
 use Rattle.std.proofs.Common.{rules, ◌+◌, refl, arith}
 use Rattle.rdlpp_scan.specs.SourceTokens.{line_ends}
-use Rattle.rdlpp_scan.proofs.LineEndCounts.{line_ends-most, line_ends-part}
+use Rattle.rdlpp_scan.proofs.SourceLaws.{line_ends-most, line_ends-part}
 use Rattle.rdlpp_scan.proofs.lines.line_ends_in.Goals as goal
 
 pub loop-at-init : goal.loop-at-init

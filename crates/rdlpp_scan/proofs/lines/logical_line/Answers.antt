@@ -3,7 +3,7 @@ use Rattle.std.proofs.lemmas.Slice.{between_to_end}
 use Rattle.std.proofs.lemmas.List.{length-drop}
 use Rattle.memchr.specs.Find.{IsFirstByte, is_byte}
 use Rattle.rdlpp_scan.specs.Lines.{ends_continued}
-use Rattle.rdlpp_scan.proofs.LogicalLines.{logical_len-goes_on, logical_len-ends, logical_len-no_end}
+use Rattle.rdlpp_scan.proofs.LineLaws.{logical_len-goes_on, logical_len-ends, logical_len-no_end}
 use Rattle.rdlpp_scan.proofs.lines.logical_line.Goals as goal
 
 found : (bs : List ℕ) (at : ℕ) (r : Option ℕ) → IsFirstByte (is_byte 10) (take (length bs - at) (drop at bs)) r → IsFirstByte (is_byte 10) (drop at bs) r

@@ -1,6 +1,6 @@
 use Rattle.std.proofs.Common.{rules, ◌+◌, ◌∙◌, ap, sym, refl}
 use Rattle.rdlpp_scan.specs.SourceTokens.{line_ends}
-use Rattle.rdlpp_scan.proofs.LineEndCounts.{line_ends-hit, line_ends-miss, line_ends-most}
+use Rattle.rdlpp_scan.proofs.SourceLaws.{line_ends-hit, line_ends-miss, line_ends-most}
 use Rattle.rdlpp_scan.proofs.lines.short_line_ends.Goals.{then-bytes-at-eq10, else-bytes-at-eq10}
 use Rattle.rdlpp_scan.proofs.lines.short_line_ends.Goals as goal
 

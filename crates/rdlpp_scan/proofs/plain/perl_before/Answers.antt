@@ -2,7 +2,7 @@ use Rattle.std.proofs.Common.{◌≡◌, ◌+◌, false, sym, subst, length, ari
 use Rattle.std.proofs.lemmas.Slice.{between_to_end}
 use Rattle.memchr.specs.Find.{is_byte}
 use Rattle.rdlpp_scan.specs.Bytes.{begins_perl}
-use Rattle.rdlpp_scan.proofs.PlainSearch.{range-some, range-none, no_perl_before, no_perl_through}
+use Rattle.rdlpp_scan.proofs.Searches.{range-some, range-none, no_perl_before, no_perl_through}
 use Rattle.rdlpp_scan.proofs.plain.perl_before.Goals as goal
 
 pub returns-then-begins_perl-clause-before : goal.returns-then-begins_perl-clause-before

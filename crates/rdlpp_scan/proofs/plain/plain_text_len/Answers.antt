@@ -2,7 +2,7 @@ use Rattle.std.proofs.Common.{◌≡◌, ◌+◌, false, true, sym, subst, lengt
 use Rattle.std.proofs.lemmas.Slice.{between_to_end}
 use Rattle.memchr.specs.Find.{is_byte3}
 use Rattle.rdlpp_scan.specs.Tokens.{stops_plain_text}
-use Rattle.rdlpp_scan.proofs.PlainSearch.{range-some, range-none, quiet_before, quiet_through, plain_len-found, plain_len-to_end, perl_stops}
+use Rattle.rdlpp_scan.proofs.Searches.{range-some, range-none, quiet_before, quiet_through, plain_len-found, plain_len-to_end, perl_stops}
 use Rattle.rdlpp_scan.proofs.plain.plain_text_len.Goals as goal
 
 pub returns-then-perl-here-clause-value : goal.returns-then-perl-here-clause-value

@@ -1,7 +1,7 @@
 use Rattle.std.proofs.Common.{arith, ◌≡◌, ◌+◌, sym, ◌∙◌, take}
 use Rattle.std.proofs.lemmas.Grind.{common_steps}
 use Rattle.std.specs.Prelude.{slice_range}
-use Rattle.rdlpp_source.proofs.Folders.{folder_of-none, folder_of-at, lacks_slash}
+use Rattle.rdlpp_source.proofs.Searches.{folder_of-none, folder_of-at, lacks_slash}
 use Rattle.rdlpp_source.proofs.paths.folder_of.Goals as goal
 
 pub returns-in-Some : goal.returns-in-Some

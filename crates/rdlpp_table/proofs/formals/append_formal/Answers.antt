@@ -1,7 +1,7 @@
 use Rattle.std.proofs.Common.{◌≡◌, ◌≤◌, ℕ, List, true, false, length, length-append, get_or, eqb, vec_capacity, Vec, Global, ap, ◌∙◌, arith, ne_eqb}
 use Rattle.rdlpp_lines.specs.Continuations.{joined}
 use Rattle.rdlpp_table.proofs.Sizes.{count_items}
-use Rattle.rdlpp_table.proofs.Appending.{IsMid, IsTold, told_is, told_default, mid_long, mid_short, mid_length, behind_comma, behind_other}
+use Rattle.rdlpp_table.proofs.Reading.{IsMid, IsTold, told_is, told_default, mid_long, mid_short, mid_length, behind_comma, behind_other}
 use Rattle.rdlpp_table.proofs.formals.append_formal.Goals as goal
 use Rattle.rdlpp_table.proofs.formals.append_formal.Goals.{then-default-gt0, else-default-gt0, in-Some+else-b-eq44, in_default}
 

@@ -1,6 +1,6 @@
 use Rattle.std.proofs.Common.{arith}
 use Rattle.rdlpp_table.proofs.Sizes.{count_items}
-use Rattle.rdlpp_table.proofs.Appending.{append_starts, append_told, append_room, append_next, append_end}
+use Rattle.rdlpp_table.proofs.Reading.{append_starts, append_told, append_room, append_next, append_end}
 use Rattle.rdlpp_table.proofs.formals.append_list.Goals as goal
 
 pub loop-behind-init : goal.loop-behind-init

@@ -1,6 +1,6 @@
 use Rattle.std.proofs.Common.{◌≤◌, true, vec_capacity, length}
 use Rattle.rdlpp_lines.specs.Continuations.{joined}
-use Rattle.rdlpp_table.proofs.Appending.{IsAppended}
+use Rattle.rdlpp_table.proofs.Reading.{IsAppended}
 use Rattle.rdlpp_table.proofs.formals.append_list.Given as goal
 
 abbrev pub invariant-loop-behind : goal.invariant-loop-behind

@@ -1,7 +1,7 @@
 use Rattle.std.proofs.Common.{◌-◌}
 use Rattle.rdlpp_table.specs.Index.{names_of}
 use Rattle.rdlpp_table.specs.Store.{macros_in}
-use Rattle.rdlpp_table.proofs.Seeking.{IsSeeking}
+use Rattle.rdlpp_table.proofs.Orders.{IsSeeking}
 use Rattle.rdlpp_table.proofs.index.seek.Given as goal
 
 abbrev pub invariant-loop-low : goal.invariant-loop-low

@@ -1,4 +1,4 @@
-use Rattle.rdlpp_table.proofs.KeptStops.{first_of, fourth_of, second_of, third_of}
+use Rattle.rdlpp_table.proofs.FirstStops.{first_of, fourth_of, second_of, third_of}
 use Rattle.rdlpp_table.proofs.kept.candidate_at.Goals as goal
 
 pub returns-then-from-first-clause-kept : goal.returns-then-from-first-clause-kept

@@ -1,4 +1,4 @@
-use Rattle.rdlpp_table.proofs.KeptStops.{first_four}
+use Rattle.rdlpp_table.proofs.FirstStops.{first_four}
 use Rattle.rdlpp_table.proofs.kept.first_stops.Goals as goal
 
 pub returns : goal.returns

@@ -1,4 +1,4 @@
-use Rattle.rdlpp_table.proofs.KeptStops.{known_range}
+use Rattle.rdlpp_table.proofs.FirstStops.{known_range}
 use Rattle.rdlpp_table.proofs.kept.known_behind.Goals as goal
 
 pub returns-then-is_known : goal.returns-then-is_known

@@ -1,5 +1,5 @@
 use Rattle.std.proofs.Common.{◌∙◌, ◌≤◌, ◌+◌, ◌-◌, length, sym, rules}
-use Rattle.rdlpp_table.proofs.FirstFormal.{default_between, default_inside, no_default_text}
+use Rattle.rdlpp_table.proofs.Marked.{default_between, default_inside, no_default_text}
 use Rattle.rdlpp_table.proofs.marks.default_in.Goals as goal
 
 pub slice_bounds-result-count : goal.slice_bounds-result-count

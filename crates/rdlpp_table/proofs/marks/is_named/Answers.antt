@@ -1,7 +1,7 @@
 use Rattle.std.proofs.Common.{◌≡◌, ◌∙◌, List, ℕ, length, true, sym}
 use Rattle.std.proofs.lemmas.Bool.{false≢true}
 use Rattle.rdlpp_table.specs.Store.{formal_read}
-use Rattle.rdlpp_table.proofs.FirstFormal.{compared, name_ended, name_starts, named_by_size}
+use Rattle.rdlpp_table.proofs.Marked.{compared, name_ended, name_starts, named_by_size}
 use Rattle.rdlpp_table.proofs.marks.is_named.Goals as goal
 use Rattle.rdlpp_table.proofs.marks.is_named.Goals.{then-ends_name, else-ends_name}
 

@@ -3,8 +3,7 @@ use Rattle.std.specs.List.{flat_map}
 use Rattle.std.proofs.lemmas.List.{take_rest}
 use Rattle.rdlpp_table.specs.Table.{formal_bytes}
 use Rattle.rdlpp_table.specs.Store.{formal_read, formals_read}
-use Rattle.rdlpp_table.proofs.Marked.{bytes_from, count_marks, mark_inside, passed_at, start_listed}
-use Rattle.rdlpp_table.proofs.ReadBack.{reached_found, reached_none}
+use Rattle.rdlpp_table.proofs.Marked.{bytes_from, count_marks, mark_inside, passed_at, start_listed, reached_found, reached_none}
 use Rattle.rdlpp_table.proofs.marks.place_by_marks.Goals as goal
 
 pub loop-place-init : goal.loop-place-init

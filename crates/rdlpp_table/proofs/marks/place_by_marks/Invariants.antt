@@ -2,7 +2,7 @@ use Rattle.std.proofs.Common.{drop}
 use Rattle.std.specs.List.{flat_map}
 use Rattle.rdlpp_table.specs.Store.{formals_read}
 use Rattle.rdlpp_table.specs.Table.{formal_bytes}
-use Rattle.rdlpp_table.proofs.ReadBack.{IsReached}
+use Rattle.rdlpp_table.proofs.Marked.{IsReached}
 use Rattle.rdlpp_table.proofs.marks.place_by_marks.Given as goal
 
 abbrev pub invariant-loop-place : goal.invariant-loop-place

@@ -1,6 +1,6 @@
 use Rattle.std.proofs.Common.{◌/◌, ℕ, ap, sym, ◌∙◌}
 use Rattle.rdlpp_table.specs.Index.{part_of, stirred}
-use Rattle.rdlpp_table.proofs.Stirred.{stirred_last, stirred_next}
+use Rattle.rdlpp_table.proofs.Orders.{stirred_last, stirred_next}
 use Rattle.rdlpp_table.proofs.parts.part_of.Goals as goal
 
 pub loop-rest-preserved : goal.loop-rest-preserved

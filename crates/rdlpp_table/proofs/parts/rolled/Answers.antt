@@ -1,5 +1,5 @@
 use Rattle.std.proofs.Common.{◌<◌, ◌≤◌, length, sym, ◌∙◌, arith}
-use Rattle.rdlpp_table.proofs.Stirred.{rolled_next, rolled_whole}
+use Rattle.rdlpp_table.proofs.Orders.{rolled_next, rolled_whole}
 use Rattle.rdlpp_table.proofs.parts.rolled.Goals as goal
 
 pub loop-byte-preserved : goal.loop-byte-preserved

@@ -1,8 +1,7 @@
 use Rattle.std.proofs.Common.{◌≡◌, ◌-◌, ◌<◌, ◌≤◌, ◌∙◌, ℕ, ap, drop, length, take, vec_len, arith}
 use Rattle.rdlpp_table.specs.Marks.{table_marks}
 use Rattle.rdlpp_table.specs.Store.{macros_in}
-use Rattle.rdlpp_table.proofs.Sizes.{count_items}
-use Rattle.rdlpp_table.proofs.Laid.{length_macros_in}
+use Rattle.rdlpp_table.proofs.Sizes.{count_items, length_macros_in}
 use Rattle.rdlpp_table.proofs.Taken.{taken, taken_stored, taken_behind, taken_marks, count_moved, marks_end, end_within, bytes_fit}
 use Rattle.rdlpp_table.proofs.removal.take_out.Goals as goal
 

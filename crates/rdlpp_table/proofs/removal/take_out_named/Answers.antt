@@ -1,11 +1,10 @@
 use Rattle.std.proofs.Common.{◌≡◌, ◌-◌, ◌∙◌, ℕ, Some, None, ap, arith, drop, get_or, length, map, remove, sym, take, vec_len}
 use Rattle.std.proofs.lemmas.List.{length-take-le}
 use Rattle.rdlpp_table.specs.Index.{closed}
-use Rattle.rdlpp_table.proofs.Sizes.{count_items}
-use Rattle.rdlpp_table.proofs.Laid.{is_named, stored_slices_within}
-use Rattle.rdlpp_table.proofs.Held.{stored_without, stored_nowhere}
+use Rattle.rdlpp_table.proofs.Sizes.{count_items, is_named, stored_slices_within}
+use Rattle.rdlpp_table.proofs.RoundTrip.{stored_without, stored_nowhere}
 use Rattle.rdlpp_table.proofs.Keyed.{entry_inside, gapped, index_front, left_nowhere, left_without, marks_nowhere, length_front, marks_without, placed}
-use Rattle.rdlpp_table.proofs.Divided.{sooner_is, sooner_more}
+use Rattle.rdlpp_table.proofs.Indexed.{sooner_is, sooner_more}
 use Rattle.rdlpp_table.proofs.Orders.{indexed_gap, indexed_place}
 use Rattle.rdlpp_table.proofs.removal.take_out_named.Goals as goal
 

@@ -1,5 +1,5 @@
 use Rattle.std.proofs.Common.{◌∙◌}
-use Rattle.rdlpp_table.proofs.Numbers.{eight_are}
+use Rattle.rdlpp_table.proofs.Orders.{eight_are}
 use Rattle.rdlpp_table.proofs.sought.front_number.Goals as goal
 
 pub returns : goal.returns

@@ -1,5 +1,5 @@
 use Rattle.std.proofs.Common.{◌∙◌, refl, sym}
-use Rattle.rdlpp_table.proofs.Numbers.{bytes_behind, order_apart, order_behind}
+use Rattle.rdlpp_table.proofs.Orders.{bytes_behind, order_apart, order_behind}
 use Rattle.rdlpp_table.proofs.sought.order_of.Goals as goal
 
 pub loop-left-init : goal.loop-left-init

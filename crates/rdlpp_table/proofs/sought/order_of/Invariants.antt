@@ -1,6 +1,6 @@
 use Rattle.std.proofs.Common.{◌≡◌, length}
 use Rattle.rdlpp_table.specs.Index.{name_order}
-use Rattle.rdlpp_table.proofs.Numbers.{AreBytes}
+use Rattle.rdlpp_table.proofs.Orders.{AreBytes}
 use Rattle.rdlpp_table.proofs.sought.order_of.Given as goal
 
 abbrev pub invariant-loop-left : goal.invariant-loop-left

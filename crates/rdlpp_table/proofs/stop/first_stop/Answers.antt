@@ -2,8 +2,7 @@ use Rattle.std.proofs.Common.{◌∙◌, ◌<◌, ap, length, arith, sym}
 use Rattle.std.proofs.lemmas.Bool.{eqb-true}
 use Rattle.rdlpp_table.specs.Kept.{stop_end}
 use Rattle.rdlpp_table.specs.Store.{formals_read}
-use Rattle.rdlpp_table.proofs.KeptStops.{none_end, token_end}
-use Rattle.rdlpp_table.proofs.Stopping.{behind_place, stopping_ended, stopping_found, stopping_more, stopping_quiet, stopping_start}
+use Rattle.rdlpp_table.proofs.FirstStops.{none_end, token_end, behind_place, stopping_ended, stopping_found, stopping_more, stopping_quiet, stopping_start}
 use Rattle.rdlpp_table.proofs.stop.first_stop.Goals as goal
 
 pub loop-rest-init : goal.loop-rest-init

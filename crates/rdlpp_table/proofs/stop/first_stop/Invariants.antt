@@ -1,6 +1,6 @@
 use Rattle.std.proofs.Common.{length}
 use Rattle.rdlpp_table.specs.Store.{formals_read}
-use Rattle.rdlpp_table.proofs.Stopping.{IsStopping}
+use Rattle.rdlpp_table.proofs.FirstStops.{IsStopping}
 use Rattle.rdlpp_table.proofs.stop.first_stop.Given as goal
 
 abbrev pub invariant-loop-rest : goal.invariant-loop-rest

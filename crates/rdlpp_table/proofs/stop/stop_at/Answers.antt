@@ -1,5 +1,5 @@
 use Rattle.std.proofs.Common.{◌∙◌, sym}
-use Rattle.rdlpp_table.proofs.Stopping.{name_stop, none_stop, some_stop}
+use Rattle.rdlpp_table.proofs.FirstStops.{name_stop, none_stop, some_stop}
 use Rattle.rdlpp_table.proofs.stop.stop_at.Goals as goal
 
 pub returns-in-Some : goal.returns-in-Some

@@ -1,9 +1,8 @@
 use Rattle.std.proofs.Common.{◌≡◌, ◌∙◌, ◌<◌, length, sym, arith, refl, None, Some}
 use Rattle.rdlpp_table.specs.View.{place_named}
 use Rattle.rdlpp_table.specs.Store.{macros_in}
-use Rattle.rdlpp_table.proofs.Laid.{inside_by_place, length_macros_in, stored_slices_within}
-use Rattle.rdlpp_table.proofs.Put.{beside_size, beside_count, beside_none}
-use Rattle.rdlpp_table.proofs.Sizes.{no_entry}
+use Rattle.rdlpp_table.proofs.Sizes.{inside_by_place, length_macros_in, stored_slices_within, no_entry}
+use Rattle.rdlpp_table.proofs.RoundTrip.{beside_size, beside_count, beside_none}
 use Rattle.rdlpp_table.proofs.storing.beside.Goals as goal
 
 pub place_in-requires-clause-within : goal.place_in-requires-clause-within

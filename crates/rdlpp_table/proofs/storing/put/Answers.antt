@@ -8,7 +8,7 @@ use Rattle.rdlpp_table.specs.New.{list_formals, new_macro}
 use Rattle.std.proofs.lemmas.List.{length-drop, take-append-le}
 use Rattle.rdlpp_table.specs.Marks.{marks_of}
 use Rattle.rdlpp_table.specs.Store.{macros_in}
-use Rattle.rdlpp_table.proofs.Put.{put_marks, put_stored}
+use Rattle.rdlpp_table.proofs.RoundTrip.{put_marks, put_stored}
 use Rattle.rdlpp_table.proofs.News.{appended_between, appended_few, appended_last, appended_listed, appended_marks, body_is, new_bytes, new_stops, new_entry, new_plain}
 use Rattle.rdlpp_table.specs.New.{stops_told}
 use Rattle.rdlpp_table.proofs.storing.put.Goals as goal

@@ -4,14 +4,11 @@ use Rattle.rdlpp_table.specs.Marks.{table_marks}
 use Rattle.rdlpp_table.specs.Table.{Macro, without}
 use Rattle.rdlpp_table.specs.New.{new_macro}
 use Rattle.rdlpp_table.specs.Store.{IsStored, macros_in}
-use Rattle.rdlpp_table.proofs.Behind.{entered_front}
-use Rattle.rdlpp_table.proofs.Sizes.{count_items, few_marks}
-use Rattle.rdlpp_table.proofs.RoundTrip.{read_back}
-use Rattle.rdlpp_table.proofs.Put.{stored_again, stored_length, stored_count}
-use Rattle.rdlpp_table.proofs.Laid.{stored_slices_within}
+use Rattle.rdlpp_table.proofs.Indexed.{entered_front, few_starts, later_is}
+use Rattle.rdlpp_table.proofs.Sizes.{count_items, few_marks, stored_slices_within}
+use Rattle.rdlpp_table.proofs.RoundTrip.{read_back, stored_again, stored_length, stored_count}
 use Rattle.rdlpp_table.proofs.Orders.{count_names}
 use Rattle.rdlpp_table.proofs.Keyed.{entered_with, few_left, index_front, indexed_after, indexed_slices, nowhere_stored}
-use Rattle.rdlpp_table.proofs.Divided.{few_starts, later_is}
 use Rattle.rdlpp_table.proofs.storing.replace.Goals as goal
 
 pub slice_bounds-gap_in-end : goal.slice_bounds-gap_in-end

@@ -27,8 +27,7 @@ use Rattle.std.proofs.alloc.Calls.{handle_tells}
 use Rattle.std.proofs.raw_atomic.Walks.{proved_at, leaves}
 use Rattle.std_alloc.proofs.ResultValues.{and_tt}
 use Rattle.rdlpp_c.specs.contracts.stream.Stream.{the_row as R}
-use Rattle.rdlpp_c.proofs.Values.{both, al}
-use Rattle.rdlpp_c.proofs.Slots.{Z, slot_in}
+use Rattle.rdlpp_c.proofs.Values.{both, al, Z, slot_in}
 use Rattle.rdlpp_c.specs.contracts.slot.Slot.empty.{ended, clauses}
 use Rattle.rdlpp_c.specs.contracts.slot.Slot.empty.Key.{name as #self}
 use Rattle.rdlpp_c.proofs.slot.Slot.empty.Statement.{statement}

@@ -28,8 +28,7 @@ use Rattle.std.proofs.alloc.Global.TheLaws as heap_laws
 use Rattle.std.proofs.raw_atomic.Walks.{proved_at, leaves}
 use Rattle.std_alloc.specs.Box.Ownership.{box_owns}
 use Rattle.rdlpp_c.specs.contracts.stream.Stream.{the_row as R}
-use Rattle.rdlpp_c.proofs.Values.{both, loose_good, loose_in}
-use Rattle.rdlpp_c.proofs.Slots.{Slot, Z, keeps, slot_out, some_of}
+use Rattle.rdlpp_c.proofs.Values.{both, loose_good, loose_in, Slot, Z, keeps, slot_out, some_of}
 use Rattle.rdlpp_c.specs.contracts.slot.Slot.into_loose.{ended, clauses}
 use Rattle.rdlpp_c.specs.contracts.slot.Slot.into_loose.Key.{name as #self}
 use Rattle.rdlpp_c.proofs.slot.Slot.into_loose.Statement.{statement}

@@ -21,8 +21,7 @@ use Rattle.std.specs.contracts.impls.GlobalAllocator.TheImpl.{ghosts}
 use Rattle.std.proofs.alloc.Global.TheLaws as heap_laws
 use Rattle.std.proofs.raw_atomic.Walks.{proved_at, leaves}
 use Rattle.rdlpp_c.specs.contracts.stream.Stream.{the_row as R}
-use Rattle.rdlpp_c.proofs.Values.{both, Loose, loose_good, loose_out}
-use Rattle.rdlpp_c.proofs.Slots.{Z, slot_in}
+use Rattle.rdlpp_c.proofs.Values.{both, Loose, loose_good, loose_out, Z, slot_in}
 use Rattle.rdlpp_c.specs.contracts.slot.Slot.of.{ended, clauses}
 use Rattle.rdlpp_c.specs.contracts.slot.Slot.of.Key.{name as #self}
 use Rattle.rdlpp_c.proofs.slot.Slot.of.Statement.{statement}

@@ -1,18 +1,13 @@
 use Rattle.std.proofs.Common.{ap, subst}
 use Rattle.rdlpp_steps.specs.Pieces.{lent_answer, IsPlaced}
 use Rattle.rdlpp_steps.specs.Steps.{Walks}
-use Rattle.rdlpp_steps.proofs.Cuts.{cut_body, cut_end, cut_kept, cut_owed, cut_source, cut_text, owed_placed, text_cut_placed}
+use Rattle.rdlpp_steps.proofs.Cuts.{cut_end, cut_kept, cut_owed, cut_source, cut_text, owed_placed, text_cut_placed}
 use Rattle.rdlpp_expand.proofs.engine.Engine.cut.Goals as goal
 
 pub returns-in-Source-clause-steps : goal.returns-in-Source-clause-steps
 returns-in-Source-clause-steps g c before w =
     cut_source g.S.Sources before c.args.self.now c.spend-len.new.self c.in-Source.start c.in-Source.end c.spend-len.result
     (subst (λ p. Walks g.S.Sources before c.args.self.now (lent_answer c.args.self.now p)) c.in-Source.is w) (subst (λ p. IsPlaced c.args.self.now p) c.in-Source.is c.requires.placed) (record { fits = c.spend-len.ensures.fits; passes = c.spend-len.ensures.passes })
-
-pub returns-in-Body-clause-steps : goal.returns-in-Body-clause-steps
-returns-in-Body-clause-steps g c before w =
-    cut_body g.S.Sources before c.args.self.now c.spend-len-in-Body.new.self c.in-Body.id c.in-Body.start c.in-Body.end c.spend-len-in-Body.result
-    (subst (λ p. Walks g.S.Sources before c.args.self.now (lent_answer c.args.self.now p)) c.in-Body.is w) (subst (λ p. IsPlaced c.args.self.now p) c.in-Body.is c.requires.placed) (record { fits = c.spend-len-in-Body.ensures.fits; passes = c.spend-len-in-Body.ensures.passes })
 
 pub returns-in-Text-clause-steps : goal.returns-in-Text-clause-steps
 returns-in-Text-clause-steps g c before w =
@@ -44,9 +39,6 @@ returns-in-Kept-clause-steps g c before w = cut_kept g.S.Sources before c.args.s
 
 pub spend-len-requires : goal.spend-len-requires
 spend-len-requires g c = c.requires.open _ (ap (lent_answer c.args.self.now) c.in-Source.is)
-
-pub spend-len-requires-in-Body : goal.spend-len-requires-in-Body
-spend-len-requires-in-Body g c = c.requires.open _ (ap (lent_answer c.args.self.now) c.in-Body.is)
 
 pub spend-len-requires-in-Owed : goal.spend-len-requires-in-Owed
 spend-len-requires-in-Owed g c = c.requires.open _ (ap (lent_answer c.args.self.now) c.in-Owed.is)

@@ -25,7 +25,7 @@ returns-in-Whole-clause-place g c = defined_placed _ _ _ _ c.read_define.ensures
 pub returns-in-Whole-clause-walks : goal.returns-in-Whole-clause-walks
 returns-in-Whole-clause-walks g c = λ bounded.
     let e = c.in-Whole.ensures in
-    let r : IsRead c.args.self.now c.hold_line.new.self = record { becomes = e.becomes; only = e.only; moves = slid _ _ _ _ e.holds.slides } in
+    let r : IsRead g.S.Sources c.args.self.now c.hold_line.new.self = record { becomes = e.becomes; only = e.only; moves = slid _ _ _ _ _ e.holds.slides } in
     let has = e.holds.has in
     let wide = define_inside _ _ _ e.holds.extends.more (inner_buffer c.hold_line.new.self.files.nest) c.in-Whole.len c.requires.some c.requires.define e.holds.extends.held has.1 in
     let some = c.facts.ensures.sound.open_ (opened_phase _ (ap (λ e. e.phase) e.becomes ∙ c.requires.ready.open_)) in
@@ -35,7 +35,7 @@ returns-in-Whole-clause-walks g c = λ bounded.
 pub returns-in-TooLong-clause-walks : goal.returns-in-TooLong-clause-walks
 returns-in-TooLong-clause-walks g c = λ bounded.
     let e = c.in-TooLong.ensures in
-    let r : IsRead c.args.self.now c.hold_line.new.self = record { becomes = e.becomes; only = e.only; moves = slid _ _ _ _ e.holds.slides } in
+    let r : IsRead g.S.Sources c.args.self.now c.hold_line.new.self = record { becomes = e.becomes; only = e.only; moves = slid _ _ _ _ _ e.holds.slides } in
     refuses g.S.Sources c.args.self.now c.hold_line.new.self c.refuse.new.self c.refuse.result fault.LineTooLong _ [] c.requires.ready r bounded c.refuse.ensures.place
     (rw c.new.ensures at c.refuse.ensures.kept) line_kind (called g.S.Sources false _ _ e.call)
     (λ t. left_long_define g.S.Sources c.args.self.now c.hold_line.new.self c.requires.ready t c.requires.live c.requires.some c.requires.mode c.requires.define e.holds)
@@ -43,7 +43,7 @@ returns-in-TooLong-clause-walks g c = λ bounded.
 pub returns-in-SourceLong-clause-walks : goal.returns-in-SourceLong-clause-walks
 returns-in-SourceLong-clause-walks g c = λ bounded.
     let e = c.in-SourceLong.ensures in
-    let r : IsRead c.args.self.now c.hold_line.new.self = record { becomes = e.becomes; only = e.only; moves = slid _ _ _ _ e.holds.slides } in
+    let r : IsRead g.S.Sources c.args.self.now c.hold_line.new.self = record { becomes = e.becomes; only = e.only; moves = slid _ _ _ _ _ e.holds.slides } in
     refuses g.S.Sources c.args.self.now c.hold_line.new.self c.refuse-in-SourceLong.new.self c.refuse-in-SourceLong.result fault.SourceTooLong _ [] c.requires.ready r bounded c.refuse-in-SourceLong.ensures.place
     (rw c.new-in-SourceLong.ensures at c.refuse-in-SourceLong.ensures.kept) source_kind (called g.S.Sources false _ _ e.call)
     (λ t. left_cut_define g.S.Sources c.args.self.now c.hold_line.new.self c.requires.ready t c.requires.live c.requires.some c.requires.mode c.requires.define e.holds)
@@ -51,7 +51,7 @@ returns-in-SourceLong-clause-walks g c = λ bounded.
 pub returns-in-Failed-clause-walks : goal.returns-in-Failed-clause-walks
 returns-in-Failed-clause-walks g c = λ bounded.
     let e = c.in-Failed.ensures in
-    let r : IsRead c.args.self.now c.hold_line.new.self = record { becomes = e.becomes; only = e.only; moves = slid _ _ _ _ e.holds.slides } in
+    let r : IsRead g.S.Sources c.args.self.now c.hold_line.new.self = record { becomes = e.becomes; only = e.only; moves = slid _ _ _ _ _ e.holds.slides } in
     fails_reading g.S.Sources c.args.self.now c.hold_line.new.self c.refuse_read.new.self c.refuse_read.result c.requires.ready r bounded
     c.refuse_read.ensures.place c.refuse_read.ensures.kept (called g.S.Sources true _ _ e.call)
     (λ t. left_unheld g.S.Sources c.args.self.now c.hold_line.new.self c.requires.ready t e.holds)

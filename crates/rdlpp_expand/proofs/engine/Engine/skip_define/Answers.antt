@@ -39,7 +39,7 @@ pub returns-in-Whole-clause-walks : goal.returns-in-Whole-clause-walks
 returns-in-Whole-clause-walks g c = λ bounded.
     let o = c.args.self.now in
     let e = c.in-Whole.ensures in
-    let r : IsRead o c.hold_line.new.self = record { becomes = e.becomes; only = e.only; moves = slid _ _ _ _ e.holds.slides } in
+    let r : IsRead g.S.Sources o c.hold_line.new.self = record { becomes = e.becomes; only = e.only; moves = slid _ _ _ _ _ e.holds.slides } in
     let has = e.holds.has in
     let same = c.file.ensures.buffer ∙ ap (λ e. inner_buffer e.files.nest) c.self.view_is in
     let held : c.held.result.now ≡ held_of (inner_buffer c.hold_line.new.self.files.nest) = c.held.ensures.value ∙ ap held_of same in
@@ -53,7 +53,7 @@ pub returns-in-TooLong-clause-walks : goal.returns-in-TooLong-clause-walks
 returns-in-TooLong-clause-walks g c = λ bounded.
     let o = c.args.self.now in
     let e = c.in-TooLong.ensures in
-    let r : IsRead o c.hold_line.new.self = record { becomes = e.becomes; only = e.only; moves = slid _ _ _ _ e.holds.slides } in
+    let r : IsRead g.S.Sources o c.hold_line.new.self = record { becomes = e.becomes; only = e.only; moves = slid _ _ _ _ _ e.holds.slides } in
     refuses g.S.Sources o c.hold_line.new.self c.refuse.new.self c.refuse.result fault.LineTooLong _ [] c.requires.ready r bounded c.refuse.ensures.place
     (rw c.new.ensures at c.refuse.ensures.kept) line_kind (called g.S.Sources false _ _ e.call)
     (λ t. left_long g.S.Sources o c.refuse.new.self c.requires.ready bounded c.requires.some (skipping o c.requires.ready c.requires.skipped) c.requires.mode c.requires.define c.hold_line.new.self r e.holds t)
@@ -62,7 +62,7 @@ pub returns-in-SourceLong-clause-walks : goal.returns-in-SourceLong-clause-walks
 returns-in-SourceLong-clause-walks g c = λ bounded.
     let o = c.args.self.now in
     let e = c.in-SourceLong.ensures in
-    let r : IsRead o c.hold_line.new.self = record { becomes = e.becomes; only = e.only; moves = slid _ _ _ _ e.holds.slides } in
+    let r : IsRead g.S.Sources o c.hold_line.new.self = record { becomes = e.becomes; only = e.only; moves = slid _ _ _ _ _ e.holds.slides } in
     refuses g.S.Sources o c.hold_line.new.self c.refuse-in-SourceLong.new.self c.refuse-in-SourceLong.result fault.SourceTooLong _ [] c.requires.ready r bounded c.refuse-in-SourceLong.ensures.place
     (rw c.new-in-SourceLong.ensures at c.refuse-in-SourceLong.ensures.kept) source_kind (called g.S.Sources false _ _ e.call)
     (λ t. left_cut g.S.Sources o c.refuse-in-SourceLong.new.self c.requires.ready bounded c.requires.some (skipping o c.requires.ready c.requires.skipped) c.requires.mode c.requires.define c.hold_line.new.self r e.holds t)
@@ -71,7 +71,7 @@ pub returns-in-Failed-clause-walks : goal.returns-in-Failed-clause-walks
 returns-in-Failed-clause-walks g c = λ bounded.
     let o = c.args.self.now in
     let e = c.in-Failed.ensures in
-    let r : IsRead o c.hold_line.new.self = record { becomes = e.becomes; only = e.only; moves = slid _ _ _ _ e.holds.slides } in
+    let r : IsRead g.S.Sources o c.hold_line.new.self = record { becomes = e.becomes; only = e.only; moves = slid _ _ _ _ _ e.holds.slides } in
     fails_reading g.S.Sources o c.hold_line.new.self c.refuse_read.new.self c.refuse_read.result c.requires.ready r bounded
     c.refuse_read.ensures.place c.refuse_read.ensures.kept (called g.S.Sources true _ _ e.call)
     (λ t. left_unheld g.S.Sources o c.hold_line.new.self c.requires.ready t e.holds)

@@ -19,5 +19,6 @@ returns-in-Err g c =
     let e = c.in-Err.ensures in
     let kept = c.refuse_main.ensures in
     rw (kept.fault, kept.kept, c.source_kind.ensures, ← c.self.view_is)
-    (starts_not_found g.S.Sources _ c.top.new.self c.in-Err.fault c.args.path.now (rw (← c.self.view_is) at c.facts.ensures.bounded)
+    (starts_not_found g.S.Sources _ c.top.new.self c.in-Err.fault c.args.path.now
+    (fresh_nest _ _ _ _ _ c.self.invariant.sources (rw (← c.self.view_is) at c.requires)) (fresh_texts _ _ _ _ c.self.invariant.texts (rw (← c.self.view_is) at c.requires)) (rw (← c.self.view_is) at c.facts.ensures.bounded)
     e.answer e.failures e.refusals e.tells e.catalog)

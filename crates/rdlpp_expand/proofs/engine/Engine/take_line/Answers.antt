@@ -5,7 +5,7 @@ use Rattle.rdlpp_meaning.specs.declared.fault.FaultKind.TheVariants as fault
 use Rattle.rdlpp_read.specs.Arguments.{LineGiven}
 use Rattle.rdlpp_read.specs.Buffer.{held_of}
 use Rattle.rdlpp_read.specs.Files.{inner_buffer}
-use Rattle.rdlpp_front.proofs.LineGiven.{word_held}
+use Rattle.rdlpp_front.proofs.DefineLeft.{word_held}
 use Rattle.rdlpp_steps.specs.Lines.{inner_blanks}
 use Rattle.rdlpp_steps.proofs.EngineSteps.{not_called}
 use Rattle.rdlpp_steps.proofs.FrontSteps.{read_nothing, refuses}

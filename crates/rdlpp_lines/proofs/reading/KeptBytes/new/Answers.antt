@@ -1,4 +1,4 @@
-use Rattle.rdlpp_lines.proofs.Advancing.{left_new}
+use Rattle.rdlpp_lines.proofs.Measures.{left_new}
 use Rattle.rdlpp_lines.proofs.reading.KeptBytes.new.Goals as goal
 
 pub returns-clause-left : goal.returns-clause-left

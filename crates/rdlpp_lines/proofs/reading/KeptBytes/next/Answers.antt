@@ -1,7 +1,7 @@
 use Rattle.std.proofs.Common.{◌∙◌, sym, ap, arith}
 use Rattle.rdlpp_lines.specs.Texts.{IsNext}
 use Rattle.rdlpp_lines.specs.Reading.{left, IsAdvanced}
-use Rattle.rdlpp_lines.proofs.Advancing.{kept_next, kept_none, more, last, last_left, last_behind, stop_next}
+use Rattle.rdlpp_lines.proofs.Measures.{kept_next, kept_none, more, last, last_left, last_behind, stop_next}
 use Rattle.rdlpp_lines.proofs.reading.KeptBytes.next.Goals as goal
 
 pub returns-in-Some-clause-next : goal.returns-in-Some-clause-next

@@ -1,6 +1,6 @@
 use Rattle.std.proofs.Common.{ap, arith, length}
 use Rattle.rdlpp_table.specs.Table.{Formal}
-use Rattle.rdlpp_table.proofs.Listing.{count_read}
+use Rattle.rdlpp_table.proofs.RoundTrip.{count_read}
 use Rattle.rdlpp_table.proofs.table.Table.default_text.Goals as goal
 
 pub default_of-requires-clause-place : goal.default_of-requires-clause-place

@@ -1,5 +1,5 @@
 use Rattle.std.proofs.Common.{◌∙◌, arith, sym}
-use Rattle.rdlpp_table.proofs.Laid.{named_at}
+use Rattle.rdlpp_table.proofs.Sizes.{named_at}
 use Rattle.rdlpp_table.proofs.Places.{place_compared}
 use Rattle.rdlpp_table.proofs.table.Table.find_near.Goals as goal
 

@@ -2,9 +2,9 @@ use Rattle.std.proofs.Common.{◌≡◌, ◌<◌, ◌∙◌, ℕ, List, ap, drop
 use Rattle.rdlpp_table.specs.Marks.{table_marks}
 use Rattle.rdlpp_table.specs.Store.{formals_read, macros_in, IsStored}
 use Rattle.rdlpp_table.proofs.Keyed.{index_front}
-use Rattle.rdlpp_table.proofs.Laid.{entry_within, len_of_view}
-use Rattle.rdlpp_table.proofs.Listing.{entry_listed, listed_as, read_here}
-use Rattle.rdlpp_table.proofs.Stopped.{formals_here}
+use Rattle.rdlpp_table.proofs.Sizes.{entry_within, len_of_view}
+use Rattle.rdlpp_table.proofs.RoundTrip.{entry_listed, listed_as, read_here}
+use Rattle.rdlpp_table.proofs.FirstStops.{formals_here}
 use Rattle.rdlpp_table.proofs.table.Table.formals.Goals as goal
 
 pub split_at-requires : goal.split_at-requires

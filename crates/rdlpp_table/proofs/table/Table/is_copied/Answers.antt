@@ -1,8 +1,7 @@
 use Rattle.std.proofs.Common.{◌<◌, length, arith}
 use Rattle.rdlpp_table.specs.View.{macro_at}
-use Rattle.rdlpp_table.proofs.Sizes.{count_items}
-use Rattle.rdlpp_table.proofs.Laid.{len_of_view, stops_at}
-use Rattle.rdlpp_table.proofs.Stopped.{copied_of}
+use Rattle.rdlpp_table.proofs.Sizes.{count_items, len_of_view, stops_at}
+use Rattle.rdlpp_table.proofs.FirstStops.{copied_of}
 use Rattle.rdlpp_table.proofs.table.Table.is_copied.Goals as goal
 
 pub index-requires : goal.index-requires

@@ -1,6 +1,5 @@
 use Rattle.std.proofs.Common.{sym, ◌∙◌}
-use Rattle.rdlpp_table.proofs.Sizes.{count_items}
-use Rattle.rdlpp_table.proofs.Laid.{len_of_view}
+use Rattle.rdlpp_table.proofs.Sizes.{count_items, len_of_view}
 use Rattle.rdlpp_table.proofs.table.Table.len.Goals as goal
 
 pub returns-clause-value : goal.returns-clause-value

@@ -1,6 +1,5 @@
 use Rattle.std.proofs.Common.{◌<◌, length, arith}
-use Rattle.rdlpp_table.proofs.Sizes.{count_items}
-use Rattle.rdlpp_table.proofs.Laid.{len_of_view, entry_within, name_at}
+use Rattle.rdlpp_table.proofs.Sizes.{count_items, len_of_view, entry_within, name_at}
 use Rattle.rdlpp_table.proofs.table.Table.name.Goals as goal
 
 pub index-requires : goal.index-requires

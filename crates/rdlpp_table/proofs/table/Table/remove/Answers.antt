@@ -3,7 +3,7 @@ use Rattle.rdlpp_table.specs.Table.{macro_named, without}
 use Rattle.rdlpp_table.specs.View.{TableView}
 use Rattle.rdlpp_table.specs.Layout.{view_of}
 use Rattle.rdlpp_table.proofs.Sizes.{count_items}
-use Rattle.rdlpp_table.proofs.Held.{table_of, held_of, view_after, sound_without}
+use Rattle.rdlpp_table.proofs.RoundTrip.{table_of, held_of, view_after, sound_without}
 use Rattle.rdlpp_table.proofs.Keyed.{few_entries, indexed_after, marked_after}
 use Rattle.rdlpp_table.proofs.table.Table.remove.Goals as goal
 

@@ -1,6 +1,6 @@
 use Rattle.std.proofs.Common.{◌∙◌, ℕ, Some, ap, arith, length, sym}
 use Rattle.std.proofs.lemmas.List.{length-take-le}
-use Rattle.rdlpp_table.proofs.Laid.{named_at, stored_slices_within}
+use Rattle.rdlpp_table.proofs.Sizes.{named_at, stored_slices_within}
 use Rattle.rdlpp_table.proofs.Keyed.{few_entries, index_front, viewed_place}
 use Rattle.rdlpp_table.proofs.table.Table.search.Goals as goal
 

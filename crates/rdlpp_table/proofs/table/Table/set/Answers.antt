@@ -1,8 +1,6 @@
 use Rattle.std.proofs.Common.{◌∙◌, sym}
 use Rattle.rdlpp_table.specs.New.{list_formals}
-use Rattle.rdlpp_table.proofs.News.{no_list_is}
-use Rattle.rdlpp_table.proofs.Bodied.{set_nameless, set_refuses, set_stores}
-use Rattle.rdlpp_table.proofs.SoundFormals.{no_formals_sound}
+use Rattle.rdlpp_table.proofs.News.{no_list_is, set_nameless, set_refuses, set_stores, no_formals_sound}
 use Rattle.rdlpp_table.proofs.table.Table.set.Goals as goal
 
 pub returns-then-not-is_name-clause-outcome : goal.returns-then-not-is_name-clause-outcome

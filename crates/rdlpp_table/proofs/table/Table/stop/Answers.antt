@@ -1,9 +1,8 @@
 use Rattle.std.proofs.Common.{◌≡◌, ◌<◌, ap, length, sym, arith}
 use Rattle.rdlpp_table.specs.Stops.{stop_in}
 use Rattle.rdlpp_table.specs.View.{macro_at}
-use Rattle.rdlpp_table.proofs.Sizes.{count_items}
-use Rattle.rdlpp_table.proofs.Laid.{entry_within, len_of_view, stops_at}
-use Rattle.rdlpp_table.proofs.Stopped.{body_here}
+use Rattle.rdlpp_table.proofs.Sizes.{count_items, entry_within, len_of_view, stops_at}
+use Rattle.rdlpp_table.proofs.FirstStops.{body_here}
 use Rattle.rdlpp_table.proofs.table.Table.stop.Goals as goal
 
 pub index-entry-requires : goal.index-entry-requires

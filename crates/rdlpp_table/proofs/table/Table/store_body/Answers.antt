@@ -1,7 +1,6 @@
 use Rattle.std.proofs.Common.{◌∙◌, sym}
 use Rattle.rdlpp_lines.specs.Texts.{start_level}
-use Rattle.rdlpp_table.proofs.Bodied.{body_stores, body_refuses}
-use Rattle.rdlpp_table.proofs.SoundFormals.{new_sound}
+use Rattle.rdlpp_table.proofs.News.{body_stores, body_refuses, new_sound}
 use Rattle.rdlpp_table.proofs.table.Table.store_body.Goals as goal
 
 pub store-requires-clause-sound : goal.store-requires-clause-sound

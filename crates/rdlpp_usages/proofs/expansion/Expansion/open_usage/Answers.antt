@@ -32,7 +32,7 @@ pub returns-clause-uses : goal.returns-clause-uses
 returns-clause-uses g c =
     let inside = usage_inside _ _ c.requires.held c.requires.usage in
     uses_more _ _ c.open_call.result c.args.files.now.nest c.consume.new.self.nest c.open_call.new.files.nest
-    (rw c.consume.ensures.used (uses_name (g.S.Sources.tells c.args.sources.now) g.S.Sources.unread c.open_call.result c.args.files.now.nest c.args.len c.requires.some inside.0 inside.1)) c.open_call.ensures.uses
+    (rw c.consume.ensures.used (uses_name (g.S.Sources.tells c.args.sources.now) g.S.Sources.unread Opened c.args.files.now.nest c.args.len c.requires.some inside.0 inside.1)) c.open_call.ensures.uses
 
 pub returns-clause-means : goal.returns-clause-means
 returns-clause-means g c =

@@ -1,0 +1,630 @@
+-- The first stop of a text and of a range of it, and the first stops that an entry keeps.
+use Rattle.std.proofs.Common.{◌≡◌, ℕ, zero, suc, ◌+◌, ◌-◌, ◌<◌, ◌≤◌, Bool, true, false, cond, List, [], ◌∷◌, ⊎_elim, length, take, drop, Option, Some, None, refl, ap, sym, ◌∙◌, arith, ◌++◌, inl, slice_range, subst, if◌then◌else◌, ◌&&◌, leb, eqb, ltb, IfSome, get_or}
+use Rattle.std.specs.List.{prefix_len}
+use Rattle.std.proofs.lemmas.Bool.{cases_Bool, false≢true, cond-false, cond-true, and_parts, eqb-true, leb-true, ltb-false, or_cases}
+use Rattle.std.proofs.lemmas.List.{length-drop, nil_from_length, take_all, drop-drop, drop-take, length-take, take-append-drop}
+use Rattle.rdlpp_scan.specs.Bytes.{is_blank, is_quiet}
+use Rattle.rdlpp_scan.specs.declared.token.Kind.{Kind}
+use Rattle.rdlpp_scan.specs.declared.token.Kind.TheVariants.{Name, Word, Back, Blank, LineEnd, Str, LineComment, BlockComment, Opener, Closer, Comma, Other, Perl, BareBackquote}
+use Rattle.rdlpp_scan.specs.declared.token.Mode.{Mode}
+use Rattle.rdlpp_scan.specs.declared.token.Mode.TheVariants.{Plain, InStr, InBlock}
+use Rattle.rdlpp_scan.specs.declared.token.Token.{Token}
+use Rattle.rdlpp_scan.specs.Tokens.{token_of, tokens_from, whole}
+use Rattle.rdlpp_scan.proofs.CleanTexts.{blank-step}
+use Rattle.rdlpp_scan.proofs.QuietTokens.{is_still, quiet_first, IsQuietToken}
+use Rattle.rdlpp_scan.proofs.TokenLens.{tokens_from-step, token_of-part}
+use Rattle.rdlpp_table.specs.declared.stop.Stop.{Stop}
+use Rattle.rdlpp_table.specs.Table.{Formal, Macro}
+use Rattle.rdlpp_table.specs.Stops.{first_stop, is_none, or_stop, quiet_len, stop_at, stop_name, stop_of, is_copied, stop_in}
+use Rattle.rdlpp_table.specs.View.{formal_named, TableView, formals_of, macro_at}
+use Rattle.rdlpp_scan.specs.Ordinary.{is_plain_kind}
+use Rattle.rdlpp_scan.proofs.FirstTokens.{plain_token-run, IsRun}
+use Rattle.rdlpp_scan.proofs.RangeLaws.{token_of-front, EndsIn}
+use Rattle.rdlpp_scan.proofs.StopKinds.{Row, AtPerl, AtLineComment, AtBlockComment, AtString, AtBack, AtBare, AtPlain, token_of-row}
+use Rattle.rdlpp_table.specs.Kept.{stop_end, endless, first_stops, is_behind_quiet, is_kept_none, is_known, kept_from, kept_of, placed, quiet_kept, stop_by, stop_kept}
+use Rattle.rdlpp_table.specs.declared.kept.FirstStops.{FirstStops}
+use Rattle.rdlpp_table.specs.declared.kept.Kept.{Kept}
+use Rattle.rdlpp_table.specs.declared.kept.KeptKind.{KeptKind}
+use Rattle.rdlpp_table.specs.declared.entry.Entry.{Entry}
+use Rattle.rdlpp_table.specs.Store.{body_of, macro_in}
+use Rattle.rdlpp_table.specs.Layout.{view_of}
+use Rattle.rdlpp_table.proofs.Sizes.{macro_at_entry}
+use Rattle.rdlpp_table.specs.declared.stop.Stop.TheVariants as stop
+use Rattle.rdlpp_table.specs.declared.kept.KeptKind.TheVariants as kept
+
+-- The first stop of a text, token by token.
+
+-- the first stop of a text is that of what is left of it
+pub record IsStopping (formals : List Formal) (from : ℕ) (text : List ℕ) (mode : Mode) (at : ℕ) (rest : List ℕ) : Type 0 where
+  pub same : first_stop formals at (tokens_from mode 0 rest) rest ≡ stop_of formals from text
+  pub place : at + length rest ≡ from + length text
+
+-- behind what is no stop comes the other one
+pub or_none : (s other : Stop) → is_none s ≡ true → or_stop s other ≡ other
+unfolding is_none or_stop
+or_none stop.None other h = refl
+or_none (stop.Formal at len place) other h = absurd (cc)
+or_none (stop.Usage at len) other h = absurd (cc)
+or_none (stop.Bare at) other h = absurd (cc)
+
+-- and a stop is itself
+pub or_some : (s other : Stop) → is_none s ≡ false → or_stop s other ≡ s
+unfolding is_none or_stop
+or_some stop.None other h = absurd (cc)
+or_some (stop.Formal at len place) other h = refl
+or_some (stop.Usage at len) other h = refl
+or_some (stop.Bare at) other h = refl
+
+pub one_token : (formals : List Formal) (at : ℕ) (mode : Mode) (rest : List ℕ) → 0 < length rest → 0 < (token_of mode rest).len → first_stop formals at (tokens_from mode 0 rest) rest ≡ or_stop (stop_at formals at (token_of mode rest) (take (token_of mode rest).len rest)) (first_stop formals (at + (token_of mode rest).len) (tokens_from (token_of mode rest).next_mode 0 (drop (token_of mode rest).len rest)) (drop (token_of mode rest).len rest))
+unfolding first_stop
+one_token formals at mode rest h l = ap (λ (ts : List Token). first_stop formals at ts rest) (tokens_from-step mode rest h l)
+
+-- the same by a token that was read
+token_first : (formals : List Formal) (at : ℕ) (mode : Mode) (rest : List ℕ) (t : Token) → 0 < length rest → t ≡ token_of mode rest → 0 < t.len → first_stop formals at (tokens_from mode 0 rest) rest ≡ or_stop (stop_at formals at t (take t.len rest)) (first_stop formals (at + t.len) (tokens_from t.next_mode 0 (drop t.len rest)) (drop t.len rest))
+token_first formals at mode rest t h e l =
+    one_token formals at mode rest h (omega (arith, ap (λ (u : Token). u.len) e))
+    ∙ ap (λ (u : Token). or_stop (stop_at formals at u (take u.len rest)) (first_stop formals (at + u.len) (tokens_from u.next_mode 0 (drop u.len rest)) (drop u.len rest))) (sym e)
+
+pub stopping_start : (formals : List Formal) (from : ℕ) (text : List ℕ) → IsStopping formals from text Plain from text
+unfolding stop_of
+stopping_start formals from text = record { same = refl; place = refl }
+
+pub stopping_more : (formals : List Formal) (from : ℕ) (text : List ℕ) (mode : Mode) (at : ℕ) (rest : List ℕ) (t : Token) (here after : List ℕ) (s : Stop) → IsStopping formals from text mode at rest → 0 < length rest → t ≡ token_of mode rest → 0 < t.len → t.len ≤ length rest → here ≡ take t.len rest → after ≡ drop t.len rest → s ≡ stop_at formals at t here → is_none s ≡ true → IsStopping formals from text t.next_mode (at + t.len) after
+stopping_more formals from text mode at rest t here after s i h e l le p q f n =
+    let here_is : stop_at formals at t (take t.len rest) ≡ s = ap (stop_at formals at t) (sym p) ∙ sym f in
+    let others : Stop = first_stop formals (at + t.len) (tokens_from t.next_mode 0 (drop t.len rest)) (drop t.len rest) in
+    record {
+      same = ap (λ (r : List ℕ). first_stop formals (at + t.len) (tokens_from t.next_mode 0 r) r) q ∙ (sym (token_first formals at mode rest t h e l ∙ (ap (λ (x : Stop). or_stop x others) here_is ∙ or_none s others n)) ∙ i.same);
+      place = omega (arith, ap length q, length-drop t.len rest, i.place);
+    }
+
+pub stopping_found : (formals : List Formal) (from : ℕ) (text : List ℕ) (mode : Mode) (at : ℕ) (rest : List ℕ) (t : Token) (here : List ℕ) (s : Stop) → IsStopping formals from text mode at rest → 0 < length rest → t ≡ token_of mode rest → 0 < t.len → here ≡ take t.len rest → s ≡ stop_at formals at t here → is_none s ≡ false → s ≡ stop_of formals from text
+stopping_found formals from text mode at rest t here s i h e l p f n =
+    let here_is : stop_at formals at t (take t.len rest) ≡ s = ap (stop_at formals at t) (sym p) ∙ sym f in
+    let others : Stop = first_stop formals (at + t.len) (tokens_from t.next_mode 0 (drop t.len rest)) (drop t.len rest) in
+    sym (token_first formals at mode rest t h e l ∙ (ap (λ (x : Stop). or_stop x others) here_is ∙ or_some s others n)) ∙ i.same
+
+pub stopping_ended : (formals : List Formal) (from : ℕ) (text : List ℕ) (mode : Mode) (at : ℕ) (rest : List ℕ) → IsStopping formals from text mode at rest → length rest ≡ 0 → stop.None ≡ stop_of formals from text
+unfolding first_stop tokens_from
+stopping_ended formals from text mode at rest i h =
+    sym (ap (λ (r : List ℕ). first_stop formals at (tokens_from mode 0 r) r) (nil_from_length rest h)) ∙ i.same
+
+pub name_stop : (formals : List Formal) (at : ℕ) (t : Token) (bytes : List ℕ) (o : Option ℕ) → t.kind ≡ Name → o ≡ formal_named formals bytes → stop_name at t.len o ≡ stop_at formals at t bytes
+unfolding stop_at
+name_stop formals at t bytes o e f =
+    ap (stop_name at t.len) f
+    ∙ sym (ap (λ (k : Kind). let u : Token = record { kind = k; len = t.len; next_mode = t.next_mode } in stop_at formals at u bytes) e)
+
+pub some_stop : (at len place : ℕ) → stop_name at len (Some place) ≡ stop.Formal at len place
+unfolding stop_name
+some_stop at len place = refl
+
+pub none_stop : (at len : ℕ) → stop_name at len None ≡ stop.None
+unfolding stop_name
+none_stop at len = refl
+
+-- a kind that isn't a stop, whatever its bytes
+still_passed : (formals : List Formal) (at len : ℕ) (k : Kind) (mode : Mode) (bytes : List ℕ) → is_still k ≡ true → is_none (stop_at formals at (record { kind = k; next_mode = mode; len = len }) bytes) ≡ true
+unfolding is_still stop_at is_none
+still_passed formals at len Name mode bytes h = absurd (false≢true h)
+still_passed formals at len Back mode bytes h = absurd (false≢true h)
+still_passed formals at len BareBackquote mode bytes h = absurd (false≢true h)
+still_passed formals at len Word mode bytes h = refl
+still_passed formals at len Blank mode bytes h = refl
+still_passed formals at len LineEnd mode bytes h = refl
+still_passed formals at len Str mode bytes h = refl
+still_passed formals at len LineComment mode bytes h = refl
+still_passed formals at len BlockComment mode bytes h = refl
+still_passed formals at len Opener mode bytes h = refl
+still_passed formals at len Closer mode bytes h = refl
+still_passed formals at len Comma mode bytes h = refl
+still_passed formals at len Other mode bytes h = refl
+still_passed formals at len Perl mode bytes h = refl
+
+prefix_more : (p : ℕ → Bool) (b : ℕ) (bs : List ℕ) → p b ≡ true → prefix_len p (b ∷ bs) ≡ suc (prefix_len p bs)
+prefix_more p b bs h = ap (λ (t : Bool). cond t (1 + prefix_len p bs) 0) h ∙ omega arith
+
+prefix_none : (p : ℕ → Bool) (b : ℕ) (bs : List ℕ) → p b ≡ false → prefix_len p (b ∷ bs) ≡ 0
+prefix_none p b bs h = ap (λ (t : Bool). cond t (1 + prefix_len p bs) 0) h
+
+-- a token of blanks is passed
+blank_token : (formals : List Formal) (at b : ℕ) (bs : List ℕ) → is_blank b ≡ true
+    → first_stop formals at (tokens_from Plain 0 (b ∷ bs)) (b ∷ bs) ≡ first_stop formals (at + prefix_len is_blank (b ∷ bs)) (tokens_from Plain 0 (drop (prefix_len is_blank (b ∷ bs)) (b ∷ bs))) (drop (prefix_len is_blank (b ∷ bs)) (b ∷ bs))
+unfolding first_stop stop_at or_stop whole
+blank_token formals at b bs h = ap (λ (ts : List Token). first_stop formals at ts (b ∷ bs)) (blank-step b bs h)
+
+-- a quiet byte that isn't a blank is passed
+quiet_mark : (formals : List Formal) (at b : ℕ) (bs : List ℕ) → IsQuietToken (token_of Plain (b ∷ bs))
+    → first_stop formals at (tokens_from Plain 0 (b ∷ bs)) (b ∷ bs) ≡ first_stop formals (at + 1) (tokens_from Plain 0 bs) bs
+unfolding is_still
+quiet_mark formals at b bs q =
+    let t = token_of Plain (b ∷ bs) in
+    let some : 0 < length (b ∷ bs) = omega arith in
+    let none : is_none (stop_at formals at t (take t.len (b ∷ bs))) ≡ true = still_passed formals at t.len t.kind t.next_mode (take t.len (b ∷ bs)) q.still in
+    let rest : Token → Stop = λ u. first_stop formals (at + u.len) (tokens_from u.next_mode 0 (drop u.len (b ∷ bs))) (drop u.len (b ∷ bs)) in
+    one_token formals at Plain (b ∷ bs) some (omega (arith, q.len))
+    ∙ (or_none _ (rest t) none
+    ∙ (ap (λ (n : ℕ). first_stop formals (at + n) (tokens_from t.next_mode 0 (drop n (b ∷ bs))) (drop n (b ∷ bs))) q.len
+    ∙ ap (λ (m : Mode). first_stop formals (at + 1) (tokens_from m 0 bs) bs) q.next))
+
+-- a run of blanks is passed
+blank_run : (formals : List Formal) (at : ℕ) (bs : List ℕ)
+    → first_stop formals at (tokens_from Plain 0 bs) bs ≡ first_stop formals (at + prefix_len is_blank bs) (tokens_from Plain 0 (drop (prefix_len is_blank bs) bs)) (drop (prefix_len is_blank bs) bs)
+blank_run formals at [] = ap (λ (n : ℕ). first_stop formals n (tokens_from Plain 0 []) []) (omega arith)
+blank_run formals at (b ∷ bs) =
+    let F : ℕ → Stop = λ n. first_stop formals (at + n) (tokens_from Plain 0 (drop n (b ∷ bs))) (drop n (b ∷ bs)) in
+    let here : first_stop formals at (tokens_from Plain 0 (b ∷ bs)) (b ∷ bs) ≡ F 0 = ap (λ (n : ℕ). first_stop formals n (tokens_from Plain 0 (b ∷ bs)) (b ∷ bs)) (omega arith) in
+    ⊎_elim
+    (λ h. blank_token formals at b bs h)
+    (λ h. here ∙ ap F (sym (prefix_none is_blank b bs h)))
+    (cases_Bool (is_blank b))
+
+-- a quiet byte is passed
+quiet_one : (formals : List Formal) (at b : ℕ) (bs : List ℕ) → is_quiet b ≡ true
+    → first_stop formals at (tokens_from Plain 0 (b ∷ bs)) (b ∷ bs) ≡ first_stop formals (at + 1) (tokens_from Plain 0 bs) bs
+quiet_one formals at b bs q =
+    let k = prefix_len is_blank bs in
+    ⊎_elim
+    (λ h. blank_token formals at b bs h
+    ∙ (ap (λ (n : ℕ). first_stop formals (at + n) (tokens_from Plain 0 (drop n (b ∷ bs))) (drop n (b ∷ bs))) (prefix_more is_blank b bs h)
+    ∙ (ap (λ (n : ℕ). first_stop formals n (tokens_from Plain 0 (drop k bs)) (drop k bs)) (omega arith)
+    ∙ sym (blank_run formals (at + 1) bs))))
+    (λ h. quiet_mark formals at b bs (quiet_first b bs q h))
+    (cases_Bool (is_blank b))
+
+-- quiet bytes are passed
+quiet_run : (formals : List Formal) (at : ℕ) (bs : List ℕ)
+    → first_stop formals (at + prefix_len is_quiet bs) (tokens_from Plain 0 (drop (prefix_len is_quiet bs) bs)) (drop (prefix_len is_quiet bs) bs) ≡ first_stop formals at (tokens_from Plain 0 bs) bs
+quiet_run formals at [] = ap (λ (n : ℕ). first_stop formals n (tokens_from Plain 0 []) []) (omega arith)
+quiet_run formals at (b ∷ bs) =
+    let F : ℕ → Stop = λ n. first_stop formals (at + n) (tokens_from Plain 0 (drop n (b ∷ bs))) (drop n (b ∷ bs)) in
+    let k = prefix_len is_quiet bs in
+    ⊎_elim
+    (λ h. ap F (prefix_more is_quiet b bs h)
+    ∙ (ap (λ (n : ℕ). first_stop formals n (tokens_from Plain 0 (drop k bs)) (drop k bs)) (omega arith)
+    ∙ (quiet_run formals (at + 1) bs ∙ sym (quiet_one formals at b bs h))))
+    (λ h. ap F (prefix_none is_quiet b bs h) ∙ ap (λ (n : ℕ). first_stop formals n (tokens_from Plain 0 (b ∷ bs)) (b ∷ bs)) (omega arith))
+    (cases_Bool (is_quiet b))
+
+quiet_passed : (formals : List Formal) (mode : Mode) (at : ℕ) (bs : List ℕ)
+    → first_stop formals (at + quiet_len mode bs) (tokens_from mode 0 (drop (quiet_len mode bs) bs)) (drop (quiet_len mode bs) bs) ≡ first_stop formals at (tokens_from mode 0 bs) bs
+unfolding quiet_len
+quiet_passed formals Plain at bs = quiet_run formals at bs
+quiet_passed formals InStr at bs = ap (λ (n : ℕ). first_stop formals n (tokens_from InStr 0 bs) bs) (omega arith)
+quiet_passed formals InBlock at bs = ap (λ (n : ℕ). first_stop formals n (tokens_from InBlock 0 bs) bs) (omega arith)
+
+-- as are some of them
+pub quiet_some : (formals : List Formal) (at n : ℕ) (bs : List ℕ) → n ≤ prefix_len is_quiet bs
+    → first_stop formals (at + n) (tokens_from Plain 0 (drop n bs)) (drop n bs) ≡ first_stop formals at (tokens_from Plain 0 bs) bs
+quiet_some formals at zero bs h = ap (λ (m : ℕ). first_stop formals m (tokens_from Plain 0 bs) bs) (omega arith)
+quiet_some formals at (suc n) [] h = absurd (omega arith)
+quiet_some formals at (suc n) (b ∷ bs) h =
+    ⊎_elim
+    (λ q. ap (λ (m : ℕ). first_stop formals m (tokens_from Plain 0 (drop n bs)) (drop n bs)) (omega arith)
+    ∙ (quiet_some formals (at + 1) n bs (omega (arith, prefix_more is_quiet b bs q)) ∙ sym (quiet_one formals at b bs q)))
+    (λ q. absurd (omega (arith, prefix_none is_quiet b bs q)))
+    (cases_Bool (is_quiet b))
+
+-- what stands behind a place, as a range up to the end
+pub behind_place : (n : ℕ) (xs : List ℕ) → take (length xs - n) (drop n xs) ≡ drop n xs
+behind_place n xs = take_all (length xs - n) (drop n xs) (omega (arith, length-drop n xs))
+
+pub stopping_quiet : (formals : List Formal) (from : ℕ) (text : List ℕ) (mode : Mode) (at : ℕ) (rest after : List ℕ) (n : ℕ) → IsStopping formals from text mode at rest → n ≡ quiet_len mode rest → n ≤ length rest → after ≡ drop n rest → IsStopping formals from text mode (at + n) after
+stopping_quiet formals from text mode at rest after n i is inside e =
+    let F : ℕ → Stop = λ m. first_stop formals (at + m) (tokens_from mode 0 (drop m rest)) (drop m rest) in
+    record {
+      same = ap (λ (r : List ℕ). first_stop formals (at + n) (tokens_from mode 0 r) r) e ∙ (ap F is ∙ (quiet_passed formals mode at rest ∙ i.same));
+      place = omega (arith, ap length e, length-drop n rest, i.place, inside);
+    }
+
+-- The first stop of a range of a text, beside that of the text from a place on.
+
+-- where a stop begins, and 0 where there is none
+unfoldable pub begins : Stop → ℕ
+begins stop.None = 0
+begins (stop.Formal at len place) = at
+begins (stop.Usage at len) = at
+begins (stop.Bare at) = at
+
+-- a stop ends no nearer than it begins
+begins_end : (s : Stop) → is_none s ≡ false → begins s ≤ stop_end s
+unfolding begins stop_end
+begins_end stop.None h = omega arith
+begins_end (stop.Formal at len place) h = omega arith
+begins_end (stop.Usage at len) h = omega arith
+begins_end (stop.Bare at) h = omega arith
+
+-- a stop that is none, or begins no nearer than at a place
+IsFrom : ℕ → Stop → Type 0
+IsFrom at s = is_none s ≡ false → at ≤ begins s
+
+name_from : (at len : ℕ) (o : Option ℕ) → IsFrom at (stop_name at len o)
+unfolding stop_name begins is_none IsFrom
+name_from at len (Some place) h = omega arith
+name_from at len None h = absurd (cc)
+
+kind_from : (formals : List Formal) (at len : ℕ) (k : Kind) (mode : Mode) (bytes : List ℕ) → IsFrom at (stop_at formals at (record { kind = k; next_mode = mode; len = len }) bytes)
+unfolding stop_at begins is_none IsFrom
+kind_from formals at len Name mode bytes h = name_from at len (formal_named formals bytes) h
+kind_from formals at len Back mode bytes h = omega arith
+kind_from formals at len BareBackquote mode bytes h = omega arith
+kind_from formals at len Word mode bytes h = absurd (cc)
+kind_from formals at len Blank mode bytes h = absurd (cc)
+kind_from formals at len LineEnd mode bytes h = absurd (cc)
+kind_from formals at len Str mode bytes h = absurd (cc)
+kind_from formals at len LineComment mode bytes h = absurd (cc)
+kind_from formals at len BlockComment mode bytes h = absurd (cc)
+kind_from formals at len Opener mode bytes h = absurd (cc)
+kind_from formals at len Closer mode bytes h = absurd (cc)
+kind_from formals at len Comma mode bytes h = absurd (cc)
+kind_from formals at len Other mode bytes h = absurd (cc)
+kind_from formals at len Perl mode bytes h = absurd (cc)
+
+or_from : (at : ℕ) (s other : Stop) → IsFrom at s → IsFrom at other → IsFrom at (or_stop s other)
+unfolding or_stop
+or_from at stop.None other a b = b
+or_from at (stop.Formal x len place) other a b = a
+or_from at (stop.Usage x len) other a b = a
+or_from at (stop.Bare x) other a b = a
+
+-- the first stop of a text stands in it
+tokens_within : (formals : List Formal) (at : ℕ) (ts : List Token) (text : List ℕ) → IsFrom at (first_stop formals at ts text)
+unfolding first_stop is_none IsFrom
+tokens_within formals at [] text h = absurd (cc)
+tokens_within formals at (t ∷ ts) text h =
+    or_from at (stop_at formals at t (take t.len text)) _ (kind_from formals at t.len t.kind t.next_mode (take t.len text)) (λ g. omega (arith, tokens_within formals (at + t.len) ts (drop t.len text) g)) h
+
+-- a token that is a stop is closed, and ends where the stop does
+record IsStopToken (t : Token) (at : ℕ) (s : Stop) : Type 0 where
+  closed : t.next_mode ≡ Plain
+  end : stop_end s ≡ at + t.len
+
+name_token : (at len : ℕ) (o : Option ℕ) → is_none (stop_name at len o) ≡ false → stop_end (stop_name at len o) ≡ at + len
+unfolding stop_name is_none stop_end
+name_token at len (Some place) h = refl
+name_token at len None h = absurd (cc)
+
+-- how long a lone backquote is, by the row of the token table
+bare_row : (bs : List ℕ) (t : Token) → Row bs t → t.kind ≡ BareBackquote → (t.len ≡ 1) × (t.next_mode ≡ Plain)
+unfolding whole is_plain_kind
+bare_row bs t (AtPerl h e) is = absurd (let k : Perl ≡ BareBackquote = sym (ap (λ (u : Token). u.kind) e) ∙ is in cc)
+bare_row bs t (AtLineComment h e) is = absurd (let k : LineComment ≡ BareBackquote = sym e ∙ is in cc)
+bare_row bs t (AtBlockComment h e) is = absurd (let k : BlockComment ≡ BareBackquote = sym e ∙ is in cc)
+bare_row bs t (AtString h e) is = absurd (let k : Str ≡ BareBackquote = sym e ∙ is in cc)
+bare_row bs t (AtBack h e) is = absurd (let k : Back ≡ BareBackquote = sym (ap (λ (u : Token). u.kind) e) ∙ is in cc)
+bare_row bs t (AtBare h g e) is = (ap (λ (u : Token). u.len) e, ap (λ (u : Token). u.next_mode) e)
+bare_row bs t (AtPlain h q) is = absurd (false≢true (sym (ap is_plain_kind is) ∙ h))
+
+-- behind a usage stands plain text
+back_row : (bs : List ℕ) (t : Token) → Row bs t → t.kind ≡ Back → t.next_mode ≡ Plain
+unfolding whole is_plain_kind
+back_row bs t (AtPerl h e) is = absurd (let k : Perl ≡ Back = sym (ap (λ (u : Token). u.kind) e) ∙ is in cc)
+back_row bs t (AtLineComment h e) is = absurd (let k : LineComment ≡ Back = sym e ∙ is in cc)
+back_row bs t (AtBlockComment h e) is = absurd (let k : BlockComment ≡ Back = sym e ∙ is in cc)
+back_row bs t (AtString h e) is = absurd (let k : Str ≡ Back = sym e ∙ is in cc)
+back_row bs t (AtBack h e) is = ap (λ (u : Token). u.next_mode) e
+back_row bs t (AtBare h g e) is = absurd (let k : BareBackquote ≡ Back = sym (ap (λ (u : Token). u.kind) e) ∙ is in cc)
+back_row bs t (AtPlain h q) is = absurd (false≢true (sym (ap is_plain_kind is) ∙ h))
+
+stop_kind : (formals : List Formal) (at len : ℕ) (k : Kind) (mode : Mode) (bs bytes : List ℕ) → (let t : Token = record { kind = k; next_mode = mode; len = len } in Row bs t × IsRun bs t → is_none (stop_at formals at t bytes) ≡ false → IsStopToken t at (stop_at formals at t bytes))
+unfolding stop_at is_none stop_end
+stop_kind formals at len Name mode bs bytes r h = record { closed = (r.1.name refl).1; end = name_token at len (formal_named formals bytes) h }
+stop_kind formals at len Back mode bs bytes r h = record { closed = back_row bs _ r.0 refl; end = refl }
+stop_kind formals at len BareBackquote mode bs bytes r h = let b = bare_row bs _ r.0 refl in record { closed = b.1; end = omega (arith, b.0) }
+stop_kind formals at len Word mode bs bytes r h = absurd (cc)
+stop_kind formals at len Blank mode bs bytes r h = absurd (cc)
+stop_kind formals at len LineEnd mode bs bytes r h = absurd (cc)
+stop_kind formals at len Str mode bs bytes r h = absurd (cc)
+stop_kind formals at len LineComment mode bs bytes r h = absurd (cc)
+stop_kind formals at len BlockComment mode bs bytes r h = absurd (cc)
+stop_kind formals at len Opener mode bs bytes r h = absurd (cc)
+stop_kind formals at len Closer mode bs bytes r h = absurd (cc)
+stop_kind formals at len Comma mode bs bytes r h = absurd (cc)
+stop_kind formals at len Other mode bs bytes r h = absurd (cc)
+stop_kind formals at len Perl mode bs bytes r h = absurd (cc)
+
+-- the first token of a text, where it is a stop
+stop_token : (formals : List Formal) (at : ℕ) (bs bytes : List ℕ) → (let t = token_of Plain bs in is_none (stop_at formals at t bytes) ≡ false → IsStopToken t at (stop_at formals at t bytes))
+stop_token formals at bs bytes h =
+    let t = token_of Plain bs in
+    stop_kind formals at t.len t.kind t.next_mode bs bytes (token_of-row bs, plain_token-run bs) h
+
+-- the first token of a text stays so where the text is cut behind it
+cut_token : (k : ℕ) (bs : List ℕ) → (let t = token_of Plain bs in 0 < t.len → t.len ≤ k → t.len ≤ length bs → t.next_mode ≡ Plain → token_of Plain (take k bs) ≡ t)
+cut_token k bs some le inside closed =
+    let xs = take k bs in
+    let e : xs ++ drop k bs ≡ bs = take-append-drop k bs in
+    let t = token_of Plain bs in
+    let room : t.len ≤ length xs = omega (arith, length-take k bs) in
+    let ends : EndsIn t xs = record { inside = room; last = inl closed } in
+    token_of-front Plain xs (drop k bs) (omega arith) (subst (λ (l : List ℕ). EndsIn (token_of Plain l) xs) (sym e) ends) ∙ ap (token_of Plain) e
+
+cut_more : (n k : ℕ) (bs : List ℕ) → n ≤ k → take n (take k bs) ≡ take n bs
+cut_more zero k bs h = refl
+cut_more (suc n) zero bs h = absurd (omega arith)
+cut_more (suc n) (suc k) [] h = refl
+cut_more (suc n) (suc k) (b ∷ bs) h = ap (λ (l : List ℕ). b ∷ l) (cut_more n k bs (omega arith))
+
+-- the stop at the front of a text is that of the text which is cut behind it
+front_first : (formals : List Formal) (at k : ℕ) (bs : List ℕ) → (let t = token_of Plain bs in 0 < length bs → is_none (stop_at formals at t (take t.len bs)) ≡ false → stop_end (stop_at formals at t (take t.len bs)) ≤ at + k → stop_of formals at (take k bs) ≡ stop_at formals at t (take t.len bs))
+unfolding stop_of
+front_first formals at k bs some h inside =
+    let t = token_of Plain bs in
+    let xs = take k bs in
+    let part = token_of-part Plain bs some in
+    let here : Stop = stop_at formals at t (take t.len bs) in
+    let is = stop_token formals at bs (take t.len bs) h in
+    let le : t.len ≤ k = omega (arith, is.end) in
+    let same : token_of Plain xs ≡ t = cut_token k bs part.not_empty le part.inside is.closed in
+    let long : 0 < length xs = omega (arith, length-take k bs, part.not_empty, part.inside) in
+    let front : stop_at formals at (token_of Plain xs) (take (token_of Plain xs).len xs) ≡ here = ap (λ (u : Token). stop_at formals at u (take u.len xs)) same ∙ ap (stop_at formals at t) (cut_more t.len k bs le) in
+    let u = token_of Plain xs in
+    let later : Stop = first_stop formals (at + u.len) (tokens_from u.next_mode 0 (drop u.len xs)) (drop u.len xs) in
+    one_token formals at Plain xs long (omega (arith, ap (λ (u : Token). u.len) same, part.not_empty))
+    ∙ (ap (λ (s : Stop). or_stop s later) front ∙ or_some here later h)
+
+cut_some : (formals : List Formal) (at k : ℕ) (bs : List ℕ) (s : Stop) → 0 < length bs → s ≡ stop_of formals at bs → is_none s ≡ false → begins s ≡ at → stop_end s ≤ at + k → stop_of formals at (take k bs) ≡ s
+unfolding stop_of IsFrom
+cut_some formals at k bs s some e h there inside =
+    let t = token_of Plain bs in
+    let part = token_of-part Plain bs some in
+    let here : Stop = stop_at formals at t (take t.len bs) in
+    let later : Stop = first_stop formals (at + t.len) (tokens_from t.next_mode 0 (drop t.len bs)) (drop t.len bs) in
+    let step : s ≡ or_stop here later = e ∙ one_token formals at Plain bs some part.not_empty in
+    ⊎_elim
+    (λ none. let is : s ≡ later = step ∙ or_none here later none in
+    let behind : at + t.len ≤ begins later = tokens_within formals (at + t.len) _ _ (sym (ap is_none is) ∙ h) in
+    absurd (omega (arith, ap begins is, part.not_empty)))
+    (λ found. let is : s ≡ here = step ∙ or_some here later found in
+    front_first formals at k bs some found (omega (arith, ap stop_end is)) ∙ sym is)
+    (cases_Bool (is_none here))
+
+-- a stop at the front of a text is the first one of each front of the text that has it
+cut_first : (formals : List Formal) (at k : ℕ) (bs : List ℕ) (s : Stop) → s ≡ stop_of formals at bs → is_none s ≡ false → begins s ≡ at → stop_end s ≤ at + k → stop_of formals at (take k bs) ≡ s
+unfolding stop_of first_stop tokens_from is_none
+cut_first formals at k [] s e h there inside = absurd (false≢true (sym h ∙ ap is_none e))
+cut_first formals at k (b ∷ bs) s e h there inside = cut_some formals at k (b ∷ bs) s (omega arith) e h there inside
+
+run_drop : (p : ℕ → Bool) (n m : ℕ) (xs : List ℕ) → n + m ≤ prefix_len p xs → m ≤ prefix_len p (drop n xs)
+run_drop p zero m xs h = omega arith
+run_drop p (suc n) m [] h = absurd (omega arith)
+run_drop p (suc n) m (x ∷ xs) h =
+    ⊎_elim
+    (λ q. run_drop p n m xs (omega (arith, cond-true (p x) (1 + prefix_len p xs) 0 q)))
+    (λ q. absurd (omega (arith, cond-false (p x) (1 + prefix_len p xs) 0 q)))
+    (cases_Bool (p x))
+
+run_take : (p : ℕ → Bool) (n k : ℕ) (xs : List ℕ) → n ≤ prefix_len p xs → n ≤ k → n ≤ prefix_len p (take k xs)
+run_take p zero k xs h g = omega arith
+run_take p (suc n) zero xs h g = absurd (omega arith)
+run_take p (suc n) (suc k) [] h g = absurd (omega arith)
+run_take p (suc n) (suc k) (x ∷ xs) h g =
+    ⊎_elim
+    (λ q. omega (arith, cond-true (p x) (1 + prefix_len p (take k xs)) 0 q, run_take p n k xs (omega (arith, cond-true (p x) (1 + prefix_len p xs) 0 q)) (omega arith)))
+    (λ q. absurd (omega (arith, cond-false (p x) (1 + prefix_len p xs) 0 q)))
+    (cases_Bool (p x))
+
+-- the first stop of a text from a place on is that from behind quiet bytes on
+quiet_behind : (formals : List Formal) (text : List ℕ) (start n : ℕ) → n ≤ prefix_len is_quiet (drop start text) → stop_of formals (start + n) (drop (start + n) text) ≡ stop_of formals start (drop start text)
+unfolding stop_of
+quiet_behind formals text start n h =
+    ap (λ (l : List ℕ). stop_of formals (start + n) l) (sym (drop-drop n start text)) ∙ quiet_some formals start n (drop start text) h
+
+pub whole_same : (formals : List Formal) (text : List ℕ) (start from to : ℕ) → to ≡ length text → start ≤ from → from - start ≤ prefix_len is_quiet (drop start text) → stop_of formals start (drop start text) ≡ stop_of formals from (slice_range text from to)
+whole_same formals text start from to e low h =
+    let there : start + (from - start) ≡ from = omega arith in
+    sym (quiet_behind formals text start (from - start) h)
+    ∙ (ap (λ (n : ℕ). stop_of formals n (drop n text)) there
+    ∙ ap (stop_of formals from) (sym (behind_place from text) ∙ ap (λ (n : ℕ). slice_range text from n) (sym e)))
+
+-- a stop behind quiet bytes alone is the first one of each range that begins among these and has it
+pub front_same : (formals : List Formal) (text : List ℕ) (start quiet from to : ℕ) (s : Stop) → s ≡ stop_of formals start (drop start text) → is_none s ≡ false → begins s ≡ start + quiet → stop_end s ≤ to → quiet ≤ prefix_len is_quiet (drop start text) → start ≤ from → from ≤ start + quiet → from ≤ to → to ≤ length text → s ≡ stop_of formals from (slice_range text from to)
+unfolding stop_of
+front_same formals text start quiet from to s e some there inside run low near order high =
+    let at = start + quiet in
+    let n = at - from in
+    let k = to - at in
+    let rest = drop from text in
+    let z = slice_range text from to in
+    let e1 : s ≡ stop_of formals at (drop at text) = e ∙ sym (quiet_behind formals text start quiet run) in
+    let left : from - start + n ≤ prefix_len is_quiet (drop start text) = omega arith in
+    let same_rest : drop (from - start) (drop start text) ≡ rest = drop-drop (from - start) start text ∙ ap (λ (m : ℕ). drop m text) (let q : start + (from - start) ≡ from = omega arith in q) in
+    let quiet_rest : n ≤ prefix_len is_quiet rest = subst (λ (l : List ℕ). n ≤ prefix_len is_quiet l) same_rest (run_drop is_quiet (from - start) n (drop start text) left) in
+    let le : at ≤ to = omega (arith, begins_end s some) in
+    let quiet_z : n ≤ prefix_len is_quiet z = run_take is_quiet n (to - from) rest quiet_rest (omega arith) in
+    let z_is : drop n z ≡ take k (drop at text) =
+    ap (λ (m : ℕ). drop n (take m rest)) (let q : to - from ≡ n + k = omega arith in q) ∙ (drop-take n k rest ∙ ap (take k) (drop-drop n from text ∙ ap (λ (m : ℕ). drop m text) (let q : from + n ≡ at = omega arith in q))) in
+    let room : stop_end s ≤ at + k = omega arith in
+    sym (cut_first formals at k (drop at text) s e1 some there room)
+    ∙ (ap (stop_of formals at) (sym z_is)
+    ∙ (ap (λ (m : ℕ). stop_of formals m (drop n z)) (let q : at ≡ from + n = omega arith in q) ∙ quiet_some formals from n z quiet_z))
+
+-- The first stops of a text, as they are kept.
+
+-- a stop as it is kept by its numbers, where these are small enough
+abbrev when : Bool → KeptKind → ℕ → ℕ → ℕ → ℕ → Kept
+when b kind at len place quiet = if b then record { end = at + len; len = len; place = place; quiet = quiet; kind = kind } else endless kept.Unknown 0
+
+back_when : (b : Bool) (kind : KeptKind) (at len place quiet : ℕ) (s : Stop) → stop_by kind at len place ≡ Some s → IfSome (stop_kept (when b kind at len place quiet)) (λ x. x ≡ s)
+unfolding stop_kept stop_by endless
+back_when true kind at len place quiet s e =
+    let there : at + len - len ≡ at = omega arith in
+    subst (λ (x : Option Stop). IfSome x (λ y. y ≡ s)) (sym (ap (λ (n : ℕ). stop_by kind n len place) there ∙ e)) refl
+back_when false kind at len place quiet s e = tt
+
+-- a stop that is kept is that stop, where it is known
+pub kept_back : (s : Stop) (quiet : ℕ) → IfSome (stop_kept (kept_of s quiet)) (λ x. x ≡ s)
+unfolding stop_kept kept_of stop_by endless placed
+kept_back stop.None quiet = refl
+kept_back (stop.Formal at len place) quiet = back_when _ kept.Formal at len place quiet _ refl
+kept_back (stop.Usage at len) quiet = back_when _ kept.Usage at len 0 quiet _ refl
+kept_back (stop.Bare at) quiet = back_when _ kept.Bare at 1 0 quiet _ refl
+
+none_when : (b : Bool) (kind : KeptKind) (at len place quiet : ℕ) → is_kept_none (when true kind at len place quiet) ≡ false → is_kept_none (when b kind at len place quiet) ≡ false
+unfolding is_kept_none endless
+none_when true kind at len place quiet e = e
+none_when false kind at len place quiet e = refl
+
+-- and no stop is kept as such
+pub kept_none : (s : Stop) (quiet : ℕ) → is_kept_none (kept_of s quiet) ≡ is_none s
+unfolding is_kept_none kept_of is_none endless placed
+kept_none stop.None quiet = refl
+kept_none (stop.Formal at len place) quiet = none_when _ kept.Formal at len place quiet refl
+kept_none (stop.Usage at len) quiet = none_when _ kept.Usage at len 0 quiet refl
+kept_none (stop.Bare at) quiet = none_when _ kept.Bare at 1 0 quiet refl
+
+pub none_end : stop_end stop.None ≡ 0
+unfolding stop_end
+none_end = refl
+
+name_end : (at len : ℕ) (o : Option ℕ) → stop_end (stop_name at len o) ≤ at + len
+unfolding stop_name stop_end
+name_end at len (Some place) = omega arith
+name_end at len None = omega arith
+
+-- a token that is a stop ends as one
+kind_end : (formals : List Formal) (at len : ℕ) (k : Kind) (mode : Mode) (bytes : List ℕ) → 0 < len → stop_end (stop_at formals at (record { kind = k; next_mode = mode; len = len }) bytes) ≤ at + len
+unfolding stop_at stop_end
+kind_end formals at len Name mode bytes h = name_end at len (formal_named formals bytes)
+kind_end formals at len Back mode bytes h = omega arith
+kind_end formals at len BareBackquote mode bytes h = omega arith
+kind_end formals at len Word mode bytes h = omega arith
+kind_end formals at len Blank mode bytes h = omega arith
+kind_end formals at len LineEnd mode bytes h = omega arith
+kind_end formals at len Str mode bytes h = omega arith
+kind_end formals at len LineComment mode bytes h = omega arith
+kind_end formals at len BlockComment mode bytes h = omega arith
+kind_end formals at len Opener mode bytes h = omega arith
+kind_end formals at len Closer mode bytes h = omega arith
+kind_end formals at len Comma mode bytes h = omega arith
+kind_end formals at len Other mode bytes h = omega arith
+kind_end formals at len Perl mode bytes h = omega arith
+
+pub token_end : (formals : List Formal) (at : ℕ) (t : Token) (bytes : List ℕ) → 0 < t.len → stop_end (stop_at formals at t bytes) ≤ at + t.len
+token_end formals at t bytes h = kind_end formals at t.len t.kind t.next_mode bytes h
+
+pub first_four : (formals : List Formal) (text : List ℕ) (first second third fourth : Kept) → first ≡ kept_from formals text 0 → second ≡ kept_from formals text first.end → third ≡ kept_from formals text second.end → fourth ≡ kept_from formals text third.end → (let s : FirstStops = record { first = first; second = second; third = third; fourth = fourth } in s) ≡ first_stops formals text
+unfolding first_stops
+first_four formals text first second third fourth a b c d =
+    let next : Kept → Kept = λ k. kept_from formals text k.end in
+    ap (λ (k : Kept). let s : FirstStops = record { first = first; second = second; third = third; fourth = k } in s) d
+    ∙ (ap (λ (k : Kept). let s : FirstStops = record { first = first; second = second; third = k; fourth = next k } in s) c
+    ∙ (ap (λ (k : Kept). let s : FirstStops = record { first = first; second = k; third = next k; fourth = next (next k) } in s) b
+    ∙ ap (λ (k : Kept). let s : FirstStops = record { first = k; second = next k; third = next (next k); fourth = next (next (next k)) } in s) a))
+
+quiet_when : (b : Bool) (kind : KeptKind) (at len place quiet : ℕ) → (when b kind at len place quiet).quiet ≤ quiet
+unfolding endless
+quiet_when true kind at len place quiet = omega arith
+quiet_when false kind at len place quiet = omega arith
+
+-- no more quiet bytes are kept than there are
+kept_quiet : (s : Stop) (quiet : ℕ) → (kept_of s quiet).quiet ≤ quiet
+unfolding kept_of placed endless
+kept_quiet stop.None quiet = omega arith
+kept_quiet (stop.Formal at len place) quiet = quiet_when _ kept.Formal at len place quiet
+kept_quiet (stop.Usage at len) quiet = quiet_when _ kept.Usage at len 0 quiet
+kept_quiet (stop.Bare at) quiet = quiet_when _ kept.Bare at 1 0 quiet
+
+quiet_text : (text : List ℕ) → quiet_kept text ≤ prefix_len is_quiet text
+unfolding quiet_kept
+quiet_text text =
+    let n = prefix_len is_quiet text in
+    ⊎_elim (λ h. omega (arith, cond-true (ltb n 255) n 255 h)) (λ h. omega (arith, cond-false (ltb n 255) n 255 h, ltb-false n 255 h)) (cases_Bool (ltb n 255))
+
+-- what is told of a stop that is kept behind quiet bytes alone
+record IsBehind (s : Stop) (at to : ℕ) : Type 0 where
+  some : is_none s ≡ false
+  there : begins s ≡ at
+  inside : stop_end s ≤ to
+
+behind_when : (b : Bool) (kind : KeptKind) (at len place quiet start to : ℕ) → is_behind_quiet start (when b kind at len place quiet) to ≡ true → (at ≡ start + (when b kind at len place quiet).quiet) × (at + len ≤ to)
+unfolding is_behind_quiet endless
+behind_when true kind at len place quiet start to h =
+    let two = and_parts (ltb 0 len) (eqb (start + quiet + len) (at + len) && leb (at + len) to) h in
+    let ends = and_parts (eqb (start + quiet + len) (at + len)) (leb (at + len) to) two.1 in
+    let same : start + quiet + len ≡ at + len = eqb-true _ _ ends.0 in
+    let inside : at + len ≤ to = leb-true _ _ ends.1 in
+    (omega (arith, same), inside)
+behind_when false kind at len place quiet start to h = absurd (cc)
+
+behind_of : (s : Stop) (quiet start to : ℕ) → is_behind_quiet start (kept_of s quiet) to ≡ true → IsBehind s (start + (kept_of s quiet).quiet) to
+unfolding kept_of placed endless is_behind_quiet is_none begins stop_end
+behind_of stop.None quiet start to h = absurd (cc)
+behind_of (stop.Formal at len place) quiet start to h = let e = behind_when _ kept.Formal at len place quiet start to h in record { some = refl; there = e.0; inside = e.1 }
+behind_of (stop.Usage at len) quiet start to h = let e = behind_when _ kept.Usage at len 0 quiet start to h in record { some = refl; there = e.0; inside = e.1 }
+behind_of (stop.Bare at) quiet start to h = let e = behind_when _ kept.Bare at 1 0 quiet start to h in record { some = refl; there = e.0; inside = e.1 }
+
+-- a stop that is kept as the first one from a place on is that of a range, where it is known to be
+known_same : (formals : List Formal) (text : List ℕ) (size start from to : ℕ) (s : Stop) (quiet : ℕ) → s ≡ stop_of formals start (drop start text) → quiet ≤ prefix_len is_quiet (drop start text) → length text ≡ size → start ≤ from → from ≤ to → to ≤ size → is_known size start (kept_of s quiet) from to ≡ true → s ≡ stop_of formals from (slice_range text from to)
+unfolding is_known
+known_same formals text size start from to s quiet e q l low order high h =
+    let k = kept_of s quiet in
+    let two = and_parts (leb from (start + k.quiet)) _ h in
+    let near : from ≤ start + k.quiet = leb-true _ _ two.0 in
+    let less : k.quiet ≤ prefix_len is_quiet (drop start text) = omega (arith, kept_quiet s quiet) in
+    ⊎_elim
+    (λ (w : eqb to size ≡ true). e ∙ whole_same formals text start from to (omega (arith, eqb-true to size w)) low (omega arith))
+    (λ f. let b = behind_of s quiet start to f in front_same formals text start k.quiet from to s e b.some b.there b.inside less low near order (omega arith))
+    (or_cases _ _ two.1)
+
+known_when : (b : Bool) (formals : List Formal) (text : List ℕ) (size start from to : ℕ) (s : Stop) (quiet : ℕ) → s ≡ stop_of formals start (drop start text) → quiet ≤ prefix_len is_quiet (drop start text) → length text ≡ size → start ≤ from → from ≤ to → to ≤ size → is_known size start (if b then kept_of s quiet else endless kept.Unknown 0) from to ≡ true → IfSome (stop_kept (if b then kept_of s quiet else endless kept.Unknown 0)) (λ x. x ≡ stop_of formals from (slice_range text from to))
+unfolding stop_kept stop_by endless
+known_when true formals text size start from to s quiet e q l low order high h =
+    subst (λ (x : Stop). IfSome (stop_kept (kept_of s quiet)) (λ y. y ≡ x)) (known_same formals text size start from to s quiet e q l low order high h) (kept_back s quiet)
+known_when false formals text size start from to s quiet e q l low order high h = tt
+
+pub known_range : (formals : List Formal) (text : List ℕ) (size start : ℕ) (k : Kept) (from to : ℕ) (known : Bool) (r : Option Stop) → length text ≡ size → k ≡ kept_from formals text start → (start ≤ from) × (from ≤ to) → to ≤ size → known ≡ is_known size start k from to → known ≡ true → r ≡ stop_kept k → IfSome r (λ s. s ≡ stop_of formals from (slice_range text from to))
+unfolding kept_from
+known_range formals text size start k from to known r l e order high n h q =
+    let S : Stop = stop_of formals from (slice_range text from to) in
+    let here : is_known size start (kept_from formals text start) from to ≡ true = ap (λ (x : Kept). is_known size start x from to) (sym e) ∙ (sym n ∙ h) in
+    subst (λ (x : Option Stop). IfSome x (λ y. y ≡ S)) (sym (q ∙ ap stop_kept e))
+    (known_when (ltb start 65535) formals text size start from to _ _ refl (quiet_text (drop start text)) l order.0 order.1 high here)
+
+pub first_of : (formals : List Formal) (text : List ℕ) (stops : FirstStops) → stops ≡ first_stops formals text → stops.first ≡ kept_from formals text 0
+unfolding first_stops
+first_of formals text stops e = ap (λ (x : FirstStops). x.first) e
+
+pub second_of : (formals : List Formal) (text : List ℕ) (stops : FirstStops) → stops ≡ first_stops formals text → stops.second ≡ kept_from formals text stops.first.end
+unfolding first_stops
+second_of formals text stops e =
+    ap (λ (x : FirstStops). x.second) e ∙ ap (λ (x : FirstStops). kept_from formals text x.first.end) (sym e)
+
+pub third_of : (formals : List Formal) (text : List ℕ) (stops : FirstStops) → stops ≡ first_stops formals text → stops.third ≡ kept_from formals text stops.second.end
+unfolding first_stops
+third_of formals text stops e =
+    ap (λ (x : FirstStops). x.third) e ∙ ap (λ (x : FirstStops). kept_from formals text x.second.end) (sym e)
+
+pub fourth_of : (formals : List Formal) (text : List ℕ) (stops : FirstStops) → stops ≡ first_stops formals text → stops.fourth ≡ kept_from formals text stops.third.end
+unfolding first_stops
+fourth_of formals text stops e =
+    ap (λ (x : FirstStops). x.fourth) e ∙ ap (λ (x : FirstStops). kept_from formals text x.third.end) (sym e)
+
+-- The stops of the body of a macro in a table.
+
+-- the macro of an entry that was read
+macro_here : (bs bytes : List ℕ) (entries : List Entry) (a b : ℕ) (view : TableView) (i j : ℕ) (entry : Entry) → bs ≡ bytes → view_of bytes entries a b ≡ view → i ≡ j → i < length entries → entry ≡ get_or entries i entry → macro_in bs entry ≡ macro_at view.macros j
+macro_here bs bytes entries a b view i j entry p e s h q =
+    ap (λ (x : List ℕ). macro_in x entry) p ∙ (ap (macro_in bytes) q ∙ (sym (macro_at_entry bytes entries a b view i entry e h) ∙ ap (macro_at view.macros) s))
+
+-- its body, as it was read
+pub body_here : (bs bytes : List ℕ) (entries : List Entry) (a b : ℕ) (view : TableView) (i j : ℕ) (entry : Entry) (body : List ℕ) → bs ≡ bytes → view_of bytes entries a b ≡ view → i ≡ j → i < length entries → entry ≡ get_or entries i entry → body ≡ body_of bs entry → body ≡ (macro_at view.macros j).body
+unfolding macro_in
+body_here bs bytes entries a b view i j entry body p e s h q f =
+    f ∙ ap (λ (m : Macro). m.body) (macro_here bs bytes entries a b view i j entry p e s h q)
+
+pub formals_here : (bs bytes : List ℕ) (entries : List Entry) (a b : ℕ) (view : TableView) (i j : ℕ) (entry : Entry) (formals : List Formal) → bs ≡ bytes → view_of bytes entries a b ≡ view → i ≡ j → i < length entries → entry ≡ get_or entries i entry → formals ≡ formals_of (macro_in bs entry) → formals ≡ formals_of (macro_at view.macros j)
+formals_here bs bytes entries a b view i j entry formals p e s h q f =
+    f ∙ ap (λ (m : Macro). formals_of m) (macro_here bs bytes entries a b view i j entry p e s h q)
+
+-- the first stop that is kept tells whether a body is copied
+pub copied_of : (m : Macro) (stops : FirstStops) (b : Bool) → stops ≡ first_stops (formals_of m) m.body → b ≡ is_kept_none stops.first → b ≡ is_copied m
+unfolding is_copied kept_from
+copied_of m stops b e n =
+    n ∙ (ap is_kept_none (first_of (formals_of m) m.body stops e) ∙ kept_none (stop_of (formals_of m) 0 m.body) (quiet_kept m.body))
+
+-- a stop that was read of a body
+pub some_kept : (m : Macro) (formals : List Formal) (body : List ℕ) (from to : ℕ) (s : Stop) → formals ≡ formals_of m → body ≡ m.body → s ≡ stop_of formals from (slice_range body from to) → s ≡ stop_in m from to
+unfolding stop_in
+some_kept m formals body from to s f b e =
+    e ∙ (ap (λ (fs : List Formal). stop_of fs from (slice_range body from to)) f ∙ ap (λ (l : List ℕ). stop_of (formals_of m) from (slice_range l from to)) b)
