@@ -1,5 +1,5 @@
 # The few commands that a reader of this repository needs. `make help` lists them.
-.PHONY: help build run test check c python fuzz install uninstall clean fmt bench definitions
+.PHONY: help build run test check c python fuzz install uninstall dist clean fmt bench definitions
 .DELETE_ON_ERROR:
 
 # Where `make install` puts its files, below DESTDIR where that is given.
@@ -70,6 +70,11 @@ install: out/rdlpp out/librdlpp_c.a ## put program, manual page, header, librari
 uninstall: ## take away what `make install` put below PREFIX
 	cd '$(to)' && rm -f bin/rdlpp share/man/man1/rdlpp.1 include/rdlpp.h lib/librdlpp_c.a \
 		lib/$(shared).$(VERSION) lib/$(soname) lib/$(shared) lib/pkgconfig/rdlpp.pc
+
+dist: out/rdlpp out/librdlpp_c.a ## make packages in out/: the committed sources, the wheel, and where there is dpkg-deb a Debian package
+	@packaging/source
+	@python3 python/wheel_backend.py out
+	@packaging/debian
 
 clean: ## remove all that was built, and what proofs were kept, so that the next build proves all anew
 	rm -rf out crates/*/out
