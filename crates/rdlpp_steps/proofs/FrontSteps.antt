@@ -569,7 +569,7 @@ unfolding is_open
 opened_phase p e = ap is_open e
 
 -- an engine that goes on still does where bytes were filled in
-pub ready_filled : {S R : Type 0} (old mid : EngineView S R) → IsReady old → IsRead g old mid → IsSoundEngine mid.limits mid.phase mid.table mid.files mid.conditions → AreOpen mid.files → IsReady mid
+pub ready_filled : {S R : Type 0} {g : Ghosts S R} (old mid : EngineView S R) → IsReady old → IsRead g old mid → IsSoundEngine mid.limits mid.phase mid.table mid.files mid.conditions → AreOpen mid.files → IsReady mid
 ready_filled old mid ready r sound files = record {
   open_ = ap (λ e. e.phase) r.becomes ∙ ready.open_;
   free = ap (λ e. e.kept) r.becomes ∙ ready.free;
