@@ -148,12 +148,7 @@ fn what_is_refused_behind_a_run_is_told_by_the_next_step(rt: HostRuntime) -> Res
     let outer = id_of(&rt, &macros, b"A".as_slice());
     let mut texts = opened(&rt, &macros, b"A".as_slice(), 1);
     expect_step(&rt, &mut texts, &macros, lent(outer, 0, 2));
-    expect_step(
-        &rt,
-        &mut texts,
-        &macros,
-        wordless(FaultKind::DepthPassed),
-    );
+    expect_step(&rt, &mut texts, &macros, wordless(FaultKind::DepthPassed));
     assert_eq!(&rt; texts.len(), 1);
     Ok(())
 }

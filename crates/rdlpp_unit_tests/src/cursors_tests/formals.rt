@@ -76,18 +76,8 @@ fn an_empty_actual_needs_a_slot(rt: HostRuntime) -> Result<(), Fail> {
     let macros = macros_of(&rt, b"`F(,)".as_slice());
     let mut texts = opened(&rt, &macros, b"A".as_slice(), 2);
     expect_step(&rt, &mut texts, &macros, CursorStep::Silent);
-    expect_step(
-        &rt,
-        &mut texts,
-        &macros,
-        wordless(FaultKind::DepthPassed),
-    );
-    expect_step(
-        &rt,
-        &mut texts,
-        &macros,
-        wordless(FaultKind::DepthPassed),
-    );
+    expect_step(&rt, &mut texts, &macros, wordless(FaultKind::DepthPassed));
+    expect_step(&rt, &mut texts, &macros, wordless(FaultKind::DepthPassed));
     Ok(())
 }
 
@@ -104,10 +94,7 @@ fn a_call_in_a_source_opens_its_body(rt: HostRuntime) -> Result<(), Fail> {
         Err(FaultKind::ArgumentCount)
     );
     assert!(&rt; texts.is_empty());
-    assert_eq!(&rt;
-        texts.open_call(&macros, b" x ,".as_slice(), id, 7),
-        Ok(())
-    );
+    assert_eq!(&rt; texts.open_call(&macros, b" x ,".as_slice(), id, 7), Ok(()));
     assert_eq!(&rt; texts.line(), 7);
     assert_eq!(&rt; texts.len(), 1);
     assert_eq!(&rt; texts.bound(), 2);
