@@ -1,0 +1,197 @@
+// What is checked of each row.
+use crate::devices::{Devices, SLOW, WHOLE};
+use crate::pieces::has_its_pieces;
+use crate::row::Row;
+use crate::runs::{Ended, Job, preprocess_row, run_row};
+use rdlpp::{FaultKind, UsageFault, parse_words};
+use std::alloc::{AllocError, Global};
+
+// The most bytes of the texts of a row that is cut, and whose devices fail at each place.
+const SHORT: usize = 400;
+
+// The most calls of a device.
+const MOST_CALLS: u64 = 100_000;
+
+// What fails in a run.
+#[derive(Clone, Copy)]
+enum Failing {
+    Search,
+    Read,
+    Write,
+    EmptyWrite,
+    Flush,
+}
+
+/// What isn't as it has to be with a row; nothing where all is.
+pub fn failed_check(alloc: Global, row: &Row) -> Result<Option<&'static str>, AllocError> {
+    let mut words = Vec::from_slice(alloc, &["rdlpp"])?;
+    for word in &row.words {
+        words.push(word.as_str())?;
+    }
+    let mut files = Vec::new(alloc);
+    for (path, text) in &row.files {
+        files.push((path.as_str(), text.as_slice()))?;
+    }
+    let Some(main) = files.as_slice().first() else {
+        return Ok(Some("it has no text"));
+    };
+    words.push(main.0)?;
+    let invocation = match parse_words(alloc, words.as_slice()) {
+        Ok(invocation) => invocation,
+        Err(UsageFault::NoMemory) => return Err(AllocError),
+        Err(_) => return Ok(Some("its words")),
+    };
+    let mut folders = Vec::new(alloc);
+    for folder in &invocation.folders {
+        folders.push(folder.as_str())?;
+    }
+    let job = Job {
+        row,
+        invocation: &invocation,
+        files: files.as_slice(),
+        folders: folders.as_slice(),
+    };
+    failed_job(alloc, &job)
+}
+
+// What isn't as it has to be with a row whose words were read.
+fn failed_job(alloc: Global, job: &Job<'_>) -> Result<Option<&'static str>, AllocError> {
+    if !preprocess_row(alloc, job, WHOLE)?.is_wanted(job.row) {
+        return Ok(Some("run whole"));
+    }
+    if !preprocess_row(alloc, job, SLOW)?.is_wanted(job.row) {
+        return Ok(Some("by one byte a read and one byte a write"));
+    }
+    if !has_its_pieces(alloc, job)? {
+        return Ok(Some("piece by piece"));
+    }
+    if len_of(job.files) > SHORT {
+        return Ok(None);
+    }
+    if !agrees_cut(alloc, job)? {
+        return Ok(Some("cut short"));
+    }
+    for (failing, name) in [
+        (Failing::Search, "with a search that fails"),
+        (Failing::Read, "with a read that fails"),
+        (Failing::Write, "with a write that fails"),
+        (Failing::EmptyWrite, "with a write that takes nothing"),
+        (Failing::Flush, "with a flush that fails"),
+    ] {
+        if !fails_as_told(alloc, job, failing, WHOLE)?
+            || !fails_as_told(alloc, job, failing, SLOW)?
+        {
+            return Ok(Some(name));
+        }
+    }
+    Ok(None)
+}
+
+// How many bytes texts have together.
+fn len_of(files: &[(&str, &[u8])]) -> usize {
+    let mut len = 0_usize;
+    for (_, text) in files {
+        len = len.saturating_add(text.len());
+    }
+    len
+}
+
+// Whether whole reads and reads of one byte come to the same with each text cut short after each of its bytes.
+fn agrees_cut(alloc: Global, job: &Job<'_>) -> Result<bool, AllocError> {
+    for (place, (path, text)) in job.files.iter().enumerate() {
+        for len in 0..text.len() {
+            let mut files = Vec::from_slice(alloc, job.files)?;
+            if let Some(file) = files.as_mut_slice().get_mut(place) {
+                *file = (*path, &text[..len]);
+            }
+            let cut = Job {
+                files: files.as_slice(),
+                ..*job
+            };
+            let (Some(whole), Some(slow)) = (
+                run_row(alloc, &cut, WHOLE)?,
+                run_row(alloc, &cut, SLOW)?,
+            ) else {
+                return Ok(true);
+            };
+            if !whole.is_same(&slow) {
+                return Ok(false);
+            }
+        }
+    }
+    Ok(true)
+}
+
+// Whether a row whose first, second and each further call of a kind fails, until none does, writes a part of its output
+// each time, never less than before, and ends in the fault of that kind; and comes to what it wants at last.
+fn fails_as_told(
+    alloc: Global,
+    job: &Job<'_>,
+    failing: Failing,
+    devices: Devices,
+) -> Result<bool, AllocError> {
+    let mut least = 0;
+    for calls in 0..MOST_CALLS {
+        let Some(ended) = run_row(alloc, job, with_calls(failing, devices, calls))? else {
+            return Ok(true);
+        };
+        if ended.output.len() < least
+            || !job
+                .row
+                .output
+                .as_slice()
+                .starts_with(ended.output.as_slice())
+        {
+            return Ok(false);
+        }
+        if !is_told(failing, &ended) {
+            return Ok(ended.is_wanted(job.row));
+        }
+        least = least_after(failing, ended.output.len());
+    }
+    Ok(false)
+}
+
+// Devices of which so many calls of a kind go well.
+fn with_calls(failing: Failing, devices: Devices, calls: u64) -> Devices {
+    match failing {
+        Failing::Search => Devices {
+            searches: calls,
+            ..devices
+        },
+        Failing::Read => Devices {
+            reads: calls,
+            ..devices
+        },
+        Failing::Write => Devices {
+            writes: calls,
+            ..devices
+        },
+        Failing::EmptyWrite => Devices {
+            writes: calls,
+            takes_nothing: true,
+            ..devices
+        },
+        Failing::Flush => Devices {
+            flushes: calls,
+            ..devices
+        },
+    }
+}
+
+// Whether a run ended in the fault of such a failure, with its end kept.
+fn is_told(failing: Failing, ended: &Ended) -> bool {
+    let kind = match failing {
+        Failing::Search | Failing::Read => FaultKind::ReadFailed,
+        Failing::Write | Failing::EmptyWrite | Failing::Flush => FaultKind::WriteFailed,
+    };
+    ended.is_sound && ended.kind == Some(kind)
+}
+
+// The fewest bytes that a run writes of which one call more goes well than of one that wrote so many.
+fn least_after(failing: Failing, len: usize) -> usize {
+    match failing {
+        Failing::Write | Failing::EmptyWrite => len.saturating_add(1),
+        Failing::Search | Failing::Read | Failing::Flush => len,
+    }
+}

@@ -1,0 +1,122 @@
+// Sources and a writer that take a few bytes at a time, and fail from a chosen call on.
+use rdlpp::{Found, SourceFault, Sources, Texts};
+use rdlpp_source::TextReader;
+use std::io::{self, ErrorKind, Write};
+
+/// How sources and a writer behave: the most bytes of a read and of a write, and how many calls of each kind go well.
+#[derive(Clone, Copy)]
+pub struct Devices {
+    /// The most bytes of a read and of a write.
+    pub step: usize,
+    /// How many searches go well; each later one fails.
+    pub searches: u64,
+    /// How many reads go well.
+    pub reads: u64,
+    /// How many writes go well.
+    pub writes: u64,
+    /// Whether a later write takes nothing; else it fails.
+    pub takes_nothing: bool,
+    /// How many flushes go well.
+    pub flushes: u64,
+}
+
+/// Devices that take everything at once, and never fail.
+pub const WHOLE: Devices = Devices {
+    step: usize::MAX,
+    searches: u64::MAX,
+    reads: u64::MAX,
+    writes: u64::MAX,
+    takes_nothing: false,
+    flushes: u64::MAX,
+};
+
+/// Devices that take one byte at a time, and never fail.
+pub const SLOW: Devices = Devices { step: 1, ..WHOLE };
+
+/// Texts in memory, by such devices.
+#[derive(Drop)]
+pub struct DealtTexts<'a> {
+    /// The texts.
+    pub texts: Texts<'a>,
+    /// What is left of the devices.
+    pub devices: Devices,
+    /// How often a search or a read failed.
+    pub failures: u64,
+}
+
+impl<'a> Sources for DealtTexts<'a> {
+    type Reader = TextReader<'a>;
+
+    ghost use Rattle.std.specs.Prelude.{[]};
+    ghost use Rattle.rdlpp_source.specs.Sources.{Missing};
+
+    ghost tells = { λ _. ⊥ };
+
+    ghost catalog = { λ _. record { top = λ _. Missing; find = λ _ _. Missing } };
+
+    ghost unread = { λ _. [] };
+
+    ghost failures = { λ source. source.failures };
+
+    ghost refusals = { λ _. 0 };
+
+    fn top(&mut self, path: &str) -> Result<Found<TextReader<'a>>, SourceFault> {
+        if self.devices.searches == 0 {
+            self.failures = self.failures.saturating_add(1);
+            return Err(SourceFault::Device);
+        }
+        self.devices.searches -= 1;
+        self.texts.top(path)
+    }
+
+    fn find(&mut self, from: &str, name: &str) -> Result<Found<TextReader<'a>>, SourceFault> {
+        if self.devices.searches == 0 {
+            self.failures = self.failures.saturating_add(1);
+            return Err(SourceFault::Device);
+        }
+        self.devices.searches -= 1;
+        self.texts.find(from, name)
+    }
+
+    fn read(&mut self, reader: &mut TextReader<'a>, to: &mut [u8]) -> Result<usize, SourceFault> {
+        if self.devices.reads == 0 {
+            self.failures = self.failures.saturating_add(1);
+            return Err(SourceFault::Device);
+        }
+        self.devices.reads -= 1;
+        let most = to.len().min(self.devices.step);
+        self.texts.read(reader, &mut to[..most])
+    }
+}
+
+/// A writer by such devices.
+#[derive(Drop)]
+pub struct DealtWriter {
+    /// What was taken.
+    pub taken: Vec<u8>,
+    /// What is left of the devices.
+    pub devices: Devices,
+}
+
+impl Write for DealtWriter {
+    fn write(&mut self, part: &[u8]) -> io::Result<usize> {
+        if self.devices.writes == 0 && self.devices.takes_nothing {
+            return Ok(0);
+        }
+        if self.devices.writes == 0 {
+            return Err(io::Error::from(ErrorKind::BrokenPipe));
+        }
+        self.devices.writes -= 1;
+        let len = part.len().min(self.devices.step);
+        self.taken.extend_from_slice(&part[..len])?;
+        Ok(len)
+    }
+
+    fn flush(&mut self) -> io::Result<()> {
+        if self.devices.flushes == 0 {
+            return Err(io::Error::from(ErrorKind::BrokenPipe));
+        }
+        self.devices.flushes -= 1;
+        Ok(())
+    }
+}

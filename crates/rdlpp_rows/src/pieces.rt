@@ -1,0 +1,77 @@
+// A row, pulled piece by piece.
+use crate::devices::{DealtTexts, WHOLE};
+use crate::runs::{Job, engine_of, keeps_end, line_of};
+use rdlpp::Limits;
+use rdlpp_expand::{Engine, Held, Piece};
+use std::alloc::{AllocError, Global};
+
+// The most pieces of a row that is pulled.
+const MOST_PIECES: u32 = 200_000;
+
+/// Whether the pieces of a row are its output, and then its end, which stays; and whether what is held is within the limits
+/// behind each piece, and at the end what the row wants.
+pub fn has_its_pieces(alloc: Global, job: &Job<'_>) -> Result<bool, AllocError> {
+    let Some(mut engine) = engine_of(alloc, job, WHOLE)? else {
+        return Ok(true);
+    };
+    if !engine.is_fresh() {
+        return Ok(false);
+    }
+    let _opened = engine.start(job.invocation.source.as_str());
+    let mut left = job.row.output.as_slice();
+    for _ in 0..MOST_PIECES {
+        if engine.is_fresh() {
+            return Ok(false);
+        }
+        let end = match engine.next() {
+            Ok(Piece::Bytes(bytes)) => {
+                let Some(rest) = left.strip_prefix(bytes) else {
+                    return Ok(false);
+                };
+                left = rest;
+                None
+            }
+            Ok(Piece::Done) => Some(Vec::new(alloc)),
+            Err(fault) => Some(line_of(alloc, fault)?),
+        };
+        if !is_within(&engine.held(), &job.invocation.options.limits) {
+            return Ok(false);
+        }
+        if let Some(line) = end {
+            return Ok(
+                left.is_empty()
+                    && line.as_slice() == job.row.fault.as_slice()
+                    && holds_what_it_wants(&engine, job)
+                    && keeps_end(alloc, &mut engine, line.as_slice())?,
+            );
+        }
+    }
+    Ok(false)
+}
+
+// Whether an engine holds the definitions and arguments that its row wants at its end.
+fn holds_what_it_wants(engine: &Engine<DealtTexts<'_>>, job: &Job<'_>) -> bool {
+    let held = engine.held();
+    match job.row.held {
+        Some(wanted) => (held.definitions, held.arguments) == wanted,
+        None => true,
+    }
+}
+
+// Whether what is held is within what the limits allow.
+fn is_within(held: &Held, limits: &Limits) -> bool {
+    let texts = limits.includes.saturating_add(1);
+    let bound = limits
+        .definition_bytes
+        .saturating_add(limits.argument_bytes)
+        .saturating_add(texts.saturating_mul(limits.line_bytes));
+    let whole = held
+        .definitions
+        .saturating_add(held.arguments)
+        .saturating_add(held.buffers);
+    whole <= bound
+        && held.cursors <= limits.depth
+        && held.bindings <= limits.depth.saturating_mul(255)
+        && held.conditions <= limits.conditions
+        && held.sources <= texts
+}

@@ -1,0 +1,131 @@
+// Rows, as the files of `data` have them.
+use crate::spelling::{numbered, spelled};
+use std::alloc::{AllocError, AllocFailed, Global};
+
+/// A row: texts, the words by which they are preprocessed, and what must come of them.
+#[derive(Drop)]
+pub struct Row {
+    /// What the row shows.
+    pub name: String,
+    /// The words of its command line, but for the program's name and the main path.
+    pub words: Vec<String>,
+    /// Its texts by their paths, the main text first.
+    pub files: Vec<(String, Vec<u8>)>,
+    /// The output.
+    pub output: Vec<u8>,
+    /// The line that reports the fault that ends it, with its LF; nothing where none does.
+    pub fault: Vec<u8>,
+    /// The bytes of the definitions and of the arguments that are held at its end, where the row has them.
+    pub held: Option<(usize, usize)>,
+}
+
+/// Why a text isn't one of rows.
+pub enum RowFault {
+    /// There was no memory for its rows.
+    NoMemory,
+    /// A row has a line that isn't a row's.
+    BadLine,
+}
+
+impl From<AllocError> for RowFault {
+    fn from(_error: AllocError) -> RowFault {
+        RowFault::NoMemory
+    }
+}
+
+impl<T: Drop> From<AllocFailed<T>> for RowFault {
+    fn from(_error: AllocFailed<T>) -> RowFault {
+        RowFault::NoMemory
+    }
+}
+
+/// The rows of a text: blank lines stand between them, and a line that begins with `#` is a comment.
+pub fn rows_of(alloc: Global, text: &str) -> Result<Vec<Row>, RowFault> {
+    let mut rows = Vec::new(alloc);
+    for part in text.split("\n\n") {
+        let mut row = empty_row(alloc);
+        for line in part.lines() {
+            if !line.is_empty() && !line.starts_with("#") {
+                read_line(alloc, &mut row, line)?;
+            }
+        }
+        if !row.name.as_str().is_empty() {
+            rows.push(row)?;
+        }
+    }
+    Ok(rows)
+}
+
+// A row without a name.
+fn empty_row(alloc: Global) -> Row {
+    Row {
+        name: String::new(alloc),
+        words: Vec::new(alloc),
+        files: Vec::new(alloc),
+        output: Vec::new(alloc),
+        fault: Vec::new(alloc),
+        held: None,
+    }
+}
+
+// Reads one line into a row.
+fn read_line(alloc: Global, row: &mut Row, line: &str) -> Result<(), RowFault> {
+    let (field, rest) = line.split_once(' ').unwrap_or((line, ""));
+    match field {
+        "row" => row.name.push_str(rest)?,
+        "words" => {
+            for word in rest.split(' ') {
+                row.words.push(text_of(alloc, word)?)?;
+            }
+        }
+        "file" => add_file(alloc, row, rest)?,
+        "files" => add_files(alloc, row, rest)?,
+        "output" => row.output = spelled(alloc, rest)?,
+        "fault" => {
+            row.fault = spelled(alloc, rest)?;
+            row.fault.push(b'\n')?;
+        }
+        "held" => row.held = Some(numbers_of(rest)?),
+        "memory" => {}
+        _ => return Err(RowFault::BadLine),
+    }
+    Ok(())
+}
+
+// Adds a text to a row: its path and what is in it.
+fn add_file(alloc: Global, row: &mut Row, rest: &str) -> Result<(), RowFault> {
+    let (path, text) = rest.split_once(' ').unwrap_or((rest, ""));
+    row.files
+        .push((text_of(alloc, path)?, spelled(alloc, text)?))?;
+    Ok(())
+}
+
+// Adds so many texts to a row, whose paths and what is in them are numbered.
+fn add_files(alloc: Global, row: &mut Row, rest: &str) -> Result<(), RowFault> {
+    let (count, file) = rest.split_once(' ').unwrap_or((rest, ""));
+    let Ok(count) = count.parse::<u32>() else {
+        return Err(RowFault::BadLine);
+    };
+    for number in 0..count {
+        add_file(alloc, row, numbered(alloc, file, number)?.as_str())?;
+    }
+    Ok(())
+}
+
+// Two numbers.
+fn numbers_of(text: &str) -> Result<(usize, usize), RowFault> {
+    let (first, second) = text.split_once(' ').unwrap_or((text, ""));
+    match (first.parse::<usize>(), second.parse::<usize>()) {
+        (Ok(first), Ok(second)) => Ok((first, second)),
+        (_, _) => Err(RowFault::BadLine),
+    }
+}
+
+// A spelled text that is text.
+fn text_of(alloc: Global, word: &str) -> Result<String, RowFault> {
+    let bytes = spelled(alloc, word)?;
+    match str::from_utf8(bytes.as_slice()) {
+        Ok(text) => Ok(String::from_str(alloc, text)?),
+        Err(_) => Err(RowFault::BadLine),
+    }
+}

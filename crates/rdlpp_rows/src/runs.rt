@@ -1,0 +1,195 @@
+// Runs of a row over devices, and what they come to.
+use crate::devices::{DealtTexts, DealtWriter, Devices, WHOLE};
+use crate::row::Row;
+use rdlpp::{
+    Counted, Fault, FaultKind, Invocation, PrepFault, RunFault, Texts, preprocess, report,
+};
+use rdlpp_expand::{Engine, Piece, run};
+use std::alloc::{AllocError, Global};
+
+/// A row with what its words ask for, and its texts as they are run.
+#[derive(Clone, Copy)]
+pub struct Job<'a> {
+    /// The row.
+    pub row: &'a Row,
+    /// What its words ask for.
+    pub invocation: &'a Invocation,
+    /// Its texts by their paths, the main text first.
+    pub files: &'a [(&'a str, &'a [u8])],
+    /// The include folders.
+    pub folders: &'a [&'a str],
+}
+
+/// What a run came to.
+#[derive(Drop)]
+pub struct Ended {
+    /// What the writer took.
+    pub output: Vec<u8>,
+    /// The line that reports the fault that ended the run; nothing where none did.
+    pub fault: Vec<u8>,
+    /// The kind of that fault.
+    pub kind: Option<FaultKind>,
+    /// Whether the count of bytes written is that of the output, and the end stayed as it was.
+    pub is_sound: bool,
+}
+
+impl Ended {
+    /// Whether the run came to what its row wants.
+    pub fn is_wanted(&self, row: &Row) -> bool {
+        self.is_sound
+            && self.output.as_slice() == row.output.as_slice()
+            && self.fault.as_slice() == row.fault.as_slice()
+    }
+
+    /// Whether two runs came to the same.
+    pub fn is_same(&self, other: &Ended) -> bool {
+        self.is_sound
+            && other.is_sound
+            && self.output.as_slice() == other.output.as_slice()
+            && self.fault.as_slice() == other.fault.as_slice()
+    }
+}
+
+/// Preprocesses a row in one call.
+pub fn preprocess_row(alloc: Global, job: &Job<'_>, devices: Devices) -> Result<Ended, AllocError> {
+    let mut sink = Counted::new(writer_of(alloc, devices));
+    let source = job.invocation.source.as_str();
+    let sources = sources_of(job, devices);
+    let outcome = preprocess(alloc, &job.invocation.options, sources, source, &mut sink);
+    let output = sink.into_writer().taken;
+    let (fault, kind, written) = match &outcome {
+        Ok(written) => (Vec::new(alloc), None, *written),
+        Err(PrepFault::Run(run)) => (
+            line_of(alloc, &run.fault)?,
+            Some(run.fault.kind),
+            run.written,
+        ),
+        Err(_) => return Err(AllocError),
+    };
+    Ok(Ended {
+        is_sound: written == output.len() as u64,
+        output,
+        fault,
+        kind,
+    })
+}
+
+/// The line that reports a fault.
+pub fn line_of(alloc: Global, fault: &Fault) -> Result<Vec<u8>, AllocError> {
+    let mut line = Vec::new(alloc);
+    let run = RunFault {
+        fault: *fault,
+        written: 0,
+    };
+    match report(&PrepFault::Run(run), &mut line) {
+        Ok(()) => Ok(line),
+        Err(_) => Err(AllocError),
+    }
+}
+
+/// A row's engine before its start, with the definitions of its words; none where one of them is refused.
+pub fn engine_of<'a>(
+    alloc: Global,
+    job: &Job<'a>,
+    devices: Devices,
+) -> Result<Option<Engine<DealtTexts<'a>>>, AllocError> {
+    let options = &job.invocation.options;
+    let sources = sources_of(job, devices);
+    let Ok(mut engine) = Engine::new(alloc, options.limits, sources, options.origins) else {
+        return Err(AllocError);
+    };
+    for (name, text) in &options.defines {
+        let is_defined = engine.is_fresh()
+            && engine
+                .define(name.as_str().as_bytes(), text.as_str().as_bytes())
+                .is_ok();
+        if !is_defined {
+            return Ok(None);
+        }
+    }
+    Ok(Some(engine))
+}
+
+/// Runs a row's engine, and asks again for its end; none where a definition of its words is refused.
+pub fn run_row(
+    alloc: Global,
+    job: &Job<'_>,
+    devices: Devices,
+) -> Result<Option<Ended>, AllocError> {
+    let Some(mut engine) = engine_of(alloc, job, devices)? else {
+        return Ok(None);
+    };
+    if !engine.is_fresh() {
+        return Ok(None);
+    }
+    let _opened = engine.start(job.invocation.source.as_str());
+    let mut sink = Counted::new(writer_of(alloc, devices));
+    let (fault, written) = match run(&mut engine, &mut sink) {
+        Ok(written) => (None, written),
+        Err(run) => (Some(run.fault), run.written),
+    };
+    let output = sink.into_writer().taken;
+    let line = match &fault {
+        Some(fault) => line_of(alloc, fault)?,
+        None => Vec::new(alloc),
+    };
+    let is_kept = keeps_end(alloc, &mut engine, line.as_slice())?;
+    Ok(Some(Ended {
+        is_sound: is_kept && written == output.len() as u64,
+        output,
+        fault: line,
+        kind: fault.map(|fault| fault.kind),
+    }))
+}
+
+/// Whether an engine at its end stays there: run once more it writes nothing, each of three further pieces is that end, and
+/// what is held stays the same.
+pub fn keeps_end(
+    alloc: Global,
+    engine: &mut Engine<DealtTexts<'_>>,
+    line: &[u8],
+) -> Result<bool, AllocError> {
+    let held = engine.held();
+    for _ in 0..3 {
+        if engine.is_fresh() {
+            return Ok(false);
+        }
+        let again = match engine.next() {
+            Ok(Piece::Bytes(_)) => return Ok(false),
+            Ok(Piece::Done) => Vec::new(alloc),
+            Err(fault) => line_of(alloc, fault)?,
+        };
+        if again.as_slice() != line || engine.held() != held {
+            return Ok(false);
+        }
+    }
+    if engine.is_fresh() {
+        return Ok(false);
+    }
+    let mut sink = Counted::new(writer_of(alloc, WHOLE));
+    let (again, written) = match run(engine, &mut sink) {
+        Ok(written) => (Vec::new(alloc), written),
+        Err(run) => (line_of(alloc, &run.fault)?, run.written),
+    };
+    Ok(again.as_slice() == line && written == 0 && engine.held() == held)
+}
+
+// The sources of a row, by such devices.
+fn sources_of<'a>(job: &Job<'a>, devices: Devices) -> DealtTexts<'a> {
+    DealtTexts {
+        texts: Texts {
+            files: job.files,
+            folders: job.folders,
+        },
+        devices,
+        failures: 0,
+    }
+}
+
+// A writer by such devices.
+fn writer_of(alloc: Global, devices: Devices) -> DealtWriter {
+    DealtWriter {
+        taken: Vec::new(alloc),
+        devices,
+    }
+}
