@@ -26,7 +26,7 @@ use Rattle.rdlpp_usages.specs.Usages.{ExpansionView, IsRoomy, StaysAt, StaysLent
 use Rattle.rdlpp_steps.specs.Calls.{SourcesCalled}
 use Rattle.rdlpp_steps.specs.Engine.{AreOpenTexts, EngineView, IsSoundEngine}
 use Rattle.rdlpp_steps.specs.Held.{IsBounded}
-use Rattle.rdlpp_steps.specs.Standing.{AtCursor, Nowhere}
+use Rattle.rdlpp_steps.specs.Standing.{AtCursor, InTexts, Nowhere}
 use Rattle.rdlpp_cursors.specs.Fronts.{IsFrontPlace, StandsAt}
 use Rattle.rdlpp_cursors.specs.Opened.{StaysOutermost}
 use Rattle.rdlpp_steps.proofs.Stores.{KeepsStores, keeps_refused, keeps_texts}
@@ -166,7 +166,7 @@ module _ {S R : Type 0} (g : Ghosts S R) (old : EngineView S R) (x : ExpansionVi
       walks_lent g old (record old { expansion = x }) unowed.free unowed.open_ bounded [] refl (refl, refl) (not_called g old.sources)
       (λ t. text_goes [] (step (run_rules g old) (state_of old) (nest_macros old.limits old.table.macros old.conditions old.files.nest)
       ∙ sym (and_then-gives_nil (open_left (run_rules g old) (state_of old) old.expansion.line old.expansion.depth (held_texts old) x.opens)))) (work_texts falls)
-      (keeps_texts g old x unowed.free holds.stays holds.outer holds.lets_go) (Nowhere refl)
+      (keeps_texts g old x unowed.free holds.stays holds.outer holds.lets_go) (Nowhere refl (InTexts unowed.owed refl step holds.now_sound))
 
 -- the open texts end with a fault, and nothing else changes
 pub texts_refuse : {S R : Type 0} (g : Ghosts S R) (old mid new : EngineView S R) (place : Place) (fault : CursorFault) → IsUnowed old → IsBounded new → mid ≡ old → place ≡ Kept
