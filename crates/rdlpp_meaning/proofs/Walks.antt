@@ -1,8 +1,6 @@
 -- Laws of expansion over tokens that are copied, lone backquotes, broken tokens and usages; and of a token in a run: where the run
 -- goes on after it, so does what remains of the file.
-use Rattle.std.proofs.Common.{◌≡◌, ℕ, zero, suc, true, List, [], ◌∷◌, map, refl, ap, ◌∙◌, Option, Some, Bool, None}
-use Rattle.std.proofs.lemmas.Bool.{and_parts}
-use Rattle.std.specs.List.{flat_map, list_all}
+use Rattle.std.proofs.Common.{◌≡◌, ℕ, zero, suc, true, List, [], ◌∷◌, refl, ap, ◌∙◌, Option, Some, Bool, None}
 use Rattle.rdlpp_scan.specs.declared.token.Kind.TheVariants.{Back, BareBackquote}
 use Rattle.rdlpp_scan.specs.SourceTokens.{Sort, Ordinary, Definition, Renumbering, Broken, SourceToken}
 use Rattle.rdlpp_meaning.specs.declared.fault.FaultKind.TheVariants.{DepthPassed}
@@ -10,7 +8,7 @@ use Rattle.rdlpp_meaning.specs.Outcome.{Outcome, gives, fails, and_then}
 use Rattle.rdlpp_meaning.specs.State.{Rules, State, fault_at}
 use Rattle.rdlpp_meaning.specs.Items.{Item, Written}
 use Rattle.rdlpp_meaning.specs.Expansion.{walk, expand, is_copied, run_outcome}
-use Rattle.rdlpp_meaning.proofs.Outcomes.{and_then-gives, and_then-nil}
+use Rattle.rdlpp_meaning.proofs.Outcomes.{and_then-nil}
 use Rattle.rdlpp_meaning.specs.Parts.{Piece, Run, Single, Opening, Branching, Closing, only_blanks, directive_of, joined, pieces}
 use Rattle.rdlpp_meaning.specs.Meaning.{leaves, goes_on, Nest, Progress, nest_of}
 use Rattle.rdlpp_meaning.specs.Resumed.{Live, resume, resumed}
@@ -47,25 +45,6 @@ pub walk_copied : (rules : Rules) (s : State) (deeper : ℕ → List (List ℕ) 
     (t : SourceToken) (xs : List Item) → is_copied t ≡ true
     → walk rules s deeper source o 0 (Written t ∷ xs) ≡ and_then (gives t.bytes) (walk rules s deeper source o 0 xs)
 walk_copied rules s deeper source o t xs e = copied_by rules s deeper source o t.sort t.bytes t.line xs e
-
--- tokens that are copied give their bytes
-pub walk_all_copied : (rules : Rules) (s : State) (deeper : ℕ → List (List ℕ) → List Item → Outcome) (source : Option ℕ) (o : List (List ℕ))
-    (ts : List SourceToken) → list_all is_copied ts ≡ true
-    → walk rules s deeper source o 0 (map Written ts) ≡ gives (flat_map (λ t. t.bytes) ts)
-unfolding walk
-walk_all_copied rules s deeper source o [] e = refl
-walk_all_copied rules s deeper source o (t ∷ ts) e =
-    walk_copied rules s deeper source o t (map Written ts) (and_parts (is_copied t) (list_all is_copied ts) e).0
-    ∙ ap (λ (x : Outcome). and_then (gives t.bytes) x)
-    (walk_all_copied rules s deeper source o ts (and_parts (is_copied t) (list_all is_copied ts) e).1)
-    ∙ and_then-gives t.bytes (flat_map (λ t. t.bytes) ts)
-
--- tokens that are copied give their bytes at any depth
-pub expand_all_copied : (rules : Rules) (s : State) (d : ℕ) (source : Option ℕ) (o : List (List ℕ))
-    (ts : List SourceToken) → list_all is_copied ts ≡ true
-    → expand rules s d source o (map Written ts) ≡ gives (flat_map (λ t. t.bytes) ts)
-expand_all_copied rules s d source o ts e =
-    expand_walk rules s d source o (map Written ts) ∙ walk_all_copied rules s (deeper_of rules s d) source o ts e
 
 -- a token writes an outcome in front of each run
 unfoldable pub Writes : Rules → State → SourceToken → Outcome → Type 0
