@@ -41,6 +41,7 @@ is_bounded e sound files texts room =
       bindings = omega (arith, few_bound, depth);
       conditions = omega (arith, few_open, limit);
       sources = omega (arith, few_sources, slots_are);
+      texts = texts.sound;
     }
 
 -- as many bytes as all buffers have can be counted
