@@ -10,6 +10,26 @@ import re
 
 DATA = pathlib.Path(__file__).resolve().parent.parent / "crates" / "rdlpp_rows" / "data"
 SIGNS = {"n": b"\n", "r": b"\r", "t": b"\t"}
+FIELDS = {"line": "line_bytes", "source": "source_bytes", "argument": "argument_bytes", "output": "output_bytes"}
+REPORT = re.compile(rb"(.*):([0-9]+): error F([0-9]+): ([^']*?)(?: '(.*)')?", re.S)
+
+
+class Asked:
+    """What the words of a row ask for: limits by their fields, definitions and folders in order."""
+
+    def __init__(self, words):
+        self.limits, self.defines, self.folders = {}, [], []
+        self.origins = "--origins" in words
+        given = iter(word for word in words if word != "--origins")
+        for option, value in zip(given, given):
+            if option == "-D":
+                name, _, text = value.partition("=")
+                self.defines.append((name, text))
+            elif option == "-I":
+                self.folders.append(value)
+            else:
+                field = option[len("--max-") :].replace("-", "_")
+                self.limits[FIELDS.get(field, field)] = int(value)
 
 
 def numbered(text, number):
@@ -75,6 +95,10 @@ class Row:
     def status(self):
         """1 where the row has a fault: none is one of a device."""
         return 1 if self.fault else 0
+
+    def fault_parts(self):
+        """The shown name, the line, the number, the text of the kind and the word of its fault."""
+        return REPORT.fullmatch(self.fault).groups(b"")
 
     def includes_itself(self):
         """Whether one of its texts may include the main one, so that standard input can't stand for it."""

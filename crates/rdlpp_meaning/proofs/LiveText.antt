@@ -23,7 +23,7 @@ use Rattle.rdlpp_meaning.specs.Resumed.{Live, resume, resumed}
 use Rattle.rdlpp_meaning.proofs.Outcomes.{and_then-fails}
 use Rattle.rdlpp_meaning.proofs.Passages.{fails-goes_on, goes_on-gives, behind_bytes-nil, behind_bytes-twice, gives_fails-goes_on}
 use Rattle.rdlpp_meaning.proofs.Usages.{usage_none, run_refused}
-use Rattle.rdlpp_meaning.proofs.Runs.{Writes, resumed_token}
+use Rattle.rdlpp_meaning.proofs.Walks.{Writes, resumed_token}
 use Rattle.rdlpp_meaning.proofs.TokenWrites.{copied_text, copied_writes, body_writes, bare_writes, broken_writes, usage_text, only_blanks-append, define_command, define_piece}
 
 -- a token that writes bytes, and then what remains behind it

@@ -18,9 +18,8 @@ use Rattle.rdlpp_meaning.specs.Items.{Written, Item}
 use Rattle.rdlpp_meaning.specs.Substitution.{substituted, body_tokens}
 use Rattle.rdlpp_meaning.specs.Expansion.{Opens, walk, is_copied, run_outcome, usage_token, expand}
 use Rattle.rdlpp_meaning.specs.Parts.{Command, Single, only_blanks, line_ends_of, directive_named, directive_of, no_argument, argument_of, command_of, piece_of, pieces}
-use Rattle.rdlpp_meaning.proofs.Walks.{deeper_of, expand_walk, walk_copied, expand_all_copied}
+use Rattle.rdlpp_meaning.proofs.Walks.{deeper_of, expand_walk, walk_copied, expand_all_copied, Writes}
 use Rattle.rdlpp_meaning.proofs.Usages.{usage_some, usage_plain, after_usage, walk_usage, substituted_none}
-use Rattle.rdlpp_meaning.proofs.Runs.{Writes}
 use Rattle.rdlpp_meaning.proofs.Cover.{body_covered}
 
 -- a token that is copied begins no directive, by what it is

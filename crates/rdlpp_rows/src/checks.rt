@@ -7,7 +7,10 @@ use rdlpp::{FaultKind, UsageFault, parse_words};
 use std::alloc::{AllocError, Global};
 
 // The most bytes of the texts of a row that is cut, and whose devices fail at each place.
-const SHORT: usize = 400;
+const SHORT: usize = 200;
+
+// The most bytes of an output that is pulled piece by piece.
+const LONG: usize = 100_000;
 
 // The most calls of a device.
 const MOST_CALLS: u64 = 100_000;
@@ -62,7 +65,7 @@ fn failed_job(alloc: Global, job: &Job<'_>) -> Result<Option<&'static str>, Allo
     if !preprocess_row(alloc, job, SLOW)?.is_wanted(job.row) {
         return Ok(Some("by one byte a read and one byte a write"));
     }
-    if !has_its_pieces(alloc, job)? {
+    if job.row.output.len() <= LONG && !has_its_pieces(alloc, job)? {
         return Ok(Some("piece by piece"));
     }
     if len_of(job.files) > SHORT {

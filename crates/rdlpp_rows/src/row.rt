@@ -1,4 +1,16 @@
-// Rows, as the files of `data` have them.
+// Rows, as the files of `data` have them. A blank line stands between two rows, and a line that begins with `#` is a comment.
+// A row has these lines, of which those without need are left out:
+//
+//     row NAME                      what the row shows
+//     words WORD WORD ..            words of a command line, as `--max-depth 4 -D W=8 -I inc --origins`
+//     file PATH TEXT                a text; the first one is the main text
+//     files COUNT PATH TEXT         so many texts, numbered by `{#}` from 0 and by `{+}` from 1
+//     output TEXT                   the output
+//     fault LINE                    the line that reports the fault that ends it
+//     held DEFINITIONS ARGUMENTS    how many bytes of each are held at its end
+//     memory                        the row is one of texts in memory: the scripts over files leave it out
+//
+// A word, a path and a text are spelled as `spelled` reads them.
 use crate::spelling::{numbered, spelled};
 use std::alloc::{AllocError, AllocFailed, Global};
 
@@ -39,7 +51,7 @@ impl<T: Drop> From<AllocFailed<T>> for RowFault {
     }
 }
 
-/// The rows of a text: blank lines stand between them, and a line that begins with `#` is a comment.
+/// The rows of a text.
 pub fn rows_of(alloc: Global, text: &str) -> Result<Vec<Row>, RowFault> {
     let mut rows = Vec::new(alloc);
     for part in text.split("\n\n") {

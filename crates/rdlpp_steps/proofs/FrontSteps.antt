@@ -372,8 +372,10 @@ fails_reading {S} {R} g old mid new place ready r reading bounded is becomes cal
 -- a `define` begins what is held, of which more came
 pub reading_define : {R : Type 0} (old new : BufferView R) (more : List ℕ) → 0 < length (held_of old) → IsDirective Define (held_of old) → held_of new ≡ held_of old ++ more → IsReading new
 reading_define old new more some is held =
-    inr (drop 7 (held_of old) ++ more,
-    held ∙ (ap (λ (xs : List ℕ). xs ++ more) (define_begins (held_of old) some is) ∙ append_assoc (codes "`define") (drop 7 (held_of old)) more))
+    inr (
+      drop 7 (held_of old) ++ more,
+      held ∙ (ap (λ (xs : List ℕ). xs ++ more) (define_begins (held_of old) some is) ∙ append_assoc (codes "`define") (drop 7 (held_of old)) more),
+    )
 
 -- nothing changed
 pub read_nothing : {S R : Type 0} {g : Ghosts S R} (e : EngineView S R) → IsRead g e e

@@ -1,6 +1,6 @@
 -- The held stores, and their bound.
 -- A definition that names no source is this project's own.
-use Rattle.std.specs.Prelude.{ℕ, ◌+◌, ◌*◌, ◌≤◌, List, length, sum_by}
+use Rattle.std.specs.Prelude.{◌≡◌, ℕ, ◌+◌, ◌*◌, ◌≤◌, List, length, sum_by}
 use Rattle.rdlpp_table.specs.Table.{table_bytes}
 use Rattle.rdlpp_table.specs.declared.limits.Limits.{Limits}
 use Rattle.rdlpp_read.specs.Files.{held_windows}
@@ -51,3 +51,12 @@ held_told e = let s = stores_of e in record {
   conditions = length e.conditions.open_now;
   sources = length e.files.nest;
 }
+
+-- nothing is held but definitions
+pub record HoldsDefinitions (held : Held) : Type 0 where
+  pub arguments : held.arguments ≡ 0
+  pub buffers : held.buffers ≡ 0
+  pub cursors : held.cursors ≡ 0
+  pub bindings : held.bindings ≡ 0
+  pub conditions : held.conditions ≡ 0
+  pub sources : held.sources ≡ 0

@@ -1,5 +1,5 @@
 // Tests of an engine that is pulled piece by piece.
-use crate::row_tests::{STANDARD, narrow};
+use crate::runs::STANDARD;
 use rdlpp::{Counted, FaultKind, Texts};
 use rdlpp_expand::{Engine, Fault, Held, NewFault, Piece, run};
 use rdlpp_table::LimitFault;
@@ -64,22 +64,6 @@ fn holds_what_is_live(rt: HostRuntime) -> Result<(), Fail> {
     Ok(())
 }
 
-// A second run of an engine that is at its end writes nothing.
-#[test]
-fn runs_to_the_end(rt: HostRuntime) -> Result<(), Fail> {
-    let files = [("m", b"`define W 8\n`W".as_slice())];
-    let mut engine = new_engine(&rt, &files)?;
-    assert!(rt; engine.is_fresh());
-    assert!(rt; engine.start("m").is_ok());
-    let mut counted = Counted::new(narrow(&rt, usize::MAX, usize::MAX));
-    for written in [2, 0] {
-        assert!(rt; !engine.is_fresh());
-        assert!(rt; run(&mut engine, &mut counted).is_ok_and(|count| count == written));
-    }
-    assert!(rt; counted.into_writer().taken.as_slice() == b"\n8".as_slice());
-    Ok(())
-}
-
 #[test]
 fn defines_before_the_start(rt: HostRuntime) -> Result<(), Fail> {
     let files = [("m", b"`W".as_slice())];
@@ -92,9 +76,9 @@ fn defines_before_the_start(rt: HostRuntime) -> Result<(), Fail> {
     assert!(rt; engine.is_fresh());
     assert!(rt; engine.start("m").is_ok());
     assert!(rt; !engine.is_fresh());
-    let mut counted = Counted::new(narrow(&rt, usize::MAX, usize::MAX));
+    let mut counted = Counted::new(Vec::new(rt.alloc()));
     assert!(rt; run(&mut engine, &mut counted).is_ok_and(|count| count == 1));
-    assert!(rt; counted.into_writer().taken.as_slice() == b"8".as_slice());
+    assert!(rt; counted.into_writer().as_slice() == b"8".as_slice());
     Ok(())
 }
 

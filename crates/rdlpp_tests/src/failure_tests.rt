@@ -1,56 +1,29 @@
-// Readers and writers that fail, in turn at each place, and readers that never end.
-use crate::devices::{Behind, DealtText, NarrowWriter};
-use crate::row_tests::{STANDARD, Wanted, check, fault, narrow, run_source};
-use rdlpp::{FaultKind, Limits, exit_status};
+// Where a fault of a device is told to have come: its name and its line.
+use crate::runs::{STANDARD, check, run_source};
+use crate::sources::{After, Asked, AskedTexts, DealtText, NOTHING};
+use rdlpp::{FaultKind, Limits, Texts, exit_status};
 
-const SOURCE: &[u8] = b"`define W 8\nreg[`W];\n";
-
-const OUTPUT: &[u8] = b"\nreg[8];\n";
-
-// The source `m` with something behind its bytes.
-fn dealt(text: &[u8], behind: Behind) -> DealtText<'_> {
+// A text and what comes after it.
+fn dealt(text: &[u8], after: After) -> DealtText<'_> {
     DealtText {
         text,
-        behind,
-        step: 7,
+        after,
         failures: 0,
     }
 }
 
-fn write_failed() -> Option<Wanted> {
-    Some(fault(FaultKind::WriteFailed, 0, ""))
-}
-
+// A text, and one whose call goes on where a read fails.
 #[test]
-fn ends_with_a_failed_read(rt: HostRuntime) {
-    let (outcome, writer) = run_source(
-        &rt,
-        STANDARD,
-        dealt(b"a\n", Behind::Failure),
-        narrow(&rt, 9, 99),
-    );
-    check(
-        &rt,
-        "a failed read",
-        &outcome,
-        2,
-        Some(fault(FaultKind::ReadFailed, 2, "")),
-    );
-    assert!(rt; writer.taken.as_slice() == b"a\n".as_slice());
-    assert_eq!(rt; exit_status(&outcome), 3);
-}
-
-// A call whose arguments go on where a read fails.
-#[test]
-fn ends_a_call_with_a_failed_read(rt: HostRuntime) {
-    let whole = DealtText {
-        step: usize::MAX,
-        ..dealt(b"`define K(x) x\n`K(1\n", Behind::Failure)
-    };
-    let (outcome, writer) = run_source(&rt, STANDARD, whole, narrow(&rt, 9, 99));
-    let failed = Some(fault(FaultKind::ReadFailed, 3, ""));
-    check(&rt, "a failed read in a call", &outcome, 1, failed);
-    assert!(rt; writer.taken.as_slice() == b"\n".as_slice());
+fn tells_where_a_read_failed(rt: HostRuntime) {
+    let rows: [(&[u8], &[u8], u64); 2] = [
+        (b"a\n", b"a\n", 2),
+        (b"`define K(x) x\n`K(1\n", b"\n", 3),
+    ];
+    for (text, output, line) in rows {
+        let run = run_source(&rt, STANDARD, dealt(text, After::Failure), "m");
+        check(&rt, &run, output, (FaultKind::ReadFailed, "m", line));
+        assert_eq!(rt; exit_status(&run.0), 3);
+    }
 }
 
 #[test]
@@ -59,73 +32,77 @@ fn ends_over_an_endless_reader(rt: HostRuntime) {
         line_bytes: 256,
         ..STANDARD
     };
-    let (outcome, _) = run_source(
-        &rt,
-        lines,
-        dealt(b"", Behind::Endless(b'a')),
-        narrow(&rt, 9, 99),
-    );
-    check(
-        &rt,
-        "a without end",
-        &outcome,
-        0,
-        Some(fault(FaultKind::LineTooLong, 1, "")),
-    );
+    let run = run_source(&rt, lines, dealt(b"", After::Endless(b'a')), "m");
+    check(&rt, &run, b"", (FaultKind::LineTooLong, "m", 1));
     let sources = Limits {
         source_bytes: 4,
         ..STANDARD
     };
-    let (outcome, writer) = run_source(
-        &rt,
-        sources,
-        dealt(b"", Behind::Endless(b'\n')),
-        narrow(&rt, 9, 99),
-    );
-    check(
-        &rt,
-        "LF without end",
-        &outcome,
-        4,
-        Some(fault(FaultKind::SourceTooLong, 5, "")),
-    );
-    assert!(rt; writer.taken.as_slice() == b"\n\n\n\n".as_slice());
+    let run = run_source(&rt, sources, dealt(b"", After::Endless(b'\n')), "m");
+    check(&rt, &run, b"\n\n\n\n", (FaultKind::SourceTooLong, "m", 5));
 }
 
-// The writer fails, or takes nothing more, after each count of bytes: what it took is that prefix.
+// Each search of texts that include one another fails in turn, at its include.
 #[test]
-fn ends_with_a_failed_write(rt: HostRuntime) {
-    for room in 0..OUTPUT.len() {
-        for takes_nothing in [false, true] {
-            let writer = NarrowWriter {
-                takes_nothing,
-                ..narrow(&rt, 2, room)
-            };
-            let (outcome, writer) = run_source(&rt, STANDARD, dealt(SOURCE, Behind::End), writer);
-            check(&rt, "a failed write", &outcome, room, write_failed());
-            assert!(rt; writer.taken.as_slice() == &OUTPUT[..room]);
-            assert_eq!(rt; exit_status(&outcome), 3);
-        }
+fn tells_where_a_search_failed(rt: HostRuntime) {
+    let files: [(&str, &[u8]); 4] = [
+        ("m", b"a\n`include \"i\"\nb`include \"k\"\n`include \"i\"c"),
+        ("i", b"q\n`include \"j\""),
+        ("j", b"r"),
+        ("k", b""),
+    ];
+    let rows: [(&str, u64, &[u8]); 6] = [
+        ("m", 0, b""),
+        ("m", 2, b"a\n"),
+        ("i", 2, b"a\nq\n"),
+        ("m", 3, b"a\nq\nr\n\n\nb"),
+        ("m", 4, b"a\nq\nr\n\n\nb\n"),
+        ("i", 2, b"a\nq\nr\n\n\nb\nq\n"),
+    ];
+    let mut searches = 0_u64;
+    for (name, line, output) in rows {
+        let mut asked = NOTHING;
+        let texts = AskedTexts {
+            texts: Texts {
+                files: &files,
+                folders: &[],
+            },
+            main: None,
+            searches,
+            asked: &mut asked,
+            failures: 0,
+        };
+        let run = run_source(&rt, STANDARD, texts, "m");
+        check(&rt, &run, output, (FaultKind::ReadFailed, name, line));
+        searches = searches.saturating_add(1);
     }
 }
 
-// A flush that fails is a failed write, but for a fault that came before it.
+// Faults of the writer and of the limit on the output name the path that was asked for, and no other that the main text is
+// found under.
 #[test]
-fn ends_with_a_failed_flush(rt: HostRuntime) {
-    let undefined = Some(fault(FaultKind::UndefinedMacro, 1, "Q"));
-    let recursive = Some(fault(FaultKind::RecursiveMacro, 3, "A"));
-    let rows: [(&[u8], &[u8], Option<Wanted>); 3] = [
-        (SOURCE, OUTPUT, write_failed()),
-        (b"a`Q", b"a", undefined),
-        (b"`define A `B\n`define B `A\nx `A ", b"\n\nx ", recursive),
-    ];
-    for (source, output, wanted) in rows {
-        let writer = NarrowWriter {
-            flush_fails: true,
-            ..narrow(&rt, 9, 99)
+fn names_the_path_that_was_asked_for(rt: HostRuntime) {
+    let files: [(&str, &[u8]); 1] = [("m", b"ab`Q")];
+    for (output_bytes, output, name, line, kind) in [
+        (1, b"a".as_slice(), "m", 0, FaultKind::OutputBytes),
+        (9, b"ab", "other", 1, FaultKind::UndefinedMacro),
+    ] {
+        let mut asked: Asked = NOTHING;
+        let texts = AskedTexts {
+            texts: Texts {
+                files: &files,
+                folders: &[],
+            },
+            main: Some("other"),
+            searches: 9,
+            asked: &mut asked,
+            failures: 0,
         };
-        let (outcome, writer) = run_source(&rt, STANDARD, dealt(source, Behind::End), writer);
-        check(&rt, "a failed flush", &outcome, output.len(), wanted);
-        assert!(rt; writer.taken.as_slice() == output);
+        let limits = Limits {
+            output_bytes,
+            ..STANDARD
+        };
+        let run = run_source(&rt, limits, texts, "m");
+        check(&rt, &run, output, (kind, name, line));
     }
 }

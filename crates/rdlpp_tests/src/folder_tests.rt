@@ -1,5 +1,5 @@
 // Sources over files of a folder that each test makes and removes.
-use crate::row_tests::STANDARD;
+use crate::runs::STANDARD;
 use rdlpp::{Counted, FaultKind, Folders, Options, PrepFault, SourceFault, Sources, preprocess};
 use std::test::Fail;
 use std::{env, fs, process};
@@ -120,5 +120,21 @@ fn preprocesses_a_file(rt: HostRuntime) -> Result<(), Fail> {
         assert!(rt; writer.into_writer().as_slice() == output, "{path}");
     }
     fs::remove_dir_all(&rt, folder.as_str())?;
+    Ok(())
+}
+
+// An included `-` is a file of that name, and not standard input.
+#[test]
+fn includes_a_file_named_as_standard_input(rt: HostRuntime) -> Result<(), Fail> {
+    let folder = scratch(&rt, "dash")?;
+    let main = write_file(&rt, folder.as_str(), "m", b"main")?;
+    let file = write_file(&rt, folder.as_str(), "-", b"file")?;
+    let mut folders = Folders::new(&rt, rt.alloc(), &[])?;
+    let (path, bytes) = found(&rt, &mut folders, main.as_str(), "-")?;
+    assert!(rt; path.as_str() == file.as_str());
+    assert!(rt; bytes.as_slice() == b"file".as_slice());
+    fs::remove_dir_all(&rt, folder.as_str())?;
+    let missing = folders.find("m", "-").err();
+    assert!(rt; missing == Some(SourceFault::Absent));
     Ok(())
 }

@@ -1,10 +1,7 @@
 // Tests of the lines that report faults, and of the statuses.
-use crate::devices::AskedSources;
-use crate::row_tests::{STANDARD, narrow, run_source};
+use crate::runs::{STANDARD, run_source};
 use arrayvec::ArrayString;
-use rdlpp::{
-    Fault, FaultKind, Limits, Options, PrepFault, RunFault, Texts, exit_status, preprocess, report,
-};
+use rdlpp::{Fault, FaultKind, Limits, PrepFault, RunFault, Texts, exit_status, report};
 use std::test::Fail;
 
 // The line that reports a fault.
@@ -156,7 +153,7 @@ fn reports_what_ended_a_run(rt: HostRuntime) -> Result<(), Fail> {
             files: &files,
             folders: &[],
         };
-        let (outcome, _) = run_source(&rt, limits, texts, narrow(&rt, 9, 99));
+        let (outcome, _) = run_source(&rt, limits, texts, "m");
         assert_eq!(rt; exit_status(&outcome), status, "{line}");
         let fault = outcome.err().ok_or("no fault")?;
         assert!(rt;
@@ -169,108 +166,4 @@ fn reports_what_ended_a_run(rt: HostRuntime) -> Result<(), Fail> {
     assert_eq!(rt; exit_status(&Err(PrepFault::NoMemory)), 3);
     assert_eq!(rt; exit_status(&Ok(0)), 0);
     Ok(())
-}
-
-// What comes of definitions from the options, and of origin comments.
-#[test]
-fn takes_definitions_from_the_options(rt: HostRuntime) -> Result<(), Fail> {
-    let long = [b'n'; 129];
-    let long = str::from_utf8(&long)?;
-    let rows: [(&[(&str, &str)], bool, &str, &str); 10] = [
-        (&[("W", "8")], false, "8", ""),
-        (
-            &[("V", " 1 // one"), ("W", "2"), ("W", "3")],
-            false,
-            "3",
-            "",
-        ),
-        (
-            &[("1x", "2")],
-            false,
-            "",
-            "-D:1: error F15: name expected\n",
-        ),
-        (
-            &[("W", "1"), ("W(a)", "2")],
-            false,
-            "",
-            "-D:2: error F15: name expected\n",
-        ),
-        (
-            &[("W", "1"), ("line", "2")],
-            false,
-            "",
-            "-D:2: error F16: reserved name 'line'\n",
-        ),
-        (&[(long, "")], false, "", "-D:1: error F17: name too long\n"),
-        (
-            &[("V", "1"), ("V", "2"), ("W", "\"")],
-            false,
-            "",
-            "-D:3: error F2: string not closed\n",
-        ),
-        (&[("W", "f(x) \"s\" // c")], false, "f(x) \"s\"", ""),
-        (
-            &[("W", "`Q")],
-            false,
-            "",
-            "m:1: error F7: undefined macro 'Q'\n",
-        ),
-        (&[("W", "8")], true, "// origin: m:1\n8", ""),
-    ];
-    for (defines, origins, output, line) in rows {
-        let options = Options {
-            defines: owned(&rt, defines)?,
-            limits: STANDARD,
-            origins,
-        };
-        let files = [("m", b"`W".as_slice())];
-        let texts = Texts {
-            files: &files,
-            folders: &[],
-        };
-        let mut counted = rdlpp::Counted::new(narrow(&rt, 9, 99));
-        let outcome = preprocess(rt.alloc(), &options, texts, "m", &mut counted);
-        let told = match &outcome {
-            Ok(_) => Vec::new(rt.alloc()),
-            Err(fault) => line_of(&rt, fault)?,
-        };
-        assert!(rt; told.as_slice() == line.as_bytes(), "{line}");
-        assert!(rt;
-            counted.into_writer().taken.as_slice() == output.as_bytes(),
-            "{output}"
-        );
-    }
-    Ok(())
-}
-
-// Nothing is asked of the sources where a definition is refused; else the main text is.
-#[test]
-fn opens_nothing_after_a_refused_definition(rt: HostRuntime) -> Result<(), Fail> {
-    for (name, wanted) in [("define", 0), ("W", 1)] {
-        let options = Options {
-            defines: owned(&rt, &[(name, "8")])?,
-            limits: STANDARD,
-            origins: false,
-        };
-        let mut asked = 0;
-        let mut counted = rdlpp::Counted::new(narrow(&rt, 9, 99));
-        let sources = AskedSources { asked: &mut asked };
-        let outcome = preprocess(rt.alloc(), &options, sources, "m", &mut counted);
-        assert!(rt; outcome.is_err());
-        assert_eq!(rt; asked, wanted);
-    }
-    Ok(())
-}
-
-// Definitions as options have them.
-fn owned<R: AllocGlobal>(rt: &R, pairs: &[(&str, &str)]) -> Result<Vec<(String, String)>, Fail> {
-    let mut defines = Vec::new(rt.alloc());
-    for (name, text) in pairs {
-        defines.push((
-            String::from_str(rt.alloc(), name)?,
-            String::from_str(rt.alloc(), text)?,
-        ))?;
-    }
-    Ok(defines)
 }

@@ -1,5 +1,5 @@
 // What the words of a command line ask for.
-use crate::row_tests::STANDARD;
+use crate::runs::STANDARD;
 use rdlpp::{Invocation, Limits, UsageFault, parse_words};
 use std::test::Fail;
 
@@ -64,6 +64,16 @@ fn splits_a_definition_at_its_first_sign(rt: HostRuntime) -> Result<(), Fail> {
 }
 
 #[test]
+fn keeps_definitions_in_order(rt: HostRuntime) -> Result<(), Fail> {
+    let asked = asked(&rt, &["rdlpp", "-D", "V=1", "-D", "W=2", "m"])?;
+    assert_eq!(rt; asked.options.defines.len(), 2);
+    let defines = &asked.options.defines;
+    assert!(rt; defines[0].0.as_str() == "V" && defines[1].0.as_str() == "W");
+    assert!(rt; defines[0].1.as_str() == "1" && defines[1].1.as_str() == "2");
+    Ok(())
+}
+
+#[test]
 fn reads_every_option(rt: HostRuntime) -> Result<(), Fail> {
     let words = [
         "rdlpp",
@@ -116,7 +126,7 @@ fn reads_every_option(rt: HostRuntime) -> Result<(), Fail> {
 
 #[test]
 fn refuses_what_is_no_command_line(rt: HostRuntime) {
-    let lines: [&[&str]; 9] = [
+    let lines: [&[&str]; 10] = [
         &[],
         &["rdlpp"],
         &["rdlpp", ""],
@@ -130,6 +140,7 @@ fn refuses_what_is_no_command_line(rt: HostRuntime) {
             "a",
         ],
         &["rdlpp", "--max-depth", "+4", "a"],
+        &["rdlpp", "--max-line", "4294967552", "a"],
         &["rdlpp", "-o", "x", "-o", "x", "a"],
     ];
     for words in lines {

@@ -4,6 +4,3 @@
 mod expansion;
 
 pub use expansion::{Expansion, Opening};
-
-#[cfg(test)]
-mod tests;

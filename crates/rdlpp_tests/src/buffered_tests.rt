@@ -1,9 +1,9 @@
 // A sink that gathers bytes in front of a writer, as a caller meets it.
-use rdlpp_source::{Buffered, Sink, SinkFault};
-use std::io::{self, ErrorKind, Write};
+use rdlpp_source::{Buffered, Counted, Sink, SinkFault};
+use std::io::{self, BufWriter, ErrorKind, Write};
 use std::test::Fail;
 
-// A writer that takes three bytes a write at most, and of which single writes fail.
+// A writer that takes a few bytes a write, and of which single writes fail.
 #[derive(Drop)]
 struct NarrowWriter {
     taken: Vec<u8>,
@@ -15,6 +15,8 @@ struct NarrowWriter {
     broken: u64,
     // whether a flush fails
     flush_fails: bool,
+    // the most bytes of a write
+    step: usize,
 }
 
 impl Write for NarrowWriter {
@@ -27,7 +29,7 @@ impl Write for NarrowWriter {
         if at == self.broken {
             return Err(io::Error::from(ErrorKind::BrokenPipe));
         }
-        let len = part.len().min(3);
+        let len = part.len().min(self.step);
         self.taken.extend_from_slice(&part[..len])?;
         Ok(len)
     }
@@ -48,6 +50,7 @@ fn narrow<R: AllocGlobal>(rt: &R) -> NarrowWriter {
         interrupted: u64::MAX,
         broken: u64::MAX,
         flush_fails: false,
+        step: 3,
     }
 }
 
@@ -110,5 +113,35 @@ fn passes_on_what_it_holds_at_its_end(rt: HostRuntime) -> Result<(), Fail> {
     assert_eq!(rt; sink.write(b"ab"), Ok(2));
     drop(sink);
     assert!(rt; taken.as_slice() == b"ab".as_slice());
+    Ok(())
+}
+
+// A writer that takes nothing fails a flush and a long part, and a drop ends over it.
+#[test]
+fn ends_over_a_writer_that_takes_nothing(rt: HostRuntime) -> Result<(), Fail> {
+    let mut writer = narrow(&rt);
+    writer.step = 0;
+    let mut sink = Buffered::with_capacity(rt.alloc(), 4, writer)?;
+    assert_eq!(rt; sink.write(b"ab"), Ok(2));
+    assert_eq!(rt; sink.flush(), Err(SinkFault));
+    assert_eq!(rt; sink.write(b"cdefgh"), Err(SinkFault));
+    assert!(rt; sink.writer().taken.is_empty());
+    drop(sink);
+    Ok(())
+}
+
+// A flush goes through a buffered writer below, with and without a buffer in front of it.
+#[test]
+fn flushes_a_buffered_writer(rt: HostRuntime) -> Result<(), Fail> {
+    let writer = BufWriter::new(rt.alloc(), Vec::new(rt.alloc()))?;
+    let mut counted = Counted::new(writer);
+    assert_eq!(rt; counted.write(b"q\n"), Ok(2));
+    assert_eq!(rt; counted.flush(), Ok(()));
+    let writer = counted.into_writer();
+    assert!(rt; writer.get_ref().as_slice() == b"q\n".as_slice());
+    let mut sink = Buffered::with_capacity(rt.alloc(), 8, writer)?;
+    assert_eq!(rt; sink.write(b"ab"), Ok(2));
+    assert_eq!(rt; sink.flush(), Ok(()));
+    assert!(rt; sink.writer().get_ref().as_slice() == b"q\nab".as_slice());
     Ok(())
 }

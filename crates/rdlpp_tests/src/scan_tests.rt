@@ -1,8 +1,7 @@
 // Tokens, lines and names as a caller meets them.
 use rdlpp_scan::{
-    Directive, Kind, LexFault, Mode, Token, byte_at, first_token, is_blank, is_letter, is_name,
-    is_perl, last_line_end, lex_fault, line_ends_in, line_len, logical_line, open_fault,
-    plain_text_len, quiet_bytes, reserved, rest_of_line, word_bytes,
+    Directive, Kind, LexFault, Mode, Token, first_token, is_name, last_line_end, lex_fault,
+    line_ends_in, line_len, logical_line, plain_text_len, reserved, rest_of_line,
 };
 use std::process::Abort;
 
@@ -155,126 +154,6 @@ fn finds_lines_names_and_faults(rt: HostRuntime) {
     assert_eq!(rt; lex_fault(b"\"a\" // <% \"\n/*<%*/"), None);
 }
 
-// A text, its kind in plain text, its token in a string, and the mode behind it in a comment.
-type Sample = (&'static [u8], Kind, Token, Mode);
-
-#[test]
-fn gives_each_kind_in_each_mode(rt: HostRuntime) {
-    let one = token(Kind::Str, 1, Mode::InStr);
-    let two = token(Kind::Str, 2, Mode::InStr);
-    let four = token(Kind::Str, 4, Mode::InStr);
-    let five = token(Kind::Str, 5, Mode::InStr);
-    let closed = token(Kind::Str, 1, Mode::Plain);
-    let perl = token(Kind::Perl, 2, Mode::Plain);
-    let samples: [Sample; 14] = [
-        (b"ab", Kind::Name, two, Mode::InBlock),
-        (b"12", Kind::Word, two, Mode::InBlock),
-        (b"`a", Kind::Back, two, Mode::InBlock),
-        (b" \t", Kind::Blank, two, Mode::InBlock),
-        (b"\n", Kind::LineEnd, one, Mode::InBlock),
-        (b"\"a\"", Kind::Str, closed, Mode::InBlock),
-        (b"// a", Kind::LineComment, four, Mode::InBlock),
-        (b"/*a*/", Kind::BlockComment, five, Mode::Plain),
-        (b"[", Kind::Opener, one, Mode::InBlock),
-        (b"}", Kind::Closer, one, Mode::InBlock),
-        (b",", Kind::Comma, one, Mode::InBlock),
-        (b"\\", Kind::Other, one, Mode::InBlock),
-        (b"<%", Kind::Perl, perl, Mode::InBlock),
-        (b"`", Kind::BareBackquote, one, Mode::InBlock),
-    ];
-    for (text, kind, in_string, behind_comment) in samples {
-        let len = text.len();
-        assert!(rt; len > 0);
-        let plain = token(kind, len, Mode::Plain);
-        let in_comment = token(Kind::BlockComment, len, behind_comment);
-        assert_eq!(rt; first_token(Mode::Plain, text), plain);
-        assert_eq!(rt; first_token(Mode::InStr, text), in_string, "of {kind:?}");
-        assert_eq!(rt; first_token(Mode::InBlock, text), in_comment, "of {kind:?}");
-    }
-}
-
-#[test]
-fn gives_the_tokens_of_worked_texts(rt: HostRuntime) {
-    let macro_in_string = b"`define A 1\n\"`A\" A `A".as_slice();
-    assert_eq!(rt; logical_line(macro_in_string), Some(12));
-    expect_tokens(
-        &rt,
-        macro_in_string,
-        &[
-            (Kind::Back, 7, 1),
-            (Kind::Blank, 1, 1),
-            (Kind::Name, 1, 1),
-            (Kind::Blank, 1, 1),
-            (Kind::Word, 1, 1),
-            (Kind::LineEnd, 1, 1),
-            (Kind::Str, 4, 1),
-            (Kind::Blank, 1, 1),
-            (Kind::Name, 1, 1),
-            (Kind::Blank, 1, 1),
-            (Kind::Back, 2, 1),
-        ],
-    );
-    let continued = b"`define R a \\\nb // c\n`R;\n".as_slice();
-    assert_eq!(rt; logical_line(continued), Some(21));
-    expect_tokens(
-        &rt,
-        continued,
-        &[
-            (Kind::Back, 7, 1),
-            (Kind::Blank, 1, 1),
-            (Kind::Name, 1, 1),
-            (Kind::Blank, 1, 1),
-            (Kind::Name, 1, 1),
-            (Kind::Blank, 1, 1),
-            (Kind::Other, 1, 1),
-            (Kind::LineEnd, 1, 1),
-            (Kind::Name, 1, 1),
-            (Kind::Blank, 1, 1),
-            (Kind::LineComment, 4, 1),
-            (Kind::LineEnd, 1, 1),
-            (Kind::Back, 2, 1),
-            (Kind::Other, 1, 1),
-            (Kind::LineEnd, 1, 1),
-        ],
-    );
-}
-
-#[test]
-fn gives_the_tokens_of_faulty_texts(rt: HostRuntime) {
-    let perl = b"a\nb <% x %>\n".as_slice();
-    assert_eq!(rt; lex_fault(perl), Some(LexFault::Perl));
-    expect_tokens(
-        &rt,
-        perl,
-        &[
-            (Kind::Name, 1, 1),
-            (Kind::LineEnd, 1, 1),
-            (Kind::Name, 1, 1),
-            (Kind::Blank, 1, 1),
-            (Kind::Perl, 2, 1),
-            (Kind::Blank, 1, 1),
-            (Kind::Name, 1, 1),
-            (Kind::Blank, 1, 1),
-            (Kind::Other, 1, 2),
-            (Kind::LineEnd, 1, 1),
-        ],
-    );
-    let perl_in_comment = b"// <% x %>\n".as_slice();
-    assert_eq!(rt; lex_fault(perl_in_comment), None);
-    expect_tokens(
-        &rt,
-        perl_in_comment,
-        &[(Kind::LineComment, 10, 1), (Kind::LineEnd, 1, 1)],
-    );
-    let open_string = b"x \"ab\ncd".as_slice();
-    assert_eq!(rt; lex_fault(open_string), Some(LexFault::OpenString));
-    expect_tokens(
-        &rt,
-        open_string,
-        &[(Kind::Name, 1, 1), (Kind::Blank, 1, 1), (Kind::Str, 6, 1)],
-    );
-}
-
 #[test]
 fn takes_a_text_of_every_byte(rt: HostRuntime) {
     let mut text = [0u8; 256];
@@ -318,19 +197,4 @@ fn takes_a_text_of_every_byte(rt: HostRuntime) {
     assert_eq!(rt; lex_fault(&text[35..]), None);
     assert_eq!(rt; plain_text_len(&text), 34);
     assert_eq!(rt; line_ends_in(&text), 1);
-}
-
-#[test]
-fn classes_of_bytes(rt: HostRuntime) {
-    assert_eq!(rt; byte_at(b"ab".as_slice(), 1), b'b');
-    assert_eq!(rt; byte_at(b"ab".as_slice(), 2), 0);
-    assert_eq!(rt; is_blank(11), true);
-    assert_eq!(rt; is_blank(b'\n'), false);
-    assert_eq!(rt; is_letter(b'_'), true);
-    assert_eq!(rt; is_letter(b'0'), false);
-    assert_eq!(rt; word_bytes(b"a_0$".as_slice()), 3);
-    assert_eq!(rt; quiet_bytes(b" =\n({;]a".as_slice()), 7);
-    assert_eq!(rt; quiet_bytes(b"/ ".as_slice()), 0);
-    assert_eq!(rt; is_perl(Kind::Perl), true);
-    assert_eq!(rt; open_fault(Mode::InBlock), Some(LexFault::OpenComment));
 }

@@ -1,0 +1,104 @@
+/* The rows of crates/rdlpp_rows/data, in one call and by reads of one and of seven bytes. `calls` writes them to rows.inc. */
+#include "rdlpp.h"
+
+#include <stdio.h>
+#include <stdlib.h>
+#include <string.h>
+
+/* A row: what a call asks for, the output that it must give, and the fault that must end it; its number is 0 where none does. */
+struct row {
+    const char *shows;
+    rdlpp_limits limits;
+    bool origins;
+    const rdlpp_text *texts;
+    size_t texts_length;
+    const rdlpp_folder *folders;
+    size_t folders_length;
+    const rdlpp_definition *definitions;
+    size_t definitions_length;
+    const char *output;
+    size_t output_length;
+    uint32_t number;
+    uint64_t line;
+    const char *name;
+    size_t name_length;
+    const char *word;
+    size_t word_length;
+};
+
+#include "rows.inc"
+
+#define NAME_ROOM 1024
+#define WORD_ROOM 128
+
+static int failures = 0;
+
+static void check(int holds, const struct row *row, const char *how)
+{
+    if (!holds) {
+        fprintf(stderr, "rows.c: %s: not so %s\n", row->shows, how);
+        failures += 1;
+    }
+}
+
+/* Whether a call or a read ended as its row has to, with that shown name and that word. */
+static int ends(const struct row *row, const rdlpp_outcome *outcome, const char *name, const char *word)
+{
+    if (row->number == 0) {
+        return outcome->status == RDLPP_WHOLE;
+    }
+    return outcome->status == RDLPP_STOPPED && outcome->number == row->number && outcome->line == row->line
+        && outcome->name_length == row->name_length && memcmp(name, row->name, row->name_length) == 0
+        && outcome->word_length == row->word_length && memcmp(word, row->word, row->word_length) == 0;
+}
+
+static void calls_once(const struct row *row, char *out)
+{
+    char name[NAME_ROOM], word[WORD_ROOM];
+    const rdlpp_text *source = &row->texts[0];
+    const rdlpp_outcome outcome = rdlpp_preprocess(
+        &row->limits, row->origins, row->texts, row->texts_length, row->folders, row->folders_length,
+        row->definitions, row->definitions_length, source->path, source->path_length,
+        out, row->output_length, name, sizeof name, word, sizeof word);
+    check(ends(row, &outcome, name, word), row, "how one call ends");
+    check(outcome.length == row->output_length && memcmp(out, row->output, row->output_length) == 0, row, "its output");
+}
+
+static void reads(const struct row *row, char *out, size_t room)
+{
+    char name[NAME_ROOM], word[WORD_ROOM];
+    const rdlpp_text *source = &row->texts[0];
+    rdlpp_handle handle = RDLPP_CLOSED_HANDLE;
+    size_t length = 0;
+    rdlpp_outcome outcome = rdlpp_open(
+        &row->limits, row->origins, row->texts, row->texts_length, row->folders, row->folders_length,
+        row->definitions, row->definitions_length, source->path, source->path_length,
+        name, sizeof name, word, sizeof word, &handle);
+    if (outcome.status == RDLPP_WHOLE) {
+        do {
+            const size_t left = row->output_length + room - length;
+            outcome = rdlpp_read(&handle, out + length, left < room ? left : room, name, sizeof name, word, sizeof word);
+            length += outcome.length;
+        } while (outcome.status == RDLPP_MORE && length <= row->output_length);
+    }
+    check(ends(row, &outcome, name, word), row, "how reads end");
+    check(length == row->output_length && memcmp(out, row->output, row->output_length) == 0, row, "what reads give");
+    rdlpp_close(&handle);
+}
+
+int main(void)
+{
+    size_t at;
+    for (at = 0; at < sizeof rows / sizeof rows[0]; at += 1) {
+        const struct row *row = &rows[at];
+        char *out = malloc(row->output_length + 7);
+        if (out == NULL) {
+            return 2;
+        }
+        calls_once(row, out);
+        reads(row, out, 1);
+        reads(row, out, 7);
+        free(out);
+    }
+    return failures == 0 ? 0 : 1;
+}

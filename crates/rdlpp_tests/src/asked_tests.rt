@@ -1,0 +1,161 @@
+// How often sources, readers and sinks are asked, which no contract counts.
+use crate::runs::{STANDARD, fault_of};
+use crate::sources::{Asked, AskedTexts, NOTHING};
+use rdlpp::{FaultKind, Options, Sink, SinkFault, Texts, preprocess};
+use std::test::Fail;
+
+// A sink that takes everything until it breaks, and counts the parts without bytes.
+#[derive(Drop)]
+struct CountingSink {
+    taken: u64,
+    empty: u64,
+    flushes: u64,
+    // whether it takes nothing
+    is_broken: bool,
+    failures: u64,
+}
+
+impl Sink for CountingSink {
+    ghost use Rattle.std.specs.Prelude.{None};
+
+    ghost taken = { λ _. None };
+
+    ghost failed_writes = { λ sink. sink.failures };
+
+    ghost failed_flushes = { λ _. 0 };
+
+    ghost flushes = { λ sink. sink.flushes };
+
+    fn write(&mut self, part: &[u8]) -> Result<usize, SinkFault> {
+        if part.is_empty() {
+            self.empty = self.empty.saturating_add(1);
+        }
+        if self.is_broken {
+            self.failures = self.failures.saturating_add(1);
+            return Err(SinkFault);
+        }
+        self.taken = self.taken.saturating_add(part.len() as u64);
+        Ok(part.len())
+    }
+
+    fn flush(&mut self) -> Result<(), SinkFault> {
+        self.flushes = self.flushes.saturating_add(1);
+        Ok(())
+    }
+}
+
+// A sink that was asked for nothing.
+fn sink(is_broken: bool) -> CountingSink {
+    CountingSink {
+        taken: 0,
+        empty: 0,
+        flushes: 0,
+        is_broken,
+        failures: 0,
+    }
+}
+
+// Texts of which the first includes the others, with empty bodies, actuals and texts.
+const FILES: [(&str, &[u8]); 4] = [
+    (
+        "m",
+        b"`define E\n`define K(x) x\n`E`K()`K(`E)\n`include \"i\"\n`include \"i\"`include \"e\"\n`ifdef E `endif\n",
+    ),
+    ("i", b"`E`include \"j\""),
+    ("j", b"j\nk"),
+    ("e", b""),
+];
+
+// Each text is searched once for each directive that names it, no part without bytes is written, and no reader is asked after
+// its end.
+#[test]
+fn asks_once(rt: HostRuntime) {
+    let mut asked = NOTHING;
+    let texts = AskedTexts {
+        texts: Texts {
+            files: &FILES,
+            folders: &[],
+        },
+        main: None,
+        searches: 99,
+        asked: &mut asked,
+        failures: 0,
+    };
+    let options = Options {
+        defines: Vec::new(rt.alloc()),
+        limits: STANDARD,
+        origins: true,
+    };
+    let mut counting = sink(false);
+    let outcome = preprocess(rt.alloc(), &options, texts, "m", &mut counting);
+    assert!(rt; outcome.is_ok_and(|count| count == counting.taken));
+    assert_eq!(rt; counting.empty, 0);
+    assert_eq!(rt; counting.flushes, 1);
+    let wanted = Asked {
+        tops: 1,
+        finds: 5,
+        late_reads: 0,
+    };
+    assert_eq!(rt; asked, wanted);
+}
+
+// Nothing is asked of the sources where a definition is refused; else the main text is, once.
+#[test]
+fn opens_nothing_after_a_refused_definition(rt: HostRuntime) -> Result<(), Fail> {
+    for (name, tops) in [("define", 0), ("W", 1)] {
+        let mut asked = NOTHING;
+        let texts = AskedTexts {
+            texts: Texts {
+                files: &FILES,
+                folders: &[],
+            },
+            main: None,
+            searches: 99,
+            asked: &mut asked,
+            failures: 0,
+        };
+        let mut defines = Vec::new(rt.alloc());
+        defines.push((
+            String::from_str(rt.alloc(), name)?,
+            String::from_str(rt.alloc(), "8")?,
+        ))?;
+        let options = Options {
+            defines,
+            limits: STANDARD,
+            origins: false,
+        };
+        let outcome = preprocess(rt.alloc(), &options, texts, "m", &mut sink(true));
+        assert!(rt; outcome.is_err());
+        assert_eq!(rt; asked.tops, tops);
+        assert_eq!(rt; asked.finds, 0);
+    }
+    Ok(())
+}
+
+// A failed write names the path that was asked for.
+#[test]
+fn names_the_path_of_a_failed_write(rt: HostRuntime) {
+    let mut asked = NOTHING;
+    let texts = AskedTexts {
+        texts: Texts {
+            files: &FILES,
+            folders: &[],
+        },
+        main: Some("other"),
+        searches: 99,
+        asked: &mut asked,
+        failures: 0,
+    };
+    let options = Options {
+        defines: Vec::new(rt.alloc()),
+        limits: STANDARD,
+        origins: false,
+    };
+    let outcome = preprocess(rt.alloc(), &options, texts, "m", &mut sink(true));
+    let Some(fault) = fault_of(&outcome) else {
+        panic!(rt; "no fault");
+    };
+    assert_eq!(rt; fault.kind, FaultKind::WriteFailed);
+    assert_eq!(rt; fault.name.as_str(), "m");
+    assert_eq!(rt; fault.line, 0);
+}

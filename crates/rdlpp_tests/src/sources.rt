@@ -1,0 +1,183 @@
+// Sources whose answers a test chooses, and which count what they are asked for.
+use arrayvec::ArrayString;
+use rdlpp::{Found, SourceFault, Sources, Texts};
+use rdlpp_source::TextReader;
+
+/// What a reader does after the bytes of its text.
+#[derive(Clone, Copy)]
+pub enum After {
+    /// Each read fails.
+    Failure,
+    /// The byte comes for ever.
+    Endless(u8),
+}
+
+/// One main text, whose path is the one asked for.
+#[derive(Drop)]
+pub struct DealtText<'a> {
+    /// The bytes of the text, which come in one read.
+    pub text: &'a [u8],
+    /// What comes after them.
+    pub after: After,
+    /// How often a read failed.
+    pub failures: u64,
+}
+
+/// What reads such a text: the bytes that are left.
+#[derive(Drop)]
+pub struct DealtReader<'a> {
+    left: &'a [u8],
+}
+
+impl<'a> Sources for DealtText<'a> {
+    type Reader = DealtReader<'a>;
+
+    ghost use Rattle.std.specs.Prelude.{[]};
+    ghost use Rattle.rdlpp_source.specs.Sources.{Missing};
+
+    ghost tells = { λ _. ⊥ };
+
+    ghost catalog = { λ _. record { top = λ _. Missing; find = λ _ _. Missing } };
+
+    ghost unread = { λ _. [] };
+
+    ghost failures = { λ source. source.failures };
+
+    ghost refusals = { λ _. 0 };
+
+    fn top(&mut self, path: &str) -> Result<Found<DealtReader<'a>>, SourceFault> {
+        match ArrayString::from(path) {
+            Ok(path) => Ok(Found {
+                path,
+                reader: DealtReader { left: self.text },
+            }),
+            Err(_) => Err(SourceFault::PathTooLong),
+        }
+    }
+
+    fn find(&mut self, _from: &str, _name: &str) -> Result<Found<DealtReader<'a>>, SourceFault> {
+        Err(SourceFault::Absent)
+    }
+
+    fn read(&mut self, reader: &mut DealtReader<'a>, to: &mut [u8]) -> Result<usize, SourceFault> {
+        let len = to.len().min(reader.left.len());
+        if 0 < len {
+            to[..len].copy_from_slice(&reader.left[..len]);
+            reader.left = &reader.left[len..];
+            return Ok(len);
+        }
+        match self.after {
+            After::Failure => {
+                self.failures = self.failures.saturating_add(1);
+                Err(SourceFault::Device)
+            }
+            After::Endless(byte) => {
+                to.fill(byte);
+                Ok(to.len())
+            }
+        }
+    }
+}
+
+/// How often sources were asked, and how often a reader was asked after it had told its end.
+#[derive(Clone, Copy, Debug, PartialEq, Eq)]
+pub struct Asked {
+    /// How often a main text was asked for.
+    pub tops: u64,
+    /// How often an included text was searched.
+    pub finds: u64,
+    /// How often a reader was asked after its end.
+    pub late_reads: u64,
+}
+
+/// Nothing was asked.
+pub const NOTHING: Asked = Asked {
+    tops: 0,
+    finds: 0,
+    late_reads: 0,
+};
+
+/// Texts in memory that count what is asked of them, and of which so many searches go well. The main text may have another
+/// path than the one asked for.
+#[derive(Drop)]
+pub struct AskedTexts<'a> {
+    /// The texts.
+    pub texts: Texts<'a>,
+    /// The path of the main text, where it is another one than the one asked for.
+    pub main: Option<&'a str>,
+    /// How many searches go well; each later one fails.
+    pub searches: u64,
+    /// What was asked.
+    pub asked: &'a mut Asked,
+    /// How often a search failed.
+    pub failures: u64,
+}
+
+/// What reads such a text.
+#[derive(Drop)]
+pub struct AskedReader<'a> {
+    reader: TextReader<'a>,
+    // whether it told its end
+    ended: bool,
+}
+
+// A text that was found, with a reader that knows its end.
+fn watched<'a>(found: Found<TextReader<'a>>) -> Found<AskedReader<'a>> {
+    Found {
+        path: found.path,
+        reader: AskedReader {
+            reader: found.reader,
+            ended: false,
+        },
+    }
+}
+
+impl<'a> Sources for AskedTexts<'a> {
+    type Reader = AskedReader<'a>;
+
+    ghost use Rattle.std.specs.Prelude.{[]};
+    ghost use Rattle.rdlpp_source.specs.Sources.{Missing};
+
+    ghost tells = { λ _. ⊥ };
+
+    ghost catalog = { λ _. record { top = λ _. Missing; find = λ _ _. Missing } };
+
+    ghost unread = { λ _. [] };
+
+    ghost failures = { λ source. source.failures };
+
+    ghost refusals = { λ _. 0 };
+
+    fn top(&mut self, path: &str) -> Result<Found<AskedReader<'a>>, SourceFault> {
+        self.asked.tops = self.asked.tops.saturating_add(1);
+        if self.searches == 0 {
+            self.failures = self.failures.saturating_add(1);
+            return Err(SourceFault::Device);
+        }
+        self.searches -= 1;
+        let mut found = self.texts.top(path)?;
+        if let Some(main) = self.main {
+            found.path = ArrayString::from(main).map_err(|_| SourceFault::PathTooLong)?;
+        }
+        Ok(watched(found))
+    }
+
+    fn find(&mut self, from: &str, name: &str) -> Result<Found<AskedReader<'a>>, SourceFault> {
+        self.asked.finds = self.asked.finds.saturating_add(1);
+        if self.searches == 0 {
+            self.failures = self.failures.saturating_add(1);
+            return Err(SourceFault::Device);
+        }
+        self.searches -= 1;
+        Ok(watched(self.texts.find(from, name)?))
+    }
+
+    fn read(&mut self, reader: &mut AskedReader<'a>, to: &mut [u8]) -> Result<usize, SourceFault> {
+        if reader.ended {
+            self.asked.late_reads = self.asked.late_reads.saturating_add(1);
+        }
+        let len = self.texts.read(&mut reader.reader, to)?;
+        reader.ended = len == 0 && !to.is_empty();
+        Ok(len)
+    }
+}
