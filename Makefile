@@ -1,9 +1,15 @@
 # The few commands that a reader of this repository needs. `make help` lists them.
-.PHONY: help build run test check c python fuzz install fmt bench definitions
+.PHONY: help build run test check c python fuzz install uninstall dist clean fmt bench definitions
 .DELETE_ON_ERROR:
 
-# Where `make install` puts the program and its manual page, below DESTDIR where that is given.
+# Where `make install` puts its files, below DESTDIR where that is given.
 PREFIX ?= /usr/local
+to = $(DESTDIR)$(PREFIX)
+
+VERSION := $(shell cat VERSION)
+shared = librdlpp_c.so
+# The name by which a program that is linked with the shared library asks for it.
+soname = $(shared).$(basename $(VERSION))
 
 # How many crates `make build` and `make c` prove side by side.
 JOBS ?= $(shell nproc)
@@ -38,9 +44,9 @@ crates/rdlpp_refusals/out/rdlpp_refusals: $(call sources,rdlpp_refusals)
 	@cd crates/rdlpp_refusals && rt run < stdin > /dev/null
 	@touch $@
 
-c: out/librdlpp_c.a ## prove and build the library for C, which becomes out/librdlpp_c.a, and out/librdlpp_c.so where there is a C compiler
+c: out/librdlpp_c.a ## prove and build the library for C, which becomes out/librdlpp_c.a and out/librdlpp_c.so
 
-out/librdlpp_c.a: $(call sources,rdlpp_c) checks/c/library
+out/librdlpp_c.a: $(call sources,rdlpp_c) checks/c/library VERSION
 	@cd crates/rdlpp_c && rt all check --jobs $(JOBS) && rt lib
 	@checks/c/library
 
@@ -50,13 +56,28 @@ python: out/librdlpp_c.a ## build the library for C and the wheel of the Python 
 fuzz: out/rdlpp ## run the program over random sources: SEED=1 CASES=2000, or other numbers
 	@checks/random $(or $(SEED),1) $(or $(CASES),2000)
 
-install: out/rdlpp out/librdlpp_c.a ## put the program and the library for C, with manual page, header and rdlpp.pc, below PREFIX (/usr/local)
-	install -D -m 755 out/rdlpp '$(DESTDIR)$(PREFIX)/bin/rdlpp'
-	install -D -m 644 docs/rdlpp.1 '$(DESTDIR)$(PREFIX)/share/man/man1/rdlpp.1'
-	install -D -m 644 out/librdlpp_c.a '$(DESTDIR)$(PREFIX)/lib/librdlpp_c.a'
-	install -D -m 644 include/rdlpp.h '$(DESTDIR)$(PREFIX)/include/rdlpp.h'
-	@mkdir -p '$(DESTDIR)$(PREFIX)/lib/pkgconfig'
-	sed 's|@PREFIX@|$(PREFIX)|' include/rdlpp.pc.in > '$(DESTDIR)$(PREFIX)/lib/pkgconfig/rdlpp.pc'
+install: out/rdlpp out/librdlpp_c.a ## put program, manual page, header, libraries for C and rdlpp.pc below PREFIX (/usr/local); builds only what is older than a source
+	install -D -m 755 out/rdlpp '$(to)/bin/rdlpp'
+	install -D -m 644 docs/rdlpp.1 '$(to)/share/man/man1/rdlpp.1'
+	install -D -m 644 include/rdlpp.h '$(to)/include/rdlpp.h'
+	install -D -m 644 out/librdlpp_c.a '$(to)/lib/librdlpp_c.a'
+	install -D -m 755 out/$(shared).$(VERSION) '$(to)/lib/$(shared).$(VERSION)'
+	ln -sf $(shared).$(VERSION) '$(to)/lib/$(soname)'
+	ln -sf $(shared).$(VERSION) '$(to)/lib/$(shared)'
+	@mkdir -p '$(to)/lib/pkgconfig'
+	sed 's|@PREFIX@|$(PREFIX)|; s|@VERSION@|$(VERSION)|' include/rdlpp.pc.in > '$(to)/lib/pkgconfig/rdlpp.pc'
+
+uninstall: ## take away what `make install` put below PREFIX
+	cd '$(to)' && rm -f bin/rdlpp share/man/man1/rdlpp.1 include/rdlpp.h lib/librdlpp_c.a \
+		lib/$(shared).$(VERSION) lib/$(soname) lib/$(shared) lib/pkgconfig/rdlpp.pc
+
+dist: out/rdlpp out/librdlpp_c.a ## make packages in out/: the committed sources, the wheel, and where there is dpkg-deb a Debian package
+	@packaging/source
+	@python3 python/wheel_backend.py out
+	@packaging/debian
+
+clean: ## remove all that was built, and what proofs were kept, so that the next build proves all anew
+	rm -rf out crates/*/out
 
 fmt: ## lay out every file
 	@for crate in crates/*/; do (cd $$crate && rt fmt); done

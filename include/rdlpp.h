@@ -6,7 +6,8 @@
  *     rdlpp_version
  *
  * LINKING
- *     librdlpp_c.a has all that is needed but the C library. `make c` makes it, and librdlpp_c.so.
+ *     librdlpp_c.a has all that is needed but the C library, and so has librdlpp_c.so; `make c` makes both,
+ *     and rdlpp.pc says how an installed one is linked. Their only global names are those below.
  *
  * OWNERSHIP
  *     What a pointer leads to is lent for the call. The library keeps no pointer when a call returns,

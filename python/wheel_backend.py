@@ -7,14 +7,18 @@ setuptools nor wheel, nor a network. `make python` runs it, and so does `pip whe
 import base64
 import hashlib
 import pathlib
+import re
 import sys
 import zipfile
 
 HERE = pathlib.Path(__file__).resolve().parent
 LIBRARY = HERE.parent / "out" / "librdlpp_c.so"
 NAME = "rdlpp"
-VERSION = "0.1.0"
-TAG = "py3-none-linux_x86_64"
+VERSION = (HERE.parent / "VERSION").read_text().strip()
+# The oldest C library that the wheel's platforms have, by which pip and indexes know where it runs.
+GLIBC = (2, 17)
+PLATFORMS = ("manylinux_2_17_x86_64", "manylinux2014_x86_64")
+TAG = "py3-none-" + ".".join(PLATFORMS)
 METADATA = f"""Metadata-Version: 2.1
 Name: {NAME}
 Version: {VERSION}
@@ -26,18 +30,26 @@ Classifier: Programming Language :: Python :: Implementation :: CPython
 WHEEL = f"""Wheel-Version: 1.0
 Generator: rdlpp {VERSION}
 Root-Is-Purelib: false
-Tag: {TAG}
-"""
+""" + "".join(f"Tag: py3-none-{platform}\n" for platform in PLATFORMS)
+
+
+def _library():
+    """The shared library. It asks for no newer C library than the wheel's platforms have."""
+    if not LIBRARY.exists():
+        sys.exit(f"no {LIBRARY}: run make c first")
+    held = LIBRARY.read_bytes()
+    asked = {(int(first), int(second)) for first, second in re.findall(rb"GLIBC_(\d+)\.(\d+)", held)}
+    if max(asked) > GLIBC:
+        sys.exit(f"{LIBRARY} asks for glibc {max(asked)}, and the wheel's platforms have {GLIBC}")
+    return held
 
 
 def _files():
     """What the wheel has: each path with its bytes."""
-    if not LIBRARY.exists():
-        sys.exit(f"no {LIBRARY}: run make c first")
     for file in sorted((HERE / NAME).iterdir()):
         if file.suffix in (".py", ".typed"):
             yield f"{NAME}/{file.name}", file.read_bytes()
-    yield f"{NAME}/{LIBRARY.name}", LIBRARY.read_bytes()
+    yield f"{NAME}/{LIBRARY.name}", _library()
     yield f"{NAME}-{VERSION}.dist-info/METADATA", METADATA.encode()
     yield f"{NAME}-{VERSION}.dist-info/WHEEL", WHEEL.encode()
 

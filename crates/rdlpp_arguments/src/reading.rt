@@ -1,5 +1,5 @@
 // The reading of a call, token by token, over any number of refills.
-ghost use Rattle.std.specs.Prelude.{◌≡◌, ◌≢◌, ℕ, ◌+◌, ◌-◌, ◌^◌, ◌≤◌, ◌<◌, [], length, take};
+ghost use Rattle.std.specs.Prelude.{◌≡◌, ◌≢◌, ℕ, ◌+◌, ◌-◌, ◌^◌, ◌≤◌, ◌<◌, [], length, take, true};
 ghost use Rattle.rdlpp_scan.specs.declared.token.Mode.TheVariants.{InStr, Plain};
 ghost use Rattle.rdlpp_meaning.specs.CallScan.{Before};
 ghost use Rattle.rdlpp_read.specs.Buffer.{held_of};
@@ -75,6 +75,7 @@ pub fn read_call<S: Sources>(
     ensures room { store.new.most ≡ store.old.most }
     ensures call { SourcesRead S.Sources (is_failed_call result) sources.old sources.new }
     ensures reads { ReadsCall (S.tells sources.old) S.unread Before store.old.most store.new.bytes result files.old.nest files.new.nest }
+    ensures unheld { is_failed_call result ≡ true → held_of (inner_buffer files.new.nest) ≡ [] }
     ensures fault { IsReadFault result }
     ensures line { IsReadLine result }
     ensures means { MeansCall (S.tells sources.old) S.unread store.old.most store.new.bytes (inner_buffer files.old.nest) (inner_buffer files.new.nest) result }
@@ -173,6 +174,7 @@ fn read_tokens<S: Sources>(
     ensures room { store.new.most ≡ store.old.most }
     ensures call { SourcesRead S.Sources (is_failed_call result) sources.old sources.new }
     ensures reads { ReadsCall (S.tells sources.old) S.unread Before store.old.most store.new.bytes result files.old.nest files.new.nest }
+    ensures unheld { is_failed_call result ≡ true → held_of (inner_buffer files.new.nest) ≡ [] }
     ensures fault { IsReadFault result }
     ensures line { IsReadLine result }
 {

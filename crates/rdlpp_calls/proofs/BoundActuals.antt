@@ -1,5 +1,5 @@
 -- A call whose actuals are bound to ranges of its text is that of the definition.
-use Rattle.rdlpp_meaning.specs.Expansion.{Refuses, Opens, is_count, usage_of_call, usage_of_formals}
+use Rattle.rdlpp_meaning.specs.Expansion.{Refuses, Opens, is_count, usage_of_call, usage_of_formals, bound_parts}
 use Rattle.std.proofs.Common.{◌≡◌, ◌≤◌, ◌<◌, ℕ, zero, suc, ◌+◌, Bool, true, false, cond, List, [], ◌∷◌, map, length, drop, filter, All, sym, ap, ◌∙◌, subst, arith}
 use Rattle.std.specs.Prelude.{slice_range, Ok, Err}
 use Rattle.std.specs.List.{AllByRecursion, prefix_len}
@@ -13,7 +13,6 @@ use Rattle.rdlpp_meaning.specs.declared.fault.FaultKind.TheVariants.{ArgumentsMi
 use Rattle.rdlpp_meaning.specs.State.{Rules}
 use Rattle.rdlpp_meaning.specs.Actuals.{Role, Cut, Call, Lacking, Bound, call_of, is_space, behind_space, trimmed, token_role, level_behind, not_kept, text_reads}
 use Rattle.rdlpp_meaning.specs.CallScan.{Split, Closed, split_by, split, all_parts, call_of_scan, is_kept}
-use Rattle.rdlpp_meaning.specs.Expansion.{bound_parts}
 use Rattle.rdlpp_meaning.specs.Opens.{part_tokens}
 use Rattle.rdlpp_meaning.specs.Substitution.{body_tokens}
 use Rattle.rdlpp_calls.specs.declared.bindings.Range.{Range}

@@ -246,14 +246,3 @@ closer_some (t ∷ ts) at k n all e =
     let r = token_role t in
     ended_by (ends_call r k) t ts at k n (closer_from (at + length t.bytes) (level_behind r k) ts) refl (All-head P t ts all)
     (λ h. closer_some ts (at + length t.bytes) (level_behind r k) n (All-tail P t ts all) h) e
-
--- what is missing of a call is a fault of a call
-pub missing_fault : (fault : CallFault) → is_call_fault (call_fault_kind fault) ≡ true
-unfolding is_call_fault call_fault_kind
-missing_fault Missing = refl
-missing_fault Unclosed = refl
-
--- so is a wrong count
-pub count_fault : (kind : FaultKind) → kind ≡ ArgumentCount → is_call_fault kind ≡ true
-unfolding is_call_fault
-count_fault kind e = ap (λ (k : FaultKind). is_call_fault k) e

@@ -1,12 +1,11 @@
 -- A call that is bound while its `)` is sought is that of the definition.
-use Rattle.rdlpp_meaning.specs.Expansion.{is_count}
+use Rattle.rdlpp_meaning.specs.Expansion.{is_count, bound_parts}
 use Rattle.std.proofs.Common.{◌≡◌, ◌≤◌, ◌<◌, ℕ, ◌+◌, ◌-◌, Bool, true, false, cond, List, [], ◌∷◌, length, take, drop, refl, sym, ap, ◌∙◌, subst, arith, Option, Some, None, Ok, Err}
 use Rattle.std.specs.Prelude.{slice_range}
 use Rattle.std.proofs.lemmas.List.{drop-take, length-take, take-take}
 use Rattle.rdlpp_scan.specs.SourceTokens.{SourceToken}
 use Rattle.rdlpp_meaning.specs.declared.fault.FaultKind.TheVariants.{ArgumentsMissing, ArgumentsOpen, ArgumentCount}
 use Rattle.rdlpp_meaning.specs.Actuals.{level_behind, token_role}
-use Rattle.rdlpp_meaning.specs.Expansion.{bound_parts}
 use Rattle.rdlpp_meaning.specs.Opens.{part_tokens}
 use Rattle.rdlpp_meaning.specs.Substitution.{body_tokens}
 use Rattle.rdlpp_meaning.proofs.OpenScopes.{range_behind}

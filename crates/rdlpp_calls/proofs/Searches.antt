@@ -49,18 +49,6 @@ closer_turn mode text at level token f =
     ∙ ap (λ (n : ℕ). later (role_meant token.role) n (drop token.len (drop at text))) f.size
     ∙ ap (λ (x : List ℕ). later (role_meant token.role) token.len x) (rest_behind mode text at token)
 
--- the search for the end of white space at a token
-pub space_turn : (mode : Mode) (text : List ℕ) (at : ℕ) (token : CallToken) → IsFirstToken mode (drop at text) token
-    → space_from at (text_tokens mode (drop at text))
-    ≡ cond (is_space (role_meant token.role)) (space_from (at + token.len) (text_tokens token.next_mode (drop (at + token.len) text))) at
-unfolding space_from
-space_turn mode text at token f =
-    let later : Role → ℕ → List ℕ → ℕ = λ r n x. cond (is_space r) (space_from (at + n) (text_tokens token.next_mode x)) at in
-    ap (space_from at) f.tokens
-    ∙ ap (λ (r : Role). later r (length f.first.bytes) (drop token.len (drop at text))) f.role_is
-    ∙ ap (λ (n : ℕ). later (role_meant token.role) n (drop token.len (drop at text))) f.size
-    ∙ ap (λ (x : List ℕ). later (role_meant token.role) token.len x) (rest_behind mode text at token)
-
 -- the search for the end of a part at a token
 pub part_turn : (mode : Mode) (text : List ℕ) (start at level end : ℕ) (token : CallToken) → IsFirstToken mode (drop at text) token
     → part_from start at level end (text_tokens mode (drop at text))

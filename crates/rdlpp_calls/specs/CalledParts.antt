@@ -1,11 +1,10 @@
 -- The parts of a call that are found while its `)` is sought.
 -- A definition that names no source is this project's own.
-use Rattle.rdlpp_meaning.specs.Expansion.{is_count}
+use Rattle.rdlpp_meaning.specs.Expansion.{is_count, bound_parts}
 use Rattle.std.specs.Prelude.{◌≡◌, ℕ, ◌+◌, ◌<◌, ◌≤◌, ◌==◌, true, false, List, [], ◌∷◌, length, drop, slice_range, Option, None, Some, if◌then◌else◌}
 use Rattle.rdlpp_scan.specs.SourceTokens.{SourceToken}
 use Rattle.rdlpp_table.specs.Table.{Formal}
 use Rattle.rdlpp_meaning.specs.Actuals.{level_behind, is_space, token_role}
-use Rattle.rdlpp_meaning.specs.Expansion.{bound_parts}
 use Rattle.rdlpp_meaning.specs.Substitution.{body_tokens}
 use Rattle.rdlpp_calls.specs.BoundCalls.{AreWithin, actuals_of, added, ranges_tokens}
 use Rattle.rdlpp_calls.specs.CallParts.{closer_from, ends_call, ends_part}

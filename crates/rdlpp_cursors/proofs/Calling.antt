@@ -1,8 +1,7 @@
 -- A usage of a macro with a list in open texts: its call is bound and its body opens, or it is refused.
 use Rattle.rdlpp_meaning.specs.Actuals.{text_reads}
 use Rattle.rdlpp_meaning.specs.Expansion.{Opens, usage_of_formals}
-use Rattle.std.proofs.Common.{◌≡◌, ℕ, suc, ◌+◌, ◌-◌, ◌<◌, ◌≤◌, true, true≢false, List, [], ◌∷◌, map, length, drop, refl, sym, ap, subst, ◌∙◌, arith}
-use Rattle.std.proofs.Common.{Option, None, Some, is_some, unwrap_or, Err}
+use Rattle.std.proofs.Common.{◌≡◌, ℕ, suc, ◌+◌, ◌-◌, ◌<◌, ◌≤◌, true, true≢false, List, [], ◌∷◌, map, length, drop, refl, sym, ap, subst, ◌∙◌, arith, Option, None, Some, is_some, unwrap_or, Err}
 use Rattle.std.specs.Prelude.{slice_range}
 use Rattle.std.specs.List.{AllByRecursion}
 use Rattle.std.proofs.lemmas.List.{length-take, length-drop, length-map}

@@ -1,11 +1,9 @@
 -- The slots of open texts and the ranges that they have bound, as one text moves, opens or closes.
-use Rattle.std.proofs.Common.{◌≡◌, ℕ, ◌+◌, ◌-◌, ◌*◌, ◌<◌, ◌≤◌, List, [], ◌∷◌, map, length, take, drop, get_or, refl, sym, ap, subst, ◌∙◌, arith}
-use Rattle.std.proofs.Common.{Global, Bool, true, false}
+use Rattle.std.proofs.Common.{◌≡◌, ℕ, ◌+◌, ◌-◌, ◌*◌, ◌<◌, ◌≤◌, List, [], ◌∷◌, map, length, take, drop, get_or, refl, sym, ap, subst, ◌∙◌, arith, Global, Bool, true, false}
 use Rattle.std.proofs.lemmas.Bool.{eqb-true, eqb-false, le-leb, lt-leb}
 use Rattle.std.specs.Prelude.{vec_capacity, vec_len, Vec, ◌==◌, nat_le}
-use Rattle.std.proofs.lemmas.List.{drop-set, drop_all, length-drop, length-take, length-map, take_all}
+use Rattle.std.proofs.lemmas.List.{drop-set, drop_all, length-drop, length-take, length-map, take_all, take_rest}
 use Rattle.std.proofs.Math.ListN.{set, length-set}
-use Rattle.std.proofs.lemmas.List.{take_rest}
 use Rattle.rdlpp_scan.specs.declared.token.Mode.TheVariants.{Plain}
 use Rattle.rdlpp_meaning.specs.Opens.{Open, OpenBody}
 use Rattle.rdlpp_calls.specs.BoundCalls.{range_part}
@@ -14,9 +12,8 @@ use Rattle.rdlpp_table.proofs.Sizes.{count_items}
 use Rattle.rdlpp_cursors.specs.declared.slot.Slot.{Slot}
 use Rattle.rdlpp_cursors.specs.declared.slot.SlotKind.{SlotKind}
 use Rattle.rdlpp_cursors.specs.declared.slot.SlotKind.TheVariants as slot
-use Rattle.rdlpp_cursors.specs.Opened.{bindings_below, open_of, opens_of, AreLaid, IsStack, bound_by, moved_to, kept_by, IsNoBody, CursorsView}
+use Rattle.rdlpp_cursors.specs.Opened.{bindings_below, open_of, opens_of, AreLaid, IsStack, bound_by, moved_to, kept_by, IsNoBody, CursorsView, AreBounded}
 use Rattle.rdlpp_cursors.specs.declared.slot.Bounds.{Bounds}
-use Rattle.rdlpp_cursors.specs.Opened.{AreBounded}
 use Rattle.rdlpp_cursors.proofs.Bounding.{closed-bounded, more-bounded, moved-bounded, none-bounded, slots-at, IsBoundedOn}
 use Rattle.rdlpp_cursors.proofs.Scoping.{opens-length}
 

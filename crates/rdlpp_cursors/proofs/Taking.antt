@@ -135,12 +135,6 @@ unfolding is_idle
 idle-usage true count len f e = ap (λ (g : Front). is_idle true count g) e
 idle-usage false count len f e = refl
 
--- a lone backquote is a fault
-pub idle-bare : (lent : Bool) (count : ℕ) (f : Front) → f ≡ front.Bare → is_idle lent count f ≡ false
-unfolding is_idle
-idle-bare true count f e = ap (λ (g : Front). is_idle true count g) e
-idle-bare false count f e = refl
-
 -- open texts that go on where they do are the same
 moved-same : (texts : Texts) (view mid : CursorsView) (look : Look) → AreSound texts view.opens → IsLookAhead texts view.opens look → look.at ≤ look.from
     → mid ≡ record { opens = moved_to look.at view.opens; line = view.line; depth = view.depth } → mid ≡ view

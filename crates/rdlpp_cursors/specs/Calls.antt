@@ -1,12 +1,11 @@
 -- A call that is bound in open texts.
 -- A definition that names no source is this project's own.
-use Rattle.rdlpp_meaning.specs.Expansion.{is_count}
+use Rattle.rdlpp_meaning.specs.Expansion.{is_count, bound_parts}
 use Rattle.std.specs.Prelude.{◌≡◌, ℕ, ◌<◌, ◌≤◌, true, false, List, [], ◌∷◌, map, length, Ok, Err}
 use Rattle.rdlpp_table.specs.Table.{Macro}
 use Rattle.rdlpp_table.specs.View.{macro_at, formals_of}
 use Rattle.rdlpp_meaning.specs.declared.fault.FaultKind.{FaultKind}
 use Rattle.rdlpp_meaning.specs.declared.fault.FaultKind.TheVariants.{ArgumentCount}
-use Rattle.rdlpp_meaning.specs.Expansion.{bound_parts}
 use Rattle.rdlpp_meaning.specs.Opens.{Texts, open_body}
 use Rattle.rdlpp_meaning.specs.Substitution.{body_tokens}
 use Rattle.rdlpp_calls.specs.declared.bindings.Range.{Range}

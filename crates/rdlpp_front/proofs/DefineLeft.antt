@@ -132,7 +132,7 @@ unfolding logical_len is_line_end is_continued seven_more
 define_logical rest = ap seven_more (logical_len-behind 110 101 rest refl refl)
 
 -- a `define` begins with that word
-define_begins : (held : List ℕ) → 0 < length held → IsDirective Define held → held ≡ codes "`define" ++ drop 7 held
+pub define_begins : (held : List ℕ) → 0 < length held → IsDirective Define held → held ≡ codes "`define" ++ drop 7 held
 define_begins held some is =
     let seven = word_len Define held some is in
     sym (take-append-drop 7 held) ∙ ap (λ (xs : List ℕ). xs ++ drop 7 held) (ap (λ (i : ℕ). take i held) (sym seven) ∙ is.word)

@@ -1,6 +1,6 @@
 -- The LF that an included text is followed by, as a reader tells it that takes the text in parts: by whether a byte came at all and
 -- whether the last one was an LF.
-use Rattle.std.proofs.Common.{◌≡◌, ℕ, suc, ◌-◌, Bool, true, false, not, List, [], ◌∷◌, ◌++◌, length, refl, sym, ap, ◌∙◌, arith}
+use Rattle.std.proofs.Common.{◌≡◌, ℕ, suc, ◌-◌, Bool, true, false, not, List, [], ◌∷◌, length, refl, sym, ap, ◌∙◌, arith}
 use Rattle.std.specs.Prelude.{if◌then◌else◌, slice_index, ◌==◌}
 use Rattle.rdlpp_scan.specs.Bytes.{is_line_end}
 use Rattle.rdlpp_meaning.specs.Meaning.{added_end}
@@ -13,12 +13,6 @@ in_line torn (b ∷ bs) = in_line (not (is_line_end b)) bs
 -- an LF where a text ends in mid-line
 unfoldable pub line_end_if : Bool → List ℕ
 line_end_if torn = if torn then 10 ∷ [] else []
-
--- behind bytes and then bytes
-pub in_line-append : (torn : Bool) (x y : List ℕ) → in_line torn (x ++ y) ≡ in_line (in_line torn x) y
-unfolding in_line
-in_line-append torn [] y = refl
-in_line-append torn (b ∷ x) y = in_line-append (not (is_line_end b)) x y
 
 -- the last byte of a text that isn't empty tells it
 in_line-index : (torn : Bool) (b : ℕ) (bs : List ℕ) → in_line torn (b ∷ bs) ≡ not (slice_index (b ∷ bs) (length bs) == 10)
@@ -41,7 +35,3 @@ added_end-in_line (b ∷ bs) =
     ap (λ (k : ℕ). if slice_index (b ∷ bs) k == 10 then [] else 10 ∷ []) n
     ∙ other_choice (slice_index (b ∷ bs) (length bs) == 10)
     ∙ ap line_end_if (sym (in_line-index false b bs))
-
--- the same of a text of which a part was read, and in mid-line of which the reader stands
-pub added_end-behind : (read rest : List ℕ) → added_end (read ++ rest) ≡ line_end_if (in_line (in_line false read) rest)
-added_end-behind read rest = added_end-in_line (read ++ rest) ∙ ap line_end_if (in_line-append false read rest)

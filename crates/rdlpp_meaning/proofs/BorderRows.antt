@@ -4,16 +4,10 @@ use Rattle.std.specs.Fmt.{digits}
 use Rattle.rdlpp_table.specs.Table.{Macro}
 use Rattle.rdlpp_table.specs.View.{most_formals}
 use Rattle.rdlpp_meaning.specs.declared.fault.FaultKind.TheVariants as fault
+use Rattle.rdlpp_meaning.specs.Outcome.{Outcome}
 use Rattle.rdlpp_meaning.specs.State.{LongPath, Rules}
 use Rattle.rdlpp_meaning.specs.Output.{output}
-use Rattle.rdlpp_meaning.proofs.Rows.{standard, row, whole_output}
-
--- the directive `line`
-
-text_and_a_blank_before_line : row standard false (record { path = codes "m"; text = codes "x `line 5 \"v\" 0\n" } ∷ [])
-    ≡ record { bytes = codes "x "; fault = Some (record { kind = fault.BadLine; name = codes "m"; line = 1; word = [] }) }
-unfolding row
-text_and_a_blank_before_line = refl
+use Rattle.rdlpp_meaning.proofs.Rows.{File, standard, row, whole_output}
 
 -- a `line` whose name has so many bytes, and a usage of a name that isn't defined
 unfoldable renumbering_to : ℕ → List ℕ
@@ -29,47 +23,6 @@ name_of_1025_bytes_in_line : row standard false (record { path = codes "m"; text
 unfolding row renumbering_to
 name_of_1025_bytes_in_line = refl
 
-name_not_utf8_in_line : row standard false (record { path = codes "m"; text = codes "`line 3 \"" ++ (255 ∷ codes "\" 0\n") } ∷ [])
-    ≡ record { bytes = []; fault = Some (record { kind = fault.BadLine; name = codes "m"; line = 1; word = [] }) }
-unfolding row
-name_not_utf8_in_line = refl
-
-byte_before_the_levels_in_line : row standard false (record { path = codes "m"; text = codes "`line 5 \"a\" /\n" } ∷ [])
-    ≡ record { bytes = []; fault = Some (record { kind = fault.BadLine; name = codes "m"; line = 1; word = [] }) }
-unfolding row
-byte_before_the_levels_in_line = refl
-
--- the name of an `include`
-
-name_not_utf8_in_include : row standard false
-    (record { path = codes "m"; text = codes "`include \"" ++ (255 ∷ codes "\"\n") } ∷ record { path = 255 ∷ []; text = codes "q\n" } ∷ [])
-    ≡ record { bytes = []; fault = Some (record { kind = fault.IncludeName; name = codes "m"; line = 1; word = [] }) }
-unfolding row
-name_not_utf8_in_include = refl
-
--- the bytes of a call's actuals, which count in a source alone
-
-long_call_in_a_body : row (record standard { argument_bytes = 16 }) false
-    (record { path = codes "m"; text = codes "`define K(x) k\n`define L `K(0123456789abcdefg)\n`L\n" } ∷ [])
-    ≡ whole_output (codes "\n\nk\n")
-unfolding row
-long_call_in_a_body = refl
-
-long_call_in_an_actual : row (record standard { argument_bytes = 16 }) false
-    (record { path = codes "m"; text = codes "`define K(x) k\n`define I(x) x\n`define L `I(`K(0123456789abcdefg))\n`L\n" } ∷ [])
-    ≡ whole_output (codes "\n\n\nk\n")
-unfolding row
-long_call_in_an_actual = refl
-
--- what opens a call
-
-bracket_behind_a_usage : row standard false (record { path = codes "m"; text = codes "`define F(x) x\n`F[1]\n" } ∷ [])
-    ≡ record { bytes = codes "\n"; fault = Some (record { kind = fault.ArgumentsMissing; name = codes "m"; line = 2; word = codes "F" }) }
-unfolding row
-bracket_behind_a_usage = refl
-
--- the word and the name of a fault
-
 usage_of_128_bytes : row standard false (record { path = codes "m"; text = 96 ∷ replicate 128 65 } ∷ [])
     ≡ record { bytes = []; fault = Some (record { kind = fault.UndefinedMacro; name = codes "m"; line = 1; word = replicate 128 65 }) }
 unfolding row
@@ -79,8 +32,6 @@ usage_of_129_bytes : row standard false (record { path = codes "m"; text = 96 �
     ≡ record { bytes = []; fault = Some (record { kind = fault.UndefinedMacro; name = codes "m"; line = 1; word = replicate 128 65 }) }
 unfolding row
 usage_of_129_bytes = refl
-
--- of a main path of more than 1,024 bytes, a character of two bytes over the border isn't told
 
 path_with_a_character_over_the_border : (rules : Rules) (macros : List Macro) (sources conditions : ℕ)
     → output rules macros sources conditions (replicate 1023 97 ++ (195 ∷ 169 ∷ [])) LongPath
@@ -93,56 +44,6 @@ path_with_a_character_before_the_border : (rules : Rules) (macros : List Macro) 
     ≡ record { bytes = []; fault = Some (record { kind = fault.PathTooLong; name = replicate 1022 97 ++ (195 ∷ 169 ∷ []); line = 0; word = [] }) }
 unfolding row
 path_with_a_character_before_the_border rules macros sources conditions = refl
-
-path_with_a_long_character_over_the_border : (rules : Rules) (macros : List Macro) (sources conditions : ℕ)
-    → output rules macros sources conditions (replicate 1021 97 ++ (240 ∷ 159 ∷ 152 ∷ 128 ∷ [])) LongPath
-    ≡ record { bytes = []; fault = Some (record { kind = fault.PathTooLong; name = replicate 1021 97; line = 0; word = [] }) }
-unfolding row
-path_with_a_long_character_over_the_border rules macros sources conditions = refl
-
--- where a string or a comment over lines is broken: at the line that isn't used, or at that of `<%`
-
-long_line_in_a_string : row (record standard { line_bytes = 256 }) false
-    (record { path = codes "m"; text = codes "x \"a\nb\n" ++ (replicate 256 97 ++ codes "\n\"") } ∷ [])
-    ≡ record { bytes = codes "x \"a\nb\n"; fault = Some (record { kind = fault.LineTooLong; name = codes "m"; line = 3; word = [] }) }
-unfolding row
-long_line_in_a_string = refl
-
-long_source_in_a_string : row (record standard { source_bytes = 8 }) false
-    (record { path = codes "m"; text = codes "x \"a\nb\ncd\n\"" } ∷ [])
-    ≡ record { bytes = codes "x \"a\nb\n"; fault = Some (record { kind = fault.SourceTooLong; name = codes "m"; line = 3; word = [] }) }
-unfolding row
-long_source_in_a_string = refl
-
-perl_in_a_string_over_lines : row standard false (record { path = codes "m"; text = codes "x \"a\nb\nc<%\"\n" } ∷ [])
-    ≡ record { bytes = codes "x \"a\nb\nc"; fault = Some (record { kind = fault.EmbeddedPerl; name = codes "m"; line = 3; word = [] }) }
-unfolding row
-perl_in_a_string_over_lines = refl
-
-long_line_in_a_comment : row (record standard { line_bytes = 256 }) false
-    (record { path = codes "m"; text = codes "x /*a\nb\n" ++ (replicate 256 97 ++ codes "\n*/") } ∷ [])
-    ≡ record { bytes = codes "x /*a\nb\n"; fault = Some (record { kind = fault.LineTooLong; name = codes "m"; line = 3; word = [] }) }
-unfolding row
-long_line_in_a_comment = refl
-
-long_source_in_a_comment : row (record standard { source_bytes = 9 }) false
-    (record { path = codes "m"; text = codes "x /*a\nb\ncd\n*/" } ∷ [])
-    ≡ record { bytes = codes "x /*a\nb\n"; fault = Some (record { kind = fault.SourceTooLong; name = codes "m"; line = 3; word = [] }) }
-unfolding row
-long_source_in_a_comment = refl
-
-long_line_past_its_source : row (record standard { line_bytes = 256; source_bytes = 10 }) false
-    (record { path = codes "m"; text = replicate 256 97 ++ codes "\n" } ∷ [])
-    ≡ record { bytes = []; fault = Some (record { kind = fault.LineTooLong; name = codes "m"; line = 1; word = [] }) }
-unfolding row
-long_line_past_its_source = refl
-
--- continuations of a `define`, and a line in it that breaks its source
-
-return_before_the_end_of_a_continued_line : row standard false (record { path = codes "m"; text = codes "`define A a\\\r\nb\n`A;" } ∷ [])
-    ≡ whole_output (codes "\n\na\nb;")
-unfolding row
-return_before_the_end_of_a_continued_line = refl
 
 -- a `define` over two lines, of which the second has so many bytes with its LF
 unfoldable define_with_line : ℕ → List ℕ
@@ -179,63 +80,6 @@ longer_unended_define : row (record standard { line_bytes = 256 }) false (record
 unfolding row unended_define
 longer_unended_define = refl
 
--- tokens
-
-bytes_beside_those_of_names : row standard false (record { path = codes "m"; text = codes "`define A 1\n`A/`A:`A@`A[`A^`A{`A-`A." } ∷ [])
-    ≡ whole_output (codes "\n1/1:1@1[1^1{1-1.")
-unfolding row
-bytes_beside_those_of_names = refl
-
-first_and_last_bytes_of_names : row standard false (record { path = codes "m"; text = codes "`define azAZ_09 2\n`azAZ_09;" } ∷ [])
-    ≡ whole_output (codes "\n2;")
-unfolding row
-first_and_last_bytes_of_names = refl
-
-letters_that_begin_names : row standard false (record { path = codes "m"; text = codes "`define a 1\n`define z 2\n`define A 3\n`define Z 4\n`define _ 5\n`a`z`A`Z`_" } ∷ [])
-    ≡ whole_output (codes "\n\n\n\n\n12345")
-unfolding row
-letters_that_begin_names = refl
-
-digits_that_begin_words : row standard false (record { path = codes "m"; text = codes "`define F(x) 0x 9x x\n`F(1)" } ∷ [])
-    ≡ whole_output (codes "\n0x 9x 1")
-unfolding row
-digits_that_begin_words = refl
-
-apostrophe_before_a_formal : row standard false (record { path = codes "m"; text = codes "`define F(x) 'x x\n`F(1)\n" } ∷ [])
-    ≡ whole_output (codes "\n'x 1\n")
-unfolding row
-apostrophe_before_a_formal = refl
-
-vertical_tab_around_a_body : row standard false
-    (record { path = codes "m"; text = codes "`define A" ++ (11 ∷ (codes "1" ++ (11 ∷ codes "\n`A;"))) } ∷ [])
-    ≡ whole_output (codes "\n1;")
-unfolding row
-vertical_tab_around_a_body = refl
-
-form_feed_around_a_body : row standard false
-    (record { path = codes "m"; text = codes "`define A" ++ (12 ∷ (codes "1" ++ (12 ∷ codes "\n`A;"))) } ∷ [])
-    ≡ whole_output (codes "\n1;")
-unfolding row
-form_feed_around_a_body = refl
-
-vertical_tab_around_an_actual : row standard false
-    (record { path = codes "m"; text = codes "`define F(x) <x>\n`F" ++ (11 ∷ (codes "(" ++ (11 ∷ (codes "1" ++ (11 ∷ codes ")"))))) } ∷ [])
-    ≡ whole_output (codes "\n<1>")
-unfolding row
-vertical_tab_around_an_actual = refl
-
-quote_behind_a_backslash : row standard false (record { path = codes "m"; text = codes "\"a\\\"`Q\" b" } ∷ [])
-    ≡ whole_output (codes "\"a\\\"`Q\" b")
-unfolding row
-quote_behind_a_backslash = refl
-
-quote_behind_two_backslashes : row standard false (record { path = codes "m"; text = codes "\"a\\\\\"`Q" } ∷ [])
-    ≡ record { bytes = codes "\"a\\\\\""; fault = Some (record { kind = fault.UndefinedMacro; name = codes "m"; line = 1; word = codes "Q" }) }
-unfolding row
-quote_behind_two_backslashes = refl
-
--- formals
-
 -- so many formals from a number on, and a last one
 unfoldable formals_to : ℕ → ℕ → List ℕ
 unfolding digits
@@ -256,18 +100,6 @@ one_formal_more : row standard false (record { path = codes "m"; text = define_o
     ≡ record { bytes = []; fault = Some (record { kind = fault.TooManyFormals; name = codes "m"; line = 1; word = [] }) }
 unfolding row define_of_formals formals_to
 one_formal_more = refl
-
-one_formal_more_given_twice : row standard false
-    (record { path = codes "m"; text = codes "`define F(" ++ (formals_to (most_formals - 1) 1 ++ codes ",a1) z\n") } ∷ [])
-    ≡ record { bytes = []; fault = Some (record { kind = fault.FormalTwice; name = codes "m"; line = 1; word = [] }) }
-unfolding row formals_to
-one_formal_more_given_twice = refl
-
-one_formal_more_without_its_end : row standard false
-    (record { path = codes "m"; text = codes "`define F(" ++ (formals_to most_formals 1 ++ codes " b) z\n") } ∷ [])
-    ≡ record { bytes = []; fault = Some (record { kind = fault.TooManyFormals; name = codes "m"; line = 1; word = [] }) }
-unfolding row formals_to
-one_formal_more_without_its_end = refl
 
 -- a `define` with a formal of so many bytes, which is its body
 unfoldable define_of_formal : ℕ → List ℕ
@@ -295,22 +127,6 @@ macro_of_129_bytes : row standard false
 unfolding row
 macro_of_129_bytes = refl
 
-line_ends_in_a_header : row standard false (record { path = codes "m"; text = codes "`define \\\nA \\\n1\n`A;" } ∷ [])
-    ≡ whole_output (codes "\n\n\n\n1;")
-unfolding row
-line_ends_in_a_header = refl
-
-line_ends_in_a_formal_list : row standard false
-    (record { path = codes "m"; text = codes "`define F(\\\nx\\\n,\\\ny\\\n) y\n`F(1,2)\n" } ∷ [])
-    ≡ whole_output (codes "\n\n\n\n\n2\n")
-unfolding row
-line_ends_in_a_formal_list = refl
-
-line_end_in_a_list_of_no_formals : row standard false (record { path = codes "m"; text = codes "`define F(\\\n) z\n`F()" } ∷ [])
-    ≡ whole_output (codes "\n\nz")
-unfolding row
-line_end_in_a_list_of_no_formals = refl
-
 -- a `define` of `F` with two formals and a body of so many `x`
 unfoldable define_of_body : ℕ → List ℕ
 define_of_body n = codes "`define F(x,y) " ++ (replicate n 120 ++ codes "\n")
@@ -326,3 +142,86 @@ formals_past_the_bound_of_definitions : row (record standard { definition_bytes 
     ≡ record { bytes = []; fault = Some (record { kind = fault.DefinitionBytes; name = codes "m"; line = 1; word = [] }) }
 unfolding row define_of_body
 formals_past_the_bound_of_definitions = refl
+
+-- bytes, and then the fault of the limit
+abbrev cut_output : List ℕ → Outcome
+cut_output bytes = record { bytes = bytes; fault = Some (record { kind = fault.OutputBytes; name = codes "m"; line = 0; word = [] }) }
+
+output_at_its_limit : row (record standard { output_bytes = 9 }) false (record { path = codes "m"; text = codes "`define W 8\nreg[`W];\n" } ∷ [])
+    ≡ whole_output (codes "\nreg[8];\n")
+unfolding row
+output_at_its_limit = refl
+
+output_past_its_limit : row (record standard { output_bytes = 8 }) false (record { path = codes "m"; text = codes "`define W 8\nreg[`W];\n" } ∷ [])
+    ≡ cut_output (codes "\nreg[8];")
+unfolding row
+output_past_its_limit = refl
+
+-- a `define` of `A` with so many `x`
+unfoldable long_define : ℕ → List ℕ
+long_define n = codes "`define A " ++ (replicate n 120 ++ codes "\n")
+
+definition_of_1024_bytes : row (record standard { definition_bytes = 1024 }) false (record { path = codes "m"; text = long_define 1023 } ∷ [])
+    ≡ whole_output (codes "\n")
+unfolding row long_define
+definition_of_1024_bytes = refl
+
+definition_of_1024_bytes_replaced : row (record standard { definition_bytes = 1024 }) false (record { path = codes "m"; text = long_define 1023 ++ long_define 1023 } ∷ [])
+    ≡ whole_output (codes "\n\n")
+unfolding row long_define
+definition_of_1024_bytes_replaced = refl
+
+definition_of_1025_bytes : row (record standard { definition_bytes = 1024 }) false (record { path = codes "m"; text = long_define 1024 } ∷ [])
+    ≡ record { bytes = []; fault = Some (record { kind = fault.DefinitionBytes; name = codes "m"; line = 1; word = [] }) }
+unfolding row long_define
+definition_of_1025_bytes = refl
+
+-- sources of which each includes the next, so many from a number on, and a last one with a text
+unfoldable chain_of_sources : ℕ → ℕ → List ℕ → List File
+unfolding digits
+chain_of_sources zero n last = record { path = 102 ∷ decimal n; text = last } ∷ []
+chain_of_sources (suc k) n last =
+    record { path = 102 ∷ decimal n; text = codes "`include \"f" ++ (decimal (n + 1) ++ codes "\"\n") } ∷ chain_of_sources k (n + 1) last
+
+chain_of_64_includes : row (record standard { includes = 64 }) false
+    (record { path = codes "m"; text = codes "`include \"f1\"\n" } ∷ chain_of_sources 63 1 (codes "x\n"))
+    ≡ whole_output (120 ∷ replicate 65 10)
+unfolding row chain_of_sources
+chain_of_64_includes = refl
+
+chain_of_65_includes : row (record standard { includes = 64 }) false
+    (record { path = codes "m"; text = codes "`include \"f1\"\n" } ∷ chain_of_sources 63 1 (codes "`include \"f65\"\n"))
+    ≡ record { bytes = []; fault = Some (record { kind = fault.TooManyIncludes; name = codes "f64"; line = 1; word = [] }) }
+unfolding row chain_of_sources
+chain_of_65_includes = refl
+
+-- lines `define` of macros from a number on, so many, of which each has the one before twice
+unfoldable doubling_defines : ℕ → ℕ → List ℕ
+unfolding digits
+doubling_defines zero n = []
+doubling_defines (suc k) n =
+    codes "`define E" ++ (decimal (n + 1) ++ (codes " `E" ++ (decimal n ++ (codes "`E" ++ (decimal n ++ (10 ∷ doubling_defines k (n + 1)))))))
+
+-- 12 macros, of which each has the one before twice
+macro_doubled_12_times : row standard false (record { path = codes "m"; text = codes "`define E0 x\n" ++ (doubling_defines 12 0 ++ codes "`E12\n") } ∷ [])
+    ≡ whole_output (replicate 13 10 ++ (replicate 4096 120 ++ 10 ∷ []))
+unfolding row doubling_defines
+macro_doubled_12_times = refl
+
+-- lines `define` of macros from a number on, of which each is the next one, so many, and a last one
+unfoldable chain_of_defines : ℕ → ℕ → List ℕ
+unfolding digits
+chain_of_defines zero n = codes "`define C" ++ (decimal n ++ codes " x\n")
+chain_of_defines (suc k) n =
+    codes "`define C" ++ (decimal n ++ (codes " `C" ++ (decimal (n + 1) ++ (10 ∷ chain_of_defines k (n + 1)))))
+
+-- the rows of the depth, with its standard limit in place of the greatest
+chain_of_256_macros : row standard false (record { path = codes "m"; text = chain_of_defines 255 1 ++ codes "`C1\n" } ∷ [])
+    ≡ whole_output (replicate 256 10 ++ (120 ∷ 10 ∷ []))
+unfolding row chain_of_defines
+chain_of_256_macros = refl
+
+chain_of_257_macros : row standard false (record { path = codes "m"; text = chain_of_defines 256 1 ++ codes "`C1\n" } ∷ [])
+    ≡ record { bytes = replicate 257 10; fault = Some (record { kind = fault.DepthPassed; name = codes "m"; line = 258; word = [] }) }
+unfolding row chain_of_defines
+chain_of_257_macros = refl

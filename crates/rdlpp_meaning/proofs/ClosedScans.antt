@@ -183,9 +183,3 @@ closed_scan role size room (x ∷ xs) kept used e =
     before_by role (role x) x xs kept used (scan role size Before room xs) (scan role size (Inside 0) room xs) refl
     (λ ks n h. closed_scan role size room xs ks n h) (λ ks n h. closed_inside role size 0 room xs ks n h)
     (sym (ap (scanned (turn_before (role x)) x) (lead_scan role size (role x) room xs)) ∙ e)
-
--- what remains behind a scan that closes
-pub closed_behind : {A : Type 0} (role : A → Role) (xs kept : List A) (used : ℕ) (c : IsClosed role xs kept used) → drop used xs ≡ c.behind
-closed_behind {A = A} role xs kept used c =
-    let whole : List A = c.lead ++ c.opener ∷ (c.inner ++ c.closer ∷ c.behind) in
-    ap (drop used) c.whole ∙ ap (λ n. drop n whole) c.takes ∙ behind_cut c.lead c.opener c.inner c.closer c.behind

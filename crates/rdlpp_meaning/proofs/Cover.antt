@@ -14,7 +14,19 @@ use Rattle.rdlpp_scan.specs.Tokens.{first_place, string_stop, whole, string_toke
 use Rattle.rdlpp_scan.proofs.TokenLens.{is_word-letter, is_word-digit}
 use Rattle.rdlpp_meaning.specs.Substitution.{spelled, body_tokens}
 use Rattle.rdlpp_meaning.specs.Expansion.{bytes_of}
-use Rattle.rdlpp_meaning.proofs.PlainBodies.{run_positive, drop_behind, suc_positive}
+
+-- a run that begins with a byte of its class isn't empty
+run_positive : (p : ℕ → Bool) (b : ℕ) (bs : List ℕ) → p b ≡ true → 0 < prefix_len p (b ∷ bs)
+run_positive p b bs e = rw e (omega arith)
+
+-- one more than a number isn't zero
+suc_positive : (n : ℕ) → 0 < suc n
+suc_positive n = omega arith
+
+-- a suffix behind a token that has a byte
+drop_behind : (n b : ℕ) (bs : List ℕ) → 0 < n → drop n (b ∷ bs) ≡ drop (n - 1) bs
+drop_behind zero b bs h = absurd (omega arith)
+drop_behind (suc n) b bs h = let e : suc n - 1 ≡ n = omega arith in rw e refl
 
 -- a token has a byte
 unfoldable pub HasByte : Token → Type 0

@@ -4,19 +4,16 @@ use Rattle.std.specs.Prelude.{if◌then◌else◌, not, ◌==◌}
 use Rattle.std.specs.Str.{is_utf8}
 use Rattle.rdlpp_scan.specs.declared.token.Directive.TheVariants.{Include}
 use Rattle.rdlpp_scan.specs.SourceTokens.{SourceToken}
-use Rattle.rdlpp_table.specs.Table.{Macro}
 use Rattle.rdlpp_meaning.specs.declared.fault.FaultKind.{FaultKind}
 use Rattle.rdlpp_meaning.specs.declared.fault.FaultKind.TheVariants.{IncludeName, SourceNotFound, TooManyIncludes, PathTooLong}
-use Rattle.rdlpp_meaning.specs.Outcome.{Told, Outcome, gives, and_then}
+use Rattle.rdlpp_meaning.specs.Outcome.{Told, gives}
 use Rattle.rdlpp_meaning.specs.State.{Lookup, NoSource, LongPath, Source, Rules, State}
-use Rattle.rdlpp_meaning.specs.Parts.{Command, directive_of, argument_of, command_of, command_in_front, piece_of, pieces, parts_of}
-use Rattle.rdlpp_meaning.specs.Meaning.{Passage, leaves, outcome, behind_bytes, goes_on, refusal, single, origin_line, at_start_of, back_in, includes, includes_found, includes_named, includes_given, unquoted, Progress, mean, nest_of, text_meaning}
-use Rattle.rdlpp_meaning.specs.Resumed.{Place, Live, resume, resumed, behind, remains}
-use Rattle.rdlpp_meaning.specs.Opened.{Waiting, ending_of, waiting, unwound, all_resumed, all_remains}
-use Rattle.rdlpp_meaning.specs.Output.{start_state, output}
-use Rattle.rdlpp_meaning.proofs.Passages.{goes_on-gives, goes_on-assoc, outcome-goes_on, refusal-goes_on}
+use Rattle.rdlpp_meaning.specs.Parts.{Command, directive_of, argument_of, command_of, command_in_front, piece_of, parts_of}
+use Rattle.rdlpp_meaning.specs.Meaning.{Passage, leaves, behind_bytes, goes_on, refusal, single, origin_line, at_start_of, back_in, includes, includes_found, includes_named, includes_given, unquoted, Progress, mean, nest_of, text_meaning}
+use Rattle.rdlpp_meaning.specs.Resumed.{Place, Live, resumed, behind}
+use Rattle.rdlpp_meaning.specs.Opened.{Waiting, ending_of, waiting, unwound, all_resumed}
+use Rattle.rdlpp_meaning.proofs.Passages.{goes_on-gives, goes_on-assoc, refusal-goes_on}
 use Rattle.rdlpp_meaning.proofs.Resuming.{goes_on-same, resumed_start}
-use Rattle.rdlpp_meaning.proofs.Outputs.{outcome-behind_bytes, output_found}
 use Rattle.rdlpp_meaning.proofs.Directives.{live_single}
 
 -- bytes in front of a passage stay there where more goes on behind it, by its fault
@@ -47,36 +44,6 @@ unfolding all_resumed unwound
 all_resumed_alone rules place first ts s =
     let p = resumed rules place first ts s in nothing_by p.bytes p.fault p.after
 
--- the output of a main text that is found is its origin line, where asked for, and then all that remains at its start
-pub output_all_remains : (rules : Rules) (macros : List Macro) (sources conditions : ℕ) (path found text : List ℕ)
-    → output rules macros sources conditions path (Source found text)
-    ≡ and_then (gives (origin_line rules found 1))
-    (all_remains rules [] (Live []) true (rules.tokens text) (start_state macros sources conditions found))
-unfolding all_remains remains
-output_all_remains rules macros sources conditions path found text =
-    let s = start_state macros sources conditions found in
-    output_found rules macros sources conditions path found text
-    ∙ ap (λ (p : Passage). and_then (gives (origin_line rules found 1)) (outcome p))
-    (sym (all_resumed_alone rules (Live []) true (rules.tokens text) s))
-
--- a step of the innermost source is a step of the nest
-pub all_resumed_step : (rules : Rules) (ws : List Waiting) (place new : Place) (first then_first : Bool) (ts us : List SourceToken) (s t : State) (o : Outcome)
-    → resumed rules place first ts s ≡ goes_on (leaves o t) (λ after. resumed rules new then_first us after)
-    → all_resumed rules ws place first ts s ≡ goes_on (leaves o t) (λ after. all_resumed rules ws new then_first us after)
-unfolding all_resumed
-all_resumed_step rules ws place new first then_first ts us s t o e =
-    ap (λ (p : Passage). goes_on p (λ after. unwound rules ws after)) e
-    ∙ goes_on-assoc (leaves o t) (λ after. resumed rules new then_first us after) (λ after. unwound rules ws after)
-
--- and so is what it writes
-pub all_remains_step : (rules : Rules) (ws : List Waiting) (place new : Place) (first then_first : Bool) (ts us : List SourceToken) (s t : State) (o : Outcome)
-    → resumed rules place first ts s ≡ goes_on (leaves o t) (λ after. resumed rules new then_first us after)
-    → all_remains rules ws place first ts s ≡ and_then o (all_remains rules ws new then_first us t)
-unfolding all_remains
-all_remains_step rules ws place new first then_first ts us s t o e =
-    ap outcome (all_resumed_step rules ws place new first then_first ts us s t o e)
-    ∙ outcome-goes_on o t (λ after. all_resumed rules ws new then_first us after)
-
 -- a step that writes nothing and changes the place or the state alone
 pub all_resumed_move : (rules : Rules) (ws : List Waiting) (place new : Place) (first then_first : Bool) (ts us : List SourceToken) (s t : State)
     → resumed rules place first ts s ≡ resumed rules new then_first us t
@@ -84,22 +51,6 @@ pub all_resumed_move : (rules : Rules) (ws : List Waiting) (place new : Place) (
 unfolding all_resumed
 all_resumed_move rules ws place new first then_first ts us s t e =
     ap (λ (p : Passage). goes_on p (λ after. unwound rules ws after)) e
-
--- at the end of an included text, what is written behind it comes, and then what remains of the source that waits for it
-pub all_resumed_return : (rules : Rules) (w : Waiting) (ws : List Waiting) (first : Bool) (s : State)
-    → all_resumed rules (w ∷ ws) (Live []) first [] s
-    ≡ behind_bytes w.ending (all_resumed rules ws (Live w.open_conditionals) w.first w.tokens (back_in w.state s))
-unfolding all_resumed unwound resumed resume leaves goes_on behind_bytes gives pieces
-all_resumed_return rules w ws first s = refl
-
--- and so is what it writes
-pub all_remains_return : (rules : Rules) (w : Waiting) (ws : List Waiting) (first : Bool) (s : State)
-    → all_remains rules (w ∷ ws) (Live []) first [] s
-    ≡ and_then (gives w.ending) (all_remains rules ws (Live w.open_conditionals) w.first w.tokens (back_in w.state s))
-unfolding all_remains
-all_remains_return rules w ws first s =
-    ap outcome (all_resumed_return rules w ws first s)
-    ∙ outcome-behind_bytes w.ending (all_resumed rules ws (Live w.open_conditionals) w.first w.tokens (back_in w.state s))
 
 -- an `include` with a string that names a source, where one more may be opened, by what the search finds
 include_searched : (rules : Rules) (name : List ℕ) (c : Command) (s : State) (n : ℕ) (found : Lookup)
@@ -247,17 +198,3 @@ all_resumed_include rules ws os first t ts s string n path text d e b left f =
     ∙ goes_on-same own (λ after. goes_on (next after) further)
     (λ after. unwound rules (waiting rules os first t ts s text ∷ ws) after)
     (λ after. behind_bytes-goes_on (ending_of rules t s text) (inner after) further))
-
--- and so is what it writes
-pub all_remains_include : (rules : Rules) (ws : List Waiting) (os : List Progress) (first : Bool) (t : SourceToken) (ts : List SourceToken) (s : State) (string : List ℕ) (n : ℕ) (path text : List ℕ)
-    → directive_of t ≡ Some Include → (argument_of Include ts).given ≡ Some string
-    → (length (unquoted string) == 0 || not (is_utf8 (unquoted string))) ≡ false → s.sources_left ≡ suc n
-    → rules.find s.path (unquoted string) ≡ Source path text
-    → all_remains rules ws (Live os) first (t ∷ ts) s
-    ≡ and_then (gives (origin_line rules path 1))
-    (all_remains rules (waiting rules os first t ts s text ∷ ws) (Live []) true (rules.tokens text) (at_start_of path s))
-unfolding all_remains
-all_remains_include rules ws os first t ts s string n path text d e b left f =
-    ap outcome (all_resumed_include rules ws os first t ts s string n path text d e b left f)
-    ∙ outcome-behind_bytes (origin_line rules path 1)
-    (all_resumed rules (waiting rules os first t ts s text ∷ ws) (Live []) true (rules.tokens text) (at_start_of path s))

@@ -5,15 +5,13 @@ use Rattle.std.specs.Prelude.{drop}
 use Rattle.rdlpp_scan.specs.declared.token.Directive.TheVariants.{Line}
 use Rattle.rdlpp_scan.specs.SourceTokens.{Renumbering, SourceToken}
 use Rattle.rdlpp_meaning.specs.declared.fault.FaultKind.TheVariants.{BadLine}
-use Rattle.rdlpp_meaning.specs.Outcome.{gives, fails, and_then}
+use Rattle.rdlpp_meaning.specs.Outcome.{fails}
 use Rattle.rdlpp_meaning.specs.State.{Rules, State, fault_at}
 use Rattle.rdlpp_meaning.specs.Parts.{Command, only_blanks, line_ends_of, directive_of, argument_of, no_argument, command_of, piece_of}
 use Rattle.rdlpp_meaning.specs.Meaning.{Passage, leaves, behind_bytes, goes_on, refusal, origin_line, Renumbered, renumbered, renumbers, single, Progress}
 use Rattle.rdlpp_meaning.specs.Resumed.{Live, resumed}
-use Rattle.rdlpp_meaning.specs.Opened.{Waiting, all_remains}
 use Rattle.rdlpp_meaning.proofs.Passages.{goes_on-gives, fails-goes_on}
 use Rattle.rdlpp_meaning.proofs.Directives.{live_single}
-use Rattle.rdlpp_meaning.proofs.NestMoves.{all_remains_behind, all_remains_fails}
 
 -- a `line` with its line, as a token
 abbrev pub line_token : List ℕ → ℕ → SourceToken
@@ -77,28 +75,3 @@ resumed_late_line rules os bytes line more s =
     line_in_front rules os false bytes line more s r refl
     ∙ ap (λ (p : Passage). goes_on p next) (late_line rules r bytes line s)
     ∙ fails-goes_on (fault_at BadLine line [] s) s next
-
--- a `line` that is accepted, in a nest
-pub all_remains_renumbered : (rules : Rules) (ws : List Waiting) (os : List Progress) (bytes : List ℕ) (line : ℕ) (more : List SourceToken) (s : State) (r : Renumbered)
-    → renumbered (drop 5 bytes) ≡ Some r
-    → all_remains rules ws (Live os) true (line_token bytes line ∷ more) s
-    ≡ and_then (gives (line_ends_of bytes ++ origin_line rules r.name r.number))
-    (all_remains rules ws (Live os) (only_blanks true bytes) more (renumbered_state s r line))
-all_remains_renumbered rules ws os bytes line more s r e =
-    all_remains_behind rules ws (Live os) (Live os) true (only_blanks true bytes) (line_token bytes line ∷ more) more s (renumbered_state s r line)
-    (line_ends_of bytes ++ origin_line rules r.name r.number) (resumed_renumbered rules os bytes line more s r e)
-
--- one that gives no number or name, in a nest
-pub all_remains_bad_line : (rules : Rules) (ws : List Waiting) (os : List Progress) (first : Bool) (bytes : List ℕ) (line : ℕ) (more : List SourceToken) (s : State)
-    → renumbered (drop 5 bytes) ≡ None
-    → all_remains rules ws (Live os) first (line_token bytes line ∷ more) s ≡ fails (fault_at BadLine line [] s)
-all_remains_bad_line rules ws os first bytes line more s e =
-    all_remains_fails rules ws (Live os) first (line_token bytes line ∷ more) s s (fault_at BadLine line [] s)
-    (resumed_bad_line rules os first bytes line more s e)
-
--- one behind anything but blanks, in a nest
-pub all_remains_late_line : (rules : Rules) (ws : List Waiting) (os : List Progress) (bytes : List ℕ) (line : ℕ) (more : List SourceToken) (s : State)
-    → all_remains rules ws (Live os) false (line_token bytes line ∷ more) s ≡ fails (fault_at BadLine line [] s)
-all_remains_late_line rules ws os bytes line more s =
-    all_remains_fails rules ws (Live os) false (line_token bytes line ∷ more) s s (fault_at BadLine line [] s)
-    (resumed_late_line rules os bytes line more s)

@@ -1,13 +1,12 @@
 -- Laws of live text, in any open conditionals: what remains of a source where a token stands in front that begins no directive,
 -- or a `define`. Nothing is lost of the state, so they hold in a nest of open sources too (`NestMoves`).
-use Rattle.std.proofs.Common.{◌≡◌, ℕ, ◌<◌, Bool, true, false, List, [], ◌∷◌, ◌++◌, length, map, refl, sym, ap, ◌∙◌, None, Some}
+use Rattle.std.proofs.Common.{◌≡◌, ℕ, ◌<◌, Bool, true, false, List, [], ◌∷◌, ◌++◌, map, refl, sym, ap, ◌∙◌, None, Some}
 use Rattle.std.specs.Prelude.{drop}
 use Rattle.std.proofs.lemmas.Bool.{and_parts}
 use Rattle.std.specs.List.{list_all}
 use Rattle.rdlpp_scan.specs.declared.token.Kind.{Kind}
 use Rattle.rdlpp_scan.specs.declared.token.Kind.TheVariants.{BareBackquote}
 use Rattle.rdlpp_scan.specs.Front.{Breach}
-use Rattle.rdlpp_scan.specs.Tokens.{plain_len}
 use Rattle.rdlpp_scan.specs.SourceTokens.{Ordinary, Definition, Broken, SourceToken}
 use Rattle.rdlpp_scan.specs.Reserved.{is_reserved}
 use Rattle.rdlpp_table.specs.Table.{Macro, macro_named}
@@ -25,7 +24,6 @@ use Rattle.rdlpp_meaning.proofs.Outcomes.{and_then-fails}
 use Rattle.rdlpp_meaning.proofs.Passages.{fails-goes_on, goes_on-gives, behind_bytes-nil, behind_bytes-twice, gives_fails-goes_on}
 use Rattle.rdlpp_meaning.proofs.Usages.{usage_none, run_refused}
 use Rattle.rdlpp_meaning.proofs.Runs.{Writes, resumed_token}
-use Rattle.rdlpp_meaning.proofs.PlainBodies.{body_ordinary}
 use Rattle.rdlpp_meaning.proofs.TokenWrites.{copied_text, copied_writes, body_writes, bare_writes, broken_writes, usage_text, only_blanks-append, define_command, define_piece}
 
 -- a token that writes bytes, and then what remains behind it
@@ -81,17 +79,6 @@ pub resumed_copied_body : (rules : Rules) (os : List Progress) (first : Bool) (n
 resumed_copied_body rules os first name line more s m h r e f copied =
     resumed_writes rules os first (usage_token name line) more s m.body (usage_text name line r)
     (body_writes rules s name line m h r e f copied)
-
--- a usage of a macro without a list and with ordinary text gives its body, and then what remains behind it
-pub resumed_plain_body : (rules : Rules) (os : List Progress) (first : Bool) (name : List ℕ) (line : ℕ) (more : List SourceToken) (s : State) (m : Macro)
-    → 0 < rules.depth
-    → is_reserved name ≡ false → macro_named s.macros name ≡ Some m
-    → m.formals ≡ None → plain_len m.body ≡ length m.body
-    → resumed rules (Live os) first (usage_token name line ∷ more) s
-    ≡ behind_bytes m.body (resumed rules (Live os) (only_blanks first (96 ∷ name)) more s)
-unfolding body_tokens
-resumed_plain_body rules os first name line more s m h r e f plain =
-    resumed_copied_body rules os first name line more s m h r e f (body_ordinary m.body plain).copied
 
 -- a lone backquote ends its source
 pub resumed_bare : (rules : Rules) (os : List Progress) (first : Bool) (bytes : List ℕ) (line : ℕ) (more : List SourceToken) (s : State)

@@ -1,5 +1,5 @@
 -- Laws of the output: it is what remains at the start of the main text.
-use Rattle.std.proofs.Common.{◌≡◌, ℕ, true, false, List, [], refl, ap, ◌∙◌}
+use Rattle.std.proofs.Common.{◌≡◌, ℕ, true, List, [], refl, ap, ◌∙◌}
 use Rattle.rdlpp_table.specs.Table.{Macro}
 use Rattle.rdlpp_meaning.specs.declared.fault.FaultKind.TheVariants.{SourceNotFound, PathTooLong}
 use Rattle.rdlpp_meaning.specs.Outcome.{gives, fails, and_then}
@@ -7,7 +7,6 @@ use Rattle.rdlpp_meaning.specs.State.{NoSource, LongPath, Source, Rules}
 use Rattle.rdlpp_meaning.specs.Meaning.{Passage, outcome, behind_bytes, origin_line, text_meaning}
 use Rattle.rdlpp_meaning.specs.Resumed.{Live, remains}
 use Rattle.rdlpp_meaning.specs.Output.{opening_fault, start_state, output}
-use Rattle.rdlpp_meaning.proofs.Outcomes.{and_then-gives_nil}
 use Rattle.rdlpp_meaning.proofs.Resuming.{resumed_start}
 
 -- bytes in front of a passage are bytes in front of what it writes
@@ -25,22 +24,6 @@ output_found rules macros sources conditions path found text =
     let s = start_state macros sources conditions found in
     outcome-behind_bytes (origin_line rules found 1) (text_meaning rules s text)
     ∙ ap (λ (p : Passage). and_then (gives (origin_line rules found 1)) (outcome p)) (resumed_start rules s text)
-
--- no origin line is written where none is asked for
-pub no_origin_line : (rules : Rules) (name : List ℕ) (line : ℕ) → rules.origins ≡ false → origin_line rules name line ≡ []
-unfolding origin_line
-no_origin_line rules name line e = rw e refl
-
--- without origin lines the output of a main text that is found is what remains at its start
-pub output_plain : (rules : Rules) (macros : List Macro) (sources conditions : ℕ) (path found text : List ℕ)
-    → rules.origins ≡ false
-    → output rules macros sources conditions path (Source found text)
-    ≡ remains rules (Live []) true (rules.tokens text) (start_state macros sources conditions found)
-output_plain rules macros sources conditions path found text e =
-    let rest = remains rules (Live []) true (rules.tokens text) (start_state macros sources conditions found) in
-    output_found rules macros sources conditions path found text
-    ∙ ap (λ (x : List ℕ). and_then (gives x) rest) (no_origin_line rules found 1 e)
-    ∙ and_then-gives_nil rest
 
 -- the output of a main text that isn't found is its fault
 pub output_missing : (rules : Rules) (macros : List Macro) (sources conditions : ℕ) (path : List ℕ)

@@ -38,19 +38,6 @@ pub goes_on-nil : (s : State) (next : State → Passage) → goes_on (leaves (gi
 unfolding goes_on leaves behind_bytes gives
 goes_on-nil s next = refl
 
--- what an outcome and what goes on come to, by its fault
-outcome_by : (x : List ℕ) (f : Option Told) (s : State) (next : State → Passage)
-    → outcome (goes_on (leaves (record { bytes = x; fault = f }) s) next)
-    ≡ and_then (record { bytes = x; fault = f }) (outcome (next s))
-unfolding goes_on leaves behind_bytes outcome and_then
-outcome_by x (Some f) s next = refl
-outcome_by x None s next = refl
-
--- what an outcome and what goes on from its state come to
-pub outcome-goes_on : (o : Outcome) (s : State) (next : State → Passage)
-    → outcome (goes_on (leaves o s) next) ≡ and_then o (outcome (next s))
-outcome-goes_on o s next = outcome_by o.bytes o.fault s next
-
 -- an outcome that leaves a state is that outcome
 pub outcome-leaves : (o : Outcome) (s : State) → outcome (leaves o s) ≡ o
 unfolding outcome leaves

@@ -6,7 +6,7 @@ use Rattle.std.specs.List.{list_all}
 use Rattle.rdlpp_scan.specs.declared.token.Kind.{Kind}
 use Rattle.rdlpp_scan.specs.declared.token.Kind.TheVariants.{Back, BareBackquote}
 use Rattle.rdlpp_scan.specs.declared.token.Directive.{Directive}
-use Rattle.rdlpp_scan.specs.declared.token.Directive.TheVariants.{Define, Undef, Ifdef, Ifndef, Elsif, Else, Endif, Include, Line}
+use Rattle.rdlpp_scan.specs.declared.token.Directive.TheVariants.{Define, Undef, Elsif, Else, Endif, Include, Line}
 use Rattle.rdlpp_scan.specs.Front.{Breach}
 use Rattle.rdlpp_scan.specs.SourceTokens.{Sort, Ordinary, Definition, Renumbering, Broken, SourceToken}
 use Rattle.rdlpp_scan.specs.Reserved.{is_reserved}
@@ -16,16 +16,13 @@ use Rattle.rdlpp_meaning.specs.Expansion.{is_copied, usage_token, bytes_of}
 use Rattle.rdlpp_meaning.specs.Parts.{command_of, piece_of, only_blanks, line_ends_of, directive_of}
 use Rattle.rdlpp_meaning.specs.Meaning.{Passage, leaves, behind_bytes, Progress}
 use Rattle.rdlpp_meaning.specs.Resumed.{Skipped, resumed}
-use Rattle.rdlpp_meaning.specs.Opened.{Waiting, all_remains}
-use Rattle.rdlpp_meaning.proofs.Passages.{goes_on-gives, behind_bytes-nil, behind_bytes-twice, gives_fails-goes_on}
-use Rattle.rdlpp_meaning.proofs.TokenWrites.{usage_text}
-use Rattle.rdlpp_meaning.proofs.Trees.{line_ends_of-append}
+use Rattle.rdlpp_meaning.proofs.Passages.{goes_on-gives, behind_bytes-twice, gives_fails-goes_on}
+use Rattle.rdlpp_meaning.proofs.TokenWrites.{usage_text, line_ends_of-append}
 use Rattle.rdlpp_meaning.proofs.Directives.{skipped_single, skipped_opening, skipped_inner_branch, skipped_inner_end}
 use Rattle.rdlpp_meaning.proofs.Skipping.{skipped_token, broken_skips}
 use Rattle.rdlpp_meaning.proofs.Splitting.{skipped_by_parts}
 use Rattle.rdlpp_meaning.proofs.ConditionalMoves.{opens_conditional, branches_conditional, opening_piece, branching_piece, closing_piece}
-use Rattle.rdlpp_meaning.proofs.DirectiveWords.{IsWord, has_own_token, directive_word}
-use Rattle.rdlpp_meaning.proofs.NestMoves.{all_remains_behind, all_remains_behind_fails, all_remains_move}
+use Rattle.rdlpp_meaning.proofs.DirectiveWords.{has_own_token}
 use Rattle.rdlpp_meaning.proofs.SkippedText.{is_text, skipped_text_token, IsPassed, passed_one, passed_none, skips_token}
 
 -- whether a directive stands by itself: it belongs to no conditional
@@ -166,13 +163,6 @@ resumed_skipped_parts rules n p os first k x y line more s e f =
     ∙ goes_on-gives (line_ends_of x) s
     (λ after. resumed rules (Skipped n p os) (only_blanks first x) (record { sort = Ordinary k; bytes = y; line = line } ∷ more) after)
 
--- a directive that opens a conditional is a word alone
-opening_word : (d : Directive) → opens_conditional d ≡ true → has_own_token d ≡ false
-unfolding opens_conditional has_own_token
-opening_word Ifdef e = refl
-opening_word Ifndef e = refl
-opening_word d e = cc
-
 -- and so is a branch
 pub branching_word : (d : Directive) → branches_conditional d ≡ true → has_own_token d ≡ false
 unfolding branches_conditional has_own_token
@@ -212,76 +202,3 @@ usage_skipped name line e =
 pub bare_skipped : (bytes : List ℕ) (line : ℕ) → is_skipped (record { sort = Ordinary BareBackquote; bytes = bytes; line = line }) ≡ true
 unfolding is_skipped directive_of
 bare_skipped bytes line = refl
-
--- a word that is skipped writes nothing, and changes the place alone
-word_move : (rules : Rules) (ws : List Waiting) (n m : ℕ) (p : Progress) (os : List Progress) (first : Bool) (t : SourceToken) (ts : List SourceToken) (s : State)
-    → IsWord t.bytes
-    → resumed rules (Skipped n p os) first (t ∷ ts) s
-    ≡ behind_bytes (line_ends_of t.bytes) (resumed rules (Skipped m p os) (only_blanks first t.bytes) ts s)
-    → all_remains rules ws (Skipped n p os) first (t ∷ ts) s ≡ all_remains rules ws (Skipped m p os) false ts s
-word_move rules ws n m p os first t ts s w e =
-    all_remains_move rules ws (Skipped n p os) (Skipped m p os) first false (t ∷ ts) ts s s
-    (e ∙ ap (λ (x : List ℕ). behind_bytes x (resumed rules (Skipped m p os) (only_blanks first t.bytes) ts s)) w.no_line_end
-    ∙ behind_bytes-nil (resumed rules (Skipped m p os) (only_blanks first t.bytes) ts s)
-    ∙ ap (λ (f : Bool). resumed rules (Skipped m p os) f ts s) (w.no_blanks first))
-
--- a stretch of skipped text in a nest
-pub all_remains_skipped : (rules : Rules) (ws : List Waiting) (n : ℕ) (p : Progress) (os : List Progress) (first : Bool) (ts more : List SourceToken) (s : State)
-    → list_all is_skipped ts ≡ true
-    → all_remains rules ws (Skipped n p os) first (ts ++ more) s
-    ≡ and_then (gives (line_ends_of (bytes_of ts))) (all_remains rules ws (Skipped n p os) (only_blanks first (bytes_of ts)) more s)
-all_remains_skipped rules ws n p os first ts more s e =
-    all_remains_behind rules ws (Skipped n p os) (Skipped n p os) first (only_blanks first (bytes_of ts)) (ts ++ more) more s s (line_ends_of (bytes_of ts))
-    (resumed_skipped rules n p os first ts more s e)
-
--- a conditional that opens in skipped text, in a nest
-pub all_remains_skipped_opening : (rules : Rules) (ws : List Waiting) (n : ℕ) (p : Progress) (os : List Progress) (d : Directive) (first : Bool) (t : SourceToken) (ts : List SourceToken) (s : State)
-    → directive_of t ≡ Some d → opens_conditional d ≡ true
-    → all_remains rules ws (Skipped n p os) first (t ∷ ts) s ≡ all_remains rules ws (Skipped (suc n) p os) false ts s
-all_remains_skipped_opening rules ws n p os d first t ts s e o =
-    word_move rules ws n (suc n) p os first t ts s (directive_word t d e (opening_word d o)) (resumed_skipped_opening rules n p os d first t ts s e o)
-
--- a branch of a conditional that opened in skipped text, in a nest
-pub all_remains_inner_branch : (rules : Rules) (ws : List Waiting) (n : ℕ) (p : Progress) (os : List Progress) (d : Directive) (first : Bool) (t : SourceToken) (ts : List SourceToken) (s : State)
-    → directive_of t ≡ Some d → branches_conditional d ≡ true
-    → all_remains rules ws (Skipped (suc n) p os) first (t ∷ ts) s ≡ all_remains rules ws (Skipped (suc n) p os) false ts s
-all_remains_inner_branch rules ws n p os d first t ts s e b =
-    word_move rules ws (suc n) (suc n) p os first t ts s (directive_word t d e (branching_word d b)) (resumed_inner_branch rules n p os d first t ts s e b)
-
--- the end of a conditional that opened in skipped text, in a nest
-pub all_remains_inner_end : (rules : Rules) (ws : List Waiting) (n : ℕ) (p : Progress) (os : List Progress) (first : Bool) (t : SourceToken) (ts : List SourceToken) (s : State)
-    → directive_of t ≡ Some Endif
-    → all_remains rules ws (Skipped (suc n) p os) first (t ∷ ts) s ≡ all_remains rules ws (Skipped n p os) false ts s
-unfolding has_own_token
-all_remains_inner_end rules ws n p os first t ts s e =
-    word_move rules ws (suc n) n p os first t ts s (directive_word t Endif e refl) (resumed_inner_end rules n p os first t ts s e)
-
--- a broken token of skipped text in a nest
-pub all_remains_skipped_broken : (rules : Rules) (ws : List Waiting) (n : ℕ) (p : Progress) (os : List Progress) (first : Bool) (b : Breach) (bytes : List ℕ) (line : ℕ) (more : List SourceToken) (s : State)
-    → all_remains rules ws (Skipped n p os) first (record { sort = Broken b; bytes = bytes; line = line } ∷ more) s
-    ≡ and_then (gives (line_ends_of bytes)) (fails (fault_at (breach_kind b) line [] s))
-all_remains_skipped_broken rules ws n p os first b bytes line more s =
-    all_remains_behind_fails rules ws (Skipped n p os) first (record { sort = Broken b; bytes = bytes; line = line } ∷ more) s s (line_ends_of bytes)
-    (fault_at (breach_kind b) line [] s) (resumed_skipped_broken rules n p os first b bytes line more s)
-
--- an ordinary token of skipped text in two parts, in a nest
-pub all_remains_skipped_parts : (rules : Rules) (ws : List Waiting) (n : ℕ) (p : Progress) (os : List Progress) (first : Bool) (k : Kind) (x y : List ℕ) (line : ℕ) (more : List SourceToken) (s : State)
-    → directive_of (record { sort = Ordinary k; bytes = x ++ y; line = line }) ≡ None
-    → directive_of (record { sort = Ordinary k; bytes = y; line = line }) ≡ None
-    → all_remains rules ws (Skipped n p os) first (record { sort = Ordinary k; bytes = x ++ y; line = line } ∷ more) s
-    ≡ and_then (gives (line_ends_of x))
-    (all_remains rules ws (Skipped n p os) (only_blanks first x) (record { sort = Ordinary k; bytes = y; line = line } ∷ more) s)
-all_remains_skipped_parts rules ws n p os first k x y line more s e f =
-    all_remains_behind rules ws (Skipped n p os) (Skipped n p os) first (only_blanks first x)
-    (record { sort = Ordinary k; bytes = x ++ y; line = line } ∷ more) (record { sort = Ordinary k; bytes = y; line = line } ∷ more) s s (line_ends_of x)
-    (resumed_skipped_parts rules n p os first k x y line more s e f)
-
--- a broken token of skipped text in two parts, in a nest
-pub all_remains_skipped_broken_parts : (rules : Rules) (ws : List Waiting) (n : ℕ) (p : Progress) (os : List Progress) (first : Bool) (b : Breach) (x y : List ℕ) (line : ℕ) (more : List SourceToken) (s : State)
-    → all_remains rules ws (Skipped n p os) first (record { sort = Broken b; bytes = x ++ y; line = line } ∷ more) s
-    ≡ and_then (gives (line_ends_of x))
-    (all_remains rules ws (Skipped n p os) (only_blanks first x) (record { sort = Broken b; bytes = y; line = line } ∷ more) s)
-all_remains_skipped_broken_parts rules ws n p os first b x y line more s =
-    all_remains_behind rules ws (Skipped n p os) (Skipped n p os) first (only_blanks first x)
-    (record { sort = Broken b; bytes = x ++ y; line = line } ∷ more) (record { sort = Broken b; bytes = y; line = line } ∷ more) s s (line_ends_of x)
-    (resumed_skipped_broken_parts rules n p os first b x y line more s)

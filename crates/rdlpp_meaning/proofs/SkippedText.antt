@@ -17,8 +17,7 @@ use Rattle.rdlpp_meaning.specs.Parts.{Argument, no_argument, one_argument, behin
 use Rattle.rdlpp_meaning.specs.Meaning.{Passage, behind_bytes, skipped_command, Progress}
 use Rattle.rdlpp_meaning.specs.Resumed.{Skipped, resumed, behind, skips}
 use Rattle.rdlpp_meaning.proofs.Passages.{goes_on-gives, behind_bytes-nil, behind_bytes-twice}
-use Rattle.rdlpp_meaning.proofs.TokenWrites.{only_blanks-append}
-use Rattle.rdlpp_meaning.proofs.Trees.{line_ends_of-append}
+use Rattle.rdlpp_meaning.proofs.TokenWrites.{only_blanks-append, line_ends_of-append}
 use Rattle.rdlpp_meaning.proofs.Directives.{argument_takes}
 use Rattle.rdlpp_meaning.proofs.Skipping.{skipped_token, ordinary_skips}
 

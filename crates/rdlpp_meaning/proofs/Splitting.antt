@@ -8,10 +8,9 @@ use Rattle.rdlpp_meaning.specs.Parts.{only_blanks, line_ends_of, directive_of}
 use Rattle.rdlpp_meaning.specs.Meaning.{Passage, leaves, goes_on, Progress}
 use Rattle.rdlpp_meaning.specs.Resumed.{Skipped, resumed}
 use Rattle.rdlpp_meaning.proofs.Outcomes.{and_then-gives}
-use Rattle.rdlpp_meaning.proofs.TokenWrites.{only_blanks-append}
+use Rattle.rdlpp_meaning.proofs.TokenWrites.{only_blanks-append, line_ends_of-append}
 use Rattle.rdlpp_meaning.proofs.Passages.{on_leaves, leaves-and_then}
 use Rattle.rdlpp_meaning.proofs.Skipping.{skipped_token, ordinary_skips}
-use Rattle.rdlpp_meaning.proofs.Trees.{line_ends_of-append}
 
 -- a skipped token comes to its LF bytes, and then what remains
 skipped_one : (rules : Rules) (n : ℕ) (p : Progress) (os : List Progress) (first : Bool) (k : Kind) (x : List ℕ) (line : ℕ) (more : List SourceToken) (s : State)

@@ -2,11 +2,9 @@
 use Rattle.std.proofs.Common.{◌≡◌, ℕ, true, not, cond, List, [], ◌∷◌, take, drop, filter, refl, ap, ◌∙◌}
 use Rattle.std.specs.List.{AllByRecursion}
 use Rattle.std.proofs.lemmas.List.Elements.{recursion_from_All}
-use Rattle.rdlpp_scan.specs.declared.token.Mode.{Mode}
 use Rattle.rdlpp_scan.specs.declared.token.Mode.TheVariants.{Plain}
 use Rattle.rdlpp_scan.specs.declared.token.Token.{Token}
 use Rattle.rdlpp_scan.specs.CleanTexts.{IsCleanText, IsCleanToken}
-use Rattle.rdlpp_scan.specs.Pieces.{mode_behind}
 use Rattle.rdlpp_scan.specs.SourceTokens.{Ordinary, SourceToken}
 use Rattle.rdlpp_scan.specs.Tokens.{tokens_from}
 use Rattle.rdlpp_scan.proofs.CleanTexts.{clean_tokens}
@@ -46,12 +44,3 @@ clean_spelled (t ∷ ts) bs all =
 pub clean_keeps_all : (text : List ℕ) → IsCleanText text → filter (λ t. is_kept (token_role t)) (body_tokens text) ≡ body_tokens text
 unfolding body_tokens
 clean_keeps_all text clean = clean_spelled (tokens_from Plain 0 text) text (clean_tokens text clean)
-
-clean_behind : (ts : List Token) → AllByRecursion IsCleanToken ts → mode_behind Plain ts ≡ Plain
-unfolding mode_behind
-clean_behind [] all = refl
-clean_behind (t ∷ ts) all = ap (λ (m : Mode). mode_behind m ts) all.0.next ∙ clean_behind ts all.1
-
--- plain text stands behind a clean text
-pub clean_ends_plain : (text : List ℕ) → IsCleanText text → mode_behind Plain (tokens_from Plain 0 text) ≡ Plain
-clean_ends_plain text clean = clean_behind (tokens_from Plain 0 text) (clean_tokens text clean)

@@ -3,6 +3,7 @@ use Rattle.std.proofs.Common.{◌≡◌, ℕ, zero, suc, ◌<◌, Bool, true, fa
 use Rattle.std.specs.Prelude.{bytes_eq}
 use Rattle.std.specs.List.{list_all, list_any, AllByRecursion}
 use Rattle.std.proofs.lemmas.Bool.{or_parts}
+use Rattle.std.proofs.lemmas.List.Elements.{filter-append}
 use Rattle.rdlpp_scan.specs.declared.token.Kind.TheVariants.{Back, BareBackquote}
 use Rattle.rdlpp_scan.specs.declared.token.Directive.TheVariants.{Define}
 use Rattle.rdlpp_scan.specs.Bytes.{is_blank, is_line_end}
@@ -16,7 +17,7 @@ use Rattle.rdlpp_meaning.specs.State.{Rules, State, fault_at, breach_kind}
 use Rattle.rdlpp_meaning.specs.Items.{Written, Item}
 use Rattle.rdlpp_meaning.specs.Substitution.{substituted, body_tokens}
 use Rattle.rdlpp_meaning.specs.Expansion.{Opens, walk, is_copied, run_outcome, usage_token, expand}
-use Rattle.rdlpp_meaning.specs.Parts.{Command, Single, only_blanks, directive_named, directive_of, no_argument, argument_of, command_of, piece_of, pieces}
+use Rattle.rdlpp_meaning.specs.Parts.{Command, Single, only_blanks, line_ends_of, directive_named, directive_of, no_argument, argument_of, command_of, piece_of, pieces}
 use Rattle.rdlpp_meaning.proofs.Walks.{deeper_of, expand_walk, walk_copied, expand_all_copied}
 use Rattle.rdlpp_meaning.proofs.Usages.{usage_some, usage_plain, after_usage, walk_usage, substituted_none}
 use Rattle.rdlpp_meaning.proofs.Runs.{Writes}
@@ -128,3 +129,8 @@ body_writes rules s name line m h r e f copied us =
     ∙ ap (λ (x : Outcome). and_then x (walk rules s deeper None [] 0 (map Written us)))
     (deeper_copied rules s rules.depth line (m.name ∷ []) m h f copied)
     ∙ ap (λ (x : Outcome). and_then (gives m.body) x) (sym (expand_walk rules s rules.depth None [] (map Written us)))
+
+-- the LF bytes of bytes and then bytes
+pub line_ends_of-append : (x y : List ℕ) → line_ends_of (x ++ y) ≡ line_ends_of x ++ line_ends_of y
+unfolding line_ends_of
+line_ends_of-append x y = filter-append is_line_end x y

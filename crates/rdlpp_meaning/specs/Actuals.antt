@@ -150,7 +150,7 @@ kept t = length t.bytes
 unfoldable pub not_kept : SourceToken → ℕ
 not_kept t = 0
 
--- how the things behind the name of a macro are read: the role of each in a call, how many bytes of it count as kept, and each
+-- how the things after the name of a macro are read: the role of each in a call, how many bytes of it count as kept, and each
 -- without its line
 pub record Reads (A : Type 0) : Type 0 where
   pub role : A → Role

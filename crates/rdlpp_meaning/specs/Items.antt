@@ -25,7 +25,7 @@ unfoldable pub packed : List Item → Items
 packed [] = Nothing
 packed (x ∷ xs) = More x (packed xs)
 
--- a line that is told by a broken token alone
+-- the line of a token that counts: that of a broken one alone
 unfoldable pub broken_line : Sort → ℕ → ℕ
 broken_line (Broken b) line = line
 broken_line s line = 0
@@ -34,7 +34,7 @@ broken_line s line = 0
 unfoldable pub unlined : SourceToken → SourceToken
 unlined t = record { sort = t.sort; bytes = t.bytes; line = broken_line t.sort t.line }
 
--- an item without its line, if it is a token that isn't broken: each fault in an actual is told at the line of the outermost usage
+-- an item without its line, if it is a token that isn't broken: each fault in an actual is reported at the line of the outermost usage
 -- (source: this project's profile)
 unfoldable pub unlined_item : Item → Item
 unlined_item (Written t) = Written (unlined t)

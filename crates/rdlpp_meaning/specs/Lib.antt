@@ -15,7 +15,6 @@ pub mod Profile
 pub mod OutputLimit
 pub mod Literal
 pub mod LiteralLaws
-pub mod PartBytes
 pub mod LimitLaws
 pub mod CallScan
 pub mod CallReading

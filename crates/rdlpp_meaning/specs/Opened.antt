@@ -3,10 +3,10 @@
 use Rattle.std.specs.Prelude.{ℕ, Bool, List, [], ◌∷◌, ◌++◌}
 use Rattle.rdlpp_scan.specs.declared.token.Directive.TheVariants.{Include}
 use Rattle.rdlpp_scan.specs.SourceTokens.{SourceToken}
-use Rattle.rdlpp_meaning.specs.Outcome.{Outcome, gives}
+use Rattle.rdlpp_meaning.specs.Outcome.{gives}
 use Rattle.rdlpp_meaning.specs.State.{Rules, shown_line, State}
 use Rattle.rdlpp_meaning.specs.Parts.{only_blanks, command_in_front, behind_directive}
-use Rattle.rdlpp_meaning.specs.Meaning.{Passage, leaves, outcome, behind_bytes, goes_on, Progress, origin_line, back_in, added_end}
+use Rattle.rdlpp_meaning.specs.Meaning.{Passage, leaves, behind_bytes, goes_on, Progress, origin_line, back_in, added_end}
 use Rattle.rdlpp_meaning.specs.Resumed.{Place, Live, resumed}
 
 -- a source that waits for the text that it includes: its open conditionals, innermost first, whether only blanks stand
@@ -44,7 +44,3 @@ unwound rules (w ∷ ws) s =
 unfoldable pub all_resumed : Rules → List Waiting → Place → Bool → List SourceToken → State → Passage
 all_resumed rules ws place first tokens s =
     goes_on (resumed rules place first tokens s) (λ after. unwound rules ws after)
-
--- the bytes and the fault that remain of a nest of open sources (source: this project's profile)
-unfoldable pub all_remains : Rules → List Waiting → Place → Bool → List SourceToken → State → Outcome
-all_remains rules ws place first tokens s = outcome (all_resumed rules ws place first tokens s)

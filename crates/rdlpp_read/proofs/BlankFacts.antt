@@ -4,7 +4,7 @@ use Rattle.std.proofs.Math.Seq.{take-suc}
 use Rattle.std.proofs.lemmas.Bool.Decides.{eqb_tells}
 use Rattle.rdlpp_scan.specs.Bytes.{is_blank, is_line_end}
 use Rattle.rdlpp_meaning.specs.Parts.{only_blanks}
-use Rattle.rdlpp_meaning.proofs.Remaining.{only_blanks-append}
+use Rattle.rdlpp_meaning.proofs.TokenWrites.{only_blanks-append}
 
 -- by the last byte
 blanks_last : (first : Bool) (at : ℕ) (bs : List ℕ) → 0 < at → at ≤ length bs

@@ -24,7 +24,7 @@ use Rattle.rdlpp_steps.proofs.Stores.{KeepsStores, keeps_refused, none_called}
 use Rattle.rdlpp_steps.specs.Owed.{nothing_owed}
 use Rattle.rdlpp_steps.specs.Pieces.{kept_answer, lent_answer}
 use Rattle.rdlpp_steps.specs.Remaining.{uncut_of, kept_uncut, output_fault, phase_uncut, state_of, text_of, work_left}
-use Rattle.rdlpp_steps.specs.Steps.{EndsText, FailsAt, OnRead, Halts, HaltsAt, AtFront, Itself, LendsText, StopsReading, StepsOver, TellsText, Walks, all_of, may_follow, no_len, Tells, IsOwn, IsStarted, has_failed, has_met, has_refused, is_call_failed, is_memory_kind, is_read_failed, is_write_failed}
+use Rattle.rdlpp_steps.specs.Steps.{EndsText, FailsAt, OnRead, Halts, HaltsAt, IsReading, AtFront, Itself, LendsText, StopsReading, StepsOver, TellsText, Walks, all_of, may_follow, no_len, Tells, IsOwn, IsStarted, has_failed, has_met, has_refused, is_call_failed, is_memory_kind, is_read_failed, is_write_failed}
 use Rattle.rdlpp_steps.specs.declared.phase.Phase.{Phase}
 use Rattle.rdlpp_steps.specs.declared.phase.Phase.TheVariants.{Fresh, Open, Passed, Closed}
 use Rattle.rdlpp_steps.specs.declared.place.Place.{Place}
@@ -263,18 +263,18 @@ module _ {S R : Type 0} (g : Ghosts S R) (old new : EngineView S R) (free : old.
       (record { open_ = open_; still = still; at = new; stood = Itself refl; text = text }) call stores
 
   -- a read failed
-  pub walks_failed : (f : Told) → f ≡ fault_at fault.ReadFailed (reading_line_of (inner_buffer new.files.nest)) [] (state_of new)
+  pub walks_failed : (f : Told) → IsReading (inner_buffer new.files.nest) → f ≡ fault_at fault.ReadFailed (reading_line_of (inner_buffer new.files.nest)) [] (state_of new)
       → new ≡ record old { kept = Some f; files = new.files; sources = new.sources }
       → new.files ≡ record old.files { nest = with_buffer (inner_buffer new.files.nest) old.files.nest }
       → Slides (g.tells old.sources) ⊥ g.unread (inner_buffer old.files.nest) (inner_buffer new.files.nest) → old.owed ≡ nothing_owed
       → SourcesCalled g true false old.sources new.sources
       → (g.tells old.sources → text_of g old ≡ text_of g new) → KeepsStores g old new → Walks g old new (Err f)
   unfolding fault_at is_read_failed is_write_failed is_memory_kind is_call_failed
-  walks_failed f is becomes only moves unowed call text stores =
+  walks_failed f reading is becomes only moves unowed call text stores =
       let read : is_read_failed f.kind ≡ true = ap (λ t. is_read_failed t.kind) is in
       let write : is_write_failed f.kind ≡ false = ap (λ t. is_write_failed t.kind) is in
       let memory : is_memory_kind f.kind ≡ false = ap (λ t. is_memory_kind t.kind) is in
-      walks_stopped f (OnRead is) (ap (λ t. is_call_failed t.kind) is) write becomes only moves unowed (rw (read, memory) call) text stores
+      walks_stopped f (OnRead reading is) (ap (λ t. is_call_failed t.kind) is) write becomes only moves unowed (rw (read, memory) call) text stores
 
   -- the text has ended
   pub walks_end : new ≡ record old { phase = Closed; files = new.files; sources = new.sources } → old.owed ≡ nothing_owed → old.expansion.opens ≡ []

@@ -22,7 +22,7 @@ use Rattle.rdlpp_meaning.specs.Meaning.{behind_bytes, leaves, origin_line, unquo
 use Rattle.rdlpp_meaning.specs.Outcome.{Told, fails}
 use Rattle.rdlpp_meaning.specs.Profile.{rules_of}
 use Rattle.rdlpp_meaning.specs.State.{LongPath, NoSource, Rules, Source, fault_at}
-use Rattle.rdlpp_read.specs.Buffer.{EndsHeld, held_of, opened_buffer, unused_of}
+use Rattle.rdlpp_read.specs.Buffer.{Slides, EndsHeld, held_of, opened_buffer, unused_of}
 use Rattle.rdlpp_read.specs.Files.{FilesView, consumed_file, entered_file, inner_buffer, with_buffer, with_inner}
 use Rattle.rdlpp_read.specs.declared.files.File.{File}
 use Rattle.rdlpp_front.specs.Fronts.{HasString, LacksString, word_of, include_name}

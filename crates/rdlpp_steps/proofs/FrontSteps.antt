@@ -1,5 +1,5 @@
 -- What is taken of the open sources, as steps of the engine.
-use Rattle.std.proofs.Common.{◌≡◌, ℕ, zero, suc, ◌+◌, ◌-◌, ◌^◌, ◌≤◌, ◌<◌, true, false, List, [], ◌∷◌, ◌++◌, length, take, drop, replicate, append_assoc, append-nil, Option, None, Some, Ok, refl, sym, ap, ◌∙◌, subst, arith}
+use Rattle.std.proofs.Common.{◌≡◌, ℕ, zero, suc, ◌+◌, ◌-◌, ◌^◌, ◌≤◌, ◌<◌, true, false, List, [], ◌∷◌, ◌++◌, length, take, drop, replicate, append_assoc, append-nil, Option, None, Some, Ok, refl, sym, ap, ◌∙◌, subst, inl, inr, codes, arith}
 use Rattle.std.specs.List.{slice_range}
 use Rattle.std.specs.Prelude.{min, IfSome}
 use Rattle.std.proofs.lemmas.List.{take-take, drop-take, length-drop, length-take, take_rest}
@@ -44,19 +44,21 @@ use Rattle.rdlpp_steps.specs.Engine.{EngineView, IsSoundEngine, is_open}
 use Rattle.rdlpp_steps.specs.Held.{IsBounded}
 use Rattle.rdlpp_steps.specs.Standing.{AtOwed, AtSource, Nowhere, StandsIn}
 use Rattle.rdlpp_steps.specs.Stored.{AreParts}
+use Rattle.rdlpp_read.proofs.Sliding.{slides-same, slides-told}
 use Rattle.rdlpp_steps.proofs.Stores.{KeepsParts, KeepsStores, keeps_owed, keeps_sources, keeps_stopped, parts_mode, parts_on, parts_slid, parts_used}
 use Rattle.rdlpp_steps.specs.Moves.{Defines, IsReady, IsUnowed, ReadsDefine, RefusesDefine, define_rest}
 use Rattle.rdlpp_steps.specs.Owed.{OriginView, OwedView, TakesPiece, digits_of, line_ends_owed, nothing_owed, origin_bytes, origin_pieces, owed_bytes, owed_pieces, part_bytes}
 use Rattle.rdlpp_steps.specs.declared.owed.OwedPiece.{OwedPiece}
 use Rattle.rdlpp_steps.specs.Pieces.{IsPlaced, lent_answer, step_answer}
 use Rattle.rdlpp_steps.specs.Remaining.{file_state, inner_name, nest_left, nest_state, run_rules, source_rules, state_of, text_of, work_left}
-use Rattle.rdlpp_steps.specs.Steps.{IsOwn, Walks, is_memory_kind, is_read_failed, is_write_failed}
+use Rattle.rdlpp_steps.specs.Steps.{IsOwn, IsReading, Walks, is_memory_kind, is_read_failed, is_write_failed}
 use Rattle.rdlpp_steps.specs.declared.phase.Phase.{Phase}
 use Rattle.rdlpp_steps.specs.declared.phase.Phase.TheVariants.{Open}
 use Rattle.rdlpp_steps.specs.declared.place.Place.{Place}
 use Rattle.rdlpp_steps.specs.declared.place.Place.TheVariants.{Source, Text, Owed, End, Kept}
 use Rattle.rdlpp_usages.specs.Usages.{texts_left}
 use Rattle.rdlpp_steps.proofs.IdleTexts.{text_idle}
+use Rattle.rdlpp_front.proofs.DefineLeft.{define_begins}
 use Rattle.rdlpp_steps.proofs.EngineSteps.{IsSilent, kept_at, not_called, walks_failed, walks_fault, walks_lent}
 use Rattle.rdlpp_steps.proofs.NestLeft.{nest_cut_define, nest_defined, nest_filled, nest_long_define, nest_long_line, nest_long_source, nest_nameless, nest_refused, nest_refused_define, nest_reserved, nest_text, nest_undef, nest_undefined, nest_unfilled, nest_unheld}
 use Rattle.rdlpp_steps.proofs.Soundness.{inner_facts, with_inner-length}
@@ -352,19 +354,26 @@ refuses g old mid new place kind line word ready r bounded is becomes own call l
     refuses_by g old mid new place (λ s. fault_at kind line word s) (λ s. told_kind kind line word s own) ready r bounded is becomes call law
 
 -- a failed read is kept
-pub fails_reading : {S R : Type 0} (g : Ghosts S R) (old mid new : EngineView S R) (place : Place) → IsReady old → IsRead g old mid → IsBounded new
+pub fails_reading : {S R : Type 0} (g : Ghosts S R) (old mid new : EngineView S R) (place : Place) → IsReady old → IsRead g old mid → IsReading (inner_buffer mid.files.nest) → IsBounded new
     → place ≡ Kept → new ≡ record mid { kept = Some (fault_at fault.ReadFailed (reading_line_of (inner_buffer mid.files.nest)) [] (state_of mid)) } → SourcesCalled g true false old.sources mid.sources
     → (g.tells old.sources → left_by g old old.table.macros old.conditions old.files.nest ≡ left_by g old old.table.macros old.conditions (with_buffer (inner_buffer mid.files.nest) old.files.nest))
     → Walks g old new (lent_answer new place)
 unfolding state_of
-fails_reading {S} {R} g old mid new place ready r bounded is becomes call law =
+fails_reading {S} {R} g old mid new place ready r reading bounded is becomes call law =
     let told : EngineView S R → Told = λ e. fault_at fault.ReadFailed (reading_line_of (inner_buffer e.files.nest)) [] (nest_state e.limits e.table.macros e.conditions e.files.nest) in
     let sources : new.sources ≡ mid.sources = ap (λ e. e.sources) becomes in
     let P : S → Type 0 = λ s. SourcesCalled g true false old.sources s in
     kept_at g old new place (told mid) is (ap (λ e. e.kept) becomes)
-    (walks_failed g old new ready.free ready.open_ bounded (told mid) (sym (ap told becomes)) (keeps_fault old mid new (told mid) r becomes) (keeps_files old mid new (told mid) r becomes) (keeps_moves old mid new (told mid) r becomes) ready.owed (subst P (sym sources) call)
+    (walks_failed g old new ready.free ready.open_ bounded (told mid)
+    (subst (λ (fs : FilesView R). IsReading (inner_buffer fs.nest)) (sym (ap (λ e. e.files) becomes)) reading) (sym (ap told becomes)) (keeps_fault old mid new (told mid) r becomes) (keeps_files old mid new (told mid) r becomes) (keeps_moves old mid new (told mid) r becomes) ready.owed (subst P (sym sources) call)
     (λ t. read_text g old mid ready.owed ready.idle r call.catalog (law t) ∙ sym (kept_text g mid new (told mid) becomes))
     (keeps_read g old mid new (told mid) ready r becomes call.catalog))
+
+-- a `define` begins what is held, of which more came
+pub reading_define : {R : Type 0} (old new : BufferView R) (more : List ℕ) → 0 < length (held_of old) → IsDirective Define (held_of old) → held_of new ≡ held_of old ++ more → IsReading new
+reading_define old new more some is held =
+    inr (drop 7 (held_of old) ++ more,
+    held ∙ (ap (λ (xs : List ℕ). xs ++ more) (define_begins (held_of old) some is) ∙ append_assoc (codes "`define") (drop 7 (held_of old)) more))
 
 -- nothing changed
 pub read_nothing : {S R : Type 0} {g : Ghosts S R} (e : EngineView S R) → IsRead g e e
@@ -560,7 +569,7 @@ unfolding is_open
 opened_phase p e = ap is_open e
 
 -- an engine that goes on still does where bytes were filled in
-pub ready_filled : {S R : Type 0} (old mid : EngineView S R) → IsReady old → IsRead g old mid → IsSoundEngine mid.limits mid.phase mid.table mid.files mid.conditions → AreOpen mid.files → IsReady mid
+pub ready_filled : {S R : Type 0} {g : Ghosts S R} (old mid : EngineView S R) → IsReady old → IsRead g old mid → IsSoundEngine mid.limits mid.phase mid.table mid.files mid.conditions → AreOpen mid.files → IsReady mid
 ready_filled old mid ready r sound files = record {
   open_ = ap (λ e. e.phase) r.becomes ∙ ready.open_;
   free = ap (λ e. e.kept) r.becomes ∙ ready.free;

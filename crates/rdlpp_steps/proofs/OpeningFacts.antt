@@ -1,5 +1,5 @@
 -- The opening of a main text: the name that its fault tells, and what a start comes to.
-use Rattle.std.proofs.Common.{◌≡◌, ℕ, zero, suc, ◌-◌, ◌≤◌, ◌<◌, ◌&&◌, Bool, true, false, leb, List, [], length, get_or, take, None, Some, Err, ◌∷◌, refl, sym, ap, subst, ◌∙◌, inl, inr, arith}
+use Rattle.std.proofs.Common.{◌≡◌, ℕ, zero, suc, ◌-◌, ◌≤◌, ◌<◌, ◌&&◌, Bool, true, false, leb, List, [], length, get_or, take, Option, None, Some, Err, ◌∷◌, refl, sym, ap, subst, ◌∙◌, inl, inr, arith}
 use Rattle.std.specs.Str.{IsCharBoundary}
 use Rattle.std.proofs.lemmas.Bool.{cases_lt, cond-true, cond-false}
 use Rattle.std.proofs.lemmas.Bool.Decides.{nat_tests}
@@ -40,7 +40,7 @@ use Rattle.rdlpp_meaning.specs.State.{Lookup, NoSource, LongPath, Rules, State, 
 use Rattle.rdlpp_meaning.specs.Profile.{rules_of}
 use Rattle.rdlpp_steps.specs.Steps.{is_memory_kind, is_read_failed}
 use Rattle.rdlpp_steps.specs.Includes.{kind_of_source}
-use Rattle.rdlpp_steps.specs.Opening.{opened_engine, unopened_engine, looked_up_output, searches_of, is_device_fault, is_memory_fault, Starts}
+use Rattle.rdlpp_steps.specs.Opening.{opened_engine, unopened_engine, looked_up_output, searches_of, is_device_fault, is_memory_fault, is_opening_kind, Starts}
 
 -- whether the byte at a place goes on with a character
 goes_on : List ℕ → ℕ → Bool
@@ -233,7 +233,8 @@ starts_open {S} {R} g e s found path most none unopened idle bounded answer fail
     lets_go = record { idle = λ _ _. h };
     parts =
         let file : File R = entered_file found e.limits.source_bytes e.files.line_bytes 0 0 in
-        let exact : Type 0 = None {A = Told} ≡ None in
+        let kept : Option Told = None in
+        let exact : Type 0 = kept ≡ None in
         subst (λ (ns : List (File R)). AreParts g.unread (g.catalog s) exact (file ∷ ns)) (sym none)
         (subst (λ (c : Catalog). AreParts g.unread c exact (file ∷ [])) (sym catalog)
         (parts_opened g.unread (g.catalog e.sources) exact found e.limits.source_bytes e.files.line_bytes 0 0 path (answer telling)));

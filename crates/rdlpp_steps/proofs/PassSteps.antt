@@ -35,6 +35,7 @@ use Rattle.rdlpp_steps.specs.Conditionals.{AnyUsage, IncludeWord, IsSkippedWord,
 use Rattle.rdlpp_steps.specs.Engine.{EngineView}
 use Rattle.rdlpp_steps.specs.Held.{IsBounded}
 use Rattle.rdlpp_steps.specs.Standing.{Nowhere}
+use Rattle.rdlpp_read.proofs.Sliding.{slides-told}
 use Rattle.rdlpp_steps.proofs.Stores.{KeepsParts, parts_mode, parts_on, parts_slid, parts_used}
 use Rattle.rdlpp_steps.specs.Moves.{IsReady}
 use Rattle.rdlpp_steps.specs.OpenConditionals.{AreConditions, inner_below}

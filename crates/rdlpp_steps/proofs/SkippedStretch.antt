@@ -29,9 +29,8 @@ use Rattle.rdlpp_meaning.specs.Resumed.{Skipped}
 use Rattle.rdlpp_meaning.specs.State.{Rules, State}
 use Rattle.rdlpp_meaning.proofs.DirectiveWords.{has_own_token}
 use Rattle.rdlpp_meaning.proofs.SkippedStretches.{stands_by_itself}
-use Rattle.rdlpp_meaning.proofs.TokenWrites.{only_blanks-append}
+use Rattle.rdlpp_meaning.proofs.TokenWrites.{only_blanks-append, line_ends_of-append}
 use Rattle.rdlpp_meaning.proofs.Passages.{behind_bytes-twice}
-use Rattle.rdlpp_meaning.proofs.Trees.{line_ends_of-append}
 use Rattle.rdlpp_read.specs.Buffer.{BufferView, EndsHeld, ahead_of, entered_mode, held_of, rest_of, tokens_left}
 use Rattle.rdlpp_read.proofs.BufferTokens.{consumed_ends}
 use Rattle.rdlpp_read.specs.Files.{consumed_file}

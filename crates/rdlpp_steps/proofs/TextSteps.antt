@@ -40,7 +40,7 @@ use Rattle.rdlpp_steps.specs.declared.place.Place.TheVariants.{Text, Kept}
 use Rattle.rdlpp_steps.proofs.CursorWork.{cursors_fall}
 use Rattle.rdlpp_steps.proofs.EngineSteps.{kept_at, not_called, walks_fault, walks_lent}
 use Rattle.rdlpp_steps.proofs.EndSteps.{nest_macros}
-use Rattle.rdlpp_steps.proofs.FrontSteps.{behind_twice, keeps_fault, keeps_files, keeps_moves, left_by, read_nothing, told_kind, unowed_behind, unowed_few}
+use Rattle.rdlpp_steps.proofs.FrontSteps.{IsRead, behind_twice, keeps_fault, keeps_files, keeps_moves, left_by, read_nothing, told_kind, unowed_behind, unowed_few}
 
 -- bytes in front of what goes on
 goes_by : (bytes xs : List ℕ) (f : Option Told) (s : State) (next : State → Passage)

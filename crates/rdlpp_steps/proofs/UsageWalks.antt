@@ -1,5 +1,5 @@
 -- The opening of a usage, as a step of the engine.
-use Rattle.std.proofs.Common.{◌≤◌, ◌≡◌, ◌+◌, ◌<◌, ◌^◌, ℕ, Bool, true, false, List, [], ◌∷◌, ◌++◌, length, drop, Option, None, Some, Ok, Err, refl, sym, ap, ◌∙◌, subst, arith}
+use Rattle.std.proofs.Common.{◌≤◌, ◌≡◌, ◌+◌, ◌<◌, ◌^◌, ℕ, Bool, true, false, List, [], ◌∷◌, ◌++◌, length, drop, Option, None, Some, Ok, Err, refl, sym, ap, ◌∙◌, subst, inl, arith}
 use Rattle.rdlpp_scan.specs.declared.token.Mode.TheVariants.{Plain}
 use Rattle.rdlpp_source.specs.Sources.{Catalog}
 use Rattle.rdlpp_source.specs.declared.sources.Sources.{Ghosts}
@@ -197,14 +197,14 @@ module _ {S R : Type 0} (g : Ghosts S R) (old : EngineView S R) (ready : IsReady
         (λ t. broken_text g (run_rules g old) old ready.owed ready.idle live ready.nest nest x kind own line name (means t))
 
     -- a read failed in its call
-    pub usage_fails : let f = fault_at fault.ReadFailed (reading_line_of (inner_buffer nest)) [] (state_of old) in IsBounded (stopped_engine f)
+    pub usage_fails : held_of (inner_buffer nest) ≡ [] → let f = fault_at fault.ReadFailed (reading_line_of (inner_buffer nest)) [] (state_of old) in IsBounded (stopped_engine f)
         → SourcesCalled g true false old.sources s → Walks g old (stopped_engine f) (Err f)
     unfolding fault_at is_read_failed is_write_failed is_memory_kind is_call_failed
-    usage_fails bounded call =
+    usage_fails unheld bounded call =
         let f = fault_at fault.ReadFailed (reading_line_of (inner_buffer nest)) [] (state_of old) in
         let here : f ≡ fault_at fault.ReadFailed (reading_line_of (inner_buffer nest)) [] (state_of (stopped_engine f)) =
         ap (fault_at fault.ReadFailed (reading_line_of (inner_buffer nest)) []) (sym (same_here f)) in
-        walks_ceased g old (stopped_engine f) ready.free ready.open_ bounded f (OnRead here) refl refl refl (halts_in f)
+        walks_ceased g old (stopped_engine f) ready.free ready.open_ bounded f (OnRead (inl unheld) here) refl refl refl (halts_in f)
         (record { open_ = ready.open_; still = ready.open_; at = old; stood = BeforeCall (stops_in f); text = λ t. refl }) call (stores_in f call.catalog)
 
 -- a usage as a step of the engine, by what its opening says
@@ -274,5 +274,5 @@ module _ {S R : Type 0} (g : Ghosts S R) (old mid : EngineView S R) (len : ℕ) 
       let is = stopped_is old mid o.becomes o.only new f same (kept ∙ ap (λ (s : State). record mid { kept = Some (fault_at fault.ReadFailed line [] s) }) here) in
       kept_at g old new place f at (ap (λ e. e.kept) is)
       (subst (λ (e : EngineView S R). Walks g old e (Err f)) (sym is)
-      (usage_fails g old ready live mid.files.nest mid.sources mid.expansion Failed o.uses len mode usage refl o.macro o.named o.keeps (inside_of o.some) (subst (λ (e : EngineView S R). IsBounded e) is bounded)
+      (usage_fails g old ready live mid.files.nest mid.sources mid.expansion Failed o.uses len mode usage refl o.macro o.named o.keeps (inside_of o.some) (o.unheld refl) (subst (λ (e : EngineView S R). IsBounded e) is bounded)
       (called g true old.sources mid.sources o.call)))

@@ -142,5 +142,6 @@ pub record OpensUsage {S R : Type 0} (g : Ghosts S R) (len : ℕ) (old new : Eng
   pub keeps : KeepsUsage macro.formals (g.tells old.sources) g.unread old.expansion.most opening new.expansion.arguments (inner_buffer (with_inner (consumed_file len 0) old.files.nest)) (inner_buffer new.files.nest)
   pub fault : IsUsageFault opening
   pub own : IsOwnLine opening
+  pub unheld : is_failed_opening opening ≡ true → held_of (inner_buffer new.files.nest) ≡ []
   pub means : (rules : Rules) (s : State) (ws : List Waiting) (os : List Progress) → IsRun rules s old.table.macros old.expansion.depth old.expansion.most → g.tells old.sources
       → TellsUsage rules s g.unread ws os old.table.macros (inner_buffer old.files.nest).line (usage_name (held_of (inner_buffer old.files.nest)) len) opening new.expansion old.files.nest new.files.nest

@@ -1,6 +1,6 @@
 -- How an engine is made, and how its main text is opened.
 -- A definition that names no source is this project's own.
-use Rattle.std.specs.Prelude.{◌≡◌, ℕ, Bool, false, ◌+◌, List, [], ◌∷◌, Option, None, Some, Result, Ok, Err}
+use Rattle.std.specs.Prelude.{◌≡◌, ℕ, Bool, false, true, ◌+◌, List, [], ◌∷◌, IfSome, Option, None, Some, Result, Ok, Err}
 use Rattle.rdlpp_steps.specs.Calls.{SourcesCalled}
 use Rattle.rdlpp_source.specs.Sources.{Catalog, Present}
 use Rattle.rdlpp_source.specs.declared.sources.Found.{Found}
@@ -8,6 +8,8 @@ use Rattle.rdlpp_source.specs.declared.sources.Sources.{Ghosts}
 use Rattle.rdlpp_table.specs.Limits.{limit_fault}
 use Rattle.rdlpp_table.specs.declared.limits.Limits.{Limits}
 use Rattle.rdlpp_meaning.specs.declared.fault.Fault.{Fault}
+use Rattle.rdlpp_meaning.specs.declared.fault.FaultKind.{FaultKind}
+use Rattle.rdlpp_meaning.specs.declared.fault.FaultKind.TheVariants.{PathTooLong, ReadFailed, SourceMemory, SourceNotFound}
 use Rattle.rdlpp_meaning.specs.Outcome.{Told, told, Outcome}
 use Rattle.rdlpp_meaning.specs.Output.{name_cut, opening_fault}
 use Rattle.rdlpp_steps.specs.Engine.{EngineView}

@@ -1,6 +1,6 @@
 -- What a step of an engine does.
 -- A definition that names no source is this project's own.
-use Rattle.std.specs.Prelude.{◌≡◌, ℕ, ◌+◌, ◌<◌, Bool, true, false, List, [], ◌++◌, ◌||◌, Option, None, Some, Result, Ok, Err, IfErr, IfOk, length, take, ⊤}
+use Rattle.std.specs.Prelude.{◌≡◌, ℕ, ◌+◌, ◌<◌, Bool, true, false, List, [], ◌++◌, ◌||◌, Option, None, Some, Result, Ok, Err, IfErr, IfOk, length, take, ⊤, ◌⊎◌, codes}
 use Rattle.rdlpp_scan.specs.declared.token.Mode.TheVariants.{Plain}
 use Rattle.rdlpp_source.specs.declared.sources.Sources.{Ghosts}
 use Rattle.rdlpp_meaning.specs.declared.fault.FaultKind.{FaultKind}
@@ -97,10 +97,14 @@ TellsText most g (Ok (Some bytes)) old new = LendsText most bytes old (text_of g
 TellsText most g (Ok None) old new = EndsText new old
 TellsText most g (Err f) old new = old ≡ leaves (fails f) (state_of new)
 
+-- a source is read only where no byte is held of it, or where a `define` begins what is held
+abbrev pub IsReading : {R : Type 0} → BufferView R → Type 0
+IsReading b = (held_of b ≡ []) ⊎ ((rest : List ℕ) × (held_of b ≡ codes "`define" ++ rest))
+
 -- the fault of a read that failed, at the line that is read; or that of a search that failed, at the line of the `include` that
 -- asked for it
 pub data FailsAt {S R : Type 0} (e : EngineView S R) (f : Told) : Type 0 where
-  OnRead : f ≡ fault_at ReadFailed (reading_line_of (inner_buffer e.files.nest)) [] (state_of e) → FailsAt e f
+  OnRead : IsReading (inner_buffer e.files.nest) → f ≡ fault_at ReadFailed (reading_line_of (inner_buffer e.files.nest)) [] (state_of e) → FailsAt e f
   OnSearch : IsSearch e → (kind : FaultKind) → is_call_failed kind ≡ true → f ≡ fault_at kind (inner_buffer e.files.nest).line [] (state_of e) → FailsAt e f
 
 -- an engine that stopped in the call of a usage, before which another one stood: no text of a usage is open, and of the one before it nothing changed but

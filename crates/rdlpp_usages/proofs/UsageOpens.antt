@@ -252,7 +252,3 @@ read_usage kind e = absurd (false≢true e)
 pub count_usage : (kind : FaultKind) → kind ≡ ArgumentCount → is_usage_fault kind ≡ true
 unfolding is_usage_fault
 count_usage kind e = ap (λ (k : FaultKind). is_usage_fault k) e
-
--- what is answered is the fault
-pub told_usage : (opening told : Opening) → told ≡ opening → IsUsageFault opening → IsUsageFault told
-told_usage opening told e h = subst (λ (o : Opening). IsUsageFault o) (sym e) h

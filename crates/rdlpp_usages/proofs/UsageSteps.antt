@@ -46,21 +46,6 @@ kept_call tells unread most macros id line bytes now (Refused kind) c old new pl
 kept_call tells unread most macros id line bytes now (Broken kind own) c old new plain r binds = absurd binds
 kept_call tells unread most macros id line bytes now Failed c old new plain r binds = absurd binds
 
--- whether texts are open behind what binding comes to
-pub bound_opens : (macros : List Macro) (id line : ℕ) (bytes now : List ℕ) (opening : Opening) (c : CursorsView) → BindsKept macros id line bytes now opening c → is_opened opening ≡ true → 0 < length c.opens
-bound_opens macros id line bytes now Opened c binds e = rw binds.body (omega arith)
-bound_opens macros id line bytes now (Refused kind) c binds e = cc e
-bound_opens macros id line bytes now (Broken kind own) c binds e = cc e
-bound_opens macros id line bytes now Failed c binds e = cc e
-
--- and of which macro they are
-pub bound_usage : (macros : List Macro) (id line : ℕ) (bytes now : List ℕ) (opening : Opening) (c : CursorsView) → BindsKept macros id line bytes now opening c → is_opened opening ≡ true → usage_id c.opens ≡ Some id
-unfolding usage_id open_body
-bound_usage macros id line bytes now Opened c binds e = ap usage_id binds.body
-bound_usage macros id line bytes now (Refused kind) c binds e = cc e
-bound_usage macros id line bytes now (Broken kind own) c binds e = cc e
-bound_usage macros id line bytes now Failed c binds e = cc e
-
 -- so it is with a body that is opened
 pub body_usage : (texts : Texts) (id : ℕ) (parts : List Part) (opens : List Open) → opens ≡ open_body texts id parts 0 ∷ [] → usage_id opens ≡ Some id
 unfolding usage_id open_body

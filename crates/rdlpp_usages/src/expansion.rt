@@ -198,6 +198,7 @@ impl Expansion {
         ensures keeps { KeepsUsage (macro_at table.now.macros id).formals (S.tells sources.old) S.unread self.old.most result self.new.arguments (inner_buffer (with_inner (consumed_file len 0) files.old.nest)) (inner_buffer files.new.nest) }
         ensures fault { IsUsageFault result }
         ensures own { IsOwnLine result }
+        ensures unheld { is_failed_opening result ≡ true → held_of (inner_buffer files.new.nest) ≡ [] }
         ensures means { (rules : Rules) (s : State) (ws : List Waiting) (os : List Progress) → IsRun rules s table.now.macros self.old.depth self.old.most → S.tells sources.old → TellsUsage rules s S.unread ws os table.now.macros (inner_buffer files.old.nest).line (usage_name (held_of (inner_buffer files.old.nest)) len) result self.new files.old.nest files.new.nest }
     {
         let line = files.file().buffer.line();
@@ -275,6 +276,7 @@ fn open_call<S: Sources>(
     ensures keeps { KeepsOpening (S.tells sources.old) S.unread arguments.old.most result arguments.new.bytes (inner_buffer files.old.nest) (inner_buffer files.new.nest) }
     ensures fault { IsUsageFault result }
     ensures own { IsOwnLine result }
+    ensures unheld { is_failed_opening result ≡ true → held_of (inner_buffer files.new.nest) ≡ [] }
     ensures tells { TellsCallUsage (S.tells sources.old) S.unread arguments.old.most table.now.macros usage.id result texts.new.opens arguments.new.bytes (inner_buffer files.old.nest) (inner_buffer files.new.nest) }
 {
     match read_call(files, sources, arguments) {

@@ -91,3 +91,6 @@ returns-in-SourceLong-clause-fault g c = source_fault
 
 pub returns-in-LineLong-clause-fault : goal.returns-in-LineLong-clause-fault
 returns-in-LineLong-clause-fault g c = line_fault
+
+pub returns-in-Failed-clause-unheld : goal.returns-in-Failed-clause-unheld
+returns-in-Failed-clause-unheld g c = λ _. c.in-Failed.ensures.fills.bytes

@@ -3,7 +3,7 @@ use Rattle.rdlpp_meaning.specs.declared.fault.FaultKind.TheVariants as fault
 use Rattle.rdlpp_read.specs.Files.{inner_buffer}
 use Rattle.rdlpp_front.proofs.DefineLeft.{define_inside, define_rest_whole}
 use Rattle.rdlpp_steps.proofs.EngineSteps.{called}
-use Rattle.rdlpp_steps.proofs.FrontSteps.{IsRead, defined_placed, defined_steps, held_few, fails_reading, left_cut_define, left_long_define, left_unheld, line_kind, opened_phase, refuses, slid, source_kind}
+use Rattle.rdlpp_steps.proofs.FrontSteps.{IsRead, defined_placed, defined_steps, held_few, fails_reading, left_cut_define, left_long_define, left_unheld, line_kind, opened_phase, refuses, slid, source_kind, reading_define}
 use Rattle.rdlpp_expand.proofs.engine.Engine.define_line.Goals as goal
 
 pub read_define-requires : goal.read_define-requires
@@ -52,6 +52,6 @@ pub returns-in-Failed-clause-walks : goal.returns-in-Failed-clause-walks
 returns-in-Failed-clause-walks g c = λ bounded.
     let e = c.in-Failed.ensures in
     let r : IsRead g.S.Sources c.args.self.now c.hold_line.new.self = record { becomes = e.becomes; only = e.only; moves = slid _ _ _ _ _ e.holds.slides } in
-    fails_reading g.S.Sources c.args.self.now c.hold_line.new.self c.refuse_read.new.self c.refuse_read.result c.requires.ready r bounded
+    fails_reading g.S.Sources c.args.self.now c.hold_line.new.self c.refuse_read.new.self c.refuse_read.result c.requires.ready r (reading_define _ _ e.holds.extends.more c.requires.some c.requires.define e.holds.extends.held) bounded
     c.refuse_read.ensures.place c.refuse_read.ensures.kept (called g.S.Sources true _ _ e.call)
     (λ t. left_unheld g.S.Sources c.args.self.now c.hold_line.new.self c.requires.ready t e.holds)

@@ -61,5 +61,6 @@ returns g c =
       keeps = o.keeps;
       fault = o.fault;
       own = o.own;
+      unheld = o.unheld;
       means = o.means;
     })

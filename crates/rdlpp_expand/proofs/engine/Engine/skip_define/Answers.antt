@@ -7,7 +7,7 @@ use Rattle.rdlpp_read.specs.Files.{inner_buffer}
 use Rattle.rdlpp_read.proofs.Slices.{line_ends_le}
 use Rattle.rdlpp_front.proofs.DefineLeft.{define_inside}
 use Rattle.rdlpp_steps.proofs.EngineSteps.{called}
-use Rattle.rdlpp_steps.proofs.FrontSteps.{IsRead, fails_reading, held_few, left_unheld, line_kind, opened_phase, refuses, slid, source_kind}
+use Rattle.rdlpp_steps.proofs.FrontSteps.{IsRead, fails_reading, held_few, left_unheld, line_kind, opened_phase, refuses, slid, source_kind, reading_define}
 use Rattle.rdlpp_steps.proofs.PassSteps.{define_steps, left_cut, left_long, skipping}
 use Rattle.rdlpp_expand.proofs.engine.Engine.skip_define.Goals as goal
 
@@ -72,6 +72,6 @@ returns-in-Failed-clause-walks g c = λ bounded.
     let o = c.args.self.now in
     let e = c.in-Failed.ensures in
     let r : IsRead g.S.Sources o c.hold_line.new.self = record { becomes = e.becomes; only = e.only; moves = slid _ _ _ _ _ e.holds.slides } in
-    fails_reading g.S.Sources o c.hold_line.new.self c.refuse_read.new.self c.refuse_read.result c.requires.ready r bounded
+    fails_reading g.S.Sources o c.hold_line.new.self c.refuse_read.new.self c.refuse_read.result c.requires.ready r (reading_define _ _ e.holds.extends.more c.requires.some c.requires.define e.holds.extends.held) bounded
     c.refuse_read.ensures.place c.refuse_read.ensures.kept (called g.S.Sources true _ _ e.call)
     (λ t. left_unheld g.S.Sources o c.hold_line.new.self c.requires.ready t e.holds)

@@ -1,4 +1,4 @@
-use Rattle.std.proofs.Common.{false, true, []}
+use Rattle.std.proofs.Common.{false, true, [], inl}
 use Rattle.rdlpp_meaning.specs.declared.fault.FaultKind.TheVariants as fault
 use Rattle.rdlpp_steps.proofs.EngineSteps.{called, silent_then}
 use Rattle.rdlpp_steps.proofs.EndSteps.{ended_placed, ended_steps}
@@ -41,6 +41,6 @@ returns-in-LineLong-clause-walks g c = λ bounded.
 pub returns-in-Failed-clause-walks : goal.returns-in-Failed-clause-walks
 returns-in-Failed-clause-walks g c = λ bounded.
     let r : IsRead g.S.Sources c.args.self.now c.fill.new.self = record { becomes = c.in-Failed.ensures.becomes; only = c.in-Failed.ensures.only; moves = slid _ _ _ _ _ c.in-Failed.ensures.fills.slides } in
-    fails_reading g.S.Sources c.args.self.now c.fill.new.self c.refuse_read.new.self c.refuse_read.result c.requires r bounded
+    fails_reading g.S.Sources c.args.self.now c.fill.new.self c.refuse_read.new.self c.refuse_read.result c.requires r (inl c.in-Failed.ensures.fills.bytes) bounded
     c.refuse_read.ensures.place c.refuse_read.ensures.kept (called g.S.Sources true _ _ c.in-Failed.ensures.call)
     (λ t. left_unfilled g.S.Sources c.args.self.now c.fill.new.self c.requires t c.in-Failed.ensures.fills)
