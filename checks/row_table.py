@@ -40,7 +40,9 @@ def numbered(text, number):
 def unescaped(text):
     """A text without runs: `\\n`, `\\r`, `\\t`, `\\x` with two digits, and a backslash before any other byte."""
     parts = re.findall(r"\\x([0-9a-f]{2})|\\(.)|([^\\]+)", text)
-    return b"".join(bytes.fromhex(code) if code else SIGNS.get(sign, sign.encode()) + rest.encode() for code, sign, rest in parts)
+    return b"".join(
+        bytes.fromhex(code) if code else SIGNS.get(sign, sign.encode()) + rest.encode() for code, sign, rest in parts
+    )
 
 
 def spelled(text):
@@ -49,7 +51,10 @@ def spelled(text):
     runs = zip(parts[1::3], parts[2::3], parts[3::3])
     told = [unescaped(parts[0])]
     for count, run, rest in runs:
-        told += [unescaped(numbered(run, number)) for number in range(int(count))] if "{" in run else [unescaped(run) * int(count)]
+        if "{" in run:
+            told += [unescaped(numbered(run, number)) for number in range(int(count))]
+        else:
+            told.append(unescaped(run) * int(count))
         told.append(unescaped(rest))
     return b"".join(told)
 

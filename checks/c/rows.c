@@ -1,11 +1,12 @@
-/* The rows of crates/rdlpp_rows/data, in one call and by reads of one and of seven bytes. `calls` writes them to rows.inc. */
+/* The rows of crates/rdlpp_rows/data, in one call and by reads of one and of seven bytes; `calls` writes rows.inc. */
 #include "rdlpp.h"
 
 #include <stdio.h>
 #include <stdlib.h>
 #include <string.h>
 
-/* A row: what a call asks for, the output that it must give, and the fault that must end it; its number is 0 where none does. */
+/* A row: what a call asks for, the output that it must give, and the fault that must end it, of number 0 where none
+   does. */
 struct row {
     const char *shows;
     rdlpp_limits limits;
@@ -77,7 +78,8 @@ static void reads(const struct row *row, char *out, size_t room)
     if (outcome.status == RDLPP_WHOLE) {
         do {
             const size_t left = row->output_length + room - length;
-            outcome = rdlpp_read(&handle, out + length, left < room ? left : room, name, sizeof name, word, sizeof word);
+            const size_t most = left < room ? left : room;
+            outcome = rdlpp_read(&handle, out + length, most, name, sizeof name, word, sizeof word);
             length += outcome.length;
         } while (outcome.status == RDLPP_MORE && length <= row->output_length);
     }

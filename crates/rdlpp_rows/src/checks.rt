@@ -3,7 +3,7 @@ use crate::devices::{Devices, SLOW, WHOLE};
 use crate::pieces::has_its_pieces;
 use crate::row::Row;
 use crate::runs::{Ended, Job, preprocess_row, run_row};
-use rdlpp::{FaultKind, UsageFault, parse_words};
+use rdlpp::{FaultKind, Invocation, Limits, UsageFault, parse_words};
 use std::alloc::{AllocError, Global};
 
 // The most bytes of the texts of a row that is cut, and whose devices fail at each place.
@@ -11,6 +11,11 @@ const SHORT: usize = 200;
 
 // The most bytes of an output that is pulled piece by piece.
 const LONG: usize = 100_000;
+
+// The most open texts of a usage, and the most open includes, of a row that is cut or whose devices fail.
+const MOST_TEXTS: usize = 16;
+
+const MOST_INCLUDES: usize = 4;
 
 // The most calls of a device.
 const MOST_CALLS: u64 = 100_000;
@@ -27,23 +32,15 @@ enum Failing {
 
 /// What isn't as it has to be with a row; nothing where all is.
 pub fn failed_check(alloc: Global, row: &Row) -> Result<Option<&'static str>, AllocError> {
-    let mut words = Vec::from_slice(alloc, &["rdlpp"])?;
-    for word in &row.words {
-        words.push(word.as_str())?;
-    }
-    let mut files = Vec::new(alloc);
-    for (path, text) in &row.files {
-        files.push((path.as_str(), text.as_slice()))?;
-    }
-    let Some(main) = files.as_slice().first() else {
-        return Ok(Some("it has no text"));
-    };
-    words.push(main.0)?;
-    let invocation = match parse_words(alloc, words.as_slice()) {
+    let invocation = match invocation_of(alloc, row) {
         Ok(invocation) => invocation,
         Err(UsageFault::NoMemory) => return Err(AllocError),
         Err(_) => return Ok(Some("its words")),
     };
+    let mut files = Vec::new(alloc);
+    for (path, text) in &row.files {
+        files.push((path.as_str(), text.as_slice()))?;
+    }
     let mut folders = Vec::new(alloc);
     for folder in &invocation.folders {
         folders.push(folder.as_str())?;
@@ -51,10 +48,30 @@ pub fn failed_check(alloc: Global, row: &Row) -> Result<Option<&'static str>, Al
     let job = Job {
         row,
         invocation: &invocation,
+        limits: invocation.options.limits,
         files: files.as_slice(),
         folders: folders.as_slice(),
     };
     failed_job(alloc, &job)
+}
+
+// What the words of a row ask for, with its first text as the main one.
+fn invocation_of(alloc: Global, row: &Row) -> Result<Invocation, UsageFault> {
+    let mut words = Vec::new(alloc);
+    if words.push("rdlpp").is_err() {
+        return Err(UsageFault::NoMemory);
+    }
+    for word in &row.words {
+        if words.push(word.as_str()).is_err() {
+            return Err(UsageFault::NoMemory);
+        }
+    }
+    if let Some((path, _)) = row.files.as_slice().first()
+        && words.push(path.as_str()).is_err()
+    {
+        return Err(UsageFault::NoMemory);
+    }
+    parse_words(alloc, words.as_slice())
 }
 
 // What isn't as it has to be with a row whose words were read.
@@ -71,6 +88,21 @@ fn failed_job(alloc: Global, job: &Job<'_>) -> Result<Option<&'static str>, Allo
     if len_of(job.files) > SHORT {
         return Ok(None);
     }
+    broken_job(alloc, &with_few(job))
+}
+
+// A row with few open texts and includes: its many engines are made sooner, and it has the same to come to.
+fn with_few<'a>(job: &Job<'a>) -> Job<'a> {
+    let limits = Limits {
+        depth: job.limits.depth.min(MOST_TEXTS),
+        includes: job.limits.includes.min(MOST_INCLUDES),
+        ..job.limits
+    };
+    Job { limits, ..*job }
+}
+
+// What isn't as it has to be with a row that is cut short, and whose devices fail at each place.
+fn broken_job(alloc: Global, job: &Job<'_>) -> Result<Option<&'static str>, AllocError> {
     if !agrees_cut(alloc, job)? {
         return Ok(Some("cut short"));
     }
