@@ -1,7 +1,5 @@
 -- The steps of the open texts of a usage, as steps of the engine.
 use Rattle.std.proofs.Common.{◌≡◌, ◌==◌, ◌⊎◌, inl, inr, ℕ, ◌^◌, ◌<◌, true, false, List, [], ◌∷◌, length, Option, None, Some, Ok, refl, sym, ap, ◌∙◌, subst, arith}
-use Rattle.std.proofs.lemmas.Bool.{eqb-true}
-use Rattle.std.proofs.lemmas.List.{nil_from_length}
 use Rattle.rdlpp_source.specs.declared.sources.Sources.{Ghosts}
 use Rattle.rdlpp_table.specs.Table.{Macro}
 use Rattle.rdlpp_meaning.specs.Meaning.{Passage, behind_bytes, goes_on, leaves}
@@ -194,10 +192,6 @@ texts_refuse {S} {R} g old mid new place fault unowed bounded same is kept own s
 -- the same engine, with other open texts
 pub opening : {S R : Type 0} (a b : EngineView S R) (x : ExpansionView) → a ≡ b → record a { expansion = x } ≡ record b { expansion = x }
 opening {S} {R} a b x same = ap (λ (e : EngineView S R). record e { expansion = x }) same
-
--- no text is open, or one is, by a test
-pub none_open : (opens : List Open) → (length opens == 0) ≡ true → opens ≡ []
-none_open opens e = nil_from_length opens (eqb-true (length opens) 0 e)
 
 pub some_open : (opens : List Open) → (length opens == 0) ≡ false → 0 < length opens
 some_open [] e = cc e
