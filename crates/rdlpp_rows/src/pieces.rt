@@ -34,7 +34,7 @@ pub fn has_its_pieces(alloc: Global, job: &Job<'_>) -> Result<bool, AllocError> 
             Ok(Piece::Done) => Some(Vec::new(alloc)),
             Err(fault) => Some(line_of(alloc, fault)?),
         };
-        if !is_within(&engine.held(), &job.limits) {
+        if !is_within(&engine.held(), &job.invocation.options.limits) {
             return Ok(false);
         }
         if let Some(line) = end {
