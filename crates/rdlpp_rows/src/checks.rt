@@ -9,9 +9,6 @@ use std::alloc::{AllocError, Global};
 // The most bytes of the texts of a row that is cut, and whose devices fail at each place.
 const SHORT: usize = 400;
 
-// The most bytes of an output that is pulled piece by piece.
-const LONG: usize = 100_000;
-
 // The most calls of a device.
 const MOST_CALLS: u64 = 100_000;
 
@@ -76,7 +73,7 @@ fn failed_job(alloc: Global, job: &Job<'_>) -> Result<Option<&'static str>, Allo
     if !preprocess_row(alloc, job, SLOW)?.is_wanted(job.row) {
         return Ok(Some("by one byte a read and one byte a write"));
     }
-    if job.row.output.len() <= LONG && !has_its_pieces(alloc, job)? {
+    if !has_its_pieces(alloc, job)? {
         return Ok(Some("piece by piece"));
     }
     if len_of(job.files) > SHORT {
