@@ -3,19 +3,11 @@ use crate::devices::{Devices, SLOW, WHOLE};
 use crate::pieces::has_its_pieces;
 use crate::row::Row;
 use crate::runs::{Ended, Job, preprocess_row, run_row};
-use rdlpp::{FaultKind, Invocation, Limits, UsageFault, parse_words};
+use rdlpp::{FaultKind, Invocation, UsageFault, parse_words};
 use std::alloc::{AllocError, Global};
 
 // The most bytes of the texts of a row that is cut, and whose devices fail at each place.
-const SHORT: usize = 200;
-
-// The most bytes of an output that is pulled piece by piece.
-const LONG: usize = 100_000;
-
-// The most open texts of a usage, and the most open includes, of a row that is cut or whose devices fail.
-const MOST_TEXTS: usize = 16;
-
-const MOST_INCLUDES: usize = 4;
+const SHORT: usize = 400;
 
 // The most calls of a device.
 const MOST_CALLS: u64 = 100_000;
@@ -48,7 +40,6 @@ pub fn failed_check(alloc: Global, row: &Row) -> Result<Option<&'static str>, Al
     let job = Job {
         row,
         invocation: &invocation,
-        limits: invocation.options.limits,
         files: files.as_slice(),
         folders: folders.as_slice(),
     };
@@ -82,23 +73,13 @@ fn failed_job(alloc: Global, job: &Job<'_>) -> Result<Option<&'static str>, Allo
     if !preprocess_row(alloc, job, SLOW)?.is_wanted(job.row) {
         return Ok(Some("by one byte a read and one byte a write"));
     }
-    if job.row.output.len() <= LONG && !has_its_pieces(alloc, job)? {
+    if !has_its_pieces(alloc, job)? {
         return Ok(Some("piece by piece"));
     }
     if len_of(job.files) > SHORT {
         return Ok(None);
     }
-    broken_job(alloc, &with_few(job))
-}
-
-// A row with few open texts and includes: its many engines are made sooner, and it has the same to come to.
-fn with_few<'a>(job: &Job<'a>) -> Job<'a> {
-    let limits = Limits {
-        depth: job.limits.depth.min(MOST_TEXTS),
-        includes: job.limits.includes.min(MOST_INCLUDES),
-        ..job.limits
-    };
-    Job { limits, ..*job }
+    broken_job(alloc, job)
 }
 
 // What isn't as it has to be with a row that is cut short, and whose devices fail at each place.

@@ -6,7 +6,7 @@ use rdlpp_expand::{Engine, Held, Piece};
 use std::alloc::{AllocError, Global};
 
 // The most pieces of a row that is pulled.
-const MOST_PIECES: u32 = 200_000;
+const MOST_PIECES: u32 = 4_000_000;
 
 /// Whether the pieces of a row are its output, and then its end, which stays; and whether what is held is within the limits
 /// behind each piece, and at the end what the row wants.
@@ -34,7 +34,7 @@ pub fn has_its_pieces(alloc: Global, job: &Job<'_>) -> Result<bool, AllocError> 
             Ok(Piece::Done) => Some(Vec::new(alloc)),
             Err(fault) => Some(line_of(alloc, fault)?),
         };
-        if !is_within(&engine.held(), &job.limits) {
+        if !is_within(&engine.held(), &job.invocation.options.limits) {
             return Ok(false);
         }
         if let Some(line) = end {

@@ -2,7 +2,7 @@
 use crate::devices::{DealtTexts, DealtWriter, Devices, WHOLE};
 use crate::row::Row;
 use rdlpp::{
-    Counted, Fault, FaultKind, Invocation, Limits, PrepFault, RunFault, Texts, preprocess, report,
+    Counted, Fault, FaultKind, Invocation, PrepFault, RunFault, Texts, preprocess, report,
 };
 use rdlpp_expand::{Engine, Piece, run};
 use std::alloc::{AllocError, Global};
@@ -14,8 +14,6 @@ pub struct Job<'a> {
     pub row: &'a Row,
     /// What its words ask for.
     pub invocation: &'a Invocation,
-    /// The limits of its engines.
-    pub limits: Limits,
     /// Its texts by their paths, the main text first.
     pub files: &'a [(&'a str, &'a [u8])],
     /// The include folders.
@@ -97,7 +95,7 @@ pub fn engine_of<'a>(
 ) -> Result<Option<Engine<DealtTexts<'a>>>, AllocError> {
     let options = &job.invocation.options;
     let sources = sources_of(job, devices);
-    let Ok(mut engine) = Engine::new(alloc, job.limits, sources, options.origins) else {
+    let Ok(mut engine) = Engine::new(alloc, options.limits, sources, options.origins) else {
         return Err(AllocError);
     };
     for (name, text) in &options.defines {
