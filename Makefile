@@ -11,8 +11,8 @@ shared = librdlpp_c.so
 # The name by which a program that is linked with the shared library asks for it.
 soname = $(shared).$(basename $(VERSION))
 
-# How many crates `make build` and `make c` prove side by side.
-JOBS ?= $(shell nproc)
+# How many crates `make build` and `make c` prove side by side: one for each processor, and for each 3 GB of free memory.
+JOBS ?= $(shell awk -v most=$$(nproc) '/^MemAvailable/ { n = int($$2 / 3e6); print n < 1 ? 1 : n < most ? n : most }' /proc/meminfo)
 
 # The folders of a crate and of all below it: crates.txt has the lowest first, so one walk from its end meets each.
 folders = $(shell tac crates.txt | awk -F '[ :]+' -v crate=$(1) \

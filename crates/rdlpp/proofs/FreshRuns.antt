@@ -2,6 +2,7 @@
 use Rattle.std.proofs.Common.{◌≡◌, ℕ, ◌+◌, ◌<◌, ◌≤◌, length, List, ◌∷◌, drop, Result, Ok, Err, slice_index_or, sym, ap, ◌∙◌, Bool, false, [], Option, subst, true, ◌||◌, ◌++◌, None, Some, IfSome, refl}
 use Rattle.std.specs.String.{string_bytes}
 use Rattle.std.proofs.lemmas.List.{drop_more, drop_all}
+use Rattle.std.specs.Io.KnownBytes.{Appends}
 use Rattle.rdlpp_table.specs.Table.{Macro}
 use Rattle.rdlpp_table.specs.Define.{Accepted, Defined, Refused, observed, set_of}
 use Rattle.rdlpp_table.specs.declared.fault.DefineFault.{DefineFault}
@@ -16,7 +17,6 @@ use Rattle.rdlpp_steps.specs.Remaining.{left_of}
 use Rattle.rdlpp_expand.specs.Reading.{ReadingView, reading_left}
 use Rattle.rdlpp.specs.Opening.{OpensGiven}
 use Rattle.rdlpp.specs.Preprocess.{engine_with, output_given, Follows, RunsFresh, WritesOutput, is_failure}
-use Rattle.std.specs.Io.KnownBytes.{Appends}
 use Rattle.rdlpp_source.specs.declared.sinks.Sink.{Ghosts as SinkGhosts}
 use Rattle.rdlpp_meaning.specs.declared.fault.FaultKind.{FaultKind}
 use Rattle.rdlpp_expand.specs.Run.{Begins, Runs, count_of, fault_of, is_fresh}

@@ -1,6 +1,6 @@
 -- Sources over files: which paths are opened, and what an open and a read answer.
 -- A definition that names no source is this project's own.
-use Rattle.std.specs.Prelude.{◌≡◌, ℕ, ◌<◌, ◌≤◌, ◌==◌, false, List, ◌∷◌, length, map, Option, Some, slice_get, Result, Ok, Err}
+use Rattle.std.specs.Prelude.{◌≡◌, ◌≢◌, ⊤, codes, ℕ, ◌<◌, ◌≤◌, ◌==◌, false, List, ◌∷◌, length, map, Option, Some, slice_get, Result, Ok, Err}
 use Rattle.std.specs.List.{list_any}
 use Rattle.std.specs.String.{string_bytes}
 use Rattle.rdlpp_source.specs.Search.{candidates, folder_of}
@@ -27,6 +27,20 @@ memory_refusals folders = folders.refusals
 abbrev pub unread_bytes : {I F : Type 0} → (I → Option (List ℕ)) → (F → Option (List ℕ)) → FolderReader I F → Option (List ℕ)
 unread_bytes of_input of_file (Input input) = of_input input
 unread_bytes of_input of_file (File file) = of_file file
+
+-- a reader is one of a file
+abbrev pub IsFile : {I F : Type 0} → FolderReader I F → Type 0
+IsFile (Input input) = ⊥
+IsFile (File file) = ⊤
+
+-- a reader is one of standard input
+abbrev pub IsInput : {I F : Type 0} → FolderReader I F → Type 0
+IsInput (Input input) = ⊤
+IsInput (File file) = ⊥
+
+-- the reader of a main path: of `-` that of standard input, and of every other one a file (source: this project's profile)
+abbrev pub IsReaderOf : {I F : Type 0} → List ℕ → FolderReader I F → Type 0
+IsReaderOf path reader = (path ≡ codes "-" → IsInput reader) × (path ≢ codes "-" → IsFile reader)
 
 -- the folders in which a name is searched: that of the including source, and then the include folders in order (source: this project's profile)
 abbrev pub searched_folders : List (List ℕ) → List ℕ → List (List ℕ)

@@ -1,6 +1,6 @@
 -- The line that reports a fault.
 -- A definition that names no source is this project's own.
-use Rattle.std.specs.Prelude.{ℕ, List, [], ◌∷◌, ◌++◌, codes, decimal, Option}
+use Rattle.std.specs.Prelude.{◌≡◌, ℕ, List, [], ◌∷◌, ◌++◌, codes, decimal, OnOk, Option, Result}
 use Rattle.std.specs.List.{concat}
 use Rattle.std.specs.Io.KnownBytes.{Appends}
 use Rattle.rdlpp_table.specs.declared.limits.LimitFault.{LimitFault}
@@ -39,6 +39,15 @@ report_line text (BadLimits limit) = concat (codes "rdlpp: error: limit " ∷ li
 report_line text NoMemory = codes "rdlpp: error: out of memory\n"
 report_line text (Run run) = fault_line text run.fault
 
--- the known bytes grew by the line that reports a fault, with some text of its kind (source: this project's profile)
-abbrev pub Reports : Option (List ℕ) → Option (List ℕ) → PrepFault → Type 0
-Reports old new fault = (text : List ℕ) × Appends old new (report_line text fault)
+-- of these bytes the first ones were written, and all of them where that succeeded
+pub record Writes {T E : Type 0} (old new : Option (List ℕ)) (bytes : List ℕ) (result : Result T E) : Type 0 where
+  pub written : List ℕ
+  pub rest : List ℕ
+  pub split : bytes ≡ written ++ rest
+  pub taken : Appends old new written
+  pub whole : OnOk result (rest ≡ [])
+
+-- the known bytes grew by the line that reports a fault, with some text of its kind, or where that failed by the first bytes of such a line
+-- (source: this project's profile)
+abbrev pub Reports : {T E : Type 0} → Option (List ℕ) → Option (List ℕ) → PrepFault → Result T E → Type 0
+Reports old new fault result = (text : List ℕ) × Writes old new (report_line text fault) result

@@ -84,7 +84,7 @@ impl<I: Read, F: Read> FolderReader<I, F> {
 }
 
 impl<'r, R: Files + Input> Folders<'r, R> {
-    ghost use Rattle.rdlpp.specs.Folders.{include_folders, device_failures, memory_refusals, searched_folders, OpensPath, SearchesPaths};
+    ghost use Rattle.rdlpp.specs.Folders.{include_folders, device_failures, memory_refusals, searched_folders, IsFile, IsReaderOf, OpensPath, SearchesPaths};
 
     /// Sources over the files of `rt`, with these include folders in the order of the search.
     ///
@@ -121,7 +121,8 @@ impl<'r, R: Files + Input> Folders<'r, R> {
         &self,
         path: ArrayString<1024>,
     ) -> Result<Found<FolderReader<R::Reader, R::File>>, SourceFault>
-        ensures { OpensPath path.bytes result }
+        ensures path { OpensPath path.bytes result }
+        ensures file { IfOk result (λ found. IsFile found.reader) }
     {
         if path.as_bytes().contains(&b'\n') {
             return Err(SourceFault::Absent);
@@ -140,7 +141,8 @@ impl<'r, R: Files + Input> Folders<'r, R> {
 
     // The main text: standard input, or the file at its path.
     fn open_main(&self, path: &str) -> Result<Found<FolderReader<R::Reader, R::File>>, SourceFault>
-        ensures { OpensPath path.now result }
+        ensures path { OpensPath path.now result }
+        ensures reader { IfOk result (λ found. IsReaderOf path.now found.reader) }
     {
         let Ok(path) = ArrayString::from(path) else {
             return Err(SourceFault::PathTooLong);
@@ -158,7 +160,8 @@ impl<'r, R: Files + Input> Folders<'r, R> {
         folder: &str,
         name: &str,
     ) -> Result<Found<FolderReader<R::Reader, R::File>>, SourceFault>
-        ensures { OpensPath (joined_path folder.now name.now) result }
+        ensures path { OpensPath (joined_path folder.now name.now) result }
+        ensures file { IfOk result (λ found. IsFile found.reader) }
     {
         match joined_path(folder, name) {
             Some(path) => self.open(path),
@@ -185,8 +188,9 @@ impl<'r, R: Files + Input> Folders<'r, R> {
         from: &'s str,
         name: &str,
     ) -> Result<Found<FolderReader<R::Reader, R::File>>, SourceFault>
-        ensures { SearchesPaths (map (λ folder. joined_path folder name.now)
+        ensures paths { SearchesPaths (map (λ folder. joined_path folder name.now)
             (searched_folders (include_folders self.now) from.now)) result }
+        ensures file { IfOk result (λ found. IsFile found.reader) }
     {
         for place in 0..self.folders.len() + 1 {
             let answer = self.open_in(self.searched_folder(from, place), name);
@@ -203,7 +207,8 @@ impl<'r, R: Files + Input> Folders<'r, R> {
         from: &str,
         name: &str,
     ) -> Result<Found<FolderReader<R::Reader, R::File>>, SourceFault>
-        ensures { SearchesPaths (candidates (include_folders self.now) from.now name.now) result }
+        ensures paths { SearchesPaths (candidates (include_folders self.now) from.now name.now) result }
+        ensures file { IfOk result (λ found. IsFile found.reader) }
     {
         if name.starts_with('/') {
             return self.open_in("", name);
@@ -232,7 +237,7 @@ impl<'r, R: Files + Input> Sources for Folders<'r, R> {
 
     ghost use Rattle.std.specs.Prelude.{[]};
     ghost use Rattle.rdlpp_source.specs.Sources.{Missing};
-    ghost use Rattle.rdlpp.specs.Folders.{include_folders, device_failures, memory_refusals, unread_bytes, OpensPath, SearchesPaths};
+    ghost use Rattle.rdlpp.specs.Folders.{include_folders, device_failures, memory_refusals, unread_bytes, IsFile, IsReaderOf, OpensPath, SearchesPaths};
 
     ghost tells = { λ _. ⊥ };
 
@@ -246,6 +251,7 @@ impl<'r, R: Files + Input> Sources for Folders<'r, R> {
 
     fn top(&mut self, path: &str) -> Result<Found<FolderReader<R::Reader, R::File>>, SourceFault>
         ensures path { OpensPath path.now result }
+        ensures reader { IfOk result (λ found. IsReaderOf path.now found.reader) }
         ensures folders { include_folders self.new ≡ include_folders self.old }
         ensures failures { Counts (is_device result) (device_failures self.old) (device_failures self.new) }
         ensures refusals { Counts (is_no_memory result) (memory_refusals self.old) (memory_refusals self.new) }
@@ -260,6 +266,7 @@ impl<'r, R: Files + Input> Sources for Folders<'r, R> {
         name: &str,
     ) -> Result<Found<FolderReader<R::Reader, R::File>>, SourceFault>
         ensures path { SearchesPaths (candidates (include_folders self.old) from.now name.now) result }
+        ensures file { IfOk result (λ found. IsFile found.reader) }
         ensures folders { include_folders self.new ≡ include_folders self.old }
         ensures failures { Counts (is_device result) (device_failures self.old) (device_failures self.new) }
         ensures refusals { Counts (is_no_memory result) (memory_refusals self.old) (memory_refusals self.new) }

@@ -1,8 +1,7 @@
 // The line that reports a fault.
-ghost use Rattle.std.specs.Prelude.{◌≡◌, ℕ, List, OnOk, map};
+ghost use Rattle.std.specs.Prelude.{◌≡◌, ℕ, List, map};
 ghost use Rattle.std.specs.List.{concat};
-ghost use Rattle.std.specs.Io.KnownBytes.{Appends};
-ghost use Rattle.rdlpp.specs.Report.{Reports, limit_name, fault_line, line_end};
+ghost use Rattle.rdlpp.specs.Report.{Reports, Writes, limit_name, fault_line, line_end};
 
 use crate::PrepFault;
 use arrayvec::ArrayString;
@@ -19,10 +18,10 @@ use std::io::{self, ErrorKind, Write};
 /// want of memory `rdlpp: error: out of memory`, each with LF.
 ///
 /// # Errors
-/// An error of the writer, of whatever kind, and a write that takes nothing. A part of the line may
-/// then be written.
+/// An error of the writer, of whatever kind, and a write that takes nothing. The first bytes of the line,
+/// or none, are then written.
 pub fn report<W: Write>(fault: &PrepFault, writer: &mut W) -> Result<(), io::Error>
-    ensures { OnOk result (Reports (W.contents writer.old) (W.contents writer.new) fault.now) }
+    ensures { Reports (W.contents writer.old) (W.contents writer.new) fault.now result }
 {
     match fault {
         PrepFault::BadLimits(limit) => {
@@ -53,8 +52,7 @@ pub(crate) fn limit_name(limit: LimitFault) -> &'static str
 
 // Writes the line of a fault.
 fn write_fault<W: Write>(fault: &Fault, writer: &mut W) -> io::Result<()>
-    ensures { OnOk result ((text : List ℕ) × Appends (W.contents writer.old) (W.contents writer.new)
-        (fault_line text fault.now)) }
+    ensures { (text : List ℕ) × Writes (W.contents writer.old) (W.contents writer.new) (fault_line text fault.now) result }
 {
     let text = text_of(fault.kind);
     let mut line = Buffer::new();
@@ -81,7 +79,7 @@ fn text_of(kind: FaultKind) -> ArrayString<64> {
 
 // Writes the word that a fault is about, in quotes, where there is one, and the line's end.
 fn write_word<W: Write>(word: &[u8], writer: &mut W) -> io::Result<()>
-    ensures { OnOk result (Appends (W.contents writer.old) (W.contents writer.new) (line_end word.now)) }
+    ensures { Writes (W.contents writer.old) (W.contents writer.new) (line_end word.now) result }
 {
     if word.is_empty() {
         return write_whole(b"\n", writer);
@@ -91,8 +89,7 @@ fn write_word<W: Write>(word: &[u8], writer: &mut W) -> io::Result<()>
 
 // Writes some parts, one after another.
 fn write_parts<W: Write>(parts: &[&[u8]], writer: &mut W) -> io::Result<()>
-    ensures { OnOk result (Appends (W.contents writer.old) (W.contents writer.new)
-        (concat (map (λ part. part.now) parts.now))) }
+    ensures { Writes (W.contents writer.old) (W.contents writer.new) (concat (map (λ part. part.now) parts.now)) result }
 {
     for part in parts {
         write_whole(part, writer)?;
@@ -103,7 +100,7 @@ fn write_parts<W: Write>(parts: &[&[u8]], writer: &mut W) -> io::Result<()>
 // Writes all of some bytes. An error of the writer, of whatever kind, and a write that takes nothing
 // end it.
 fn write_whole<W: Write>(bytes: &[u8], writer: &mut W) -> io::Result<()>
-    ensures { OnOk result (Appends (W.contents writer.old) (W.contents writer.new) bytes.now) }
+    ensures { Writes (W.contents writer.old) (W.contents writer.new) bytes.now result }
 {
     let mut rest = bytes;
     while !rest.is_empty() {

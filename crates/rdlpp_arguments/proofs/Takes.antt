@@ -3,6 +3,9 @@ use Rattle.std.proofs.Common.{◌≡◌, ◌≢◌, ℕ, ◌-◌, ◌≤◌, ◌
 use Rattle.std.specs.Prelude.{nat_le}
 use Rattle.std.proofs.lemmas.Bool.{cond_both, cases_Bool, eqb-true, false≢true, or_cases, leb-true, leb-false}
 use Rattle.std.proofs.lemmas.List.{length-take-le, drop-drop}
+use Rattle.std.specs.List.{prefix_len}
+use Rattle.std.proofs.Math.Seq.{take-add}
+use Rattle.std.proofs.lemmas.List.Sums.{prefix_len-le-length, prefix_len_passes}
 use Rattle.rdlpp_scan.specs.declared.token.Kind.{Kind}
 use Rattle.rdlpp_scan.specs.declared.token.Kind.TheVariants.{Opener, Closer, Back, Perl, Name, Word, Blank, Comma}
 use Rattle.rdlpp_scan.specs.declared.token.Mode.{Mode}
@@ -30,9 +33,6 @@ use Rattle.rdlpp_arguments.specs.declared.taking.Taking.{Taking}
 use Rattle.rdlpp_arguments.specs.declared.taking.Taking.TheVariants.{Uses, Closes as ClosesCall, Refused, Perl as PerlFound}
 use Rattle.rdlpp_arguments.specs.declared.taking.Use.{Use}
 use Rattle.rdlpp_arguments.proofs.Halts.{IsFirst, own_token, token_first, directive_reads, name_first, perl_reads}
-use Rattle.std.specs.List.{prefix_len}
-use Rattle.std.proofs.Math.Seq.{take-add}
-use Rattle.std.proofs.lemmas.List.Sums.{prefix_len-le-length, prefix_len_passes}
 use Rattle.rdlpp_scan.specs.Resumed.{opening}
 use Rattle.rdlpp_scan.proofs.SourceLaws.{line_ends-miss, line_ends-part}
 use Rattle.rdlpp_scan.proofs.LineLaws.{EndsLine-drop}

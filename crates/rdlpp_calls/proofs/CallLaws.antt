@@ -11,17 +11,13 @@ use Rattle.rdlpp_scan.specs.declared.token.Mode.{Mode}
 use Rattle.rdlpp_scan.specs.declared.token.Token.{Token}
 use Rattle.rdlpp_scan.specs.SourceTokens.{Ordinary, SourceToken}
 use Rattle.rdlpp_scan.specs.Tokens.{tokens_from}
-use Rattle.rdlpp_meaning.specs.declared.fault.FaultKind.{FaultKind}
-use Rattle.rdlpp_meaning.specs.declared.fault.FaultKind.TheVariants.{ArgumentsMissing, ArgumentsOpen, ArgumentCount}
+use Rattle.rdlpp_meaning.specs.declared.fault.FaultKind.TheVariants.{ArgumentsMissing, ArgumentsOpen}
 use Rattle.rdlpp_meaning.specs.Actuals.{Role, Space, Dropped, Remark, Start, Up, End, Down, Halt, Ends, Stops, level_behind, kept_size, kind_role, token_role, not_kept}
 use Rattle.rdlpp_meaning.specs.CallScan.{Stand, Before, Inside, Turn, Passes, Keeps, Closes, turn_before, turn_fitting, turn_inside, turn, stand_behind_lead, stand_behind, room_behind, fault_at_end, Scanned, Refused, Closed, scan_passing, scan_keeping, scanned, scan, is_kept, is_call_text}
 use Rattle.rdlpp_meaning.specs.Expansion.{bytes_of}
 use Rattle.rdlpp_meaning.specs.Substitution.{spelled}
 use Rattle.rdlpp_meaning.specs.TextTokens.{text_tokens}
-use Rattle.rdlpp_calls.specs.BoundCalls.{is_call_fault}
-use Rattle.rdlpp_calls.specs.declared.parts.CallFault.{CallFault}
-use Rattle.rdlpp_calls.specs.declared.parts.CallFault.TheVariants.{Missing, Unclosed}
-use Rattle.rdlpp_calls.specs.CallParts.{call_fault_kind, opener_by, opener_from, ends_call, closer_from}
+use Rattle.rdlpp_calls.specs.CallParts.{opener_by, opener_from, ends_call, closer_from}
 
 -- a choice of two texts of a call is one
 either : (c : Bool) (r q : Role) → is_call_text r ≡ true → is_call_text q ≡ true → is_call_text (cond c r q) ≡ true

@@ -6,7 +6,7 @@ use Rattle.rdlpp_scan.specs.declared.token.Mode.{Mode}
 use Rattle.rdlpp_meaning.specs.Actuals.{Role, level_behind, is_space}
 use Rattle.rdlpp_meaning.specs.TextTokens.{text_tokens}
 use Rattle.rdlpp_meaning.proofs.TextRanges.{text_nil}
-use Rattle.rdlpp_calls.specs.CallParts.{opener_by, opener_from, ends_call, closer_from, space_from, ends_part, part_from}
+use Rattle.rdlpp_calls.specs.CallParts.{opener_by, opener_from, ends_call, closer_from, ends_part, part_from}
 use Rattle.rdlpp_calls.specs.CallTokens.{role_meant, IsFirstToken}
 use Rattle.rdlpp_calls.specs.declared.parts.Part.{Part}
 use Rattle.rdlpp_calls.specs.declared.tokens.CallRole.{CallRole}

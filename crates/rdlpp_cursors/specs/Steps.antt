@@ -43,11 +43,6 @@ IsKnown macros (OpenBody id parts) = id < length macros
 IsKnown macros OpenActual = Unit
 IsKnown macros (OpenDefault id place) = (id < length macros) × (place < length (formals_of (macro_at macros id)))
 
--- so are those of all open texts
-abbrev pub AreKnown : List Macro → List Open → Type 0
-AreKnown macros [] = Unit
-AreKnown macros (x ∷ below) = IsKnown macros x.kind × AreKnown macros below
-
 -- each open text lies in its text and is read from plain text on, and its macro is in the table
 abbrev pub AreInside : Texts → List Open → Type 0
 AreInside texts [] = Unit

@@ -9,7 +9,7 @@ ghost use Rattle.rdlpp_cursors.specs.Fronts.{IsLookAhead, StandsAt};
 ghost use Rattle.rdlpp_cursors.specs.Opened.{bound_by, is_spent, kept_by, moved_to, open_of, IsNoBody, StaysOutermost};
 ghost use Rattle.rdlpp_cursors.specs.Places.{source_text, texts_of};
 ghost use Rattle.rdlpp_cursors.specs.Usages.{IsTextFault};
-ghost use Rattle.rdlpp_cursors.specs.Steps.{AreKnown, AreSound, IsStep, KeepsOpen, StaysRefused, IsPlacedStep, NamesWord};
+ghost use Rattle.rdlpp_cursors.specs.Steps.{AreSound, IsStep, KeepsOpen, StaysRefused, IsPlacedStep, NamesWord};
 ghost use Rattle.rdlpp_cursors.specs.Taking.{IsTaken};
 ghost use Rattle.rdlpp_cursors.specs.declared.step.CursorStep.TheVariants.{Silent};
 

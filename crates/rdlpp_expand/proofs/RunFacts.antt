@@ -1,5 +1,5 @@
 -- Pulls in a row, and the run that they are.
-use Rattle.std.proofs.Common.{◌≡◌, ◌≢◌, ℕ, ◌+◌, ◌-◌, ◌^◌, ◌≤◌, ◌<◌, ◌==◌, min, Bool, true, false, ◌&&◌, ◌||◌, not, List, [], ◌++◌, length, take, drop, Option, None, Some, Result, Ok, Err, IfSome, refl, sym, ap, subst, ◌∙◌, append_assoc, append-nil, length-append, ne_eqb, arith, inl, inr}
+use Rattle.std.proofs.Common.{◌≡◌, ◌≢◌, ℕ, ◌+◌, ◌-◌, ◌^◌, ◌≤◌, ◌==◌, min, Bool, true, false, ◌&&◌, ◌||◌, not, List, [], ◌++◌, length, take, drop, Option, None, Some, Result, Ok, Err, IfSome, refl, sym, ap, subst, ◌∙◌, append_assoc, append-nil, length-append, ne_eqb, arith, inl, inr}
 use Rattle.std.proofs.lemmas.List.{take_all, length-take-le, take-append-drop}
 use Rattle.std.specs.Prelude.{if◌then◌else◌}
 use Rattle.std.specs.Io.KnownBytes.{Appends, Keeps}
@@ -16,7 +16,7 @@ use Rattle.rdlpp_steps.specs.Engine.{EngineView, is_open}
 use Rattle.rdlpp_steps.specs.Held.{IsBounded, stores_of}
 use Rattle.rdlpp_steps.proofs.Stores.{KeepsStores, keeps_refused}
 use Rattle.rdlpp_steps.specs.Owed.{nothing_owed}
-use Rattle.rdlpp_steps.specs.Remaining.{kept_uncut, left_of, output_fault, phase_uncut, state_of, text_of, uncut_of, work_left}
+use Rattle.rdlpp_steps.specs.Remaining.{kept_uncut, left_of, output_fault, phase_uncut, state_of, text_of, uncut_of}
 use Rattle.rdlpp_expand.specs.Run.{Pulls, Wrote, WroteEnds, Going, Finishes, Stops, StopsAt, Breaks, Runs, Begins, Flushes, Unflushed, answered, is_fresh, is_kept, is_unwritten, write_fault}
 use Rattle.rdlpp_steps.specs.Steps.{Steps, StopsReading, Stood, Itself, BeforeCall, Tells, IsStarted, has_met, lent_len, FailsAt, is_call_failed, is_memory_kind, is_read_failed, is_write_failed}
 use Rattle.rdlpp_steps.proofs.EngineSteps.{called_after, free_before, left_open, not_called, ok_not_met}
@@ -297,11 +297,6 @@ wrote_more g h old mid new before between after n len (Some Unwritten) w p =
     (none_reads g old.kept _ _ (called_after g false false false false _ _ _ refl refl was (ok_reads g mid new (Some (p.bytes ++ p.ends.0)) s)))
     s.limits s.origins s.main s.most_bytes s.most_macros s.started (breaks g old mid new w.bytes p.bytes p.ends.0 was.tells w.ends s)
 
--- a piece that was written whole is work done
-pub pull_falls : {S R W : Type 0} (g : Ghosts S R) (h : SinkGhosts W) (old new : EngineView S R) (before after : W) (len : ℕ) (ending : Option Ending) → Pulls g h old new before after len ending → ending ≡ None → work_left new < work_left old
-pull_falls g h old new before after len None p e = (let s : Steps g old new (Ok (Some p.bytes)) = p.ends in s.falls p.bytes refl)
-pull_falls g h old new before after len (Some x) p e = (let bad : ⊥ = cc e in absurd bad)
-
 -- a sink that wasn't asked to flush, and what a write leaves of that
 pub quiet_more : {W : Type 0} (h : SinkGhosts W) (old mid new : W) → Unflushed h old mid → h.failed_flushes new ≡ h.failed_flushes mid → h.flushes new ≡ h.flushes mid → Unflushed h old new
 quiet_more h old mid new a failed asked = unflushed_more h old mid new a (record { failed_flushes = failed; flushes = asked })
@@ -432,7 +427,7 @@ or_false false = refl
 -- the bound doesn't speak of the fault that is kept
 pub bounded_kept : {S R : Type 0} (e : EngineView S R) (kept : Option Told) → IsBounded e → IsBounded (record e { kept = kept })
 unfolding stores_of
-bounded_kept e kept b = record { bytes = b.bytes; cursors = b.cursors; bindings = b.bindings; conditions = b.conditions; sources = b.sources }
+bounded_kept e kept b = record { bytes = b.bytes; cursors = b.cursors; bindings = b.bindings; conditions = b.conditions; sources = b.sources; texts = b.texts }
 
 -- the kept fault is no write that failed, where none is kept
 none_kept : (test : FaultKind → Bool) (kept : Option Told) → kept ≡ None → is_kept test kept ≡ false

@@ -1,7 +1,7 @@
 -- Steps over open texts, and what is known between them.
-use Rattle.std.proofs.Common.{◌≡◌, ℕ, ◌-◌, ◌<◌, Bool, true, false, List, [], ◌∷◌, length, Option, None, Some, Ok, Err, refl, sym, ap, subst, ◌∙◌, inl, inr, arith}
+use Rattle.std.proofs.Common.{◌≡◌, ℕ, ◌-◌, ◌<◌, Bool, true, false, List, [], length, Option, None, Some, Ok, Err, refl, sym, ap, subst, arith}
 use Rattle.std.specs.Prelude.{◌↔◌, IsTrue, is_some}
-use Rattle.std.proofs.lemmas.Bool.{cases_lt, true≢false}
+use Rattle.std.proofs.lemmas.Bool.{true≢false}
 use Rattle.rdlpp_source.specs.declared.sources.Sources.{Ghosts}
 use Rattle.rdlpp_meaning.specs.Outcome.{Told}
 use Rattle.rdlpp_cursors.specs.declared.place.TextPlace.{TextPlace}
@@ -13,7 +13,7 @@ use Rattle.rdlpp_steps.specs.Moves.{IsUnowed}
 use Rattle.rdlpp_steps.specs.Pieces.{kept_answer, lent_answer, step_answer}
 use Rattle.rdlpp_steps.specs.Steps.{Steps, Walks}
 use Rattle.rdlpp_steps.specs.declared.place.Place.{Place}
-use Rattle.rdlpp_steps.specs.declared.phase.Phase.TheVariants.{Open, Passed}
+use Rattle.rdlpp_steps.specs.declared.phase.Phase.TheVariants.{Open}
 use Rattle.rdlpp_steps.proofs.Cuts.{cut_kept, cut_piece, IsSpent}
 use Rattle.rdlpp_steps.proofs.EngineSteps.{follows}
 use Rattle.rdlpp_expand.specs.Texts.{IsInTexts, LeavesTexts, StaysUnowed, place_of}
@@ -38,16 +38,6 @@ silent-spent {S} {R} e = record {
 -- a step that lends nothing is one within the limit on the output
 pub silent-steps : {S R : Type 0} (g : Ghosts S R) (old new : EngineView S R) → Walks g old new (Ok (Some [])) → Steps g old new (Ok (Some []))
 silent-steps g old new w = cut_piece g old new new [] 0 0 w refl (silent-spent new)
-
--- where the next step is none over open texts, and nothing is owed, no text is open
-pub outside-idle : {S R : Type 0} (e : EngineView S R) (b : Bool) → (IsTrue b ↔ IsInTexts e) → b ≡ false → IsUnowed e → e.expansion.opens ≡ []
-outside-idle e b both no_texts unowed = by e.expansion.opens refl
-  where
-    by : (opens : List _) → e.expansion.opens ≡ opens → e.expansion.opens ≡ []
-    by [] is = is
-    by (x ∷ below) is =
-        let some : 0 < length e.expansion.opens = subst (λ os. 0 < length os) (sym is) (omega arith) in
-        absurd (true≢false (sym (both.1 (unowed, some)) ∙ no_texts))
 
 -- a fault that is kept is answered
 pub kept-some : (kept : Option Told) → is_some kept ≡ true → (f : Told) × (kept ≡ Some f)
@@ -76,14 +66,6 @@ unfolding StaysLent
 lent-texts old new x result place unowed is lent becomes =
     let open_now : (0 < length x.opens) × (x.arguments ≡ old.expansion.arguments) = subst (λ r. StaysLent old.expansion r x) is lent in
     (unowed-texts old new x unowed becomes, rw becomes open_now.0)
-
--- where a piece of open texts was cut, the next step is one over them, unless the limit is passed
-pub cut-texts : {S R : Type 0} (mid new : EngineView S R) (n len : ℕ) → IsInTexts mid → IsSpent mid new n len → new.phase ≡ Open → IsInTexts new
-cut-texts mid new n len texts spent open_now =
-    elim (cases_lt mid.quota n) [
-      | inl over ↦ (let p = spent.passes over in absurd (let phase : Passed ≡ Open = sym (ap (λ e. e.phase) p.1) ∙ open_now in cc))
-      | inr under ↦ rw (spent.fits under).1 (record { open_ = texts.0.open_; free = texts.0.free; owed = texts.0.owed }, texts.1)
-    ]
 
 -- the fault of an engine that keeps one is what it answers
 pub answer-kept : {S R : Type 0} (g : Ghosts S R) (old new : EngineView S R) (f : Told) → new.kept ≡ Some f → Steps g old new (kept_answer new.kept) → Steps g old new (Err f)

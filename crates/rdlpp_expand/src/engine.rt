@@ -19,11 +19,12 @@ ghost use Rattle.rdlpp_front.specs.Fronts.{HasName, IsDirective, IsNamed, IsText
 ghost use Rattle.rdlpp_usages.specs.Usages.{IsRoomy};
 ghost use Rattle.rdlpp_steps.specs.Conditionals.{unclosed_fault};
 ghost use Rattle.rdlpp_steps.specs.Engine.{AreOpenTexts, EngineView, IsSoundEngine};
-ghost use Rattle.rdlpp_steps.specs.Held.{IsBounded, held_told};
+ghost use Rattle.rdlpp_steps.specs.Held.{HoldsDefinitions, IsBounded, held_told};
 ghost use Rattle.rdlpp_steps.specs.Moves.{Ends, IsReady, IsUnowed, ReadsDefine};
 ghost use Rattle.rdlpp_steps.specs.OpenConditionals.{inner_below};
 ghost use Rattle.rdlpp_steps.specs.Owed.{nothing_owed};
 ghost use Rattle.rdlpp_steps.specs.Pieces.{IsPlaced, Lends, answer_of, bytes_at, held_texts, lent_answer, piece_bytes, step_answer};
+ghost use Rattle.rdlpp_steps.specs.Stored.{LetsGo};
 ghost use Rattle.rdlpp_steps.specs.Remaining.{output_fault, state_of};
 ghost use Rattle.rdlpp_expand.specs.Run.{write_fault};
 ghost use Rattle.rdlpp_steps.specs.Steps.{IsStarted, Steps, Walks, is_write_failed};
@@ -106,10 +107,11 @@ impl<S: Sources> Engine<S> {
         self.phase == Phase::Fresh
     }
 
-    /// What the engine holds.
+    /// What the engine holds. After the end of the output that is definitions alone.
     pub fn held(&self) -> Held
         ensures value { result ≡ held_told self.now }
         ensures bounded { IsBounded self.now }
+        ensures closed { self.now.phase ≡ Phase.Closed → self.now.kept ≡ None → LetsGo self.now → HoldsDefinitions (held_told self.now) }
     {
         self.facts();
         Held {

@@ -5,7 +5,6 @@ use Rattle.rdlpp_scan.specs.declared.token.Kind.TheVariants.{Perl}
 use Rattle.rdlpp_scan.specs.declared.token.Mode.{Mode}
 use Rattle.rdlpp_scan.specs.declared.token.Mode.TheVariants.{Plain, InStr, InBlock}
 use Rattle.rdlpp_scan.specs.Front.{Breach, PerlFound}
-use Rattle.rdlpp_scan.specs.Front as breach
 use Rattle.rdlpp_scan.specs.Lines.{EndsLine}
 use Rattle.rdlpp_scan.specs.SourceTokens.{SourceToken, remaining_tokens}
 use Rattle.rdlpp_scan.specs.Tokens.{token_of}

@@ -1,13 +1,13 @@
 -- What remains of open sources, for each kind of token in front.
-use Rattle.std.proofs.Common.{◌≡◌, ℕ, ◌+◌, List, take, drop, refl, sym, ap, ◌∙◌, ◌<◌, Bool, true, false, [], ◌∷◌, ◌++◌, None, Some, append-nil, inl, inr}
+use Rattle.std.proofs.Common.{◌≡◌, ℕ, ◌+◌, List, take, drop, refl, sym, ap, ◌∙◌, Bool, true, false, [], ◌∷◌, ◌++◌, None, append-nil, inl, inr}
 use Rattle.std.proofs.lemmas.List.{drop-drop}
+use Rattle.std.specs.List.{list_all}
 use Rattle.rdlpp_scan.specs.declared.token.Mode.{Mode}
 use Rattle.rdlpp_scan.specs.declared.token.Mode.TheVariants.{Plain}
 use Rattle.rdlpp_scan.specs.Resumed.{opening}
 use Rattle.rdlpp_scan.specs.SourceTokens.{remaining_tokens, Ordinary, Definition, Broken, SourceToken}
 use Rattle.rdlpp_scan.proofs.RemainingLaws.{remaining-opened, IsOpenKind}
 use Rattle.rdlpp_read.specs.Buffer.{BufferView, ahead_of, entered_mode, held_of, rest_of, tokens_left}
-use Rattle.std.specs.List.{list_all}
 use Rattle.rdlpp_scan.specs.declared.token.Kind.{Kind}
 use Rattle.rdlpp_scan.specs.declared.token.Kind.TheVariants.{BareBackquote}
 use Rattle.rdlpp_scan.specs.Front.{Breach}
@@ -17,14 +17,13 @@ use Rattle.rdlpp_meaning.specs.declared.fault.FaultKind.{FaultKind}
 use Rattle.rdlpp_meaning.specs.declared.fault.FaultKind.TheVariants.{BareBackquote as NoName, UndefinedMacro}
 use Rattle.rdlpp_meaning.specs.Outcome.{Told, fails}
 use Rattle.rdlpp_meaning.specs.State.{Accepted, Refused, Rules, State, fault_at, breach_kind}
-use Rattle.rdlpp_meaning.specs.Substitution.{body_tokens}
 use Rattle.rdlpp_meaning.specs.Expansion.{is_copied, usage_token, bytes_of}
 use Rattle.rdlpp_meaning.specs.Parts.{Command, only_blanks, line_ends_of, directive_of}
 use Rattle.rdlpp_meaning.specs.Meaning.{Passage, leaves, behind_bytes, goes_on, refusal, Progress}
 use Rattle.rdlpp_meaning.specs.Resumed.{Place, Live, resumed, Skipped}
 use Rattle.rdlpp_meaning.specs.Opened.{Waiting, unwound, all_resumed}
 use Rattle.rdlpp_meaning.proofs.Includes.{behind_bytes-goes_on}
-use Rattle.rdlpp_meaning.proofs.LiveText.{resumed_copied, resumed_copied_parts, resumed_broken, resumed_broken_parts, resumed_bare, resumed_undefined, resumed_copied_body, resumed_defined, resumed_refused}
+use Rattle.rdlpp_meaning.proofs.LiveText.{resumed_copied, resumed_copied_parts, resumed_broken, resumed_broken_parts, resumed_bare, resumed_undefined, resumed_defined, resumed_refused}
 use Rattle.rdlpp_meaning.proofs.NestMoves.{all_resumed_behind, all_resumed_fails}
 use Rattle.rdlpp_meaning.proofs.Passages.{behind_bytes-nil, fails-goes_on}
 use Rattle.rdlpp_meaning.proofs.SkippedStretches.{all_copied_skipped, resumed_skipped, resumed_skipped_broken, resumed_skipped_broken_parts, resumed_skipped_parts}
@@ -150,17 +149,6 @@ module _ (rules : Rules) (ws : List Waiting) (os : List Progress) (first : Bool)
   all_resumed_undefined name line more s r e =
       all_resumed_fails rules ws (Live os) first (usage_token name line ∷ more) s s (fault_at UndefinedMacro line name s)
       (resumed_undefined rules os first name line more s r e)
-
-  -- a usage of a macro without a list, of whose body all tokens are copied, gives its body
-  pub all_resumed_copied_body : (name : List ℕ) (line : ℕ) (more : List SourceToken) (s : State) (m : Macro)
-      → 0 < rules.depth
-      → is_reserved name ≡ false → macro_named s.macros name ≡ Some m
-      → m.formals ≡ None → list_all is_copied (body_tokens m.body) ≡ true
-      → all_resumed rules ws (Live os) first (usage_token name line ∷ more) s
-      ≡ behind_bytes m.body (all_resumed rules ws (Live os) (only_blanks first (96 ∷ name)) more s)
-  all_resumed_copied_body name line more s m h r e f copied =
-      all_resumed_behind rules ws (Live os) (Live os) first (only_blanks first (96 ∷ name)) (usage_token name line ∷ more) more s s m.body
-      (resumed_copied_body rules os first name line more s m h r e f copied)
 
   -- a `define` that is accepted gives its LF bytes and changes the macros
   pub all_resumed_defined : (bytes : List ℕ) (line : ℕ) (more : List SourceToken) (s : State) (macros : List Macro)

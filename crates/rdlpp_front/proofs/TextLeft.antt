@@ -1,8 +1,10 @@
 -- What text that is copied, and what a usage in front, does to what remains.
-use Rattle.std.proofs.Common.{◌≡◌, ℕ, ◌+◌, ◌<◌, Bool, true, false, List, [], ◌∷◌, ◌++◌, length, take, drop, refl, sym, ap, ◌∙◌, subst, inl, arith, ◌-◌, None, Some}
+use Rattle.std.proofs.Common.{◌≡◌, ℕ, ◌+◌, ◌<◌, Bool, true, false, List, [], ◌∷◌, ◌++◌, length, take, drop, refl, sym, ap, ◌∙◌, subst, inl, arith, ◌-◌, None}
 use Rattle.std.proofs.lemmas.Bool.{false≢true}
 use Rattle.std.proofs.lemmas.List.{drop_all, length-drop}
 use Rattle.std.proofs.Math.Seq.{take-length}
+use Rattle.std.specs.Prelude.{bytes_eq, codes}
+use Rattle.std.specs.List.{AllByRecursion}
 use Rattle.rdlpp_scan.specs.declared.token.Kind.{Kind}
 use Rattle.rdlpp_scan.specs.declared.token.Kind.TheVariants.{Str, LineComment, BlockComment, Back, Perl}
 use Rattle.rdlpp_scan.specs.declared.token.Mode.{Mode}
@@ -32,14 +34,10 @@ use Rattle.rdlpp_read.specs.Files.{consumed_file}
 use Rattle.rdlpp_front.specs.Fronts.{AtOrdinary, AtToken, IsText, is_text_kind, IsUsage, usage_name}
 use Rattle.rdlpp_front.specs.SourceLeft.{HoldsFront, source_left, with_file_buffer}
 use Rattle.rdlpp_read.proofs.BufferTokens.{ends_line}
-use Rattle.rdlpp_front.proofs.SourcePassages.{tokens_entered, tokens_plain, used_buffer, tokens_used, Writes, live_writes, open_copied, skipped_writes, writes_one, all_resumed_copied_body, all_resumed_undefined}
-use Rattle.std.specs.Prelude.{bytes_eq, codes}
-use Rattle.std.specs.List.{AllByRecursion}
+use Rattle.rdlpp_front.proofs.SourcePassages.{tokens_entered, tokens_plain, used_buffer, tokens_used, Writes, live_writes, open_copied, skipped_writes, writes_one, all_resumed_undefined}
 use Rattle.rdlpp_scan.specs.Reserved.{is_reserved, reserved_names}
-use Rattle.rdlpp_table.specs.Table.{Macro, macro_named}
+use Rattle.rdlpp_table.specs.Table.{macro_named}
 use Rattle.rdlpp_meaning.specs.declared.fault.FaultKind.TheVariants.{UndefinedMacro}
-use Rattle.rdlpp_meaning.specs.PlainMacros.{stands_for_body}
-use Rattle.rdlpp_meaning.proofs.Usages.{plain_body, plain_formals}
 use Rattle.rdlpp_meaning.proofs.TokenWrites.{none_of_words}
 use Rattle.rdlpp_front.proofs.Insides.{back_front, back_text}
 
@@ -343,17 +341,3 @@ module _ {R : Type 0} (rules : Rules) (unread : R → List ℕ) (ws : List Waiti
   undefined_left len holds mode usage none =
       usage_left len holds mode usage
       ∙ all_resumed_undefined rules ws os f.blanks (usage_name (held_of f.buffer) len) f.buffer.line (tokens_left unread (consumed_file len 0 f).buffer) s usage.free none
-
-  -- a usage of a macro that stands for its body as it lies gives its body
-  pub body_left : (len : ℕ) (m : Macro) → HoldsFront f.buffer → f.buffer.mode ≡ Plain → IsUsage (held_of f.buffer) len
-      → macro_named s.macros (usage_name (held_of f.buffer) len) ≡ Some m
-      → stands_for_body m ≡ true → 0 < rules.depth
-      → source_left rules unread ws (Live os) f s
-      ≡ behind_bytes m.body (source_left rules unread ws (Live os) (consumed_file len 0 f) s)
-  unfolding source_left
-  body_left len m holds mode usage named plain depth =
-      let name = usage_name (held_of f.buffer) len in
-      let more = tokens_left unread (consumed_file len 0 f).buffer in
-      usage_left len holds mode usage
-      ∙ all_resumed_copied_body rules ws os f.blanks name f.buffer.line more s m depth usage.free named (plain_formals m plain) (plain_body m plain)
-      ∙ ap (λ (xs : List ℕ). behind_bytes m.body (all_resumed rules ws (Live os) (only_blanks f.blanks xs) more s)) (sym (usage_text (held_of f.buffer) len usage))

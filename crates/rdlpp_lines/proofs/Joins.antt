@@ -2,8 +2,8 @@
 use Rattle.std.proofs.Common.{◌≡◌, ℕ, suc, ◌+◌, ◌-◌, ◌<◌, ◌≤◌, Bool, true, false, cond, ◌&&◌, ◌⊎◌, List, [], ◌∷◌, length, take, drop, get_or, eqb, one-add, refl, ap, sym, ◌∙◌, subst, arith, inl, inr, zero, ltb, ◌≢◌, not, ◌||◌}
 use Rattle.std.specs.List.{prefix_len}
 use Rattle.std.proofs.lemmas.Bool.{cases_Bool, cond-true, cond-false, and_parts, and_left, and_right, eqb-true, false≢true, false_from_ne_true, both_ways, cases_lt, lt-ltb, le-ltb, ltb-true, ne_eqb}
-use Rattle.rdlpp_lines.specs.Continuations.{continuation_len, without_continuations, joined, first_len}
 use Rattle.std.proofs.lemmas.List.{drop-drop, length-drop}
+use Rattle.rdlpp_lines.specs.Continuations.{continuation_len, without_continuations, joined, first_len}
 use Rattle.rdlpp_scan.specs.declared.token.Kind.{Kind}
 use Rattle.rdlpp_scan.specs.declared.token.Kind.TheVariants.{Name, Word, Back, Blank, LineEnd, Str, LineComment, BlockComment, Opener, Closer, Comma, Other, Perl, BareBackquote}
 use Rattle.rdlpp_scan.specs.declared.token.Mode.{Mode}

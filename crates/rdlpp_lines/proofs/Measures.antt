@@ -4,6 +4,9 @@ use Rattle.std.specs.List.{prefix_len}
 use Rattle.std.specs.Option.{OnSome, IfSome, IfNone}
 use Rattle.std.specs.Result.{result_unwrap_or}
 use Rattle.std.proofs.lemmas.Bool.{cond-false, ne_eqb, false≢true, cond-true, and_from, and_left, and_parts, and_right, cond_both, not-true, or_parts}
+use Rattle.std.proofs.lemmas.List.{length-drop, take-append-drop}
+use Rattle.std.proofs.Math.Seq.{take-suc}
+use Rattle.memchr.specs.Find.{IsFirstByte, is_byte2}
 use Rattle.rdlpp_scan.specs.declared.token.LexFault.{LexFault}
 use Rattle.rdlpp_lines.specs.Texts.{onto_trimmed, without_end, trimmed_of, Cleared, Sound, Unsound, onto, begun, trimmed_left, trimmed_len, text_behind, IsNext, len_from, ended_len, bytes_left, found_left, is_sound, told, stops_token, level_by, read_by, left_in, cleared, ends_default, trims}
 use Rattle.rdlpp_lines.specs.Continuations.{joined, without_continuations}
@@ -21,9 +24,6 @@ use Rattle.rdlpp_lines.specs.declared.reading.KeptBytes.{KeptBytes}
 use Rattle.rdlpp_scan.specs.declared.token.Mode.TheVariants.{Plain, InStr, InBlock}
 use Rattle.rdlpp_lines.specs.Reading.{left, left_behind, IsAdvanced}
 use Rattle.rdlpp_lines.proofs.Joins.{reads_first, none_first, no_joint_at, joins_text, first_alike}
-use Rattle.std.proofs.lemmas.List.{length-drop, take-append-drop}
-use Rattle.std.proofs.Math.Seq.{take-suc}
-use Rattle.memchr.specs.Find.{IsFirstByte, is_byte2}
 use Rattle.rdlpp_scan.specs.Bytes.{begins_line_comment}
 use Rattle.rdlpp_scan.specs.Ordinary.{is_plain_kind}
 use Rattle.rdlpp_scan.proofs.Searches.{false_since}

@@ -5,7 +5,7 @@ use Rattle.std.proofs.Math.Seq.{drop-append-add}
 use Rattle.std.proofs.lemmas.List.Elements.{All-nil, All-cons}
 use Rattle.rdlpp_meaning.specs.Actuals.{Role, Space, Dropped, Remark, Start, End, Stops, level_behind, kept_size}
 use Rattle.rdlpp_meaning.specs.CallScan.{Before, Inside, Turn, Passes, Keeps, Closes, Refuses, Breaks, turn_before, turn_inside, turn, stand_behind_lead, stand_behind, room_behind, Scanned, Refused, Stopped, Closed, scan_passing, scan_keeping, scanned, scan, is_kept, is_call_text, level_of_things, IsClosed}
-use Rattle.rdlpp_meaning.proofs.Turns.{TurnFacts, turn_facts}
+use Rattle.rdlpp_meaning.proofs.LeftScan.{TurnFacts, turn_facts}
 
 -- how a scan that closes lies in the things behind the `(`
 pub record IsClosedInside {A : Type 0} (role : A → Role) (k : ℕ) (xs kept : List A) (used : ℕ) : Type 0 where

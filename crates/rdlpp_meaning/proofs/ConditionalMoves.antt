@@ -1,13 +1,12 @@
 -- Conditionals in a nest of open sources: what the words `ifdef`, `ifndef`, `elsif`, `else` and `endif` do in live text and in
 -- skipped text that they end, and the end of a source in an open conditional, where any sources wait.
-use Rattle.std.proofs.Common.{◌≡◌, ℕ, Bool, true, false, List, ◌∷◌, refl, ap, append-nil}
+use Rattle.std.proofs.Common.{◌≡◌, Bool, true, false, List, ◌∷◌, refl}
 use Rattle.rdlpp_scan.specs.declared.token.Directive.{Directive}
 use Rattle.rdlpp_scan.specs.declared.token.Directive.TheVariants.{Ifdef, Ifndef, Elsif, Else, Endif}
 use Rattle.rdlpp_scan.specs.SourceTokens.{SourceToken}
-use Rattle.rdlpp_meaning.specs.State.{Rules, State}
-use Rattle.rdlpp_meaning.specs.Parts.{Opening, Branching, Closing, only_blanks, argument_of, no_argument, command_of, command_in_front, piece_of}
+use Rattle.rdlpp_meaning.specs.Parts.{Opening, Branching, Closing, command_of, command_in_front, piece_of}
 use Rattle.rdlpp_meaning.specs.Meaning.{Progress}
-use Rattle.rdlpp_meaning.specs.Resumed.{Place, Live, Skipped, resumed, behind}
+use Rattle.rdlpp_meaning.specs.Resumed.{Place, Live, Skipped}
 
 -- whether a directive opens a conditional
 unfoldable pub opens_conditional : Directive → Bool
@@ -47,10 +46,3 @@ closing_piece first t ts = refl
 unfoldable pub in_branch : Bool → Progress → List Progress → Place
 in_branch true o os = Live (o ∷ os)
 in_branch false o os = Skipped 0 o os
-
--- what remains behind an `endif`, which takes nothing but its word
-behind_end : (rules : Rules) (os : List Progress) (first : Bool) (t : SourceToken) (ts : List SourceToken) (s : State)
-    → behind rules (Live os) Endif first t ts s ≡ resumed rules (Live os) (only_blanks first t.bytes) ts s
-unfolding command_of argument_of no_argument
-behind_end rules os first t ts s =
-    ap (λ (x : List ℕ). resumed rules (Live os) (only_blanks first x) ts s) (append-nil t.bytes)

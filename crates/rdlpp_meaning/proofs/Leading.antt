@@ -12,7 +12,7 @@ use Rattle.rdlpp_meaning.specs.Parts.{Command, Piece, Run, only_blanks, directiv
 use Rattle.rdlpp_meaning.specs.Meaning.{Passage, leaves, goes_on, Nest, Progress, nest_of}
 use Rattle.rdlpp_meaning.specs.Resumed.{Live, resume, resumed, leading, trailing}
 use Rattle.rdlpp_meaning.proofs.Passages.{on_leaves, leaves-and_then, goes_on-nil}
-use Rattle.rdlpp_meaning.proofs.Runs.{run_nil, pieces_text}
+use Rattle.rdlpp_meaning.proofs.Walks.{run_nil, pieces_text}
 use Rattle.rdlpp_meaning.proofs.TokenWrites.{only_blanks-append}
 
 -- a run in front of pieces

@@ -1,6 +1,6 @@
 -- Laws of live text, in any open conditionals: what remains of a source where a token stands in front that begins no directive,
 -- or a `define`. Nothing is lost of the state, so they hold in a nest of open sources too (`NestMoves`).
-use Rattle.std.proofs.Common.{◌≡◌, ℕ, ◌<◌, Bool, true, false, List, [], ◌∷◌, ◌++◌, map, refl, sym, ap, ◌∙◌, None, Some}
+use Rattle.std.proofs.Common.{◌≡◌, ℕ, Bool, true, false, List, [], ◌∷◌, ◌++◌, map, refl, sym, ap, ◌∙◌, None}
 use Rattle.std.specs.Prelude.{drop}
 use Rattle.std.proofs.lemmas.Bool.{and_parts}
 use Rattle.std.specs.List.{list_all}
@@ -15,7 +15,6 @@ use Rattle.rdlpp_meaning.specs.declared.fault.FaultKind.TheVariants.{BareBackquo
 use Rattle.rdlpp_meaning.specs.Outcome.{Told, gives, fails, and_then}
 use Rattle.rdlpp_meaning.specs.State.{Defined, Accepted, Refused, Rules, State, fault_at, breach_kind}
 use Rattle.rdlpp_meaning.specs.Items.{Written}
-use Rattle.rdlpp_meaning.specs.Substitution.{body_tokens}
 use Rattle.rdlpp_meaning.specs.Expansion.{is_copied, run_outcome, usage_token, bytes_of}
 use Rattle.rdlpp_meaning.specs.Parts.{Piece, only_blanks, line_ends_of, directive_of, pieces}
 use Rattle.rdlpp_meaning.specs.Meaning.{Passage, leaves, behind_bytes, goes_on, refusal, defines, single, Progress, nest_of}
@@ -23,8 +22,8 @@ use Rattle.rdlpp_meaning.specs.Resumed.{Live, resume, resumed}
 use Rattle.rdlpp_meaning.proofs.Outcomes.{and_then-fails}
 use Rattle.rdlpp_meaning.proofs.Passages.{fails-goes_on, goes_on-gives, behind_bytes-nil, behind_bytes-twice, gives_fails-goes_on}
 use Rattle.rdlpp_meaning.proofs.Usages.{usage_none, run_refused}
-use Rattle.rdlpp_meaning.proofs.Runs.{Writes, resumed_token}
-use Rattle.rdlpp_meaning.proofs.TokenWrites.{copied_text, copied_writes, body_writes, bare_writes, broken_writes, usage_text, only_blanks-append, define_command, define_piece}
+use Rattle.rdlpp_meaning.proofs.Walks.{Writes, resumed_token}
+use Rattle.rdlpp_meaning.proofs.TokenWrites.{copied_text, copied_writes, bare_writes, broken_writes, usage_text, only_blanks-append, define_command, define_piece}
 
 -- a token that writes bytes, and then what remains behind it
 pub resumed_writes : (rules : Rules) (os : List Progress) (first : Bool) (t : SourceToken) (ts : List SourceToken) (s : State) (x : List ℕ)
@@ -68,17 +67,6 @@ resumed_undefined rules os first name line more s r e =
     resumed_fails rules os first (usage_token name line) more s f (usage_text name line r)
     (λ us. run_refused rules s name line us UndefinedMacro name line (usage_none rules s None line [] name (map Written us) r e)
     ∙ sym (and_then-fails f (run_outcome rules s us)))
-
--- a usage of a macro without a list, of whose body all tokens are copied, gives its body, and then what remains behind it
-pub resumed_copied_body : (rules : Rules) (os : List Progress) (first : Bool) (name : List ℕ) (line : ℕ) (more : List SourceToken) (s : State) (m : Macro)
-    → 0 < rules.depth
-    → is_reserved name ≡ false → macro_named s.macros name ≡ Some m
-    → m.formals ≡ None → list_all is_copied (body_tokens m.body) ≡ true
-    → resumed rules (Live os) first (usage_token name line ∷ more) s
-    ≡ behind_bytes m.body (resumed rules (Live os) (only_blanks first (96 ∷ name)) more s)
-resumed_copied_body rules os first name line more s m h r e f copied =
-    resumed_writes rules os first (usage_token name line) more s m.body (usage_text name line r)
-    (body_writes rules s name line m h r e f copied)
 
 -- a lone backquote ends its source
 pub resumed_bare : (rules : Rules) (os : List Progress) (first : Bool) (bytes : List ℕ) (line : ℕ) (more : List SourceToken) (s : State)

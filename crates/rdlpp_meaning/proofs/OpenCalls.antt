@@ -20,7 +20,7 @@ use Rattle.rdlpp_meaning.specs.OpenItems.{part_items, own_item, item_at, open_it
 use Rattle.rdlpp_meaning.proofs.Outcomes.{and_then-assoc, and_then-fails}
 use Rattle.rdlpp_meaning.proofs.Walks.{deeper_of}
 use Rattle.rdlpp_meaning.proofs.Calls.{walk_skip}
-use Rattle.rdlpp_meaning.proofs.LargerRuns.{usage_walk}
+use Rattle.rdlpp_meaning.proofs.LargerCalls.{usage_walk}
 use Rattle.rdlpp_meaning.proofs.OpenScopes.{first_kind, first_bytes, first_behind, text-around, next_is}
 use Rattle.rdlpp_meaning.proofs.OpenSteps.{room_in, usage-left, behind-walk, opens-room, opens-deep, body-items, body-writers, scope-writers}
 use Rattle.rdlpp_meaning.proofs.TokenUsages.{KeepsReads, map_usage, usage-map}

@@ -25,7 +25,7 @@ use Rattle.rdlpp_meaning.proofs.Outcomes.{and_then-nil, and_then-assoc, and_then
 use Rattle.rdlpp_meaning.proofs.Walks.{deeper_of, expand_walk, walk_copied}
 use Rattle.rdlpp_meaning.proofs.TextRanges.{text_step, text_nil, first_spelled}
 use Rattle.rdlpp_meaning.proofs.OpenScopes.{range_behind, first_kind, first_bytes, first_behind, Alone, part-whole, item-own, writers-own}
-use Rattle.rdlpp_meaning.proofs.LargerRuns.{usage_walk, usage_walks}
+use Rattle.rdlpp_meaning.proofs.LargerCalls.{usage_walk, usage_walks}
 use Rattle.rdlpp_meaning.proofs.FormalItems.{text-mark, IsMarkOf, StandsFor, name-stands, name_token}
 
 -- the items of a mark as a list are those that were packed

@@ -10,7 +10,7 @@ use Rattle.rdlpp_meaning.specs.Meaning.{leaves, goes_on, Nest, skipped_run, Skip
 use Rattle.rdlpp_meaning.specs.Resumed.{Live, Skipped, resume, resumed}
 use Rattle.rdlpp_meaning.proofs.Outcomes.{and_then-nil, and_then-assoc, and_then-fails}
 use Rattle.rdlpp_meaning.proofs.Passages.{on_leaves, leaves-and_then}
-use Rattle.rdlpp_meaning.proofs.Runs.{pieces_text}
+use Rattle.rdlpp_meaning.proofs.Walks.{pieces_text}
 
 -- a skipped run by itself of one token
 skipped_alone : (rules : Rules) (nest : Nest) (n : ℕ) (p : Progress) (os : List Progress) (t : SourceToken) (o : Outcome) (ps : List Piece) (s : State)

@@ -1,7 +1,7 @@
 -- What a token of a run writes in front of the run behind it, and the directives that tokens begin.
-use Rattle.std.proofs.Common.{◌≡◌, ℕ, zero, suc, ◌<◌, Bool, true, false, ◌||◌, List, [], ◌∷◌, ◌++◌, refl, sym, ap, ◌∙◌, None, Some, append-nil, arith, map, ◌&&◌, Option}
+use Rattle.std.proofs.Common.{◌≡◌, ℕ, Bool, true, false, ◌||◌, List, [], ◌∷◌, ◌++◌, refl, sym, ap, ◌∙◌, None, append-nil, map, ◌&&◌}
 use Rattle.std.specs.Prelude.{bytes_eq}
-use Rattle.std.specs.List.{list_all, list_any, AllByRecursion}
+use Rattle.std.specs.List.{list_any, AllByRecursion}
 use Rattle.std.proofs.lemmas.Bool.{or_parts}
 use Rattle.std.proofs.lemmas.List.Elements.{filter-append}
 use Rattle.rdlpp_scan.specs.declared.token.Kind.TheVariants.{Back, BareBackquote}
@@ -10,18 +10,13 @@ use Rattle.rdlpp_scan.specs.Bytes.{is_blank, is_line_end}
 use Rattle.rdlpp_scan.specs.Front.{Breach}
 use Rattle.rdlpp_scan.specs.SourceTokens.{Sort, Ordinary, Definition, Renumbering, Broken, SourceToken}
 use Rattle.rdlpp_scan.specs.Reserved.{is_reserved, reserved_names}
-use Rattle.rdlpp_table.specs.Table.{Macro, macro_named}
 use Rattle.rdlpp_meaning.specs.declared.fault.FaultKind.TheVariants.{BareBackquote as NoName}
 use Rattle.rdlpp_meaning.specs.Outcome.{Outcome, gives, fails, and_then}
 use Rattle.rdlpp_meaning.specs.State.{Rules, State, fault_at, breach_kind}
-use Rattle.rdlpp_meaning.specs.Items.{Written, Item}
-use Rattle.rdlpp_meaning.specs.Substitution.{substituted, body_tokens}
-use Rattle.rdlpp_meaning.specs.Expansion.{Opens, walk, is_copied, run_outcome, usage_token, expand}
+use Rattle.rdlpp_meaning.specs.Items.{Written}
+use Rattle.rdlpp_meaning.specs.Expansion.{walk, is_copied, run_outcome, usage_token}
 use Rattle.rdlpp_meaning.specs.Parts.{Command, Single, only_blanks, line_ends_of, directive_named, directive_of, no_argument, argument_of, command_of, piece_of, pieces}
-use Rattle.rdlpp_meaning.proofs.Walks.{deeper_of, expand_walk, walk_copied, expand_all_copied}
-use Rattle.rdlpp_meaning.proofs.Usages.{usage_some, usage_plain, after_usage, walk_usage, substituted_none}
-use Rattle.rdlpp_meaning.proofs.Runs.{Writes}
-use Rattle.rdlpp_meaning.proofs.Cover.{body_covered}
+use Rattle.rdlpp_meaning.proofs.Walks.{deeper_of, expand_walk, walk_copied, Writes}
 
 -- a token that is copied begins no directive, by what it is
 copied_text_by : (sort : Sort) (bytes : List ℕ) (line : ℕ) → is_copied (record { sort = sort; bytes = bytes; line = line }) ≡ true
@@ -97,38 +92,6 @@ pub define_piece : (first : Bool) (bytes : List ℕ) (line : ℕ) (more : List S
 unfolding pieces directive_of argument_of no_argument command_of piece_of
 define_piece first bytes line more =
     ap (λ (x : List ℕ). Single (define_command first x line) ∷ pieces (only_blanks first bytes) 0 more) (append-nil bytes)
-
--- a body of tokens that are copied gives its bytes at any depth
-pub expand_copied_body : (rules : Rules) (s : State) (d : ℕ) (source : Option ℕ) (o p : List (List ℕ)) (m : Macro)
-    → m.formals ≡ None → list_all is_copied (body_tokens m.body) ≡ true
-    → expand rules s d source o (substituted m [] p) ≡ gives m.body
-expand_copied_body rules s d source o p m e copied =
-    ap (λ (items : List Item). expand rules s d source o items) (substituted_none m p e)
-    ∙ expand_all_copied rules s d source o (body_tokens m.body) copied
-    ∙ ap gives (body_covered m.body)
-
--- the same in a source where one more body may be open
-deeper_copied : (rules : Rules) (s : State) (d line : ℕ) (o : List (List ℕ)) (m : Macro) → 0 < d
-    → m.formals ≡ None → list_all is_copied (body_tokens m.body) ≡ true
-    → deeper_of rules s d line o (substituted m [] []) ≡ gives m.body
-unfolding deeper_of
-deeper_copied rules s zero line o m h e copied = absurd (omega arith)
-deeper_copied rules s (suc d) line o m h e copied = expand_copied_body rules s d (Some line) o [] m e copied
-
--- a usage of such a macro writes its body
-pub body_writes : (rules : Rules) (s : State) (name : List ℕ) (line : ℕ) (m : Macro) → 0 < rules.depth
-    → is_reserved name ≡ false → macro_named s.macros name ≡ Some m
-    → m.formals ≡ None → list_all is_copied (body_tokens m.body) ≡ true
-    → Writes rules s (usage_token name line) (gives m.body)
-unfolding Writes run_outcome after_usage
-body_writes rules s name line m h r e f copied us =
-    let deeper = deeper_of rules s rules.depth in
-    expand_walk rules s rules.depth None [] (Written (usage_token name line) ∷ map Written us)
-    ∙ walk_usage rules s deeper name line (map Written us) (Opens m [] 0)
-    (usage_some rules s None line [] name (map Written us) m r e ∙ usage_plain rules None line name (map Written us) m f)
-    ∙ ap (λ (x : Outcome). and_then x (walk rules s deeper None [] 0 (map Written us)))
-    (deeper_copied rules s rules.depth line (m.name ∷ []) m h f copied)
-    ∙ ap (λ (x : Outcome). and_then (gives m.body) x) (sym (expand_walk rules s rules.depth None [] (map Written us)))
 
 -- the LF bytes of bytes and then bytes
 pub line_ends_of-append : (x y : List ℕ) → line_ends_of (x ++ y) ≡ line_ends_of x ++ line_ends_of y

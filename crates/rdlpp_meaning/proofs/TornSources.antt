@@ -27,9 +27,7 @@ use Rattle.rdlpp_meaning.specs.Actuals.{token_role, broken_role}
 use Rattle.rdlpp_meaning.specs.LimitLaws.{is_limit}
 use Rattle.rdlpp_meaning.proofs.TornCalls.{TornBy}
 use Rattle.rdlpp_meaning.proofs.TornPieces.{ends_line, TokensTorn}
-use Rattle.rdlpp_meaning.proofs.TornDefines.{step_head, StepTorn, Goes, Stays, Tears, IsBreakOfLimit, Ends, unpassed, ends-line}
-use Rattle.rdlpp_meaning.proofs.TornSteps.{IsShort, plain-short, closed-torn}
-use Rattle.rdlpp_meaning.proofs.TornOpen.{IsOwnBreak, has_line_end, string-head, comment-head, tears-string, tears-comment}
+use Rattle.rdlpp_meaning.proofs.TornTokens.{step_head, StepTorn, Goes, Stays, Tears, IsBreakOfLimit, Ends, unpassed, ends-line, IsShort, plain-short, closed-torn, IsOwnBreak, has_line_end, string-head, comment-head, tears-string, tears-comment}
 
 -- a string begins with a quote
 pub row-string : (bs : List ℕ) (t : Token) → Row bs t → t.kind ≡ Str → (slice_index bs 0 == 34) ≡ true

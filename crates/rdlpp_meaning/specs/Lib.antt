@@ -5,7 +5,6 @@ pub mod Items
 pub mod Actuals
 pub mod Substitution
 pub mod Expansion
-pub mod PlainMacros
 pub mod Parts
 pub mod Meaning
 pub mod Resumed

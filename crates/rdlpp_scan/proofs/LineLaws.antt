@@ -1,13 +1,13 @@
 -- Lines and logical lines: texts that end at a line end, the places of LF bytes, and lines with more behind them.
 use Rattle.std.proofs.Common.{◌≡◌, ℕ, zero, suc, ◌+◌, ◌<◌, ◌≤◌, Bool, true, false, cond, List, [], ◌∷◌, ◌++◌, length, take, drop, refl, sym, ap, ◌∙◌, subst, inl, inr, ⊎_elim, arith, not, ◌&&◌, Option, Some, None, ◌-◌, eqb, get_or}
 use Rattle.std.proofs.lemmas.List.{length-append, length-take-le, append-nil, drop-drop}
-use Rattle.rdlpp_scan.specs.Bytes.{is_line_end}
-use Rattle.rdlpp_scan.specs.Lines.{whole_lines_len, onto_whole_lines, IsWholeLines, EndsLine, ended_line_len, ends_continued}
 use Rattle.std.specs.Option.{option_map, unwrap_or}
-use Rattle.rdlpp_scan.specs.SourceTokens.{is_continued, line_len, logical_len}
 use Rattle.std.proofs.Math.Bool.{and-false}
 use Rattle.std.proofs.lemmas.Bool.{eqb-true}
 use Rattle.memchr.specs.Find.{IsFirstByte, is_byte}
+use Rattle.rdlpp_scan.specs.Bytes.{is_line_end}
+use Rattle.rdlpp_scan.specs.Lines.{whole_lines_len, onto_whole_lines, IsWholeLines, EndsLine, ended_line_len, ends_continued}
+use Rattle.rdlpp_scan.specs.SourceTokens.{is_continued, line_len, logical_len}
 use Rattle.rdlpp_scan.proofs.Searches.{false_since}
 
 -- Texts that end at a line end.

@@ -3,6 +3,8 @@ use Rattle.std.proofs.Common.{◌≡◌, ℕ, zero, suc, ◌+◌, ◌<◌, ◌�
 use Rattle.std.proofs.lemmas.Bool.{false≢true, cases_lt, cond_both}
 use Rattle.std.proofs.lemmas.List.{drop-drop, drop-append-le, take-append-le, take-append-drop, length-drop, length-take-le, append_assoc, drop_all}
 use Rattle.std.proofs.lemmas.List.Elements.{All-nil, All-cons}
+use Rattle.std.proofs.Math.Seq.{take-length}
+use Rattle.std.specs.Prelude.{nat_lt, codes}
 use Rattle.rdlpp_scan.specs.declared.token.Kind.{Kind}
 use Rattle.rdlpp_scan.specs.declared.token.Kind.TheVariants.{Str, Back, BlockComment, LineComment, BareBackquote, Perl}
 use Rattle.rdlpp_scan.specs.declared.token.Mode.{Mode}
@@ -16,11 +18,9 @@ use Rattle.rdlpp_scan.proofs.TokenLens.{token_of-part}
 use Rattle.rdlpp_scan.proofs.LineLaws.{IsWholeLines-drop}
 use Rattle.rdlpp_scan.proofs.SourceLaws.{source_tokens-opened, source_tokens-next, line_ends-append}
 use Rattle.rdlpp_scan.proofs.StopKinds.{IsPlainPart, plain_token-plain, closed_kind_plain}
-use Rattle.std.proofs.Math.Seq.{take-length}
 use Rattle.rdlpp_scan.specs.Lines.{IsWholeLines, EndsLine}
 use Rattle.rdlpp_scan.specs.Pieces.{IsCut}
 use Rattle.rdlpp_scan.proofs.Seams.{IsCut-rest, IsCut-drop, stops-append, IsCut-from_line}
-use Rattle.std.specs.Prelude.{nat_lt, codes}
 use Rattle.rdlpp_scan.specs.Front.{Breach, PerlFound, StringOpen, CommentOpen, DefineLong, DefineCut, Break}
 use Rattle.rdlpp_scan.specs.TokenKinds.{opens_mode, is_ordinary}
 

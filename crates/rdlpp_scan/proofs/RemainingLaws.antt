@@ -3,6 +3,8 @@ use Rattle.std.proofs.Common.{◌≡◌, ◌⊎◌, ℕ, ◌+◌, ◌-◌, ◌<�
 use Rattle.std.specs.Prelude.{codes, bytes_eq}
 use Rattle.std.specs.List.{flat_map, All}
 use Rattle.std.proofs.lemmas.List.{append_assoc, take-append-drop, append-nil, length-take-le, length-append}
+use Rattle.std.proofs.lemmas.Bool.{lt-ltb, le-ltb, cases_lt, false≢true}
+use Rattle.std.proofs.Math.Bool.{and-false}
 use Rattle.rdlpp_scan.specs.declared.token.Kind.TheVariants.{Back, BareBackquote, Perl, Str, BlockComment}
 use Rattle.rdlpp_scan.specs.declared.token.Mode.{Mode}
 use Rattle.rdlpp_scan.specs.declared.token.Mode.TheVariants.{Plain, InStr, InBlock}
@@ -14,14 +16,12 @@ use Rattle.rdlpp_scan.specs.Ordinary.{IsOrdinary, IsPlainToken}
 use Rattle.rdlpp_scan.proofs.SourceLaws.{source_tokens-opened, source_tokens-last, front-accept, front-none, front-line_long, front-source_long}
 use Rattle.rdlpp_scan.proofs.OrdinaryLaws.{ordinary_front}
 use Rattle.rdlpp_scan.proofs.TokenSteps.{step-perl, step-bare, step-back, is_kept_kind, step-closed, step-open_string, step-open_comment, step-cut_string, string_rest, comment_rest, end_of}
-use Rattle.std.proofs.lemmas.Bool.{lt-ltb, le-ltb, cases_lt, false≢true}
 use Rattle.rdlpp_scan.specs.Bytes.{is_line_end, begins_perl}
 use Rattle.rdlpp_scan.specs.Defines.{HoldsDefine}
 use Rattle.rdlpp_scan.specs.Resumed.{opening, onto_tokens}
 use Rattle.rdlpp_scan.proofs.LineLaws.{line_len-some, line_len-le, whole_one}
 use Rattle.rdlpp_scan.proofs.Seams.{IsCut-from_line}
 use Rattle.rdlpp_scan.proofs.DefineSteps.{BeginsDefine, step-line, step-logical, step-logical_full, step-logical_last, step-logical_broken}
-use Rattle.std.proofs.Math.Bool.{and-false}
 use Rattle.rdlpp_scan.specs.declared.token.Kind.{Kind}
 use Rattle.rdlpp_scan.proofs.StopKinds.{string_token-kind, block_token-kind}
 

@@ -4,6 +4,7 @@ use Rattle.std.specs.List.{prefix_len, concat}
 use Rattle.std.proofs.lemmas.Bool.{eqb-true, lt-ltb, le-ltb, and_parts, cases_lt, false≢true, cases_Bool}
 use Rattle.std.proofs.lemmas.List.{length-append, length-drop, drop-append-le, get_or_past, get_or_append_left, get_or-drop, drop-drop, drop_all}
 use Rattle.std.proofs.Math.Seq.{get_or-append_right, drop-append-add}
+use Rattle.std.proofs.Math.Bool.{and-false, or-true}
 use Rattle.rdlpp_scan.specs.declared.token.Kind.{Kind}
 use Rattle.rdlpp_scan.specs.declared.token.Kind.TheVariants.{Name, Word, Back, Blank, LineEnd, Str, LineComment, BlockComment, Opener, Closer, Comma, Other, Perl, BareBackquote}
 use Rattle.rdlpp_scan.specs.declared.token.Mode.{Mode}
@@ -16,7 +17,6 @@ use Rattle.rdlpp_scan.specs.Pieces.{IsCut, AreCuts, mode_behind, tokens_of_piece
 use Rattle.rdlpp_scan.proofs.Searches.{first_place-le, string_stop-stop}
 use Rattle.rdlpp_scan.proofs.TokenLens.{string_stop-le, begins_block_comment-two, is_word-letter, IsPart, token_of-part, tokens_from-step}
 use Rattle.rdlpp_scan.proofs.LineLaws.{IsWholeLines-rest, IsWholeLines-one, IsWholeLines-drop}
-use Rattle.std.proofs.Math.Bool.{and-false, or-true}
 use Rattle.rdlpp_scan.specs.LexFaults.{is_perl}
 use Rattle.rdlpp_scan.proofs.StopKinds.{string_token-kind, block_token-kind}
 

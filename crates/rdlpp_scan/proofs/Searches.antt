@@ -3,13 +3,13 @@ use Rattle.std.proofs.Common.{◌≡◌, ℕ, zero, suc, ◌<◌, Bool, true, fa
 use Rattle.std.specs.List.{prefix_len, list_all}
 use Rattle.std.specs.Option.{option_map, unwrap_or}
 use Rattle.std.proofs.lemmas.List.Sums.{prefix_len_is}
+use Rattle.std.proofs.lemmas.Bool.{eqb-true, eq-eqb, and_parts, and_from, cases_lt, or_parts, ne_eqb, false≢true}
+use Rattle.std.proofs.lemmas.List.{get_or-drop, get_or_past, get_or-take, length-drop, length-take, drop_more, drop-drop, drop_all}
+use Rattle.std.proofs.Math.Bool.{or-true}
 use Rattle.memchr.specs.Find.{IsFirstByte, IsLastByte, is_byte, FindsNeedle, OccursAt, is_byte3}
 use Rattle.rdlpp_scan.specs.Bytes.{is_line_end, ends_block_comment, begins_perl, begins_line_comment, begins_block_comment}
 use Rattle.rdlpp_scan.specs.Lines.{ended_line_len, whole_lines_len, onto_whole_lines}
-use Rattle.std.proofs.lemmas.Bool.{eqb-true, eq-eqb, and_parts, and_from, cases_lt, or_parts, ne_eqb, false≢true}
-use Rattle.std.proofs.lemmas.List.{get_or-drop, get_or_past, get_or-take, length-drop, length-take, drop_more, drop-drop, drop_all}
 use Rattle.rdlpp_scan.specs.Tokens.{first_place, plain_len, stops_plain_text, string_stop}
-use Rattle.std.proofs.Math.Bool.{or-true}
 
 -- What a search's answer says of the definitions that walk over a text.
 

@@ -2,16 +2,16 @@
 use Rattle.std.proofs.Common.{◌≡◌, ℕ, zero, suc, ◌+◌, ◌-◌, ◌<◌, Bool, true, false, cond, List, [], ◌∷◌, ◌++◌, length, take, drop, refl, ap, ◌∙◌, subst, arith, ◌≤◌, eqb, ltb, Some, None, sym, ⊎_elim, get_or}
 use Rattle.std.specs.List.{count_by, concat}
 use Rattle.std.proofs.lemmas.List.Sums.{sum_by-append, count_by-le-length, count_by_more_no, count_by_more_yes}
+use Rattle.std.proofs.lemmas.Bool.{lt-ltb, le-ltb, cond_both, eqb-true, false_from_ne_true}
+use Rattle.std.proofs.lemmas.List.{append_assoc, append-nil, length-append, length-take-le, length-take}
+use Rattle.std.proofs.Math.Seq.{take-add}
 use Rattle.rdlpp_scan.specs.declared.token.Mode.{Mode}
 use Rattle.rdlpp_scan.specs.declared.token.Mode.TheVariants.{Plain}
 use Rattle.rdlpp_scan.specs.Bytes.{is_line_end}
 use Rattle.rdlpp_scan.specs.SourceTokens.{SourceToken, Course, Last, Next, line_ends, line_after, source_end, source_step, source_tokens, line_len}
-use Rattle.std.proofs.lemmas.Bool.{lt-ltb, le-ltb, cond_both, eqb-true, false_from_ne_true}
-use Rattle.std.proofs.lemmas.List.{append_assoc, append-nil, length-append, length-take-le, length-take}
 use Rattle.rdlpp_scan.specs.Front.{Breach, LineLong, SourceLong, Front, front, front_of_lines, lines_of, onto_first, onto_front}
 use Rattle.rdlpp_scan.specs.Lines.{IsWholeLines, EndsLine}
 use Rattle.rdlpp_scan.proofs.LineLaws.{IsWholeLines-rest, IsWholeLines-one, line_len-le}
-use Rattle.std.proofs.Math.Seq.{take-add}
 
 -- Laws of a source's tokens that hold of every text.
 

@@ -4,6 +4,7 @@ use Rattle.std.specs.Prelude.{codes, bytes_eq}
 use Rattle.std.specs.List.{prefix_len}
 use Rattle.std.proofs.lemmas.Bool.{eqb-true, false≢true, le-ltb, lt-ltb, cases_Bool, cond_both}
 use Rattle.std.proofs.lemmas.List.{take-append-le, drop-append-le, length-take-le, length-append}
+use Rattle.std.proofs.Math.Seq.{take-append-add, drop-append-add}
 use Rattle.rdlpp_scan.specs.declared.token.Kind.{Kind}
 use Rattle.rdlpp_scan.specs.declared.token.Kind.TheVariants.{Back, BareBackquote, Perl, Str, BlockComment}
 use Rattle.rdlpp_scan.specs.declared.token.Mode.TheVariants.{Plain, InStr, InBlock}
@@ -20,7 +21,6 @@ use Rattle.rdlpp_scan.proofs.TokenLens.{token_of-part, inside_of}
 use Rattle.rdlpp_scan.proofs.SourceLaws.{line_ends-cons, source_tokens-next, source_tokens-last, line_ends-append, source_tokens-opened}
 use Rattle.rdlpp_scan.proofs.OrdinaryLaws.{source_step-plain}
 use Rattle.rdlpp_scan.proofs.StopKinds.{Row, AtPerl, AtLineComment, AtBlockComment, AtString, AtBack, AtBare, AtPlain, token_of-row, string_token-kind, block_token-kind}
-use Rattle.std.proofs.Math.Seq.{take-append-add, drop-append-add}
 use Rattle.rdlpp_scan.specs.declared.token.Mode.{Mode}
 use Rattle.rdlpp_scan.specs.Pieces.{IsCut}
 use Rattle.rdlpp_scan.specs.Resumed.{opening, line_with, with_part, onto_step, onto_tokens}

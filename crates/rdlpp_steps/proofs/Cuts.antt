@@ -141,7 +141,7 @@ same_work e phase quota = refl
 
 same_bound : {S R : Type 0} (e : EngineView S R) (phase : Phase) (quota : ℕ) → IsBounded e → IsBounded (record e { phase = phase; quota = quota })
 unfolding stores_of
-same_bound e phase quota b = record { bytes = b.bytes; cursors = b.cursors; bindings = b.bindings; conditions = b.conditions; sources = b.sources }
+same_bound e phase quota b = record { bytes = b.bytes; cursors = b.cursors; bindings = b.bindings; conditions = b.conditions; sources = b.sources; texts = b.texts }
 
 -- what a walk that lent bytes says of what remains
 module _ {S R : Type 0} (g : Ghosts S R) (old mid new : EngineView S R) (xs : List ℕ) (w : Walks g old mid (Ok (Some xs))) where
@@ -193,7 +193,7 @@ module _ {S R : Type 0} (g : Ghosts S R) (old mid new : EngineView S R) (xs : Li
         stands = λ free open_ bytes e.
             let l = w.stands free open_ xs refl in
             let same : ys ≡ bytes = cc e in
-            record { at = l.at; text = l.text; after = l.after; becomes = becomes ∙ ap (λ (m : EngineView S R). record m { phase = new.phase; quota = new.quota }) l.becomes; piece = l.piece; lent = sym same ∙ part ∙ ap (take old.quota) l.lent; stands = l.stands };
+            record { at = l.at; reached = l.reached; text = l.text; after = l.after; becomes = becomes ∙ ap (λ (m : EngineView S R). record m { phase = new.phase; quota = new.quota }) l.becomes; piece = l.piece; lent = sym same ∙ part ∙ ap (take old.quota) l.lent; stands = l.stands };
         lets_go = λ h. subst LetsGo (sym becomes) ((keeps_phase g mid new.phase new.quota).lets_go (w.lets_go h));
         stores = λ t h. subst (HoldsStores g) (sym becomes) ((keeps_phase g mid new.phase new.quota).stores (w.call.tells t) (w.stores t h));
       }

@@ -23,7 +23,7 @@ use Rattle.rdlpp_steps.specs.Calls.{SourcesCalled}
 use Rattle.rdlpp_steps.specs.Conditionals.{unclosed_fault}
 use Rattle.rdlpp_steps.specs.Engine.{AreIncluded, EngineView}
 use Rattle.rdlpp_steps.specs.Held.{IsBounded}
-use Rattle.rdlpp_steps.specs.Standing.{Nowhere}
+use Rattle.rdlpp_steps.specs.Standing.{InSources, Nowhere}
 use Rattle.rdlpp_steps.proofs.Stores.{parts_around}
 use Rattle.rdlpp_steps.specs.Includes.{left_engine, owed_behind}
 use Rattle.rdlpp_steps.specs.Moves.{Closes, Ends, IsReady, Returns, StopsOpen, StopsUnclosed}
@@ -189,7 +189,7 @@ module _ {S R : Type 0} (g : Ghosts S R) (old mid new : EngineView S R) (ready :
       (left_falls old (by owed (drop 1 before)) refl ready.idle ready.idle refl ready.nest (omega arith) (owed_behind-few old.origins before)) call
       (λ t. nest_back old.limits (run_rules g old) g.unread old.table.macros old.conditions live (g.tells old.sources) t before b inner ended fills (sym fills.mode ∙ back.mode)
       ∙ ap (λ (x : List ℕ). behind_bytes x (left_by g old old.table.macros old.conditions (drop 1 before))) (sym (owed_ending (g.catalog old.sources) old.limits old.origins before inner)))
-      (λ t. parts_around g.unread before (g.catalog old.sources)) (Nowhere refl))
+      (λ t. parts_around g.unread before (g.catalog old.sources)) (Nowhere refl (InSources ready.idle refl)))
 
   pub ended_steps : (place : Option Place) → Ends mid new place → Walks g old new (step_answer new place)
   ended_steps None ends = ended_back ends

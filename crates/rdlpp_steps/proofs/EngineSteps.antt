@@ -1,5 +1,5 @@
 -- The steps of an engine, by what they met.
-use Rattle.std.proofs.Common.{◌≡◌, ◌⊎◌, inl, inr, ℕ, ◌≤◌, ◌<◌, Bool, true, false, ◌&&◌, ◌||◌, List, [], Option, None, Some, Result, Ok, Err, length, refl, sym, ap, ◌∙◌, subst, arith}
+use Rattle.std.proofs.Common.{◌≡◌, ◌⊎◌, inl, inr, ℕ, ◌≤◌, ◌<◌, Bool, true, false, ◌&&◌, ◌||◌, List, [], ◌∷◌, ◌++◌, Option, None, Some, Result, Ok, Err, length, refl, sym, ap, ◌∙◌, subst, arith}
 use Rattle.std.specs.Option.{is_some, option_map}
 use Rattle.rdlpp_source.specs.Counts.{Counts}
 use Rattle.rdlpp_source.specs.declared.sources.Sources.{Ghosts}
@@ -17,7 +17,7 @@ use Rattle.rdlpp_read.specs.Files.{inner_buffer, with_buffer}
 use Rattle.rdlpp_steps.specs.Calls.{SourcesCalled}
 use Rattle.rdlpp_steps.specs.Engine.{EngineView}
 use Rattle.rdlpp_steps.specs.Held.{IsBounded}
-use Rattle.rdlpp_steps.specs.Standing.{LendsWhere, StandsIn}
+use Rattle.rdlpp_steps.specs.Standing.{LendNone, LendsNone, LendsWhere, Reaches, StandsIn}
 use Rattle.rdlpp_steps.specs.Stored.{AreParts}
 use Rattle.rdlpp_read.specs.declared.files.File.{File}
 use Rattle.rdlpp_steps.proofs.Stores.{KeepsStores, keeps_refused, none_called}
@@ -107,6 +107,23 @@ steps_ended g e started bounded free closed = record {
   stores = λ t h. h;
 }
 
+-- no step at all
+reaches_same : {S R : Type 0} (g : Ghosts S R) (e : EngineView S R) → Reaches g e e
+reaches_same g e = record { between = []; steps = refl }
+
+-- steps that lend nothing, and then others
+lend_on : {S R : Type 0} (g : Ghosts S R) (old : EngineView S R) (mids : List (EngineView S R)) (mid : EngineView S R) (more : List (EngineView S R)) (new : EngineView S R)
+    → LendNone g old mids mid → LendNone g mid more new → LendNone g old (mids ++ more) new
+lend_on {S} {R} g old [] mid more new same then_ = subst (λ (e : EngineView S R). LendNone g e more new) same then_
+lend_on g old (m ∷ mids) mid more new first then_ = (first.0, lend_on g m mids mid more new first.1 then_)
+
+reaches_on : {S R : Type 0} (g : Ghosts S R) (old mid new : EngineView S R) → Reaches g old mid → Reaches g mid new → Reaches g old new
+reaches_on g old mid new first then_ = record { between = first.between ++ then_.between; steps = lend_on g old first.between mid then_.between new first.steps then_.steps }
+
+-- one step that lends nothing
+pub reaches_one : {S R : Type 0} (g : Ghosts S R) (old new : EngineView S R) → LendsNone g old new → Reaches g old new
+reaches_one g old new step = record { between = new ∷ []; steps = (step, refl) }
+
 -- an engine whose main text is open and that keeps no fault
 module _ {S R : Type 0} (g : Ghosts S R) (old new : EngineView S R) (free : old.kept ≡ None) (open_ : old.phase ≡ Open) (bounded : IsBounded new) where
   -- a piece was lent
@@ -114,7 +131,7 @@ module _ {S R : Type 0} (g : Ghosts S R) (old new : EngineView S R) (free : old.
       → (new.table.most_bytes ≡ old.table.most_bytes) × (new.table.most_macros ≡ old.table.most_macros)
       → SourcesCalled g false false old.sources new.sources
       → (g.tells old.sources → text_of g old ≡ behind_bytes bytes (text_of g new))
-      → work_left new < work_left old → KeepsStores g old new → StandsIn old new bytes → Walks g old new (Ok (Some bytes))
+      → work_left new < work_left old → KeepsStores g old new → StandsIn g old new bytes → Walks g old new (Ok (Some bytes))
   unfolding has_met no_len all_of may_follow
   walks_lent bytes becomes room call text falls keeps from =
       let still : new.phase ≡ Open = ap (λ e. e.phase) becomes ∙ open_ in
@@ -143,7 +160,7 @@ module _ {S R : Type 0} (g : Ghosts S R) (old new : EngineView S R) (free : old.
         most_bytes = room.0;
         most_macros = room.1;
         bounded = bounded;
-        stands = λ _ _ xs e. (let same : bytes ≡ xs = cc e in record { at = old; text = λ _. refl; after = new; becomes = refl; piece = bytes; lent = sym same; stands = from });
+        stands = λ _ _ xs e. (let same : bytes ≡ xs = cc e in record { at = old; reached = reaches_same g old; text = λ _. refl; after = new; becomes = refl; piece = bytes; lent = sym same; stands = from });
         lets_go = keeps.lets_go;
         stores = keeps.stores;
       }
@@ -334,6 +351,7 @@ pub record IsSilent {S R : Type 0} (g : Ghosts S R) (old mid : EngineView S R) :
   pub text : g.tells old.sources → text_of g old ≡ text_of g mid
   pub work : work_left mid ≤ work_left old
   pub keeps : KeepsStores g old mid
+  pub reaches : Reaches g old mid
 
 -- what a step says of the fault that is kept, where it answers none: none was kept
 pub free_before : {S R : Type 0} (g : Ghosts S R) (left : EngineView S R → Outcome) (spent : Result (Option (List ℕ)) Told → ℕ) (most : ℕ → List ℕ → List ℕ) (goes_on : Phase → Bool) (old new : EngineView S R) (kept : Option Told) (lent : Option (List ℕ)) →
@@ -393,10 +411,10 @@ halts_behind g (Err f) old mid new text tells halts = record {
 }
 
 -- where bytes that are lent stand, behind such a part
-lends_behind : {S R : Type 0} (g : Ghosts S R) (old mid new : EngineView S R) (bytes : List ℕ) (a b : ℕ) → (g.tells old.sources → text_of g old ≡ text_of g mid) → (g.tells old.sources → g.tells mid.sources)
+lends_behind : {S R : Type 0} (g : Ghosts S R) (old mid new : EngineView S R) (bytes : List ℕ) (a b : ℕ) → Reaches g old mid → (g.tells old.sources → text_of g old ≡ text_of g mid) → (g.tells old.sources → g.tells mid.sources)
     → LendsWhere g (all_of b) mid new bytes → LendsWhere g (all_of a) old new bytes
 unfolding all_of
-lends_behind g old mid new bytes a b text tells l = record { at = l.at; text = λ t. text t ∙ l.text (tells t); after = l.after; becomes = l.becomes; piece = l.piece; lent = l.lent; stands = l.stands }
+lends_behind g old mid new bytes a b reaches text tells l = record { at = l.at; reached = reaches_on g old mid l.at reaches l.reached; text = λ t. text t ∙ l.text (tells t); after = l.after; becomes = l.becomes; piece = l.piece; lent = l.lent; stands = l.stands }
 
 -- such a part, and then a step, are one step
 pub silent_then : {S R : Type 0} (g : Ghosts S R) (old mid new : EngineView S R) (answer : Result (Option (List ℕ)) Told) →
@@ -436,7 +454,7 @@ silent_then g old mid new answer first then_ =
       most_bytes = then_.most_bytes ∙ first.most_bytes;
       most_macros = then_.most_macros ∙ first.most_macros;
       bounded = then_.bounded;
-      stands = λ _ _ bytes is. lends_behind g old mid new bytes old.quota mid.quota (first.text) (first.call.tells) (then_.stands first.still first.stays bytes is);
+      stands = λ _ _ bytes is. lends_behind g old mid new bytes old.quota mid.quota first.reaches (first.text) (first.call.tells) (then_.stands first.still first.stays bytes is);
       lets_go = λ h. then_.lets_go (first.keeps.lets_go h);
       stores = λ t h. then_.stores (first.call.tells t) (first.keeps.stores t h);
     }
@@ -471,6 +489,10 @@ silent_step g old mid w =
       text = λ t. silent_text old.quota (text_of g old) (text_of g mid) (w.text free lends.0 (none is_call_failed) t);
       work = (let less = w.falls [] refl in omega arith);
       keeps = record { lets_go = w.lets_go; stores = w.stores };
+      reaches =
+          let l = w.stands free lends.0 [] refl in
+          reaches_on g old l.at mid l.reached
+          (reaches_one g l.at mid (record { after = l.after; stands = subst (λ (xs : List ℕ). StandsIn g l.at l.after xs) (sym l.lent) l.stands; becomes = l.becomes }));
     }
 
 -- a step that lent nothing, and then another, are one step

@@ -30,7 +30,7 @@ use Rattle.rdlpp_conditions.specs.Conditions.{ConditionsView}
 use Rattle.rdlpp_steps.specs.Calls.{SourcesCalled}
 use Rattle.rdlpp_steps.specs.Engine.{EngineView}
 use Rattle.rdlpp_steps.specs.Held.{IsBounded}
-use Rattle.rdlpp_steps.specs.Standing.{Nowhere}
+use Rattle.rdlpp_steps.specs.Standing.{InSources, Nowhere}
 use Rattle.rdlpp_steps.proofs.Stores.{parts_entered}
 use Rattle.rdlpp_steps.specs.Includes.{BadName, Denies, Full, IsSearch, Refuses, Searches, included_engine, inner_path, is_bad_name, kind_of_source}
 use Rattle.rdlpp_steps.specs.Moves.{IsReady}
@@ -248,7 +248,7 @@ module _ {S R : Type 0} (g : Ghosts S R) (old mid new : EngineView S R) (start s
       (λ t. opened_inside old.limits (run_rules g old) g.unread old.table.macros old.conditions live old.files.nest found start stop old.files.line_bytes some inner.ends plain has s.name_good (omega arith)
       (ap lookup_of (s.answers t)) refl ready.sound.line_bytes
       ∙ ap (λ (x : List ℕ). behind_bytes x (left_by g old old.table.macros old.conditions (file ∷ used))) (sym (owed_origin (g.catalog old.sources) old.limits old.origins found.path.bytes 1)))
-      (λ t. parts_entered g.unread (g.catalog old.sources) found stop old.limits.source_bytes old.files.line_bytes (length old.conditions.open_now) line name_of old.files.nest ready.nest (s.answers t)) (Nowhere refl))
+      (λ t. parts_entered g.unread (g.catalog old.sources) found stop old.limits.source_bytes old.files.line_bytes (length old.conditions.open_now) line name_of old.files.nest ready.nest (s.answers t)) (Nowhere refl (InSources ready.idle refl)))
 
 -- a search that was made
 pub searches_by : {S R : Type 0} (g : Ghosts S R) (e : EngineView S R) (from given name : List ℕ) (new : S) (answer : Result (Found R) SourceFault) → given ≡ name → from ≡ inner_path e.files.nest

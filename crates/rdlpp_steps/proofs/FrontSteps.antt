@@ -42,7 +42,7 @@ use Rattle.rdlpp_conditions.specs.Conditions.{ConditionsView}
 use Rattle.rdlpp_steps.specs.Calls.{SourcesCalled}
 use Rattle.rdlpp_steps.specs.Engine.{EngineView, IsSoundEngine, is_open}
 use Rattle.rdlpp_steps.specs.Held.{IsBounded}
-use Rattle.rdlpp_steps.specs.Standing.{AtOwed, AtSource, Nowhere, StandsIn}
+use Rattle.rdlpp_steps.specs.Standing.{AtOwed, AtSource, InSources, Nowhere, StandsIn}
 use Rattle.rdlpp_steps.specs.Stored.{AreParts}
 use Rattle.rdlpp_read.proofs.Sliding.{slides-same, slides-told}
 use Rattle.rdlpp_steps.proofs.Stores.{KeepsParts, KeepsStores, keeps_owed, keeps_sources, keeps_stopped, parts_mode, parts_on, parts_slid, parts_used}
@@ -59,7 +59,7 @@ use Rattle.rdlpp_steps.specs.declared.place.Place.TheVariants.{Source, Text, Owe
 use Rattle.rdlpp_usages.specs.Usages.{texts_left}
 use Rattle.rdlpp_steps.proofs.IdleTexts.{text_idle}
 use Rattle.rdlpp_front.proofs.DefineLeft.{define_begins}
-use Rattle.rdlpp_steps.proofs.EngineSteps.{IsSilent, kept_at, not_called, walks_failed, walks_fault, walks_lent}
+use Rattle.rdlpp_steps.proofs.EngineSteps.{IsSilent, kept_at, not_called, reaches_one, walks_failed, walks_fault, walks_lent}
 use Rattle.rdlpp_steps.proofs.NestLeft.{nest_cut_define, nest_defined, nest_filled, nest_long_define, nest_long_line, nest_long_source, nest_nameless, nest_refused, nest_refused_define, nest_reserved, nest_text, nest_undef, nest_undefined, nest_unfilled, nest_unheld}
 use Rattle.rdlpp_steps.proofs.Soundness.{inner_facts, with_inner-length}
 use Rattle.rdlpp_steps.proofs.WorkFacts.{IsUsed, entered_unused, held_room, owed_falls, used_after, used_bytes, work_falls, work_same}
@@ -136,7 +136,7 @@ pub lends_by : {S R : Type 0} (g : Ghosts S R) (old : EngineView S R) (ready : I
     IsBounded after → work_left after < work_left old → SourcesCalled g false false old.sources sources
     → (g.tells old.sources → left_by g old old.table.macros old.conditions old.files.nest ≡ behind_bytes bytes (behind_bytes (owed_bytes (inner_name nest) owed) (left_by g old macros v nest)))
     → (g.tells old.sources → AreParts g.unread (g.catalog old.sources) Unit old.files.nest → AreParts g.unread (g.catalog old.sources) Unit nest)
-    → StandsIn old after bytes → Walks g old after (Ok (Some bytes))
+    → StandsIn g old after bytes → Walks g old after (Ok (Some bytes))
 lends_by g old ready bytes owed macros v nest sources bounded falls call law parts from =
     let after = record old { owed = owed; table = record old.table { macros = macros }; conditions = v; files = record old.files { nest = nest }; sources = sources } in
     walks_lent g old after ready.free ready.open_ bounded bytes refl (refl, refl) call
@@ -151,7 +151,7 @@ pub lends_piece : {S R : Type 0} (g : Ghosts S R) (old : EngineView S R) (ready 
     IsBounded after → owed_pieces owed < 2 ^ 31 → IsUsed old.files.nest nest → SourcesCalled g false false old.sources sources
     → (g.tells old.sources → left_by g old old.table.macros old.conditions old.files.nest ≡ behind_bytes bytes (behind_bytes (owed_bytes (inner_name nest) owed) (left_by g old macros v nest)))
     → (g.tells old.sources → KeepsParts g.unread old.files.nest nest)
-    → StandsIn old after bytes → Walks g old after (Ok (Some bytes))
+    → StandsIn g old after bytes → Walks g old after (Ok (Some bytes))
 lends_piece g old ready bytes owed macros v nest sources bounded few used call law parts from =
     let after = record old { owed = owed; table = record old.table { macros = macros }; conditions = v; files = record old.files { nest = nest }; sources = sources } in
     lends_by g old ready bytes owed macros v nest sources bounded (work_falls old after refl used ready.idle ready.idle few) call law (λ t. parts t (g.catalog old.sources)) from
@@ -162,7 +162,7 @@ pub lends_source : {S R : Type 0} (g : Ghosts S R) (old new : EngineView S R) (r
     → IsBounded new → IsUsed old.files.nest nest
     → left_by g old old.table.macros old.conditions old.files.nest ≡ behind_bytes bytes (left_by g old macros v nest)
     → KeepsParts g.unread old.files.nest nest
-    → StandsIn old (record old { table = record old.table { macros = macros }; conditions = v; files = record old.files { nest = nest } }) bytes → Walks g old new (Ok (Some bytes))
+    → StandsIn g old (record old { table = record old.table { macros = macros }; conditions = v; files = record old.files { nest = nest } }) bytes → Walks g old new (Ok (Some bytes))
 lends_source {S} {R} g old new ready bytes macros v nest becomes bounded used law parts from =
     subst (λ (e : EngineView S R). Walks g old e (Ok (Some bytes))) (sym becomes)
     (lends_piece g old ready bytes old.owed macros v nest old.sources (subst IsBounded becomes bounded) (unowed_few old.owed ready.owed) used (not_called g old.sources)
@@ -372,8 +372,10 @@ fails_reading {S} {R} g old mid new place ready r reading bounded is becomes cal
 -- a `define` begins what is held, of which more came
 pub reading_define : {R : Type 0} (old new : BufferView R) (more : List ℕ) → 0 < length (held_of old) → IsDirective Define (held_of old) → held_of new ≡ held_of old ++ more → IsReading new
 reading_define old new more some is held =
-    inr (drop 7 (held_of old) ++ more,
-    held ∙ (ap (λ (xs : List ℕ). xs ++ more) (define_begins (held_of old) some is) ∙ append_assoc (codes "`define") (drop 7 (held_of old)) more))
+    inr (
+      drop 7 (held_of old) ++ more,
+      held ∙ (ap (λ (xs : List ℕ). xs ++ more) (define_begins (held_of old) some is) ∙ append_assoc (codes "`define") (drop 7 (held_of old)) more),
+    )
 
 -- nothing changed
 pub read_nothing : {S R : Type 0} {g : Ghosts S R} (e : EngineView S R) → IsRead g e e
@@ -425,7 +427,7 @@ take_undef g old new start stop ready live bounded some plain named free becomes
     lends_source g old new ready [] (without (argument_name held start stop) old.table.macros) old.conditions (with_inner (consumed_file stop 0) old.files.nest) becomes bounded
     (used_bytes old.files.nest stop 0 (omega (arith, within.0, within.1)) within.2)
     (nest_undef old.limits (run_rules g old) g.unread old.table.macros old.conditions live old.files.nest start stop some inner.ends plain named free)
-    (parts_used g.unread stop 0 old.files.nest) (Nowhere refl)
+    (parts_used g.unread stop 0 old.files.nest) (Nowhere refl (InSources ready.idle refl))
 
 -- a `define` whose logical line is held, and what it comes to
 module _ {S R : Type 0} (g : Ghosts S R) (old mid new : EngineView S R) (len : ℕ) (ready : IsReady old) (live : old.conditions.skipped ≡ None) (r : IsRead g old mid) (bounded : IsBounded new)
@@ -463,7 +465,7 @@ module _ {S R : Type 0} (g : Ghosts S R) (old mid new : EngineView S R) (len : �
       some inner.ends plain define holds (ap with_fault accepted) counted
       ∙ ap (λ (x : List ℕ). behind_bytes x (left_by g old d.macros old.conditions after)) owed)
       (λ t. parts_on g.unread old.files.nest (with_buffer b old.files.nest) after (parts_slid (g.tells old.sources) Unit g.unread b old.files.nest ready.nest (slides-told (g.tells old.sources) (g.tells old.sources) Unit (IsExactLine (line.Whole len)) g.unread (inner_buffer old.files.nest) b (λ x. x) (λ _ e. cc) holds.slides) t)
-      (parts_used g.unread len d.lines (with_buffer b old.files.nest))) (Nowhere refl))
+      (parts_used g.unread len d.lines (with_buffer b old.files.nest))) (Nowhere refl (InSources ready.idle refl)))
 
   -- it is refused
   refused_steps : (place : Place) → place ≡ Kept → RefusesDefine len mid new → Walks g old new (lent_answer new place)
@@ -561,6 +563,7 @@ silent_fill {S} {R} g old mid ready r fills call =
           (nest_filled old.limits (run_rules g old) g.unread old.table.macros old.conditions (g.tells old.sources) t old.files.nest b fills);
       work = (let same : work_left mid ≡ work_left old = work_same old mid b limits owed (ap (λ e. e.expansion) r.becomes) nest fills.unused in omega arith);
       keeps = filled_stores g old mid ready r fills call;
+      reaches = reaches_one g old mid (record { after = mid; stands = Nowhere refl (InSources ready.idle (ap (λ e. e.expansion) r.becomes)); becomes = refl });
     }
 
 -- the main text is open

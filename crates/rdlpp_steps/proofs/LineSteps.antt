@@ -26,7 +26,7 @@ use Rattle.rdlpp_front.specs.SourceLeft.{source_left}
 use Rattle.rdlpp_front.proofs.DefineLeft.{given_text, line_behind, bad_line_left, late_line_left, line_text, renumbered_left}
 use Rattle.rdlpp_steps.specs.Engine.{EngineView, IsSoundEngine}
 use Rattle.rdlpp_steps.specs.Held.{IsBounded}
-use Rattle.rdlpp_steps.specs.Standing.{Nowhere}
+use Rattle.rdlpp_steps.specs.Standing.{InSources, Nowhere}
 use Rattle.rdlpp_steps.proofs.Stores.{parts_on, parts_shown, parts_used}
 use Rattle.rdlpp_steps.specs.Lines.{Renumbers, inner_blanks, renumbered_file}
 use Rattle.rdlpp_steps.specs.Moves.{IsReady}
@@ -153,7 +153,7 @@ take_renumbered {S} {R} g old new given ready live bounded some plain is first h
     (not_called g old.sources)
     (λ t. nest_line old.limits (run_rules g old) g.unread old.table.macros old.conditions live old.files.nest given from d.lines some inner.ends plain is first has (omega arith) d.counted
     ∙ ap (λ (x : List ℕ). behind_bytes x (left_by g old old.table.macros old.conditions nest)) (sym bytes))
-    (λ t. parts_on g.unread old.files.nest used nest (parts_used g.unread len d.lines old.files.nest) (parts_shown g.unread from given.number given.name used)) (Nowhere refl))
+    (λ t. parts_on g.unread old.files.nest used nest (parts_used g.unread len d.lines old.files.nest) (parts_shown g.unread from given.number given.name used)) (Nowhere refl (InSources ready.idle refl)))
 
 -- what remains at a bad `line`
 module _ {S R : Type 0} (g : Ghosts S R) (e : EngineView S R) (ready : IsReady e) (live : e.conditions.skipped ≡ None) (some : 0 < length (held_of (inner_buffer e.files.nest)))

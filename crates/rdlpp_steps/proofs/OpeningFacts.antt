@@ -275,6 +275,7 @@ starts_refused {S} {R} g e s kind path own none idle bounded failures refusals t
     bindings = bounded.bindings;
     conditions = bounded.conditions;
     sources = bounded.sources;
+    texts = bounded.texts;
   };
   kinds = own;
   lets_go = λ _. fault_lets_go (unopened_engine (record e { sources = s }) (opening_fault kind path)) (opening_fault kind path) refl;

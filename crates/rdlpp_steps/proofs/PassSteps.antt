@@ -34,7 +34,7 @@ use Rattle.rdlpp_steps.specs.Calls.{SourcesCalled}
 use Rattle.rdlpp_steps.specs.Conditionals.{AnyUsage, IncludeWord, IsSkippedWord, LoneBackquote, UndefWord, goes_past, opening_word, passes_over}
 use Rattle.rdlpp_steps.specs.Engine.{EngineView}
 use Rattle.rdlpp_steps.specs.Held.{IsBounded}
-use Rattle.rdlpp_steps.specs.Standing.{Nowhere}
+use Rattle.rdlpp_steps.specs.Standing.{InSources, Nowhere}
 use Rattle.rdlpp_read.proofs.Sliding.{slides-told}
 use Rattle.rdlpp_steps.proofs.Stores.{KeepsParts, parts_mode, parts_on, parts_slid, parts_used}
 use Rattle.rdlpp_steps.specs.Moves.{IsReady}
@@ -93,7 +93,7 @@ passes_text {S} {R} g old new sources w lines nest ready bounded counted few use
     line_ends_of-owed w ∙ (ap (λ n. replicate n 10) (sym counted) ∙ sym (owed_lines (inner_name nest) lines)) in
     subst (λ (e : EngineView S R). Walks g old e (Ok (Some []))) (sym becomes)
     (lends_piece g old ready [] (line_ends_owed lines) old.table.macros old.conditions nest sources (subst IsBounded becomes bounded) (lines_few lines _ few) used call
-    (λ t. law t ∙ ap (λ (x : List ℕ). behind_bytes x (left_by g old old.table.macros old.conditions nest)) owed) parts (Nowhere refl))
+    (λ t. law t ∙ ap (λ (x : List ℕ). behind_bytes x (left_by g old old.table.macros old.conditions nest)) owed) parts (Nowhere refl (InSources ready.idle refl)))
 
 -- what is refused in front is `<%`, or a lone backquote
 pub perl_is : (mode : Mode) (held : List ℕ) (kind : FaultKind) → IsRefused mode held kind → kind ≡ fault.EmbeddedPerl → (token_of mode held).kind ≡ Perl

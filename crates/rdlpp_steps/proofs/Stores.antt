@@ -53,9 +53,10 @@ part_moves unread catalog own exact path old new outer dropped gained window gai
 -- parts of which less is asked
 pub parts_told : {R : Type 0} (unread : R → List ℕ) (catalog : Catalog) (own exact : Type 0) (nest : List (File R)) → (exact → own) → AreParts unread catalog own nest → AreParts unread catalog exact nest
 parts_told unread catalog own exact [] t parts = tt
-parts_told unread catalog own exact (f ∷ outer) t parts =
-    (record { text = parts.0.text; told = parts.0.told; front = parts.0.front; rest = parts.0.rest; whole = parts.0.whole; same = λ e. parts.0.same (t e) },
-    parts_told unread catalog own exact outer t parts.1)
+parts_told unread catalog own exact (f ∷ outer) t parts = (
+  record { text = parts.0.text; told = parts.0.told; front = parts.0.front; rest = parts.0.rest; whole = parts.0.whole; same = λ e. parts.0.same (t e) },
+  parts_told unread catalog own exact outer t parts.1,
+)
 
 -- open sources that stay parts of their texts, of which no byte is lost where the move is exact
 abbrev pub MovesParts : {R : Type 0} → (R → List ℕ) → Type 0 → List (File R) → List (File R) → Type 0
@@ -75,9 +76,10 @@ parts_used unread len lines (f ∷ outer) = λ catalog parts.
 pub parts_slid : {R : Type 0} (tells exact : Type 0) (unread : R → List ℕ) (b : BufferView R) (nest : List (File R)) → 0 < length nest → Slides tells exact unread (inner_buffer nest) b → tells
     → MovesParts unread exact nest (with_buffer b nest)
 parts_slid tells exact unread b [] some slides t = λ catalog parts. tt
-parts_slid tells exact unread b (f ∷ outer) some slides t = λ catalog parts.
-    (part_moves unread catalog Unit exact f.path.bytes f.buffer b outer slides.dropped slides.gained slides.window (slides.text t) tt parts.0,
-    parts_told unread catalog Unit exact outer (λ _. tt) parts.1)
+parts_slid tells exact unread b (f ∷ outer) some slides t = λ catalog parts. (
+  part_moves unread catalog Unit exact f.path.bytes f.buffer b outer slides.dropped slides.gained slides.window (slides.text t) tt parts.0,
+  parts_told unread catalog Unit exact outer (λ _. tt) parts.1,
+)
 
 -- one after the other
 pub parts_on : {R : Type 0} (unread : R → List ℕ) (old mid new : List (File R)) → KeepsParts unread old mid → KeepsParts unread mid new → KeepsParts unread old new
@@ -86,14 +88,17 @@ parts_on unread old mid new first then_ = λ catalog parts. then_ catalog (first
 -- where the buffer has the same window and the same reader
 pub parts_same : {R : Type 0} (unread : R → List ℕ) (b : BufferView R) (nest : List (File R)) → b.window ≡ (inner_buffer nest).window → b.reader ≡ (inner_buffer nest).reader → KeepsParts unread nest (with_buffer b nest)
 parts_same unread b [] window reader = λ catalog parts. parts
-parts_same unread b (f ∷ outer) window reader = λ catalog parts. (record {
-  text = parts.0.text;
-  told = parts.0.told;
-  front = parts.0.front;
-  rest = parts.0.rest;
-  whole = parts.0.whole ∙ ap (λ (w : List ℕ). parts.0.front ++ (w ++ parts.0.rest)) (sym window);
-  same = λ e. parts.0.same e ∙ ap (unread_of unread) (sym reader);
-}, parts.1)
+parts_same unread b (f ∷ outer) window reader = λ catalog parts. (
+  record {
+    text = parts.0.text;
+    told = parts.0.told;
+    front = parts.0.front;
+    rest = parts.0.rest;
+    whole = parts.0.whole ∙ ap (λ (w : List ℕ). parts.0.front ++ (w ++ parts.0.rest)) (sym window);
+    same = λ e. parts.0.same e ∙ ap (unread_of unread) (sym reader);
+  },
+  parts.1,
+)
 
 -- where another mode is entered
 pub parts_mode : {R : Type 0} (unread : R → List ℕ) (next : Mode) (nest : List (File R)) → KeepsParts unread nest (with_buffer (entered_mode (inner_buffer nest) next) nest)
@@ -118,9 +123,10 @@ parts_moved tells exact unread used [] new some inner moves t = λ catalog parts
 parts_moved {R} tells exact unread used (f ∷ outer) new some inner moves t = λ catalog parts.
     let b = inner_buffer new in
     let changed : File R = record f { buffer = b; blanks = only_blanks f.blanks used; torn = torn_after f.torn used } in
-    let now : AreParts unread catalog exact (changed ∷ outer) =
-    (part_moves unread catalog Unit exact f.path.bytes f.buffer b outer moves.dropped moves.gained moves.window (moves.text t) tt parts.0,
-    parts_told unread catalog Unit exact outer (λ _. tt) parts.1) in
+    let now : AreParts unread catalog exact (changed ∷ outer) = (
+      part_moves unread catalog Unit exact f.path.bytes f.buffer b outer moves.dropped moves.gained moves.window (moves.text t) tt parts.0,
+      parts_told unread catalog Unit exact outer (λ _. tt) parts.1,
+    ) in
     subst (λ (ns : List (File R)). AreParts unread catalog exact ns) (sym inner) now
 
 -- an included source that was found

@@ -1,7 +1,5 @@
 -- The steps of the open texts of a usage, as steps of the engine.
 use Rattle.std.proofs.Common.{◌≡◌, ◌==◌, ◌⊎◌, inl, inr, ℕ, ◌^◌, ◌<◌, true, false, List, [], ◌∷◌, length, Option, None, Some, Ok, refl, sym, ap, ◌∙◌, subst, arith}
-use Rattle.std.proofs.lemmas.Bool.{eqb-true}
-use Rattle.std.proofs.lemmas.List.{nil_from_length}
 use Rattle.rdlpp_source.specs.declared.sources.Sources.{Ghosts}
 use Rattle.rdlpp_table.specs.Table.{Macro}
 use Rattle.rdlpp_meaning.specs.Meaning.{Passage, behind_bytes, goes_on, leaves}
@@ -26,7 +24,7 @@ use Rattle.rdlpp_usages.specs.Usages.{ExpansionView, IsRoomy, StaysAt, StaysLent
 use Rattle.rdlpp_steps.specs.Calls.{SourcesCalled}
 use Rattle.rdlpp_steps.specs.Engine.{AreOpenTexts, EngineView, IsSoundEngine}
 use Rattle.rdlpp_steps.specs.Held.{IsBounded}
-use Rattle.rdlpp_steps.specs.Standing.{AtCursor, Nowhere}
+use Rattle.rdlpp_steps.specs.Standing.{AtCursor, InTexts, Nowhere}
 use Rattle.rdlpp_cursors.specs.Fronts.{IsFrontPlace, StandsAt}
 use Rattle.rdlpp_cursors.specs.Opened.{StaysOutermost}
 use Rattle.rdlpp_steps.proofs.Stores.{KeepsStores, keeps_refused, keeps_texts}
@@ -166,7 +164,7 @@ module _ {S R : Type 0} (g : Ghosts S R) (old : EngineView S R) (x : ExpansionVi
       walks_lent g old (record old { expansion = x }) unowed.free unowed.open_ bounded [] refl (refl, refl) (not_called g old.sources)
       (λ t. text_goes [] (step (run_rules g old) (state_of old) (nest_macros old.limits old.table.macros old.conditions old.files.nest)
       ∙ sym (and_then-gives_nil (open_left (run_rules g old) (state_of old) old.expansion.line old.expansion.depth (held_texts old) x.opens)))) (work_texts falls)
-      (keeps_texts g old x unowed.free holds.stays holds.outer holds.lets_go) (Nowhere refl)
+      (keeps_texts g old x unowed.free holds.stays holds.outer holds.lets_go) (Nowhere refl (InTexts unowed.owed refl step holds.now_sound))
 
 -- the open texts end with a fault, and nothing else changes
 pub texts_refuse : {S R : Type 0} (g : Ghosts S R) (old mid new : EngineView S R) (place : Place) (fault : CursorFault) → IsUnowed old → IsBounded new → mid ≡ old → place ≡ Kept
@@ -194,10 +192,6 @@ texts_refuse {S} {R} g old mid new place fault unowed bounded same is kept own s
 -- the same engine, with other open texts
 pub opening : {S R : Type 0} (a b : EngineView S R) (x : ExpansionView) → a ≡ b → record a { expansion = x } ≡ record b { expansion = x }
 opening {S} {R} a b x same = ap (λ (e : EngineView S R). record e { expansion = x }) same
-
--- no text is open, or one is, by a test
-pub none_open : (opens : List Open) → (length opens == 0) ≡ true → opens ≡ []
-none_open opens e = nil_from_length opens (eqb-true (length opens) 0 e)
 
 pub some_open : (opens : List Open) → (length opens == 0) ≡ false → 0 < length opens
 some_open [] e = cc e

@@ -26,11 +26,11 @@ use Rattle.rdlpp_usages.specs.declared.expansion.Opening.TheVariants.{Opened, Re
 use Rattle.rdlpp_steps.specs.Calls.{SourcesCalled}
 use Rattle.rdlpp_steps.specs.Engine.{AreOpenTexts, EngineView}
 use Rattle.rdlpp_steps.specs.Held.{IsBounded}
-use Rattle.rdlpp_steps.specs.Standing.{Nowhere}
+use Rattle.rdlpp_steps.specs.Standing.{Nowhere, OpensText, OpensUsage, Turns}
 use Rattle.rdlpp_front.proofs.Insides.{usage_inside}
 use Rattle.rdlpp_steps.proofs.Stores.{KeepsStores, keeps_broken, keeps_opened, parts_moved}
 use Rattle.rdlpp_read.proofs.Sliding.{moves-told}
-use Rattle.rdlpp_steps.specs.Moves.{IsReady, OpensUsage}
+use Rattle.rdlpp_steps.specs.Moves.{IsReady}
 use Rattle.rdlpp_steps.specs.Owed.{owed_bytes}
 use Rattle.rdlpp_steps.specs.Pieces.{lent_answer}
 use Rattle.rdlpp_steps.specs.Remaining.{inner_name, nest_left, nest_state, run_rules, source_rules, state_of, text_of, work_left}
@@ -137,16 +137,16 @@ module _ {S R : Type 0} (g : Ghosts S R) (old : EngineView S R) (ready : IsReady
   -- its texts are open: nothing is lent yet
   pub usage_opens : (line : ℕ) (name : List ℕ) → IsBounded opened_engine_at → SourcesCalled g false false old.sources s → work_left opened_engine_at < work_left old
       → (g.tells old.sources → text_left g.unread (inner_buffer old.files.nest) ≡ uses.used ++ text_left g.unread (inner_buffer nest))
-      → (g.tells old.sources → TellsAt Opened line name) → KeepsStores g old opened_engine_at → Walks g old opened_engine_at (Ok (Some []))
+      → (g.tells old.sources → TellsAt Opened line name) → KeepsStores g old opened_engine_at → Turns g old opened_engine_at → Walks g old opened_engine_at (Ok (Some []))
   unfolding behind_bytes
-  usage_opens line name bounded call falls text means keeps =
+  usage_opens line name bounded call falls text means keeps turn =
       let catalog : source_rules (g.catalog s) old.limits old.origins ≡ run_rules g old = ap (λ (c : Catalog). source_rules c old.limits old.origins) call.catalog in
       walks_lent g old opened_engine_at ready.free ready.open_ bounded [] refl (refl, refl) call
       (λ t. by_run g old
       ∙ (opened_text g (run_rules g old) old ready.owed ready.idle live ready.nest nest uses.used x s line name uses.inner (text t) (means t)
       ∙ (ap (λ (r : Rules). text_by r g opened_engine_at) (sym catalog)
       ∙ sym (by_run g opened_engine_at))))
-      falls keeps (Nowhere refl)
+      falls keeps (Nowhere refl turn)
 
   -- the one that keeps a fault of its call
   abbrev pub stopped_engine : Told → EngineView S R
@@ -231,7 +231,8 @@ module _ {S R : Type 0} (g : Ghosts S R) (old mid : EngineView S R) (len : ℕ) 
       (keeps_opened g old mid.files.nest mid.sources mid.expansion o.uses.used len o.macro.formals ready.free ready.nest o.call.catalog o.uses.inner
       (λ t. parts_moved (g.tells old.sources) Unit g.unread o.uses.used old.files.nest mid.files.nest ready.nest o.uses.inner
       (moves-told (g.tells old.sources) (g.tells old.sources) Unit (IsExactOpening Opened) g.unread o.uses.used (inner_buffer old.files.nest) (inner_buffer mid.files.nest) (λ x. x) (λ _ own e. cc e) o.uses.moves) t)
-      (inside_of o.some) (o.called refl) o.most o.keeps))
+      (inside_of o.some) (o.called refl) o.most o.keeps)
+      (OpensText len (subst (λ (e : EngineView S R). OpensUsage g len old e Opened) is o)))
 
   -- it is refused
   pub refuses_step : (new : EngineView S R) (place : Place) (kind : FaultKind) → OpensUsage g len old mid (Refused kind) → IsBounded new → place ≡ Kept

@@ -1,10 +1,12 @@
 -- The held stores, and their bound.
 -- A definition that names no source is this project's own.
-use Rattle.std.specs.Prelude.{ℕ, ◌+◌, ◌*◌, ◌≤◌, List, length, sum_by}
+use Rattle.std.specs.Prelude.{◌≡◌, ℕ, ◌+◌, ◌*◌, ◌≤◌, List, length, sum_by}
 use Rattle.rdlpp_table.specs.Table.{table_bytes}
 use Rattle.rdlpp_table.specs.declared.limits.Limits.{Limits}
 use Rattle.rdlpp_read.specs.Files.{held_windows}
 use Rattle.rdlpp_cursors.specs.Opened.{bound_by}
+use Rattle.rdlpp_cursors.specs.Places.{texts_of}
+use Rattle.rdlpp_cursors.specs.Steps.{AreSound}
 use Rattle.rdlpp_steps.specs.Engine.{EngineView}
 use Rattle.rdlpp_steps.specs.declared.held.Held.{Held}
 
@@ -32,13 +34,14 @@ unfoldable pub bound_of : Limits → ℕ
 bound_of limits = limits.definition_bytes + (limits.argument_bytes + (limits.includes + 1) * limits.line_bytes)
 
 -- what is held is within its bounds: the bytes; and the counts of open texts, of the actuals that are bound in them, of open
--- conditionals and of open sources (this project's profile)
+-- conditionals and of open sources; and each open text lies in a live definition or in what is kept of the call (this project's profile)
 pub record IsBounded {S R : Type 0} (e : EngineView S R) : Type 0 where
   pub bytes : held_bytes (stores_of e) ≤ bound_of e.limits
   pub cursors : length e.expansion.opens ≤ e.limits.depth
   pub bindings : bound_by e.expansion.opens ≤ e.limits.depth * 255
   pub conditions : length e.conditions.open_now ≤ e.limits.conditions
   pub sources : length e.files.nest ≤ e.limits.includes + 1
+  pub texts : AreSound (texts_of e.table.macros e.expansion.arguments) e.expansion.opens
 
 -- what an engine tells of what it holds (this project's profile)
 unfoldable pub held_told : {S R : Type 0} → EngineView S R → Held
@@ -51,3 +54,12 @@ held_told e = let s = stores_of e in record {
   conditions = length e.conditions.open_now;
   sources = length e.files.nest;
 }
+
+-- nothing is held but definitions
+pub record HoldsDefinitions (held : Held) : Type 0 where
+  pub arguments : held.arguments ≡ 0
+  pub buffers : held.buffers ≡ 0
+  pub cursors : held.cursors ≡ 0
+  pub bindings : held.bindings ≡ 0
+  pub conditions : held.conditions ≡ 0
+  pub sources : held.sources ≡ 0

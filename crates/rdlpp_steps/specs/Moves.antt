@@ -1,33 +1,24 @@
 -- What the parts of a step over the open sources do.
 -- A definition that names no source is this project's own.
-use Rattle.std.specs.Prelude.{◌≡◌, ◌<◌, ◌≤◌, ◌⊎◌, ℕ, List, [], ◌∷◌, length, take, drop, Option, None, Some, true, false, if◌then◌else◌}
+use Rattle.std.specs.Prelude.{◌≡◌, ◌<◌, ◌≤◌, ◌⊎◌, ℕ, List, [], ◌∷◌, length, take, drop, Option, None, Some}
 use Rattle.rdlpp_scan.specs.Front.{Breach}
 use Rattle.rdlpp_scan.specs.SourceTokens.{line_ends}
 use Rattle.rdlpp_scan.specs.declared.token.Mode.TheVariants.{Plain}
 use Rattle.rdlpp_table.specs.Define.{Accepted, Refused, define_of}
-use Rattle.rdlpp_table.specs.Table.{Macro, macro_named}
+use Rattle.rdlpp_table.specs.Table.{Macro}
 use Rattle.rdlpp_table.specs.declared.fault.DefineKind.{DefineKind}
 use Rattle.rdlpp_meaning.specs.Meaning.{Progress}
 use Rattle.rdlpp_meaning.specs.Profile.{define_fault}
-use Rattle.rdlpp_meaning.specs.State.{Rules, State, breach_kind, fault_at}
+use Rattle.rdlpp_meaning.specs.State.{breach_kind, fault_at}
 use Rattle.rdlpp_read.specs.Buffer.{held_of}
 use Rattle.rdlpp_read.specs.Filling.{ended_tokens, only_broken}
 use Rattle.rdlpp_read.specs.Files.{AreOpen, consumed_file, inner_buffer, with_inner}
-use Rattle.rdlpp_source.specs.declared.sources.Sources.{Ghosts}
-use Rattle.rdlpp_meaning.specs.Opened.{Waiting}
-use Rattle.rdlpp_read.specs.Calls.{SourcesRead}
-use Rattle.rdlpp_front.specs.Fronts.{usage_name}
-use Rattle.rdlpp_cursors.specs.Places.{texts_of}
-use Rattle.rdlpp_cursors.specs.Steps.{AreSound}
-use Rattle.rdlpp_usages.specs.Usages.{IsOwnLine, IsRoomy, IsRun, IsUsageFault, KeepsUsage, TellsUsage, UsesSource, is_failed_opening, is_opened}
-use Rattle.rdlpp_usages.specs.declared.expansion.Opening.{Opening}
 use Rattle.rdlpp_steps.specs.Engine.{EngineView, IsSoundEngine}
 use Rattle.rdlpp_steps.specs.Conditionals.{unclosed_fault}
 use Rattle.rdlpp_steps.specs.Includes.{left_engine}
 use Rattle.rdlpp_steps.specs.OpenConditionals.{inner_below}
 use Rattle.rdlpp_steps.specs.Owed.{line_ends_owed, nothing_owed}
 use Rattle.rdlpp_steps.specs.Remaining.{state_of}
-use Rattle.rdlpp_steps.specs.Stored.{called_formals}
 use Rattle.rdlpp_steps.specs.Steps.{IsOwn}
 use Rattle.rdlpp_steps.specs.declared.place.Place.{Place}
 use Rattle.rdlpp_steps.specs.declared.place.Place.TheVariants.{Source, Text, Owed, End, Kept}
@@ -121,27 +112,3 @@ ReadsDefine len old new (Some (Source start end)) = ⊥
 ReadsDefine len old new (Some (Text place)) = ⊥
 ReadsDefine len old new (Some (Owed n)) = ⊥
 ReadsDefine len old new (Some End) = ⊥
-
--- the opening of a usage of so many bytes: what it says of it, in each run; of the engine the sources, those that are open and the open texts alone changed
-pub record OpensUsage {S R : Type 0} (g : Ghosts S R) (len : ℕ) (old new : EngineView S R) (opening : Opening) : Type 0 where
-  pub becomes : new ≡ record old { files = new.files; sources = new.sources; expansion = new.expansion }
-  pub only : new.files ≡ record old.files { nest = new.files.nest }
-  pub call : SourcesRead g (is_failed_opening opening) old.sources new.sources
-  pub uses : UsesSource (g.tells old.sources) g.unread opening old.files.nest new.files.nest
-  pub depth : new.expansion.depth ≡ old.expansion.depth
-  pub most : new.expansion.most ≡ old.expansion.most
-  pub line : new.expansion.line ≡ (if is_opened opening then (inner_buffer old.files.nest).line else old.expansion.line)
-  pub room : IsRoomy old.expansion
-  pub now_room : IsRoomy new.expansion
-  pub sound : AreSound (texts_of old.table.macros new.expansion.arguments) new.expansion.opens
-  pub lets_go : is_opened opening ≡ false → new.expansion.opens ≡ []
-  pub some : 0 < length (held_of (inner_buffer old.files.nest))
-  pub macro : Macro
-  pub named : macro_named old.table.macros (usage_name (held_of (inner_buffer old.files.nest)) len) ≡ Some macro
-  pub called : is_opened opening ≡ true → called_formals old.table.macros new.expansion.opens ≡ macro.formals
-  pub keeps : KeepsUsage macro.formals (g.tells old.sources) g.unread old.expansion.most opening new.expansion.arguments (inner_buffer (with_inner (consumed_file len 0) old.files.nest)) (inner_buffer new.files.nest)
-  pub fault : IsUsageFault opening
-  pub own : IsOwnLine opening
-  pub unheld : is_failed_opening opening ≡ true → held_of (inner_buffer new.files.nest) ≡ []
-  pub means : (rules : Rules) (s : State) (ws : List Waiting) (os : List Progress) → IsRun rules s old.table.macros old.expansion.depth old.expansion.most → g.tells old.sources
-      → TellsUsage rules s g.unread ws os old.table.macros (inner_buffer old.files.nest).line (usage_name (held_of (inner_buffer old.files.nest)) len) opening new.expansion old.files.nest new.files.nest

@@ -9,9 +9,9 @@ pub struct Held {
     pub arguments: usize,
     /// Bytes of the open sources' buffers.
     pub buffers: usize,
-    /// Open bodies, actuals and default texts, and the runs that wait in place of a body: at most `depth` of them.
+    /// Open bodies, actuals and default texts: at most `depth` of them.
     pub cursors: usize,
-    /// Bound actuals.
+    /// Bound actuals: at most 255 for each open body.
     pub bindings: usize,
     /// Open conditionals.
     pub conditions: usize,

@@ -3,15 +3,15 @@ use Rattle.std.proofs.Common.{◌≡◌, ℕ, suc, ◌+◌, ◌-◌, Bool, true,
 use Rattle.std.specs.List.{prefix_len}
 use Rattle.std.proofs.lemmas.Bool.{cases_Bool, cond-true, cond-false, lt-ltb, le-ltb}
 use Rattle.std.proofs.lemmas.List.Folds.{length-prefix_len}
-use Rattle.rdlpp_scan.specs.Bytes.{is_letter, is_word}
 use Rattle.std.proofs.lemmas.List.{take_rest}
+use Rattle.std.specs.Option.{is_some}
+use Rattle.std.proofs.lemmas.Slice.Eq.{bytes_eq-Decides}
+use Rattle.rdlpp_scan.specs.Bytes.{is_letter, is_word}
 use Rattle.rdlpp_table.specs.Define.{Listed, after_space, formal_list, formals_of_list, is_space, leading_name, name_fault, refused_word, Draft, FormalList, Rejected, Unlisted, define_of, logical_text, macro_from, macro_of, observed, stored_draft, unended, with_body, with_list}
 use Rattle.rdlpp_table.specs.Formals.{IsPart}
 use Rattle.rdlpp_lines.specs.Continuations.{joined}
 use Rattle.rdlpp_scan.proofs.Seams.{word_ten}
 use Rattle.rdlpp_lines.proofs.Joins.{word_back, first_in, first_out, joined_none, same_run, SameRun}
-use Rattle.std.specs.Option.{is_some}
-use Rattle.std.proofs.lemmas.Slice.Eq.{bytes_eq-Decides}
 use Rattle.rdlpp_scan.specs.declared.token.Directive.{Directive}
 use Rattle.rdlpp_scan.specs.declared.token.Directive.TheVariants.{Define, Undef, Ifdef, Ifndef, Elsif, Else, Endif, Include, Line}
 use Rattle.rdlpp_scan.specs.Names.{directive_named}

@@ -1,11 +1,11 @@
 -- An index, once a place was taken out of it or put into it.
 use Rattle.std.proofs.Common.{◌≡◌, ℕ, suc, ◌+◌, ◌-◌, ◌<◌, ◌≤◌, List, ◌∷◌, ◌++◌, length, length-append, map, take, drop, insert, remove, ap, sym, ◌∙◌, arith, append_assoc, ◌≢◌, ◌⊎◌, [], get_or, refl, inl, inr, All}
-use Rattle.rdlpp_table.specs.Index.{closed, IsGap, IsIndex, index_order, key_at, name_at, names_of, IsDivided, IsPlace, part_of}
 use Rattle.std.proofs.lemmas.List.{drop-append-le, drop_at, length-drop, length-map, length-take-le, take-append-drop, take-append-le, take_at, get_or-map, get_or_append_left, take-map, drop-map, map-append, get_or-append_right, get_or-drop, get_or-take, get_or_default}
 use Rattle.std.proofs.lemmas.List.Edits.{length-insert, length-remove, get_or-insert_at, get_or-insert_above, get_or-insert_below, get_or-remove_above, get_or-remove_below}
 use Rattle.std.specs.declared.cmp.Ordering.TheVariants.{Less}
 use Rattle.std.proofs.lemmas.Bool.{cases_lt, cond-true, cond-false, lt-ltb, le-ltb}
 use Rattle.std.proofs.Math.Seq.{get_or-append_seam}
+use Rattle.rdlpp_table.specs.Index.{closed, IsGap, IsIndex, index_order, key_at, name_at, names_of, IsDivided, IsPlace, part_of}
 use Rattle.rdlpp_table.specs.Table.{Macro}
 use Rattle.rdlpp_table.proofs.Orders.{one_place, turned, less_part, more_part}
 

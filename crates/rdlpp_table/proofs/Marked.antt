@@ -7,11 +7,11 @@ use Rattle.std.proofs.lemmas.Bool.Decides.{leb_tells}
 use Rattle.std.proofs.lemmas.List.{drop_at, drop-drop, get_or-drop, get_or_past, length-take-le, take_at, take-append-drop, take_all, take_more, drop_more, append-nil, get_or_default}
 use Rattle.std.proofs.lemmas.List.Sums.{prefix_len-le-length, prefix_len_stops, sum_by-cons, sum_by-append, sum_by-take-drop}
 use Rattle.std.proofs.lemmas.Slice.Eq.{bytes_eq-Decides, starts_is}
+use Rattle.std.proofs.lemmas.Grind.{flat_map-append}
 use Rattle.rdlpp_table.specs.Table.{Formal, default_bytes, formal_bytes, formal_size}
 use Rattle.rdlpp_table.specs.Store.{formal_behind, formal_read, is_name_byte, formals_read, StoredFormal, is_plain_formal, IsListed}
 use Rattle.rdlpp_table.specs.View.{formal_at, formal_named}
 use Rattle.rdlpp_table.proofs.Sizes.{position_first, length_formal_bytes, length_list_bytes, length_starts}
-use Rattle.std.proofs.lemmas.Grind.{flat_map-append}
 use Rattle.rdlpp_table.specs.Marks.{is_marked, marks_of, starts_of}
 use Rattle.rdlpp_table.proofs.RoundTrip.{read_formal}
 

@@ -1,5 +1,11 @@
 -- A macro that is to be stored: its body, its formals, and the lists of a table with it.
 use Rattle.std.proofs.Common.{◌≡◌, ℕ, true, false, List, [], ◌∷◌, ◌++◌, take, drop, Option, Some, None, Ok, Err, refl, ap, sym, ◌∙◌, inl, inr, zero, suc, ◌+◌, ◌<◌, ◌≤◌, Bool, cond, ◌||◌, eqb, ltb, length, get_or, map, bytes_eq, unwrap_or, subst, arith, length-append, ◌-◌, ◌*◌, slice_range, is_some, option_map, sum_by, append_assoc, append-nil}
+use Rattle.std.proofs.lemmas.Bool.{cases_Bool, cond-true, cond-false, eqb-false, ltb-false}
+use Rattle.std.specs.List.{IsDistinct, list_any, flat_map, list_all}
+use Rattle.std.proofs.lemmas.List.{map-append, drop_at, nil_from_length}
+use Rattle.std.proofs.lemmas.List.Elements.{All-nil, All-push}
+use Rattle.std.proofs.lemmas.Cmp.{nat_list_eq_equiv}
+use Rattle.std.proofs.lemmas.Map.Keys.{IsDistinct-push}
 use Rattle.rdlpp_scan.specs.declared.token.Kind.{Kind}
 use Rattle.rdlpp_scan.specs.declared.token.Kind.TheVariants.{Name, Word, Back, Blank, LineEnd, Str, LineComment, BlockComment, Opener, Closer, Comma, Other, Perl, BareBackquote}
 use Rattle.rdlpp_scan.specs.declared.token.Token.{Token}
@@ -8,7 +14,6 @@ use Rattle.rdlpp_scan.specs.declared.token.Mode.TheVariants.{Plain}
 use Rattle.rdlpp_scan.specs.declared.token.LexFault.{LexFault}
 use Rattle.rdlpp_scan.specs.Tokens.{tokens_from}
 use Rattle.rdlpp_scan.specs.LexFaults.{is_perl, open_fault, fault_of_tokens, lex_fault_from}
-use Rattle.std.proofs.lemmas.Bool.{cases_Bool, cond-true, cond-false, eqb-false, ltb-false}
 use Rattle.rdlpp_scan.specs.Names.{is_name}
 use Rattle.rdlpp_table.specs.declared.fault.DefineKind.{DefineKind}
 use Rattle.rdlpp_table.specs.declared.fault.DefineFault.{DefineFault}
@@ -17,11 +22,6 @@ use Rattle.rdlpp_lines.specs.Continuations.{joined}
 use Rattle.rdlpp_lines.specs.Texts.{Cleared, Sound, Unsound, onto, trimmed_left, trimmed_len, trims, cleared, told, read_by, left_in, kept_bytes, start_level}
 use Rattle.rdlpp_table.specs.Define.{Draft, Drawn, Rejected, lexical, observed, macro_set, name_fault, refused_word, set_of, stored, stored_draft, trimmed, with_body, without_list, without_remarks, Bad, DefaultText, Good, Listed, Unlisted, after_space, behind_name, default_in, formal_fault, formal_in, formal_name, formals_in, formals_of_list, is_nothing, with_default, FormalList}
 use Rattle.rdlpp_table.proofs.RoundTrip.{refused_is, between_parts, read_list}
-use Rattle.std.specs.List.{IsDistinct, list_any, flat_map, list_all}
-use Rattle.std.proofs.lemmas.List.{map-append, drop_at, nil_from_length}
-use Rattle.std.proofs.lemmas.List.Elements.{All-nil, All-push}
-use Rattle.std.proofs.lemmas.Cmp.{nat_list_eq_equiv}
-use Rattle.std.proofs.lemmas.Map.Keys.{IsDistinct-push}
 use Rattle.rdlpp_table.specs.View.{AreSoundFormals, IsSoundMacro, formals_of}
 use Rattle.rdlpp_table.specs.New.{list_formals, new_macro, stops_told, IsList, IsNew}
 use Rattle.rdlpp_scan.specs.CleanTexts.{IsCleanText}

@@ -7,7 +7,6 @@ use Rattle.std.specs.declared.cmp.Ordering.TheVariants.{Less, Equal, Greater}
 use Rattle.std.specs.Ordering.{MatchOrdering, is_ne, nat_cmp, ordering_then, is_eq, ordering_reverse}
 use Rattle.std.specs.Cmp.{nat_cmp_is, ranks}
 use Rattle.std.specs.Slice.Scan.{big_endian}
-use Rattle.rdlpp_table.specs.Index.{name_order, rolled, stirred, stirred_through, IsGap, IsIndex, IsPlace, index_order, key_at, name_at, names_of, part_of, IsCounted, IsDivided, IsMiddle}
 use Rattle.std.proofs.Math.Seq.{drop-cons}
 use Rattle.std.specs.List.{position}
 use Rattle.std.proofs.Math.ListN.{get_or-map}
@@ -15,9 +14,10 @@ use Rattle.std.proofs.lemmas.List.Sums.{position_or_len_is}
 use Rattle.std.proofs.lemmas.Cmp.{nat_list_cmp_total}
 use Rattle.std.proofs.lemmas.Map.Text.{is_eq-slice_cmp}
 use Rattle.std.proofs.lemmas.Slice.Eq.{bytes_eq-Decides}
+use Rattle.std.proofs.Math.Nat.{pow-suc}
+use Rattle.rdlpp_table.specs.Index.{name_order, rolled, stirred, stirred_through, IsGap, IsIndex, IsPlace, index_order, key_at, name_at, names_of, part_of, IsCounted, IsDivided, IsMiddle}
 use Rattle.rdlpp_table.specs.Table.{Macro}
 use Rattle.rdlpp_table.specs.View.{macro_at, no_macro, place_named}
-use Rattle.std.proofs.Math.Nat.{pow-suc}
 
 -- Bytes that are compared as numbers.
 

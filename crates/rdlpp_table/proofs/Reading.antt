@@ -5,6 +5,7 @@ use Rattle.std.proofs.lemmas.Bool.{both_ways, cases_Bool, cond-false, and_from, 
 use Rattle.std.proofs.lemmas.List.{map-append, length-map}
 use Rattle.std.proofs.lemmas.List.Folds.{list_all-append}
 use Rattle.std.proofs.lemmas.List.Sums.{sum_by-append}
+use Rattle.std.proofs.lemmas.Grind.{flat_map-append}
 use Rattle.rdlpp_scan.specs.Bytes.{is_letter, is_digit, is_word}
 use Rattle.rdlpp_table.specs.Table.{Formal, default_size, formal_size, default_bytes, formal_bytes}
 use Rattle.rdlpp_table.specs.Define.{FormalList, Listed, Unlisted, OneFormal, Good, Bad, DefaultText, after_space, behind_name, default_in, formal_fault, formal_in, formal_name, formals_in, formals_of_list, is_nothing, leading_name, with_default}
@@ -12,7 +13,6 @@ use Rattle.rdlpp_table.specs.Store.{is_default, is_name_byte, is_plain_formal}
 use Rattle.rdlpp_table.specs.Formals.{IsDefault, IsPart, IsRead, default_left, fault_behind, behind_told, formal_told, is_told, listed}
 use Rattle.rdlpp_table.specs.declared.fault.DefineKind.{DefineKind}
 use Rattle.rdlpp_table.proofs.Sizes.{one_size, length_formal_bytes, length_list_bytes}
-use Rattle.std.proofs.lemmas.Grind.{flat_map-append}
 use Rattle.rdlpp_lines.specs.Texts.{cleared, start_level, trimmed_left, trimmed_len, trims}
 use Rattle.rdlpp_lines.proofs.Measures.{ok_len}
 use Rattle.rdlpp_table.specs.declared.fault.DefineKind.TheVariants as kind

@@ -3,6 +3,8 @@ use Rattle.std.proofs.Common.{◌≡◌, ℕ, ◌+◌, ◌-◌, true, false, Lis
 use Rattle.std.specs.List.{list_all, flat_map, prefix_len, IsDistinct, All}
 use Rattle.std.proofs.lemmas.List.{take_at, drop_at, drop-append-le, take-append-le}
 use Rattle.std.proofs.lemmas.Bool.{and_parts, cond-true, cond-false, and_from, lt-ltb, le-ltb}
+use Rattle.std.proofs.lemmas.List.Folds.{list_all-append}
+use Rattle.std.proofs.lemmas.List.Elements.{All-filter, All-push}
 use Rattle.rdlpp_table.specs.declared.entry.Entry.{Entry}
 use Rattle.rdlpp_table.specs.Table.{Formal, Macro, default_bytes, formal_bytes, formal_size, macro_bytes, macro_size, table_bytes, table_size, without}
 use Rattle.rdlpp_table.specs.Store.{entry_of, entries_of, entry_end, body_start, list_start, list_size, name_of, list_of, body_of, macro_in, macros_in, StoredFormal, behind_stored, formal_behind, formal_read, formals_read, is_name_byte, is_default, is_plain_formal, is_plain_macro, IsStored, IsListed}
@@ -11,11 +13,9 @@ use Rattle.rdlpp_table.specs.Marks.{macro_marks, marks_of, table_marks}
 use Rattle.rdlpp_table.proofs.Defaults.{default_read_back}
 use Rattle.rdlpp_table.proofs.Sizes.{length_list_bytes, length_macro_bytes, entry_of_macro, length_table_bytes, marks_len_of, table_size-cons, table_size-append, size_of_none, length_macros_in, macro_at_entry, inside_by_place}
 use Rattle.rdlpp_table.proofs.Taken.{table_bytes-cons, marks_at, split_at, table_bytes-append, table_marks-append, table_marks-cons, entries_of-append, length_entries_of, size_of_entry, without_at, without_nowhere, without_distinct, without_size, without_length, pushed_distinct}
-use Rattle.std.proofs.lemmas.List.Folds.{list_all-append}
 use Rattle.rdlpp_table.specs.Entries.{marks_len}
 use Rattle.rdlpp_table.specs.View.{formals_of, macro_at, place_named, TableView, IsSound, IsSoundMacro}
 use Rattle.rdlpp_table.specs.Layout.{view_of, IsHeld}
-use Rattle.std.proofs.lemmas.List.Elements.{All-filter, All-push}
 use Rattle.rdlpp_table.specs.Define.{Accepted, Refused, observed, stored}
 use Rattle.rdlpp_table.specs.declared.fault.DefineKind.{DefineKind}
 use Rattle.rdlpp_table.specs.declared.fault.DefineFault.{DefineFault}

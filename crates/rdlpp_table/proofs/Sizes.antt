@@ -6,6 +6,9 @@ use Rattle.std.proofs.lemmas.Option.{slice_get-get_or}
 use Rattle.std.proofs.lemmas.Bool.{cases_Bool, cases_lt, lt-ltb, le-ltb, cond-true, cond-false}
 use Rattle.std.proofs.lemmas.List.Elements.{All-cons, All-nil}
 use Rattle.std.proofs.lemmas.List.Sums.{sum_by-cons, sum_by-append}
+use Rattle.std.proofs.lemmas.Bool.Decides.{leb_tells}
+use Rattle.std.proofs.lemmas.List.{length-map, get_or-map}
+use Rattle.std.proofs.lemmas.List.Quantifiers.{position-Some}
 use Rattle.rdlpp_table.specs.declared.entry.Entry.{Entry}
 use Rattle.rdlpp_table.specs.declared.kept.Kept.{Kept}
 use Rattle.rdlpp_table.specs.Table.{Formal, Macro, default_bytes, default_size, formal_size, macro_size, table_size, formal_bytes, macro_bytes, table_bytes, macro_named}
@@ -13,9 +16,6 @@ use Rattle.rdlpp_table.specs.View.{macro_at, TableView, formals_of, no_macro, pl
 use Rattle.rdlpp_table.specs.Store.{entry_of, entries_of, entry_end, body_start, list_start, list_size, IsStored, macros_in, macro_in, body_of, name_of}
 use Rattle.rdlpp_table.specs.Marks.{is_marked, macro_marks, marks_of, starts_of, table_marks}
 use Rattle.rdlpp_table.specs.Entries.{marks_len, AreWithin}
-use Rattle.std.proofs.lemmas.Bool.Decides.{leb_tells}
-use Rattle.std.proofs.lemmas.List.{length-map, get_or-map}
-use Rattle.std.proofs.lemmas.List.Quantifiers.{position-Some}
 use Rattle.rdlpp_table.specs.Kept.{first_stops}
 use Rattle.rdlpp_table.specs.Layout.{view_of, IsHeld}
 use Rattle.rdlpp_table.specs.declared.kept.KeptKind.TheVariants as kept

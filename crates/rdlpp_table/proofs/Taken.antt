@@ -5,13 +5,13 @@ use Rattle.std.proofs.lemmas.List.{map-append, length-drop, length-map, take_at,
 use Rattle.std.proofs.lemmas.Cmp.{nat_list_eq_equiv}
 use Rattle.std.proofs.lemmas.Bool.{cases_Bool, cases_lt, lt-ltb, le-ltb, cond-true, cond-false, and_parts, and_from}
 use Rattle.std.proofs.lemmas.Map.Keys.{IsDistinct-head, IsDistinct-tail, IsDistinct-cons, IsDistinct-push}
+use Rattle.std.proofs.lemmas.Grind.{flat_map-append}
+use Rattle.std.proofs.lemmas.List.Folds.{list_all-append}
+use Rattle.std.proofs.lemmas.List.Elements.{All-cons, All-nil}
 use Rattle.rdlpp_table.specs.Index.{names_of}
 use Rattle.rdlpp_table.specs.Table.{Macro, table_size, without, macro_size, macro_bytes, table_bytes}
 use Rattle.rdlpp_table.specs.View.{place_named, macro_at, no_macro}
 use Rattle.rdlpp_table.proofs.Sizes.{table_size-cons, count_items, stored_within, length_macro_bytes, length_table_bytes, length_marks-cons, marks_len_of, no_marks, entry_of_macro}
-use Rattle.std.proofs.lemmas.Grind.{flat_map-append}
-use Rattle.std.proofs.lemmas.List.Folds.{list_all-append}
-use Rattle.std.proofs.lemmas.List.Elements.{All-cons, All-nil}
 use Rattle.rdlpp_table.specs.declared.entry.Entry.{Entry}
 use Rattle.rdlpp_table.specs.Store.{entry_of, entries_of, entry_end, body_start, list_start, list_size, is_plain_macro, IsStored}
 use Rattle.rdlpp_table.specs.Marks.{macro_marks, table_marks}

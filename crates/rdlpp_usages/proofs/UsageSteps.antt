@@ -20,7 +20,7 @@ use Rattle.rdlpp_read.proofs.Sliding.{moves-on, moves-past, moves-told, text-on,
 use Rattle.rdlpp_arguments.specs.CallReads.{IsExactCall, MeansCall, ReadsCall, ReadsUpTo, TellsCall, with_used}
 use Rattle.rdlpp_arguments.specs.declared.reading.CallRead.{CallRead}
 use Rattle.rdlpp_arguments.specs.declared.reading.CallRead.TheVariants as call
-use Rattle.rdlpp_arguments.proofs.GoingOn.{used_twice}
+use Rattle.rdlpp_arguments.proofs.CallLoop.{used_twice}
 use Rattle.rdlpp_cursors.specs.Opened.{usage_id, CursorsView}
 use Rattle.rdlpp_cursors.specs.Places.{texts_of}
 use Rattle.rdlpp_front.specs.Fronts.{IsUsage, usage_name}

@@ -6,7 +6,8 @@ ghost use Rattle.rdlpp_read.specs.Buffer.{held_of};
 ghost use Rattle.rdlpp_read.specs.Files.{inner_buffer};
 ghost use Rattle.rdlpp_front.specs.Fronts.{IsUsage, usage_name};
 ghost use Rattle.rdlpp_steps.specs.Held.{IsBounded};
-ghost use Rattle.rdlpp_steps.specs.Moves.{IsReady, OpensUsage};
+ghost use Rattle.rdlpp_steps.specs.Moves.{IsReady};
+ghost use Rattle.rdlpp_steps.specs.Standing.{OpensUsage};
 ghost use Rattle.rdlpp_steps.specs.Pieces.{IsPlaced, lent_answer, step_answer};
 ghost use Rattle.rdlpp_steps.specs.Steps.{Walks};
 

@@ -1,5 +1,5 @@
 use Rattle.rdlpp_read.specs.Files.{inner_buffer}
-use Rattle.rdlpp_arguments.proofs.CallLaws.{means}
+use Rattle.rdlpp_arguments.proofs.CallLoop.{means}
 use Rattle.rdlpp_arguments.proofs.reading.read_call.Goals as goal
 
 pub returns-clause-means : goal.returns-clause-means

@@ -4,7 +4,7 @@ use Rattle.rdlpp_scan.specs.SourceTokens.{line_ends}
 use Rattle.rdlpp_read.specs.Buffer.{held_of}
 use Rattle.rdlpp_read.specs.Files.{inner_buffer}
 use Rattle.rdlpp_read.proofs.Slices.{line_ends_le}
-use Rattle.rdlpp_arguments.proofs.GoingOn.{entered_held, used_files}
+use Rattle.rdlpp_arguments.proofs.CallLoop.{entered_held, used_files}
 use Rattle.rdlpp_arguments.proofs.reading.use_bytes.Goals as goal
 
 pub consume-requires-clause-inside : goal.consume-requires-clause-inside

@@ -1,7 +1,7 @@
 use Rattle.std.proofs.Common.{◌≡◌, ◌<◌, length, Bool, not, ◌&&◌, ◌||◌, List, ap, sym, ◌∙◌, arith, refl}
 use Rattle.std.specs.Prelude.{slice_range, nat_lt}
 use Rattle.rdlpp_table.proofs.Sizes.{count_items}
-use Rattle.rdlpp_calls.specs.BoundCalls.{actuals_of, added, first_actual, ranges_tokens}
+use Rattle.rdlpp_calls.specs.BoundCalls.{actuals_of, first_actual, ranges_tokens}
 use Rattle.rdlpp_calls.specs.declared.bindings.Range.{Range}
 use Rattle.rdlpp_calls.proofs.CalledCounts.{added_none, none_bound, some_bound}
 use Rattle.rdlpp_calls.proofs.PartCounts.{count_is, fails_beside}

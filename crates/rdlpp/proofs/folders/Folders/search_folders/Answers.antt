@@ -8,8 +8,8 @@ use Rattle.rdlpp.specs.Folders.{include_folders, searched_folders}
 use Rattle.rdlpp.proofs.Searches.{candidate_at, searches_one, short_all, short_more}
 use Rattle.rdlpp.proofs.folders.Folders.search_folders.Goals as goal
 
-pub returns-then-not-is_absent : goal.returns-then-not-is_absent
-returns-then-not-is_absent g c =
+pub returns-then-not-is_absent-clause-paths : goal.returns-then-not-is_absent-clause-paths
+returns-then-not-is_absent-clause-paths g c =
     let folders = searched_folders (include_folders c.args.self.now) c.args.from.now in
     let folder = c.searched_folder.result.now in
     let found : is_absent c.open_in-answer.result ≡ false = search rules in
@@ -18,7 +18,7 @@ returns-then-not-is_absent g c =
       c.loop-place.place,
       candidate_at folders c.args.name.now folder c.loop-place.place c.searched_folder.ensures,
       c.loop-place.invariant,
-      c.open_in-answer.ensures,
+      c.open_in-answer.ensures.path,
     )
 
 pub loop-place-preserved : goal.loop-place-preserved
@@ -28,10 +28,10 @@ loop-place-preserved g c =
     let absent : is_absent c.open_in-answer.result ≡ true = search rules in
     short_more (map (λ f. joined_path f c.args.name.now) folders) c.loop-place.place (joined_path folder c.args.name.now)
     c.open_in-answer.result c.loop-place.invariant
-    (candidate_at folders c.args.name.now folder c.loop-place.place c.searched_folder.ensures) absent c.open_in-answer.ensures
+    (candidate_at folders c.args.name.now folder c.loop-place.place c.searched_folder.ensures) absent c.open_in-answer.ensures.path
 
-pub returns : goal.returns
-returns g c =
+pub returns-clause-paths : goal.returns-clause-paths
+returns-clause-paths g c =
     let kept = include_folders c.args.self.now in
     let folders = searched_folders kept c.args.from.now in
     let paths = map (λ f. joined_path f c.args.name.now) folders in

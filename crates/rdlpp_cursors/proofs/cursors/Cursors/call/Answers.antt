@@ -1,5 +1,4 @@
-use Rattle.std.proofs.Common.{◌≡◌, ◌∙◌, arith, refl, sym}
-use Rattle.rdlpp_cursors.specs.declared.cursors.call.Opening.TheVariants.{Opened, Refused, Deep}
+use Rattle.std.proofs.Common.{arith, refl}
 use Rattle.rdlpp_cursors.specs.Places.{texts_of}
 use Rattle.rdlpp_cursors.proofs.Calling.{list-used, look-call, opening-open, pass-call_deep, pass-call_opened, pass-call_refused}
 use Rattle.rdlpp_cursors.proofs.Usages.{fault-deep, fault-call, open-wordless, placed-silent, placed-word, placed-wordless, usage-place}

@@ -7,7 +7,6 @@ use Rattle.rdlpp_cursors.proofs.Usages.{entered-same, fault-deep, full-same, ope
 use Rattle.rdlpp_cursors.proofs.Words.{word-named, word-none}
 use Rattle.rdlpp_cursors.proofs.Outermost.{outer-opened}
 use Rattle.rdlpp_cursors.proofs.cursors.Cursors.usage.Goals as goal
-use Rattle.rdlpp_cursors.proofs.Falling.{usage-inside}
 
 pub word_of-word-requires-clause-short : goal.word_of-word-requires-clause-short
 word_of-word-requires-clause-short c =

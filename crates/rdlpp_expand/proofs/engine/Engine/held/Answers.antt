@@ -2,7 +2,7 @@ use Rattle.std.proofs.Common.{◌≡◌, length, sum_by, ◌∙◌, sym}
 use Rattle.rdlpp_read.specs.Files.{held_windows}
 use Rattle.rdlpp_read.proofs.Slots.{held_windows-len}
 use Rattle.rdlpp_steps.specs.Held.{held_told, stores_of}
-use Rattle.rdlpp_steps.proofs.Bounds.{slots_fit}
+use Rattle.rdlpp_steps.proofs.Bounds.{closed_holds, slots_fit}
 use Rattle.rdlpp_expand.proofs.engine.Engine.held.Goals as goal
 
 pub held_len-requires : goal.held_len-requires
@@ -19,3 +19,6 @@ returns-clause-value g c =
     let open_ = c.len.ensures in
     let conditions = c.len-2.ensures in
     rw (← c.self.view_is) (cc)
+
+pub returns-clause-closed : goal.returns-clause-closed
+returns-clause-closed g c = closed_holds c.args.self.now c.facts.ensures.sound c.facts.ensures.texts

@@ -4,7 +4,7 @@ use Rattle.rdlpp_read.specs.Files.{inner_buffer}
 use Rattle.rdlpp_front.specs.Fronts.{usage_name}
 use Rattle.rdlpp_front.proofs.Insides.{usage_word}
 use Rattle.rdlpp_usages.specs.declared.expansion.Opening.{Opening}
-use Rattle.rdlpp_steps.specs.Moves.{OpensUsage}
+use Rattle.rdlpp_steps.specs.Standing.{OpensUsage}
 use Rattle.rdlpp_steps.proofs.FrontSteps.{kept_cut}
 use Rattle.rdlpp_steps.proofs.UsageWalks.{breaks_step, fails_step, opens_step, refuses_step}
 use Rattle.rdlpp_steps.proofs.Soundness.{inner_facts}
