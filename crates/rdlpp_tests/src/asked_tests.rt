@@ -1,7 +1,9 @@
 // How often sources, readers and sinks are asked, which no contract counts.
 use crate::runs::{STANDARD, fault_of};
 use crate::sources::{Asked, AskedTexts, NOTHING};
+use arrayvec::ArrayString;
 use rdlpp::{FaultKind, Options, Sink, SinkFault, Texts, preprocess};
+use std::cell::Cell;
 use std::test::Fail;
 
 // A sink that takes everything until it breaks, and counts the parts without bytes.
@@ -70,7 +72,7 @@ const FILES: [(&str, &[u8]); 4] = [
 // its end.
 #[test]
 fn asks_once(rt: HostRuntime) {
-    let mut asked = NOTHING;
+    let asked = Cell::new(NOTHING);
     let texts = AskedTexts {
         texts: Texts {
             files: &FILES,
@@ -78,7 +80,7 @@ fn asks_once(rt: HostRuntime) {
         },
         main: None,
         searches: 99,
-        asked: &mut asked,
+        asked: &asked,
         failures: 0,
     };
     let options = Options {
@@ -96,14 +98,14 @@ fn asks_once(rt: HostRuntime) {
         finds: 5,
         late_reads: 0,
     };
-    assert_eq!(rt; asked, wanted);
+    assert_eq!(rt; asked.get(), wanted);
 }
 
 // Nothing is asked of the sources where a definition is refused; else the main text is, once.
 #[test]
 fn opens_nothing_after_a_refused_definition(rt: HostRuntime) -> Result<(), Fail> {
     for (name, tops) in [("define", 0), ("W", 1)] {
-        let mut asked = NOTHING;
+        let asked = Cell::new(NOTHING);
         let texts = AskedTexts {
             texts: Texts {
                 files: &FILES,
@@ -111,7 +113,7 @@ fn opens_nothing_after_a_refused_definition(rt: HostRuntime) -> Result<(), Fail>
             },
             main: None,
             searches: 99,
-            asked: &mut asked,
+            asked: &asked,
             failures: 0,
         };
         let mut defines = Vec::new(rt.alloc());
@@ -126,8 +128,8 @@ fn opens_nothing_after_a_refused_definition(rt: HostRuntime) -> Result<(), Fail>
         };
         let outcome = preprocess(rt.alloc(), &options, texts, "m", &mut sink(true));
         assert!(rt; outcome.is_err());
-        assert_eq!(rt; asked.tops, tops);
-        assert_eq!(rt; asked.finds, 0);
+        assert_eq!(rt; asked.get().tops, tops);
+        assert_eq!(rt; asked.get().finds, 0);
     }
     Ok(())
 }
@@ -135,15 +137,15 @@ fn opens_nothing_after_a_refused_definition(rt: HostRuntime) -> Result<(), Fail>
 // A failed write names the path that was asked for.
 #[test]
 fn names_the_path_of_a_failed_write(rt: HostRuntime) {
-    let mut asked = NOTHING;
+    let asked = Cell::new(NOTHING);
     let texts = AskedTexts {
         texts: Texts {
             files: &FILES,
             folders: &[],
         },
-        main: Some("other"),
+        main: ArrayString::from("other").ok(),
         searches: 99,
-        asked: &mut asked,
+        asked: &asked,
         failures: 0,
     };
     let options = Options {

@@ -1,7 +1,9 @@
 // Where a fault of a device is told to have come: its name and its line.
 use crate::runs::{STANDARD, check, run_source};
-use crate::sources::{After, Asked, AskedTexts, DealtText, NOTHING};
+use crate::sources::{After, AskedTexts, DealtText, NOTHING};
+use arrayvec::ArrayString;
 use rdlpp::{FaultKind, Limits, Texts, exit_status};
+use std::cell::Cell;
 
 // A text and what comes after it.
 fn dealt(text: &[u8], after: After) -> DealtText<'_> {
@@ -61,7 +63,7 @@ fn tells_where_a_search_failed(rt: HostRuntime) {
     ];
     let mut searches = 0_u64;
     for (name, line, output) in rows {
-        let mut asked = NOTHING;
+        let asked = Cell::new(NOTHING);
         let texts = AskedTexts {
             texts: Texts {
                 files: &files,
@@ -69,7 +71,7 @@ fn tells_where_a_search_failed(rt: HostRuntime) {
             },
             main: None,
             searches,
-            asked: &mut asked,
+            asked: &asked,
             failures: 0,
         };
         let run = run_source(&rt, STANDARD, texts, "m");
@@ -87,15 +89,15 @@ fn names_the_path_that_was_asked_for(rt: HostRuntime) {
         (1, b"a".as_slice(), "m", 0, FaultKind::OutputBytes),
         (9, b"ab", "other", 1, FaultKind::UndefinedMacro),
     ] {
-        let mut asked: Asked = NOTHING;
+        let asked = Cell::new(NOTHING);
         let texts = AskedTexts {
             texts: Texts {
                 files: &files,
                 folders: &[],
             },
-            main: Some("other"),
+            main: ArrayString::from("other").ok(),
             searches: 9,
-            asked: &mut asked,
+            asked: &asked,
             failures: 0,
         };
         let limits = Limits {

@@ -2,6 +2,7 @@
 use arrayvec::ArrayString;
 use rdlpp::{Found, SourceFault, Sources, Texts};
 use rdlpp_source::TextReader;
+use std::cell::Cell;
 
 /// What a reader does after the bytes of its text.
 #[derive(Clone, Copy)]
@@ -104,11 +105,11 @@ pub struct AskedTexts<'a> {
     /// The texts.
     pub texts: Texts<'a>,
     /// The path of the main text, where it is another one than the one asked for.
-    pub main: Option<&'a str>,
+    pub main: Option<ArrayString<1024>>,
     /// How many searches go well; each later one fails.
     pub searches: u64,
     /// What was asked.
-    pub asked: &'a mut Asked,
+    pub asked: &'a Cell<Asked>,
     /// How often a search failed.
     pub failures: u64,
 }
@@ -119,17 +120,6 @@ pub struct AskedReader<'a> {
     reader: TextReader<'a>,
     // whether it told its end
     ended: bool,
-}
-
-// A text that was found, with a reader that knows its end.
-fn watched<'a>(found: Found<TextReader<'a>>) -> Found<AskedReader<'a>> {
-    Found {
-        path: found.path,
-        reader: AskedReader {
-            reader: found.reader,
-            ended: false,
-        },
-    }
 }
 
 impl<'a> Sources for AskedTexts<'a> {
@@ -149,32 +139,58 @@ impl<'a> Sources for AskedTexts<'a> {
     ghost refusals = { λ _. 0 };
 
     fn top(&mut self, path: &str) -> Result<Found<AskedReader<'a>>, SourceFault> {
-        self.asked.tops = self.asked.tops.saturating_add(1);
+        let before = self.asked.get();
+        self.asked.set(Asked {
+            tops: before.tops.saturating_add(1),
+            ..before
+        });
         if self.searches == 0 {
             self.failures = self.failures.saturating_add(1);
             return Err(SourceFault::Device);
         }
         self.searches -= 1;
-        let mut found = self.texts.top(path)?;
-        if let Some(main) = self.main {
-            found.path = ArrayString::from(main).map_err(|_| SourceFault::PathTooLong)?;
+        match self.texts.top(path) {
+            Ok(found) => Ok(Found {
+                path: self.main.unwrap_or(found.path),
+                reader: AskedReader {
+                    reader: found.reader,
+                    ended: false,
+                },
+            }),
+            Err(fault) => Err(fault),
         }
-        Ok(watched(found))
     }
 
     fn find(&mut self, from: &str, name: &str) -> Result<Found<AskedReader<'a>>, SourceFault> {
-        self.asked.finds = self.asked.finds.saturating_add(1);
+        let before = self.asked.get();
+        self.asked.set(Asked {
+            finds: before.finds.saturating_add(1),
+            ..before
+        });
         if self.searches == 0 {
             self.failures = self.failures.saturating_add(1);
             return Err(SourceFault::Device);
         }
         self.searches -= 1;
-        Ok(watched(self.texts.find(from, name)?))
+        match self.texts.find(from, name) {
+            Ok(found) => Ok(Found {
+                path: found.path,
+                reader: AskedReader {
+                    reader: found.reader,
+                    ended: false,
+                },
+            }),
+            Err(fault) => Err(fault),
+        }
     }
 
     fn read(&mut self, reader: &mut AskedReader<'a>, to: &mut [u8]) -> Result<usize, SourceFault> {
         if reader.ended {
-            self.asked.late_reads = self.asked.late_reads.saturating_add(1);
+            let before = self.asked.get();
+            self.asked.set(Asked {
+                late_reads: before.late_reads.saturating_add(1),
+                ..before
+            });
         }
         let len = self.texts.read(&mut reader.reader, to)?;
         reader.ended = len == 0 && !to.is_empty();
