@@ -2,8 +2,10 @@
  * rdlpp.h: the preprocessor for SystemRDL as a library for C99 and C++.
  *
  * NAME
- *     rdlpp_preprocess, rdlpp_open, rdlpp_read, rdlpp_close, rdlpp_standard_limits, rdlpp_fault_text,
- *     rdlpp_version
+ *     rdlpp_standard_limits, rdlpp_standard_request, rdlpp_preprocess,
+ *     rdlpp_open, rdlpp_read, rdlpp_read_mapped, rdlpp_position, rdlpp_definitions, rdlpp_notes, rdlpp_close,
+ *     rdlpp_give, rdlpp_give_absent, rdlpp_give_failed,
+ *     rdlpp_fault_text, rdlpp_version
  *
  * LINKING
  *     librdlpp_c.a has all that is needed but the C library, and so has librdlpp_c.so; `make c` makes both,
@@ -28,9 +30,9 @@
  * HANDLES
  *     A handle begins closed, as RDLPP_CLOSED_HANDLE makes it. rdlpp_open opens it, and what it then owns
  *     is given back by rdlpp_close, by the next rdlpp_open of it, and by nothing else. A handle that is
- *     closed may be read and closed again: the one is told as RDLPP_CLOSED, and the other does nothing.
+ *     closed may be passed to each call: rdlpp_close does nothing, and the others tell so.
  *     Nobody changes what is in a handle, and of an open one nobody uses a copy: only the object that
- *     was opened is passed on. A handle stays in the thread that opened it.
+ *     was opened is passed on. A handle may be used in any thread, by one call at a time.
  *
  * THREADS
  *     Calls share nothing, so they may run at once in several threads. They are not for signal handlers.
@@ -39,8 +41,9 @@
  *     A call uses malloc, realloc and free, and gives all back before it returns, but for what an open
  *     handle owns. Beside lists as long as the arrays that were lent, and the definitions, it holds at most
  *     definition_bytes + argument_bytes + (includes + 1) * line_bytes bytes of text, and tables of fixed
- *     size; the output goes straight to `out`. An open handle holds copies of the arrays that were lent,
- *     and that same text and those tables; rdlpp_read asks for no memory.
+ *     size; the output goes straight to `out`. An open handle holds copies of the arrays that were lent
+ *     and of all that it was given, and that same text and those tables. rdlpp_read and rdlpp_read_mapped
+ *     ask for no memory.
  */
 #ifndef RDLPP_H
 #define RDLPP_H
@@ -90,6 +93,45 @@ typedef struct rdlpp_definition {
     size_t text_length;
 } rdlpp_definition;
 
+/* The kinds of faults, each by its number. rdlpp_fault_text has their texts. */
+enum rdlpp_fault {
+    RDLPP_FAULT_EMBEDDED_PERL = 1,
+    RDLPP_FAULT_STRING_NOT_CLOSED = 2,
+    RDLPP_FAULT_COMMENT_NOT_CLOSED = 3,
+    RDLPP_FAULT_LINE_TOO_LONG = 4,
+    RDLPP_FAULT_SOURCE_TOO_LONG = 5,
+    RDLPP_FAULT_BACKQUOTE_WITHOUT_A_NAME = 6,
+    RDLPP_FAULT_UNDEFINED_MACRO = 7,
+    RDLPP_FAULT_RECURSIVE_MACRO = 8,
+    RDLPP_FAULT_DIRECTIVE_IN_MACRO_TEXT = 9,
+    RDLPP_FAULT_ARGUMENTS_MISSING = 10,
+    RDLPP_FAULT_ARGUMENTS_NOT_CLOSED = 11,
+    RDLPP_FAULT_ARGUMENT_BYTES_PASSED = 12,
+    RDLPP_FAULT_WRONG_NUMBER_OF_ARGUMENTS = 13,
+    RDLPP_FAULT_DEPTH_PASSED = 14,
+    RDLPP_FAULT_NAME_EXPECTED = 15,
+    RDLPP_FAULT_RESERVED_NAME = 16,
+    RDLPP_FAULT_NAME_TOO_LONG = 17,
+    RDLPP_FAULT_BAD_FORMAL_LIST = 18,
+    RDLPP_FAULT_FORMAL_GIVEN_TWICE = 19,
+    RDLPP_FAULT_TOO_MANY_FORMALS = 20,
+    RDLPP_FAULT_DEFINITION_BYTES_PASSED = 21,
+    RDLPP_FAULT_TOO_MANY_DEFINITIONS = 22,
+    RDLPP_FAULT_BRANCH_OR_ENDIF_WITHOUT_CONDITIONAL = 23,
+    RDLPP_FAULT_BRANCH_AFTER_ELSE = 24,
+    RDLPP_FAULT_CONDITIONAL_NOT_CLOSED = 25,
+    RDLPP_FAULT_TOO_MANY_OPEN_CONDITIONALS = 26,
+    RDLPP_FAULT_INCLUDE_NAME_EXPECTED = 27,
+    RDLPP_FAULT_SOURCE_NOT_FOUND = 28,
+    RDLPP_FAULT_TOO_MANY_OPEN_INCLUDES = 29,
+    RDLPP_FAULT_BAD_LINE_DIRECTIVE = 30,
+    RDLPP_FAULT_PATH_TOO_LONG = 31,
+    RDLPP_FAULT_READ_FAILED = 32,
+    RDLPP_FAULT_WRITE_FAILED = 33,
+    RDLPP_FAULT_NO_MEMORY_FOR_A_SOURCE = 34,
+    RDLPP_FAULT_OUTPUT_BYTES_PASSED = 35
+};
+
 /* How a call ended. */
 enum {
     RDLPP_WHOLE = 0,     /* the output is whole */
@@ -97,33 +139,65 @@ enum {
     RDLPP_BAD_LIMIT = 2, /* a limit is out of its range; nothing was written */
     RDLPP_BAD_TEXT = 3,  /* a path, a name or a body isn't UTF-8; nothing was written */
     RDLPP_NO_MEMORY = 4, /* memory was refused; nothing was written */
-    RDLPP_MORE = 5,      /* rdlpp_read: the buffer is full, and more may follow */
-    RDLPP_CLOSED = 6     /* rdlpp_read: the handle is closed; nothing was written */
+    RDLPP_MORE = 5,      /* a read: it ended before the output did, and more may follow */
+    RDLPP_CLOSED = 6,    /* the handle is closed; nothing was written */
+    RDLPP_WANTED = 7,    /* a read: a source is asked for, whose path is in `name` */
+    RDLPP_SHORT_MAP = 8  /* rdlpp_read_mapped: `map` is shorter than RDLPP_MAP_ROOM; nothing was written */
 };
 
 /* How a call ended, in numbers; each that isn't named for a status is 0 there. */
 typedef struct rdlpp_outcome {
     uint32_t status;    /* one of those above */
-    uint32_t number;    /* RDLPP_STOPPED: the number of the fault, 1 to 35;
+    uint32_t number;    /* RDLPP_STOPPED: the number of the fault, one of enum rdlpp_fault;
                            RDLPP_BAD_LIMIT: the place of the limit in rdlpp_limits, from 1 */
     uint64_t line;      /* RDLPP_STOPPED: the shown line, from 1; 0 where no line is meant */
     uint64_t length;    /* RDLPP_WHOLE, RDLPP_STOPPED: how many bytes the output has;
-                           of rdlpp_read, also RDLPP_MORE: how many bytes it wrote */
-    size_t name_length; /* RDLPP_STOPPED: how many bytes the shown name has, at most 1,024 */
+                           of a read, also RDLPP_MORE and RDLPP_WANTED: how many bytes it wrote */
+    size_t name_length; /* RDLPP_STOPPED: how many bytes the shown name has, at most 1,024;
+                           RDLPP_WANTED: how many bytes the path has that is asked for, at most 1,024 */
     size_t word_length; /* RDLPP_STOPPED: how many bytes the word has that the fault is about,
                            at most 128; 0 where it is about none */
 } rdlpp_outcome;
 
 /*
- * Preprocesses the main text at `path`.
+ * What is asked for. rdlpp_standard_request makes one, and the caller changes the fields that it wants.
  *
  * limits       the limits; one that is out of its range is told before anything else is looked at.
  * origins      whether lines `// origin: NAME:LINE` are written.
- * texts        the sources in memory, the main one among them.
+ * asks         of a handle: whether a source that isn't among `texts` is asked for, by RDLPP_WANTED.
+ *              Else, and in rdlpp_preprocess, it isn't there.
+ * pieces       of a handle: whether each read ends at a place's end, so that rdlpp_position tells the
+ *              place of what it wrote.
+ * texts        the sources in memory, the main one among them where it isn't asked for.
  * folders      the include folders, in the order of the search.
  * definitions  macros that are defined first, in order. A refused one is told as a fault, under the
  *              shown name `-D`, with its place from 1 as the line.
  * path         the path of the main text, in UTF-8.
+ */
+typedef struct rdlpp_request {
+    rdlpp_limits limits;
+    bool origins;
+    bool asks;
+    bool pieces;
+    const rdlpp_text *texts;
+    size_t texts_length;
+    const rdlpp_folder *folders;
+    size_t folders_length;
+    const rdlpp_definition *definitions;
+    size_t definitions_length;
+    const char *path;
+    size_t path_length;
+} rdlpp_request;
+
+/* The standard limits. */
+rdlpp_limits rdlpp_standard_limits(void);
+
+/* A request with the standard limits, `false` in each flag, empty lists and an empty path. */
+rdlpp_request rdlpp_standard_request(void);
+
+/*
+ * Preprocesses the main text of a request.
+ *
  * out          takes the output: all of it, or all before the fault that ended it.
  * name, word   take the shown name and the word of the fault; 1,024 and 128 bytes are always enough.
  *
@@ -132,12 +206,7 @@ typedef struct rdlpp_outcome {
  * RDLPP_NO_MEMORY where memory was refused; and else RDLPP_WHOLE or RDLPP_STOPPED, by the text alone.
  */
 rdlpp_outcome rdlpp_preprocess(
-    const rdlpp_limits *limits,
-    bool origins,
-    const rdlpp_text *texts, size_t texts_length,
-    const rdlpp_folder *folders, size_t folders_length,
-    const rdlpp_definition *definitions, size_t definitions_length,
-    const char *path, size_t path_length,
+    const rdlpp_request *request,
     char *out, size_t out_length,
     char *name, size_t name_length,
     char *word, size_t word_length);
@@ -152,31 +221,37 @@ typedef struct rdlpp_handle {
 #define RDLPP_CLOSED_HANDLE {false, NULL}
 
 /*
- * Opens the main text at `path`, so that its output is read piece by piece. All that is lent is copied.
+ * Opens the main text of a request, so that its output is read piece by piece. All that is lent is copied.
  *
- * The parameters are those of rdlpp_preprocess, and so are the answers but for RDLPP_WHOLE, by which the
- * handle is open; with every other one it is closed. RDLPP_STOPPED is the fault of a refused definition;
- * a fault of the opening, as of a main text that isn't there, is told by the first rdlpp_read. A handle
- * that is open is closed first.
+ * The answers are those of rdlpp_preprocess but for RDLPP_WHOLE, by which the handle is open; with every
+ * other one it is closed. RDLPP_STOPPED is the fault of a refused definition; a fault of the opening, as of
+ * a main text that isn't there, is told by the first rdlpp_read, and so is a main text that is asked for.
+ * A handle that is open is closed first.
  */
 rdlpp_outcome rdlpp_open(
-    const rdlpp_limits *limits,
-    bool origins,
-    const rdlpp_text *texts, size_t texts_length,
-    const rdlpp_folder *folders, size_t folders_length,
-    const rdlpp_definition *definitions, size_t definitions_length,
-    const char *path, size_t path_length,
+    const rdlpp_request *request,
     char *name, size_t name_length,
     char *word, size_t word_length,
     rdlpp_handle *handle);
 
 /*
- * Writes the next bytes of the output to `out`, until it is full or the output ends. The bytes of `out`
- * behind them stay. The bytes of all reads, in order, are the output of rdlpp_preprocess.
+ * Writes the next bytes of the output to `out`. The bytes of `out` behind them stay. The bytes of all
+ * reads, in order, are the output of rdlpp_preprocess.
  *
- * The answer is RDLPP_MORE where `out` is full, RDLPP_WHOLE where the output ended, RDLPP_STOPPED where
- * a fault ended it, and RDLPP_CLOSED where the handle is closed. After the end, and after a fault, each
- * later read answers the same again with no bytes, unless `out` has the length 0, which is always full.
+ * The answer is RDLPP_WHOLE where the output ended, RDLPP_STOPPED where a fault ended it, and RDLPP_CLOSED
+ * where the handle is closed. After the end, and after a fault, each later read answers the same again with
+ * no bytes, unless `out` has the length 0, which is always full.
+ *
+ * The answer is RDLPP_MORE where `out` is full. It is also that, perhaps with no bytes, after 65,536 steps
+ * that gave none, so that a read comes back in milliseconds and the caller may stop; and, where the
+ * request has `pieces`, at the end of what stands at one place. So a caller reads on until the answer is
+ * another.
+ *
+ * Where the request has `asks`, the answer is RDLPP_WANTED where a source is needed of which nothing is
+ * known: its path is told in `name`, and its length in `name_length` of the answer. The caller tells what is
+ * there by rdlpp_give, rdlpp_give_absent or rdlpp_give_failed, and reads on. Where it reads on without,
+ * the same source is asked for again, and nothing changes. The paths that are asked for are those that a
+ * search tries, in order: the name in the folder of the including source, then in each include folder.
  */
 rdlpp_outcome rdlpp_read(
     rdlpp_handle *handle,
@@ -184,11 +259,81 @@ rdlpp_outcome rdlpp_read(
     char *name, size_t name_length,
     char *word, size_t word_length);
 
+/*
+ * Tells a handle the text of the source at `path`, which is copied. A path that wasn't asked for is kept
+ * for later. The first that is told of a path counts, also one of `texts`: a later one changes nothing. Of
+ * a handle that doesn't ask everything is told from the start.
+ *
+ * The answer is RDLPP_WHOLE; RDLPP_BAD_TEXT where `path` isn't UTF-8, RDLPP_NO_MEMORY where memory was
+ * refused, and RDLPP_CLOSED where the handle is closed: with these nothing changed.
+ */
+uint32_t rdlpp_give(
+    rdlpp_handle *handle,
+    const char *path, size_t path_length,
+    const char *text, size_t text_length);
+
+/* Tells a handle that there is no source at `path`, as rdlpp_give does: a search goes on behind it. */
+uint32_t rdlpp_give_absent(rdlpp_handle *handle, const char *path, size_t path_length);
+
+/*
+ * Tells a handle that the source at `path` can't be opened, as rdlpp_give does: a search ends there, by
+ * the fault RDLPP_FAULT_READ_FAILED.
+ */
+uint32_t rdlpp_give_failed(rdlpp_handle *handle, const char *path, size_t path_length);
+
+/*
+ * Tells the place of the first byte that the last read wrote: the shown name, in `name`, and the shown line
+ * that a fault there would have. Of text that a macro's usage gave it is the place of the usage. It is
+ * meant for a handle whose request has `pieces`, where all that a read wrote stands there.
+ *
+ * The answer has the status RDLPP_WHOLE, the line in `line`, and in `number` 1 where each LF byte of what
+ * was read begins the next line of its source, and 0 where all of it stands at that one line;
+ * RDLPP_MORE where there is no place, as before the first read, behind the end and behind a fault; and
+ * RDLPP_CLOSED where the handle is closed.
+ */
+rdlpp_outcome rdlpp_position(rdlpp_handle *handle, char *name, size_t name_length);
+
+/* How many bytes `map` of rdlpp_read_mapped must have at least. */
+#define RDLPP_MAP_ROOM 1100
+
+/* How rdlpp_read_mapped ended. */
+typedef struct rdlpp_mapped {
+    rdlpp_outcome outcome; /* as of rdlpp_read */
+    size_t map_length;     /* how many bytes were written to `map` */
+} rdlpp_mapped;
+
+/*
+ * Reads as rdlpp_read does, and writes the line map of what was read to `map`. All that the calls write
+ * there, in order, are the lines of a line map file behind its first line: OUT TAB LINE TAB STEP TAB NAME LF
+ * says that line OUT of the output, from 1, has the place NAME:LINE, and that each line after it, up to
+ * the next such line, has the line before it plus STEP, which is 1 or 0.
+ *
+ * A read also ends, by RDLPP_MORE, where fewer than RDLPP_MAP_ROOM bytes of `map` are left. The answer is
+ * RDLPP_SHORT_MAP where `map` has fewer to begin with. An output is read by this call alone, or by
+ * rdlpp_read alone.
+ */
+rdlpp_mapped rdlpp_read_mapped(
+    rdlpp_handle *handle,
+    char *out, size_t out_length,
+    char *map, size_t map_length,
+    char *name, size_t name_length,
+    char *word, size_t word_length);
+
+/*
+ * Writes the live definitions to `out`, oldest first, as `define` lines which define the same when they
+ * are read again, and answers their whole length. What no such line can give stands in a comment line.
+ * Of a closed handle the answer is 0.
+ */
+size_t rdlpp_definitions(rdlpp_handle *handle, char *out, size_t out_length);
+
+/*
+ * Writes the notes of the fault that the last read told to `out`, in lines that end in LF, and answers their
+ * whole length, which is 0 where the last read told none and of a closed handle.
+ */
+size_t rdlpp_notes(rdlpp_handle *handle, char *out, size_t out_length);
+
 /* Closes a handle: what it owns is given back. A closed one stays closed. */
 void rdlpp_close(rdlpp_handle *handle);
-
-/* The standard limits. */
-rdlpp_limits rdlpp_standard_limits(void);
 
 /*
  * Writes the text of the kind of fault with a number to `out`, as "undefined macro" for 7, and answers
