@@ -1,18 +1,21 @@
 -- A search that came to an answer gives the one of the catalog.
-use Rattle.std.proofs.Common.{◌≡◌, ℕ, ◌==◌, Bool, true, false, cond, List, [], ◌∷◌, length, Option, None, Some, nat_lt, ⊤, tt, refl, sym, ap, subst, ◌∙◌, Result, Ok, Err}
+use Rattle.std.proofs.Common.{◌≡◌, ℕ, ◌==◌, Bool, true, false, cond, List, [], ◌∷◌, length, Option, None, Some, nat_lt, refl, sym, ap, subst, ◌∙◌, Result, Ok, Err}
+use Rattle.std.specs.Bool.{⊤}
 use Rattle.std.specs.List.{list_any}
 use Rattle.rdlpp_source.specs.declared.sources.Found.{Found}
 use Rattle.rdlpp_source.specs.declared.sources.SourceFault.{SourceFault}
 use Rattle.rdlpp_source.specs.declared.sources.SourceFault.TheVariants.{Absent, PathTooLong, Device, NoMemory}
 use Rattle.rdlpp_source.specs.Sources.{Answer, Finds, Missing, Overlong, Present}
 use Rattle.rdlpp_source.specs.Search.{answer_at, answer_or, at_path, candidates, first_answer}
-use Rattle.rdlpp_owned.specs.Asked.{Answered, Answers, Refused, Search, Wanted, asked_catalog, first_search, folders_of, known_search, search_at, search_of, search_or, standing_at, standing_text, text_at, unread_of}
+use Rattle.rdlpp_owned.specs.Asked.{Answered, Answers, Comes, Ends, Refused, Search, Wanted, asked_catalog, failed_search, first_search, folders_of, known_search, search_at, search_of, search_or, standing_at, standing_text, text_at, unread_of}
 use Rattle.rdlpp_owned.specs.declared.asked.AskedTexts.{AskedTexts}
+use Rattle.rdlpp_owned.specs.declared.asked.Stop.{Stop}
+use Rattle.rdlpp_owned.specs.declared.asked.Stop.TheVariants.{Absent as NotThere, PathTooLong as TooLong, Failed as NotOpened, NoMemory as NoRoom, Wanted as NotKnown}
 use Rattle.rdlpp_owned.specs.declared.asked.Standing.{Standing}
 use Rattle.rdlpp_owned.specs.declared.asked.Standing.TheVariants.{Text, Absent as Gone, Failed}
 
 -- what a search says of an answer: where it came to one, it is this
-Says : Search → Answer → Type 0
+abbrev Says : Search → Answer → Type 0
 Says (Answered found) answer = answer ≡ found
 Says Refused answer = ⊤
 Says (Wanted path) answer = ⊤
@@ -53,6 +56,21 @@ says_finds s answer (Err Absent) wanted says a = subst (λ (t : Search). Says t 
 says_finds s answer (Err PathTooLong) wanted says a = subst (λ (t : Search). Says t answer) a.0 says
 says_finds s answer (Err Device) wanted says a = tt
 says_finds s answer (Err NoMemory) wanted says a = tt
+
+-- a search that is told as it ended within answers so
+pub answers_of : (s : Search) (within : Result (Found (List ℕ)) Stop) (r : Result (Found (List ℕ)) SourceFault) (wanted : Option (List ℕ))
+    → Comes s within → Ends within r wanted → Answers s r wanted
+answers_of s (Ok found) r wanted c e = subst (λ (t : Result (Found (List ℕ)) SourceFault). Answers s t wanted) (sym e.0) (c, e.1)
+answers_of s (Err NotThere) (Err fault) wanted c e = subst (λ (f : SourceFault). Answers s (Err f) wanted) (sym e.0) (c, e.1)
+answers_of s (Err TooLong) (Err fault) wanted c e = subst (λ (f : SourceFault). Answers s (Err f) wanted) (sym e.0) (c, e.1)
+answers_of s (Err NotOpened) (Err fault) wanted c e = subst (λ (f : SourceFault). Answers s (Err f) wanted) (sym e.0) (c ∙ ap failed_search (sym e.1))
+answers_of s (Err NoRoom) (Err fault) wanted c e = subst (λ (f : SourceFault). Answers s (Err f) wanted) (sym e.0) e.1
+answers_of s (Err (NotKnown path)) (Err fault) wanted c e = subst (λ (f : SourceFault). Answers s (Err f) wanted) (sym e.0) (c ∙ ap failed_search (sym e.1))
+answers_of s (Err NotThere) (Ok found) wanted c e = absurd e
+answers_of s (Err TooLong) (Ok found) wanted c e = absurd e
+answers_of s (Err NotOpened) (Ok found) wanted c e = absurd e
+answers_of s (Err NoRoom) (Ok found) wanted c e = absurd e
+answers_of s (Err (NotKnown path)) (Ok found) wanted c e = absurd e
 
 -- the search for a path gives what the catalog has
 pub finds_top : (texts : AskedTexts) (path : List ℕ) (r : Result (Found (List ℕ)) SourceFault) (wanted : Option (List ℕ))

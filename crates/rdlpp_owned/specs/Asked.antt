@@ -132,11 +132,32 @@ Opens path text (Err NotOpened) = ⊥
 Opens path text (Err NoRoom) = ⊤
 Opens path text (Err (NotKnown other)) = ⊥
 
--- how a search that ended within is told: the same, and a candidate that can't be opened or is wanted as a device that failed
+-- whether a search failed at a candidate
+abbrev pub is_failed : Stop → Bool
+is_failed NotThere = false
+is_failed TooLong = false
+is_failed NotOpened = true
+is_failed NoRoom = false
+is_failed (NotKnown path) = true
+
+-- whether a search had no room for a reader
+abbrev pub is_refused : Stop → Bool
+is_refused NotThere = false
+is_refused TooLong = false
+is_refused NotOpened = false
+is_refused NoRoom = true
+is_refused (NotKnown path) = false
+
+-- how a search that opened nothing is told: the same, and a candidate that can't be opened or is wanted as a device that failed
+abbrev pub Stops : Stop → SourceFault → Option (List ℕ) → Type 0
+Stops NotThere fault wanted = (fault ≡ Absent) × (wanted ≡ None)
+Stops TooLong fault wanted = (fault ≡ PathTooLong) × (wanted ≡ None)
+Stops NotOpened fault wanted = (fault ≡ Device) × (wanted ≡ None)
+Stops NoRoom fault wanted = (fault ≡ NoMemory) × (wanted ≡ None)
+Stops (NotKnown path) fault wanted = (fault ≡ Device) × (wanted ≡ Some path.bytes)
+
+-- how a search that ended within is told
 abbrev pub Ends : Result (Found (List ℕ)) Stop → Result (Found (List ℕ)) SourceFault → Option (List ℕ) → Type 0
 Ends (Ok found) result wanted = (result ≡ Ok found) × (wanted ≡ None)
-Ends (Err NotThere) result wanted = (result ≡ Err Absent) × (wanted ≡ None)
-Ends (Err TooLong) result wanted = (result ≡ Err PathTooLong) × (wanted ≡ None)
-Ends (Err NotOpened) result wanted = (result ≡ Err Device) × (wanted ≡ None)
-Ends (Err NoRoom) result wanted = (result ≡ Err NoMemory) × (wanted ≡ None)
-Ends (Err (NotKnown path)) result wanted = (result ≡ Err Device) × (wanted ≡ Some path.bytes)
+Ends (Err stop) (Ok found) wanted = ⊥
+Ends (Err stop) (Err fault) wanted = Stops stop fault wanted

@@ -1,12 +1,12 @@
 // Sources in memory that own their texts, and that may ask for what they don't have.
-ghost use Rattle.std.specs.Prelude.{◌≡◌, ◌≤◌, ◌++◌, ◌∷◌, [], false, map, min, drop, length, ForErr, IfOk, OnOk, OnErr};
-ghost use Rattle.std.specs.Option.{option_map, is_some};
+ghost use Rattle.std.specs.Prelude.{◌≡◌, ◌≤◌, map, min, drop, length, true, OnOk, OnErr};
+ghost use Rattle.std.specs.Option.{option_map};
 ghost use Rattle.std.specs.Io.{ReadsAtMost};
 ghost use Rattle.std.specs.String.{string_bytes};
 ghost use Rattle.rdlpp_source.specs.Sources.{Finds, Reads, is_device, is_no_memory};
 ghost use Rattle.rdlpp_source.specs.Search.{joined_path};
 ghost use Rattle.rdlpp_source.specs.Counts.{Counts};
-ghost use Rattle.rdlpp_owned.specs.Asked.{Answers, Comes, Ends, Opens, files_told, first_search, folders_of, is_known, search_at, search_of, standing_at, wanted_of};
+ghost use Rattle.rdlpp_owned.specs.Asked.{Answers, Comes, Ends, Opens, Stops, files_told, first_search, folders_of, is_failed, is_known, is_refused, search_at, search_of, standing_at, wanted_of};
 
 use arrayvec::ArrayString;
 use rdlpp_source::{Found, SourceFault, Sources, folder_of, joined_path};
@@ -241,6 +241,23 @@ impl AskedTexts {
         SourceFault::NoMemory
     }
 
+    // Tells why a search opened nothing.
+    fn stopped(&mut self, stop: Stop) -> SourceFault
+        ensures fault { Stops stop result (wanted_of self.new) }
+        ensures failures { Counts (is_failed stop) self.old.failures self.new.failures }
+        ensures refusals { Counts (is_refused stop) self.old.refusals self.new.refusals }
+        ensures only { self.new ≡ record self.old { wanted = self.new.wanted; failures = self.new.failures; refusals = self.new.refusals } }
+    {
+        self.wanted = None;
+        match stop {
+            Stop::Absent => SourceFault::Absent,
+            Stop::PathTooLong => SourceFault::PathTooLong,
+            Stop::Failed => self.failed(None),
+            Stop::Wanted(path) => self.failed(Some(path)),
+            Stop::NoMemory => self.refused(),
+        }
+    }
+
     // Tells how a search ended.
     fn ended(
         &mut self,
@@ -251,14 +268,12 @@ impl AskedTexts {
         ensures refusals { Counts (is_no_memory result) self.old.refusals self.new.refusals }
         ensures only { self.new ≡ record self.old { wanted = self.new.wanted; failures = self.new.failures; refusals = self.new.refusals } }
     {
-        self.wanted = None;
         match answer {
-            Ok(found) => Ok(found),
-            Err(Stop::Absent) => Err(SourceFault::Absent),
-            Err(Stop::PathTooLong) => Err(SourceFault::PathTooLong),
-            Err(Stop::Failed) => Err(self.failed(None)),
-            Err(Stop::Wanted(path)) => Err(self.failed(Some(path))),
-            Err(Stop::NoMemory) => Err(self.refused()),
+            Ok(found) => {
+                self.wanted = None;
+                Ok(found)
+            }
+            Err(stop) => Err(self.stopped(stop)),
         }
     }
 }
@@ -295,7 +310,6 @@ impl Sources for AskedTexts {
 
     ghost refusals = { λ s. s.refusals };
 
-    #[tactic(auto, using(crate::proofs::Searches::finds_top))]
     fn top(&mut self, path: &str) -> Result<Found<AskedReader>, SourceFault>
         ensures answer { Answers (search_at self.old path.now) result (wanted_of self.new) }
         ensures finds { Finds unread_of ((asked_catalog self.old).top path.now) result }
@@ -307,7 +321,6 @@ impl Sources for AskedTexts {
         self.ended(answer)
     }
 
-    #[tactic(auto, using(crate::proofs::Searches::finds_named))]
     fn find(&mut self, from: &str, name: &str) -> Result<Found<AskedReader>, SourceFault>
         ensures answer { Answers (search_of self.old from.now name.now) result (wanted_of self.new) }
         ensures finds { Finds unread_of ((asked_catalog self.old).find from.now name.now) result }
