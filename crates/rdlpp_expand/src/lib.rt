@@ -7,6 +7,6 @@ mod writing;
 
 pub use engine::Engine;
 pub use rdlpp_meaning::{Fault, FaultKind, laws};
-pub use rdlpp_steps::{Held, NewFault, Piece, fault_kind};
+pub use rdlpp_steps::{Held, LineStep, NewFault, Piece, Position, fault_kind};
 pub use reading::{ReadEnd, ReadPart, Reading};
 pub use writing::{RunFault, run};
