@@ -35,12 +35,14 @@ fn check<R: Abort + AllocGlobal>(
                 }
                 bytes.len()
             }
-            _ => {
-                assert!(rt; engine.position().is_none());
-                assert_eq!(rt; count, wanted.len());
-                return Ok(());
-            }
+            Ok(Piece::Done) => usize::MAX,
+            Err(_) => usize::MAX,
         };
+        if len == usize::MAX {
+            assert!(rt; engine.position().is_none());
+            assert_eq!(rt; count, wanted.len());
+            return Ok(());
+        }
         if len > 0 {
             let Some(position) = engine.position() else {
                 panic!(rt; "no place");
