@@ -6,10 +6,12 @@ mod arrays;
 mod asking;
 mod exports;
 mod faults;
+mod giving;
 mod handle;
 mod loose;
 mod opening;
 mod output;
+mod placing;
 mod slot;
 mod stream;
 mod streaming;
@@ -17,10 +19,14 @@ mod telling;
 #[cfg(test)]
 mod tests;
 
-pub use arrays::{Definition, Folder, Limits, Text};
-pub use exports::{rdlpp_fault_text, rdlpp_preprocess, rdlpp_standard_limits, rdlpp_version};
+pub use arrays::{Definition, Folder, Limits, Request, Text};
+pub use exports::{
+    rdlpp_fault_text, rdlpp_preprocess, rdlpp_standard_limits, rdlpp_standard_request, rdlpp_version,
+};
+pub use giving::{rdlpp_give, rdlpp_give_absent, rdlpp_give_failed};
 pub use handle::Handle;
 pub use loose::Loose;
+pub use placing::rdlpp_position;
 pub use slot::Slot;
 pub use stream::Stream;
 pub use streaming::{rdlpp_close, rdlpp_open, rdlpp_read};
