@@ -1,7 +1,7 @@
 // The calls that a program in C makes.
-ghost use Rattle.std.specs.Prelude.{◌≡◌, ℕ, List, [], false, codes};
+ghost use Rattle.std.specs.Prelude.{◌≡◌, ℕ, List, [], codes};
 ghost use Rattle.rdlpp_c.specs.Faults.{TellsFault};
-ghost use Rattle.rdlpp_c.specs.Request.{requested, standard_limits};
+ghost use Rattle.rdlpp_c.specs.Request.{requested};
 ghost use Rattle.rdlpp_c.specs.Telling.{Answers, TellsText};
 
 use crate::arrays::{Limits, Request};
@@ -32,24 +32,6 @@ pub extern "C" fn rdlpp_preprocess(
     let answer = answer_of(alloc, request, out);
     tell_fault(&answer, name, word);
     outcome_of(&answer)
-}
-
-/// A request with the standard limits, `false` in each flag, empty lists and an empty path (this
-/// project's profile).
-#[unsafe(no_mangle)]
-pub extern "C" fn rdlpp_standard_request() -> Request<'static>
-    ensures { requested result ≡ record { limits = standard_limits; origins = false; asks = false; pieces = false; texts = []; folders = []; definitions = []; path = [] } }
-{
-    Request {
-        limits: rdlpp_standard_limits(),
-        origins: false,
-        asks: false,
-        pieces: false,
-        texts: &[],
-        folders: &[],
-        definitions: &[],
-        path: b"",
-    }
 }
 
 /// The standard limits (this project's profile).

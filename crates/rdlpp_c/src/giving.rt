@@ -16,12 +16,7 @@ use std::alloc::Global;
 /// The answer is 0; 3 where `path` isn't UTF-8, 4 where memory was refused, and 6 where the handle is
 /// closed: with these nothing changed.
 #[unsafe(no_mangle)]
-pub extern "C" fn rdlpp_give(
-    alloc: Global,
-    handle: &mut Handle,
-    path: &[u8],
-    text: &[u8],
-) -> u32 {
+pub extern "C" fn rdlpp_give(alloc: Global, handle: &mut Handle, path: &[u8], text: &[u8]) -> u32 {
     let Some(mut stream) = take(alloc, handle) else {
         return CLOSED;
     };

@@ -20,9 +20,7 @@ mod telling;
 mod tests;
 
 pub use arrays::{Definition, Folder, Limits, Request, Text};
-pub use exports::{
-    rdlpp_fault_text, rdlpp_preprocess, rdlpp_standard_limits, rdlpp_standard_request, rdlpp_version,
-};
+pub use exports::{rdlpp_fault_text, rdlpp_preprocess, rdlpp_standard_limits, rdlpp_version};
 pub use giving::{rdlpp_give, rdlpp_give_absent, rdlpp_give_failed};
 pub use handle::Handle;
 pub use loose::Loose;

@@ -4,7 +4,7 @@ ghost use Rattle.std.specs.Prelude.{◌≡◌};
 use crate::handle::{Handle, put, take};
 use crate::stream::Stream;
 use crate::telling::{CLOSED, MORE, Outcome, WHOLE, numbered, tell_text};
-use rdlpp::LineStep;
+use rdlpp_expand::LineStep;
 use std::alloc::Global;
 
 /// Tells the place of the first byte that the last read wrote: the shown name, in `name`, and the line, with the

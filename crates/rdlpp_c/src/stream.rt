@@ -8,7 +8,8 @@ ghost use Rattle.rdlpp_c.specs.Streaming.{ReadsStream, fault_name, fault_word, r
 
 use crate::telling::{MORE, Outcome, STOPPED, WANTED, WHOLE, numbered, tell_text};
 use arrayvec::ArrayString;
-use rdlpp::{Fault, FaultKind, LineStep, Position, ReadEnd, ReadPart, Reading};
+use rdlpp::{Fault, FaultKind, ReadEnd, ReadPart, Reading};
+use rdlpp_expand::{LineStep, Position};
 use rdlpp_owned::AskedTexts;
 use rdlpp_source::Sources;
 

@@ -3,11 +3,25 @@ use crate::faults::{KINDS, kind_text};
 use crate::opening::open_stream;
 use crate::{
     Definition, Request, Text, rdlpp_fault_text, rdlpp_preprocess, rdlpp_standard_limits,
-    rdlpp_standard_request, rdlpp_version,
+    rdlpp_version,
 };
 use arrayvec::ArrayString;
 use rdlpp::{FaultKind, ReadEnd, ReadPart};
 use std::fmt::Write as _;
+
+// A request that asks for nothing, with the standard limits.
+fn standard_request() -> Request<'static> {
+    Request {
+        limits: rdlpp_standard_limits(),
+        origins: false,
+        asks: false,
+        pieces: false,
+        texts: &[],
+        folders: &[],
+        definitions: &[],
+        path: b"",
+    }
+}
 
 #[test]
 fn preprocesses_sources_in_memory(rt: HostRuntime) {
@@ -26,7 +40,7 @@ fn preprocesses_sources_in_memory(rt: HostRuntime) {
             texts: &texts,
             definitions: &definitions,
             path: b"m",
-            ..rdlpp_standard_request()
+            ..standard_request()
         },
         &mut out,
         &mut name,
@@ -88,7 +102,7 @@ fn reads_an_output_in_pieces_over_texts_of_its_own(rt: HostRuntime) {
         texts: &texts,
         definitions: &definitions,
         path: b"m",
-        ..rdlpp_standard_request()
+        ..standard_request()
     };
     let Ok(mut stream) = open_stream(rt.alloc(), &request) else {
         panic!(rt; "not opened");
