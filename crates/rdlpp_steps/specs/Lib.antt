@@ -14,3 +14,4 @@ pub mod Moves
 pub mod Lines
 pub mod Conditionals
 pub mod Opening
+pub mod Searches

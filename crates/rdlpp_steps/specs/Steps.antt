@@ -123,10 +123,11 @@ pub record StopsInCall {S R : Type 0} (g : Ghosts S R) (at new : EngineView S R)
   pub kept : KeepsUsage macro.formals (g.tells at.sources) g.unread at.expansion.most opening new.expansion.arguments (inner_buffer (with_inner (consumed_file len 0) at.files.nest)) (inner_buffer new.files.nest)
   pub uses : UsesSource (g.tells at.sources) g.unread opening at.files.nest new.files.nest
 
--- which engine it is whose text remains where a read or a search failed: the one that stopped, or the one before the usage in whose call that is
+-- which engine it is whose text remains where a read or a search failed: the one that stopped, or the one before the usage in whose call that is, of
+-- whose source no byte is held any more
 pub data Stood {S R : Type 0} (g : Ghosts S R) (at new : EngineView S R) : Type 0 where
   Itself : at ≡ new → Stood g at new
-  BeforeCall : StopsInCall g at new → Stood g at new
+  BeforeCall : StopsInCall g at new → held_of (inner_buffer new.files.nest) ≡ [] → Stood g at new
 
 -- a read or a search that failed: the text is still open, and what remained of it remains; where a read failed in the call of a usage, it remains before that
 pub record StopsReading {S R : Type 0} (g : Ghosts S R) (old new : EngineView S R) : Type 0 where
