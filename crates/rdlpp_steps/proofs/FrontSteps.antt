@@ -538,7 +538,7 @@ filled_stores {S} {R} g old mid ready r fills call =
 
 -- bytes are held that weren't, and nothing else changed
 pub silent_fill : {S R : Type 0} (g : Ghosts S R) (old mid : EngineView S R) → IsReady old → IsRead g old mid
-    → Fills (g.tells old.sources) g.unread fill.Held (inner_buffer old.files.nest) (inner_buffer mid.files.nest) → SourcesCalled g false false old.sources mid.sources → IsSilent g old mid
+    → Fills (g.tells old.sources) g.unread fill.Held (inner_buffer old.files.nest) (inner_buffer mid.files.nest) → SourcesCalled g false false old.sources mid.sources → IsSilent g 1 old mid
 silent_fill {S} {R} g old mid ready r fills call =
     let b = inner_buffer mid.files.nest in
     let limits : mid.limits ≡ old.limits = ap (λ e. e.limits) r.becomes in
@@ -564,6 +564,7 @@ silent_fill {S} {R} g old mid ready r fills call =
       work = (let same : work_left mid ≡ work_left old = work_same old mid b limits owed (ap (λ e. e.expansion) r.becomes) nest fills.unused in omega arith);
       keeps = filled_stores g old mid ready r fills call;
       reaches = reaches_one g old mid (record { after = mid; stands = Nowhere refl (InSources ready.idle (ap (λ e. e.expansion) r.becomes)); becomes = refl });
+      few = omega arith;
     }
 
 -- the main text is open

@@ -9,6 +9,7 @@ pub mod Includes
 pub mod Pieces
 pub mod Standing
 pub mod Stored
+pub mod Silences
 pub mod Steps
 pub mod Moves
 pub mod Lines
