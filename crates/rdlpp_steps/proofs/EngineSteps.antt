@@ -1,5 +1,5 @@
 -- The steps of an engine, by what they met.
-use Rattle.std.proofs.Common.{◌≡◌, ◌⊎◌, inl, inr, ℕ, ◌≤◌, ◌<◌, Bool, true, false, ◌&&◌, ◌||◌, List, [], ◌∷◌, ◌++◌, Option, None, Some, Result, Ok, Err, length, refl, sym, ap, ◌∙◌, subst, arith, length-append}
+use Rattle.std.proofs.Common.{◌≡◌, ◌⊎◌, inl, inr, ℕ, ◌+◌, ◌≤◌, ◌<◌, Bool, true, false, ◌&&◌, ◌||◌, List, [], ◌∷◌, ◌++◌, Option, None, Some, Result, Ok, Err, length, refl, sym, ap, ◌∙◌, subst, arith, length-append}
 use Rattle.std.specs.Option.{is_some, option_map}
 use Rattle.rdlpp_source.specs.Counts.{Counts}
 use Rattle.rdlpp_source.specs.declared.sources.Sources.{Ghosts}
@@ -108,7 +108,7 @@ steps_ended g e started bounded free closed = record {
 }
 
 -- no step at all
-reaches_same : {S R : Type 0} (g : Ghosts S R) (e : EngineView S R) → Reaches g e e
+abbrev reaches_same : {S R : Type 0} (g : Ghosts S R) (e : EngineView S R) → Reaches g e e
 reaches_same g e = record { between = []; steps = refl }
 
 -- steps that lend nothing, and then others
@@ -117,12 +117,28 @@ lend_on : {S R : Type 0} (g : Ghosts S R) (old : EngineView S R) (mids : List (E
 lend_on {S} {R} g old [] mid more new same then_ = subst (λ (e : EngineView S R). LendNone g e more new) same then_
 lend_on g old (m ∷ mids) mid more new first then_ = (first.0, lend_on g m mids mid more new first.1 then_)
 
-reaches_on : {S R : Type 0} (g : Ghosts S R) (old mid new : EngineView S R) → Reaches g old mid → Reaches g mid new → Reaches g old new
+abbrev reaches_on : {S R : Type 0} (g : Ghosts S R) (old mid new : EngineView S R) → Reaches g old mid → Reaches g mid new → Reaches g old new
 reaches_on g old mid new first then_ = record { between = first.between ++ then_.between; steps = lend_on g old first.between mid then_.between new first.steps then_.steps }
 
 -- one step that lends nothing
-pub reaches_one : {S R : Type 0} (g : Ghosts S R) (old new : EngineView S R) → LendsNone g old new → Reaches g old new
+abbrev pub reaches_one : {S R : Type 0} (g : Ghosts S R) (old new : EngineView S R) → LendsNone g old new → Reaches g old new
 reaches_one g old new step = record { between = new ∷ []; steps = (step, refl) }
+
+-- how many there are, where they are none, one, one more than others, or others in a row
+no_part : (a : ℕ) → a ≡ 0 → a ≤ 0
+no_part a e = omega (arith, e)
+
+pub one_part : (a : ℕ) → a ≡ 1 → a ≤ 1
+one_part a e = omega (arith, e)
+
+part_more : (a b m : ℕ) → a ≡ b + 1 → b ≤ m → a ≤ m + 1
+part_more a b m e few = omega (arith, e, few)
+
+parts_both : (a b c n m : ℕ) → a ≡ b + c → b ≤ n → c ≤ m → a ≤ n + m
+parts_both a b c n m e few more = omega (arith, e, few, more)
+
+parts_wider : (a n m : ℕ) → a ≤ n → n ≤ m → a ≤ m
+parts_wider a n m few more = omega (arith, few, more)
 
 -- an engine whose main text is open and that keeps no fault
 module _ {S R : Type 0} (g : Ghosts S R) (old new : EngineView S R) (free : old.kept ≡ None) (open_ : old.phase ≡ Open) (bounded : IsBounded new) where
@@ -160,7 +176,7 @@ module _ {S R : Type 0} (g : Ghosts S R) (old new : EngineView S R) (free : old.
         most_bytes = room.0;
         most_macros = room.1;
         bounded = bounded;
-        stands = λ _ _ xs e. (let same : bytes ≡ xs = cc e in record { at = old; reached = reaches_same g old; few = omega arith; text = λ _. refl; after = new; becomes = refl; piece = bytes; lent = sym same; stands = from });
+        stands = λ _ _ xs e. (let same : bytes ≡ xs = cc e in record { at = old; reached = reaches_same g old; few = no_part _ refl; text = λ _. refl; after = new; becomes = refl; piece = bytes; lent = sym same; stands = from });
         lets_go = keeps.lets_go;
         stores = keeps.stores;
       }
@@ -415,7 +431,7 @@ halts_behind g (Err f) old mid new text tells halts = record {
 lends_behind : {S R : Type 0} (g : Ghosts S R) (n m : ℕ) (old mid new : EngineView S R) (bytes : List ℕ) (a b : ℕ) → (reaches : Reaches g old mid) → length reaches.between ≤ n → (g.tells old.sources → text_of g old ≡ text_of g mid) → (g.tells old.sources → g.tells mid.sources)
     → LendsWhere g m (all_of b) mid new bytes → LendsWhere g (n + m) (all_of a) old new bytes
 unfolding all_of
-lends_behind g n m old mid new bytes a b reaches few text tells l = record { at = l.at; reached = reaches_on g old mid l.at reaches l.reached; few = (let both = length-append reaches.between l.reached.between in omega (arith, few, l.few)); text = λ t. text t ∙ l.text (tells t); after = l.after; becomes = l.becomes; piece = l.piece; lent = l.lent; stands = l.stands }
+lends_behind g n m old mid new bytes a b reaches few text tells l = record { at = l.at; reached = reaches_on g old mid l.at reaches l.reached; few = parts_both _ _ _ n m (length-append reaches.between l.reached.between) few l.few; text = λ t. text t ∙ l.text (tells t); after = l.after; becomes = l.becomes; piece = l.piece; lent = l.lent; stands = l.stands }
 
 -- such a part, and then a step, are one step
 pub silent_then : {S R : Type 0} (g : Ghosts S R) (n m : ℕ) (old mid new : EngineView S R) (answer : Result (Option (List ℕ)) Told) →
@@ -496,8 +512,7 @@ silent_step g m old mid w =
           (reaches_one g l.at mid (record { after = l.after; stands = subst (λ (xs : List ℕ). StandsIn g l.at l.after xs) (sym l.lent) l.stands; becomes = l.becomes }));
       few =
           let l = w.stands free lends.0 [] refl in
-          let both : length (l.reached.between ++ mid ∷ []) ≡ length l.reached.between + 1 = length-append l.reached.between (mid ∷ []) in
-          omega (arith, l.few);
+          part_more _ (length l.reached.between) m (length-append l.reached.between (mid ∷ [])) l.few;
     }
 
 -- what more parts may be is no more than so many
@@ -529,7 +544,7 @@ wider g n m old new answer more w = record {
   bounded = w.bounded;
   stands = λ free open_ bytes is.
       let l = w.stands free open_ bytes is in
-      record { at = l.at; reached = l.reached; few = omega (arith, l.few, more); text = l.text; after = l.after; becomes = l.becomes; piece = l.piece; lent = l.lent; stands = l.stands };
+      record { at = l.at; reached = l.reached; few = parts_wider _ n m l.few more; text = l.text; after = l.after; becomes = l.becomes; piece = l.piece; lent = l.lent; stands = l.stands };
   lets_go = w.lets_go;
   stores = w.stores;
 }
