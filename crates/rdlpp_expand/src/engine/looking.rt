@@ -6,6 +6,7 @@ ghost use Rattle.rdlpp_read.specs.Files.{inner_buffer};
 use super::Engine;
 use rdlpp_source::Sources;
 use rdlpp_table::{Limits, Table};
+use std::mem;
 
 /// What an open source shows.
 #[derive(Clone, Copy, Debug)]
@@ -29,7 +30,7 @@ impl<S: Sources> Engine<S> {
         ensures old { result ≡ self.old.sources }
         ensures new { self.new ≡ record self.old { sources = sources } }
     {
-        core::mem::replace(&mut self.sources, sources)
+        mem::replace(&mut self.sources, sources)
     }
 
     /// The table of the live definitions.
