@@ -1,0 +1,108 @@
+-- The places of pieces, as the marks have them.
+use Rattle.std.proofs.Common.{◌≡◌, ℕ, zero, suc, ◌+◌, ◌-◌, ◌<◌, ◌==◌, Bool, true, false, List, [], ◌∷◌, Option, None, Some, refl, sym, ap, ◌∙◌, arith}
+use Rattle.std.specs.Prelude.{if◌then◌else◌}
+use Rattle.rdlpp_scan.specs.declared.token.Mode.{Mode}
+use Rattle.rdlpp_meaning.specs.State.{Shift, State, shown_line}
+use Rattle.rdlpp_read.specs.Files.{consumed_file, inner_buffer, with_buffer, with_inner}
+use Rattle.rdlpp_read.specs.Buffer.{entered_mode}
+use Rattle.rdlpp_read.specs.declared.files.File.{File}
+use Rattle.rdlpp_table.specs.Table.{Macro}
+use Rattle.rdlpp_table.specs.declared.limits.Limits.{Limits}
+use Rattle.rdlpp_conditions.specs.Conditions.{ConditionsView}
+use Rattle.rdlpp_usages.specs.Usages.{ExpansionView}
+use Rattle.rdlpp_steps.specs.Engine.{EngineView, is_open}
+use Rattle.rdlpp_steps.specs.Marks.{MarksView, PlaceView, lends_line, lends_line_end, lends_origin, lends_owed, lends_usage, marked_place}
+use Rattle.rdlpp_steps.specs.Owed.{OriginView, OwedView, TakesPiece, nothing_owed, origin_pieces, owed_pieces}
+use Rattle.rdlpp_steps.specs.Positions.{line_end_place, origin_place, owed_place, place_at, position_of, source_place, usage_place}
+use Rattle.rdlpp_steps.specs.Remaining.{file_state, inner_name, nest_state, state_of}
+use Rattle.rdlpp_steps.specs.declared.owed.OwedPiece.{OwedPiece}
+use Rattle.rdlpp_steps.specs.declared.positions.LineStep.TheVariants.{Next}
+use Rattle.rdlpp_steps.specs.declared.phase.Phase.TheVariants.{Open}
+
+-- the place that an engine tells which keeps no fault and whose main text is open
+pub position_open : {S R : Type 0} (e : EngineView S R) → e.kept ≡ None → is_open e.phase ≡ true → position_of e ≡ marked_place e.marks (state_of e).name (state_of e).shift
+unfolding position_of
+position_open e free opens = rw (free, opens) refl
+
+-- the innermost source shows the same name and numbers where bytes of it are used
+used_name : {R : Type 0} (limits : Limits) (macros : List Macro) (v : ConditionsView) (nest : List (File R)) (len lines : ℕ) (next : Mode)
+    → (nest_state limits macros v (with_inner (consumed_file len lines) (with_buffer (entered_mode (inner_buffer nest) next) nest))).name ≡ (nest_state limits macros v nest).name
+unfolding nest_state file_state
+used_name limits macros v [] len lines next = refl
+used_name limits macros v (f ∷ outer) len lines next = refl
+
+used_shift : {R : Type 0} (limits : Limits) (macros : List Macro) (v : ConditionsView) (nest : List (File R)) (len lines : ℕ) (next : Mode)
+    → (nest_state limits macros v (with_inner (consumed_file len lines) (with_buffer (entered_mode (inner_buffer nest) next) nest))).shift ≡ (nest_state limits macros v nest).shift
+unfolding nest_state file_state
+used_shift limits macros v [] len lines next = refl
+used_shift limits macros v (f ∷ outer) len lines next = refl
+
+-- a line of a source is marked
+marked_line : (m : MarksView) (line : ℕ) (name : List ℕ) (shift : Shift) (s : State) → name ≡ s.name → shift ≡ s.shift → marked_place (lends_line line m) name shift ≡ Some (place_at Next line s)
+unfolding marked_place lends_line place_at
+marked_line m line name shift s named shifted = rw (named, shifted) refl
+
+-- text of the innermost source is lent
+pub source_position : {S R : Type 0} (old : EngineView S R) (len lines : ℕ) (next : Mode) → old.kept ≡ None → old.phase ≡ Open
+    → position_of (record old { files = record old.files { nest = with_inner (consumed_file len lines) (with_buffer (entered_mode (inner_buffer old.files.nest) next) old.files.nest) }; marks = lends_line (inner_buffer old.files.nest).line old.marks })
+    ≡ Some (source_place old)
+unfolding state_of is_open
+source_position old len lines next free open_ =
+    position_open _ free (ap is_open open_)
+    ∙ marked_line old.marks (inner_buffer old.files.nest).line _ _ (state_of old)
+    (used_name old.limits old.table.macros old.conditions old.files.nest len lines next) (used_shift old.limits old.table.macros old.conditions old.files.nest len lines next)
+
+-- text of a usage is lent
+pub usage_position : {S R : Type 0} (old : EngineView S R) (x : ExpansionView) → old.kept ≡ None → old.phase ≡ Open
+    → position_of (record old { expansion = x; marks = lends_usage old.expansion.line old.marks }) ≡ Some (usage_place old)
+unfolding state_of is_open marked_place lends_usage place_at
+usage_position old x free open_ = position_open _ free (ap is_open open_)
+
+-- the first of the LF bytes that are owed is lent
+marked_end : (ending : Bool) (m : MarksView) (ends line : ℕ) (s : State) → m.ending ≡ ending
+    → marked_place (lends_line_end ends line m) s.name s.shift ≡ Some (if ending then record { name = m.name; line = m.line; step = Next } else place_at Next (line - ends) s)
+unfolding marked_place lends_line_end place_at
+marked_end true m ends line s is = rw is refl
+marked_end false m ends line s is = rw is refl
+
+-- a piece of an origin line is lent
+marked_origin : (origin : Option OriginView) (m : MarksView) (s : State) → 0 < origin_pieces origin → marked_place (lends_origin origin m) s.name s.shift ≡ origin_place s.name origin
+unfolding marked_place lends_origin origin_place origin_pieces
+marked_origin None m s some = absurd (omega arith)
+marked_origin (Some origin) m s some = refl
+
+-- a count that is 0
+no_count : (n : ℕ) → (n == 0) ≡ true → n ≡ 0
+no_count zero e = refl
+no_count (suc n) e = cc e
+
+-- one that falls isn't 0
+some_pieces : (owed rest : OwedView) → owed_pieces rest < owed_pieces owed → (owed.line_ends == 0) ≡ true → 0 < origin_pieces owed.origin
+unfolding owed_pieces
+some_pieces owed rest fewer none = let zeroth = no_count owed.line_ends none in omega arith
+
+-- the first piece of what is owed is lent
+marked_owed : {S R : Type 0} (b : Bool) (e : EngineView S R) (rest : OwedView) → (e.owed.line_ends == 0) ≡ b → owed_pieces rest < owed_pieces e.owed
+    → marked_place (lends_owed e.owed (inner_buffer e.files.nest).line e.marks) (state_of e).name (state_of e).shift ≡ owed_place e
+unfolding lends_owed owed_place line_end_place
+marked_owed true e rest is fewer = rw is (marked_origin e.owed.origin e.marks (state_of e) (some_pieces e.owed rest fewer is))
+marked_owed false e rest is fewer = rw is (marked_end e.marks.ending e.marks e.owed.line_ends (inner_buffer e.files.nest).line (state_of e) refl)
+
+pub owed_position : {S R : Type 0} (old : EngineView S R) (rest : OwedView) (piece : OwedPiece) → TakesPiece (inner_name old.files.nest) old.owed rest piece → old.kept ≡ None → old.phase ≡ Open
+    → position_of (record old { owed = rest; marks = lends_owed old.owed (inner_buffer old.files.nest).line old.marks }) ≡ owed_place old
+unfolding state_of is_open
+owed_position old rest piece takes free open_ = position_open _ free (ap is_open open_) ∙ marked_owed (old.owed.line_ends == 0) old rest refl takes.fewer
+
+-- nothing is marked where nothing is owed
+pub unowed_marks : (line : ℕ) (m : MarksView) → lends_owed nothing_owed line m ≡ m
+unfolding lends_owed lends_origin nothing_owed
+unowed_marks line m = refl
+
+-- how far an engine is, and what may still be lent, doesn't change the place while its main text is open
+pub position_kept : {S R : Type 0} (mid new : EngineView S R) → new ≡ record mid { phase = new.phase; quota = new.quota } → mid.kept ≡ None → is_open mid.phase ≡ true → is_open new.phase ≡ true
+    → position_of new ≡ position_of mid
+unfolding state_of
+position_kept {S} {R} mid new becomes free opens still =
+    let none : new.kept ≡ None = ap (λ e. e.kept) becomes ∙ free in
+    position_open new none still
+    ∙ (ap (λ (e : EngineView S R). marked_place e.marks (state_of e).name (state_of e).shift) becomes ∙ sym (position_open mid free opens))
