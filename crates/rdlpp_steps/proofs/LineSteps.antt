@@ -13,7 +13,7 @@ use Rattle.rdlpp_meaning.specs.declared.fault.FaultKind.TheVariants.{BadLine}
 use Rattle.rdlpp_meaning.specs.Meaning.{Passage, Renumbered, behind_bytes, leaves, origin_line, renumbered}
 use Rattle.rdlpp_meaning.specs.Outcome.{fails}
 use Rattle.rdlpp_meaning.specs.Parts.{line_ends_of}
-use Rattle.rdlpp_meaning.specs.State.{Rules, fault_at}
+use Rattle.rdlpp_meaning.specs.State.{Rules, fault_at, shown_line}
 use Rattle.rdlpp_meaning.specs.Resumed.{Live}
 use Rattle.rdlpp_read.specs.Arguments.{LineGiven}
 use Rattle.rdlpp_read.specs.Buffer.{EndsHeld, held_of}

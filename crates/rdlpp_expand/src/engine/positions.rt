@@ -13,6 +13,7 @@ use rdlpp_source::Sources;
 use rdlpp_steps::{OwedPiece, Phase, Position, copied};
 
 // A name and a line that a source shows.
+#[derive(Drop)]
 pub(super) struct ShownPlace {
     pub(super) name: ArrayString<1024>,
     pub(super) line: u64,
