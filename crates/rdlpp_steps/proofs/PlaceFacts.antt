@@ -1,9 +1,10 @@
 -- The places of pieces, as the marks have them.
-use Rattle.std.proofs.Common.{◌≡◌, ℕ, zero, suc, ◌+◌, ◌-◌, ◌<◌, ◌==◌, Bool, true, false, List, [], ◌∷◌, Option, None, Some, refl, sym, ap, ◌∙◌, arith}
-use Rattle.std.specs.Prelude.{if◌then◌else◌}
+use Rattle.std.proofs.Common.{◌≡◌, ℕ, zero, suc, ◌+◌, ◌-◌, ◌<◌, ◌==◌, Bool, true, false, List, [], ◌∷◌, Option, None, Some, length, refl, sym, ap, ◌∙◌, subst, arith}
+use Rattle.std.specs.Prelude.{if◌then◌else◌, is_some, IfNone, IfSome}
 use Rattle.rdlpp_scan.specs.declared.token.Mode.{Mode}
+use Rattle.rdlpp_meaning.specs.Outcome.{Told}
 use Rattle.rdlpp_meaning.specs.State.{Shift, State, shown_line}
-use Rattle.rdlpp_read.specs.Files.{consumed_file, inner_buffer, with_buffer, with_inner}
+use Rattle.rdlpp_read.specs.Files.{consumed_file, inner_buffer, shift_of, with_buffer, with_inner}
 use Rattle.rdlpp_read.specs.Buffer.{entered_mode}
 use Rattle.rdlpp_read.specs.declared.files.File.{File}
 use Rattle.rdlpp_table.specs.Table.{Macro}
@@ -13,7 +14,7 @@ use Rattle.rdlpp_usages.specs.Usages.{ExpansionView}
 use Rattle.rdlpp_steps.specs.Engine.{EngineView, is_open}
 use Rattle.rdlpp_steps.specs.Marks.{MarksView, PlaceView, lends_line, lends_line_end, lends_origin, lends_owed, lends_usage, marked_place}
 use Rattle.rdlpp_steps.specs.Owed.{OriginView, OwedView, TakesPiece, nothing_owed, origin_pieces, owed_pieces}
-use Rattle.rdlpp_steps.specs.Positions.{line_end_place, origin_place, owed_place, place_at, position_of, source_place, usage_place}
+use Rattle.rdlpp_steps.specs.Positions.{TakesOwed, line_end_place, origin_place, owed_place, place_at, position_of, source_place, usage_place}
 use Rattle.rdlpp_steps.specs.Remaining.{file_state, inner_name, nest_state, state_of}
 use Rattle.rdlpp_steps.specs.declared.owed.OwedPiece.{OwedPiece}
 use Rattle.rdlpp_steps.specs.declared.positions.LineStep.TheVariants.{Next}
@@ -106,3 +107,70 @@ position_kept {S} {R} mid new becomes free opens still =
     let none : new.kept ≡ None = ap (λ e. e.kept) becomes ∙ free in
     position_open new none still
     ∙ (ap (λ (e : EngineView S R). marked_place e.marks (state_of e).name (state_of e).shift) becomes ∙ sym (position_open mid free opens))
+
+-- the marks of an engine were changed, and nothing else
+pub marking : {S R : Type 0} (inside e after : EngineView S R) (m : MarksView) (change : MarksView → MarksView) → inside ≡ e → e ≡ after → m ≡ change inside.marks
+    → record inside { marks = m } ≡ record after { marks = change after.marks }
+marking {S} {R} inside e after m change is becomes marks =
+    ap (λ (n : MarksView). record inside { marks = n }) marks ∙ ap (λ (x : EngineView S R). record x { marks = change x.marks }) (is ∙ becomes)
+
+-- no fault is kept
+no_fault : (kept : Option Told) → is_some kept ≡ false → kept ≡ None
+no_fault None e = refl
+no_fault (Some f) e = cc e
+
+-- the place where a fault is kept, and where no main text is open
+nowhere_by : {S R : Type 0} (e : EngineView S R) (kept : Option Told) → e.kept ≡ kept → is_some kept ≡ true → position_of e ≡ None
+unfolding position_of
+nowhere_by e None is some = cc some
+nowhere_by e (Some f) is some = rw is refl
+
+pub nowhere_kept : {S R : Type 0} (e : EngineView S R) → is_some e.kept ≡ true → position_of e ≡ None
+nowhere_kept e some = nowhere_by e e.kept refl some
+
+nowhere_free : {S R : Type 0} (e : EngineView S R) (kept : Option Told) → e.kept ≡ kept → is_open e.phase ≡ false → position_of e ≡ None
+unfolding position_of
+nowhere_free e None is closed = rw (is, closed) refl
+nowhere_free e (Some f) is closed = rw is refl
+
+pub nowhere_closed : {S R : Type 0} (e : EngineView S R) → is_open e.phase ≡ false → position_of e ≡ None
+nowhere_closed e closed = nowhere_free e e.kept refl closed
+
+-- what the innermost source shows
+pub first_name : {S R : Type 0} (e : EngineView S R) (f : File R) (outer : List (File R)) → e.files.nest ≡ f ∷ outer → (state_of e).name ≡ f.name.bytes
+unfolding state_of nest_state file_state
+first_name {S} {R} e f outer is = ap (λ (ns : List (File R)). (nest_state e.limits e.table.macros e.conditions ns).name) is
+
+pub first_shift : {S R : Type 0} (e : EngineView S R) (f : File R) (outer : List (File R)) → e.files.nest ≡ f ∷ outer → (state_of e).shift ≡ shift_of f.shift
+unfolding state_of nest_state file_state
+first_shift {S} {R} e f outer is = ap (λ (ns : List (File R)). (nest_state e.limits e.table.macros e.conditions ns).shift) is
+
+pub position_first : {S R : Type 0} (e : EngineView S R) (f : File R) (outer : List (File R)) → e.files.nest ≡ f ∷ outer → is_some e.kept ≡ false → is_open e.phase ≡ true
+    → position_of e ≡ marked_place e.marks f.name.bytes (shift_of f.shift)
+position_first e f outer is none opens =
+    position_open e (no_fault e.kept none) opens ∙ (ap (λ (n : List ℕ). marked_place e.marks n (state_of e).shift) (first_name e f outer is) ∙ ap (marked_place e.marks f.name.bytes) (first_shift e f outer is))
+
+-- nothing is taken out of what is owed, and nothing is marked
+pub untaken : {S R : Type 0} (result : Option OwedPiece) (inside old : EngineView S R) (m : MarksView) (rest : OwedView) (line : ℕ) → inside ≡ old → m ≡ lends_owed inside.owed line inside.marks
+    → IfNone result ((inside.owed ≡ nothing_owed) × (rest ≡ inside.owed)) → IfNone result ((old.owed ≡ nothing_owed) × (record inside { marks = m; owed = rest } ≡ old))
+untaken (Some piece) inside old m rest line is marks none = tt
+untaken None inside old m rest line is marks none = (
+  ap (λ e. e.owed) (sym is) ∙ none.0,
+  ap (λ (n : MarksView). record inside { marks = n; owed = rest }) (marks ∙ (ap (λ (o : OwedView). lends_owed o line inside.marks) none.0 ∙ unowed_marks line inside.marks))
+  ∙ (ap (λ (o : OwedView). record inside { owed = o }) none.1 ∙ is),
+)
+
+-- the first piece is taken out, and its place is marked
+pub takes_marked : {S R : Type 0} (result : Option OwedPiece) (inside old : EngineView S R) (m : MarksView) (rest : OwedView) (line name_len : ℕ) → inside ≡ old → m ≡ lends_owed inside.owed line inside.marks
+    → line ≡ (inner_buffer old.files.nest).line → length (inner_name old.files.nest) ≡ name_len
+    → IfSome result (λ piece. (name : List ℕ) → length name ≡ name_len → TakesPiece name inside.owed rest piece) → IfSome result (TakesOwed old (record inside { marks = m; owed = rest }))
+takes_marked None inside old m rest line name_len is marks here size takes = tt
+takes_marked {S} {R} (Some piece) inside old m rest line name_len is marks here size takes =
+    let name = inner_name old.files.nest in
+    record {
+      rest = rest;
+      takes = subst (λ (o : OwedView). TakesPiece name o rest piece) (ap (λ e. e.owed) is) (takes name size);
+      becomes = ap (λ (n : MarksView). record inside { marks = n; owed = rest }) marks
+          ∙ (ap (λ (e : EngineView S R). record e { owed = rest; marks = lends_owed e.owed line e.marks }) is
+          ∙ ap (λ (n : ℕ). record old { owed = rest; marks = lends_owed old.owed n old.marks }) here);
+    }

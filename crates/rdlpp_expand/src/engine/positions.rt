@@ -2,6 +2,7 @@
 ghost use Rattle.std.specs.Prelude.{◌≡◌, ◌<◌, IfNone, IfSome, length};
 ghost use Rattle.rdlpp_meaning.specs.State.{shown_line};
 ghost use Rattle.rdlpp_read.specs.Files.{inner_buffer};
+ghost use Rattle.rdlpp_steps.specs.Engine.{is_open};
 ghost use Rattle.rdlpp_steps.specs.Marks.{told_position};
 ghost use Rattle.rdlpp_steps.specs.Owed.{nothing_owed};
 ghost use Rattle.rdlpp_steps.specs.Positions.{TakesOwed, position_of};
@@ -31,7 +32,10 @@ impl<S: Sources> Engine<S> {
     pub fn position(&self) -> Option<Position<'_>>
         ensures { told_position result ≡ position_of self.now }
     {
-        if self.kept.is_some() || self.phase == Phase::Fresh || self.phase == Phase::Closed {
+        if self.kept.is_some() {
+            return None;
+        }
+        if !has_text(self.phase) {
             return None;
         }
         self.facts();
@@ -64,5 +68,18 @@ impl<S: Sources> Engine<S> {
             name: copied(&file.name),
             line: file.shift.shown_line(file.buffer.line()),
         }
+    }
+}
+
+// Whether a main text is open.
+#[tactic(auto, unfolding(rdlpp_steps::specs::Engine::is_open))]
+fn has_text(phase: Phase) -> bool
+    ensures { result ≡ is_open phase }
+{
+    match phase {
+        Phase::Fresh => false,
+        Phase::Open => true,
+        Phase::Passed => true,
+        Phase::Closed => false,
     }
 }
