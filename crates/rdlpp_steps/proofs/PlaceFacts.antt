@@ -174,3 +174,15 @@ takes_marked {S} {R} (Some piece) inside old m rest line name_len is marks here 
           ∙ (ap (λ (e : EngineView S R). record e { owed = rest; marks = lends_owed e.owed line e.marks }) is
           ∙ ap (λ (n : ℕ). record old { owed = rest; marks = lends_owed old.owed n old.marks }) here);
     }
+
+-- and so is what is owed, or the open texts
+pub owing_marked : {S R : Type 0} (inside e : EngineView S R) (owed : OwedView) (m : MarksView) (change : MarksView → MarksView) → inside ≡ e → m ≡ change inside.marks
+    → record inside { owed = owed; marks = m } ≡ record e { owed = owed; marks = change e.marks }
+owing_marked {S} {R} inside e owed m change is marks =
+    ap (λ (n : MarksView). record inside { owed = owed; marks = n }) marks ∙ ap (λ (x : EngineView S R). record x { owed = owed; marks = change x.marks }) is
+
+pub marked_usage : {S R : Type 0} (inside old : EngineView S R) (x : ExpansionView) (m : MarksView) (line : ℕ) → inside ≡ old → m ≡ lends_usage line inside.marks → line ≡ old.expansion.line
+    → record inside { expansion = x; marks = m } ≡ record old { expansion = x; marks = lends_usage old.expansion.line old.marks }
+marked_usage {S} {R} inside old x m line is marks here =
+    ap (λ (n : MarksView). record inside { expansion = x; marks = n }) marks
+    ∙ (ap (λ (e : EngineView S R). record e { expansion = x; marks = lends_usage line e.marks }) is ∙ ap (λ (n : ℕ). record old { expansion = x; marks = lends_usage n old.marks }) here)
