@@ -341,9 +341,8 @@ impl<S: Sources> Engine<S> {
         ensures place { IsPlaced self.new result }
         ensures walks { IsBounded self.new → Walks S.Sources self.old self.new (lent_answer self.new result) }
     {
-        let buffer = &self.files.file().buffer;
-        let line = buffer.line();
-        let lines = line_ends_in(&buffer.held()[..len]);
+        let lines = line_ends_in(&self.files.file().buffer.held()[..len]);
+        let line = self.files.file().buffer.line();
         self.enter_mode(next);
         let start = self.consume(len, lines);
         self.marks.lend_line(line);

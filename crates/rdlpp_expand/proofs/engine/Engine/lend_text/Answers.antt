@@ -49,7 +49,7 @@ returns-clause-walks g c = λ bounded.
     let counted : c.line_ends_in-lines.result ≡ line_ends (take c.args.len (held_of (inner_buffer c.args.self.now.files.nest))) =
     c.line_ends_in-lines.ensures ∙ ap (λ h. line_ends (take c.args.len h)) held in
     let begins : c.consume-start.result ≡ (inner_buffer c.args.self.now.files.nest).at = c.consume-start.ensures.start ∙ (ap (λ e. (inner_buffer e.files.nest).at) c.enter_mode.ensures ∙ entered_at _ _) in
-    let here : c.line-line.result ≡ (inner_buffer c.args.self.now.files.nest).line = c.line-line.ensures ∙ (ap (λ b. b.line) c.file.ensures.buffer ∙ ap (λ e. (inner_buffer e.files.nest).line) c.self.view_is) in
+    let here : c.line-line.result ≡ (inner_buffer c.args.self.now.files.nest).line = c.line-line.ensures ∙ (ap (λ b. b.line) c.file-2.ensures.buffer ∙ ap (λ e. (inner_buffer e.files.nest).line) c.self.view_is) in
     let marked = marking _ c.consume-start.new.self _ c.lend_line.new.self (lends_line c.line-line.result) c.self-2.view_is c.consume-start.ensures.used c.lend_line.ensures in
     take_text g.S.Sources c.args.self.now c.enter_mode.new.self _ c.args.len c.line_ends_in-lines.result c.consume-start.result (c.consume-start.result + c.args.len) c.args.next
     c.requires.ready c.requires.live bounded c.requires.some c.requires.text counted c.enter_mode.ensures
@@ -58,5 +58,5 @@ returns-clause-walks g c = λ bounded.
 pub lend_line-requires : goal.lend_line-requires
 lend_line-requires g c =
     let counts = (inner_facts c.args.self.now.files c.requires.ready.nest c.requires.ready.files).buffer.counts in
-    let line : c.line-line.result ≡ (inner_buffer c.args.self.now.files.nest).line = c.line-line.ensures ∙ (ap (λ b. b.line) c.file.ensures.buffer ∙ ap (λ e. (inner_buffer e.files.nest).line) c.self.view_is) in
+    let line : c.line-line.result ≡ (inner_buffer c.args.self.now.files.nest).line = c.line-line.ensures ∙ (ap (λ b. b.line) c.file-2.ensures.buffer ∙ ap (λ e. (inner_buffer e.files.nest).line) c.self.view_is) in
     omega arith
