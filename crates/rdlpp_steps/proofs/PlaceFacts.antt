@@ -1,6 +1,7 @@
 -- The places of pieces, as the marks have them.
-use Rattle.std.proofs.Common.{◌≡◌, ℕ, zero, suc, ◌+◌, ◌-◌, ◌<◌, ◌==◌, Bool, true, false, List, [], ◌∷◌, Option, None, Some, length, refl, sym, ap, ◌∙◌, subst, arith}
+use Rattle.std.proofs.Common.{◌≡◌, ℕ, ◌+◌, ◌-◌, ◌<◌, ◌==◌, Bool, true, false, List, [], ◌∷◌, Option, None, Some, length, refl, sym, ap, ◌∙◌, subst, arith}
 use Rattle.std.specs.Prelude.{if◌then◌else◌, is_some, IfNone, IfSome}
+use Rattle.std.proofs.lemmas.Bool.{eqb-true, ne_eqb}
 use Rattle.rdlpp_scan.specs.declared.token.Mode.{Mode}
 use Rattle.rdlpp_meaning.specs.Outcome.{Told}
 use Rattle.rdlpp_meaning.specs.State.{Shift, State, shown_line}
@@ -13,10 +14,11 @@ use Rattle.rdlpp_conditions.specs.Conditions.{ConditionsView}
 use Rattle.rdlpp_usages.specs.Usages.{ExpansionView}
 use Rattle.rdlpp_steps.specs.Engine.{EngineView, is_open}
 use Rattle.rdlpp_steps.specs.Marks.{MarksView, PlaceView, lends_line, lends_line_end, lends_origin, lends_owed, lends_usage, marked_place}
-use Rattle.rdlpp_steps.specs.Owed.{OriginView, OwedView, TakesPiece, nothing_owed, origin_pieces, owed_pieces}
+use Rattle.rdlpp_steps.specs.Owed.{OriginView, OwedView, TakesPiece, nothing_owed, origin_pieces, owed_number, owed_pieces}
 use Rattle.rdlpp_steps.specs.Positions.{TakesOwed, line_end_place, origin_place, owed_place, place_at, position_of, source_place, usage_place}
 use Rattle.rdlpp_steps.specs.Remaining.{file_state, inner_name, nest_state, state_of}
 use Rattle.rdlpp_steps.specs.declared.owed.OwedPiece.{OwedPiece}
+use Rattle.rdlpp_steps.specs.declared.positions.Lent.TheVariants.{Ending, Line, Origin}
 use Rattle.rdlpp_steps.specs.declared.positions.LineStep.TheVariants.{Next}
 use Rattle.rdlpp_steps.specs.declared.phase.Phase.TheVariants.{Open}
 
@@ -72,15 +74,10 @@ unfolding marked_place lends_origin origin_place origin_pieces
 marked_origin None m s some = absurd (omega arith)
 marked_origin (Some origin) m s some = refl
 
--- a count that is 0
-no_count : (n : ℕ) → (n == 0) ≡ true → n ≡ 0
-no_count zero e = refl
-no_count (suc n) e = cc e
-
 -- one that falls isn't 0
 some_pieces : (owed rest : OwedView) → owed_pieces rest < owed_pieces owed → (owed.line_ends == 0) ≡ true → 0 < origin_pieces owed.origin
 unfolding owed_pieces
-some_pieces owed rest fewer none = let zeroth = no_count owed.line_ends none in omega arith
+some_pieces owed rest fewer none = let zeroth = eqb-true owed.line_ends 0 none in omega arith
 
 -- the first piece of what is owed is lent
 marked_owed : {S R : Type 0} (b : Bool) (e : EngineView S R) (rest : OwedView) → (e.owed.line_ends == 0) ≡ b → owed_pieces rest < owed_pieces e.owed
@@ -186,3 +183,30 @@ pub marked_usage : {S R : Type 0} (inside old : EngineView S R) (x : ExpansionVi
 marked_usage {S} {R} inside old x m line is marks here =
     ap (λ (n : MarksView). record inside { expansion = x; marks = n }) marks
     ∙ (ap (λ (e : EngineView S R). record e { expansion = x; marks = lends_usage line e.marks }) is ∙ ap (λ (n : ℕ). record old { expansion = x; marks = lends_usage n old.marks }) here)
+
+-- what is marked where a piece of what is owed is lent, by what is owed
+origin_marked : (origin : Option OriginView) (m : MarksView) (n : ℕ) → owed_number origin ≡ Some n → record m { lent = Origin n } ≡ lends_origin origin m
+unfolding lends_origin
+origin_marked None m n is = cc is
+origin_marked (Some origin) m n is = let same : n ≡ origin.number = cc is in ap (λ (k : ℕ). record m { lent = Origin k }) same
+
+origin_unmarked : (origin : Option OriginView) (m : MarksView) → owed_number origin ≡ None → m ≡ lends_origin origin m
+unfolding lends_origin
+origin_unmarked None m is = refl
+origin_unmarked (Some origin) m is = cc is
+
+pub marks_origin : (owed : OwedView) (line : ℕ) (m : MarksView) (n : ℕ) → owed.line_ends ≡ 0 → owed_number owed.origin ≡ Some n → record m { lent = Origin n } ≡ lends_owed owed line m
+unfolding lends_owed
+marks_origin owed line m n none is = rw none (origin_marked owed.origin m n is)
+
+pub marks_nothing : (owed : OwedView) (line : ℕ) (m : MarksView) → owed.line_ends ≡ 0 → owed_number owed.origin ≡ None → m ≡ lends_owed owed line m
+unfolding lends_owed
+marks_nothing owed line m none is = rw none (origin_unmarked owed.origin m is)
+
+pub marks_ending : (owed : OwedView) (line : ℕ) (m : MarksView) → (owed.line_ends ≡ 0 → ⊥) → m.ending ≡ true → record m { lent = Ending; ending = false } ≡ lends_owed owed line m
+unfolding lends_owed lends_line_end
+marks_ending owed line m some is = rw (ne_eqb owed.line_ends 0 some, is) refl
+
+pub marks_line : (owed : OwedView) (line n : ℕ) (m : MarksView) → (owed.line_ends ≡ 0 → ⊥) → m.ending ≡ false → n ≡ line - owed.line_ends → record m { lent = Line n } ≡ lends_owed owed line m
+unfolding lends_owed lends_line_end
+marks_line owed line n m some is here = rw (ne_eqb owed.line_ends 0 some, is, here) refl

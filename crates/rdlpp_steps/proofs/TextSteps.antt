@@ -151,7 +151,7 @@ module _ {S R : Type 0} (g : Ghosts S R) (old : EngineView S R) (x : ExpansionVi
   pub texts_lend : (place : TextPlace) → (let after = record old { expansion = x; marks = lends_usage old.expansion.line old.marks } in IsBounded after) → IsStep old.expansion.line old.expansion.depth (held_texts old) old.expansion.opens (Lends place) x.opens
       → IsFalling old.expansion.opens (Lends place) x.opens → StaysLent old.expansion (Lends place) x → IsFrontPlace old.expansion.opens place
       → (let after = record old { expansion = x; marks = lends_usage old.expansion.line old.marks } in Walks g old after (lent_answer after (Text place)))
-  unfolding IsStep StepsTo IsFalling StaysLent state_of
+  unfolding IsStep StepsTo IsFalling StaysLent state_of lends_usage text_of work_left
   texts_lend place bounded step falls lends stands =
       let goes = step (run_rules g old) (state_of old) (nest_macros old.limits old.table.macros old.conditions old.files.nest) in
       let marks = lends_usage old.expansion.line old.marks in
