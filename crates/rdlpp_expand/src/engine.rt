@@ -283,9 +283,7 @@ impl<S: Sources> Engine<S> {
         ensures walks { IsBounded self.new → Walks S.Sources self.old self.new (step_answer self.new result) }
     {
         self.facts();
-        self.mark_owed();
-        let name_len = self.files.file().name.len();
-        match self.owed.take(name_len) {
+        match self.take_owed() {
             Some(piece) => Some(Place::Owed(piece)),
             None => self.step_sources(),
         }
@@ -358,9 +356,10 @@ impl<S: Sources> Engine<S> {
         ensures walks { IsBounded self.new → Walks S.Sources self.old self.new (lent_answer self.new result) }
     {
         let lines = line_ends_in(&self.files.file().buffer.held()[..len]);
-        self.mark_source();
+        let line = self.files.file().buffer.line();
         self.enter_mode(next);
         let start = self.consume(len, lines);
+        self.marks.lend_line(line);
         Place::Source(start, start + len)
     }
 
