@@ -36,6 +36,7 @@ mod include;
 mod line;
 mod looking;
 mod opening;
+mod positions;
 mod skipping;
 mod texts;
 mod usage;
@@ -50,7 +51,7 @@ use rdlpp_meaning::{Fault, FaultKind};
 use rdlpp_read::{Files, Fill, LogicalLine};
 use rdlpp_scan::{Mode, line_ends_in, reserved};
 use rdlpp_source::Sources;
-use rdlpp_steps::{Held, Owed, Phase, Piece, Place, copied, copied_fault, fault_kind, word_of};
+use rdlpp_steps::{Held, Marks, Owed, Phase, Piece, Place, copied, copied_fault, fault_kind, word_of};
 use rdlpp_table::{Limits, Table};
 use rdlpp_usages::Expansion;
 use std::alloc::Global;
@@ -73,6 +74,8 @@ pub struct Engine<S: Sources> {
     // the path that was asked for, cut to 1,024 bytes or fewer at a character's boundary
     main: ArrayString<1024>,
     owed: Owed,
+    // where the piece stands that was lent last
+    marks: Marks,
     table: Table,
     conditions: Conditions,
     sources: S,
@@ -95,6 +98,7 @@ impl<S: Sources> Model for Engine<S> {
       kept = option_map told e.kept;
       main = e.main.bytes;
       owed = e.owed;
+      marks = e.marks;
       table = e.table;
       conditions = e.conditions;
       sources = e.sources;
@@ -279,6 +283,7 @@ impl<S: Sources> Engine<S> {
         ensures walks { IsBounded self.new → Walks S.Sources self.old self.new (step_answer self.new result) }
     {
         self.facts();
+        self.mark_owed();
         let name_len = self.files.file().name.len();
         match self.owed.take(name_len) {
             Some(piece) => Some(Place::Owed(piece)),
@@ -353,6 +358,7 @@ impl<S: Sources> Engine<S> {
         ensures walks { IsBounded self.new → Walks S.Sources self.old self.new (lent_answer self.new result) }
     {
         let lines = line_ends_in(&self.files.file().buffer.held()[..len]);
+        self.mark_source();
         self.enter_mode(next);
         let start = self.consume(len, lines);
         Place::Source(start, start + len)

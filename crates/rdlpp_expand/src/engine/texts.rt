@@ -111,7 +111,10 @@ impl<S: Sources> Engine<S> {
         let step = self.expansion.step(&self.table);
         self.expansion.facts();
         match step {
-            CursorStep::Lends(place) => TextStep::Lent(place),
+            CursorStep::Lends(place) => {
+                self.mark_usage();
+                TextStep::Lent(place)
+            }
             CursorStep::Silent => TextStep::Silent,
             CursorStep::Refused(fault) => {
                 let _kept = self.refuse_text(fault);
