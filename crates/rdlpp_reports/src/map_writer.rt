@@ -40,6 +40,10 @@ impl<W: Write> MapWriter<W> {
 }
 
 impl<W: Write> Watcher for MapWriter<W> {
+    fn is_looking(&self) -> bool {
+        true
+    }
+
     fn saw(&mut self, piece: &[u8], position: Position<'_>) {
         let ended = self.lines.take(piece, &position);
         if self.failure.is_some() {

@@ -11,7 +11,7 @@ use rdlpp_table::Limits;
 use std::io::{self, Write};
 
 // What a note begins with.
-const NOTE: &[u8; 13] = b"rdlpp: note: ";
+const NOTE: &[u8] = b"rdlpp: note: ";
 
 /// Writes the notes on the fault that ended a run, each a line `rdlpp: note: ..`, as far as the engine knows what they tell.
 ///
@@ -194,10 +194,10 @@ fn write_tried<W: Write>(
 fn write_candidate<W: Write>(folder: &str, name: &str, writer: &mut W) -> io::Result<()> {
     match joined_path(folder, name) {
         Some(path) => write_parts(&[NOTE, b"tried '", path.as_bytes(), b"'\n"], writer),
-        None => write_parts(
-            &[NOTE, b"a path in '", folder.as_bytes(), b"' has more than 1024 bytes\n"],
-            writer,
-        ),
+        None => {
+            let folder = folder.as_bytes();
+            write_parts(&[NOTE, b"too long in '", folder, b"'\n"], writer)
+        }
     }
 }
 

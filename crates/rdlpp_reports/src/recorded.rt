@@ -92,6 +92,18 @@ impl<S: Sources> Recorded<S> {
 impl<S: Sources> Sources for Recorded<S> {
     type Reader = S::Reader;
 
+    ghost use Rattle.rdlpp_reports.specs.Recorded.{noted_sources};
+
+    ghost tells = { λ r. S.tells (noted_sources r) };
+
+    ghost catalog = { λ r. S.catalog (noted_sources r) };
+
+    ghost unread = { S.unread };
+
+    ghost failures = { λ r. S.failures (noted_sources r) };
+
+    ghost refusals = { λ r. S.refusals (noted_sources r) };
+
     fn top(&mut self, path: &str) -> Result<Found<S::Reader>, SourceFault> {
         let answer = self.sources.top(path);
         self.note(&answer);
