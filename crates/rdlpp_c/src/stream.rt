@@ -11,6 +11,7 @@ use arrayvec::ArrayString;
 use rdlpp::{Fault, FaultKind, ReadEnd, ReadPart, Reading};
 use rdlpp_expand::{LineStep, Position};
 use rdlpp_owned::AskedTexts;
+use rdlpp_reports::MappedLines;
 use rdlpp_source::Sources;
 
 /// An output that is read piece by piece, over texts that it owns.
@@ -22,7 +23,9 @@ pub struct Stream {
     // whether a read ends with its piece
     pieces: bool,
     // what the last read gave of its piece
-    part: Part,
+    pub(crate) part: Part,
+    // the lines that mapped reads gave
+    pub(crate) lines: MappedLines,
 }
 
 // A part of a piece that a read gave.
@@ -48,11 +51,12 @@ impl Stream {
                 lines: 0,
                 is_empty: true,
             },
+            lines: MappedLines::new(),
         }
     }
 
     // Searches again for what was asked for.
-    fn take_up(&mut self) {
+    pub(crate) fn take_up(&mut self) {
         if self.reading.engine().sources().wanted.is_some() {
             self.reading.retry();
             let _started = self.reading.start_again(self.path.as_str());
@@ -69,7 +73,7 @@ impl Stream {
     }
 
     // Reads the next bytes of one piece, and counts their lines.
-    fn read_piece(&mut self, out: &mut [u8]) -> ReadPart {
+    pub(crate) fn read_piece(&mut self, out: &mut [u8]) -> ReadPart {
         let is_next = self.reading.rest_len() == 0;
         let part = self.reading.read_piece(out);
         self.part = Part {
@@ -84,25 +88,17 @@ impl Stream {
         part
     }
 
-    // The place of what the last read gave, where reads end with their pieces and it gave something.
+    // The place of what the last read gave, where reads end with their pieces.
     pub(crate) fn place(&self) -> Option<Position<'_>> {
-        if !self.pieces || self.part.is_empty {
+        if !self.pieces {
             return None;
         }
-        let place = self.reading.engine().position()?;
-        let passed = match place.step {
-            LineStep::Next => self.part.lines_before,
-            LineStep::Same => 0,
-        };
-        Some(Position {
-            line: place.line.saturating_add(passed),
-            ..place
-        })
+        part_place(&self.reading, &self.part)
     }
 
     // The path that is asked for, where a read ended with a search that asked.
-    fn wanted(&self, fault: &Option<Fault>) -> Option<ArrayString<1024>> {
-        match fault {
+    pub(crate) fn wanted(&self, ending: Option<ReadEnd>) -> Option<ArrayString<1024>> {
+        match ended_fault(&self.reading, ending) {
             Some(fault) if fault.kind == FaultKind::ReadFailed => {
                 self.reading.engine().sources().wanted
             }
@@ -110,6 +106,34 @@ impl Stream {
             None => None,
         }
     }
+
+    // The fault that ended the output, if one did: none where a source is asked for.
+    pub(crate) fn fault(&self) -> Option<Fault> {
+        match self.wanted(Some(ReadEnd::Stopped)) {
+            Some(_) => None,
+            None => self.reading.fault(),
+        }
+    }
+}
+
+// The place of a part of the piece that was lent last, where it has bytes.
+pub(crate) fn part_place<'a>(
+    reading: &'a Reading<AskedTexts>,
+    part: &Part,
+) -> Option<Position<'a>> {
+    if part.is_empty {
+        return None;
+    }
+    let place = reading.engine().position()?;
+    let passed = match place.step {
+        LineStep::Next => part.lines_before,
+        LineStep::Same => 0,
+    };
+    Some(Position {
+        name: place.name,
+        line: place.line.saturating_add(passed),
+        step: place.step,
+    })
 }
 
 // The fault that a read ended with, if it did.
@@ -183,12 +207,22 @@ pub(crate) fn read_stream(
 {
     stream.take_up();
     let part = stream.read(out);
-    let fault = ended_fault(&stream.reading, part.ending);
-    if let Some(path) = stream.wanted(&fault) {
-        return tell_wanted(&part, path.as_str(), name);
+    told_read(stream, &part, name, word)
+}
+
+// Tells what a read gave, and how it ended.
+pub(crate) fn told_read(
+    stream: &Stream,
+    part: &ReadPart,
+    name: &mut [u8],
+    word: &mut [u8],
+) -> Outcome {
+    if let Some(path) = stream.wanted(part.ending) {
+        return tell_wanted(part, path.as_str(), name);
     }
+    let fault = ended_fault(&stream.reading, part.ending);
     tell_read(&fault, name, word);
-    read_outcome(&part, &fault)
+    read_outcome(part, &fault)
 }
 
 // How many LF bytes there are.

@@ -30,13 +30,16 @@ pub(crate) const CLOSED: u32 = 6;
 // A source is asked for.
 pub(crate) const WANTED: u32 = 7;
 
+// The buffer for a line map is too short.
+pub(crate) const SHORT_MAP: u32 = 8;
+
 /// How a call ended, in numbers.
 #[repr(C)]
 #[derive(Clone, Copy, Debug, PartialEq, Eq)]
 pub struct Outcome {
     /// 0: the output is whole; 1: a fault ended it; 2: a limit is out of its range; 3: a path, a name
     /// or a body isn't UTF-8; 4: memory was refused; 5: more may follow; 6: the handle is closed; 7: a
-    /// source is asked for.
+    /// source is asked for; 8: the buffer for a line map is too short.
     pub status: u32,
     /// Of status 1 the number of the fault, of 2 the place of the limit among the fields, from 1;
     /// else 0.
