@@ -1,34 +1,10 @@
 /* The rows of crates/rdlpp_rows/data, in one call, by reads of one and of seven bytes, and with texts that are
    asked for; `calls` writes rows.inc. */
-#include "rdlpp.h"
+#include "row.h"
 
 #include <stdio.h>
 #include <stdlib.h>
 #include <string.h>
-
-/* A row: what a call asks for, the output that it must give, and the fault that must end it, of number 0 where none
-   does. */
-struct row {
-    const char *shows;
-    rdlpp_limits limits;
-    bool origins;
-    const rdlpp_text *texts;
-    size_t texts_length;
-    const rdlpp_folder *folders;
-    size_t folders_length;
-    const rdlpp_definition *definitions;
-    size_t definitions_length;
-    const char *output;
-    size_t output_length;
-    uint32_t number;
-    uint64_t line;
-    const char *name;
-    size_t name_length;
-    const char *word;
-    size_t word_length;
-};
-
-#include "rows.inc"
 
 #define NAME_ROOM 1024
 #define WORD_ROOM 128
@@ -52,22 +28,6 @@ static int ends(const struct row *row, const rdlpp_outcome *outcome, const char 
     return outcome->status == RDLPP_STOPPED && outcome->number == row->number && outcome->line == row->line
         && outcome->name_length == row->name_length && memcmp(name, row->name, row->name_length) == 0
         && outcome->word_length == row->word_length && memcmp(word, row->word, row->word_length) == 0;
-}
-
-static rdlpp_request asked(const struct row *row)
-{
-    rdlpp_request request = rdlpp_standard_request();
-    request.limits = row->limits;
-    request.origins = row->origins;
-    request.texts = row->texts;
-    request.texts_length = row->texts_length;
-    request.folders = row->folders;
-    request.folders_length = row->folders_length;
-    request.definitions = row->definitions;
-    request.definitions_length = row->definitions_length;
-    request.path = row->texts[0].path;
-    request.path_length = row->texts[0].path_length;
-    return request;
 }
 
 static void calls_once(const struct row *row, char *out)

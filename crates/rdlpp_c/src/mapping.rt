@@ -57,6 +57,7 @@ fn mapped(outcome: Outcome, map_length: usize) -> Mapped {
 }
 
 // What was read: a part of the output, and so many bytes of the map.
+#[derive(Clone, Copy)]
 struct Lines {
     part: ReadPart,
     map_len: usize,
