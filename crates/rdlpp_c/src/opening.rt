@@ -1,9 +1,9 @@
 // How an output is opened: the lists that a call asks for, as sources that own their texts.
-ghost use Rattle.std.specs.Prelude.{◌≡◌, IsUtf8, map, MatchResult};
+ghost use Rattle.std.specs.Prelude.{◌≡◌, IfOk, IsUtf8, map, MatchResult};
 ghost use Rattle.std.specs.List.{All};
 ghost use Rattle.std.specs.String.{string_bytes};
-ghost use Rattle.rdlpp_c.specs.Request.{AreUtf8, definition_given, requested, text_given};
-ghost use Rattle.rdlpp_c.specs.Streaming.{AreOwned, OpensStream, boxed_answer, owned_bytes, refused_answer};
+ghost use Rattle.rdlpp_c.specs.Request.{AreUtf8, definition_given, requested};
+ghost use Rattle.rdlpp_c.specs.Streaming.{AreOwned, OpensOwned, OpensStream, boxed_answer, owned_bytes, refused_answer, text_standing};
 ghost use Rattle.rdlpp_c.specs.declared.asking.Refusal.TheVariants.{BadText, NoMemory};
 
 use crate::arrays::{Folder, Request, Text, limits_of};
@@ -16,7 +16,7 @@ use std::rc::Rc;
 
 // One source, with its own text.
 fn owned_text(alloc: Global, text: &Text<'_>) -> Result<AskedText, Refusal>
-    ensures { MatchResult result (λ made. owned_bytes made ≡ text_given text.now)
+    ensures { MatchResult result (λ made. owned_bytes made ≡ text_standing text.now)
         (λ refusal. refusal ≡ BadText → ¬ (IsUtf8 text.now.path.now)) }
 {
     let path = String::from_str(alloc, text_of(text.path)?)?;
@@ -45,7 +45,7 @@ pub(crate) fn shared_text(alloc: Global, text: &[u8]) -> Result<Rc<Vec<u8>, Glob
 
 // The sources.
 fn owned_files(alloc: Global, texts: &[Text<'_>]) -> Result<Vec<AskedText>, Refusal>
-    ensures { MatchResult result (λ files. map owned_bytes files.items ≡ map text_given texts.now)
+    ensures { MatchResult result (λ files. map owned_bytes files.items ≡ map text_standing texts.now)
         (λ refusal. refusal ≡ BadText → ¬ (All (λ text. IsUtf8 text.path.now) texts.now)) }
 {
     let mut files = Vec::new(alloc);

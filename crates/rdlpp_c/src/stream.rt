@@ -41,7 +41,11 @@ pub(crate) struct Part {
 
 impl Stream {
     // An output of which nothing was read.
-    pub(crate) fn of(reading: Reading<AskedTexts>, path: String, pieces: bool) -> Stream {
+    pub(crate) fn of(reading: Reading<AskedTexts>, path: String, pieces: bool) -> Stream
+        ensures reading { result.reading ≡ reading }
+        ensures path { result.path ≡ path }
+        ensures pieces { result.pieces ≡ pieces }
+    {
         Stream {
             reading,
             path,
