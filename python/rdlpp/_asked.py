@@ -31,11 +31,12 @@ class Unreadable(Exception):
 
 
 class Disk:
-    """Files. Of each as much is read as a run can use: one byte more than a source may have, and of a line
-    that is too long little more than a line may have."""
+    """Files. Of each as much is read as a run can use: up to the first line that passes a limit, so that also
+    devices without an end are read to one."""
 
     def __init__(self, source_bytes: int, line_bytes: int) -> None:
-        self._most = source_bytes + 1
+        # With so many bytes one line is whole that passes `source_bytes`, or one has more than `line_bytes`.
+        self._most = source_bytes + line_bytes + 1
         self._line = line_bytes
 
     def __call__(self, path: str) -> Optional[bytes]:

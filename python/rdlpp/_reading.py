@@ -1,11 +1,12 @@
 """An output that is read from the library, which asks for the sources that it needs."""
 
 import ctypes
-from typing import List, Optional, Tuple
+from typing import Any, List, Optional, Sequence, Tuple
 
 from . import _library as library
 from ._asked import Unreadable
 from ._faults import Fault, FaultKind
+from ._output import Position
 from ._request import Request
 
 
@@ -26,9 +27,10 @@ class Reading:
         self._unreadable: Optional[Tuple[str, Unreadable]] = None
         self._handle = library.Handle()
         self._at = ctypes.byref(self._handle)
-        self._name = (ctypes.c_char * library.NAME_ROOM)()
-        self._word = (ctypes.c_char * library.WORD_ROOM)()
-        self._told = (ctypes.addressof(self._name), library.NAME_ROOM, ctypes.addressof(self._word), library.WORD_ROOM)
+        self._buffers = (ctypes.c_char * (library.NAME_ROOM + library.WORD_ROOM))()
+        self._name = ctypes.addressof(self._buffers)
+        self._word = self._name + library.NAME_ROOM
+        self._told = (self._name, library.NAME_ROOM, self._word, library.WORD_ROOM)
         self._map = (ctypes.c_char * 0)()
         self._open(request, pieces)
 
@@ -41,7 +43,7 @@ class Reading:
         given = library.standard_request()
         given.limits = library.GivenLimits(*request.limits)
         given.origins, given.asks, given.pieces = request.origins, True, pieces
-        lists = (
+        lists: Tuple[Tuple[str, Any, Sequence[Tuple[bytes, ...]]], ...] = (
             ("texts", library.Pair, request.texts),
             ("folders", library.Folder, [(folder,) for folder in request.folders]),
             ("definitions", library.Pair, request.definitions),
@@ -71,16 +73,16 @@ class Reading:
         mapped = library.read_mapped(
             self._at, place, room, ctypes.addressof(self._map), library.MAP_ROOM, *self._told
         )
-        lines = self._map[: mapped.map_length]
+        lines = ctypes.string_at(self._map, mapped.map_length)
         self._go_on(mapped.outcome)
         return int(mapped.outcome.length), lines
 
-    def position(self) -> Optional[Tuple[str, int, int]]:
-        """The name, the line and the step of what was read last, where there is one."""
+    def position(self) -> Optional[Position]:
+        """The place of the first byte of what was read last, where there is one."""
         outcome = library.position(self._at, *self._told[:2])
         if outcome.status != library.WHOLE:
             return None
-        return self._name[: outcome.name_length].decode(), outcome.line, outcome.number
+        return Position(self._shown_name(outcome), outcome.line, outcome.number)
 
     def definitions(self) -> bytes:
         """The live definitions, as `define` lines."""
@@ -94,7 +96,7 @@ class Reading:
         """Does what the outcome of a read asks for, so that the next one goes on."""
         status = outcome.status
         if status == library.WANTED:
-            self._give(self._name[: outcome.name_length])
+            self._give(ctypes.string_at(self._name, outcome.name_length))
         elif status == library.WHOLE:
             self.has_ended = True
         elif status == library.STOPPED:
@@ -118,10 +120,13 @@ class Reading:
         held = text if isinstance(text, bytes) else bytes(text)
         return _raise_refusal(library.give(self._at, path, len(path), held, len(held)))
 
+    def _shown_name(self, outcome: library.Outcome) -> str:
+        return ctypes.string_at(self._name, outcome.name_length).decode()
+
     def _fault(self, outcome: library.Outcome) -> Fault:
         """The fault that an outcome tells."""
         kind, line = FaultKind(outcome.number), outcome.line
-        name, word = self._name[: outcome.name_length].decode(), self._word[: outcome.word_length].decode()
+        name, word = self._shown_name(outcome), ctypes.string_at(self._word, outcome.word_length).decode()
         notes = _lines(library.told(library.notes, self._at))
         cause = None
         if kind == FaultKind.READ_FAILED and self._unreadable is not None:

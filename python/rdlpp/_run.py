@@ -2,11 +2,12 @@
 
 from typing import Iterable, List, Mapping, Optional
 
+from ._asked import Bytes
 from ._faults import Fault
 from ._limits import Limits
 from ._output import Output, lines_of
 from ._reading import Reading
-from ._request import Bytes, Path, Read, Request, Source, request_of
+from ._request import Path, Read, Request, Source, request_of
 from ._written import Written
 
 # How much one read asks for: it comes back soon, so that a signal is seen.

@@ -4,10 +4,11 @@ import warnings
 from threading import RLock
 from typing import Iterable, Iterator, Mapping, NoReturn, Optional, Tuple
 
+from ._asked import Bytes
 from ._limits import Limits
 from ._output import Position
 from ._reading import Reading
-from ._request import Bytes, Path, Read, Source, request_of
+from ._request import Path, Read, Source, request_of
 from ._written import Written
 
 # How much one read asks for: it comes back in milliseconds.
