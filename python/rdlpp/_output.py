@@ -5,7 +5,13 @@ from typing import Iterator, List, NamedTuple, Optional, Tuple
 
 
 class Place(NamedTuple):
-    """A place in a source: its shown name, and its shown line, from 1."""
+    """A place in a source: its shown name, and its shown line, from 1.
+
+        >>> import rdlpp
+        >>> place = rdlpp.run(b"a\\nb\\n").lines.place(2)
+        >>> f"{place.name}:{place.line}"
+        '-:2'
+    """
 
     name: str
     line: int
@@ -13,6 +19,12 @@ class Place(NamedTuple):
 
 class Position(NamedTuple):
     """The place of the first byte of a piece.
+
+        >>> import rdlpp
+        >>> pieces = rdlpp.stream(b"a\\nb\\n", positions=True)
+        >>> next(pieces), pieces.position
+        (b'a\\nb\\n', Position(name='-', line=1, step=1))
+        >>> pieces.close()
 
     Attributes:
         name: the shown name.

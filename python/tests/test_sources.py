@@ -115,9 +115,12 @@ class Files(Sources):
         self.addCleanup(folder.cleanup)
         self.addCleanup(os.chdir, os.getcwd())
         os.chdir(folder.name)
-        signal.signal(signal.SIGALRM, signal.SIG_DFL)
+        self.addCleanup(signal.signal, signal.SIGALRM, signal.signal(signal.SIGALRM, self.hangs))
         signal.alarm(60)
         self.addCleanup(signal.alarm, 0)
+
+    def hangs(self, *_signal):
+        raise AssertionError("no end after a minute")
 
     def write(self, path, text):
         pathlib.Path(path).parent.mkdir(parents=True, exist_ok=True)
