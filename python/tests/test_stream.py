@@ -3,8 +3,6 @@
 import asyncio
 import copy
 import gc
-import importlib.util
-import pathlib
 import pickle
 import signal
 import threading
@@ -14,20 +12,11 @@ import warnings
 
 import rdlpp
 
-EXAMPLE = pathlib.Path(__file__).resolve().parent.parent / "examples" / "fields.py"
 SOURCE = b'`define A(x) <x>\n`A(long body)`include "i"\n`W\n'
 FILES = {"m": SOURCE, "inc/i": b"q"}
 WHOLE = b"\n<long body>q\n\n8\n"
 # Macros that double nothing so often that no run of them ends in a lifetime.
 NOTHING = b"`define E0\n" + b"".join(b"`define E%d `E%d`E%d\n" % (n + 1, n, n) for n in range(60)) + b"`E60\n"
-
-
-def example():
-    """The example, as a module."""
-    spec = importlib.util.spec_from_file_location("fields", EXAMPLE)
-    module = importlib.util.module_from_spec(spec)
-    spec.loader.exec_module(module)
-    return module
 
 
 class Pieces(unittest.TestCase):
@@ -273,14 +262,6 @@ class Signals(unittest.TestCase):
         self.check(lambda: list(given))
         with self.assertRaisesRegex(ValueError, "the stream is closed"):
             next(given)
-
-
-class Example(unittest.TestCase):
-    def test_fields_line_by_line(self):
-        source = b"`define F(n, b) field {} n[b];\nreg { // no[0:0]\n`F(enable, 0:0) `F(limit, 31:8)\n} c @ 0x0;"
-        for room in (1, 7, 4096):
-            found = list(example().fields(rdlpp.stream(source, room=room)))
-            self.assertEqual(found, [("enable", 0, 0), ("limit", 31, 8)])
 
 
 if __name__ == "__main__":
