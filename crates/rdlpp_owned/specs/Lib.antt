@@ -1,1 +1,1 @@
-pub mod Owned
+pub mod Asked

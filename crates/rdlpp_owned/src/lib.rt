@@ -1,6 +1,6 @@
-//! Sources in memory that own their texts.
+//! Sources in memory that own their texts, and that may ask for what they don't have.
 #![tactic(auto)]
 
-mod owned;
+mod asked;
 
-pub use owned::{OwnedReader, OwnedText, OwnedTexts};
+pub use asked::{AskedReader, AskedText, AskedTexts, Standing};

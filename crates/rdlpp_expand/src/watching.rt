@@ -1,0 +1,24 @@
+// Watchers: who is shown what a run writes.
+ghost use Rattle.std.specs.Prelude.{ℕ, List, Option, None};
+ghost use Rattle.std.specs.Io.KnownBytes.{Appends};
+
+/// Is shown the output that a run writes, piece by piece.
+///
+/// A watcher says in contracts which bytes it was shown, where it knows them. The rules are this project's.
+pub trait Watcher {
+    // the bytes that were shown, where they are known
+    ghost seen: { Self → Option (List ℕ) } = { λ _. None };
+
+    /// Is shown bytes that the writer took of a piece: all of it, unless a write failed.
+    fn saw(&mut self, piece: &[u8])
+        ensures { Appends (seen self.old) (seen self.new) piece.now };
+}
+
+// Nobody watches.
+#[derive(Drop)]
+pub(crate) struct Unwatched {}
+
+impl Watcher for Unwatched {
+    #[inline(always)]
+    fn saw(&mut self, _piece: &[u8]) {}
+}
