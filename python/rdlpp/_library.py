@@ -98,7 +98,7 @@ def _declared(name: str, answer: Any, *parameters: Any) -> Callable[..., Any]:
     return call  # type: ignore[no-any-return]
 
 
-standard_request = _declared("rdlpp_standard_request", Request)
+standard_limits = _declared("rdlpp_standard_limits", GivenLimits)
 open_handle = _declared("rdlpp_open", Outcome, ctypes.POINTER(Request), *_buffer, *_buffer, _handle)
 read_handle = _declared("rdlpp_read", Outcome, _handle, *_buffer, *_buffer, *_buffer)
 read_mapped = _declared("rdlpp_read_mapped", Mapped, _handle, *_buffer, *_buffer, *_buffer, *_buffer)

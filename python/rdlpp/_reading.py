@@ -40,7 +40,7 @@ class Reading:
         return self.has_ended or self.fault is not None
 
     def _open(self, request: Request, pieces: bool) -> None:
-        given = library.standard_request()
+        given = library.Request()
         given.limits = library.GivenLimits(*request.limits)
         given.origins, given.asks, given.pieces = request.origins, True, pieces
         lists: Tuple[Tuple[str, Any, Sequence[Tuple[bytes, ...]]], ...] = (

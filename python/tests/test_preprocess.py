@@ -1,5 +1,6 @@
 """Calls of the package: what they give, and how a fault and a limit are told."""
 
+import ctypes
 import pathlib
 import pickle
 import re
@@ -177,9 +178,12 @@ class Limits(unittest.TestCase):
 
     def opened(self, limit, value):
         """The status and the number by which the library opens an empty text with a limit."""
-        request, handle = _library.standard_request(), _library.Handle()
+        room = ctypes.create_string_buffer(1)
+        request, handle = _library.Request(limits=_library.standard_limits(), path=b""), _library.Handle()
+        for field in ("texts", "folders", "definitions"):
+            setattr(request, field, _library.array(type(getattr(request, field))._type_, []))
         setattr(request.limits, limit, value)
-        outcome = _library.open_handle(request, 0, 0, 0, 0, handle)
+        outcome = _library.open_handle(request, room, 1, room, 1, handle)
         _library.close_handle(handle)
         return outcome.status, outcome.number
 
@@ -191,7 +195,7 @@ class Limits(unittest.TestCase):
         self.assertEqual((caught.exception.number, caught.exception.output), (35, b"abc"))
 
     def test_the_standard_limits(self):
-        given = _library.standard_request().limits
+        given = _library.standard_limits()
         for limit, value in zip(rdlpp.Limits._fields, rdlpp.Limits()):
             self.assertEqual(getattr(given, limit), value, limit)
 
