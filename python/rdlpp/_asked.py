@@ -20,14 +20,21 @@ class Unreadable(Exception):
     """A file can't be opened, or can't be read.
 
     Attributes:
-        error: the system's reason.
+        error: what was raised.
         is_open: whether it was opened, so that a read failed.
     """
 
-    def __init__(self, error: OSError, is_open: bool):
+    def __init__(self, error: Union[OSError, ValueError], is_open: bool):
         super().__init__(error, is_open)
         self.error = error
         self.is_open = is_open
+
+    @property
+    def reason(self) -> str:
+        """The system's reason."""
+        if isinstance(self.error, OSError):
+            return f"{self.error.strerror} (os error {self.error.errno})"
+        return "file name contained an unexpected NUL byte"
 
 
 class Disk:
@@ -46,9 +53,7 @@ class Disk:
             file = os.open(path.encode(), os.O_RDONLY | os.O_CLOEXEC)
         except FileNotFoundError:
             return None
-        except ValueError as error:
-            raise Unreadable(OSError(str(error)), False) from error
-        except OSError as error:
+        except (OSError, ValueError) as error:
             raise Unreadable(error, False) from error
         try:
             return self._text(file)

@@ -9,6 +9,9 @@ from ._faults import Fault, FaultKind
 from ._output import Position
 from ._request import Request
 
+# What a note begins with where it is written.
+NOTE = "rdlpp: note: "
+
 
 class Reading:
     """An output that is open. It is used by one call at a time, and closed by the one who made it.
@@ -127,21 +130,28 @@ class Reading:
         """The fault that an outcome tells."""
         kind, line = FaultKind(outcome.number), outcome.line
         name, word = self._shown_name(outcome), ctypes.string_at(self._word, outcome.word_length).decode()
-        notes = _lines(library.told(library.notes, self._at))
-        cause = None
+        fault = Fault(kind, name, line, word, library.fault_text(kind), _notes(library.told(library.notes, self._at)))
         if kind == FaultKind.READ_FAILED and self._unreadable is not None:
-            path, unreadable = self._unreadable
-            cause = unreadable.error
-            if unreadable.is_open:
-                name, line = path, 1
-            notes += (f"{path}: {cause.strerror or cause}",)
-        fault = Fault(kind, name, line, word, library.fault_text(kind), notes)
-        fault.__cause__ = cause
+            return _of_file(fault, *self._unreadable)
         return fault
 
 
-def _lines(notes: bytes) -> Tuple[str, ...]:
-    return tuple(line for line in notes.decode("utf-8", "replace").split("\n") if line)
+def _of_file(fault: Fault, path: str, unreadable: Unreadable) -> Fault:
+    """The fault that an unreadable file ends by: of one that was opened it stands in that file's first line."""
+    name, line, notes = fault.name, fault.line, fault.notes
+    if unreadable.is_open:
+        name, line = path, 1
+        if fault.line:
+            notes = (f"included from {fault.name}:{fault.line}", *notes)
+    made = Fault(fault.kind, name, line, fault.word, fault.text, (f"{path}: {unreadable.reason}", *notes))
+    made.__cause__ = unreadable.error
+    return made
+
+
+def _notes(told: bytes) -> Tuple[str, ...]:
+    """The notes on a fault, each without what a note begins with."""
+    lines = told.decode("utf-8", "replace").split("\n")[:-1]
+    return tuple(line[len(NOTE) :] if line.startswith(NOTE) else line for line in lines)
 
 
 def _raise_refusal(status: int) -> None:

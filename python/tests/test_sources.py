@@ -149,7 +149,7 @@ class Files(Sources):
         fault = self.fault("m", ["inc"])
         self.assertEqual((str(fault), fault.output), ("d:1: error F32: read failed", b"x\n"))
         self.assertIsInstance(fault.__cause__, IsADirectoryError)
-        self.assertIn("d: Is a directory", fault.notes)
+        self.assertEqual(fault.notes, ("d: Is a directory (os error 21)", "included from m:2"))
         self.assertEqual(fault.partial.sources, ("m", "d"))
         self.assertEqual(str(self.fault("d")), "d:1: error F32: read failed")
 
@@ -158,6 +158,7 @@ class Files(Sources):
         fault = self.fault("m")
         self.assertEqual(str(fault), "m:2: error F32: read failed")
         self.assertIsInstance(fault.__cause__, NotADirectoryError)
+        self.assertEqual(fault.notes, ("m/i: Not a directory (os error 20)",))
         self.assertEqual(fault.partial.sources, ("m",))
         self.assertEqual(str(self.fault("m/i")), "m/i:0: error F32: read failed")
 
