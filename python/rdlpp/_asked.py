@@ -4,6 +4,7 @@ Each is a callable from a path to its text, or to None where nothing is there. I
 something is there that can't be read; any other exception ends the run and comes out of it.
 """
 
+import errno
 import os
 import stat
 from typing import Callable, List, Mapping, Optional, Union
@@ -12,6 +13,7 @@ from typing import Callable, List, Mapping, Optional, Union
 Bytes = Union[bytes, bytearray, memoryview]
 Asked = Callable[[str], Optional[Bytes]]
 
+NUL_IN_NAME = "file name contained an unexpected NUL byte"
 FIRST_PART = 65_536
 LARGEST_PART = 67_108_864
 
@@ -34,12 +36,15 @@ class Unreadable(Exception):
         """The system's reason."""
         if isinstance(self.error, OSError):
             return f"{self.error.strerror} (os error {self.error.errno})"
-        return "file name contained an unexpected NUL byte"
+        return str(self.error)
 
 
 class Disk:
     """Files. Of each as much is read as a run can use: up to the first line that passes a limit, so that also
-    devices without an end are read to one."""
+    devices without an end are read to one.
+
+    An error without a number isn't the system's: a signal's handler raised it, and it comes out.
+    """
 
     def __init__(self, source_bytes: int, line_bytes: int) -> None:
         # With so many bytes one line is whole that passes `source_bytes`, or one has more than `line_bytes`.
@@ -49,16 +54,21 @@ class Disk:
     def __call__(self, path: str) -> Optional[bytes]:
         if "\n" in path:
             return None
+        if "\0" in path:
+            raise Unreadable(ValueError(NUL_IN_NAME), False)
         try:
             file = os.open(path.encode(), os.O_RDONLY | os.O_CLOEXEC)
-        except FileNotFoundError:
-            return None
-        except (OSError, ValueError) as error:
+        except OSError as error:
+            if error.errno is None:
+                raise
+            if error.errno == errno.ENOENT:
+                return None
             raise Unreadable(error, False) from error
         try:
             return self._text(file)
         except OSError as error:
-            error.filename = path
+            if error.errno is None:
+                raise
             raise Unreadable(error, True) from error
         finally:
             os.close(file)

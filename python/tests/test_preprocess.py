@@ -103,7 +103,7 @@ class Runs(unittest.TestCase):
 
     def test_short_texts_of_it(self):
         output = self.output()
-        self.assertEqual(repr(output), "<Output of 17 bytes, from 2 sources>")
+        self.assertEqual(repr(output), "<Output of 15 bytes, from 2 sources>")
         self.assertEqual(repr(output.lines), "<Lines of 8 lines>")
 
 
