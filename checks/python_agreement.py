@@ -33,7 +33,7 @@ class Told:
 def prerequisites(rule):
     """The sources of a rule for make: what its first line names behind the target, where `\\` LF goes on."""
     first = re.split(r"(?<!\\)\n", rule.decode(), maxsplit=1)[0]
-    words = re.split(r"(?<!\\)[ \n]+", first.replace("\\\n", " ").strip())
+    words = re.findall(r"(?:\\.|[^\s\\])+", first.replace("\\\n", " "))
     return tuple(re.sub(r"\\([ #:\t])", r"\1", word).replace("$$", "$") for word in words[1:])
 
 
