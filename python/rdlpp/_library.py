@@ -2,7 +2,7 @@
 
 import ctypes
 import os
-from typing import Any, Callable, List, Sequence, Tuple
+from typing import Any, Callable, Sequence, Tuple
 
 from ._limits import Limits
 from ._written import Written

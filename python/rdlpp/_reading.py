@@ -14,7 +14,7 @@ NOTE = "rdlpp: note: "
 
 
 class Reading:
-    """An output that is open. It is used by one call at a time, and closed by the one who made it.
+    """An output that is open. It is used by one call at a time.
 
     Attributes:
         has_ended: whether all of the output was read.
@@ -23,13 +23,13 @@ class Reading:
     """
 
     def __init__(self, request: Request, *, pieces: bool = False):
+        self._handle = library.Handle()
+        self._at = ctypes.byref(self._handle)
         self.has_ended = False
         self.fault: Optional[Fault] = None
         self.sources: List[str] = []
         self._asked = request.asked
         self._unreadable: Optional[Tuple[str, Unreadable]] = None
-        self._handle = library.Handle()
-        self._at = ctypes.byref(self._handle)
         self._buffers = (ctypes.c_char * (library.NAME_ROOM + library.WORD_ROOM))()
         self._name = ctypes.addressof(self._buffers)
         self._word = self._name + library.NAME_ROOM
@@ -94,6 +94,9 @@ class Reading:
     def close(self) -> None:
         """Gives back what is open."""
         library.close_handle(self._at)
+
+    def __del__(self) -> None:
+        self.close()
 
     def _go_on(self, outcome: library.Outcome) -> None:
         """Does what the outcome of a read asks for, so that the next one goes on."""

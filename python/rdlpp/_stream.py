@@ -90,7 +90,6 @@ class Stream(Iterator[bytes]):
     def __del__(self) -> None:
         if not self._is_closed and not self._reading.is_over:
             warnings.warn(f"unclosed {self!r}", ResourceWarning, stacklevel=2, source=self)
-        self._reading.close()
 
     def __reduce__(self) -> NoReturn:
         raise TypeError("a stream can't be copied or pickled")
