@@ -98,11 +98,11 @@ def preprocess(
 
 def run(
     source: Source,
+    *,
     include_dirs: Iterable[Path] = (),
     defines: Optional[Mapping[str, str]] = None,
     limits: Optional[Limits] = None,
     origins: bool = False,
-    *,
     files: Optional[Mapping[str, Bytes]] = None,
     read: Optional[Read] = None,
 ) -> Output:

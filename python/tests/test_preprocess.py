@@ -53,7 +53,7 @@ class Runs(unittest.TestCase):
     DEFINES = {"W": "8", "Two": "1\n2"}
 
     def output(self):
-        return rdlpp.run("m", ["inc"], self.DEFINES, files=self.FILES)
+        return rdlpp.run("m", include_dirs=["inc"], defines=self.DEFINES, files=self.FILES)
 
     def test_a_run(self):
         output = self.output()
@@ -84,7 +84,7 @@ class Runs(unittest.TestCase):
 
     def test_a_fault_has_what_was_made_before(self):
         with self.assertRaises(rdlpp.Fault) as caught:
-            rdlpp.run("m", ["inc"], files={**self.FILES, "m": b'`include "i"\n`Q'})
+            rdlpp.run("m", include_dirs=["inc"], files={**self.FILES, "m": b'`include "i"\n`Q'})
         partial = caught.exception.partial
         self.assertEqual((partial.text, caught.exception.output), (b"q\n\n\n", b"q\n\n\n"))
         self.assertEqual((partial.sources, partial.definitions), (("m", "inc/i"), b"`define X x\n"))

@@ -33,7 +33,7 @@ class Sources(unittest.TestCase):
 class Callables(Sources):
     def test_what_is_asked_for(self):
         read = Asked({"a/m": b'`include "i"\n`include "/r"\n`include "j"\n`include "i"\n', "a/i": b"i", "/r": b"r", "more/j": b"j"})
-        output = rdlpp.run("a/m", ["inc", "more/", ""], read=read)
+        output = rdlpp.run("a/m", include_dirs=["inc", "more/", ""], read=read)
         self.assertEqual(read.paths, ["a/m", "a/i", "/r", "a/j", "inc/j", "more/j"])
         self.assertEqual(output.sources, ("a/m", "a/i", "/r", "more/j"))
 
@@ -135,7 +135,7 @@ class Files(Sources):
     def test_included_files(self):
         self.write("a/m", b'`include "i"\nz\n')
         self.write("inc/i", b"q")
-        output = rdlpp.run(pathlib.Path("a/m"), [pathlib.Path("inc")])
+        output = rdlpp.run(pathlib.Path("a/m"), include_dirs=[pathlib.Path("inc")])
         self.assertEqual((output.text, output.sources), (b"q\n\nz\n", ("a/m", "inc/i")))
 
     def test_no_file(self):
@@ -146,7 +146,7 @@ class Files(Sources):
         self.write("m", b'x\n`include "d"\n')
         self.write("inc/d", b"q\n")
         os.mkdir("d")
-        fault = self.fault("m", ["inc"])
+        fault = self.fault("m", include_dirs=["inc"])
         self.assertEqual((str(fault), fault.output), ("d:1: error F32: read failed", b"x\n"))
         self.assertIsInstance(fault.__cause__, IsADirectoryError)
         self.assertEqual(fault.notes, ("d: Is a directory (os error 21)", "included from m:2"))
