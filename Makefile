@@ -50,7 +50,7 @@ out/librdlpp_c.a: $(call sources,rdlpp_c) checks/c/library VERSION
 	@cd crates/rdlpp_c && rt all check --jobs $(JOBS) && rt lib
 	@checks/c/library
 
-python: out/librdlpp_c.a ## build the library for C and the wheel of the Python package, which goes to out/
+python: out/rdlpp out/librdlpp_c.a ## build the program, the library for C and the wheel of the Python package, which goes to out/
 	@python3 python/wheel_backend.py out
 
 fuzz: out/rdlpp ## run the program over random sources: SEED=1 CASES=2000, or other numbers

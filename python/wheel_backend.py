@@ -1,4 +1,4 @@
-"""Writes the wheel: the package and the shared library, which has to be built before.
+"""Writes the wheel: the package, the shared library and the program, which have to be built before.
 
 A build backend of its own, since a wheel is one archive and nothing is compiled here; it needs neither
 setuptools nor wheel, nor a network. `make python` runs it, and so does `pip wheel`.
@@ -12,13 +12,13 @@ import sys
 import zipfile
 
 HERE = pathlib.Path(__file__).resolve().parent
-LIBRARY = HERE.parent / "out" / "librdlpp_c.so"
+BUILT = HERE.parent / "out"
+LIBRARY = "librdlpp_c.so"
+PROGRAM = "rdlpp"
 NAME = "rdlpp"
 VERSION = (HERE.parent / "VERSION").read_text().strip()
-# The oldest C library that the wheel's platforms have, by which pip and indexes know where it runs.
-GLIBC = (2, 17)
-PLATFORMS = ("manylinux_2_17_x86_64", "manylinux2014_x86_64")
-TAG = "py3-none-" + ".".join(PLATFORMS)
+# The least C library that a wheel's platform names, where what is built would run with an older one too.
+LEAST_GLIBC = (2, 17)
 METADATA = f"""Metadata-Version: 2.1
 Name: {NAME}
 Version: {VERSION}
@@ -27,31 +27,48 @@ License: MIT OR Apache-2.0
 Requires-Python: >=3.8
 Classifier: Programming Language :: Python :: Implementation :: CPython
 """
+ENTRY_POINTS = f"""[console_scripts]
+{NAME} = {NAME}.__main__:main
+"""
 WHEEL = f"""Wheel-Version: 1.0
 Generator: rdlpp {VERSION}
 Root-Is-Purelib: false
-""" + "".join(f"Tag: py3-none-{platform}\n" for platform in PLATFORMS)
+Tag: """
 
 
-def _library():
-    """The shared library. It asks for no newer C library than the wheel's platforms have."""
-    if not LIBRARY.exists():
-        sys.exit(f"no {LIBRARY}: run make c first")
-    held = LIBRARY.read_bytes()
-    asked = {(int(first), int(second)) for first, second in re.findall(rb"GLIBC_(\d+)\.(\d+)", held)}
-    if max(asked) > GLIBC:
-        sys.exit(f"{LIBRARY} asks for glibc {max(asked)}, and the wheel's platforms have {GLIBC}")
-    return held
+def _built(name):
+    """The bytes of a file that is built."""
+    file = BUILT / name
+    if not file.exists():
+        sys.exit(f"no {file}: run make build and make c first")
+    return file.read_bytes()
 
 
-def _files():
-    """What the wheel has: each path with its bytes."""
+def _tag():
+    """The tag by which pip and indexes know where the wheel runs: with the newest C library that what is built asks for."""
+    names = b"".join(_built(name) for name in (LIBRARY, PROGRAM))
+    asked = {(int(first), int(second)) for first, second in re.findall(rb"GLIBC_(\d+)\.(\d+)", names)}
+    newest = max(asked | {LEAST_GLIBC})
+    return "py3-none-manylinux_{}_{}_x86_64".format(*newest)
+
+
+def _files(tag):
+    """What the wheel has: each path with its bytes, and whether it is a program."""
     for file in sorted((HERE / NAME).iterdir()):
         if file.suffix in (".py", ".typed"):
-            yield f"{NAME}/{file.name}", file.read_bytes()
-    yield f"{NAME}/{LIBRARY.name}", _library()
-    yield f"{NAME}-{VERSION}.dist-info/METADATA", METADATA.encode()
-    yield f"{NAME}-{VERSION}.dist-info/WHEEL", WHEEL.encode()
+            yield f"{NAME}/{file.name}", file.read_bytes(), False
+    yield f"{NAME}/{LIBRARY}", _built(LIBRARY), False
+    yield f"{NAME}/bin/{PROGRAM}", _built(PROGRAM), True
+    yield f"{NAME}-{VERSION}.dist-info/METADATA", METADATA.encode(), False
+    yield f"{NAME}-{VERSION}.dist-info/WHEEL", f"{WHEEL}{tag}\n".encode(), False
+    yield f"{NAME}-{VERSION}.dist-info/entry_points.txt", ENTRY_POINTS.encode(), False
+
+
+def _entry(path, is_program=False):
+    """A file of the archive; pip makes a file that has the right to be run a program."""
+    entry = zipfile.ZipInfo(path)
+    entry.external_attr = (0o100755 if is_program else 0o100644) << 16
+    return entry
 
 
 def _line(path, held):
@@ -61,14 +78,15 @@ def _line(path, held):
 
 def build_wheel(wheel_directory, config_settings=None, metadata_directory=None):
     """Writes the wheel into a folder and answers its file's name (PEP 517)."""
-    name = f"{NAME}-{VERSION}-{TAG}.whl"
+    tag = _tag()
+    name = f"{NAME}-{VERSION}-{tag}.whl"
     record = f"{NAME}-{VERSION}.dist-info/RECORD"
     lines = ""
     with zipfile.ZipFile(pathlib.Path(wheel_directory, name), "w", zipfile.ZIP_DEFLATED) as wheel:
-        for path, held in _files():
-            wheel.writestr(zipfile.ZipInfo(path), held, zipfile.ZIP_DEFLATED)
+        for path, held, is_program in _files(tag):
+            wheel.writestr(_entry(path, is_program), held, zipfile.ZIP_DEFLATED)
             lines += _line(path, held)
-        wheel.writestr(zipfile.ZipInfo(record), f"{lines}{record},,\n", zipfile.ZIP_DEFLATED)
+        wheel.writestr(_entry(record), f"{lines}{record},,\n", zipfile.ZIP_DEFLATED)
     return name
 
 

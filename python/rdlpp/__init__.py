@@ -3,17 +3,34 @@
     >>> import rdlpp
     >>> rdlpp.preprocess(b"`define W 8\\nreg[`W];\\n")
     b'\\nreg[8];\\n'
+    >>> rdlpp.run(b"`define W 8\\nreg[`W];\\n").lines.place(2)
+    Place(name='-', line=2)
     >>> list(rdlpp.stream(b"reg[`W];\\n", defines={"W": "8"}, room=4))
     [b'reg[', b'8];\\n']
 
-It is a layer by ctypes over the library for C, which is in the package.
+It is a layer by ctypes over the library for C, which is in the package. `python -m rdlpp` is the program.
 """
 
-from ._faults import Fault, LimitError
-from ._limits import Limits
+from ._faults import Fault, FaultKind, LimitError
 from ._library import version
-from ._preprocess import preprocess
+from ._limits import Limits
+from ._output import Lines, Output, Place, Position
+from ._run import preprocess, run
 from ._stream import Stream, stream
 
-__all__ = ["Fault", "LimitError", "Limits", "Stream", "preprocess", "stream", "version"]
+__all__ = [
+    "Fault",
+    "FaultKind",
+    "LimitError",
+    "Limits",
+    "Lines",
+    "Output",
+    "Place",
+    "Position",
+    "Stream",
+    "preprocess",
+    "run",
+    "stream",
+    "version",
+]
 __version__ = version()

@@ -2,24 +2,24 @@
 
 import ctypes
 import os
-import pathlib
+from typing import Any, Callable, Sequence, Tuple
 
+from ._limits import Limits
 from ._written import Written
 
-WHOLE, STOPPED, BAD_LIMIT, BAD_TEXT, NO_MEMORY, MORE, CLOSED = range(7)
+WHOLE, STOPPED, BAD_LIMIT, BAD_TEXT, NO_MEMORY, MORE, CLOSED, WANTED, SHORT_MAP = range(9)
 NAME_ROOM = 1024
 WORD_ROOM = 128
 TEXT_ROOM = 64
+MAP_ROOM = 65_536
 
 
 class GivenLimits(ctypes.Structure):
     """`rdlpp_limits`."""
 
     _fields_ = [
-        *((name, ctypes.c_size_t) for name in ("depth", "includes", "line_bytes", "source_bytes")),
-        *((name, ctypes.c_size_t) for name in ("argument_bytes", "definition_bytes")),
-        *((name, ctypes.c_size_t) for name in ("definitions", "conditions")),
-        ("output_bytes", ctypes.c_uint64),
+        *((name, ctypes.c_size_t) for name in Limits._fields[:-1]),
+        (Limits._fields[-1], ctypes.c_uint64),
     ]
 
 
@@ -40,6 +40,25 @@ class Folder(ctypes.Structure):
     _fields_ = [("path", ctypes.c_char_p), ("path_length", ctypes.c_size_t)]
 
 
+class Request(ctypes.Structure):
+    """`rdlpp_request`."""
+
+    _fields_ = [
+        ("limits", GivenLimits),
+        ("origins", ctypes.c_bool),
+        ("asks", ctypes.c_bool),
+        ("pieces", ctypes.c_bool),
+        ("texts", ctypes.POINTER(Pair)),
+        ("texts_length", ctypes.c_size_t),
+        ("folders", ctypes.POINTER(Folder)),
+        ("folders_length", ctypes.c_size_t),
+        ("definitions", ctypes.POINTER(Pair)),
+        ("definitions_length", ctypes.c_size_t),
+        ("path", ctypes.c_char_p),
+        ("path_length", ctypes.c_size_t),
+    ]
+
+
 class Outcome(ctypes.Structure):
     """`rdlpp_outcome`."""
 
@@ -53,114 +72,76 @@ class Outcome(ctypes.Structure):
     ]
 
 
+class Mapped(ctypes.Structure):
+    """`rdlpp_mapped`."""
+
+    _fields_ = [("outcome", Outcome), ("map_length", ctypes.c_size_t)]
+
+
 class Handle(ctypes.Structure):
     """`rdlpp_handle`."""
 
     _fields_ = [("is_open", ctypes.c_bool), ("at", ctypes.c_void_p)]
 
 
-_FILE = os.environ.get("RDLPP_LIBRARY") or str(pathlib.Path(__file__).with_name("librdlpp_c.so"))
+_FILE = os.environ.get("RDLPP_LIBRARY") or os.path.join(os.path.dirname(__file__), "librdlpp_c.so")
 _library = ctypes.CDLL(_FILE)
+_handle = ctypes.POINTER(Handle)
+_text = (ctypes.c_char_p, ctypes.c_size_t)
 _buffer = (ctypes.c_void_p, ctypes.c_size_t)
 
-_asked = [
-    ctypes.POINTER(GivenLimits),
-    ctypes.c_bool,
-    *(ctypes.POINTER(Pair), ctypes.c_size_t),
-    *(ctypes.POINTER(Folder), ctypes.c_size_t),
-    *(ctypes.POINTER(Pair), ctypes.c_size_t),
-    *(ctypes.c_char_p, ctypes.c_size_t),
-]
 
-_library.rdlpp_preprocess.restype = Outcome
-_library.rdlpp_preprocess.argtypes = [*_asked, *_buffer, *_buffer, *_buffer]
-_library.rdlpp_open.restype = Outcome
-_library.rdlpp_open.argtypes = [*_asked, *_buffer, *_buffer, ctypes.POINTER(Handle)]
-_library.rdlpp_read.restype = Outcome
-_library.rdlpp_read.argtypes = [ctypes.POINTER(Handle), *_buffer, *_buffer, *_buffer]
-_library.rdlpp_close.restype = None
-_library.rdlpp_close.argtypes = [ctypes.POINTER(Handle)]
-_library.rdlpp_standard_limits.restype = GivenLimits
-_library.rdlpp_standard_limits.argtypes = []
-_library.rdlpp_fault_text.restype = ctypes.c_size_t
-_library.rdlpp_fault_text.argtypes = [ctypes.c_uint32, *_buffer]
-_library.rdlpp_version.restype = ctypes.c_size_t
-_library.rdlpp_version.argtypes = [*_buffer]
+def _declared(name: str, answer: Any, *parameters: Any) -> Callable[..., Any]:
+    """A call of the library."""
+    call = getattr(_library, name)
+    call.restype, call.argtypes = answer, parameters
+    return call  # type: ignore[no-any-return]
 
 
-def _array(kind, items):
+standard_limits = _declared("rdlpp_standard_limits", GivenLimits)
+open_handle = _declared("rdlpp_open", Outcome, ctypes.POINTER(Request), *_buffer, *_buffer, _handle)
+read_handle = _declared("rdlpp_read", Outcome, _handle, *_buffer, *_buffer, *_buffer)
+read_mapped = _declared("rdlpp_read_mapped", Mapped, _handle, *_buffer, *_buffer, *_buffer, *_buffer)
+give = _declared("rdlpp_give", ctypes.c_uint32, _handle, *_text, *_text)
+give_absent = _declared("rdlpp_give_absent", ctypes.c_uint32, _handle, *_text)
+give_failed = _declared("rdlpp_give_failed", ctypes.c_uint32, _handle, *_text)
+position = _declared("rdlpp_position", Outcome, _handle, *_buffer)
+definitions = _declared("rdlpp_definitions", ctypes.c_size_t, _handle, *_buffer)
+notes = _declared("rdlpp_notes", ctypes.c_size_t, _handle, *_buffer)
+close_handle = _declared("rdlpp_close", None, _handle)
+_fault_text = _declared("rdlpp_fault_text", ctypes.c_size_t, ctypes.c_uint32, *_buffer)
+_version = _declared("rdlpp_version", ctypes.c_size_t, *_buffer)
+
+
+def array(kind: Any, items: Sequence[Tuple[bytes, ...]]) -> Any:
     """An array of structures, with one empty place more, so that its address is never null."""
-    array = (kind * (len(items) + 1))()
+    made = (kind * (len(items) + 1))()
     for place, texts in enumerate(items):
-        array[place] = kind(*(part for text in texts for part in (text, len(text))))
-    return array
+        made[place] = kind(*(part for text in texts for part in (text, len(text))))
+    return made
 
 
-def _place(buffer):
-    return ctypes.addressof((ctypes.c_char * len(buffer)).from_buffer(buffer))
-
-
-def _given(limits, origins, texts, folders, definitions, path):
-    """What is asked for, as a call takes it, from lists of bytes."""
-    return (
-        ctypes.byref(limits),
-        origins,
-        *(_array(Pair, texts), len(texts)),
-        *(_array(Folder, [(folder,) for folder in folders]), len(folders)),
-        *(_array(Pair, definitions), len(definitions)),
-        *(path, len(path)),
-    )
-
-
-def call(asked, room):
-    """Calls `rdlpp_preprocess` with lists of bytes; answers its outcome, the front of the output for which
-    there is room, name and word."""
-    out, name, word = Written(room), bytearray(NAME_ROOM), bytearray(WORD_ROOM)
-    outcome = _library.rdlpp_preprocess(
-        *_given(*asked), out.place, room, _place(name), NAME_ROOM, _place(word), WORD_ROOM
-    )
-    front = out.take(min(outcome.length, room))
-    return outcome, front, bytes(name[: outcome.name_length]), bytes(word[: outcome.word_length])
-
-
-def open_handle(asked):
-    """Calls `rdlpp_open` with lists of bytes; answers its outcome, the handle, name and word."""
-    handle, name, word = Handle(), bytearray(NAME_ROOM), bytearray(WORD_ROOM)
-    outcome = _library.rdlpp_open(
-        *_given(*asked), _place(name), NAME_ROOM, _place(word), WORD_ROOM, ctypes.byref(handle)
-    )
-    return outcome, handle, bytes(name[: outcome.name_length]), bytes(word[: outcome.word_length])
-
-
-def read_handle(handle, room):
-    """Calls `rdlpp_read` with room for some bytes; answers its outcome, the bytes, name and word."""
-    out, name, word = Written(room), bytearray(NAME_ROOM), bytearray(WORD_ROOM)
-    outcome = _library.rdlpp_read(
-        ctypes.byref(handle), out.place, room, _place(name), NAME_ROOM, _place(word), WORD_ROOM
-    )
-    piece = out.take(outcome.length)
-    return outcome, piece, bytes(name[: outcome.name_length]), bytes(word[: outcome.word_length])
-
-
-def close_handle(handle):
-    """Calls `rdlpp_close`."""
-    _library.rdlpp_close(ctypes.byref(handle))
-
-
-def standard_limits() -> GivenLimits:
-    """The standard limits."""
-    return _library.rdlpp_standard_limits()
+def told(call: Callable[..., int], *given: Any) -> bytes:
+    """A text that a call writes to a buffer, of which it answers the whole length."""
+    room = TEXT_ROOM
+    while True:
+        text = Written(room)
+        length = call(*given, text.place, room)
+        if length <= room:
+            return text.take(length)
+        room = length
 
 
 def fault_text(number: int) -> str:
     """The text of the kind of fault with a number; empty where no kind has it."""
-    text = bytearray(TEXT_ROOM)
-    length = _library.rdlpp_fault_text(number, _place(text), TEXT_ROOM)
-    return text[:length].decode()
+    return told(_fault_text, number).decode()
 
 
 def version() -> str:
-    """The version of the library."""
-    text = bytearray(TEXT_ROOM)
-    length = _library.rdlpp_version(_place(text), TEXT_ROOM)
-    return text[:length].decode()
+    """The version of the library.
+
+        >>> import rdlpp
+        >>> rdlpp.version() == rdlpp.__version__
+        True
+    """
+    return told(_version).decode()

@@ -1,48 +1,85 @@
 """Outputs that are read piece by piece."""
 
-import threading
-from typing import Iterable, Iterator, Mapping, Optional, Union
+import warnings
+from threading import RLock
+from typing import Iterable, Iterator, Mapping, NoReturn, Optional, Tuple
 
-from . import _library as library
-from ._faults import Fault
+from ._asked import Bytes
 from ._limits import Limits
-from ._preprocess import Path, asked_of, fault_of, raise_refusal
-from ._sources import Files
+from ._output import Position
+from ._reading import Reading
+from ._request import Path, Read, Source, request_of
+from ._written import Written
 
-ROOM = 65_536
+# How much one read asks for: it comes back in milliseconds.
+PART = 65_536
 
 
 class Stream(Iterator[bytes]):
-    """The pieces of an output, in order; each but the last has as many bytes as there is room for.
+    """The pieces of an output, in order; none is empty.
 
-    It ends where the output ends, and raises the fault that ends it behind the pieces before it. It is
-    read and closed in the thread that made it. It is closed at its end, by `close`, by the end of a
-    `with` block, or when it is let go in that thread.
+    It ends where the output ends, and raises the fault that ends it behind the pieces before it. It is read and
+    closed in any thread, by one call at a time; others wait. A call looks every few milliseconds whether the
+    stream was closed meanwhile, and then ends by a ValueError. Any exception but a fault closes it, so that no
+    bytes are lost unseen.
+
+        >>> import rdlpp
+        >>> with rdlpp.stream(b"reg[`W];\\n", defines={"W": "8"}, room=4) as pieces:
+        ...     for piece in pieces:
+        ...         print(piece)
+        b'reg['
+        b'8];\\n'
     """
 
-    def __init__(self, handle: library.Handle, room: int, read: Optional[Files]):
-        self._handle = handle
+    def __init__(self, reading: Reading, room: int, positions: bool):
+        self._reading = reading
         self._room = room
-        self._read = read
-        self._fault: Optional[Fault] = None
-        self._thread = threading.get_ident()
+        self._has_positions = positions
+        self._position: Optional[Position] = None
+        self._lock = RLock()
+        self._is_reading = False
+        self._is_closed = False
 
     def __next__(self) -> bytes:
-        self._check_thread()
-        if self._fault is not None:
-            fault, self._fault = self._fault, None
-            raise fault
-        outcome, piece, name, word = library.read_handle(self._handle, self._room)
-        if outcome.status == library.STOPPED:
-            self._fault = fault_of(outcome, name, word, b"", self._read)
-        if outcome.status != library.MORE:
-            self.close()
-        return piece or self._ended()
+        try:
+            with self._lock:
+                piece = self._piece()
+        finally:
+            self._close_if_asked()
+        if piece:
+            return piece
+        if self._reading.fault is not None:
+            raise self._reading.fault
+        raise StopIteration
 
     def close(self) -> None:
-        """Gives back what the stream owns; it has no piece more then."""
-        self._check_thread()
-        library.close_handle(self._handle)
+        """Gives back what the stream owns; reading on is a ValueError. A call that runs meanwhile ends by one soon."""
+        self._is_closed = True
+        self._close_if_asked()
+
+    @property
+    def position(self) -> Optional[Position]:
+        """The place of the first byte of the piece that came last; None before the first one and at the end.
+
+            >>> import rdlpp
+            >>> pieces = rdlpp.stream(b"a\\nb `W\\n", defines={"W": "8"}, positions=True)
+            >>> for piece in pieces:
+            ...     print(piece, pieces.position.line, pieces.position.step)
+            b'a\\nb ' 1 1
+            b'8' 2 0
+            b'\\n' 2 1
+
+        Raises:
+            ValueError: the stream was made without `positions=True`.
+        """
+        if not self._has_positions:
+            raise ValueError("a stream tells positions where it is made with positions=True")
+        return self._position
+
+    @property
+    def sources(self) -> Tuple[str, ...]:
+        """The path of each source that was opened up to here, in order, once."""
+        return tuple(self._reading.sources)
 
     def __enter__(self) -> "Stream":
         return self
@@ -51,45 +88,86 @@ class Stream(Iterator[bytes]):
         self.close()
 
     def __del__(self) -> None:
-        if self._thread == threading.get_ident():
-            library.close_handle(self._handle)
+        if not self._is_closed and not self._reading.is_over:
+            warnings.warn(f"unclosed {self!r}", ResourceWarning, stacklevel=2, source=self)
 
-    def _ended(self) -> bytes:
-        if self._fault is None:
-            raise StopIteration
-        return self.__next__()
+    def __reduce__(self) -> NoReturn:
+        raise TypeError("a stream can't be copied or pickled")
 
-    def _check_thread(self) -> None:
-        if self._thread != threading.get_ident():
-            raise RuntimeError("a stream stays in the thread that made it")
+    def _piece(self) -> bytes:
+        """The next piece; empty at the end. What is raised closes the stream, since bytes may be lost then."""
+        if self._is_reading:
+            raise ValueError("the stream is being read")
+        self._is_reading = True
+        try:
+            return self._read()
+        except BaseException:
+            self._is_closed = True
+            raise
+        finally:
+            self._is_reading = False
+
+    def _read(self) -> bytes:
+        """Reads until there is a piece, or the end."""
+        if self._is_closed:
+            raise ValueError("the stream is closed")
+        written, filled = Written(self._room), 0
+        self._position = None
+        while filled < self._room and not self._reading.is_over:
+            filled += self._reading.read(written.place + filled, min(PART, self._room - filled))
+            if self._is_closed:
+                raise ValueError("the stream was closed")
+            if filled and self._has_positions:
+                self._position = self._reading.position()
+                break
+        if self._reading.is_over:
+            self._reading.close()
+        return written.take(filled)
+
+    def _close_if_asked(self) -> None:
+        """Closes the output where that was asked for, but while a call reads it: that one closes it then."""
+        if self._is_closed and self._lock.acquire(blocking=False):
+            try:
+                if not self._is_reading:
+                    self._reading.close()
+            finally:
+                self._lock.release()
 
 
 def stream(
-    source: Union[bytes, Path],
+    source: Source,
     include_dirs: Iterable[Path] = (),
     defines: Optional[Mapping[str, str]] = None,
     limits: Optional[Limits] = None,
     origins: bool = False,
     *,
-    files: Optional[Mapping[str, bytes]] = None,
-    room: int = ROOM,
+    files: Optional[Mapping[str, Bytes]] = None,
+    read: Optional[Read] = None,
+    room: int = PART,
+    positions: bool = False,
 ) -> Stream:
     """Preprocesses a text and answers the pieces of the output, as they are asked for.
 
+        >>> import rdlpp
+        >>> list(rdlpp.stream(b"reg[`W];\\n", defines={"W": "8"}, room=4))
+        [b'reg[', b'8];\\n']
+
     Args:
-        room: how many bytes a piece may have; the others are those of `preprocess`.
+        room: how many bytes a piece has, but for the last one.
+        positions: whether a piece ends where the place does, so that `Stream.position` tells it. A piece has fewer
+            bytes than there is room for then.
+
+    The other arguments are those of `preprocess`.
 
     Raises:
-        Fault: a definition is refused; another fault is raised where the output ends by it. Of a
-            stream a fault has no output, which the pieces are.
-        ValueError: there is room for no byte.
-        LimitError, OSError, UnicodeError, MemoryError: as of `preprocess`.
+        Fault: a definition is refused. Another fault is raised where the output ends by it.
+        TypeError, ValueError, MemoryError: as of `preprocess`; also where there is room for no byte.
     """
+    if not isinstance(room, int) or isinstance(room, bool):
+        raise TypeError(f"room must be an int, not {type(room).__name__}")
     if room < 1:
-        raise ValueError("a piece has room for a byte at least")
-    asked, read = asked_of(source, include_dirs, defines, limits, origins, files)
-    outcome, handle, name, word = library.open_handle(asked)
-    raise_refusal(outcome)
-    if outcome.status == library.STOPPED:
-        raise fault_of(outcome, name, word, b"", read)
-    return Stream(handle, room, read)
+        raise ValueError(f"room must be 1 or more, not {room}")
+    if not isinstance(positions, bool):
+        raise TypeError(f"positions must be a bool, not {type(positions).__name__}")
+    request = request_of(source, include_dirs, defines, limits, origins, files, read)
+    return Stream(Reading(request, pieces=positions), room, positions)

@@ -1,10 +1,11 @@
 """Bytes that the library for C writes where they stand, so that no output is copied.
 
 An extension module makes such an object by `PyBytes_FromStringAndSize` without a text, fills it while nobody
-else has it, and cuts it to what was filled by `_PyBytes_Resize`; so it is here, by ctypes.
+else has it, and gives it another length by `_PyBytes_Resize`; so it is here, by ctypes.
 """
 
 import ctypes
+from typing import cast
 
 _new = ctypes.pythonapi.PyBytes_FromStringAndSize
 _new.restype = ctypes.c_void_p
@@ -12,9 +13,9 @@ _new.argtypes = [ctypes.c_void_p, ctypes.c_ssize_t]
 _place_of = ctypes.pythonapi.PyBytes_AsString
 _place_of.restype = ctypes.c_void_p
 _place_of.argtypes = [ctypes.c_void_p]
-_cut = ctypes.pythonapi._PyBytes_Resize
-_cut.restype = ctypes.c_int
-_cut.argtypes = [ctypes.POINTER(ctypes.c_void_p), ctypes.c_ssize_t]
+_resize = ctypes.pythonapi._PyBytes_Resize
+_resize.restype = ctypes.c_int
+_resize.argtypes = [ctypes.POINTER(ctypes.c_void_p), ctypes.c_ssize_t]
 _forget = ctypes.pythonapi.Py_DecRef
 _forget.restype = None
 _forget.argtypes = [ctypes.c_void_p]
@@ -28,16 +29,18 @@ class Written:
     def __init__(self, room: int):
         # The one object without bytes is everybody's, so there is room for one byte more.
         self._held = ctypes.c_void_p(_new(None, room + 1))
+        self.place: int = _place_of(self._held)
+        """The address of the first byte, until there is more room."""
 
-    @property
-    def place(self) -> int:
-        """The address of the first byte."""
-        return _place_of(self._held)
+    def grow(self, room: int) -> None:
+        """Makes room for more bytes; those that were written stay."""
+        _resize(ctypes.byref(self._held), room + 1)
+        self.place = _place_of(self._held)
 
     def take(self, length: int) -> bytes:
         """The first bytes, which are at most as many as there is room for."""
-        _cut(ctypes.byref(self._held), length)
-        return ctypes.cast(self._held, ctypes.py_object).value
+        _resize(ctypes.byref(self._held), length)
+        return cast(bytes, ctypes.cast(self._held, ctypes.py_object).value)
 
     def __del__(self) -> None:
         _forget(self._held)

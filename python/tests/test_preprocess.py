@@ -1,18 +1,25 @@
-"""Calls of the package: what it gives, what it refuses, and where its sources come from."""
+"""Calls of the package: what they give, and how a fault and a limit are told."""
 
+import ctypes
 import pathlib
-import tempfile
+import pickle
+import re
 import threading
 import unittest
-from dataclasses import fields
 
 import rdlpp
-from rdlpp import _library, _sources
+from rdlpp import _library, _limits
+
+HEADER = pathlib.Path(__file__).resolve().parents[2] / "include" / "rdlpp.h"
 
 
 class Outputs(unittest.TestCase):
     def test_a_text(self):
         self.assertEqual(rdlpp.preprocess(b"`define W 8\nreg[`W];\n"), b"\nreg[8];\n")
+
+    def test_texts_of_other_types(self):
+        for text in (bytearray(b"`W"), memoryview(b"`W"), memoryview(b"x`xWx")[1:4:2]):
+            self.assertEqual(rdlpp.preprocess(text, defines={"W": "8"}), b"8")
 
     def test_an_empty_text(self):
         self.assertEqual(rdlpp.preprocess(b""), b"")
@@ -41,34 +48,144 @@ class Outputs(unittest.TestCase):
         self.assertEqual(given, [b"\n" + b"reg[8];\n" * 1000] * 8)
 
 
-class Faults(unittest.TestCase):
-    def test_a_fault(self):
+class Runs(unittest.TestCase):
+    FILES = {"m": b'a\n`include "i"\nb`W`W\n`Two\nc', "inc/i": b"q\n`define X x\n"}
+    DEFINES = {"W": "8", "Two": "1\n2"}
+
+    def output(self):
+        return rdlpp.run("m", include_dirs=["inc"], defines=self.DEFINES, files=self.FILES)
+
+    def test_a_run(self):
+        output = self.output()
+        self.assertEqual(output.text, b"a\nq\n\n\nb88\n1\n2\nc")
+        self.assertEqual(output.sources, ("m", "inc/i"))
+        self.assertEqual(output.text, rdlpp.preprocess("m", ["inc"], self.DEFINES, files=self.FILES))
+
+    def test_its_lines(self):
+        lines = self.output().lines
+        wanted = [("m", 1), ("inc/i", 1), ("inc/i", 2), ("m", 2), ("m", 3), ("m", 4), ("m", 4), ("m", 5)]
+        self.assertEqual(list(lines), wanted)
+        self.assertEqual([lines.place(line) for line in range(1, len(lines) + 1)], wanted)
+        self.assertEqual((lines.place(2).name, lines.place(2).line), ("inc/i", 1))
+        for line in (0, 9, -1):
+            with self.assertRaises(IndexError):
+                lines.place(line)
+
+    def test_its_definitions(self):
+        definitions = self.output().definitions
+        again = rdlpp.run(definitions + b"`Two`X")
+        self.assertEqual(again.definitions, definitions)
+        self.assertEqual(again.text[-4:], b"1\n2x")
+
+    def test_an_empty_output(self):
+        output = rdlpp.run(b"")
+        self.assertEqual((output.text, len(output.lines), output.sources, output.definitions), (b"", 0, (), b""))
+        self.assertEqual(bytes(output.lines), b"# rdlpp line map 1\n")
+
+    def test_a_fault_has_what_was_made_before(self):
         with self.assertRaises(rdlpp.Fault) as caught:
-            rdlpp.preprocess(b'a\n`line 10 "v.rdl" 0\n`Unknown')
-        fault = caught.exception
-        self.assertEqual((fault.number, fault.name, fault.line, fault.word), (7, "v.rdl", 10, "Unknown"))
-        self.assertEqual((fault.text, fault.output), ("undefined macro", b"a\n\n"))
+            rdlpp.run("m", include_dirs=["inc"], files={**self.FILES, "m": b'`include "i"\n`Q'})
+        partial = caught.exception.partial
+        self.assertEqual((partial.text, caught.exception.output), (b"q\n\n\n", b"q\n\n\n"))
+        self.assertEqual((partial.sources, partial.definitions), (("m", "inc/i"), b"`define X x\n"))
+        self.assertEqual(partial.lines.place(3), ("m", 1))
+
+    def test_a_large_output(self):
+        text = b"reg a @ 0x0;\n" * 300_000
+        output = rdlpp.run(text)
+        self.assertEqual(output.text, text)
+        self.assertEqual(output.lines.place(299_999), ("-", 299_999))
+
+    def test_many_runs_of_lines(self):
+        text = b"`W\nx\n" * 20_000
+        lines = rdlpp.run(text, defines={"W": "8"}).lines
+        self.assertEqual([place.line for place in lines], list(range(1, 40_001)))
+
+    def test_short_texts_of_it(self):
+        output = self.output()
+        self.assertEqual(repr(output), "<Output of 15 bytes, from 2 sources>")
+        self.assertEqual(repr(output.lines), "<Lines of 8 lines>")
+
+
+class Faults(unittest.TestCase):
+    def fault(self, *given, **named):
+        with self.assertRaises(rdlpp.Fault) as caught:
+            rdlpp.preprocess(*given, **named)
+        return caught.exception
+
+    def test_a_fault(self):
+        fault = self.fault(b'a\n`line 10 "v.rdl" 0\n`Unknown')
+        self.assertEqual((fault.kind, fault.name, fault.line, fault.word), (7, "v.rdl", 10, "Unknown"))
+        self.assertIs(fault.kind, rdlpp.FaultKind.UNDEFINED_MACRO)
+        self.assertEqual((fault.number, fault.text, fault.output), (7, "undefined macro", b"a\n\n"))
         self.assertEqual(str(fault), "v.rdl:10: error F7: undefined macro 'Unknown'")
 
+    def test_its_short_text(self):
+        fault = self.fault(b"long\n" * 10_000 + b"`Q")
+        self.assertEqual(repr(fault), "<Fault -:10001: error F7: undefined macro 'Q'>")
+
+    def test_its_notes(self):
+        fault = self.fault("a/m", ["inc"], files={"a/m": b'`include "no"\n'})
+        notes = "\n".join(fault.notes)
+        for path in ("a/no", "inc/no"):
+            self.assertIn(path, notes)
+
+    def test_it_is_pickled(self):
+        fault = pickle.loads(pickle.dumps(self.fault(b"a\n`Q")))
+        self.assertEqual((str(fault), fault.output, fault.kind), ("-:2: error F7: undefined macro 'Q'", b"a\n", 7))
+
     def test_a_fault_behind_a_long_output(self):
-        source = b"`W\n" * 1000
-        with self.assertRaises(rdlpp.Fault) as caught:
-            rdlpp.preprocess(source + b"`Q", defines={"W": "x" * 1000})
-        self.assertEqual(caught.exception.output, (b"x" * 1000 + b"\n") * 1000)
-        self.assertEqual(caught.exception.line, 1001)
+        fault = self.fault(b"`W\n" * 1000 + b"`Q", defines={"W": "x" * 1000})
+        self.assertEqual((fault.output, fault.line), ((b"x" * 1000 + b"\n") * 1000, 1001))
 
     def test_a_refused_definition(self):
-        with self.assertRaises(rdlpp.Fault) as caught:
-            rdlpp.preprocess(b"a", defines={"W": "8", "1x": "2"})
-        self.assertEqual(str(caught.exception), "-D:2: error F15: name expected")
+        fault = self.fault(b"a", defines={"W": "8", "1x": "2"})
+        self.assertEqual(str(fault), "-D:2: error F15: name expected")
 
-    def test_limits(self):
-        for limits, name in (({"depth": 0}, "depth"), ({"conditions": 4097}, "conditions"), ({"includes": -1}, "includes")):
-            with self.assertRaises(rdlpp.LimitError) as caught:
-                rdlpp.preprocess(b"a", limits=rdlpp.Limits(**limits))
-            self.assertEqual(caught.exception.limit, name)
+    def test_the_kinds(self):
+        told = re.findall(r"RDLPP_FAULT_(\w+) = (\d+)", HEADER.read_text())
+        self.assertEqual([(kind.name, str(kind.value)) for kind in rdlpp.FaultKind], told)
+        for kind in rdlpp.FaultKind:
+            self.assertEqual(_library.fault_text(kind).upper().replace(" ", "_"), kind.name)
+        self.assertEqual(_library.fault_text(36), "")
+
+
+class Limits(unittest.TestCase):
+    def test_a_limit_out_of_its_range(self):
+        for limit, (low, high) in _limits.RANGES.items():
+            for value in (low - 1, high + 1):
+                with self.assertRaises(rdlpp.LimitError) as caught:
+                    rdlpp.Limits(**{limit: value})
+                error = caught.exception
+                self.assertEqual((error.limit, error.value, error.low, error.high), (limit, value, low, high))
+        self.assertEqual(str(error), f"limit output_bytes is {2**64:,}, and must be 0 to {2**64 - 1:,}")
+
+    def test_a_limit_that_was_replaced(self):
         with self.assertRaises(rdlpp.LimitError):
-            rdlpp.preprocess(b"a", limits=rdlpp.Limits(depth=2**64 + 1))
+            rdlpp.preprocess(b"a", limits=rdlpp.Limits()._replace(depth=0))
+
+    def test_a_limit_of_another_type(self):
+        for value in ("8", 8.0, None, True):
+            with self.assertRaisesRegex(TypeError, "limit depth must be an int, not "):
+                rdlpp.Limits(depth=value)
+
+    def test_the_ranges_are_those_of_the_library(self):
+        for place, (limit, (low, high)) in enumerate(_limits.RANGES.items(), 1):
+            for value in (low, high, low - 1, high + 1):
+                if 0 <= value < 2**64:
+                    wanted = (_library.WHOLE, 0) if low <= value <= high else (_library.BAD_LIMIT, place)
+                    self.assertEqual(self.opened(limit, value), wanted, f"{limit} {value}")
+
+    def opened(self, limit, value):
+        """The status and the number by which the library opens an empty text with a limit."""
+        room = ctypes.create_string_buffer(1)
+        request, handle = _library.Request(limits=_library.standard_limits(), path=b""), _library.Handle()
+        for field in ("texts", "folders", "definitions"):
+            setattr(request, field, _library.array(type(getattr(request, field))._type_, []))
+        setattr(request.limits, limit, value)
+        outcome = _library.open_handle(request, room, 1, room, 1, handle)
+        _library.close_handle(handle)
+        return outcome.status, outcome.number
 
     def test_the_limit_on_the_output(self):
         limits = rdlpp.Limits(output_bytes=3)
@@ -79,53 +196,8 @@ class Faults(unittest.TestCase):
 
     def test_the_standard_limits(self):
         given = _library.standard_limits()
-        for field in fields(rdlpp.Limits):
-            self.assertEqual(getattr(given, field.name), getattr(rdlpp.Limits(), field.name), field.name)
-
-    def test_what_is_no_utf_8(self):
-        with self.assertRaises(UnicodeError):
-            rdlpp.preprocess(b"a", defines={"\udcff": "1"})
-
-
-class Sources(unittest.TestCase):
-    def test_a_file(self):
-        with tempfile.TemporaryDirectory() as folder:
-            path = pathlib.Path(folder, "m.rdl")
-            path.write_bytes(b"a\n`Q")
-            with self.assertRaises(rdlpp.Fault) as caught:
-                rdlpp.preprocess(path)
-            self.assertEqual((caught.exception.name, caught.exception.line), (str(path), 2))
-            with self.assertRaises(FileNotFoundError):
-                rdlpp.preprocess(pathlib.Path(folder, "no"))
-
-    def test_a_mapping(self):
-        self.assertEqual(rdlpp.preprocess("m", files={"m": b"a"}), b"a")
-        with self.assertRaises(rdlpp.Fault) as caught:
-            rdlpp.preprocess("n", files={"m": b"a"})
-        self.assertEqual((caught.exception.number, caught.exception.name), (28, "n"))
-
-    def test_included_files(self):
-        with tempfile.TemporaryDirectory() as folder:
-            inner = pathlib.Path(folder, "inc")
-            inner.mkdir()
-            pathlib.Path(folder, "m").write_bytes(b'`include "i"\nz\n')
-            inner.joinpath("i").write_bytes(b"q")
-            self.assertEqual(rdlpp.preprocess(pathlib.Path(folder, "m"), [inner]), b"q\n\nz\n")
-
-    def test_included_entries_of_a_mapping(self):
-        files = {"a/m": b'`include "i"\n', "a/i": b'`include "j"\n', "inc/j": b"q\n"}
-        self.assertEqual(rdlpp.preprocess("a/m", ["inc"], files=files), b"q\n\n\n")
-
-    def test_an_include_behind_what_looks_like_one(self):
-        for text in (b'x = "`include "; `include "i"\n', b'/* `include " */ `include "i"\n'):
-            answer = rdlpp.preprocess("m", files={"m": text, "i": b"q\n"})
-            self.assertEqual(answer, text.replace(b'`include "i"', b"q\n"))
-
-    def test_what_is_gathered(self):
-        files = {"a/m": b'`include "i" `include "/r"\n// `include "j"', "a/i": b'`include"m"', "inc/j": b"", "/r": b"r", "x": b""}
-        found = _sources.gather("a/m", files["a/m"], ["inc", "more/"], files.get)
-        self.assertEqual(sorted(path for path, _ in found), ["/r", "a/i", "a/m", "inc/j"])
-        self.assertEqual(_sources.candidates("a/m", "i", ["inc", "more/", ""]), ["a/i", "inc/i", "more/i", "i"])
+        for limit, value in zip(rdlpp.Limits._fields, rdlpp.Limits()):
+            self.assertEqual(getattr(given, limit), value, limit)
 
 
 if __name__ == "__main__":

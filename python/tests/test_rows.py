@@ -39,15 +39,44 @@ class Rows(unittest.TestCase):
             output, fault = caught.output, str(caught)
         self.assertEqual((output, fault), (row.output, row.fault.decode()))
 
-    def check_stream(self, row, room):
+    def check_stream(self, row, room, positions=False):
         """Reads a row in pieces, and compares them joined, and the fault behind them."""
         pieces, fault = [], ""
         try:
-            for piece in rdlpp.stream(row.main, files=row.files, room=room, **asked(row.words)):
+            for piece in rdlpp.stream(row.main, files=row.files, room=room, positions=positions, **asked(row.words)):
                 pieces.append(piece)
         except rdlpp.Fault as caught:
             fault = str(caught)
         self.assertEqual((b"".join(pieces), fault), (row.output, row.fault.decode()))
+
+    def check_places(self, row):
+        """That the positions of the pieces of a row and its lines agree, and that its definitions are read again."""
+        given = {"files": row.files, **asked(row.words)}
+        try:
+            output = rdlpp.run(row.main, **given)
+        except rdlpp.Fault as caught:
+            output = caught.partial
+            if output is None:
+                return
+        self.assertEqual(output.text, row.output)
+        self.assertEqual(self.places_by_pieces(row, given), list(output.lines))
+        again = rdlpp.run(output.definitions, limits=given["limits"]._replace(source_bytes=2**30, output_bytes=2**64 - 1))
+        self.assertEqual(again.definitions, output.definitions)
+
+    def places_by_pieces(self, row, given):
+        """The place of each line of an output, by the positions of its pieces."""
+        places, begins = [], True
+        pieces = rdlpp.stream(row.main, positions=True, **given)
+        try:
+            for piece in pieces:
+                at = pieces.position
+                for number, line in enumerate(piece.split(b"\n")):
+                    if begins and (line or number < piece.count(b"\n")):
+                        places.append((at.name, at.line + number * at.step))
+                    begins = number < piece.count(b"\n") or (begins and not line)
+        except rdlpp.Fault:
+            pass
+        return places
 
     def test_each_row(self):
         for row in GIVEN:
@@ -59,6 +88,13 @@ class Rows(unittest.TestCase):
             for room in ROOMS if len(row.output) < LONG else ROOMS[-1:]:
                 with self.subTest(row.name, room=room):
                     self.check_stream(row, room)
+
+    def test_each_row_in_pieces_with_positions(self):
+        for row in GIVEN:
+            if len(row.output) < LONG:
+                with self.subTest(row.name):
+                    self.check_stream(row, 65_536, positions=True)
+                    self.check_places(row)
 
 
 if __name__ == "__main__":

@@ -1,24 +1,22 @@
 """Outputs that are read piece by piece: what the pieces are, how they end, and who may read them."""
 
-import importlib.util
-import pathlib
+import asyncio
+import copy
+import gc
+import pickle
+import signal
 import threading
+import time
 import unittest
+import warnings
 
 import rdlpp
 
-EXAMPLE = pathlib.Path(__file__).resolve().parent.parent / "examples" / "fields.py"
 SOURCE = b'`define A(x) <x>\n`A(long body)`include "i"\n`W\n'
 FILES = {"m": SOURCE, "inc/i": b"q"}
 WHOLE = b"\n<long body>q\n\n8\n"
-
-
-def example():
-    """The example, as a module."""
-    spec = importlib.util.spec_from_file_location("fields", EXAMPLE)
-    module = importlib.util.module_from_spec(spec)
-    spec.loader.exec_module(module)
-    return module
+# Macros that double nothing so often that no run of them ends in a lifetime.
+NOTHING = b"`define E0\n" + b"".join(b"`define E%d `E%d`E%d\n" % (n + 1, n, n) for n in range(60)) + b"`E60\n"
 
 
 class Pieces(unittest.TestCase):
@@ -40,23 +38,56 @@ class Pieces(unittest.TestCase):
     def test_origins(self):
         self.assertEqual(b"".join(rdlpp.stream(b"a\n", origins=True, room=3)), b"// origin: -:1\na\n")
 
-    def test_no_room(self):
-        with self.assertRaises(ValueError):
-            rdlpp.stream(b"a", room=0)
+    def test_sources(self):
+        with rdlpp.stream("m", ["inc"], {"W": "8"}, files=FILES, room=1) as pieces:
+            self.assertEqual(pieces.sources, ())
+            next(pieces)
+            self.assertEqual(pieces.sources, ("m",))
+            list(pieces)
+        self.assertEqual(pieces.sources, ("m", "inc/i"))
+
+
+class Positions(unittest.TestCase):
+    def test_each_piece_has_a_place(self):
+        files = {"m": b'a\n`W`W\n`line 7 "v" 0\nb `Two\nc\n`include "i"\nd', "i": b"q\nr\n"}
+        for room in (1, 2, 3, 100):
+            pieces = rdlpp.stream("m", [], {"W": "8", "Two": "1\n2"}, files=files, room=room, positions=True)
+            told = {}
+            self.assertIsNone(pieces.position)
+            for piece in pieces:
+                at = pieces.position
+                for number, byte in enumerate(piece.split(b"\n")):
+                    told.setdefault(byte[:1], (at.name, at.line + number * at.step))
+            self.assertIsNone(pieces.position)
+            wanted = {b"a": ("m", 1), b"8": ("m", 2), b"b": ("v", 7), b"1": ("v", 7), b"2": ("v", 7), b"c": ("v", 8)}
+            wanted.update({b"q": ("i", 1), b"r": ("i", 2), b"d": ("v", 10)})
+            self.assertEqual({byte: told.get(byte) for byte in wanted}, wanted, room)
+
+    def test_the_pieces_are_those_of_the_output(self):
+        source = b"a `W b\n`W\n" * 1000
+        pieces = list(rdlpp.stream(source, defines={"W": "8"}, positions=True))
+        self.assertEqual(b"".join(pieces), b"a 8 b\n8\n" * 1000)
+
+    def test_they_have_to_be_asked_for(self):
+        with rdlpp.stream(b"a") as pieces, self.assertRaisesRegex(ValueError, "positions=True"):
+            pieces.position
 
 
 class Faults(unittest.TestCase):
     def test_a_fault_behind_its_pieces(self):
         for room in (1, 2, 3, 64):
             given, caught = [], None
+            pieces = rdlpp.stream(b'a\n`line 10 "v.rdl" 0\n`Unknown', room=room)
             try:
-                for piece in rdlpp.stream(b'a\n`line 10 "v.rdl" 0\n`Unknown', room=room):
+                for piece in pieces:
                     given.append(piece)
             except rdlpp.Fault as fault:
                 caught = fault
             self.assertEqual(b"".join(given), b"a\n\n")
             self.assertEqual(str(caught), "v.rdl:10: error F7: undefined macro 'Unknown'")
-            self.assertEqual(caught.output, b"")
+            self.assertEqual((caught.output, caught.partial), (b"", None))
+            with self.assertRaises(rdlpp.Fault):
+                next(pieces)
 
     def test_no_main_text(self):
         with self.assertRaises(rdlpp.Fault) as caught:
@@ -68,9 +99,7 @@ class Faults(unittest.TestCase):
             rdlpp.stream(b"a", defines={"W": "8", "1x": "2"})
         self.assertEqual(str(caught.exception), "-D:2: error F15: name expected")
         with self.assertRaises(rdlpp.LimitError):
-            rdlpp.stream(b"a", limits=rdlpp.Limits(depth=0))
-        with self.assertRaises(UnicodeError):
-            rdlpp.stream(b"a", defines={"\udcff": "1"})
+            rdlpp.stream(b"a", limits=rdlpp.Limits()._replace(depth=0))
 
 
 class Closing(unittest.TestCase):
@@ -79,35 +108,160 @@ class Closing(unittest.TestCase):
         self.assertEqual(next(given), b"a")
         given.close()
         given.close()
-        self.assertEqual(list(given), [])
+        for _ in range(2):
+            with self.assertRaisesRegex(ValueError, "the stream is closed"):
+                next(given)
 
     def test_a_block(self):
         with rdlpp.stream(b"abc", room=1) as given:
             self.assertEqual(next(given), b"a")
-        self.assertEqual(list(given), [])
+        with self.assertRaisesRegex(ValueError, "the stream is closed"):
+            next(given)
 
+    def test_a_stream_that_ended(self):
+        given = rdlpp.stream(b"abc")
+        self.assertEqual([list(given), list(given)], [[b"abc"], []])
+        given.close()
+        with self.assertRaises(ValueError):
+            next(given)
+
+    def test_a_stream_is_not_copied(self):
+        with rdlpp.stream(b"abc", room=1) as given:
+            for copied in (copy.copy, copy.deepcopy, pickle.dumps):
+                with self.assertRaisesRegex(TypeError, "a stream can't be copied or pickled"):
+                    copied(given)
+            self.assertEqual(b"".join(given), b"abc")
+
+    def warnings_of(self, drop):
+        with warnings.catch_warnings(record=True) as caught:
+            warnings.simplefilter("always")
+            drop()
+            gc.collect()
+        return [warning.category for warning in caught]
+
+    def test_a_stream_that_is_dropped(self):
+        self.assertEqual(self.warnings_of(lambda: rdlpp.stream(b"abc")), [ResourceWarning])
+        self.assertEqual(self.warnings_of(lambda: next(rdlpp.stream(b"abc", room=1))), [ResourceWarning])
+        self.assertEqual(self.warnings_of(lambda: list(rdlpp.stream(b"abc"))), [])
+        self.assertEqual(self.warnings_of(lambda: rdlpp.stream(b"abc").close()), [])
+
+    def test_a_callable_that_raises_closes_the_stream(self):
+        def read(path):
+            if path == "m":
+                return b'a\n`include "i"\n'
+            raise KeyError(path)
+
+        given = rdlpp.stream("m", read=read, room=1)
+        self.assertEqual([next(given), next(given)], [b"a", b"\n"])
+        with self.assertRaises(KeyError):
+            next(given)
+        with self.assertRaisesRegex(ValueError, "the stream is closed"):
+            next(given)
+
+    def test_a_callable_that_reads_its_own_stream(self):
+        caught = []
+
+        def read(path):
+            try:
+                next(given)
+            except ValueError as error:
+                caught.append(str(error))
+            return b"a"
+
+        given = rdlpp.stream("m", read=read)
+        self.assertEqual(list(given), [b"a"])
+        self.assertEqual(caught, ["the stream is being read"])
+
+    def test_a_callable_that_closes_its_own_stream(self):
+        given = rdlpp.stream("m", read=lambda path: given.close())
+        with self.assertRaisesRegex(ValueError, "the stream was closed"):
+            next(given)
+
+
+class Threads(unittest.TestCase):
     def test_another_thread(self):
-        given, caught = rdlpp.stream(b"abc"), []
+        given, got = rdlpp.stream(b"abc", room=1), []
+        thread = threading.Thread(target=lambda: got.append(next(given)))
+        thread.start()
+        thread.join()
+        self.assertEqual(got + list(given), [b"a", b"b", b"c"])
+        thread = threading.Thread(target=given.close)
+        thread.start()
+        thread.join()
+        with self.assertRaises(ValueError):
+            next(given)
+
+    def test_many_threads_share_a_stream(self):
+        source = b"".join(b"`define N%d %d\n`N%d\n" % (n, n, n) for n in range(3_000))
+        given, got = rdlpp.stream(source, room=7), []
+        threads = [threading.Thread(target=lambda: got.extend(given)) for _ in range(4)]
+        for thread in threads:
+            thread.start()
+        for thread in threads:
+            thread.join()
+        whole = rdlpp.preprocess(source)
+        self.assertEqual(sorted(got), sorted(whole[at : at + 7] for at in range(0, len(whole), 7)))
+
+    def test_a_read_that_is_closed_meanwhile(self):
+        given, caught = rdlpp.stream(NOTHING), []
 
         def read():
             try:
-                next(given)
-            except RuntimeError as error:
+                list(given)
+            except ValueError as error:
                 caught.append(str(error))
 
         thread = threading.Thread(target=read)
         thread.start()
-        thread.join()
-        self.assertEqual(caught, ["a stream stays in the thread that made it"])
-        self.assertEqual(list(given), [b"abc"])
+        time.sleep(0.1)
+        given.close()
+        thread.join(10)
+        self.assertEqual(caught, ["the stream was closed"])
+
+    def test_a_task(self):
+        async def pieces():
+            with rdlpp.stream(b"abc", room=1) as given:
+                return [await asyncio.to_thread(next, given, b"") for _ in range(4)]
+
+        if hasattr(asyncio, "to_thread"):
+            self.assertEqual(asyncio.run(pieces()), [b"a", b"b", b"c", b""])
+
+    def test_a_task_that_is_cancelled(self):
+        async def read():
+            with rdlpp.stream(NOTHING) as given:
+                while await asyncio.get_running_loop().run_in_executor(None, next, given, b""):
+                    pass
+
+        began = time.monotonic()
+        with self.assertRaises(asyncio.TimeoutError):
+            asyncio.run(asyncio.wait_for(read(), 0.2))
+        self.assertLess(time.monotonic() - began, 10)
 
 
-class Example(unittest.TestCase):
-    def test_fields_line_by_line(self):
-        source = b"`define F(n, b) field {} n[b];\nreg { // no[0:0]\n`F(enable, 0:0) `F(limit, 31:8)\n} c @ 0x0;"
-        for room in (1, 7, 4096):
-            found = list(example().fields(rdlpp.stream(source, room=room)))
-            self.assertEqual(found, [("enable", 0, 0), ("limit", 31, 8)])
+class Signals(unittest.TestCase):
+    def check(self, call):
+        """That an alarm ends a call soon."""
+
+        def leave(*_signal):
+            raise TimeoutError
+
+        before = signal.signal(signal.SIGALRM, leave)
+        self.addCleanup(signal.signal, signal.SIGALRM, before)
+        signal.setitimer(signal.ITIMER_REAL, 0.2)
+        began = time.monotonic()
+        with self.assertRaises(TimeoutError):
+            call()
+        self.assertLess(time.monotonic() - began, 2)
+
+    def test_an_alarm_ends_each_call(self):
+        for call in (rdlpp.preprocess, rdlpp.run, lambda text: list(rdlpp.stream(text))):
+            self.check(lambda: call(NOTHING))
+
+    def test_an_alarm_closes_a_stream(self):
+        given = rdlpp.stream(NOTHING, room=10)
+        self.check(lambda: list(given))
+        with self.assertRaisesRegex(ValueError, "the stream is closed"):
+            next(given)
 
 
 if __name__ == "__main__":

@@ -1,0 +1,167 @@
+"""An output that is read from the library, which asks for the sources that it needs."""
+
+import ctypes
+from typing import Any, List, Optional, Sequence, Tuple
+
+from . import _library as library
+from ._asked import Unreadable
+from ._faults import Fault, FaultKind
+from ._output import Position
+from ._request import Request
+
+# What a note begins with where it is written.
+NOTE = "rdlpp: note: "
+
+
+class Reading:
+    """An output that is open. It is used by one call at a time.
+
+    Attributes:
+        has_ended: whether all of the output was read.
+        fault: the fault that ended it, once it was read up to there.
+        sources: the path of each source that was opened, in order, once.
+    """
+
+    def __init__(self, request: Request, *, pieces: bool = False):
+        self._handle = library.Handle()
+        self._at = ctypes.byref(self._handle)
+        self.has_ended = False
+        self.fault: Optional[Fault] = None
+        self.sources: List[str] = []
+        self._asked = request.asked
+        self._unreadable: Optional[Tuple[str, Unreadable]] = None
+        self._buffers = (ctypes.c_char * (library.NAME_ROOM + library.WORD_ROOM))()
+        self._name = ctypes.addressof(self._buffers)
+        self._word = self._name + library.NAME_ROOM
+        self._told = (self._name, library.NAME_ROOM, self._word, library.WORD_ROOM)
+        self._map = (ctypes.c_char * 0)()
+        self._open(request, pieces)
+
+    @property
+    def is_over(self) -> bool:
+        """Whether nothing is left to read."""
+        return self.has_ended or self.fault is not None
+
+    def _open(self, request: Request, pieces: bool) -> None:
+        given = library.Request()
+        given.limits = library.GivenLimits(*request.limits)
+        given.origins, given.asks, given.pieces = request.origins, True, pieces
+        lists: Tuple[Tuple[str, Any, Sequence[Tuple[bytes, ...]]], ...] = (
+            ("texts", library.Pair, request.texts),
+            ("folders", library.Folder, [(folder,) for folder in request.folders]),
+            ("definitions", library.Pair, request.definitions),
+        )
+        for field, kind, items in lists:
+            setattr(given, field, library.array(kind, items))
+            setattr(given, field + "_length", len(items))
+        given.path, given.path_length = request.path, len(request.path)
+        outcome = library.open_handle(ctypes.byref(given), *self._told, self._at)
+        if outcome.status == library.STOPPED:
+            raise self._fault(outcome)
+        _raise_refusal(outcome.status)
+
+    def read(self, place: int, room: int) -> int:
+        """Reads once, and answers how many bytes it wrote to a place with room for some.
+
+        It may be none, also where more follow: `has_ended` and `fault` tell the end.
+        """
+        outcome = library.read_handle(self._at, place, room, *self._told)
+        self._go_on(outcome)
+        return int(outcome.length)
+
+    def read_mapped(self, place: int, room: int) -> Tuple[int, bytes]:
+        """Reads once, as `read` does, and answers also the lines of the line map for what it wrote."""
+        if not self._map:
+            self._map = (ctypes.c_char * library.MAP_ROOM)()
+        mapped = library.read_mapped(
+            self._at, place, room, ctypes.addressof(self._map), library.MAP_ROOM, *self._told
+        )
+        lines = ctypes.string_at(self._map, mapped.map_length)
+        self._go_on(mapped.outcome)
+        return int(mapped.outcome.length), lines
+
+    def position(self) -> Optional[Position]:
+        """The place of the first byte of what was read last, where there is one."""
+        outcome = library.position(self._at, *self._told[:2])
+        if outcome.status != library.WHOLE:
+            return None
+        return Position(self._shown_name(outcome), outcome.line, outcome.number)
+
+    def definitions(self) -> bytes:
+        """The live definitions, as `define` lines."""
+        return library.told(library.definitions, self._at)
+
+    def close(self) -> None:
+        """Gives back what is open."""
+        library.close_handle(self._at)
+
+    def __del__(self) -> None:
+        self.close()
+
+    def _go_on(self, outcome: library.Outcome) -> None:
+        """Does what the outcome of a read asks for, so that the next one goes on."""
+        status = outcome.status
+        if status == library.WANTED:
+            self._give(ctypes.string_at(self._name, outcome.name_length))
+        elif status == library.WHOLE:
+            self.has_ended = True
+        elif status == library.STOPPED:
+            self.fault = self._fault(outcome)
+        elif status != library.MORE:
+            _raise_refusal(status)
+
+    def _give(self, path: bytes) -> None:
+        """Tells the library what stands at a path."""
+        shown = path.decode()
+        try:
+            text = self._asked(shown)
+        except Unreadable as unreadable:
+            self._unreadable = shown, unreadable
+            if unreadable.is_open:
+                self.sources.append(shown)
+            return _raise_refusal(library.give_failed(self._at, path, len(path)))
+        if text is None:
+            return _raise_refusal(library.give_absent(self._at, path, len(path)))
+        self.sources.append(shown)
+        held = text if isinstance(text, bytes) else bytes(text)
+        return _raise_refusal(library.give(self._at, path, len(path), held, len(held)))
+
+    def _shown_name(self, outcome: library.Outcome) -> str:
+        return ctypes.string_at(self._name, outcome.name_length).decode()
+
+    def _fault(self, outcome: library.Outcome) -> Fault:
+        """The fault that an outcome tells."""
+        kind, line = FaultKind(outcome.number), outcome.line
+        name, word = self._shown_name(outcome), ctypes.string_at(self._word, outcome.word_length).decode()
+        fault = Fault(kind, name, line, word, library.fault_text(kind), _notes(library.told(library.notes, self._at)))
+        if kind == FaultKind.READ_FAILED and self._unreadable is not None:
+            return _of_file(fault, *self._unreadable)
+        return fault
+
+
+def _of_file(fault: Fault, path: str, unreadable: Unreadable) -> Fault:
+    """The fault that an unreadable file ends by: of one that was opened it stands in that file's first line."""
+    name, line, notes = fault.name, fault.line, fault.notes
+    if unreadable.is_open:
+        name, line = path, 1
+        if fault.line:
+            notes = (f"included from {fault.name}:{fault.line}", *notes)
+    made = Fault(fault.kind, name, line, fault.word, fault.text, (f"{path}: {unreadable.reason}", *notes))
+    made.__cause__ = unreadable.error
+    return made
+
+
+def _notes(told: bytes) -> Tuple[str, ...]:
+    """The notes on a fault, each without what a note begins with."""
+    lines = told.decode("utf-8", "replace").split("\n")[:-1]
+    return tuple(line[len(NOTE) :] if line.startswith(NOTE) else line for line in lines)
+
+
+def _raise_refusal(status: int) -> None:
+    """Raises the error of a status by which nothing was done."""
+    if status == library.NO_MEMORY:
+        raise MemoryError("memory was refused")
+    if status == library.CLOSED:
+        raise ValueError("the output is closed")
+    if status != library.WHOLE:
+        raise AssertionError(f"the library answers {status}")

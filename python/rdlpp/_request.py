@@ -1,0 +1,120 @@
+"""What a call asks for, checked: a wrong argument is told by its name, with what is wanted in its place."""
+
+import os
+from collections.abc import Iterable as AnyIterable
+from collections.abc import Mapping as AnyMapping
+from typing import Any, Callable, Iterable, List, Mapping, NamedTuple, Optional, Tuple, Union
+
+from ._asked import Asked, Bytes, Disk, entries, given
+from ._limits import Limits
+
+Path = Union[str, "os.PathLike[str]"]
+Source = Union[Bytes, Path]
+Read = Callable[[str], Optional[Bytes]]
+
+TEXT_PATH = "-"
+
+
+class Request(NamedTuple):
+    """What a call asks for."""
+
+    path: bytes
+    texts: List[Tuple[bytes, bytes]]
+    folders: List[bytes]
+    definitions: List[Tuple[bytes, bytes]]
+    limits: Limits
+    origins: bool
+    asked: Asked
+
+
+def _wrong(name: str, wanted: str, value: object) -> TypeError:
+    return TypeError(f"{name} must be {wanted}, not {type(value).__name__}")
+
+
+def _utf_8(name: str, text: str) -> bytes:
+    try:
+        return text.encode()
+    except UnicodeEncodeError as error:
+        raise UnicodeError(f"{name} must be text that UTF-8 can write, and {text!r} isn't") from error
+
+
+def _path(name: str, value: Any) -> bytes:
+    """A path, as UTF-8."""
+    path = os.fspath(value) if isinstance(value, os.PathLike) else value
+    if not isinstance(path, str):
+        raise _wrong(name, "a path (str or os.PathLike of str)", value)
+    return _utf_8(name, path)
+
+
+def _main(source: Any) -> Tuple[bytes, List[Tuple[bytes, bytes]]]:
+    """The path of the main text, and that text where it is given."""
+    if isinstance(source, (bytes, bytearray, memoryview)):
+        path = TEXT_PATH.encode()
+        return path, [(path, bytes(source))]
+    if not isinstance(source, (str, os.PathLike)):
+        raise _wrong("source", "a path (str or os.PathLike) or a text (bytes)", source)
+    return _path("source", source), []
+
+
+def _folders(include_dirs: Any) -> List[bytes]:
+    if isinstance(include_dirs, (str, bytes, os.PathLike)):
+        raise TypeError(f"include_dirs must be a list of paths, not one path: write [{include_dirs!r}]")
+    if not isinstance(include_dirs, AnyIterable):
+        raise _wrong("include_dirs", "a list of paths", include_dirs)
+    return [_path(f"include_dirs[{place}]", folder) for place, folder in enumerate(include_dirs)]
+
+
+def _definitions(defines: Any) -> List[Tuple[bytes, bytes]]:
+    if defines is None:
+        return []
+    if not isinstance(defines, AnyMapping):
+        raise _wrong("defines", "a mapping from names to bodies", defines)
+    made = []
+    for name, body in defines.items():
+        if not isinstance(name, str):
+            raise _wrong(f"the name {name!r} in defines", "a str", name)
+        if not isinstance(body, str):
+            raise _wrong(f"defines[{name!r}]", "a str", body)
+        made.append((_utf_8("a name in defines", name), _utf_8(f"defines[{name!r}]", body)))
+    return made
+
+
+def _asked(files: Any, read: Any, limits: Limits) -> Asked:
+    """Where the sources come from."""
+    if files is not None and read is not None:
+        raise ValueError("files and read can't both be given")
+    if files is not None:
+        if not isinstance(files, AnyMapping):
+            raise _wrong("files", "a mapping from paths to bytes", files)
+        return entries(files)
+    if read is not None:
+        if not callable(read):
+            raise _wrong("read", "a callable from a path to bytes or None", read)
+        return given(read)
+    return Disk(limits.source_bytes, limits.line_bytes)
+
+
+def request_of(
+    source: Source,
+    include_dirs: Iterable[Path],
+    defines: Optional[Mapping[str, str]],
+    limits: Optional[Limits],
+    origins: bool,
+    files: Optional[Mapping[str, Bytes]],
+    read: Optional[Read],
+) -> Request:
+    """What these arguments ask for.
+
+    Raises:
+        TypeError, ValueError, UnicodeError, LimitError: an argument isn't one.
+    """
+    limits = Limits() if limits is None else limits
+    if not isinstance(limits, Limits):
+        raise _wrong("limits", "an rdlpp.Limits", limits)
+    limits.check()
+    if not isinstance(origins, bool):
+        raise _wrong("origins", "a bool", origins)
+    path, texts = _main(source)
+    return Request(
+        path, texts, _folders(include_dirs), _definitions(defines), limits, origins, _asked(files, read, limits)
+    )

@@ -1,0 +1,129 @@
+"""Preprocessing as one call."""
+
+from typing import Iterable, List, Mapping, Optional
+
+from ._asked import Bytes
+from ._faults import Fault
+from ._limits import Limits
+from ._output import Output, lines_of
+from ._reading import Reading
+from ._request import Path, Read, Request, Source, request_of
+from ._written import Written
+
+# How much one read asks for: it comes back soon, so that a signal is seen.
+PART = 65_536
+
+
+def _first_room(request: Request) -> int:
+    """Room for an output that isn't much longer than its source, where that is known."""
+    return sum(len(text) for _, text in request.texts) + 2 * PART
+
+
+def _part(written: Written, filled: int, room: int) -> int:
+    """How much room there is, with at least a part of it; more is made by the half."""
+    if room - filled >= PART:
+        return room
+    room += max(room // 2, PART)
+    written.grow(room)
+    return room
+
+
+def _read_all(reading: Reading, room: int, runs: Optional[List[bytes]]) -> bytes:
+    """All of an output; its line map goes to `runs`, where that is wanted."""
+    written, filled = Written(room), 0
+    while not reading.is_over:
+        room = _part(written, filled, room)
+        if runs is None:
+            filled += reading.read(written.place + filled, PART)
+        else:
+            length, lines = reading.read_mapped(written.place + filled, PART)
+            filled += length
+            runs.append(lines)
+    return written.take(filled)
+
+
+def _raised(fault: Fault, text: bytes, partial: Optional[Output]) -> Fault:
+    """The fault of a run, with the output before it."""
+    fault.output, fault.partial = text, partial
+    fault.args = (*fault.args[:6], text, partial)
+    return fault
+
+
+def preprocess(
+    source: Source,
+    include_dirs: Iterable[Path] = (),
+    defines: Optional[Mapping[str, str]] = None,
+    limits: Optional[Limits] = None,
+    origins: bool = False,
+    *,
+    files: Optional[Mapping[str, Bytes]] = None,
+    read: Optional[Read] = None,
+) -> bytes:
+    """Preprocesses a text and answers the output.
+
+        >>> import rdlpp
+        >>> rdlpp.preprocess(b"`define W 8\\nreg[`W];\\n")
+        b'\\nreg[8];\\n'
+        >>> rdlpp.preprocess("m", ["inc"], {"W": "8"}, files={"m": b'`include "w"', "inc/w": b"reg[`W];"})
+        b'reg[8];\\n'
+
+    A source is asked for when the run needs it, once: what is skipped or stands in a comment includes nothing.
+
+    Args:
+        source: bytes are the text itself, whose shown name is `-`; anything else is its path.
+        include_dirs: the include folders, in the order of the search.
+        defines: macros without a formal list that are defined first, each name with its body.
+        limits: how much of each thing the run may use; the standard limits where it is None.
+        origins: whether lines `// origin: NAME:LINE` are written.
+        files: the sources by their paths.
+        read: gives the source of a path, or None where nothing is there. What it raises comes out of the call.
+            Where neither `files` nor `read` is given, the sources are files.
+
+    Raises:
+        Fault: a fault ended the output; it has the output before it.
+        TypeError: an argument is of a wrong type.
+        ValueError: an argument can't be used, as a path that UTF-8 can't write.
+        MemoryError: memory was refused.
+    """
+    request = request_of(source, include_dirs, defines, limits, origins, files, read)
+    reading = Reading(request)
+    try:
+        text = _read_all(reading, _first_room(request), None)
+    finally:
+        reading.close()
+    if reading.fault is not None:
+        raise _raised(reading.fault, text, None)
+    return text
+
+
+def run(
+    source: Source,
+    *,
+    include_dirs: Iterable[Path] = (),
+    defines: Optional[Mapping[str, str]] = None,
+    limits: Optional[Limits] = None,
+    origins: bool = False,
+    files: Optional[Mapping[str, Bytes]] = None,
+    read: Optional[Read] = None,
+) -> Output:
+    """Preprocesses a text and answers the output with its lines, sources and definitions.
+
+        >>> import rdlpp
+        >>> output = rdlpp.run(b"`define W 8\\nreg[`W];\\n")
+        >>> output.text, output.lines.place(2), output.definitions
+        (b'\\nreg[8];\\n', Place(name='-', line=2), b'`define W 8\\n')
+
+    The arguments and the errors are those of `preprocess`. A fault has what was made before it as its `partial`.
+    """
+    request = request_of(source, include_dirs, defines, limits, origins, files, read)
+    reading = Reading(request)
+    runs: List[bytes] = []
+    try:
+        text = _read_all(reading, _first_room(request), runs)
+        definitions = reading.definitions()
+    finally:
+        reading.close()
+    output = Output(text, lines_of(text, runs), tuple(reading.sources), definitions)
+    if reading.fault is not None:
+        raise _raised(reading.fault, text, output)
+    return output

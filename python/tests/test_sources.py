@@ -1,0 +1,250 @@
+"""Where the sources come from: what a run asks for, and in which order; files that are none; limits on what is read."""
+
+import os
+import pathlib
+import signal
+import tempfile
+import threading
+import unittest
+from unittest import mock
+
+import rdlpp
+from rdlpp import FaultKind, _asked
+
+
+class Asked:
+    """A `read` over a mapping, which notes what was asked for."""
+
+    def __init__(self, files):
+        self.files, self.paths = files, []
+
+    def __call__(self, path):
+        self.paths.append(path)
+        return self.files.get(path)
+
+
+class Sources(unittest.TestCase):
+    def fault(self, *given, **named):
+        with self.assertRaises(rdlpp.Fault) as caught:
+            rdlpp.run(*given, **named)
+        return caught.exception
+
+
+class Callables(Sources):
+    def test_what_is_asked_for(self):
+        read = Asked({"a/m": b'`include "i"\n`include "/r"\n`include "j"\n`include "i"\n', "a/i": b"i", "/r": b"r", "more/j": b"j"})
+        output = rdlpp.run("a/m", include_dirs=["inc", "more/", ""], read=read)
+        self.assertEqual(read.paths, ["a/m", "a/i", "/r", "a/j", "inc/j", "more/j"])
+        self.assertEqual(output.sources, ("a/m", "a/i", "/r", "more/j"))
+
+    def test_what_is_skipped_is_not_asked_for(self):
+        text = b'// `include "a"\n/* `include "b" */ "`include "\n`ifdef X\n`include "c"\n`endif\n`define D `include "d"\n'
+        read = Asked({"m": text})
+        rdlpp.preprocess("m", read=read)
+        self.assertEqual(read.paths, ["m"])
+
+    def test_a_text_that_is_given(self):
+        read = Asked({"i": b"q\n"})
+        output = rdlpp.run(b'`include "i"\n', read=read)
+        self.assertEqual((output.text, output.sources, read.paths), (b"q\n\n", ("i",), ["i"]))
+
+    def test_a_callable_that_raises(self):
+        for error in (KeyError("x"), OSError("y"), KeyboardInterrupt()):
+            def read(path):
+                if path == "i":
+                    raise error
+                return b'a\n`include "i"\n'
+
+            for call in (rdlpp.preprocess, rdlpp.run):
+                with self.assertRaises(type(error)) as caught:
+                    call("m", read=read)
+                self.assertIs(caught.exception, error)
+
+    def test_texts_of_other_types(self):
+        for text in (bytearray(b"ab"), memoryview(b"abc")[:2], memoryview(b"axbx")[::2]):
+            self.assertEqual(rdlpp.preprocess("m", read=lambda path: text), b"ab")
+
+    def test_no_source(self):
+        fault = self.fault("m", read=lambda path: None)
+        self.assertEqual(str(fault), "m:0: error F28: source not found")
+
+
+class Mappings(Sources):
+    def test_a_mapping(self):
+        self.assertEqual(rdlpp.preprocess("m", files={"m": b"a"}), b"a")
+        self.assertEqual(str(self.fault("n", files={"m": b"a"})), "n:0: error F28: source not found")
+
+    def test_a_path_object(self):
+        self.assertEqual(rdlpp.preprocess(pathlib.Path("d/m"), files={"d/m": b"a"}), b"a")
+
+    def test_included_entries(self):
+        files = {"a/m": b'`include "i"\n', "a/i": b'`include "j"\n', "inc/j": b"q\n"}
+        self.assertEqual(rdlpp.preprocess("a/m", ["inc"], files=files), b"q\n\n\n")
+
+    def test_a_mapping_that_changes(self):
+        files = {"m": b'`include "i"\n`include "i"\n' + b"x\n" * 100_000 + b'`include "i"\n`include "j"\n', "i": b"1\n"}
+        got = []
+        with rdlpp.stream("m", files=files, room=2) as pieces:
+            for piece in pieces:
+                files["i"], files["j"] = b"2\n", b"3\n"
+                got.append(piece)
+        self.assertEqual(b"".join(got), b"1\n\n1\n\n" + b"x\n" * 100_000 + b"1\n\n3\n\n")
+
+    def test_many_includes(self):
+        files = {f"i{number}": b"%d\n" % number for number in range(10_000)}
+        files["m"] = b"".join(b'`include "i%d"\n' % number for number in range(10_000))
+        output = rdlpp.run("m", files=files)
+        self.assertEqual(output.text, b"".join(b"%d\n\n" % number for number in range(10_000)))
+        self.assertEqual(len(output.sources), 10_001)
+
+    def test_headers_that_include_each_other(self):
+        files = {"m": b'`include "a/a"\n'}
+        for name, others in (("a", "bc"), ("b", "ca"), ("c", "ab")):
+            text = f"`ifndef {name}\n`define {name}\n" + "".join(f'`include "../{o}/{o}"\n' for o in others) + "`endif\n"
+            for front in ("", "a/../", "a/../b/../", "a/../b/../c/../", "a/../c/../", "a/../c/../b/../"):
+                files[f"{front}{name}/{name}"] = text.encode()
+        read = Asked(files)
+        output = rdlpp.run("m", read=read)
+        self.assertEqual(output.text.strip(b"\n"), b"")
+        self.assertLess(len(read.paths), 10)
+
+
+class Files(Sources):
+    def setUp(self):
+        folder = tempfile.TemporaryDirectory()
+        self.addCleanup(folder.cleanup)
+        self.addCleanup(os.chdir, os.getcwd())
+        os.chdir(folder.name)
+        self.addCleanup(signal.signal, signal.SIGALRM, signal.signal(signal.SIGALRM, self.hangs))
+        signal.alarm(60)
+        self.addCleanup(signal.alarm, 0)
+
+    def hangs(self, *_signal):
+        raise AssertionError("no end after a minute")
+
+    def write(self, path, text):
+        pathlib.Path(path).parent.mkdir(parents=True, exist_ok=True)
+        pathlib.Path(path).write_bytes(text)
+
+    def test_a_file(self):
+        self.write("m.rdl", b"a\n`Q")
+        for path in ("m.rdl", "./m.rdl", pathlib.Path("m.rdl").resolve()):
+            fault = self.fault(path)
+            self.assertEqual((fault.name, fault.line, fault.output), (str(path), 2, b"a\n"))
+
+    def test_included_files(self):
+        self.write("a/m", b'`include "i"\nz\n')
+        self.write("inc/i", b"q")
+        output = rdlpp.run(pathlib.Path("a/m"), include_dirs=[pathlib.Path("inc")])
+        self.assertEqual((output.text, output.sources), (b"q\n\nz\n", ("a/m", "inc/i")))
+
+    def test_no_file(self):
+        fault = self.fault("no")
+        self.assertEqual((str(fault), fault.__cause__), ("no:0: error F28: source not found", None))
+
+    def test_a_folder_in_the_place_of_a_source(self):
+        self.write("m", b'x\n`include "d"\n')
+        self.write("inc/d", b"q\n")
+        os.mkdir("d")
+        fault = self.fault("m", include_dirs=["inc"])
+        self.assertEqual((str(fault), fault.output), ("d:1: error F32: read failed", b"x\n"))
+        self.assertIsInstance(fault.__cause__, IsADirectoryError)
+        self.assertEqual(fault.notes, ("d: Is a directory (os error 21)", "included from m:2"))
+        self.assertEqual(fault.partial.sources, ("m", "d"))
+        self.assertEqual(str(self.fault("d")), "d:1: error F32: read failed")
+
+    def test_a_path_behind_a_file(self):
+        self.write("m", b'\n`include "m/i"\n')
+        fault = self.fault("m")
+        self.assertEqual(str(fault), "m:2: error F32: read failed")
+        self.assertIsInstance(fault.__cause__, NotADirectoryError)
+        self.assertEqual(fault.notes, ("m/i: Not a directory (os error 20)",))
+        self.assertEqual(fault.partial.sources, ("m",))
+        self.assertEqual(str(self.fault("m/i")), "m/i:0: error F32: read failed")
+
+    def test_names_that_no_file_has(self):
+        self.write("m", b'`include "a\0b"\n')
+        self.assertEqual(str(self.fault("m")), "m:1: error F32: read failed")
+        self.write("m", b'`include "' + b"a" * 300 + b'"\n')
+        self.assertEqual(self.fault("m").kind, FaultKind.READ_FAILED)
+        self.write("m", b'`include "' + b"a" * 1100 + b'"\n')
+        self.assertEqual(self.fault("m").kind, FaultKind.PATH_TOO_LONG)
+        self.write("m", b'`include "\xff"\n')
+        self.assertEqual(self.fault("m").kind, FaultKind.INCLUDE_NAME_EXPECTED)
+        self.write("a\nb", b"a")
+        self.assertEqual(self.fault("a\nb").kind, FaultKind.SOURCE_NOT_FOUND)
+
+    def test_names_of_other_alphabets(self):
+        self.write("größe/m", '`include "maß"\n'.encode())
+        self.write("größe/maß", b"q\n")
+        self.assertEqual(rdlpp.run("größe/m").sources, ("größe/m", "größe/maß"))
+
+    def test_devices(self):
+        self.write("m", b'x`include "/dev/null"\ny\n')
+        self.assertEqual(rdlpp.preprocess("m"), b"x\ny\n")
+        self.write("m", b'x\n`include "/dev/zero"\n')
+        for limits in (rdlpp.Limits(), rdlpp.Limits(source_bytes=100)):
+            fault = self.fault("m", limits=limits)
+            self.assertEqual((str(fault), fault.output), ("/dev/zero:1: error F4: line too long", b"x\n"))
+
+    def test_a_pipe(self):
+        self.write("m", b'`include "pipe"\n')
+        os.mkfifo("pipe")
+        writer = threading.Thread(target=lambda: pathlib.Path("pipe").write_bytes(b"q\n" * 100_000))
+        writer.start()
+        self.assertEqual(rdlpp.preprocess("m"), b"q\n" * 100_000 + b"\n")
+        writer.join()
+
+    def test_a_pipe_that_is_not_asked_for(self):
+        os.mkfifo("pipe")
+        self.write("m", b'// `include "pipe"\n/* `include "pipe" */\n`ifdef X\n`include "pipe"\n`endif\n')
+        self.assertEqual(rdlpp.run("m").sources, ("m",))
+
+    def test_a_pipe_without_a_writer_can_be_left(self):
+        os.mkfifo("pipe")
+
+        def leave(*_signal):
+            raise TimeoutError
+
+        signal.signal(signal.SIGALRM, leave)
+        signal.setitimer(signal.ITIMER_REAL, 0.2)
+        with self.assertRaises(TimeoutError):
+            rdlpp.preprocess("pipe")
+
+    def reads(self, *given, **named):
+        """How many bytes a call reads of files, and its fault."""
+        read, lengths = os.read, []
+
+        def noted(file, most):
+            part = read(file, most)
+            lengths.append(len(part))
+            return part
+
+        with mock.patch.object(_asked.os, "read", noted):
+            fault = self.fault(*given, **named)
+        return sum(lengths), fault
+
+    def test_the_limits_hold_of_what_is_read(self):
+        self.write("m", b"text\n" * 1_000_000)
+        count, fault = self.reads("m", limits=rdlpp.Limits(source_bytes=1004, line_bytes=256))
+        self.assertEqual((str(fault), fault.output), ("m:201: error F5: source too long", b"text\n" * 200))
+        self.assertLess(count, 2_000)
+        self.write("m", b"text\n" + b"x" * 10_000_000)
+        count, fault = self.reads("m", limits=rdlpp.Limits(source_bytes=1_000_000))
+        self.assertEqual((str(fault), fault.output), ("m:2: error F4: line too long", b"text\n"))
+        self.assertLess(count, 1_100_000)
+
+    def test_a_file_of_two_gigabytes(self):
+        with open("m", "wb") as file:
+            file.write(b"text\n")
+            file.truncate(2**31)
+        count, fault = self.reads("m")
+        self.assertEqual((str(fault), fault.output), ("m:2: error F4: line too long", b"text\n"))
+        self.assertLess(count, 2**27)
+
+    def test_a_file_whose_size_is_not_told(self):
+        self.assertEqual(rdlpp.preprocess("/proc/version"), pathlib.Path("/proc/version").read_bytes())
+
+
+if __name__ == "__main__":
+    unittest.main()
