@@ -14,7 +14,7 @@ sys.setrecursionlimit(1_000_000)
 STANDARD = {
     "depth": 256, "includes": 16, "line_bytes": 65536, "source_bytes": 1 << 30, "argument_bytes": 65536,
     "definition_bytes": 1 << 20, "definitions": 4096, "conditions": 256, "output_bytes": (1 << 64) - 1,
-}  # fmt: skip
+}
 RESERVED = {b"define", b"undef", b"ifdef", b"ifndef", b"elsif", b"else", b"endif", b"include", b"line"}
 BRANCHES = {b"elsif", b"else", b"endif"}
 PASSED = {"blank", "line_end", "line_comment", "block_comment"}
@@ -35,7 +35,7 @@ TEXTS = {
     26: b"too many open conditionals", 27: b"include name expected", 28: b"source not found",
     29: b"too many open includes", 30: b"bad line directive", 31: b"path too long",
     35: b"output bytes passed",
-}  # fmt: skip
+}
 
 
 class Fault(Exception):
@@ -229,16 +229,17 @@ def directive(token):
 
 
 class Reading:
-    """What comes of a main text.
+    """What comes of a main text, with the words of a command line (`row_table.Asked`), from the macros of a table.
 
     `pieces` is the output: texts, each with the shown name and line of its first byte, and by how much the line grows
     behind each of its LF bytes. `fault` is what ended it, and `table` has the macros.
     """
 
-    def __init__(self, files, main, limits=(), defines=(), folders=(), origins=False):
-        self.limits = {**STANDARD, **dict(limits)}
-        self.files, self.main, self.folders, self.origins = files, main.encode(), folders, origins
-        self.table, self.pieces, self.written, self.fault = Table(self.limits), [], 0, None
+    def __init__(self, files, main, asked=None, table=None):
+        self.limits = {**STANDARD, **(asked.limits if asked else {})}
+        self.files, self.main, self.folders = files, main.encode(), asked.folders if asked else []
+        self.origins, defines = bool(asked and asked.origins), asked.defines if asked else []
+        self.table, self.pieces, self.written, self.fault = table or Table(self.limits), [], 0, None
         self.open_files, self.conditions = [], 0
         try:
             self.define_options(defines)
@@ -253,7 +254,7 @@ class Reading:
         """For each line of the output the place of its first byte."""
         is_start = True
         for text, name, line, step in self.pieces:
-            for part in text.splitlines(keepends=True) if b"\r" not in text else re.findall(rb"[^\n]*\n|[^\n]+", text):
+            for part in re.findall(rb"[^\n]*\n|[^\n]+", text):
                 if is_start:
                     yield name, line
                 is_start = part.endswith(b"\n")
