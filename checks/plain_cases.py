@@ -62,11 +62,11 @@ class Comparison:
         return tally
 
 
-def compare(name, check):
-    """Does a check over each row and over random sources: those of the seed and the count on the command line, or of 1 and
-    2,000."""
+def compare(name, check, more=()):
+    """Does a check over each row, over further cases, and over random sources: those of the seed and the count on the command
+    line, or of 1 and 2,000."""
     seed, count = (int(word) for word in (sys.argv[1:] + ["1", "2000"][len(sys.argv) - 1 :]))
-    cases = [of_row(row) for row in ROWS if not row.is_in_memory]
+    cases = [*(of_row(row) for row in ROWS if not row.is_in_memory), *more]
     cases += [of_seed(seed) for seed in range(seed, seed + count)]
     tally = Tally(name)
     with ProcessPoolExecutor(len(os.sched_getaffinity(0))) as pool:
