@@ -30,16 +30,20 @@ ghost use Rattle.rdlpp_expand.specs.Run.{write_fault};
 ghost use Rattle.rdlpp_steps.specs.Steps.{IsStarted, Steps, Walks, is_write_failed};
 ghost use Rattle.rdlpp_expand.specs.contracts.engine.Engine.{the_row};
 
+mod asking;
 mod conditional;
 mod include;
 mod line;
+mod looking;
 mod opening;
+mod positions;
 mod skipping;
 mod texts;
 mod usage;
 mod words;
 
 use arrayvec::ArrayString;
+pub use looking::OpenSource;
 use rdlpp_conditions::Conditions;
 use rdlpp_cursors::{CursorFault, TextPlace};
 use rdlpp_front::{Argument, Front, front_of};
@@ -47,13 +51,16 @@ use rdlpp_meaning::{Fault, FaultKind};
 use rdlpp_read::{Files, Fill, LogicalLine};
 use rdlpp_scan::{Mode, line_ends_in, reserved};
 use rdlpp_source::Sources;
-use rdlpp_steps::{Held, Owed, Phase, Piece, Place, copied, copied_fault, fault_kind, word_of};
+use rdlpp_steps::{Held, Marks, Owed, Phase, Piece, Place, copied, copied_fault, fault_kind, word_of};
 use rdlpp_table::{Limits, Table};
 use rdlpp_usages::Expansion;
 use std::alloc::Global;
 use std::marker::Model;
 pub(crate) use texts::TextStep;
 use words::DEFINE_BYTES;
+
+// The most silent steps over open texts in a row, and the most rounds of steps of one walk.
+const MOST_ROUNDS: usize = 256;
 
 /// Preprocesses one main text of its sources.
 #[derive(Drop)]
@@ -67,6 +74,8 @@ pub struct Engine<S: Sources> {
     // the path that was asked for, cut to 1,024 bytes or fewer at a character's boundary
     main: ArrayString<1024>,
     owed: Owed,
+    // where the piece stands that was lent last
+    marks: Marks,
     table: Table,
     conditions: Conditions,
     sources: S,
@@ -89,6 +98,7 @@ impl<S: Sources> Model for Engine<S> {
       kept = option_map told e.kept;
       main = e.main.bytes;
       owed = e.owed;
+      marks = e.marks;
       table = e.table;
       conditions = e.conditions;
       sources = e.sources;
@@ -128,24 +138,30 @@ impl<S: Sources> Engine<S> {
     /// The next piece of the output, or its end, or the fault that ends it, which the engine keeps.
     ///
     /// The engine must have been started. A fault is kept: every later call answers it again and
-    /// changes nothing. After the end every later call answers the end. A piece may have no bytes.
+    /// changes nothing. After the end every later call answers the end. A piece may have no bytes:
+    /// so is one that is lent where 65,536 steps in a row came to no bytes.
     pub fn next(&mut self) -> Result<Piece<'_>, &Fault>
         requires { IsStarted self.old }
         ensures* after { sem 𝓛 (Rests (the_row S.row S.Reader.row S.Sources) self.entry (λ new.
             Steps S.Sources self.old new (answer_of result) × Lends new (answer_of result))) }
     {
-        let place = self.advance();
-        self.answer(place)
+        match self.advance() {
+            Some(place) => self.answer(place),
+            None => Ok(Piece::Bytes(&[])),
+        }
     }
 
-    // The step of `next`: goes on to the next piece, cut to what the limit on the output leaves, and answers where it stands.
-    pub(crate) fn advance(&mut self) -> Place
+    // The step of `next`: goes on to the next piece, cut to what the limit on the output leaves, and answers where it stands;
+    // none where so many steps came to no bytes.
+    pub(crate) fn advance(&mut self) -> Option<Place>
         requires { IsStarted self.old }
-        ensures place { IsPlaced self.new result }
-        ensures steps { Steps S.Sources self.old self.new (lent_answer self.new result) }
+        ensures place { IfSome result (IsPlaced self.new) }
+        ensures steps { Steps S.Sources self.old self.new (step_answer self.new result) }
     {
-        let place = self.walk();
-        self.cut(place)
+        match self.walk() {
+            Some(place) => Some(self.cut(place)),
+            None => None,
+        }
     }
 
     // The step of `run` that is none over the open texts of a usage, cut to what the limit on the output leaves; it may lend
@@ -207,17 +223,19 @@ impl<S: Sources> Engine<S> {
         left
     }
 
-    // Goes on to the next piece, however many bytes may still be lent, and answers where it stands.
-    fn walk(&mut self) -> Place
+    // Goes on to the next piece, however many bytes may still be lent, and answers where it stands; none where so many
+    // rounds of steps came to no bytes.
+    fn walk(&mut self) -> Option<Place>
         requires { IsStarted self.old }
-        ensures place { IsPlaced self.new result }
-        ensures walks { Walks S.Sources self.old self.new (lent_answer self.new result) }
+        ensures place { IfSome result (IsPlaced self.new) }
+        ensures walks { Walks S.Sources self.old self.new (step_answer self.new result) }
     {
-        'stepping: loop {
+        'stepping: for _ in 1..MOST_ROUNDS {
             if let Some(place) = self.step() {
-                return place;
+                return Some(place);
             }
         }
+        self.step()
     }
 
     // Takes one step, which may lend nothing.
@@ -265,6 +283,7 @@ impl<S: Sources> Engine<S> {
         ensures walks { IsBounded self.new → Walks S.Sources self.old self.new (step_answer self.new result) }
     {
         self.facts();
+        self.mark_owed();
         let name_len = self.files.file().name.len();
         match self.owed.take(name_len) {
             Some(piece) => Some(Place::Owed(piece)),
@@ -339,6 +358,7 @@ impl<S: Sources> Engine<S> {
         ensures walks { IsBounded self.new → Walks S.Sources self.old self.new (lent_answer self.new result) }
     {
         let lines = line_ends_in(&self.files.file().buffer.held()[..len]);
+        self.mark_source();
         self.enter_mode(next);
         let start = self.consume(len, lines);
         Place::Source(start, start + len)

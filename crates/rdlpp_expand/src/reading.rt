@@ -26,7 +26,7 @@ pub enum ReadEnd {
 pub struct ReadPart {
     /// How many bytes of the buffer were written.
     pub len: usize,
-    /// How the output ended; nothing where the buffer is full and more may follow.
+    /// How the output ended; nothing where more may follow.
     pub ending: Option<ReadEnd>,
 }
 
@@ -79,8 +79,42 @@ impl<S: Sources> Reading<S> {
         self.engine.kept_fault()
     }
 
+    /// The engine.
+    pub fn engine(&self) -> &Engine<S>
+        ensures { result.now ≡ self.now.engine }
+    {
+        &self.engine
+    }
+
+    /// Puts other sources in the place of the engine's, which are answered.
+    pub fn replace_sources(&mut self, sources: S) -> S {
+        self.engine.replace_sources(sources)
+    }
+
+    /// Forgets the fault of a search that failed, as `Engine::retry` does.
+    pub fn retry(&mut self) {
+        self.engine.retry();
+    }
+
+    /// Opens the main text once more where its opening failed, as `Engine::start_again` does.
+    pub fn start_again(&mut self, path: &str) -> Result<(), Fault> {
+        self.engine.start_again(path)
+    }
+
+    /// How many bytes of the piece that was lent last weren't given yet.
+    pub fn rest_len(&self) -> usize
+        ensures { result ≡ length self.now.rest }
+    {
+        match self.engine.answer(self.place) {
+            Ok(Piece::Bytes(piece)) => piece.len() - self.given,
+            Ok(Piece::Done) => 0,
+            Err(_) => 0,
+        }
+    }
+
     /// Writes the next bytes of the output to the front of a buffer, until it is full or the output
-    /// ends.
+    /// ends, or a piece without bytes is lent: so a read comes back after so many steps without bytes
+    /// as `Engine::next` takes, with fewer bytes than the buffer has, and no end.
     ///
     /// The bytes behind them stay. After the end, and after a fault, every later read answers the
     /// same again with no bytes.
@@ -100,7 +134,29 @@ impl<S: Sources> Reading<S> {
                     ending: Some(ending),
                 };
             }
+            if self.rest_len() == 0 {
+                return ReadPart { len, ending: None };
+            }
         }
+    }
+
+    /// Writes the next bytes of one piece of the output to the front of a buffer, as many as there is
+    /// room for: what is left of the piece that was lent last, or else the next piece, which may have
+    /// none.
+    ///
+    /// The bytes behind them stay. After the end, and after a fault, every later read answers the
+    /// same again with no bytes.
+    pub fn read_piece(&mut self, out: &mut [u8]) -> ReadPart {
+        if self.rest_len() == 0
+            && let Some(ending) = self.turn()
+        {
+            return ReadPart {
+                len: 0,
+                ending: Some(ending),
+            };
+        }
+        let len = self.give(out, 0);
+        ReadPart { len, ending: None }
     }
 
     // Writes what is left of the piece to a buffer, from a place on, as much as there is room for.
@@ -128,8 +184,12 @@ impl<S: Sources> Reading<S> {
         ensures { Turns S.Sources self.old.engine self.new.engine self.new.rest result }
     {
         self.given = 0;
-        self.place = self.engine.advance();
-        match self.engine.answer(self.place) {
+        let Some(place) = self.engine.advance() else {
+            self.place = Place::End;
+            return None;
+        };
+        self.place = place;
+        match self.engine.answer(place) {
             Ok(Piece::Bytes(_)) => None,
             Ok(Piece::Done) => Some(ReadEnd::Finished),
             Err(_) => Some(ReadEnd::Stopped),

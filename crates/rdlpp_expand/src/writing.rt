@@ -8,6 +8,7 @@ ghost use Rattle.rdlpp_steps.specs.Moves.{IsUnowed};
 ghost use Rattle.rdlpp_steps.specs.Steps.{IsStarted};
 
 use crate::engine::{Engine, TextStep};
+use crate::watching::{Unwatched, Watcher};
 use rdlpp_meaning::Fault;
 use rdlpp_source::{Sink, Sources};
 use rdlpp_steps::Piece;
@@ -33,7 +34,20 @@ pub fn run<S: Sources, W: Sink>(engine: &mut Engine<S>, writer: &mut W) -> Resul
     requires { IsStarted engine.old }
     ensures { Runs S.Sources W.Sink engine.old engine.new writer.old writer.new (count_of result) (fault_of result) }
 {
-    let Output { written, ending } = write_output(engine, writer);
+    let mut watcher = Unwatched {};
+    run_watched(engine, writer, &mut watcher)
+}
+
+/// Writes the output of an engine as `run` does, and shows a watcher what the writer took of each piece, before the next step.
+pub fn run_watched<S: Sources, W: Sink, V: Watcher>(
+    engine: &mut Engine<S>,
+    writer: &mut W,
+    watcher: &mut V,
+) -> Result<u64, RunFault>
+    requires { IsStarted engine.old }
+    ensures { Runs S.Sources W.Sink engine.old engine.new writer.old writer.new (count_of result) (fault_of result) }
+{
+    let Output { written, ending } = write_output(engine, writer, watcher);
     match ending {
         Ending::Finished => {
             if is_flushed(writer) {
@@ -188,9 +202,23 @@ fn ending_of(written: &PartWritten) -> Option<Ending>
     }
 }
 
+// Shows a watcher what the writer took of a piece.
+#[inline(always)]
+fn show<S: Sources, V: Watcher>(engine: &Engine<S>, watcher: &mut V, part: &[u8]) {
+    if watcher.is_looking()
+        && let Some(position) = engine.position()
+    {
+        watcher.saw(part, position);
+    }
+}
+
 // Writes the next piece of the output, where the next step is none over open texts.
 #[inline(never)]
-fn pull<S: Sources, W: Sink>(engine: &mut Engine<S>, writer: &mut W) -> Pulled
+fn pull<S: Sources, W: Sink, V: Watcher>(
+    engine: &mut Engine<S>,
+    writer: &mut W,
+    watcher: &mut V,
+) -> Pulled
     requires started { IsStarted engine.old }
     requires outside { IsUnowed engine.old → engine.old.expansion.opens ≡ [] }
     ensures { Pulls S.Sources W.Sink engine.old engine.new writer.old writer.new result.len result.ending }
@@ -204,6 +232,7 @@ fn pull<S: Sources, W: Sink>(engine: &mut Engine<S>, writer: &mut W) -> Pulled
     match engine.answer(place) {
         Ok(Piece::Bytes(part)) => {
             let written = write_part(writer, part);
+            show(engine, watcher, &part[..written.len]);
             Pulled {
                 len: written.len,
                 ending: ending_of(&written),
@@ -221,14 +250,20 @@ fn pull<S: Sources, W: Sink>(engine: &mut Engine<S>, writer: &mut W) -> Pulled
 }
 
 // Writes the next piece of the open texts of a usage.
-fn pull_text<S: Sources, W: Sink>(engine: &mut Engine<S>, writer: &mut W) -> TextPulled
+fn pull_text<S: Sources, W: Sink, V: Watcher>(
+    engine: &mut Engine<S>,
+    writer: &mut W,
+    watcher: &mut V,
+) -> TextPulled
     requires { IsInTexts engine.old }
     ensures pulls { Pulls S.Sources W.Sink engine.old engine.new writer.old writer.new result.len result.ending }
     ensures next { result.ending ≡ None → IsTrue result.in_texts ↔ IsInTexts engine.new }
 {
     match engine.advance_text() {
         TextStep::Lent(place) => {
-            let written = write_part(writer, engine.text(place));
+            let part = engine.text(place);
+            let written = write_part(writer, part);
+            show(engine, watcher, &part[..written.len]);
             TextPulled {
                 len: written.len,
                 ending: ending_of(&written),
@@ -238,7 +273,7 @@ fn pull_text<S: Sources, W: Sink>(engine: &mut Engine<S>, writer: &mut W) -> Tex
         TextStep::Silent => TextPulled {
             len: 0,
             ending: None,
-            in_texts: false,
+            in_texts: engine.is_in_texts(),
         },
         TextStep::Kept => TextPulled {
             len: 0,
@@ -250,7 +285,11 @@ fn pull_text<S: Sources, W: Sink>(engine: &mut Engine<S>, writer: &mut W) -> Tex
 
 // Writes the output piece by piece, until it ends. Open texts, which may write millions of short pieces, have a branch of their
 // own: behind a piece of one of them it is known that the next step is one over open texts too.
-fn write_output<S: Sources, W: Sink>(engine: &mut Engine<S>, writer: &mut W) -> Output
+fn write_output<S: Sources, W: Sink, V: Watcher>(
+    engine: &mut Engine<S>,
+    writer: &mut W,
+    watcher: &mut V,
+) -> Output
     requires { IsStarted engine.old }
     ensures { Wrote S.Sources W.Sink engine.old engine.new writer.old writer.new result.written (Some result.ending) }
 {
@@ -258,14 +297,14 @@ fn write_output<S: Sources, W: Sink>(engine: &mut Engine<S>, writer: &mut W) -> 
     let mut in_texts = engine.is_in_texts();
     loop {
         if in_texts {
-            let pulled = pull_text(engine, writer);
+            let pulled = pull_text(engine, writer, watcher);
             written = written.saturating_add(pulled.len as u64);
             if let Some(ending) = pulled.ending {
                 return Output { written, ending };
             }
             in_texts = pulled.in_texts;
         } else {
-            let pulled = pull(engine, writer);
+            let pulled = pull(engine, writer, watcher);
             written = written.saturating_add(pulled.len as u64);
             if let Some(ending) = pulled.ending {
                 return Output { written, ending };

@@ -7,6 +7,7 @@ ghost use Rattle.rdlpp_steps.specs.Pieces.{IsPlaced, held_texts, step_answer};
 ghost use Rattle.rdlpp_steps.specs.Steps.{Steps, Walks};
 ghost use Rattle.rdlpp_expand.specs.Texts.{IsInTexts, LeavesTexts, StaysUnowed, place_of};
 
+use super::MOST_ROUNDS;
 use crate::engine::Engine;
 use rdlpp_cursors::{CursorStep, TextPlace, text_at};
 use rdlpp_source::Sources;
@@ -55,7 +56,7 @@ impl<S: Sources> Engine<S> {
     }
 
     // The step of `run` over the open texts of a usage: goes on to the next piece of one of them, cut to what the limit on the
-    // output leaves, or until none is open.
+    // output leaves, or until none is open, or so many came to no bytes.
     pub(crate) fn advance_text(&mut self) -> TextStep
         requires { IsInTexts self.old }
         ensures place { IfSome (place_of result) (IsPlaced self.new) }
@@ -77,14 +78,15 @@ impl<S: Sources> Engine<S> {
         }
     }
 
-    // Takes steps over the open texts of a usage, until one lends something or no text is open any more.
+    // Takes steps over the open texts of a usage, until one lends something, or no text is open any more, or so many came to
+    // no bytes.
     pub(super) fn walk_texts(&mut self) -> TextStep
         requires { IsInTexts self.old }
         ensures place { IfSome (place_of result) (IsPlaced self.new) }
         ensures walks { IsBounded self.new → Walks S.Sources self.old self.new (step_answer self.new (place_of result)) }
         ensures leaves { LeavesTexts result self.new }
     {
-        'stepping: loop {
+        'stepping: for _ in 1..MOST_ROUNDS {
             match self.step_text() {
                 TextStep::Silent => {
                     self.facts();
@@ -95,6 +97,7 @@ impl<S: Sources> Engine<S> {
                 step => return step,
             }
         }
+        self.step_text()
     }
 
     // Takes one step over the open texts of a usage.
@@ -108,7 +111,10 @@ impl<S: Sources> Engine<S> {
         let step = self.expansion.step(&self.table);
         self.expansion.facts();
         match step {
-            CursorStep::Lends(place) => TextStep::Lent(place),
+            CursorStep::Lends(place) => {
+                self.mark_usage();
+                TextStep::Lent(place)
+            }
             CursorStep::Silent => TextStep::Silent,
             CursorStep::Refused(fault) => {
                 let _kept = self.refuse_text(fault);

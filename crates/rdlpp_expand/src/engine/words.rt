@@ -1,4 +1,6 @@
-// How many bytes the words of directives have, each with its backquote.
+// The word of an `include`, and how many bytes the words of directives have, each with its backquote.
+
+pub(super) const INCLUDE: &[u8; 8] = b"`include";
 
 pub(super) const DEFINE_BYTES: usize = 7;
 

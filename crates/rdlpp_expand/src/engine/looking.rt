@@ -1,0 +1,107 @@
+// What is seen of an engine from outside: its parts, and where it stands.
+ghost use Rattle.std.specs.Prelude.{◌≡◌, length};
+ghost use Rattle.rdlpp_read.specs.Buffer.{held_of};
+ghost use Rattle.rdlpp_read.specs.Files.{inner_buffer};
+
+use super::Engine;
+use rdlpp_source::Sources;
+use rdlpp_table::{Limits, Table};
+
+/// What an open source shows.
+#[derive(Clone, Copy, Debug)]
+pub struct OpenSource<'a> {
+    /// The name that it shows.
+    pub name: &'a str,
+    /// The number that the line of its next byte shows.
+    pub line: u64,
+}
+
+impl<S: Sources> Engine<S> {
+    /// The sources.
+    pub fn sources(&self) -> &S
+        ensures { result.now ≡ self.now.sources }
+    {
+        &self.sources
+    }
+
+    /// Puts other sources in the place of the sources, which are answered.
+    pub fn replace_sources(&mut self, sources: S) -> S
+        ensures old { result ≡ self.old.sources }
+        ensures new { self.new ≡ record self.old { sources = sources } }
+    {
+        core::mem::replace(&mut self.sources, sources)
+    }
+
+    /// The table of the live definitions.
+    pub fn table(&self) -> &Table
+        ensures { result.now ≡ self.now.table }
+    {
+        &self.table
+    }
+
+    /// The limits.
+    pub fn limits(&self) -> &Limits
+        ensures { result.now ≡ self.now.limits }
+    {
+        &self.limits
+    }
+
+    /// How many sources are open.
+    pub fn open_sources(&self) -> usize
+        ensures { result ≡ length self.now.files.nest }
+    {
+        self.files.len()
+    }
+
+    /// What the innermost open source shows, where one is open.
+    pub fn inner_source(&self) -> Option<OpenSource<'_>> {
+        if self.files.len() == 0 {
+            return None;
+        }
+        self.files.facts();
+        let file = self.files.file();
+        Some(OpenSource {
+            name: file.name.as_str(),
+            line: file.shift.shown_line(file.buffer.line()),
+        })
+    }
+
+    /// The bytes that are kept of the call that is open: none where none is.
+    pub fn arguments(&self) -> &[u8]
+        ensures { result.now ≡ self.now.expansion.arguments }
+    {
+        self.expansion.arguments()
+    }
+
+    /// The held bytes of the innermost source that aren't used, at which the engine stands: none where no source is open.
+    pub fn front(&self) -> &[u8]
+        ensures { result.now ≡ held_of (inner_buffer self.now.files.nest) }
+    {
+        if self.files.len() == 0 {
+            return &[];
+        }
+        self.files.file().buffer.held()
+    }
+
+    /// The path of the innermost open source; empty where none is open.
+    pub fn inner_path(&self) -> &str {
+        if self.files.len() == 0 {
+            return "";
+        }
+        self.files.file().path.as_str()
+    }
+
+    /// What the open source shows at a place that includes others, counted from the innermost source, which has the place 0: its
+    /// name, and the line of its `include`.
+    pub fn including(&self, place: usize) -> Option<OpenSource<'_>> {
+        if place == 0 || place >= self.files.len() {
+            return None;
+        }
+        let line = self.files.at(place - 1).include_line;
+        let file = self.files.at(place);
+        Some(OpenSource {
+            name: file.name.as_str(),
+            line: file.shift.shown_line(line),
+        })
+    }
+}
