@@ -64,7 +64,7 @@ class Comparison:
 
 def compare(name, check, more=()):
     """Does a check over each row, over further cases, and over random sources: those of the seed and the count on the command
-    line, or of 1 and 2,000."""
+    line, or of 1 and 2,000. Answers its counts."""
     seed, count = (int(word) for word in (sys.argv[1:] + ["1", "2000"][len(sys.argv) - 1 :]))
     cases = [*(of_row(row) for row in ROWS if not row.is_in_memory), *more]
     cases += [of_seed(seed) for seed in range(seed, seed + count)]
@@ -72,4 +72,4 @@ def compare(name, check, more=()):
     with ProcessPoolExecutor(len(os.sched_getaffinity(0))) as pool:
         for told in pool.map(Comparison(name, check).of, cases, chunksize=16):
             tally.add(told)
-    tally.close()
+    return tally
