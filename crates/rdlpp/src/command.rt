@@ -37,11 +37,13 @@ Exit status:
 Example:
   rdlpp -I inc -D WIDTH=8 -o chip.out.rdl chip.rdl";
 
-const LINE_MAP_HELP: &str = "Write to this file which line of which source each line of the text comes from";
+const LINE_MAP_HELP: &str =
+    "Write to this file which line of which source each line of the text comes from";
 
 const DEPS_HELP: &str = "Write to this file a rule for make with each source that was opened";
 
-const DEFINITIONS_HELP: &str = "Write to this file the macros that are defined at the end, as define lines";
+const DEFINITIONS_HELP: &str =
+    "Write to this file the macros that are defined at the end, as define lines";
 
 /// The options that take a limit, in the order of the fields of `Limits`, each with its help.
 pub(crate) const LIMITS: [(&str, &str); 9] = [

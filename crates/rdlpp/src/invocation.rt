@@ -6,7 +6,8 @@ ghost use Rattle.rdlpp.specs.declared.invocation.UsageFault.TheVariants.{NoMemor
 
 use crate::Options;
 use crate::command::{
-    DEFINE, DEFINITIONS, DEPS, FOLDER, LIMITS, LINE_MAP, NOTES, ORIGINS, OUTPUT, SOURCE, rdlpp_command,
+    DEFINE, DEFINITIONS, DEPS, FOLDER, LIMITS, LINE_MAP, NOTES, ORIGINS, OUTPUT, SOURCE,
+    rdlpp_command,
 };
 use crate::reporting::limit_name;
 use clap::error::ErrorKind;
@@ -183,11 +184,7 @@ fn asked_for(
 }
 
 // The file that an option names, if it is given.
-fn file(
-    alloc: Global,
-    matches: &ArgMatches<'_>,
-    name: &str,
-) -> Result<Option<String>, AllocError> {
+fn file(alloc: Global, matches: &ArgMatches<'_>, name: &str) -> Result<Option<String>, AllocError> {
     match matches.get_str(name) {
         Some(path) => Ok(Some(String::from_str(alloc, path)?)),
         None => Ok(None),

@@ -20,8 +20,13 @@ pub use invocation::{Invocation, Reports, UsageFault, parse_words};
 pub use opening::open_reading;
 pub use options::Options;
 pub use preprocessing::preprocess;
-pub use rdlpp_expand::{Engine, Fault, FaultKind, Position, ReadEnd, ReadPart, Reading, RunFault, Watcher};
-pub use rdlpp_reports::{MapWriter, OpenedPaths, Recorded, write_definitions, write_dependencies, write_failure, write_notes};
+pub use rdlpp_expand::{
+    Engine, Fault, FaultKind, Position, ReadEnd, ReadPart, Reading, RunFault, Watcher,
+};
+pub use rdlpp_reports::{
+    MapWriter, OpenedPaths, Recorded, write_definitions, write_dependencies, write_failure,
+    write_notes,
+};
 pub use rdlpp_source::{Buffered, Counted, Found, Sink, SinkFault, SourceFault, Sources, Texts};
 pub use rdlpp_table::{LimitFault, Limits, NoMemory, Table};
 pub use reporting::report;

@@ -68,10 +68,7 @@ impl TakenFiles {
             number: metadata.ino(),
         };
         if self.has(id) {
-            return Err(io::Error::new(
-                ErrorKind::InvalidInput,
-                "another output goes to this file",
-            ));
+            return Err(io::Error::new(ErrorKind::InvalidInput, "another output goes to this file"));
         }
         self.take(id);
         file.set_len(0)?;

@@ -86,7 +86,10 @@ fn folders_of<'r>(
 }
 
 // The include folders of a command line.
-fn folders_in<'i>(rt: &HostRuntime, invocation: &'i Invocation) -> Result<Vec<&'i str>, AllocError> {
+fn folders_in<'i>(
+    rt: &HostRuntime,
+    invocation: &'i Invocation,
+) -> Result<Vec<&'i str>, AllocError> {
     let mut folders = Vec::new(rt.alloc());
     for folder in &invocation.folders {
         folders.push(folder.as_str())?;

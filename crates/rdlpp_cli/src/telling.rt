@@ -1,9 +1,7 @@
 //! What is told on standard error.
 use crate::folders_in;
 use crate::reports::NotedEngine;
-use rdlpp::{
-    Fault, FaultKind, Invocation, PrepFault, report, write_failure, write_notes,
-};
+use rdlpp::{Fault, FaultKind, Invocation, PrepFault, report, write_failure, write_notes};
 use std::io::{self, BufWriter, Write};
 
 // The bytes of the buffer in front of the line that reports a fault, which is never longer.
@@ -94,7 +92,9 @@ pub fn tell_unwritten(rt: &HostRuntime, path: &str, error: &io::Error) {
             let _flushed = line.flush();
         }
         Err(_) => {
-            let _told = rt.stderr().write_all(b"rdlpp: error: cannot write a report\n");
+            let _told = rt
+                .stderr()
+                .write_all(b"rdlpp: error: cannot write a report\n");
         }
     }
 }

@@ -1,7 +1,6 @@
 // Notes on a fault.
 use crate::writing::{write_parts, write_whole};
 use itoa::Buffer;
-use rdlpp_calls::arguments_of;
 use rdlpp_calls::next_part;
 use rdlpp_expand::{Engine, Fault, FaultKind};
 use rdlpp_front::{Front, front_of};
@@ -102,21 +101,18 @@ fn write_counts<S: Sources, W: Write>(
     write_parts(&[b", the call has ", has.as_bytes(), b"\n"], writer)
 }
 
-// How many arguments a call has, whose text is kept.
+// How many arguments a call has, whose text between its parentheses is kept; none where that is nothing but white space.
 fn arguments_in(text: &[u8]) -> u64 {
-    let Ok(arguments) = arguments_of(text) else {
+    if !next_part(text).has_items() && next_part(text).next.is_none() {
         return 0;
-    };
-    let mut rest = &text[arguments.from..arguments.to];
-    let mut count = 0;
-    loop {
-        let part = next_part(rest);
-        count += 1;
-        let Some(next) = part.next else {
-            return if count == 1 && !part.has_items() { 0 } else { count };
-        };
-        rest = &rest[next..];
     }
+    let mut count = 1;
+    let mut at = 0;
+    while let Some(next) = next_part(&text[at..]).next {
+        at += next;
+        count += 1;
+    }
+    count
 }
 
 // Writes what stands behind the backquote at which the engine stands, if it stands at one.
@@ -129,9 +125,7 @@ fn write_behind<S: Sources, W: Write>(engine: &Engine<S>, writer: &mut W) -> io:
     match front.get(1) {
         None => write_whole(b"nothing\n", writer),
         Some(b'\n') => write_whole(b"the line's end\n", writer),
-        Some(byte) if byte.is_ascii_graphic() => {
-            write_parts(&[b"'", &[*byte], b"'\n"], writer)
-        }
+        Some(byte) if byte.is_ascii_graphic() => { write_parts(&[b"'", &[*byte], b"'\n"], writer) }
         Some(byte) => {
             let mut number = Buffer::new();
             let number = number.format(*byte);
