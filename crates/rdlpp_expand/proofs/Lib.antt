@@ -1,4 +1,5 @@
 pub mod RunFacts
 pub mod Readings
 pub mod TextFacts
+pub mod PositionFacts
 pub mod UsageNames
