@@ -48,7 +48,9 @@ use rdlpp_meaning::{Fault, FaultKind};
 use rdlpp_read::{Files, Fill, LogicalLine};
 use rdlpp_scan::{Mode, line_ends_in, reserved};
 use rdlpp_source::Sources;
-use rdlpp_steps::{Held, Marks, Owed, Phase, Piece, Place, copied, copied_fault, fault_kind, word_of};
+use rdlpp_steps::{
+    Held, Marks, Owed, Phase, Piece, Place, copied, copied_fault, fault_kind, word_of,
+};
 use rdlpp_table::{Limits, Table};
 use rdlpp_usages::Expansion;
 use std::alloc::Global;
