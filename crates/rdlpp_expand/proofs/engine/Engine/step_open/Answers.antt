@@ -1,6 +1,7 @@
 use Rattle.std.proofs.Common.{◌≡◌, [], sym, ap, ◌∙◌, subst}
 use Rattle.rdlpp_read.specs.Files.{AreOpen}
 use Rattle.rdlpp_steps.specs.Engine.{IsSoundEngine}
+use Rattle.rdlpp_steps.specs.Moves.{IsUnowed}
 use Rattle.rdlpp_steps.specs.Owed.{nothing_owed}
 use Rattle.rdlpp_steps.proofs.FrontSteps.{opened_phase, owed_is_placed, ready_idle, take_owed}
 use Rattle.rdlpp_expand.proofs.engine.Engine.step_open.Goals as goal
@@ -22,5 +23,5 @@ pub step_sources-requires : goal.step_sources-requires
 step_sources-requires g c =
     let owed : c.args.self.now.owed ≡ nothing_owed = c.in-None.ensures.nothing.0 in
     let same = c.in-None.ensures.nothing.1 in
-    let unowed = record { open_ = c.requires.open; free = c.requires.free; owed = owed } in
+    let unowed : IsUnowed c.args.self.now = record { open_ = c.requires.open; free = c.requires.free; owed = owed } in
     rw same (ready_idle c.args.self.now unowed (c.requires.outside unowed) c.facts.ensures.sound c.facts.ensures.files)
