@@ -184,12 +184,8 @@ impl<S: Sources> Reading<S> {
         ensures { Turns S.Sources self.old.engine self.new.engine self.new.rest result }
     {
         self.given = 0;
-        let Some(place) = self.engine.advance() else {
-            self.place = Place::End;
-            return None;
-        };
-        self.place = place;
-        match self.engine.answer(place) {
+        self.place = self.engine.advance();
+        match self.engine.answer(self.place) {
             Ok(Piece::Bytes(_)) => None,
             Ok(Piece::Done) => Some(ReadEnd::Finished),
             Err(_) => Some(ReadEnd::Stopped),

@@ -1,6 +1,6 @@
 use Rattle.std.proofs.Common.{Ok, Some, ap}
 use Rattle.rdlpp_expand.proofs.RunFacts.{answer_step, pulled_fault, pulled_silent, pulled_written}
-use Rattle.rdlpp_expand.proofs.TextFacts.{answer-kept, kept-some, none-texts, open-texts}
+use Rattle.rdlpp_expand.proofs.TextFacts.{answer-kept, kept-some, open-texts}
 use Rattle.rdlpp_expand.proofs.writing.pull_text.Goals as goal
 
 pub text-requires : goal.text-requires
@@ -20,7 +20,7 @@ pub returns-in-Silent-clause-pulls : goal.returns-in-Silent-clause-pulls
 returns-in-Silent-clause-pulls g c = pulled_silent g.S.Sources g.W.Sink _ _ _ c.in-Silent.ensures.steps
 
 pub returns-in-Silent-clause-next : goal.returns-in-Silent-clause-next
-returns-in-Silent-clause-next g c = λ _. none-texts _ c.in-Silent.ensures.leaves
+returns-in-Silent-clause-next g c = λ _. c.is_in_texts.ensures
 
 pub returns-in-Kept-clause-pulls : goal.returns-in-Kept-clause-pulls
 returns-in-Kept-clause-pulls g c =
