@@ -4,6 +4,7 @@ ghost use Rattle.std.specs.Io.KnownBytes.{Appends};
 ghost use Rattle.rdlpp_source.specs.Counts.{Counts};
 ghost use Rattle.rdlpp_expand.specs.Run.{Flushes, Pulls, Runs, Unflushed, Wrote, count_of, fault_of};
 ghost use Rattle.rdlpp_expand.specs.Texts.{IsInTexts};
+ghost use Rattle.rdlpp_expand.specs.Watching.{Shows};
 ghost use Rattle.rdlpp_steps.specs.Moves.{IsUnowed};
 ghost use Rattle.rdlpp_steps.specs.Steps.{IsStarted};
 
@@ -39,13 +40,17 @@ pub fn run<S: Sources, W: Sink>(engine: &mut Engine<S>, writer: &mut W) -> Resul
 }
 
 /// Writes the output of an engine as `run` does, and shows a watcher what the writer took of each piece, before the next step.
+///
+/// What the watcher is shown is what the writer took, in its order. The answer, the faults and what the engine keeps are those of
+/// `run`.
 pub fn run_watched<S: Sources, W: Sink, V: Watcher>(
     engine: &mut Engine<S>,
     writer: &mut W,
     watcher: &mut V,
 ) -> Result<u64, RunFault>
     requires { IsStarted engine.old }
-    ensures { Runs S.Sources W.Sink engine.old engine.new writer.old writer.new (count_of result) (fault_of result) }
+    ensures runs { Runs S.Sources W.Sink engine.old engine.new writer.old writer.new (count_of result) (fault_of result) }
+    ensures shows { Shows W.Sink V.Watcher writer.old writer.new watcher.old watcher.new }
 {
     let Output { written, ending } = write_output(engine, writer, watcher);
     match ending {
@@ -211,7 +216,8 @@ fn pull<S: Sources, W: Sink, V: Watcher>(
 ) -> Pulled
     requires started { IsStarted engine.old }
     requires outside { IsUnowed engine.old → engine.old.expansion.opens ≡ [] }
-    ensures { Pulls S.Sources W.Sink engine.old engine.new writer.old writer.new result.len result.ending }
+    ensures pulls { Pulls S.Sources W.Sink engine.old engine.new writer.old writer.new result.len result.ending }
+    ensures shows { Shows W.Sink V.Watcher writer.old writer.new watcher.old watcher.new }
 {
     let Some(place) = engine.advance_outside() else {
         return Pulled {
@@ -248,6 +254,7 @@ fn pull_text<S: Sources, W: Sink, V: Watcher>(
     requires { IsInTexts engine.old }
     ensures pulls { Pulls S.Sources W.Sink engine.old engine.new writer.old writer.new result.len result.ending }
     ensures next { result.ending ≡ None → IsTrue result.in_texts ↔ IsInTexts engine.new }
+    ensures shows { Shows W.Sink V.Watcher writer.old writer.new watcher.old watcher.new }
 {
     match engine.advance_text() {
         TextStep::Lent(place) => {
@@ -281,7 +288,8 @@ fn write_output<S: Sources, W: Sink, V: Watcher>(
     watcher: &mut V,
 ) -> Output
     requires { IsStarted engine.old }
-    ensures { Wrote S.Sources W.Sink engine.old engine.new writer.old writer.new result.written (Some result.ending) }
+    ensures wrote { Wrote S.Sources W.Sink engine.old engine.new writer.old writer.new result.written (Some result.ending) }
+    ensures shows { Shows W.Sink V.Watcher writer.old writer.new watcher.old watcher.new }
 {
     let mut written: u64 = 0;
     let mut in_texts = engine.is_in_texts();

@@ -1,6 +1,7 @@
-use Rattle.std.proofs.Common.{Ok, Some, ap}
+use Rattle.std.proofs.Common.{Ok, Some, ap, refl}
 use Rattle.rdlpp_expand.proofs.RunFacts.{answer_step, pulled_fault, pulled_silent, pulled_written}
 use Rattle.rdlpp_expand.proofs.TextFacts.{answer-kept, kept-some, open-texts}
+use Rattle.rdlpp_expand.proofs.Watching.{shows_none, shows_part}
 use Rattle.rdlpp_expand.proofs.writing.pull_text.Goals as goal
 
 pub text-requires : goal.text-requires
@@ -26,3 +27,12 @@ pub returns-in-Kept-clause-pulls : goal.returns-in-Kept-clause-pulls
 returns-in-Kept-clause-pulls g c =
     let kept = kept-some _ c.in-Kept.ensures.leaves in
     pulled_fault g.S.Sources g.W.Sink _ _ _ kept.0 (answer-kept g.S.Sources _ _ kept.0 kept.1 c.in-Kept.ensures.steps)
+
+pub returns-in-Lent-clause-shows : goal.returns-in-Lent-clause-shows
+returns-in-Lent-clause-shows g c = shows_part g.W.Sink g.V.Watcher _ _ _ _ _ _ c.write_part-written.ensures.taken c.saw.ensures refl
+
+pub returns-in-Silent-clause-shows : goal.returns-in-Silent-clause-shows
+returns-in-Silent-clause-shows g c = shows_none g.W.Sink g.V.Watcher _ _
+
+pub returns-in-Kept-clause-shows : goal.returns-in-Kept-clause-shows
+returns-in-Kept-clause-shows g c = shows_none g.W.Sink g.V.Watcher _ _

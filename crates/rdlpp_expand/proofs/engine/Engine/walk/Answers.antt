@@ -14,3 +14,7 @@ returns-in-Some-clause-walks g c = passes_on g.S.Sources (256 * c.stepping._roun
 
 pub stepping-preserved : goal.stepping-preserved
 stepping-preserved g c = passes_more g.S.Sources (256 * c.stepping._round) 255 _ _ _ _ (omega arith) c.stepping.invariant c.in_default.ensures.walks
+
+pub returns-clause-walks : goal.returns-clause-walks
+returns-clause-walks g c =
+    passes_on g.S.Sources (256 * c.stepping._round) 255 most_silent _ _ _ _ (omega (arith, c.stepping.auto._round-end)) c.stepping.invariant c.step-2.ensures.walks

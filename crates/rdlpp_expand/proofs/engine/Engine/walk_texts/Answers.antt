@@ -26,3 +26,7 @@ stepping-preserved g c =
       passes_more g.S.Sources c.stepping._round 0 _ _ _ _ (omega arith) c.stepping.invariant.0 (c.in-Silent.ensures.walks c.facts.ensures.bounded),
       (c.in-Silent.ensures.stays, subst (λ e. 0 < length e.expansion.opens) c.self.view_is some),
     )
+
+pub returns-clause-walks : goal.returns-clause-walks
+returns-clause-walks g c = λ bounded.
+    passes_on g.S.Sources c.stepping._round 0 255 _ _ _ _ (omega (arith, c.stepping.auto._round-end)) c.stepping.invariant.0 (c.step_text-2.ensures.walks bounded)
