@@ -35,8 +35,8 @@ pub fn run<S: Sources, W: Sink>(engine: &mut Engine<S>, writer: &mut W) -> Resul
     requires { IsStarted engine.old }
     ensures { Runs S.Sources W.Sink engine.old engine.new writer.old writer.new (count_of result) (fault_of result) }
 {
-    let mut watcher = Unwatched {};
-    run_watched(engine, writer, &mut watcher)
+    let mut nobody = Unwatched {};
+    run_watched(engine, writer, &mut nobody)
 }
 
 /// Writes the output of an engine as `run` does, and shows a watcher what the writer took of each piece, before the next step.
@@ -196,6 +196,21 @@ fn write_rest<W: Sink>(writer: &mut W, part: &[u8]) -> PartWritten
     PartWritten { len, failed: false }
 }
 
+// Writes a part, as `write_part` does, and shows a watcher what the sink took of it.
+#[inline(always)]
+fn write_shown<W: Sink, V: Watcher>(writer: &mut W, watcher: &mut V, part: &[u8]) -> PartWritten
+    ensures inside { result.len ≤ length part.now }
+    ensures whole { result.failed ≡ false → result.len ≡ length part.now }
+    ensures taken { Appends (W.taken writer.old) (W.taken writer.new) (take result.len part.now) }
+    ensures writes { Counts result.failed (W.failed_writes writer.old) (W.failed_writes writer.new) }
+    ensures quiet { Unflushed W.Sink writer.old writer.new }
+    ensures shows { Shows W.Sink V.Watcher writer.old writer.new watcher.old watcher.new }
+{
+    let written = write_part(writer, part);
+    watcher.saw(&part[..written.len]);
+    written
+}
+
 // How the output ended with a part, if it did.
 fn ending_of(written: &PartWritten) -> Option<Ending>
     ensures { result ≡ (if written.now.failed then Some Ending.Unwritten else None) }
@@ -227,8 +242,7 @@ fn pull<S: Sources, W: Sink, V: Watcher>(
     };
     match engine.answer(place) {
         Ok(Piece::Bytes(part)) => {
-            let written = write_part(writer, part);
-            watcher.saw(&part[..written.len]);
+            let written = write_shown(writer, watcher, part);
             Pulled {
                 len: written.len,
                 ending: ending_of(&written),
@@ -258,9 +272,7 @@ fn pull_text<S: Sources, W: Sink, V: Watcher>(
 {
     match engine.advance_text() {
         TextStep::Lent(place) => {
-            let part = engine.text(place);
-            let written = write_part(writer, part);
-            watcher.saw(&part[..written.len]);
+            let written = write_shown(writer, watcher, engine.text(place));
             TextPulled {
                 len: written.len,
                 ending: ending_of(&written),

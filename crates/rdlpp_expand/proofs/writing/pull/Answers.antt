@@ -1,12 +1,12 @@
-use Rattle.std.proofs.Common.{Ok, refl, sym, ap, ◌∙◌}
+use Rattle.std.proofs.Common.{Ok, sym, ap, ◌∙◌}
 use Rattle.rdlpp_steps.specs.Pieces.{answer_of}
 use Rattle.rdlpp_expand.proofs.RunFacts.{answer_step, pulled_written, pulled_none, pulled_fault, pulled_silent}
-use Rattle.rdlpp_expand.proofs.Watching.{shows_none, shows_part}
+use Rattle.rdlpp_expand.proofs.Watching.{shows_none}
 use Rattle.rdlpp_expand.proofs.writing.pull.Goals as goal
 
 pub returns-in-Ok-Bytes-clause-pulls : goal.returns-in-Ok-Bytes-clause-pulls
 returns-in-Ok-Bytes-clause-pulls g c =
-    let w = c.write_part-written.ensures in
+    let w = c.write_shown-written.ensures in
     pulled_written g.S.Sources g.W.Sink _ _ _ _ _ _ _ _
     (answer_step g.S.Sources _ _ _ _ c.in-Some.ensures.steps (sym (ap answer_of (c.in-Ok-Bytes.is ∙ ap Ok c.in-Ok-Bytes.field-0-is)) ∙ c.answer.ensures))
     c.ending_of.ensures w.inside w.whole w.taken w.writes w.quiet
@@ -23,9 +23,6 @@ returns-in-Err-clause-pulls g c =
 
 pub returns-in_default-clause-pulls : goal.returns-in_default-clause-pulls
 returns-in_default-clause-pulls g c = pulled_silent g.S.Sources g.W.Sink _ _ _ c.in_default.ensures.steps
-
-pub returns-in-Ok-Bytes-clause-shows : goal.returns-in-Ok-Bytes-clause-shows
-returns-in-Ok-Bytes-clause-shows g c = shows_part g.W.Sink g.V.Watcher _ _ _ _ _ _ c.write_part-written.ensures.taken c.saw.ensures refl
 
 pub returns-in-Ok-Done-clause-shows : goal.returns-in-Ok-Done-clause-shows
 returns-in-Ok-Done-clause-shows g c = shows_none g.W.Sink g.V.Watcher _ _

@@ -1,3 +1,6 @@
+use Rattle.std.proofs.Common.{[], refl, arith}
+use Rattle.rdlpp_steps.proofs.EngineSteps.{follows}
+use Rattle.rdlpp_steps.proofs.FrontSteps.{opened_phase}
 use Rattle.rdlpp_steps.specs.Silences.{most_silent}
 use Rattle.rdlpp_expand.proofs.TextFacts.{open-lent, silent-steps}
 use Rattle.rdlpp_expand.proofs.engine.Engine.advance.Goals as goal
@@ -10,3 +13,7 @@ returns-in-Some-clause-steps g c = c.cut.ensures.steps _ c.in-Some.ensures.walks
 
 pub returns-in-None-clause-steps : goal.returns-in-None-clause-steps
 returns-in-None-clause-steps g c = silent-steps g.S.Sources _ _ c.in-None.ensures.walks
+
+pub returns-in-None-clause-place : goal.returns-in-None-clause-place
+returns-in-None-clause-place g c =
+    (c.facts.ensures.sound.open_ (opened_phase _ (follows _ (c.in-None.ensures.walks.lends [] refl).1)), omega arith)
