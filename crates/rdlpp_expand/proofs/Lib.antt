@@ -4,4 +4,4 @@ pub mod TextFacts
 pub mod UsageNames
 pub mod Retries
 pub mod HeldPieces
-pub mod Watching
+pub mod Shown

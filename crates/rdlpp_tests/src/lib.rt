@@ -20,6 +20,8 @@ mod memory_tests;
 #[cfg(test)]
 mod report_tests;
 #[cfg(test)]
+mod resuming_tests;
+#[cfg(test)]
 mod runs;
 #[cfg(test)]
 mod scan_tests;

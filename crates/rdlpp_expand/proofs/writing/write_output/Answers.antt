@@ -1,6 +1,6 @@
 use Rattle.std.proofs.Common.{sym}
 use Rattle.rdlpp_expand.proofs.RunFacts.{wrote_none, wrote_more, wrote_at}
-use Rattle.rdlpp_expand.proofs.Watching.{shows_more, shows_none}
+use Rattle.rdlpp_expand.proofs.Shown.{shows_more, shows_none}
 use Rattle.rdlpp_expand.proofs.writing.write_output.Goals as goal
 
 pub loop-in_texts-init : goal.loop-in_texts-init
