@@ -33,7 +33,7 @@ impl Watcher for Mapping {
         self.map.is_some()
     }
 
-    fn saw(&mut self, piece: &[u8], position: Position<'_>) {
+    fn saw(&mut self, piece: &[u8], position: Option<Position<'_>>) {
         if let Some(map) = &mut self.map {
             map.saw(piece, position);
         }

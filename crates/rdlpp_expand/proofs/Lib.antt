@@ -4,3 +4,5 @@ pub mod TextFacts
 pub mod PositionFacts
 pub mod UsageNames
 pub mod Retries
+pub mod HeldPieces
+pub mod Shown

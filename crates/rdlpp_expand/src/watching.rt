@@ -1,5 +1,5 @@
 // Watchers: who is shown what a run writes.
-ghost use Rattle.std.specs.Prelude.{ℕ, List, Option, None};
+ghost use Rattle.std.specs.Prelude.{◌≡◌, ℕ, List, Option, None, false};
 ghost use Rattle.std.specs.Io.KnownBytes.{Appends};
 
 use rdlpp_steps::Position;
@@ -12,10 +12,11 @@ pub trait Watcher {
     ghost seen: { Self → Option (List ℕ) } = { λ _. None };
 
     /// Whether it looks at what it is shown: one that doesn't isn't shown anything.
-    fn is_looking(&self) -> bool;
+    fn is_looking(&self) -> bool
+        ensures { result ≡ false → seen self.now ≡ None };
 
-    /// Is shown bytes that the writer took of a piece: all of it, unless a write failed.
-    fn saw(&mut self, piece: &[u8], position: Position<'_>)
+    /// Is shown bytes that the writer took of a piece, all of it unless a write failed, and the place of the first.
+    fn saw(&mut self, piece: &[u8], position: Option<Position<'_>>)
         ensures { Appends (seen self.old) (seen self.new) piece.now };
 }
 
@@ -30,5 +31,5 @@ impl Watcher for Unwatched {
     }
 
     #[inline(always)]
-    fn saw(&mut self, _piece: &[u8], _position: Position<'_>) {}
+    fn saw(&mut self, _piece: &[u8], _position: Option<Position<'_>>) {}
 }

@@ -1,8 +1,9 @@
-use Rattle.std.proofs.Common.{◌≡◌, [], sym, ap, ◌∙◌, subst}
+use Rattle.std.proofs.Common.{◌≡◌, [], sym, ap, ◌∙◌, subst, arith}
 use Rattle.rdlpp_read.specs.Files.{AreOpen}
 use Rattle.rdlpp_steps.specs.Engine.{IsSoundEngine}
 use Rattle.rdlpp_steps.specs.Moves.{IsUnowed}
 use Rattle.rdlpp_steps.specs.Owed.{nothing_owed}
+use Rattle.rdlpp_steps.proofs.EngineSteps.{wider}
 use Rattle.rdlpp_steps.proofs.FrontSteps.{opened_phase, owed_is_placed, ready_idle, take_owed}
 use Rattle.rdlpp_expand.proofs.engine.Engine.step_open.Goals as goal
 
@@ -12,7 +13,7 @@ take_owed-requires g c = c.facts.ensures.sound.open_ (opened_phase c.args.self.n
 pub returns-in-Some-clause-walks : goal.returns-in-Some-clause-walks
 returns-in-Some-clause-walks g c = λ bounded.
     let t = c.in-Some.ensures.piece in
-    take_owed g.S.Sources c.args.self.now _ c.in-Some.piece t.rest c.requires.free c.requires.open bounded t.takes t.becomes
+    wider g.S.Sources 0 1 _ _ _ (omega arith) (take_owed g.S.Sources c.args.self.now _ c.in-Some.piece t.rest c.requires.free c.requires.open bounded t.takes t.becomes)
 
 pub returns-in-Some-clause-place : goal.returns-in-Some-clause-place
 returns-in-Some-clause-place g c =
