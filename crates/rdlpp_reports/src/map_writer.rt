@@ -40,11 +40,10 @@ impl<W: Write> MapWriter<W> {
 }
 
 impl<W: Write> Watcher for MapWriter<W> {
-    fn is_looking(&self) -> bool {
-        true
-    }
-
-    fn saw(&mut self, piece: &[u8], position: Position<'_>) {
+    fn saw(&mut self, piece: &[u8], position: Option<Position<'_>>) {
+        let Some(position) = position else {
+            return;
+        };
         let ended = self.lines.take(piece, &position);
         if self.failure.is_some() {
             return;
