@@ -1,5 +1,5 @@
 // Watchers: who is shown what a run writes.
-ghost use Rattle.std.specs.Prelude.{◌≡◌, ℕ, List, Option, None, false};
+ghost use Rattle.std.specs.Prelude.{ℕ, List, Option, None};
 ghost use Rattle.std.specs.Io.KnownBytes.{Appends};
 
 use rdlpp_steps::Position;
@@ -11,11 +11,7 @@ pub trait Watcher {
     // the bytes that were shown, where they are known
     ghost seen: { Self → Option (List ℕ) } = { λ _. None };
 
-    /// Whether it looks at what it is shown: one that doesn't isn't shown anything.
-    fn is_looking(&self) -> bool
-        ensures { result ≡ false → seen self.now ≡ None };
-
-    /// Is shown bytes that the writer took of a piece, all of it unless a write failed, and the place of the first.
+    /// Is shown bytes that the writer took of a piece: all of it, unless a write failed.
     fn saw(&mut self, piece: &[u8], position: Option<Position<'_>>)
         ensures { Appends (seen self.old) (seen self.new) piece.now };
 }
@@ -25,11 +21,6 @@ pub trait Watcher {
 pub(crate) struct Unwatched {}
 
 impl Watcher for Unwatched {
-    #[inline(always)]
-    fn is_looking(&self) -> bool {
-        false
-    }
-
     #[inline(always)]
     fn saw(&mut self, _piece: &[u8], _position: Option<Position<'_>>) {}
 }

@@ -1,5 +1,8 @@
 -- Parts were written one after another, from what was written of each.
-use Rattle.std.proofs.Common.{◌≡◌, ℕ, List, ◌++◌, Option, Result, Ok, Err, ap, ◌∙◌, append_assoc, append-nil, sym, subst}
+use Rattle.std.proofs.Common.{◌≡◌, ℕ, suc, ◌+◌, ◌<◌, List, [], ◌∷◌, ◌++◌, length, take, drop, take-append-drop, slice_index_or, Option, Result, Ok, Err, ap, ◌∙◌, append_assoc, append-nil, add-one, sym, subst}
+use Rattle.std.specs.List.{flat_map}
+use Rattle.std.proofs.Math.Seq.{drop-cons, take-suc}
+use Rattle.std.proofs.lemmas.Grind.{flat_map-append}
 use Rattle.std.specs.Io.KnownBytes.{Appends}
 use Rattle.std.proofs.KnownBytes.{Appends-trans}
 use Rattle.rdlpp_reports.specs.Writes.{Writes}
@@ -33,3 +36,36 @@ pub writes_whole : {T E : Type 0} (old new : Option (List ℕ)) (bytes : List �
 writes_whole old new bytes x w =
     let all : bytes ≡ w.written = w.split ∙ ap (λ l. w.written ++ l) w.whole ∙ append-nil w.written in
     subst (Appends old new) (sym all) w.taken
+
+-- one part more
+pub flat-take-suc : {A : Type 0} (f : A → List ℕ) (xs : List A) (i : ℕ) (d : A) → i < length xs
+    → flat_map f (take (i + 1) xs) ≡ flat_map f (take i xs) ++ f (slice_index_or xs i d)
+flat-take-suc f xs i d h =
+    let x = slice_index_or xs i d in
+    ap (flat_map f) (ap (λ k. take k xs) (add-one i) ∙ take-suc xs i d h)
+    ∙ flat_map-append f (take i xs) (x ∷ [])
+    ∙ ap (λ bs. flat_map f (take i xs) ++ bs) (append-nil (f x))
+
+-- the parts are those so far, one, and the others
+pub flat-split : {A : Type 0} (f : A → List ℕ) (xs : List A) (i : ℕ) (d : A) → i < length xs
+    → flat_map f xs ≡ flat_map f (take i xs) ++ (f (slice_index_or xs i d) ++ flat_map f (drop (suc i) xs))
+flat-split f xs i d h =
+    let x = slice_index_or xs i d in
+    let rest = drop (suc i) xs in
+    ap (flat_map f) (sym (take-append-drop i xs) ∙ ap (λ ps. take i xs ++ ps) (drop-cons xs i d h))
+    ∙ flat_map-append f (take i xs) (x ∷ rest)
+
+-- a part more was written behind those so far
+pub flat-grows : {A T E : Type 0} (f : A → List ℕ) (xs : List A) (i : ℕ) (d : A) (old between new : Option (List ℕ)) (x : T) → i < length xs
+    → Appends old between (flat_map f (take i xs)) → Writes {E = E} between new (f (slice_index_or xs i d)) (Ok x)
+    → Appends old new (flat_map f (take (i + 1) xs))
+flat-grows f xs i d old between new x h done w =
+    subst (Appends old new) (sym (flat-take-suc f xs i d h)) (Appends-trans old between new _ _ done (writes_whole between new _ x w))
+
+-- a part failed behind those so far
+pub flat-fails : {A T U E F : Type 0} (f : A → List ℕ) (xs : List A) (i : ℕ) (d : A) (old between new : Option (List ℕ)) (e : E) (r : F) → i < length xs
+    → Appends old between (flat_map f (take i xs)) → Writes {T = T} between new (f (slice_index_or xs i d)) (Err e)
+    → Writes {T = U} old new (flat_map f xs) (Err r)
+flat-fails f xs i d old between new e r h done w =
+    writes_by old new _ _ _ (sym (flat-split f xs i d h))
+    (writes_then old between new _ _ _ done (writes_part between new _ (flat_map f (drop (suc i) xs)) e r w))

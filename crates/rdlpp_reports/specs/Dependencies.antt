@@ -1,32 +1,26 @@
 -- The rule for make that names the sources of an output.
 -- A definition that names no source is this project's own.
-use Rattle.std.specs.Prelude.{ℕ, suc, Bool, List, [], ◌∷◌, ◌++◌, ◌==◌, ◌||◌, codes, drop, map, replicate, bytes_eq, if◌then◌else◌}
-use Rattle.std.specs.List.{concat, flat_map}
+use Rattle.std.specs.Prelude.{ℕ, Bool, true, List, [], ◌∷◌, ◌++◌, ◌==◌, ◌||◌, ◌&&◌, codes, drop, bytes_eq, slice_get, if◌then◌else◌}
+use Rattle.std.specs.List.{concat, flat_map, prefix_len}
+use Rattle.std.specs.Option.{option_map_or}
 
 -- whether make takes a byte of a name as it is only behind a `\`: a blank, a tab, `#` and `:` (GNU make, rules; the form of cpp -MD)
 abbrev pub is_quoted : ℕ → Bool
 is_quoted b = (b == 32) || ((b == 9) || ((b == 35) || (b == 58)))
 
--- so many `\`
-abbrev pub slashes : ℕ → List ℕ
-slashes n = replicate n 92
+-- whether only `\` stand before such a byte, or before the end
+abbrev pub leads_to_quoted : List ℕ → Bool
+leads_to_quoted rest = option_map_or is_quoted (slice_get rest (prefix_len (λ b. b == 92) rest)) true
 
--- what stands before a byte of a name, with so many `\` directly before it
-abbrev pub quote : ℕ → ℕ → List ℕ
-quote before b = if is_quoted b then slashes (before + 1) else (if b == 36 then codes "$" else [])
-
--- how many `\` stand directly before the next byte
-abbrev pub slashes_behind : ℕ → ℕ → ℕ
-slashes_behind before b = if b == 92 then before + 1 else 0
-
--- what is left of a name, with so many `\` directly before it, as make reads it
-unfoldable pub name_from : ℕ → List ℕ → List ℕ
-name_from before [] = slashes before
-name_from before (b ∷ bs) = quote before b ++ (b ∷ name_from (slashes_behind before b) bs)
+-- what stands before a byte of a name, where so much stands behind it: a `\` before a byte that make would take for its own, and before
+-- each `\` that stands directly before such a byte or the end; and `$` before `$`
+abbrev pub quote : ℕ → List ℕ → List ℕ
+quote b behind = if is_quoted b || ((b == 92) && leads_to_quoted behind) then codes "\\" else (if b == 36 then codes "$" else [])
 
 -- a name as make reads it (GNU make, rules; the form of cpp -MD)
-abbrev pub rule_name : List ℕ → List ℕ
-rule_name name = name_from 0 name
+unfoldable pub rule_name : List ℕ → List ℕ
+rule_name [] = []
+rule_name (b ∷ bs) = concat (quote b bs ∷ (b ∷ []) ∷ []) ++ rule_name bs
 
 -- a source behind what stands before it; standard input isn't named (source: this project's profile)
 abbrev pub prerequisite : List ℕ → List ℕ

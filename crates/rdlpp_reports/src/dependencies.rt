@@ -1,13 +1,13 @@
 // The rule for make that names the sources of an output.
-ghost use Rattle.std.specs.Prelude.{◌≡◌, ◌+◌, ◌^◌, ◌<◌, ◌++◌, ◌∷◌, [], map};
-ghost use Rattle.std.specs.List.{flat_map};
+ghost use Rattle.std.specs.Prelude.{◌≡◌, ◌++◌, ◌==◌};
+ghost use Rattle.std.specs.List.{flat_map, prefix_len};
 ghost use Rattle.std.specs.String.{string_bytes};
-ghost use Rattle.rdlpp_reports.specs.Dependencies.{dependency_bytes, empty_rule, is_quoted, prerequisite, quote, rule_name, slashes};
+ghost use Rattle.rdlpp_reports.specs.Dependencies.{dependency_bytes, empty_rule, is_quoted, leads_to_quoted, prerequisite, quote, rule_name};
 ghost use Rattle.rdlpp_reports.specs.Recorded.{paths_of};
 ghost use Rattle.rdlpp_reports.specs.Writes.{Writes};
 
 use crate::recorded::OpenedPaths;
-use crate::writing::write_whole;
+use crate::writing::{write_parts, write_whole};
 use std::io::{self, Write};
 
 // The path that stands for standard input, which is no file.
@@ -38,7 +38,7 @@ pub fn write_dependencies<W: Write>(
 
 // Writes the sources behind the target.
 fn write_prerequisites<W: Write>(paths: &[String], writer: &mut W) -> io::Result<()>
-    ensures { Writes (W.contents writer.old) (W.contents writer.new) (flat_map prerequisite (map string_bytes paths.now)) result }
+    ensures { Writes (W.contents writer.old) (W.contents writer.new) (flat_map (λ path. prerequisite (string_bytes path)) paths.now) result }
 {
     for path in paths {
         write_prerequisite(path.as_bytes(), writer)?;
@@ -59,7 +59,7 @@ fn write_prerequisite<W: Write>(path: &[u8], writer: &mut W) -> io::Result<()>
 
 // Writes a rule without anything for each source.
 fn write_empty_rules<W: Write>(paths: &[String], writer: &mut W) -> io::Result<()>
-    ensures { Writes (W.contents writer.old) (W.contents writer.new) (flat_map empty_rule (map string_bytes paths.now)) result }
+    ensures { Writes (W.contents writer.old) (W.contents writer.new) (flat_map (λ path. empty_rule (string_bytes path)) paths.now) result }
 {
     for path in paths {
         write_name(path.as_bytes(), b":\n", writer)?;
@@ -71,41 +71,44 @@ fn write_empty_rules<W: Write>(paths: &[String], writer: &mut W) -> io::Result<(
 fn write_name<W: Write>(name: &[u8], end: &[u8], writer: &mut W) -> io::Result<()>
     ensures { Writes (W.contents writer.old) (W.contents writer.new) (rule_name name.now ++ end.now) result }
 {
-    let mut before = 0;
-    for byte in name {
-        write_byte(*byte, before, writer)?;
-        before = if *byte == b'\\' { before + 1 } else { 0 };
+    let mut rest = name;
+    while let Some((byte, behind)) = rest.split_first() {
+        write_parts(&[quote(*byte, behind), &[*byte]], writer)?;
+        rest = behind;
     }
-    write_slashes(before, end, writer)
+    write_whole(end, writer)
 }
 
-// Writes a byte of a name, with so many `\` directly before it.
-fn write_byte<W: Write>(byte: u8, before: usize, writer: &mut W) -> io::Result<()>
-    requires { before + 1 < 2 ^ 64 }
-    ensures { Writes (W.contents writer.old) (W.contents writer.new) (quote before byte ++ byte ∷ []) result }
+// What stands before a byte of a name, where so much stands behind it.
+fn quote(byte: u8, behind: &[u8]) -> &'static [u8]
+    ensures { result.now ≡ quote byte behind.now }
 {
-    if is_quoted(byte) {
-        return write_slashes(before + 1, &[byte], writer);
+    if is_quoted(byte) || (byte == b'\\' && leads_to_quoted(behind)) {
+        return b"\\";
     }
-    if byte == b'$' {
-        return write_whole(b"$$", writer);
-    }
-    write_whole(&[byte], writer)
+    if byte == b'$' { b"$" } else { b"" }
 }
 
 // Whether make takes a byte of a name as it is only behind a `\`.
 fn is_quoted(byte: u8) -> bool
     ensures { result ≡ is_quoted byte }
 {
-    matches!(byte, b' ' | b'\t' | b'#' | b':')
+    byte == b' ' || byte == b'\t' || byte == b'#' || byte == b':'
 }
 
-// Writes so many `\`, and an end behind them.
-fn write_slashes<W: Write>(count: usize, end: &[u8], writer: &mut W) -> io::Result<()>
-    ensures { Writes (W.contents writer.old) (W.contents writer.new) (slashes count ++ end.now) result }
+// Whether only `\` stand before such a byte, or before the end.
+fn leads_to_quoted(rest: &[u8]) -> bool
+    ensures { result ≡ leads_to_quoted rest.now }
 {
-    for _ in 0..count {
-        write_whole(b"\\", writer)?;
+    match rest.get(slashes_in_front(rest)) {
+        Some(byte) => is_quoted(*byte),
+        None => true,
     }
-    write_whole(end, writer)
+}
+
+// How many `\` bytes begin with.
+fn slashes_in_front(bytes: &[u8]) -> usize
+    ensures { result ≡ prefix_len (λ b. b == 92) bytes.now }
+{
+    bytes.iter().take_while(|byte| **byte == b'\\').count()
 }

@@ -40,10 +40,6 @@ impl<W: Write> MapWriter<W> {
 }
 
 impl<W: Write> Watcher for MapWriter<W> {
-    fn is_looking(&self) -> bool {
-        true
-    }
-
     fn saw(&mut self, piece: &[u8], position: Option<Position<'_>>) {
         let Some(position) = position else {
             return;

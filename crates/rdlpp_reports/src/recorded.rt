@@ -47,6 +47,7 @@ impl OpenedPaths {
     }
 
     // Notes a path behind the others, unless it is here.
+    #[tactic(auto, using(crate::proofs::Paths::noted_key))]
     fn note(&mut self, path: &str)
         ensures { NotesPath self.old self.new path.now }
     {
@@ -54,8 +55,9 @@ impl OpenedPaths {
             self.is_whole = false;
             return;
         };
-        if self.paths.insert(path).is_err() {
-            self.is_whole = false;
+        match self.paths.insert(path) {
+            Ok(_) => {}
+            Err(_) => self.is_whole = false,
         }
     }
 }

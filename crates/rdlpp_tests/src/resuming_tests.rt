@@ -2,7 +2,7 @@
 use crate::runs::STANDARD;
 use crate::sources::{After, Asked, AskedTexts, DealtText, NOTHING};
 use rdlpp::{Counted, FaultKind, Texts};
-use rdlpp_expand::{Engine, Piece, ReadEnd, Reading, Watcher, run_watched};
+use rdlpp_expand::{Engine, Piece, Position, ReadEnd, Reading, Watcher, run_watched};
 use rdlpp_source::Sources;
 use std::alloc::AllocError;
 use std::cell::Cell;
@@ -196,10 +196,6 @@ impl Watcher for Keeping {
     ghost use Rattle.std.specs.Prelude.{None};
 
     ghost seen = { λ _. None };
-
-    fn is_looking(&self) -> bool {
-        true
-    }
 
     fn saw(&mut self, piece: &[u8], _position: Option<Position<'_>>) {
         self.pieces = self.pieces.saturating_add(1);
