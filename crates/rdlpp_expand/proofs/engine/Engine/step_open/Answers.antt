@@ -27,5 +27,5 @@ pub step_sources-requires : goal.step_sources-requires
 step_sources-requires g c =
     let owed : c.args.self.now.owed ≡ nothing_owed = c.in-None.ensures.nothing.0 in
     let same = c.in-None.ensures.nothing.1 in
-    let unowed = record { open_ = c.requires.open; free = c.requires.free; owed = owed } in
+    let unowed : IsUnowed c.args.self.now = record { open_ = c.requires.open; free = c.requires.free; owed = owed } in
     rw same (ready_idle c.args.self.now unowed (c.requires.outside unowed) c.facts.ensures.sound c.facts.ensures.files)
