@@ -8,3 +8,4 @@ pub mod Kept
 pub mod Streaming
 pub mod Giving
 pub mod Placing
+pub mod Reporting
