@@ -6,3 +6,6 @@ pub mod Telling
 pub mod Faults
 pub mod Kept
 pub mod Streaming
+pub mod Giving
+pub mod Placing
+pub mod Reporting
