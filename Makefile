@@ -56,10 +56,11 @@ python: out/rdlpp out/librdlpp_c.a ## build the program, the library for C and t
 fuzz: out/rdlpp ## run the program over random sources: SEED=1 CASES=2000, or other numbers
 	@checks/random $(or $(SEED),1) $(or $(CASES),2000)
 
-install: out/rdlpp out/librdlpp_c.a ## put program, manual page, header, libraries for C and rdlpp.pc below PREFIX (/usr/local); builds only what is older than a source
+install: out/rdlpp out/librdlpp_c.a ## put program, manual page, headers, libraries for C and rdlpp.pc below PREFIX (/usr/local); builds only what is older than a source
 	install -D -m 755 out/rdlpp '$(to)/bin/rdlpp'
 	install -D -m 644 docs/rdlpp.1 '$(to)/share/man/man1/rdlpp.1'
 	install -D -m 644 include/rdlpp.h '$(to)/include/rdlpp.h'
+	install -D -m 644 include/rdlpp.hpp '$(to)/include/rdlpp.hpp'
 	install -D -m 644 out/librdlpp_c.a '$(to)/lib/librdlpp_c.a'
 	install -D -m 755 out/$(shared).$(VERSION) '$(to)/lib/$(shared).$(VERSION)'
 	ln -sf $(shared).$(VERSION) '$(to)/lib/$(soname)'
@@ -68,7 +69,7 @@ install: out/rdlpp out/librdlpp_c.a ## put program, manual page, header, librari
 	sed 's|@PREFIX@|$(PREFIX)|; s|@VERSION@|$(VERSION)|' include/rdlpp.pc.in > '$(to)/lib/pkgconfig/rdlpp.pc'
 
 uninstall: ## take away what `make install` put below PREFIX
-	cd '$(to)' && rm -f bin/rdlpp share/man/man1/rdlpp.1 include/rdlpp.h lib/librdlpp_c.a \
+	cd '$(to)' && rm -f bin/rdlpp share/man/man1/rdlpp.1 include/rdlpp.h include/rdlpp.hpp lib/librdlpp_c.a \
 		lib/$(shared).$(VERSION) lib/$(soname) lib/$(shared) lib/pkgconfig/rdlpp.pc
 
 dist: out/rdlpp out/librdlpp_c.a ## make packages in out/: the committed sources, the wheel, and where there is dpkg-deb a Debian package

@@ -193,7 +193,16 @@ typedef struct rdlpp_request {
 rdlpp_limits rdlpp_standard_limits(void);
 
 /* A request with the standard limits, `false` in each flag, empty lists and an empty path. */
-rdlpp_request rdlpp_standard_request(void);
+static inline rdlpp_request rdlpp_standard_request(void)
+{
+    static const rdlpp_text no_text = {"", 0, "", 0};
+    static const rdlpp_folder no_folder = {"", 0};
+    static const rdlpp_definition no_definition = {"", 0, "", 0};
+    rdlpp_request request = {
+        rdlpp_standard_limits(), false, false, false, &no_text, 0, &no_folder, 0, &no_definition, 0, "", 0
+    };
+    return request;
+}
 
 /*
  * Preprocesses the main text of a request.

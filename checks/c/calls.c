@@ -50,11 +50,20 @@ static struct told call(const struct asked *asked, const char *source)
     };
     const rdlpp_folder folders[] = {{"inc", 3}};
     const rdlpp_definition definitions[] = {{asked->name, strlen(asked->name), "8", 1}};
+    rdlpp_request request = rdlpp_standard_request();
     struct told told;
     memset(&told, '#', sizeof told);
-    told.outcome = rdlpp_preprocess(&asked->limits, asked->origins, texts, 3, folders, 1, definitions, 1,
-                                    asked->path, strlen(asked->path), told.out, asked->room,
-                                    told.name, asked->room, told.word, asked->room);
+    request.limits = asked->limits;
+    request.origins = asked->origins;
+    request.texts = texts;
+    request.texts_length = 3;
+    request.folders = folders;
+    request.folders_length = 1;
+    request.definitions = definitions;
+    request.definitions_length = 1;
+    request.path = asked->path;
+    request.path_length = strlen(asked->path);
+    told.outcome = rdlpp_preprocess(&request, told.out, asked->room, told.name, asked->room, told.word, asked->room);
     return told;
 }
 
@@ -164,25 +173,45 @@ static void refuses_what_is_asked(void)
 
 static void takes_empty_lists(void)
 {
-    const rdlpp_limits limits = rdlpp_standard_limits();
     const rdlpp_text texts[] = {{"", 0, "", 0}};
     const rdlpp_folder folders[] = {{"", 0}};
-    const rdlpp_definition definitions[] = {{"", 0, "", 0}};
+    rdlpp_request request = rdlpp_standard_request();
     char none[1] = {'#'};
-    rdlpp_outcome outcome = rdlpp_preprocess(&limits, false, texts, 0, folders, 0, definitions, 0, "", 0,
-                                             none, 0, none, 0, none, 0);
-    check(outcome.status == RDLPP_STOPPED && outcome.number == 28, "no sources at all");
-    outcome = rdlpp_preprocess(&limits, false, texts, 1, folders, 1, definitions, 0, "", 0,
-                               none, 0, none, 0, none, 0);
+    rdlpp_outcome outcome = rdlpp_preprocess(&request, none, 0, none, 0, none, 0);
+    check(outcome.status == RDLPP_STOPPED && outcome.number == RDLPP_FAULT_SOURCE_NOT_FOUND, "no sources at all");
+    request.asks = true;
+    outcome = rdlpp_preprocess(&request, none, 0, none, 0, none, 0);
+    check(outcome.status == RDLPP_STOPPED && outcome.number == RDLPP_FAULT_SOURCE_NOT_FOUND, "one call doesn't ask");
+    request.texts = texts;
+    request.texts_length = 1;
+    request.folders = folders;
+    request.folders_length = 1;
+    outcome = rdlpp_preprocess(&request, none, 0, none, 0, none, 0);
     check(outcome.status == RDLPP_WHOLE && outcome.length == 0, "an empty source under an empty path");
     check(none[0] == '#', "nothing is written to a buffer of length 0");
+}
+
+/* Text that gives nothing for many steps, and then something: the buffer has it. */
+static void waits_for_output(void)
+{
+    char source[2000] = "`define A0\n";
+    struct asked asked = standard();
+    struct told told;
+    int at;
+    for (at = 1; at <= 18; at += 1) {
+        sprintf(source + strlen(source), "`define A%d `A%d`A%d\n", at, at - 1, at - 1);
+    }
+    strcat(source, "a`A18 b\n");
+    told = call(&asked, source);
+    check(told.outcome.status == RDLPP_WHOLE && told.outcome.length == 23, "the output behind many steps without any");
+    check(memcmp(told.out + 19, "a b\n#", 5) == 0, "what is behind them");
 }
 
 static void tells_texts(void)
 {
     char text[ROOM];
     memset(text, '#', sizeof text);
-    check(rdlpp_fault_text(7, text, ROOM) == 15 && holds(text, "undefined macro"), "the text of a fault");
+    check(rdlpp_fault_text(RDLPP_FAULT_UNDEFINED_MACRO, text, ROOM) == 15 && holds(text, "undefined macro"), "the text of a fault");
     memset(text, '#', sizeof text);
     check(rdlpp_fault_text(7, text, 4) == 15 && holds(text, "unde"), "the front of the text");
     memset(text, '#', sizeof text);
@@ -198,6 +227,7 @@ int main(void)
     tells_a_fault();
     refuses_what_is_asked();
     takes_empty_lists();
+    waits_for_output();
     tells_texts();
     return failures == 0 ? EXIT_SUCCESS : EXIT_FAILURE;
 }

@@ -17,12 +17,16 @@ struct Result {
 
 rdlpp_outcome call(const std::string &source, std::string &out, std::string &name, std::string &word)
 {
-    const rdlpp_limits limits = rdlpp_standard_limits();
     const std::vector<rdlpp_text> texts = {{"m", 1, source.data(), source.size()}};
-    const rdlpp_folder folders[] = {{"", 0}};
     const rdlpp_definition definitions[] = {{"W", 1, "8", 1}};
-    return rdlpp_preprocess(&limits, false, texts.data(), texts.size(), folders, 0, definitions, 1, "m", 1,
-                            &out[0], out.size(), &name[0], name.size(), &word[0], word.size());
+    rdlpp_request request = rdlpp_standard_request();
+    request.texts = texts.data();
+    request.texts_length = texts.size();
+    request.definitions = definitions;
+    request.definitions_length = 1;
+    request.path = "m";
+    request.path_length = 1;
+    return rdlpp_preprocess(&request, &out[0], out.size(), &name[0], name.size(), &word[0], word.size());
 }
 
 // Asks for the length first, and then for the output.

@@ -28,7 +28,7 @@ struct read {
 
 static rdlpp_outcome open_text(rdlpp_handle *handle, const char *source, const char *definition)
 {
-    const rdlpp_limits limits = rdlpp_standard_limits();
+    rdlpp_request request = rdlpp_standard_request();
     char *copy = malloc(strlen(source) + 1);
     rdlpp_text texts[] = {{"m", 1, NULL, 0}, {"inc/i", 5, "q", 1}};
     const rdlpp_folder folders[] = {{"inc", 3}};
@@ -38,7 +38,15 @@ static rdlpp_outcome open_text(rdlpp_handle *handle, const char *source, const c
     strcpy(copy, source);
     texts[0].text = copy;
     texts[0].text_length = strlen(source);
-    outcome = rdlpp_open(&limits, false, texts, 2, folders, 1, definitions, 1, "m", 1, none, 0, none, 0, handle);
+    request.texts = texts;
+    request.texts_length = 2;
+    request.folders = folders;
+    request.folders_length = 1;
+    request.definitions = definitions;
+    request.definitions_length = 1;
+    request.path = "m";
+    request.path_length = 1;
+    outcome = rdlpp_open(&request, none, 0, none, 0, handle);
     memset(copy, '?', strlen(source));
     free(copy);
     return outcome;
@@ -55,7 +63,6 @@ static struct read read_all(rdlpp_handle *handle, size_t room)
         memset(out, '#', sizeof out);
         read.outcome = rdlpp_read(handle, out, room, read.name, ROOM, read.word, ROOM);
         check(read.outcome.length <= room && out[read.outcome.length] == '#', "nothing is written behind the bytes");
-        check(read.outcome.status != RDLPP_MORE || read.outcome.length == room, "more follows a full buffer alone");
         memcpy(read.out + read.length, out, read.outcome.length);
         read.length += read.outcome.length;
     } while (read.outcome.status == RDLPP_MORE);
@@ -96,21 +103,24 @@ static void tells_a_fault(void)
 static void refuses_to_open(void)
 {
     rdlpp_handle handle = RDLPP_CLOSED_HANDLE;
-    rdlpp_limits limits = rdlpp_standard_limits();
+    rdlpp_request request = rdlpp_standard_request();
     rdlpp_outcome outcome;
     struct read read;
     const rdlpp_text texts[] = {{"n", 1, "a", 1}};
-    const rdlpp_folder folders[] = {{"", 0}};
-    const rdlpp_definition definitions[] = {{"", 0, "", 0}};
     char none[1] = {'#'};
     check(open_text(&handle, "a", "1x").number == 15, "a refused definition");
     check(read_all(&handle, 4).outcome.status == RDLPP_CLOSED, "the handle is closed then");
     check(open_text(&handle, "a", "\xff").status == RDLPP_BAD_TEXT, "a name that isn't UTF-8");
-    limits.depth = 0;
-    outcome = rdlpp_open(&limits, false, texts, 1, folders, 0, definitions, 0, "n", 1, none, 0, none, 0, &handle);
+    request.texts = texts;
+    request.texts_length = 1;
+    request.path = "n";
+    request.path_length = 1;
+    request.limits.depth = 0;
+    outcome = rdlpp_open(&request, none, 0, none, 0, &handle);
     check(outcome.status == RDLPP_BAD_LIMIT && outcome.number == 1, "a limit out of its range");
-    limits.depth = 1;
-    outcome = rdlpp_open(&limits, false, texts, 1, folders, 0, definitions, 0, "o", 1, none, 0, none, 0, &handle);
+    request.limits.depth = 1;
+    request.path = "o";
+    outcome = rdlpp_open(&request, none, 0, none, 0, &handle);
     check(outcome.status == RDLPP_WHOLE, "a main text that isn't there is told by the first read");
     read = read_all(&handle, 4);
     check(read.outcome.status == RDLPP_STOPPED && read.outcome.number == 28 && read.length == 0, "no main text");

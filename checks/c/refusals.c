@@ -44,31 +44,68 @@ void __wrap_free(void *block)
     __real_free(block);
 }
 
+static const rdlpp_text texts[] = {{"m", 1, "reg[`W];\n", 9}, {"i", 1, "q", 1}};
+static const rdlpp_folder folders[] = {{"inc", 3}, {"more", 4}};
+static const rdlpp_definition definitions[] = {{"W", 1, "8", 1}, {"V", 1, "9", 1}};
+
+static rdlpp_request asked(void)
+{
+    rdlpp_request request = rdlpp_standard_request();
+    request.texts = texts;
+    request.texts_length = 2;
+    request.folders = folders;
+    request.folders_length = 2;
+    request.definitions = definitions;
+    request.definitions_length = 2;
+    request.path = "m";
+    request.path_length = 1;
+    return request;
+}
+
 static rdlpp_outcome call(char *out, size_t room)
 {
-    const rdlpp_limits limits = rdlpp_standard_limits();
-    const rdlpp_text texts[] = {{"m", 1, "reg[`W];\n", 9}, {"i", 1, "q", 1}};
-    const rdlpp_folder folders[] = {{"inc", 3}, {"more", 4}};
-    const rdlpp_definition definitions[] = {{"W", 1, "8", 1}, {"V", 1, "9", 1}};
+    const rdlpp_request request = asked();
     char none[1] = {'#'};
-    return rdlpp_preprocess(&limits, false, texts, 2, folders, 2, definitions, 2, "m", 1, out, room,
-                            none, 0, none, 0);
+    return rdlpp_preprocess(&request, out, room, none, 0, none, 0);
 }
 
 /* Opens, reads to the end and closes. */
 static rdlpp_outcome read_all(char *out, size_t room)
 {
-    const rdlpp_limits limits = rdlpp_standard_limits();
-    const rdlpp_text texts[] = {{"m", 1, "reg[`W];\n", 9}, {"i", 1, "q", 1}};
-    const rdlpp_folder folders[] = {{"inc", 3}, {"more", 4}};
-    const rdlpp_definition definitions[] = {{"W", 1, "8", 1}, {"V", 1, "9", 1}};
+    const rdlpp_request request = asked();
     rdlpp_handle handle = RDLPP_CLOSED_HANDLE;
     char none[1] = {'#'};
-    rdlpp_outcome outcome = rdlpp_open(&limits, false, texts, 2, folders, 2, definitions, 2, "m", 1,
-                                       none, 0, none, 0, &handle);
+    rdlpp_outcome outcome = rdlpp_open(&request, none, 0, none, 0, &handle);
     if (outcome.status == RDLPP_WHOLE) {
         granted = 0;
         outcome = rdlpp_read(&handle, out, room, none, 0, none, 0);
+    }
+    rdlpp_close(&handle);
+    return outcome;
+}
+
+/* Opens an output whose sources are asked for, gives each, reads to the end and closes. */
+static rdlpp_outcome pull_all(char *out, size_t room)
+{
+    rdlpp_request request = asked();
+    rdlpp_handle handle = RDLPP_CLOSED_HANDLE;
+    char name[8], none[1] = {'#'};
+    size_t at = 0;
+    rdlpp_outcome outcome;
+    request.asks = true;
+    request.texts_length = 0;
+    outcome = rdlpp_open(&request, none, 0, none, 0, &handle);
+    while (outcome.status == RDLPP_WHOLE || outcome.status == RDLPP_WANTED) {
+        const long left = granted;
+        granted = 0;
+        outcome = rdlpp_read(&handle, out + at, room - at, name, sizeof name, none, 0);
+        at += outcome.length;
+        granted = left;
+        if (outcome.status != RDLPP_WANTED) {
+            break;
+        }
+        outcome.status = rdlpp_give(&handle, name, outcome.name_length, "reg[`W];\n", 9);
+        outcome.length = 0;
     }
     rdlpp_close(&handle);
     return outcome;
@@ -102,5 +139,5 @@ static long refuse_each(rdlpp_outcome (*way)(char *, size_t))
 
 int main(void)
 {
-    return refuse_each(call) > 8 && refuse_each(read_all) > 8 ? EXIT_SUCCESS : EXIT_FAILURE;
+    return refuse_each(call) > 8 && refuse_each(read_all) > 8 && refuse_each(pull_all) > 8 ? EXIT_SUCCESS : EXIT_FAILURE;
 }

@@ -1,33 +1,10 @@
-/* The rows of crates/rdlpp_rows/data, in one call and by reads of one and of seven bytes; `calls` writes rows.inc. */
-#include "rdlpp.h"
+/* The rows of crates/rdlpp_rows/data, in one call, by reads of one and of seven bytes, and with texts that are
+   asked for; `calls` writes rows.inc. */
+#include "row.h"
 
 #include <stdio.h>
 #include <stdlib.h>
 #include <string.h>
-
-/* A row: what a call asks for, the output that it must give, and the fault that must end it, of number 0 where none
-   does. */
-struct row {
-    const char *shows;
-    rdlpp_limits limits;
-    bool origins;
-    const rdlpp_text *texts;
-    size_t texts_length;
-    const rdlpp_folder *folders;
-    size_t folders_length;
-    const rdlpp_definition *definitions;
-    size_t definitions_length;
-    const char *output;
-    size_t output_length;
-    uint32_t number;
-    uint64_t line;
-    const char *name;
-    size_t name_length;
-    const char *word;
-    size_t word_length;
-};
-
-#include "rows.inc"
 
 #define NAME_ROOM 1024
 #define WORD_ROOM 128
@@ -56,32 +33,55 @@ static int ends(const struct row *row, const rdlpp_outcome *outcome, const char 
 static void calls_once(const struct row *row, char *out)
 {
     char name[NAME_ROOM], word[WORD_ROOM];
-    const rdlpp_text *source = &row->texts[0];
-    const rdlpp_outcome outcome = rdlpp_preprocess(
-        &row->limits, row->origins, row->texts, row->texts_length, row->folders, row->folders_length,
-        row->definitions, row->definitions_length, source->path, source->path_length,
-        out, row->output_length, name, sizeof name, word, sizeof word);
+    const rdlpp_request request = asked(row);
+    const rdlpp_outcome outcome = rdlpp_preprocess(&request, out, row->output_length, name, sizeof name, word, sizeof word);
     check(ends(row, &outcome, name, word), row, "how one call ends");
     check(outcome.length == row->output_length && memcmp(out, row->output, row->output_length) == 0, row, "its output");
 }
 
-static void reads(const struct row *row, char *out, size_t room)
+/* The text of the row at a path, if it has one. */
+static const rdlpp_text *find_text(const struct row *row, const char *path, size_t length)
+{
+    size_t at;
+    for (at = 0; at < row->texts_length; at += 1) {
+        if (row->texts[at].path_length == length && memcmp(row->texts[at].path, path, length) == 0) {
+            return &row->texts[at];
+        }
+    }
+    return NULL;
+}
+
+/* Gives what is asked for: the row's text, or that it is absent. */
+static void give(const struct row *row, rdlpp_handle *handle, const char *path, size_t length)
+{
+    const rdlpp_text *text = find_text(row, path, length);
+    const uint32_t status = text != NULL ? rdlpp_give(handle, path, length, text->text, text->text_length)
+                                         : rdlpp_give_absent(handle, path, length);
+    check(status == RDLPP_WHOLE, row, "what a give answers");
+}
+
+/* Reads so many bytes at a time; where `asks`, each text is given when it is asked for. */
+static void reads(const struct row *row, char *out, size_t room, bool asks, bool pieces)
 {
     char name[NAME_ROOM], word[WORD_ROOM];
-    const rdlpp_text *source = &row->texts[0];
+    rdlpp_request request = asked(row);
     rdlpp_handle handle = RDLPP_CLOSED_HANDLE;
     size_t length = 0;
-    rdlpp_outcome outcome = rdlpp_open(
-        &row->limits, row->origins, row->texts, row->texts_length, row->folders, row->folders_length,
-        row->definitions, row->definitions_length, source->path, source->path_length,
-        name, sizeof name, word, sizeof word, &handle);
+    rdlpp_outcome outcome;
+    request.asks = asks;
+    request.pieces = pieces;
+    request.texts_length = asks ? 0 : request.texts_length;
+    outcome = rdlpp_open(&request, name, sizeof name, word, sizeof word, &handle);
     if (outcome.status == RDLPP_WHOLE) {
         do {
             const size_t left = row->output_length + room - length;
             const size_t most = left < room ? left : room;
             outcome = rdlpp_read(&handle, out + length, most, name, sizeof name, word, sizeof word);
             length += outcome.length;
-        } while (outcome.status == RDLPP_MORE && length <= row->output_length);
+            if (outcome.status == RDLPP_WANTED) {
+                give(row, &handle, name, outcome.name_length);
+            }
+        } while ((outcome.status == RDLPP_MORE || outcome.status == RDLPP_WANTED) && length <= row->output_length);
     }
     check(ends(row, &outcome, name, word), row, "how reads end");
     check(length == row->output_length && memcmp(out, row->output, row->output_length) == 0, row, "what reads give");
@@ -98,8 +98,9 @@ int main(void)
             return 2;
         }
         calls_once(row, out);
-        reads(row, out, 1);
-        reads(row, out, 7);
+        reads(row, out, 1, false, false);
+        reads(row, out, 7, false, true);
+        reads(row, out, 7, true, false);
         free(out);
     }
     return failures == 0 ? 0 : 1;

@@ -7,6 +7,7 @@ use Rattle.rdlpp_table.specs.declared.limits.LimitFault.{LimitFault}
 use Rattle.rdlpp_table.specs.declared.limits.LimitFault.TheVariants.{Depth, Includes, LineBytes, SourceBytes, ArgumentBytes, DefinitionBytes, Definitions, Conditions, OutputBytes}
 use Rattle.rdlpp_meaning.specs.declared.fault.Fault.{Fault}
 use Rattle.rdlpp_meaning.specs.FaultNumbers.{fault_number}
+use Rattle.rdlpp_reports.specs.Writes.{Writes}
 use Rattle.rdlpp.specs.declared.fault.PrepFault.{PrepFault}
 use Rattle.rdlpp.specs.declared.fault.PrepFault.TheVariants.{BadLimits, NoMemory, Run}
 
@@ -38,14 +39,6 @@ abbrev pub report_line : List ℕ → PrepFault → List ℕ
 report_line text (BadLimits limit) = concat (codes "rdlpp: error: limit " ∷ limit_name limit ∷ codes " out of range\n" ∷ [])
 report_line text NoMemory = codes "rdlpp: error: out of memory\n"
 report_line text (Run run) = fault_line text run.fault
-
--- of these bytes the first ones were written, and all of them where that succeeded
-pub record Writes {T E : Type 0} (old new : Option (List ℕ)) (bytes : List ℕ) (result : Result T E) : Type 0 where
-  pub written : List ℕ
-  pub rest : List ℕ
-  pub split : bytes ≡ written ++ rest
-  pub taken : Appends old new written
-  pub whole : OnOk result (rest ≡ [])
 
 -- the known bytes grew by the line that reports a fault, with some text of its kind, or where that failed by the first bytes of such a line
 -- (source: this project's profile)

@@ -12,6 +12,14 @@ pub(crate) const OUTPUT: &str = "output";
 
 pub(crate) const ORIGINS: &str = "origins";
 
+pub(crate) const LINE_MAP: &str = "line-map";
+
+pub(crate) const DEPS: &str = "deps";
+
+pub(crate) const DEFINITIONS: &str = "definitions";
+
+pub(crate) const NOTES: &str = "notes";
+
 pub(crate) const SOURCE: &str = "source";
 
 // What stands before the options in the help.
@@ -28,6 +36,14 @@ Exit status:
 
 Example:
   rdlpp -I inc -D WIDTH=8 -o chip.out.rdl chip.rdl";
+
+const LINE_MAP_HELP: &str =
+    "Write to this file which line of which source each line of the text comes from";
+
+const DEPS_HELP: &str = "Write to this file a rule for make with each source that was opened";
+
+const DEFINITIONS_HELP: &str =
+    "Write to this file the macros that are defined at the end, as define lines";
 
 /// The options that take a limit, in the order of the fields of `Limits`, each with its help.
 pub(crate) const LIMITS: [(&str, &str); 9] = [
@@ -83,7 +99,11 @@ pub(crate) fn rdlpp_command<'a>(alloc: Global) -> Result<Command<'a>, AllocError
         .arg(define(alloc))?
         .arg(folder(alloc))?
         .arg(output(alloc))?
-        .arg(origins(alloc))?;
+        .arg(origins(alloc))?
+        .arg(file(alloc, LINE_MAP, LINE_MAP_HELP))?
+        .arg(file(alloc, DEPS, DEPS_HELP))?
+        .arg(file(alloc, DEFINITIONS, DEFINITIONS_HELP))?
+        .arg(notes(alloc))?;
     for (name, help) in LIMITS {
         command = command.arg(limit(alloc, name, help))?;
     }
@@ -131,6 +151,22 @@ fn origins<'a>(alloc: Global) -> Arg<'a> {
         .long("origins")
         .action(ArgAction::SetTrue)
         .help("Write lines '// origin: NAME:LINE' that tell where text comes from")
+}
+
+fn file<'a>(alloc: Global, name: &'a str, help: &'a str) -> Arg<'a> {
+    Arg::new(alloc, name)
+        .long(name)
+        .value_name("FILE")
+        .action(ArgAction::Set)
+        .value_parser(ValueParser::NonEmptyString)
+        .help(help)
+}
+
+fn notes<'a>(alloc: Global) -> Arg<'a> {
+    Arg::new(alloc, NOTES)
+        .long("notes")
+        .action(ArgAction::SetTrue)
+        .help("Write lines 'rdlpp: note: ..' behind a fault, with what helps to mend it")
 }
 
 fn limit<'a>(alloc: Global, name: &'a str, help: &'a str) -> Arg<'a> {

@@ -11,8 +11,9 @@ use arrayvec::ArrayString;
 use rdlpp_source::{Found, SourceFault, Sources, folder_of, joined_path};
 use rdlpp_table::NoMemory;
 use std::alloc::Global;
+use std::cell::Cell;
 use std::fs::File;
-use std::io::{ErrorKind, Read};
+use std::io::{self, ErrorKind, Read};
 use std::rt::Files;
 
 // The main path that stands for standard input.
@@ -31,6 +32,17 @@ pub struct Folders<'r, R> {
     folders: Vec<String>,
     failures: u64,
     refusals: u64,
+    // the last file that failed, for whoever asks; no answer depends on it
+    failed: Cell<Option<FileFailure>>,
+}
+
+/// A file that couldn't be opened or read, and why.
+#[derive(Clone, Copy)]
+pub struct FileFailure {
+    /// The path that couldn't be opened; empty where a read of the innermost open source failed.
+    pub path: ArrayString<1024>,
+    /// The system's reason.
+    pub error: io::Error,
 }
 
 /// What reads a text of `Folders`.
@@ -66,19 +78,14 @@ impl<I: Read, F: Read> FolderReader<I, F> {
     ghost use Rattle.rdlpp.specs.Folders.{unread_bytes};
 
     // Reads the next bytes into the front of `to`.
-    fn read(&mut self, to: &mut [u8]) -> Result<usize, SourceFault>
+    fn read(&mut self, to: &mut [u8]) -> io::Result<usize>
         ensures bound { ReadsAtMost result to.new }
-        ensures only { IfErr result (λ fault. fault ≡ SourceFault.Device) }
         ensures consumes { ReadConsumes (unread_bytes I.remaining F.remaining self.old)
             (unread_bytes I.remaining F.remaining self.new) result to.new }
     {
-        let read = match self {
+        match self {
             FolderReader::Input(input) => input.read(to),
             FolderReader::File(file) => file.read(to),
-        };
-        match read {
-            Ok(len) => Ok(len),
-            Err(_) => Err(SourceFault::Device),
         }
     }
 }
@@ -113,7 +120,13 @@ impl<'r, R: Files + Input> Folders<'r, R> {
             folders: kept,
             failures: 0,
             refusals: 0,
+            failed: Cell::new(None),
         })
+    }
+
+    /// The last file that couldn't be opened or read, but for those that aren't there.
+    pub fn failure(&self) -> Option<FileFailure> {
+        self.failed.get()
     }
 
     // The file at a path.
@@ -135,7 +148,12 @@ impl<'r, R: Files + Input> Folders<'r, R> {
                 path,
                 reader: FolderReader::File(file),
             }),
-            Err(error) => Err(open_fault(error.kind())),
+            Err(error) => {
+                if error.kind() != ErrorKind::NotFound {
+                    self.failed.set(Some(FileFailure { path, error }));
+                }
+                Err(open_fault(error.kind()))
+            }
         }
     }
 
@@ -288,7 +306,14 @@ impl<'r, R: Files + Input> Sources for Folders<'r, R> {
         ensures failures { Counts (is_device result) (device_failures self.old) (device_failures self.new) }
         ensures refusals { memory_refusals self.new ≡ memory_refusals self.old }
     {
-        let answer = reader.read(to);
+        let answer = match reader.read(to) {
+            Ok(len) => Ok(len),
+            Err(error) => {
+                let path = ArrayString::new();
+                self.failed.set(Some(FileFailure { path, error }));
+                Err(SourceFault::Device)
+            }
+        };
         self.counted(answer)
     }
 }

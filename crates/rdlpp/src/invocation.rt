@@ -5,7 +5,10 @@ ghost use Rattle.rdlpp_table.specs.Limits.{AreInRange};
 ghost use Rattle.rdlpp.specs.declared.invocation.UsageFault.TheVariants.{NoMemory};
 
 use crate::Options;
-use crate::command::{DEFINE, FOLDER, LIMITS, ORIGINS, OUTPUT, SOURCE, rdlpp_command};
+use crate::command::{
+    DEFINE, DEFINITIONS, DEPS, FOLDER, LIMITS, LINE_MAP, NOTES, ORIGINS, OUTPUT, SOURCE,
+    rdlpp_command,
+};
 use crate::reporting::limit_name;
 use clap::error::ErrorKind;
 use clap::{ArgMatches, Command, Error};
@@ -23,6 +26,28 @@ pub struct Invocation {
     pub output: Option<String>,
     /// The path of the main text; `-` is standard input.
     pub source: String,
+    /// What is told beside the text.
+    pub reports: Reports,
+}
+
+/// What a command line asks to be told beside the text (this project's profile).
+#[derive(Drop)]
+pub struct Reports {
+    /// The file that the line map goes to.
+    pub line_map: Option<String>,
+    /// The file that the rule for make goes to.
+    pub deps: Option<String>,
+    /// The file that the macros go to which are defined at the end.
+    pub definitions: Option<String>,
+    /// Whether notes stand behind a fault.
+    pub notes: bool,
+}
+
+impl Reports {
+    /// Whether anything is asked for.
+    pub fn is_any(&self) -> bool {
+        self.notes || self.line_map.is_some() || self.deps.is_some() || self.definitions.is_some()
+    }
 }
 
 /// Why words ask for no run (this project's profile).
@@ -47,8 +72,8 @@ impl From<AllocError> for UsageFault {
 /// Reads the words of a command line, of which the first is the program's name (this project's
 /// profile).
 ///
-/// `-D NAME[=TEXT]` and `-I FOLDER` may repeat, in order; `-o FILE`, `--origins`, the `--max-..` with
-/// a decimal number, `--help` and `--version` stand at most once; and there is one source. A limit
+/// `-D NAME[=TEXT]` and `-I FOLDER` may repeat, in order; `-o FILE`, `--origins`, `--line-map FILE`, `--deps FILE`,
+/// `--definitions FILE`, `--notes`, the `--max-..` with a decimal number, `--help` and `--version` stand at most once; and there is one source. A limit
 /// that isn't given is the standard one. What each word asks for stands in no contract, but that the
 /// limits are in their ranges.
 ///
@@ -144,16 +169,26 @@ fn asked_for(
         limits,
         origins: matches.get_flag(ORIGINS),
     };
-    let output = match matches.get_str(OUTPUT) {
-        Some(path) => Some(String::from_str(alloc, path)?),
-        None => None,
-    };
     Ok(Invocation {
         options,
         folders: folders(alloc, matches)?,
-        output,
+        output: file(alloc, matches, OUTPUT)?,
         source: String::from_str(alloc, matches.get_str(SOURCE).unwrap_or(""))?,
+        reports: Reports {
+            line_map: file(alloc, matches, LINE_MAP)?,
+            deps: file(alloc, matches, DEPS)?,
+            definitions: file(alloc, matches, DEFINITIONS)?,
+            notes: matches.get_flag(NOTES),
+        },
     })
+}
+
+// The file that an option names, if it is given.
+fn file(alloc: Global, matches: &ArgMatches<'_>, name: &str) -> Result<Option<String>, AllocError> {
+    match matches.get_str(name) {
+        Some(path) => Ok(Some(String::from_str(alloc, path)?)),
+        None => Ok(None),
+    }
 }
 
 // The name and the text of a definition, which its first `=` parts; without one the text is empty.

@@ -11,16 +11,24 @@ mod opening;
 mod options;
 mod preprocessing;
 mod reporting;
+mod running;
 mod status;
 
 pub use fault::PrepFault;
-pub use folders::{FolderReader, Folders};
-pub use invocation::{Invocation, UsageFault, parse_words};
+pub use folders::{FileFailure, FolderReader, Folders};
+pub use invocation::{Invocation, Reports, UsageFault, parse_words};
 pub use opening::open_reading;
 pub use options::Options;
 pub use preprocessing::preprocess;
-pub use rdlpp_expand::{Fault, FaultKind, ReadEnd, ReadPart, Reading, RunFault};
+pub use rdlpp_expand::{
+    Engine, Fault, FaultKind, Position, ReadEnd, ReadPart, Reading, RunFault, Watcher,
+};
+pub use rdlpp_reports::{
+    MapWriter, OpenedPaths, Recorded, write_definitions, write_dependencies, write_failure,
+    write_notes,
+};
 pub use rdlpp_source::{Buffered, Counted, Found, Sink, SinkFault, SourceFault, Sources, Texts};
-pub use rdlpp_table::{LimitFault, Limits, NoMemory};
+pub use rdlpp_table::{LimitFault, Limits, NoMemory, Table};
 pub use reporting::report;
+pub use running::{new_engine, run_watched_from};
 pub use status::exit_status;

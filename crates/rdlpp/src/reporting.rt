@@ -1,15 +1,16 @@
 // The line that reports a fault.
-ghost use Rattle.std.specs.Prelude.{◌≡◌, ℕ, List, map};
-ghost use Rattle.std.specs.List.{concat};
-ghost use Rattle.rdlpp.specs.Report.{Reports, Writes, limit_name, fault_line, line_end};
+ghost use Rattle.std.specs.Prelude.{◌≡◌, ℕ, List};
+ghost use Rattle.rdlpp_reports.specs.Writes.{Writes};
+ghost use Rattle.rdlpp.specs.Report.{Reports, limit_name, fault_line, line_end};
 
 use crate::PrepFault;
 use arrayvec::ArrayString;
 use itoa::Buffer;
 use rdlpp_expand::{Fault, FaultKind};
+use rdlpp_reports::{write_parts, write_whole};
 use rdlpp_table::LimitFault;
 use std::fmt::Write as _;
-use std::io::{self, ErrorKind, Write};
+use std::io::{self, Write};
 
 /// Writes the one line that reports a fault (this project's profile).
 ///
@@ -85,30 +86,4 @@ fn write_word<W: Write>(word: &[u8], writer: &mut W) -> io::Result<()>
         return write_whole(b"\n", writer);
     }
     write_parts(&[b" '", word, b"'\n"], writer)
-}
-
-// Writes some parts, one after another.
-fn write_parts<W: Write>(parts: &[&[u8]], writer: &mut W) -> io::Result<()>
-    ensures { Writes (W.contents writer.old) (W.contents writer.new) (concat (map (λ part. part.now) parts.now)) result }
-{
-    for part in parts {
-        write_whole(part, writer)?;
-    }
-    Ok(())
-}
-
-// Writes all of some bytes. An error of the writer, of whatever kind, and a write that takes nothing
-// end it.
-fn write_whole<W: Write>(bytes: &[u8], writer: &mut W) -> io::Result<()>
-    ensures { Writes (W.contents writer.old) (W.contents writer.new) bytes.now result }
-{
-    let mut rest = bytes;
-    while !rest.is_empty() {
-        let len = writer.write(rest)?;
-        if len == 0 {
-            return Err(io::Error::from(ErrorKind::WriteZero));
-        }
-        rest = &rest[len..];
-    }
-    Ok(())
 }

@@ -18,7 +18,8 @@ use Rattle.rdlpp_c.specs.declared.asking.Answer.TheVariants.{Whole, Stopped}
 use Rattle.rdlpp_c.specs.declared.asking.Lists.{Lists}
 use Rattle.rdlpp_c.proofs.WholeReads.{View, opening_unfailed, overwritten_none}
 use Rattle.rdlpp_steps.specs.Opening.{is_device_fault, is_memory_fault}
-use Rattle.rdlpp_owned.specs.declared.owned.OwnedTexts.{OwnedTexts}
+use Rattle.std.specs.String.{string_bytes}
+use Rattle.rdlpp_owned.specs.declared.asked.AskedTexts.{AskedTexts}
 use Rattle.rdlpp.specs.Definitions.{Declined}
 use Rattle.rdlpp_c.specs.declared.opening.Owned.{Owned}
 use Rattle.rdlpp_c.specs.declared.stream.Stream.{Stream}
@@ -102,11 +103,11 @@ gives_refused a lists sources buffer fault answer are files folders in_range ope
 -- An output that was opened is the one that a call asks for, and a read of what a handle owns is one of a stream.
 
 -- what remains of a stream over what a call asks for
-pub streams : (a : Asked) (owned : Owned) (reading : ReadingView OwnedTexts (List ℕ)) (stream : Stream) → AreOwned a owned → limit_fault a.limits ≡ None
-    → OpensOutput owned_sources (output_of owned_sources owned.options owned.sources owned.path.now) (Ok reading)
-    → stream ≡ record { reading = reading } → StreamsOutput a stream
-streams a owned reading stream are in_range opens same = record {
-  output = output_of owned_sources owned.options owned.sources owned.path.now;
+pub streams : (a : Asked) (owned : Owned) (reading : ReadingView AskedTexts (List ℕ)) (stream : Stream) → AreOwned a owned → limit_fault a.limits ≡ None
+    → OpensOutput owned_sources (output_of owned_sources owned.options owned.sources (string_bytes owned.path)) (Ok reading)
+    → stream.reading ≡ reading → stream.path ≡ owned.path → stream.pieces ≡ owned.pieces → StreamsOutput a stream
+streams a owned reading stream are in_range opens same path pieces = record {
+  output = output_of owned_sources owned.options owned.sources (string_bytes owned.path);
   is = record {
     options = owned.options;
     sources = owned.sources;
@@ -114,8 +115,10 @@ streams a owned reading stream are in_range opens same = record {
     in_range = in_range;
     is = ap (output_of owned_sources owned.options owned.sources) (sym are.path);
   };
-  remains = subst (λ (s : Stream). is_device_fault s.reading.engine.kept ≡ false → is_memory_fault s.reading.engine.kept ≡ false
-      → reading_left owned_sources s.reading ≡ output_of owned_sources owned.options owned.sources owned.path.now) (sym same) opens;
+  remains = subst (λ (r : ReadingView AskedTexts (List ℕ)). is_device_fault r.engine.kept ≡ false → is_memory_fault r.engine.kept ≡ false
+      → reading_left owned_sources r ≡ output_of owned_sources owned.options owned.sources (string_bytes owned.path)) (sym same) opens;
+  path = ap string_bytes path ∙ are.path;
+  pieces = pieces ∙ are.pieces;
 }
 
 -- a definition that is refused is the output
@@ -130,10 +133,10 @@ declined a owned f are in_range refused = record {
 
 -- an opening that is refused is answered so
 pub refused : (a : Asked) (owned : Owned) (fault : PrepFault) (result : Result Stream Answer) → AreOwned a owned → limit_fault a.limits ≡ None
-    → Opens owned_sources owned.options owned.sources owned.path.now (Err fault) → result ≡ Err (refused_answer fault) → OpensStream a result
+    → Opens owned_sources owned.options owned.sources (string_bytes owned.path) (Err fault) → result ≡ Err (refused_answer fault) → OpensStream a result
 refused a owned fault result are in_range opens e = subst (λ (r : Result Stream Answer). OpensStream a r) (sym e) (by fault opens)
   where
-    by : (fault : PrepFault) → Opens owned_sources owned.options owned.sources owned.path.now (Err fault) → OpensStream a (Err (refused_answer fault))
+    by : (fault : PrepFault) → Opens owned_sources owned.options owned.sources (string_bytes owned.path) (Err fault) → OpensStream a (Err (refused_answer fault))
     by (BadLimits limit) h = ap limit_fault (sym are.asks.limits) ∙ h
     by NoneLeft h = in_range
     by (Run run) h = (declined a owned (told run.fault) are in_range h.1, h.2)

@@ -13,7 +13,7 @@ use Rattle.rdlpp_c.specs.declared.arrays.Limits.{Limits as GivenLimits}
 use Rattle.rdlpp_c.specs.declared.arrays.Text.{Text}
 use Rattle.rdlpp_c.specs.declared.arrays.Folder.{Folder}
 use Rattle.rdlpp_c.specs.declared.arrays.Definition.{Definition}
-use Rattle.rdlpp_c.specs.declared.asking.Request.{Request}
+use Rattle.rdlpp_c.specs.declared.arrays.Request.{Request}
 
 -- limits as the engine has them
 abbrev pub limits_of : GivenLimits → Limits
@@ -29,10 +29,13 @@ limits_of l = record {
   output_bytes = l.output_bytes;
 }
 
--- what a call asks for: its limits, whether it wants origin comments, its arrays and the main path
+-- what a call asks for: its limits, whether it wants origin comments, whether sources that aren't among its texts are asked for, whether a read ends
+-- with its piece, its arrays and the main path
 pub record Asked : Type 0 where
   pub limits : Limits
   pub origins : Bool
+  pub asks : Bool
+  pub pieces : Bool
   pub texts : List Text
   pub folders : List Folder
   pub definitions : List Definition
@@ -41,8 +44,10 @@ pub record Asked : Type 0 where
 -- what a request asks for
 abbrev pub requested : Request → Asked
 requested r = record {
-  limits = r.limits;
+  limits = limits_of r.limits;
   origins = r.origins;
+  asks = r.asks;
+  pieces = r.pieces;
   texts = r.texts.now;
   folders = r.folders.now;
   definitions = r.definitions.now;

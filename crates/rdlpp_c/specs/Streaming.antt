@@ -5,9 +5,9 @@ use Rattle.std.specs.String.{string_bytes}
 use Rattle.std.specs.declared.alloc.Global.{Global}
 use Rattle.std_alloc.specs.declared.boxed.Box.{Box}
 use Rattle.rdlpp_source.specs.declared.sources.Sources.{Ghosts}
-use Rattle.rdlpp_owned.specs.Owned.{owned_catalog, unread_of}
-use Rattle.rdlpp_owned.specs.declared.owned.OwnedText.{OwnedText}
-use Rattle.rdlpp_owned.specs.declared.owned.OwnedTexts.{OwnedTexts}
+use Rattle.rdlpp_owned.specs.Asked.{asked_catalog, standing_text, unread_of}
+use Rattle.rdlpp_owned.specs.declared.asked.AskedText.{AskedText}
+use Rattle.rdlpp_owned.specs.declared.asked.AskedTexts.{AskedTexts}
 use Rattle.rdlpp_table.specs.Limits.{limit_fault}
 use Rattle.rdlpp_meaning.specs.FaultNumbers.{fault_number}
 use Rattle.rdlpp_meaning.specs.Outcome.{Told, told, Outcome, fails}
@@ -20,8 +20,9 @@ use Rattle.rdlpp.specs.declared.fault.PrepFault.{PrepFault}
 use Rattle.rdlpp.specs.declared.fault.PrepFault.TheVariants.{BadLimits, Run, NoMemory as NoneLeft}
 use Rattle.rdlpp.specs.declared.options.Options.{Options}
 use Rattle.rdlpp_c.specs.Buffers.{overwritten}
-use Rattle.rdlpp_c.specs.Request.{Asked, AreUtf8, definition_bytes, definition_given, text_given}
+use Rattle.rdlpp_c.specs.Request.{Asked, AreUtf8, definition_bytes, definition_given}
 use Rattle.rdlpp_c.specs.Telling.{name_bytes, numbered, outcome_of, word_bytes}
+use Rattle.rdlpp_c.specs.declared.arrays.Text.{Text}
 use Rattle.rdlpp_c.specs.declared.asking.Answer.{Answer}
 use Rattle.rdlpp_c.specs.declared.asking.Answer.TheVariants.{Whole, Stopped, BadLimit, BadText, NoMemory}
 use Rattle.rdlpp_c.specs.declared.opening.Owned.{Owned}
@@ -43,40 +44,48 @@ refused_answer (BadLimits fault) = BadLimit fault
 refused_answer NoneLeft = NoMemory
 refused_answer (Run run) = Stopped run
 
--- what sources in memory that own their texts answer
-abbrev pub owned_sources : Ghosts OwnedTexts (List ℕ)
-owned_sources = record { tells = λ _. ⊤; catalog = owned_catalog; unread = unread_of; failures = λ _. 0; refusals = λ s. s.refusals }
+-- what sources in memory that own their texts answer: by what is known of each path
+abbrev pub owned_sources : Ghosts AskedTexts (List ℕ)
+owned_sources = record { tells = λ _. ⊤; catalog = asked_catalog; unread = unread_of; failures = λ s. s.failures; refusals = λ s. s.refusals }
 
--- the path and the bytes of a source that owns its text
-abbrev pub owned_bytes : OwnedText → List ℕ × List ℕ
-owned_bytes f = (string_bytes f.path, f.text.value.items)
+-- a path, and what stands there
+abbrev pub owned_bytes : AskedText → List ℕ × Option (List ℕ)
+owned_bytes f = (string_bytes f.path, standing_text (Some f.standing))
+
+-- the path and the bytes of a given text, which stands there
+abbrev pub text_standing : Text → List ℕ × Option (List ℕ)
+text_standing t = (t.path.now, Some t.text.now)
 
 -- options and sources that own their texts are what a call asks for
-pub record AsksOwned (a : Asked) (options : Options) (sources : OwnedTexts) : Type 0 where
+pub record AsksOwned (a : Asked) (options : Options) (sources : AskedTexts) : Type 0 where
   pub limits : options.limits ≡ a.limits
   pub origins : options.origins ≡ a.origins
   pub definitions : map definition_bytes options.defines.items ≡ map definition_given a.definitions
-  pub texts : map owned_bytes sources.files.items ≡ map text_given a.texts
+  pub texts : map owned_bytes sources.files.items ≡ map text_standing a.texts
   pub folders : map string_bytes sources.folders.items ≡ map (λ folder. folder.path.now) a.folders
+  pub asks : sources.asks ≡ a.asks
 
 -- what an output is opened over is what a call asks for
 pub record AreOwned (a : Asked) (owned : Owned) : Type 0 where
   pub asks : AsksOwned a owned.options owned.sources
-  pub path : owned.path.now ≡ a.path
+  pub path : string_bytes owned.path ≡ a.path
+  pub pieces : owned.pieces ≡ a.pieces
 
 -- the output that a call asks for: that of options and sources which are what it asks for, where its limits are in their ranges
 pub record IsStreamed (a : Asked) (output : Outcome) : Type 0 where
   pub options : Options
-  pub sources : OwnedTexts
+  pub sources : AskedTexts
   pub asks : AsksOwned a options sources
   pub in_range : limit_fault a.limits ≡ None
   pub is : output_of owned_sources options sources a.path ≡ output
 
--- what remains of a stream is the output that a call asks for, unless a text had no room for a reader where it was opened
+-- what remains of a stream is the output that a call asks for, unless its main text was asked for or couldn't be opened, or had no room for a reader
 pub record StreamsOutput (a : Asked) (stream : Stream) : Type 0 where
   pub output : Outcome
   pub is : IsStreamed a output
   pub remains : is_device_fault stream.reading.engine.kept ≡ false → is_memory_fault stream.reading.engine.kept ≡ false → reading_left owned_sources stream.reading ≡ output
+  pub path : string_bytes stream.path ≡ a.path
+  pub pieces : stream.pieces ≡ a.pieces
 
 -- what opening comes to: a stream of the output; the first limit that is out of its range; bytes that have to be UTF-8 and aren't; want of
 -- memory; or the fault of the first definition that is refused, which is the output
@@ -87,6 +96,10 @@ OpensStream a (Err (Stopped run)) = IsStreamed a (fails (told run.fault)) × (ru
 OpensStream a (Err (BadLimit limit)) = limit_fault a.limits ≡ Some limit
 OpensStream a (Err BadText) = (limit_fault a.limits ≡ None) × ¬ (AreUtf8 a)
 OpensStream a (Err NoMemory) = limit_fault a.limits ≡ None
+
+-- what opening comes to, whatever it was asked by, over what was made of that
+abbrev pub OpensOwned : Owned → Result Stream Answer → Type 0
+OpensOwned owned result = (a : Asked) → AreOwned a owned → limit_fault a.limits ≡ None → OpensStream a result
 
 -- the stream that was opened, if one was
 abbrev pub opened : Result Stream Answer → Option Stream

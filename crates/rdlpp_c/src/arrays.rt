@@ -54,6 +54,28 @@ pub struct Definition<'a> {
     pub text: &'a [u8],
 }
 
+/// What is asked for. It is lent for the call.
+#[repr(C)]
+#[derive(Clone, Copy)]
+pub struct Request<'a> {
+    /// The limits.
+    pub limits: Limits,
+    /// Whether lines `// origin: NAME:LINE` are written.
+    pub origins: bool,
+    /// Of a handle: whether a source that isn't among `texts` is asked for.
+    pub asks: bool,
+    /// Of a handle: whether each read ends at a piece's end, so that its place is told.
+    pub pieces: bool,
+    /// The sources in memory.
+    pub texts: &'a [Text<'a>],
+    /// The include folders, in the order of the search.
+    pub folders: &'a [Folder<'a>],
+    /// The macros that are defined first, in order.
+    pub definitions: &'a [Definition<'a>],
+    /// The path of the main text, in UTF-8.
+    pub path: &'a [u8],
+}
+
 // The limits as the engine takes them.
 pub(crate) fn limits_of(limits: &Limits) -> rdlpp::Limits
     ensures { result ≡ limits_of limits.now }

@@ -5,22 +5,11 @@ ghost use Rattle.rdlpp_c.specs.Request.{AreUtf8, definition_bytes, definition_gi
 ghost use Rattle.rdlpp_c.specs.Answer.{AreLists, Gives};
 ghost use Rattle.rdlpp_c.specs.declared.asking.Refusal.TheVariants.{BadText, NoMemory};
 
-use crate::arrays::{Definition, Folder, Text};
+use crate::arrays::{Definition, Folder, Request, Text, limits_of};
 use crate::opening::refused_answer;
 use crate::output::read_output;
-use rdlpp::{LimitFault, Limits, Options, RunFault, Texts, open_reading};
+use rdlpp::{LimitFault, Options, RunFault, Texts, open_reading};
 use std::alloc::{AllocError, Global};
-
-// What a call asks for.
-#[derive(Clone, Copy)]
-pub(crate) struct Request<'a> {
-    pub(crate) limits: Limits,
-    pub(crate) origins: bool,
-    pub(crate) texts: &'a [Text<'a>],
-    pub(crate) folders: &'a [Folder<'a>],
-    pub(crate) definitions: &'a [Definition<'a>],
-    pub(crate) path: &'a [u8],
-}
 
 // What a call comes to.
 #[derive(Drop)]
@@ -143,7 +132,7 @@ fn lists_of<'a>(alloc: Global, request: &Request<'a>) -> Result<Lists<'a>, Refus
     let folders = folders_of(alloc, request.folders)?;
     let options = Options {
         defines: definitions_of(alloc, request.definitions)?,
-        limits: request.limits,
+        limits: limits_of(&request.limits),
         origins: request.origins,
     };
     Ok(Lists {
@@ -158,7 +147,7 @@ fn lists_of<'a>(alloc: Global, request: &Request<'a>) -> Result<Lists<'a>, Refus
 pub(crate) fn answer_of(alloc: Global, request: &Request<'_>, out: &mut [u8]) -> Answer
     ensures { Gives (requested request.now) out.old out.new result }
 {
-    if let Err(limit) = request.limits.check() {
+    if let Err(limit) = limits_of(&request.limits).check() {
         return Answer::BadLimit(limit);
     }
     let lists = match lists_of(alloc, request) {

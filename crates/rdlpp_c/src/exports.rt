@@ -1,16 +1,17 @@
 // The calls that a program in C makes.
 ghost use Rattle.std.specs.Prelude.{◌≡◌, ℕ, List, [], codes};
 ghost use Rattle.rdlpp_c.specs.Faults.{TellsFault};
-ghost use Rattle.rdlpp_c.specs.Request.{limits_of};
+ghost use Rattle.rdlpp_c.specs.Request.{requested};
 ghost use Rattle.rdlpp_c.specs.Telling.{Answers, TellsText};
 
-use crate::arrays::{Definition, Folder, Limits, Text, limits_of};
-use crate::asking::{Request, answer_of};
+use crate::arrays::{Limits, Request};
+use crate::asking::answer_of;
 use crate::faults::text_of;
 use crate::telling::{Outcome, outcome_of, tell_fault, tell_text};
 use std::alloc::Global;
 
-/// Preprocesses the main text at `path` of sources in memory (this project's profile).
+/// Preprocesses the main text of a request over sources in memory (this project's profile). Whether it
+/// `asks` and whether it reads `pieces` is of no account here.
 ///
 /// The front of the output is written to `out`, as much as there is room for, and its whole length is
 /// told; so it is with the shown name and the word of the fault that ended it. The bytes behind them
@@ -20,28 +21,15 @@ use std::alloc::Global;
 #[unsafe(no_mangle)]
 pub extern "C" fn rdlpp_preprocess(
     alloc: Global,
-    limits: &Limits,
-    origins: bool,
-    texts: &[Text<'_>],
-    folders: &[Folder<'_>],
-    definitions: &[Definition<'_>],
-    path: &[u8],
+    request: &Request<'_>,
     out: &mut [u8],
     name: &mut [u8],
     word: &mut [u8],
 ) -> Outcome
-    ensures { Answers (record { limits = limits_of limits.now; origins = origins; texts = texts.now; folders = folders.now; definitions = definitions.now; path = path.now })
+    ensures { Answers (requested request.now)
         (record { out = out.old; name = name.old; word = word.old }) (record { out = out.new; name = name.new; word = word.new }) result }
 {
-    let request = Request {
-        limits: limits_of(limits),
-        origins,
-        texts,
-        folders,
-        definitions,
-        path,
-    };
-    let answer = answer_of(alloc, &request, out);
+    let answer = answer_of(alloc, request, out);
     tell_fault(&answer, name, word);
     outcome_of(&answer)
 }

@@ -1,38 +1,51 @@
 // How an output is opened: the lists that a call asks for, as sources that own their texts.
-ghost use Rattle.std.specs.Prelude.{◌≡◌, IsUtf8, map, MatchResult};
+ghost use Rattle.std.specs.Prelude.{◌≡◌, IfOk, IsUtf8, map, MatchResult};
 ghost use Rattle.std.specs.List.{All};
 ghost use Rattle.std.specs.String.{string_bytes};
-ghost use Rattle.rdlpp_c.specs.Request.{AreUtf8, definition_given, requested, text_given};
-ghost use Rattle.rdlpp_c.specs.Streaming.{AreOwned, OpensStream, boxed_answer, owned_bytes, refused_answer};
+ghost use Rattle.rdlpp_c.specs.Request.{AreUtf8, definition_given, requested};
+ghost use Rattle.rdlpp_c.specs.Streaming.{AreOwned, OpensOwned, OpensStream, boxed_answer, owned_bytes, refused_answer, text_standing};
 ghost use Rattle.rdlpp_c.specs.declared.asking.Refusal.TheVariants.{BadText, NoMemory};
 
-use crate::arrays::{Folder, Text};
-use crate::asking::{Answer, Refusal, Request, definitions_of, text_of};
+use crate::arrays::{Folder, Request, Text, limits_of};
+use crate::asking::{Answer, Refusal, definitions_of, text_of};
 use crate::stream::Stream;
 use rdlpp::{Options, PrepFault, open_reading};
-use rdlpp_owned::{OwnedText, OwnedTexts};
-use std::alloc::Global;
+use rdlpp_owned::{AskedText, AskedTexts, Standing};
+use std::alloc::{AllocError, Global};
 use std::rc::Rc;
 
 // One source, with its own text.
-fn owned_text(alloc: Global, text: &Text<'_>) -> Result<OwnedText, Refusal>
-    ensures { MatchResult result (λ made. owned_bytes made ≡ text_given text.now)
+fn owned_text(alloc: Global, text: &Text<'_>) -> Result<AskedText, Refusal>
+    ensures { MatchResult result (λ made. owned_bytes made ≡ text_standing text.now)
         (λ refusal. refusal ≡ BadText → ¬ (IsUtf8 text.now.path.now)) }
 {
     let path = String::from_str(alloc, text_of(text.path)?)?;
-    let mut bytes = Vec::new(alloc);
-    if bytes.extend_from_slice(text.text).is_err() {
-        return Err(Refusal::NoMemory);
-    }
-    match Rc::new(alloc, bytes) {
-        Ok(text) => Ok(OwnedText { path, text }),
+    match shared_text(alloc, text.text) {
+        Ok(text) => Ok(AskedText {
+            path,
+            standing: Standing::Text(text),
+        }),
         Err(_) => Err(Refusal::NoMemory),
     }
 }
 
+// A copy of a text, which its readers share.
+pub(crate) fn shared_text(alloc: Global, text: &[u8]) -> Result<Rc<Vec<u8>, Global>, AllocError>
+    ensures { IfOk result (λ shared. shared.value.items ≡ text.now) }
+{
+    let mut bytes = Vec::new(alloc);
+    if bytes.extend_from_slice(text).is_err() {
+        return Err(AllocError);
+    }
+    match Rc::new(alloc, bytes) {
+        Ok(shared) => Ok(shared),
+        Err(_) => Err(AllocError),
+    }
+}
+
 // The sources.
-fn owned_files(alloc: Global, texts: &[Text<'_>]) -> Result<Vec<OwnedText>, Refusal>
-    ensures { MatchResult result (λ files. map owned_bytes files.items ≡ map text_given texts.now)
+fn owned_files(alloc: Global, texts: &[Text<'_>]) -> Result<Vec<AskedText>, Refusal>
+    ensures { MatchResult result (λ files. map owned_bytes files.items ≡ map text_standing texts.now)
         (λ refusal. refusal ≡ BadText → ¬ (All (λ text. IsUtf8 text.path.now) texts.now)) }
 {
     let mut files = Vec::new(alloc);
@@ -70,34 +83,39 @@ fn owned_folders(alloc: Global, folders: &[Folder<'_>]) -> Result<Vec<String>, R
 
 // What an output is opened over.
 #[derive(Drop)]
-struct Owned<'a> {
-    sources: OwnedTexts,
+struct Owned {
+    sources: AskedTexts,
     options: Options,
-    path: &'a str,
+    path: String,
+    pieces: bool,
 }
 
 // What a request asks for, with texts of its own.
-fn owned_of<'a>(alloc: Global, request: &Request<'a>) -> Result<Owned<'a>, Refusal>
+fn owned_of(alloc: Global, request: &Request<'_>) -> Result<Owned, Refusal>
     ensures { MatchResult result (AreOwned (requested request.now))
         (λ refusal. refusal ≡ BadText → ¬ (AreUtf8 (requested request.now))) }
 {
-    let path = text_of(request.path)?;
+    let path = String::from_str(alloc, text_of(request.path)?)?;
     let files = owned_files(alloc, request.texts)?;
     let folders = owned_folders(alloc, request.folders)?;
     let options = Options {
         defines: definitions_of(alloc, request.definitions)?,
-        limits: request.limits,
+        limits: limits_of(&request.limits),
         origins: request.origins,
     };
-    let sources = OwnedTexts {
+    let sources = AskedTexts {
         files,
         folders,
+        asks: request.asks,
+        wanted: None,
+        failures: 0,
         refusals: 0,
     };
     Ok(Owned {
         sources,
         options,
         path,
+        pieces: request.pieces,
     })
 }
 
@@ -116,7 +134,7 @@ pub(crate) fn refused_answer(fault: PrepFault) -> Answer
 pub(crate) fn open_stream(alloc: Global, request: &Request<'_>) -> Result<Box<Stream>, Answer>
     ensures { OpensStream (requested request.now) (boxed_answer result) }
 {
-    if let Err(limit) = request.limits.check() {
+    if let Err(limit) = limits_of(&request.limits).check() {
         return Err(Answer::BadLimit(limit));
     }
     let owned = match owned_of(alloc, request) {
@@ -124,13 +142,21 @@ pub(crate) fn open_stream(alloc: Global, request: &Request<'_>) -> Result<Box<St
         Err(Refusal::BadText) => return Err(Answer::BadText),
         Err(Refusal::NoMemory) => return Err(Answer::NoMemory),
     };
+    stream_of(alloc, owned)
+}
+
+// Opens an output over what was made of a request.
+fn stream_of(alloc: Global, owned: Owned) -> Result<Box<Stream>, Answer>
+    ensures { OpensOwned owned (boxed_answer result) }
+{
     let Owned {
         sources,
         options,
         path,
+        pieces,
     } = owned;
-    match open_reading(alloc, &options, sources, path) {
-        Ok(reading) => match Box::new(alloc, Stream { reading }) {
+    match open_reading(alloc, &options, sources, path.as_str()) {
+        Ok(reading) => match Box::new(alloc, Stream::of(reading, path, pieces)) {
             Ok(stream) => Ok(stream),
             Err(_) => Err(Answer::NoMemory),
         },

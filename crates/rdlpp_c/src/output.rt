@@ -6,7 +6,7 @@ ghost use Rattle.rdlpp_c.specs.Answer.{text_sources};
 ghost use Rattle.rdlpp_c.specs.Output.{Counted, IsRead};
 
 use crate::stream::ended_fault;
-use rdlpp::{ReadEnd, Reading, RunFault, Texts};
+use rdlpp::{ReadEnd, ReadPart, Reading, RunFault, Texts};
 
 // How many bytes are read at a time where only their count is asked for.
 const COUNTED_BYTES: usize = 4_096;
@@ -22,13 +22,28 @@ struct End {
 pub(crate) fn read_output(reading: &mut Reading<Texts<'_>>, out: &mut [u8]) -> Result<u64, RunFault>
     ensures { IsRead (reading_left text_sources reading.old) out.old out.new (count_of result) (fault_of result) }
 {
-    let part = reading.read(out);
+    let part = read_front(reading, out);
     let count = part.len as u64;
     match part.ending {
         Some(ending) => told_end(reading, End { count, ending }),
         None => {
             let end = count_rest(reading, count);
             told_end(reading, end)
+        }
+    }
+}
+
+// Reads an output until a buffer is full, or to its end.
+fn read_front(reading: &mut Reading<Texts<'_>>, out: &mut [u8]) -> ReadPart {
+    let mut len = 0;
+    loop {
+        let part = reading.read(&mut out[len..]);
+        len += part.len;
+        if part.ending.is_some() || len == out.len() {
+            return ReadPart {
+                len,
+                ending: part.ending,
+            };
         }
     }
 }

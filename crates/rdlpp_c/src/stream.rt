@@ -6,15 +6,138 @@ ghost use Rattle.rdlpp_expand.specs.Reading.{ended_with};
 ghost use Rattle.rdlpp_c.specs.Buffers.{overwritten};
 ghost use Rattle.rdlpp_c.specs.Streaming.{ReadsStream, fault_name, fault_word, read_numbers};
 
-use crate::telling::{MORE, Outcome, STOPPED, WHOLE, tell_text};
-use rdlpp::{Fault, ReadEnd, ReadPart, Reading};
-use rdlpp_owned::OwnedTexts;
+use crate::telling::{MORE, Outcome, STOPPED, WANTED, WHOLE, numbered, tell_text};
+use arrayvec::ArrayString;
+use rdlpp::{Fault, FaultKind, ReadEnd, ReadPart, Reading};
+use rdlpp_expand::{LineStep, Position};
+use rdlpp_owned::AskedTexts;
+use rdlpp_reports::MappedLines;
 use rdlpp_source::Sources;
 
 /// An output that is read piece by piece, over texts that it owns.
 #[derive(Drop)]
 pub struct Stream {
-    pub(crate) reading: Reading<OwnedTexts>,
+    pub(crate) reading: Reading<AskedTexts>,
+    // the path of the main text
+    path: String,
+    // whether a read ends with its piece
+    pieces: bool,
+    // what the last read gave of its piece
+    pub(crate) part: Part,
+    // the lines that mapped reads gave
+    pub(crate) lines: MappedLines,
+}
+
+// A part of a piece that a read gave.
+#[derive(Clone, Copy)]
+pub(crate) struct Part {
+    // the LF bytes of the piece in front of it
+    lines_before: u64,
+    // its LF bytes
+    lines: u64,
+    // whether it has no bytes
+    is_empty: bool,
+}
+
+impl Stream {
+    // An output of which nothing was read.
+    pub(crate) fn of(reading: Reading<AskedTexts>, path: String, pieces: bool) -> Stream
+        ensures reading { result.reading ≡ reading }
+        ensures path { result.path ≡ path }
+        ensures pieces { result.pieces ≡ pieces }
+    {
+        Stream {
+            reading,
+            path,
+            pieces,
+            part: Part {
+                lines_before: 0,
+                lines: 0,
+                is_empty: true,
+            },
+            lines: MappedLines::new(),
+        }
+    }
+
+    // Searches again for what was asked for.
+    pub(crate) fn take_up(&mut self) {
+        if self.reading.engine().sources().wanted.is_some() {
+            self.reading.retry();
+            let _started = self.reading.start_again(self.path.as_str());
+        }
+    }
+
+    // Reads the next bytes.
+    fn read(&mut self, out: &mut [u8]) -> ReadPart {
+        if self.pieces {
+            self.read_piece(out)
+        } else {
+            self.reading.read(out)
+        }
+    }
+
+    // Reads the next bytes of one piece, and counts their lines.
+    pub(crate) fn read_piece(&mut self, out: &mut [u8]) -> ReadPart {
+        let is_next = self.reading.rest_len() == 0;
+        let part = self.reading.read_piece(out);
+        self.part = Part {
+            lines_before: if is_next {
+                0
+            } else {
+                self.part.lines_before.saturating_add(self.part.lines)
+            },
+            lines: line_ends(&out[..part.len]),
+            is_empty: part.len == 0,
+        };
+        part
+    }
+
+    // The place of what the last read gave, where reads end with their pieces.
+    pub(crate) fn place(&self) -> Option<Position<'_>> {
+        if !self.pieces {
+            return None;
+        }
+        part_place(&self.reading, &self.part)
+    }
+
+    // The path that is asked for, where a read ended with a search that asked.
+    pub(crate) fn wanted(&self, ending: Option<ReadEnd>) -> Option<ArrayString<1024>> {
+        match ended_fault(&self.reading, ending) {
+            Some(fault) if fault.kind == FaultKind::ReadFailed => {
+                self.reading.engine().sources().wanted
+            }
+            Some(_) => None,
+            None => None,
+        }
+    }
+
+    // The fault that ended the output, if one did: none where a source is asked for.
+    pub(crate) fn fault(&self) -> Option<Fault> {
+        match self.wanted(Some(ReadEnd::Stopped)) {
+            Some(_) => None,
+            None => self.reading.fault(),
+        }
+    }
+}
+
+// The place of a part of the piece that was lent last, where it has bytes.
+pub(crate) fn part_place<'a>(
+    reading: &'a Reading<AskedTexts>,
+    part: &Part,
+) -> Option<Position<'a>> {
+    if part.is_empty {
+        return None;
+    }
+    let place = reading.engine().position()?;
+    let passed = match place.step {
+        LineStep::Next => part.lines_before,
+        LineStep::Same => 0,
+    };
+    Some(Position {
+        name: place.name,
+        line: place.line.saturating_add(passed),
+        step: place.step,
+    })
 }
 
 // The fault that a read ended with, if it did.
@@ -68,6 +191,15 @@ fn tell_read(fault: &Option<Fault>, name: &mut [u8], word: &mut [u8])
     }
 }
 
+// Tells a path that is asked for.
+fn tell_wanted(part: &ReadPart, path: &str, name: &mut [u8]) -> Outcome {
+    Outcome {
+        length: part.len as u64,
+        name_length: tell_text(path.as_bytes(), name),
+        ..numbered(WANTED, 0)
+    }
+}
+
 // Reads the next bytes of an output, and tells how that ended.
 pub(crate) fn read_stream(
     stream: &mut Stream,
@@ -77,8 +209,35 @@ pub(crate) fn read_stream(
 ) -> Outcome
     ensures { ReadsStream (record { out = out.old; name = name.old; word = word.old }) (record { out = out.new; name = name.new; word = word.new }) stream.old stream.new result }
 {
-    let part = stream.reading.read(out);
+    stream.take_up();
+    let part = stream.read(out);
+    told_read(stream, &part, name, word)
+}
+
+// Tells what a read gave, and how it ended.
+pub(crate) fn told_read(
+    stream: &Stream,
+    part: &ReadPart,
+    name: &mut [u8],
+    word: &mut [u8],
+) -> Outcome {
+    if let Some(path) = stream.wanted(part.ending) {
+        return tell_wanted(part, path.as_str(), name);
+    }
     let fault = ended_fault(&stream.reading, part.ending);
     tell_read(&fault, name, word);
-    read_outcome(&part, &fault)
+    read_outcome(part, &fault)
+}
+
+// How many LF bytes there are.
+fn line_ends(bytes: &[u8]) -> u64
+    ensures { result ≡ count_by (λ b. b == 10) bytes.now }
+{
+    let mut count = 0;
+    for byte in bytes {
+        if *byte == b'\n' {
+            count += 1;
+        }
+    }
+    count
 }

@@ -1,48 +1,35 @@
 // The calls that a program in C makes to read an output piece by piece.
 ghost use Rattle.std.specs.Prelude.{◌≡◌, None};
-ghost use Rattle.rdlpp_c.specs.Request.{limits_of};
+ghost use Rattle.rdlpp_c.specs.Request.{requested};
 ghost use Rattle.rdlpp_c.specs.Streaming.{Opens, Reads};
 
-use crate::arrays::{Definition, Folder, Limits, Text, limits_of};
-use crate::asking::Request;
+use crate::arrays::Request;
 use crate::handle::{Handle, put, take};
 use crate::opening::open_stream;
 use crate::stream::read_stream;
 use crate::telling::{CLOSED, Outcome, WHOLE, numbered, outcome_of, tell_fault};
 use std::alloc::Global;
 
-/// Opens the main text at `path` of sources in memory, which are copied, for reads by a handle (this
+/// Opens the main text of a request over sources in memory, which are copied, for reads by a handle (this
 /// project's profile).
 ///
 /// What the handle owned before is closed. Where the output isn't opened the handle is closed then, and
 /// the answer is that of `rdlpp_preprocess`: a limit out of its range, bytes that aren't UTF-8, want of
-/// memory, or the fault of a definition. A fault of the opening is answered by the first read.
+/// memory, or the fault of a definition. A fault of the opening is answered by the first read, and so is
+/// a main text that is asked for.
 #[unsafe(no_mangle)]
 pub extern "C" fn rdlpp_open(
     alloc: Global,
-    limits: &Limits,
-    origins: bool,
-    texts: &[Text<'_>],
-    folders: &[Folder<'_>],
-    definitions: &[Definition<'_>],
-    path: &[u8],
+    request: &Request<'_>,
     name: &mut [u8],
     word: &mut [u8],
     handle: &mut Handle,
 ) -> Outcome
-    ensures { Opens (record { limits = limits_of limits.now; origins = origins; texts = texts.now; folders = folders.now; definitions = definitions.now; path = path.now })
+    ensures { Opens (requested request.now)
         (record { name = name.old; word = word.old }) (record { name = name.new; word = word.new }) handle.new.slot.value result }
 {
     let _before = take(alloc, handle);
-    let request = Request {
-        limits: limits_of(limits),
-        origins,
-        texts,
-        folders,
-        definitions,
-        path,
-    };
-    match open_stream(alloc, &request) {
+    match open_stream(alloc, request) {
         Ok(stream) => {
             put(handle, stream);
             numbered(WHOLE, 0)

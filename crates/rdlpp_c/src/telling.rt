@@ -16,10 +16,10 @@ pub(crate) const STOPPED: u32 = 1;
 const BAD_LIMIT: u32 = 2;
 
 // Some bytes that have to be UTF-8 aren't.
-const BAD_TEXT: u32 = 3;
+pub(crate) const BAD_TEXT: u32 = 3;
 
 // Memory was refused.
-const NO_MEMORY: u32 = 4;
+pub(crate) const NO_MEMORY: u32 = 4;
 
 // The buffer is full, and more may follow.
 pub(crate) const MORE: u32 = 5;
@@ -27,13 +27,19 @@ pub(crate) const MORE: u32 = 5;
 // The handle is closed.
 pub(crate) const CLOSED: u32 = 6;
 
+// A source is asked for.
+pub(crate) const WANTED: u32 = 7;
+
+// The buffer for a line map is too short.
+pub(crate) const SHORT_MAP: u32 = 8;
+
 /// How a call ended, in numbers.
 #[repr(C)]
 #[derive(Clone, Copy, Debug, PartialEq, Eq)]
 pub struct Outcome {
     /// 0: the output is whole; 1: a fault ended it; 2: a limit is out of its range; 3: a path, a name
-    /// or a body isn't UTF-8; 4: memory was refused; 5: the buffer is full, and more may follow; 6: the
-    /// handle is closed.
+    /// or a body isn't UTF-8; 4: memory was refused; 5: more may follow; 6: the handle is closed; 7: a
+    /// source is asked for; 8: the buffer for a line map is too short.
     pub status: u32,
     /// Of status 1 the number of the fault, of 2 the place of the limit among the fields, from 1;
     /// else 0.
@@ -41,9 +47,9 @@ pub struct Outcome {
     /// Of status 1 the shown line of the fault, which may be 0; else 0.
     pub line: u64,
     /// Of status 0 and 1 how many bytes the output has, `u64::MAX` where they are more; of a read with
-    /// status 0, 1 and 5 how many bytes it wrote; else 0.
+    /// status 0, 1, 5 and 7 how many bytes it wrote; else 0.
     pub length: u64,
-    /// Of status 1 how many bytes the shown name has; else 0.
+    /// Of status 1 how many bytes the shown name has, and of 7 the path that is asked for; else 0.
     pub name_length: usize,
     /// Of status 1 how many bytes the word has that the fault is about; else 0.
     pub word_length: usize,

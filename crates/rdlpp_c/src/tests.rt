@@ -1,14 +1,27 @@
 // Each call once with ample memory; what crosses to C by a handle is tested from C.
-use crate::arrays::limits_of;
-use crate::asking::Request;
 use crate::faults::{KINDS, kind_text};
 use crate::opening::open_stream;
 use crate::{
-    Definition, Text, rdlpp_fault_text, rdlpp_preprocess, rdlpp_standard_limits, rdlpp_version,
+    Definition, Request, Text, rdlpp_fault_text, rdlpp_preprocess, rdlpp_standard_limits,
+    rdlpp_version,
 };
 use arrayvec::ArrayString;
 use rdlpp::{FaultKind, ReadEnd, ReadPart};
 use std::fmt::Write as _;
+
+// A request that asks for nothing, with the standard limits.
+fn standard_request() -> Request<'static> {
+    Request {
+        limits: rdlpp_standard_limits(),
+        origins: false,
+        asks: false,
+        pieces: false,
+        texts: &[],
+        folders: &[],
+        definitions: &[],
+        path: b"",
+    }
+}
 
 #[test]
 fn preprocesses_sources_in_memory(rt: HostRuntime) {
@@ -23,12 +36,12 @@ fn preprocesses_sources_in_memory(rt: HostRuntime) {
     let (mut out, mut name, mut word) = ([b'#'; 3], [b'#'; 3], [b'#'; 3]);
     let outcome = rdlpp_preprocess(
         rt.alloc(),
-        &rdlpp_standard_limits(),
-        false,
-        &texts,
-        &[],
-        &definitions,
-        b"m",
+        &Request {
+            texts: &texts,
+            definitions: &definitions,
+            path: b"m",
+            ..standard_request()
+        },
         &mut out,
         &mut name,
         &mut word,
@@ -86,12 +99,10 @@ fn reads_an_output_in_pieces_over_texts_of_its_own(rt: HostRuntime) {
         text: b"88",
     }];
     let request = Request {
-        limits: limits_of(&rdlpp_standard_limits()),
-        origins: false,
         texts: &texts,
-        folders: &[],
         definitions: &definitions,
         path: b"m",
+        ..standard_request()
     };
     let Ok(mut stream) = open_stream(rt.alloc(), &request) else {
         panic!(rt; "not opened");

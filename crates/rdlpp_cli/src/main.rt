@@ -3,24 +3,25 @@
 
 ghost use Rattle.rdlpp_cli.specs.Statuses.{UsageStatus};
 
+mod files;
+mod mapping;
 mod output;
+mod reports;
+mod telling;
 mod words;
 
 use output::{Output, open_output};
-use rdlpp::{
-    Buffered, Folders, Invocation, PrepFault, UsageFault, exit_status, preprocess, report,
-};
+use rdlpp::{Buffered, Folders, Invocation, PrepFault, UsageFault, exit_status, preprocess};
+use reports::run_reported;
 use std::alloc::AllocError;
-use std::io::{BufWriter, Write};
+use std::io::Write;
 use std::process::ExitCode;
+use telling::{tell_fault, tell_unopened};
 use words::read_invocation;
 
 // The bytes of the buffer in front of the output, past which longer pieces go: half a line of the standard limit, so that a
 // buffer of whole lines is written as it lies.
 const OUTPUT_BYTES: usize = 32_768;
-
-// The bytes of the buffer in front of the line that reports a fault, which is never longer.
-const LINE_BYTES: usize = 2_048;
 
 // The exit status of words that aren't a command line.
 const USAGE_STATUS: u8 = 2;
@@ -37,10 +38,16 @@ fn main(rt: HostRuntime) -> ExitCode {
 
 // Does what a command line asks for, and answers the exit status.
 fn run_invocation(rt: &HostRuntime, invocation: &Invocation) -> u8 {
-    let Ok(output) = open_output(rt, invocation.output.as_ref()) else {
-        let _told = rt.stderr().write_all(b"rdlpp: error: cannot open output\n");
-        return DEVICE_STATUS;
+    let mut output = match open_output(rt, invocation.output.as_ref()) {
+        Ok(output) => output,
+        Err(error) => {
+            tell_unopened(rt, invocation, &error);
+            return DEVICE_STATUS;
+        }
     };
+    if invocation.reports.is_any() {
+        return run_reported(rt, invocation, &mut output);
+    }
     let outcome = preprocess_to(rt, invocation, output);
     if let Err(fault) = &outcome {
         tell_fault(rt, fault);
@@ -74,24 +81,20 @@ fn folders_of<'r>(
     rt: &'r HostRuntime,
     invocation: &Invocation,
 ) -> Result<Folders<'r, HostRuntime>, AllocError> {
+    let folders = folders_in(rt, invocation)?;
+    Folders::new(rt, rt.alloc(), folders.as_slice()).map_err(|_| AllocError)
+}
+
+// The include folders of a command line.
+fn folders_in<'i>(
+    rt: &HostRuntime,
+    invocation: &'i Invocation,
+) -> Result<Vec<&'i str>, AllocError> {
     let mut folders = Vec::new(rt.alloc());
     for folder in &invocation.folders {
         folders.push(folder.as_str())?;
     }
-    Folders::new(rt, rt.alloc(), folders.as_slice()).map_err(|_| AllocError)
-}
-
-// Tells a fault on standard error, by one write where there is memory for its line.
-fn tell_fault(rt: &HostRuntime, fault: &PrepFault) {
-    match BufWriter::with_capacity(rt.alloc(), LINE_BYTES, rt.stderr()) {
-        Ok(mut line) => {
-            let _told = report(fault, &mut line);
-            let _flushed = line.flush();
-        }
-        Err(_) => {
-            let _told = report(fault, &mut rt.stderr());
-        }
-    }
+    Ok(folders)
 }
 
 // Tells why there is no run, and answers the exit status.

@@ -3,28 +3,48 @@ use std::fs::File;
 use std::io::{self, Write};
 use std::rt::{Files, Stdout};
 
-/// Standard output, or a file.
+/// Standard output, or a file, and why it failed last.
 #[derive(Drop)]
-pub enum Output {
-    /// Standard output.
+pub struct Output {
+    to: Target,
+    failure: Option<io::Error>,
+}
+
+// Standard output, or a file.
+#[derive(Drop)]
+enum Target {
     Standard(Stdout),
-    /// A file.
     File(File),
+}
+
+impl Output {
+    /// The error of the last write or flush that failed.
+    pub fn failure(&self) -> Option<io::Error> {
+        self.failure
+    }
 }
 
 impl Write for Output {
     fn write(&mut self, part: &[u8]) -> io::Result<usize> {
-        match self {
-            Output::Standard(stdout) => stdout.write(part),
-            Output::File(file) => file.write(part),
+        let written = match &mut self.to {
+            Target::Standard(stdout) => stdout.write(part),
+            Target::File(file) => file.write(part),
+        };
+        if let Err(error) = &written {
+            self.failure = Some(*error);
         }
+        written
     }
 
     fn flush(&mut self) -> io::Result<()> {
-        match self {
-            Output::Standard(stdout) => stdout.flush(),
-            Output::File(file) => file.flush(),
+        let flushed = match &mut self.to {
+            Target::Standard(stdout) => stdout.flush(),
+            Target::File(file) => file.flush(),
+        };
+        if let Err(error) = &flushed {
+            self.failure = Some(*error);
         }
+        flushed
     }
 }
 
@@ -33,8 +53,9 @@ impl Write for Output {
 /// # Errors
 /// The error of the open.
 pub fn open_output(rt: &HostRuntime, path: Option<&String>) -> io::Result<Output> {
-    match path {
-        Some(path) => Ok(Output::File(File::create(rt, path.as_str())?)),
-        None => Ok(Output::Standard(rt.stdout())),
-    }
+    let to = match path {
+        Some(path) => Target::File(File::create(rt, path.as_str())?),
+        None => Target::Standard(rt.stdout()),
+    };
+    Ok(Output { to, failure: None })
 }

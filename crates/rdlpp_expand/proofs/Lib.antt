@@ -2,3 +2,4 @@ pub mod RunFacts
 pub mod Readings
 pub mod TextFacts
 pub mod UsageNames
+pub mod Retries

@@ -51,7 +51,9 @@ use rdlpp_meaning::{Fault, FaultKind};
 use rdlpp_read::{Files, Fill, LogicalLine};
 use rdlpp_scan::{Mode, line_ends_in, reserved};
 use rdlpp_source::Sources;
-use rdlpp_steps::{Held, Marks, Owed, Phase, Piece, Place, copied, copied_fault, fault_kind, word_of};
+use rdlpp_steps::{
+    Held, Marks, Owed, Phase, Piece, Place, copied, copied_fault, fault_kind, word_of,
+};
 use rdlpp_table::{Limits, Table};
 use rdlpp_usages::Expansion;
 use std::alloc::Global;
@@ -283,9 +285,7 @@ impl<S: Sources> Engine<S> {
         ensures walks { IsBounded self.new → Walks S.Sources self.old self.new (step_answer self.new result) }
     {
         self.facts();
-        self.mark_owed();
-        let name_len = self.files.file().name.len();
-        match self.owed.take(name_len) {
+        match self.take_owed() {
             Some(piece) => Some(Place::Owed(piece)),
             None => self.step_sources(),
         }
@@ -358,9 +358,10 @@ impl<S: Sources> Engine<S> {
         ensures walks { IsBounded self.new → Walks S.Sources self.old self.new (lent_answer self.new result) }
     {
         let lines = line_ends_in(&self.files.file().buffer.held()[..len]);
-        self.mark_source();
+        let line = self.files.file().buffer.line();
         self.enter_mode(next);
         let start = self.consume(len, lines);
+        self.marks.lend_line(line);
         Place::Source(start, start + len)
     }
 

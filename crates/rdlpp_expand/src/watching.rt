@@ -2,15 +2,20 @@
 ghost use Rattle.std.specs.Prelude.{ℕ, List, Option, None};
 ghost use Rattle.std.specs.Io.KnownBytes.{Appends};
 
-/// Is shown the output that a run writes, piece by piece.
+use rdlpp_steps::Position;
+
+/// Is shown the output that a run writes, piece by piece, each with the place of its first byte.
 ///
 /// A watcher says in contracts which bytes it was shown, where it knows them. The rules are this project's.
 pub trait Watcher {
     // the bytes that were shown, where they are known
     ghost seen: { Self → Option (List ℕ) } = { λ _. None };
 
+    /// Whether it looks at what it is shown: one that doesn't isn't shown anything.
+    fn is_looking(&self) -> bool;
+
     /// Is shown bytes that the writer took of a piece: all of it, unless a write failed.
-    fn saw(&mut self, piece: &[u8])
+    fn saw(&mut self, piece: &[u8], position: Position<'_>)
         ensures { Appends (seen self.old) (seen self.new) piece.now };
 }
 
@@ -20,5 +25,10 @@ pub(crate) struct Unwatched {}
 
 impl Watcher for Unwatched {
     #[inline(always)]
-    fn saw(&mut self, _piece: &[u8]) {}
+    fn is_looking(&self) -> bool {
+        false
+    }
+
+    #[inline(always)]
+    fn saw(&mut self, _piece: &[u8], _position: Position<'_>) {}
 }

@@ -202,6 +202,16 @@ fn ending_of(written: &PartWritten) -> Option<Ending>
     }
 }
 
+// Shows a watcher what the writer took of a piece.
+#[inline(always)]
+fn show<S: Sources, V: Watcher>(engine: &Engine<S>, watcher: &mut V, part: &[u8]) {
+    if watcher.is_looking()
+        && let Some(position) = engine.position()
+    {
+        watcher.saw(part, position);
+    }
+}
+
 // Writes the next piece of the output, where the next step is none over open texts.
 #[inline(never)]
 fn pull<S: Sources, W: Sink, V: Watcher>(
@@ -222,7 +232,7 @@ fn pull<S: Sources, W: Sink, V: Watcher>(
     match engine.answer(place) {
         Ok(Piece::Bytes(part)) => {
             let written = write_part(writer, part);
-            watcher.saw(&part[..written.len]);
+            show(engine, watcher, &part[..written.len]);
             Pulled {
                 len: written.len,
                 ending: ending_of(&written),
@@ -253,7 +263,7 @@ fn pull_text<S: Sources, W: Sink, V: Watcher>(
         TextStep::Lent(place) => {
             let part = engine.text(place);
             let written = write_part(writer, part);
-            watcher.saw(&part[..written.len]);
+            show(engine, watcher, &part[..written.len]);
             TextPulled {
                 len: written.len,
                 ending: ending_of(&written),

@@ -1,5 +1,5 @@
 // Sources in memory that own their texts, and that may ask for what they don't have.
-ghost use Rattle.std.specs.Prelude.{◌≡◌, ◌≤◌, map, min, drop, length, true, OnOk, OnErr};
+ghost use Rattle.std.specs.Prelude.{◌≡◌, ◌≤◌, [], None, false, map, min, drop, length, true, OnOk, OnErr};
 ghost use Rattle.std.specs.Option.{option_map};
 ghost use Rattle.std.specs.Io.{ReadsAtMost};
 ghost use Rattle.std.specs.String.{string_bytes};
@@ -118,6 +118,24 @@ enum Stop {
 }
 
 impl AskedTexts {
+    /// Sources of which nothing is known, and which don't ask.
+    pub fn empty(alloc: Global) -> AskedTexts
+        ensures files { result.files.items ≡ [] }
+        ensures folders { result.folders.items ≡ [] }
+        ensures asks { result.asks ≡ false }
+        ensures wanted { result.wanted ≡ None }
+        ensures counts { (result.failures ≡ 0) × (result.refusals ≡ 0) }
+    {
+        AskedTexts {
+            files: Vec::new(alloc),
+            folders: Vec::new(alloc),
+            asks: false,
+            wanted: None,
+            failures: 0,
+            refusals: 0,
+        }
+    }
+
     /// Tells what stands at a path. The first that is told of a path counts, and where these sources
     /// don't ask all is told from the start: else nothing changes.
     ///

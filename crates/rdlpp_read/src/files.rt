@@ -1,5 +1,5 @@
 // The open sources of a run, each with its buffer.
-ghost use Rattle.std.specs.Prelude.{◌≡◌, ℕ, ◌+◌, ◌-◌, ◌*◌, ◌^◌, ◌==◌, ◌≤◌, ◌<◌, ◌∷◌, [], length, drop, take, IfOk, false};
+ghost use Rattle.std.specs.Prelude.{◌≡◌, ℕ, ◌+◌, ◌-◌, ◌*◌, ◌^◌, ◌==◌, ◌≤◌, ◌<◌, ◌∷◌, [], length, drop, take, slice_get, IfOk, Some, false};
 ghost use Rattle.rdlpp_meaning.specs.State.{shown_line};
 ghost use Rattle.rdlpp_read.specs.Calls.{SourcesRead};
 ghost use Rattle.rdlpp_read.specs.Buffer.{EndsHeld, entered_mode, held_of};
@@ -182,6 +182,14 @@ impl<R: Drop> Files<R> {
         ensures ends { EndsHeld result.now.buffer }
     {
         &self.slots[self.first]
+    }
+
+    /// The open source at a place, counted from the innermost one.
+    pub fn at(&self, place: usize) -> &File<R>
+        requires { place < length self.now.nest }
+        ensures { slice_get self.now.nest place ≡ Some result.now }
+    {
+        &self.slots[self.first + place]
     }
 
     /// Opens one more source, of at most `source_bytes` bytes, which are at most 2,147,483,645, inside of

@@ -5,7 +5,7 @@ use rdlpp_arguments::ArgumentStore;
 use rdlpp_conditions::Conditions;
 use rdlpp_cursors::Cursors;
 use rdlpp_expand::Engine;
-use rdlpp_owned::{OwnedText, OwnedTexts};
+use rdlpp_owned::{AskedText, AskedTexts, Standing};
 use rdlpp_read::{Files, SourceBuffer};
 use rdlpp_source::{Buffered, SourceFault, TextReader};
 use rdlpp_table::Table;
@@ -45,24 +45,43 @@ fn makes_each_engine_and_sink(rt: HostRuntime) {
     assert!(rt; sink.is_ok());
 }
 
+// Sources that own one text, under an include folder.
+fn owned_texts<R: AllocGlobal>(rt: &R, asks: bool) -> Result<AskedTexts, Fail> {
+    let mut texts = AskedTexts::empty(rt.alloc());
+    texts.files.push(AskedText {
+        path: String::from_str(rt.alloc(), "x/i")?,
+        standing: Standing::Text(Rc::new(rt.alloc(), Vec::from_slice(rt.alloc(), b"q")?)?),
+    })?;
+    texts.folders.push(String::from_str(rt.alloc(), "x")?)?;
+    texts.asks = asks;
+    Ok(texts)
+}
+
 // A text that is owned has room for a reader, and a path that no text has is absent.
 #[test]
 fn opens_texts_that_are_owned(rt: HostRuntime) -> Result<(), Fail> {
-    let mut files = Vec::new(rt.alloc());
-    files.push(OwnedText {
-        path: String::from_str(rt.alloc(), "x/i")?,
-        text: Rc::new(rt.alloc(), Vec::from_slice(rt.alloc(), b"q")?)?,
-    })?;
-    let mut folders = Vec::new(rt.alloc());
-    folders.push(String::from_str(rt.alloc(), "x")?)?;
-    let mut texts = OwnedTexts {
-        files,
-        folders,
-        refusals: 0,
-    };
+    let mut texts = owned_texts(&rt, false)?;
     assert!(rt; texts.find("m", "i")?.path.as_str() == "x/i");
     assert!(rt; texts.find("m", "j").err() == Some(SourceFault::Absent));
     assert!(rt; texts.top("i").err() == Some(SourceFault::Absent));
-    assert_eq!(rt; texts.refusals, 0);
+    assert!(rt; texts.wanted.is_none());
+    assert_eq!(rt; (texts.failures, texts.refusals), (0, 0));
+    Ok(())
+}
+
+// A path of which nothing is known is asked for, and what is told of it counts.
+#[test]
+fn asks_for_texts(rt: HostRuntime) -> Result<(), Fail> {
+    let mut texts = owned_texts(&rt, true)?;
+    assert!(rt; texts.find("d/m", "i").err() == Some(SourceFault::Device));
+    assert!(rt; matches!(&texts.wanted, Some(path) if path.as_str() == "d/i"));
+    texts.tell(String::from_str(rt.alloc(), "d/i")?, Standing::Absent)?;
+    texts.tell(String::from_str(rt.alloc(), "d/i")?, Standing::Failed)?;
+    assert!(rt; texts.find("d/m", "i")?.path.as_str() == "x/i");
+    assert!(rt; texts.wanted.is_none());
+    texts.tell(String::from_str(rt.alloc(), "m")?, Standing::Failed)?;
+    assert!(rt; texts.top("m").err() == Some(SourceFault::Device));
+    assert!(rt; texts.wanted.is_none());
+    assert_eq!(rt; (texts.failures, texts.refusals, texts.files.len()), (2, 0, 3));
     Ok(())
 }

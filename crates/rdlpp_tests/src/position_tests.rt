@@ -57,7 +57,7 @@ fn check<R: Abort + AllocGlobal>(
 }
 
 #[test]
-fn includes(rt: HostRuntime) -> Result<(), Fail> {
+fn an_include(rt: HostRuntime) -> Result<(), Fail> {
     let files: [(&str, &[u8]); 2] = [
         ("m", b"a\nb `include \"i\"\nc\n"),
         ("i", b"`define X \\\n1\ny"),
@@ -78,7 +78,7 @@ fn includes(rt: HostRuntime) -> Result<(), Fail> {
 }
 
 #[test]
-fn lines(rt: HostRuntime) -> Result<(), Fail> {
+fn a_line(rt: HostRuntime) -> Result<(), Fail> {
     let files: [(&str, &[u8]); 1] = [("m", b"a\n`line 70 \"n\" 0\nb\n`ifdef Q\nz\n`endif\nc")];
     check(
         &rt,
@@ -96,23 +96,89 @@ fn lines(rt: HostRuntime) -> Result<(), Fail> {
 }
 
 #[test]
-fn usages(rt: HostRuntime) -> Result<(), Fail> {
-    let files: [(&str, &[u8]); 1] = [("m", b"`define A(x) <\\\nx>\n\n`A(1,\n2)\n`A(\n3\n) c\n")];
-    check(&rt, STANDARD, &files, false, &[])
+fn usages_over_lines(rt: HostRuntime) -> Result<(), Fail> {
+    let files: [(&str, &[u8]); 1] = [(
+        "m",
+        b"`define A(x, y) <x\\\ny>\n`A(1,\n2)`A(\n3, 4) c\n",
+    )];
+    check(
+        &rt,
+        STANDARD,
+        &files,
+        false,
+        &[
+            (b"\n\n", "m", 1, LineStep::Next),
+            (b"<", "m", 3, LineStep::Same),
+            (b"1", "m", 3, LineStep::Same),
+            (b"\n", "m", 3, LineStep::Same),
+            (b"2", "m", 3, LineStep::Same),
+            (b">", "m", 3, LineStep::Same),
+            (b"<", "m", 4, LineStep::Same),
+            (b"3", "m", 4, LineStep::Same),
+            (b"\n", "m", 4, LineStep::Same),
+            (b"4", "m", 4, LineStep::Same),
+            (b">", "m", 4, LineStep::Same),
+            (b" c\n", "m", 5, LineStep::Next),
+        ],
+    )
 }
 
 #[test]
 fn origin_lines(rt: HostRuntime) -> Result<(), Fail> {
-    let files: [(&str, &[u8]); 2] = [("m", b"\n`include \"i\"\n`line 9 \"n\" 1\n"), ("i", b"")];
-    check(&rt, STANDARD, &files, true, &[])
+    let files: [(&str, &[u8]); 2] = [
+        ("m", b"\n`include \"i\"\n`line 9 \"n\" 1\nx"),
+        ("i", b""),
+    ];
+    check(
+        &rt,
+        STANDARD,
+        &files,
+        true,
+        &[
+            (b"// origin: ", "m", 1, LineStep::Same),
+            (b"m", "m", 1, LineStep::Same),
+            (b":", "m", 1, LineStep::Same),
+            (b"1", "m", 1, LineStep::Same),
+            (b"\n", "m", 1, LineStep::Same),
+            (b"\n", "m", 1, LineStep::Next),
+            (b"// origin: ", "i", 1, LineStep::Same),
+            (b"i", "i", 1, LineStep::Same),
+            (b":", "i", 1, LineStep::Same),
+            (b"1", "i", 1, LineStep::Same),
+            (b"\n", "i", 1, LineStep::Same),
+            (b"// origin: ", "m", 2, LineStep::Same),
+            (b"m", "m", 2, LineStep::Same),
+            (b":", "m", 2, LineStep::Same),
+            (b"2", "m", 2, LineStep::Same),
+            (b"\n", "m", 2, LineStep::Same),
+            (b"\n", "m", 2, LineStep::Next),
+            (b"\n", "m", 3, LineStep::Next),
+            (b"// origin: ", "n", 9, LineStep::Same),
+            (b"n", "n", 9, LineStep::Same),
+            (b":", "n", 9, LineStep::Same),
+            (b"9", "n", 9, LineStep::Same),
+            (b"\n", "n", 9, LineStep::Same),
+            (b"x", "n", 9, LineStep::Next),
+        ],
+    )
 }
 
 #[test]
-fn limits(rt: HostRuntime) -> Result<(), Fail> {
+fn the_limit_on_the_output(rt: HostRuntime) -> Result<(), Fail> {
     let files: [(&str, &[u8]); 1] = [("m", b"`define A abc\n`A`A\n")];
     let limits = Limits {
         output_bytes: 5,
         ..STANDARD
     };
-    check(&rt, limits, &files, false, &[])
+    check(
+        &rt,
+        limits,
+        &files,
+        false,
+        &[
+            (b"\n", "m", 1, LineStep::Next),
+            (b"abc", "m", 2, LineStep::Same),
+            (b"a", "m", 2, LineStep::Same),
+        ],
+    )
 }

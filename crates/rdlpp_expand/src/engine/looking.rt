@@ -6,6 +6,7 @@ ghost use Rattle.rdlpp_read.specs.Files.{inner_buffer};
 use super::Engine;
 use rdlpp_source::Sources;
 use rdlpp_table::{Limits, Table};
+use std::mem;
 
 /// What an open source shows.
 #[derive(Clone, Copy, Debug)]
@@ -29,7 +30,7 @@ impl<S: Sources> Engine<S> {
         ensures old { result ≡ self.old.sources }
         ensures new { self.new ≡ record self.old { sources = sources } }
     {
-        core::mem::replace(&mut self.sources, sources)
+        mem::replace(&mut self.sources, sources)
     }
 
     /// The table of the live definitions.
@@ -81,5 +82,27 @@ impl<S: Sources> Engine<S> {
             return &[];
         }
         self.files.file().buffer.held()
+    }
+
+    /// The path of the innermost open source; empty where none is open.
+    pub fn inner_path(&self) -> &str {
+        if self.files.len() == 0 {
+            return "";
+        }
+        self.files.file().path.as_str()
+    }
+
+    /// What the open source shows at a place that includes others, counted from the innermost source, which has the place 0: its
+    /// name, and the line of its `include`.
+    pub fn including(&self, place: usize) -> Option<OpenSource<'_>> {
+        if place == 0 || place >= self.files.len() {
+            return None;
+        }
+        let line = self.files.at(place - 1).include_line;
+        let file = self.files.at(place);
+        Some(OpenSource {
+            name: file.name.as_str(),
+            line: file.shift.shown_line(line),
+        })
     }
 }

@@ -112,7 +112,8 @@ impl<S: Sources> Engine<S> {
         self.expansion.facts();
         match step {
             CursorStep::Lends(place) => {
-                self.mark_usage();
+                let line = self.expansion.line();
+                self.marks.lend_usage(line);
                 TextStep::Lent(place)
             }
             CursorStep::Silent => TextStep::Silent,

@@ -1,0 +1,286 @@
+/* Outputs whose sources are asked for: what a give answers, what it changes, and how searches go on. */
+#define _POSIX_C_SOURCE 199309L
+#include "rdlpp.h"
+
+#include <stdio.h>
+#include <stdlib.h>
+#include <string.h>
+#include <time.h>
+
+#define ROOM 4096
+
+static int failures = 0;
+
+static void check(int holds, const char *what)
+{
+    if (!holds) {
+        fprintf(stderr, "pulls.c: not so: %s\n", what);
+        failures += 1;
+    }
+}
+
+static char name[1024], word[128], out[ROOM];
+
+static rdlpp_request asking(void)
+{
+    static const rdlpp_folder folders[] = {{"inc", 3}, {"more", 4}};
+    rdlpp_request request = rdlpp_standard_request();
+    request.asks = true;
+    request.folders = folders;
+    request.folders_length = 2;
+    request.path = "m";
+    request.path_length = 1;
+    return request;
+}
+
+static void open_asking(rdlpp_handle *handle)
+{
+    const rdlpp_request request = asking();
+    check(rdlpp_open(&request, name, sizeof name, word, sizeof word, handle).status == RDLPP_WHOLE, "it opens");
+}
+
+static rdlpp_outcome read_some(rdlpp_handle *handle)
+{
+    memset(name, '#', sizeof name);
+    return rdlpp_read(handle, out, ROOM, name, sizeof name, word, sizeof word);
+}
+
+/* Whether a read asks for a path, behind so many bytes. */
+static int wants(const rdlpp_outcome *outcome, const char *path, size_t length)
+{
+    return outcome->status == RDLPP_WANTED && outcome->number == 0 && outcome->line == 0 && outcome->word_length == 0
+        && outcome->length == length && outcome->name_length == strlen(path)
+        && memcmp(name, path, strlen(path)) == 0 && name[strlen(path)] == '#';
+}
+
+static int gave(const rdlpp_outcome *outcome, const char *text)
+{
+    return outcome->length == strlen(text) && memcmp(out, text, strlen(text)) == 0;
+}
+
+static uint32_t give(rdlpp_handle *handle, const char *path, const char *text)
+{
+    return rdlpp_give(handle, path, strlen(path), text, strlen(text));
+}
+
+static uint32_t give_absent(rdlpp_handle *handle, const char *path)
+{
+    return rdlpp_give_absent(handle, path, strlen(path));
+}
+
+static uint32_t give_failed(rdlpp_handle *handle, const char *path)
+{
+    return rdlpp_give_failed(handle, path, strlen(path));
+}
+
+static void asks_for_each_candidate(void)
+{
+    rdlpp_handle handle = RDLPP_CLOSED_HANDLE;
+    rdlpp_outcome outcome;
+    open_asking(&handle);
+    outcome = read_some(&handle);
+    check(wants(&outcome, "m", 0), "the main text is asked for");
+    outcome = read_some(&handle);
+    check(wants(&outcome, "m", 0), "and again where nothing was given");
+    check(give(&handle, "m", "a\n`include \"i\"\nb\n") == RDLPP_WHOLE, "it is taken");
+    outcome = read_some(&handle);
+    check(wants(&outcome, "i", 2) && gave(&outcome, "a\n"), "the included source, behind the output before it");
+    outcome = read_some(&handle);
+    check(wants(&outcome, "i", 0), "and again, with no bytes");
+    check(give_absent(&handle, "i") == RDLPP_WHOLE, "it is absent");
+    outcome = read_some(&handle);
+    check(wants(&outcome, "inc/i", 0), "the next candidate");
+    check(give_absent(&handle, "inc/i") == RDLPP_WHOLE, "it is absent too");
+    outcome = read_some(&handle);
+    check(wants(&outcome, "more/i", 0), "the last candidate");
+    check(give(&handle, "more/i", "q`include \"j\"\n") == RDLPP_WHOLE, "it is there");
+    outcome = read_some(&handle);
+    check(wants(&outcome, "more/j", 1) && gave(&outcome, "q"), "a source beside the including one");
+    check(give(&handle, "more/j", "") == RDLPP_WHOLE, "an empty source");
+    outcome = read_some(&handle);
+    check(outcome.status == RDLPP_WHOLE && gave(&outcome, "\n\nb\n"), "the rest");
+    outcome = read_some(&handle);
+    check(outcome.status == RDLPP_WHOLE && outcome.length == 0, "the end is told again");
+    rdlpp_close(&handle);
+}
+
+static void tells_what_is_missing(void)
+{
+    rdlpp_handle handle = RDLPP_CLOSED_HANDLE;
+    rdlpp_outcome outcome;
+    open_asking(&handle);
+    outcome = read_some(&handle);
+    check(give_absent(&handle, "m") == RDLPP_WHOLE, "no main text");
+    outcome = read_some(&handle);
+    check(outcome.status == RDLPP_STOPPED && outcome.number == RDLPP_FAULT_SOURCE_NOT_FOUND && outcome.line == 0, "its fault");
+    check(give(&handle, "m", "late") == RDLPP_WHOLE, "a text for an absent path");
+    outcome = read_some(&handle);
+    check(outcome.status == RDLPP_STOPPED && outcome.number == RDLPP_FAULT_SOURCE_NOT_FOUND, "it comes too late");
+    rdlpp_close(&handle);
+
+    open_asking(&handle);
+    check(give(&handle, "m", "\n`include \"i\"\n") == RDLPP_WHOLE, "a main text before it is asked for");
+    outcome = read_some(&handle);
+    check(wants(&outcome, "i", 1), "it was kept for later");
+    check(give_failed(&handle, "i") == RDLPP_WHOLE, "it can't be opened");
+    check(give(&handle, "i", "late") == RDLPP_WHOLE, "a text for a path that failed");
+    outcome = read_some(&handle);
+    check(outcome.status == RDLPP_STOPPED && outcome.number == RDLPP_FAULT_READ_FAILED && outcome.line == 2, "its fault");
+    check(outcome.name_length == 1 && name[0] == 'm', "at its include");
+    outcome = read_some(&handle);
+    check(outcome.status == RDLPP_STOPPED && outcome.number == RDLPP_FAULT_READ_FAILED && outcome.length == 0, "told again");
+    rdlpp_close(&handle);
+
+    open_asking(&handle);
+    outcome = read_some(&handle);
+    check(give_failed(&handle, "m") == RDLPP_WHOLE, "a main text that can't be opened");
+    outcome = read_some(&handle);
+    check(outcome.status == RDLPP_STOPPED && outcome.number == RDLPP_FAULT_READ_FAILED && outcome.line == 0, "its fault");
+    rdlpp_close(&handle);
+}
+
+static void takes_the_first_of_a_path(void)
+{
+    rdlpp_handle handle = RDLPP_CLOSED_HANDLE;
+    rdlpp_outcome outcome;
+    open_asking(&handle);
+    outcome = read_some(&handle);
+    check(give(&handle, "m", "`include \"i\"\n`include \"i\"\n") == RDLPP_WHOLE, "the main text");
+    check(give(&handle, "m", "other") == RDLPP_WHOLE, "the same path twice");
+    check(give_absent(&handle, "m") == RDLPP_WHOLE, "and once more");
+    check(give(&handle, "never", "x") == RDLPP_WHOLE, "a path that isn't asked for");
+    outcome = read_some(&handle);
+    check(wants(&outcome, "i", 0), "the first text counts");
+    check(give(&handle, "i", "one") == RDLPP_WHOLE, "the included source");
+    outcome = read_some(&handle);
+    check(outcome.status == RDLPP_WHOLE && gave(&outcome, "one\none\n"), "it is asked for once");
+    rdlpp_close(&handle);
+}
+
+static void refuses_what_is_given(void)
+{
+    rdlpp_handle handle = RDLPP_CLOSED_HANDLE;
+    rdlpp_outcome outcome;
+    open_asking(&handle);
+    check(give(&handle, "\xff", "x") == RDLPP_BAD_TEXT, "a path that isn't UTF-8");
+    check(give_absent(&handle, "\xc3") == RDLPP_BAD_TEXT && give_failed(&handle, "\xc3") == RDLPP_BAD_TEXT, "nor here");
+    check(give(&handle, "m", "\xff") == RDLPP_WHOLE, "a text that isn't UTF-8");
+    outcome = read_some(&handle);
+    check(outcome.status == RDLPP_WHOLE && gave(&outcome, "\xff"), "is the output");
+    rdlpp_close(&handle);
+    check(give(&handle, "m", "x") == RDLPP_CLOSED, "a closed handle");
+    check(give_absent(&handle, "m") == RDLPP_CLOSED && give_failed(&handle, "m") == RDLPP_CLOSED, "here too");
+}
+
+/* A handle that doesn't ask: all is told from the start. */
+static void changes_nothing_that_is_told(void)
+{
+    static const rdlpp_text texts[] = {{"m", 1, "`include \"i\"\n", 13}};
+    rdlpp_handle handle = RDLPP_CLOSED_HANDLE;
+    rdlpp_request request = asking();
+    rdlpp_outcome outcome;
+    request.asks = false;
+    request.texts = texts;
+    request.texts_length = 1;
+    check(rdlpp_open(&request, name, sizeof name, word, sizeof word, &handle).status == RDLPP_WHOLE, "it opens");
+    check(give(&handle, "i", "x") == RDLPP_WHOLE, "a give to a handle that doesn't ask");
+    outcome = read_some(&handle);
+    check(outcome.status == RDLPP_STOPPED && outcome.number == RDLPP_FAULT_SOURCE_NOT_FOUND, "changes nothing");
+    rdlpp_close(&handle);
+
+    request.asks = true;
+    check(rdlpp_open(&request, name, sizeof name, word, sizeof word, &handle).status == RDLPP_WHOLE, "it opens");
+    check(give(&handle, "m", "other") == RDLPP_WHOLE, "a path of a text that was lent");
+    outcome = read_some(&handle);
+    check(wants(&outcome, "i", 0), "keeps that text");
+    rdlpp_close(&handle);
+}
+
+/* A buffer of length 0 is full at once, also where a source is asked for. */
+static void asks_with_short_buffers(void)
+{
+    rdlpp_handle handle = RDLPP_CLOSED_HANDLE;
+    rdlpp_outcome outcome;
+    open_asking(&handle);
+    outcome = rdlpp_read(&handle, out, 0, name, 0, word, 0);
+    check(outcome.status == RDLPP_MORE && outcome.length == 0, "no room");
+    outcome = rdlpp_read(&handle, out, 1, name, 0, word, 0);
+    check(outcome.status == RDLPP_WANTED && outcome.name_length == 1, "no room for the path");
+    outcome = rdlpp_read(&handle, out, 0, name, 0, word, 0);
+    check(outcome.status == RDLPP_MORE, "no room again");
+    check(give(&handle, "m", "ab") == RDLPP_WHOLE, "the text");
+    outcome = rdlpp_read(&handle, out, 1, name, 0, word, 0);
+    check(outcome.status == RDLPP_MORE && out[0] == 'a', "its first byte");
+    rdlpp_close(&handle);
+}
+
+/* A main text of so many includes, each of a source of its own. */
+static void asks_ten_thousand_times(void)
+{
+    const int count = 10000;
+    const size_t line = 22;
+    char *source = malloc((size_t)count * line + 1);
+    rdlpp_handle handle = RDLPP_CLOSED_HANDLE;
+    rdlpp_outcome outcome;
+    int at, given = 0;
+    size_t length = 0;
+    open_asking(&handle);
+    outcome = read_some(&handle);
+    for (at = 0; at < count; at += 1) {
+        sprintf(source + (size_t)at * line, "`include \"/file/%04d\"\n", at);
+    }
+    check(rdlpp_give(&handle, "m", 1, source, (size_t)count * line) == RDLPP_WHOLE, "the main text");
+    do {
+        outcome = read_some(&handle);
+        length += outcome.length;
+        if (outcome.status == RDLPP_WANTED) {
+            check(rdlpp_give(&handle, name, outcome.name_length, "x", 1) == RDLPP_WHOLE, "an included source");
+            given += 1;
+        }
+    } while (outcome.status == RDLPP_WANTED || outcome.status == RDLPP_MORE);
+    check(outcome.status == RDLPP_WHOLE && given == count, "each is asked for once");
+    check(length == (size_t)count * 2, "all of the output");
+    rdlpp_close(&handle);
+    free(source);
+}
+
+/* 32 doublings of nothing: each read comes back. How long one takes at most is told, and has no bound here. */
+static void comes_back_from_nothing(void)
+{
+    char source[2000] = "`define A0\n";
+    struct timespec before, after;
+    double most = 0;
+    rdlpp_handle handle = RDLPP_CLOSED_HANDLE;
+    rdlpp_outcome outcome;
+    int at;
+    open_asking(&handle);
+    for (at = 1; at <= 32; at += 1) {
+        sprintf(source + strlen(source), "`define A%d `A%d`A%d\n", at, at - 1, at - 1);
+    }
+    strcat(source, "`A32\n");
+    check(give(&handle, "m", source) == RDLPP_WHOLE, "the main text");
+    for (at = 0; at < 200; at += 1) {
+        double seconds;
+        clock_gettime(CLOCK_MONOTONIC, &before);
+        outcome = read_some(&handle);
+        clock_gettime(CLOCK_MONOTONIC, &after);
+        check(outcome.status == RDLPP_MORE && (at == 0 || outcome.length == 0), "a read comes back with no bytes");
+        seconds = (double)(after.tv_sec - before.tv_sec) + (double)(after.tv_nsec - before.tv_nsec) / 1e9;
+        most = seconds > most ? seconds : most;
+    }
+    printf("pulls.c: a read of nothing takes %.2f ms at most\n", most * 1e3);
+    rdlpp_close(&handle);
+}
+
+int main(void)
+{
+    asks_for_each_candidate();
+    tells_what_is_missing();
+    takes_the_first_of_a_path();
+    refuses_what_is_given();
+    changes_nothing_that_is_told();
+    asks_with_short_buffers();
+    asks_ten_thousand_times();
+    comes_back_from_nothing();
+    return failures == 0 ? EXIT_SUCCESS : EXIT_FAILURE;
+}

@@ -1,0 +1,48 @@
+// Preprocessing by an engine that stays, so that it can be asked afterwards.
+use crate::defining::define_all;
+use crate::{Options, PrepFault};
+use rdlpp_expand::{Engine, NewFault, Watcher, run_watched};
+use rdlpp_source::{Sink, Sources};
+use std::alloc::Global;
+
+/// An engine over `sources` that does what is asked for, not started yet (this project's profile).
+///
+/// # Errors
+/// `BadLimits` exactly where a limit is out of its range; then `NoMemory`, only where memory was refused. The sources are dropped
+/// then.
+pub fn new_engine<S: Sources>(
+    alloc: Global,
+    options: &Options,
+    sources: S,
+) -> Result<Engine<S>, PrepFault> {
+    match Engine::new(alloc, options.limits, sources, options.origins) {
+        Ok(engine) => Ok(engine),
+        Err(NewFault::BadLimits(limit)) => Err(PrepFault::BadLimits(limit)),
+        Err(NewFault::NoMemory) => Err(PrepFault::NoMemory),
+    }
+}
+
+/// Does with the engine that `new_engine` made what `preprocess` does, and shows a watcher what the writer takes (this project's
+/// profile).
+///
+/// Answers the count of bytes that the writer took, `u64::MAX` where it is larger.
+///
+/// # Errors
+/// As of `preprocess`, but for those of `new_engine`.
+pub fn run_watched_from<S: Sources, W: Sink, V: Watcher>(
+    engine: &mut Engine<S>,
+    options: &Options,
+    path: &str,
+    writer: &mut W,
+    watcher: &mut V,
+) -> Result<u64, PrepFault> {
+    if let Err(fault) = define_all(engine, &options.defines) {
+        return Err(PrepFault::Run(fault));
+    }
+    // A fault of the opening is kept by the engine, and the run answers it.
+    let _opened = engine.start(path);
+    match run_watched(engine, writer, watcher) {
+        Ok(written) => Ok(written),
+        Err(fault) => Err(PrepFault::Run(fault)),
+    }
+}

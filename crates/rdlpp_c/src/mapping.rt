@@ -1,0 +1,115 @@
+// The call by which a program in C reads an output with its line map.
+use crate::front::Front;
+use crate::handle::{Handle, put, take};
+use crate::stream::{Stream, part_place, told_read};
+use crate::telling::{CLOSED, Outcome, SHORT_MAP, numbered};
+use rdlpp::ReadPart;
+use rdlpp_reports::{LineRun, write_run};
+use std::alloc::Global;
+
+// How many bytes a line of a map has at most, and some more.
+const MAP_ROOM: usize = 1_100;
+
+/// How a mapped read ended, in numbers.
+#[repr(C)]
+#[derive(Clone, Copy, Debug, PartialEq, Eq)]
+pub struct Mapped {
+    /// As of `rdlpp_read`; 8 where the buffer for the map is too short.
+    pub outcome: Outcome,
+    /// How many bytes of the map were written.
+    pub map_length: usize,
+}
+
+/// Writes the next bytes of an output to `out` as `rdlpp_read` does, and the lines of the line map that end with
+/// them to `map`: all calls together write those of a line map file behind its first line.
+///
+/// The read also ends, by the status 5, where fewer than 1,100 bytes of `map` are left. Where it has fewer to begin
+/// with the status is 8, and nothing is written.
+#[unsafe(no_mangle)]
+pub extern "C" fn rdlpp_read_mapped(
+    alloc: Global,
+    handle: &mut Handle,
+    out: &mut [u8],
+    map: &mut [u8],
+    name: &mut [u8],
+    word: &mut [u8],
+) -> Mapped {
+    let Some(mut stream) = take(alloc, handle) else {
+        return mapped(numbered(CLOSED, 0), 0);
+    };
+    let told = if map.len() < MAP_ROOM {
+        mapped(numbered(SHORT_MAP, 0), 0)
+    } else {
+        stream.take_up();
+        let read = read_lines(&mut stream, out, map);
+        mapped(told_read(&stream, &read.part, name, word), read.map_len)
+    };
+    put(handle, stream);
+    told
+}
+
+// An outcome, and how many bytes of the map were written.
+fn mapped(outcome: Outcome, map_length: usize) -> Mapped {
+    Mapped {
+        outcome,
+        map_length,
+    }
+}
+
+// What was read: a part of the output, and so many bytes of the map.
+#[derive(Clone, Copy)]
+struct Lines {
+    part: ReadPart,
+    map_len: usize,
+}
+
+// Reads piece by piece, and writes the runs of lines that end.
+fn read_lines(stream: &mut Stream, out: &mut [u8], map: &mut [u8]) -> Lines {
+    let mut len = 0;
+    let mut map_len = 0;
+    while len < out.len() && map.len() - map_len >= MAP_ROOM {
+        let part = stream.read_piece(&mut out[len..]);
+        let run = match part.ending {
+            None => take_piece(stream, &out[len..len + part.len]),
+            Some(_) => end_lines(stream, &part),
+        };
+        map_len += write_line(&run, &mut map[map_len..]);
+        len += part.len;
+        if part.ending.is_some() || part.len == 0 {
+            let ending = part.ending;
+            return Lines {
+                part: ReadPart { len, ending },
+                map_len,
+            };
+        }
+    }
+    Lines {
+        part: ReadPart { len, ending: None },
+        map_len,
+    }
+}
+
+// Takes the piece that was read. Answers the run that ended, if one did.
+fn take_piece(stream: &mut Stream, piece: &[u8]) -> Option<LineRun> {
+    let place = part_place(&stream.reading, &stream.part)?;
+    stream.lines.take(piece, &place)
+}
+
+// Takes the last run away where the output ended, and not with a source that is asked for.
+fn end_lines(stream: &mut Stream, part: &ReadPart) -> Option<LineRun> {
+    if stream.wanted(part.ending).is_some() {
+        return None;
+    }
+    stream.lines.finish()
+}
+
+// Writes a run as a line of the map, where there is one, and answers how many bytes it has.
+fn write_line(run: &Option<LineRun>, map: &mut [u8]) -> usize {
+    let Some(run) = run else {
+        return 0;
+    };
+    let mut front = Front::of(map);
+    // It takes all bytes.
+    let _written = write_run(run, &mut front);
+    front.len()
+}

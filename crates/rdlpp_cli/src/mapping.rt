@@ -1,0 +1,72 @@
+//! The line map of a run, where one is asked for.
+use crate::OUTPUT_BYTES;
+use crate::files::TakenFiles;
+use rdlpp::{MapWriter, Position, Watcher};
+use std::fs::File;
+use std::io::{self, BufWriter};
+
+/// The line map that is written, or none, or why it can't be.
+#[derive(Drop)]
+pub struct Mapping {
+    map: Option<MapWriter<BufWriter<File>>>,
+    failure: Option<io::Error>,
+}
+
+impl Mapping {
+    /// Writes what is left of the line map.
+    ///
+    /// # Errors
+    /// The first error of its file, also of its open.
+    pub fn finish(&mut self) -> io::Result<()> {
+        if let Some(error) = self.failure {
+            return Err(error);
+        }
+        match &mut self.map {
+            Some(map) => map.finish(),
+            None => Ok(()),
+        }
+    }
+}
+
+impl Watcher for Mapping {
+    fn is_looking(&self) -> bool {
+        self.map.is_some()
+    }
+
+    fn saw(&mut self, piece: &[u8], position: Position<'_>) {
+        if let Some(map) = &mut self.map {
+            map.saw(piece, position);
+        }
+    }
+}
+
+/// Opens the line map at `path`, or none where there is no path.
+pub fn open_mapping(rt: &HostRuntime, files: &mut TakenFiles, path: Option<&String>) -> Mapping {
+    let Some(path) = path else {
+        return Mapping {
+            map: None,
+            failure: None,
+        };
+    };
+    match map_writer(rt, files, path.as_str()) {
+        Ok(map) => Mapping {
+            map: Some(map),
+            failure: None,
+        },
+        Err(error) => Mapping {
+            map: None,
+            failure: Some(error),
+        },
+    }
+}
+
+// The line map at a path, begun.
+fn map_writer(
+    rt: &HostRuntime,
+    files: &mut TakenFiles,
+    path: &str,
+) -> io::Result<MapWriter<BufWriter<File>>> {
+    let file = files.open(rt, path)?;
+    let writer = BufWriter::with_capacity(rt.alloc(), OUTPUT_BYTES, file)?;
+    Ok(MapWriter::new(writer))
+}

@@ -1,0 +1,137 @@
+//! Runs of which more is told than the text.
+use crate::files::TakenFiles;
+use crate::mapping::{Mapping, open_mapping};
+use crate::output::Output;
+use crate::telling::{tell_fault, tell_noted, tell_unwritten};
+use crate::{DEVICE_STATUS, OUTPUT_BYTES, folders_of};
+use rdlpp::{
+    Buffered, Engine, Folders, Invocation, OpenedPaths, PrepFault, Recorded, Table, exit_status,
+    new_engine, run_watched_from, write_definitions, write_dependencies,
+};
+use std::io::{self, BufWriter, ErrorKind, Write};
+
+/// An engine that notes what it opens.
+pub type NotedEngine<'r> = Engine<Recorded<Folders<'r, HostRuntime>>>;
+
+/// Does what a command line asks for that wants more told than the text, and answers the exit status.
+pub fn run_reported(rt: &HostRuntime, invocation: &Invocation, output: &mut Output) -> u8 {
+    let mut engine = match noted_engine(rt, invocation) {
+        Ok(engine) => engine,
+        Err(fault) => {
+            tell_fault(rt, &fault);
+            return exit_status(&Err(fault));
+        }
+    };
+    let mut files = TakenFiles::of_output(rt, invocation.output.as_ref());
+    let mut mapping = open_mapping(rt, &mut files, invocation.reports.line_map.as_ref());
+    let outcome = run_mapped(rt, invocation, &mut engine, output, &mut mapping);
+    if let Err(fault) = &outcome {
+        if invocation.reports.notes {
+            tell_noted(rt, invocation, fault, &engine, output.failure());
+        } else {
+            tell_fault(rt, fault);
+        }
+    }
+    let mapped = mapping.finish();
+    let is_mapped = is_written(rt, invocation.reports.line_map.as_ref(), &mapped);
+    let is_told = is_rest_told(rt, invocation, &engine, &mut files);
+    if is_mapped && is_told {
+        exit_status(&outcome)
+    } else {
+        DEVICE_STATUS
+    }
+}
+
+// The engine of a command line.
+fn noted_engine<'r>(
+    rt: &'r HostRuntime,
+    invocation: &Invocation,
+) -> Result<NotedEngine<'r>, PrepFault> {
+    let Ok(sources) = folders_of(rt, invocation) else {
+        return Err(PrepFault::NoMemory);
+    };
+    let sources = Recorded::new(rt.alloc(), sources);
+    new_engine(rt.alloc(), &invocation.options, sources)
+}
+
+// Preprocesses the source of a command line.
+fn run_mapped(
+    rt: &HostRuntime,
+    invocation: &Invocation,
+    engine: &mut NotedEngine<'_>,
+    output: &mut Output,
+    mapping: &mut Mapping,
+) -> Result<u64, PrepFault> {
+    let Ok(mut writer) = Buffered::with_capacity(rt.alloc(), OUTPUT_BYTES, output) else {
+        return Err(PrepFault::NoMemory);
+    };
+    run_watched_from(
+        engine,
+        &invocation.options,
+        invocation.source.as_str(),
+        &mut writer,
+        mapping,
+    )
+}
+
+// Writes the rule for make and the macros, where they are asked for, and answers whether that succeeded.
+fn is_rest_told(
+    rt: &HostRuntime,
+    invocation: &Invocation,
+    engine: &NotedEngine<'_>,
+    files: &mut TakenFiles,
+) -> bool {
+    let mut is_told = true;
+    if let Some(path) = &invocation.reports.deps {
+        let target = invocation.output.as_ref().unwrap_or(&invocation.source);
+        let written = write_deps(rt, files, path, target, engine.sources().opened());
+        is_told = is_written(rt, Some(path), &written);
+    }
+    if let Some(path) = &invocation.reports.definitions {
+        let written = write_macros(rt, files, path, engine.table());
+        is_told = is_written(rt, Some(path), &written) && is_told;
+    }
+    is_told
+}
+
+// Whether a report was written; else it is told.
+fn is_written(rt: &HostRuntime, path: Option<&String>, written: &io::Result<()>) -> bool {
+    match (path, written) {
+        (Some(path), Err(error)) => {
+            tell_unwritten(rt, path.as_str(), error);
+            false
+        }
+        _ => true,
+    }
+}
+
+// Writes the rule for make to a file.
+fn write_deps(
+    rt: &HostRuntime,
+    files: &mut TakenFiles,
+    path: &String,
+    target: &String,
+    opened: &OpenedPaths,
+) -> io::Result<()> {
+    let file = files.open(rt, path.as_str())?;
+    let mut writer = BufWriter::with_capacity(rt.alloc(), OUTPUT_BYTES, file)?;
+    write_dependencies(target.as_str(), opened, &mut writer)?;
+    writer.flush()?;
+    if !opened.is_whole() {
+        return Err(io::Error::from(ErrorKind::OutOfMemory));
+    }
+    Ok(())
+}
+
+// Writes the macros to a file.
+fn write_macros(
+    rt: &HostRuntime,
+    files: &mut TakenFiles,
+    path: &String,
+    table: &Table,
+) -> io::Result<()> {
+    let file = files.open(rt, path.as_str())?;
+    let mut writer = BufWriter::with_capacity(rt.alloc(), OUTPUT_BYTES, file)?;
+    write_definitions(table, &mut writer)?;
+    writer.flush()
+}

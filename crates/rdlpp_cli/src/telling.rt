@@ -1,0 +1,100 @@
+//! What is told on standard error.
+use crate::folders_in;
+use crate::reports::NotedEngine;
+use rdlpp::{Fault, FaultKind, Invocation, PrepFault, report, write_failure, write_notes};
+use std::io::{self, BufWriter, Write};
+
+// The bytes of the buffer in front of the line that reports a fault, which is never longer.
+const LINE_BYTES: usize = 2_048;
+
+/// Tells a fault on standard error, by one write where there is memory for its line.
+pub fn tell_fault(rt: &HostRuntime, fault: &PrepFault) {
+    match BufWriter::with_capacity(rt.alloc(), LINE_BYTES, rt.stderr()) {
+        Ok(mut line) => {
+            let _told = report(fault, &mut line);
+            let _flushed = line.flush();
+        }
+        Err(_) => {
+            let _told = report(fault, &mut rt.stderr());
+        }
+    }
+}
+
+/// Tells a fault on standard error, and notes on it behind it. `failure` is the output's last error, where it has one.
+pub fn tell_noted(
+    rt: &HostRuntime,
+    invocation: &Invocation,
+    fault: &PrepFault,
+    engine: &NotedEngine<'_>,
+    failure: Option<io::Error>,
+) {
+    tell_fault(rt, fault);
+    let PrepFault::Run(run) = fault else {
+        return;
+    };
+    let Ok(mut lines) = BufWriter::with_capacity(rt.alloc(), LINE_BYTES, rt.stderr()) else {
+        return;
+    };
+    let _told = write_reason(invocation, &run.fault, engine, failure, &mut lines);
+    if let Ok(folders) = folders_in(rt, invocation) {
+        let _told = write_notes(&run.fault, engine, folders.as_slice(), &mut lines);
+    }
+    let _flushed = lines.flush();
+}
+
+// Writes the note on the file that failed, where one did.
+fn write_reason<W: Write>(
+    invocation: &Invocation,
+    fault: &Fault,
+    engine: &NotedEngine<'_>,
+    failure: Option<io::Error>,
+    lines: &mut W,
+) -> io::Result<()> {
+    if fault.kind == FaultKind::WriteFailed {
+        let path = match &invocation.output {
+            Some(path) => path.as_str(),
+            None => "standard output",
+        };
+        return match failure {
+            Some(error) => write_failure(path, &error, lines),
+            None => Ok(()),
+        };
+    }
+    if fault.kind != FaultKind::ReadFailed && fault.kind != FaultKind::SourceMemory {
+        return Ok(());
+    }
+    let Some(failed) = engine.sources().sources().failure() else {
+        return Ok(());
+    };
+    let path = if failed.path.is_empty() {
+        engine.inner_path()
+    } else {
+        failed.path.as_str()
+    };
+    write_failure(path, &failed.error, lines)
+}
+
+/// Tells that the output can't be opened; with the file and the reason, where notes are asked for.
+pub fn tell_unopened(rt: &HostRuntime, invocation: &Invocation, error: &io::Error) {
+    let _told = rt.stderr().write_all(b"rdlpp: error: cannot open output\n");
+    if invocation.reports.notes
+        && let Some(path) = &invocation.output
+    {
+        let _told = write_failure(path.as_str(), error, &mut rt.stderr());
+    }
+}
+
+/// Tells that a report can't be written to the file at `path`, and why.
+pub fn tell_unwritten(rt: &HostRuntime, path: &str, error: &io::Error) {
+    match BufWriter::with_capacity(rt.alloc(), LINE_BYTES, rt.stderr()) {
+        Ok(mut line) => {
+            let _told = writeln!(line, "rdlpp: error: cannot write '{path}': {error}");
+            let _flushed = line.flush();
+        }
+        Err(_) => {
+            let _told = rt
+                .stderr()
+                .write_all(b"rdlpp: error: cannot write a report\n");
+        }
+    }
+}

@@ -1,0 +1,3 @@
+use Rattle.std.proofs.Common.{◌≡◌, sym, ap, ◌∙◌, arith}
+use Rattle.rdlpp_steps.proofs.Soundness.{inner_number}
+use Rattle.rdlpp_expand.proofs.engine.Engine.position.Goals as goal

@@ -1,0 +1,197 @@
+//! The line map: for each line of the output the place of its first byte, in runs.
+use crate::writing::{write_parts, write_whole};
+use arrayvec::ArrayString;
+use itoa::Buffer;
+use rdlpp_scan::line_ends_in;
+use rdlpp_steps::{LineStep, Position};
+use std::io::{self, Write};
+
+// How many bytes of a name are told at most.
+const NAME_BYTES: usize = 1_024;
+
+/// Lines of the output whose places follow each other: the first one has the place `name:line`, and each later one that of the
+/// line before it, or the line behind that.
+#[derive(Clone, Copy)]
+pub struct LineRun {
+    /// The first line of the output, counted from 1.
+    pub out: u64,
+    /// The shown line of its first byte.
+    pub line: u64,
+    /// How the places go on; none where the run has one line.
+    pub step: Option<LineStep>,
+    /// The shown name, of at most 1,024 bytes.
+    pub name: ArrayString<1024>,
+}
+
+/// Makes the line map of an output out of its pieces and their places, and keeps the last run only.
+///
+/// The place of a line is that of its first byte. Runs are as long as can be, read from the first line on. Numbers stay at
+/// `u64::MAX` where they would pass it.
+#[derive(Drop)]
+pub struct MappedLines {
+    // whether the line at hand has a byte
+    begun: bool,
+    // how many lines were begun
+    lines: u64,
+    // whether there is a last run
+    has_run: bool,
+    run: LineRun,
+    // the shown line of the last line of the run
+    last: u64,
+}
+
+impl MappedLines {
+    /// No lines.
+    pub fn new() -> MappedLines {
+        MappedLines {
+            begun: false,
+            lines: 0,
+            has_run: false,
+            run: LineRun {
+                out: 0,
+                line: 0,
+                step: None,
+                name: ArrayString::new(),
+            },
+            last: 0,
+        }
+    }
+
+    /// Takes the next piece of the output, with the place of its first byte. Answers the run that ended, if one did: a piece ends
+    /// one at most.
+    pub fn take(&mut self, piece: &[u8], position: &Position<'_>) -> Option<LineRun> {
+        if piece.is_empty() {
+            return None;
+        }
+        let name = &position.name[..position.name.floor_char_boundary(NAME_BYTES)];
+        let ended = if self.begun {
+            None
+        } else {
+            self.add_line(name, position.line)
+        };
+        self.begun = piece[piece.len() - 1] != b'\n';
+        let line_ends = line_ends_in(piece) as u64;
+        let more = if self.begun { line_ends } else { line_ends - 1 };
+        let later = self.add_lines(name, position, more);
+        if ended.is_some() { ended } else { later }
+    }
+
+    /// Takes away the last run, which ends with the output.
+    pub fn finish(&mut self) -> Option<LineRun> {
+        if !self.has_run {
+            return None;
+        }
+        self.has_run = false;
+        Some(self.run)
+    }
+
+    // Adds so many lines, of which the first one's place is the line behind a position by its step. Answers the run that ended, if one
+    // did.
+    fn add_lines(&mut self, name: &str, position: &Position<'_>, count: u64) -> Option<LineRun> {
+        let step = position.step;
+        let mut line = next_line(position.line, step);
+        let mut left = count;
+        while left > 0 {
+            if self.follows(name, line, step) {
+                self.go_on(step, left);
+                return None;
+            }
+            left -= 1;
+            if let Some(run) = self.add_line(name, line) {
+                self.go_on(step, left);
+                return Some(run);
+            }
+            line = next_line(line, step);
+        }
+        None
+    }
+
+    // Adds a line. Answers the run that ended, if it isn't of the last one.
+    fn add_line(&mut self, name: &str, line: u64) -> Option<LineRun> {
+        self.lines = self.lines.saturating_add(1);
+        if let Some(step) = self.step_to(name, line) {
+            self.run.step = Some(step);
+            self.last = line;
+            return None;
+        }
+        let ended = self.finish();
+        self.has_run = true;
+        self.run.out = self.lines;
+        self.run.line = line;
+        self.run.step = None;
+        self.run.name.clear();
+        self.run.name.push_str(name);
+        self.last = line;
+        ended
+    }
+
+    // The step by which a line goes on the last run, if it does.
+    fn step_to(&self, name: &str, line: u64) -> Option<LineStep> {
+        if self.follows(name, line, LineStep::Next) {
+            return Some(LineStep::Next);
+        }
+        if self.follows(name, line, LineStep::Same) {
+            return Some(LineStep::Same);
+        }
+        None
+    }
+
+    // Whether a line goes on the last run by a step.
+    fn follows(&self, name: &str, line: u64, step: LineStep) -> bool {
+        self.has_run
+            && line == next_line(self.last, step)
+            && self.run.step.is_none_or(|other| other == step)
+            && self.run.name.as_str() == name
+    }
+
+    // Adds so many lines that go on the last run by a step.
+    fn go_on(&mut self, step: LineStep, count: u64) {
+        if count == 0 {
+            return;
+        }
+        self.run.step = Some(step);
+        self.lines = self.lines.saturating_add(count);
+        if step == LineStep::Next {
+            self.last = self.last.saturating_add(count);
+        }
+    }
+}
+
+// The line behind a line by a step.
+fn next_line(line: u64, step: LineStep) -> u64 {
+    match step {
+        LineStep::Next => line.saturating_add(1),
+        LineStep::Same => line,
+    }
+}
+
+/// Writes the first line of a line map file.
+///
+/// # Errors
+/// As of `write_whole`; the first bytes of the line, or none, are then written.
+pub fn write_map_start<W: Write>(writer: &mut W) -> io::Result<()> {
+    write_whole(b"# rdlpp line map 1\n", writer)
+}
+
+/// Writes a run as a line of a line map file: the output's line, the shown line, how many lines each later one is behind the one
+/// before it, 1 or 0, and the shown name, with a tab between them.
+///
+/// # Errors
+/// As of `write_whole`; the first bytes of the line, or none, are then written.
+pub fn write_run<W: Write>(run: &LineRun, writer: &mut W) -> io::Result<()> {
+    let mut out = Buffer::new();
+    let mut line = Buffer::new();
+    let step: &[u8] = match run.step {
+        Some(LineStep::Same) => b"\t0\t",
+        _ => b"\t1\t",
+    };
+    let parts = [
+        out.format(run.out).as_bytes(),
+        b"\t",
+        line.format(run.line).as_bytes(),
+        step,
+        run.name.as_bytes(),
+        b"\n",
+    ];
+    write_parts(&parts, writer)
+}

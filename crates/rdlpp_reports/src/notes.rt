@@ -1,0 +1,210 @@
+// Notes on a fault.
+use crate::writing::{write_parts, write_whole};
+use itoa::Buffer;
+use rdlpp_calls::next_part;
+use rdlpp_expand::{Engine, Fault, FaultKind};
+use rdlpp_front::{Front, front_of};
+use rdlpp_scan::Mode;
+use rdlpp_source::{Sources, folder_of, joined_path};
+use rdlpp_table::Limits;
+use std::io::{self, Write};
+
+// What a note begins with.
+const NOTE: &[u8] = b"rdlpp: note: ";
+
+/// Writes the notes on the fault that ended a run, each a line `rdlpp: note: ..`, as far as the engine knows what they tell.
+///
+/// Of a source that wasn't found, or whose path is too long, the name that was asked for, and each path that was tried: `folders`
+/// are the include folders, in the order of the search. Of a limit that was passed its value and its option. Of a wrong number of
+/// arguments how many the macro takes, and how many there are. Of a backquote without a name what stands behind it. And the
+/// sources that include the one of the fault, the innermost first.
+///
+/// # Errors
+/// As of `write_whole`; the first bytes of the notes, or none, are then written.
+pub fn write_notes<S: Sources, W: Write>(
+    fault: &Fault,
+    engine: &Engine<S>,
+    folders: &[&str],
+    writer: &mut W,
+) -> io::Result<()> {
+    match fault.kind {
+        FaultKind::SourceNotFound | FaultKind::PathTooLong => {
+            write_search(fault, engine, folders, writer)?;
+        }
+        FaultKind::ArgumentCount => write_counts(fault, engine, writer)?,
+        FaultKind::BareBackquote => write_behind(engine, writer)?,
+        _ => write_limit(fault.kind, engine.limits(), writer)?,
+    }
+    write_includers(engine, writer)
+}
+
+/// Writes the note that a file failed, with the system's reason: `rdlpp: note: PATH: REASON`.
+///
+/// # Errors
+/// As of `write_whole`; the first bytes of the note, or none, are then written.
+pub fn write_failure<W: Write>(path: &str, error: &io::Error, writer: &mut W) -> io::Result<()> {
+    write_parts(&[NOTE, path.as_bytes(), b": "], writer)?;
+    writeln!(writer, "{error}")
+}
+
+// Writes the value and the option of the limit that a kind of fault tells, if it does.
+fn write_limit<W: Write>(kind: FaultKind, limits: &Limits, writer: &mut W) -> io::Result<()> {
+    let Some((value, option)) = limit_of(kind, limits) else {
+        return Ok(());
+    };
+    let mut number = Buffer::new();
+    let parts = [
+        NOTE,
+        b"the limit is ",
+        number.format(value).as_bytes(),
+        b", set by --max-",
+        option.as_bytes(),
+        b"\n",
+    ];
+    write_parts(&parts, writer)
+}
+
+// The value and the option of the limit that a kind of fault tells.
+fn limit_of(kind: FaultKind, limits: &Limits) -> Option<(u64, &'static str)> {
+    match kind {
+        FaultKind::LineTooLong => Some((limits.line_bytes as u64, "line")),
+        FaultKind::SourceTooLong => Some((limits.source_bytes as u64, "source")),
+        FaultKind::ArgumentBytes => Some((limits.argument_bytes as u64, "argument")),
+        FaultKind::DepthPassed => Some((limits.depth as u64, "depth")),
+        FaultKind::DefinitionBytes => Some((limits.definition_bytes as u64, "definition-bytes")),
+        FaultKind::TooManyDefinitions => Some((limits.definitions as u64, "definitions")),
+        FaultKind::TooManyConditionals => Some((limits.conditions as u64, "conditions")),
+        FaultKind::TooManyIncludes => Some((limits.includes as u64, "includes")),
+        FaultKind::OutputBytes => Some((limits.output_bytes, "output")),
+        _ => None,
+    }
+}
+
+// Writes how many arguments a macro takes, and how many its call has, where the call stands in a source.
+fn write_counts<S: Sources, W: Write>(
+    fault: &Fault,
+    engine: &Engine<S>,
+    writer: &mut W,
+) -> io::Result<()> {
+    let table = engine.table();
+    let Some(id) = table.find(fault.word.as_bytes()) else {
+        return Ok(());
+    };
+    let mut takes = Buffer::new();
+    let takes = takes.format(table.arity(id).unwrap_or(0) as u64);
+    write_parts(&[NOTE, b"the macro takes ", takes.as_bytes()], writer)?;
+    if engine.held().cursors > 0 {
+        return write_whole(b"\n", writer);
+    }
+    let mut has = Buffer::new();
+    let has = has.format(arguments_in(engine.arguments()));
+    write_parts(&[b", the call has ", has.as_bytes(), b"\n"], writer)
+}
+
+// How many arguments a call has, whose text between its parentheses is kept; none where that is nothing but white space.
+fn arguments_in(text: &[u8]) -> u64 {
+    if !next_part(text).has_items() && next_part(text).next.is_none() {
+        return 0;
+    }
+    let mut count = 1;
+    let mut at = 0;
+    while let Some(next) = next_part(&text[at..]).next {
+        at += next;
+        count += 1;
+    }
+    count
+}
+
+// Writes what stands behind the backquote at which the engine stands, if it stands at one.
+fn write_behind<S: Sources, W: Write>(engine: &Engine<S>, writer: &mut W) -> io::Result<()> {
+    let front = engine.front();
+    if engine.held().cursors > 0 || !front.starts_with(b"`") {
+        return Ok(());
+    }
+    write_parts(&[NOTE, b"behind the backquote stands "], writer)?;
+    match front.get(1) {
+        None => write_whole(b"nothing\n", writer),
+        Some(b'\n') => write_whole(b"the line's end\n", writer),
+        Some(byte) if byte.is_ascii_graphic() => { write_parts(&[b"'", &[*byte], b"'\n"], writer) }
+        Some(byte) => {
+            let mut number = Buffer::new();
+            let number = number.format(*byte);
+            write_parts(&[b"byte ", number.as_bytes(), b"\n"], writer)
+        }
+    }
+}
+
+// Writes the name that was asked for, and each path that was tried.
+fn write_search<S: Sources, W: Write>(
+    fault: &Fault,
+    engine: &Engine<S>,
+    folders: &[&str],
+    writer: &mut W,
+) -> io::Result<()> {
+    match asked_name(engine.front()) {
+        Some(name) => {
+            write_asked(name, writer)?;
+            write_tried(engine.inner_path(), name, folders, writer)
+        }
+        None => write_asked(fault.name.as_str(), writer),
+    }
+}
+
+// The name in the `include` with which bytes begin.
+fn asked_name(front: &[u8]) -> Option<&str> {
+    if front.is_empty() {
+        return None;
+    }
+    let Front::Include(Some(argument)) = front_of(Mode::Plain, front) else {
+        return None;
+    };
+    let name = &front[argument.start + 1..argument.stop - 1];
+    str::from_utf8(name).ok()
+}
+
+// Writes the name that was asked for.
+fn write_asked<W: Write>(name: &str, writer: &mut W) -> io::Result<()> {
+    write_parts(&[NOTE, b"asked for '", name.as_bytes(), b"'\n"], writer)
+}
+
+// Writes each path at which a name was tried that a source includes.
+fn write_tried<W: Write>(
+    from: &str,
+    name: &str,
+    folders: &[&str],
+    writer: &mut W,
+) -> io::Result<()> {
+    if name.starts_with('/') {
+        return write_candidate("", name, writer);
+    }
+    write_candidate(folder_of(from), name, writer)?;
+    for folder in folders {
+        write_candidate(folder, name, writer)?;
+    }
+    Ok(())
+}
+
+// Writes the path of a name in a folder.
+fn write_candidate<W: Write>(folder: &str, name: &str, writer: &mut W) -> io::Result<()> {
+    match joined_path(folder, name) {
+        Some(path) => write_parts(&[NOTE, b"tried '", path.as_bytes(), b"'\n"], writer),
+        None => {
+            let folder = folder.as_bytes();
+            write_parts(&[NOTE, b"too long in '", folder, b"'\n"], writer)
+        }
+    }
+}
+
+// Writes the sources that include the innermost one, from inside out.
+fn write_includers<S: Sources, W: Write>(engine: &Engine<S>, writer: &mut W) -> io::Result<()> {
+    for at in 1..engine.open_sources() {
+        if let Some(source) = engine.including(at) {
+            let mut line = Buffer::new();
+            let line = line.format(source.line);
+            let name = source.name.as_bytes();
+            let parts = [NOTE, b"included from ", name, b":", line.as_bytes(), b"\n"];
+            write_parts(&parts, writer)?;
+        }
+    }
+    Ok(())
+}
