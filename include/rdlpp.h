@@ -331,13 +331,13 @@ rdlpp_mapped rdlpp_read_mapped(
 /*
  * Writes the live definitions to `out`, oldest first, as `define` lines which define the same when they
  * are read again, and answers their whole length. What no such line can give stands in a comment line.
- * Of a closed handle the answer is 0.
+ * The answer is 0 of a closed handle, and where memory was refused.
  */
 size_t rdlpp_definitions(rdlpp_handle *handle, char *out, size_t out_length);
 
 /*
  * Writes the notes of the fault that the last read told to `out`, in lines that end in LF, and answers their
- * whole length, which is 0 where the last read told none and of a closed handle.
+ * whole length, which is 0 where the last read told none, of a closed handle, and where memory was refused.
  */
 size_t rdlpp_notes(rdlpp_handle *handle, char *out, size_t out_length);
 

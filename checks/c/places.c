@@ -105,19 +105,26 @@ static rdlpp_outcome read_pieces(const rdlpp_request *asked, size_t room, const 
     return outcome;
 }
 
+/* The number at a place, behind which a tab stands; the place goes behind that. */
+static unsigned long long number_at(const char **at)
+{
+    char *end;
+    const unsigned long long number = strtoull(*at, &end, 10);
+    check(end != *at && *end == '\t', *at, "a number of a map");
+    *at = end + 1;
+    return number;
+}
+
 /* Adds the lines of a run of a map, up to an output's line. */
 static void add_run(struct lines *lines, const char *run, unsigned long long stop)
 {
-    unsigned long long out, number, step;
-    int name_at = 0;
-    const char *end = strchr(run, '\n');
-    if (sscanf(run, "%llu\t%llu\t%llu\t%n", &out, &number, &step, &name_at) != 3 || name_at == 0) {
-        check(0, run, "a line of a map");
-        return;
-    }
+    const char *at = run;
+    unsigned long long out = number_at(&at), number = number_at(&at);
+    const unsigned long long step = number_at(&at);
+    const size_t length = (size_t)(strchr(at, '\n') - at);
     check(out == lines->count + 1 && step <= 1, run, "a run begins where the one before it ends");
     while (out < stop && lines->count < MOST_LINES) {
-        add_line(lines, run + name_at, (size_t)(end - run) - (size_t)name_at, number);
+        add_line(lines, at, length, number);
         number += step;
         out += 1;
     }
@@ -202,14 +209,13 @@ static const rdlpp_text texts[] = {
 /* The map of a text, which was made by hand. */
 static void maps_a_text(void)
 {
-    const char wanted[] = "1\t1\t1\tm\n"       /* a, and what is left of the `define` in two lines */
-                          "4\t4\t0\tm\n"       /* the usage: `<`, and `1> b` */
-                          "6\t5\t1\tm\n"       /* c */
+    const char wanted[] = "1\t1\t1\tm\n"       /* a, what is left of the `define` in two lines, the usage's `<` */
+                          "5\t4\t1\tm\n"       /* its `1> b`, c */
                           "7\t1\t1\td/i\n"     /* the included source */
-                          "9\t7\t1\tm\n"       /* what is left of the `line` */
-                          "10\t70\t1\tn.rdl\n" /* e, what is left of the conditional, the usage's first line */
-                          "15\t74\t0\tn.rdl\n"
-                          "16\t77\t1\tn.rdl\n"; /* f */
+                          "9\t6\t1\tm\n"       /* what is left of the `include` and of the `line` */
+                          "11\t70\t1\tn.rdl\n" /* e, what is left of the conditional, the usage's `<` */
+                          "16\t74\t1\tn.rdl\n" /* its `2>` */
+                          "17\t77\t1\tn.rdl\n"; /* f */
     rdlpp_request request = rdlpp_standard_request();
     rdlpp_handle handle = RDLPP_CLOSED_HANDLE;
     char out[256], map[4096], name[NAME_ROOM];

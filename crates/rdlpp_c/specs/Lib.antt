@@ -6,3 +6,4 @@ pub mod Telling
 pub mod Faults
 pub mod Kept
 pub mod Streaming
+pub mod Giving

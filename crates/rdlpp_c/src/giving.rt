@@ -1,6 +1,8 @@
 // The calls by which a program in C tells what it was asked for.
-ghost use Rattle.std.specs.Prelude.{◌≡◌};
-ghost use Rattle.rdlpp_c.specs.Giving.{Gives};
+ghost use Rattle.std.specs.Prelude.{◌≡◌, IsUtf8, MatchResult};
+ghost use Rattle.std.specs.String.{string_bytes};
+ghost use Rattle.rdlpp_c.specs.Giving.{TellsPath, given_status};
+ghost use Rattle.rdlpp_c.specs.declared.asking.Refusal.TheVariants.{BadText};
 
 use crate::asking::{Refusal, text_of};
 use crate::handle::{Handle, put, take};
@@ -51,20 +53,45 @@ pub extern "C" fn rdlpp_give_failed(alloc: Global, handle: &mut Handle, path: &[
     status
 }
 
-// Tells an output what stands at a path.
+// Tells an output what stands at a path, and answers the status.
 fn give(alloc: Global, stream: &mut Stream, path: &[u8], standing: Standing) -> u32 {
-    let path = match owned_path(alloc, path) {
-        Ok(path) => path,
-        Err(Refusal::BadText) => return BAD_TEXT,
-        Err(Refusal::NoMemory) => return NO_MEMORY,
-    };
     let mut sources = stream.reading.replace_sources(AskedTexts::empty(alloc));
-    let told = sources.tell(path, standing);
+    let told = tell_path(alloc, &mut sources, path, standing);
     let _empty = stream.reading.replace_sources(sources);
-    if told.is_ok() { WHOLE } else { NO_MEMORY }
+    status_of(told)
+}
+
+// The status of what was told.
+fn status_of(told: Result<(), Refusal>) -> u32
+    ensures { result ≡ given_status told }
+{
+    match told {
+        Ok(()) => WHOLE,
+        Err(Refusal::BadText) => BAD_TEXT,
+        Err(Refusal::NoMemory) => NO_MEMORY,
+    }
+}
+
+// Tells sources what stands at a path.
+fn tell_path(
+    alloc: Global,
+    sources: &mut AskedTexts,
+    path: &[u8],
+    standing: Standing,
+) -> Result<(), Refusal>
+    ensures { TellsPath path.now standing sources.old sources.new result }
+{
+    let path = owned_path(alloc, path)?;
+    match sources.tell(path, standing) {
+        Ok(()) => Ok(()),
+        Err(_) => Err(Refusal::NoMemory),
+    }
 }
 
 // A path of one's own.
-fn owned_path(alloc: Global, path: &[u8]) -> Result<String, Refusal> {
+fn owned_path(alloc: Global, path: &[u8]) -> Result<String, Refusal>
+    ensures { MatchResult result (λ made. string_bytes made ≡ path.now)
+        (λ refusal. refusal ≡ BadText → ¬ (IsUtf8 path.now)) }
+{
     Ok(String::from_str(alloc, text_of(path)?)?)
 }

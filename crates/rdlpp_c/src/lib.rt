@@ -6,7 +6,6 @@ mod arrays;
 mod asking;
 mod exports;
 mod faults;
-mod front;
 mod giving;
 mod handle;
 mod loose;

@@ -1,8 +1,8 @@
 // The call by which a program in C reads an output with its line map.
-use crate::front::Front;
 use crate::handle::{Handle, put, take};
 use crate::stream::{Stream, part_place, told_read};
 use crate::telling::{CLOSED, Outcome, SHORT_MAP, numbered};
+use arrayvec::ArrayVec;
 use rdlpp::ReadPart;
 use rdlpp_reports::{LineRun, write_run};
 use std::alloc::Global;
@@ -108,8 +108,10 @@ fn write_line(run: &Option<LineRun>, map: &mut [u8]) -> usize {
     let Some(run) = run else {
         return 0;
     };
-    let mut front = Front::of(map);
-    // It takes all bytes.
-    let _written = write_run(run, &mut front);
-    front.len()
+    let mut line = ArrayVec::<u8, MAP_ROOM>::new();
+    // A line has less than there is room for.
+    let _whole = write_run(run, &mut line);
+    let len = line.len();
+    map[..len].copy_from_slice(&line);
+    len
 }

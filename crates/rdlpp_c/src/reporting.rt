@@ -1,23 +1,25 @@
 // The calls by which a program in C learns what an output leaves: its definitions, and notes on its fault.
-use crate::front::Front;
 use crate::handle::{Handle, put, take};
 use crate::stream::Stream;
+use crate::telling::tell_text;
 use rdlpp::Fault;
 use rdlpp_reports::{write_definitions, write_notes};
 use std::alloc::{AllocError, Global};
 
 /// Writes the live definitions of an open output as `define` lines, oldest first, to `out`, as much as there is room
-/// for, and answers their whole length: 0 where the handle is closed.
+/// for, and answers their whole length: 0 where the handle is closed, and where memory was refused.
 #[unsafe(no_mangle)]
 pub extern "C" fn rdlpp_definitions(alloc: Global, handle: &mut Handle, out: &mut [u8]) -> usize {
     let Some(stream) = take(alloc, handle) else {
         return 0;
     };
-    let mut front = Front::of(out);
-    // It takes all bytes.
-    let _written = write_definitions(stream.reading.engine().table(), &mut front);
+    let mut lines = Vec::new(alloc);
+    let len = match write_definitions(stream.reading.engine().table(), &mut lines) {
+        Ok(()) => tell_text(&lines, out),
+        Err(_) => 0,
+    };
     put(handle, stream);
-    front.len()
+    len
 }
 
 /// Writes the notes on the fault that ended an open output to `out`, as much as there is room for, and answers their
@@ -28,23 +30,24 @@ pub extern "C" fn rdlpp_notes(alloc: Global, handle: &mut Handle, out: &mut [u8]
         return 0;
     };
     let len = match stream.fault() {
-        Some(fault) => notes_len(alloc, &stream, &fault, out),
+        Some(fault) => tell_notes(alloc, &stream, &fault, out),
         None => 0,
     };
     put(handle, stream);
     len
 }
 
-// Writes the notes on a fault, and answers how many bytes they have.
-fn notes_len(alloc: Global, stream: &Stream, fault: &Fault, out: &mut [u8]) -> usize {
+// Tells the notes on a fault.
+fn tell_notes(alloc: Global, stream: &Stream, fault: &Fault, out: &mut [u8]) -> usize {
     let engine = stream.reading.engine();
     let Ok(folders) = folders_of(alloc, &engine.sources().folders) else {
         return 0;
     };
-    let mut front = Front::of(out);
-    // It takes all bytes.
-    let _written = write_notes(fault, engine, &folders, &mut front);
-    front.len()
+    let mut lines = Vec::new(alloc);
+    match write_notes(fault, engine, &folders, &mut lines) {
+        Ok(()) => tell_text(&lines, out),
+        Err(_) => 0,
+    }
 }
 
 // The include folders.
