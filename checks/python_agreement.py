@@ -59,7 +59,7 @@ def by_package(words, main):
     except rdlpp.Fault as caught:
         output, fault, notes = caught.partial, str(caught), caught.notes
     if output is None:
-        return Told(b"", fault, notes, (), None, b"")
+        return Told(b"", fault, notes, None, None, None)
     return Told(output.text, fault, notes, output.sources, bytes(output.lines), output.definitions)
 
 
@@ -68,8 +68,8 @@ def compare(tally, name, words, main, outside):
     wanted, got = by_program(words, main, outside), by_package(words, main)
     for part in ("text", "fault", "notes", "sources", "lines", "definitions"):
         one, other = getattr(wanted, part), getattr(got, part)
-        holds = one == other or (part == "lines" and other is None)
-        tally.hold(f"{name}: {part}", holds, f"\n  program {one!r:.300}\n  package {other!r:.300}")
+        # of a refused definition a call has nothing but the fault
+        tally.hold(f"{name}: {part}", other in (None, one), f"\n  program {one!r:.300}\n  package {other!r:.300}")
 
 
 def write_files(files):

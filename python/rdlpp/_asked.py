@@ -14,8 +14,9 @@ Bytes = Union[bytes, bytearray, memoryview]
 Asked = Callable[[str], Optional[Bytes]]
 
 NUL_IN_NAME = "file name contained an unexpected NUL byte"
-FIRST_PART = 65_536
-LARGEST_PART = 67_108_864
+# How much is read at once: of a file what its size tells, within these.
+SMALL_PART = 65_536
+LARGE_PART = 67_108_864
 
 
 class Unreadable(Exception):
@@ -76,11 +77,11 @@ class Disk:
     def _text(self, file: int) -> bytes:
         """What a run can use of an open file."""
         told = os.fstat(file)
-        size = told.st_size + 1 if stat.S_ISREG(told.st_mode) else FIRST_PART
+        size = told.st_size + 1 if stat.S_ISREG(told.st_mode) else 0
         parts: List[bytes] = []
         length = line = 0
         while length < self._most and line <= self._line:
-            part = os.read(file, min(max(size, FIRST_PART), LARGEST_PART, self._most - length))
+            part = os.read(file, min(max(size - length, SMALL_PART), LARGE_PART, self._most - length))
             if not part:
                 break
             parts.append(part)

@@ -20,6 +20,7 @@ class Reading:
         has_ended: whether all of the output was read.
         fault: the fault that ended it, once it was read up to there.
         sources: the path of each source that was opened, in order, once.
+        text_bytes: how many bytes the sources have that were given.
     """
 
     def __init__(self, request: Request, *, pieces: bool = False):
@@ -28,6 +29,7 @@ class Reading:
         self.has_ended = False
         self.fault: Optional[Fault] = None
         self.sources: List[str] = []
+        self.text_bytes = sum(len(text) for _, text in request.texts)
         self._asked = request.asked
         self._unreadable: Optional[Tuple[str, Unreadable]] = None
         self._buffers = (ctypes.c_char * (library.NAME_ROOM + library.WORD_ROOM))()
@@ -124,6 +126,7 @@ class Reading:
             return _raise_refusal(library.give_absent(self._at, path, len(path)))
         self.sources.append(shown)
         held = text if isinstance(text, bytes) else bytes(text)
+        self.text_bytes += len(held)
         return _raise_refusal(library.give(self._at, path, len(path), held, len(held)))
 
     def _shown_name(self, outcome: library.Outcome) -> str:

@@ -7,32 +7,26 @@ from ._faults import Fault
 from ._limits import Limits
 from ._output import Output, lines_of
 from ._reading import Reading
-from ._request import Path, Read, Request, Source, request_of
+from ._request import Path, Read, Source, request_of
 from ._written import Written
 
 # How much one read asks for: it comes back soon, so that a signal is seen.
 PART = 65_536
 
 
-def _first_room(request: Request) -> int:
-    """Room for an output that isn't much longer than its source, where that is known."""
-    return sum(len(text) for _, text in request.texts) + 2 * PART
+def _room(reading: Reading, room: int) -> int:
+    """More room than there is: for an output that isn't much longer than its sources, and else half as much again."""
+    return max(room + room // 2, reading.text_bytes + 2 * PART)
 
 
-def _part(written: Written, filled: int, room: int) -> int:
-    """How much room there is, with at least a part of it; more is made by the half."""
-    if room - filled >= PART:
-        return room
-    room += max(room // 2, PART)
-    written.grow(room)
-    return room
-
-
-def _read_all(reading: Reading, room: int, runs: Optional[List[bytes]]) -> bytes:
+def _read_all(reading: Reading, runs: Optional[List[bytes]]) -> bytes:
     """All of an output; its line map goes to `runs`, where that is wanted."""
-    written, filled = Written(room), 0
+    room, filled = _room(reading, 0), 0
+    written = Written(room)
     while not reading.is_over:
-        room = _part(written, filled, room)
+        if room - filled < PART:
+            room = _room(reading, room)
+            written.grow(room)
         if runs is None:
             filled += reading.read(written.place + filled, PART)
         else:
@@ -88,7 +82,7 @@ def preprocess(
     request = request_of(source, include_dirs, defines, limits, origins, files, read)
     reading = Reading(request)
     try:
-        text = _read_all(reading, _first_room(request), None)
+        text = _read_all(reading, None)
     finally:
         reading.close()
     if reading.fault is not None:
@@ -119,7 +113,7 @@ def run(
     reading = Reading(request)
     runs: List[bytes] = []
     try:
-        text = _read_all(reading, _first_room(request), runs)
+        text = _read_all(reading, runs)
         definitions = reading.definitions()
     finally:
         reading.close()

@@ -13,6 +13,7 @@ from ._written import Written
 
 # How much one read asks for: it comes back in milliseconds.
 PART = 65_536
+MOST_ROOM = 1_073_741_824
 
 
 class Stream(Iterator[bytes]):
@@ -153,7 +154,7 @@ def stream(
         [b'reg[', b'8];\\n']
 
     Args:
-        room: how many bytes a piece has, but for the last one.
+        room: how many bytes a piece has, but for the last one: 1 to 1,073,741,824.
         positions: whether a piece ends where the place does, so that `Stream.position` tells it. A piece has fewer
             bytes than there is room for then.
 
@@ -161,12 +162,12 @@ def stream(
 
     Raises:
         Fault: a definition is refused. Another fault is raised where the output ends by it.
-        TypeError, ValueError, MemoryError: as of `preprocess`; also where there is room for no byte.
+        TypeError, ValueError, MemoryError: as of `preprocess`; ValueError also for a room out of its range.
     """
     if not isinstance(room, int) or isinstance(room, bool):
         raise TypeError(f"room must be an int, not {type(room).__name__}")
-    if room < 1:
-        raise ValueError(f"room must be 1 or more, not {room}")
+    if not 1 <= room <= MOST_ROOM:
+        raise ValueError(f"room must be 1 to {MOST_ROOM:,}, not {room:,}")
     if not isinstance(positions, bool):
         raise TypeError(f"positions must be a bool, not {type(positions).__name__}")
     request = request_of(source, include_dirs, defines, limits, origins, files, read)

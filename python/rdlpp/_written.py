@@ -19,6 +19,14 @@ _resize.argtypes = [ctypes.POINTER(ctypes.c_void_p), ctypes.c_ssize_t]
 _forget = ctypes.pythonapi.Py_DecRef
 _forget.restype = None
 _forget.argtypes = [ctypes.c_void_p]
+_advise = ctypes.CDLL(None).madvise
+_advise.restype = ctypes.c_int
+_advise.argtypes = [ctypes.c_void_p, ctypes.c_size_t, ctypes.c_int]
+
+PAGE = 4_096
+HUGE_PAGES = 14
+# From here on the system's making of small pages costs more than writing into them.
+LARGE = 4_194_304
 
 
 class Written:
@@ -31,11 +39,13 @@ class Written:
         self._held = ctypes.c_void_p(_new(None, room + 1))
         self.place: int = _place_of(self._held)
         """The address of the first byte, until there is more room."""
+        _prefer_huge_pages(self.place, room)
 
     def grow(self, room: int) -> None:
         """Makes room for more bytes; those that were written stay."""
         _resize(ctypes.byref(self._held), room + 1)
         self.place = _place_of(self._held)
+        _prefer_huge_pages(self.place, room)
 
     def take(self, length: int) -> bytes:
         """The first bytes, which are at most as many as there is room for."""
@@ -44,3 +54,10 @@ class Written:
 
     def __del__(self) -> None:
         _forget(self._held)
+
+
+def _prefer_huge_pages(place: int, room: int) -> None:
+    """Lets the system make huge pages for a large room, if it wants to; nothing else changes."""
+    if room >= LARGE:
+        begin = (place + PAGE - 1) // PAGE * PAGE
+        _advise(begin, (place + room - begin) // PAGE * PAGE, HUGE_PAGES)

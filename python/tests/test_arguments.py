@@ -73,8 +73,8 @@ class Arguments(unittest.TestCase):
         for room in ("8", 8.0, None, True):
             with self.assertRaisesRegex(TypeError, "room must be an int, not "):
                 rdlpp.stream(b"a", room=room)
-        for room in (0, -1):
-            with self.assertRaisesRegex(ValueError, "room must be 1 or more, not "):
+        for room in (0, -1, 2**30 + 1, 2**64, 2**64 + 8):
+            with self.assertRaisesRegex(ValueError, "room must be 1 to 1,073,741,824, not "):
                 rdlpp.stream(b"a", room=room)
         with self.assertRaisesRegex(TypeError, "positions must be a bool, not int"):
             rdlpp.stream(b"a", positions=1)
