@@ -7,7 +7,7 @@ bytes, the fault if there is one, and the macros that are defined at the end. It
 import re
 import sys
 
-from plain_tokens import BLANKS, TOKEN, WHITE, source_tokens, text_tokens
+from plain_tokens import BLANKS, WHITE, source_tokens, text_tokens
 
 sys.setrecursionlimit(1_000_000)
 
