@@ -1,4 +1,4 @@
-"""What the program does, beside the plain reading of the same texts: each row that can be run over files, and random sources."""
+"""Compares what the program does with the plain reading of the same texts: each row that files can have, and random ones."""
 
 import os
 import pathlib

@@ -7,7 +7,7 @@ bytes, the fault if there is one, and the macros that are defined at the end. It
 import re
 import sys
 
-from plain_tokens import BLANKS, TOKEN, WHITE, source_tokens, text_tokens
+from plain_tokens import BLANKS, WHITE, source_tokens, text_tokens
 
 sys.setrecursionlimit(1_000_000)
 
@@ -232,7 +232,8 @@ class Reading:
     """What comes of a main text, with the words of a command line (`row_table.Asked`), from the macros of a table.
 
     `pieces` is the output: texts, each with the shown name and line of its first byte, and by how much the line grows
-    behind each of its LF bytes. `fault` is what ended it, and `table` has the macros.
+    behind each of its LF bytes. `fault` is what ended it, `table` has the macros, and `opened` the path of each source that
+    was opened, in order, once.
     """
 
     def __init__(self, files, main, asked=None, table=None):
@@ -240,7 +241,7 @@ class Reading:
         self.files, self.main, self.folders = files, main.encode(), asked.folders if asked else []
         self.origins, defines = bool(asked and asked.origins), asked.defines if asked else []
         self.table, self.pieces, self.written, self.fault = table or Table(self.limits), [], 0, None
-        self.open_files, self.conditions = [], 0
+        self.open_files, self.conditions, self.opened = [], 0, []
         try:
             self.define_options(defines)
             self.main_text()
@@ -281,6 +282,7 @@ class Reading:
             if len(path) > 1024:
                 raise Fault(31, name, line)
             if b"\n" not in path and path.decode() in self.files:
+                self.opened += [path] if path not in self.opened else []
                 return path, self.files[path.decode()]
         raise Fault(28, name, line)
 
