@@ -37,6 +37,7 @@ mod include;
 mod line;
 mod looking;
 mod opening;
+mod positions;
 mod skipping;
 mod texts;
 mod usage;
@@ -52,7 +53,7 @@ use rdlpp_read::{Files, Fill, LogicalLine};
 use rdlpp_scan::{Mode, line_ends_in, reserved};
 use rdlpp_source::Sources;
 use rdlpp_steps::{
-    Held, Owed, OwedPart, OwedPiece, Phase, Piece, Place, copied, copied_fault, fault_kind, word_of,
+    Held, Marks, Owed, OwedPart, OwedPiece, Phase, Piece, Place, copied, copied_fault, fault_kind, word_of,
 };
 use rdlpp_table::{Limits, Table};
 use rdlpp_usages::Expansion;
@@ -83,6 +84,8 @@ pub struct Engine<S: Sources> {
     // the path that was asked for, cut to 1,024 bytes or fewer at a character's boundary
     main: ArrayString<1024>,
     owed: Owed,
+    // where the piece stands that was lent last
+    marks: Marks,
     table: Table,
     conditions: Conditions,
     sources: S,
@@ -105,6 +108,7 @@ impl<S: Sources> Model for Engine<S> {
       kept = option_map told e.kept;
       main = e.main.bytes;
       owed = e.owed;
+      marks = e.marks;
       table = e.table;
       conditions = e.conditions;
       sources = e.sources;
@@ -290,8 +294,7 @@ impl<S: Sources> Engine<S> {
         ensures walks { IsBounded self.new → WalksOver S.Sources 1 self.old self.new (step_answer self.new result) }
     {
         self.facts();
-        let name_len = self.files.file().name.len();
-        match self.owed.take(name_len) {
+        match self.take_owed() {
             Some(piece) => Some(Place::Owed(piece)),
             None => self.step_sources(),
         }
@@ -364,8 +367,10 @@ impl<S: Sources> Engine<S> {
         ensures walks { IsBounded self.new → Walks S.Sources self.old self.new (lent_answer self.new result) }
     {
         let lines = line_ends_in(&self.files.file().buffer.held()[..len]);
+        let line = self.files.file().buffer.line();
         self.enter_mode(next);
         let start = self.consume(len, lines);
+        self.marks.lend_line(line);
         Place::Source(start, start + len)
     }
 

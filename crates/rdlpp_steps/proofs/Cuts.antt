@@ -14,6 +14,9 @@ use Rattle.rdlpp_steps.specs.Held.{IsBounded, stores_of}
 use Rattle.rdlpp_steps.specs.Silences.{most_silent}
 use Rattle.rdlpp_steps.specs.Stored.{HoldsStores, LetsGo}
 use Rattle.rdlpp_steps.proofs.Stores.{keeps_phase}
+use Rattle.rdlpp_steps.specs.Marks.{PlaceView}
+use Rattle.rdlpp_steps.specs.Standing.{StandsIn}
+use Rattle.rdlpp_steps.proofs.PlaceFacts.{position_kept}
 use Rattle.rdlpp_steps.specs.Owed.{cut_to, digits_of, part_bytes}
 use Rattle.rdlpp_cursors.specs.Places.{IsPlaced as IsTextPlaced, place_bytes, source_text, texts_of}
 use Rattle.rdlpp_cursors.specs.declared.place.TextPlace.{TextPlace}
@@ -194,7 +197,8 @@ module _ {S R : Type 0} (g : Ghosts S R) (old mid new : EngineView S R) (xs : Li
         stands = λ free open_ bytes e.
             let l = w.stands free open_ xs refl in
             let same : ys ≡ bytes = cc e in
-            record { at = l.at; reached = l.reached; few = l.few; text = l.text; after = l.after; becomes = becomes ∙ ap (λ (m : EngineView S R). record m { phase = new.phase; quota = new.quota }) l.becomes; piece = l.piece; lent = sym same ∙ part ∙ ap (take old.quota) l.lent; stands = l.stands };
+            record { at = l.at; reached = l.reached; few = l.few; text = l.text; after = l.after; becomes = becomes ∙ ap (λ (m : EngineView S R). record m { phase = new.phase; quota = new.quota }) l.becomes; piece = l.piece; lent = sym same ∙ part ∙ ap (take old.quota) l.lent;
+              stands = subst (λ (p : Option PlaceView). StandsIn g l.at l.after l.piece p) (sym (position_kept mid new becomes w.free (follows_open mid.phase (w.lends xs refl).1) opens)) l.stands };
         lets_go = λ h. subst LetsGo (sym becomes) ((keeps_phase g mid new.phase new.quota).lets_go (w.lets_go h));
         stores = λ t h. subst (HoldsStores g) (sym becomes) ((keeps_phase g mid new.phase new.quota).stores (w.call.tells t) (w.stores t h));
       }

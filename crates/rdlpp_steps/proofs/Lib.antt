@@ -15,6 +15,7 @@ pub mod PassedNests
 pub mod WorkFacts
 pub mod Stores
 pub mod OpeningFacts
+pub mod PlaceFacts
 pub mod EngineSteps
 pub mod FrontSteps
 pub mod OpenSteps

@@ -13,12 +13,13 @@ use Rattle.rdlpp_cursors.specs.Places.{texts_of}
 use Rattle.rdlpp_cursors.specs.Steps.{AreSound}
 use Rattle.rdlpp_usages.specs.Usages.{ExpansionView}
 use Rattle.rdlpp_steps.specs.OpenConditionals.{AreConditions}
+use Rattle.rdlpp_steps.specs.Marks.{MarksView}
 use Rattle.rdlpp_steps.specs.Owed.{OwedView}
 use Rattle.rdlpp_steps.specs.declared.phase.Phase.{Phase}
 use Rattle.rdlpp_steps.specs.declared.phase.Phase.TheVariants.{Fresh, Open, Passed, Closed}
 
 -- an engine: its limits, whether it writes origin lines, how far it is, how many bytes it may still lend, the fault that it keeps, the main
--- text's name, what it owes, its table, the open conditionals, its sources, those that are open, and the open texts of a usage
+-- text's name, what it owes, where it stood when it lent, its table, the open conditionals, its sources, those that are open, and the open texts of a usage
 pub record EngineView (S R : Type 0) : Type 0 where
   pub limits : Limits
   pub origins : Bool
@@ -27,6 +28,7 @@ pub record EngineView (S R : Type 0) : Type 0 where
   pub kept : Option Told
   pub main : List ℕ
   pub owed : OwedView
+  pub marks : MarksView
   pub table : TableView
   pub conditions : ConditionsView
   pub sources : S

@@ -17,6 +17,7 @@ use Rattle.rdlpp_read.specs.declared.files.File.{File}
 use Rattle.rdlpp_front.specs.Fronts.{HasString, include_name}
 use Rattle.rdlpp_steps.specs.Calls.{SourcesCalled}
 use Rattle.rdlpp_steps.specs.Engine.{EngineView}
+use Rattle.rdlpp_steps.specs.Marks.{MarksView, ends_line}
 use Rattle.rdlpp_steps.specs.Owed.{OwedView, nothing_owed, origin_owed}
 
 -- the kind of fault that a source's refusal is told as (this project's profile)
@@ -85,6 +86,12 @@ owed_behind origins (f ∷ around ∷ outer) = record {
   origin = origin_owed origins (shown_line (shift_of around.shift) f.include_line);
 }
 
+-- the marks of an engine that has left an included source: the LF that is owed shows the place of the `include` (this project's profile)
+unfoldable pub marks_behind : {R : Type 0} → List (File R) → MarksView → MarksView
+marks_behind [] m = m
+marks_behind (f ∷ []) m = m
+marks_behind (f ∷ around ∷ outer) m = ends_line (if f.torn then 1 else 0) around.name.bytes (shown_line (shift_of around.shift) f.include_line) m
+
 -- an engine that has left an included source
 unfoldable pub left_engine : {S R : Type 0} → EngineView S R → EngineView S R
-left_engine e = record e { owed = owed_behind e.origins e.files.nest; files = record e.files { nest = drop 1 e.files.nest } }
+left_engine e = record e { owed = owed_behind e.origins e.files.nest; marks = marks_behind e.files.nest e.marks; files = record e.files { nest = drop 1 e.files.nest } }

@@ -1,12 +1,14 @@
 pub mod Calls
 pub mod Work
 pub mod Owed
+pub mod Marks
 pub mod OpenConditionals
 pub mod Engine
 pub mod Held
 pub mod Remaining
 pub mod Includes
 pub mod Pieces
+pub mod Positions
 pub mod Standing
 pub mod Stored
 pub mod Silences

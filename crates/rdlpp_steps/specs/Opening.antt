@@ -13,6 +13,7 @@ use Rattle.rdlpp_meaning.specs.declared.fault.FaultKind.TheVariants.{PathTooLong
 use Rattle.rdlpp_meaning.specs.Outcome.{Told, told, Outcome}
 use Rattle.rdlpp_meaning.specs.Output.{name_cut, opening_fault}
 use Rattle.rdlpp_steps.specs.Engine.{EngineView}
+use Rattle.rdlpp_steps.specs.Marks.{no_marks}
 use Rattle.rdlpp_read.specs.Files.{entered_file}
 use Rattle.rdlpp_steps.specs.Owed.{nothing_owed, origin_owed}
 use Rattle.rdlpp_steps.specs.Held.{IsBounded}
@@ -34,6 +35,7 @@ fresh_engine limits sources origins = record {
   kept = None;
   main = [];
   owed = nothing_owed;
+  marks = no_marks;
   table = record { macros = []; most_bytes = limits.definition_bytes; most_macros = limits.definitions };
   conditions = record { open_now = []; skipped = None; limit = limits.conditions };
   sources = sources;

@@ -5,20 +5,25 @@ use Rattle.rdlpp_steps.specs.declared.owed.OwedPart.{OwedPart}
 use Rattle.rdlpp_steps.specs.declared.owed.OwedPart.TheVariants.{LineEnds, Label, Name, Colon, Digits}
 use Rattle.rdlpp_steps.specs.declared.owed.OwedPiece.{OwedPiece}
 
--- an origin line that is owed from a part of it on, and the decimal digits of its number
+-- an origin line that is owed from a part of it on, and its number
 pub record OriginView : Type 0 where
   pub part : OwedPart
-  pub digits : List ℕ
+  pub number : ℕ
 
 -- how many LF bytes are owed, and the origin line that is owed behind them
 pub record OwedView : Type 0 where
   pub line_ends : ℕ
   pub origin : Option OriginView
 
--- the digits of an origin line that is owed
+-- the decimal digits of the number of an origin line that is owed
 unfoldable pub digits_of : Option OriginView → List ℕ
 digits_of None = []
-digits_of (Some origin) = origin.digits
+digits_of (Some origin) = decimal origin.number
+
+-- the number of an origin line, if one is owed
+abbrev pub owed_number : Option OriginView → Option ℕ
+owed_number None = None
+owed_number (Some origin) = Some origin.number
 
 -- the bytes of a part, by the name that is shown and by the digits: as many LF bytes as are lent at once, or a part of an origin
 -- line (this project's profile)
@@ -48,7 +53,7 @@ pieces_from Digits = 2
 -- the bytes of an origin line that is owed, under the name that is shown
 unfoldable pub origin_bytes : List ℕ → Option OriginView → List ℕ
 origin_bytes name None = []
-origin_bytes name (Some origin) = line_from origin.part name origin.digits
+origin_bytes name (Some origin) = line_from origin.part name (decimal origin.number)
 
 -- how many pieces it has
 unfoldable pub origin_pieces : Option OriginView → ℕ
@@ -73,7 +78,7 @@ line_ends_owed lines = record { line_ends = lines; origin = None }
 
 -- the origin line with a number, where origin lines are asked for (this project's profile)
 unfoldable pub origin_owed : Bool → ℕ → Option OriginView
-origin_owed origins line = if origins then Some (record { part = Label; digits = decimal line }) else None
+origin_owed origins line = if origins then Some (record { part = Label; number = line }) else None
 
 -- a piece with other bytes of its part
 unfoldable pub cut_to : OwedPiece → ℕ → OwedPiece
@@ -86,7 +91,7 @@ first_piece name_len origin = elim origin.part [
   | Label ↦ record { part = Label; len = 11 }
   | Name ↦ record { part = Name; len = name_len }
   | Colon ↦ record { part = Colon; len = 1 }
-  | Digits ↦ record { part = Digits; len = length origin.digits }
+  | Digits ↦ record { part = Digits; len = length (decimal origin.number) }
 ]
 
 -- what is owed of an origin line behind its first piece

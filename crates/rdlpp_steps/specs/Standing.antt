@@ -21,7 +21,9 @@ use Rattle.rdlpp_usages.specs.declared.expansion.Opening.{Opening}
 use Rattle.rdlpp_usages.specs.declared.expansion.Opening.TheVariants.{Opened}
 use Rattle.rdlpp_steps.specs.Engine.{EngineView}
 use Rattle.rdlpp_steps.specs.Owed.{OwedView, TakesPiece, digits_of, nothing_owed, part_bytes}
+use Rattle.rdlpp_steps.specs.Marks.{PlaceView}
 use Rattle.rdlpp_steps.specs.Pieces.{held_texts}
+use Rattle.rdlpp_steps.specs.Positions.{owed_place, position_of, source_place, usage_place}
 use Rattle.rdlpp_steps.specs.Remaining.{inner_name, text_of}
 use Rattle.rdlpp_steps.specs.Stored.{called_formals}
 use Rattle.rdlpp_steps.specs.declared.owed.OwedPiece.{OwedPiece}
@@ -60,22 +62,24 @@ pub data Turns {S R : Type 0} (g : Ghosts S R) (at after : EngineView S R) : Typ
       → IsStep at.expansion.line at.expansion.depth (held_texts at) at.expansion.opens Silent after.expansion.opens
       → AreSound (held_texts after) after.expansion.opens → Turns g at after
 
--- where a piece stands that an engine lends, and what becomes of that: the bytes at which the innermost cursor stands, where nothing is owed and a text of
+-- where a piece stands that an engine lends, its place, and what becomes of that: the bytes at which the innermost cursor stands, where nothing is owed and a text of
 -- a usage is open, and the open texts alone change; those at which the innermost source's buffer stands, where none is open, and it goes on after them; the
--- first of what is owed, an LF, a fixed text, the shown name or digits, which is owed no more; or no bytes
-pub data StandsIn {S R : Type 0} (g : Ghosts S R) (at after : EngineView S R) (piece : List ℕ) : Type 0 where
-  AtCursor : (place : TextPlace) → at.owed ≡ nothing_owed → IsFrontPlace at.expansion.opens place → piece ≡ place_bytes (held_texts at) place
-      → after ≡ record at { expansion = after.expansion } → StandsIn g at after piece
+-- first of what is owed, an LF, a fixed text, the shown name or digits, which is owed no more; or no bytes. But for no bytes the engine marks where it lent
+pub data StandsIn {S R : Type 0} (g : Ghosts S R) (at after : EngineView S R) (piece : List ℕ) (place : Option PlaceView) : Type 0 where
+  AtCursor : (text : TextPlace) → at.owed ≡ nothing_owed → IsFrontPlace at.expansion.opens text → piece ≡ place_bytes (held_texts at) text
+      → place ≡ Some (usage_place at) → after ≡ record at { expansion = after.expansion; marks = after.marks } → StandsIn g at after piece place
   AtSource : (len lines : ℕ) (next : Mode) → at.owed ≡ nothing_owed → at.expansion.opens ≡ [] → piece ≡ take len (held_of (inner_buffer at.files.nest))
-      → after ≡ record at { files = record at.files { nest = with_inner (consumed_file len lines) (with_buffer (entered_mode (inner_buffer at.files.nest) next) at.files.nest) } } → StandsIn g at after piece
+      → place ≡ Some (source_place at)
+      → after ≡ record at { files = record at.files { nest = with_inner (consumed_file len lines) (with_buffer (entered_mode (inner_buffer at.files.nest) next) at.files.nest) }; marks = after.marks } → StandsIn g at after piece place
   AtOwed : (lent : OwedPiece) (rest : OwedView) → TakesPiece (inner_name at.files.nest) at.owed rest lent
-      → piece ≡ take lent.len (part_bytes lent.part (inner_name at.files.nest) (digits_of rest.origin)) → after ≡ record at { owed = rest } → StandsIn g at after piece
-  Nowhere : piece ≡ [] → Turns g at after → StandsIn g at after piece
+      → piece ≡ take lent.len (part_bytes lent.part (inner_name at.files.nest) (digits_of rest.origin)) → place ≡ owed_place at → after ≡ record at { owed = rest; marks = after.marks } → StandsIn g at after piece place
+  Nowhere : piece ≡ [] → Turns g at after → StandsIn g at after piece place
 
 -- a step that lends no bytes, but for how far the engine is and how many bytes may be lent
 pub record LendsNone {S R : Type 0} (g : Ghosts S R) (old new : EngineView S R) : Type 0 where
   pub after : EngineView S R
-  pub stands : StandsIn g old after []
+  pub place : Option PlaceView
+  pub stands : StandsIn g old after [] place
   pub becomes : new ≡ record after { phase = new.phase; quota = new.quota }
 
 -- such steps one after another, over these engines
@@ -89,7 +93,8 @@ pub record Reaches {S R : Type 0} (g : Ghosts S R) (old new : EngineView S R) : 
   pub steps : LendNone g old between new
 
 -- the bytes that are lent are those of a piece, as many as may be, where the engine stood that was reached by steps that lend none, of which there are no
--- more than so many, from which the same text remained, and which became this one, but for how far it is and how many bytes may be lent
+-- more than so many, from which the same text remained, and which became this one, but for how far it is and how many bytes may be lent; and the place of
+-- the piece is the one that this one tells
 pub record LendsWhere {S R : Type 0} (g : Ghosts S R) (silent : ℕ) (most : List ℕ → List ℕ) (old new : EngineView S R) (bytes : List ℕ) : Type 0 where
   pub at : EngineView S R
   pub reached : Reaches g old at
@@ -99,4 +104,4 @@ pub record LendsWhere {S R : Type 0} (g : Ghosts S R) (silent : ℕ) (most : Lis
   pub becomes : new ≡ record after { phase = new.phase; quota = new.quota }
   pub piece : List ℕ
   pub lent : bytes ≡ most piece
-  pub stands : StandsIn g at after piece
+  pub stands : StandsIn g at after piece (position_of new)

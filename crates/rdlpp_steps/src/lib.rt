@@ -7,6 +7,7 @@ mod new_fault;
 mod owed;
 mod phase;
 mod place;
+mod positions;
 mod texts;
 
 pub use held::Held;
@@ -15,4 +16,5 @@ pub use new_fault::NewFault;
 pub use owed::{Owed, OwedPart, OwedPiece};
 pub use phase::Phase;
 pub use place::{Piece, Place};
+pub use positions::{LineStep, Marks, Position};
 pub use texts::{copied, copied_fault, word_of};

@@ -1,6 +1,6 @@
 // Texts that are owed: they are lent before anything that follows in the source.
 ghost use Rattle.std.specs.Prelude.{◌≡◌, ◌↔◌, ℕ, List, ◌+◌, ◌<◌, ◌≤◌, ◌^◌, IfNone, IfSome, IsTrue, decimal, length, take};
-ghost use Rattle.rdlpp_steps.specs.Owed.{TakesPiece, behind_piece, cut_to, digits_of, first_piece, nothing_owed, origin_owed, part_bytes};
+ghost use Rattle.rdlpp_steps.specs.Owed.{TakesPiece, behind_piece, cut_to, digits_of, first_piece, nothing_owed, origin_owed, owed_number, part_bytes};
 
 use arrayvec::ArrayString;
 use itoa::Buffer;
@@ -38,6 +38,8 @@ pub struct OwedPiece {
 #[derive(Drop)]
 struct OriginLine {
     part: OwedPart,
+    number: u64,
+    // the decimal digits of the number
     digits: ArrayString<20>,
 }
 
@@ -49,11 +51,14 @@ pub struct Owed {
 }
 
 impl Model for OriginLine {
+    ghost use Rattle.std.specs.Prelude.{◌≡◌, decimal};
     ghost use Rattle.rdlpp_steps.specs.Owed.{OriginView};
 
     ghost Value = { OriginView };
 
-    ghost view = { λ o. record { part = o.part; digits = o.digits.bytes } };
+    ghost view = { λ o. record { part = o.part; number = o.number } };
+
+    ghost invariant = { λ o. o.digits.bytes ≡ decimal o.number };
 }
 
 impl Model for Owed {
@@ -77,13 +82,14 @@ impl OwedPiece {
 impl OriginLine {
     // The whole line with a number.
     fn new(line: u64) -> Self
-        ensures { result ≡ record { part = OwedPart.Label; digits = decimal line } }
+        ensures { result ≡ record { part = OwedPart.Label; number = line } }
     {
         let mut buffer = Buffer::new();
         let mut digits = ArrayString::new();
         digits.push_str(buffer.format(line));
         OriginLine {
             part: OwedPart::Label,
+            number: line,
             digits,
         }
     }
@@ -126,6 +132,7 @@ impl OriginLine {
     {
         OriginLine {
             part,
+            number: self.number,
             digits: self.digits,
         }
     }
@@ -148,6 +155,23 @@ impl Owed {
         ensures { IsTrue result ↔ (self.now ≡ nothing_owed) }
     {
         self.line_ends == 0 && self.origin.is_none()
+    }
+
+    /// How many LF bytes are owed.
+    pub fn line_ends(&self) -> usize
+        ensures { result ≡ self.now.line_ends }
+    {
+        self.line_ends
+    }
+
+    /// The number of the origin line that is owed, or of what is left of it.
+    pub fn origin_number(&self) -> Option<u64>
+        ensures { result ≡ owed_number self.now.origin }
+    {
+        match &self.origin {
+            None => None,
+            Some(line) => Some(line.number),
+        }
     }
 
     /// Owes so many LF bytes more, before the origin line that is owed.

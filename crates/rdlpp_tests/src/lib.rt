@@ -18,6 +18,8 @@ mod held_tests;
 #[cfg(test)]
 mod memory_tests;
 #[cfg(test)]
+mod position_tests;
+#[cfg(test)]
 mod report_tests;
 #[cfg(test)]
 mod resuming_tests;

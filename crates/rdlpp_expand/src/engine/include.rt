@@ -113,7 +113,10 @@ impl<S: Sources> Engine<S> {
         let line_ends = if file.torn { 1 } else { 0 };
         let line = file.include_line;
         self.files.leave();
-        let shown = self.files.file().shift.shown_line(line);
+        let around = self.files.file();
+        let shown = around.shift.shown_line(line);
+        let name = around.name;
+        self.marks.end_line(line_ends, name, shown);
         self.owed.owe_line_ends(line_ends);
         self.owed.owe_origin(self.origins, shown);
     }

@@ -59,10 +59,12 @@ impl<S: Sources> Engine<S> {
         let buffer = &self.files.file().buffer;
         let lines = line_ends_in(&buffer.held()[..len]);
         let from = buffer.line() + 1;
+        let place = self.shown_place();
         self.consume(len, lines);
         self.show(from, given.number, given.name);
         self.owed.owe_line_ends(lines);
         self.owed.owe_origin(self.origins, given.number);
+        self.marks.end_line(lines, place.name, place.line);
     }
 
     // Gives the innermost source another name to show, and from a physical line on other numbers.

@@ -13,7 +13,7 @@ use rdlpp_conditions::Conditions;
 use rdlpp_meaning::{Fault, FaultKind};
 use rdlpp_read::Files;
 use rdlpp_source::{Found, SourceFault, Sources};
-use rdlpp_steps::{NewFault, Owed, Phase, copied_fault};
+use rdlpp_steps::{Marks, NewFault, Owed, Phase, copied_fault};
 use rdlpp_table::{DefineFault, Limits, Table};
 use rdlpp_usages::Expansion;
 use std::alloc::Global;
@@ -63,6 +63,7 @@ impl<S: Sources> Engine<S> {
             kept: None,
             main: ArrayString::new(),
             owed: Owed::nothing(),
+            marks: Marks::new(),
             table,
             conditions,
             sources,

@@ -111,7 +111,11 @@ impl<S: Sources> Engine<S> {
         let step = self.expansion.step(&self.table);
         self.expansion.facts();
         match step {
-            CursorStep::Lends(place) => TextStep::Lent(place),
+            CursorStep::Lends(place) => {
+                let line = self.expansion.line();
+                self.marks.lend_usage(line);
+                TextStep::Lent(place)
+            }
             CursorStep::Silent => TextStep::Silent,
             CursorStep::Refused(fault) => {
                 let _kept = self.refuse_text(fault);

@@ -1,0 +1,184 @@
+// Tests of the place of the piece that was lent last.
+use crate::runs::STANDARD;
+use rdlpp::{Limits, Texts};
+use rdlpp_expand::{Engine, LineStep, Piece};
+use std::process::Abort;
+use std::test::Fail;
+
+// A piece: its bytes, and its place.
+type Placed<'a> = (&'a [u8], &'a str, u64, LineStep);
+
+// Compares the pieces of a main text `m` that have bytes, and their places, with those that are wanted; behind them there is
+// none.
+fn check<R: Abort + AllocGlobal>(
+    rt: &R,
+    limits: Limits,
+    files: &[(&str, &[u8])],
+    origins: bool,
+    wanted: &[Placed<'_>],
+) -> Result<(), Fail> {
+    let texts = Texts {
+        files,
+        folders: &[],
+    };
+    let mut engine = Engine::new(rt.alloc(), limits, texts, origins)?;
+    assert!(rt; engine.position().is_none());
+    assert!(rt; engine.start("m").is_ok());
+    assert!(rt; engine.position().is_none());
+    let mut count = 0;
+    for _ in 0..1_000 {
+        let len = match engine.next() {
+            Ok(Piece::Bytes(bytes)) => {
+                if !bytes.is_empty() {
+                    assert!(rt; count < wanted.len());
+                    assert!(rt; bytes == wanted[count].0);
+                }
+                bytes.len()
+            }
+            Ok(Piece::Done) => usize::MAX,
+            Err(_) => usize::MAX,
+        };
+        if len == usize::MAX {
+            assert!(rt; engine.position().is_none());
+            assert_eq!(rt; count, wanted.len());
+            return Ok(());
+        }
+        if len > 0 {
+            let Some(position) = engine.position() else {
+                panic!(rt; "no place");
+            };
+            assert_eq!(rt; position.name, wanted[count].1);
+            assert_eq!(rt; position.line, wanted[count].2);
+            assert!(rt; position.step == wanted[count].3);
+            count += 1;
+        }
+    }
+    panic!(rt; "the output has no end");
+}
+
+#[test]
+fn an_include(rt: HostRuntime) -> Result<(), Fail> {
+    let files: [(&str, &[u8]); 2] = [
+        ("m", b"a\nb `include \"i\"\nc\n"),
+        ("i", b"`define X \\\n1\ny"),
+    ];
+    check(
+        &rt,
+        STANDARD,
+        &files,
+        false,
+        &[
+            (b"a\nb ", "m", 1, LineStep::Next),
+            (b"\n\n", "i", 1, LineStep::Next),
+            (b"y", "i", 3, LineStep::Next),
+            (b"\n", "m", 2, LineStep::Next),
+            (b"\nc\n", "m", 2, LineStep::Next),
+        ],
+    )
+}
+
+#[test]
+fn a_line(rt: HostRuntime) -> Result<(), Fail> {
+    let files: [(&str, &[u8]); 1] = [("m", b"a\n`line 70 \"n\" 0\nb\n`ifdef Q\nz\n`endif\nc")];
+    check(
+        &rt,
+        STANDARD,
+        &files,
+        false,
+        &[
+            (b"a\n", "m", 1, LineStep::Next),
+            (b"\n", "m", 2, LineStep::Next),
+            (b"b\n", "n", 70, LineStep::Next),
+            (b"\n\n", "n", 71, LineStep::Next),
+            (b"\nc", "n", 73, LineStep::Next),
+        ],
+    )
+}
+
+#[test]
+fn usages_over_lines(rt: HostRuntime) -> Result<(), Fail> {
+    let files: [(&str, &[u8]); 1] = [(
+        "m",
+        b"`define A(x, y) <x\\\ny>\n`A(1,\n2)`A(\n3, 4) c\n",
+    )];
+    check(
+        &rt,
+        STANDARD,
+        &files,
+        false,
+        &[
+            (b"\n\n", "m", 1, LineStep::Next),
+            (b"<", "m", 3, LineStep::Same),
+            (b"1", "m", 3, LineStep::Same),
+            (b"\n", "m", 3, LineStep::Same),
+            (b"2", "m", 3, LineStep::Same),
+            (b">", "m", 3, LineStep::Same),
+            (b"<", "m", 4, LineStep::Same),
+            (b"3", "m", 4, LineStep::Same),
+            (b"\n", "m", 4, LineStep::Same),
+            (b"4", "m", 4, LineStep::Same),
+            (b">", "m", 4, LineStep::Same),
+            (b" c\n", "m", 5, LineStep::Next),
+        ],
+    )
+}
+
+#[test]
+fn origin_lines(rt: HostRuntime) -> Result<(), Fail> {
+    let files: [(&str, &[u8]); 2] = [
+        ("m", b"\n`include \"i\"\n`line 9 \"n\" 1\nx"),
+        ("i", b""),
+    ];
+    check(
+        &rt,
+        STANDARD,
+        &files,
+        true,
+        &[
+            (b"// origin: ", "m", 1, LineStep::Same),
+            (b"m", "m", 1, LineStep::Same),
+            (b":", "m", 1, LineStep::Same),
+            (b"1", "m", 1, LineStep::Same),
+            (b"\n", "m", 1, LineStep::Same),
+            (b"\n", "m", 1, LineStep::Next),
+            (b"// origin: ", "i", 1, LineStep::Same),
+            (b"i", "i", 1, LineStep::Same),
+            (b":", "i", 1, LineStep::Same),
+            (b"1", "i", 1, LineStep::Same),
+            (b"\n", "i", 1, LineStep::Same),
+            (b"// origin: ", "m", 2, LineStep::Same),
+            (b"m", "m", 2, LineStep::Same),
+            (b":", "m", 2, LineStep::Same),
+            (b"2", "m", 2, LineStep::Same),
+            (b"\n", "m", 2, LineStep::Same),
+            (b"\n", "m", 2, LineStep::Next),
+            (b"\n", "m", 3, LineStep::Next),
+            (b"// origin: ", "n", 9, LineStep::Same),
+            (b"n", "n", 9, LineStep::Same),
+            (b":", "n", 9, LineStep::Same),
+            (b"9", "n", 9, LineStep::Same),
+            (b"\n", "n", 9, LineStep::Same),
+            (b"x", "n", 9, LineStep::Next),
+        ],
+    )
+}
+
+#[test]
+fn the_limit_on_the_output(rt: HostRuntime) -> Result<(), Fail> {
+    let files: [(&str, &[u8]); 1] = [("m", b"`define A abc\n`A`A\n")];
+    let limits = Limits {
+        output_bytes: 5,
+        ..STANDARD
+    };
+    check(
+        &rt,
+        limits,
+        &files,
+        false,
+        &[
+            (b"\n", "m", 1, LineStep::Next),
+            (b"abc", "m", 2, LineStep::Same),
+            (b"a", "m", 2, LineStep::Same),
+        ],
+    )
+}
