@@ -154,7 +154,7 @@ untaken (Some piece) inside old m rest line is marks none = tt
 untaken None inside old m rest line is marks none = (
   ap (λ e. e.owed) (sym is) ∙ none.0,
   ap (λ (n : MarksView). record inside { marks = n; owed = rest }) (marks ∙ (ap (λ (o : OwedView). lends_owed o line inside.marks) none.0 ∙ unowed_marks line inside.marks))
-  ∙ (ap (λ (o : OwedView). record inside { owed = o }) none.1 ∙ is),
+      ∙ (ap (λ (o : OwedView). record inside { owed = o }) none.1 ∙ is),
 )
 
 -- the first piece is taken out, and its place is marked

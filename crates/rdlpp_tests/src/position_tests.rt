@@ -97,10 +97,7 @@ fn a_line(rt: HostRuntime) -> Result<(), Fail> {
 
 #[test]
 fn usages_over_lines(rt: HostRuntime) -> Result<(), Fail> {
-    let files: [(&str, &[u8]); 1] = [(
-        "m",
-        b"`define A(x, y) <x\\\ny>\n`A(1,\n2)`A(\n3, 4) c\n",
-    )];
+    let files: [(&str, &[u8]); 1] = [("m", b"`define A(x, y) <x\\\ny>\n`A(1,\n2)`A(\n3, 4) c\n")];
     check(
         &rt,
         STANDARD,
@@ -125,10 +122,7 @@ fn usages_over_lines(rt: HostRuntime) -> Result<(), Fail> {
 
 #[test]
 fn origin_lines(rt: HostRuntime) -> Result<(), Fail> {
-    let files: [(&str, &[u8]); 2] = [
-        ("m", b"\n`include \"i\"\n`line 9 \"n\" 1\nx"),
-        ("i", b""),
-    ];
+    let files: [(&str, &[u8]); 2] = [("m", b"\n`include \"i\"\n`line 9 \"n\" 1\nx"), ("i", b"")];
     check(
         &rt,
         STANDARD,
