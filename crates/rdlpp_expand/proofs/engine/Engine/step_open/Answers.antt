@@ -1,6 +1,4 @@
-use Rattle.std.proofs.Common.{◌≡◌, [], sym, ap, ◌∙◌, subst}
-use Rattle.rdlpp_read.specs.Files.{AreOpen}
-use Rattle.rdlpp_steps.specs.Engine.{IsSoundEngine}
+use Rattle.std.proofs.Common.{◌≡◌}
 use Rattle.rdlpp_steps.specs.Moves.{IsUnowed}
 use Rattle.rdlpp_steps.specs.Owed.{nothing_owed}
 use Rattle.rdlpp_steps.proofs.FrontSteps.{opened_phase, owed_is_placed, ready_idle, take_owed}
