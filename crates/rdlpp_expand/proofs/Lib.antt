@@ -4,5 +4,4 @@ pub mod TextFacts
 pub mod PositionFacts
 pub mod UsageNames
 pub mod Retries
-pub mod HeldPieces
 pub mod Shown

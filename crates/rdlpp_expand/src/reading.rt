@@ -139,15 +139,18 @@ impl<S: Sources> Reading<S> {
         ensures fills { Fills S.Sources self.old self.new out.old out.new result.len result.ending }
         ensures left { S.Sources.tells self.old.engine.sources → Leaves S.Sources self.old self.new (take result.len out.new) result.ending }
     {
-        let mut len = 0;
+        let mut given = 0;
         loop {
-            len += self.give(out, len);
-            if len == out.len() {
-                return ReadPart { len, ending: None };
+            given += self.give(out, given);
+            if given == out.len() {
+                return ReadPart {
+                    len: given,
+                    ending: None,
+                };
             }
             if let Some(ending) = self.turn() {
                 return ReadPart {
-                    len,
+                    len: given,
                     ending: Some(ending),
                 };
             }

@@ -1,19 +1,29 @@
 // Watchers: who is shown what a run writes.
-ghost use Rattle.std.specs.Prelude.{ℕ, List, Option, None};
+ghost use Rattle.std.specs.Prelude.{◌≡◌, ℕ, Bool, true, false, List, Option, None};
 ghost use Rattle.std.specs.Io.KnownBytes.{Appends};
 
 use rdlpp_steps::Position;
 
 /// Is shown the output that a run writes, piece by piece, each with the place of its first byte.
 ///
-/// A watcher says in contracts which bytes it was shown, where it knows them. The rules are this project's.
+/// A watcher says in contracts whether it looks at what it is shown, and which bytes it was shown,
+/// where it knows them. The rules are this project's.
 pub trait Watcher {
     // the bytes that were shown, where they are known
     ghost seen: { Self → Option (List ℕ) } = { λ _. None };
 
-    /// Is shown bytes that the writer took of a piece: all of it, unless a write failed.
-    fn saw(&mut self, piece: &[u8], position: Option<Position<'_>>)
-        ensures { Appends (seen self.old) (seen self.new) piece.now };
+    // whether it looks at what it is shown
+    ghost looks: { Self → Bool } = { λ _. true };
+
+    /// Whether it looks at what it is shown: one that doesn't isn't shown anything.
+    fn is_looking(&self) -> bool
+        ensures { result ≡ looks self.now };
+
+    /// Is shown bytes that the writer took of a piece, at least one: all of it, unless a write failed.
+    /// It goes on looking.
+    fn saw(&mut self, piece: &[u8], position: Position<'_>)
+        ensures bytes { Appends (seen self.old) (seen self.new) piece.now }
+        ensures looks { looks self.new ≡ looks self.old };
 }
 
 // Nobody watches.
@@ -21,6 +31,15 @@ pub trait Watcher {
 pub(crate) struct Unwatched {}
 
 impl Watcher for Unwatched {
+    ghost use Rattle.std.specs.Prelude.{false};
+
+    ghost looks = { λ _. false };
+
     #[inline(always)]
-    fn saw(&mut self, _piece: &[u8], _position: Option<Position<'_>>) {}
+    fn is_looking(&self) -> bool {
+        false
+    }
+
+    #[inline(always)]
+    fn saw(&mut self, _piece: &[u8], _position: Position<'_>) {}
 }

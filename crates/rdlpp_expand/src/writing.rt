@@ -1,5 +1,5 @@
 // Runs: the output, written to a sink.
-ghost use Rattle.std.specs.Prelude.{[], ◌≡◌, ◌↔◌, ◌≤◌, if◌then◌else◌, IsTrue, None, Some, length, take, false, not};
+ghost use Rattle.std.specs.Prelude.{[], ◌≡◌, true, ◌↔◌, ◌≤◌, if◌then◌else◌, IsTrue, None, Some, length, take, false, not};
 ghost use Rattle.std.specs.Io.KnownBytes.{Appends};
 ghost use Rattle.rdlpp_source.specs.Counts.{Counts};
 ghost use Rattle.rdlpp_expand.specs.Run.{Flushes, Pulls, Runs, Unflushed, Wrote, count_of, fault_of};
@@ -12,7 +12,7 @@ use crate::engine::{Engine, TextStep};
 use crate::watching::{Unwatched, Watcher};
 use rdlpp_meaning::Fault;
 use rdlpp_source::{Sink, Sources};
-use rdlpp_steps::{Piece, Position};
+use rdlpp_steps::{LineStep, Piece, Position};
 
 /// Why a run ended before the end of the output.
 #[derive(Drop, Debug)]
@@ -39,7 +39,8 @@ pub fn run<S: Sources, W: Sink>(engine: &mut Engine<S>, writer: &mut W) -> Resul
     run_watched(engine, writer, &mut nobody)
 }
 
-/// Writes the output of an engine as `run` does, and shows a watcher what the writer took of each piece, before the next step.
+/// Writes the output of an engine as `run` does, and shows a watcher what the writer took of each piece, before the next step,
+/// with the place of its first byte. A watcher that doesn't look, and a piece of which nothing was taken, aren't shown.
 ///
 /// What the watcher is shown is what the writer took, in its order. The answer, the faults and what the engine keeps are those of
 /// `run`.
@@ -196,13 +197,37 @@ fn write_rest<W: Sink>(writer: &mut W, part: &[u8]) -> PartWritten
     PartWritten { len, failed: false }
 }
 
-// Writes a part of a piece, as `write_part` does, and shows a watcher what the sink took of it, with the place of the piece.
+// Shows a watcher what the writer took of a piece, where it looks and where that isn't nothing. A piece with bytes has a place.
 #[inline(always)]
-fn write_shown<W: Sink, V: Watcher>(
+fn show<S: Sources, V: Watcher>(engine: &Engine<S>, watcher: &mut V, part: &[u8])
+    ensures looks { V.looks watcher.new ≡ V.looks watcher.old }
+    ensures seen { V.looks watcher.old ≡ true → Appends (V.seen watcher.old) (V.seen watcher.new) part.now }
+    ensures blind { V.looks watcher.old ≡ false → watcher.new ≡ watcher.old }
+{
+    if !watcher.is_looking() {
+        return;
+    }
+    if part.is_empty() {
+        return;
+    }
+    let position = match engine.position() {
+        Some(position) => position,
+        None => Position {
+            name: "",
+            line: 0,
+            step: LineStep::Same,
+        },
+    };
+    watcher.saw(part, position);
+}
+
+// Writes a part of a piece, as `write_part` does, and shows a watcher what the sink took of it.
+#[inline(always)]
+fn write_shown<S: Sources, W: Sink, V: Watcher>(
+    engine: &Engine<S>,
     writer: &mut W,
     watcher: &mut V,
     part: &[u8],
-    position: Option<Position<'_>>,
 ) -> PartWritten
     ensures inside { result.len ≤ length part.now }
     ensures whole { result.failed ≡ false → result.len ≡ length part.now }
@@ -212,7 +237,7 @@ fn write_shown<W: Sink, V: Watcher>(
     ensures shows { Shows W.Sink V.Watcher writer.old writer.new watcher.old watcher.new }
 {
     let written = write_part(writer, part);
-    watcher.saw(&part[..written.len], position);
+    show(engine, watcher, &part[..written.len]);
     written
 }
 
@@ -247,7 +272,7 @@ fn pull<S: Sources, W: Sink, V: Watcher>(
     };
     match engine.answer(place) {
         Ok(Piece::Bytes(part)) => {
-            let written = write_shown(writer, watcher, part, engine.position());
+            let written = write_shown(engine, writer, watcher, part);
             Pulled {
                 len: written.len,
                 ending: ending_of(&written),
@@ -277,7 +302,7 @@ fn pull_text<S: Sources, W: Sink, V: Watcher>(
 {
     match engine.advance_text() {
         TextStep::Lent(place) => {
-            let written = write_shown(writer, watcher, engine.text(place), engine.position());
+            let written = write_shown(engine, writer, watcher, engine.text(place));
             TextPulled {
                 len: written.len,
                 ending: ending_of(&written),

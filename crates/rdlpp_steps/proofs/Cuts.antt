@@ -200,6 +200,7 @@ module _ {S R : Type 0} (g : Ghosts S R) (old mid new : EngineView S R) (xs : Li
             record {
               at = l.at;
               reached = l.reached;
+              few = l.few;
               text = l.text;
               after = l.after;
               becomes = becomes ∙ ap (λ (m : EngineView S R). record m { phase = new.phase; quota = new.quota }) l.becomes;

@@ -510,7 +510,7 @@ silent_step g m old mid w =
       reaches =
           let l = w.stands free lends.0 [] refl in
           reaches_on g old l.at mid l.reached
-          (reaches_one g l.at mid (record { after = l.after; stands = subst (λ (xs : List ℕ). StandsIn g l.at l.after xs) (sym l.lent) l.stands; becomes = l.becomes }));
+          (reaches_one g l.at mid (record { after = l.after; place = position_of mid; stands = subst (λ (xs : List ℕ). StandsIn g l.at l.after xs (position_of mid)) (sym l.lent) l.stands; becomes = l.becomes }));
       few =
           let l = w.stands free lends.0 [] refl in
           part_more _ (length l.reached.between) m (length-append l.reached.between (mid ∷ [])) l.few;

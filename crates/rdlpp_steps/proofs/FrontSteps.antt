@@ -61,6 +61,7 @@ use Rattle.rdlpp_steps.specs.declared.place.Place.TheVariants.{Source, Text, Owe
 use Rattle.rdlpp_usages.specs.Usages.{texts_left}
 use Rattle.rdlpp_steps.proofs.IdleTexts.{text_idle}
 use Rattle.rdlpp_front.proofs.DefineLeft.{define_begins}
+use Rattle.rdlpp_steps.proofs.PlaceFacts.{owed_position, source_position}
 use Rattle.rdlpp_steps.proofs.EngineSteps.{IsSilent, kept_at, not_called, one_part, reaches_one, walks_failed, walks_fault, walks_lent}
 use Rattle.rdlpp_steps.proofs.NestLeft.{nest_cut_define, nest_defined, nest_filled, nest_long_define, nest_long_line, nest_long_source, nest_nameless, nest_refused, nest_refused_define, nest_reserved, nest_text, nest_undef, nest_undefined, nest_unfilled, nest_unheld}
 use Rattle.rdlpp_steps.proofs.Soundness.{inner_facts, with_inner-length}
@@ -567,7 +568,7 @@ silent_fill {S} {R} g old mid ready r fills call =
           (nest_filled old.limits (run_rules g old) g.unread old.table.macros old.conditions (g.tells old.sources) t old.files.nest b fills);
       work = (let same : work_left mid ≡ work_left old = work_same old mid b limits owed (ap (λ e. e.expansion) r.becomes) nest fills.unused in omega arith);
       keeps = filled_stores g old mid ready r fills call;
-      reaches = reaches_one g old mid (record { after = mid; stands = Nowhere refl (InSources ready.idle (ap (λ e. e.expansion) r.becomes)); becomes = refl });
+      reaches = reaches_one g old mid (record { after = mid; place = None; stands = Nowhere refl (InSources ready.idle (ap (λ e. e.expansion) r.becomes)); becomes = refl });
       few = one_part _ refl;
     }
 

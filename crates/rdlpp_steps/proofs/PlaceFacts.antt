@@ -1,10 +1,10 @@
 -- The places of pieces, as the marks have them.
-use Rattle.std.proofs.Common.{◌≡◌, ℕ, ◌+◌, ◌-◌, ◌<◌, ◌==◌, Bool, true, false, List, [], ◌∷◌, Option, None, Some, length, refl, sym, ap, ◌∙◌, subst, arith}
+use Rattle.std.proofs.Common.{◌≡◌, ℕ, ◌-◌, ◌<◌, ◌==◌, Bool, true, false, List, [], ◌∷◌, Option, None, Some, length, refl, sym, ap, ◌∙◌, subst, arith}
 use Rattle.std.specs.Prelude.{if◌then◌else◌, is_some, IfNone, IfSome}
 use Rattle.std.proofs.lemmas.Bool.{eqb-true, ne_eqb}
 use Rattle.rdlpp_scan.specs.declared.token.Mode.{Mode}
 use Rattle.rdlpp_meaning.specs.Outcome.{Told}
-use Rattle.rdlpp_meaning.specs.State.{Shift, State, shown_line}
+use Rattle.rdlpp_meaning.specs.State.{Shift, State}
 use Rattle.rdlpp_read.specs.Files.{consumed_file, inner_buffer, shift_of, with_buffer, with_inner}
 use Rattle.rdlpp_read.specs.Buffer.{entered_mode}
 use Rattle.rdlpp_read.specs.declared.files.File.{File}
@@ -13,7 +13,7 @@ use Rattle.rdlpp_table.specs.declared.limits.Limits.{Limits}
 use Rattle.rdlpp_conditions.specs.Conditions.{ConditionsView}
 use Rattle.rdlpp_usages.specs.Usages.{ExpansionView}
 use Rattle.rdlpp_steps.specs.Engine.{EngineView, is_open}
-use Rattle.rdlpp_steps.specs.Marks.{MarksView, PlaceView, lends_line, lends_line_end, lends_origin, lends_owed, lends_usage, marked_place}
+use Rattle.rdlpp_steps.specs.Marks.{MarksView, lends_line, lends_line_end, lends_origin, lends_owed, lends_usage, marked_place}
 use Rattle.rdlpp_steps.specs.Owed.{OriginView, OwedView, TakesPiece, nothing_owed, origin_pieces, owed_number, owed_pieces}
 use Rattle.rdlpp_steps.specs.Positions.{TakesOwed, line_end_place, origin_place, owed_place, place_at, position_of, source_place, usage_place}
 use Rattle.rdlpp_steps.specs.Remaining.{file_state, inner_name, nest_state, state_of}

@@ -1,6 +1,6 @@
 -- Marks: where the piece stands that was lent last.
 -- A definition that names no source is this project's own.
-use Rattle.std.specs.Prelude.{◌≡◌, ℕ, ◌-◌, ◌^◌, ◌<◌, ◌==◌, Bool, false, not, List, [], Option, None, Some, if◌then◌else◌, ⊤}
+use Rattle.std.specs.Prelude.{ℕ, ◌-◌, ◌^◌, ◌<◌, ◌==◌, Bool, false, not, List, [], Option, None, Some, if◌then◌else◌, ⊤}
 use Rattle.rdlpp_meaning.specs.State.{Shift, shown_line}
 use Rattle.rdlpp_steps.specs.Owed.{OriginView, OwedView}
 use Rattle.rdlpp_steps.specs.declared.positions.Lent.{Lent}

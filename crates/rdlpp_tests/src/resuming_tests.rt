@@ -89,7 +89,10 @@ fn goes_on_behind_each_search_that_failed(rt: HostRuntime) -> Result<(), Fail> {
 fn keeps_what_is_no_failed_search(rt: HostRuntime) -> Result<(), Fail> {
     for (text, kind) in [
         (b"a\n".as_slice(), FaultKind::ReadFailed),
-        (b"`define A 1\n`A `include \"n\"\n", FaultKind::SourceNotFound),
+        (
+            b"`define A 1\n`A `include \"n\"\n",
+            FaultKind::SourceNotFound,
+        ),
     ] {
         let sources = DealtText {
             text,
@@ -190,6 +193,8 @@ fn reads_single_pieces(rt: HostRuntime) -> Result<(), Fail> {
 struct Keeping {
     bytes: Vec<u8>,
     pieces: u64,
+    // the line of the last one
+    last: u64,
 }
 
 impl Watcher for Keeping {
@@ -197,8 +202,13 @@ impl Watcher for Keeping {
 
     ghost seen = { λ _. None };
 
-    fn saw(&mut self, piece: &[u8], _position: Option<Position<'_>>) {
+    fn is_looking(&self) -> bool {
+        true
+    }
+
+    fn saw(&mut self, piece: &[u8], position: Position<'_>) {
         self.pieces = self.pieces.saturating_add(1);
+        self.last = position.line;
         let _kept = self.bytes.extend_from_slice(piece);
     }
 }
@@ -217,9 +227,11 @@ fn shows_a_watcher_what_is_written(rt: HostRuntime) -> Result<(), Fail> {
     let mut keeping = Keeping {
         bytes: Vec::new(rt.alloc()),
         pieces: 0,
+        last: 0,
     };
     assert!(rt; run_watched(&mut engine, &mut counted, &mut keeping).is_ok());
     assert!(rt; keeping.pieces > 4);
+    assert_eq!(rt; keeping.last, 4);
     assert!(rt; counted.into_writer().as_slice() == keeping.bytes.as_slice());
     Ok(())
 }

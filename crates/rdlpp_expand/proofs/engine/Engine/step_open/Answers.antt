@@ -1,6 +1,4 @@
-use Rattle.std.proofs.Common.{◌≡◌, [], sym, ap, ◌∙◌, subst, arith}
-use Rattle.rdlpp_read.specs.Files.{AreOpen}
-use Rattle.rdlpp_steps.specs.Engine.{IsSoundEngine}
+use Rattle.std.proofs.Common.{◌≡◌, arith}
 use Rattle.rdlpp_steps.specs.Moves.{IsUnowed}
 use Rattle.rdlpp_steps.specs.Owed.{nothing_owed}
 use Rattle.rdlpp_steps.proofs.EngineSteps.{wider}

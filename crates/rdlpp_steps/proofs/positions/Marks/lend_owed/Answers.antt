@@ -1,6 +1,5 @@
-use Rattle.std.proofs.Common.{◌≡◌, ◌-◌, sym, ap, ◌∙◌}
+use Rattle.std.proofs.Common.{◌-◌, sym, ap, ◌∙◌}
 use Rattle.rdlpp_steps.specs.Marks.{MarksView, lends_owed}
-use Rattle.rdlpp_steps.specs.Owed.{owed_number}
 use Rattle.rdlpp_steps.proofs.PlaceFacts.{marks_ending, marks_line, marks_nothing, marks_origin}
 use Rattle.rdlpp_steps.proofs.positions.Marks.lend_owed.Goals as goal
 
