@@ -33,7 +33,7 @@ impl<W: Write> MapWriter<W> {
             return Err(error);
         }
         if let Some(run) = self.lines.finish() {
-            write_run(&run, &mut self.writer)?;
+            write_run(run, &mut self.writer)?;
         }
         self.writer.flush()
     }
@@ -44,12 +44,10 @@ impl<W: Write> Watcher for MapWriter<W> {
         let Some(position) = position else {
             return;
         };
-        let ended = self.lines.take(piece, &position);
-        if self.failure.is_some() {
-            return;
-        }
-        if let Some(run) = ended {
-            self.failure = write_run(&run, &mut self.writer).err();
+        if let Some(run) = self.lines.take(piece, &position)
+            && self.failure.is_none()
+        {
+            self.failure = write_run(run, &mut self.writer).err();
         }
     }
 }
