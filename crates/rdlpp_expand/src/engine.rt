@@ -53,7 +53,8 @@ use rdlpp_read::{Files, Fill, LogicalLine};
 use rdlpp_scan::{Mode, line_ends_in, reserved};
 use rdlpp_source::Sources;
 use rdlpp_steps::{
-    Held, Owed, OwedPart, OwedPiece, Phase, Piece, Place, copied, copied_fault, fault_kind, word_of,
+    Held, Marks, Owed, OwedPart, OwedPiece, Phase, Piece, Place, copied, copied_fault, fault_kind,
+    word_of,
 };
 use rdlpp_table::{Limits, Table};
 use rdlpp_usages::Expansion;

@@ -12,7 +12,7 @@ use crate::engine::{Engine, TextStep};
 use crate::watching::{Unwatched, Watcher};
 use rdlpp_meaning::Fault;
 use rdlpp_source::{Sink, Sources};
-use rdlpp_steps::Piece;
+use rdlpp_steps::{Piece, Position};
 
 /// Why a run ended before the end of the output.
 #[derive(Drop, Debug)]
@@ -196,9 +196,14 @@ fn write_rest<W: Sink>(writer: &mut W, part: &[u8]) -> PartWritten
     PartWritten { len, failed: false }
 }
 
-// Writes a part, as `write_part` does, and shows a watcher what the sink took of it.
+// Writes a part of a piece, as `write_part` does, and shows a watcher what the sink took of it, with the place of the piece.
 #[inline(always)]
-fn write_shown<W: Sink, V: Watcher>(writer: &mut W, watcher: &mut V, part: &[u8]) -> PartWritten
+fn write_shown<W: Sink, V: Watcher>(
+    writer: &mut W,
+    watcher: &mut V,
+    part: &[u8],
+    position: Option<Position<'_>>,
+) -> PartWritten
     ensures inside { result.len ≤ length part.now }
     ensures whole { result.failed ≡ false → result.len ≡ length part.now }
     ensures taken { Appends (W.taken writer.old) (W.taken writer.new) (take result.len part.now) }
@@ -207,7 +212,7 @@ fn write_shown<W: Sink, V: Watcher>(writer: &mut W, watcher: &mut V, part: &[u8]
     ensures shows { Shows W.Sink V.Watcher writer.old writer.new watcher.old watcher.new }
 {
     let written = write_part(writer, part);
-    watcher.saw(&part[..written.len]);
+    watcher.saw(&part[..written.len], position);
     written
 }
 
@@ -219,16 +224,6 @@ fn ending_of(written: &PartWritten) -> Option<Ending>
         Some(Ending::Unwritten)
     } else {
         None
-    }
-}
-
-// Shows a watcher what the writer took of a piece.
-#[inline(always)]
-fn show<S: Sources, V: Watcher>(engine: &Engine<S>, watcher: &mut V, part: &[u8]) {
-    if watcher.is_looking()
-        && let Some(position) = engine.position()
-    {
-        watcher.saw(part, position);
     }
 }
 
@@ -252,7 +247,7 @@ fn pull<S: Sources, W: Sink, V: Watcher>(
     };
     match engine.answer(place) {
         Ok(Piece::Bytes(part)) => {
-            let written = write_shown(writer, watcher, part);
+            let written = write_shown(writer, watcher, part, engine.position());
             Pulled {
                 len: written.len,
                 ending: ending_of(&written),
@@ -282,7 +277,7 @@ fn pull_text<S: Sources, W: Sink, V: Watcher>(
 {
     match engine.advance_text() {
         TextStep::Lent(place) => {
-            let written = write_shown(writer, watcher, engine.text(place));
+            let written = write_shown(writer, watcher, engine.text(place), engine.position());
             TextPulled {
                 len: written.len,
                 ending: ending_of(&written),
