@@ -1,7 +1,6 @@
 pub mod RunFacts
 pub mod Readings
 pub mod TextFacts
-pub mod PositionFacts
 pub mod UsageNames
 pub mod Retries
 pub mod HeldPieces

@@ -9,7 +9,6 @@ use Rattle.rdlpp_cursors.specs.declared.step.CursorStep.{CursorStep}
 use Rattle.rdlpp_cursors.specs.declared.step.CursorStep.TheVariants.{Lends}
 use Rattle.rdlpp_usages.specs.Usages.{ExpansionView, StaysLent}
 use Rattle.rdlpp_steps.specs.Engine.{EngineView}
-use Rattle.rdlpp_steps.specs.Marks.{MarksView}
 use Rattle.rdlpp_steps.specs.Moves.{IsUnowed}
 use Rattle.rdlpp_steps.specs.Pieces.{kept_answer, lent_answer, step_answer}
 use Rattle.rdlpp_steps.specs.Steps.{Steps, WalksOver}
@@ -58,16 +57,16 @@ none-texts e none = (
 )
 
 -- other open texts change nothing of what is owed or kept
-pub unowed-texts : {S R : Type 0} (old new : EngineView S R) (x : ExpansionView) (marks : MarksView) → IsUnowed old → new ≡ record old { expansion = x; marks = marks } → IsUnowed new
-unowed-texts old new x marks unowed becomes = rw becomes (record { open_ = unowed.open_; free = unowed.free; owed = unowed.owed })
+pub unowed-texts : {S R : Type 0} (old new : EngineView S R) (x : ExpansionView) → IsUnowed old → new ≡ record old { expansion = x } → IsUnowed new
+unowed-texts old new x unowed becomes = rw becomes (record { open_ = unowed.open_; free = unowed.free; owed = unowed.owed })
 
 -- behind bytes that were lent a text is open
-pub lent-texts : {S R : Type 0} (old new : EngineView S R) (x : ExpansionView) (marks : MarksView) (result : CursorStep) (place : TextPlace) → IsUnowed old → result ≡ Lends place
-    → StaysLent old.expansion result x → new ≡ record old { expansion = x; marks = marks } → IsInTexts new
+pub lent-texts : {S R : Type 0} (old new : EngineView S R) (x : ExpansionView) (result : CursorStep) (place : TextPlace) → IsUnowed old → result ≡ Lends place
+    → StaysLent old.expansion result x → new ≡ record old { expansion = x } → IsInTexts new
 unfolding StaysLent
-lent-texts old new x marks result place unowed is lent becomes =
+lent-texts old new x result place unowed is lent becomes =
     let open_now : (0 < length x.opens) × (x.arguments ≡ old.expansion.arguments) = subst (λ r. StaysLent old.expansion r x) is lent in
-    (unowed-texts old new x marks unowed becomes, rw becomes open_now.0)
+    (unowed-texts old new x unowed becomes, rw becomes open_now.0)
 
 -- the fault of an engine that keeps one is what it answers
 pub answer-kept : {S R : Type 0} (g : Ghosts S R) (old new : EngineView S R) (f : Told) → new.kept ≡ Some f → Steps g old new (kept_answer new.kept) → Steps g old new (Err f)

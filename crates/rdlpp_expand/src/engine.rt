@@ -295,7 +295,9 @@ impl<S: Sources> Engine<S> {
         ensures walks { IsBounded self.new → WalksOver S.Sources 1 self.old self.new (step_answer self.new result) }
     {
         self.facts();
-        match self.take_owed() {
+        self.mark_owed();
+        let name_len = self.files.file().name.len();
+        match self.owed.take(name_len) {
             Some(piece) => Some(Place::Owed(piece)),
             None => self.step_sources(),
         }
@@ -368,10 +370,9 @@ impl<S: Sources> Engine<S> {
         ensures walks { IsBounded self.new → Walks S.Sources self.old self.new (lent_answer self.new result) }
     {
         let lines = line_ends_in(&self.files.file().buffer.held()[..len]);
-        let line = self.files.file().buffer.line();
+        self.mark_source();
         self.enter_mode(next);
         let start = self.consume(len, lines);
-        self.marks.lend_line(line);
         Place::Source(start, start + len)
     }
 

@@ -14,9 +14,6 @@ use Rattle.rdlpp_steps.specs.Held.{IsBounded, stores_of}
 use Rattle.rdlpp_steps.specs.Silences.{most_silent}
 use Rattle.rdlpp_steps.specs.Stored.{HoldsStores, LetsGo}
 use Rattle.rdlpp_steps.proofs.Stores.{keeps_phase}
-use Rattle.rdlpp_steps.specs.Marks.{PlaceView}
-use Rattle.rdlpp_steps.specs.Standing.{StandsIn}
-use Rattle.rdlpp_steps.proofs.PlaceFacts.{position_kept}
 use Rattle.rdlpp_steps.specs.Owed.{cut_to, digits_of, part_bytes}
 use Rattle.rdlpp_cursors.specs.Places.{IsPlaced as IsTextPlaced, place_bytes, source_text, texts_of}
 use Rattle.rdlpp_cursors.specs.declared.place.TextPlace.{TextPlace}

@@ -25,8 +25,7 @@ use Rattle.rdlpp_steps.specs.Engine.{AreIncluded, EngineView}
 use Rattle.rdlpp_steps.specs.Held.{IsBounded}
 use Rattle.rdlpp_steps.specs.Standing.{InSources, Nowhere}
 use Rattle.rdlpp_steps.proofs.Stores.{parts_around}
-use Rattle.rdlpp_steps.specs.Includes.{left_engine, marks_behind, owed_behind}
-use Rattle.rdlpp_steps.specs.Marks.{MarksView, ends_line}
+use Rattle.rdlpp_steps.specs.Includes.{left_engine, owed_behind}
 use Rattle.rdlpp_steps.specs.Moves.{Closes, Ends, IsReady, Returns, StopsOpen, StopsUnclosed}
 use Rattle.rdlpp_steps.specs.OpenConditionals.{inner_below}
 use Rattle.rdlpp_steps.specs.Owed.{OwedView, nothing_owed, origin_owed, owed_bytes, owed_pieces, origin_pieces}
@@ -97,12 +96,6 @@ unfolding owed_behind
 owed_same origins b [] = refl
 owed_same origins b (f ∷ []) = refl
 owed_same origins b (f ∷ around ∷ outer) = refl
-
-marks_same : {R : Type 0} (m : MarksView) (b : BufferView R) (nest : List (File R)) → marks_behind (with_buffer b nest) m ≡ marks_behind nest m
-unfolding marks_behind
-marks_same m b [] = refl
-marks_same m b (f ∷ []) = refl
-marks_same m b (f ∷ around ∷ outer) = refl
 
 drop_same : {R : Type 0} (b : BufferView R) (nest : List (File R)) → drop 1 (with_buffer b nest) ≡ drop 1 nest
 drop_same b [] = refl
@@ -184,18 +177,16 @@ module _ {S R : Type 0} (g : Ghosts S R) (old mid new : EngineView S R) (ready :
       let ended = same_ended back.ended in
       let live : old.conditions.skipped ≡ None = conditions_live old.limits old.conditions before ended ready.sound.conditions_of in
       let owed = owed_behind old.origins before in
-      let marks = marks_behind before old.marks in
-      let leaves_as : FilesView R → EngineView S R = λ fs. record old { owed = owed_behind old.origins fs.nest; marks = marks_behind fs.nest old.marks; files = record fs { nest = drop 1 fs.nest }; sources = mid.sources } in
-      let by : OwedView → MarksView → List (File R) → EngineView S R = λ o m ns. record old { owed = o; marks = m; files = record old.files { nest = ns }; sources = mid.sources } in
-      let becomes : new ≡ by owed marks (drop 1 before) =
+      let leaves_as : FilesView R → EngineView S R = λ fs. record old { owed = owed_behind old.origins fs.nest; files = record fs { nest = drop 1 fs.nest }; sources = mid.sources } in
+      let by : OwedView → List (File R) → EngineView S R = λ o ns. record old { owed = o; files = record old.files { nest = ns }; sources = mid.sources } in
+      let becomes : new ≡ by owed (drop 1 before) =
       back.becomes ∙ (ap left_engine r.becomes ∙ (ap leaves_as r.only
-      ∙ (ap (λ (o : OwedView). by o (marks_behind (with_buffer b before) old.marks) (drop 1 (with_buffer b before))) (owed_same old.origins b before)
-      ∙ (ap (λ (m : MarksView). by owed m (drop 1 (with_buffer b before))) (marks_same old.marks b before) ∙ ap (by owed marks) (drop_same b before))))) in
+      ∙ (ap (λ (o : OwedView). by o (drop 1 (with_buffer b before))) (owed_same old.origins b before) ∙ ap (by owed) (drop_same b before)))) in
       let few = ready.files.few in
       let slots = ready.sound.slots in
       subst (λ (e : EngineView S R). Walks g old e (Ok (Some []))) (sym becomes)
-      (lends_by g old ready [] owed marks old.table.macros old.conditions (drop 1 before) mid.sources (subst IsBounded becomes bounded)
-      (left_falls old (by owed marks (drop 1 before)) refl ready.idle ready.idle refl ready.nest (omega arith) (owed_behind-few old.origins before)) call
+      (lends_by g old ready [] owed old.table.macros old.conditions (drop 1 before) mid.sources (subst IsBounded becomes bounded)
+      (left_falls old (by owed (drop 1 before)) refl ready.idle ready.idle refl ready.nest (omega arith) (owed_behind-few old.origins before)) call
       (λ t. nest_back old.limits (run_rules g old) g.unread old.table.macros old.conditions live (g.tells old.sources) t before b inner ended fills (sym fills.mode ∙ back.mode)
       ∙ ap (λ (x : List ℕ). behind_bytes x (left_by g old old.table.macros old.conditions (drop 1 before))) (sym (owed_ending (g.catalog old.sources) old.limits old.origins before inner)))
       (λ t. parts_around g.unread before (g.catalog old.sources)) (Nowhere refl (InSources ready.idle refl)))
@@ -267,10 +258,3 @@ owes_behind origins nest rest f around old mid new ends shown first second nothi
     let exact : mid.line_ends ≡ (if f.torn then 1 else 0) = omega arith in
     let makes : ℕ → ℕ → OwedView = λ n m. record { line_ends = n; origin = origin_owed origins m } in
     asks ∙ (ap (λ (n : ℕ). makes n shown) exact ∙ (ap (makes (if f.torn then 1 else 0)) line ∙ sym (behind_two origins nest rest f around first second)))
-
--- and its mark
-pub marks_two : {R : Type 0} (nest rest : List (File R)) (f around : File R) (m : MarksView) (ends shown : ℕ) (name : List ℕ) → nest ≡ f ∷ drop 1 nest → drop 1 nest ≡ around ∷ rest
-    → ends ≡ (if f.torn then 1 else 0) → shown ≡ shown_line (shift_of around.shift) f.include_line → name ≡ around.name.bytes → ends_line ends name shown m ≡ marks_behind nest m
-unfolding marks_behind
-marks_two {R} nest rest f around m ends shown name first second torn line named =
-    rw (torn, line, named) (sym (ap (λ (ns : List (File R)). marks_behind ns m) (first ∙ ap (λ (ns : List (File R)). f ∷ ns) second)))

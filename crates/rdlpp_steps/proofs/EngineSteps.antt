@@ -23,7 +23,6 @@ use Rattle.rdlpp_read.specs.declared.files.File.{File}
 use Rattle.rdlpp_steps.proofs.Stores.{KeepsStores, keeps_refused, none_called}
 use Rattle.rdlpp_steps.specs.Owed.{nothing_owed}
 use Rattle.rdlpp_steps.specs.Pieces.{kept_answer, lent_answer}
-use Rattle.rdlpp_steps.specs.Positions.{position_of}
 use Rattle.rdlpp_steps.specs.Remaining.{uncut_of, kept_uncut, output_fault, phase_uncut, state_of, text_of, work_left}
 use Rattle.rdlpp_steps.specs.Steps.{EndsText, FailsAt, OnRead, Halts, HaltsAt, IsReading, AtFront, Itself, LendsText, StopsReading, StepsOver, TellsText, Walks, WalksOver, all_of, may_follow, no_len, Tells, IsOwn, IsStarted, has_failed, has_met, has_refused, is_call_failed, is_memory_kind, is_read_failed, is_write_failed}
 use Rattle.rdlpp_steps.specs.declared.phase.Phase.{Phase}
@@ -144,11 +143,11 @@ parts_wider a n m few more = omega (arith, few, more)
 -- an engine whose main text is open and that keeps no fault
 module _ {S R : Type 0} (g : Ghosts S R) (old new : EngineView S R) (free : old.kept ≡ None) (open_ : old.phase ≡ Open) (bounded : IsBounded new) where
   -- a piece was lent
-  pub walks_lent : (bytes : List ℕ) → new ≡ record old { owed = new.owed; marks = new.marks; table = new.table; conditions = new.conditions; files = new.files; sources = new.sources; expansion = new.expansion }
+  pub walks_lent : (bytes : List ℕ) → new ≡ record old { owed = new.owed; table = new.table; conditions = new.conditions; files = new.files; sources = new.sources; expansion = new.expansion }
       → (new.table.most_bytes ≡ old.table.most_bytes) × (new.table.most_macros ≡ old.table.most_macros)
       → SourcesCalled g false false old.sources new.sources
       → (g.tells old.sources → text_of g old ≡ behind_bytes bytes (text_of g new))
-      → work_left new < work_left old → KeepsStores g old new → StandsIn g old new bytes (position_of new) → Walks g old new (Ok (Some bytes))
+      → work_left new < work_left old → KeepsStores g old new → StandsIn g old new bytes → Walks g old new (Ok (Some bytes))
   unfolding has_met no_len all_of may_follow
   walks_lent bytes becomes room call text falls keeps from =
       let still : new.phase ≡ Open = ap (λ e. e.phase) becomes ∙ open_ in

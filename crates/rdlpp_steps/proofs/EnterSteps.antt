@@ -237,7 +237,7 @@ module _ {S R : Type 0} (g : Ghosts S R) (old mid new : EngineView S R) (start s
       let after : EngineView S R = record old { owed = owed; files = record old.files { nest = file ∷ used }; sources = mid.sources } in
       let is : new ≡ after = enters ∙ ap (included_engine found stop) becomes in
       subst (λ (e : EngineView S R). Walks g old e (Ok (Some []))) (sym is)
-      (lends_by g old ready [] owed old.marks old.table.macros old.conditions (file ∷ used) mid.sources (subst IsBounded is bounded)
+      (lends_by g old ready [] owed old.table.macros old.conditions (file ∷ used) mid.sources (subst IsBounded is bounded)
       (entered_falls old after refl ready.idle ready.idle (record {
         inner = file;
         used = used;

@@ -47,11 +47,9 @@ use Rattle.rdlpp_steps.specs.Stored.{AreParts}
 use Rattle.rdlpp_read.proofs.Sliding.{slides-same, slides-told}
 use Rattle.rdlpp_steps.proofs.Stores.{KeepsParts, KeepsStores, keeps_owed, keeps_sources, keeps_stopped, parts_mode, parts_on, parts_slid, parts_used}
 use Rattle.rdlpp_steps.specs.Moves.{Defines, IsReady, IsUnowed, ReadsDefine, RefusesDefine, define_rest}
-use Rattle.rdlpp_steps.specs.Marks.{MarksView, lends_line, lends_owed}
 use Rattle.rdlpp_steps.specs.Owed.{OriginView, OwedView, TakesPiece, digits_of, line_ends_owed, nothing_owed, origin_bytes, origin_pieces, owed_bytes, owed_pieces, part_bytes}
 use Rattle.rdlpp_steps.specs.declared.owed.OwedPiece.{OwedPiece}
 use Rattle.rdlpp_steps.specs.Pieces.{IsPlaced, lent_answer, step_answer}
-use Rattle.rdlpp_steps.specs.Positions.{position_of}
 use Rattle.rdlpp_steps.specs.Remaining.{file_state, inner_name, nest_left, nest_state, run_rules, source_rules, state_of, text_of, work_left}
 use Rattle.rdlpp_steps.specs.Steps.{IsOwn, IsReading, Walks, is_memory_kind, is_read_failed, is_write_failed}
 use Rattle.rdlpp_steps.specs.declared.phase.Phase.{Phase}
@@ -133,41 +131,41 @@ abbrev pub left_by : {S R : Type 0} → Ghosts S R → EngineView S R → List M
 left_by g e macros v nest = nest_left e.limits (run_rules g e) g.unread macros v nest
 
 -- the work left falls, and a piece is lent
-pub lends_by : {S R : Type 0} (g : Ghosts S R) (old : EngineView S R) (ready : IsReady old) (bytes : List ℕ) (owed : OwedView) (marks : MarksView) (macros : List Macro) (v : ConditionsView) (nest : List (File R)) (sources : S)
-    → let after = record old { owed = owed; marks = marks; table = record old.table { macros = macros }; conditions = v; files = record old.files { nest = nest }; sources = sources } in
+pub lends_by : {S R : Type 0} (g : Ghosts S R) (old : EngineView S R) (ready : IsReady old) (bytes : List ℕ) (owed : OwedView) (macros : List Macro) (v : ConditionsView) (nest : List (File R)) (sources : S)
+    → let after = record old { owed = owed; table = record old.table { macros = macros }; conditions = v; files = record old.files { nest = nest }; sources = sources } in
     IsBounded after → work_left after < work_left old → SourcesCalled g false false old.sources sources
     → (g.tells old.sources → left_by g old old.table.macros old.conditions old.files.nest ≡ behind_bytes bytes (behind_bytes (owed_bytes (inner_name nest) owed) (left_by g old macros v nest)))
     → (g.tells old.sources → AreParts g.unread (g.catalog old.sources) Unit old.files.nest → AreParts g.unread (g.catalog old.sources) Unit nest)
-    → StandsIn g old after bytes (position_of after) → Walks g old after (Ok (Some bytes))
-lends_by g old ready bytes owed marks macros v nest sources bounded falls call law parts from =
-    let after = record old { owed = owed; marks = marks; table = record old.table { macros = macros }; conditions = v; files = record old.files { nest = nest }; sources = sources } in
+    → StandsIn g old after bytes → Walks g old after (Ok (Some bytes))
+lends_by g old ready bytes owed macros v nest sources bounded falls call law parts from =
+    let after = record old { owed = owed; table = record old.table { macros = macros }; conditions = v; files = record old.files { nest = nest }; sources = sources } in
     walks_lent g old after ready.free ready.open_ bounded bytes refl (refl, refl) call
     (λ t. text_unowed g old ready.owed ready.idle
     ∙ (law t ∙ (ap (λ (c : Catalog). behind_bytes bytes (behind_bytes (owed_bytes (inner_name nest) owed) (nest_left old.limits (source_rules c old.limits old.origins) g.unread macros v nest))) (sym call.catalog)
     ∙ ap (behind_bytes bytes) (sym (text_idle g after ready.idle)))))
-    falls (keeps_sources g old owed marks macros v nest sources ready.free ready.idle call.catalog parts) from
+    falls (keeps_sources g old owed macros v nest sources ready.free ready.idle call.catalog parts) from
 
 -- bytes of the innermost source are used, and a piece is lent
-pub lends_piece : {S R : Type 0} (g : Ghosts S R) (old : EngineView S R) (ready : IsReady old) (bytes : List ℕ) (owed : OwedView) (marks : MarksView) (macros : List Macro) (v : ConditionsView) (nest : List (File R)) (sources : S)
-    → let after = record old { owed = owed; marks = marks; table = record old.table { macros = macros }; conditions = v; files = record old.files { nest = nest }; sources = sources } in
+pub lends_piece : {S R : Type 0} (g : Ghosts S R) (old : EngineView S R) (ready : IsReady old) (bytes : List ℕ) (owed : OwedView) (macros : List Macro) (v : ConditionsView) (nest : List (File R)) (sources : S)
+    → let after = record old { owed = owed; table = record old.table { macros = macros }; conditions = v; files = record old.files { nest = nest }; sources = sources } in
     IsBounded after → owed_pieces owed < 2 ^ 31 → IsUsed old.files.nest nest → SourcesCalled g false false old.sources sources
     → (g.tells old.sources → left_by g old old.table.macros old.conditions old.files.nest ≡ behind_bytes bytes (behind_bytes (owed_bytes (inner_name nest) owed) (left_by g old macros v nest)))
     → (g.tells old.sources → KeepsParts g.unread old.files.nest nest)
-    → StandsIn g old after bytes (position_of after) → Walks g old after (Ok (Some bytes))
-lends_piece g old ready bytes owed marks macros v nest sources bounded few used call law parts from =
-    let after = record old { owed = owed; marks = marks; table = record old.table { macros = macros }; conditions = v; files = record old.files { nest = nest }; sources = sources } in
-    lends_by g old ready bytes owed marks macros v nest sources bounded (work_falls old after refl used ready.idle ready.idle few) call law (λ t. parts t (g.catalog old.sources)) from
+    → StandsIn g old after bytes → Walks g old after (Ok (Some bytes))
+lends_piece g old ready bytes owed macros v nest sources bounded few used call law parts from =
+    let after = record old { owed = owed; table = record old.table { macros = macros }; conditions = v; files = record old.files { nest = nest }; sources = sources } in
+    lends_by g old ready bytes owed macros v nest sources bounded (work_falls old after refl used ready.idle ready.idle few) call law (λ t. parts t (g.catalog old.sources)) from
 
 -- and nothing is owed
-pub lends_source : {S R : Type 0} (g : Ghosts S R) (old new : EngineView S R) (ready : IsReady old) (bytes : List ℕ) (marks : MarksView) (macros : List Macro) (v : ConditionsView) (nest : List (File R))
-    → new ≡ record old { marks = marks; table = record old.table { macros = macros }; conditions = v; files = record old.files { nest = nest } }
+pub lends_source : {S R : Type 0} (g : Ghosts S R) (old new : EngineView S R) (ready : IsReady old) (bytes : List ℕ) (macros : List Macro) (v : ConditionsView) (nest : List (File R))
+    → new ≡ record old { table = record old.table { macros = macros }; conditions = v; files = record old.files { nest = nest } }
     → IsBounded new → IsUsed old.files.nest nest
     → left_by g old old.table.macros old.conditions old.files.nest ≡ behind_bytes bytes (left_by g old macros v nest)
     → KeepsParts g.unread old.files.nest nest
-    → (let after = record old { marks = marks; table = record old.table { macros = macros }; conditions = v; files = record old.files { nest = nest } } in StandsIn g old after bytes (position_of after)) → Walks g old new (Ok (Some bytes))
-lends_source {S} {R} g old new ready bytes marks macros v nest becomes bounded used law parts from =
+    → StandsIn g old (record old { table = record old.table { macros = macros }; conditions = v; files = record old.files { nest = nest } }) bytes → Walks g old new (Ok (Some bytes))
+lends_source {S} {R} g old new ready bytes macros v nest becomes bounded used law parts from =
     subst (λ (e : EngineView S R). Walks g old e (Ok (Some bytes))) (sym becomes)
-    (lends_piece g old ready bytes old.owed marks macros v nest old.sources (subst IsBounded becomes bounded) (unowed_few old.owed ready.owed) used (not_called g old.sources)
+    (lends_piece g old ready bytes old.owed macros v nest old.sources (subst IsBounded becomes bounded) (unowed_few old.owed ready.owed) used (not_called g old.sources)
     (λ t. law ∙ ap (behind_bytes bytes) (sym (unowed_behind (inner_name nest) old.owed (left_by g old macros v nest) ready.owed))) (λ t. parts) from)
 
 -- what is refused in front isn't a failed read, a failed write or want of memory
@@ -394,25 +392,24 @@ pub take_text : {S R : Type 0} (g : Ghosts S R) (old mid new : EngineView S R) (
     → 0 < length (held_of (inner_buffer old.files.nest)) → IsText (inner_buffer old.files.nest).mode (held_of (inner_buffer old.files.nest)) len next
     → lines ≡ line_ends (take len (held_of (inner_buffer old.files.nest)))
     → mid ≡ record old { files = record old.files { nest = with_buffer (entered_mode (inner_buffer old.files.nest) next) old.files.nest } }
-    → new ≡ record mid { files = record mid.files { nest = with_inner (consumed_file len lines) mid.files.nest }; marks = lends_line (inner_buffer old.files.nest).line mid.marks }
+    → new ≡ record mid { files = record mid.files { nest = with_inner (consumed_file len lines) mid.files.nest } }
     → from ≡ (inner_buffer old.files.nest).at → to ≡ from + len → Walks g old new (lent_answer new (Source from to))
 take_text {S} {R} g old mid new len lines from to next ready live bounded some text counted enters uses begins stops =
     let inner = inner_facts old.files ready.nest ready.files in
     let b = inner_buffer old.files.nest in
     let within = text_inside b.mode (held_of b) len next some text in
     let nest = with_inner (consumed_file len lines) (with_buffer (entered_mode b next) old.files.nest) in
-    let marks = lends_line b.line old.marks in
-    let becomes : new ≡ record old { files = record old.files { nest = nest }; marks = marks } =
-    uses ∙ ap (λ (m : EngineView S R). record m { files = record m.files { nest = with_inner (consumed_file len lines) m.files.nest }; marks = lends_line b.line m.marks }) enters in
+    let becomes : new ≡ record old { files = record old.files { nest = nest } } =
+    uses ∙ ap (λ (m : EngineView S R). record m { files = record m.files { nest = with_inner (consumed_file len lines) m.files.nest } }) enters in
     let window : (inner_buffer new.files.nest).window ≡ b.window = ap (λ (e : EngineView S R). (inner_buffer e.files.nest).window) becomes ∙ same_window old.files.nest len lines next in
     let part : slice_range (inner_buffer new.files.nest).window from to ≡ take len (held_of b) =
     rw (window, begins, stops) (rw begins (held_part b len inner.buffer.used within.1)) in
     subst (λ (xs : List ℕ). Walks g old new (Ok (Some xs))) (sym part)
-    (lends_source g old new ready (take len (held_of b)) marks old.table.macros old.conditions nest becomes bounded
+    (lends_source g old new ready (take len (held_of b)) old.table.macros old.conditions nest becomes bounded
     (used_after old.files.nest (entered_mode b next) len lines ready.nest (entered_unused b next) within.0 (rw (held_entered b next) within.1))
     (nest_text old.limits (run_rules g old) g.unread old.table.macros old.conditions live old.files.nest len lines next some inner.ends text counted)
     (parts_on g.unread old.files.nest (with_buffer (entered_mode b next) old.files.nest) nest (parts_mode g.unread next old.files.nest) (parts_used g.unread len lines (with_buffer (entered_mode b next) old.files.nest)))
-    (AtSource len lines next ready.owed ready.idle refl (source_position old len lines next ready.free ready.open_) refl))
+    (AtSource len lines next ready.owed ready.idle refl refl))
 
 -- a macro is taken out
 pub take_undef : {S R : Type 0} (g : Ghosts S R) (old new : EngineView S R) (start stop : ℕ) → IsReady old → old.conditions.skipped ≡ None → IsBounded new
@@ -427,7 +424,7 @@ take_undef g old new start stop ready live bounded some plain named free becomes
     let inner = inner_facts old.files ready.nest ready.files in
     let held = held_of (inner_buffer old.files.nest) in
     let within = name_inside Undef held start stop named in
-    lends_source g old new ready [] old.marks (without (argument_name held start stop) old.table.macros) old.conditions (with_inner (consumed_file stop 0) old.files.nest) becomes bounded
+    lends_source g old new ready [] (without (argument_name held start stop) old.table.macros) old.conditions (with_inner (consumed_file stop 0) old.files.nest) becomes bounded
     (used_bytes old.files.nest stop 0 (omega (arith, within.0, within.1)) within.2)
     (nest_undef old.limits (run_rules g old) g.unread old.table.macros old.conditions live old.files.nest start stop some inner.ends plain named free)
     (parts_used g.unread stop 0 old.files.nest) (Nowhere refl (InSources ready.idle refl))
@@ -462,7 +459,7 @@ module _ {S R : Type 0} (g : Ghosts S R) (old mid new : EngineView S R) (len : �
       let owed : line_ends_of w ≡ owed_bytes (inner_name after) (line_ends_owed d.lines) =
       line_ends_of-owed w ∙ (ap (λ n. replicate n 10) (sym counted) ∙ sym (owed_lines (inner_name after) d.lines)) in
       subst (λ (e : EngineView S R). Walks g old e (Ok (Some []))) (sym becomes)
-      (lends_piece g old ready [] (line_ends_owed d.lines) old.marks d.macros old.conditions after mid.sources (subst IsBounded becomes bounded) (lines_few d.lines _ (omega arith))
+      (lends_piece g old ready [] (line_ends_owed d.lines) d.macros old.conditions after mid.sources (subst IsBounded becomes bounded) (lines_few d.lines _ (omega arith))
       (used_after old.files.nest b len d.lines ready.nest holds.extends.unused (omega arith) inside) call
       (λ t. nest_defined old.limits (run_rules g old) g.unread old.table.macros old.conditions live (g.tells old.sources) t old.files.nest b len d.lines d.macros
       some inner.ends plain define holds (ap with_fault accepted) counted
@@ -509,23 +506,22 @@ behind_twice x y p = ap (λ (xs : List ℕ). record { bytes = xs; fault = p.faul
 
 -- what is owed is lent
 pub take_owed : {S R : Type 0} (g : Ghosts S R) (old new : EngineView S R) (piece : OwedPiece) (owed : OwedView) → old.kept ≡ None → old.phase ≡ Open → IsBounded new
-    → TakesPiece (inner_name old.files.nest) old.owed owed piece → new ≡ record old { owed = owed; marks = lends_owed old.owed (inner_buffer old.files.nest).line old.marks } → Walks g old new (lent_answer new (Owed piece))
+    → TakesPiece (inner_name old.files.nest) old.owed owed piece → new ≡ record old { owed = owed } → Walks g old new (lent_answer new (Owed piece))
 unfolding text_of state_of
 take_owed {S} {R} g old new piece owed free open_ bounded takes becomes =
-    let marks = lends_owed old.owed (inner_buffer old.files.nest).line old.marks in
-    let after = record old { owed = owed; marks = marks } in
+    let after = record old { owed = owed } in
     let name = inner_name old.files.nest in
     let bytes = take piece.len (part_bytes piece.part name (digits_of owed.origin)) in
     let rest = goes_on (texts_left (run_rules g old) (state_of old) old.table.macros old.expansion) (λ after. left_by g old old.table.macros old.conditions old.files.nest) in
     subst (λ (e : EngineView S R). Walks g old e (lent_answer e (Owed piece))) (sym becomes)
     (walks_lent g old after free open_ (subst IsBounded becomes bounded) bytes refl (refl, refl) (not_called g old.sources)
     (λ t. ap (λ (x : List ℕ). behind_bytes x rest) takes.bytes ∙ behind_twice bytes (owed_bytes name owed) rest)
-    (owed_falls old after refl refl refl takes.fewer) (keeps_owed g old owed marks) (AtOwed piece owed takes refl (owed_position old owed piece takes free open_) refl))
+    (owed_falls old after refl refl refl takes.fewer) (keeps_owed g old owed) (AtOwed piece owed takes refl refl))
 
 -- and it is a place
 pub owed_is_placed : {S R : Type 0} (old new : EngineView S R) (piece : OwedPiece) (owed : OwedView) → 0 < length old.files.nest
-    → (marks : MarksView) → TakesPiece (inner_name old.files.nest) old.owed owed piece → new ≡ record old { owed = owed; marks = marks } → IsPlaced new (Owed piece)
-owed_is_placed {S} {R} old new piece owed some marks takes becomes =
+    → TakesPiece (inner_name old.files.nest) old.owed owed piece → new ≡ record old { owed = owed } → IsPlaced new (Owed piece)
+owed_is_placed {S} {R} old new piece owed some takes becomes =
     subst (λ (e : EngineView S R). IsPlaced e (Owed piece)) (sym becomes) (some, takes.inside)
 
 -- what is held stays so
@@ -537,7 +533,7 @@ filled_stores {S} {R} g old mid ready r fills call =
     let is : mid ≡ record old { files = record old.files { nest = nest }; sources = mid.sources } =
     r.becomes ∙ ap (λ (fs : FilesView R). record old { files = fs; sources = mid.sources }) r.only in
     subst (λ (e : EngineView S R). KeepsStores g old e) (sym is)
-    (keeps_sources g old old.owed old.marks old.table.macros old.conditions nest mid.sources ready.free ready.idle call.catalog
+    (keeps_sources g old old.owed old.table.macros old.conditions nest mid.sources ready.free ready.idle call.catalog
     (λ t. parts_slid (g.tells old.sources) Unit g.unread b old.files.nest ready.nest (slides-told (g.tells old.sources) (g.tells old.sources) Unit (IsExact fill.Held) g.unread (inner_buffer old.files.nest) b (λ x. x) (λ _ e. cc) fills.slides) t (g.catalog old.sources)))
 
 -- bytes are held that weren't, and nothing else changed
@@ -705,9 +701,9 @@ room_of e len start ready inside is =
 -- the text that is lent lies in the window
 pub text_placed : {S R : Type 0} (old mid new : EngineView S R) (len lines start : ℕ) (next : Mode) → IsReady old → IsRoom old len start
     → mid ≡ record old { files = record old.files { nest = with_buffer (entered_mode (inner_buffer old.files.nest) next) old.files.nest } }
-    → (marks : MarksView) → new ≡ record mid { files = record mid.files { nest = with_inner (consumed_file len lines) mid.files.nest }; marks = marks }
+    → new ≡ record mid { files = record mid.files { nest = with_inner (consumed_file len lines) mid.files.nest } }
     → IsPlaced new (Source start (start + len))
-text_placed {S} {R} old mid new len lines start next ready room enters marks uses =
+text_placed {S} {R} old mid new len lines start next ready room enters uses =
     let nest : new.files.nest ≡ with_inner (consumed_file len lines) (with_buffer (entered_mode (inner_buffer old.files.nest) next) old.files.nest) =
     ap (λ e. e.files.nest) uses ∙ ap (λ (m : EngineView S R). with_inner (consumed_file len lines) m.files.nest) enters in
     let window = ap (λ ns. length (inner_buffer ns).window) nest ∙ ap length (same_window old.files.nest len lines next) in

@@ -15,7 +15,6 @@ pub mod PassedNests
 pub mod WorkFacts
 pub mod Stores
 pub mod OpeningFacts
-pub mod PlaceFacts
 pub mod EngineSteps
 pub mod FrontSteps
 pub mod OpenSteps

@@ -13,7 +13,7 @@ use Rattle.rdlpp_meaning.specs.declared.fault.FaultKind.TheVariants.{BadLine}
 use Rattle.rdlpp_meaning.specs.Meaning.{Passage, Renumbered, behind_bytes, leaves, origin_line, renumbered}
 use Rattle.rdlpp_meaning.specs.Outcome.{fails}
 use Rattle.rdlpp_meaning.specs.Parts.{line_ends_of}
-use Rattle.rdlpp_meaning.specs.State.{Rules, fault_at, shown_line}
+use Rattle.rdlpp_meaning.specs.State.{Rules, fault_at}
 use Rattle.rdlpp_meaning.specs.Resumed.{Live}
 use Rattle.rdlpp_read.specs.Arguments.{LineGiven}
 use Rattle.rdlpp_read.specs.Buffer.{EndsHeld, held_of}
@@ -29,7 +29,6 @@ use Rattle.rdlpp_steps.specs.Held.{IsBounded}
 use Rattle.rdlpp_steps.specs.Standing.{InSources, Nowhere}
 use Rattle.rdlpp_steps.proofs.Stores.{parts_on, parts_shown, parts_used}
 use Rattle.rdlpp_steps.specs.Lines.{Renumbers, inner_blanks, renumbered_file}
-use Rattle.rdlpp_steps.specs.Marks.{MarksView, ends_line}
 use Rattle.rdlpp_steps.specs.Moves.{IsReady}
 use Rattle.rdlpp_steps.specs.Owed.{OwedView, nothing_owed, origin_owed, owed_bytes}
 use Rattle.rdlpp_steps.specs.Pieces.{step_answer}
@@ -140,7 +139,6 @@ take_renumbered {S} {R} g old new given ready live bounded some plain is first h
     let used = with_inner (consumed_file len d.lines) old.files.nest in
     let nest = with_inner (renumbered_file from given.number given.name) used in
     let owed : OwedView = record { line_ends = d.lines; origin = origin_owed old.origins given.number } in
-    let marks = ends_line d.lines (state_of old).name (shown_line (state_of old).shift (inner_buffer old.files.nest).line) old.marks in
     let few = held_short old ready.sound ready.files ready.nest in
     let counted = d.counted in
     let least = line_ends_le w in
@@ -150,7 +148,7 @@ take_renumbered {S} {R} g old new given ready live bounded some plain is first h
     let bytes : owed_bytes (inner_name nest) owed ≡ line_ends_of w ++ origin_line (run_rules g old) given.name.bytes given.number =
     ap (λ (n : List ℕ). owed_bytes n owed) name ∙ owed_with_origin (g.catalog old.sources) old.limits old.origins given.name.bytes w d.lines given.number d.counted in
     subst (λ (e : EngineView S R). Walks g old e (Ok (Some []))) (sym d.becomes)
-    (lends_piece g old ready [] owed marks old.table.macros old.conditions nest old.sources (subst IsBounded d.becomes bounded) (owed_few old.origins d.lines given.number (omega arith))
+    (lends_piece g old ready [] owed old.table.macros old.conditions nest old.sources (subst IsBounded d.becomes bounded) (owed_few old.origins d.lines given.number (omega arith))
     (shown_used old.files.nest used (renumbered_file from given.number given.name) (λ f. refl) (used_bytes old.files.nest len d.lines (omega arith) inside))
     (not_called g old.sources)
     (λ t. nest_line old.limits (run_rules g old) g.unread old.table.macros old.conditions live old.files.nest given from d.lines some inner.ends plain is first has (omega arith) d.counted
@@ -171,15 +169,14 @@ module _ {S R : Type 0} (g : Ghosts S R) (e : EngineView S R) (ready : IsReady e
       nest_late_line e.limits (run_rules g e) g.unread e.table.macros e.conditions live e.files.nest some (inner_facts e.files ready.nest ready.files).ends plain is late
 
 -- a `line` that was used, and what is owed behind it
-pub renumbers_by : {S R : Type 0} (given : GivenLine) (old used shown new : EngineView S R) (from lines : ℕ) (owed then_owed : OwedView) (name : List ℕ) (line : ℕ)
+pub renumbers_by : {S R : Type 0} (given : GivenLine) (old used shown new : EngineView S R) (from lines : ℕ) (owed then_owed : OwedView)
     → used ≡ record old { files = record old.files { nest = with_inner (consumed_file (5 + given.stop) lines) old.files.nest } }
     → shown ≡ record used { files = record used.files { nest = with_inner (renumbered_file from given.number given.name) used.files.nest } }
-    → new ≡ record shown { owed = then_owed; marks = ends_line lines name line shown.marks } → owed ≡ record shown.owed { line_ends = shown.owed.line_ends + lines }
+    → new ≡ record shown { owed = then_owed } → owed ≡ record shown.owed { line_ends = shown.owed.line_ends + lines }
     → then_owed ≡ record owed { origin = origin_owed shown.origins given.number } → old.owed ≡ nothing_owed
-    → from ≡ (inner_buffer old.files.nest).line + 1 → lines ≡ line_ends (take (5 + given.stop) (held_of (inner_buffer old.files.nest)))
-    → name ≡ (state_of old).name → line ≡ shown_line (state_of old).shift (inner_buffer old.files.nest).line → Renumbers given old new
+    → from ≡ (inner_buffer old.files.nest).line + 1 → lines ≡ line_ends (take (5 + given.stop) (held_of (inner_buffer old.files.nest))) → Renumbers given old new
 unfolding nothing_owed
-renumbers_by {S} {R} given old used shown new from lines owed then_owed name line uses shows owes adds asks nothing here counted named lined =
+renumbers_by {S} {R} given old used shown new from lines owed then_owed uses shows owes adds asks nothing here counted =
     let nest : ℕ → List (File R) = λ m. with_inner (renumbered_file m given.number given.name) (with_inner (consumed_file (5 + given.stop) lines) old.files.nest) in
     let becomes : shown ≡ record old { files = record old.files { nest = nest from } } =
     shows ∙ ap (λ (e : EngineView S R). record e { files = record e.files { nest = with_inner (renumbered_file from given.number given.name) e.files.nest } }) uses in
@@ -189,14 +186,10 @@ renumbers_by {S} {R} given old used shown new from lines owed then_owed name lin
     let origins : shown.origins ≡ old.origins = ap (λ e. e.origins) becomes in
     let makes : ℕ → Bool → OwedView = λ n b. record { line_ends = n; origin = origin_owed b given.number } in
     let exact : then_owed ≡ makes lines old.origins = asks ∙ (ap (λ (n : ℕ). makes n shown.origins) count ∙ ap (makes lines) origins) in
-    let marked : List ℕ → ℕ → MarksView = λ xs n. ends_line lines xs n old.marks in
-    let ends : OwedView → MarksView → ℕ → EngineView S R = λ o marks m. record old { owed = o; marks = marks; files = record old.files { nest = nest m } } in
+    let ends : OwedView → ℕ → EngineView S R = λ o m. record old { owed = o; files = record old.files { nest = nest m } } in
     record {
       lines = lines;
       counted = counted;
-      becomes = owes ∙ (ap (λ (e : EngineView S R). record e { owed = then_owed; marks = ends_line lines name line e.marks }) becomes
-          ∙ (ap (λ (o : OwedView). ends o (marked name line) from) exact
-          ∙ (ap (λ (xs : List ℕ). ends (makes lines old.origins) (marked xs line) from) named
-          ∙ (ap (λ (n : ℕ). ends (makes lines old.origins) (marked (state_of old).name n) from) lined
-          ∙ ap (ends (makes lines old.origins) (marked (state_of old).name (shown_line (state_of old).shift (inner_buffer old.files.nest).line))) here))));
+      becomes = owes ∙ (ap (λ (e : EngineView S R). record e { owed = then_owed }) becomes
+          ∙ (ap (λ (o : OwedView). ends o from) exact ∙ ap (ends (makes lines old.origins)) here));
     }

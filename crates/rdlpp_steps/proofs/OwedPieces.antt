@@ -1,6 +1,5 @@
 -- Pieces taken out of the texts that are owed.
 use Rattle.std.proofs.Common.{◌≡◌, ℕ, ◌+◌, ◌-◌, ◌≤◌, ◌<◌, List, ◌++◌, length, take, replicate, Option, Some, refl, sym, ap, ◌∙◌, append_assoc, arith}
-use Rattle.std.specs.Prelude.{decimal}
 use Rattle.std.proofs.lemmas.List.{length-replicate, replicate-append-replicate, take-replicate, take_all}
 use Rattle.rdlpp_steps.specs.Owed.{OriginView, OwedView, TakesPiece, behind_piece, digits_of, first_piece, line_from, origin_bytes, origin_pieces, owed_bytes, owed_pieces, part_bytes, pieces_from}
 use Rattle.rdlpp_steps.specs.declared.owed.OwedPart.{OwedPart}
@@ -28,19 +27,19 @@ takes_line_ends name owed len some few within =
     }
 
 -- the first piece of an origin line is taken out
-pub takes_origin : (part : OwedPart) (name : List ℕ) (number : ℕ)
-    → let origin : OriginView = record { part = part; number = number } in
+pub takes_origin : (part : OwedPart) (name digits : List ℕ)
+    → let origin : OriginView = record { part = part; digits = digits } in
     TakesPiece name (record { line_ends = 0; origin = Some origin }) (record { line_ends = 0; origin = behind_piece origin }) (first_piece (length name) origin)
 unfolding part_bytes owed_bytes owed_pieces origin_bytes origin_pieces line_from pieces_from behind_piece first_piece digits_of
-takes_origin LineEnds name number = record { inside = omega arith; bytes = refl; fewer = omega arith }
-takes_origin Label name number = record { inside = omega arith; bytes = refl; fewer = omega arith }
-takes_origin Name name number = record { inside = omega arith; bytes = whole_behind name _; fewer = omega arith }
-takes_origin Colon name number = record { inside = omega arith; bytes = refl; fewer = omega arith }
-takes_origin Digits name number = record { inside = omega arith; bytes = whole_behind (decimal number) _; fewer = omega arith }
+takes_origin LineEnds name digits = record { inside = omega arith; bytes = refl; fewer = omega arith }
+takes_origin Label name digits = record { inside = omega arith; bytes = refl; fewer = omega arith }
+takes_origin Name name digits = record { inside = omega arith; bytes = whole_behind name _; fewer = omega arith }
+takes_origin Colon name digits = record { inside = omega arith; bytes = refl; fewer = omega arith }
+takes_origin Digits name digits = record { inside = omega arith; bytes = whole_behind digits _; fewer = omega arith }
 
 -- so it is where nothing stands before it
 pub takes_first : (name : List ℕ) (name_len lines : ℕ) (at : Option OriginView) (origin : OriginView) → length name ≡ name_len → lines ≤ 0 → at ≡ Some origin
     → TakesPiece name (record { line_ends = lines; origin = at }) (record { line_ends = lines; origin = behind_piece origin }) (first_piece name_len origin)
 takes_first name name_len lines at origin size none is =
     let zero : lines ≡ 0 = omega arith in
-    rw (← size, zero, is) (takes_origin origin.part name origin.number)
+    rw (← size, zero, is) (takes_origin origin.part name origin.digits)

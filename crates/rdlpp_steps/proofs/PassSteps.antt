@@ -92,7 +92,7 @@ passes_text {S} {R} g old new sources w lines nest ready bounded counted few use
     let owed : line_ends_of w ≡ owed_bytes (inner_name nest) (line_ends_owed lines) =
     line_ends_of-owed w ∙ (ap (λ n. replicate n 10) (sym counted) ∙ sym (owed_lines (inner_name nest) lines)) in
     subst (λ (e : EngineView S R). Walks g old e (Ok (Some []))) (sym becomes)
-    (lends_piece g old ready [] (line_ends_owed lines) old.marks old.table.macros old.conditions nest sources (subst IsBounded becomes bounded) (lines_few lines _ few) used call
+    (lends_piece g old ready [] (line_ends_owed lines) old.table.macros old.conditions nest sources (subst IsBounded becomes bounded) (lines_few lines _ few) used call
     (λ t. law t ∙ ap (λ (x : List ℕ). behind_bytes x (left_by g old old.table.macros old.conditions nest)) owed) parts (Nowhere refl (InSources ready.idle refl)))
 
 -- what is refused in front is `<%`, or a lone backquote

@@ -25,7 +25,6 @@ use Rattle.rdlpp_read.specs.declared.files.File.{File}
 use Rattle.rdlpp_steps.specs.Engine.{EngineView}
 use Rattle.rdlpp_steps.specs.Includes.{inner_path}
 use Rattle.rdlpp_steps.specs.Lines.{renumbered_file}
-use Rattle.rdlpp_steps.specs.Marks.{MarksView}
 use Rattle.rdlpp_steps.specs.Owed.{OwedView}
 use Rattle.rdlpp_steps.specs.declared.phase.Phase.{Phase}
 use Rattle.rdlpp_steps.specs.Stored.{AreParts, BeginsCall, called_formals, HoldsCall, HoldsStores, IsBegunIn, IsCallOf, IsPartOf, LetsGo}
@@ -278,10 +277,10 @@ free_parts : {S R : Type 0} (g : Ghosts S R) (e : EngineView S R) → e.kept ≡
 free_parts g e free h = parts_told g.unread (g.catalog e.sources) (e.kept ≡ None) Unit e.files.nest (λ _. free) h.parts
 
 -- where the sources changed, no fault is kept, and no text of a usage is open
-pub keeps_sources : {S R : Type 0} (g : Ghosts S R) (old : EngineView S R) (owed : OwedView) (marks : MarksView) (macros : List Macro) (v : ConditionsView) (nest : List (File R)) (sources : S) → old.kept ≡ None → old.expansion.opens ≡ []
+pub keeps_sources : {S R : Type 0} (g : Ghosts S R) (old : EngineView S R) (owed : OwedView) (macros : List Macro) (v : ConditionsView) (nest : List (File R)) (sources : S) → old.kept ≡ None → old.expansion.opens ≡ []
     → g.catalog sources ≡ g.catalog old.sources → (g.tells old.sources → AreParts g.unread (g.catalog old.sources) Unit old.files.nest → AreParts g.unread (g.catalog old.sources) Unit nest)
-    → KeepsStores g old (record old { owed = owed; marks = marks; table = record old.table { macros = macros }; conditions = v; files = record old.files { nest = nest }; sources = sources })
-keeps_sources g old owed marks macros v nest sources free idle catalog parts =
+    → KeepsStores g old (record old { owed = owed; table = record old.table { macros = macros }; conditions = v; files = record old.files { nest = nest }; sources = sources })
+keeps_sources g old owed macros v nest sources free idle catalog parts =
     let none = none_called macros old.expansion.opens idle in
     let nothing : LetsGo old → old.expansion.arguments ≡ [] = λ h. h.idle free (none_called old.table.macros old.expansion.opens idle) in
     record {
@@ -296,8 +295,8 @@ keeps_sources g old owed marks macros v nest sources free idle catalog parts =
     }
 
 -- where nothing of it changed
-pub keeps_owed : {S R : Type 0} (g : Ghosts S R) (old : EngineView S R) (owed : OwedView) (marks : MarksView) → KeepsStores g old (record old { owed = owed; marks = marks })
-keeps_owed g old owed marks = record {
+pub keeps_owed : {S R : Type 0} (g : Ghosts S R) (old : EngineView S R) (owed : OwedView) → KeepsStores g old (record old { owed = owed })
+keeps_owed g old owed = record {
   lets_go = λ h. record { idle = h.idle };
   stores = λ t h. record { lets_go = record { idle = h.lets_go.idle }; parts = h.parts; call = h.call; begun = h.begun };
 }
@@ -368,9 +367,9 @@ keeps_broken {S} {R} g old f nest s opening arguments used len exact formals fre
     }
 
 -- where the open texts went on
-pub keeps_texts : {S R : Type 0} (g : Ghosts S R) (old : EngineView S R) (x : ExpansionView) (marks : MarksView) → old.kept ≡ None → StaysOpen old.expansion x → StaysOutermost old.expansion.opens x.opens → (x.opens ≡ [] → x.arguments ≡ [])
-    → KeepsStores g old (record old { expansion = x; marks = marks })
-keeps_texts g old x marks free stays outer lets_go = record {
+pub keeps_texts : {S R : Type 0} (g : Ghosts S R) (old : EngineView S R) (x : ExpansionView) → old.kept ≡ None → StaysOpen old.expansion x → StaysOutermost old.expansion.opens x.opens → (x.opens ≡ [] → x.arguments ≡ [])
+    → KeepsStores g old (record old { expansion = x })
+keeps_texts g old x free stays outer lets_go = record {
   lets_go = λ h. record { idle = λ _ none. by h none x.opens refl };
   stores = λ t h. record {
     lets_go = record { idle = λ _ none. by h.lets_go none x.opens refl };

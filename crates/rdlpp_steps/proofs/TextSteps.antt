@@ -28,7 +28,6 @@ use Rattle.rdlpp_steps.specs.Standing.{AtCursor, InTexts, Nowhere}
 use Rattle.rdlpp_cursors.specs.Fronts.{IsFrontPlace, StandsAt}
 use Rattle.rdlpp_cursors.specs.Opened.{StaysOutermost}
 use Rattle.rdlpp_steps.proofs.Stores.{KeepsStores, keeps_refused, keeps_texts}
-use Rattle.rdlpp_steps.specs.Marks.{lends_usage}
 use Rattle.rdlpp_steps.specs.Moves.{IsUnowed}
 use Rattle.rdlpp_steps.specs.Owed.{owed_pieces}
 use Rattle.rdlpp_steps.specs.Pieces.{held_texts, lent_answer}
@@ -38,7 +37,6 @@ use Rattle.rdlpp_steps.specs.declared.place.Place.{Place}
 use Rattle.rdlpp_steps.specs.declared.place.Place.TheVariants.{Text, Kept}
 use Rattle.rdlpp_steps.proofs.CursorWork.{cursors_fall}
 use Rattle.rdlpp_steps.proofs.EngineSteps.{kept_at, not_called, walks_fault, walks_lent}
-use Rattle.rdlpp_steps.proofs.PlaceFacts.{usage_position}
 use Rattle.rdlpp_steps.proofs.EndSteps.{nest_macros}
 use Rattle.rdlpp_steps.proofs.FrontSteps.{IsRead, behind_twice, keeps_fault, keeps_files, keeps_moves, left_by, read_nothing, told_kind, unowed_behind, unowed_few}
 
@@ -148,18 +146,15 @@ module _ {S R : Type 0} (g : Ghosts S R) (old : EngineView S R) (x : ExpansionVi
       (unowed_few old.owed unowed.owed)
 
   -- bytes of a text are lent
-  pub texts_lend : (place : TextPlace) → (let after = record old { expansion = x; marks = lends_usage old.expansion.line old.marks } in IsBounded after) → IsStep old.expansion.line old.expansion.depth (held_texts old) old.expansion.opens (Lends place) x.opens
-      → IsFalling old.expansion.opens (Lends place) x.opens → StaysLent old.expansion (Lends place) x → IsFrontPlace old.expansion.opens place
-      → (let after = record old { expansion = x; marks = lends_usage old.expansion.line old.marks } in Walks g old after (lent_answer after (Text place)))
-  unfolding IsStep StepsTo IsFalling StaysLent state_of lends_usage text_of work_left
+  pub texts_lend : (place : TextPlace) → IsBounded (record old { expansion = x }) → IsStep old.expansion.line old.expansion.depth (held_texts old) old.expansion.opens (Lends place) x.opens
+      → IsFalling old.expansion.opens (Lends place) x.opens → StaysLent old.expansion (Lends place) x → IsFrontPlace old.expansion.opens place → Walks g old (record old { expansion = x }) (lent_answer (record old { expansion = x }) (Text place))
+  unfolding IsStep StepsTo IsFalling StaysLent state_of
   texts_lend place bounded step falls lends stands =
       let goes = step (run_rules g old) (state_of old) (nest_macros old.limits old.table.macros old.conditions old.files.nest) in
-      let marks = lends_usage old.expansion.line old.marks in
-      let after = record old { expansion = x; marks = marks } in
-      subst (λ (xs : List ℕ). Walks g old after (Ok (Some xs))) (ap (λ (a : List ℕ). place_bytes (texts_of old.table.macros a) place) (sym lends.1))
-      (walks_lent g old after unowed.free unowed.open_ bounded (place_bytes (held_texts old) place) refl (refl, refl) (not_called g old.sources)
-      (λ t. text_goes (place_bytes (held_texts old) place) goes) (work_texts falls) (keeps_texts g old x marks unowed.free holds.stays holds.outer holds.lets_go)
-      (AtCursor place unowed.owed stands refl (usage_position old x unowed.free unowed.open_) refl))
+      subst (λ (xs : List ℕ). Walks g old (record old { expansion = x }) (Ok (Some xs))) (ap (λ (a : List ℕ). place_bytes (texts_of old.table.macros a) place) (sym lends.1))
+      (walks_lent g old (record old { expansion = x }) unowed.free unowed.open_ bounded (place_bytes (held_texts old) place) refl (refl, refl) (not_called g old.sources)
+      (λ t. text_goes (place_bytes (held_texts old) place) goes) (work_texts falls) (keeps_texts g old x unowed.free holds.stays holds.outer holds.lets_go)
+      (AtCursor place unowed.owed stands refl refl))
 
   -- a text was opened or closed
   pub texts_turn : IsBounded (record old { expansion = x }) → IsStep old.expansion.line old.expansion.depth (held_texts old) old.expansion.opens Silent x.opens
@@ -169,7 +164,7 @@ module _ {S R : Type 0} (g : Ghosts S R) (old : EngineView S R) (x : ExpansionVi
       walks_lent g old (record old { expansion = x }) unowed.free unowed.open_ bounded [] refl (refl, refl) (not_called g old.sources)
       (λ t. text_goes [] (step (run_rules g old) (state_of old) (nest_macros old.limits old.table.macros old.conditions old.files.nest)
       ∙ sym (and_then-gives_nil (open_left (run_rules g old) (state_of old) old.expansion.line old.expansion.depth (held_texts old) x.opens)))) (work_texts falls)
-      (keeps_texts g old x old.marks unowed.free holds.stays holds.outer holds.lets_go) (Nowhere refl (InTexts unowed.owed refl step holds.now_sound))
+      (keeps_texts g old x unowed.free holds.stays holds.outer holds.lets_go) (Nowhere refl (InTexts unowed.owed refl step holds.now_sound))
 
 -- the open texts end with a fault, and nothing else changes
 pub texts_refuse : {S R : Type 0} (g : Ghosts S R) (old mid new : EngineView S R) (place : Place) (fault : CursorFault) → IsUnowed old → IsBounded new → mid ≡ old → place ≡ Kept
@@ -212,7 +207,7 @@ pub record TakesTexts {S R : Type 0} (old : EngineView S R) (x : ExpansionView) 
 
 module _ {S R : Type 0} (g : Ghosts S R) (old : EngineView S R) (x : ExpansionView) (result : CursorStep) (unowed : IsUnowed old) (takes : TakesTexts old x result) where
   -- a step that lends bytes
-  pub lend_step : (new : EngineView S R) (place : TextPlace) → HoldsTexts old x → result ≡ Lends place → new ≡ record old { expansion = x; marks = lends_usage old.expansion.line old.marks } → IsBounded new → Walks g old new (lent_answer new (Text place))
+  pub lend_step : (new : EngineView S R) (place : TextPlace) → HoldsTexts old x → result ≡ Lends place → new ≡ record old { expansion = x } → IsBounded new → Walks g old new (lent_answer new (Text place))
   lend_step new place holds is becomes bounded =
       let t : TakesTexts old x (Lends place) = subst (λ (r : CursorStep). TakesTexts old x r) is takes in
       subst (λ (e : EngineView S R). Walks g old e (lent_answer e (Text place))) (sym becomes)

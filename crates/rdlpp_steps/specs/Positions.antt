@@ -1,13 +1,13 @@
 -- The places of pieces in the sources.
 -- A definition that names no source is this project's own.
-use Rattle.std.specs.Prelude.{◌≡◌, ℕ, ◌-◌, ◌==◌, List, Option, None, Some, if◌then◌else◌}
+use Rattle.std.specs.Prelude.{ℕ, ◌-◌, ◌==◌, Bool, List, Option, None, Some, if◌then◌else◌}
+use Rattle.rdlpp_meaning.specs.Outcome.{Told}
 use Rattle.rdlpp_meaning.specs.State.{State, shown_line}
 use Rattle.rdlpp_read.specs.Files.{inner_buffer}
 use Rattle.rdlpp_steps.specs.Engine.{EngineView, is_open}
-use Rattle.rdlpp_steps.specs.Marks.{PlaceView, lends_owed, marked_place}
-use Rattle.rdlpp_steps.specs.Owed.{OriginView, OwedView, TakesPiece}
-use Rattle.rdlpp_steps.specs.Remaining.{inner_name, state_of}
-use Rattle.rdlpp_steps.specs.declared.owed.OwedPiece.{OwedPiece}
+use Rattle.rdlpp_steps.specs.Marks.{MarksView, PlaceView, marked_place}
+use Rattle.rdlpp_steps.specs.Owed.{OriginView, OwedView}
+use Rattle.rdlpp_steps.specs.Remaining.{state_of}
 use Rattle.rdlpp_steps.specs.declared.positions.LineStep.{LineStep}
 use Rattle.rdlpp_steps.specs.declared.positions.LineStep.TheVariants.{Next, Same}
 
@@ -45,9 +45,3 @@ position_of e = elim e.kept [
   | Some f ↦ None
   | None ↦ if is_open e.phase then marked_place e.marks (state_of e).name (state_of e).shift else None
 ]
-
--- the first piece of what is owed was taken out, and its place is marked
-pub record TakesOwed {S R : Type 0} (old new : EngineView S R) (piece : OwedPiece) : Type 0 where
-  pub rest : OwedView
-  pub takes : TakesPiece (inner_name old.files.nest) old.owed rest piece
-  pub becomes : new ≡ record old { owed = rest; marks = lends_owed old.owed (inner_buffer old.files.nest).line old.marks }

@@ -1,15 +1,18 @@
 // The directive `line` in the open sources.
 ghost use Rattle.std.specs.Prelude.{◌≡◌, ◌+◌, ◌<◌, ◌≤◌, ◌^◌, None, IfSome, drop, length};
 ghost use Rattle.rdlpp_scan.specs.declared.token.Directive.TheVariants.{Line};
+ghost use Rattle.rdlpp_meaning.specs.State.{shown_line};
 ghost use Rattle.rdlpp_read.specs.Buffer.{held_of};
 ghost use Rattle.rdlpp_read.specs.Arguments.{IsLineGiven};
 ghost use Rattle.rdlpp_read.specs.Files.{inner_buffer, with_inner};
 ghost use Rattle.rdlpp_front.specs.Fronts.{IsDirective};
 ghost use Rattle.rdlpp_steps.specs.Held.{IsBounded};
+ghost use Rattle.rdlpp_steps.specs.Marks.{ends_line};
 ghost use Rattle.rdlpp_steps.specs.Lines.{Renumbers, renumbered_file};
 ghost use Rattle.rdlpp_steps.specs.Moves.{IsReady};
 ghost use Rattle.rdlpp_steps.specs.Owed.{nothing_owed};
 ghost use Rattle.rdlpp_steps.specs.Pieces.{IsPlaced, step_answer};
+ghost use Rattle.rdlpp_steps.specs.Remaining.{state_of};
 ghost use Rattle.rdlpp_steps.specs.Steps.{Walks};
 
 use super::Engine;
@@ -59,12 +62,23 @@ impl<S: Sources> Engine<S> {
         let buffer = &self.files.file().buffer;
         let lines = line_ends_in(&buffer.held()[..len]);
         let from = buffer.line() + 1;
-        let place = self.shown_place();
+        self.mark_renumbered(lines);
         self.consume(len, lines);
         self.show(from, given.number, given.name);
         self.owed.owe_line_ends(lines);
         self.owed.owe_origin(self.origins, given.number);
-        self.marks.end_line(lines, place.name, place.line);
+    }
+
+    // Marks the place of the LF that will be owed behind a `line`, if one is: that from before it.
+    fn mark_renumbered(&mut self, line_ends: usize)
+        requires { 0 < length self.old.files.nest }
+        ensures { self.new ≡ record self.old { marks = ends_line line_ends (state_of self.old).name (shown_line (state_of self.old).shift (inner_buffer self.old.files.nest).line) self.old.marks } }
+    {
+        self.files.facts();
+        let file = self.files.file();
+        let shown = file.shift.shown_line(file.buffer.line());
+        let name = file.name;
+        self.mark_ending(line_ends, name, shown);
     }
 
     // Gives the innermost source another name to show, and from a physical line on other numbers.

@@ -1,24 +1,13 @@
 // Where the piece stands that was lent last.
-ghost use Rattle.std.specs.Prelude.{◌≡◌, ◌<◌, IfNone, IfSome, length};
-ghost use Rattle.rdlpp_meaning.specs.State.{shown_line};
+ghost use Rattle.std.specs.Prelude.{◌≡◌, ◌<◌, ◌^◌, length};
 ghost use Rattle.rdlpp_read.specs.Files.{inner_buffer};
-ghost use Rattle.rdlpp_steps.specs.Engine.{is_open};
-ghost use Rattle.rdlpp_steps.specs.Marks.{told_position};
-ghost use Rattle.rdlpp_steps.specs.Owed.{nothing_owed};
-ghost use Rattle.rdlpp_steps.specs.Positions.{TakesOwed, position_of};
-ghost use Rattle.rdlpp_steps.specs.Remaining.{state_of};
+ghost use Rattle.rdlpp_steps.specs.Marks.{ends_line, lends_line, lends_owed, lends_usage, told_position};
+ghost use Rattle.rdlpp_steps.specs.Positions.{position_of};
 
 use super::Engine;
 use arrayvec::ArrayString;
 use rdlpp_source::Sources;
-use rdlpp_steps::{OwedPiece, Phase, Position, copied};
-
-// A name and a line that a source shows.
-#[derive(Drop)]
-pub(super) struct ShownPlace {
-    pub(super) name: ArrayString<1024>,
-    pub(super) line: u64,
-}
+use rdlpp_steps::{Phase, Position};
 
 impl<S: Sources> Engine<S> {
     /// The place of the piece that was lent last, which a fault at its first byte would name; none before
@@ -32,10 +21,7 @@ impl<S: Sources> Engine<S> {
     pub fn position(&self) -> Option<Position<'_>>
         ensures { told_position result ≡ position_of self.now }
     {
-        if self.kept.is_some() {
-            return None;
-        }
-        if !has_text(self.phase) {
+        if self.kept.is_some() || self.phase == Phase::Fresh || self.phase == Phase::Closed {
             return None;
         }
         self.facts();
@@ -43,43 +29,37 @@ impl<S: Sources> Engine<S> {
         self.marks.position(file.name.as_str(), &file.shift)
     }
 
-    // Takes out the first piece of what is owed, and marks its place.
-    pub(super) fn take_owed(&mut self) -> Option<OwedPiece>
+    // Marks that text of the innermost source is lent.
+    pub(super) fn mark_source(&mut self)
         requires { 0 < length self.old.files.nest }
-        ensures nothing { IfNone result ((self.old.owed ≡ nothing_owed) × (self.new ≡ self.old)) }
-        ensures piece { IfSome result (TakesOwed self.old self.new) }
+        ensures { self.new ≡ record self.old { marks = lends_line (inner_buffer self.old.files.nest).line self.old.marks } }
     {
         self.facts();
-        let file = self.files.file();
-        let name_len = file.name.len();
-        self.marks.lend_owed(&self.owed, file.buffer.line());
-        self.owed.take(name_len)
+        self.marks.lend_line(self.files.file().buffer.line());
     }
 
-    // The place that a fault at the next byte of the innermost source would name.
-    pub(super) fn shown_place(&self) -> ShownPlace
-        requires { 0 < length self.now.files.nest }
-        ensures name { result.name.bytes ≡ (state_of self.now).name }
-        ensures line { result.line ≡ shown_line (state_of self.now).shift (inner_buffer self.now.files.nest).line }
+    // Marks that text of a usage is lent.
+    pub(super) fn mark_usage(&mut self)
+        requires { self.old.expansion.line < 2 ^ 63 }
+        ensures { self.new ≡ record self.old { marks = lends_usage self.old.expansion.line self.old.marks } }
     {
-        self.files.facts();
-        let file = self.files.file();
-        ShownPlace {
-            name: copied(&file.name),
-            line: file.shift.shown_line(file.buffer.line()),
-        }
+        self.marks.lend_usage(self.expansion.line());
     }
-}
 
-// Whether a main text is open.
-#[tactic(auto, unfolding(rdlpp_steps::specs::Engine::is_open))]
-fn has_text(phase: Phase) -> bool
-    ensures { result ≡ is_open phase }
-{
-    match phase {
-        Phase::Fresh => false,
-        Phase::Open => true,
-        Phase::Passed => true,
-        Phase::Closed => false,
+    // Marks that the first piece of what is owed is lent, if anything is owed.
+    pub(super) fn mark_owed(&mut self)
+        requires { 0 < length self.old.files.nest }
+        ensures { self.new ≡ record self.old { marks = lends_owed self.old.owed (inner_buffer self.old.files.nest).line self.old.marks } }
+    {
+        self.facts();
+        let line = self.files.file().buffer.line();
+        self.marks.lend_owed(&self.owed, line);
+    }
+
+    // Marks the place of the LF that will be owed, if one is, behind a `line` or behind an included source.
+    pub(super) fn mark_ending(&mut self, line_ends: usize, name: ArrayString<1024>, line: u64)
+        ensures { self.new ≡ record self.old { marks = ends_line line_ends name.bytes line self.old.marks } }
+    {
+        self.marks.end_line(line_ends, name, line);
     }
 }

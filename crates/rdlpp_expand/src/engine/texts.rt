@@ -112,8 +112,7 @@ impl<S: Sources> Engine<S> {
         self.expansion.facts();
         match step {
             CursorStep::Lends(place) => {
-                let line = self.expansion.line();
-                self.marks.lend_usage(line);
+                self.mark_usage();
                 TextStep::Lent(place)
             }
             CursorStep::Silent => TextStep::Silent,

@@ -1,15 +1,15 @@
 use Rattle.std.proofs.Common.{◌≡◌, refl, sym, ap, ◌∙◌, arith}
 use Rattle.std.specs.Prelude.{if◌then◌else◌}
-use Rattle.rdlpp_steps.specs.Includes.{left_engine, marks_behind, owed_behind}
+use Rattle.rdlpp_steps.specs.Includes.{left_engine, owed_behind}
 use Rattle.rdlpp_steps.specs.Owed.{nothing_owed}
-use Rattle.rdlpp_steps.proofs.EndSteps.{around_few, ends_few, line_few, marks_two, owes_behind}
+use Rattle.rdlpp_steps.proofs.EndSteps.{around_few, ends_few, line_few, owes_behind}
 use Rattle.rdlpp_steps.proofs.Soundness.{whole_left}
 use Rattle.rdlpp_expand.proofs.engine.Engine.leave.Goals as goal
 use Rattle.rdlpp_expand.proofs.engine.Engine.leave.Goals.{then-file, else-file}
 
 pub shown_line-shown-requires : goal.shown_line-shown-requires
 shown_line-shown-requires g c =
-    let number = around_few c.self.inside.files _ c.file-file.result.now c.file-around.result.now c.file-file.ensures.inner (sym (ap (λ f. f.nest) c.leave.ensures) ∙ c.file-around.ensures.inner) c.facts.ensures in
+    let number = around_few c.self.inside.files _ c.file-file.result.now c.file.result.now c.file-file.ensures.inner (sym (ap (λ f. f.nest) c.leave.ensures) ∙ c.file.ensures.inner) c.facts.ensures in
     let line = line_few c.self.inside.files.nest c.file-file.result.now c.file-file.ensures.inner c.self.invariant.sources.lines in
     omega arith
 
@@ -35,10 +35,7 @@ returns g c =
       | else-file w ↦ w.line_ends-is ∙ rw w.if-file.false refl
     ] in
     let owes : c.owe_origin.new.self ≡ owed_behind c.self.inside.origins c.self.inside.files.nest =
-    owes_behind c.self.inside.origins c.self.inside.files.nest _ c.file-file.result.now c.file-around.result.now c.self.inside.owed c.owe_line_ends.new.self c.owe_origin.new.self c.if-file.line_ends c.shown_line-shown.result
-    c.file-file.ensures.inner (sym (ap (λ f. f.nest) c.leave.ensures) ∙ c.file-around.ensures.inner) (ap (λ e. e.owed) c.self.view_is ∙ c.requires.nothing) ends c.shown_line-shown.ensures
+    owes_behind c.self.inside.origins c.self.inside.files.nest _ c.file-file.result.now c.file.result.now c.self.inside.owed c.owe_line_ends.new.self c.owe_origin.new.self c.if-file.line_ends c.shown_line-shown.result
+    c.file-file.ensures.inner (sym (ap (λ f. f.nest) c.leave.ensures) ∙ c.file.ensures.inner) (ap (λ e. e.owed) c.self.view_is ∙ c.requires.nothing) ends c.shown_line-shown.ensures
     c.owe_line_ends.ensures c.owe_origin.ensures in
-    let marks : c.end_line.new.self ≡ marks_behind c.self.inside.files.nest c.self.inside.marks =
-    c.end_line.ensures ∙ marks_two c.self.inside.files.nest _ c.file-file.result.now c.file-around.result.now c.self.inside.marks c.if-file.line_ends c.shown_line-shown.result c.file-around.result.now.name.bytes
-    c.file-file.ensures.inner (sym (ap (λ f. f.nest) c.leave.ensures) ∙ c.file-around.ensures.inner) ends c.shown_line-shown.ensures refl in
-    rw (← c.self.view_is, c.leave.ensures, owes, marks) refl
+    rw (← c.self.view_is, c.leave.ensures, owes) refl

@@ -5,8 +5,7 @@ use Rattle.rdlpp_read.specs.Buffer.{held_of}
 use Rattle.rdlpp_read.specs.Files.{inner_buffer}
 use Rattle.rdlpp_read.proofs.Slices.{line_ends_le}
 use Rattle.rdlpp_steps.specs.Owed.{OwedView, nothing_owed, origin_owed}
-use Rattle.rdlpp_steps.specs.Marks.{ends_line}
-use Rattle.rdlpp_steps.proofs.PlaceFacts.{owing_marked}
+use Rattle.rdlpp_steps.proofs.FrontSteps.{owing}
 use Rattle.rdlpp_steps.proofs.LineSteps.{renumbers_by}
 use Rattle.rdlpp_expand.proofs.engine.Engine.renumber.Goals as goal
 
@@ -37,9 +36,8 @@ returns g c =
     let counted : c.line_ends_in-lines.result ≡ line_ends (take len (held_of (inner_buffer e.files.nest))) = c.line_ends_in-lines.ensures ∙ ap (λ h. line_ends (take len h)) held in
     let here : c.line-from.result + 1 ≡ (inner_buffer e.files.nest).line + 1 = ap (λ n. n + 1) (c.line-from.ensures ∙ ap (λ b. b.line) buffer) in
     let grows : OwedView → OwedView = λ o. record o { line_ends = o.line_ends + c.line_ends_in-lines.result } in
-    renumbers_by c.args.given e c.consume.new.self c.show.new.self _ (c.line-from.result + 1) c.line_ends_in-lines.result c.owe_line_ends.new.self c.owe_origin.new.self c.shown_place-place.result.name.bytes c.shown_place-place.result.line
-    c.consume.ensures.used c.show.ensures
-    (owing_marked _ c.show.new.self c.owe_origin.new.self c.end_line.new.self (ends_line c.line_ends_in-lines.result c.shown_place-place.result.name.bytes c.shown_place-place.result.line) c.self-2.view_is c.end_line.ensures)
+    renumbers_by c.args.given e c.consume.new.self c.show.new.self _ (c.line-from.result + 1) c.line_ends_in-lines.result c.owe_line_ends.new.self c.owe_origin.new.self
+    c.consume.ensures.used c.show.ensures (owing _ c.show.new.self c.owe_origin.new.self c.self-2.view_is)
     (c.owe_line_ends.ensures ∙ ap grows (ap (λ e. e.owed) c.self-2.view_is))
     (c.owe_origin.ensures ∙ ap (λ b. record c.owe_line_ends.new.self { origin = origin_owed b c.args.given.number }) (ap (λ e. e.origins) c.self-2.view_is))
-    c.requires.nothing here counted c.shown_place-place.ensures.name c.shown_place-place.ensures.line
+    c.requires.nothing here counted

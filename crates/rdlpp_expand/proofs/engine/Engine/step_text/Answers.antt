@@ -1,4 +1,4 @@
-use Rattle.std.proofs.Common.{ap, refl, subst, ◌∙◌, arith}
+use Rattle.std.proofs.Common.{ap, refl, subst}
 use Rattle.std.specs.Prelude.{is_some}
 use Rattle.rdlpp_cursors.specs.Opened.{StaysOutermost}
 use Rattle.rdlpp_cursors.specs.Places.{texts_of}
@@ -6,7 +6,6 @@ use Rattle.rdlpp_cursors.specs.Steps.{AreSound}
 use Rattle.rdlpp_usages.specs.Usages.{StaysLent, StaysOpen}
 use Rattle.rdlpp_steps.specs.declared.place.Place.TheVariants as place
 use Rattle.rdlpp_expand.proofs.TextFacts.{lent-texts, unowed-texts}
-use Rattle.rdlpp_steps.proofs.PlaceFacts.{marked_usage}
 use Rattle.rdlpp_steps.proofs.TextSteps.{HoldsTexts, TakesTexts, fault_text, lend_step, opening, placed_lent, placed_word, refuse_step, turn_step}
 use Rattle.rdlpp_expand.proofs.engine.Engine.step_text.Goals as goal
 
@@ -32,7 +31,7 @@ returns-in-Lends-clause-walks g c = (λ bounded.
       outer = subst (λ v. StaysOutermost v.expansion.opens x.opens) c.self.view_is e.outer;
       lets_go = e.lets_go;
     } in
-    lend_step g.S.Sources c.args.self.now x c.step-step.result c.requires.0 takes _ c.in-Lends.place holds c.in-Lends.is (marked_usage _ c.args.self.now x c.lend_usage.new.self c.line-line.result c.self.view_is c.lend_usage.ensures (c.line-line.ensures ∙ holds.stays.line)) bounded)
+    lend_step g.S.Sources c.args.self.now x c.step-step.result c.requires.0 takes _ c.in-Lends.place holds c.in-Lends.is (opening _ c.args.self.now x c.self.view_is) bounded)
 
 pub returns-in-Silent-clause-walks : goal.returns-in-Silent-clause-walks
 returns-in-Silent-clause-walks g c = (λ bounded.
@@ -63,20 +62,12 @@ returns-in-Refused-clause-walks g c = λ bounded.
 
 pub returns-in-Lends-clause-stays : goal.returns-in-Lends-clause-stays
 returns-in-Lends-clause-stays g c =
-    (lent-texts c.args.self.now _ c.step-step.new.self _ c.step-step.result c.in-Lends.place c.requires.0 c.in-Lends.is
-    (subst (λ v. StaysLent v.expansion c.step-step.result c.step-step.new.self) c.self.view_is c.step-step.ensures.lends)
-    (marked_usage _ c.args.self.now c.step-step.new.self c.lend_usage.new.self c.line-line.result c.self.view_is c.lend_usage.ensures (c.line-line.ensures ∙ (subst (λ v. StaysOpen v.expansion c.step-step.new.self) c.self.view_is c.step-step.ensures.stays).line)))
+    (lent-texts c.args.self.now _ c.step-step.new.self c.step-step.result c.in-Lends.place c.requires.0 c.in-Lends.is
+    (subst (λ v. StaysLent v.expansion c.step-step.result c.step-step.new.self) c.self.view_is c.step-step.ensures.lends) (opening _ c.args.self.now c.step-step.new.self c.self.view_is))
 
 pub returns-in-Silent-clause-stays : goal.returns-in-Silent-clause-stays
 returns-in-Silent-clause-stays g c =
-    (unowed-texts c.args.self.now _ c.step-step.new.self c.args.self.now.marks c.requires.0 (opening _ c.args.self.now c.step-step.new.self c.self.view_is))
+    (unowed-texts c.args.self.now _ c.step-step.new.self c.requires.0 (opening _ c.args.self.now c.step-step.new.self c.self.view_is))
 
 pub returns-in-Refused-clause-stays : goal.returns-in-Refused-clause-stays
 returns-in-Refused-clause-stays g c = ap (λ e. is_some e.kept) c.refuse_text-kept.ensures.kept
-
-pub lend_usage-requires : goal.lend_usage-requires
-lend_usage-requires g c =
-    let few = c.facts.ensures.texts.line in
-    let stays = subst (λ v. StaysOpen v.expansion c.step-step.new.self) c.self.view_is c.step-step.ensures.stays in
-    let line = c.line-line.ensures ∙ stays.line in
-    omega arith
