@@ -89,26 +89,4 @@ impl<S: Sources> Engine<S> {
         }
         self.files.file().buffer.held()
     }
-
-    /// The path of the innermost open source; empty where none is open.
-    pub fn inner_path(&self) -> &str {
-        if self.files.len() == 0 {
-            return "";
-        }
-        self.files.file().path.as_str()
-    }
-
-    /// What the open source shows at a place that includes others, counted from the innermost source, which has the place 0: its
-    /// name, and the line of its `include`.
-    pub fn including(&self, place: usize) -> Option<OpenSource<'_>> {
-        if place == 0 || place >= self.files.len() {
-            return None;
-        }
-        let line = self.files.at(place - 1).include_line;
-        let file = self.files.at(place);
-        Some(OpenSource {
-            name: file.name.as_str(),
-            line: file.shift.shown_line(line),
-        })
-    }
 }
