@@ -1,11 +1,12 @@
 -- What a caller tells of the sources that were asked for.
 -- A definition that names no source is this project's own.
-use Rattle.std.specs.Prelude.{◌≡◌, ℕ, List, IsUtf8, Result, Ok, Err}
+use Rattle.std.specs.Prelude.{◌≡◌, ℕ, ◌⊎◌, List, IsUtf8, Option, None, Some, Result, Ok, Err}
 use Rattle.std.specs.String.{string_bytes}
-use Rattle.rdlpp_owned.specs.Asked.{files_told}
+use Rattle.rdlpp_owned.specs.Asked.{files_told, standing_text}
 use Rattle.rdlpp_owned.specs.declared.asked.AskedText.{AskedText}
 use Rattle.rdlpp_owned.specs.declared.asked.AskedTexts.{AskedTexts}
 use Rattle.rdlpp_owned.specs.declared.asked.Standing.{Standing}
+use Rattle.rdlpp_c.specs.declared.stream.Stream.{Stream}
 use Rattle.rdlpp_c.specs.declared.asking.Refusal.{Refusal}
 use Rattle.rdlpp_c.specs.declared.asking.Refusal.TheVariants.{BadText, NoMemory}
 
@@ -33,3 +34,20 @@ abbrev pub TellsPath : List ℕ → Standing → AskedTexts → AskedTexts → R
 TellsPath path standing old new (Ok u) = Takes path standing old new
 TellsPath path standing old new (Err BadText) = Stays old new × ¬ (IsUtf8 path)
 TellsPath path standing old new (Err NoMemory) = Stays old new
+
+-- a give to an open stream: what its sources become, and the status that tells it; nothing else of it changes
+pub record GivesStanding (path : List ℕ) (standing : Standing) (before after : Stream) (status : ℕ) : Type 0 where
+  pub answer : Result Unit Refusal
+  pub tells : TellsPath path standing before.reading.engine.sources after.reading.engine.sources answer
+  pub is : status ≡ given_status answer
+  pub only : after ≡ record before { reading = record before.reading { engine = record before.reading.engine { sources = after.reading.engine.sources } } }
+
+-- a give of a text: the text stands at the path; or memory was refused for it, and nothing changed
+abbrev pub GivesText : List ℕ → List ℕ → Stream → Stream → ℕ → Type 0
+GivesText path text before after status =
+    ((standing : Standing) × (standing_text (Some standing) ≡ Some text) × GivesStanding path standing before after status) ⊎ ((after ≡ before) × (status ≡ 4))
+
+-- a give by a handle: of a closed one it only tells so, by status 6; else it is one of the stream
+abbrev pub Gives : (Stream → Stream → ℕ → Type 0) → Option Stream → Option Stream → ℕ → Type 0
+Gives by None held status = (held ≡ None) × (status ≡ 6)
+Gives by (Some before) held status = (after : Stream) × (held ≡ Some after) × by before after status

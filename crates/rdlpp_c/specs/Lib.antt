@@ -7,3 +7,5 @@ pub mod Faults
 pub mod Kept
 pub mod Streaming
 pub mod Giving
+pub mod Placing
+pub mod Reporting

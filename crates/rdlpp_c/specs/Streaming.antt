@@ -1,18 +1,22 @@
 -- What an open output comes to, and how reads of it are told.
 -- A definition that names no source is this project's own.
-use Rattle.std.specs.Prelude.{◌≡◌, ℕ, ⊤, false, List, [], length, map, take, Option, None, Some, Result, Ok, Err}
+use Rattle.std.specs.Prelude.{◌≡◌, ℕ, ◌+◌, ◌-◌, ◌^◌, ◌==◌, ⊤, Bool, true, false, min, List, [], ◌∷◌, length, map, take, Option, None, Some, Result, Ok, Err, if◌then◌else◌}
+use Rattle.std.specs.List.{count_by}
 use Rattle.std.specs.String.{string_bytes}
 use Rattle.std.specs.declared.alloc.Global.{Global}
 use Rattle.std_alloc.specs.declared.boxed.Box.{Box}
 use Rattle.rdlpp_source.specs.declared.sources.Sources.{Ghosts}
-use Rattle.rdlpp_owned.specs.Asked.{asked_catalog, standing_text, unread_of}
+use Rattle.rdlpp_owned.specs.Asked.{asked_catalog, standing_text, unread_of, wanted_of}
 use Rattle.rdlpp_owned.specs.declared.asked.AskedText.{AskedText}
 use Rattle.rdlpp_owned.specs.declared.asked.AskedTexts.{AskedTexts}
 use Rattle.rdlpp_table.specs.Limits.{limit_fault}
 use Rattle.rdlpp_meaning.specs.FaultNumbers.{fault_number}
 use Rattle.rdlpp_meaning.specs.Outcome.{Told, told, Outcome, fails}
 use Rattle.rdlpp_steps.specs.Opening.{is_device_fault, is_memory_fault}
-use Rattle.rdlpp_expand.specs.Reading.{Fills, Leaves, ended_with, reading_left}
+use Rattle.rdlpp_steps.specs.Engine.{EngineView}
+use Rattle.rdlpp_steps.specs.Searches.{Retries, StartsAgain, is_failed_start}
+use Rattle.rdlpp_steps.specs.Steps.{is_read_failed}
+use Rattle.rdlpp_expand.specs.Reading.{FillsPart, GivesPiece, Leaves, ended_with, reading_left}
 use Rattle.rdlpp_expand.specs.declared.reading.ReadEnd.{ReadEnd}
 use Rattle.rdlpp_expand.specs.declared.reading.ReadEnd.TheVariants.{Finished, Stopped as StoppedRead}
 use Rattle.rdlpp.specs.Preprocess.{output_of}
@@ -26,6 +30,7 @@ use Rattle.rdlpp_c.specs.declared.arrays.Text.{Text}
 use Rattle.rdlpp_c.specs.declared.asking.Answer.{Answer}
 use Rattle.rdlpp_c.specs.declared.asking.Answer.TheVariants.{Whole, Stopped, BadLimit, BadText, NoMemory}
 use Rattle.rdlpp_c.specs.declared.opening.Owned.{Owned}
+use Rattle.rdlpp_c.specs.declared.stream.Part.{Part}
 use Rattle.rdlpp_c.specs.declared.stream.Stream.{Stream}
 use Rattle.rdlpp_c.specs.declared.telling.Outcome.{Outcome as Numbers}
 
@@ -162,17 +167,92 @@ pub record ReadBuffers : Type 0 where
   pub name : List ℕ
   pub word : List ℕ
 
--- a read of an open stream: it fills the buffer as a reading does, what it leaves is what remains, and how it ended is told in numbers and buffers
+-- the search that a source was asked for by is made again: that of an `include`, or that of the main text
+pub record SearchesAgain (old new : Stream) : Type 0 where
+  pub retried : EngineView AskedTexts (List ℕ)
+  pub retries : Retries owned_sources old.reading.engine retried
+  pub opening : Option Told
+  pub starts : StartsAgain owned_sources retried new.reading.engine (string_bytes old.path) opening
+  pub rest : new.reading.rest ≡ (if is_failed_start retried then [] else old.reading.rest)
+  pub only : new ≡ record old { reading = new.reading }
+
+-- what a read begins with: where a source was asked for, its search is made again
+abbrev pub TakesUp : Option (List ℕ) → Stream → Stream → Type 0
+TakesUp None old new = new ≡ old
+TakesUp (Some path) old new = SearchesAgain old new
+
+-- how many LF bytes there are
+abbrev pub line_ends_of : List ℕ → ℕ
+line_ends_of bytes = count_by (λ b. b == 10) bytes
+
+-- the part of a piece that a read gave, by what was left of the piece before
+abbrev pub part_after : List ℕ → Part → List ℕ → Part
+part_after [] part given = record { lines_before = 0; lines = line_ends_of given; is_empty = length given == 0 }
+part_after (b ∷ rest) part given = record { lines_before = min (part.lines_before + part.lines) (2 ^ 64 - 1); lines = line_ends_of given; is_empty = length given == 0 }
+
+-- a read within one piece
+pub record ReadsPiece (old new : Stream) (before after : List ℕ) (len : ℕ) (ending : Option ReadEnd) : Type 0 where
+  pub gives : GivesPiece owned_sources old.reading new.reading before after len ending
+  pub part : new.part ≡ part_after old.reading.rest old.part (take len after)
+  pub only : new ≡ record old { reading = new.reading; part = new.part }
+
+-- a read over pieces: it fills the buffer as a reading does, and what it leaves is what remains
+pub record ReadsOn (old new : Stream) (before after : List ℕ) (len : ℕ) (ending : Option ReadEnd) : Type 0 where
+  pub fills : FillsPart owned_sources old.reading new.reading before after len ending
+  pub left : Leaves owned_sources old.reading new.reading (take len after) ending
+  pub only : new ≡ record old { reading = new.reading }
+
+-- a read of a stream, by whether reads end with their pieces
+abbrev pub ReadsBytes : Bool → Stream → Stream → List ℕ → List ℕ → ℕ → Option ReadEnd → Type 0
+ReadsBytes true old new before after len ending = ReadsPiece old new before after len ending
+ReadsBytes false old new before after len ending = ReadsOn old new before after len ending
+
+-- the path that is asked for, by the fault that a read ended with
+abbrev pub read_wanted : Option Told → AskedTexts → Option (List ℕ)
+read_wanted None sources = None
+read_wanted (Some f) sources = if is_read_failed f.kind then wanted_of sources else None
+
+-- the numbers that tell a read, by its fault and by the path that is asked for: 7 where one is
+abbrev pub told_numbers : ℕ → Option ReadEnd → Option Told → Option (List ℕ) → Numbers
+told_numbers len ending fault None = read_numbers len ending fault
+told_numbers len ending fault (Some path) = record { status = 7; number = 0; line = 0; length = len; name_length = length path; word_length = 0 }
+
+-- what is told in the buffer for the shown name: the path that is asked for, where one is
+abbrev pub told_name : Option Told → Option (List ℕ) → List ℕ
+told_name fault None = fault_name fault
+told_name fault (Some path) = path
+
+-- what is told in the buffer for the word
+abbrev pub told_word : Option Told → Option (List ℕ) → List ℕ
+told_word fault None = fault_word fault
+told_word fault (Some path) = []
+
+-- how a read is told that ended with a fault, if it did, and asks for a path, if it does
+pub record TellsRead (len : ℕ) (ending : Option ReadEnd) (fault : Option Told) (wanted : Option (List ℕ)) (old new : FaultBuffers) (outcome : Numbers) : Type 0 where
+  pub numbers : outcome ≡ told_numbers len ending fault wanted
+  pub name : new.name ≡ overwritten (told_name fault wanted) old.name
+  pub word : new.word ≡ overwritten (told_word fault wanted) old.word
+
+-- a read of an open stream: where a source was asked for its search is made again; then bytes are read; and how that ended is told in numbers and
+-- buffers
 pub record ReadsStream (old new : ReadBuffers) (before after : Stream) (outcome : Numbers) : Type 0 where
+  pub at : Stream
+  pub takes_up : TakesUp (wanted_of before.reading.engine.sources) before at
   pub len : ℕ
   pub ending : Option ReadEnd
-  pub fills : Fills owned_sources before.reading after.reading old.out new.out len ending
-  pub left : Leaves owned_sources before.reading after.reading (take len new.out) ending
-  pub numbers : outcome ≡ read_numbers len ending (ended_with ending after.reading.engine.kept)
-  pub name : new.name ≡ overwritten (fault_name (ended_with ending after.reading.engine.kept)) old.name
-  pub word : new.word ≡ overwritten (fault_word (ended_with ending after.reading.engine.kept)) old.word
+  pub reads : ReadsBytes at.pieces at after old.out new.out len ending
+  pub tells : TellsRead len ending (ended_with ending after.reading.engine.kept) (read_wanted (ended_with ending after.reading.engine.kept) after.reading.engine.sources)
+      (record { name = old.name; word = old.word }) (record { name = new.name; word = new.word }) outcome
 
 -- a read: of a closed handle it only tells so, by status 6, and changes nothing; else it is one of the stream
 abbrev pub Reads : ReadBuffers → ReadBuffers → Option Stream → Option Stream → Numbers → Type 0
 Reads old new None held outcome = (held ≡ None) × (new ≡ old) × (outcome ≡ numbered 6 0)
 Reads old new (Some before) held outcome = (after : Stream) × (held ≡ Some after) × ReadsStream old new before after outcome
+
+-- the fault that ended the output of a stream, if one did: none where a source is asked for
+abbrev pub fault_or : Option Told → Option (List ℕ) → Option Told
+fault_or kept None = kept
+fault_or kept (Some path) = None
+
+abbrev pub stream_fault : Stream → Option Told
+stream_fault s = fault_or s.reading.engine.kept (read_wanted s.reading.engine.kept s.reading.engine.sources)

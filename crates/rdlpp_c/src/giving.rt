@@ -1,7 +1,8 @@
 // The calls by which a program in C tells what it was asked for.
 ghost use Rattle.std.specs.Prelude.{◌≡◌, IsUtf8, MatchResult};
 ghost use Rattle.std.specs.String.{string_bytes};
-ghost use Rattle.rdlpp_c.specs.Giving.{TellsPath, given_status};
+ghost use Rattle.rdlpp_c.specs.Giving.{Gives, GivesStanding, GivesText, TellsPath, given_status};
+ghost use Rattle.rdlpp_owned.specs.declared.asked.Standing.TheVariants.{Absent as Gone, Failed};
 ghost use Rattle.rdlpp_c.specs.declared.asking.Refusal.TheVariants.{BadText};
 
 use crate::asking::{Refusal, text_of};
@@ -32,7 +33,9 @@ pub extern "C" fn rdlpp_give(alloc: Global, handle: &mut Handle, path: &[u8], te
 
 /// Tells an open output that there is no source at `path`, as `rdlpp_give` does: a search goes on behind it.
 #[unsafe(no_mangle)]
-pub extern "C" fn rdlpp_give_absent(alloc: Global, handle: &mut Handle, path: &[u8]) -> u32 {
+pub extern "C" fn rdlpp_give_absent(alloc: Global, handle: &mut Handle, path: &[u8]) -> u32
+    ensures { Gives (GivesStanding path.now Gone) handle.old.slot.value handle.new.slot.value result }
+{
     let Some(mut stream) = take(alloc, handle) else {
         return CLOSED;
     };
@@ -44,7 +47,9 @@ pub extern "C" fn rdlpp_give_absent(alloc: Global, handle: &mut Handle, path: &[
 /// Tells an open output that the source at `path` can't be opened, as `rdlpp_give` does: a search ends there
 /// by the fault of a device.
 #[unsafe(no_mangle)]
-pub extern "C" fn rdlpp_give_failed(alloc: Global, handle: &mut Handle, path: &[u8]) -> u32 {
+pub extern "C" fn rdlpp_give_failed(alloc: Global, handle: &mut Handle, path: &[u8]) -> u32
+    ensures { Gives (GivesStanding path.now Failed) handle.old.slot.value handle.new.slot.value result }
+{
     let Some(mut stream) = take(alloc, handle) else {
         return CLOSED;
     };
@@ -54,7 +59,9 @@ pub extern "C" fn rdlpp_give_failed(alloc: Global, handle: &mut Handle, path: &[
 }
 
 // Tells an output what stands at a path, and answers the status.
-fn give(alloc: Global, stream: &mut Stream, path: &[u8], standing: Standing) -> u32 {
+fn give(alloc: Global, stream: &mut Stream, path: &[u8], standing: Standing) -> u32
+    ensures { GivesStanding path.now standing stream.old stream.new result }
+{
     let mut sources = stream.reading.replace_sources(AskedTexts::empty(alloc));
     let told = tell_path(alloc, &mut sources, path, standing);
     let _empty = stream.reading.replace_sources(sources);

@@ -6,7 +6,7 @@ ghost use Rattle.rdlpp_c.specs.Answer.{text_sources};
 ghost use Rattle.rdlpp_c.specs.Output.{Counted, IsRead};
 
 use crate::stream::ended_fault;
-use rdlpp::{ReadEnd, ReadPart, Reading, RunFault, Texts};
+use rdlpp::{ReadEnd, Reading, RunFault, Texts};
 
 // How many bytes are read at a time where only their count is asked for.
 const COUNTED_BYTES: usize = 4_096;
@@ -22,28 +22,13 @@ struct End {
 pub(crate) fn read_output(reading: &mut Reading<Texts<'_>>, out: &mut [u8]) -> Result<u64, RunFault>
     ensures { IsRead (reading_left text_sources reading.old) out.old out.new (count_of result) (fault_of result) }
 {
-    let part = read_front(reading, out);
+    let part = reading.fill(out);
     let count = part.len as u64;
     match part.ending {
         Some(ending) => told_end(reading, End { count, ending }),
         None => {
             let end = count_rest(reading, count);
             told_end(reading, end)
-        }
-    }
-}
-
-// Reads an output until a buffer is full, or to its end.
-fn read_front(reading: &mut Reading<Texts<'_>>, out: &mut [u8]) -> ReadPart {
-    let mut len = 0;
-    loop {
-        let part = reading.read(&mut out[len..]);
-        len += part.len;
-        if part.ending.is_some() || len == out.len() {
-            return ReadPart {
-                len,
-                ending: part.ending,
-            };
         }
     }
 }
@@ -55,7 +40,7 @@ fn count_rest(reading: &mut Reading<Texts<'_>>, before: u64) -> End
     let mut counted = [0; COUNTED_BYTES];
     let mut count = before;
     loop {
-        let part = reading.read(&mut counted);
+        let part = reading.fill(&mut counted);
         count = count.saturating_add(part.len as u64);
         if let Some(ending) = part.ending {
             return End { count, ending };

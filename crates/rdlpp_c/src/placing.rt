@@ -1,5 +1,7 @@
 // The call by which a program in C learns where a part of the output stands.
 ghost use Rattle.std.specs.Prelude.{◌≡◌};
+ghost use Rattle.rdlpp_c.specs.Buffers.{overwritten};
+ghost use Rattle.rdlpp_c.specs.Placing.{Places, place_name, place_numbers, stream_place};
 
 use crate::handle::{Handle, put, take};
 use crate::stream::Stream;
@@ -13,7 +15,9 @@ use std::alloc::Global;
 /// The status is 0; 5 where there is no place: where reads don't end with their pieces, where the last one wrote
 /// nothing, and behind the end or a fault; and 6 where the handle is closed.
 #[unsafe(no_mangle)]
-pub extern "C" fn rdlpp_position(alloc: Global, handle: &mut Handle, name: &mut [u8]) -> Outcome {
+pub extern "C" fn rdlpp_position(alloc: Global, handle: &mut Handle, name: &mut [u8]) -> Outcome
+    ensures { Places handle.old.slot.value handle.new.slot.value name.old name.new result }
+{
     let Some(stream) = take(alloc, handle) else {
         return numbered(CLOSED, 0);
     };
@@ -23,7 +27,10 @@ pub extern "C" fn rdlpp_position(alloc: Global, handle: &mut Handle, name: &mut 
 }
 
 // Tells the place of what the last read wrote.
-fn tell_place(stream: &Stream, name: &mut [u8]) -> Outcome {
+fn tell_place(stream: &Stream, name: &mut [u8]) -> Outcome
+    ensures numbers { result ≡ place_numbers (stream_place stream.now) }
+    ensures name { name.new ≡ overwritten (place_name (stream_place stream.now)) name.old }
+{
     let Some(place) = stream.place() else {
         return numbered(MORE, 0);
     };

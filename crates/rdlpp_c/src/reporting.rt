@@ -1,4 +1,6 @@
 // The calls by which a program in C learns what an output leaves: its definitions, and notes on its fault.
+ghost use Rattle.rdlpp_c.specs.Reporting.{TellsDefinitions, TellsNotes};
+
 use crate::handle::{Handle, put, take};
 use crate::stream::Stream;
 use crate::telling::tell_text;
@@ -9,7 +11,9 @@ use std::alloc::{AllocError, Global};
 /// Writes the live definitions of an open output as `define` lines, oldest first, to `out`, as much as there is room
 /// for, and answers their whole length: 0 where the handle is closed, and where memory was refused.
 #[unsafe(no_mangle)]
-pub extern "C" fn rdlpp_definitions(alloc: Global, handle: &mut Handle, out: &mut [u8]) -> usize {
+pub extern "C" fn rdlpp_definitions(alloc: Global, handle: &mut Handle, out: &mut [u8]) -> usize
+    ensures { TellsDefinitions handle.old.slot.value handle.new.slot.value out.old out.new result }
+{
     let Some(stream) = take(alloc, handle) else {
         return 0;
     };
@@ -25,7 +29,9 @@ pub extern "C" fn rdlpp_definitions(alloc: Global, handle: &mut Handle, out: &mu
 /// Writes the notes on the fault that ended an open output to `out`, as much as there is room for, and answers their
 /// whole length: 0 where no fault did, where the handle is closed, and where memory was refused.
 #[unsafe(no_mangle)]
-pub extern "C" fn rdlpp_notes(alloc: Global, handle: &mut Handle, out: &mut [u8]) -> usize {
+pub extern "C" fn rdlpp_notes(alloc: Global, handle: &mut Handle, out: &mut [u8]) -> usize
+    ensures { TellsNotes handle.old.slot.value handle.new.slot.value out.old out.new result }
+{
     let Some(stream) = take(alloc, handle) else {
         return 0;
     };

@@ -1,11 +1,15 @@
 // What a handle owns, and how a read of it is told.
-ghost use Rattle.std.specs.Prelude.{◌≡◌, ◌==◌};
+ghost use Rattle.std.specs.Prelude.{◌≡◌, ◌==◌, None, Some};
 ghost use Rattle.std.specs.List.{count_by};
 ghost use Rattle.std.specs.Option.{option_map};
 ghost use Rattle.rdlpp_meaning.specs.Outcome.{told};
+ghost use Rattle.rdlpp_owned.specs.Asked.{wanted_of};
+ghost use Rattle.rdlpp_steps.specs.Marks.{told_position};
+ghost use Rattle.rdlpp_steps.specs.Positions.{position_of};
 ghost use Rattle.rdlpp_expand.specs.Reading.{ended_with};
 ghost use Rattle.rdlpp_c.specs.Buffers.{overwritten};
-ghost use Rattle.rdlpp_c.specs.Streaming.{ReadsStream, fault_name, fault_word, read_numbers};
+ghost use Rattle.rdlpp_c.specs.Placing.{part_position, stream_place};
+ghost use Rattle.rdlpp_c.specs.Streaming.{ReadsBytes, ReadsPiece, ReadsStream, TakesUp, TellsRead, fault_name, fault_word, read_numbers, read_wanted, stream_fault, told_numbers};
 
 use crate::telling::{MORE, Outcome, STOPPED, WANTED, WHOLE, numbered, tell_text};
 use arrayvec::ArrayString;
@@ -61,7 +65,9 @@ impl Stream {
     }
 
     // Searches again for what was asked for.
-    pub(crate) fn take_up(&mut self) {
+    pub(crate) fn take_up(&mut self)
+        ensures { TakesUp (wanted_of self.old.reading.engine.sources) self.old self.new }
+    {
         if self.reading.engine().sources().wanted.is_some() {
             self.reading.retry();
             let _started = self.reading.start_again(self.path.as_str());
@@ -69,7 +75,9 @@ impl Stream {
     }
 
     // Reads the next bytes.
-    fn read(&mut self, out: &mut [u8]) -> ReadPart {
+    fn read(&mut self, out: &mut [u8]) -> ReadPart
+        ensures { ReadsBytes self.old.pieces self.old self.new out.old out.new result.len result.ending }
+    {
         if self.pieces {
             self.read_piece(out)
         } else {
@@ -78,7 +86,9 @@ impl Stream {
     }
 
     // Reads the next bytes of one piece, and counts their lines.
-    pub(crate) fn read_piece(&mut self, out: &mut [u8]) -> ReadPart {
+    pub(crate) fn read_piece(&mut self, out: &mut [u8]) -> ReadPart
+        ensures { ReadsPiece self.old self.new out.old out.new result.len result.ending }
+    {
         let is_next = self.reading.rest_len() == 0;
         let part = self.reading.read_piece(out);
         self.part = Part {
@@ -94,7 +104,9 @@ impl Stream {
     }
 
     // The place of what the last read gave, where reads end with their pieces.
-    pub(crate) fn place(&self) -> Option<Position<'_>> {
+    pub(crate) fn place(&self) -> Option<Position<'_>>
+        ensures { told_position result ≡ stream_place self.now }
+    {
         if !self.pieces {
             return None;
         }
@@ -102,7 +114,9 @@ impl Stream {
     }
 
     // The path that is asked for, where a read ended with a search that asked.
-    pub(crate) fn wanted(&self, ending: Option<ReadEnd>) -> Option<ArrayString<1024>> {
+    pub(crate) fn wanted(&self, ending: Option<ReadEnd>) -> Option<ArrayString<1024>>
+        ensures { option_map (λ path. path.bytes) result ≡ read_wanted (ended_with ending self.now.reading.engine.kept) self.now.reading.engine.sources }
+    {
         match ended_fault(&self.reading, ending) {
             Some(fault) if fault.kind == FaultKind::ReadFailed => {
                 self.reading.engine().sources().wanted
@@ -113,7 +127,9 @@ impl Stream {
     }
 
     // The fault that ended the output, if one did: none where a source is asked for.
-    pub(crate) fn fault(&self) -> Option<Fault> {
+    pub(crate) fn fault(&self) -> Option<Fault>
+        ensures { option_map told result ≡ stream_fault self.now }
+    {
         match self.wanted(Some(ReadEnd::Stopped)) {
             Some(_) => None,
             None => self.reading.fault(),
@@ -122,10 +138,9 @@ impl Stream {
 }
 
 // The place of a part of the piece that was lent last, where it has bytes.
-pub(crate) fn part_place<'a>(
-    reading: &'a Reading<AskedTexts>,
-    part: &Part,
-) -> Option<Position<'a>> {
+pub(crate) fn part_place<'a>(reading: &'a Reading<AskedTexts>, part: &Part) -> Option<Position<'a>>
+    ensures { told_position result ≡ part_position part.now.is_empty part.now.lines_before (position_of reading.now.engine) }
+{
     if part.is_empty {
         return None;
     }
@@ -193,7 +208,10 @@ fn tell_read(fault: &Option<Fault>, name: &mut [u8], word: &mut [u8])
 }
 
 // Tells a path that is asked for.
-fn tell_wanted(part: &ReadPart, path: &str, name: &mut [u8]) -> Outcome {
+fn tell_wanted(part: &ReadPart, path: &str, name: &mut [u8]) -> Outcome
+    ensures numbers { result ≡ told_numbers part.now.len part.now.ending None (Some path.now) }
+    ensures name { name.new ≡ overwritten path.now name.old }
+{
     Outcome {
         length: part.len as u64,
         name_length: tell_text(path.as_bytes(), name),
@@ -221,7 +239,11 @@ pub(crate) fn told_read(
     part: &ReadPart,
     name: &mut [u8],
     word: &mut [u8],
-) -> Outcome {
+) -> Outcome
+    ensures { TellsRead part.now.len part.now.ending (ended_with part.now.ending stream.now.reading.engine.kept)
+        (read_wanted (ended_with part.now.ending stream.now.reading.engine.kept) stream.now.reading.engine.sources)
+        (record { name = name.old; word = word.old }) (record { name = name.new; word = word.new }) result }
+{
     if let Some(path) = stream.wanted(part.ending) {
         return tell_wanted(part, path.as_str(), name);
     }

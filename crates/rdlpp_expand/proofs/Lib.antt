@@ -1,5 +1,8 @@
 pub mod RunFacts
 pub mod Readings
 pub mod TextFacts
+pub mod PositionFacts
 pub mod UsageNames
 pub mod Retries
+pub mod HeldPieces
+pub mod Shown

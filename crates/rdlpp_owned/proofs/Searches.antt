@@ -34,9 +34,9 @@ cond_says false s t x y p q = q
 at_says : (texts : AskedTexts) (path : List ℕ) → Says (search_at texts path) (answer_at (text_at texts) path)
 at_says texts path =
     cond_says (nat_lt 1024 (length path)) (Answered Overlong) (cond (list_any (λ b. b == 10) path) (Answered Missing) (known_search texts.asks path (standing_at texts path)))
-      Overlong (cond (list_any (λ b. b == 10) path) Missing (at_path path (text_at texts path))) refl
-      (cond_says (list_any (λ b. b == 10) path) (Answered Missing) (known_search texts.asks path (standing_at texts path)) Missing (at_path path (text_at texts path)) refl
-        (known_says texts.asks path (standing_at texts path)))
+    Overlong (cond (list_any (λ b. b == 10) path) Missing (at_path path (text_at texts path))) refl
+    (cond_says (list_any (λ b. b == 10) path) (Answered Missing) (known_search texts.asks path (standing_at texts path)) Missing (at_path path (text_at texts path)) refl
+    (known_says texts.asks path (standing_at texts path)))
 
 or_says : (s t : Search) (x y : Answer) → Says s x → Says t y → Says (search_or s t) (answer_or x y)
 or_says (Answered Missing) t x y p q = subst (λ (a : Answer). Says t (answer_or a y)) (sym p) q

@@ -1,10 +1,17 @@
 // The rule for make that names the sources of an output.
+ghost use Rattle.std.specs.Prelude.{◌≡◌, ◌++◌, ◌==◌};
+ghost use Rattle.std.specs.List.{flat_map, prefix_len};
+ghost use Rattle.std.specs.String.{string_bytes};
+ghost use Rattle.rdlpp_reports.specs.Dependencies.{dependency_bytes, empty_rule, is_quoted, leads_to_quoted, prerequisite, quote, rule_name};
+ghost use Rattle.rdlpp_reports.specs.Recorded.{paths_of};
+ghost use Rattle.rdlpp_reports.specs.Writes.{Writes};
+
 use crate::recorded::OpenedPaths;
 use crate::writing::{write_parts, write_whole};
 use std::io::{self, Write};
 
 // The path that stands for standard input, which is no file.
-const STANDARD_INPUT: &str = "-";
+const STANDARD_INPUT: &[u8] = b"-";
 
 /// Writes a rule for make: that the file `target` is made of the sources that were opened, and behind it for each included one a
 /// rule without anything, so that make goes on where that file is gone.
@@ -19,55 +26,89 @@ pub fn write_dependencies<W: Write>(
     target: &str,
     opened: &OpenedPaths,
     writer: &mut W,
-) -> io::Result<()> {
-    write_name(target.as_bytes(), writer)?;
-    write_whole(b":", writer)?;
-    for place in 0..opened.len() {
-        write_prerequisite(opened.path(place).unwrap_or(""), writer)?;
-    }
+) -> io::Result<()>
+    ensures { Writes (W.contents writer.old) (W.contents writer.new) (dependency_bytes target.now (paths_of opened.now)) result }
+{
+    let paths = opened.paths();
+    write_name(target.as_bytes(), b":", writer)?;
+    write_prerequisites(paths, writer)?;
     write_whole(b"\n", writer)?;
-    for place in 1..opened.len() {
-        write_name(opened.path(place).unwrap_or("").as_bytes(), writer)?;
-        write_whole(b":\n", writer)?;
+    write_empty_rules(&paths[paths.len().min(1)..], writer)
+}
+
+// Writes the sources behind the target.
+fn write_prerequisites<W: Write>(paths: &[String], writer: &mut W) -> io::Result<()>
+    ensures { Writes (W.contents writer.old) (W.contents writer.new) (flat_map (λ path. prerequisite (string_bytes path)) paths.now) result }
+{
+    for path in paths {
+        write_prerequisite(path.as_bytes(), writer)?;
     }
     Ok(())
 }
 
-// Writes a source behind what stands before it on the line; standard input isn't written.
-fn write_prerequisite<W: Write>(path: &str, writer: &mut W) -> io::Result<()> {
+// Writes a source behind what stands before it; standard input isn't written.
+fn write_prerequisite<W: Write>(path: &[u8], writer: &mut W) -> io::Result<()>
+    ensures { Writes (W.contents writer.old) (W.contents writer.new) (prerequisite path.now) result }
+{
     if path == STANDARD_INPUT {
-        return Ok(());
+        return write_whole(b"", writer);
     }
     write_whole(b" \\\n ", writer)?;
-    write_name(path.as_bytes(), writer)
+    write_name(path, b"", writer)
 }
 
-// Writes a name as make reads it.
-fn write_name<W: Write>(name: &[u8], writer: &mut W) -> io::Result<()> {
-    let mut slashes = 0;
-    for byte in name {
-        let byte = *byte;
-        if is_quoted(byte) {
-            write_slashes(slashes + 1, writer)?;
-        }
-        if byte == b'$' {
-            write_whole(b"$", writer)?;
-        }
-        write_whole(&[byte], writer)?;
-        slashes = if byte == b'\\' { slashes + 1 } else { 0 };
+// Writes a rule without anything for each source.
+fn write_empty_rules<W: Write>(paths: &[String], writer: &mut W) -> io::Result<()>
+    ensures { Writes (W.contents writer.old) (W.contents writer.new) (flat_map (λ path. empty_rule (string_bytes path)) paths.now) result }
+{
+    for path in paths {
+        write_name(path.as_bytes(), b":\n", writer)?;
     }
-    write_slashes(slashes, writer)
+    Ok(())
+}
+
+// Writes a name as make reads it, and an end behind it.
+fn write_name<W: Write>(name: &[u8], end: &[u8], writer: &mut W) -> io::Result<()>
+    ensures { Writes (W.contents writer.old) (W.contents writer.new) (rule_name name.now ++ end.now) result }
+{
+    let mut rest = name;
+    while let Some((byte, behind)) = rest.split_first() {
+        write_parts(&[quote(*byte, behind), &[*byte]], writer)?;
+        rest = behind;
+    }
+    write_whole(end, writer)
+}
+
+// What stands before a byte of a name, where so much stands behind it.
+fn quote(byte: u8, behind: &[u8]) -> &'static [u8]
+    ensures { result.now ≡ quote byte behind.now }
+{
+    if is_quoted(byte) || (byte == b'\\' && leads_to_quoted(behind)) {
+        return b"\\";
+    }
+    if byte == b'$' { b"$" } else { b"" }
 }
 
 // Whether make takes a byte of a name as it is only behind a `\`.
-fn is_quoted(byte: u8) -> bool {
-    matches!(byte, b' ' | b'\t' | b'#' | b':')
+fn is_quoted(byte: u8) -> bool
+    ensures { result ≡ is_quoted byte }
+{
+    byte == b' ' || byte == b'\t' || byte == b'#' || byte == b':'
 }
 
-// Writes so many `\`.
-fn write_slashes<W: Write>(count: usize, writer: &mut W) -> io::Result<()> {
-    for _ in 0..count {
-        write_parts(&[b"\\"], writer)?;
+// Whether only `\` stand before such a byte, or before the end.
+fn leads_to_quoted(rest: &[u8]) -> bool
+    ensures { result ≡ leads_to_quoted rest.now }
+{
+    match rest.get(slashes_in_front(rest)) {
+        Some(byte) => is_quoted(*byte),
+        None => true,
     }
-    Ok(())
+}
+
+// How many `\` bytes begin with.
+fn slashes_in_front(bytes: &[u8]) -> usize
+    ensures { result ≡ prefix_len (λ b. b == 92) bytes.now }
+{
+    bytes.iter().take_while(|byte| **byte == b'\\').count()
 }

@@ -60,19 +60,21 @@ impl MappedLines {
     /// Takes the next piece of the output, with the place of its first byte. Answers the run that ended, if one did: a piece ends
     /// one at most.
     pub fn take(&mut self, piece: &[u8], position: &Position<'_>) -> Option<LineRun> {
-        if piece.is_empty() {
+        let line_ends = line_ends_in(piece) as u64;
+        if piece.is_empty() || (self.begun && line_ends == 0) {
             return None;
         }
-        let name = &position.name[..position.name.floor_char_boundary(NAME_BYTES)];
         let ended = if self.begun {
             None
         } else {
-            self.add_line(name, position.line)
+            self.add_line(position.name, position.line)
         };
         self.begun = piece[piece.len() - 1] != b'\n';
-        let line_ends = line_ends_in(piece) as u64;
         let more = if self.begun { line_ends } else { line_ends - 1 };
-        let later = self.add_lines(name, position, more);
+        if more == 0 {
+            return ended;
+        }
+        let later = self.add_lines(position, more);
         if ended.is_some() { ended } else { later }
     }
 
@@ -87,7 +89,8 @@ impl MappedLines {
 
     // Adds so many lines, of which the first one's place is the line behind a position by its step. Answers the run that ended, if one
     // did.
-    fn add_lines(&mut self, name: &str, position: &Position<'_>, count: u64) -> Option<LineRun> {
+    fn add_lines(&mut self, position: &Position<'_>, count: u64) -> Option<LineRun> {
+        let name = position.name;
         let step = position.step;
         let mut line = next_line(position.line, step);
         let mut left = count;
@@ -120,7 +123,7 @@ impl MappedLines {
         self.run.line = line;
         self.run.step = None;
         self.run.name.clear();
-        self.run.name.push_str(name);
+        self.run.name.push_str(shown_name(name));
         self.last = line;
         ended
     }
@@ -141,7 +144,7 @@ impl MappedLines {
         self.has_run
             && line == next_line(self.last, step)
             && self.run.step.is_none_or(|other| other == step)
-            && self.run.name.as_str() == name
+            && self.run.name.as_bytes() == shown_name(name).as_bytes()
     }
 
     // Adds so many lines that go on the last run by a step.
@@ -155,6 +158,14 @@ impl MappedLines {
             self.last = self.last.saturating_add(count);
         }
     }
+}
+
+// The first 1,024 bytes of a name, or fewer at a character's boundary.
+fn shown_name(name: &str) -> &str {
+    if name.len() <= NAME_BYTES {
+        return name;
+    }
+    &name[..name.floor_char_boundary(NAME_BYTES)]
 }
 
 // The line behind a line by a step.

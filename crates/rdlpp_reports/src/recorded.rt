@@ -1,4 +1,11 @@
 //! Sources that note what is opened.
+ghost use Rattle.std.specs.Prelude.{◌≡◌, [], map, true, IfErr};
+ghost use Rattle.std.specs.Io.{ReadsAtMost};
+ghost use Rattle.std.specs.String.{string_bytes};
+ghost use Rattle.rdlpp_source.specs.Counts.{Counts};
+ghost use Rattle.rdlpp_source.specs.Sources.{Finds, Reads, is_device, is_no_memory};
+ghost use Rattle.rdlpp_reports.specs.Recorded.{is_whole, noted_paths, noted_sources, paths_of, NotesAnswer, NotesPath};
+
 use indexmap::IndexSet;
 use rdlpp_source::{Found, SourceFault, Sources};
 use std::alloc::Global;
@@ -14,7 +21,10 @@ pub struct OpenedPaths {
 
 impl OpenedPaths {
     /// No paths.
-    pub fn new(alloc: Global) -> OpenedPaths {
+    pub fn new(alloc: Global) -> OpenedPaths
+        ensures paths { paths_of result ≡ [] }
+        ensures whole { is_whole result ≡ true }
+    {
         OpenedPaths {
             alloc,
             paths: IndexSet::new(alloc),
@@ -23,31 +33,31 @@ impl OpenedPaths {
     }
 
     /// Whether each path that was noted is here: memory was refused for none.
-    pub fn is_whole(&self) -> bool {
+    pub fn is_whole(&self) -> bool
+        ensures { result ≡ is_whole self.now }
+    {
         self.is_whole
     }
 
-    /// How many paths there are.
-    pub fn len(&self) -> usize {
-        self.paths.len()
-    }
-
-    /// The path at a place, from 0.
-    pub fn path(&self, place: usize) -> Option<&str> {
-        match self.paths.get_index(place) {
-            Some(path) => Some(path.as_str()),
-            None => None,
-        }
+    /// The paths.
+    pub fn paths(&self) -> &[String]
+        ensures { map string_bytes result.now ≡ paths_of self.now }
+    {
+        self.paths.as_slice()
     }
 
     // Notes a path behind the others, unless it is here.
-    fn note(&mut self, path: &str) {
+    #[tactic(auto, using(crate::proofs::Paths::noted_key))]
+    fn note(&mut self, path: &str)
+        ensures { NotesPath self.old self.new path.now }
+    {
         let Ok(path) = String::from_str(self.alloc, path) else {
             self.is_whole = false;
             return;
         };
-        if self.paths.insert(path).is_err() {
-            self.is_whole = false;
+        match self.paths.insert(path) {
+            Ok(_) => {}
+            Err(_) => self.is_whole = false,
         }
     }
 }
@@ -64,7 +74,11 @@ pub struct Recorded<S> {
 
 impl<S: Sources> Recorded<S> {
     /// Sources over others, with no path noted.
-    pub fn new(alloc: Global, sources: S) -> Recorded<S> {
+    pub fn new(alloc: Global, sources: S) -> Recorded<S>
+        ensures sources { noted_sources result ≡ sources }
+        ensures paths { paths_of (noted_paths result) ≡ [] }
+        ensures whole { is_whole (noted_paths result) ≡ true }
+    {
         Recorded {
             sources,
             opened: OpenedPaths::new(alloc),
@@ -72,17 +86,24 @@ impl<S: Sources> Recorded<S> {
     }
 
     /// The sources below.
-    pub fn sources(&self) -> &S {
+    pub fn sources(&self) -> &S
+        ensures { result.now ≡ noted_sources self.now }
+    {
         &self.sources
     }
 
     /// The paths of the sources that were opened.
-    pub fn opened(&self) -> &OpenedPaths {
+    pub fn opened(&self) -> &OpenedPaths
+        ensures { result.now ≡ noted_paths self.now }
+    {
         &self.opened
     }
 
     // Notes the path of what was found.
-    fn note(&mut self, answer: &Result<Found<S::Reader>, SourceFault>) {
+    fn note(&mut self, answer: &Result<Found<S::Reader>, SourceFault>)
+        ensures notes { NotesAnswer (noted_paths self.old) (noted_paths self.new) answer.now }
+        ensures sources { noted_sources self.new ≡ noted_sources self.old }
+    {
         if let Ok(found) = answer {
             self.opened.note(found.path.as_str());
         }
@@ -92,7 +113,7 @@ impl<S: Sources> Recorded<S> {
 impl<S: Sources> Sources for Recorded<S> {
     type Reader = S::Reader;
 
-    ghost use Rattle.rdlpp_reports.specs.Recorded.{noted_sources};
+    ghost use Rattle.rdlpp_reports.specs.Recorded.{noted_sources, noted_paths, NotesAnswer};
 
     ghost tells = { λ r. S.tells (noted_sources r) };
 
@@ -104,19 +125,42 @@ impl<S: Sources> Sources for Recorded<S> {
 
     ghost refusals = { λ r. S.refusals (noted_sources r) };
 
-    fn top(&mut self, path: &str) -> Result<Found<S::Reader>, SourceFault> {
+    fn top(&mut self, path: &str) -> Result<Found<S::Reader>, SourceFault>
+        ensures answer { S.tells (noted_sources self.old) → Finds S.unread ((S.catalog (noted_sources self.old)).top path.now) result }
+        ensures failures { Counts (is_device result) (S.failures (noted_sources self.old)) (S.failures (noted_sources self.new)) }
+        ensures refusals { Counts (is_no_memory result) (S.refusals (noted_sources self.old)) (S.refusals (noted_sources self.new)) }
+        ensures tells { S.tells (noted_sources self.old) → S.tells (noted_sources self.new) }
+        ensures catalog { S.catalog (noted_sources self.new) ≡ S.catalog (noted_sources self.old) }
+        ensures notes { NotesAnswer (noted_paths self.old) (noted_paths self.new) result }
+    {
         let answer = self.sources.top(path);
         self.note(&answer);
         answer
     }
 
-    fn find(&mut self, from: &str, name: &str) -> Result<Found<S::Reader>, SourceFault> {
+    fn find(&mut self, from: &str, name: &str) -> Result<Found<S::Reader>, SourceFault>
+        ensures answer { S.tells (noted_sources self.old) → Finds S.unread ((S.catalog (noted_sources self.old)).find from.now name.now) result }
+        ensures failures { Counts (is_device result) (S.failures (noted_sources self.old)) (S.failures (noted_sources self.new)) }
+        ensures refusals { Counts (is_no_memory result) (S.refusals (noted_sources self.old)) (S.refusals (noted_sources self.new)) }
+        ensures tells { S.tells (noted_sources self.old) → S.tells (noted_sources self.new) }
+        ensures catalog { S.catalog (noted_sources self.new) ≡ S.catalog (noted_sources self.old) }
+        ensures notes { NotesAnswer (noted_paths self.old) (noted_paths self.new) result }
+    {
         let answer = self.sources.find(from, name);
         self.note(&answer);
         answer
     }
 
-    fn read(&mut self, reader: &mut S::Reader, to: &mut [u8]) -> Result<usize, SourceFault> {
+    fn read(&mut self, reader: &mut S::Reader, to: &mut [u8]) -> Result<usize, SourceFault>
+        ensures bound { ReadsAtMost result to.new }
+        ensures only { IfErr result (λ fault. fault ≡ SourceFault.Device) }
+        ensures bytes { S.tells (noted_sources self.old) → Reads (S.unread reader.old) (S.unread reader.new) result to.new }
+        ensures failures { Counts (is_device result) (S.failures (noted_sources self.old)) (S.failures (noted_sources self.new)) }
+        ensures refusals { S.refusals (noted_sources self.new) ≡ S.refusals (noted_sources self.old) }
+        ensures tells { S.tells (noted_sources self.old) → S.tells (noted_sources self.new) }
+        ensures catalog { S.catalog (noted_sources self.new) ≡ S.catalog (noted_sources self.old) }
+        ensures notes { noted_paths self.new ≡ noted_paths self.old }
+    {
         self.sources.read(reader, to)
     }
 }

@@ -90,7 +90,8 @@ fn a_line(rt: HostRuntime) -> Result<(), Fail> {
             (b"\n", "m", 2, LineStep::Next),
             (b"b\n", "n", 70, LineStep::Next),
             (b"\n\n", "n", 71, LineStep::Next),
-            (b"\nc", "n", 73, LineStep::Next),
+            (b"\n", "n", 73, LineStep::Next),
+            (b"c", "n", 74, LineStep::Next),
         ],
     )
 }

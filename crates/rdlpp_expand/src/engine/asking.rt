@@ -55,7 +55,7 @@ impl<S: Sources> Engine<S> {
     }
 
     // Whether the fault of an opening of the main text that failed is kept.
-    fn keeps_failed_start(&self) -> bool
+    pub(crate) fn keeps_failed_start(&self) -> bool
         ensures { result ≡ is_failed_start self.now }
     {
         self.keeps_failed_call() && has_closed(self.phase)

@@ -7,8 +7,8 @@ use Rattle.std.proofs.Math.Seq.{drop-cons, take-suc}
 use Rattle.std.proofs.lemmas.List.{map-append}
 use Rattle.std.proofs.lemmas.List.Folds.{concat-append}
 use Rattle.std.proofs.lemmas.Result.{err_from_is_err_and}
-use Rattle.rdlpp.proofs.Reports.{writes_by, writes_part, writes_then, writes_whole}
-use Rattle.rdlpp.proofs.reporting.write_parts.Goals as goal
+use Rattle.rdlpp_reports.proofs.Parts.{writes_by, writes_part, writes_then, writes_whole}
+use Rattle.rdlpp_reports.proofs.writing.write_parts.Goals as goal
 
 concat-take-suc : (parts : List (Bor (List ℕ))) (i : ℕ) (d : Bor (List ℕ)) → i < length parts
     → concat (map (λ part. part.now) (take (i + 1) parts)) ≡ concat (map (λ part. part.now) (take i parts)) ++ (slice_index_or parts i d).now

@@ -1,7 +1,7 @@
 -- What is gone from `rest` was appended.
 use Rattle.std.proofs.Common.{◌≡◌, ℕ, List, ◌++◌, length}
 use Rattle.std.specs.Io.KnownBytes.{Appends}
-use Rattle.rdlpp.proofs.reporting.write_whole.Given as goal
+use Rattle.rdlpp_reports.proofs.writing.write_whole.Given as goal
 
 abbrev pub invariant-loop-rest : goal.invariant-loop-rest
 invariant-loop-rest g l =

@@ -1,8 +1,10 @@
 use Rattle.std.proofs.Common.{◌≡◌, [], sym, ap, ◌∙◌, subst}
 use Rattle.rdlpp_read.specs.Files.{AreOpen}
 use Rattle.rdlpp_steps.specs.Engine.{IsSoundEngine}
-use Rattle.rdlpp_steps.specs.Owed.{nothing_owed}
-use Rattle.rdlpp_steps.proofs.FrontSteps.{opened_phase, owed_is_placed, ready_idle, take_owed}
+use Rattle.rdlpp_steps.specs.Owed.{OwedView, TakesPiece, nothing_owed}
+use Rattle.rdlpp_steps.specs.Remaining.{inner_name}
+use Rattle.rdlpp_steps.proofs.EngineSteps.{wider}
+use Rattle.rdlpp_steps.proofs.FrontSteps.{opened_phase, owed_is_placed, owing, owing_same, ready_idle, take_owed, unowed_by}
 use Rattle.rdlpp_expand.proofs.engine.Engine.step_open.Goals as goal
 
 pub take_owed-requires : goal.take_owed-requires
@@ -10,8 +12,11 @@ take_owed-requires g c = c.facts.ensures.sound.open_ (opened_phase c.args.self.n
 
 pub returns-in-Some-clause-walks : goal.returns-in-Some-clause-walks
 returns-in-Some-clause-walks g c = λ bounded.
-    let t = c.in-Some.ensures.piece in
-    take_owed g.S.Sources c.args.self.now _ c.in-Some.piece t.rest c.requires.free c.requires.open bounded t.takes t.becomes
+    let name : List ℕ = inner_name c.args.self.now.files.nest in
+    let size : length name ≡ c.len-name_len.result = ap (λ ns. length (inner_name ns)) (ap (λ e. e.files.nest) (sym c.self.view_is) ∙ c.file.ensures.inner) ∙ sym c.len-name_len.ensures.value in
+    let owed : c.self.inside.owed ≡ c.args.self.now.owed = ap (λ e. e.owed) c.self.view_is in
+    wider g.S.Sources 0 1 _ _ _ (omega arith) (take_owed g.S.Sources c.args.self.now _ c.in-Some.piece c.take.new.self c.requires.free c.requires.open bounded
+    (subst (λ (o : OwedView). TakesPiece name o c.take.new.self c.in-Some.piece) owed (c.in-Some.ensures.piece name size)) (owing _ c.args.self.now c.take.new.self c.self.view_is))
 
 pub returns-in-Some-clause-place : goal.returns-in-Some-clause-place
 returns-in-Some-clause-place g c =
@@ -22,5 +27,5 @@ pub step_sources-requires : goal.step_sources-requires
 step_sources-requires g c =
     let owed : c.args.self.now.owed ≡ nothing_owed = c.in-None.ensures.nothing.0 in
     let same = c.in-None.ensures.nothing.1 in
-    let unowed = record { open_ = c.requires.open; free = c.requires.free; owed = owed } in
+    let unowed : IsUnowed c.args.self.now = record { open_ = c.requires.open; free = c.requires.free; owed = owed } in
     rw same (ready_idle c.args.self.now unowed (c.requires.outside unowed) c.facts.ensures.sound c.facts.ensures.files)

@@ -1,7 +1,5 @@
-use Rattle.std.proofs.Common.{◌≡◌, List, ℕ, length, sym, ap, ◌∙◌, subst, arith, refl}
+use Rattle.std.proofs.Common.{◌≡◌, length, sym, ap, ◌∙◌, arith}
 use Rattle.rdlpp_read.specs.Files.{inner_buffer}
-use Rattle.rdlpp_steps.specs.Marks.{MarksView, lends_owed}
-use Rattle.rdlpp_steps.specs.Owed.{OwedView, TakesPiece, nothing_owed}
 use Rattle.rdlpp_steps.specs.Remaining.{inner_name}
 use Rattle.rdlpp_steps.proofs.PlaceFacts.{takes_marked, untaken}
 use Rattle.rdlpp_steps.proofs.Soundness.{inner_facts}
@@ -9,17 +7,17 @@ use Rattle.rdlpp_expand.proofs.engine.Engine.take_owed.Goals as goal
 
 pub lend_owed-requires : goal.lend_owed-requires
 lend_owed-requires g c =
-    let counts = (inner_facts c.self.inside.files (rw (← c.self.view_is) at c.requires) c.facts.ensures.files).buffer.counts in
-    let line = c.line.ensures ∙ ap (λ b. b.line) c.file.ensures.buffer in
+    let counts = (inner_facts c.args.self.now.files c.requires c.facts.ensures.files).buffer.counts in
+    let line : c.line.result ≡ (inner_buffer c.args.self.now.files.nest).line = c.line.ensures ∙ (ap (λ b. b.line) c.file-file.ensures.buffer ∙ ap (λ e. (inner_buffer e.files.nest).line) c.self.view_is) in
     omega arith
 
 pub returns-clause-nothing : goal.returns-clause-nothing
 returns-clause-nothing g c =
-    untaken c.take.result c.self.inside c.args.self.now c.lend_owed.new.self c.take.new.self _ c.self.view_is c.lend_owed.ensures c.take.ensures.nothing
+    untaken c.take.result _ c.args.self.now c.lend_owed.new.self c.take.new.self c.line.result c.self.view_is c.lend_owed.ensures c.take.ensures.nothing
 
 pub returns-clause-piece : goal.returns-clause-piece
 returns-clause-piece g c =
-    let nest = ap (λ e. e.files.nest) (sym c.self.view_is) ∙ c.file.ensures.inner in
+    let nest = ap (λ e. e.files.nest) (sym c.self.view_is) ∙ c.file-file.ensures.inner in
     let size : length (inner_name c.args.self.now.files.nest) ≡ c.len-name_len.result = ap (λ ns. length (inner_name ns)) nest ∙ sym c.len-name_len.ensures.value in
-    let here : c.line.result ≡ (inner_buffer c.args.self.now.files.nest).line = c.line.ensures ∙ (ap (λ b. b.line) c.file.ensures.buffer ∙ ap (λ e. (inner_buffer e.files.nest).line) c.self.view_is) in
-    takes_marked c.take.result c.self.inside c.args.self.now c.lend_owed.new.self c.take.new.self c.line.result c.len-name_len.result c.self.view_is c.lend_owed.ensures here size c.take.ensures.piece
+    let here : c.line.result ≡ (inner_buffer c.args.self.now.files.nest).line = c.line.ensures ∙ (ap (λ b. b.line) c.file-file.ensures.buffer ∙ ap (λ e. (inner_buffer e.files.nest).line) c.self.view_is) in
+    takes_marked c.take.result _ c.args.self.now c.lend_owed.new.self c.take.new.self c.line.result c.len-name_len.result c.self.view_is c.lend_owed.ensures here size c.take.ensures.piece

@@ -6,7 +6,7 @@ use Rattle.rdlpp_owned.proofs.asked.AskedTextsSources.find.Goals as goal
 pub returns-clause-answer : goal.returns-clause-answer
 returns-clause-answer c =
     answers_of (search_of c.args.self.now c.args.from.now c.args.name.now) c.open_named-answer.result c.ended.result (wanted_of c.ended.new.self)
-      c.open_named-answer.ensures c.ended.ensures.answer
+    c.open_named-answer.ensures c.ended.ensures.answer
 
 pub returns-clause-finds : goal.returns-clause-finds
 returns-clause-finds c = finds_named c.args.self.now c.args.from.now c.args.name.now c.ended.result (wanted_of c.ended.new.self) (returns-clause-answer c)

@@ -1,0 +1,11 @@
+-- The paths so far were appended.
+use Rattle.std.proofs.Common.{take}
+use Rattle.std.specs.List.{flat_map}
+use Rattle.std.specs.String.{string_bytes}
+use Rattle.std.specs.Io.KnownBytes.{Appends}
+use Rattle.rdlpp_reports.specs.Dependencies.{empty_rule}
+use Rattle.rdlpp_reports.proofs.dependencies.write_empty_rules.Given as goal
+
+abbrev pub invariant-loop-path : goal.invariant-loop-path
+invariant-loop-path g l =
+    Appends (g.W.Write.contents l.initial.writer) (g.W.Write.contents l.writer) (flat_map (λ path. empty_rule (string_bytes path)) (take l.path-index l.paths))
