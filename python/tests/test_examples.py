@@ -13,7 +13,8 @@ EXAMPLES = pathlib.Path(__file__).resolve().parent.parent / "examples"
 FILES = {
     "inc/fields.rdl": "`define FIELD(name, bits) \\\n    field {} \\\n    name[bits];\n`define OPEN {\n",
     "timer.rdl": '`include "fields.rdl"\naddrmap timer {\n    reg {\n        `FIELD(enable, 0:0)\n'
-    "        `FIELD(\n            limit,\n            8:31)\n        field {} mode[1:2];\n    } control @ `BASE;\n};\n`OPEN\n",
+    "        `FIELD(\n            limit,\n            8:31)\n        field {} mode[1:2];\n    } control @ `BASE;\n};\n"
+    "`OPEN\n",
 }
 
 
@@ -34,7 +35,7 @@ class Fields(unittest.TestCase):
 
 
 class InFront(unittest.TestCase):
-    def run_example(self, *words, **files):
+    def run_example(self, *words):
         """What the example tells of these files, in a scratch folder."""
         with tempfile.TemporaryDirectory() as folder:
             for path, text in FILES.items():

@@ -32,7 +32,8 @@ class Sources(unittest.TestCase):
 
 class Callables(Sources):
     def test_what_is_asked_for(self):
-        read = Asked({"a/m": b'`include "i"\n`include "/r"\n`include "j"\n`include "i"\n', "a/i": b"i", "/r": b"r", "more/j": b"j"})
+        main = b'`include "i"\n`include "/r"\n`include "j"\n`include "i"\n'
+        read = Asked({"a/m": main, "a/i": b"i", "/r": b"r", "more/j": b"j"})
         output = rdlpp.run("a/m", include_dirs=["inc", "more/", ""], read=read)
         self.assertEqual(read.paths, ["a/m", "a/i", "/r", "a/j", "inc/j", "more/j"])
         self.assertEqual(output.sources, ("a/m", "a/i", "/r", "more/j"))
