@@ -29,11 +29,7 @@ impl Mapping {
 }
 
 impl Watcher for Mapping {
-    fn is_looking(&self) -> bool {
-        self.map.is_some()
-    }
-
-    fn saw(&mut self, piece: &[u8], position: Position<'_>) {
+    fn saw(&mut self, piece: &[u8], position: Option<Position<'_>>) {
         if let Some(map) = &mut self.map {
             map.saw(piece, position);
         }

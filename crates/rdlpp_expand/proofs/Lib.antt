@@ -2,3 +2,6 @@ pub mod RunFacts
 pub mod Readings
 pub mod TextFacts
 pub mod UsageNames
+pub mod Retries
+pub mod HeldPieces
+pub mod Shown

@@ -1,5 +1,5 @@
 -- Reads of the output into buffers.
-use Rattle.std.proofs.Common.{◌≡◌, ℕ, ◌+◌, ◌-◌, ◌≤◌, min, false, List, [], ◌++◌, length, take, drop, Option, None, Some, Ok, Err, refl, sym, ap, subst, ◌∙◌, append_assoc, append-nil, length-append, arith, inl}
+use Rattle.std.proofs.Common.{◌≡◌, ℕ, ◌+◌, ◌-◌, ◌≤◌, ◌<◌, min, false, List, [], ◌∷◌, ◌++◌, length, take, drop, Option, None, Some, Ok, Err, refl, sym, ap, subst, ◌∙◌, append_assoc, append-nil, length-append, arith, inl, inr}
 use Rattle.std.proofs.lemmas.List.{drop-drop, length-take-le, length-drop, take-append-drop}
 use Rattle.std.proofs.Math.ListN.{drop_of_length-le}
 use Rattle.std.proofs.Math.Seq.{drop-append_seam, take-append_seam}
@@ -8,11 +8,11 @@ use Rattle.rdlpp_meaning.specs.Outcome.{Told, gives, fails, and_then}
 use Rattle.rdlpp_meaning.proofs.Outcomes.{and_then-gives_nil, and_then-gives, and_then-gives_gives, bytes-and_then_gives}
 use Rattle.rdlpp_steps.specs.Calls.{SourcesCalled}
 use Rattle.rdlpp_steps.specs.Engine.{EngineView}
-use Rattle.rdlpp_steps.specs.Remaining.{left_of}
+use Rattle.rdlpp_steps.specs.Remaining.{left_of, work_left}
 use Rattle.rdlpp_steps.specs.Steps.{Steps, is_memory_kind, is_read_failed}
 use Rattle.rdlpp_steps.proofs.EngineSteps.{called_after, not_called}
 use Rattle.rdlpp_expand.specs.Run.{is_fresh}
-use Rattle.rdlpp_expand.specs.Reading.{Fills, Leaves, LentEnds, ReadingView, Turns, ended_with, reading_left}
+use Rattle.rdlpp_expand.specs.Reading.{Fills, FillsPart, Leaves, LentEnds, ReadingView, Turns, ended_with, reading_left}
 use Rattle.rdlpp_expand.specs.declared.reading.ReadEnd.{ReadEnd}
 use Rattle.rdlpp_expand.specs.declared.reading.ReadEnd.TheVariants.{Finished, Stopped}
 use Rattle.rdlpp_expand.proofs.RunFacts.{err_reads, finishes, goes_on, going_reads, none_reads, ok_reads, stops}
@@ -60,6 +60,10 @@ lent_more {S} {R} g old mid new xs ys (Some Stopped) l stop =
       ends = stops g old mid new xs ys was.tells l.ends stop;
     }
 
+-- the work left doesn't rise, where it falls
+work_behind : (a b c : ℕ) → b ≤ a → c < b → c ≤ a
+work_behind a b c most less = omega (arith, most, less)
+
 -- what a read has given so far: the output hasn't ended
 pub record IsGiven {S R : Type 0} (g : Ghosts S R) (old new : ReadingView S R) (before after : List ℕ) (len : ℕ) : Type 0 where
   pub lent : List ℕ
@@ -68,6 +72,7 @@ pub record IsGiven {S R : Type 0} (g : Ghosts S R) (old new : ReadingView S R) (
   pub given : take len after ++ new.rest ≡ old.rest ++ lent
   pub behind : drop len after ≡ drop len before
   pub so : Lent g old.engine new.engine lent None
+  pub work : work_left new.engine ≤ work_left old.engine
 
 -- nothing was given yet
 pub given_none : {S R : Type 0} (g : Ghosts S R) (r : ReadingView S R) (out : List ℕ) → IsGiven g r r out out 0
@@ -84,6 +89,7 @@ given_none g r out = record {
     main = refl;
     ends = record { kept = refl; open_ = inl refl; tells = λ t. sym (and_then-gives_nil (left_of g r.engine)); again = λ f k. (refl, refl); lets_go = λ h. h; stores = λ t h. h };
   };
+  work = omega arith;
 }
 
 -- the length of two lists in a row
@@ -136,6 +142,7 @@ given_more {S} {R} g old mid new before after out len n w becomes is over =
       given = ap (λ (t : List ℕ). t ++ new.rest) front ∙ ap (λ (r : List ℕ). (xs ++ ys) ++ r) rest ∙ append_assoc xs ys (drop n mid.rest) ∙ ap (λ (t : List ℕ). xs ++ t) (take-append-drop n mid.rest) ∙ w.given;
       behind = back ∙ sym (drop-drop n len after) ∙ ap (drop n) w.behind ∙ drop-drop n len before;
       so = subst (λ (e : EngineView S R). Lent g old.engine e w.lent None) (sym engine) w.so;
+      work = subst (λ (e : EngineView S R). work_left e ≤ work_left old.engine) (sym engine) w.work;
     }
 
 -- where there is room behind it, nothing is left of the piece
@@ -156,7 +163,12 @@ given_turned g old mid new before after len w none t = record {
   given = ap (λ (xs : List ℕ). xs ++ new.rest) (sym (append-nil (take len after)) ∙ ap (λ (r : List ℕ). take len after ++ r) (sym none) ∙ w.given) ∙ append_assoc old.rest w.lent new.rest;
   behind = w.behind;
   so = lent_more g old.engine mid.engine new.engine w.lent new.rest None w.so t;
+  work = (let steps : Steps g mid.engine new.engine (Ok (Some new.rest)) = t in work_behind _ _ _ w.work (steps.falls new.rest refl));
 }
+
+-- the work left fell, where it does again
+pub work_fell : (a b c : ℕ) → b ≤ a → c < b → c < a
+work_fell a b c most less = omega (arith, most, less)
 
 -- a read that filled its buffer
 pub fills_full : {S R : Type 0} (g : Ghosts S R) (old new : ReadingView S R) (before after : List ℕ) (len : ℕ) → IsGiven g old new before after len
@@ -201,12 +213,62 @@ fills_ended g old mid new before after len e w none t =
       main = so.main;
     }
 
+-- a read that fills its buffer is one that may come back before
+pub fills_part : {S R : Type 0} (g : Ghosts S R) (old new : ReadingView S R) (before after : List ℕ) (len : ℕ) (ending : Option ReadEnd) → Fills g old new before after len ending
+    → FillsPart g old new before after len ending
+fills_part g old new before after len ending f = record {
+  lent = f.lent;
+  inside = f.inside;
+  size = f.size;
+  given = f.given;
+  behind = f.behind;
+  full = λ e. inl (f.full e);
+  used = f.used;
+  ends = f.ends;
+  reads = f.reads;
+  limits = f.limits;
+  origins = f.origins;
+  main = f.main;
+}
+
+-- nothing is left of a piece without bytes
+no_bytes : (xs : List ℕ) → length xs ≡ 0 → xs ≡ []
+no_bytes [] e = refl
+no_bytes (x ∷ xs) e = cc e
+
+-- a read that came back behind a piece without bytes
+pub fills_paused : {S R : Type 0} (g : Ghosts S R) (old mid new : ReadingView S R) (before after : List ℕ) (len : ℕ) → IsGiven g old mid before after len
+    → mid.rest ≡ [] → Turns g mid.engine new.engine new.rest None → length new.rest ≡ 0 → FillsPart g old new before after len None
+fills_paused g old mid new before after len w used t none =
+    let empty : new.rest ≡ [] = no_bytes new.rest none in
+    let v : IsGiven g old new before after len = given_turned g old mid new before after len w used t in
+    let steps : Steps g mid.engine new.engine (Ok (Some new.rest)) = t in
+    record {
+      lent = v.lent;
+      inside = (let i = v.inside in let s = v.size in omega arith);
+      size = v.size;
+      given = v.given;
+      behind = v.behind;
+      full = λ _. inr (record {
+        none = empty;
+        before = mid.engine;
+        steps = subst (λ (xs : List ℕ). Steps g mid.engine new.engine (Ok (Some xs))) empty steps;
+        falls = work_fell _ _ _ w.work (steps.falls new.rest refl);
+      });
+      used = λ e bad. (let no : ⊥ = cc bad in absurd no);
+      ends = v.so.ends;
+      reads = v.so.reads;
+      limits = v.so.limits;
+      origins = v.so.origins;
+      main = v.so.main;
+    }
+
 -- what is given, where nothing is left of the piece
-given_all : {S R : Type 0} (g : Ghosts S R) (old new : ReadingView S R) (before after : List ℕ) (len : ℕ) (e : ReadEnd) → (f : Fills g old new before after len (Some e)) → take len after ≡ old.rest ++ f.lent
+given_all : {S R : Type 0} (g : Ghosts S R) (old new : ReadingView S R) (before after : List ℕ) (len : ℕ) (e : ReadEnd) → (f : FillsPart g old new before after len (Some e)) → take len after ≡ old.rest ++ f.lent
 given_all g old new before after len e f = sym (append-nil (take len after)) ∙ ap (λ (r : List ℕ). take len after ++ r) (sym (f.used e refl)) ∙ f.given
 
 -- what a read leaves of the output
-pub leaves : {S R : Type 0} (g : Ghosts S R) (old new : ReadingView S R) (before after : List ℕ) (len : ℕ) (ending : Option ReadEnd) → Fills g old new before after len ending
+pub leaves : {S R : Type 0} (g : Ghosts S R) (old new : ReadingView S R) (before after : List ℕ) (len : ℕ) (ending : Option ReadEnd) → FillsPart g old new before after len ending
     → g.tells old.engine.sources → Leaves g old new (take len after) ending
 unfolding reading_left
 leaves g old new before after len None f t =

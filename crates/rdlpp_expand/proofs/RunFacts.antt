@@ -170,10 +170,10 @@ record IsAlike {S R : Type 0} (at new : EngineView S R) : Type 0 where
 
 alike : {S R : Type 0} (g : Ghosts S R) (at new : EngineView S R) → Stood g at new → IsAlike at new
 alike g at new (Itself same) = record { main = sym (ap (λ e. e.main) same); quota = sym (ap (λ e. e.quota) same); phase = sym (ap (λ e. e.phase) same) }
-alike g at new (BeforeCall c) = record { main = ap (λ e. e.main) c.becomes; quota = ap (λ e. e.quota) c.becomes; phase = ap (λ e. e.phase) c.becomes }
+alike g at new (BeforeCall c unheld) = record { main = ap (λ e. e.main) c.becomes; quota = ap (λ e. e.quota) c.becomes; phase = ap (λ e. e.phase) c.becomes }
 
 -- where a read failed, what remains but for the fault is what remained
-failed_rest : {S R : Type 0} (g : Ghosts S R) (mid new : EngineView S R) (f : Told) → Steps g mid new (Err f) → has_met is_call_failed mid.kept (Err f) ≡ true → (reads : StopsReading g mid new) → g.tells mid.sources
+pub failed_rest : {S R : Type 0} (g : Ghosts S R) (mid new : EngineView S R) (f : Told) → Steps g mid new (Err f) → has_met is_call_failed mid.kept (Err f) ≡ true → (reads : StopsReading g mid new) → g.tells mid.sources
     → left_of g mid ≡ left_of g (record reads.at { kept = None })
 unfolding left_of lent_len
 failed_rest g mid new f s met reads t =

@@ -11,7 +11,8 @@ use Rattle.rdlpp_usages.specs.Usages.{ExpansionView, StaysLent}
 use Rattle.rdlpp_steps.specs.Engine.{EngineView}
 use Rattle.rdlpp_steps.specs.Moves.{IsUnowed}
 use Rattle.rdlpp_steps.specs.Pieces.{kept_answer, lent_answer, step_answer}
-use Rattle.rdlpp_steps.specs.Steps.{Steps, Walks}
+use Rattle.rdlpp_steps.specs.Steps.{Steps, WalksOver}
+use Rattle.rdlpp_steps.specs.Silences.{most_silent}
 use Rattle.rdlpp_steps.specs.declared.place.Place.{Place}
 use Rattle.rdlpp_steps.specs.declared.phase.Phase.TheVariants.{Open}
 use Rattle.rdlpp_steps.proofs.Cuts.{cut_kept, cut_piece, IsSpent}
@@ -21,9 +22,9 @@ use Rattle.rdlpp_expand.specs.declared.engine.texts.TextStep.{TextStep}
 use Rattle.rdlpp_expand.specs.declared.engine.texts.TextStep.TheVariants.{Lent, Silent, Kept}
 
 -- where bytes are lent, the main text is open
-pub open-lent : {S R : Type 0} (g : Ghosts S R) (old new : EngineView S R) (place : Place) (lent : List ℕ) → Walks g old new (lent_answer new place)
+pub open-lent : {S R : Type 0} (g : Ghosts S R) (n : ℕ) (old new : EngineView S R) (place : Place) (lent : List ℕ) → WalksOver g n old new (lent_answer new place)
     → lent_answer new place ≡ Ok (Some lent) → new.phase ≡ Open
-open-lent g old new place lent w e = follows new.phase (w.lends lent e).1
+open-lent g n old new place lent w e = follows new.phase (w.lends lent e).1
 
 -- nothing that is lent needs no room
 silent-spent : {S R : Type 0} (e : EngineView S R) → IsSpent e e 0 0
@@ -36,7 +37,7 @@ silent-spent {S} {R} e = record {
     same = omega arith
 
 -- a step that lends nothing is one within the limit on the output
-pub silent-steps : {S R : Type 0} (g : Ghosts S R) (old new : EngineView S R) → Walks g old new (Ok (Some [])) → Steps g old new (Ok (Some []))
+pub silent-steps : {S R : Type 0} (g : Ghosts S R) (old new : EngineView S R) → WalksOver g most_silent old new (Ok (Some [])) → Steps g old new (Ok (Some []))
 silent-steps g old new w = cut_piece g old new new [] 0 0 w refl (silent-spent new)
 
 -- a fault that is kept is answered
@@ -73,7 +74,7 @@ answer-kept g old new f e s = subst (λ k. Steps g old new (kept_answer k)) e s
 
 -- what steps over open texts answer that lend no piece is within the limit on the output
 pub other-steps : {S R : Type 0} (g : Ghosts S R) (old new : EngineView S R) (step : TextStep) → ((place : TextPlace) → step ≡ Lent place → ⊥)
-    → Walks g old new (step_answer new (place_of step)) → Steps g old new (step_answer new (place_of step))
+    → WalksOver g most_silent old new (step_answer new (place_of step)) → Steps g old new (step_answer new (place_of step))
 other-steps g old new (Lent place) other w = absurd (other place refl)
 other-steps g old new Silent other w = silent-steps g old new w
 other-steps g old new Kept other w = cut_kept g old new new.kept w
@@ -81,5 +82,5 @@ other-steps g old new Kept other w = cut_kept g old new new.kept w
 -- what holds behind one step that lends a piece or keeps a fault holds behind the steps up to it
 pub other-leaves : {S R : Type 0} (step : TextStep) (e : EngineView S R) → (step ≡ Silent → ⊥) → StaysUnowed step e → LeavesTexts step e
 other-leaves (Lent place) e other stays = λ _. stays
-other-leaves Silent e other stays = absurd (other refl)
+other-leaves Silent e other stays = stays
 other-leaves Kept e other stays = stays

@@ -1,3 +1,4 @@
 pub mod Run
 pub mod Reading
 pub mod Texts
+pub mod Watching

@@ -1,12 +1,12 @@
 -- Outputs that are read into buffers of a caller's.
 -- A definition that names no source is this project's own.
-use Rattle.std.specs.Prelude.{◌≡◌, ℕ, ◌≤◌, false, List, [], ◌++◌, length, take, drop, Option, None, Some, Ok}
+use Rattle.std.specs.Prelude.{◌≡◌, ℕ, ◌≤◌, ◌<◌, ◌⊎◌, min, false, List, [], ◌∷◌, ◌++◌, length, take, drop, Option, None, Some, Ok}
 use Rattle.rdlpp_source.specs.declared.sources.Sources.{Ghosts}
 use Rattle.rdlpp_meaning.specs.Outcome.{Told, Outcome, gives, fails, and_then}
 use Rattle.rdlpp_steps.specs.Calls.{SourcesCalled}
 use Rattle.rdlpp_steps.specs.Engine.{EngineView}
 use Rattle.rdlpp_steps.specs.Pieces.{IsPlaced, bytes_at}
-use Rattle.rdlpp_steps.specs.Remaining.{left_of}
+use Rattle.rdlpp_steps.specs.Remaining.{left_of, work_left}
 use Rattle.rdlpp_steps.specs.Steps.{Steps, IsStarted, is_call_failed, is_memory_kind, is_read_failed}
 use Rattle.rdlpp_steps.specs.declared.place.Place.{Place}
 use Rattle.rdlpp_expand.specs.Run.{Begins, Finishes, Going, Stops, StopsAt, is_fresh}
@@ -71,6 +71,42 @@ pub record Fills {S R : Type 0} (g : Ghosts S R) (old new : ReadingView S R) (be
   pub limits : new.engine.limits ≡ old.engine.limits
   pub origins : new.engine.origins ≡ old.engine.origins
   pub main : new.engine.main ≡ old.engine.main
+
+-- a read came back behind a piece without bytes: nothing is left of it, and the work left fell
+pub record Pauses {S R : Type 0} (g : Ghosts S R) (old new : ReadingView S R) : Type 0 where
+  pub none : new.rest ≡ []
+  pub before : EngineView S R
+  pub steps : Steps g before new.engine (Ok (Some []))
+  pub falls : work_left new.engine < work_left old.engine
+
+-- a read that may come back before the buffer is full, behind a piece without bytes; else it is as one that fills it (this project's profile)
+pub record FillsPart {S R : Type 0} (g : Ghosts S R) (old new : ReadingView S R) (before after : List ℕ) (len : ℕ) (ending : Option ReadEnd) : Type 0 where
+  pub lent : List ℕ
+  pub inside : len ≤ length before
+  pub size : length after ≡ length before
+  pub given : take len after ++ new.rest ≡ old.rest ++ lent
+  pub behind : drop len after ≡ drop len before
+  pub full : ending ≡ None → (len ≡ length before) ⊎ Pauses g old new
+  pub used : (e : ReadEnd) → ending ≡ Some e → new.rest ≡ []
+  pub ends : LentEnds g old.engine new.engine lent ending
+  pub reads : SourcesCalled g (is_fresh is_read_failed old.engine.kept (ended_with ending new.engine.kept)) (is_fresh is_memory_kind old.engine.kept (ended_with ending new.engine.kept)) old.engine.sources new.engine.sources
+  pub limits : new.engine.limits ≡ old.engine.limits
+  pub origins : new.engine.origins ≡ old.engine.origins
+  pub main : new.engine.main ≡ old.engine.main
+
+-- the piece from which a read gives: what is left of the one that was lent last, if anything is, and else that of the next step, if it lends one
+abbrev pub IsNextPiece : {S R : Type 0} → Ghosts S R → ReadingView S R → EngineView S R → List ℕ → List ℕ → Option ReadEnd → Type 0
+IsNextPiece g old new [] piece ending = Turns g old.engine new piece ending
+IsNextPiece g old new (b ∷ rest) piece ending = (new ≡ old.engine) × (piece ≡ b ∷ rest) × (ending ≡ None)
+
+-- a read of one piece: as many of its bytes are given as there is room for, and the others are left; the bytes of the buffer behind them stay (this
+-- project's profile)
+pub record GivesPiece {S R : Type 0} (g : Ghosts S R) (old new : ReadingView S R) (before after : List ℕ) (len : ℕ) (ending : Option ReadEnd) : Type 0 where
+  pub piece : List ℕ
+  pub next : IsNextPiece g old new.engine old.rest piece ending
+  pub count : len ≡ min (length piece) (length before)
+  pub out : after ≡ take len piece ++ drop len before
+  pub rest : new.rest ≡ drop len piece
 
 -- bytes of an output that a fault ended: its first ones; and all of them, and the fault its end, unless a device failed or memory was
 -- refused in this call (this project's profile)

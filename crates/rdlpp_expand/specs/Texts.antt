@@ -27,8 +27,8 @@ StaysUnowed Silent e = IsUnowed e
 StaysUnowed Kept e = is_some e.kept ≡ true
 
 -- what holds behind steps up to the next piece: behind that the next step is one over open texts too, where more may be lent; and
--- where nothing is lent, none is open
+-- behind nothing that is lent no fault is kept
 abbrev pub LeavesTexts : {S R : Type 0} → TextStep → EngineView S R → Type 0
 LeavesTexts (Lent place) e = e.phase ≡ Open → IsInTexts e
-LeavesTexts Silent e = e.expansion.opens ≡ []
+LeavesTexts Silent e = IsUnowed e
 LeavesTexts Kept e = is_some e.kept ≡ true

@@ -27,7 +27,8 @@ ghost use Rattle.rdlpp_steps.specs.Pieces.{IsPlaced, Lends, answer_of, bytes_at,
 ghost use Rattle.rdlpp_steps.specs.Stored.{LetsGo};
 ghost use Rattle.rdlpp_steps.specs.Remaining.{output_fault, state_of};
 ghost use Rattle.rdlpp_expand.specs.Run.{write_fault};
-ghost use Rattle.rdlpp_steps.specs.Steps.{IsStarted, Steps, Walks, is_write_failed};
+ghost use Rattle.rdlpp_steps.specs.Steps.{IsStarted, Steps, Walks, WalksOver, is_write_failed};
+ghost use Rattle.rdlpp_steps.specs.Silences.{most_silent};
 ghost use Rattle.rdlpp_expand.specs.contracts.engine.Engine.{the_row};
 
 mod asking;
@@ -52,7 +53,8 @@ use rdlpp_read::{Files, Fill, LogicalLine};
 use rdlpp_scan::{Mode, line_ends_in, reserved};
 use rdlpp_source::Sources;
 use rdlpp_steps::{
-    Held, Marks, Owed, Phase, Piece, Place, copied, copied_fault, fault_kind, word_of,
+    Held, Marks, Owed, OwedPart, OwedPiece, Phase, Piece, Place, copied, copied_fault, fault_kind,
+    word_of,
 };
 use rdlpp_table::{Limits, Table};
 use rdlpp_usages::Expansion;
@@ -61,8 +63,15 @@ use std::marker::Model;
 pub(crate) use texts::TextStep;
 use words::DEFINE_BYTES;
 
-// The most silent steps over open texts in a row, and the most rounds of steps of one walk.
-const MOST_ROUNDS: usize = 256;
+// How many steps that come to no bytes are taken in a row, before one more: 256 steps in all, and where they are over open
+// texts, 256 times 256.
+const FURTHER_STEPS: usize = 255;
+
+// No bytes, as of no LF bytes that are owed.
+const NO_BYTES: OwedPiece = OwedPiece {
+    part: OwedPart::LineEnds,
+    len: 0,
+};
 
 /// Preprocesses one main text of its sources.
 #[derive(Drop)]
@@ -147,22 +156,23 @@ impl<S: Sources> Engine<S> {
         ensures* after { sem 𝓛 (Rests (the_row S.row S.Reader.row S.Sources) self.entry (λ new.
             Steps S.Sources self.old new (answer_of result) × Lends new (answer_of result))) }
     {
-        match self.advance() {
-            Some(place) => self.answer(place),
-            None => Ok(Piece::Bytes(&[])),
-        }
+        let place = self.advance();
+        self.answer(place)
     }
 
-    // The step of `next`: goes on to the next piece, cut to what the limit on the output leaves, and answers where it stands;
-    // none where so many steps came to no bytes.
-    pub(crate) fn advance(&mut self) -> Option<Place>
+    // The step of `next`: goes on to the next piece, cut to what the limit on the output leaves, and answers where it stands.
+    // Where too many steps came to no bytes, the piece is that of no LF bytes that are owed.
+    pub(crate) fn advance(&mut self) -> Place
         requires { IsStarted self.old }
-        ensures place { IfSome result (IsPlaced self.new) }
-        ensures steps { Steps S.Sources self.old self.new (step_answer self.new result) }
+        ensures place { IsPlaced self.new result }
+        ensures steps { Steps S.Sources self.old self.new (lent_answer self.new result) }
     {
         match self.walk() {
-            Some(place) => Some(self.cut(place)),
-            None => None,
+            Some(place) => self.cut(place),
+            None => {
+                self.facts();
+                Place::Owed(NO_BYTES)
+            }
         }
     }
 
@@ -185,7 +195,7 @@ impl<S: Sources> Engine<S> {
         requires placed { IsPlaced self.old place }
         requires open { (lent : List ℕ) → lent_answer self.old place ≡ Ok (Some lent) → self.old.phase ≡ Phase.Open }
         ensures place { IsPlaced self.new result }
-        ensures steps { (before : EngineView S S.Reader) → Walks S.Sources before self.old (lent_answer self.old place) → Steps S.Sources before self.new (lent_answer self.new result) }
+        ensures steps { (before : EngineView S S.Reader) → WalksOver S.Sources most_silent before self.old (lent_answer self.old place) → Steps S.Sources before self.new (lent_answer self.new result) }
     {
         match place {
             Place::Source(start, end) => {
@@ -225,14 +235,14 @@ impl<S: Sources> Engine<S> {
         left
     }
 
-    // Goes on to the next piece, however many bytes may still be lent, and answers where it stands; none where so many
-    // rounds of steps came to no bytes.
+    // Goes on to the next piece, however many bytes may still be lent, and answers where it stands; none where 256 steps came
+    // to no bytes.
     fn walk(&mut self) -> Option<Place>
         requires { IsStarted self.old }
         ensures place { IfSome result (IsPlaced self.new) }
-        ensures walks { Walks S.Sources self.old self.new (step_answer self.new result) }
+        ensures walks { WalksOver S.Sources most_silent self.old self.new (step_answer self.new result) }
     {
-        'stepping: for _ in 1..MOST_ROUNDS {
+        'stepping: for _round in 0..FURTHER_STEPS {
             if let Some(place) = self.step() {
                 return Some(place);
             }
@@ -240,11 +250,11 @@ impl<S: Sources> Engine<S> {
         self.step()
     }
 
-    // Takes one step, which may lend nothing.
+    // Takes one step, or 256 over open texts at most, which may lend nothing.
     fn step(&mut self) -> Option<Place>
         requires { IsStarted self.old }
         ensures place { IfSome result (IsPlaced self.new) }
-        ensures walks { Walks S.Sources self.old self.new (step_answer self.new result) }
+        ensures walks { WalksOver S.Sources 255 self.old self.new (step_answer self.new result) }
     {
         if !self.is_in_texts() {
             return self.step_outside();
@@ -259,7 +269,7 @@ impl<S: Sources> Engine<S> {
         requires started { IsStarted self.old }
         requires outside { IsUnowed self.old → self.old.expansion.opens ≡ [] }
         ensures place { IfSome result (IsPlaced self.new) }
-        ensures walks { Walks S.Sources self.old self.new (step_answer self.new result) }
+        ensures walks { WalksOver S.Sources 1 self.old self.new (step_answer self.new result) }
     {
         self.facts();
         if self.kept.is_some() {
@@ -282,7 +292,7 @@ impl<S: Sources> Engine<S> {
         requires free { self.old.kept ≡ None }
         requires outside { IsUnowed self.old → self.old.expansion.opens ≡ [] }
         ensures place { IfSome result (IsPlaced self.new) }
-        ensures walks { IsBounded self.new → Walks S.Sources self.old self.new (step_answer self.new result) }
+        ensures walks { IsBounded self.new → WalksOver S.Sources 1 self.old self.new (step_answer self.new result) }
     {
         self.facts();
         self.mark_owed();
@@ -297,7 +307,7 @@ impl<S: Sources> Engine<S> {
     fn step_sources(&mut self) -> Option<Place>
         requires { IsReady self.old }
         ensures place { IfSome result (IsPlaced self.new) }
-        ensures walks { IsBounded self.new → Walks S.Sources self.old self.new (step_answer self.new result) }
+        ensures walks { IsBounded self.new → WalksOver S.Sources 1 self.old self.new (step_answer self.new result) }
     {
         match self.fill() {
             Fill::Held => {

@@ -1,10 +1,12 @@
 // Readings: the output, read into buffers of a caller's.
-ghost use Rattle.std.specs.Prelude.{◌≡◌, ◌+◌, ◌-◌, ◌≤◌, ◌++◌, [], length, min, take, drop};
+ghost use Rattle.std.specs.Prelude.{◌≡◌, ◌+◌, ◌-◌, ◌≤◌, ◌++◌, if◌then◌else◌, [], length, min, take, drop};
 ghost use Rattle.std.specs.Option.{option_map};
 ghost use Rattle.rdlpp_meaning.specs.Outcome.{told};
 ghost use Rattle.rdlpp_steps.specs.Held.{IsBounded, held_told};
 ghost use Rattle.rdlpp_steps.specs.Steps.{IsStarted};
-ghost use Rattle.rdlpp_expand.specs.Reading.{Fills, Leaves, Turns};
+ghost use Rattle.rdlpp_steps.specs.Opening.{start_fault};
+ghost use Rattle.rdlpp_steps.specs.Searches.{Retries, StartsAgain, is_failed_start};
+ghost use Rattle.rdlpp_expand.specs.Reading.{Fills, FillsPart, GivesPiece, Leaves, Turns};
 
 use crate::engine::Engine;
 use rdlpp_meaning::Fault;
@@ -87,17 +89,33 @@ impl<S: Sources> Reading<S> {
     }
 
     /// Puts other sources in the place of the engine's, which are answered.
-    pub fn replace_sources(&mut self, sources: S) -> S {
+    pub fn replace_sources(&mut self, sources: S) -> S
+        ensures old { result ≡ self.old.engine.sources }
+        ensures new { self.new ≡ record self.old { engine = record self.old.engine { sources = sources } } }
+    {
         self.engine.replace_sources(sources)
     }
 
     /// Forgets the fault of a search that failed, as `Engine::retry` does.
-    pub fn retry(&mut self) {
+    pub fn retry(&mut self)
+        ensures engine { Retries S.Sources self.old.engine self.new.engine }
+        ensures rest { self.new.rest ≡ self.old.rest }
+    {
         self.engine.retry();
     }
 
     /// Opens the main text once more where its opening failed, as `Engine::start_again` does.
-    pub fn start_again(&mut self, path: &str) -> Result<(), Fault> {
+    ///
+    /// # Errors
+    /// As of `Engine::start_again`.
+    pub fn start_again(&mut self, path: &str) -> Result<(), Fault>
+        ensures engine { StartsAgain S.Sources self.old.engine self.new.engine path.now (start_fault result) }
+        ensures rest { self.new.rest ≡ (if is_failed_start self.old.engine then [] else self.old.rest) }
+    {
+        if self.engine.keeps_failed_start() {
+            self.place = Place::End;
+            self.given = 0;
+        }
         self.engine.start_again(path)
     }
 
@@ -113,13 +131,37 @@ impl<S: Sources> Reading<S> {
     }
 
     /// Writes the next bytes of the output to the front of a buffer, until it is full or the output
-    /// ends, or a piece without bytes is lent: so a read comes back after so many steps without bytes
+    /// ends, however many steps that takes.
+    ///
+    /// The bytes behind them stay. After the end, and after a fault, every later read answers the
+    /// same again with no bytes.
+    pub fn fill(&mut self, out: &mut [u8]) -> ReadPart
+        ensures fills { Fills S.Sources self.old self.new out.old out.new result.len result.ending }
+        ensures left { S.Sources.tells self.old.engine.sources → Leaves S.Sources self.old self.new (take result.len out.new) result.ending }
+    {
+        let mut len = 0;
+        loop {
+            len += self.give(out, len);
+            if len == out.len() {
+                return ReadPart { len, ending: None };
+            }
+            if let Some(ending) = self.turn() {
+                return ReadPart {
+                    len,
+                    ending: Some(ending),
+                };
+            }
+        }
+    }
+
+    /// Writes the next bytes of the output to the front of a buffer, until it is full, or the output
+    /// ends, or a piece without bytes is lent: so a read comes back after as many steps without bytes
     /// as `Engine::next` takes, with fewer bytes than the buffer has, and no end.
     ///
     /// The bytes behind them stay. After the end, and after a fault, every later read answers the
     /// same again with no bytes.
     pub fn read(&mut self, out: &mut [u8]) -> ReadPart
-        ensures fills { Fills S.Sources self.old self.new out.old out.new result.len result.ending }
+        ensures fills { FillsPart S.Sources self.old self.new out.old out.new result.len result.ending }
         ensures left { S.Sources.tells self.old.engine.sources → Leaves S.Sources self.old self.new (take result.len out.new) result.ending }
     {
         let mut len = 0;
@@ -146,17 +188,16 @@ impl<S: Sources> Reading<S> {
     ///
     /// The bytes behind them stay. After the end, and after a fault, every later read answers the
     /// same again with no bytes.
-    pub fn read_piece(&mut self, out: &mut [u8]) -> ReadPart {
-        if self.rest_len() == 0
-            && let Some(ending) = self.turn()
-        {
-            return ReadPart {
-                len: 0,
-                ending: Some(ending),
-            };
+    pub fn read_piece(&mut self, out: &mut [u8]) -> ReadPart
+        ensures piece { GivesPiece S.Sources self.old self.new out.old out.new result.len result.ending }
+    {
+        if self.rest_len() > 0 {
+            let len = self.give(out, 0);
+            return ReadPart { len, ending: None };
         }
+        let ending = self.turn();
         let len = self.give(out, 0);
-        ReadPart { len, ending: None }
+        ReadPart { len, ending }
     }
 
     // Writes what is left of the piece to a buffer, from a place on, as much as there is room for.
@@ -184,12 +225,8 @@ impl<S: Sources> Reading<S> {
         ensures { Turns S.Sources self.old.engine self.new.engine self.new.rest result }
     {
         self.given = 0;
-        let Some(place) = self.engine.advance() else {
-            self.place = Place::End;
-            return None;
-        };
-        self.place = place;
-        match self.engine.answer(place) {
+        self.place = self.engine.advance();
+        match self.engine.answer(self.place) {
             Ok(Piece::Bytes(_)) => None,
             Ok(Piece::Done) => Some(ReadEnd::Finished),
             Err(_) => Some(ReadEnd::Stopped),

@@ -11,11 +11,8 @@ pub trait Watcher {
     // the bytes that were shown, where they are known
     ghost seen: { Self → Option (List ℕ) } = { λ _. None };
 
-    /// Whether it looks at what it is shown: one that doesn't isn't shown anything.
-    fn is_looking(&self) -> bool;
-
     /// Is shown bytes that the writer took of a piece: all of it, unless a write failed.
-    fn saw(&mut self, piece: &[u8], position: Position<'_>)
+    fn saw(&mut self, piece: &[u8], position: Option<Position<'_>>)
         ensures { Appends (seen self.old) (seen self.new) piece.now };
 }
 
@@ -25,10 +22,5 @@ pub(crate) struct Unwatched {}
 
 impl Watcher for Unwatched {
     #[inline(always)]
-    fn is_looking(&self) -> bool {
-        false
-    }
-
-    #[inline(always)]
-    fn saw(&mut self, _piece: &[u8], _position: Position<'_>) {}
+    fn saw(&mut self, _piece: &[u8], _position: Option<Position<'_>>) {}
 }

@@ -4,6 +4,7 @@ ghost use Rattle.std.specs.Io.KnownBytes.{Appends};
 ghost use Rattle.rdlpp_source.specs.Counts.{Counts};
 ghost use Rattle.rdlpp_expand.specs.Run.{Flushes, Pulls, Runs, Unflushed, Wrote, count_of, fault_of};
 ghost use Rattle.rdlpp_expand.specs.Texts.{IsInTexts};
+ghost use Rattle.rdlpp_expand.specs.Watching.{Shows};
 ghost use Rattle.rdlpp_steps.specs.Moves.{IsUnowed};
 ghost use Rattle.rdlpp_steps.specs.Steps.{IsStarted};
 
@@ -11,7 +12,7 @@ use crate::engine::{Engine, TextStep};
 use crate::watching::{Unwatched, Watcher};
 use rdlpp_meaning::Fault;
 use rdlpp_source::{Sink, Sources};
-use rdlpp_steps::Piece;
+use rdlpp_steps::{Piece, Position};
 
 /// Why a run ended before the end of the output.
 #[derive(Drop, Debug)]
@@ -34,18 +35,22 @@ pub fn run<S: Sources, W: Sink>(engine: &mut Engine<S>, writer: &mut W) -> Resul
     requires { IsStarted engine.old }
     ensures { Runs S.Sources W.Sink engine.old engine.new writer.old writer.new (count_of result) (fault_of result) }
 {
-    let mut watcher = Unwatched {};
-    run_watched(engine, writer, &mut watcher)
+    let mut nobody = Unwatched {};
+    run_watched(engine, writer, &mut nobody)
 }
 
 /// Writes the output of an engine as `run` does, and shows a watcher what the writer took of each piece, before the next step.
+///
+/// What the watcher is shown is what the writer took, in its order. The answer, the faults and what the engine keeps are those of
+/// `run`.
 pub fn run_watched<S: Sources, W: Sink, V: Watcher>(
     engine: &mut Engine<S>,
     writer: &mut W,
     watcher: &mut V,
 ) -> Result<u64, RunFault>
     requires { IsStarted engine.old }
-    ensures { Runs S.Sources W.Sink engine.old engine.new writer.old writer.new (count_of result) (fault_of result) }
+    ensures runs { Runs S.Sources W.Sink engine.old engine.new writer.old writer.new (count_of result) (fault_of result) }
+    ensures shows { Shows W.Sink V.Watcher writer.old writer.new watcher.old watcher.new }
 {
     let Output { written, ending } = write_output(engine, writer, watcher);
     match ending {
@@ -191,6 +196,26 @@ fn write_rest<W: Sink>(writer: &mut W, part: &[u8]) -> PartWritten
     PartWritten { len, failed: false }
 }
 
+// Writes a part of a piece, as `write_part` does, and shows a watcher what the sink took of it, with the place of the piece.
+#[inline(always)]
+fn write_shown<W: Sink, V: Watcher>(
+    writer: &mut W,
+    watcher: &mut V,
+    part: &[u8],
+    position: Option<Position<'_>>,
+) -> PartWritten
+    ensures inside { result.len ≤ length part.now }
+    ensures whole { result.failed ≡ false → result.len ≡ length part.now }
+    ensures taken { Appends (W.taken writer.old) (W.taken writer.new) (take result.len part.now) }
+    ensures writes { Counts result.failed (W.failed_writes writer.old) (W.failed_writes writer.new) }
+    ensures quiet { Unflushed W.Sink writer.old writer.new }
+    ensures shows { Shows W.Sink V.Watcher writer.old writer.new watcher.old watcher.new }
+{
+    let written = write_part(writer, part);
+    watcher.saw(&part[..written.len], position);
+    written
+}
+
 // How the output ended with a part, if it did.
 fn ending_of(written: &PartWritten) -> Option<Ending>
     ensures { result ≡ (if written.now.failed then Some Ending.Unwritten else None) }
@@ -199,16 +224,6 @@ fn ending_of(written: &PartWritten) -> Option<Ending>
         Some(Ending::Unwritten)
     } else {
         None
-    }
-}
-
-// Shows a watcher what the writer took of a piece.
-#[inline(always)]
-fn show<S: Sources, V: Watcher>(engine: &Engine<S>, watcher: &mut V, part: &[u8]) {
-    if watcher.is_looking()
-        && let Some(position) = engine.position()
-    {
-        watcher.saw(part, position);
     }
 }
 
@@ -221,7 +236,8 @@ fn pull<S: Sources, W: Sink, V: Watcher>(
 ) -> Pulled
     requires started { IsStarted engine.old }
     requires outside { IsUnowed engine.old → engine.old.expansion.opens ≡ [] }
-    ensures { Pulls S.Sources W.Sink engine.old engine.new writer.old writer.new result.len result.ending }
+    ensures pulls { Pulls S.Sources W.Sink engine.old engine.new writer.old writer.new result.len result.ending }
+    ensures shows { Shows W.Sink V.Watcher writer.old writer.new watcher.old watcher.new }
 {
     let Some(place) = engine.advance_outside() else {
         return Pulled {
@@ -231,8 +247,7 @@ fn pull<S: Sources, W: Sink, V: Watcher>(
     };
     match engine.answer(place) {
         Ok(Piece::Bytes(part)) => {
-            let written = write_part(writer, part);
-            show(engine, watcher, &part[..written.len]);
+            let written = write_shown(writer, watcher, part, engine.position());
             Pulled {
                 len: written.len,
                 ending: ending_of(&written),
@@ -258,12 +273,11 @@ fn pull_text<S: Sources, W: Sink, V: Watcher>(
     requires { IsInTexts engine.old }
     ensures pulls { Pulls S.Sources W.Sink engine.old engine.new writer.old writer.new result.len result.ending }
     ensures next { result.ending ≡ None → IsTrue result.in_texts ↔ IsInTexts engine.new }
+    ensures shows { Shows W.Sink V.Watcher writer.old writer.new watcher.old watcher.new }
 {
     match engine.advance_text() {
         TextStep::Lent(place) => {
-            let part = engine.text(place);
-            let written = write_part(writer, part);
-            show(engine, watcher, &part[..written.len]);
+            let written = write_shown(writer, watcher, engine.text(place), engine.position());
             TextPulled {
                 len: written.len,
                 ending: ending_of(&written),
@@ -291,7 +305,8 @@ fn write_output<S: Sources, W: Sink, V: Watcher>(
     watcher: &mut V,
 ) -> Output
     requires { IsStarted engine.old }
-    ensures { Wrote S.Sources W.Sink engine.old engine.new writer.old writer.new result.written (Some result.ending) }
+    ensures wrote { Wrote S.Sources W.Sink engine.old engine.new writer.old writer.new result.written (Some result.ending) }
+    ensures shows { Shows W.Sink V.Watcher writer.old writer.new watcher.old watcher.new }
 {
     let mut written: u64 = 0;
     let mut in_texts = engine.is_in_texts();

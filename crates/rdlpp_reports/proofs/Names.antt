@@ -1,9 +1,11 @@
 -- A name was written as make reads it, byte by byte.
-use Rattle.std.proofs.Common.{◌≡◌, ℕ, List, [], ◌∷◌, ◌++◌, Option, Result, Ok, Err, ap, ◌∙◌, append_assoc, sym}
-use Rattle.std.specs.List.{concat}
+use Rattle.std.proofs.Common.{◌≡◌, ℕ, true, false, List, [], ◌∷◌, ◌++◌, map, codes, bytes_eq, Option, Result, Ok, Err, refl, ap, ◌∙◌, append_assoc, append-nil, sym}
+use Rattle.std.specs.Prelude.{if◌then◌else◌}
+use Rattle.std.specs.List.{concat, flat_map}
+use Rattle.std.proofs.lemmas.List.Folds.{flat_map-map}
 use Rattle.std.specs.Io.KnownBytes.{Appends}
 use Rattle.std.proofs.KnownBytes.{Appends-trans}
-use Rattle.rdlpp_reports.specs.Dependencies.{quote, rule_name}
+use Rattle.rdlpp_reports.specs.Dependencies.{empty_rule, included, prerequisite, quote, rule_name}
 use Rattle.rdlpp_reports.specs.Writes.{Writes}
 use Rattle.rdlpp_reports.proofs.Parts.{writes_by, writes_part, writes_then, writes_whole}
 
@@ -44,3 +46,31 @@ name-ends name rest end old between new r is w h =
     writes_by old new _ _ _
     (sym (ap (λ l. l ++ end) (w.split ∙ ap (λ r. w.done ++ rule_name r) is) ∙ append_assoc w.done [] end))
     (writes_then old between new _ _ _ w.appended h)
+
+-- the included sources by their paths
+pub included-map : {A B : Type 0} (f : A → B) (xs : List A) → map f (included xs) ≡ included (map f xs)
+included-map f [] = refl
+included-map f (x ∷ xs) = refl
+
+-- the rules of the included sources
+pub rules-behind : {A : Type 0} (f : A → List ℕ) (xs rest : List A) (paths : List (List ℕ)) → rest ≡ included xs → map f xs ≡ paths
+    → flat_map (λ x. empty_rule (f x)) rest ≡ flat_map empty_rule (included paths)
+rules-behind f xs rest paths e p =
+    sym (flat_map-map empty_rule f rest)
+    ∙ ap (λ r. flat_map empty_rule (map f r)) e
+    ∙ ap (flat_map empty_rule) (included-map f xs ∙ ap included p)
+
+-- the sources behind the target
+pub sources-behind : {A : Type 0} (f : A → List ℕ) (xs : List A) (paths : List (List ℕ)) → map f xs ≡ paths
+    → flat_map (λ x. prerequisite (f x)) xs ≡ flat_map prerequisite paths
+sources-behind f xs paths p = sym (flat_map-map prerequisite f xs) ∙ ap (flat_map prerequisite) p
+
+-- a source that isn't standard input
+pub prerequisite-named : (path : List ℕ) → bytes_eq path (codes "-") ≡ false → prerequisite path ≡ codes " \\\n " ++ (rule_name path ++ [])
+prerequisite-named path h =
+    ap (λ b. if b then [] else codes " \\\n " ++ rule_name path) h
+    ∙ ap (λ l. codes " \\\n " ++ l) (sym (append-nil (rule_name path)))
+
+-- standard input
+pub prerequisite-input : (path : List ℕ) → bytes_eq path (codes "-") ≡ true → [] ≡ prerequisite path
+prerequisite-input path h = sym (ap (λ b. if b then [] else codes " \\\n " ++ rule_name path) h)

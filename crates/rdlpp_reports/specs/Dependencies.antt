@@ -1,6 +1,6 @@
 -- The rule for make that names the sources of an output.
 -- A definition that names no source is this project's own.
-use Rattle.std.specs.Prelude.{ℕ, Bool, true, List, [], ◌∷◌, ◌++◌, ◌==◌, ◌||◌, ◌&&◌, codes, drop, bytes_eq, slice_get, if◌then◌else◌}
+use Rattle.std.specs.Prelude.{ℕ, Bool, true, List, [], ◌∷◌, ◌++◌, ◌==◌, ◌||◌, ◌&&◌, codes, bytes_eq, slice_get, if◌then◌else◌}
 use Rattle.std.specs.List.{concat, flat_map, prefix_len}
 use Rattle.std.specs.Option.{option_map_or}
 
@@ -30,7 +30,12 @@ prerequisite path = if bytes_eq path (codes "-") then [] else codes " \\\n " ++ 
 abbrev pub empty_rule : List ℕ → List ℕ
 empty_rule path = rule_name path ++ codes ":\n"
 
+-- all but the first
+abbrev pub included : {A : Type 0} → List A → List A
+included [] = []
+included (x ∷ xs) = xs
+
 -- the rule for make: the target, each source, and for each but the first a rule without anything (the form of cpp -MD -MP)
 abbrev pub dependency_bytes : List ℕ → List (List ℕ) → List ℕ
 dependency_bytes target paths =
-    (rule_name target ++ codes ":") ++ (flat_map prerequisite paths ++ (codes "\n" ++ flat_map empty_rule (drop 1 paths)))
+    (rule_name target ++ codes ":") ++ (flat_map prerequisite paths ++ (codes "\n" ++ flat_map empty_rule (included paths)))

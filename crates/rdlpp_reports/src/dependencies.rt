@@ -2,7 +2,7 @@
 ghost use Rattle.std.specs.Prelude.{◌≡◌, ◌++◌, ◌==◌};
 ghost use Rattle.std.specs.List.{flat_map, prefix_len};
 ghost use Rattle.std.specs.String.{string_bytes};
-ghost use Rattle.rdlpp_reports.specs.Dependencies.{dependency_bytes, empty_rule, is_quoted, leads_to_quoted, prerequisite, quote, rule_name};
+ghost use Rattle.rdlpp_reports.specs.Dependencies.{dependency_bytes, empty_rule, included, is_quoted, leads_to_quoted, prerequisite, quote, rule_name};
 ghost use Rattle.rdlpp_reports.specs.Recorded.{paths_of};
 ghost use Rattle.rdlpp_reports.specs.Writes.{Writes};
 
@@ -33,7 +33,17 @@ pub fn write_dependencies<W: Write>(
     write_name(target.as_bytes(), b":", writer)?;
     write_prerequisites(paths, writer)?;
     write_whole(b"\n", writer)?;
-    write_empty_rules(&paths[paths.len().min(1)..], writer)
+    write_empty_rules(included(paths), writer)
+}
+
+// The sources but the first one.
+fn included(paths: &[String]) -> &[String]
+    ensures { result.now ≡ included paths.now }
+{
+    match paths.split_first() {
+        Some((_, rest)) => rest,
+        None => paths,
+    }
 }
 
 // Writes the sources behind the target.

@@ -23,6 +23,18 @@ pub struct LineRun {
     pub name: ArrayString<1024>,
 }
 
+impl LineRun {
+    // No lines.
+    fn new() -> LineRun {
+        LineRun {
+            out: 0,
+            line: 0,
+            step: None,
+            name: ArrayString::new(),
+        }
+    }
+}
+
 /// Makes the line map of an output out of its pieces and their places, and keeps the last run only.
 ///
 /// The place of a line is that of its first byte. Runs are as long as can be, read from the first line on. Numbers stay at
@@ -38,6 +50,8 @@ pub struct MappedLines {
     run: LineRun,
     // the shown line of the last line of the run
     last: u64,
+    // the run that ended last
+    ended: LineRun,
 }
 
 impl MappedLines {
@@ -47,49 +61,42 @@ impl MappedLines {
             begun: false,
             lines: 0,
             has_run: false,
-            run: LineRun {
-                out: 0,
-                line: 0,
-                step: None,
-                name: ArrayString::new(),
-            },
+            run: LineRun::new(),
             last: 0,
+            ended: LineRun::new(),
         }
     }
 
     /// Takes the next piece of the output, with the place of its first byte. Answers the run that ended, if one did: a piece ends
     /// one at most.
-    pub fn take(&mut self, piece: &[u8], position: &Position<'_>) -> Option<LineRun> {
+    pub fn take(&mut self, piece: &[u8], position: &Position<'_>) -> Option<&LineRun> {
         let line_ends = line_ends_in(piece) as u64;
         if piece.is_empty() || (self.begun && line_ends == 0) {
             return None;
         }
-        let ended = if self.begun {
-            None
-        } else {
-            self.add_line(position.name, position.line)
-        };
+        let ends_first = !self.begun && self.add_line(position.name, position.line);
         self.begun = piece[piece.len() - 1] != b'\n';
         let more = if self.begun { line_ends } else { line_ends - 1 };
-        if more == 0 {
-            return ended;
+        let ends_later = more > 0 && self.add_lines(position, more);
+        if ends_first || ends_later {
+            Some(&self.ended)
+        } else {
+            None
         }
-        let later = self.add_lines(position, more);
-        if ended.is_some() { ended } else { later }
     }
 
     /// Takes away the last run, which ends with the output.
-    pub fn finish(&mut self) -> Option<LineRun> {
+    pub fn finish(&mut self) -> Option<&LineRun> {
         if !self.has_run {
             return None;
         }
         self.has_run = false;
-        Some(self.run)
+        self.ended = self.run;
+        Some(&self.ended)
     }
 
-    // Adds so many lines, of which the first one's place is the line behind a position by its step. Answers the run that ended, if one
-    // did.
-    fn add_lines(&mut self, position: &Position<'_>, count: u64) -> Option<LineRun> {
+    // Adds so many lines, of which the first one's place is the line behind a position by its step. Answers whether a run ended.
+    fn add_lines(&mut self, position: &Position<'_>, count: u64) -> bool {
         let name = position.name;
         let step = position.step;
         let mut line = next_line(position.line, step);
@@ -97,27 +104,37 @@ impl MappedLines {
         while left > 0 {
             if self.follows(name, line, step) {
                 self.go_on(step, left);
-                return None;
+                return false;
             }
             left -= 1;
-            if let Some(run) = self.add_line(name, line) {
+            if self.add_line(name, line) {
                 self.go_on(step, left);
-                return Some(run);
+                return true;
             }
             line = next_line(line, step);
         }
-        None
+        false
     }
 
-    // Adds a line. Answers the run that ended, if it isn't of the last one.
-    fn add_line(&mut self, name: &str, line: u64) -> Option<LineRun> {
+    // Adds a line. Answers whether the last run ended, as the line isn't of it.
+    fn add_line(&mut self, name: &str, line: u64) -> bool {
         self.lines = self.lines.saturating_add(1);
         if let Some(step) = self.step_to(name, line) {
             self.run.step = Some(step);
             self.last = line;
-            return None;
+            return false;
         }
-        let ended = self.finish();
+        self.start_run(name, line)
+    }
+
+    // Begins a run with the line that was counted last. Answers whether a run ended.
+    #[cold]
+    #[inline(never)]
+    fn start_run(&mut self, name: &str, line: u64) -> bool {
+        let is_ended = self.has_run;
+        if is_ended {
+            self.ended = self.run;
+        }
         self.has_run = true;
         self.run.out = self.lines;
         self.run.line = line;
@@ -125,7 +142,7 @@ impl MappedLines {
         self.run.name.clear();
         self.run.name.push_str(shown_name(name));
         self.last = line;
-        ended
+        is_ended
     }
 
     // The step by which a line goes on the last run, if it does.
@@ -189,6 +206,7 @@ pub fn write_map_start<W: Write>(writer: &mut W) -> io::Result<()> {
 ///
 /// # Errors
 /// As of `write_whole`; the first bytes of the line, or none, are then written.
+#[inline(never)]
 pub fn write_run<W: Write>(run: &LineRun, writer: &mut W) -> io::Result<()> {
     let mut out = Buffer::new();
     let mut line = Buffer::new();

@@ -33,24 +33,21 @@ impl<W: Write> MapWriter<W> {
             return Err(error);
         }
         if let Some(run) = self.lines.finish() {
-            write_run(&run, &mut self.writer)?;
+            write_run(run, &mut self.writer)?;
         }
         self.writer.flush()
     }
 }
 
 impl<W: Write> Watcher for MapWriter<W> {
-    fn is_looking(&self) -> bool {
-        true
-    }
-
-    fn saw(&mut self, piece: &[u8], position: Position<'_>) {
-        let ended = self.lines.take(piece, &position);
-        if self.failure.is_some() {
+    fn saw(&mut self, piece: &[u8], position: Option<Position<'_>>) {
+        let Some(position) = position else {
             return;
-        }
-        if let Some(run) = ended {
-            self.failure = write_run(&run, &mut self.writer).err();
+        };
+        if let Some(run) = self.lines.take(piece, &position)
+            && self.failure.is_none()
+        {
+            self.failure = write_run(run, &mut self.writer).err();
         }
     }
 }

@@ -11,6 +11,7 @@ use Rattle.rdlpp_meaning.specs.Meaning.{behind_bytes}
 use Rattle.rdlpp_read.specs.Files.{inner_buffer}
 use Rattle.rdlpp_steps.specs.Engine.{EngineView, is_open}
 use Rattle.rdlpp_steps.specs.Held.{IsBounded, stores_of}
+use Rattle.rdlpp_steps.specs.Silences.{most_silent}
 use Rattle.rdlpp_steps.specs.Stored.{HoldsStores, LetsGo}
 use Rattle.rdlpp_steps.proofs.Stores.{keeps_phase}
 use Rattle.rdlpp_steps.specs.Owed.{cut_to, digits_of, part_bytes}
@@ -20,7 +21,7 @@ use Rattle.rdlpp_steps.specs.Pieces.{held_texts, IsPlaced, kept_answer, lent_ans
 use Rattle.rdlpp_steps.specs.declared.owed.OwedPiece.{OwedPiece}
 use Rattle.rdlpp_steps.specs.declared.place.Place.TheVariants.{Source, Text, Owed}
 use Rattle.rdlpp_steps.specs.Remaining.{inner_name, kept_uncut, left_of, output_fault, phase_uncut, state_of, text_of, uncut_of, work_left}
-use Rattle.rdlpp_steps.specs.Steps.{Steps, Walks, all_of, has_met, lent_len, may_follow, no_len, is_call_failed}
+use Rattle.rdlpp_steps.specs.Steps.{Steps, WalksOver, all_of, has_met, lent_len, may_follow, no_len, is_call_failed}
 use Rattle.rdlpp_steps.specs.declared.phase.Phase.{Phase}
 use Rattle.rdlpp_steps.specs.declared.phase.Phase.TheVariants.{Fresh, Open, Passed, Closed}
 use Rattle.rdlpp_steps.proofs.EngineSteps.{free_before, ok_not_met}
@@ -42,7 +43,7 @@ tells_end over quota o is = ap (limited over quota) is ∙ limited-within over q
 
 -- a step that ends the output, or tells its fault
 module _ {S R : Type 0} (g : Ghosts S R) (old new : EngineView S R) where
-  pub cut_end : Walks g old new (Ok None) → Steps g old new (Ok None)
+  pub cut_end : WalksOver g most_silent old new (Ok None) → Steps g old new (Ok None)
   unfolding left_of no_len lent_len
   cut_end w = record {
     limits = w.limits;
@@ -73,7 +74,7 @@ module _ {S R : Type 0} (g : Ghosts S R) (old new : EngineView S R) where
     stores = w.stores;
   }
 
-  pub cut_fault : (f : Told) → Walks g old new (Err f) → Steps g old new (Err f)
+  pub cut_fault : (f : Told) → WalksOver g most_silent old new (Err f) → Steps g old new (Err f)
   unfolding left_of no_len lent_len
   cut_fault f w = record {
     limits = w.limits;
@@ -144,7 +145,7 @@ unfolding stores_of
 same_bound e phase quota b = record { bytes = b.bytes; cursors = b.cursors; bindings = b.bindings; conditions = b.conditions; sources = b.sources; texts = b.texts }
 
 -- what a walk that lent bytes says of what remains
-module _ {S R : Type 0} (g : Ghosts S R) (old mid new : EngineView S R) (xs : List ℕ) (w : Walks g old mid (Ok (Some xs))) where
+module _ {S R : Type 0} (g : Ghosts S R) (old mid new : EngineView S R) (xs : List ℕ) (w : WalksOver g most_silent old mid (Ok (Some xs))) where
   free_old : old.kept ≡ None
   free_old = free_before g (uncut_of g) no_len all_of may_follow old mid old.kept (Some xs) refl w
 
@@ -193,7 +194,7 @@ module _ {S R : Type 0} (g : Ghosts S R) (old mid new : EngineView S R) (xs : Li
         stands = λ free open_ bytes e.
             let l = w.stands free open_ xs refl in
             let same : ys ≡ bytes = cc e in
-            record { at = l.at; reached = l.reached; text = l.text; after = l.after; becomes = becomes ∙ ap (λ (m : EngineView S R). record m { phase = new.phase; quota = new.quota }) l.becomes; piece = l.piece; lent = sym same ∙ part ∙ ap (take old.quota) l.lent; stands = l.stands };
+            record { at = l.at; reached = l.reached; few = l.few; text = l.text; after = l.after; becomes = becomes ∙ ap (λ (m : EngineView S R). record m { phase = new.phase; quota = new.quota }) l.becomes; piece = l.piece; lent = sym same ∙ part ∙ ap (take old.quota) l.lent; stands = l.stands };
         lets_go = λ h. subst LetsGo (sym becomes) ((keeps_phase g mid new.phase new.quota).lets_go (w.lets_go h));
         stores = λ t h. subst (HoldsStores g) (sym becomes) ((keeps_phase g mid new.phase new.quota).stores (w.call.tells t) (w.stores t h));
       }
@@ -253,7 +254,7 @@ spent_part mid new n len spent =
     ]
 
 -- a piece, cut to what may still be lent
-pub cut_piece : {S R : Type 0} (g : Ghosts S R) (old mid new : EngineView S R) (xs : List ℕ) (n len : ℕ) → Walks g old mid (Ok (Some xs)) → length xs ≡ n → IsSpent mid new n len → Steps g old new (Ok (Some (take len xs)))
+pub cut_piece : {S R : Type 0} (g : Ghosts S R) (old mid new : EngineView S R) (xs : List ℕ) (n len : ℕ) → WalksOver g most_silent old mid (Ok (Some xs)) → length xs ≡ n → IsSpent mid new n len → Steps g old new (Ok (Some (take len xs)))
 unfolding no_len
 cut_piece {S} {R} g old mid new xs n len w size spent =
     let quota : mid.quota ≡ old.quota = (let q = w.quota in omega arith) in
@@ -273,7 +274,7 @@ told_bytes : {S R : Type 0} (g : Ghosts S R) (old new : EngineView S R) (xs ys :
 told_bytes g old new xs ys same steps = subst (λ (zs : List ℕ). Steps g old new (Ok (Some zs))) (sym same) steps
 
 -- a part of the open source's buffer, cut to what may still be lent
-pub cut_source : {S R : Type 0} (g : Ghosts S R) (old mid new : EngineView S R) (from to len : ℕ) → Walks g old mid (lent_answer mid (Source from to))
+pub cut_source : {S R : Type 0} (g : Ghosts S R) (old mid new : EngineView S R) (from to len : ℕ) → WalksOver g most_silent old mid (lent_answer mid (Source from to))
     → IsPlaced mid (Source from to) → IsSpent mid new (to - from) len → Steps g old new (lent_answer new (Source from (from + len)))
 cut_source {S} {R} g old mid new from to len w placed spent =
     let part = spent_part mid new (to - from) len spent in
@@ -291,7 +292,7 @@ texts_same : {S R : Type 0} (mid new : EngineView S R) (n len : ℕ) → IsPart 
 texts_same mid new n len part = ap (λ t. texts_of t.macros new.expansion.arguments) part.table ∙ ap (λ x. texts_of mid.table.macros x.arguments) part.expansion
 
 -- a part of an open text, cut to what may still be lent
-pub cut_text : {S R : Type 0} (g : Ghosts S R) (old mid new : EngineView S R) (place : TextPlace) (len : ℕ) → Walks g old mid (lent_answer mid (Text place))
+pub cut_text : {S R : Type 0} (g : Ghosts S R) (old mid new : EngineView S R) (place : TextPlace) (len : ℕ) → WalksOver g most_silent old mid (lent_answer mid (Text place))
     → IsPlaced mid (Text place) → IsSpent mid new (place.end - place.from) len → Steps g old new (lent_answer new (Text (cut_place place len)))
 unfolding place_bytes
 cut_text {S} {R} g old mid new place len w placed spent =
@@ -312,7 +313,7 @@ text_cut_placed {S} {R} mid new place len placed spent =
     (record { source = placed.source; order = omega arith; inside = omega arith })
 
 -- the fault that is kept, or the end where none is
-pub cut_kept : {S R : Type 0} (g : Ghosts S R) (old new : EngineView S R) (kept : Option Told) → Walks g old new (kept_answer kept) → Steps g old new (kept_answer kept)
+pub cut_kept : {S R : Type 0} (g : Ghosts S R) (old new : EngineView S R) (kept : Option Told) → WalksOver g most_silent old new (kept_answer kept) → Steps g old new (kept_answer kept)
 cut_kept g old new None w = cut_end g old new w
 cut_kept g old new (Some f) w = cut_fault g old new f w
 
@@ -324,7 +325,7 @@ part_same mid new piece n len k part =
     ∙ ap (λ o. part_bytes piece.part (inner_name mid.files.nest) (digits_of o.origin)) part.owed
 
 -- a piece that is owed, cut to what may still be lent
-pub cut_owed : {S R : Type 0} (g : Ghosts S R) (old mid new : EngineView S R) (piece : OwedPiece) (len : ℕ) → Walks g old mid (lent_answer mid (Owed piece))
+pub cut_owed : {S R : Type 0} (g : Ghosts S R) (old mid new : EngineView S R) (piece : OwedPiece) (len : ℕ) → WalksOver g most_silent old mid (lent_answer mid (Owed piece))
     → IsPlaced mid (Owed piece) → IsSpent mid new piece.len len → Steps g old new (lent_answer new (Owed (cut_to piece len)))
 unfolding cut_to
 cut_owed g old mid new piece len w placed spent =

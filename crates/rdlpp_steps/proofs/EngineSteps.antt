@@ -1,5 +1,5 @@
 -- The steps of an engine, by what they met.
-use Rattle.std.proofs.Common.{◌≡◌, ◌⊎◌, inl, inr, ℕ, ◌≤◌, ◌<◌, Bool, true, false, ◌&&◌, ◌||◌, List, [], ◌∷◌, ◌++◌, Option, None, Some, Result, Ok, Err, length, refl, sym, ap, ◌∙◌, subst, arith}
+use Rattle.std.proofs.Common.{◌≡◌, ◌⊎◌, inl, inr, ℕ, ◌+◌, ◌≤◌, ◌<◌, Bool, true, false, ◌&&◌, ◌||◌, List, [], ◌∷◌, ◌++◌, Option, None, Some, Result, Ok, Err, length, refl, sym, ap, ◌∙◌, subst, arith, length-append}
 use Rattle.std.specs.Option.{is_some, option_map}
 use Rattle.rdlpp_source.specs.Counts.{Counts}
 use Rattle.rdlpp_source.specs.declared.sources.Sources.{Ghosts}
@@ -24,7 +24,7 @@ use Rattle.rdlpp_steps.proofs.Stores.{KeepsStores, keeps_refused, none_called}
 use Rattle.rdlpp_steps.specs.Owed.{nothing_owed}
 use Rattle.rdlpp_steps.specs.Pieces.{kept_answer, lent_answer}
 use Rattle.rdlpp_steps.specs.Remaining.{uncut_of, kept_uncut, output_fault, phase_uncut, state_of, text_of, work_left}
-use Rattle.rdlpp_steps.specs.Steps.{EndsText, FailsAt, OnRead, Halts, HaltsAt, IsReading, AtFront, Itself, LendsText, StopsReading, StepsOver, TellsText, Walks, all_of, may_follow, no_len, Tells, IsOwn, IsStarted, has_failed, has_met, has_refused, is_call_failed, is_memory_kind, is_read_failed, is_write_failed}
+use Rattle.rdlpp_steps.specs.Steps.{EndsText, FailsAt, OnRead, Halts, HaltsAt, IsReading, AtFront, Itself, LendsText, StopsReading, StepsOver, TellsText, Walks, WalksOver, all_of, may_follow, no_len, Tells, IsOwn, IsStarted, has_failed, has_met, has_refused, is_call_failed, is_memory_kind, is_read_failed, is_write_failed}
 use Rattle.rdlpp_steps.specs.declared.phase.Phase.{Phase}
 use Rattle.rdlpp_steps.specs.declared.phase.Phase.TheVariants.{Fresh, Open, Passed, Closed}
 use Rattle.rdlpp_steps.specs.declared.place.Place.{Place}
@@ -108,7 +108,7 @@ steps_ended g e started bounded free closed = record {
 }
 
 -- no step at all
-reaches_same : {S R : Type 0} (g : Ghosts S R) (e : EngineView S R) → Reaches g e e
+abbrev reaches_same : {S R : Type 0} (g : Ghosts S R) (e : EngineView S R) → Reaches g e e
 reaches_same g e = record { between = []; steps = refl }
 
 -- steps that lend nothing, and then others
@@ -117,12 +117,28 @@ lend_on : {S R : Type 0} (g : Ghosts S R) (old : EngineView S R) (mids : List (E
 lend_on {S} {R} g old [] mid more new same then_ = subst (λ (e : EngineView S R). LendNone g e more new) same then_
 lend_on g old (m ∷ mids) mid more new first then_ = (first.0, lend_on g m mids mid more new first.1 then_)
 
-reaches_on : {S R : Type 0} (g : Ghosts S R) (old mid new : EngineView S R) → Reaches g old mid → Reaches g mid new → Reaches g old new
+abbrev reaches_on : {S R : Type 0} (g : Ghosts S R) (old mid new : EngineView S R) → Reaches g old mid → Reaches g mid new → Reaches g old new
 reaches_on g old mid new first then_ = record { between = first.between ++ then_.between; steps = lend_on g old first.between mid then_.between new first.steps then_.steps }
 
 -- one step that lends nothing
-pub reaches_one : {S R : Type 0} (g : Ghosts S R) (old new : EngineView S R) → LendsNone g old new → Reaches g old new
+abbrev pub reaches_one : {S R : Type 0} (g : Ghosts S R) (old new : EngineView S R) → LendsNone g old new → Reaches g old new
 reaches_one g old new step = record { between = new ∷ []; steps = (step, refl) }
+
+-- how many there are, where they are none, one, one more than others, or others in a row
+no_part : (a : ℕ) → a ≡ 0 → a ≤ 0
+no_part a e = omega (arith, e)
+
+pub one_part : (a : ℕ) → a ≡ 1 → a ≤ 1
+one_part a e = omega (arith, e)
+
+part_more : (a b m : ℕ) → a ≡ b + 1 → b ≤ m → a ≤ m + 1
+part_more a b m e few = omega (arith, e, few)
+
+parts_both : (a b c n m : ℕ) → a ≡ b + c → b ≤ n → c ≤ m → a ≤ n + m
+parts_both a b c n m e few more = omega (arith, e, few, more)
+
+parts_wider : (a n m : ℕ) → a ≤ n → n ≤ m → a ≤ m
+parts_wider a n m few more = omega (arith, few, more)
 
 -- an engine whose main text is open and that keeps no fault
 module _ {S R : Type 0} (g : Ghosts S R) (old new : EngineView S R) (free : old.kept ≡ None) (open_ : old.phase ≡ Open) (bounded : IsBounded new) where
@@ -160,7 +176,7 @@ module _ {S R : Type 0} (g : Ghosts S R) (old new : EngineView S R) (free : old.
         most_bytes = room.0;
         most_macros = room.1;
         bounded = bounded;
-        stands = λ _ _ xs e. (let same : bytes ≡ xs = cc e in record { at = old; reached = reaches_same g old; text = λ _. refl; after = new; becomes = refl; piece = bytes; lent = sym same; stands = from });
+        stands = λ _ _ xs e. (let same : bytes ≡ xs = cc e in record { at = old; reached = reaches_same g old; few = no_part _ refl; text = λ _. refl; after = new; becomes = refl; piece = bytes; lent = sym same; stands = from });
         lets_go = keeps.lets_go;
         stores = keeps.stores;
       }
@@ -335,8 +351,8 @@ module _ {S R : Type 0} (g : Ghosts S R) (old new : EngineView S R) (free : old.
         };
       }
 
--- what a part of a step did that lends nothing, where no fault was kept
-pub record IsSilent {S R : Type 0} (g : Ghosts S R) (old mid : EngineView S R) : Type 0 where
+-- what a part of a step did that lends nothing, in so many parts at most, where no fault was kept
+pub record IsSilent {S R : Type 0} (g : Ghosts S R) (n : ℕ) (old mid : EngineView S R) : Type 0 where
   pub limits : mid.limits ≡ old.limits
   pub origins : mid.origins ≡ old.origins
   pub main : mid.main ≡ old.main
@@ -352,10 +368,11 @@ pub record IsSilent {S R : Type 0} (g : Ghosts S R) (old mid : EngineView S R) :
   pub work : work_left mid ≤ work_left old
   pub keeps : KeepsStores g old mid
   pub reaches : Reaches g old mid
+  pub few : length reaches.between ≤ n
 
 -- what a step says of the fault that is kept, where it answers none: none was kept
-pub free_before : {S R : Type 0} (g : Ghosts S R) (left : EngineView S R → Outcome) (spent : Result (Option (List ℕ)) Told → ℕ) (most : ℕ → List ℕ → List ℕ) (goes_on : Phase → Bool) (old new : EngineView S R) (kept : Option Told) (lent : Option (List ℕ)) →
-    old.kept ≡ kept → StepsOver g left spent most goes_on old new (Ok lent) → kept ≡ None
+pub free_before : {S R : Type 0} {n : ℕ} (g : Ghosts S R) (left : EngineView S R → Outcome) (spent : Result (Option (List ℕ)) Told → ℕ) (most : ℕ → List ℕ → List ℕ) (goes_on : Phase → Bool) (old new : EngineView S R) (kept : Option Told) (lent : Option (List ℕ)) →
+    old.kept ≡ kept → StepsOver g n left spent most goes_on old new (Ok lent) → kept ≡ None
 free_before g left spent most goes_on old new None lent e s = refl
 free_before g left spent most goes_on old new (Some f) lent e s = cc ((s.kept f e).0)
 
@@ -411,16 +428,16 @@ halts_behind g (Err f) old mid new text tells halts = record {
 }
 
 -- where bytes that are lent stand, behind such a part
-lends_behind : {S R : Type 0} (g : Ghosts S R) (old mid new : EngineView S R) (bytes : List ℕ) (a b : ℕ) → Reaches g old mid → (g.tells old.sources → text_of g old ≡ text_of g mid) → (g.tells old.sources → g.tells mid.sources)
-    → LendsWhere g (all_of b) mid new bytes → LendsWhere g (all_of a) old new bytes
+lends_behind : {S R : Type 0} (g : Ghosts S R) (n m : ℕ) (old mid new : EngineView S R) (bytes : List ℕ) (a b : ℕ) → (reaches : Reaches g old mid) → length reaches.between ≤ n → (g.tells old.sources → text_of g old ≡ text_of g mid) → (g.tells old.sources → g.tells mid.sources)
+    → LendsWhere g m (all_of b) mid new bytes → LendsWhere g (n + m) (all_of a) old new bytes
 unfolding all_of
-lends_behind g old mid new bytes a b reaches text tells l = record { at = l.at; reached = reaches_on g old mid l.at reaches l.reached; text = λ t. text t ∙ l.text (tells t); after = l.after; becomes = l.becomes; piece = l.piece; lent = l.lent; stands = l.stands }
+lends_behind g n m old mid new bytes a b reaches few text tells l = record { at = l.at; reached = reaches_on g old mid l.at reaches l.reached; few = parts_both _ _ _ n m (length-append reaches.between l.reached.between) few l.few; text = λ t. text t ∙ l.text (tells t); after = l.after; becomes = l.becomes; piece = l.piece; lent = l.lent; stands = l.stands }
 
 -- such a part, and then a step, are one step
-pub silent_then : {S R : Type 0} (g : Ghosts S R) (old mid new : EngineView S R) (answer : Result (Option (List ℕ)) Told) →
-    IsSilent g old mid → Walks g mid new answer → Walks g old new answer
+pub silent_then : {S R : Type 0} (g : Ghosts S R) (n m : ℕ) (old mid new : EngineView S R) (answer : Result (Option (List ℕ)) Told) →
+    IsSilent g n old mid → WalksOver g m mid new answer → WalksOver g (n + m) old new answer
 unfolding no_len all_of
-silent_then g old mid new answer first then_ =
+silent_then g n m old mid new answer first then_ =
     let same : (test : FaultKind → Bool) → has_met test old.kept answer ≡ has_met test mid.kept answer = λ test. met_none test old.kept mid.kept answer first.free first.still in
     record {
       limits = then_.limits ∙ first.limits;
@@ -454,7 +471,7 @@ silent_then g old mid new answer first then_ =
       most_bytes = then_.most_bytes ∙ first.most_bytes;
       most_macros = then_.most_macros ∙ first.most_macros;
       bounded = then_.bounded;
-      stands = λ _ _ bytes is. lends_behind g old mid new bytes old.quota mid.quota first.reaches (first.text) (first.call.tells) (then_.stands first.still first.stays bytes is);
+      stands = λ _ _ bytes is. lends_behind g n m old mid new bytes old.quota mid.quota first.reaches first.few (first.text) (first.call.tells) (then_.stands first.still first.stays bytes is);
       lets_go = λ h. then_.lets_go (first.keeps.lets_go h);
       stores = λ t h. then_.stores (first.call.tells t) (first.keeps.stores t h);
     }
@@ -468,9 +485,9 @@ follows Passed h = cc h
 follows Closed h = cc h
 
 -- a step that lent nothing is such a part
-silent_step : {S R : Type 0} (g : Ghosts S R) (old mid : EngineView S R) → Walks g old mid (Ok (Some [])) → IsSilent g old mid
+silent_step : {S R : Type 0} (g : Ghosts S R) (m : ℕ) (old mid : EngineView S R) → WalksOver g m old mid (Ok (Some [])) → IsSilent g (m + 1) old mid
 unfolding no_len all_of
-silent_step g old mid w =
+silent_step g m old mid w =
     let free : old.kept ≡ None = free_before g (uncut_of g) no_len all_of may_follow old mid old.kept (Some []) refl w in
     let lends = w.lends [] refl in
     let none : (test : FaultKind → Bool) → has_met test old.kept (Ok (Some [])) ≡ false = λ test. ok_not_met test old.kept (Some []) in
@@ -493,27 +510,71 @@ silent_step g old mid w =
           let l = w.stands free lends.0 [] refl in
           reaches_on g old l.at mid l.reached
           (reaches_one g l.at mid (record { after = l.after; stands = subst (λ (xs : List ℕ). StandsIn g l.at l.after xs) (sym l.lent) l.stands; becomes = l.becomes }));
+      few =
+          let l = w.stands free lends.0 [] refl in
+          part_more _ (length l.reached.between) m (length-append l.reached.between (mid ∷ [])) l.few;
     }
 
--- a step that lent nothing, and then another, are one step
-pub steps_on : {S R : Type 0} (g : Ghosts S R) (old mid new : EngineView S R) (answer : Result (Option (List ℕ)) Told) →
-    Walks g old mid (Ok (Some [])) → Walks g mid new answer → Walks g old new answer
-steps_on g old mid new answer first then_ = silent_then g old mid new answer (silent_step g old mid first) then_
+-- what more parts may be is no more than so many
+pub wider : {S R : Type 0} (g : Ghosts S R) (n m : ℕ) (old new : EngineView S R) (answer : Result (Option (List ℕ)) Told) → n ≤ m
+    → WalksOver g n old new answer → WalksOver g m old new answer
+wider g n m old new answer more w = record {
+  limits = w.limits;
+  origins = w.origins;
+  main = w.main;
+  started = w.started;
+  kept = w.kept;
+  ended = w.ended;
+  passed = w.passed;
+  keeps = w.keeps;
+  free = w.free;
+  own = w.own;
+  ends = w.ends;
+  failed = w.failed;
+  call = w.call;
+  tells = w.tells;
+  text = w.text;
+  reads = w.reads;
+  halts = w.halts;
+  falls = w.falls;
+  lends = w.lends;
+  quota = w.quota;
+  most_bytes = w.most_bytes;
+  most_macros = w.most_macros;
+  bounded = w.bounded;
+  stands = λ free open_ bytes is.
+      let l = w.stands free open_ bytes is in
+      record { at = l.at; reached = l.reached; few = parts_wider _ n m l.few more; text = l.text; after = l.after; becomes = l.becomes; piece = l.piece; lent = l.lent; stands = l.stands };
+  lets_go = w.lets_go;
+  stores = w.stores;
+}
 
--- steps that lent nothing, and perhaps none
-abbrev pub Passes : {S R : Type 0} → Ghosts S R → EngineView S R → EngineView S R → Type 0
-Passes g old new = (new ≡ old) ⊎ Walks g old new (Ok (Some []))
+-- a step that lent nothing, and then another, are one step
+pub steps_on : {S R : Type 0} (g : Ghosts S R) (n m : ℕ) (old mid new : EngineView S R) (answer : Result (Option (List ℕ)) Told) →
+    WalksOver g n old mid (Ok (Some [])) → WalksOver g m mid new answer → WalksOver g (n + 1 + m) old new answer
+steps_on g n m old mid new answer first then_ = silent_then g (n + 1) m old mid new answer (silent_step g n old mid first) then_
+
+-- steps that lent nothing, fewer than so many, and perhaps none
+abbrev pub Passes : {S R : Type 0} → Ghosts S R → ℕ → EngineView S R → EngineView S R → Type 0
+Passes g n old new = (new ≡ old) ⊎ ((m : ℕ) × (m < n) × WalksOver g m old new (Ok (Some [])))
 
 -- such steps, and then another, are one step
-pub passes_on : {S R : Type 0} (g : Ghosts S R) (old mid new : EngineView S R) (answer : Result (Option (List ℕ)) Told) →
-    Passes g old mid → Walks g mid new answer → Walks g old new answer
-passes_on {S} {R} g old mid new answer (inl same) steps = subst (λ (e : EngineView S R). Walks g e new answer) same steps
-passes_on g old mid new answer (inr first) steps = steps_on g old mid new answer first steps
+pub passes_on : {S R : Type 0} (g : Ghosts S R) (n m k : ℕ) (old mid new : EngineView S R) (answer : Result (Option (List ℕ)) Told) → n + m ≤ k →
+    Passes g n old mid → WalksOver g m mid new answer → WalksOver g k old new answer
+passes_on {S} {R} g n m k old mid new answer room (inl same) steps =
+    wider g m k old new answer (omega (arith, room)) (subst (λ (e : EngineView S R). WalksOver g m e new answer) same steps)
+passes_on g n m k old mid new answer room (inr first) steps =
+    wider g (first.0 + 1 + m) k old new answer (let less = first.1 in omega (arith, room)) (steps_on g first.0 m old mid new answer first.2 steps)
+
+-- and another that lent nothing are more of them
+pub passes_more : {S R : Type 0} (g : Ghosts S R) (n m k : ℕ) (old mid new : EngineView S R) → n + m < k →
+    Passes g n old mid → WalksOver g m mid new (Ok (Some [])) → Passes g k old new
+passes_more g n m k old mid new room passes steps = inr (n + m, room, passes_on g n m (n + m) old mid new (Ok (Some [])) (omega arith) passes steps)
 
 -- an engine that such steps left was started
-pub passes_started : {S R : Type 0} (g : Ghosts S R) (old new : EngineView S R) → IsStarted old → Passes g old new → IsStarted new
-passes_started {S} {R} g old new started (inl same) = subst (λ (e : EngineView S R). IsStarted e) (sym same) started
-passes_started g old new started (inr steps) = steps.started
+pub passes_started : {S R : Type 0} (g : Ghosts S R) (n : ℕ) (old new : EngineView S R) → IsStarted old → Passes g n old new → IsStarted new
+passes_started {S} {R} g n old new started (inl same) = subst (λ (e : EngineView S R). IsStarted e) (sym same) started
+passes_started g n old new started (inr steps) = steps.2.started
 
 -- a phase that is neither the first nor one of an open text is the last
 pub is_closed : (p : Phase) → (p ≡ Fresh → ⊥) → (p ≡ Open → ⊥) → (p ≡ Passed → ⊥) → p ≡ Closed

@@ -59,7 +59,7 @@ use Rattle.rdlpp_steps.specs.declared.place.Place.TheVariants.{Source, Text, Owe
 use Rattle.rdlpp_usages.specs.Usages.{texts_left}
 use Rattle.rdlpp_steps.proofs.IdleTexts.{text_idle}
 use Rattle.rdlpp_front.proofs.DefineLeft.{define_begins}
-use Rattle.rdlpp_steps.proofs.EngineSteps.{IsSilent, kept_at, not_called, reaches_one, walks_failed, walks_fault, walks_lent}
+use Rattle.rdlpp_steps.proofs.EngineSteps.{IsSilent, kept_at, not_called, one_part, reaches_one, walks_failed, walks_fault, walks_lent}
 use Rattle.rdlpp_steps.proofs.NestLeft.{nest_cut_define, nest_defined, nest_filled, nest_long_define, nest_long_line, nest_long_source, nest_nameless, nest_refused, nest_refused_define, nest_reserved, nest_text, nest_undef, nest_undefined, nest_unfilled, nest_unheld}
 use Rattle.rdlpp_steps.proofs.Soundness.{inner_facts, with_inner-length}
 use Rattle.rdlpp_steps.proofs.WorkFacts.{IsUsed, entered_unused, held_room, owed_falls, used_after, used_bytes, work_falls, work_same}
@@ -538,7 +538,7 @@ filled_stores {S} {R} g old mid ready r fills call =
 
 -- bytes are held that weren't, and nothing else changed
 pub silent_fill : {S R : Type 0} (g : Ghosts S R) (old mid : EngineView S R) → IsReady old → IsRead g old mid
-    → Fills (g.tells old.sources) g.unread fill.Held (inner_buffer old.files.nest) (inner_buffer mid.files.nest) → SourcesCalled g false false old.sources mid.sources → IsSilent g old mid
+    → Fills (g.tells old.sources) g.unread fill.Held (inner_buffer old.files.nest) (inner_buffer mid.files.nest) → SourcesCalled g false false old.sources mid.sources → IsSilent g 1 old mid
 silent_fill {S} {R} g old mid ready r fills call =
     let b = inner_buffer mid.files.nest in
     let limits : mid.limits ≡ old.limits = ap (λ e. e.limits) r.becomes in
@@ -564,6 +564,7 @@ silent_fill {S} {R} g old mid ready r fills call =
       work = (let same : work_left mid ≡ work_left old = work_same old mid b limits owed (ap (λ e. e.expansion) r.becomes) nest fills.unused in omega arith);
       keeps = filled_stores g old mid ready r fills call;
       reaches = reaches_one g old mid (record { after = mid; stands = Nowhere refl (InSources ready.idle (ap (λ e. e.expansion) r.becomes)); becomes = refl });
+      few = one_part _ refl;
     }
 
 -- the main text is open

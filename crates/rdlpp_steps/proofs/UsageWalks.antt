@@ -205,7 +205,7 @@ module _ {S R : Type 0} (g : Ghosts S R) (old : EngineView S R) (ready : IsReady
         let here : f ≡ fault_at fault.ReadFailed (reading_line_of (inner_buffer nest)) [] (state_of (stopped_engine f)) =
         ap (fault_at fault.ReadFailed (reading_line_of (inner_buffer nest)) []) (sym (same_here f)) in
         walks_ceased g old (stopped_engine f) ready.free ready.open_ bounded f (OnRead (inl unheld) here) refl refl refl (halts_in f)
-        (record { open_ = ready.open_; still = ready.open_; at = old; stood = BeforeCall (stops_in f); text = λ t. refl }) call (stores_in f call.catalog)
+        (record { open_ = ready.open_; still = ready.open_; at = old; stood = BeforeCall (stops_in f) unheld; text = λ t. refl }) call (stores_in f call.catalog)
 
 -- a usage as a step of the engine, by what its opening says
 module _ {S R : Type 0} (g : Ghosts S R) (old mid : EngineView S R) (len : ℕ) (ready : IsReady old) (live : old.conditions.skipped ≡ None) (mode : (inner_buffer old.files.nest).mode ≡ Plain)

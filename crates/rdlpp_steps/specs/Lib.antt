@@ -11,8 +11,10 @@ pub mod Pieces
 pub mod Positions
 pub mod Standing
 pub mod Stored
+pub mod Silences
 pub mod Steps
 pub mod Moves
 pub mod Lines
 pub mod Conditionals
 pub mod Opening
+pub mod Searches

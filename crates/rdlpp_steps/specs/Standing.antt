@@ -1,6 +1,6 @@
 -- Where the bytes stand that a step lends, and what a step does that lends none.
 -- A definition that names no source is this project's own.
-use Rattle.std.specs.Prelude.{◌≡◌, ◌<◌, ℕ, List, [], ◌∷◌, length, take, Option, None, Some, true, false, if◌then◌else◌}
+use Rattle.std.specs.Prelude.{◌≡◌, ◌<◌, ◌≤◌, ℕ, List, [], ◌∷◌, length, take, Option, None, Some, true, false, if◌then◌else◌}
 use Rattle.rdlpp_source.specs.declared.sources.Sources.{Ghosts}
 use Rattle.rdlpp_scan.specs.declared.token.Mode.{Mode}
 use Rattle.rdlpp_table.specs.Table.{Macro, macro_named}
@@ -92,11 +92,13 @@ pub record Reaches {S R : Type 0} (g : Ghosts S R) (old new : EngineView S R) : 
   pub between : List (EngineView S R)
   pub steps : LendNone g old between new
 
--- the bytes that are lent are those of a piece, as many as may be, where the engine stood that was reached by steps that lend none, from which the same text
--- remained, and which became this one, but for how far it is and how many bytes may be lent; and the place of the piece is the one that this one tells
-pub record LendsWhere {S R : Type 0} (g : Ghosts S R) (most : List ℕ → List ℕ) (old new : EngineView S R) (bytes : List ℕ) : Type 0 where
+-- the bytes that are lent are those of a piece, as many as may be, where the engine stood that was reached by steps that lend none, of which there are no
+-- more than so many, from which the same text remained, and which became this one, but for how far it is and how many bytes may be lent; and the place of
+-- the piece is the one that this one tells
+pub record LendsWhere {S R : Type 0} (g : Ghosts S R) (silent : ℕ) (most : List ℕ → List ℕ) (old new : EngineView S R) (bytes : List ℕ) : Type 0 where
   pub at : EngineView S R
   pub reached : Reaches g old at
+  pub few : length reached.between ≤ silent
   pub text : g.tells old.sources → text_of g old ≡ text_of g at
   pub after : EngineView S R
   pub becomes : new ≡ record after { phase = new.phase; quota = new.quota }

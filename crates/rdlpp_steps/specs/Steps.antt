@@ -19,6 +19,7 @@ use Rattle.rdlpp_steps.specs.Engine.{EngineView, is_open}
 use Rattle.rdlpp_steps.specs.Held.{IsBounded}
 use Rattle.rdlpp_steps.specs.Includes.{IsSearch}
 use Rattle.rdlpp_steps.specs.Owed.{nothing_owed}
+use Rattle.rdlpp_steps.specs.Silences.{most_silent}
 use Rattle.rdlpp_steps.specs.Standing.{LendsWhere}
 use Rattle.rdlpp_steps.specs.Stored.{HoldsStores, LetsGo}
 use Rattle.rdlpp_steps.specs.Remaining.{left_of, output_fault, uncut_of, state_of, text_of, work_left}
@@ -123,10 +124,11 @@ pub record StopsInCall {S R : Type 0} (g : Ghosts S R) (at new : EngineView S R)
   pub kept : KeepsUsage macro.formals (g.tells at.sources) g.unread at.expansion.most opening new.expansion.arguments (inner_buffer (with_inner (consumed_file len 0) at.files.nest)) (inner_buffer new.files.nest)
   pub uses : UsesSource (g.tells at.sources) g.unread opening at.files.nest new.files.nest
 
--- which engine it is whose text remains where a read or a search failed: the one that stopped, or the one before the usage in whose call that is
+-- which engine it is whose text remains where a read or a search failed: the one that stopped, or the one before the usage in whose call that is, of
+-- whose source no byte is held any more
 pub data Stood {S R : Type 0} (g : Ghosts S R) (at new : EngineView S R) : Type 0 where
   Itself : at ≡ new → Stood g at new
-  BeforeCall : StopsInCall g at new → Stood g at new
+  BeforeCall : StopsInCall g at new → held_of (inner_buffer new.files.nest) ≡ [] → Stood g at new
 
 -- a read or a search that failed: the text is still open, and what remained of it remains; where a read failed in the call of a usage, it remains before that
 pub record StopsReading {S R : Type 0} (g : Ghosts S R) (old new : EngineView S R) : Type 0 where
@@ -169,8 +171,8 @@ IsStarted e = e.phase ≡ Fresh → ⊥
 -- comes only so, and bytes leave none kept; the main text's name; the counts of failures; the output that remained is what was lent
 -- and then the output that remains; so it is with the text and the state behind it; where a read or a search failed, the same text remains; what
 -- is owed and what changed at the end and at a fault; the work left falls; bytes come of an open text alone; what may still be lent;
--- the room of the table; the bound holds
-pub record StepsOver {S R : Type 0} (g : Ghosts S R) (left : EngineView S R → Outcome) (spent : Result (Option (List ℕ)) Told → ℕ)
+-- the room of the table; the bound holds; before a piece so many parts of it at most lent none
+pub record StepsOver {S R : Type 0} (g : Ghosts S R) (silent : ℕ) (left : EngineView S R → Outcome) (spent : Result (Option (List ℕ)) Told → ℕ)
     (most : ℕ → List ℕ → List ℕ) (goes_on : Phase → Bool) (old new : EngineView S R) (answer : Result (Option (List ℕ)) Told) : Type 0 where
   pub limits : new.limits ≡ old.limits
   pub origins : new.origins ≡ old.origins
@@ -196,7 +198,7 @@ pub record StepsOver {S R : Type 0} (g : Ghosts S R) (left : EngineView S R → 
   pub most_bytes : new.table.most_bytes ≡ old.table.most_bytes
   pub most_macros : new.table.most_macros ≡ old.table.most_macros
   pub bounded : IsBounded new
-  pub stands : old.kept ≡ None → old.phase ≡ Open → (bytes : List ℕ) → answer ≡ Ok (Some bytes) → LendsWhere g (most old.quota) old new bytes
+  pub stands : old.kept ≡ None → old.phase ≡ Open → (bytes : List ℕ) → answer ≡ Ok (Some bytes) → LendsWhere g silent (most old.quota) old new bytes
   pub lets_go : LetsGo old → LetsGo new
   pub stores : g.tells old.sources → HoldsStores g old → HoldsStores g new
 
@@ -224,8 +226,12 @@ may_follow Closed = false
 -- a step over what remains of the output, in which the lent bytes count: no more are lent of a piece than may be (this project's
 -- profile)
 abbrev pub Steps : {S R : Type 0} → Ghosts S R → EngineView S R → EngineView S R → Result (Option (List ℕ)) Told → Type 0
-Steps g old new answer = StepsOver g (left_of g) lent_len take is_open old new answer
+Steps g old new answer = StepsOver g most_silent (left_of g) lent_len take is_open old new answer
 
--- a step over what remains without the limit on the output
+-- a step over what remains without the limit on the output, of which so many parts at most before a piece lent no bytes
+abbrev pub WalksOver : {S R : Type 0} → Ghosts S R → ℕ → EngineView S R → EngineView S R → Result (Option (List ℕ)) Told → Type 0
+WalksOver g silent old new answer = StepsOver g silent (uncut_of g) no_len all_of may_follow old new answer
+
+-- one such step alone
 abbrev pub Walks : {S R : Type 0} → Ghosts S R → EngineView S R → EngineView S R → Result (Option (List ℕ)) Told → Type 0
-Walks g old new answer = StepsOver g (uncut_of g) no_len all_of may_follow old new answer
+Walks g old new answer = WalksOver g 0 old new answer

@@ -22,6 +22,8 @@ mod position_tests;
 #[cfg(test)]
 mod report_tests;
 #[cfg(test)]
+mod resuming_tests;
+#[cfg(test)]
 mod runs;
 #[cfg(test)]
 mod scan_tests;

@@ -1,5 +1,10 @@
 // Searches that failed at a device or for memory, and are tried again.
-ghost use Rattle.std.specs.Prelude.{◌≡◌};
+ghost use Rattle.std.specs.Prelude.{◌≡◌, ◌&&◌};
+ghost use Rattle.rdlpp_read.specs.Buffer.{held_of};
+ghost use Rattle.rdlpp_read.specs.Files.{inner_buffer};
+ghost use Rattle.rdlpp_steps.specs.Opening.{start_fault};
+ghost use Rattle.rdlpp_steps.specs.Searches.{Retries, StartsAgain, begins_include, is_failed_call, is_failed_search, is_failed_start, is_over};
+ghost use Rattle.rdlpp_steps.specs.Steps.{is_call_failed, may_follow};
 
 use super::Engine;
 use super::words::INCLUDE;
@@ -13,7 +18,9 @@ impl<S: Sources> Engine<S> {
     ///
     /// Nothing else changes, and where no such fault is kept nothing does: a fault of a read, of the main text's opening or
     /// of a text is never forgotten. The rules are this project's.
-    pub fn retry(&mut self) {
+    pub fn retry(&mut self)
+        ensures { Retries S.Sources self.old self.new }
+    {
         if self.keeps_failed_search() {
             self.kept = None;
         }
@@ -26,7 +33,9 @@ impl<S: Sources> Engine<S> {
     ///
     /// # Errors
     /// As of `start`.
-    pub fn start_again(&mut self, path: &str) -> Result<(), Fault> {
+    pub fn start_again(&mut self, path: &str) -> Result<(), Fault>
+        ensures { StartsAgain S.Sources self.old self.new path.now (start_fault result) }
+    {
         if self.keeps_failed_start() {
             self.phase = Phase::Fresh;
             self.kept = None;
@@ -39,30 +48,65 @@ impl<S: Sources> Engine<S> {
     }
 
     // Whether the fault of a search for an included source that failed is kept.
-    fn keeps_failed_search(&self) -> bool {
-        self.keeps_failed_call() && self.phase == Phase::Open && self.is_at_include()
+    fn keeps_failed_search(&self) -> bool
+        ensures { result ≡ is_failed_search self.now }
+    {
+        self.keeps_failed_call() && self.is_at_include()
     }
 
     // Whether the fault of an opening of the main text that failed is kept.
-    fn keeps_failed_start(&self) -> bool {
-        self.keeps_failed_call() && self.phase == Phase::Closed
+    pub(crate) fn keeps_failed_start(&self) -> bool
+        ensures { result ≡ is_failed_start self.now }
+    {
+        self.keeps_failed_call() && has_closed(self.phase)
     }
 
     // Whether the fault that is kept is that of a device that failed, or of memory that was refused.
-    fn keeps_failed_call(&self) -> bool {
+    fn keeps_failed_call(&self) -> bool
+        ensures { result ≡ is_failed_call self.now.kept }
+    {
         match &self.kept {
             Some(fault) => is_call_failure(fault.kind),
             None => false,
         }
     }
 
-    // Whether what is held of the innermost source, where one is open, begins with the word of an `include`.
-    fn is_at_include(&self) -> bool {
-        self.files.len() > 0 && self.files.file().buffer.held().starts_with(INCLUDE)
+    // Whether the main text is open, and what is held of the innermost source begins with the word of an `include`.
+    fn is_at_include(&self) -> bool
+        ensures { result ≡ (may_follow self.now.phase && begins_include (held_of (inner_buffer self.now.files.nest))) }
+    {
+        has_open(self.phase) && begins_include(self.front())
     }
 }
 
+// Whether the main text has ended, or couldn't be opened.
+#[tactic(auto, unfolding(rdlpp_steps::specs::Searches::is_over))]
+fn has_closed(phase: Phase) -> bool
+    ensures { result ≡ is_over phase }
+{
+    phase == Phase::Closed
+}
+
+// Whether the main text is open, and more may be lent.
+#[tactic(auto, unfolding(rdlpp_steps::specs::Steps::may_follow))]
+fn has_open(phase: Phase) -> bool
+    ensures { result ≡ may_follow phase }
+{
+    phase == Phase::Open
+}
+
+// Whether bytes begin with the word of an `include`.
+#[tactic(auto, unfolding(rdlpp_steps::specs::Searches::begins_include))]
+fn begins_include(bytes: &[u8]) -> bool
+    ensures { result ≡ begins_include bytes.now }
+{
+    bytes.starts_with(INCLUDE)
+}
+
 // Whether a kind is that of a source that couldn't be read or searched for: a device failed, or memory was refused.
-fn is_call_failure(kind: FaultKind) -> bool {
+#[tactic(auto, unfolding(rdlpp_steps::specs::Steps::is_call_failed, rdlpp_steps::specs::Steps::is_read_failed, rdlpp_steps::specs::Steps::is_memory_kind))]
+fn is_call_failure(kind: FaultKind) -> bool
+    ensures { result ≡ is_call_failed kind }
+{
     kind == FaultKind::ReadFailed || kind == FaultKind::SourceMemory
 }

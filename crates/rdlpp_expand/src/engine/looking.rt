@@ -1,11 +1,14 @@
 // What is seen of an engine from outside: its parts, and where it stands.
-ghost use Rattle.std.specs.Prelude.{◌≡◌, length};
+ghost use Rattle.std.specs.Prelude.{◌≡◌, IfNone, IfSome, length};
+ghost use Rattle.rdlpp_meaning.specs.State.{shown_line};
 ghost use Rattle.rdlpp_read.specs.Buffer.{held_of};
 ghost use Rattle.rdlpp_read.specs.Files.{inner_buffer};
+ghost use Rattle.rdlpp_steps.specs.Remaining.{inner_name, state_of};
 
 use super::Engine;
 use rdlpp_source::Sources;
 use rdlpp_table::{Limits, Table};
+use std::mem;
 
 /// What an open source shows.
 #[derive(Clone, Copy, Debug)]
@@ -29,7 +32,7 @@ impl<S: Sources> Engine<S> {
         ensures old { result ≡ self.old.sources }
         ensures new { self.new ≡ record self.old { sources = sources } }
     {
-        core::mem::replace(&mut self.sources, sources)
+        mem::replace(&mut self.sources, sources)
     }
 
     /// The table of the live definitions.
@@ -54,11 +57,15 @@ impl<S: Sources> Engine<S> {
     }
 
     /// What the innermost open source shows, where one is open.
-    pub fn inner_source(&self) -> Option<OpenSource<'_>> {
+    pub fn inner_source(&self) -> Option<OpenSource<'_>>
+        ensures none { IfNone result (length self.now.files.nest ≡ 0) }
+        ensures name { IfSome result (λ source. source.name.now ≡ inner_name self.now.files.nest) }
+        ensures line { IfSome result (λ source. source.line ≡ shown_line (state_of self.now).shift (inner_buffer self.now.files.nest).line) }
+    {
         if self.files.len() == 0 {
             return None;
         }
-        self.files.facts();
+        self.facts();
         let file = self.files.file();
         Some(OpenSource {
             name: file.name.as_str(),

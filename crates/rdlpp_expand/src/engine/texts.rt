@@ -4,10 +4,10 @@ ghost use Rattle.rdlpp_cursors.specs.Places.{IsPlaced as IsTextPlaced, place_byt
 ghost use Rattle.rdlpp_steps.specs.Held.{IsBounded};
 ghost use Rattle.rdlpp_steps.specs.Moves.{IsUnowed};
 ghost use Rattle.rdlpp_steps.specs.Pieces.{IsPlaced, held_texts, step_answer};
-ghost use Rattle.rdlpp_steps.specs.Steps.{Steps, Walks};
+ghost use Rattle.rdlpp_steps.specs.Steps.{Steps, Walks, WalksOver};
 ghost use Rattle.rdlpp_expand.specs.Texts.{IsInTexts, LeavesTexts, StaysUnowed, place_of};
 
-use super::MOST_ROUNDS;
+use super::FURTHER_STEPS;
 use crate::engine::Engine;
 use rdlpp_cursors::{CursorStep, TextPlace, text_at};
 use rdlpp_source::Sources;
@@ -56,7 +56,7 @@ impl<S: Sources> Engine<S> {
     }
 
     // The step of `run` over the open texts of a usage: goes on to the next piece of one of them, cut to what the limit on the
-    // output leaves, or until none is open, or so many came to no bytes.
+    // output leaves, or until none is open, or 256 steps came to no bytes.
     pub(crate) fn advance_text(&mut self) -> TextStep
         requires { IsInTexts self.old }
         ensures place { IfSome (place_of result) (IsPlaced self.new) }
@@ -78,15 +78,15 @@ impl<S: Sources> Engine<S> {
         }
     }
 
-    // Takes steps over the open texts of a usage, until one lends something, or no text is open any more, or so many came to
-    // no bytes.
+    // Takes steps over the open texts of a usage, until one lends something, or no text is open any more, or 256 came to no
+    // bytes.
     pub(super) fn walk_texts(&mut self) -> TextStep
         requires { IsInTexts self.old }
         ensures place { IfSome (place_of result) (IsPlaced self.new) }
-        ensures walks { IsBounded self.new → Walks S.Sources self.old self.new (step_answer self.new (place_of result)) }
+        ensures walks { IsBounded self.new → WalksOver S.Sources 255 self.old self.new (step_answer self.new (place_of result)) }
         ensures leaves { LeavesTexts result self.new }
     {
-        'stepping: for _ in 1..MOST_ROUNDS {
+        'stepping: for _round in 0..FURTHER_STEPS {
             match self.step_text() {
                 TextStep::Silent => {
                     self.facts();

@@ -1,11 +1,14 @@
+use Rattle.std.proofs.Common.{arith}
+use Rattle.rdlpp_steps.specs.Silences.{most_silent}
+use Rattle.rdlpp_steps.proofs.EngineSteps.{wider}
 use Rattle.rdlpp_expand.proofs.TextFacts.{open-lent, silent-steps}
 use Rattle.rdlpp_expand.proofs.engine.Engine.advance_outside.Goals as goal
 
 pub cut-requires-clause-open : goal.cut-requires-clause-open
-cut-requires-clause-open g c lent e = open-lent g.S.Sources _ _ _ lent c.in-Some.ensures.walks e
+cut-requires-clause-open g c lent e = open-lent g.S.Sources 1 _ _ _ lent c.in-Some.ensures.walks e
 
 pub returns-in-Some-clause-steps : goal.returns-in-Some-clause-steps
-returns-in-Some-clause-steps g c = c.cut.ensures.steps _ c.in-Some.ensures.walks
+returns-in-Some-clause-steps g c = c.cut.ensures.steps _ (wider g.S.Sources 1 most_silent _ _ _ (omega arith) c.in-Some.ensures.walks)
 
 pub returns-in-None-clause-steps : goal.returns-in-None-clause-steps
-returns-in-None-clause-steps g c = silent-steps g.S.Sources _ _ c.in-None.ensures.walks
+returns-in-None-clause-steps g c = silent-steps g.S.Sources _ _ (wider g.S.Sources 1 most_silent _ _ _ (omega arith) c.in-None.ensures.walks)

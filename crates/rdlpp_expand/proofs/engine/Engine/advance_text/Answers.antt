@@ -1,4 +1,6 @@
-use Rattle.std.proofs.Common.{refl}
+use Rattle.std.proofs.Common.{refl, arith}
+use Rattle.rdlpp_steps.specs.Silences.{most_silent}
+use Rattle.rdlpp_steps.proofs.EngineSteps.{wider}
 use Rattle.rdlpp_steps.specs.declared.place.Place.TheVariants.{Text}
 use Rattle.rdlpp_steps.proofs.Cuts.{cut_text, text_cut_placed}
 use Rattle.rdlpp_expand.proofs.TextFacts.{open-lent, other-steps}
@@ -8,7 +10,7 @@ pub overflow_sub-place : goal.overflow_sub-place
 overflow_sub-place g c = c.in-Lent.ensures.place.order
 
 pub spend-len-requires : goal.spend-len-requires
-spend-len-requires g c = open-lent g.S.Sources _ _ (Text c.in-Lent.place) _ (c.in-Lent.ensures.walks c.facts.ensures.bounded) refl
+spend-len-requires g c = open-lent g.S.Sources 255 _ _ (Text c.in-Lent.place) _ (c.in-Lent.ensures.walks c.facts.ensures.bounded) refl
 
 pub returns-in-Lent-clause-place : goal.returns-in-Lent-clause-place
 returns-in-Lent-clause-place g c =
@@ -18,11 +20,11 @@ returns-in-Lent-clause-place g c =
 pub returns-in-Lent-clause-steps : goal.returns-in-Lent-clause-steps
 returns-in-Lent-clause-steps g c =
     cut_text g.S.Sources c.args.self.now c.walk_texts-step.new.self c.spend-len.new.self c.in-Lent.place c.spend-len.result
-    (c.in-Lent.ensures.walks c.facts.ensures.bounded) c.in-Lent.ensures.place (record { fits = c.spend-len.ensures.fits; passes = c.spend-len.ensures.passes })
+    (wider g.S.Sources 255 most_silent _ _ _ (omega arith) (c.in-Lent.ensures.walks c.facts.ensures.bounded)) c.in-Lent.ensures.place (record { fits = c.spend-len.ensures.fits; passes = c.spend-len.ensures.passes })
 
 pub returns-in_default : goal.returns-in_default
 returns-in_default g c = record {
   place = c.walk_texts-step.ensures.place;
-  steps = other-steps g.S.Sources _ _ _ c.in_default.not-Lent (c.walk_texts-step.ensures.walks c.facts.ensures.bounded);
+  steps = other-steps g.S.Sources _ _ _ c.in_default.not-Lent (wider g.S.Sources 255 most_silent _ _ _ (omega arith) (c.walk_texts-step.ensures.walks c.facts.ensures.bounded));
   leaves = c.walk_texts-step.ensures.leaves;
 }

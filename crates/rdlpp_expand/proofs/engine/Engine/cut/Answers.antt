@@ -1,18 +1,19 @@
 use Rattle.std.proofs.Common.{ap, subst}
 use Rattle.rdlpp_steps.specs.Pieces.{lent_answer, IsPlaced}
-use Rattle.rdlpp_steps.specs.Steps.{Walks}
+use Rattle.rdlpp_steps.specs.Steps.{WalksOver}
+use Rattle.rdlpp_steps.specs.Silences.{most_silent}
 use Rattle.rdlpp_steps.proofs.Cuts.{cut_end, cut_kept, cut_owed, cut_source, cut_text, owed_placed, text_cut_placed}
 use Rattle.rdlpp_expand.proofs.engine.Engine.cut.Goals as goal
 
 pub returns-in-Source-clause-steps : goal.returns-in-Source-clause-steps
 returns-in-Source-clause-steps g c before w =
     cut_source g.S.Sources before c.args.self.now c.spend-len.new.self c.in-Source.start c.in-Source.end c.spend-len.result
-    (subst (λ p. Walks g.S.Sources before c.args.self.now (lent_answer c.args.self.now p)) c.in-Source.is w) (subst (λ p. IsPlaced c.args.self.now p) c.in-Source.is c.requires.placed) (record { fits = c.spend-len.ensures.fits; passes = c.spend-len.ensures.passes })
+    (subst (λ p. WalksOver g.S.Sources most_silent before c.args.self.now (lent_answer c.args.self.now p)) c.in-Source.is w) (subst (λ p. IsPlaced c.args.self.now p) c.in-Source.is c.requires.placed) (record { fits = c.spend-len.ensures.fits; passes = c.spend-len.ensures.passes })
 
 pub returns-in-Text-clause-steps : goal.returns-in-Text-clause-steps
 returns-in-Text-clause-steps g c before w =
     cut_text g.S.Sources before c.args.self.now c.spend-len-in-Text.new.self c.in-Text.place c.spend-len-in-Text.result
-    (subst (λ p. Walks g.S.Sources before c.args.self.now (lent_answer c.args.self.now p)) c.in-Text.is w) (subst (λ p. IsPlaced c.args.self.now p) c.in-Text.is c.requires.placed) (record { fits = c.spend-len-in-Text.ensures.fits; passes = c.spend-len-in-Text.ensures.passes })
+    (subst (λ p. WalksOver g.S.Sources most_silent before c.args.self.now (lent_answer c.args.self.now p)) c.in-Text.is w) (subst (λ p. IsPlaced c.args.self.now p) c.in-Text.is c.requires.placed) (record { fits = c.spend-len-in-Text.ensures.fits; passes = c.spend-len-in-Text.ensures.passes })
 
 pub returns-in-Text-clause-place : goal.returns-in-Text-clause-place
 returns-in-Text-clause-place g c =
@@ -25,17 +26,17 @@ spend-len-requires-in-Text g c = c.requires.open _ (ap (lent_answer c.args.self.
 pub returns-in-Owed-clause-steps : goal.returns-in-Owed-clause-steps
 returns-in-Owed-clause-steps g c before w =
     rw c.cut.ensures (cut_owed g.S.Sources before c.args.self.now c.spend-len-in-Owed.new.self c.in-Owed.piece c.spend-len-in-Owed.result
-    (subst (λ p. Walks g.S.Sources before c.args.self.now (lent_answer c.args.self.now p)) c.in-Owed.is w) (subst (λ p. IsPlaced c.args.self.now p) c.in-Owed.is c.requires.placed) (record { fits = c.spend-len-in-Owed.ensures.fits; passes = c.spend-len-in-Owed.ensures.passes }))
+    (subst (λ p. WalksOver g.S.Sources most_silent before c.args.self.now (lent_answer c.args.self.now p)) c.in-Owed.is w) (subst (λ p. IsPlaced c.args.self.now p) c.in-Owed.is c.requires.placed) (record { fits = c.spend-len-in-Owed.ensures.fits; passes = c.spend-len-in-Owed.ensures.passes }))
 
 pub returns-in-Owed-clause-place : goal.returns-in-Owed-clause-place
 returns-in-Owed-clause-place g c =
     rw c.cut.ensures (owed_placed c.args.self.now c.spend-len-in-Owed.new.self c.in-Owed.piece c.spend-len-in-Owed.result (subst (λ p. IsPlaced c.args.self.now p) c.in-Owed.is c.requires.placed) (record { fits = c.spend-len-in-Owed.ensures.fits; passes = c.spend-len-in-Owed.ensures.passes }))
 
 pub returns-in-End-clause-steps : goal.returns-in-End-clause-steps
-returns-in-End-clause-steps g c before w = cut_end g.S.Sources before c.args.self.now (subst (λ p. Walks g.S.Sources before c.args.self.now (lent_answer c.args.self.now p)) c.in-End.is w)
+returns-in-End-clause-steps g c before w = cut_end g.S.Sources before c.args.self.now (subst (λ p. WalksOver g.S.Sources most_silent before c.args.self.now (lent_answer c.args.self.now p)) c.in-End.is w)
 
 pub returns-in-Kept-clause-steps : goal.returns-in-Kept-clause-steps
-returns-in-Kept-clause-steps g c before w = cut_kept g.S.Sources before c.args.self.now c.args.self.now.kept (subst (λ p. Walks g.S.Sources before c.args.self.now (lent_answer c.args.self.now p)) c.in-Kept.is w)
+returns-in-Kept-clause-steps g c before w = cut_kept g.S.Sources before c.args.self.now c.args.self.now.kept (subst (λ p. WalksOver g.S.Sources most_silent before c.args.self.now (lent_answer c.args.self.now p)) c.in-Kept.is w)
 
 pub spend-len-requires : goal.spend-len-requires
 spend-len-requires g c = c.requires.open _ (ap (lent_answer c.args.self.now) c.in-Source.is)

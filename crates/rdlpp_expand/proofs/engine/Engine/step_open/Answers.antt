@@ -3,6 +3,7 @@ use Rattle.rdlpp_read.specs.Files.{AreOpen}
 use Rattle.rdlpp_steps.specs.Engine.{IsSoundEngine}
 use Rattle.rdlpp_steps.specs.Owed.{OwedView, TakesPiece, nothing_owed}
 use Rattle.rdlpp_steps.specs.Remaining.{inner_name}
+use Rattle.rdlpp_steps.proofs.EngineSteps.{wider}
 use Rattle.rdlpp_steps.proofs.FrontSteps.{opened_phase, owed_is_placed, owing, owing_same, ready_idle, take_owed, unowed_by}
 use Rattle.rdlpp_expand.proofs.engine.Engine.step_open.Goals as goal
 
@@ -17,8 +18,8 @@ returns-in-Some-clause-walks g c = λ bounded.
     let name : List ℕ = inner_name c.args.self.now.files.nest in
     let size : length name ≡ c.len-name_len.result = ap (λ ns. length (inner_name ns)) (ap (λ e. e.files.nest) (sym c.self.view_is) ∙ c.file.ensures.inner) ∙ sym c.len-name_len.ensures.value in
     let owed : c.self.inside.owed ≡ c.args.self.now.owed = ap (λ e. e.owed) c.self.view_is in
-    take_owed g.S.Sources c.args.self.now _ c.in-Some.piece c.take.new.self c.requires.free c.requires.open bounded
-    (subst (λ (o : OwedView). TakesPiece name o c.take.new.self c.in-Some.piece) owed (c.in-Some.ensures.piece name size)) (owing _ c.args.self.now c.take.new.self c.self.view_is)
+    wider g.S.Sources 0 1 _ _ _ (omega arith) (take_owed g.S.Sources c.args.self.now _ c.in-Some.piece c.take.new.self c.requires.free c.requires.open bounded
+    (subst (λ (o : OwedView). TakesPiece name o c.take.new.self c.in-Some.piece) owed (c.in-Some.ensures.piece name size)) (owing _ c.args.self.now c.take.new.self c.self.view_is))
 
 pub returns-in-Some-clause-place : goal.returns-in-Some-clause-place
 returns-in-Some-clause-place g c =

@@ -1,20 +1,21 @@
-use Rattle.std.proofs.Common.{◌≡◌, None, sym, ap, subst, ◌∙◌}
+use Rattle.std.proofs.Common.{◌≡◌, None, sym, ap, subst, ◌∙◌, arith}
 use Rattle.rdlpp_steps.specs.declared.phase.Phase.TheVariants.{Closed, Passed}
 use Rattle.rdlpp_steps.specs.Held.{IsBounded}
 use Rattle.rdlpp_steps.specs.Remaining.{output_fault}
 use Rattle.rdlpp_expand.proofs.RunFacts.{bounded_kept}
-use Rattle.rdlpp_steps.proofs.EngineSteps.{kept_at, steps_passed, steps_kept_by, steps_ended, is_closed, none_kept_by}
+use Rattle.rdlpp_steps.proofs.EngineSteps.{kept_at, steps_passed, steps_kept_by, steps_ended, is_closed, none_kept_by, wider}
 use Rattle.rdlpp_expand.proofs.engine.Engine.step_outside.Goals as goal
 
 pub returns-then-is_some-clause-walks : goal.returns-then-is_some-clause-walks
 returns-then-is_some-clause-walks g c =
-    steps_kept_by g.S.Sources c.args.self.now c.self.inside.kept c.requires.started c.facts.ensures.bounded (sym (ap (λ e. e.kept) c.self.view_is)) (sym c.is_some.ensures ∙ c.if-is_some.true)
+    wider g.S.Sources 0 1 _ _ _ (omega arith)
+    (steps_kept_by g.S.Sources c.args.self.now c.self.inside.kept c.requires.started c.facts.ensures.bounded (sym (ap (λ e. e.kept) c.self.view_is)) (sym c.is_some.ensures ∙ c.if-is_some.true))
 
 pub returns-in_default : goal.returns-in_default
 returns-in_default g c =
     let free : c.args.self.now.kept ≡ None = none_kept_by c.args.self.now.kept c.self.inside.kept (sym (ap (λ e. e.kept) c.self.view_is)) (sym c.is_some.ensures ∙ c.if-is_some.false) in
     let closed : c.args.self.now.phase ≡ Closed = is_closed c.args.self.now.phase c.requires.started (λ e. c.in_default.not-Open (ap (λ x. x.phase) c.self.view_is ∙ e)) (λ e. c.in_default.not-Passed (ap (λ x. x.phase) c.self.view_is ∙ e)) in
-    record { place = tt; walks = steps_ended g.S.Sources c.args.self.now c.requires.started c.facts.ensures.bounded free closed }
+    record { place = tt; walks = wider g.S.Sources 0 1 _ _ _ (omega arith) (steps_ended g.S.Sources c.args.self.now c.requires.started c.facts.ensures.bounded free closed) }
 
 pub returns-in-Passed-clause-walks : goal.returns-in-Passed-clause-walks
 returns-in-Passed-clause-walks g c =
@@ -23,5 +24,5 @@ returns-in-Passed-clause-walks g c =
     let past : e.phase ≡ Passed = sym (ap (λ e. e.phase) c.self.view_is) ∙ c.in-Passed.is in
     let becomes = c.refuse_output.ensures.kept in
     let bounded : IsBounded c.refuse_output.new.self = subst (λ e. IsBounded e) (sym becomes) (bounded_kept e _ c.facts.ensures.bounded) in
-    kept_at g.S.Sources e c.refuse_output.new.self c.refuse_output.result (output_fault e.main) c.refuse_output.ensures.place (ap (λ e. e.kept) becomes)
-    (steps_passed g.S.Sources e c.refuse_output.new.self free past bounded becomes)
+    wider g.S.Sources 0 1 _ _ _ (omega arith) (kept_at g.S.Sources e c.refuse_output.new.self c.refuse_output.result (output_fault e.main) c.refuse_output.ensures.place (ap (λ e. e.kept) becomes)
+    (steps_passed g.S.Sources e c.refuse_output.new.self free past bounded becomes))

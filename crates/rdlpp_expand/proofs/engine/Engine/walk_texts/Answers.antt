@@ -1,5 +1,5 @@
-use Rattle.std.proofs.Common.{◌<◌, [], inl, inr, length, refl, subst, sym, ◌∙◌}
-use Rattle.rdlpp_steps.proofs.EngineSteps.{passes_on}
+use Rattle.std.proofs.Common.{◌<◌, inl, length, refl, subst, sym, ◌∙◌, arith}
+use Rattle.rdlpp_steps.proofs.EngineSteps.{passes_more, passes_on}
 use Rattle.rdlpp_steps.proofs.TextSteps.{some_open}
 use Rattle.rdlpp_expand.proofs.TextFacts.{other-leaves}
 use Rattle.rdlpp_expand.proofs.engine.Engine.walk_texts.Goals as goal
@@ -11,21 +11,22 @@ pub step_text-requires : goal.step_text-requires
 step_text-requires g c = c.stepping.invariant.1
 
 pub returns-then-is_empty-clause-walks : goal.returns-then-is_empty-clause-walks
-returns-then-is_empty-clause-walks g c = λ bounded. passes_on g.S.Sources _ _ _ _ c.stepping.invariant.0 (c.in-Silent.ensures.walks bounded)
+returns-then-is_empty-clause-walks g c = λ bounded. passes_on g.S.Sources c.stepping._round 0 255 _ _ _ _ (omega arith) c.stepping.invariant.0 (c.in-Silent.ensures.walks bounded)
 
 pub returns-in_default : goal.returns-in_default
 returns-in_default g c = record {
   place = c.step_text.ensures.place;
-  walks = λ bounded. passes_on g.S.Sources _ _ _ _ c.stepping.invariant.0 (c.step_text.ensures.walks bounded);
+  walks = λ bounded. passes_on g.S.Sources c.stepping._round 0 255 _ _ _ _ (omega arith) c.stepping.invariant.0 (c.step_text.ensures.walks bounded);
   leaves = other-leaves _ _ c.in_default.not-Silent c.step_text.ensures.stays;
 }
 
 pub stepping-preserved : goal.stepping-preserved
 stepping-preserved g c =
     let some = some_open _ (sym c.is_empty.ensures ∙ c.if-is_empty.false) in (
-      inr (passes_on g.S.Sources _ _ _ _ c.stepping.invariant.0 (c.in-Silent.ensures.walks c.facts.ensures.bounded)),
+      passes_more g.S.Sources c.stepping._round 0 _ _ _ _ (omega arith) c.stepping.invariant.0 (c.in-Silent.ensures.walks c.facts.ensures.bounded),
       (c.in-Silent.ensures.stays, subst (λ e. 0 < length e.expansion.opens) c.self.view_is some),
     )
 
-pub stepping-smaller : goal.stepping-smaller
-stepping-smaller g c = (c.in-Silent.ensures.walks c.facts.ensures.bounded).falls [] refl
+pub returns-clause-walks : goal.returns-clause-walks
+returns-clause-walks g c = λ bounded.
+    passes_on g.S.Sources c.stepping._round 0 255 _ _ _ _ (omega (arith, c.stepping.auto._round-end)) c.stepping.invariant.0 (c.step_text-2.ensures.walks bounded)

@@ -1,10 +1,6 @@
-use Rattle.rdlpp_steps.specs.Remaining.{work_left}
 use Rattle.rdlpp_steps.proofs.EngineSteps.{Passes}
 use Rattle.rdlpp_expand.specs.Texts.{IsInTexts}
 use Rattle.rdlpp_expand.proofs.engine.Engine.walk_texts.Given as goal
 
 abbrev pub invariant-stepping : goal.invariant-stepping
-invariant-stepping g l = Passes g.S.Sources l.initial.self l.self × IsInTexts l.self
-
-abbrev pub decreases-stepping : goal.decreases-stepping
-decreases-stepping g l = work_left l.self
+invariant-stepping g l = Passes g.S.Sources l._round l.initial.self l.self × IsInTexts l.self

@@ -1,4 +1,5 @@
-use Rattle.rdlpp_expand.proofs.Readings.{fills_ended, fills_full, given_more, given_none, given_turned, leaves, rest_used, turns_as}
+use Rattle.std.proofs.Common.{sym, ◌∙◌}
+use Rattle.rdlpp_expand.proofs.Readings.{fills_ended, fills_full, fills_part, fills_paused, given_more, given_none, given_turned, leaves, rest_used, turns_as}
 use Rattle.rdlpp_expand.proofs.reading.Reading.read.Goals as goal
 
 pub loop-len-init : goal.loop-len-init
@@ -8,14 +9,19 @@ pub returns-then-len-out-clause-left : goal.returns-then-len-out-clause-left
 returns-then-len-out-clause-left g c =
     let gave = c.give-len.ensures in
     leaves g.S.Sources _ _ _ _ _ _
-    (fills_full g.S.Sources _ _ _ _ _ (given_more g.S.Sources _ _ _ _ _ _ _ _ c.loop-len.invariant gave.engine gave.len gave.out) c.if-len-out.true)
+    (fills_part g.S.Sources _ _ _ _ _ _ (fills_full g.S.Sources _ _ _ _ _ (given_more g.S.Sources _ _ _ _ _ _ _ _ c.loop-len.invariant gave.engine gave.len gave.out) c.if-len-out.true))
+
+pub returns-then-len-out-clause-fills : goal.returns-then-len-out-clause-fills
+returns-then-len-out-clause-fills g c =
+    let gave = c.give-len.ensures in
+    fills_part g.S.Sources _ _ _ _ _ _ (fills_full g.S.Sources _ _ _ _ _ (given_more g.S.Sources _ _ _ _ _ _ _ _ c.loop-len.invariant gave.engine gave.len gave.out) c.if-len-out.true)
 
 pub returns-in-Some-clause-fills : goal.returns-in-Some-clause-fills
 returns-in-Some-clause-fills g c =
     let gave = c.give-len.ensures in
-    fills_ended g.S.Sources _ _ _ _ _ _ c.in-Some.ending (given_more g.S.Sources _ _ _ _ _ _ _ _ c.loop-len.invariant gave.engine gave.len gave.out)
+    fills_part g.S.Sources _ _ _ _ _ _ (fills_ended g.S.Sources _ _ _ _ _ _ c.in-Some.ending (given_more g.S.Sources _ _ _ _ _ _ _ _ c.loop-len.invariant gave.engine gave.len gave.out)
     (rest_used g.S.Sources _ _ _ _ _ _ _ _ c.loop-len.invariant gave.engine gave.len gave.out c.if-len-out.false)
-    (turns_as g.S.Sources c.give-len.new.self.engine c.turn.new.self.engine c.turn.new.self.rest _ _ c.turn.ensures c.in-Some.is)
+    (turns_as g.S.Sources c.give-len.new.self.engine c.turn.new.self.engine c.turn.new.self.rest _ _ c.turn.ensures c.in-Some.is))
 
 pub returns-in-Some-clause-left : goal.returns-in-Some-clause-left
 returns-in-Some-clause-left g c = leaves g.S.Sources _ _ _ _ _ _ (returns-in-Some-clause-fills g c)
@@ -26,3 +32,14 @@ loop-len-preserved g c =
     given_turned g.S.Sources _ _ _ _ _ _ (given_more g.S.Sources _ _ _ _ _ _ _ _ c.loop-len.invariant gave.engine gave.len gave.out)
     (rest_used g.S.Sources _ _ _ _ _ _ _ _ c.loop-len.invariant gave.engine gave.len gave.out c.if-len-out.false)
     (turns_as g.S.Sources c.give-len.new.self.engine c.turn.new.self.engine c.turn.new.self.rest _ _ c.turn.ensures c.in_default.is)
+
+pub returns-then-rest_len-eq0-clause-fills : goal.returns-then-rest_len-eq0-clause-fills
+returns-then-rest_len-eq0-clause-fills g c =
+    let gave = c.give-len.ensures in
+    fills_paused g.S.Sources _ _ _ _ _ _ (given_more g.S.Sources _ _ _ _ _ _ _ _ c.loop-len.invariant gave.engine gave.len gave.out)
+    (rest_used g.S.Sources _ _ _ _ _ _ _ _ c.loop-len.invariant gave.engine gave.len gave.out c.if-len-out.false)
+    (turns_as g.S.Sources c.give-len.new.self.engine c.turn.new.self.engine c.turn.new.self.rest _ _ c.turn.ensures c.in_default.is)
+    (sym c.rest_len.ensures ∙ c.if-rest_len-eq0.true)
+
+pub returns-then-rest_len-eq0-clause-left : goal.returns-then-rest_len-eq0-clause-left
+returns-then-rest_len-eq0-clause-left g c = leaves g.S.Sources _ _ _ _ _ _ (returns-then-rest_len-eq0-clause-fills g c)
