@@ -29,7 +29,13 @@ impl Mapping {
 }
 
 impl Watcher for Mapping {
-    fn saw(&mut self, piece: &[u8], position: Option<Position<'_>>) {
+    ghost looks = { λ mapping. is_some mapping.map };
+
+    fn is_looking(&self) -> bool {
+        self.map.is_some()
+    }
+
+    fn saw(&mut self, piece: &[u8], position: Position<'_>) {
         if let Some(map) = &mut self.map {
             map.saw(piece, position);
         }

@@ -5,3 +5,4 @@ pub mod PositionFacts
 pub mod UsageNames
 pub mod Retries
 pub mod Shown
+pub mod Includers

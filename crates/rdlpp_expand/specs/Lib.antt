@@ -1,4 +1,5 @@
 pub mod Run
 pub mod Reading
+pub mod Looking
 pub mod Texts
 pub mod Watching

@@ -40,10 +40,11 @@ impl<W: Write> MapWriter<W> {
 }
 
 impl<W: Write> Watcher for MapWriter<W> {
-    fn saw(&mut self, piece: &[u8], position: Option<Position<'_>>) {
-        let Some(position) = position else {
-            return;
-        };
+    fn is_looking(&self) -> bool {
+        true
+    }
+
+    fn saw(&mut self, piece: &[u8], position: Position<'_>) {
         if let Some(run) = self.lines.take(piece, &position)
             && self.failure.is_none()
         {

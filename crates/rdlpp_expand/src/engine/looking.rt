@@ -1,9 +1,10 @@
 // What is seen of an engine from outside: its parts, and where it stands.
-ghost use Rattle.std.specs.Prelude.{◌≡◌, IfNone, IfSome, length};
+ghost use Rattle.std.specs.Prelude.{◌≡◌, ◌≤◌, ◌⊎◌, [], IfNone, IfSome, length, slice_get};
 ghost use Rattle.rdlpp_meaning.specs.State.{shown_line};
 ghost use Rattle.rdlpp_read.specs.Buffer.{held_of};
 ghost use Rattle.rdlpp_read.specs.Files.{inner_buffer};
 ghost use Rattle.rdlpp_steps.specs.Remaining.{inner_name, state_of};
+ghost use Rattle.rdlpp_expand.specs.Looking.{Includes};
 
 use super::Engine;
 use rdlpp_source::Sources;
@@ -88,5 +89,33 @@ impl<S: Sources> Engine<S> {
             return &[];
         }
         self.files.file().buffer.held()
+    }
+    /// The path of the innermost open source; empty where none is open.
+    pub fn inner_path(&self) -> &str
+        ensures some { IfSome (slice_get self.now.files.nest 0) (λ file. result.now ≡ file.path.bytes) }
+        ensures none { length self.now.files.nest ≡ 0 → result.now ≡ [] }
+    {
+        if self.files.len() == 0 {
+            return "";
+        }
+        self.files.file().path.as_str()
+    }
+
+    /// What the open source shows at a place that includes others, counted from the innermost source, which has the place 0: its
+    /// name, and the line of its `include`.
+    pub fn including(&self, place: usize) -> Option<OpenSource<'_>>
+        ensures none { IfNone result ((place ≡ 0) ⊎ (length self.now.files.nest ≤ place)) }
+        ensures shows { IfSome result (λ source. Includes self.now.files.nest place source.name.now source.line) }
+    {
+        if place == 0 || place >= self.files.len() {
+            return None;
+        }
+        self.facts();
+        let line = self.files.at(place - 1).include_line;
+        let file = self.files.at(place);
+        Some(OpenSource {
+            name: file.name.as_str(),
+            line: file.shift.shown_line(line),
+        })
     }
 }
