@@ -29,6 +29,7 @@ use Rattle.rdlpp_steps.proofs.Stores.{parts_used}
 use Rattle.rdlpp_steps.specs.Moves.{IsReady}
 use Rattle.rdlpp_steps.specs.OpenConditionals.{inner_below, inner_shown}
 use Rattle.rdlpp_steps.specs.Pieces.{lent_answer, step_answer}
+use Rattle.rdlpp_steps.specs.Positions.{Unmarked}
 use Rattle.rdlpp_steps.specs.Remaining.{run_rules, state_of}
 use Rattle.rdlpp_steps.specs.Steps.{IsOwn, Walks}
 use Rattle.rdlpp_steps.specs.declared.place.Place.{Place}
@@ -45,7 +46,7 @@ pub goes_on : {S R : Type 0} (g : Ghosts S R) (old new : EngineView S R) (v : Co
     → new ≡ goes_past v len old → Continues old.limits (run_rules g old) g.unread old.table.macros old.conditions old.files.nest v len → Walks g old new (step_answer new None)
 unfolding goes_past behind_bytes
 goes_on g old new v len ready bounded some inside becomes law =
-    lends_source g old new ready [] old.marks old.table.macros v (with_inner (consumed_file len 0) old.files.nest) becomes bounded (used_bytes old.files.nest len 0 some inside) law (parts_used g.unread len 0 old.files.nest) (Nowhere refl (InSources ready.idle refl))
+    lends_source g old new ready [] old.marks old.table.macros v (with_inner (consumed_file len 0) old.files.nest) becomes bounded (used_bytes old.files.nest len 0 some inside) law (parts_used g.unread len 0 old.files.nest) (Nowhere refl (InSources ready.idle refl (Unmarked refl)))
 
 -- the word of a branch lies in what is held
 pub word_within : (d : Directive) (held : List ℕ) → IsDirective d held → 0 < length held → (0 < length (word_of d)) × (length (word_of d) ≤ length held)

@@ -29,6 +29,7 @@ use Rattle.rdlpp_steps.specs.Includes.{left_engine, marks_behind, owed_behind}
 use Rattle.rdlpp_steps.specs.Marks.{MarksView, ends_line}
 use Rattle.rdlpp_steps.specs.Moves.{Closes, Ends, IsReady, Returns, StopsOpen, StopsUnclosed}
 use Rattle.rdlpp_steps.specs.OpenConditionals.{inner_below}
+use Rattle.rdlpp_steps.specs.Positions.{BehindSource}
 use Rattle.rdlpp_steps.specs.Owed.{OwedView, nothing_owed, origin_owed, owed_bytes, owed_pieces, origin_pieces}
 use Rattle.rdlpp_steps.specs.Pieces.{IsPlaced, lent_answer, step_answer}
 use Rattle.rdlpp_steps.specs.Remaining.{ending_behind, file_state, inner_name, nest_left, nest_state, run_rules, source_rules, state_of}
@@ -198,7 +199,7 @@ module _ {S R : Type 0} (g : Ghosts S R) (old mid new : EngineView S R) (ready :
       (left_falls old (by owed marks (drop 1 before)) refl ready.idle ready.idle refl ready.nest (omega arith) (owed_behind-few old.origins before)) call
       (λ t. nest_back old.limits (run_rules g old) g.unread old.table.macros old.conditions live (g.tells old.sources) t before b inner ended fills (sym fills.mode ∙ back.mode)
       ∙ ap (λ (x : List ℕ). behind_bytes x (left_by g old old.table.macros old.conditions (drop 1 before))) (sym (owed_ending (g.catalog old.sources) old.limits old.origins before inner)))
-      (λ t. parts_around g.unread before (g.catalog old.sources)) (Nowhere refl (InSources ready.idle refl)))
+      (λ t. parts_around g.unread before (g.catalog old.sources)) (Nowhere refl (InSources ready.idle refl (BehindSource refl))))
 
   pub ended_steps : (place : Option Place) → Ends mid new place → Walks g old new (step_answer new place)
   ended_steps None ends = ended_back ends

@@ -36,6 +36,7 @@ use Rattle.rdlpp_steps.specs.Includes.{BadName, Denies, Full, IsSearch, Refuses,
 use Rattle.rdlpp_steps.specs.Moves.{IsReady}
 use Rattle.rdlpp_steps.specs.Owed.{OwedView, nothing_owed, origin_owed}
 use Rattle.rdlpp_steps.specs.Pieces.{lent_answer, step_answer}
+use Rattle.rdlpp_steps.specs.Positions.{Unmarked}
 use Rattle.rdlpp_steps.specs.Remaining.{find_of, lookup_of, nest_left, nest_state, run_rules, source_rules, state_of}
 use Rattle.rdlpp_steps.specs.Steps.{IsOwn, OnSearch, Walks, is_call_failed, is_memory_kind, is_read_failed, is_write_failed}
 use Rattle.rdlpp_steps.specs.declared.place.Place.{Place}
@@ -248,7 +249,7 @@ module _ {S R : Type 0} (g : Ghosts S R) (old mid new : EngineView S R) (start s
       (λ t. opened_inside old.limits (run_rules g old) g.unread old.table.macros old.conditions live old.files.nest found start stop old.files.line_bytes some inner.ends plain has s.name_good (omega arith)
       (ap lookup_of (s.answers t)) refl ready.sound.line_bytes
       ∙ ap (λ (x : List ℕ). behind_bytes x (left_by g old old.table.macros old.conditions (file ∷ used))) (sym (owed_origin (g.catalog old.sources) old.limits old.origins found.path.bytes 1)))
-      (λ t. parts_entered g.unread (g.catalog old.sources) found stop old.limits.source_bytes old.files.line_bytes (length old.conditions.open_now) line name_of old.files.nest ready.nest (s.answers t)) (Nowhere refl (InSources ready.idle refl)))
+      (λ t. parts_entered g.unread (g.catalog old.sources) found stop old.limits.source_bytes old.files.line_bytes (length old.conditions.open_now) line name_of old.files.nest ready.nest (s.answers t)) (Nowhere refl (InSources ready.idle refl (Unmarked refl))))
 
 -- a search that was made
 pub searches_by : {S R : Type 0} (g : Ghosts S R) (e : EngineView S R) (from given name : List ℕ) (new : S) (answer : Result (Found R) SourceFault) → given ≡ name → from ≡ inner_path e.files.nest

@@ -51,7 +51,7 @@ use Rattle.rdlpp_steps.specs.Marks.{MarksView, lends_line, lends_owed}
 use Rattle.rdlpp_steps.specs.Owed.{OriginView, OwedView, TakesPiece, digits_of, line_ends_owed, nothing_owed, origin_bytes, origin_pieces, owed_bytes, owed_pieces, part_bytes}
 use Rattle.rdlpp_steps.specs.declared.owed.OwedPiece.{OwedPiece}
 use Rattle.rdlpp_steps.specs.Pieces.{IsPlaced, lent_answer, step_answer}
-use Rattle.rdlpp_steps.specs.Positions.{position_of}
+use Rattle.rdlpp_steps.specs.Positions.{Unmarked, position_of}
 use Rattle.rdlpp_steps.specs.Remaining.{file_state, inner_name, nest_left, nest_state, run_rules, source_rules, state_of, text_of, work_left}
 use Rattle.rdlpp_steps.specs.Steps.{IsOwn, IsReading, Walks, is_memory_kind, is_read_failed, is_write_failed}
 use Rattle.rdlpp_steps.specs.declared.phase.Phase.{Phase}
@@ -431,7 +431,7 @@ take_undef g old new start stop ready live bounded some plain named free becomes
     lends_source g old new ready [] old.marks (without (argument_name held start stop) old.table.macros) old.conditions (with_inner (consumed_file stop 0) old.files.nest) becomes bounded
     (used_bytes old.files.nest stop 0 (omega (arith, within.0, within.1)) within.2)
     (nest_undef old.limits (run_rules g old) g.unread old.table.macros old.conditions live old.files.nest start stop some inner.ends plain named free)
-    (parts_used g.unread stop 0 old.files.nest) (Nowhere refl (InSources ready.idle refl))
+    (parts_used g.unread stop 0 old.files.nest) (Nowhere refl (InSources ready.idle refl (Unmarked refl)))
 
 -- a `define` whose logical line is held, and what it comes to
 module _ {S R : Type 0} (g : Ghosts S R) (old mid new : EngineView S R) (len : ℕ) (ready : IsReady old) (live : old.conditions.skipped ≡ None) (r : IsRead g old mid) (bounded : IsBounded new)
@@ -469,7 +469,7 @@ module _ {S R : Type 0} (g : Ghosts S R) (old mid new : EngineView S R) (len : �
       some inner.ends plain define holds (ap with_fault accepted) counted
       ∙ ap (λ (x : List ℕ). behind_bytes x (left_by g old d.macros old.conditions after)) owed)
       (λ t. parts_on g.unread old.files.nest (with_buffer b old.files.nest) after (parts_slid (g.tells old.sources) Unit g.unread b old.files.nest ready.nest (slides-told (g.tells old.sources) (g.tells old.sources) Unit (IsExactLine (line.Whole len)) g.unread (inner_buffer old.files.nest) b (λ x. x) (λ _ e. cc) holds.slides) t)
-      (parts_used g.unread len d.lines (with_buffer b old.files.nest))) (Nowhere refl (InSources ready.idle refl)))
+      (parts_used g.unread len d.lines (with_buffer b old.files.nest))) (Nowhere refl (InSources ready.idle refl (Unmarked refl))))
 
   -- it is refused
   refused_steps : (place : Place) → place ≡ Kept → RefusesDefine len mid new → Walks g old new (lent_answer new place)
@@ -568,7 +568,7 @@ silent_fill {S} {R} g old mid ready r fills call =
           (nest_filled old.limits (run_rules g old) g.unread old.table.macros old.conditions (g.tells old.sources) t old.files.nest b fills);
       work = (let same : work_left mid ≡ work_left old = work_same old mid b limits owed (ap (λ e. e.expansion) r.becomes) nest fills.unused in omega arith);
       keeps = filled_stores g old mid ready r fills call;
-      reaches = reaches_one g old mid (record { after = mid; place = None; stands = Nowhere refl (InSources ready.idle (ap (λ e. e.expansion) r.becomes)); becomes = refl });
+      reaches = reaches_one g old mid (record { after = mid; place = None; stands = Nowhere refl (InSources ready.idle (ap (λ e. e.expansion) r.becomes) (Unmarked (ap (λ e. e.marks) r.becomes))); becomes = refl });
       few = one_part _ refl;
     }
 

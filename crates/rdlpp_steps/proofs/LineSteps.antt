@@ -31,6 +31,7 @@ use Rattle.rdlpp_steps.proofs.Stores.{parts_on, parts_shown, parts_used}
 use Rattle.rdlpp_steps.specs.Lines.{Renumbers, inner_blanks, renumbered_file}
 use Rattle.rdlpp_steps.specs.Marks.{MarksView, ends_line}
 use Rattle.rdlpp_steps.specs.Moves.{IsReady}
+use Rattle.rdlpp_steps.specs.Positions.{BehindLine}
 use Rattle.rdlpp_steps.specs.Owed.{OwedView, nothing_owed, origin_owed, owed_bytes}
 use Rattle.rdlpp_steps.specs.Pieces.{step_answer}
 use Rattle.rdlpp_steps.specs.Remaining.{file_state, inner_name, nest_left, nest_state, run_rules, state_of}
@@ -155,7 +156,7 @@ take_renumbered {S} {R} g old new given ready live bounded some plain is first h
     (not_called g old.sources)
     (λ t. nest_line old.limits (run_rules g old) g.unread old.table.macros old.conditions live old.files.nest given from d.lines some inner.ends plain is first has (omega arith) d.counted
     ∙ ap (λ (x : List ℕ). behind_bytes x (left_by g old old.table.macros old.conditions nest)) (sym bytes))
-    (λ t. parts_on g.unread old.files.nest used nest (parts_used g.unread len d.lines old.files.nest) (parts_shown g.unread from given.number given.name used)) (Nowhere refl (InSources ready.idle refl)))
+    (λ t. parts_on g.unread old.files.nest used nest (parts_used g.unread len d.lines old.files.nest) (parts_shown g.unread from given.number given.name used)) (Nowhere refl (InSources ready.idle refl (BehindLine d.lines refl))))
 
 -- what remains at a bad `line`
 module _ {S R : Type 0} (g : Ghosts S R) (e : EngineView S R) (ready : IsReady e) (live : e.conditions.skipped ≡ None) (some : 0 < length (held_of (inner_buffer e.files.nest)))

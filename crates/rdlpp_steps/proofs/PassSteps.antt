@@ -41,6 +41,7 @@ use Rattle.rdlpp_steps.specs.Moves.{IsReady}
 use Rattle.rdlpp_steps.specs.OpenConditionals.{AreConditions, inner_below}
 use Rattle.rdlpp_steps.specs.Owed.{OwedView, line_ends_owed, nothing_owed, owed_bytes}
 use Rattle.rdlpp_steps.specs.Pieces.{step_answer}
+use Rattle.rdlpp_steps.specs.Positions.{Unmarked}
 use Rattle.rdlpp_steps.specs.Remaining.{inner_name, run_rules, state_of}
 use Rattle.rdlpp_steps.specs.Steps.{Walks}
 use Rattle.rdlpp_steps.proofs.BranchSteps.{goes_on, plain_front, word_within}
@@ -93,7 +94,7 @@ passes_text {S} {R} g old new sources w lines nest ready bounded counted few use
     line_ends_of-owed w ∙ (ap (λ n. replicate n 10) (sym counted) ∙ sym (owed_lines (inner_name nest) lines)) in
     subst (λ (e : EngineView S R). Walks g old e (Ok (Some []))) (sym becomes)
     (lends_piece g old ready [] (line_ends_owed lines) old.marks old.table.macros old.conditions nest sources (subst IsBounded becomes bounded) (lines_few lines _ few) used call
-    (λ t. law t ∙ ap (λ (x : List ℕ). behind_bytes x (left_by g old old.table.macros old.conditions nest)) owed) parts (Nowhere refl (InSources ready.idle refl)))
+    (λ t. law t ∙ ap (λ (x : List ℕ). behind_bytes x (left_by g old old.table.macros old.conditions nest)) owed) parts (Nowhere refl (InSources ready.idle refl (Unmarked refl))))
 
 -- what is refused in front is `<%`, or a lone backquote
 pub perl_is : (mode : Mode) (held : List ℕ) (kind : FaultKind) → IsRefused mode held kind → kind ≡ fault.EmbeddedPerl → (token_of mode held).kind ≡ Perl

@@ -4,7 +4,8 @@ use Rattle.std.specs.Prelude.{◌≡◌, ℕ, ◌-◌, ◌==◌, List, Option, N
 use Rattle.rdlpp_meaning.specs.State.{State, shown_line}
 use Rattle.rdlpp_read.specs.Files.{inner_buffer}
 use Rattle.rdlpp_steps.specs.Engine.{EngineView, is_open}
-use Rattle.rdlpp_steps.specs.Marks.{PlaceView, lends_owed, marked_place}
+use Rattle.rdlpp_steps.specs.Includes.{marks_behind}
+use Rattle.rdlpp_steps.specs.Marks.{PlaceView, ends_line, lends_owed, marked_place}
 use Rattle.rdlpp_steps.specs.Owed.{OriginView, OwedView, TakesPiece}
 use Rattle.rdlpp_steps.specs.Remaining.{inner_name, state_of}
 use Rattle.rdlpp_steps.specs.declared.owed.OwedPiece.{OwedPiece}
@@ -45,6 +46,13 @@ position_of e = elim e.kept [
   | Some f ↦ None
   | None ↦ if is_open e.phase then marked_place e.marks (state_of e).name (state_of e).shift else None
 ]
+
+-- what a step over the open sources that lends no bytes marks: nothing; the place of a `line`, for the LF that is owed behind it; or the place of the
+-- `include` of a source that has ended, for the LF that is owed behind that (this project's profile)
+pub data MarksPlace {S R : Type 0} (at after : EngineView S R) : Type 0 where
+  Unmarked : after.marks ≡ at.marks → MarksPlace at after
+  BehindLine : (lines : ℕ) → after.marks ≡ ends_line lines (state_of at).name (shown_line (state_of at).shift (inner_buffer at.files.nest).line) at.marks → MarksPlace at after
+  BehindSource : after.marks ≡ marks_behind at.files.nest at.marks → MarksPlace at after
 
 -- the first piece of what is owed was taken out, and its place is marked
 pub record TakesOwed {S R : Type 0} (old new : EngineView S R) (piece : OwedPiece) : Type 0 where

@@ -21,9 +21,9 @@ use Rattle.rdlpp_usages.specs.declared.expansion.Opening.{Opening}
 use Rattle.rdlpp_usages.specs.declared.expansion.Opening.TheVariants.{Opened}
 use Rattle.rdlpp_steps.specs.Engine.{EngineView}
 use Rattle.rdlpp_steps.specs.Owed.{OwedView, TakesPiece, digits_of, nothing_owed, part_bytes}
-use Rattle.rdlpp_steps.specs.Marks.{PlaceView}
+use Rattle.rdlpp_steps.specs.Marks.{PlaceView, lends_line, lends_owed, lends_usage}
 use Rattle.rdlpp_steps.specs.Pieces.{held_texts}
-use Rattle.rdlpp_steps.specs.Positions.{owed_place, position_of, source_place, usage_place}
+use Rattle.rdlpp_steps.specs.Positions.{MarksPlace, owed_place, position_of, source_place, usage_place}
 use Rattle.rdlpp_steps.specs.Remaining.{inner_name, text_of}
 use Rattle.rdlpp_steps.specs.Stored.{called_formals}
 use Rattle.rdlpp_steps.specs.declared.owed.OwedPiece.{OwedPiece}
@@ -52,11 +52,11 @@ pub record OpensUsage {S R : Type 0} (g : Ghosts S R) (len : ℕ) (old new : Eng
   pub means : (rules : Rules) (s : State) (ws : List Waiting) (os : List Progress) → IsRun rules s old.table.macros old.expansion.depth old.expansion.most → g.tells old.sources
       → TellsUsage rules s g.unread ws os old.table.macros (inner_buffer old.files.nest).line (usage_name (held_of (inner_buffer old.files.nest)) len) opening new.expansion old.files.nest new.files.nest
 
--- what a step does that lends no bytes and owes none: it goes on over the open sources, while no text of a usage is open; it opens the
+-- what a step does that lends no bytes: it goes on over the open sources, while no text of a usage is open, and marks the place of an LF that is owed; it opens the
 -- usage in front of what is held; or it opens or closes a text of a usage, as expansion has it, and each open text lies in a live body or
 -- in what is kept of the call
 pub data Turns {S R : Type 0} (g : Ghosts S R) (at after : EngineView S R) : Type 0 where
-  InSources : at.expansion.opens ≡ [] → after.expansion ≡ at.expansion → Turns g at after
+  InSources : at.expansion.opens ≡ [] → after.expansion ≡ at.expansion → MarksPlace at after → Turns g at after
   OpensText : (len : ℕ) → OpensUsage g len at after Opened → Turns g at after
   InTexts : at.owed ≡ nothing_owed → after ≡ record at { expansion = after.expansion }
       → IsStep at.expansion.line at.expansion.depth (held_texts at) at.expansion.opens Silent after.expansion.opens
@@ -67,12 +67,12 @@ pub data Turns {S R : Type 0} (g : Ghosts S R) (at after : EngineView S R) : Typ
 -- first of what is owed, an LF, a fixed text, the shown name or digits, which is owed no more; or no bytes. But for no bytes the engine marks where it lent
 pub data StandsIn {S R : Type 0} (g : Ghosts S R) (at after : EngineView S R) (piece : List ℕ) (place : Option PlaceView) : Type 0 where
   AtCursor : (text : TextPlace) → at.owed ≡ nothing_owed → IsFrontPlace at.expansion.opens text → piece ≡ place_bytes (held_texts at) text
-      → place ≡ Some (usage_place at) → after ≡ record at { expansion = after.expansion; marks = after.marks } → StandsIn g at after piece place
+      → place ≡ Some (usage_place at) → after ≡ record at { expansion = after.expansion; marks = lends_usage at.expansion.line at.marks } → StandsIn g at after piece place
   AtSource : (len lines : ℕ) (next : Mode) → at.owed ≡ nothing_owed → at.expansion.opens ≡ [] → piece ≡ take len (held_of (inner_buffer at.files.nest))
       → place ≡ Some (source_place at)
-      → after ≡ record at { files = record at.files { nest = with_inner (consumed_file len lines) (with_buffer (entered_mode (inner_buffer at.files.nest) next) at.files.nest) }; marks = after.marks } → StandsIn g at after piece place
+      → after ≡ record at { files = record at.files { nest = with_inner (consumed_file len lines) (with_buffer (entered_mode (inner_buffer at.files.nest) next) at.files.nest) }; marks = lends_line (inner_buffer at.files.nest).line at.marks } → StandsIn g at after piece place
   AtOwed : (lent : OwedPiece) (rest : OwedView) → TakesPiece (inner_name at.files.nest) at.owed rest lent
-      → piece ≡ take lent.len (part_bytes lent.part (inner_name at.files.nest) (digits_of rest.origin)) → place ≡ owed_place at → after ≡ record at { owed = rest; marks = after.marks } → StandsIn g at after piece place
+      → piece ≡ take lent.len (part_bytes lent.part (inner_name at.files.nest) (digits_of rest.origin)) → place ≡ owed_place at → after ≡ record at { owed = rest; marks = lends_owed at.owed (inner_buffer at.files.nest).line at.marks } → StandsIn g at after piece place
   Nowhere : piece ≡ [] → Turns g at after → StandsIn g at after piece place
 
 -- a step that lends no bytes, but for how far the engine is and how many bytes may be lent
