@@ -29,6 +29,10 @@ impl Mapping {
 }
 
 impl Watcher for Mapping {
+    fn wants_places(&self) -> bool {
+        self.map.is_some()
+    }
+
     fn saw(&mut self, piece: &[u8], position: Option<Position<'_>>) {
         if let Some(map) = &mut self.map {
             map.saw(piece, position);

@@ -91,8 +91,7 @@ searched_rest {S} {R} g before old f failed free s t =
     let kind : is_call_failed f.kind ≡ true = sym (ap is_failed_call keeps) ∙ both.0 in
     let met : has_stopped before.kept (Err f) ≡ true = ap (λ (k : Option Told). has_stopped k (Err f)) free ∙ kind in
     let reads : StopsReading g before old = s.reads met in
-    let same : reads.at ≡ old = stood_itself g reads.at old both.1 reads.stood in
-    (
+    let same : reads.at ≡ old = stood_itself g reads.at old both.1 reads.stood in (
       reads.text t ∙ ap (λ (e : EngineView S R). text_of g e) same ∙ kept_text g old,
       failed_rest g before old f s met reads t ∙ ap (λ (e : EngineView S R). left_of g (record e { kept = None })) same,
     )

@@ -11,7 +11,11 @@ pub trait Watcher {
     // the bytes that were shown, where they are known
     ghost seen: { Self → Option (List ℕ) } = { λ _. None };
 
-    /// Is shown bytes that the writer took of a piece: all of it, unless a write failed.
+    /// Whether it looks at places: one that doesn't is shown none.
+    fn wants_places(&self) -> bool;
+
+    /// Is shown bytes that the writer took of a piece, all of it unless a write failed, and the place of its first
+    /// byte.
     fn saw(&mut self, piece: &[u8], position: Option<Position<'_>>)
         ensures { Appends (seen self.old) (seen self.new) piece.now };
 }
@@ -21,6 +25,11 @@ pub trait Watcher {
 pub(crate) struct Unwatched {}
 
 impl Watcher for Unwatched {
+    #[inline(always)]
+    fn wants_places(&self) -> bool {
+        false
+    }
+
     #[inline(always)]
     fn saw(&mut self, _piece: &[u8], _position: Option<Position<'_>>) {}
 }

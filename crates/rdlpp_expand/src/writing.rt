@@ -216,6 +216,19 @@ fn write_shown<W: Sink, V: Watcher>(
     written
 }
 
+// The place of the piece that was lent last, for a watcher that looks at places.
+#[inline(always)]
+fn place_for<'e, S: Sources, V: Watcher>(
+    engine: &'e Engine<S>,
+    watcher: &V,
+) -> Option<Position<'e>> {
+    if watcher.wants_places() {
+        engine.position()
+    } else {
+        None
+    }
+}
+
 // How the output ended with a part, if it did.
 fn ending_of(written: &PartWritten) -> Option<Ending>
     ensures { result ≡ (if written.now.failed then Some Ending.Unwritten else None) }
@@ -247,7 +260,7 @@ fn pull<S: Sources, W: Sink, V: Watcher>(
     };
     match engine.answer(place) {
         Ok(Piece::Bytes(part)) => {
-            let written = write_shown(writer, watcher, part, engine.position());
+            let written = write_shown(writer, watcher, part, place_for(engine, watcher));
             Pulled {
                 len: written.len,
                 ending: ending_of(&written),
@@ -277,7 +290,12 @@ fn pull_text<S: Sources, W: Sink, V: Watcher>(
 {
     match engine.advance_text() {
         TextStep::Lent(place) => {
-            let written = write_shown(writer, watcher, engine.text(place), engine.position());
+            let written = write_shown(
+                writer,
+                watcher,
+                engine.text(place),
+                place_for(engine, watcher),
+            );
             TextPulled {
                 len: written.len,
                 ending: ending_of(&written),

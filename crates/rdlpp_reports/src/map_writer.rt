@@ -40,6 +40,10 @@ impl<W: Write> MapWriter<W> {
 }
 
 impl<W: Write> Watcher for MapWriter<W> {
+    fn wants_places(&self) -> bool {
+        true
+    }
+
     fn saw(&mut self, piece: &[u8], position: Option<Position<'_>>) {
         let Some(position) = position else {
             return;
