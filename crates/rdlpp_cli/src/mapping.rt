@@ -29,6 +29,8 @@ impl Mapping {
 }
 
 impl Watcher for Mapping {
+    ghost use Rattle.std.specs.Option.{is_some};
+
     ghost looks = { λ mapping. is_some mapping.map };
 
     fn is_looking(&self) -> bool {

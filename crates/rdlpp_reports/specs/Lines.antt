@@ -1,27 +1,136 @@
 -- The line map: the place of each line of an output, in runs.
 -- A definition that names no source is this project's own.
-use Rattle.std.specs.Prelude.{◌≡◌, ℕ, ◌+◌, ◌-◌, ◌^◌, ◌==◌, ◌&&◌, ◌||◌, Bool, true, false, min, List, [], ◌∷◌, ◌++◌, length, codes, decimal, bytes_eq, Option, None, Some, if◌then◌else◌}
+use Rattle.std.specs.Prelude.{◌≡◌, ℕ, ◌+◌, ◌-◌, ◌^◌, ◌==◌, ◌&&◌, Bool, true, false, min, List, [], ◌∷◌, ◌++◌, codes, decimal, bytes_eq, Option, None, Some, option_to_list, if◌then◌else◌}
 use Rattle.std.specs.List.{concat, flat_map}
+use Rattle.rdlpp_meaning.specs.Output.{name_cut}
+use Rattle.rdlpp_reports.specs.declared.lines.LineRun.{LineRun}
 use Rattle.rdlpp_steps.specs.declared.positions.LineStep.{LineStep}
 use Rattle.rdlpp_steps.specs.declared.positions.LineStep.TheVariants.{Next, Same}
 
--- the place of a line of the output: that of its first byte
+-- the place of a line of the output, that of its first byte: the shown name and the shown line (source: this project's profile)
 pub record LinePlace : Type 0 where
   pub name : List ℕ
   pub line : ℕ
 
--- lines whose places follow each other: the first line of the output, its place, how they go on, and the place's line of the last one
+-- lines whose places follow each other: the first line of the output, its place, and how the places go on (source: this project's profile)
 pub record RunView : Type 0 where
   pub out : ℕ
   pub line : ℕ
   pub step : Option LineStep
   pub name : List ℕ
 
+-- what a run is
+abbrev pub run_view : LineRun → RunView
+run_view r = record { out = r.out; line = r.line; step = r.step; name = r.name.bytes }
+
+-- lines that are taken: whether the line at hand has a byte, how many were begun, whether there is a last run, that run, and the shown line of its last line
+pub record LinesView : Type 0 where
+  pub begun : Bool
+  pub lines : ℕ
+  pub has_run : Bool
+  pub run : RunView
+  pub last : ℕ
+
 -- a number, which stays at the largest of 64 bits
 abbrev pub kept_number : ℕ → ℕ
 kept_number n = min n (2 ^ 64 - 1)
 
 -- the line behind a line by a step
-abbrev pub next_line : LineStep → ℕ → ℕ
-next_line Next line = kept_number (line + 1)
-next_line Same line = line
+abbrev pub next_line : ℕ → LineStep → ℕ
+next_line line Next = kept_number (line + 1)
+next_line line Same = line
+
+-- whether steps are the same
+abbrev pub is_step : LineStep → LineStep → Bool
+is_step Next Next = true
+is_step Next Same = false
+is_step Same Next = false
+is_step Same Same = true
+
+-- whether a run may go on by a step
+abbrev pub may_step : Option LineStep → LineStep → Bool
+may_step None step = true
+may_step (Some other) step = is_step other step
+
+-- whether a line goes on the last run by a step
+abbrev pub follows : LinesView → LinePlace → LineStep → Bool
+follows m place step =
+    m.has_run && ((place.line == next_line m.last step) && (may_step m.run.step step && bytes_eq m.run.name (name_cut place.name)))
+
+-- the step by which a line goes on the last run, if it does (source: this project's profile)
+abbrev pub step_to : LinesView → LinePlace → Option LineStep
+step_to m place = if follows m place Next then Some Next else (if follows m place Same then Some Same else None)
+
+-- a line is counted
+abbrev pub counted : LinesView → LinesView
+counted m = record m { lines = kept_number (m.lines + 1) }
+
+-- a line more: of the last run, or the first of a new one (source: this project's profile)
+abbrev pub with_step : LinesView → LinePlace → Option LineStep → LinesView
+with_step m place (Some step) = record m { run = record m.run { step = Some step }; last = place.line }
+with_step m place None = record m {
+  has_run = true;
+  run = record { out = m.lines; line = place.line; step = None; name = name_cut place.name };
+  last = place.line;
+}
+
+-- a line more
+abbrev pub added : LinesView → LinePlace → LinesView
+added m place = with_step (counted m) place (step_to m place)
+
+-- the run that ended with a line, if one did
+abbrev pub ended_by : LinesView → Option LineStep → Option RunView
+ended_by m (Some step) = None
+ended_by m None = if m.has_run then Some m.run else None
+
+-- the run that a line ended, if it did
+abbrev pub ended : LinesView → LinePlace → Option RunView
+ended m place = ended_by m (step_to m place)
+
+-- lines more, in order
+unfoldable pub all_added : LinesView → List LinePlace → LinesView
+all_added m [] = m
+all_added m (place ∷ places) = all_added (added m place) places
+
+-- the runs that lines ended, in order
+unfoldable pub all_ended : LinesView → List LinePlace → List RunView
+all_ended m [] = []
+all_ended m (place ∷ places) = option_to_list (ended m place) ++ all_ended (added m place) places
+
+-- the places of the lines that begin in a piece, whose next byte has a place: a line begins at the first byte, and behind each LF (source: this project's profile)
+unfoldable pub line_places : Bool → LineStep → LinePlace → List ℕ → List LinePlace
+line_places begun step place [] = []
+line_places begun step place (b ∷ bs) =
+    (if begun then [] else place ∷ [])
+    ++ (if b == 10 then line_places false step (record place { line = next_line place.line step }) bs else line_places true step place bs)
+
+-- whether the line at hand has a byte behind bytes
+unfoldable pub begun_behind : Bool → List ℕ → Bool
+begun_behind begun [] = begun
+begun_behind begun (b ∷ bs) = begun_behind (if b == 10 then false else true) bs
+
+-- the mark of a step: how many lines each place is behind the one before it; 1 where there is only one (source: this project's profile)
+abbrev pub step_bytes : Option LineStep → List ℕ
+step_bytes None = codes "\t1\t"
+step_bytes (Some Next) = codes "\t1\t"
+step_bytes (Some Same) = codes "\t0\t"
+
+-- a run as a line of a line map file: OUT TAB LINE TAB STEP TAB NAME LF (source: this project's profile)
+abbrev pub run_bytes : RunView → List ℕ
+run_bytes r = concat (decimal r.out ∷ codes "\t" ∷ decimal r.line ∷ step_bytes r.step ∷ r.name ∷ codes "\n" ∷ [])
+
+-- the first line of a line map file
+abbrev pub map_start : List ℕ
+map_start = codes "# rdlpp line map 1\n"
+
+-- no lines
+abbrev pub no_lines : LinesView
+no_lines = record { begun = false; lines = 0; has_run = false; run = record { out = 0; line = 0; step = None; name = [] }; last = 0 }
+
+-- the last run, if there is one
+abbrev pub last_run : LinesView → List RunView
+last_run m = if m.has_run then m.run ∷ [] else []
+
+-- the line map of lines with these places (source: this project's profile)
+abbrev pub map_bytes : List LinePlace → List ℕ
+map_bytes places = map_start ++ flat_map run_bytes (all_ended no_lines places ++ last_run (all_added no_lines places))

@@ -1,10 +1,16 @@
 //! The line map: for each line of the output the place of its first byte, in runs.
+ghost use Rattle.std.specs.Prelude.{◌≡◌, ◌+◌, ◌<◌, ◌^◌, true, false, Some, None, IfSome, IfNone, IsTrue, length};
+ghost use Rattle.rdlpp_meaning.specs.Output.{name_cut};
+ghost use Rattle.rdlpp_reports.specs.Lines.{added, all_added, all_ended, begun_behind, counted, ended, follows, kept_number, last_run, line_places, map_start, may_step, next_line, no_lines, run_bytes, run_view, step_bytes, step_to, with_step, RunView};
+ghost use Rattle.rdlpp_reports.specs.Writes.{Writes};
+
 use crate::writing::{write_parts, write_whole};
 use arrayvec::ArrayString;
 use itoa::Buffer;
 use rdlpp_scan::line_ends_in;
 use rdlpp_steps::{LineStep, Position};
 use std::io::{self, Write};
+use std::marker::Model;
 
 // How many bytes of a name are told at most.
 const NAME_BYTES: usize = 1_024;
@@ -23,9 +29,25 @@ pub struct LineRun {
     pub name: ArrayString<1024>,
 }
 
+impl Model for MappedLines {
+    ghost use Rattle.rdlpp_reports.specs.Lines.{LinesView, RunView};
+
+    ghost Value = { LinesView };
+
+    ghost view = { λ m. record {
+      begun = m.begun;
+      lines = m.lines;
+      has_run = m.has_run;
+      run = record { out = m.run.out; line = m.run.line; step = m.run.step; name = m.run.name.bytes };
+      last = m.last;
+    } };
+}
+
 impl LineRun {
     // No lines.
-    fn new() -> LineRun {
+    fn new() -> LineRun
+        ensures { run_view result ≡ record { out = 0; line = 0; step = None; name = [] } }
+    {
         LineRun {
             out: 0,
             line: 0,
@@ -56,7 +78,9 @@ pub struct MappedLines {
 
 impl MappedLines {
     /// No lines.
-    pub fn new() -> MappedLines {
+    pub fn new() -> MappedLines
+        ensures { result ≡ no_lines }
+    {
         MappedLines {
             begun: false,
             lines: 0,
@@ -146,7 +170,9 @@ impl MappedLines {
     }
 
     // The step by which a line goes on the last run, if it does.
-    fn step_to(&self, name: &str, line: u64) -> Option<LineStep> {
+    fn step_to(&self, name: &str, line: u64) -> Option<LineStep>
+        ensures { result ≡ step_to self.now (record { name = name.now; line = line }) }
+    {
         if self.follows(name, line, LineStep::Next) {
             return Some(LineStep::Next);
         }
@@ -157,10 +183,12 @@ impl MappedLines {
     }
 
     // Whether a line goes on the last run by a step.
-    fn follows(&self, name: &str, line: u64, step: LineStep) -> bool {
+    fn follows(&self, name: &str, line: u64, step: LineStep) -> bool
+        ensures { result ≡ follows self.now (record { name = name.now; line = line }) step }
+    {
         self.has_run
             && line == next_line(self.last, step)
-            && self.run.step.is_none_or(|other| other == step)
+            && may_step(self.run.step, step)
             && self.run.name.as_bytes() == shown_name(name).as_bytes()
     }
 
@@ -178,15 +206,27 @@ impl MappedLines {
 }
 
 // The first 1,024 bytes of a name, or fewer at a character's boundary.
-fn shown_name(name: &str) -> &str {
-    if name.len() <= NAME_BYTES {
-        return name;
+fn shown_name(name: &str) -> &str
+    ensures { result.now ≡ name_cut name.now }
+{
+    let len = name.floor_char_boundary(NAME_BYTES);
+    &name[..len]
+}
+
+// Whether a run may go on by a step.
+fn may_step(own: Option<LineStep>, step: LineStep) -> bool
+    ensures { result ≡ may_step own step }
+{
+    match own {
+        Some(other) => other == step,
+        None => true,
     }
-    &name[..name.floor_char_boundary(NAME_BYTES)]
 }
 
 // The line behind a line by a step.
-fn next_line(line: u64, step: LineStep) -> u64 {
+fn next_line(line: u64, step: LineStep) -> u64
+    ensures { result ≡ next_line line step }
+{
     match step {
         LineStep::Next => line.saturating_add(1),
         LineStep::Same => line,
@@ -197,7 +237,9 @@ fn next_line(line: u64, step: LineStep) -> u64 {
 ///
 /// # Errors
 /// As of `write_whole`; the first bytes of the line, or none, are then written.
-pub fn write_map_start<W: Write>(writer: &mut W) -> io::Result<()> {
+pub fn write_map_start<W: Write>(writer: &mut W) -> io::Result<()>
+    ensures { Writes (W.contents writer.old) (W.contents writer.new) map_start result }
+{
     write_whole(b"# rdlpp line map 1\n", writer)
 }
 
@@ -207,13 +249,12 @@ pub fn write_map_start<W: Write>(writer: &mut W) -> io::Result<()> {
 /// # Errors
 /// As of `write_whole`; the first bytes of the line, or none, are then written.
 #[inline(never)]
-pub fn write_run<W: Write>(run: &LineRun, writer: &mut W) -> io::Result<()> {
+pub fn write_run<W: Write>(run: &LineRun, writer: &mut W) -> io::Result<()>
+    ensures { Writes (W.contents writer.old) (W.contents writer.new) (run_bytes (run_view run.now)) result }
+{
     let mut out = Buffer::new();
     let mut line = Buffer::new();
-    let step: &[u8] = match run.step {
-        Some(LineStep::Same) => b"\t0\t",
-        _ => b"\t1\t",
-    };
+    let step = step_bytes(run.step);
     let parts = [
         out.format(run.out).as_bytes(),
         b"\t",
@@ -223,4 +264,15 @@ pub fn write_run<W: Write>(run: &LineRun, writer: &mut W) -> io::Result<()> {
         b"\n",
     ];
     write_parts(&parts, writer)
+}
+
+// The mark of a step.
+fn step_bytes(step: Option<LineStep>) -> &'static [u8]
+    ensures { result.now ≡ step_bytes step }
+{
+    match step {
+        Some(LineStep::Same) => b"\t0\t",
+        Some(LineStep::Next) => b"\t1\t",
+        None => b"\t1\t",
+    }
 }

@@ -1,0 +1,2 @@
+# rdlpp line map 1
+1	1	1	/dev/fd/63
