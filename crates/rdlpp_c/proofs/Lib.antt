@@ -2,3 +2,4 @@ pub mod WholeReads
 pub mod Outputs
 pub mod Values
 pub mod FaultTexts
+pub mod Texts

@@ -1,9 +1,7 @@
 -- What a caller tells of the sources that were asked for.
 -- A definition that names no source is this project's own.
 use Rattle.std.specs.Prelude.{◌≡◌, ℕ, ◌⊎◌, List, IsUtf8, Option, None, Some, Result, Ok, Err}
-use Rattle.std.specs.String.{string_bytes}
-use Rattle.rdlpp_owned.specs.Asked.{files_told, standing_text}
-use Rattle.rdlpp_owned.specs.declared.asked.AskedText.{AskedText}
+use Rattle.rdlpp_owned.specs.Asked.{Adds, Stays, standing_text}
 use Rattle.rdlpp_owned.specs.declared.asked.AskedTexts.{AskedTexts}
 use Rattle.rdlpp_owned.specs.declared.asked.Standing.{Standing}
 use Rattle.rdlpp_c.specs.declared.stream.Stream.{Stream}
@@ -16,24 +14,21 @@ given_status (Ok u) = 0
 given_status (Err BadText) = 3
 given_status (Err NoMemory) = 4
 
--- an entry that was taken: what stands at this path, which counts unless something is known of the path already
+-- what stands at a path was taken: it counts unless something is known of the path already
 pub record Takes (path : List ℕ) (standing : Standing) (old new : AskedTexts) : Type 0 where
-  pub entry : AskedText
-  pub at_path : string_bytes entry.path ≡ path
-  pub stands : entry.standing ≡ standing
-  pub files : new.files.items ≡ files_told old entry
-  pub only : new ≡ record old { files = new.files }
+  pub adds : Adds old new old.asks path standing
+  pub only : new ≡ record old { known = new.known }
 
 -- nothing changed that is seen
-pub record Stays (old new : AskedTexts) : Type 0 where
-  pub files : new.files.items ≡ old.files.items
-  pub only : new ≡ record old { files = new.files }
+pub record Keeps (old new : AskedTexts) : Type 0 where
+  pub stays : Stays old new
+  pub only : new ≡ record old { known = new.known }
 
 -- what sources become that are told what stands at a path: with a refusal nothing changes
 abbrev pub TellsPath : List ℕ → Standing → AskedTexts → AskedTexts → Result Unit Refusal → Type 0
 TellsPath path standing old new (Ok u) = Takes path standing old new
-TellsPath path standing old new (Err BadText) = Stays old new × ¬ (IsUtf8 path)
-TellsPath path standing old new (Err NoMemory) = Stays old new
+TellsPath path standing old new (Err BadText) = Keeps old new × ¬ (IsUtf8 path)
+TellsPath path standing old new (Err NoMemory) = Keeps old new
 
 -- a give to an open stream: what its sources become, and the status that tells it; nothing else of it changes
 pub record GivesStanding (path : List ℕ) (standing : Standing) (before after : Stream) (status : ℕ) : Type 0 where

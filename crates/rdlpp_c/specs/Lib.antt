@@ -5,6 +5,7 @@ pub mod Answer
 pub mod Telling
 pub mod Faults
 pub mod Kept
+pub mod Knowing
 pub mod Streaming
 pub mod Giving
 pub mod Placing

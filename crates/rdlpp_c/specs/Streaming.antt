@@ -6,8 +6,7 @@ use Rattle.std.specs.String.{string_bytes}
 use Rattle.std.specs.declared.alloc.Global.{Global}
 use Rattle.std_alloc.specs.declared.boxed.Box.{Box}
 use Rattle.rdlpp_source.specs.declared.sources.Sources.{Ghosts}
-use Rattle.rdlpp_owned.specs.Asked.{asked_catalog, standing_text, unread_of, wanted_of}
-use Rattle.rdlpp_owned.specs.declared.asked.AskedText.{AskedText}
+use Rattle.rdlpp_owned.specs.Asked.{asked_catalog, unread_of, wanted_of}
 use Rattle.rdlpp_owned.specs.declared.asked.AskedTexts.{AskedTexts}
 use Rattle.rdlpp_table.specs.Limits.{limit_fault}
 use Rattle.rdlpp_meaning.specs.FaultNumbers.{fault_number}
@@ -24,9 +23,9 @@ use Rattle.rdlpp.specs.declared.fault.PrepFault.{PrepFault}
 use Rattle.rdlpp.specs.declared.fault.PrepFault.TheVariants.{BadLimits, Run, NoMemory as NoneLeft}
 use Rattle.rdlpp.specs.declared.options.Options.{Options}
 use Rattle.rdlpp_c.specs.Buffers.{overwritten}
+use Rattle.rdlpp_c.specs.Knowing.{KnowsTexts}
 use Rattle.rdlpp_c.specs.Request.{Asked, AreUtf8, definition_bytes, definition_given}
 use Rattle.rdlpp_c.specs.Telling.{name_bytes, numbered, outcome_of, word_bytes}
-use Rattle.rdlpp_c.specs.declared.arrays.Text.{Text}
 use Rattle.rdlpp_c.specs.declared.asking.Answer.{Answer}
 use Rattle.rdlpp_c.specs.declared.asking.Answer.TheVariants.{Whole, Stopped, BadLimit, BadText, NoMemory}
 use Rattle.rdlpp_c.specs.declared.opening.Owned.{Owned}
@@ -53,20 +52,12 @@ refused_answer (Run run) = Stopped run
 abbrev pub owned_sources : Ghosts AskedTexts (List ℕ)
 owned_sources = record { tells = λ _. ⊤; catalog = asked_catalog; unread = unread_of; failures = λ s. s.failures; refusals = λ s. s.refusals }
 
--- a path, and what stands there
-abbrev pub owned_bytes : AskedText → List ℕ × Option (List ℕ)
-owned_bytes f = (string_bytes f.path, standing_text (Some f.standing))
-
--- the path and the bytes of a given text, which stands there
-abbrev pub text_standing : Text → List ℕ × Option (List ℕ)
-text_standing t = (t.path.now, Some t.text.now)
-
 -- options and sources that own their texts are what a call asks for
 pub record AsksOwned (a : Asked) (options : Options) (sources : AskedTexts) : Type 0 where
   pub limits : options.limits ≡ a.limits
   pub origins : options.origins ≡ a.origins
   pub definitions : map definition_bytes options.defines.items ≡ map definition_given a.definitions
-  pub texts : map owned_bytes sources.files.items ≡ map text_standing a.texts
+  pub texts : KnowsTexts a.texts sources
   pub folders : map string_bytes sources.folders.items ≡ map (λ folder. folder.path.now) a.folders
   pub asks : sources.asks ≡ a.asks
 

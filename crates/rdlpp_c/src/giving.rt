@@ -7,7 +7,7 @@ ghost use Rattle.rdlpp_c.specs.declared.asking.Refusal.TheVariants.{BadText};
 
 use crate::asking::{Refusal, text_of};
 use crate::handle::{Handle, put, take};
-use crate::opening::shared_text;
+use crate::knowing::shared_text;
 use crate::stream::Stream;
 use crate::telling::{BAD_TEXT, CLOSED, NO_MEMORY, WHOLE};
 use rdlpp_owned::{AskedTexts, Standing};
@@ -96,7 +96,7 @@ fn tell_path(
 }
 
 // A path of one's own.
-fn owned_path(alloc: Global, path: &[u8]) -> Result<String, Refusal>
+pub(crate) fn owned_path(alloc: Global, path: &[u8]) -> Result<String, Refusal>
     ensures { MatchResult result (λ made. string_bytes made ≡ path.now)
         (λ refusal. refusal ≡ BadText → ¬ (IsUtf8 path.now)) }
 {

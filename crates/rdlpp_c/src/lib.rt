@@ -8,6 +8,7 @@ mod exports;
 mod faults;
 mod giving;
 mod handle;
+mod knowing;
 mod loose;
 mod mapping;
 mod opening;

@@ -69,11 +69,11 @@ fn read_lines(stream: &mut Stream, out: &mut [u8], map: &mut [u8]) -> Lines {
     let mut map_len = 0;
     while len < out.len() && map.len() - map_len >= MAP_ROOM {
         let part = stream.read_piece(&mut out[len..]);
-        let run = match part.ending {
-            None => take_piece(stream, &out[len..len + part.len]),
-            Some(_) => end_lines(stream, &part),
+        let rest = &mut map[map_len..];
+        map_len += match part.ending {
+            None => map_piece(stream, &out[len..len + part.len], rest),
+            Some(_) => map_end(stream, &part, rest),
         };
-        map_len += write_line(&run, &mut map[map_len..]);
         len += part.len;
         if part.ending.is_some() || part.len == 0 {
             let ending = part.ending;
@@ -89,22 +89,25 @@ fn read_lines(stream: &mut Stream, out: &mut [u8], map: &mut [u8]) -> Lines {
     }
 }
 
-// Takes the piece that was read. Answers the run that ended, if one did.
-fn take_piece(stream: &mut Stream, piece: &[u8]) -> Option<LineRun> {
-    let place = part_place(&stream.reading, &stream.part)?;
-    stream.lines.take(piece, &place)
+// Takes the piece that was read, and writes the run that ended, if one did. Answers how many bytes of the map were written.
+fn map_piece(stream: &mut Stream, piece: &[u8], map: &mut [u8]) -> usize {
+    match part_place(&stream.reading, &stream.part) {
+        Some(place) => write_line(stream.lines.take(piece, &place), map),
+        None => 0,
+    }
 }
 
-// Takes the last run away where the output ended, and not with a source that is asked for.
-fn end_lines(stream: &mut Stream, part: &ReadPart) -> Option<LineRun> {
+// Writes the last run where the output ended, and not with a source that is asked for. Answers how many bytes of the map were
+// written.
+fn map_end(stream: &mut Stream, part: &ReadPart, map: &mut [u8]) -> usize {
     if stream.wanted(part.ending).is_some() {
-        return None;
+        return 0;
     }
-    stream.lines.finish()
+    write_line(stream.lines.finish(), map)
 }
 
 // Writes a run as a line of the map, where there is one, and answers how many bytes it has.
-fn write_line(run: &Option<LineRun>, map: &mut [u8]) -> usize {
+fn write_line(run: Option<&LineRun>, map: &mut [u8]) -> usize {
     let Some(run) = run else {
         return 0;
     };

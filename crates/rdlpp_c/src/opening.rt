@@ -1,69 +1,26 @@
 // How an output is opened: the lists that a call asks for, as sources that own their texts.
-ghost use Rattle.std.specs.Prelude.{◌≡◌, IfOk, IsUtf8, map, MatchResult};
+ghost use Rattle.std.specs.Prelude.{◌≡◌, IsUtf8, map, MatchResult};
 ghost use Rattle.std.specs.List.{All};
 ghost use Rattle.std.specs.String.{string_bytes};
 ghost use Rattle.rdlpp_c.specs.Request.{AreUtf8, definition_given, requested};
-ghost use Rattle.rdlpp_c.specs.Streaming.{AreOwned, OpensOwned, OpensStream, boxed_answer, owned_bytes, refused_answer, text_standing};
+ghost use Rattle.rdlpp_c.specs.Streaming.{AreOwned, OpensOwned, OpensStream, boxed_answer, refused_answer};
 ghost use Rattle.rdlpp_c.specs.declared.asking.Refusal.TheVariants.{BadText, NoMemory};
 
-use crate::arrays::{Folder, Request, Text, limits_of};
-use crate::asking::{Answer, Refusal, definitions_of, text_of};
+use crate::arrays::{Folder, Request, limits_of};
+use crate::asking::{Answer, Refusal, definitions_of};
+use crate::giving::owned_path;
+use crate::knowing::asked_texts;
 use crate::stream::Stream;
 use rdlpp::{Options, PrepFault, open_reading};
-use rdlpp_owned::{AskedText, AskedTexts, Standing};
-use std::alloc::{AllocError, Global};
-use std::rc::Rc;
-
-// One source, with its own text.
-fn owned_text(alloc: Global, text: &Text<'_>) -> Result<AskedText, Refusal>
-    ensures { MatchResult result (λ made. owned_bytes made ≡ text_standing text.now)
-        (λ refusal. refusal ≡ BadText → ¬ (IsUtf8 text.now.path.now)) }
-{
-    let path = String::from_str(alloc, text_of(text.path)?)?;
-    match shared_text(alloc, text.text) {
-        Ok(text) => Ok(AskedText {
-            path,
-            standing: Standing::Text(text),
-        }),
-        Err(_) => Err(Refusal::NoMemory),
-    }
-}
-
-// A copy of a text, which its readers share.
-pub(crate) fn shared_text(alloc: Global, text: &[u8]) -> Result<Rc<Vec<u8>, Global>, AllocError>
-    ensures { IfOk result (λ shared. shared.value.items ≡ text.now) }
-{
-    let mut bytes = Vec::new(alloc);
-    if bytes.extend_from_slice(text).is_err() {
-        return Err(AllocError);
-    }
-    match Rc::new(alloc, bytes) {
-        Ok(shared) => Ok(shared),
-        Err(_) => Err(AllocError),
-    }
-}
-
-// The sources.
-fn owned_files(alloc: Global, texts: &[Text<'_>]) -> Result<Vec<AskedText>, Refusal>
-    ensures { MatchResult result (λ files. map owned_bytes files.items ≡ map text_standing texts.now)
-        (λ refusal. refusal ≡ BadText → ¬ (All (λ text. IsUtf8 text.path.now) texts.now)) }
-{
-    let mut files = Vec::new(alloc);
-    for text in texts {
-        let file = owned_text(alloc, text)?;
-        if files.push(file).is_err() {
-            return Err(Refusal::NoMemory);
-        }
-    }
-    Ok(files)
-}
+use rdlpp_owned::AskedTexts;
+use std::alloc::Global;
 
 // One include folder.
 fn owned_folder(alloc: Global, folder: &Folder<'_>) -> Result<String, Refusal>
     ensures { MatchResult result (λ made. string_bytes made ≡ folder.now.path.now)
         (λ refusal. refusal ≡ BadText → ¬ (IsUtf8 folder.now.path.now)) }
 {
-    Ok(String::from_str(alloc, text_of(folder.path)?)?)
+    owned_path(alloc, folder.path)
 }
 
 // The include folders.
@@ -95,21 +52,13 @@ fn owned_of(alloc: Global, request: &Request<'_>) -> Result<Owned, Refusal>
     ensures { MatchResult result (AreOwned (requested request.now))
         (λ refusal. refusal ≡ BadText → ¬ (AreUtf8 (requested request.now))) }
 {
-    let path = String::from_str(alloc, text_of(request.path)?)?;
-    let files = owned_files(alloc, request.texts)?;
+    let path = owned_path(alloc, request.path)?;
     let folders = owned_folders(alloc, request.folders)?;
+    let sources = asked_texts(alloc, request.texts, folders, request.asks)?;
     let options = Options {
         defines: definitions_of(alloc, request.definitions)?,
         limits: limits_of(&request.limits),
         origins: request.origins,
-    };
-    let sources = AskedTexts {
-        files,
-        folders,
-        asks: request.asks,
-        wanted: None,
-        failures: 0,
-        refusals: 0,
     };
     Ok(Owned {
         sources,

@@ -1,30 +1,25 @@
 -- What sources in memory that own their texts tell, and what they ask for.
 -- A definition that names no source is this project's own.
-use Rattle.std.specs.Prelude.{◌≡◌, ℕ, ◌==◌, Bool, true, false, List, [], ◌∷◌, ◌++◌, length, map, find, Option, None, Some, nat_eq, nat_lt, not, ◌||◌, ⊤, Result, Ok, Err, if◌then◌else◌}
+use Rattle.std.specs.Prelude.{◌≡◌, ℕ, ◌==◌, Bool, true, false, List, [], ◌∷◌, length, map, bytes_eq, ◌&&◌, Option, None, Some, nat_lt, ⊤, Result, Ok, Err, if◌then◌else◌}
 use Rattle.std.specs.List.{list_any}
-use Rattle.std.specs.Option.{is_some, option_map}
+use Rattle.std.specs.Option.{option_map}
 use Rattle.std.specs.String.{string_bytes}
-use Rattle.std.specs.Cmp.Lexicographic.{pointwise}
+use Rattle.std.specs.BTreeMap.{get_by_text}
 use Rattle.arrayvec.specs.declared.array_string.ArrayString.{ArrayString}
 use Rattle.rdlpp_source.specs.declared.sources.Found.{Found}
 use Rattle.rdlpp_source.specs.declared.sources.SourceFault.{SourceFault}
 use Rattle.rdlpp_source.specs.declared.sources.SourceFault.TheVariants.{Absent, PathTooLong, Device, NoMemory}
 use Rattle.rdlpp_source.specs.Sources.{Answer, Catalog, Missing, Overlong, Present}
 use Rattle.rdlpp_source.specs.Search.{candidates, answer_at, first_answer}
-use Rattle.rdlpp_owned.specs.declared.asked.AskedText.{AskedText}
 use Rattle.rdlpp_owned.specs.declared.asked.AskedTexts.{AskedTexts}
 use Rattle.rdlpp_owned.specs.declared.asked.Standing.{Standing}
 use Rattle.rdlpp_owned.specs.declared.asked.Standing.TheVariants.{Text, Absent as Gone, Failed}
 use Rattle.rdlpp_owned.specs.declared.asked.Stop.{Stop}
 use Rattle.rdlpp_owned.specs.declared.asked.Stop.TheVariants.{Absent as NotThere, PathTooLong as TooLong, Failed as NotOpened, NoMemory as NoRoom, Wanted as NotKnown}
 
--- what is known of a path: the first entry of it (source: this project's profile)
-abbrev pub first_standing : List AskedText → List ℕ → Option Standing
-first_standing files path = option_map (λ entry. entry.standing) (find (λ entry. pointwise nat_eq (string_bytes entry.path) path) files)
-
 -- what is known of each path (source: this project's profile)
-abbrev pub standing_at : AskedTexts → List ℕ → Option Standing
-standing_at texts = first_standing texts.files.items
+unfoldable pub standing_at : AskedTexts → List ℕ → Option Standing
+standing_at texts path = get_by_text texts.known path
 
 -- the text of what is known (source: this project's profile)
 abbrev pub standing_text : Option Standing → Option (List ℕ)
@@ -115,13 +110,22 @@ Answers search (Err NoMemory) wanted = wanted ≡ None
 abbrev pub wanted_of : AskedTexts → Option (List ℕ)
 wanted_of texts = option_map (λ (path : ArrayString 1024). path.bytes) texts.wanted
 
--- whether something is known of a path: of all in sources that don't ask (source: this project's profile)
-abbrev pub is_known : AskedTexts → List ℕ → Bool
-is_known texts path = not texts.asks || is_some (standing_at texts path)
+-- what was known first, and else what is told later (source: this project's profile)
+abbrev pub first_known : Option Standing → Option Standing → Option Standing
+first_known None later = later
+first_known (Some standing) later = Some standing
 
--- the entries after something was told of a path: what is known already stays (source: this project's profile)
-abbrev pub files_told : AskedTexts → AskedText → List AskedText
-files_told texts entry = if is_known texts (string_bytes entry.path) then texts.files.items else texts.files.items ++ entry ∷ []
+-- what is told of each path where one is told of, if it counts (source: this project's profile)
+abbrev pub told_of : Bool → List ℕ → Standing → List ℕ → Option Standing
+told_of counts path standing q = if counts && bytes_eq q path then Some standing else None
+
+-- what was told of a path, if it counts, is known where nothing was known of it, and nothing else changed (source: this project's profile)
+abbrev pub Adds : AskedTexts → AskedTexts → Bool → List ℕ → Standing → Type 0
+Adds old new counts path standing = (q : List ℕ) → standing_at new q ≡ first_known (standing_at old q) (told_of counts path standing q)
+
+-- what is known stays (source: this project's profile)
+abbrev pub Stays : AskedTexts → AskedTexts → Type 0
+Stays old new = (q : List ℕ) → standing_at new q ≡ standing_at old q
 
 -- a text is opened, or has no room for a further reader
 abbrev pub Opens : List ℕ → List ℕ → Result (Found (List ℕ)) Stop → Type 0

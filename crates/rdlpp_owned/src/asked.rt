@@ -1,16 +1,17 @@
 // Sources in memory that own their texts, and that may ask for what they don't have.
-ghost use Rattle.std.specs.Prelude.{◌≡◌, ◌≤◌, [], None, false, map, min, drop, length, true, OnOk, OnErr};
-ghost use Rattle.std.specs.Option.{option_map};
+ghost use Rattle.std.specs.Prelude.{◌≡◌, ◌≤◌, ℕ, List, [], None, false, map, min, drop, length, true, OnOk, OnErr};
+ghost use Rattle.std.specs.Option.{option_copied};
 ghost use Rattle.std.specs.Io.{ReadsAtMost};
 ghost use Rattle.std.specs.String.{string_bytes};
 ghost use Rattle.rdlpp_source.specs.Sources.{Finds, Reads, is_device, is_no_memory};
 ghost use Rattle.rdlpp_source.specs.Search.{joined_path};
 ghost use Rattle.rdlpp_source.specs.Counts.{Counts};
-ghost use Rattle.rdlpp_owned.specs.Asked.{Answers, Comes, Ends, Opens, Stops, files_told, first_search, folders_of, is_failed, is_known, is_refused, search_at, search_of, standing_at, wanted_of};
+ghost use Rattle.rdlpp_owned.specs.Asked.{Answers, Comes, Adds, Ends, Opens, Stays, Stops, first_search, folders_of, is_failed, is_refused, search_at, search_of, standing_at, wanted_of};
 
 use arrayvec::ArrayString;
 use rdlpp_source::{Found, SourceFault, Sources, folder_of, joined_path};
 use std::alloc::{AllocError, Global};
+use std::collections::BTreeMap;
 use std::marker::Model;
 use std::rc::Rc;
 
@@ -25,28 +26,18 @@ pub enum Standing {
     Failed,
 }
 
-/// What stands at one path.
-#[derive(Drop)]
-pub struct AskedText {
-    /// The path.
-    pub path: String,
-    /// What stands there.
-    pub standing: Standing,
-}
-
 /// Sources in memory that own their texts, by this project's search rule, and that may ask for what
 /// they don't have.
 ///
-/// They tell their texts: `top` and `find` answer by the entries of `files` and the order of
-/// `folders`, and a reader gives the very text of its entry. Where `asks`, a candidate of which
+/// They tell their texts: `top` and `find` answer by what stands at each path and the order of
+/// `folders`, and a reader gives the very text that stands there. Where `asks`, a candidate of which
 /// nothing is known ends a search: `Device` is answered, and `wanted` has the candidate's path until
 /// the next search; after `tell` of it the search may be made again. Else nothing stands at such a
 /// path. A text that has `usize::MAX` readers has room for no further one, which is told as `NoMemory`.
 #[derive(Drop)]
 pub struct AskedTexts {
-    /// What is known. The first entry of a path counts. An entry whose path has more than 1,024
-    /// bytes or an LF byte is never found.
-    pub files: Vec<AskedText>,
+    /// What is known of each path. One that has more than 1,024 bytes or an LF byte is never found.
+    pub known: BTreeMap<String, Standing>,
     /// The include folders, in the order of the search.
     pub folders: Vec<String>,
     /// Whether paths of which nothing is known are asked for.
@@ -119,15 +110,16 @@ enum Stop {
 
 impl AskedTexts {
     /// Sources of which nothing is known, and which don't ask.
+    #[tactic(auto, unfolding(crate::specs::Asked::standing_at))]
     pub fn empty(alloc: Global) -> AskedTexts
-        ensures files { result.files.items ≡ [] }
+        ensures known { (q : List ℕ) → standing_at result q ≡ None }
         ensures folders { result.folders.items ≡ [] }
         ensures asks { result.asks ≡ false }
         ensures wanted { result.wanted ≡ None }
         ensures counts { (result.failures ≡ 0) × (result.refusals ≡ 0) }
     {
         AskedTexts {
-            files: Vec::new(alloc),
+            known: BTreeMap::new(alloc),
             folders: Vec::new(alloc),
             asks: false,
             wanted: None,
@@ -136,37 +128,47 @@ impl AskedTexts {
         }
     }
 
-    /// Tells what stands at a path. The first that is told of a path counts, and where these sources
-    /// don't ask all is told from the start: else nothing changes.
+    /// Adds what stands at a path, unless something is known of that path already.
     ///
     /// # Errors
-    /// There is no memory for a further entry; nothing is known of the path then, as before.
-    pub fn tell(&mut self, path: String, standing: Standing) -> Result<(), AllocError>
-        ensures told { OnOk result (self.new.files.items ≡ files_told self.old (record { path = path; standing = standing })) }
-        ensures refused { OnErr result (self.new.files.items ≡ self.old.files.items) }
-        ensures only { self.new ≡ record self.old { files = self.new.files } }
+    /// There is no memory for a further path; what is known stays.
+    #[tactic(auto, using(std::proofs::lemmas::Map::Text::text_keys), unfolding(crate::specs::Asked::standing_at))]
+    pub fn add(&mut self, path: String, standing: Standing) -> Result<(), AllocError>
+        ensures added { OnOk result (Adds self.old self.new true (string_bytes path) standing) }
+        ensures refused { OnErr result (Stays self.old self.new) }
+        ensures only { self.new ≡ record self.old { known = self.new.known } }
     {
-        if self.knows(path.as_str()) {
+        if self.known.contains_key(path.as_str()) {
             return Ok(());
         }
-        match self.files.push(AskedText { path, standing }) {
-            Ok(()) => Ok(()),
+        match self.known.insert(path, standing) {
+            Ok(_) => Ok(()),
             Err(_) => Err(AllocError),
         }
     }
 
-    // Whether something is known of a path.
-    fn knows(&self, path: &str) -> bool
-        ensures { result ≡ is_known self.now path.now }
+    /// Tells what stands at a path. The first that is told of a path counts, and where these sources
+    /// don't ask all is told from the start: else nothing changes.
+    ///
+    /// # Errors
+    /// There is no memory for a further path; nothing is known of it then, as before.
+    pub fn tell(&mut self, path: String, standing: Standing) -> Result<(), AllocError>
+        ensures told { OnOk result (Adds self.old self.new self.old.asks (string_bytes path) standing) }
+        ensures refused { OnErr result (Stays self.old self.new) }
+        ensures only { self.new ≡ record self.old { known = self.new.known } }
     {
-        !self.asks || self.entry(path).is_some()
+        if !self.asks {
+            return Ok(());
+        }
+        self.add(path, standing)
     }
 
-    // The entry of a path.
-    fn entry(&self, path: &str) -> Option<&AskedText>
-        ensures { option_map (λ entry. entry.now.standing) result ≡ standing_at self.now path.now }
+    // What is known of a path.
+    #[tactic(auto, unfolding(crate::specs::Asked::standing_at))]
+    fn standing(&self, path: &str) -> Option<&Standing>
+        ensures { option_copied result ≡ standing_at self.now path.now }
     {
-        self.files.iter().find(|entry| entry.path.as_str() == path)
+        self.known.get(path)
     }
 
     // The source at one candidate.
@@ -176,14 +178,14 @@ impl AskedTexts {
         if path.as_bytes().contains(&b'\n') {
             return Err(Stop::Absent);
         }
-        let Some(entry) = self.entry(path.as_str()) else {
+        let Some(standing) = self.standing(path.as_str()) else {
             return Err(if self.asks {
                 Stop::Wanted(path)
             } else {
                 Stop::Absent
             });
         };
-        match &entry.standing {
+        match standing {
             Standing::Text(text) => open_text(path, text),
             Standing::Absent => Err(Stop::Absent),
             Standing::Failed => Err(Stop::Failed),

@@ -3,4 +3,4 @@
 
 mod asked;
 
-pub use asked::{AskedReader, AskedText, AskedTexts, Standing};
+pub use asked::{AskedReader, AskedTexts, Standing};

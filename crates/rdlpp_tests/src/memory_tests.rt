@@ -5,7 +5,7 @@ use rdlpp_arguments::ArgumentStore;
 use rdlpp_conditions::Conditions;
 use rdlpp_cursors::Cursors;
 use rdlpp_expand::Engine;
-use rdlpp_owned::{AskedText, AskedTexts, Standing};
+use rdlpp_owned::{AskedTexts, Standing};
 use rdlpp_read::{Files, SourceBuffer};
 use rdlpp_source::{Buffered, SourceFault, TextReader};
 use rdlpp_table::Table;
@@ -48,10 +48,8 @@ fn makes_each_engine_and_sink(rt: HostRuntime) {
 // Sources that own one text, under an include folder.
 fn owned_texts<R: AllocGlobal>(rt: &R, asks: bool) -> Result<AskedTexts, Fail> {
     let mut texts = AskedTexts::empty(rt.alloc());
-    texts.files.push(AskedText {
-        path: String::from_str(rt.alloc(), "x/i")?,
-        standing: Standing::Text(Rc::new(rt.alloc(), Vec::from_slice(rt.alloc(), b"q")?)?),
-    })?;
+    let text = Rc::new(rt.alloc(), Vec::from_slice(rt.alloc(), b"q")?)?;
+    texts.add(String::from_str(rt.alloc(), "x/i")?, Standing::Text(text))?;
     texts.folders.push(String::from_str(rt.alloc(), "x")?)?;
     texts.asks = asks;
     Ok(texts)
@@ -82,6 +80,9 @@ fn asks_for_texts(rt: HostRuntime) -> Result<(), Fail> {
     texts.tell(String::from_str(rt.alloc(), "m")?, Standing::Failed)?;
     assert!(rt; texts.top("m").err() == Some(SourceFault::Device));
     assert!(rt; texts.wanted.is_none());
-    assert_eq!(rt; (texts.failures, texts.refusals, texts.files.len()), (2, 0, 3));
+    assert_eq!(rt;
+        (texts.failures, texts.refusals, texts.known.len()),
+        (2, 0, 3)
+    );
     Ok(())
 }

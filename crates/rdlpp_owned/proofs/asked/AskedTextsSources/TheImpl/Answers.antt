@@ -1,9 +1,10 @@
 -- The searches do what searches of sources have to.
 use Rattle.std.proofs.Common.{ap}
-use Rattle.rdlpp_owned.specs.Asked.{asked_catalog}
+use Rattle.rdlpp_owned.specs.Asked.{asked_catalog, standing_at}
 use Rattle.rdlpp_owned.proofs.asked.AskedTextsSources.TheImpl.Goals as goal
 
 pub top-tells : goal.top-tells
+unfolding standing_at
 top-tells x x' c = record {
   answer = λ _. c.ensures.finds;
   failures = c.ensures.failures;
@@ -13,6 +14,7 @@ top-tells x x' c = record {
 }
 
 pub find-tells : goal.find-tells
+unfolding standing_at
 find-tells x x' c = record {
   answer = λ _. c.ensures.finds;
   failures = c.ensures.failures;

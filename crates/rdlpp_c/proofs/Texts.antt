@@ -1,0 +1,52 @@
+-- The first text of a path, as texts are added one by one.
+use Rattle.std.proofs.Common.{◌≡◌, ℕ, ◌+◌, ◌<◌, Bool, true, false, cond, List, [], ◌∷◌, ◌++◌, find, get_or, length, take, Option, None, Some, bytes_eq, refl, sym, ap, subst, ◌∙◌}
+use Rattle.std.proofs.lemmas.List.{take_more}
+use Rattle.std.specs.Option.{option_map}
+use Rattle.rdlpp_owned.specs.Asked.{Adds, first_known, standing_at, told_of}
+use Rattle.rdlpp_owned.specs.declared.asked.AskedTexts.{AskedTexts}
+use Rattle.rdlpp_owned.specs.declared.asked.Standing.{Standing}
+use Rattle.rdlpp_c.specs.declared.arrays.Text.{Text}
+use Rattle.rdlpp_c.specs.Knowing.{AddsText, KnowsTexts, content, content_at, first_of, lent_at, lent_content}
+
+-- the content of the first of two
+first_content : (a b : Option Standing) → option_map content (first_known a b) ≡ first_of (option_map content a) (option_map content b)
+first_content None b = refl
+first_content (Some s) b = refl
+
+-- the content of what is told
+told_content : (is : Bool) (standing : Standing) (text : Option (List ℕ)) → content standing ≡ text → option_map content (cond is (Some standing) None) ≡ cond is (Some text) None
+told_content true standing text e = ap Some e
+told_content false standing text e = refl
+
+-- a text that was added
+pub adds_text : (text : Text) (old new : AskedTexts) (path : List ℕ) (standing : Standing) → path ≡ text.path.now → content standing ≡ lent_content text → Adds old new true path standing
+    → AddsText text old new
+adds_text text old new path standing same stands adds q =
+    ap (option_map content) (adds q) ∙ first_content (standing_at old q) (told_of true path standing q)
+    ∙ ap (first_of (content_at old q)) (told_content (bytes_eq q path) standing (lent_content text) stands ∙ ap (λ p. cond (bytes_eq q p) (Some (lent_content text)) None) same)
+
+first_behind : (f : Text → Option (List ℕ)) (is : Text → Bool) (x : Text) (b : Bool) (e : Option Text) (rest : Option (Option (List ℕ)))
+    → option_map f e ≡ rest → option_map f (cond b (Some x) e) ≡ cond b (Some (f x)) rest
+first_behind f is x true e rest h = refl
+first_behind f is x false e rest h = h
+
+first_cond : (b : Bool) (x : Option (List ℕ)) (y z : Option (Option (List ℕ))) → cond b (Some x) (first_of y z) ≡ first_of (cond b (Some x) y) z
+first_cond true x y z = refl
+first_cond false x y z = refl
+
+-- the first of some texts and one more
+pub find_more : (is : Text → Bool) (texts : List Text) (text : Text)
+    → option_map lent_content (find is (texts ++ text ∷ [])) ≡ first_of (option_map lent_content (find is texts)) (cond (is text) (Some (lent_content text)) None)
+find_more is [] text = first_behind lent_content is text (is text) None None refl
+find_more is (t ∷ texts) text =
+    first_behind lent_content is t (is t) (find is (texts ++ text ∷ [])) _ (find_more is texts text)
+    ∙ first_cond (is t) (lent_content t) (option_map lent_content (find is texts)) (cond (is text) (Some (lent_content text)) None)
+    ∙ ap (λ (o : Option (Option (List ℕ))). first_of o (cond (is text) (Some (lent_content text)) None)) (sym (first_behind lent_content is t (is t) (find is texts) _ refl))
+
+-- the texts up to one that was added are known
+pub knows_more : (texts : List Text) (i : ℕ) (d : Text) (old new : AskedTexts) → i < length texts → KnowsTexts (take i texts) old → AddsText (get_or texts i d) old new
+    → KnowsTexts (take (i + 1) texts) new
+knows_more texts i d old new inside knows adds q =
+    adds q ∙ ap (λ (o : Option (Option (List ℕ))). first_of o (lent_at (get_or texts i d) q)) (knows q)
+    ∙ sym (find_more (λ t. bytes_eq q t.path.now) (take i texts) (get_or texts i d))
+    ∙ ap (λ (ts : List Text). option_map lent_content (find (λ t. bytes_eq q t.path.now) ts)) (sym (take_more texts i d inside))

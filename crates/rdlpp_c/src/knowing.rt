@@ -1,0 +1,75 @@
+// The texts of a request, which sources own.
+ghost use Rattle.std.specs.Prelude.{◌≡◌, IfOk, IsUtf8, MatchResult};
+ghost use Rattle.std.specs.List.{All};
+ghost use Rattle.rdlpp_c.specs.Knowing.{AddsText, KnowsTexts};
+ghost use Rattle.rdlpp_c.specs.declared.asking.Refusal.TheVariants.{BadText};
+
+use crate::arrays::Text;
+use crate::asking::Refusal;
+use crate::giving::owned_path;
+use rdlpp_owned::{AskedTexts, Standing};
+use std::alloc::{AllocError, Global};
+use std::rc::Rc;
+
+// Sources that know the texts of a request, with include folders, and that ask for others or don't.
+#[tactic(auto, unfolding(rdlpp_owned::specs::Asked::standing_at))]
+pub(crate) fn asked_texts(
+    alloc: Global,
+    texts: &[Text<'_>],
+    folders: Vec<String>,
+    asks: bool,
+) -> Result<AskedTexts, Refusal>
+    ensures { MatchResult result (λ made. KnowsTexts texts.now made × (made.folders ≡ folders) × (made.asks ≡ asks))
+        (λ refusal. refusal ≡ BadText → ¬ (All (λ text. IsUtf8 text.path.now) texts.now)) }
+{
+    let known = known_texts(alloc, texts)?;
+    Ok(AskedTexts {
+        known: known.known,
+        folders,
+        asks,
+        wanted: None,
+        failures: 0,
+        refusals: 0,
+    })
+}
+
+// Sources that know the texts of a request.
+fn known_texts(alloc: Global, texts: &[Text<'_>]) -> Result<AskedTexts, Refusal>
+    ensures { MatchResult result (KnowsTexts texts.now)
+        (λ refusal. refusal ≡ BadText → ¬ (All (λ text. IsUtf8 text.path.now) texts.now)) }
+{
+    let mut sources = AskedTexts::empty(alloc);
+    for text in texts {
+        add_text(alloc, &mut sources, text)?;
+    }
+    Ok(sources)
+}
+
+// Adds a text of a request.
+fn add_text(alloc: Global, sources: &mut AskedTexts, text: &Text<'_>) -> Result<(), Refusal>
+    ensures { MatchResult result (λ _. AddsText text.now sources.old sources.new)
+        (λ refusal. refusal ≡ BadText → ¬ (IsUtf8 text.now.path.now)) }
+{
+    let path = owned_path(alloc, text.path)?;
+    let Ok(shared) = shared_text(alloc, text.text) else {
+        return Err(Refusal::NoMemory);
+    };
+    match sources.add(path, Standing::Text(shared)) {
+        Ok(()) => Ok(()),
+        Err(_) => Err(Refusal::NoMemory),
+    }
+}
+
+// A copy of a text, which its readers share.
+pub(crate) fn shared_text(alloc: Global, text: &[u8]) -> Result<Rc<Vec<u8>, Global>, AllocError>
+    ensures { IfOk result (λ shared. shared.value.items ≡ text.now) }
+{
+    let mut bytes = Vec::new(alloc);
+    if bytes.extend_from_slice(text).is_err() {
+        return Err(AllocError);
+    }
+    match Rc::new(alloc, bytes) {
+        Ok(shared) => Ok(shared),
+        Err(_) => Err(AllocError),
+    }
+}
