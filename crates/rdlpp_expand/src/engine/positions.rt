@@ -11,7 +11,7 @@ ghost use Rattle.rdlpp_steps.specs.Remaining.{state_of};
 use super::Engine;
 use arrayvec::ArrayString;
 use rdlpp_source::Sources;
-use rdlpp_steps::{OwedPiece, Phase, Position, copied};
+use rdlpp_steps::{OwedPiece, Phase, Position};
 
 // A name and a line that a source shows.
 #[derive(Drop)]
@@ -65,7 +65,7 @@ impl<S: Sources> Engine<S> {
         self.files.facts();
         let file = self.files.file();
         ShownPlace {
-            name: copied(&file.name),
+            name: file.name,
             line: file.shift.shown_line(file.buffer.line()),
         }
     }
