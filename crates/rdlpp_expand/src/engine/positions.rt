@@ -11,7 +11,7 @@ ghost use Rattle.rdlpp_steps.specs.Remaining.{state_of};
 use super::Engine;
 use arrayvec::ArrayString;
 use rdlpp_source::Sources;
-use rdlpp_steps::{OwedPiece, Phase, Position, copied};
+use rdlpp_steps::{OwedPiece, Phase, Position};
 
 // A name and a line that a source shows.
 #[derive(Drop)]
@@ -26,9 +26,10 @@ impl<S: Sources> Engine<S> {
     ///
     /// Text of a source has the shown name and the shown line of its first byte, and all text of a usage
     /// those of the backquote of the outermost usage. The LF bytes that a directive or skipped text leaves
-    /// stand on its lines; the one that ends a text which was included, and ended in mid-line, stands on the
-    /// line of the `include`. An origin line has the place that it names. A piece without bytes may
-    /// leave the place as it was. The rules are this project's.
+    /// stand on its lines, that of a `line` under the name and the number from before it; the one that is
+    /// written behind an included text which ended in mid-line stands on the line of the `include`. An
+    /// origin line has the place that it names. A piece without bytes may leave the place as it was. The
+    /// rules are this project's.
     pub fn position(&self) -> Option<Position<'_>>
         ensures { told_position result ≡ position_of self.now }
     {
@@ -65,7 +66,7 @@ impl<S: Sources> Engine<S> {
         self.files.facts();
         let file = self.files.file();
         ShownPlace {
-            name: copied(&file.name),
+            name: file.name,
             line: file.shift.shown_line(file.buffer.line()),
         }
     }

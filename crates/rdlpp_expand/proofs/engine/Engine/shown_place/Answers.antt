@@ -15,7 +15,7 @@ shown_line-requires g c =
 pub returns-clause-name : goal.returns-clause-name
 returns-clause-name g c =
     let nest = ap (λ e. e.files.nest) (sym c.self.view_is) ∙ c.file-file.ensures.inner in
-    c.copied.ensures ∙ sym (first_name c.args.self.now c.file-file.result.now _ nest)
+    sym (first_name c.args.self.now c.file-file.result.now _ nest)
 
 pub returns-clause-line : goal.returns-clause-line
 returns-clause-line g c =
