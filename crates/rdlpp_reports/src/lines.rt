@@ -101,7 +101,11 @@ impl MappedLines {
         }
         let ends_first = !self.begun && self.add_line(position.name, position.line);
         self.begun = piece[piece.len() - 1] != b'\n';
-        let more = if self.begun { line_ends } else { line_ends - 1 };
+        let more = if self.begun {
+            line_ends
+        } else {
+            line_ends.saturating_sub(1)
+        };
         let ends_later = more > 0 && self.add_lines(position, more);
         ends_first || ends_later
     }
