@@ -1,5 +1,5 @@
 -- A text behind a mark, by whether it is empty.
-use Rattle.std.proofs.Common.{◌≡◌, ℕ, List, [], ◌∷◌, ◌++◌, length, refl, absurd, arith}
+use Rattle.std.proofs.Common.{◌≡◌, ℕ, List, [], ◌∷◌, ◌++◌, length, refl, arith}
 use Rattle.rdlpp_reports.specs.Definitions.{continued, marked_text}
 
 -- an empty text
