@@ -1,6 +1,6 @@
 -- The line map: the place of each line of an output, in runs.
 -- A definition that names no source is this project's own.
-use Rattle.std.specs.Prelude.{◌≡◌, ℕ, ◌+◌, ◌-◌, ◌^◌, ◌==◌, ◌&&◌, Bool, true, false, min, List, [], ◌∷◌, ◌++◌, codes, decimal, bytes_eq, Option, None, Some, option_to_list, if◌then◌else◌}
+use Rattle.std.specs.Prelude.{◌≡◌, ℕ, ◌+◌, ◌-◌, ◌^◌, ◌==◌, ◌&&◌, Bool, true, false, min, List, [], ◌∷◌, ◌++◌, codes, decimal, bytes_eq, Option, None, Some, if◌then◌else◌}
 use Rattle.std.specs.List.{concat, flat_map}
 use Rattle.rdlpp_meaning.specs.Output.{name_cut}
 use Rattle.rdlpp_reports.specs.declared.lines.LineRun.{LineRun}
@@ -23,13 +23,15 @@ pub record RunView : Type 0 where
 abbrev pub run_view : LineRun → RunView
 run_view r = record { out = r.out; line = r.line; step = r.step; name = r.name.bytes }
 
--- lines that are taken: whether the line at hand has a byte, how many were begun, whether there is a last run, that run, and the shown line of its last line
+-- lines that are taken: whether the line at hand has a byte, how many were begun, whether there is a last run, that run, the shown line of its last line,
+-- and the run that ended last
 pub record LinesView : Type 0 where
   pub begun : Bool
   pub lines : ℕ
   pub has_run : Bool
   pub run : RunView
   pub last : ℕ
+  pub ended : RunView
 
 -- a number, which stays at the largest of 64 bits
 abbrev pub kept_number : ℕ → ℕ
@@ -39,6 +41,11 @@ kept_number n = min n (2 ^ 64 - 1)
 abbrev pub next_line : ℕ → LineStep → ℕ
 next_line line Next = kept_number (line + 1)
 next_line line Same = line
+
+-- the line so many lines behind a line by a step
+abbrev pub last_behind : ℕ → LineStep → ℕ → ℕ
+last_behind line Next count = kept_number (line + count)
+last_behind line Same count = line
 
 -- whether steps are the same
 abbrev pub is_step : LineStep → LineStep → Bool
@@ -72,20 +79,37 @@ with_step m place None = record m {
   has_run = true;
   run = record { out = m.lines; line = place.line; step = None; name = name_cut place.name };
   last = place.line;
+  ended = if m.has_run then m.run else m.ended;
 }
 
 -- a line more
 abbrev pub added : LinesView → LinePlace → LinesView
 added m place = with_step (counted m) place (step_to m place)
 
--- the run that ended with a line, if one did
-abbrev pub ended_by : LinesView → Option LineStep → Option RunView
-ended_by m (Some step) = None
-ended_by m None = if m.has_run then Some m.run else None
+-- whether a run ends where a line goes on by a step, or doesn't
+abbrev pub ends_by : LinesView → Option LineStep → Bool
+ends_by m (Some step) = false
+ends_by m None = m.has_run
+
+-- whether a line ends the last run
+abbrev pub ends_run : LinesView → LinePlace → Bool
+ends_run m place = ends_by m (step_to m place)
 
 -- the run that a line ended, if it did
-abbrev pub ended : LinesView → LinePlace → Option RunView
-ended m place = ended_by m (step_to m place)
+abbrev pub ended : LinesView → LinePlace → List RunView
+ended m place = if ends_run m place then m.run ∷ [] else []
+
+-- so many lines more that go on the last run by a step
+abbrev pub gone_on : LinesView → LineStep → ℕ → LinesView
+gone_on m step count = if count == 0 then m else record m {
+  lines = kept_number (m.lines + count);
+  run = record m.run { step = Some step };
+  last = last_behind m.last step count;
+}
+
+-- the last run is taken away
+abbrev pub finished : LinesView → LinesView
+finished m = record m { has_run = false; ended = if m.has_run then m.run else m.ended }
 
 -- lines more, in order
 unfoldable pub all_added : LinesView → List LinePlace → LinesView
@@ -95,7 +119,7 @@ all_added m (place ∷ places) = all_added (added m place) places
 -- the runs that lines ended, in order
 unfoldable pub all_ended : LinesView → List LinePlace → List RunView
 all_ended m [] = []
-all_ended m (place ∷ places) = option_to_list (ended m place) ++ all_ended (added m place) places
+all_ended m (place ∷ places) = ended m place ++ all_ended (added m place) places
 
 -- the places of the lines that begin in a piece, whose next byte has a place: a line begins at the first byte, and behind each LF (source: this project's profile)
 unfoldable pub line_places : Bool → LineStep → LinePlace → List ℕ → List LinePlace
@@ -123,9 +147,13 @@ run_bytes r = concat (decimal r.out ∷ codes "\t" ∷ decimal r.line ∷ step_b
 abbrev pub map_start : List ℕ
 map_start = codes "# rdlpp line map 1\n"
 
+-- a run without lines
+abbrev pub no_run : RunView
+no_run = record { out = 0; line = 0; step = None; name = [] }
+
 -- no lines
 abbrev pub no_lines : LinesView
-no_lines = record { begun = false; lines = 0; has_run = false; run = record { out = 0; line = 0; step = None; name = [] }; last = 0 }
+no_lines = record { begun = false; lines = 0; has_run = false; run = no_run; last = 0; ended = no_run }
 
 -- the last run, if there is one
 abbrev pub last_run : LinesView → List RunView

@@ -1,4 +1,8 @@
 // The macros of a table as `define` lines.
+ghost use Rattle.std.specs.Prelude.{◌++◌, codes};
+ghost use Rattle.rdlpp_reports.specs.Definitions.{continued, continued_byte, marked_text};
+ghost use Rattle.rdlpp_reports.specs.Writes.{Writes};
+
 use crate::writing::{write_parts, write_whole};
 use rdlpp_table::{MacroId, Table};
 use std::io::{self, Write};
@@ -78,10 +82,7 @@ fn write_macro<W: Write>(
     if let Some(arity) = table.arity(id) {
         write_formals(table, id, arity, &bytes[name.len()..], writer)?;
     }
-    if !body.is_empty() {
-        write_whole(b" ", writer)?;
-        write_continued(body, writer)?;
-    }
+    write_marked(b" ", body, writer)?;
     write_whole(b"\n", writer)
 }
 
@@ -106,23 +107,41 @@ fn write_formals<W: Write>(
 }
 
 // Writes a formal, with its default text where it has one.
-fn write_formal<W: Write>(name: &[u8], default: &[u8], writer: &mut W) -> io::Result<()> {
+fn write_formal<W: Write>(name: &[u8], default: &[u8], writer: &mut W) -> io::Result<()>
+    ensures { Writes (W.contents writer.old) (W.contents writer.new) (name.now ++ marked_text (codes " = ") default.now) result }
+{
     write_whole(name, writer)?;
-    if default.is_empty() {
-        return Ok(());
+    write_marked(b" = ", default, writer)
+}
+
+// Writes a text behind a mark; nothing where it is empty.
+fn write_marked<W: Write>(mark: &[u8], text: &[u8], writer: &mut W) -> io::Result<()>
+    ensures { Writes (W.contents writer.old) (W.contents writer.new) (marked_text mark.now text.now) result }
+{
+    if text.is_empty() {
+        return write_whole(b"", writer);
     }
-    write_whole(b" = ", writer)?;
-    write_continued(default, writer)
+    write_whole(mark, writer)?;
+    write_continued(text, writer)
 }
 
 // Writes a text whose LF bytes stand behind a `\` each.
-fn write_continued<W: Write>(text: &[u8], writer: &mut W) -> io::Result<()> {
+fn write_continued<W: Write>(text: &[u8], writer: &mut W) -> io::Result<()>
+    ensures { Writes (W.contents writer.old) (W.contents writer.new) (continued text.now) result }
+{
     for byte in text {
-        if *byte == b'\n' {
-            write_whole(b"\\\n", writer)?;
-        } else {
-            write_whole(&[*byte], writer)?;
-        }
+        write_continued_byte(*byte, writer)?;
     }
     Ok(())
+}
+
+// Writes a byte of a text, behind a `\` where it is an LF.
+fn write_continued_byte<W: Write>(byte: u8, writer: &mut W) -> io::Result<()>
+    ensures { Writes (W.contents writer.old) (W.contents writer.new) (continued_byte byte) result }
+{
+    if byte == b'\n' {
+        write_whole(b"\\\n", writer)
+    } else {
+        write_whole(&[byte], writer)
+    }
 }

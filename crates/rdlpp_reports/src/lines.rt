@@ -1,7 +1,7 @@
 //! The line map: for each line of the output the place of its first byte, in runs.
-ghost use Rattle.std.specs.Prelude.{◌≡◌, ◌+◌, ◌<◌, ◌^◌, true, false, Some, None, IfSome, IfNone, IsTrue, length};
+ghost use Rattle.std.specs.Prelude.{◌≡◌, ◌≤◌, [], None, length};
 ghost use Rattle.rdlpp_meaning.specs.Output.{name_cut};
-ghost use Rattle.rdlpp_reports.specs.Lines.{added, all_added, all_ended, begun_behind, counted, ended, follows, kept_number, last_run, line_places, map_start, may_step, next_line, no_lines, run_bytes, run_view, step_bytes, step_to, with_step, RunView};
+ghost use Rattle.rdlpp_reports.specs.Lines.{added, ends_run, finished, follows, gone_on, map_start, may_step, next_line, no_lines, run_bytes, run_view, step_bytes, step_to, with_step};
 ghost use Rattle.rdlpp_reports.specs.Writes.{Writes};
 
 use crate::writing::{write_parts, write_whole};
@@ -40,6 +40,7 @@ impl Model for MappedLines {
       has_run = m.has_run;
       run = record { out = m.run.out; line = m.run.line; step = m.run.step; name = m.run.name.bytes };
       last = m.last;
+      ended = record { out = m.ended.out; line = m.ended.line; step = m.ended.step; name = m.ended.name.bytes };
     } };
 }
 
@@ -91,32 +92,42 @@ impl MappedLines {
         }
     }
 
-    /// Takes the next piece of the output, with the place of its first byte. Answers the run that ended, if one did: a piece ends
-    /// one at most.
-    pub fn take(&mut self, piece: &[u8], position: &Position<'_>) -> Option<&LineRun> {
+    /// Takes the next piece of the output, with the place of its first byte. Answers whether a run ended, which is then
+    /// `ended`: a piece ends one at most.
+    pub fn take(&mut self, piece: &[u8], position: &Position<'_>) -> bool {
         let line_ends = line_ends_in(piece) as u64;
         if piece.is_empty() || (self.begun && line_ends == 0) {
-            return None;
+            return false;
         }
         let ends_first = !self.begun && self.add_line(position.name, position.line);
         self.begun = piece[piece.len() - 1] != b'\n';
-        let more = if self.begun { line_ends } else { line_ends - 1 };
-        let ends_later = more > 0 && self.add_lines(position, more);
-        if ends_first || ends_later {
-            Some(&self.ended)
+        let more = if self.begun {
+            line_ends
         } else {
-            None
-        }
+            line_ends.saturating_sub(1)
+        };
+        let ends_later = more > 0 && self.add_lines(position, more);
+        ends_first || ends_later
     }
 
-    /// Takes away the last run, which ends with the output.
-    pub fn finish(&mut self) -> Option<&LineRun> {
-        if !self.has_run {
-            return None;
-        }
+    /// Takes away the last run, which ends with the output. Answers whether there was one, which is then `ended`.
+    pub fn finish(&mut self) -> bool
+        ensures run { result ≡ self.old.has_run }
+        ensures new { self.new ≡ finished self.old }
+    {
+        let is_ended = self.has_run;
         self.has_run = false;
-        self.ended = self.run;
-        Some(&self.ended)
+        if is_ended {
+            self.ended = self.run;
+        }
+        is_ended
+    }
+
+    /// The run that ended last.
+    pub fn ended(&self) -> &LineRun
+        ensures { run_view result.now ≡ self.now.ended }
+    {
+        &self.ended
     }
 
     // Adds so many lines, of which the first one's place is the line behind a position by its step. Answers whether a run ended.
@@ -141,7 +152,10 @@ impl MappedLines {
     }
 
     // Adds a line. Answers whether the last run ended, as the line isn't of it.
-    fn add_line(&mut self, name: &str, line: u64) -> bool {
+    fn add_line(&mut self, name: &str, line: u64) -> bool
+        ensures new { self.new ≡ added self.old (record { name = name.now; line = line }) }
+        ensures run { result ≡ ends_run self.old (record { name = name.now; line = line }) }
+    {
         self.lines = self.lines.saturating_add(1);
         if let Some(step) = self.step_to(name, line) {
             self.run.step = Some(step);
@@ -154,7 +168,10 @@ impl MappedLines {
     // Begins a run with the line that was counted last. Answers whether a run ended.
     #[cold]
     #[inline(never)]
-    fn start_run(&mut self, name: &str, line: u64) -> bool {
+    fn start_run(&mut self, name: &str, line: u64) -> bool
+        ensures new { self.new ≡ with_step self.old (record { name = name.now; line = line }) None }
+        ensures run { result ≡ self.old.has_run }
+    {
         let is_ended = self.has_run;
         if is_ended {
             self.ended = self.run;
@@ -193,7 +210,9 @@ impl MappedLines {
     }
 
     // Adds so many lines that go on the last run by a step.
-    fn go_on(&mut self, step: LineStep, count: u64) {
+    fn go_on(&mut self, step: LineStep, count: u64)
+        ensures { self.new ≡ gone_on self.old step count }
+    {
         if count == 0 {
             return;
         }
@@ -207,7 +226,8 @@ impl MappedLines {
 
 // The first 1,024 bytes of a name, or fewer at a character's boundary.
 fn shown_name(name: &str) -> &str
-    ensures { result.now ≡ name_cut name.now }
+    ensures value { result.now ≡ name_cut name.now }
+    ensures bound { length result.now ≤ 1024 }
 {
     let len = name.floor_char_boundary(NAME_BYTES);
     &name[..len]
@@ -254,12 +274,12 @@ pub fn write_run<W: Write>(run: &LineRun, writer: &mut W) -> io::Result<()>
 {
     let mut out = Buffer::new();
     let mut line = Buffer::new();
-    let step = step_bytes(run.step);
+    let step = step_text(&run.step);
     let parts = [
         out.format(run.out).as_bytes(),
         b"\t",
         line.format(run.line).as_bytes(),
-        step,
+        step.as_bytes(),
         run.name.as_bytes(),
         b"\n",
     ];
@@ -267,12 +287,12 @@ pub fn write_run<W: Write>(run: &LineRun, writer: &mut W) -> io::Result<()>
 }
 
 // The mark of a step.
-fn step_bytes(step: Option<LineStep>) -> &'static [u8]
-    ensures { result.now ≡ step_bytes step }
+fn step_text(step: &Option<LineStep>) -> &str
+    ensures { result.now ≡ step_bytes step.now }
 {
     match step {
-        Some(LineStep::Same) => b"\t0\t",
-        Some(LineStep::Next) => b"\t1\t",
-        None => b"\t1\t",
+        Some(LineStep::Same) => "\t0\t",
+        Some(LineStep::Next) => "\t1\t",
+        None => "\t1\t",
     }
 }

@@ -32,8 +32,8 @@ impl<W: Write> MapWriter<W> {
         if let Some(error) = self.failure {
             return Err(error);
         }
-        if let Some(run) = self.lines.finish() {
-            write_run(run, &mut self.writer)?;
+        if self.lines.finish() {
+            write_run(self.lines.ended(), &mut self.writer)?;
         }
         self.writer.flush()
     }
@@ -45,10 +45,8 @@ impl<W: Write> Watcher for MapWriter<W> {
     }
 
     fn saw(&mut self, piece: &[u8], position: Position<'_>) {
-        if let Some(run) = self.lines.take(piece, &position)
-            && self.failure.is_none()
-        {
-            self.failure = write_run(run, &mut self.writer).err();
+        if self.lines.take(piece, &position) && self.failure.is_none() {
+            self.failure = write_run(self.lines.ended(), &mut self.writer).err();
         }
     }
 }
