@@ -92,12 +92,7 @@ fn ends_name(byte: u8) -> bool
 }
 
 // Writes the line of a macro, with which a table's bytes begin.
-fn write_macro<W: Write>(
-    table: &Table,
-    id: MacroId,
-    bytes: &[u8],
-    writer: &mut W,
-) -> io::Result<()>
+fn write_macro<W: Write>(table: &Table, id: MacroId, bytes: &[u8], writer: &mut W) -> io::Result<()>
     requires { id < length table.now.macros }
 {
     let name = table.name(id);

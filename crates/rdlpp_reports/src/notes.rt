@@ -110,6 +110,7 @@ fn arguments_in(text: &[u8]) -> u64 {
 }
 
 // How many parts a text between parentheses has behind the first one.
+#[tactic(auto, unfolding(rdlpp_calls::specs::CallParts::AreFurther))]
 fn further_parts(text: &[u8]) -> u64 {
     let mut rest = text;
     for count in 0..text.len() {
