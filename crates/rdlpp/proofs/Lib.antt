@@ -1,3 +1,3 @@
 pub mod FreshRuns
-pub mod Reports
+pub mod ReportLines
 pub mod Searches

@@ -1,4 +1,6 @@
 // The call by which a program in C reads an output with its line map.
+ghost use Rattle.std.specs.Prelude.{◌≡◌, ◌≤◌, length};
+
 use crate::handle::{Handle, put, take};
 use crate::stream::{Stream, part_place, told_read};
 use crate::telling::{CLOSED, Outcome, SHORT_MAP, numbered};
@@ -35,21 +37,21 @@ pub extern "C" fn rdlpp_read_mapped(
     word: &mut [u8],
 ) -> Mapped {
     let Some(mut stream) = take(alloc, handle) else {
-        return mapped(numbered(CLOSED, 0), 0);
+        return mapped_of(numbered(CLOSED, 0), 0);
     };
     let told = if map.len() < MAP_ROOM {
-        mapped(numbered(SHORT_MAP, 0), 0)
+        mapped_of(numbered(SHORT_MAP, 0), 0)
     } else {
         stream.take_up();
         let read = read_lines(&mut stream, out, map);
-        mapped(told_read(&stream, &read.part, name, word), read.map_len)
+        mapped_of(told_read(&stream, &read.part, name, word), read.map_len)
     };
     put(handle, stream);
     told
 }
 
 // An outcome, and how many bytes of the map were written.
-fn mapped(outcome: Outcome, map_length: usize) -> Mapped {
+fn mapped_of(outcome: Outcome, map_length: usize) -> Mapped {
     Mapped {
         outcome,
         map_length,
@@ -90,27 +92,39 @@ fn read_lines(stream: &mut Stream, out: &mut [u8], map: &mut [u8]) -> Lines {
 }
 
 // Takes the piece that was read, and writes the run that ended, if one did. Answers how many bytes of the map were written.
-fn map_piece(stream: &mut Stream, piece: &[u8], map: &mut [u8]) -> usize {
-    match part_place(&stream.reading, &stream.part) {
-        Some(place) => write_line(stream.lines.take(piece, &place), map),
-        None => 0,
+fn map_piece(stream: &mut Stream, piece: &[u8], map: &mut [u8]) -> usize
+    requires { 1100 ≤ length map.old }
+    ensures inside { result ≤ length map.new }
+    ensures size { length map.new ≡ length map.old }
+{
+    let Some(place) = part_place(&stream.reading, &stream.part) else {
+        return 0;
+    };
+    if !stream.lines.take(piece, &place) {
+        return 0;
     }
+    write_line(stream.lines.ended(), map)
 }
 
 // Writes the last run where the output ended, and not with a source that is asked for. Answers how many bytes of the map were
 // written.
-fn map_end(stream: &mut Stream, part: &ReadPart, map: &mut [u8]) -> usize {
-    if stream.wanted(part.ending).is_some() {
+fn map_end(stream: &mut Stream, part: &ReadPart, map: &mut [u8]) -> usize
+    requires { 1100 ≤ length map.old }
+    ensures inside { result ≤ length map.new }
+    ensures size { length map.new ≡ length map.old }
+{
+    if stream.wanted(part.ending).is_some() || !stream.lines.finish() {
         return 0;
     }
-    write_line(stream.lines.finish(), map)
+    write_line(stream.lines.ended(), map)
 }
 
-// Writes a run as a line of the map, where there is one, and answers how many bytes it has.
-fn write_line(run: Option<&LineRun>, map: &mut [u8]) -> usize {
-    let Some(run) = run else {
-        return 0;
-    };
+// Writes a run as a line of the map, and answers how many bytes it has.
+fn write_line(run: &LineRun, map: &mut [u8]) -> usize
+    requires { 1100 ≤ length map.old }
+    ensures inside { result ≤ length map.new }
+    ensures size { length map.new ≡ length map.old }
+{
     let mut line = ArrayVec::<u8, MAP_ROOM>::new();
     // A line has less than there is room for.
     let _whole = write_run(run, &mut line);
