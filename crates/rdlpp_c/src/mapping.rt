@@ -1,5 +1,5 @@
 // The call by which a program in C reads an output with its line map.
-ghost use Rattle.std.specs.Prelude.{◌≡◌, ◌≤◌, length};
+ghost use Rattle.std.specs.Prelude.{◌≤◌, length};
 
 use crate::handle::{Handle, put, take};
 use crate::stream::{Stream, part_place, told_read};
@@ -70,15 +70,11 @@ fn read_lines(stream: &mut Stream, out: &mut [u8], map: &mut [u8]) -> Lines {
     let mut len = 0;
     let mut map_len = 0;
     while len < out.len() && map.len() - map_len >= MAP_ROOM {
-        let part = stream.read_piece(&mut out[len..]);
-        let rest = &mut map[map_len..];
-        map_len += match part.ending {
-            None => map_piece(stream, &out[len..len + part.len], rest),
-            Some(_) => map_end(stream, &part, rest),
-        };
-        len += part.len;
-        if part.ending.is_some() || part.len == 0 {
-            let ending = part.ending;
+        let read = read_part(stream, &mut out[len..], &mut map[map_len..]);
+        len += read.part.len;
+        map_len += read.map_len;
+        if read.part.ending.is_some() || read.part.len == 0 {
+            let ending = read.part.ending;
             return Lines {
                 part: ReadPart { len, ending },
                 map_len,
@@ -91,11 +87,32 @@ fn read_lines(stream: &mut Stream, out: &mut [u8], map: &mut [u8]) -> Lines {
     }
 }
 
+// Reads a part of a piece, and writes the run of lines that ended, if one did.
+fn read_part(stream: &mut Stream, out: &mut [u8], map: &mut [u8]) -> Lines
+    requires { 1100 ≤ length map.old }
+    ensures inside { result.part.len ≤ length out.new }
+    ensures map { result.map_len ≤ length map.new }
+{
+    let part = stream.read_piece(out);
+    let map_len = map_part(stream, &part, &out[..part.len], map);
+    Lines { part, map_len }
+}
+
+// Writes the run of lines that ended with a part of a piece, if one did. Answers how many bytes of the map were written.
+fn map_part(stream: &mut Stream, part: &ReadPart, piece: &[u8], map: &mut [u8]) -> usize
+    requires { 1100 ≤ length map.old }
+    ensures { result ≤ length map.new }
+{
+    match part.ending {
+        None => map_piece(stream, piece, map),
+        Some(_) => map_end(stream, part, map),
+    }
+}
+
 // Takes the piece that was read, and writes the run that ended, if one did. Answers how many bytes of the map were written.
 fn map_piece(stream: &mut Stream, piece: &[u8], map: &mut [u8]) -> usize
     requires { 1100 ≤ length map.old }
-    ensures inside { result ≤ length map.new }
-    ensures size { length map.new ≡ length map.old }
+    ensures { result ≤ length map.new }
 {
     let Some(place) = part_place(&stream.reading, &stream.part) else {
         return 0;
@@ -110,8 +127,7 @@ fn map_piece(stream: &mut Stream, piece: &[u8], map: &mut [u8]) -> usize
 // written.
 fn map_end(stream: &mut Stream, part: &ReadPart, map: &mut [u8]) -> usize
     requires { 1100 ≤ length map.old }
-    ensures inside { result ≤ length map.new }
-    ensures size { length map.new ≡ length map.old }
+    ensures { result ≤ length map.new }
 {
     if stream.wanted(part.ending).is_some() || !stream.lines.finish() {
         return 0;
@@ -122,8 +138,7 @@ fn map_end(stream: &mut Stream, part: &ReadPart, map: &mut [u8]) -> usize
 // Writes a run as a line of the map, and answers how many bytes it has.
 fn write_line(run: &LineRun, map: &mut [u8]) -> usize
     requires { 1100 ≤ length map.old }
-    ensures inside { result ≤ length map.new }
-    ensures size { length map.new ≡ length map.old }
+    ensures { result ≤ length map.new }
 {
     let mut line = ArrayVec::<u8, MAP_ROOM>::new();
     // A line has less than there is room for.
