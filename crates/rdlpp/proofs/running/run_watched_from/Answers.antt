@@ -27,3 +27,25 @@ returns-in-Err-clause-output g c =
 
 pub returns-in-Err-clause-shows : goal.returns-in-Err-clause-shows
 returns-in-Err-clause-shows g c = shows_nothing g.W.Sink g.V.Watcher _ _
+
+pub returns-in-Ok-clause-outcome : goal.returns-in-Ok-clause-outcome
+returns-in-Ok-clause-outcome g c =
+    follows_from g.S.Sources g.W.Sink c.args.options.now _ _ _ c.args.engine.now c.define_all.new.engine c.start-opened.new.self c.run_watched.new.engine _ c.run_watched.result _ _
+    c.requires (ap (given_in c.args.engine.now) (sym c.deref.ensures.value) ∙ c.in_default.ensures.0) c.in_default.ensures.1
+    c.start-opened.ensures c.run_watched.ensures.runs (ap count_of c.in-Ok.is) (ap fault_of c.in-Ok.is)
+
+pub returns-in-Ok-clause-output : goal.returns-in-Ok-clause-output
+returns-in-Ok-clause-output g c =
+    follows_output g.S.Sources g.W.Sink _ _ _ _ _ _ _ _ _
+    (follows_of g.S.Sources g.W.Sink c.args.options.now (given_by c.args.options.now) c.args.engine.now c.run_watched.new.engine _ _ _ _ _ (returns-in-Ok-clause-outcome g c))
+
+pub returns-in-Err-run_watched-clause-outcome : goal.returns-in-Err-run_watched-clause-outcome
+returns-in-Err-run_watched-clause-outcome g c =
+    follows_from g.S.Sources g.W.Sink c.args.options.now _ _ _ c.args.engine.now c.define_all.new.engine c.start-opened.new.self c.run_watched.new.engine _ c.run_watched.result _ _
+    c.requires (ap (given_in c.args.engine.now) (sym c.deref.ensures.value) ∙ c.in_default.ensures.0) c.in_default.ensures.1
+    c.start-opened.ensures c.run_watched.ensures.runs (ap count_of c.in-Err-run_watched.is) (ap fault_of c.in-Err-run_watched.is)
+
+pub returns-in-Err-run_watched-clause-output : goal.returns-in-Err-run_watched-clause-output
+returns-in-Err-run_watched-clause-output g c =
+    follows_output g.S.Sources g.W.Sink _ _ _ _ _ _ _ _ _
+    (follows_of g.S.Sources g.W.Sink c.args.options.now (given_by c.args.options.now) c.args.engine.now c.run_watched.new.engine _ _ _ _ _ (returns-in-Err-run_watched-clause-outcome g c))
