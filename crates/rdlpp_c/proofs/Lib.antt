@@ -3,3 +3,4 @@ pub mod Outputs
 pub mod Values
 pub mod FaultTexts
 pub mod Texts
+pub mod Handles

@@ -10,6 +10,7 @@ use Rattle.rdlpp_owned.specs.Asked.{asked_catalog, unread_of, wanted_of}
 use Rattle.rdlpp_owned.specs.declared.asked.AskedTexts.{AskedTexts}
 use Rattle.rdlpp_table.specs.Limits.{limit_fault}
 use Rattle.rdlpp_meaning.specs.FaultNumbers.{fault_number}
+use Rattle.rdlpp_meaning.specs.declared.fault.FaultKind.{FaultKind}
 use Rattle.rdlpp_meaning.specs.Outcome.{Told, told, Outcome, fails}
 use Rattle.rdlpp_steps.specs.Opening.{is_device_fault, is_memory_fault}
 use Rattle.rdlpp_steps.specs.Engine.{EngineView}
@@ -198,10 +199,14 @@ abbrev pub ReadsBytes : Bool → Stream → Stream → List ℕ → List ℕ →
 ReadsBytes true old new before after len ending = ReadsPiece old new before after len ending
 ReadsBytes false old new before after len ending = ReadsOn old new before after len ending
 
+-- the path that is asked for, by the kind of a fault: that of a device
+abbrev pub wanted_by : FaultKind → AskedTexts → Option (List ℕ)
+wanted_by kind sources = if is_read_failed kind then wanted_of sources else None
+
 -- the path that is asked for, by the fault that a read ended with
 abbrev pub read_wanted : Option Told → AskedTexts → Option (List ℕ)
 read_wanted None sources = None
-read_wanted (Some f) sources = if is_read_failed f.kind then wanted_of sources else None
+read_wanted (Some f) sources = wanted_by f.kind sources
 
 -- the numbers that tell a read, by its fault and by the path that is asked for: 7 where one is
 abbrev pub told_numbers : ℕ → Option ReadEnd → Option Told → Option (List ℕ) → Numbers

@@ -19,14 +19,13 @@ use std::alloc::Global;
 /// The answer is 0; 3 where `path` isn't UTF-8, 4 where memory was refused, and 6 where the handle is
 /// closed: with these nothing changed.
 #[unsafe(no_mangle)]
-pub extern "C" fn rdlpp_give(alloc: Global, handle: &mut Handle, path: &[u8], text: &[u8]) -> u32 {
+pub extern "C" fn rdlpp_give(alloc: Global, handle: &mut Handle, path: &[u8], text: &[u8]) -> u32
+    ensures { Gives (GivesText path.now text.now) handle.old.slot.value handle.new.slot.value result }
+{
     let Some(mut stream) = take(alloc, handle) else {
         return CLOSED;
     };
-    let status = match shared_text(alloc, text) {
-        Ok(text) => give(alloc, &mut stream, path, Standing::Text(text)),
-        Err(_) => NO_MEMORY,
-    };
+    let status = give_text(alloc, &mut stream, path, text);
     put(handle, stream);
     status
 }
@@ -56,6 +55,16 @@ pub extern "C" fn rdlpp_give_failed(alloc: Global, handle: &mut Handle, path: &[
     let status = give(alloc, &mut stream, path, Standing::Failed);
     put(handle, stream);
     status
+}
+
+// Tells an output the text of a source, and answers the status.
+fn give_text(alloc: Global, stream: &mut Stream, path: &[u8], text: &[u8]) -> u32
+    ensures { GivesText path.now text.now stream.old stream.new result }
+{
+    match shared_text(alloc, text) {
+        Ok(shared) => give(alloc, stream, path, Standing::Text(shared)),
+        Err(_) => NO_MEMORY,
+    }
 }
 
 // Tells an output what stands at a path, and answers the status.

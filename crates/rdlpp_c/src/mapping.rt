@@ -1,4 +1,6 @@
 // The call by which a program in C reads an output with its line map.
+ghost use Rattle.std.specs.Prelude.{◌≤◌, length};
+
 use crate::handle::{Handle, put, take};
 use crate::stream::{Stream, part_place, told_read};
 use crate::telling::{CLOSED, Outcome, SHORT_MAP, numbered};
@@ -35,21 +37,21 @@ pub extern "C" fn rdlpp_read_mapped(
     word: &mut [u8],
 ) -> Mapped {
     let Some(mut stream) = take(alloc, handle) else {
-        return mapped(numbered(CLOSED, 0), 0);
+        return mapped_of(numbered(CLOSED, 0), 0);
     };
     let told = if map.len() < MAP_ROOM {
-        mapped(numbered(SHORT_MAP, 0), 0)
+        mapped_of(numbered(SHORT_MAP, 0), 0)
     } else {
         stream.take_up();
         let read = read_lines(&mut stream, out, map);
-        mapped(told_read(&stream, &read.part, name, word), read.map_len)
+        mapped_of(told_read(&stream, &read.part, name, word), read.map_len)
     };
     put(handle, stream);
     told
 }
 
 // An outcome, and how many bytes of the map were written.
-fn mapped(outcome: Outcome, map_length: usize) -> Mapped {
+fn mapped_of(outcome: Outcome, map_length: usize) -> Mapped {
     Mapped {
         outcome,
         map_length,
@@ -68,15 +70,11 @@ fn read_lines(stream: &mut Stream, out: &mut [u8], map: &mut [u8]) -> Lines {
     let mut len = 0;
     let mut map_len = 0;
     while len < out.len() && map.len() - map_len >= MAP_ROOM {
-        let part = stream.read_piece(&mut out[len..]);
-        let rest = &mut map[map_len..];
-        map_len += match part.ending {
-            None => map_piece(stream, &out[len..len + part.len], rest),
-            Some(_) => map_end(stream, &part, rest),
-        };
-        len += part.len;
-        if part.ending.is_some() || part.len == 0 {
-            let ending = part.ending;
+        let read = read_part(stream, &mut out[len..], &mut map[map_len..]);
+        len += read.part.len;
+        map_len += read.map_len;
+        if read.part.ending.is_some() || read.part.len == 0 {
+            let ending = read.part.ending;
             return Lines {
                 part: ReadPart { len, ending },
                 map_len,
@@ -89,28 +87,59 @@ fn read_lines(stream: &mut Stream, out: &mut [u8], map: &mut [u8]) -> Lines {
     }
 }
 
-// Takes the piece that was read, and writes the run that ended, if one did. Answers how many bytes of the map were written.
-fn map_piece(stream: &mut Stream, piece: &[u8], map: &mut [u8]) -> usize {
-    match part_place(&stream.reading, &stream.part) {
-        Some(place) => write_line(stream.lines.take(piece, &place), map),
-        None => 0,
+// Reads a part of a piece, and writes the run of lines that ended, if one did.
+fn read_part(stream: &mut Stream, out: &mut [u8], map: &mut [u8]) -> Lines
+    requires { 1100 ≤ length map.old }
+    ensures inside { result.part.len ≤ length out.new }
+    ensures map { result.map_len ≤ length map.new }
+{
+    let part = stream.read_piece(out);
+    let map_len = map_part(stream, &part, &out[..part.len], map);
+    Lines { part, map_len }
+}
+
+// Writes the run of lines that ended with a part of a piece, if one did. Answers how many bytes of the map were written.
+fn map_part(stream: &mut Stream, part: &ReadPart, piece: &[u8], map: &mut [u8]) -> usize
+    requires { 1100 ≤ length map.old }
+    ensures { result ≤ length map.new }
+{
+    match part.ending {
+        None => map_piece(stream, piece, map),
+        Some(_) => map_end(stream, part, map),
     }
+}
+
+// Takes the piece that was read, and writes the run that ended, if one did. Answers how many bytes of the map were written.
+fn map_piece(stream: &mut Stream, piece: &[u8], map: &mut [u8]) -> usize
+    requires { 1100 ≤ length map.old }
+    ensures { result ≤ length map.new }
+{
+    let Some(place) = part_place(&stream.reading, &stream.part) else {
+        return 0;
+    };
+    if !stream.lines.take(piece, &place) {
+        return 0;
+    }
+    write_line(stream.lines.ended(), map)
 }
 
 // Writes the last run where the output ended, and not with a source that is asked for. Answers how many bytes of the map were
 // written.
-fn map_end(stream: &mut Stream, part: &ReadPart, map: &mut [u8]) -> usize {
-    if stream.wanted(part.ending).is_some() {
+fn map_end(stream: &mut Stream, part: &ReadPart, map: &mut [u8]) -> usize
+    requires { 1100 ≤ length map.old }
+    ensures { result ≤ length map.new }
+{
+    if stream.wanted(part.ending).is_some() || !stream.lines.finish() {
         return 0;
     }
-    write_line(stream.lines.finish(), map)
+    write_line(stream.lines.ended(), map)
 }
 
-// Writes a run as a line of the map, where there is one, and answers how many bytes it has.
-fn write_line(run: Option<&LineRun>, map: &mut [u8]) -> usize {
-    let Some(run) = run else {
-        return 0;
-    };
+// Writes a run as a line of the map, and answers how many bytes it has.
+fn write_line(run: &LineRun, map: &mut [u8]) -> usize
+    requires { 1100 ≤ length map.old }
+    ensures { result ≤ length map.new }
+{
     let mut line = ArrayVec::<u8, MAP_ROOM>::new();
     // A line has less than there is room for.
     let _whole = write_run(run, &mut line);

@@ -1,11 +1,13 @@
 // The calls by which a program in C learns what an output leaves: its definitions, and notes on its fault.
-ghost use Rattle.rdlpp_c.specs.Reporting.{TellsDefinitions, TellsNotes};
+ghost use Rattle.rdlpp_c.specs.Reporting.{Notes, TellsDefinitions, TellsNotes, TellsSome};
+ghost use Rattle.rdlpp_c.specs.Streaming.{stream_fault};
 
 use crate::handle::{Handle, put, take};
 use crate::stream::Stream;
 use crate::telling::tell_text;
 use rdlpp::Fault;
 use rdlpp_reports::{write_definitions, write_notes};
+use rdlpp_table::Table;
 use std::alloc::{AllocError, Global};
 
 /// Writes the live definitions of an open output as `define` lines, oldest first, to `out`, as much as there is room
@@ -17,11 +19,7 @@ pub extern "C" fn rdlpp_definitions(alloc: Global, handle: &mut Handle, out: &mu
     let Some(stream) = take(alloc, handle) else {
         return 0;
     };
-    let mut lines = Vec::new(alloc);
-    let len = match write_definitions(stream.reading.engine().table(), &mut lines) {
-        Ok(()) => tell_text(&lines, out),
-        Err(_) => 0,
-    };
+    let len = tell_definitions(alloc, stream.reading.engine().table(), out);
     put(handle, stream);
     len
 }
@@ -35,16 +33,36 @@ pub extern "C" fn rdlpp_notes(alloc: Global, handle: &mut Handle, out: &mut [u8]
     let Some(stream) = take(alloc, handle) else {
         return 0;
     };
-    let len = match stream.fault() {
-        Some(fault) => tell_notes(alloc, &stream, &fault, out),
-        None => 0,
-    };
+    let len = tell_fault_notes(alloc, &stream, out);
     put(handle, stream);
     len
 }
 
+// Tells the definitions of a table.
+fn tell_definitions(alloc: Global, table: &Table, out: &mut [u8]) -> usize
+    ensures { TellsSome out.old out.new result }
+{
+    let mut lines = Vec::new(alloc);
+    match write_definitions(table, &mut lines) {
+        Ok(()) => tell_text(&lines, out),
+        Err(_) => 0,
+    }
+}
+
+// Tells the notes on the fault that ended an output, if one did.
+fn tell_fault_notes(alloc: Global, stream: &Stream, out: &mut [u8]) -> usize
+    ensures { Notes (stream_fault stream.now) out.old out.new result }
+{
+    match stream.fault() {
+        Some(fault) => tell_notes(alloc, stream, &fault, out),
+        None => 0,
+    }
+}
+
 // Tells the notes on a fault.
-fn tell_notes(alloc: Global, stream: &Stream, fault: &Fault, out: &mut [u8]) -> usize {
+fn tell_notes(alloc: Global, stream: &Stream, fault: &Fault, out: &mut [u8]) -> usize
+    ensures { TellsSome out.old out.new result }
+{
     let engine = stream.reading.engine();
     let Ok(folders) = folders_of(alloc, &engine.sources().folders) else {
         return 0;

@@ -1,7 +1,9 @@
 // What a handle owns, behind a pointer that C keeps.
 ghost use Rattle.std.specs.Prelude.{◌≡◌, Option, Some, None, true};
 ghost use Rattle.std.specs.Option.{is_some};
+ghost use Rattle.std.specs.Coded.{coded_option};
 ghost use Rattle.rdlpp_c.specs.declared.stream.Stream.{Stream};
+ghost use Rattle.rdlpp_c.specs.contracts.stream.Stream.{the_row as stream_row};
 
 use crate::loose::Loose;
 use crate::stream::Stream;
@@ -15,7 +17,7 @@ use std::marker::Model;
 pub struct Slot {
     at: *mut u8,
     alloc: Global,
-    pub ghost value: { Option Stream },
+    pub ghost value: { Option Stream } by { coded_option stream_row.coded },
 }
 
 impl Model for Slot {

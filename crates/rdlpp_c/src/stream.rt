@@ -1,5 +1,5 @@
 // What a handle owns, and how a read of it is told.
-ghost use Rattle.std.specs.Prelude.{◌≡◌, ◌==◌, None, Some};
+ghost use Rattle.std.specs.Prelude.{◌≡◌, ◌≤◌, ◌==◌, None, Some, length};
 ghost use Rattle.std.specs.List.{count_by};
 ghost use Rattle.std.specs.Option.{option_map};
 ghost use Rattle.rdlpp_meaning.specs.Outcome.{told};
@@ -9,7 +9,7 @@ ghost use Rattle.rdlpp_steps.specs.Positions.{position_of};
 ghost use Rattle.rdlpp_expand.specs.Reading.{ended_with};
 ghost use Rattle.rdlpp_c.specs.Buffers.{overwritten};
 ghost use Rattle.rdlpp_c.specs.Placing.{part_position, stream_place};
-ghost use Rattle.rdlpp_c.specs.Streaming.{ReadsBytes, ReadsPiece, ReadsStream, TakesUp, TellsRead, fault_name, fault_word, read_numbers, read_wanted, stream_fault, told_numbers};
+ghost use Rattle.rdlpp_c.specs.Streaming.{ReadsBytes, ReadsPiece, ReadsStream, SearchesAgain, TakesUp, TellsRead, fault_name, fault_word, read_numbers, read_wanted, stream_fault, told_numbers, wanted_by};
 
 use crate::telling::{MORE, Outcome, STOPPED, WANTED, WHOLE, numbered, tell_text};
 use arrayvec::ArrayString;
@@ -69,9 +69,16 @@ impl Stream {
         ensures { TakesUp (wanted_of self.old.reading.engine.sources) self.old self.new }
     {
         if self.reading.engine().sources().wanted.is_some() {
-            self.reading.retry();
-            let _started = self.reading.start_again(self.path.as_str());
+            self.search_again();
         }
+    }
+
+    // Makes the search that asked once more: that of an `include`, or that of the main text.
+    fn search_again(&mut self)
+        ensures { SearchesAgain self.old self.new }
+    {
+        self.reading.retry();
+        let _started = self.reading.start_again(self.path.as_str());
     }
 
     // Reads the next bytes.
@@ -87,7 +94,8 @@ impl Stream {
 
     // Reads the next bytes of one piece, and counts their lines.
     pub(crate) fn read_piece(&mut self, out: &mut [u8]) -> ReadPart
-        ensures { ReadsPiece self.old self.new out.old out.new result.len result.ending }
+        ensures piece { ReadsPiece self.old self.new out.old out.new result.len result.ending }
+        ensures inside { result.len ≤ length out.new }
     {
         let is_next = self.reading.rest_len() == 0;
         let part = self.reading.read_piece(out);
@@ -114,14 +122,12 @@ impl Stream {
     }
 
     // The path that is asked for, where a read ended with a search that asked.
+    #[tactic(auto, unfolding(rdlpp_meaning::specs::Outcome::told))]
     pub(crate) fn wanted(&self, ending: Option<ReadEnd>) -> Option<ArrayString<1024>>
         ensures { option_map (λ path. path.bytes) result ≡ read_wanted (ended_with ending self.now.reading.engine.kept) self.now.reading.engine.sources }
     {
         match ended_fault(&self.reading, ending) {
-            Some(fault) if fault.kind == FaultKind::ReadFailed => {
-                self.reading.engine().sources().wanted
-            }
-            Some(_) => None,
+            Some(fault) => wanted_behind(fault.kind, self.reading.engine().sources()),
             None => None,
         }
     }
@@ -134,6 +140,18 @@ impl Stream {
             Some(_) => None,
             None => self.reading.fault(),
         }
+    }
+}
+
+// The path that is asked for, where the kind of a fault is that of a device.
+#[tactic(auto, unfolding(rdlpp_steps::specs::Steps::is_read_failed))]
+fn wanted_behind(kind: FaultKind, sources: &AskedTexts) -> Option<ArrayString<1024>>
+    ensures { option_map (λ path. path.bytes) result ≡ wanted_by kind sources.now }
+{
+    if kind == FaultKind::ReadFailed {
+        sources.wanted
+    } else {
+        None
     }
 }
 

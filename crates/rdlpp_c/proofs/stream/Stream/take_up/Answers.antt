@@ -1,0 +1,5 @@
+use Rattle.rdlpp_c.proofs.Handles.{takes_again}
+use Rattle.rdlpp_c.proofs.stream.Stream.take_up.Goals as goal
+
+pub returns-then-is_some : goal.returns-then-is_some
+returns-then-is_some c = takes_again _ _ _ c.if-is_some.true c.search_again.ensures
