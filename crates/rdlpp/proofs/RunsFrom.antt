@@ -36,15 +36,17 @@ pub follows_from : {S R W : Type 0} (g : Ghosts S R) (h : SinkGhosts W) (options
 unfolding fresh_engine
 follows_from g h options path before after fresh given_to started ended opening answer count fault e d m s r c f =
     let macros = given_to.table.macros in
-    subst (λ w. FollowsFrom g h options w fresh ended path before after count fault) (sym (ap (λ x. given_in x options.defines.items) (sym e) ∙ d))
-    (record {
-      started = started;
-      ended = ended;
-      opening = opening;
-      starts = subst (λ x. Starts g x started path opening) (m ∙ ap (λ x. with_macros x macros) e) s;
-      runs = subst (λ n. Runs g h started ended before after n fault) c
-          (subst (λ x. Runs g h started ended before after (count_of answer) x) f r);
-    }, refl)
+    subst (λ w. FollowsFrom g h options w fresh ended path before after count fault) (sym (ap (λ x. given_in x options.defines.items) (sym e) ∙ d)) (
+      record {
+        started = started;
+        ended = ended;
+        opening = opening;
+        starts = subst (λ x. Starts g x started path opening) (m ∙ ap (λ x. with_macros x macros) e) s;
+        runs = subst (λ n. Runs g h started ended before after n fault) c
+            (subst (λ x. Runs g h started ended before after (count_of answer) x) f r);
+      },
+      refl,
+    )
 
 -- a definition was refused
 pub refused_from : {S R W : Type 0} (g : Ghosts S R) (h : SinkGhosts W) (options : Options)
