@@ -1,6 +1,5 @@
 -- What an engine that stays comes to, and what it says of the output.
 use Rattle.std.proofs.Common.{◌≡◌, ℕ, List, [], Option, Some, Result, sym, ap, ◌∙◌, subst, refl}
-use Rattle.rdlpp_table.specs.declared.limits.Limits.{Limits}
 use Rattle.rdlpp_source.specs.declared.sources.Sources.{Ghosts}
 use Rattle.rdlpp_source.specs.declared.sinks.Sink.{Ghosts as SinkGhosts}
 use Rattle.rdlpp_meaning.specs.Outcome.{Told}
@@ -12,7 +11,7 @@ use Rattle.rdlpp_expand.specs.declared.watching.Watcher.{Ghosts as WatcherGhosts
 use Rattle.rdlpp_expand.specs.declared.writing.RunFault.{RunFault}
 use Rattle.rdlpp_expand.proofs.RunFacts.{appends_none}
 use Rattle.rdlpp.specs.Definitions.{Given, Taken, Declined, given_in, with_macros}
-use Rattle.rdlpp.specs.Preprocess.{Follows, RunsFresh, engine_with, given_by}
+use Rattle.rdlpp.specs.Preprocess.{Follows, given_by}
 use Rattle.rdlpp.specs.Running.{FollowsFrom, IsFreshOf}
 use Rattle.rdlpp.specs.declared.options.Options.{Options}
 
