@@ -1,6 +1,5 @@
 -- What an engine that stays comes to, and what it says of the output.
 use Rattle.std.proofs.Common.{◌≡◌, ℕ, List, [], Option, Some, Result, sym, ap, ◌∙◌, subst, refl}
-use Rattle.rdlpp_table.specs.declared.limits.Limits.{Limits}
 use Rattle.rdlpp_source.specs.declared.sources.Sources.{Ghosts}
 use Rattle.rdlpp_source.specs.declared.sinks.Sink.{Ghosts as SinkGhosts}
 use Rattle.rdlpp_meaning.specs.Outcome.{Told}
@@ -12,7 +11,7 @@ use Rattle.rdlpp_expand.specs.declared.watching.Watcher.{Ghosts as WatcherGhosts
 use Rattle.rdlpp_expand.specs.declared.writing.RunFault.{RunFault}
 use Rattle.rdlpp_expand.proofs.RunFacts.{appends_none}
 use Rattle.rdlpp.specs.Definitions.{Given, Taken, Declined, given_in, with_macros}
-use Rattle.rdlpp.specs.Preprocess.{Follows, RunsFresh, engine_with, given_by}
+use Rattle.rdlpp.specs.Preprocess.{Follows, given_by}
 use Rattle.rdlpp.specs.Running.{FollowsFrom, IsFreshOf}
 use Rattle.rdlpp.specs.declared.options.Options.{Options}
 
@@ -36,15 +35,17 @@ pub follows_from : {S R W : Type 0} (g : Ghosts S R) (h : SinkGhosts W) (options
 unfolding fresh_engine
 follows_from g h options path before after fresh given_to started ended opening answer count fault e d m s r c f =
     let macros = given_to.table.macros in
-    subst (λ w. FollowsFrom g h options w fresh ended path before after count fault) (sym (ap (λ x. given_in x options.defines.items) (sym e) ∙ d))
-    (record {
-      started = started;
-      ended = ended;
-      opening = opening;
-      starts = subst (λ x. Starts g x started path opening) (m ∙ ap (λ x. with_macros x macros) e) s;
-      runs = subst (λ n. Runs g h started ended before after n fault) c
-          (subst (λ x. Runs g h started ended before after (count_of answer) x) f r);
-    }, refl)
+    subst (λ w. FollowsFrom g h options w fresh ended path before after count fault) (sym (ap (λ x. given_in x options.defines.items) (sym e) ∙ d)) (
+      record {
+        started = started;
+        ended = ended;
+        opening = opening;
+        starts = subst (λ x. Starts g x started path opening) (m ∙ ap (λ x. with_macros x macros) e) s;
+        runs = subst (λ n. Runs g h started ended before after n fault) c
+            (subst (λ x. Runs g h started ended before after (count_of answer) x) f r);
+      },
+      refl,
+    )
 
 -- a definition was refused
 pub refused_from : {S R W : Type 0} (g : Ghosts S R) (h : SinkGhosts W) (options : Options)

@@ -31,7 +31,8 @@ pub fn new_engine<S: Sources>(
 /// Does with the engine that `new_engine` made what `preprocess` does, and shows a watcher what the writer takes (this project's
 /// profile).
 ///
-/// The engine must be as `new_engine` made it of these options. Answers the count of bytes that the writer took, `u64::MAX` where it is larger.
+/// The engine must be as `new_engine` made it of these options. Answers the count of bytes that the writer took, `u64::MAX` where
+/// it is larger.
 ///
 /// # Errors
 /// As of `preprocess`, but for those of `new_engine`.

@@ -1,5 +1,5 @@
 -- Behind the folder of the including source stand the include folders.
-use Rattle.std.proofs.Common.{rules, ◌≢◌, ℕ}
+use Rattle.std.proofs.Common.{rules, ◌≢◌}
 use Rattle.rdlpp_source.specs.Search.{folder_of}
 use Rattle.rdlpp.proofs.Searches.{slice_get-behind}
 use Rattle.rdlpp.proofs.folders.Folders.searched_folder.Goals as goal
