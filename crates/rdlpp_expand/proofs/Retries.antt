@@ -1,5 +1,5 @@
 -- Searches that failed, and are made again.
-use Rattle.std.proofs.Common.{◌≡◌, ℕ, ◌&&◌, Bool, true, false, List, [], ◌++◌, take, drop, nat_eq, codes, Option, None, Some, Ok, Err, refl, sym, ap, subst, ◌∙◌, inl, inr, length, ◌∷◌, suc, zero}
+use Rattle.std.proofs.Common.{◌≡◌, ℕ, ◌&&◌, Bool, true, false, List, [], ◌++◌, drop, nat_eq, codes, Option, None, Some, Err, refl, sym, ap, subst, ◌∙◌, inl, inr, length, ◌∷◌}
 use Rattle.std.specs.Cmp.{unsigned_Decides}
 use Rattle.std.specs.List.{starts_with}
 use Rattle.std.proofs.lemmas.Bool.{and_parts, false≢true}

@@ -1,6 +1,6 @@
 -- Steps over the open texts of a usage.
 -- A definition that names no source is this project's own.
-use Rattle.std.specs.Prelude.{◌≡◌, ◌<◌, true, [], length, is_some, Option, None, Some}
+use Rattle.std.specs.Prelude.{◌≡◌, ◌<◌, true, length, is_some, Option, None, Some}
 use Rattle.rdlpp_steps.specs.Engine.{EngineView}
 use Rattle.rdlpp_steps.specs.Moves.{IsUnowed}
 use Rattle.rdlpp_steps.specs.declared.phase.Phase.TheVariants.{Open}

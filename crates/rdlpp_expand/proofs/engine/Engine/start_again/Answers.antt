@@ -1,4 +1,4 @@
-use Rattle.std.proofs.Common.{Some, Option, ap, refl, sym, ◌∙◌}
+use Rattle.std.proofs.Common.{ap, refl, sym, ◌∙◌}
 use Rattle.std.specs.Option.{option_map}
 use Rattle.std.proofs.lemmas.Bool.{false≢true}
 use Rattle.rdlpp_meaning.specs.Outcome.{told}
