@@ -1,3 +1,4 @@
 pub mod FreshRuns
 pub mod ReportLines
 pub mod Searches
+pub mod RunsFrom

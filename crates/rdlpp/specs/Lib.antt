@@ -5,3 +5,4 @@ pub mod Preprocess
 pub mod Answers
 pub mod Folders
 pub mod Opening
+pub mod Running

@@ -1,6 +1,7 @@
 //! What the words of a command line ask for.
-ghost use Rattle.std.specs.Prelude.{◌≡◌, ◌==◌, IfOk};
+ghost use Rattle.std.specs.Prelude.{◌≡◌, ◌==◌, ◌||◌, IfOk};
 ghost use Rattle.std.specs.List.{before_first, after_first};
+ghost use Rattle.std.specs.Option.{is_some};
 ghost use Rattle.rdlpp_table.specs.Limits.{AreInRange};
 ghost use Rattle.rdlpp.specs.declared.invocation.UsageFault.TheVariants.{NoMemory};
 
@@ -45,7 +46,9 @@ pub struct Reports {
 
 impl Reports {
     /// Whether anything is asked for.
-    pub fn is_any(&self) -> bool {
+    pub fn is_any(&self) -> bool
+        ensures { result ≡ (self.now.notes || is_some self.now.line_map || is_some self.now.deps || is_some self.now.definitions) }
+    {
         self.notes || self.line_map.is_some() || self.deps.is_some() || self.definitions.is_some()
     }
 }

@@ -1,4 +1,8 @@
 // Preprocessing by an engine that stays, so that it can be asked afterwards.
+ghost use Rattle.rdlpp_expand.specs.Watching.{Shows};
+ghost use Rattle.rdlpp.specs.Preprocess.{Tells, output_of};
+ghost use Rattle.rdlpp.specs.Running.{IsFreshOf, MakesEngine, RunsFrom};
+
 use crate::defining::define_all;
 use crate::{Options, PrepFault};
 use rdlpp_expand::{Engine, NewFault, Watcher, run_watched};
@@ -14,7 +18,9 @@ pub fn new_engine<S: Sources>(
     alloc: Global,
     options: &Options,
     sources: S,
-) -> Result<Engine<S>, PrepFault> {
+) -> Result<Engine<S>, PrepFault>
+    ensures { MakesEngine options.now sources result }
+{
     match Engine::new(alloc, options.limits, sources, options.origins) {
         Ok(engine) => Ok(engine),
         Err(NewFault::BadLimits(limit)) => Err(PrepFault::BadLimits(limit)),
@@ -25,7 +31,7 @@ pub fn new_engine<S: Sources>(
 /// Does with the engine that `new_engine` made what `preprocess` does, and shows a watcher what the writer takes (this project's
 /// profile).
 ///
-/// Answers the count of bytes that the writer took, `u64::MAX` where it is larger.
+/// The engine must be as `new_engine` made it of these options. Answers the count of bytes that the writer took, `u64::MAX` where it is larger.
 ///
 /// # Errors
 /// As of `preprocess`, but for those of `new_engine`.
@@ -35,7 +41,13 @@ pub fn run_watched_from<S: Sources, W: Sink, V: Watcher>(
     path: &str,
     writer: &mut W,
     watcher: &mut V,
-) -> Result<u64, PrepFault> {
+) -> Result<u64, PrepFault>
+    requires { IsFreshOf options.now engine.old }
+    ensures outcome { RunsFrom S.Sources W.Sink options.now engine.old engine.new path.now writer.old writer.new result }
+    ensures output { S.tells engine.old.sources →
+        Tells (W.taken writer.old) (W.taken writer.new) (output_of S.Sources options.now engine.old.sources path.now) result }
+    ensures shows { Shows W.Sink V.Watcher writer.old writer.new watcher.old watcher.new }
+{
     if let Err(fault) = define_all(engine, &options.defines) {
         return Err(PrepFault::Run(fault));
     }

@@ -1,4 +1,7 @@
 //! Runs of which more is told than the text.
+ghost use Rattle.std.specs.Prelude.{IfOk};
+ghost use Rattle.rdlpp.specs.Running.{IsFreshOf};
+
 use crate::files::TakenFiles;
 use crate::mapping::{Mapping, open_mapping};
 use crate::output::Output;
@@ -46,7 +49,9 @@ pub fn run_reported(rt: &HostRuntime, invocation: &Invocation, output: &mut Outp
 fn noted_engine<'r>(
     rt: &'r HostRuntime,
     invocation: &Invocation,
-) -> Result<NotedEngine<'r>, PrepFault> {
+) -> Result<NotedEngine<'r>, PrepFault>
+    ensures { IfOk result (λ engine. IsFreshOf invocation.now.options engine) }
+{
     let Ok(sources) = folders_of(rt, invocation) else {
         return Err(PrepFault::NoMemory);
     };
@@ -61,7 +66,9 @@ fn run_mapped(
     engine: &mut NotedEngine<'_>,
     output: &mut Output,
     mapping: &mut Mapping,
-) -> Result<u64, PrepFault> {
+) -> Result<u64, PrepFault>
+    requires { IsFreshOf invocation.now.options engine.old }
+{
     let Ok(mut writer) = Buffered::with_capacity(rt.alloc(), OUTPUT_BYTES, output) else {
         return Err(PrepFault::NoMemory);
     };

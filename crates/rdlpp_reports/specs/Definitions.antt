@@ -1,7 +1,9 @@
 -- Macros as `define` lines.
 -- A definition that names no source is this project's own.
-use Rattle.std.specs.Prelude.{ℕ, Bool, true, false, List, [], ◌∷◌, ◌++◌, ◌==◌, codes, Option, None, Some, if◌then◌else◌}
-use Rattle.std.specs.List.{concat, flat_map}
+use Rattle.std.specs.Prelude.{ℕ, Bool, false, List, [], ◌∷◌, ◌++◌, ◌==◌, ◌-◌, ◌||◌, codes, length, nat_lt, slice_get, slice_index, Option, None, Some, if◌then◌else◌}
+use Rattle.std.specs.List.{concat, flat_map, prefix_len}
+use Rattle.std.specs.Option.{option_map_or}
+use Rattle.rdlpp_scan.specs.Bytes.{is_word}
 use Rattle.rdlpp_table.specs.Table.{Formal, Macro}
 
 -- a byte of a text: an LF stands behind a `\` (IEEE 1364-2001, `define`)
@@ -13,10 +15,12 @@ abbrev pub continued : List ℕ → List ℕ
 continued text = flat_map continued_byte text
 
 -- whether a text ends in `\`
-unfoldable pub ends_in_slash : List ℕ → Bool
-ends_in_slash [] = false
-ends_in_slash (b ∷ []) = b == 92
-ends_in_slash (b ∷ (c ∷ bs)) = ends_in_slash (c ∷ bs)
+abbrev pub ends_in_slash : List ℕ → Bool
+ends_in_slash text = option_map_or (λ b. b == 92) (slice_get text (length text - 1)) false
+
+-- whether a body needs a blank in front of it, since it would else go on the macro's name, or begin a list (IEEE 1364-2001, `define`)
+abbrev pub goes_on_name : List ℕ → Bool
+goes_on_name body = nat_lt 0 (prefix_len is_word body) || (slice_index body 0 == 40)
 
 -- a text behind a mark; nothing where it is empty
 abbrev pub marked_text : List ℕ → List ℕ → List ℕ
@@ -25,27 +29,27 @@ marked_text mark (b ∷ bs) = mark ++ continued (b ∷ bs)
 
 -- a formal, with its default text where it has one (source: this project's profile)
 abbrev pub formal_text : Formal → List ℕ
-formal_text f = f.name ++ marked_text (codes " = ") f.text
+formal_text f = f.name ++ marked_text (codes "=") f.text
 
 -- a formal behind another
 abbrev pub next_formal : Formal → List ℕ
-next_formal f = codes ", " ++ formal_text f
+next_formal f = codes "," ++ formal_text f
 
 -- formals, with commas between them
 abbrev pub formals_text : List Formal → List ℕ
 formals_text [] = []
 formals_text (f ∷ fs) = formal_text f ++ flat_map next_formal fs
 
--- the list of a macro's formals, where it has one
-abbrev pub list_text : Option (List Formal) → List ℕ
-list_text None = []
-list_text (Some formals) = codes "(" ++ (formals_text formals ++ codes ")")
+-- what stands between a macro's name and its body: the list of its formals, where it has one, and else a blank where one is needed
+abbrev pub list_text : Option (List Formal) → List ℕ → List ℕ
+list_text None body = if goes_on_name body then codes " " else []
+list_text (Some formals) body = codes "(" ++ (formals_text formals ++ codes ")")
 
 -- the line of a macro; a comment where its body ends in `\`, which no line can give (source: this project's profile)
 abbrev pub definition_line : Macro → List ℕ
 definition_line m =
     if ends_in_slash m.body then concat (codes "// not as a define: " ∷ m.name ∷ codes "\n" ∷ [])
-    else concat (codes "`define " ∷ m.name ∷ []) ++ (list_text m.formals ++ (marked_text (codes " ") m.body ++ codes "\n"))
+    else concat (codes "`define " ∷ m.name ∷ []) ++ (list_text m.formals m.body ++ (continued m.body ++ codes "\n"))
 
 -- the lines of macros, oldest first (source: this project's profile)
 abbrev pub definition_lines : List Macro → List ℕ

@@ -106,13 +106,20 @@ fn arguments_in(text: &[u8]) -> u64 {
     if !next_part(text).has_items() && next_part(text).next.is_none() {
         return 0;
     }
-    let mut count = 1;
-    let mut at = 0;
-    while let Some(next) = next_part(&text[at..]).next {
-        at += next;
-        count += 1;
+    further_parts(text).saturating_add(1)
+}
+
+// How many parts a text between parentheses has behind the first one.
+#[tactic(auto, unfolding(rdlpp_calls::specs::CallParts::AreFurther))]
+fn further_parts(text: &[u8]) -> u64 {
+    let mut rest = text;
+    for count in 0..text.len() {
+        match next_part(rest).next {
+            Some(next) => rest = &rest[next..],
+            None => return count as u64,
+        }
     }
-    count
+    text.len() as u64
 }
 
 // Writes what stands behind the backquote at which the engine stands, if it stands at one.
@@ -158,8 +165,9 @@ fn asked_name(front: &[u8]) -> Option<&str> {
     let Front::Include(Some(argument)) = front_of(Mode::Plain, front) else {
         return None;
     };
-    let name = &front[argument.start + 1..argument.stop - 1];
-    str::from_utf8(name).ok()
+    let stop = argument.stop.saturating_sub(1).min(front.len());
+    let start = argument.start.saturating_add(1).min(stop);
+    str::from_utf8(&front[start..stop]).ok()
 }
 
 // Writes the name that was asked for.

@@ -1,7 +1,7 @@
 // Tests of the place of the piece that was lent last.
 use crate::runs::STANDARD;
 use rdlpp::{Limits, Texts};
-use rdlpp_expand::{Engine, LineStep, Piece};
+use rdlpp_expand::{Engine, LineStep, Piece, Position};
 use std::process::Abort;
 use std::test::Fail;
 
@@ -23,37 +23,39 @@ fn check<R: Abort + AllocGlobal>(
     };
     let mut engine = Engine::new(rt.alloc(), limits, texts, origins)?;
     assert!(rt; engine.position().is_none());
+    assert!(rt; engine.is_fresh());
     assert!(rt; engine.start("m").is_ok());
     assert!(rt; engine.position().is_none());
-    let mut count = 0;
+    let mut count = 0_usize;
     for _ in 0..1_000 {
-        let len = match engine.next() {
-            Ok(Piece::Bytes(bytes)) => {
-                if !bytes.is_empty() {
-                    assert!(rt; count < wanted.len());
-                    assert!(rt; bytes == wanted[count].0);
-                }
-                bytes.len()
-            }
-            Ok(Piece::Done) => usize::MAX,
-            Err(_) => usize::MAX,
+        assert!(rt; !engine.is_fresh());
+        let bytes = match engine.next() {
+            Ok(Piece::Bytes(bytes)) => bytes,
+            Ok(Piece::Done) => break,
+            Err(_) => break,
         };
-        if len == usize::MAX {
-            assert!(rt; engine.position().is_none());
-            assert_eq!(rt; count, wanted.len());
-            return Ok(());
-        }
-        if len > 0 {
-            let Some(position) = engine.position() else {
-                panic!(rt; "no place");
+        if !bytes.is_empty() {
+            let Some(placed) = wanted.get(count) else {
+                panic!(rt; "a piece that nobody wants");
             };
-            assert_eq!(rt; position.name, wanted[count].1);
-            assert_eq!(rt; position.line, wanted[count].2);
-            assert!(rt; position.step == wanted[count].3);
-            count += 1;
+            assert!(rt; bytes == placed.0);
+            check_place(rt, engine.position(), placed);
+            count = count.saturating_add(1);
         }
     }
-    panic!(rt; "the output has no end");
+    assert!(rt; engine.position().is_none());
+    assert_eq!(rt; count, wanted.len());
+    Ok(())
+}
+
+// Compares a place with the one that is wanted.
+fn check_place<R: Abort>(rt: &R, place: Option<Position<'_>>, wanted: &Placed<'_>) {
+    let Some(position) = place else {
+        panic!(rt; "no place");
+    };
+    assert_eq!(rt; position.name, wanted.1);
+    assert_eq!(rt; position.line, wanted.2);
+    assert!(rt; position.step == wanted.3);
 }
 
 #[test]

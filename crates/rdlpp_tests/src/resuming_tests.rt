@@ -6,6 +6,7 @@ use rdlpp_expand::{Engine, Piece, Position, ReadEnd, Reading, Watcher, run_watch
 use rdlpp_source::Sources;
 use std::alloc::AllocError;
 use std::cell::Cell;
+use std::process::Abort;
 use std::test::Fail;
 
 // Texts of which so many searches go well.
@@ -42,6 +43,34 @@ fn read_on<S: Sources>(
     Ok(None)
 }
 
+// The output of a main text `m`, of whose searches so many go well at first and each later one fails once; and how many failed.
+fn output_of<R: Abort + AllocGlobal>(
+    rt: &R,
+    files: &[(&str, &[u8])],
+    searches: u64,
+) -> Result<(Vec<u8>, u64), Fail> {
+    let asked = Cell::new(NOTHING);
+    let texts = asked_texts(files, &asked, searches);
+    let mut engine = Engine::new(rt.alloc(), STANDARD, texts, false)?;
+    assert!(rt; engine.is_fresh());
+    let _opened = engine.start("m");
+    let mut reading = Reading::of(engine);
+    let mut output = Vec::new(rt.alloc());
+    let mut failed = 0_u64;
+    for _ in 0..9 {
+        if read_on(&mut reading, &mut output)? == Some(ReadEnd::Finished) {
+            break;
+        }
+        failed = failed.saturating_add(1);
+        let told = reading.fault().map(|it| it.kind);
+        assert_eq!(rt; told, Some(FaultKind::ReadFailed));
+        let _spent = reading.replace_sources(asked_texts(files, &asked, 1));
+        reading.retry();
+        let _opened = reading.start_again("m");
+    }
+    Ok((output, failed))
+}
+
 // Each search fails once, that for the main text first.
 #[test]
 fn goes_on_behind_each_search_that_failed(rt: HostRuntime) -> Result<(), Fail> {
@@ -51,36 +80,12 @@ fn goes_on_behind_each_search_that_failed(rt: HostRuntime) -> Result<(), Fail> {
         ("j", b"r"),
         ("k", b""),
     ];
-    let asked = Cell::new(NOTHING);
-    let mut outputs = Vec::new(rt.alloc());
-    let mut failed = 0_u64;
-    for searches in [9, 0] {
-        let mut engine = Engine::new(
-            rt.alloc(),
-            STANDARD,
-            asked_texts(&files, &asked, searches),
-            false,
-        )?;
-        assert!(rt; engine.is_fresh());
-        let _opened = engine.start("m");
-        let mut reading = Reading::of(engine);
-        let mut output = Vec::new(rt.alloc());
-        for _ in 0..9 {
-            if read_on(&mut reading, &mut output)? == Some(ReadEnd::Finished) {
-                break;
-            }
-            failed = failed.saturating_add(1);
-            let told = reading.fault().map(|it| it.kind);
-            assert_eq!(rt; told, Some(FaultKind::ReadFailed));
-            let _spent = reading.replace_sources(asked_texts(&files, &asked, 1));
-            reading.retry();
-            let _opened = reading.start_again("m");
-        }
-        outputs.push(output)?;
-    }
+    let (whole, none) = output_of(&rt, &files, 9)?;
+    assert_eq!(rt; none, 0);
+    assert!(rt; whole.as_slice() == b"a\nq\nr\n\n\nb\nq\nr\n\nc".as_slice());
+    let (output, failed) = output_of(&rt, &files, 0)?;
     assert_eq!(rt; failed, 6);
-    assert!(rt; outputs[0].as_slice() == b"a\nq\nr\n\n\nb\nq\nr\n\nc".as_slice());
-    assert!(rt; outputs[0].as_slice() == outputs[1].as_slice());
+    assert!(rt; output.as_slice() == whole.as_slice());
     Ok(())
 }
 
@@ -198,10 +203,6 @@ struct Keeping {
 }
 
 impl Watcher for Keeping {
-    ghost use Rattle.std.specs.Prelude.{None};
-
-    ghost seen = { λ _. None };
-
     fn is_looking(&self) -> bool {
         true
     }
