@@ -1,5 +1,4 @@
 //! Runs of which more is told than the text.
-ghost use Rattle.std.specs.Prelude.{IfOk};
 ghost use Rattle.rdlpp.specs.Running.{IsFreshOf};
 
 use crate::files::TakenFiles;
@@ -18,45 +17,50 @@ pub type NotedEngine<'r> = Engine<Recorded<Folders<'r, HostRuntime>>>;
 
 /// Does what a command line asks for that wants more told than the text, and answers the exit status.
 pub fn run_reported(rt: &HostRuntime, invocation: &Invocation, output: &mut Output) -> u8 {
-    let mut engine = match noted_engine(rt, invocation) {
-        Ok(engine) => engine,
-        Err(fault) => {
-            tell_fault(rt, &fault);
-            return exit_status(&Err(fault));
-        }
+    let Ok(sources) = folders_of(rt, invocation) else {
+        return tell_unmade(rt, PrepFault::NoMemory);
     };
+    let sources = Recorded::new(rt.alloc(), sources);
+    match new_engine(rt.alloc(), &invocation.options, sources) {
+        Ok(mut engine) => run_noted(rt, invocation, &mut engine, output),
+        Err(fault) => tell_unmade(rt, fault),
+    }
+}
+
+// Tells why there is no engine, and answers the exit status.
+fn tell_unmade(rt: &HostRuntime, fault: PrepFault) -> u8 {
+    tell_fault(rt, &fault);
+    exit_status(&Err(fault))
+}
+
+// Runs an engine, tells what is asked for, and answers the exit status.
+fn run_noted(
+    rt: &HostRuntime,
+    invocation: &Invocation,
+    engine: &mut NotedEngine<'_>,
+    output: &mut Output,
+) -> u8
+    requires { IsFreshOf invocation.now.options engine.old }
+{
     let mut files = TakenFiles::of_output(rt, invocation.output.as_ref());
     let mut mapping = open_mapping(rt, &mut files, invocation.reports.line_map.as_ref());
-    let outcome = run_mapped(rt, invocation, &mut engine, output, &mut mapping);
+    let outcome = run_mapped(rt, invocation, engine, output, &mut mapping);
     if let Err(fault) = &outcome {
         if invocation.reports.notes {
-            tell_noted(rt, invocation, fault, &engine, output.failure());
+            tell_noted(rt, invocation, fault, engine, output.failure());
         } else {
             tell_fault(rt, fault);
         }
     }
     let mapped = mapping.finish();
     let is_mapped = is_written(rt, invocation.reports.line_map.as_ref(), &mapped);
-    let is_told = is_rest_told(rt, invocation, &engine, &mut files);
+    let opened = engine.sources().opened();
+    let is_told = is_rest_told(rt, invocation, opened, engine.table(), &mut files);
     if is_mapped && is_told {
         exit_status(&outcome)
     } else {
         DEVICE_STATUS
     }
-}
-
-// The engine of a command line.
-fn noted_engine<'r>(
-    rt: &'r HostRuntime,
-    invocation: &Invocation,
-) -> Result<NotedEngine<'r>, PrepFault>
-    ensures { IfOk result (λ engine. IsFreshOf invocation.now.options engine) }
-{
-    let Ok(sources) = folders_of(rt, invocation) else {
-        return Err(PrepFault::NoMemory);
-    };
-    let sources = Recorded::new(rt.alloc(), sources);
-    new_engine(rt.alloc(), &invocation.options, sources)
 }
 
 // Preprocesses the source of a command line.
@@ -85,17 +89,18 @@ fn run_mapped(
 fn is_rest_told(
     rt: &HostRuntime,
     invocation: &Invocation,
-    engine: &NotedEngine<'_>,
+    opened: &OpenedPaths,
+    table: &Table,
     files: &mut TakenFiles,
 ) -> bool {
     let mut is_told = true;
     if let Some(path) = &invocation.reports.deps {
         let target = invocation.output.as_ref().unwrap_or(&invocation.source);
-        let written = write_deps(rt, files, path, target, engine.sources().opened());
+        let written = write_deps(rt, files, path, target, opened);
         is_told = is_written(rt, Some(path), &written);
     }
     if let Some(path) = &invocation.reports.definitions {
-        let written = write_macros(rt, files, path, engine.table());
+        let written = write_macros(rt, files, path, table);
         is_told = is_written(rt, Some(path), &written) && is_told;
     }
     is_told

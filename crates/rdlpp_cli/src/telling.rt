@@ -66,12 +66,10 @@ fn write_reason<W: Write>(
     let Some(failed) = engine.sources().sources().failure() else {
         return Ok(());
     };
-    let path = if failed.path.is_empty() {
-        engine.inner_path()
-    } else {
-        failed.path.as_str()
-    };
-    write_failure(path, &failed.error, lines)
+    if failed.path.is_empty() {
+        return write_failure(engine.inner_path(), &failed.error, lines);
+    }
+    write_failure(failed.path.as_str(), &failed.error, lines)
 }
 
 /// Tells that the output can't be opened; with the file and the reason, where notes are asked for.
