@@ -1,8 +1,7 @@
 -- Macros as `define` lines.
 -- A definition that names no source is this project's own.
-use Rattle.std.specs.Prelude.{ℕ, Bool, false, List, [], ◌∷◌, ◌++◌, ◌==◌, ◌-◌, ◌||◌, codes, length, nat_lt, slice_get, slice_index, Option, None, Some, if◌then◌else◌}
+use Rattle.std.specs.Prelude.{◌≡◌, ℕ, ◌+◌, Bool, List, [], ◌∷◌, ◌++◌, ◌==◌, ◌-◌, ◌||◌, codes, length, nat_lt, slice_index, Option, None, Some, if◌then◌else◌}
 use Rattle.std.specs.List.{concat, flat_map, prefix_len}
-use Rattle.std.specs.Option.{option_map_or}
 use Rattle.rdlpp_scan.specs.Bytes.{is_word}
 use Rattle.rdlpp_table.specs.Table.{Formal, Macro}
 
@@ -16,7 +15,7 @@ continued text = flat_map continued_byte text
 
 -- whether a text ends in `\`
 abbrev pub ends_in_slash : List ℕ → Bool
-ends_in_slash text = option_map_or (λ b. b == 92) (slice_get text (length text - 1)) false
+ends_in_slash text = slice_index text (length text - 1) == 92
 
 -- whether a body needs a blank in front of it, since it would else go on the macro's name, or begin a list (IEEE 1364-2001, `define`)
 abbrev pub goes_on_name : List ℕ → Bool
@@ -31,19 +30,23 @@ marked_text mark (b ∷ bs) = mark ++ continued (b ∷ bs)
 abbrev pub formal_text : Formal → List ℕ
 formal_text f = f.name ++ marked_text (codes "=") f.text
 
--- a formal behind another
-abbrev pub next_formal : Formal → List ℕ
-next_formal f = codes "," ++ formal_text f
+-- a formal at a place, behind a comma where it isn't the first
+abbrev pub formal_part : ℕ → Formal → List ℕ
+formal_part place f = if place == 0 then formal_text f else codes "," ++ formal_text f
 
--- formals, with commas between them
-abbrev pub formals_text : List Formal → List ℕ
-formals_text [] = []
-formals_text (f ∷ fs) = formal_text f ++ flat_map next_formal fs
+-- formals from a place on
+abbrev pub formals_text : ℕ → List Formal → List ℕ
+formals_text place [] = []
+formals_text place (f ∷ fs) = formal_part place f ++ formals_text (place + 1) fs
+
+-- a blank in front of a body that needs one
+abbrev pub gap : List ℕ → List ℕ
+gap body = if goes_on_name body then codes " " else []
 
 -- what stands between a macro's name and its body: the list of its formals, where it has one, and else a blank where one is needed
 abbrev pub list_text : Option (List Formal) → List ℕ → List ℕ
-list_text None body = if goes_on_name body then codes " " else []
-list_text (Some formals) body = codes "(" ++ (formals_text formals ++ codes ")")
+list_text None body = gap body
+list_text (Some formals) body = codes "(" ++ (formals_text 0 formals ++ codes ")")
 
 -- the line of a macro; a comment where its body ends in `\`, which no line can give (source: this project's profile)
 abbrev pub definition_line : Macro → List ℕ
@@ -54,3 +57,11 @@ definition_line m =
 -- the lines of macros, oldest first (source: this project's profile)
 abbrev pub definition_lines : List Macro → List ℕ
 definition_lines macros = flat_map definition_line macros
+
+-- bytes begin with others
+abbrev pub BeginsWith : List ℕ → List ℕ → Type 0
+BeginsWith bytes front = (rest : List ℕ) × (bytes ≡ front ++ rest)
+
+-- whether a byte stands behind a formal's name in a table's bytes
+abbrev pub ends_name : ℕ → Bool
+ends_name b = (b == 61) || (b == 44)

@@ -1,8 +1,11 @@
 // The macros of a table as `define` lines.
-ghost use Rattle.std.specs.Prelude.{◌≡◌, ◌<◌, ◌==◌, ◌||◌, ◌++◌, codes, drop, length, IfSome};
-ghost use Rattle.rdlpp_reports.specs.Definitions.{continued, continued_byte, goes_on_name, marked_text};
+ghost use Rattle.std.specs.Prelude.{ℕ, List, ◌≡◌, ◌<◌, ◌≤◌, ◌==◌, ◌&&◌, ◌++◌, codes, drop, false, length, slice_index, take, IfSome, Some};
+ghost use Rattle.std.specs.Option.{option_map_or};
+ghost use Rattle.rdlpp_reports.specs.Definitions.{BeginsWith, continued, continued_byte, definition_line, definition_lines, ends_in_slash, ends_name, formal_part, formals_text, gap, goes_on_name, list_text, marked_text};
+ghost use Rattle.std.specs.List.{flat_map};
 ghost use Rattle.rdlpp_reports.specs.Writes.{Writes};
-ghost use Rattle.rdlpp_table.specs.View.{formals_of, macro_at};
+ghost use Rattle.rdlpp_table.specs.View.{AreSoundFormals, IsSound, formal_at, formal_named, formals_of, macro_at};
+ghost use Rattle.rdlpp_table.specs.Table.{formal_bytes, macro_bytes};
 
 use crate::writing::{write_parts, write_whole};
 use rdlpp_scan::{byte_at, word_bytes};
@@ -19,13 +22,17 @@ const MOST_NAME_BYTES: usize = 128;
 ///
 /// # Errors
 /// As of `write_whole`; the first bytes of the lines, or none, are then written.
-pub fn write_definitions<W: Write>(table: &Table, writer: &mut W) -> io::Result<()> {
+#[tactic(auto, unfolding(rdlpp_table::specs::Table::table_bytes))]
+pub fn write_definitions<W: Write>(table: &Table, writer: &mut W) -> io::Result<()>
+    ensures { Writes (W.contents writer.old) (W.contents writer.new) (definition_lines table.now.macros) result }
+{
     let mut rest = table.bytes();
     for place in 0..table.len() {
-        if let Some(id) = macro_in_front(table, place, rest) {
-            write_macro(table, id, rest, writer)?;
-            rest = behind(rest, macro_len(table, id, rest));
-        }
+        let Some(id) = macro_in_front(table, place, rest) else {
+            return Ok(());
+        };
+        write_macro(table, id, rest, writer)?;
+        rest = behind_macro(table, id, rest);
     }
     Ok(())
 }
@@ -40,74 +47,136 @@ fn behind(bytes: &[u8], len: usize) -> &[u8]
 // The macro at a place, with whose name bytes of a table begin.
 fn macro_in_front(table: &Table, place: usize, bytes: &[u8]) -> Option<MacroId>
     ensures inside { IfSome result (λ id. id < length table.now.macros) }
+    ensures value { IsSound table.now → place < length table.now.macros → BeginsWith bytes.now (macro_at table.now.macros place).name → result ≡ Some place }
 {
     for len in 0..MOST_NAME_BYTES.min(bytes.len()) + 1 {
-        if let Some(id) = table.find(&bytes[..len])
-            && id.index() == place
-        {
-            return Some(id);
+        let found = table.find(&bytes[..len]);
+        if is_at(&found, place) {
+            return found;
         }
     }
     None
 }
 
-// How many bytes a macro has, with which bytes of a table begin.
-fn macro_len(table: &Table, id: MacroId, bytes: &[u8]) -> usize
-    requires { id < length table.now.macros }
+// Whether a macro was found at a place.
+fn is_at(found: &Option<MacroId>, place: usize) -> bool
+    ensures { result ≡ option_map_or (λ id. id == place) found.now false }
 {
-    let mut len = table.name(id).len();
-    for place in 0..table.arity(id).unwrap_or(0) {
-        let name = formal_name(table, id, place, behind(bytes, len));
-        len = len.saturating_add(formal_len(name, table.default_text(id, place)));
+    match found {
+        Some(id) => id.index() == place,
+        None => false,
     }
-    len.saturating_add(table.body(id).len())
 }
 
-// How many bytes of a table a formal has.
-fn formal_len(name: &[u8], default: &[u8]) -> usize {
-    let equals = if default.is_empty() { 0 } else { 1 };
-    name.len()
-        .saturating_add(default.len())
-        .saturating_add(equals + 1)
+// What stands behind a macro, with which bytes of a table begin.
+fn behind_macro<'a>(table: &Table, id: MacroId, bytes: &'a [u8]) -> &'a [u8]
+    requires { id < length table.now.macros }
+    ensures { AreSoundFormals (formals_of (macro_at table.now.macros id)) → (after : List ℕ) → bytes.now ≡ macro_bytes (macro_at table.now.macros id) ++ after → result.now ≡ after }
+{
+    let mut rest = behind(bytes, table.name(id).len());
+    for place in 0..table.arity(id).unwrap_or(0) {
+        rest = behind_formal(table, id, place, rest);
+    }
+    behind(rest, table.body(id).len())
+}
+
+// What stands behind a macro's formal at a place, with which bytes of a table begin.
+fn behind_formal<'a>(table: &Table, id: MacroId, place: usize, bytes: &'a [u8]) -> &'a [u8]
+    requires id { id < length table.now.macros }
+    requires place { place < length (formals_of (macro_at table.now.macros id)) }
+    ensures { AreSoundFormals (formals_of (macro_at table.now.macros id)) → (after : List ℕ) → bytes.now ≡ formal_bytes (formal_at (formals_of (macro_at table.now.macros id)) place) ++ after → result.now ≡ after }
+{
+    let rest = behind(bytes, formal_name(table, id, place, bytes).len());
+    let default = table.default_text(id, place);
+    if default.is_empty() {
+        behind(rest, 1)
+    } else {
+        behind(rest, default.len() + 2)
+    }
 }
 
 // The name of a macro's formal at a place, with which bytes of a table begin.
 fn formal_name<'a>(table: &Table, id: MacroId, place: usize, bytes: &'a [u8]) -> &'a [u8]
     requires { id < length table.now.macros }
+    ensures { AreSoundFormals (formals_of (macro_at table.now.macros id)) → place < length (formals_of (macro_at table.now.macros id)) → BeginsWith bytes.now (formal_bytes (formal_at (formals_of (macro_at table.now.macros id)) place)) → result.now ≡ (formal_at (formals_of (macro_at table.now.macros id)) place).name }
 {
     for len in 0..MOST_NAME_BYTES.min(bytes.len()) + 1 {
-        let name = &bytes[..len];
-        if ends_name(byte_at(bytes, len)) && table.formal(id, name) == Some(place) {
-            return name;
+        if is_formal(table, id, place, bytes, len) {
+            return &bytes[..len];
         }
     }
     &[]
 }
 
+// Whether so many bytes of a table are the name of a macro's formal at a place.
+fn is_formal(table: &Table, id: MacroId, place: usize, bytes: &[u8], len: usize) -> bool
+    requires id { id < length table.now.macros }
+    requires len { len ≤ length bytes.now }
+    ensures { result ≡ (ends_name (slice_index bytes.now len) && option_map_or (λ at. at == place) (formal_named (formals_of (macro_at table.now.macros id)) (take len bytes.now)) false) }
+{
+    ends_name(byte_at(bytes, len)) && is_place(table.formal(id, &bytes[..len]), place)
+}
+
+// Whether a formal was found at a place.
+fn is_place(found: Option<usize>, place: usize) -> bool
+    ensures { result ≡ option_map_or (λ at. at == place) found false }
+{
+    match found {
+        Some(at) => at == place,
+        None => false,
+    }
+}
+
 // Whether a byte stands behind a formal's name in a table.
 fn ends_name(byte: u8) -> bool
-    ensures { result ≡ ((byte == 61) || (byte == 44)) }
+    ensures { result ≡ ends_name byte }
 {
     byte == b'=' || byte == b','
 }
 
-// Writes the line of a macro, with which a table's bytes begin.
+// Writes the line of a macro, with which bytes of a table begin.
 fn write_macro<W: Write>(table: &Table, id: MacroId, bytes: &[u8], writer: &mut W) -> io::Result<()>
     requires { id < length table.now.macros }
+    ensures { AreSoundFormals (formals_of (macro_at table.now.macros id)) → BeginsWith bytes.now (macro_bytes (macro_at table.now.macros id)) → Writes (W.contents writer.old) (W.contents writer.new) (definition_line (macro_at table.now.macros id)) result }
 {
     let name = table.name(id);
     let body = table.body(id);
-    if body.ends_with(b"\\") {
+    if ends_in_slash(body) {
         return write_parts(&[b"// not as a define: ", name, b"\n"], writer);
     }
     write_parts(&[b"`define ", name], writer)?;
-    if let Some(arity) = table.arity(id) {
-        write_formals(table, id, arity, behind(bytes, name.len()), writer)?;
-    } else if goes_on_name(body) {
-        write_whole(b" ", writer)?;
-    }
+    write_list(table, id, behind(bytes, name.len()), writer)?;
     write_continued(body, writer)?;
     write_whole(b"\n", writer)
+}
+
+// Whether a text ends in `\`.
+fn ends_in_slash(text: &[u8]) -> bool
+    ensures { result ≡ ends_in_slash text.now }
+{
+    byte_at(text, text.len().saturating_sub(1)) == b'\\'
+}
+
+// Writes what stands between a macro's name and its body; with the formals' part bytes of a table begin.
+fn write_list<W: Write>(table: &Table, id: MacroId, bytes: &[u8], writer: &mut W) -> io::Result<()>
+    requires { id < length table.now.macros }
+    ensures { AreSoundFormals (formals_of (macro_at table.now.macros id)) → BeginsWith bytes.now (flat_map formal_bytes (formals_of (macro_at table.now.macros id))) → Writes (W.contents writer.old) (W.contents writer.new) (list_text (macro_at table.now.macros id).formals (macro_at table.now.macros id).body) result }
+{
+    match table.arity(id) {
+        Some(arity) => write_formals(table, id, arity, bytes, writer),
+        None => write_gap(table.body(id), writer),
+    }
+}
+
+// Writes a blank in front of a body that needs one.
+fn write_gap<W: Write>(body: &[u8], writer: &mut W) -> io::Result<()>
+    ensures { Writes (W.contents writer.old) (W.contents writer.new) (gap body.now) result }
+{
+    if goes_on_name(body) {
+        write_whole(b" ", writer)
+    } else {
+        write_whole(b"", writer)
+    }
 }
 
 // Whether a body needs a blank in front of it, since it would else go on the macro's name, or begin a list.
@@ -117,7 +186,7 @@ fn goes_on_name(body: &[u8]) -> bool
     word_bytes(body) > 0 || byte_at(body, 0) == b'('
 }
 
-// Writes the list of a macro's formals, with which bytes begin.
+// Writes the list of a macro's formals, with which bytes of a table begin.
 fn write_formals<W: Write>(
     table: &Table,
     id: MacroId,
@@ -127,17 +196,32 @@ fn write_formals<W: Write>(
 ) -> io::Result<()>
     requires id { id < length table.now.macros }
     requires arity { arity ≡ length (formals_of (macro_at table.now.macros id)) }
+    ensures { AreSoundFormals (formals_of (macro_at table.now.macros id)) → BeginsWith bytes.now (flat_map formal_bytes (formals_of (macro_at table.now.macros id))) → Writes (W.contents writer.old) (W.contents writer.new) (codes "(" ++ (formals_text 0 (formals_of (macro_at table.now.macros id)) ++ codes ")")) result }
 {
     let mut rest = bytes;
     write_whole(b"(", writer)?;
     for place in 0..arity {
         let name = formal_name(table, id, place, rest);
-        let default = table.default_text(id, place);
-        write_whole(if place > 0 { b"," } else { b"" }, writer)?;
-        write_formal(name, default, writer)?;
-        rest = behind(rest, formal_len(name, default));
+        write_formal_at(place, name, table.default_text(id, place), writer)?;
+        rest = behind_formal(table, id, place, rest);
     }
     write_whole(b")", writer)
+}
+
+// Writes the formal at a place, behind a comma where it isn't the first.
+fn write_formal_at<W: Write>(
+    place: usize,
+    name: &[u8],
+    default: &[u8],
+    writer: &mut W,
+) -> io::Result<()>
+    ensures { Writes (W.contents writer.old) (W.contents writer.new) (formal_part place (record { name = name.now; text = default.now })) result }
+{
+    if place == 0 {
+        return write_formal(name, default, writer);
+    }
+    write_whole(b",", writer)?;
+    write_formal(name, default, writer)
 }
 
 // Writes a formal, with its default text where it has one.

@@ -1,0 +1,29 @@
+-- Behind its name, each of its formals, and its body.
+use Rattle.std.proofs.Common.{◌≡◌, ◌+◌, ◌<◌, ◌≤◌, ◌++◌, drop, length, arith, ◌∙◌}
+use Rattle.std.specs.List.{flat_map}
+use Rattle.rdlpp_table.specs.Table.{formal_bytes}
+use Rattle.rdlpp_table.specs.View.{formals_of, macro_at, no_formal}
+use Rattle.rdlpp_reports.proofs.Behind.{body_behind, count_formals, formals_behind, formals_end, formals_from}
+use Rattle.rdlpp_reports.proofs.definitions.behind_macro.Goals as goal
+
+pub loop-place-init : goal.loop-place-init
+loop-place-init c s after e = formals_behind c.args.bytes.now after c.name.result.now c.behind-rest.result.now (macro_at c.args.table.now.macros c.args.id) e c.name.ensures c.behind-rest.ensures
+
+pub loop-place-preserved : goal.loop-place-preserved
+loop-place-preserved c s after e =
+    let m = macro_at c.args.table.now.macros c.args.id in
+    let fs = formals_of m in
+    let tail = m.body ++ after in
+    let count = count_formals m.formals c.arity.result c.arity.ensures in
+    c.behind_formal-rest.ensures s (flat_map formal_bytes (drop (c.loop-place.place + 1) fs) ++ tail)
+    (formals_from fs no_formal c.loop-place.place c.loop-place.rest.now tail (omega (arith, count, c.loop-place-test.true)) (c.loop-place.invariant s after e))
+
+pub returns : goal.returns
+returns c s after e =
+    let m = macro_at c.args.table.now.macros c.args.id in
+    let fs = formals_of m in
+    let tail = m.body ++ after in
+    let count = count_formals m.formals c.arity.result c.arity.ensures in
+    c.behind.ensures
+    ∙ body_behind c.loop-place.rest.now after c.body.result.now m
+    (formals_end fs c.loop-place.place c.loop-place.rest.now tail (omega (arith, count, c.loop-place-test.false)) (c.loop-place.invariant s after e)) c.body.ensures

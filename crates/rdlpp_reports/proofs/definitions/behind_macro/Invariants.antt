@@ -1,0 +1,11 @@
+-- The formals from a place on are left, and the body.
+use Rattle.std.proofs.Common.{◌≡◌, ℕ, List, ◌++◌, drop}
+use Rattle.std.specs.List.{flat_map}
+use Rattle.rdlpp_table.specs.Table.{formal_bytes, macro_bytes}
+use Rattle.rdlpp_table.specs.View.{AreSoundFormals, formals_of, macro_at}
+use Rattle.rdlpp_reports.proofs.definitions.behind_macro.Given as goal
+
+abbrev pub invariant-loop-place : goal.invariant-loop-place
+invariant-loop-place l =
+    let m = macro_at l.table.macros l.id in
+    AreSoundFormals (formals_of m) → (after : List ℕ) → l.bytes ≡ macro_bytes m ++ after → l.rest ≡ flat_map formal_bytes (drop l.place (formals_of m)) ++ (m.body ++ after)

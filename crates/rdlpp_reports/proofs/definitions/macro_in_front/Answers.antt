@@ -1,0 +1,24 @@
+-- The name is found where it is looked up.
+use Rattle.std.proofs.Common.{arith, sym, ◌∙◌, length, ◌≤◌, ◌+◌, ap, ◌++◌, ◌≡◌}
+use Rattle.std.proofs.lemmas.List.{length-append}
+use Rattle.std.proofs.lemmas.List.Elements.{All-get_or}
+use Rattle.rdlpp_table.specs.View.{IsSoundMacro, macro_at, no_macro}
+use Rattle.rdlpp_reports.proofs.Places.{found_at, is_longer}
+use Rattle.rdlpp_reports.proofs.definitions.macro_in_front.Goals as goal
+
+pub loop-len-init : goal.loop-len-init
+loop-len-init c s h b = omega arith
+
+pub loop-len-preserved : goal.loop-len-preserved
+loop-len-preserved c s h b =
+    is_longer (λ m. m.name) c.args.table.now.macros no_macro c.args.place c.loop-len.len c.args.bytes.now b.0 c.find-found.result s.distinct h b.1 c.find-found.ensures.value (sym c.is_at.ensures ∙ c.if-is_at.false) (c.loop-len.invariant s h b)
+
+pub returns-then-is_at-clause-value : goal.returns-then-is_at-clause-value
+returns-then-is_at-clause-value c s h b = found_at c.args.place c.find-found.result (sym c.is_at.ensures ∙ c.if-is_at.true)
+
+pub returns-clause-value : goal.returns-clause-value
+returns-clause-value c s h b =
+    let name = (macro_at c.args.table.now.macros c.args.place).name in
+    let short : length name ≤ 128 = (All-get_or IsSoundMacro c.args.table.now.macros c.args.place no_macro h s.each).short in
+    let inside : length name ≤ length c.args.bytes.now = omega (arith, ap length b.1, length-append name b.0) in
+    absurd (omega (arith, short, inside, c.loop-len.invariant s h b, c.loop-len-test.false, c.min-len-end.ensures))

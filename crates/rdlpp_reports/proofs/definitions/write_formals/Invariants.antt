@@ -1,0 +1,14 @@
+-- The formals before a place were written, and those from it on are left.
+use Rattle.std.proofs.Common.{◌≡◌, ℕ, List, ◌++◌, drop}
+use Rattle.std.specs.List.{flat_map}
+use Rattle.rdlpp_table.specs.Table.{formal_bytes}
+use Rattle.rdlpp_table.specs.View.{AreSoundFormals, formals_of, macro_at}
+use Rattle.rdlpp_reports.specs.Definitions.{BeginsWith}
+use Rattle.rdlpp_reports.proofs.Formals.{FormalsWritten}
+use Rattle.rdlpp_reports.proofs.definitions.write_formals.Given as goal
+
+abbrev pub invariant-loop-place : goal.invariant-loop-place
+invariant-loop-place g l =
+    let fs = formals_of (macro_at l.table.macros l.id) in
+    AreSoundFormals fs → BeginsWith l.bytes (flat_map formal_bytes fs)
+    → BeginsWith l.rest (flat_map formal_bytes (drop l.place fs)) × FormalsWritten fs l.place (g.W.Write.contents l.fn.writer) (g.W.Write.contents l.writer)
