@@ -8,7 +8,7 @@ use Rattle.std.proofs.lemmas.List.Quantifiers.{position-Some}
 use Rattle.std.proofs.lemmas.Map.Keys.{apart_from_distinct}
 use Rattle.std.proofs.lemmas.Slice.Eq.{bytes_eq-Decides}
 use Rattle.std.proofs.Math.ListN.{get_or-map}
-use Rattle.std.proofs.Common.{append_assoc, slice_index, zero, suc}
+use Rattle.std.proofs.Common.{append_assoc, slice_index}
 use Rattle.rdlpp_reports.specs.Definitions.{ends_name}
 use Rattle.rdlpp_table.proofs.Orders.{position_is}
 use Rattle.rdlpp_table.specs.Table.{Formal, default_bytes, formal_bytes}

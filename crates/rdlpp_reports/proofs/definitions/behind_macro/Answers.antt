@@ -1,5 +1,5 @@
 -- Behind its name, each of its formals, and its body.
-use Rattle.std.proofs.Common.{◌≡◌, ◌+◌, ◌<◌, ◌≤◌, ◌++◌, drop, length, arith, ◌∙◌}
+use Rattle.std.proofs.Common.{◌+◌, ◌++◌, drop, arith, ◌∙◌}
 use Rattle.std.specs.List.{flat_map}
 use Rattle.rdlpp_table.specs.Table.{formal_bytes}
 use Rattle.rdlpp_table.specs.View.{formals_of, macro_at, no_formal}

@@ -1,5 +1,5 @@
 -- The name is found where it is tried.
-use Rattle.std.proofs.Common.{arith, ap, sym, ◌∙◌, ◌≡◌, ◌≤◌, ◌==◌, false, length, take}
+use Rattle.std.proofs.Common.{arith, ap, sym, ◌∙◌, ◌≤◌, ◌==◌, false, length, take}
 use Rattle.std.specs.Option.{option_map_or}
 use Rattle.std.proofs.lemmas.List.{length-append}
 use Rattle.std.proofs.lemmas.List.Elements.{All-get_or}

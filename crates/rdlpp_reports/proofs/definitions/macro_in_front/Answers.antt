@@ -1,5 +1,5 @@
 -- The name is found where it is looked up.
-use Rattle.std.proofs.Common.{arith, sym, ◌∙◌, length, ◌≤◌, ◌+◌, ap, ◌++◌, ◌≡◌}
+use Rattle.std.proofs.Common.{arith, sym, ◌∙◌, length, ◌≤◌, ap}
 use Rattle.std.proofs.lemmas.List.{length-append}
 use Rattle.std.proofs.lemmas.List.Elements.{All-get_or}
 use Rattle.rdlpp_table.specs.View.{IsSoundMacro, macro_at, no_macro}

@@ -1,5 +1,5 @@
 -- The formals were written one after another, between parentheses.
-use Rattle.std.proofs.Common.{◌≡◌, ◌+◌, ◌<◌, ◌++◌, [], drop, length, arith, append-nil, refl, sym}
+use Rattle.std.proofs.Common.{◌+◌, ◌<◌, ◌++◌, [], drop, length, arith, refl}
 use Rattle.std.specs.List.{flat_map}
 use Rattle.std.proofs.lemmas.Result.{err_from_is_err_and}
 use Rattle.rdlpp_table.specs.Table.{formal_bytes}

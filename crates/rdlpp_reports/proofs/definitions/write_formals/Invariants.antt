@@ -1,5 +1,5 @@
 -- The formals before a place were written, and those from it on are left.
-use Rattle.std.proofs.Common.{◌≡◌, ℕ, List, ◌++◌, drop}
+use Rattle.std.proofs.Common.{drop}
 use Rattle.std.specs.List.{flat_map}
 use Rattle.rdlpp_table.specs.Table.{formal_bytes}
 use Rattle.rdlpp_table.specs.View.{AreSoundFormals, formals_of, macro_at}
