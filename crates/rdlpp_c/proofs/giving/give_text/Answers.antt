@@ -3,4 +3,4 @@ use Rattle.rdlpp_owned.specs.declared.asked.Standing.TheVariants.{Text}
 use Rattle.rdlpp_c.proofs.giving.give_text.Goals as goal
 
 pub returns-in-Ok : goal.returns-in-Ok
-returns-in-Ok c = inl (Text c.in-Ok.shared, (ap Some c.in-Ok.ensures, c.give.ensures))
+returns-in-Ok c = inl (Text c.in-Ok.shared, ap Some c.in-Ok.ensures, c.give.ensures)

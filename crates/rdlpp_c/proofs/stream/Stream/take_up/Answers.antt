@@ -1,5 +1,10 @@
+use Rattle.std.proofs.Common.{◌≡◌, ap, sym, ◌∙◌}
+use Rattle.std.specs.Option.{is_some}
+use Rattle.rdlpp_owned.specs.declared.asked.AskedTexts.{AskedTexts}
 use Rattle.rdlpp_c.proofs.Handles.{takes_again}
 use Rattle.rdlpp_c.proofs.stream.Stream.take_up.Goals as goal
 
 pub returns-then-is_some : goal.returns-then-is_some
-returns-then-is_some c = takes_again _ _ _ c.if-is_some.true c.search_again.ensures
+returns-then-is_some c =
+    let same : c.sources.result.now ≡ c.args.self.now.reading.engine.sources = c.sources.ensures ∙ ap (λ e. e.sources) c.engine.ensures in
+    takes_again c.args.self.now.reading.engine.sources.wanted _ _ (ap (λ (s : AskedTexts). is_some s.wanted) (sym same) ∙ (sym c.is_some.ensures ∙ c.if-is_some.true)) c.search_again.ensures
