@@ -264,7 +264,7 @@ static void has_no_place(void)
 static void tells_what_is_left(void)
 {
     static const rdlpp_text faulty[] = {{"m", 1, "`define A(x, y = 2) <x>\n`define B b\\\nc\n`include \"no\"\n", 52}};
-    const char wanted[] = "`define A(x, y = 2) <x>\n`define B b\\\nc\n";
+    const char wanted[] = "`define A(x,y=2)<x>\n`define B b\\\nc\n";
     rdlpp_request request = rdlpp_standard_request();
     rdlpp_handle handle = RDLPP_CLOSED_HANDLE;
     char out[256], name[NAME_ROOM];

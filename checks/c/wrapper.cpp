@@ -173,7 +173,7 @@ void tells_places()
         lines.push_back(place ? place->line : 0);
     }
     check(!lines.empty() && lines.front() == 1 && lines.back() == 4, "the lines of the pieces");
-    check(stream.definitions() == "`define W 8\n`define A(x) <\\\nx>\n", "the definitions");
+    check(stream.definitions() == "`define W 8\n`define A(x)<\\\nx>\n", "the definitions");
 
     request.pieces = false;
     rdlpp::stream mapped(request);
