@@ -1,2 +1,0 @@
-# rdlpp line map 1
-1	1	1	/dev/fd/63
