@@ -6,14 +6,14 @@ use Rattle.std.specs.Io.KnownBytes.{Appends}
 use Rattle.rdlpp_table.specs.Table.{Macro}
 use Rattle.rdlpp_table.specs.Define.{Accepted, Defined, Refused, observed, set_of}
 use Rattle.rdlpp_table.specs.declared.fault.DefineFault.{DefineFault}
-use Rattle.rdlpp_steps.specs.Engine.{EngineView}
+use Rattle.rdlpp_state.specs.Engine.{EngineView}
 use Rattle.rdlpp.specs.Definitions.{Pair, Given, Taken, Declined, given, given_in, refused_definition, with_macros}
 use Rattle.rdlpp_source.specs.declared.sources.Sources.{Ghosts}
 use Rattle.rdlpp_table.specs.declared.limits.Limits.{Limits}
 use Rattle.rdlpp_meaning.specs.Outcome.{Told, gives, and_then, Outcome, fails}
 use Rattle.rdlpp_meaning.proofs.Outcomes.{and_then-gives_nil}
-use Rattle.rdlpp_steps.specs.Opening.{Starts, fresh_engine, looked_up_output, is_device_fault, is_memory_fault}
-use Rattle.rdlpp_steps.specs.Remaining.{left_of}
+use Rattle.rdlpp_state.specs.Opening.{Starts, fresh_engine, looked_up_output, is_device_fault, is_memory_fault}
+use Rattle.rdlpp_state.specs.Remaining.{left_of}
 use Rattle.rdlpp_expand.specs.Reading.{ReadingView, reading_left}
 use Rattle.rdlpp.specs.Opening.{OpensGiven}
 use Rattle.rdlpp.specs.Preprocess.{engine_with, output_given, Follows, RunsFresh, WritesOutput, is_failure}
@@ -22,7 +22,7 @@ use Rattle.rdlpp_meaning.specs.declared.fault.FaultKind.{FaultKind}
 use Rattle.rdlpp_expand.specs.Run.{Begins, Runs, count_of, fault_of, is_fresh}
 use Rattle.rdlpp_expand.specs.declared.writing.RunFault.{RunFault}
 use Rattle.rdlpp_expand.proofs.RunFacts.{appends_none}
-use Rattle.rdlpp_steps.specs.Steps.{is_call_failed, is_memory_kind, is_read_failed, is_write_failed}
+use Rattle.rdlpp_state.specs.Steps.{is_call_failed, is_memory_kind, is_read_failed, is_write_failed}
 
 -- One definition after another is given to a table.
 

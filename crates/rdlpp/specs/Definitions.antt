@@ -7,7 +7,7 @@ use Rattle.rdlpp_table.specs.Table.{Macro}
 use Rattle.rdlpp_table.specs.Define.{Accepted, Refused, set_of}
 use Rattle.rdlpp_table.specs.declared.fault.DefineKind.{DefineKind}
 use Rattle.rdlpp_meaning.specs.Outcome.{Told, told}
-use Rattle.rdlpp_steps.specs.Engine.{EngineView}
+use Rattle.rdlpp_state.specs.Engine.{EngineView}
 use Rattle.rdlpp_meaning.specs.Profile.{define_fault}
 use Rattle.rdlpp_expand.specs.declared.writing.RunFault.{RunFault}
 

@@ -9,10 +9,10 @@ use Rattle.rdlpp_table.specs.Limits.{limit_fault}
 use Rattle.rdlpp_table.specs.declared.limits.Limits.{Limits}
 use Rattle.rdlpp_meaning.specs.Outcome.{Told, told, Outcome, fails}
 use Rattle.rdlpp_meaning.specs.OutputLimit.{limited_output}
-use Rattle.rdlpp_steps.specs.Engine.{EngineView}
-use Rattle.rdlpp_steps.specs.Opening.{Starts, fresh_engine, searches_of, is_device_fault, is_memory_fault}
+use Rattle.rdlpp_state.specs.Engine.{EngineView}
+use Rattle.rdlpp_state.specs.Opening.{Starts, fresh_engine, searches_of, is_device_fault, is_memory_fault}
 use Rattle.rdlpp_expand.specs.Run.{Runs, Begins}
-use Rattle.rdlpp_steps.specs.Steps.{is_write_failed}
+use Rattle.rdlpp_state.specs.Steps.{is_write_failed}
 use Rattle.rdlpp.specs.Definitions.{Given, Taken, Declined, given, with_macros}
 use Rattle.rdlpp.specs.declared.options.Options.{Options}
 use Rattle.rdlpp.specs.declared.fault.PrepFault.{PrepFault}

@@ -5,8 +5,8 @@ use Rattle.rdlpp_source.specs.declared.sources.Sources.{Ghosts}
 use Rattle.rdlpp_source.specs.declared.sinks.Sink.{Ghosts as SinkGhosts}
 use Rattle.rdlpp_table.specs.Limits.{limit_fault}
 use Rattle.rdlpp_meaning.specs.Outcome.{Told, told}
-use Rattle.rdlpp_steps.specs.Engine.{EngineView}
-use Rattle.rdlpp_steps.specs.Opening.{fresh_engine}
+use Rattle.rdlpp_state.specs.Engine.{EngineView}
+use Rattle.rdlpp_state.specs.Opening.{fresh_engine}
 use Rattle.rdlpp.specs.Definitions.{Given, Taken, Declined}
 use Rattle.rdlpp.specs.Preprocess.{RunsFresh, engine_with, given_by}
 use Rattle.rdlpp.specs.declared.options.Options.{Options}

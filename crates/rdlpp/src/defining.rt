@@ -1,8 +1,8 @@
 // Definitions from outside.
 ghost use Rattle.std.specs.Prelude.{◌≡◌};
 ghost use Rattle.rdlpp_meaning.specs.Outcome.{told};
-ghost use Rattle.rdlpp_steps.specs.Engine.{EngineView};
-ghost use Rattle.rdlpp_steps.specs.declared.phase.Phase.TheVariants as phase;
+ghost use Rattle.rdlpp_state.specs.Engine.{EngineView};
+ghost use Rattle.rdlpp_state.specs.declared.phase.Phase.TheVariants as phase;
 ghost use Rattle.rdlpp.specs.Definitions.{AreGiven, refused_definition};
 
 use arrayvec::ArrayString;

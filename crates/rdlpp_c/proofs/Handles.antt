@@ -3,9 +3,9 @@ use Rattle.std.proofs.Common.{◌≡◌, ℕ, true, List, [], Option, None, Some
 use Rattle.std.specs.Option.{is_some, option_map}
 use Rattle.std.specs.String.{string_bytes}
 use Rattle.arrayvec.specs.declared.array_string.ArrayString.{ArrayString}
-use Rattle.rdlpp_owned.specs.declared.asked.AskedTexts.{AskedTexts}
+use Rattle.rdlpp_source.specs.declared.asked.AskedTexts.{AskedTexts}
 use Rattle.rdlpp_meaning.specs.Outcome.{Told}
-use Rattle.rdlpp_steps.specs.Searches.{Retries, StartsAgain, is_failed_start}
+use Rattle.rdlpp_state.specs.Searches.{Retries, StartsAgain, is_failed_start}
 use Rattle.rdlpp_expand.specs.Reading.{ReadingView}
 use Rattle.rdlpp_c.specs.Giving.{Gives}
 use Rattle.rdlpp_c.specs.Streaming.{SearchesAgain, TakesUp, owned_sources}

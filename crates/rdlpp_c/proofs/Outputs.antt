@@ -17,9 +17,9 @@ use Rattle.rdlpp_c.specs.declared.asking.Answer.{Answer}
 use Rattle.rdlpp_c.specs.declared.asking.Answer.TheVariants.{Whole, Stopped}
 use Rattle.rdlpp_c.specs.declared.asking.Lists.{Lists}
 use Rattle.rdlpp_c.proofs.WholeReads.{View, opening_unfailed, overwritten_none}
-use Rattle.rdlpp_steps.specs.Opening.{is_device_fault, is_memory_fault}
+use Rattle.rdlpp_state.specs.Opening.{is_device_fault, is_memory_fault}
 use Rattle.std.specs.String.{string_bytes}
-use Rattle.rdlpp_owned.specs.declared.asked.AskedTexts.{AskedTexts}
+use Rattle.rdlpp_source.specs.declared.asked.AskedTexts.{AskedTexts}
 use Rattle.rdlpp.specs.Definitions.{Declined}
 use Rattle.rdlpp_c.specs.declared.opening.Owned.{Owned}
 use Rattle.rdlpp_c.specs.declared.stream.Stream.{Stream}

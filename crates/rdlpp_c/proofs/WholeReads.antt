@@ -8,9 +8,9 @@ use Rattle.rdlpp_source.specs.declared.texts.Texts.{Texts}
 use Rattle.rdlpp_source.specs.declared.texts.TextReader.{TextReader}
 use Rattle.rdlpp_meaning.specs.Outcome.{Told, Outcome, gives, fails, and_then}
 use Rattle.rdlpp_meaning.proofs.Outcomes.{and_then-gives_gives, bytes-and_then_gives}
-use Rattle.rdlpp_steps.specs.Calls.{SourcesCalled}
-use Rattle.rdlpp_steps.specs.Opening.{is_device_fault, is_memory_fault}
-use Rattle.rdlpp_steps.specs.Steps.{is_call_failed, is_memory_kind, is_read_failed}
+use Rattle.rdlpp_state.specs.Calls.{SourcesCalled}
+use Rattle.rdlpp_state.specs.Opening.{is_device_fault, is_memory_fault}
+use Rattle.rdlpp_state.specs.Steps.{is_call_failed, is_memory_kind, is_read_failed}
 use Rattle.rdlpp_expand.specs.Run.{is_fresh}
 use Rattle.rdlpp_expand.specs.Reading.{Fills, Leaves, ReadingView, ended_with, reading_left}
 use Rattle.rdlpp_expand.specs.declared.reading.ReadEnd.{ReadEnd}

@@ -1,9 +1,9 @@
 -- What a caller tells of the sources that were asked for.
 -- A definition that names no source is this project's own.
 use Rattle.std.specs.Prelude.{◌≡◌, ℕ, ◌⊎◌, List, IsUtf8, Option, None, Some, Result, Ok, Err}
-use Rattle.rdlpp_owned.specs.Asked.{Adds, Stays, standing_text}
-use Rattle.rdlpp_owned.specs.declared.asked.AskedTexts.{AskedTexts}
-use Rattle.rdlpp_owned.specs.declared.asked.Standing.{Standing}
+use Rattle.rdlpp_source.specs.Asked.{Adds, Stays, standing_text}
+use Rattle.rdlpp_source.specs.declared.asked.AskedTexts.{AskedTexts}
+use Rattle.rdlpp_source.specs.declared.asked.Standing.{Standing}
 use Rattle.rdlpp_c.specs.declared.stream.Stream.{Stream}
 use Rattle.rdlpp_c.specs.declared.asking.Refusal.{Refusal}
 use Rattle.rdlpp_c.specs.declared.asking.Refusal.TheVariants.{BadText, NoMemory}

@@ -2,9 +2,9 @@
 -- A definition that names no source is this project's own.
 use Rattle.std.specs.Prelude.{◌≡◌, ℕ, List, find, bytes_eq, Option, None, Some, if◌then◌else◌}
 use Rattle.std.specs.Option.{option_map}
-use Rattle.rdlpp_owned.specs.Asked.{standing_at, standing_text}
-use Rattle.rdlpp_owned.specs.declared.asked.AskedTexts.{AskedTexts}
-use Rattle.rdlpp_owned.specs.declared.asked.Standing.{Standing}
+use Rattle.rdlpp_source.specs.Asked.{standing_at, standing_text}
+use Rattle.rdlpp_source.specs.declared.asked.AskedTexts.{AskedTexts}
+use Rattle.rdlpp_source.specs.declared.asked.Standing.{Standing}
 use Rattle.rdlpp_c.specs.declared.arrays.Text.{Text}
 
 -- the text that is known to stand somewhere, if one does

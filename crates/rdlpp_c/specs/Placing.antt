@@ -1,10 +1,10 @@
 -- What is told of the place of a part of the output.
 -- A definition that names no source is this project's own.
 use Rattle.std.specs.Prelude.{◌≡◌, ℕ, ◌+◌, ◌-◌, ◌^◌, Bool, true, false, min, List, [], length, Option, None, Some}
-use Rattle.rdlpp_steps.specs.Marks.{PlaceView}
-use Rattle.rdlpp_steps.specs.Positions.{position_of}
-use Rattle.rdlpp_steps.specs.declared.positions.LineStep.{LineStep}
-use Rattle.rdlpp_steps.specs.declared.positions.LineStep.TheVariants.{Next, Same}
+use Rattle.rdlpp_state.specs.Marks.{PlaceView}
+use Rattle.rdlpp_state.specs.Positions.{position_of}
+use Rattle.rdlpp_state.specs.declared.positions.LineStep.{LineStep}
+use Rattle.rdlpp_state.specs.declared.positions.LineStep.TheVariants.{Next, Same}
 use Rattle.rdlpp_c.specs.Buffers.{overwritten}
 use Rattle.rdlpp_c.specs.Telling.{numbered}
 use Rattle.rdlpp_c.specs.declared.stream.Part.{Part}

@@ -6,16 +6,16 @@ use Rattle.std.specs.String.{string_bytes}
 use Rattle.std.specs.declared.alloc.Global.{Global}
 use Rattle.std_alloc.specs.declared.boxed.Box.{Box}
 use Rattle.rdlpp_source.specs.declared.sources.Sources.{Ghosts}
-use Rattle.rdlpp_owned.specs.Asked.{asked_catalog, unread_of, wanted_of}
-use Rattle.rdlpp_owned.specs.declared.asked.AskedTexts.{AskedTexts}
+use Rattle.rdlpp_source.specs.Asked.{asked_catalog, unread_of, wanted_of}
+use Rattle.rdlpp_source.specs.declared.asked.AskedTexts.{AskedTexts}
 use Rattle.rdlpp_table.specs.Limits.{limit_fault}
 use Rattle.rdlpp_meaning.specs.FaultNumbers.{fault_number}
 use Rattle.rdlpp_meaning.specs.declared.fault.FaultKind.{FaultKind}
 use Rattle.rdlpp_meaning.specs.Outcome.{Told, told, Outcome, fails}
-use Rattle.rdlpp_steps.specs.Opening.{is_device_fault, is_memory_fault}
-use Rattle.rdlpp_steps.specs.Engine.{EngineView}
-use Rattle.rdlpp_steps.specs.Searches.{Retries, StartsAgain, is_failed_start}
-use Rattle.rdlpp_steps.specs.Steps.{is_read_failed}
+use Rattle.rdlpp_state.specs.Opening.{is_device_fault, is_memory_fault}
+use Rattle.rdlpp_state.specs.Engine.{EngineView}
+use Rattle.rdlpp_state.specs.Searches.{Retries, StartsAgain, is_failed_start}
+use Rattle.rdlpp_state.specs.Steps.{is_read_failed}
 use Rattle.rdlpp_expand.specs.Reading.{FillsPart, GivesPiece, Leaves, ended_with, reading_left}
 use Rattle.rdlpp_expand.specs.declared.reading.ReadEnd.{ReadEnd}
 use Rattle.rdlpp_expand.specs.declared.reading.ReadEnd.TheVariants.{Finished, Stopped as StoppedRead}

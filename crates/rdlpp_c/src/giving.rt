@@ -2,7 +2,7 @@
 ghost use Rattle.std.specs.Prelude.{◌≡◌, IsUtf8, MatchResult};
 ghost use Rattle.std.specs.String.{string_bytes};
 ghost use Rattle.rdlpp_c.specs.Giving.{Gives, GivesStanding, GivesText, TellsPath, given_status};
-ghost use Rattle.rdlpp_owned.specs.declared.asked.Standing.TheVariants.{Absent as Gone, Failed};
+ghost use Rattle.rdlpp_source.specs.declared.asked.Standing.TheVariants.{Absent as Gone, Failed};
 ghost use Rattle.rdlpp_c.specs.declared.asking.Refusal.TheVariants.{BadText};
 
 use crate::asking::{Refusal, text_of};
@@ -10,7 +10,7 @@ use crate::handle::{Handle, put, take};
 use crate::knowing::shared_text;
 use crate::stream::Stream;
 use crate::telling::{BAD_TEXT, CLOSED, NO_MEMORY, WHOLE};
-use rdlpp_owned::{AskedTexts, Standing};
+use rdlpp_source::{AskedTexts, Standing};
 use std::alloc::Global;
 
 /// Tells an open output the text of the source at `path`, which is copied. The first that is told of a

@@ -7,12 +7,12 @@ ghost use Rattle.rdlpp_c.specs.declared.asking.Refusal.TheVariants.{BadText};
 use crate::arrays::Text;
 use crate::asking::Refusal;
 use crate::giving::owned_path;
-use rdlpp_owned::{AskedTexts, Standing};
+use rdlpp_source::{AskedTexts, Standing};
 use std::alloc::{AllocError, Global};
 use std::rc::Rc;
 
 // Sources that know the texts of a request, with include folders, and that ask for others or don't.
-#[tactic(auto, unfolding(rdlpp_owned::specs::Asked::standing_at))]
+#[tactic(auto, unfolding(rdlpp_source::specs::Asked::standing_at))]
 pub(crate) fn asked_texts(
     alloc: Global,
     texts: &[Text<'_>],

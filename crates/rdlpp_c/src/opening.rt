@@ -12,7 +12,7 @@ use crate::giving::owned_path;
 use crate::knowing::asked_texts;
 use crate::stream::Stream;
 use rdlpp::{Options, PrepFault, open_reading};
-use rdlpp_owned::AskedTexts;
+use rdlpp_source::AskedTexts;
 use std::alloc::Global;
 
 // One include folder.

@@ -3,9 +3,9 @@ ghost use Rattle.std.specs.Prelude.{◌≡◌, ◌≤◌, ◌==◌, None, Some, 
 ghost use Rattle.std.specs.List.{count_by};
 ghost use Rattle.std.specs.Option.{option_map};
 ghost use Rattle.rdlpp_meaning.specs.Outcome.{told};
-ghost use Rattle.rdlpp_owned.specs.Asked.{wanted_of};
-ghost use Rattle.rdlpp_steps.specs.Marks.{told_position};
-ghost use Rattle.rdlpp_steps.specs.Positions.{position_of};
+ghost use Rattle.rdlpp_source.specs.Asked.{wanted_of};
+ghost use Rattle.rdlpp_state.specs.Marks.{told_position};
+ghost use Rattle.rdlpp_state.specs.Positions.{position_of};
 ghost use Rattle.rdlpp_expand.specs.Reading.{ended_with};
 ghost use Rattle.rdlpp_c.specs.Buffers.{overwritten};
 ghost use Rattle.rdlpp_c.specs.Placing.{part_position, stream_place};
@@ -15,9 +15,8 @@ use crate::telling::{MORE, Outcome, STOPPED, WANTED, WHOLE, numbered, tell_text}
 use arrayvec::ArrayString;
 use rdlpp::{Fault, FaultKind, ReadEnd, ReadPart, Reading};
 use rdlpp_expand::{LineStep, Position};
-use rdlpp_owned::AskedTexts;
 use rdlpp_reports::MappedLines;
-use rdlpp_source::Sources;
+use rdlpp_source::{AskedTexts, Sources};
 
 /// An output that is read piece by piece, over texts that it owns.
 #[derive(Drop)]
@@ -144,7 +143,7 @@ impl Stream {
 }
 
 // The path that is asked for, where the kind of a fault is that of a device.
-#[tactic(auto, unfolding(rdlpp_steps::specs::Steps::is_read_failed))]
+#[tactic(auto, unfolding(rdlpp_state::specs::Steps::is_read_failed))]
 fn wanted_behind(kind: FaultKind, sources: &AskedTexts) -> Option<ArrayString<1024>>
     ensures { option_map (λ path. path.bytes) result ≡ wanted_by kind sources.now }
 {

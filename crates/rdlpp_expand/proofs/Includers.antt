@@ -5,7 +5,7 @@ use Rattle.std.proofs.lemmas.List.Elements.{All-head, All-tail}
 use Rattle.std.specs.List.{All}
 use Rattle.rdlpp_read.specs.Files.{IsSlot}
 use Rattle.rdlpp_read.specs.declared.files.File.{File}
-use Rattle.rdlpp_steps.specs.Engine.{AreIncluded}
+use Rattle.rdlpp_state.specs.Engine.{AreIncluded}
 
 -- the numbers that its lines show are small
 pub slot_number : {R : Type 0} (line_bytes : ℕ) (nest : List (File R)) (place : ℕ) (f : File R) → All (IsSlot line_bytes) nest → slice_get nest place ≡ Some f → f.shift.number < 2 ^ 32

@@ -6,10 +6,10 @@ use Rattle.rdlpp_meaning.specs.Outcome.{told}
 use Rattle.rdlpp_meaning.specs.declared.fault.Fault.{Fault}
 use Rattle.rdlpp_read.specs.Files.{shift_of}
 use Rattle.rdlpp_read.specs.declared.files.File.{File}
-use Rattle.rdlpp_steps.specs.Engine.{EngineView, is_open}
-use Rattle.rdlpp_steps.specs.Marks.{PlaceView, marked_place}
-use Rattle.rdlpp_steps.specs.Positions.{position_of}
-use Rattle.rdlpp_steps.proofs.PlaceFacts.{position_first}
+use Rattle.rdlpp_state.specs.Engine.{EngineView, is_open}
+use Rattle.rdlpp_state.specs.Marks.{PlaceView, marked_place}
+use Rattle.rdlpp_state.specs.Positions.{position_of}
+use Rattle.rdlpp_state.proofs.PlaceFacts.{position_first}
 
 -- a fault is kept where one is told
 pub told-some : (kept : Option Fault) → is_some (option_map told kept) ≡ is_some kept

@@ -6,11 +6,11 @@ use Rattle.std.proofs.Math.Seq.{drop-append_seam, take-append_seam}
 use Rattle.rdlpp_source.specs.declared.sources.Sources.{Ghosts}
 use Rattle.rdlpp_meaning.specs.Outcome.{Told, gives, fails, and_then}
 use Rattle.rdlpp_meaning.proofs.Outcomes.{and_then-gives_nil, and_then-gives, and_then-gives_gives, bytes-and_then_gives}
-use Rattle.rdlpp_steps.specs.Calls.{SourcesCalled}
-use Rattle.rdlpp_steps.specs.Engine.{EngineView}
-use Rattle.rdlpp_steps.specs.Remaining.{left_of, work_left}
-use Rattle.rdlpp_steps.specs.Steps.{Steps, is_memory_kind, is_read_failed}
-use Rattle.rdlpp_steps.proofs.EngineSteps.{called_after, not_called}
+use Rattle.rdlpp_state.specs.Calls.{SourcesCalled}
+use Rattle.rdlpp_state.specs.Engine.{EngineView}
+use Rattle.rdlpp_state.specs.Remaining.{left_of, work_left}
+use Rattle.rdlpp_state.specs.Steps.{Steps, is_memory_kind, is_read_failed}
+use Rattle.rdlpp_state.proofs.EngineSteps.{called_after, not_called}
 use Rattle.rdlpp_expand.specs.Run.{is_fresh}
 use Rattle.rdlpp_expand.specs.Reading.{Fills, FillsPart, Leaves, LentEnds, ReadingView, Turns, ended_with, reading_left}
 use Rattle.rdlpp_expand.specs.declared.reading.ReadEnd.{ReadEnd}

@@ -17,13 +17,13 @@ use Rattle.rdlpp_conditions.specs.Conditions.{ConditionsView}
 use Rattle.rdlpp_table.specs.View.{TableView}
 use Rattle.rdlpp_table.specs.declared.limits.Limits.{Limits}
 use Rattle.rdlpp_usages.specs.Usages.{ExpansionView}
-use Rattle.rdlpp_steps.specs.Engine.{EngineView, IsWholeEngine, is_open}
-use Rattle.rdlpp_steps.specs.Includes.{IsSearch}
-use Rattle.rdlpp_steps.specs.Remaining.{left_of, state_of, text_of}
-use Rattle.rdlpp_steps.specs.Searches.{Retries, begins_include, is_failed_call, is_failed_search, is_failed_start, is_over}
-use Rattle.rdlpp_steps.specs.Steps.{BeforeCall, IsReading, Itself, Steps, Stood, StopsReading, has_met, has_stopped, is_call_failed, is_read_failed, may_follow}
-use Rattle.rdlpp_steps.specs.declared.phase.Phase.{Phase}
-use Rattle.rdlpp_steps.specs.declared.phase.Phase.TheVariants.{Fresh, Open, Passed, Closed}
+use Rattle.rdlpp_state.specs.Engine.{EngineView, IsWholeEngine, is_open}
+use Rattle.rdlpp_state.specs.Includes.{IsSearch}
+use Rattle.rdlpp_state.specs.Remaining.{left_of, state_of, text_of}
+use Rattle.rdlpp_state.specs.Searches.{Retries, begins_include, is_failed_call, is_failed_search, is_failed_start, is_over}
+use Rattle.rdlpp_state.specs.Steps.{BeforeCall, IsReading, Itself, Steps, Stood, StopsReading, has_met, has_stopped, is_call_failed, is_read_failed, may_follow}
+use Rattle.rdlpp_state.specs.declared.phase.Phase.{Phase}
+use Rattle.rdlpp_state.specs.declared.phase.Phase.TheVariants.{Fresh, Open, Passed, Closed}
 use Rattle.rdlpp_expand.proofs.RunFacts.{failed_rest}
 
 -- where an `include` asks for a search, its word begins what is held

@@ -11,18 +11,18 @@ use Rattle.rdlpp_meaning.specs.Meaning.{outcome}
 use Rattle.rdlpp_meaning.specs.Outcome.{Told, Outcome, gives, fails, and_then}
 use Rattle.rdlpp_meaning.specs.OutputLimit.{limited}
 use Rattle.rdlpp_meaning.proofs.Outcomes.{and_then-gives_nil, and_then-gives, and_then-gives_gives, bytes-and_then_gives}
-use Rattle.rdlpp_steps.specs.Calls.{SourcesCalled}
-use Rattle.rdlpp_steps.specs.Engine.{EngineView, is_open}
-use Rattle.rdlpp_steps.specs.Held.{IsBounded, stores_of}
-use Rattle.rdlpp_steps.proofs.Stores.{KeepsStores, keeps_refused}
-use Rattle.rdlpp_steps.specs.Owed.{nothing_owed}
-use Rattle.rdlpp_steps.specs.Remaining.{kept_uncut, left_of, output_fault, phase_uncut, state_of, text_of, uncut_of}
+use Rattle.rdlpp_state.specs.Calls.{SourcesCalled}
+use Rattle.rdlpp_state.specs.Engine.{EngineView, is_open}
+use Rattle.rdlpp_state.specs.Held.{IsBounded, stores_of}
+use Rattle.rdlpp_state.proofs.Stores.{KeepsStores, keeps_refused}
+use Rattle.rdlpp_state.specs.Owed.{nothing_owed}
+use Rattle.rdlpp_state.specs.Remaining.{kept_uncut, left_of, output_fault, phase_uncut, state_of, text_of, uncut_of}
 use Rattle.rdlpp_expand.specs.Run.{Pulls, Wrote, WroteEnds, Going, Finishes, Stops, StopsAt, Breaks, Runs, Begins, Flushes, Unflushed, answered, is_fresh, is_kept, is_unwritten, write_fault}
-use Rattle.rdlpp_steps.specs.Steps.{Steps, StopsReading, Stood, Itself, BeforeCall, Tells, IsStarted, has_met, lent_len, FailsAt, is_call_failed, is_memory_kind, is_read_failed, is_write_failed}
-use Rattle.rdlpp_steps.proofs.EngineSteps.{called_after, free_before, left_open, not_called, ok_not_met}
-use Rattle.rdlpp_steps.proofs.FrontSteps.{opened_phase}
-use Rattle.rdlpp_steps.specs.declared.phase.Phase.{Phase}
-use Rattle.rdlpp_steps.specs.declared.phase.Phase.TheVariants.{Fresh, Open, Passed, Closed}
+use Rattle.rdlpp_state.specs.Steps.{Steps, StopsReading, Stood, Itself, BeforeCall, Tells, IsStarted, has_met, lent_len, FailsAt, is_call_failed, is_memory_kind, is_read_failed, is_write_failed}
+use Rattle.rdlpp_state.proofs.EngineSteps.{called_after, free_before, left_open, not_called, ok_not_met}
+use Rattle.rdlpp_state.proofs.FrontSteps.{opened_phase}
+use Rattle.rdlpp_state.specs.declared.phase.Phase.{Phase}
+use Rattle.rdlpp_state.specs.declared.phase.Phase.TheVariants.{Fresh, Open, Passed, Closed}
 use Rattle.rdlpp_expand.specs.declared.writing.Ending.{Ending}
 use Rattle.rdlpp_expand.specs.declared.writing.Ending.TheVariants.{Finished, Stopped, Unwritten}
 

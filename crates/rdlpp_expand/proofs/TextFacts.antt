@@ -4,20 +4,20 @@ use Rattle.std.specs.Prelude.{◌↔◌, IsTrue, is_some}
 use Rattle.std.proofs.lemmas.Bool.{true≢false}
 use Rattle.rdlpp_source.specs.declared.sources.Sources.{Ghosts}
 use Rattle.rdlpp_meaning.specs.Outcome.{Told}
-use Rattle.rdlpp_cursors.specs.declared.place.TextPlace.{TextPlace}
-use Rattle.rdlpp_cursors.specs.declared.step.CursorStep.{CursorStep}
-use Rattle.rdlpp_cursors.specs.declared.step.CursorStep.TheVariants.{Lends}
+use Rattle.rdlpp_texts.specs.declared.place.TextPlace.{TextPlace}
+use Rattle.rdlpp_texts.specs.declared.step.CursorStep.{CursorStep}
+use Rattle.rdlpp_texts.specs.declared.step.CursorStep.TheVariants.{Lends}
 use Rattle.rdlpp_usages.specs.Usages.{ExpansionView, StaysLent}
-use Rattle.rdlpp_steps.specs.Engine.{EngineView}
-use Rattle.rdlpp_steps.specs.Marks.{MarksView}
-use Rattle.rdlpp_steps.specs.Moves.{IsUnowed}
-use Rattle.rdlpp_steps.specs.Pieces.{kept_answer, lent_answer, step_answer}
-use Rattle.rdlpp_steps.specs.Steps.{Steps, WalksOver}
-use Rattle.rdlpp_steps.specs.Silences.{most_silent}
-use Rattle.rdlpp_steps.specs.declared.place.Place.{Place}
-use Rattle.rdlpp_steps.specs.declared.phase.Phase.TheVariants.{Open}
-use Rattle.rdlpp_steps.proofs.Cuts.{cut_kept, cut_piece, IsSpent}
-use Rattle.rdlpp_steps.proofs.EngineSteps.{follows}
+use Rattle.rdlpp_state.specs.Engine.{EngineView}
+use Rattle.rdlpp_state.specs.Marks.{MarksView}
+use Rattle.rdlpp_state.specs.Moves.{IsUnowed}
+use Rattle.rdlpp_state.specs.Pieces.{kept_answer, lent_answer, step_answer}
+use Rattle.rdlpp_state.specs.Steps.{Steps, WalksOver}
+use Rattle.rdlpp_state.specs.Silences.{most_silent}
+use Rattle.rdlpp_state.specs.declared.place.Place.{Place}
+use Rattle.rdlpp_state.specs.declared.phase.Phase.TheVariants.{Open}
+use Rattle.rdlpp_state.proofs.Cuts.{cut_kept, cut_piece, IsSpent}
+use Rattle.rdlpp_state.proofs.EngineSteps.{follows}
 use Rattle.rdlpp_expand.specs.Texts.{IsInTexts, LeavesTexts, StaysUnowed, place_of}
 use Rattle.rdlpp_expand.specs.declared.engine.texts.TextStep.{TextStep}
 use Rattle.rdlpp_expand.specs.declared.engine.texts.TextStep.TheVariants.{Lent, Silent, Kept}

@@ -3,12 +3,12 @@
 use Rattle.std.specs.Prelude.{◌≡◌, ℕ, ◌≤◌, ◌<◌, ◌⊎◌, min, false, List, [], ◌∷◌, ◌++◌, length, take, drop, Option, None, Some, Ok}
 use Rattle.rdlpp_source.specs.declared.sources.Sources.{Ghosts}
 use Rattle.rdlpp_meaning.specs.Outcome.{Told, Outcome, gives, fails, and_then}
-use Rattle.rdlpp_steps.specs.Calls.{SourcesCalled}
-use Rattle.rdlpp_steps.specs.Engine.{EngineView}
-use Rattle.rdlpp_steps.specs.Pieces.{IsPlaced, bytes_at}
-use Rattle.rdlpp_steps.specs.Remaining.{left_of, work_left}
-use Rattle.rdlpp_steps.specs.Steps.{Steps, IsStarted, is_call_failed, is_memory_kind, is_read_failed}
-use Rattle.rdlpp_steps.specs.declared.place.Place.{Place}
+use Rattle.rdlpp_state.specs.Calls.{SourcesCalled}
+use Rattle.rdlpp_state.specs.Engine.{EngineView}
+use Rattle.rdlpp_state.specs.Pieces.{IsPlaced, bytes_at}
+use Rattle.rdlpp_state.specs.Remaining.{left_of, work_left}
+use Rattle.rdlpp_state.specs.Steps.{Steps, IsStarted, is_call_failed, is_memory_kind, is_read_failed}
+use Rattle.rdlpp_state.specs.declared.place.Place.{Place}
 use Rattle.rdlpp_expand.specs.Run.{Begins, Finishes, Going, Stops, StopsAt, is_fresh}
 use Rattle.rdlpp_expand.specs.declared.reading.ReadEnd.{ReadEnd}
 use Rattle.rdlpp_expand.specs.declared.reading.ReadEnd.TheVariants.{Finished, Stopped}

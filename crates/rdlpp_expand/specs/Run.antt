@@ -8,14 +8,14 @@ use Rattle.rdlpp_source.specs.declared.sinks.Sink.{Ghosts as SinkGhosts}
 use Rattle.rdlpp_meaning.specs.declared.fault.FaultKind.{FaultKind}
 use Rattle.rdlpp_meaning.specs.declared.fault.FaultKind.TheVariants.{WriteFailed}
 use Rattle.rdlpp_meaning.specs.Outcome.{Told, told, Outcome, gives, fails, and_then}
-use Rattle.rdlpp_steps.specs.Calls.{SourcesCalled}
-use Rattle.rdlpp_steps.specs.Engine.{EngineView, is_open}
-use Rattle.rdlpp_steps.specs.Held.{IsBounded}
-use Rattle.rdlpp_steps.specs.Stored.{HoldsStores, LetsGo}
-use Rattle.rdlpp_steps.specs.Owed.{nothing_owed}
-use Rattle.rdlpp_steps.specs.Remaining.{left_of}
-use Rattle.rdlpp_steps.specs.Steps.{Steps, FailsAt, IsStarted, Stood, is_call_failed, is_memory_kind, is_read_failed, is_write_failed}
-use Rattle.rdlpp_steps.specs.declared.phase.Phase.TheVariants.{Open, Closed}
+use Rattle.rdlpp_state.specs.Calls.{SourcesCalled}
+use Rattle.rdlpp_state.specs.Engine.{EngineView, is_open}
+use Rattle.rdlpp_state.specs.Held.{IsBounded}
+use Rattle.rdlpp_state.specs.Stored.{HoldsStores, LetsGo}
+use Rattle.rdlpp_state.specs.Owed.{nothing_owed}
+use Rattle.rdlpp_state.specs.Remaining.{left_of}
+use Rattle.rdlpp_state.specs.Steps.{Steps, FailsAt, IsStarted, Stood, is_call_failed, is_memory_kind, is_read_failed, is_write_failed}
+use Rattle.rdlpp_state.specs.declared.phase.Phase.TheVariants.{Open, Closed}
 use Rattle.rdlpp_expand.specs.declared.writing.Ending.{Ending}
 use Rattle.rdlpp_expand.specs.declared.writing.Ending.TheVariants.{Finished, Stopped, Unwritten}
 use Rattle.rdlpp_expand.specs.declared.writing.RunFault.{RunFault}

@@ -1,11 +1,11 @@
 -- Steps over the open texts of a usage.
 -- A definition that names no source is this project's own.
 use Rattle.std.specs.Prelude.{◌≡◌, ◌<◌, true, length, is_some, Option, None, Some}
-use Rattle.rdlpp_steps.specs.Engine.{EngineView}
-use Rattle.rdlpp_steps.specs.Moves.{IsUnowed}
-use Rattle.rdlpp_steps.specs.declared.phase.Phase.TheVariants.{Open}
-use Rattle.rdlpp_steps.specs.declared.place.Place.{Place}
-use Rattle.rdlpp_steps.specs.declared.place.Place.TheVariants as spot
+use Rattle.rdlpp_state.specs.Engine.{EngineView}
+use Rattle.rdlpp_state.specs.Moves.{IsUnowed}
+use Rattle.rdlpp_state.specs.declared.phase.Phase.TheVariants.{Open}
+use Rattle.rdlpp_state.specs.declared.place.Place.{Place}
+use Rattle.rdlpp_state.specs.declared.place.Place.TheVariants as spot
 use Rattle.rdlpp_expand.specs.declared.engine.texts.TextStep.{TextStep}
 use Rattle.rdlpp_expand.specs.declared.engine.texts.TextStep.TheVariants.{Lent, Silent, Kept}
 

@@ -13,22 +13,22 @@ ghost use Rattle.rdlpp_read.specs.Calls.{SourcesRead};
 ghost use Rattle.rdlpp_read.specs.Files.{AreOpen, consumed_file, inner_buffer, with_buffer, with_inner};
 ghost use Rattle.rdlpp_read.specs.Filling.{Fills, is_failed};
 ghost use Rattle.rdlpp_read.specs.LogicalLines.{HoldsLine, is_failed_line};
-ghost use Rattle.rdlpp_cursors.specs.Places.{IsPlaced as IsTextPlaced, place_bytes};
+ghost use Rattle.rdlpp_texts.specs.Places.{IsPlaced as IsTextPlaced, place_bytes};
 ghost use Rattle.rdlpp_front.specs.Names.{IsWordBytes};
 ghost use Rattle.rdlpp_front.specs.Fronts.{HasName, IsDirective, IsNamed, IsText, IsUsage, usage_name};
 ghost use Rattle.rdlpp_usages.specs.Usages.{IsRoomy};
-ghost use Rattle.rdlpp_steps.specs.Conditionals.{unclosed_fault};
-ghost use Rattle.rdlpp_steps.specs.Engine.{AreOpenTexts, EngineView, IsSoundEngine};
-ghost use Rattle.rdlpp_steps.specs.Held.{HoldsDefinitions, IsBounded, held_told};
-ghost use Rattle.rdlpp_steps.specs.Moves.{Ends, IsReady, IsUnowed, ReadsDefine};
-ghost use Rattle.rdlpp_steps.specs.OpenConditionals.{inner_below};
-ghost use Rattle.rdlpp_steps.specs.Owed.{nothing_owed};
-ghost use Rattle.rdlpp_steps.specs.Pieces.{IsPlaced, Lends, answer_of, bytes_at, held_texts, lent_answer, piece_bytes, step_answer};
-ghost use Rattle.rdlpp_steps.specs.Stored.{LetsGo};
-ghost use Rattle.rdlpp_steps.specs.Remaining.{output_fault, state_of};
+ghost use Rattle.rdlpp_state.specs.Conditionals.{unclosed_fault};
+ghost use Rattle.rdlpp_state.specs.Engine.{AreOpenTexts, EngineView, IsSoundEngine};
+ghost use Rattle.rdlpp_state.specs.Held.{HoldsDefinitions, IsBounded, held_told};
+ghost use Rattle.rdlpp_state.specs.Moves.{Ends, IsReady, IsUnowed, ReadsDefine};
+ghost use Rattle.rdlpp_state.specs.OpenConditionals.{inner_below};
+ghost use Rattle.rdlpp_state.specs.Owed.{nothing_owed};
+ghost use Rattle.rdlpp_state.specs.Pieces.{IsPlaced, Lends, answer_of, bytes_at, held_texts, lent_answer, piece_bytes, step_answer};
+ghost use Rattle.rdlpp_state.specs.Stored.{LetsGo};
+ghost use Rattle.rdlpp_state.specs.Remaining.{output_fault, state_of};
 ghost use Rattle.rdlpp_expand.specs.Run.{write_fault};
-ghost use Rattle.rdlpp_steps.specs.Steps.{IsStarted, Steps, Walks, WalksOver, is_write_failed};
-ghost use Rattle.rdlpp_steps.specs.Silences.{most_silent};
+ghost use Rattle.rdlpp_state.specs.Steps.{IsStarted, Steps, Walks, WalksOver, is_write_failed};
+ghost use Rattle.rdlpp_state.specs.Silences.{most_silent};
 ghost use Rattle.rdlpp_expand.specs.contracts.engine.Engine.{the_row};
 
 mod asking;
@@ -46,17 +46,17 @@ mod words;
 use arrayvec::ArrayString;
 pub use looking::OpenSource;
 use rdlpp_conditions::Conditions;
-use rdlpp_cursors::{CursorFault, TextPlace};
 use rdlpp_front::{Argument, Front, front_of};
 use rdlpp_meaning::{Fault, FaultKind};
 use rdlpp_read::{Files, Fill, LogicalLine};
 use rdlpp_scan::{Mode, line_ends_in, reserved};
 use rdlpp_source::Sources;
-use rdlpp_steps::{
+use rdlpp_state::{
     Held, Marks, Owed, OwedPart, OwedPiece, Phase, Piece, Place, copied, copied_fault, fault_kind,
     word_of,
 };
 use rdlpp_table::{Limits, Table};
+use rdlpp_texts::{CursorFault, TextPlace};
 use rdlpp_usages::Expansion;
 use std::alloc::Global;
 use std::marker::Model;
@@ -97,7 +97,7 @@ pub struct Engine<S: Sources> {
 impl<S: Sources> Model for Engine<S> {
     ghost use Rattle.std.specs.Option.{option_map};
     ghost use Rattle.rdlpp_meaning.specs.Outcome.{told};
-    ghost use Rattle.rdlpp_steps.specs.Engine.{EngineView, IsWholeEngine};
+    ghost use Rattle.rdlpp_state.specs.Engine.{EngineView, IsWholeEngine};
 
     ghost Value = { EngineView S S.Reader };
 
@@ -645,7 +645,7 @@ impl<S: Sources> Engine<S> {
 
     // Keeps that more bytes are due than the output may have, which is told at line 0 under the main
     // text's name.
-    #[tactic(auto, unfolding(rdlpp_meaning::specs::Outcome::told, rdlpp_steps::specs::Remaining::output_fault))]
+    #[tactic(auto, unfolding(rdlpp_meaning::specs::Outcome::told, rdlpp_state::specs::Remaining::output_fault))]
     fn refuse_output(&mut self) -> Place
         ensures place { result ≡ Place.Kept }
         ensures kept { self.new ≡ record self.old { kept = Some (output_fault self.old.main) } }
@@ -732,7 +732,7 @@ impl<S: Sources> Engine<S> {
 }
 
 // Whether a kind is that of a write that failed.
-#[tactic(auto, unfolding(rdlpp_steps::specs::Steps::is_write_failed))]
+#[tactic(auto, unfolding(rdlpp_state::specs::Steps::is_write_failed))]
 fn is_write_failure(kind: FaultKind) -> bool
     ensures { result ≡ is_write_failed kind }
 {

@@ -8,7 +8,7 @@ mod writing;
 
 pub use engine::{Engine, OpenSource};
 pub use rdlpp_meaning::{Fault, FaultKind, laws};
-pub use rdlpp_steps::{Held, LineStep, NewFault, Piece, Position, fault_kind};
+pub use rdlpp_state::{Held, LineStep, NewFault, Piece, Position, fault_kind};
 pub use reading::{ReadEnd, ReadPart, Reading};
 pub use watching::Watcher;
 pub use writing::{RunFault, run, run_watched};

@@ -2,16 +2,16 @@
 ghost use Rattle.std.specs.Prelude.{◌≡◌, ◌+◌, ◌-◌, ◌≤◌, ◌++◌, if◌then◌else◌, [], length, min, take, drop};
 ghost use Rattle.std.specs.Option.{option_map};
 ghost use Rattle.rdlpp_meaning.specs.Outcome.{told};
-ghost use Rattle.rdlpp_steps.specs.Held.{IsBounded, held_told};
-ghost use Rattle.rdlpp_steps.specs.Steps.{IsStarted};
-ghost use Rattle.rdlpp_steps.specs.Opening.{start_fault};
-ghost use Rattle.rdlpp_steps.specs.Searches.{Retries, StartsAgain, is_failed_start};
+ghost use Rattle.rdlpp_state.specs.Held.{IsBounded, held_told};
+ghost use Rattle.rdlpp_state.specs.Steps.{IsStarted};
+ghost use Rattle.rdlpp_state.specs.Opening.{start_fault};
+ghost use Rattle.rdlpp_state.specs.Searches.{Retries, StartsAgain, is_failed_start};
 ghost use Rattle.rdlpp_expand.specs.Reading.{Fills, FillsPart, GivesPiece, Leaves, Turns};
 
 use crate::engine::Engine;
 use rdlpp_meaning::Fault;
 use rdlpp_source::Sources;
-use rdlpp_steps::{Held, Piece, Place};
+use rdlpp_state::{Held, Piece, Place};
 use std::marker::Model;
 
 /// How an output ended.

@@ -2,7 +2,7 @@
 ghost use Rattle.std.specs.Prelude.{◌≡◌, ℕ, Bool, true, false, List, Option, None};
 ghost use Rattle.std.specs.Io.KnownBytes.{Appends};
 
-use rdlpp_steps::Position;
+use rdlpp_state::Position;
 
 /// Is shown the output that a run writes, piece by piece, each with the place of its first byte.
 ///

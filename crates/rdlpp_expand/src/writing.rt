@@ -5,14 +5,14 @@ ghost use Rattle.rdlpp_source.specs.Counts.{Counts};
 ghost use Rattle.rdlpp_expand.specs.Run.{Flushes, Pulls, Runs, Unflushed, Wrote, count_of, fault_of};
 ghost use Rattle.rdlpp_expand.specs.Texts.{IsInTexts};
 ghost use Rattle.rdlpp_expand.specs.Watching.{Shows};
-ghost use Rattle.rdlpp_steps.specs.Moves.{IsUnowed};
-ghost use Rattle.rdlpp_steps.specs.Steps.{IsStarted};
+ghost use Rattle.rdlpp_state.specs.Moves.{IsUnowed};
+ghost use Rattle.rdlpp_state.specs.Steps.{IsStarted};
 
 use crate::engine::{Engine, TextStep};
 use crate::watching::{Unwatched, Watcher};
 use rdlpp_meaning::Fault;
 use rdlpp_source::{Sink, Sources};
-use rdlpp_steps::{LineStep, Piece, Position};
+use rdlpp_state::{LineStep, Piece, Position};
 
 /// Why a run ended before the end of the output.
 #[derive(Drop, Debug)]

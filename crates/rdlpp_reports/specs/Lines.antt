@@ -4,8 +4,8 @@ use Rattle.std.specs.Prelude.{ℕ, ◌+◌, ◌-◌, ◌^◌, ◌==◌, ◌&&◌
 use Rattle.std.specs.List.{concat, flat_map}
 use Rattle.rdlpp_meaning.specs.Output.{name_cut}
 use Rattle.rdlpp_reports.specs.declared.lines.LineRun.{LineRun}
-use Rattle.rdlpp_steps.specs.declared.positions.LineStep.{LineStep}
-use Rattle.rdlpp_steps.specs.declared.positions.LineStep.TheVariants.{Next, Same}
+use Rattle.rdlpp_state.specs.declared.positions.LineStep.{LineStep}
+use Rattle.rdlpp_state.specs.declared.positions.LineStep.TheVariants.{Next, Same}
 
 -- the place of a line of the output, that of its first byte: the shown name and the shown line (source: this project's profile)
 pub record LinePlace : Type 0 where

@@ -8,7 +8,7 @@ use crate::writing::{write_parts, write_whole};
 use arrayvec::ArrayString;
 use itoa::Buffer;
 use rdlpp_scan::line_ends_in;
-use rdlpp_steps::{LineStep, Position};
+use rdlpp_state::{LineStep, Position};
 use std::io::{self, Write};
 use std::marker::Model;
 

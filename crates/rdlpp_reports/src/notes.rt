@@ -1,12 +1,12 @@
 // Notes on a fault.
 use crate::writing::{write_parts, write_whole};
 use itoa::Buffer;
-use rdlpp_calls::next_part;
 use rdlpp_expand::{Engine, Fault, FaultKind};
 use rdlpp_front::{Front, front_of};
 use rdlpp_scan::Mode;
 use rdlpp_source::{Sources, folder_of, joined_path};
 use rdlpp_table::Limits;
+use rdlpp_texts::next_part;
 use std::io::{self, Write};
 
 // What a note begins with.
@@ -110,7 +110,7 @@ fn arguments_in(text: &[u8]) -> u64 {
 }
 
 // How many parts a text between parentheses has behind the first one.
-#[tactic(auto, unfolding(rdlpp_calls::specs::CallParts::AreFurther))]
+#[tactic(auto, unfolding(rdlpp_texts::specs::CallParts::AreFurther))]
 fn further_parts(text: &[u8]) -> u64 {
     let mut rest = text;
     for count in 0..text.len() {

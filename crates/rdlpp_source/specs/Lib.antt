@@ -5,3 +5,4 @@ pub mod Search
 pub mod Texts
 pub mod Counted
 pub mod Buffered
+pub mod Asked

@@ -1,7 +1,8 @@
 //! Where a preprocessor's texts come from and where its text goes: the traits `Sources` and `Sink`,
-//! sources in memory, and sinks over any writer.
+//! sources in memory, lent or owned, and sinks over any writer.
 #![tactic(auto)]
 
+mod asked;
 mod buffered;
 mod counted;
 mod paths;
@@ -9,6 +10,7 @@ mod sinks;
 mod sources;
 mod texts;
 
+pub use asked::{AskedReader, AskedTexts, Standing};
 pub use buffered::Buffered;
 pub use counted::Counted;
 pub use paths::{folder_of, joined_path};

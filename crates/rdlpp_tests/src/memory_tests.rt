@@ -1,15 +1,13 @@
 // Each store and each source is made with ample memory: no contract says that memory is ever found.
 use crate::runs::STANDARD;
 use rdlpp::{Folders, Options, Sources, Texts, open_reading};
-use rdlpp_arguments::ArgumentStore;
 use rdlpp_conditions::Conditions;
-use rdlpp_cursors::Cursors;
 use rdlpp_expand::Engine;
-use rdlpp_owned::{AskedTexts, Standing};
 use rdlpp_read::{Files, SourceBuffer};
-use rdlpp_source::{Buffered, SourceFault, TextReader};
+use rdlpp_source::{AskedTexts, Buffered, SourceFault, Standing, TextReader};
 use rdlpp_table::Table;
-use rdlpp_usages::Expansion;
+use rdlpp_texts::Cursors;
+use rdlpp_usages::{ArgumentStore, Expansion};
 use std::rc::Rc;
 use std::test::Fail;
 

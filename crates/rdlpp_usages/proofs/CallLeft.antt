@@ -9,11 +9,11 @@ use Rattle.rdlpp_scan.specs.Reserved.{is_reserved}
 use Rattle.rdlpp_scan.specs.declared.token.Mode.TheVariants.{Plain}
 use Rattle.rdlpp_table.specs.Table.{Formal, Macro, macro_named}
 use Rattle.rdlpp_table.specs.View.{macro_at}
-use Rattle.rdlpp_calls.specs.BoundCalls.{range_part}
-use Rattle.rdlpp_calls.specs.declared.bindings.Range.{Range}
-use Rattle.rdlpp_calls.specs.SourceBound.{OpensBound}
-use Rattle.rdlpp_calls.proofs.BoundSourceCalls.{resumed_open}
-use Rattle.rdlpp_calls.proofs.BoundUsages.{usage_with_list}
+use Rattle.rdlpp_texts.specs.BoundCalls.{range_part}
+use Rattle.rdlpp_texts.specs.declared.bindings.Range.{Range}
+use Rattle.rdlpp_texts.specs.SourceBound.{OpensBound}
+use Rattle.rdlpp_texts.proofs.BoundSourceCalls.{resumed_open}
+use Rattle.rdlpp_texts.proofs.BoundUsages.{usage_with_list}
 use Rattle.rdlpp_meaning.specs.Expansion.{bytes_of, expand, usage_token, Usage, Refuses, Opens, usage_of_formals, usage_of_macro, usage_of}
 use Rattle.rdlpp_meaning.specs.Substitution.{substituted}
 use Rattle.rdlpp_meaning.specs.Meaning.{Passage, Progress, goes_on, leaves}

@@ -7,9 +7,9 @@ use Rattle.rdlpp_scan.specs.SourceTokens.{SourceToken}
 use Rattle.rdlpp_scan.specs.declared.token.Mode.TheVariants.{Plain}
 use Rattle.rdlpp_table.specs.Table.{Formal, Macro, macro_named}
 use Rattle.rdlpp_table.specs.View.{macro_at}
-use Rattle.rdlpp_calls.specs.BoundCalls.{range_part}
-use Rattle.rdlpp_calls.specs.SourceBound.{OpensBound}
-use Rattle.rdlpp_calls.proofs.BoundSourceCalls.{source_bound, source_breaks, source_counted, source_lacks}
+use Rattle.rdlpp_texts.specs.BoundCalls.{range_part}
+use Rattle.rdlpp_texts.specs.SourceBound.{OpensBound}
+use Rattle.rdlpp_texts.proofs.BoundSourceCalls.{source_bound, source_breaks, source_counted, source_lacks}
 use Rattle.rdlpp_meaning.specs.Actuals.{call_of, token_role, kept}
 use Rattle.rdlpp_meaning.specs.Meaning.{Passage, Progress, goes_on, leaves}
 use Rattle.rdlpp_meaning.specs.Opened.{Waiting}
@@ -24,14 +24,14 @@ use Rattle.rdlpp_meaning.proofs.ReadCalls.{IsReadCall}
 use Rattle.rdlpp_read.specs.Buffer.{BufferView, held_of, tokens_left}
 use Rattle.rdlpp_read.specs.Files.{consumed_file}
 use Rattle.rdlpp_read.specs.declared.files.File.{File}
-use Rattle.rdlpp_arguments.specs.CallReads.{is_read_fault, IsCallOf, MeansCall}
-use Rattle.rdlpp_arguments.specs.Store.{StoreView}
-use Rattle.rdlpp_arguments.specs.declared.reading.CallRead.TheVariants as call
-use Rattle.rdlpp_cursors.specs.Opened.{CursorsView}
-use Rattle.rdlpp_cursors.specs.Places.{texts_of}
-use Rattle.rdlpp_cursors.specs.Steps.{IsPlacedStep, KeepsOpen, NamesWord, StaysRefused}
-use Rattle.rdlpp_cursors.specs.declared.step.CursorStep.{CursorStep}
-use Rattle.rdlpp_cursors.specs.declared.step.CursorStep.TheVariants.{Lends, Silent, Refused as Fault}
+use Rattle.rdlpp_usages.specs.CallReads.{is_read_fault, IsCallOf, MeansCall}
+use Rattle.rdlpp_usages.specs.Store.{StoreView}
+use Rattle.rdlpp_usages.specs.declared.reading.CallRead.TheVariants as call
+use Rattle.rdlpp_texts.specs.Opened.{CursorsView}
+use Rattle.rdlpp_texts.specs.Places.{texts_of}
+use Rattle.rdlpp_texts.specs.Steps.{IsPlacedStep, KeepsOpen, NamesWord, StaysRefused}
+use Rattle.rdlpp_texts.specs.declared.step.CursorStep.{CursorStep}
+use Rattle.rdlpp_texts.specs.declared.step.CursorStep.TheVariants.{Lends, Silent, Refused as Fault}
 use Rattle.rdlpp_front.specs.Fronts.{IsUsage, usage_name}
 use Rattle.rdlpp_front.specs.SourceLeft.{HoldsFront}
 use Rattle.rdlpp_usages.specs.Usages.{is_usage_fault, IsUsageFault, BindsKept, ExpansionView, IsRun, RefusesCall, StaysAt, StaysLent, TellsCallUsage, TellsUsage, inner_left, texts_left}

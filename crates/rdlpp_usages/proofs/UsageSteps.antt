@@ -17,12 +17,12 @@ use Rattle.rdlpp_read.specs.Buffer.{BufferView, EndsHeld, MovesOver, ahead_of, h
 use Rattle.rdlpp_read.specs.Files.{consumed_file, inner_buffer, torn_after, with_inner}
 use Rattle.rdlpp_read.specs.declared.files.File.{File}
 use Rattle.rdlpp_read.proofs.Sliding.{moves-on, moves-past, moves-told, text-on, text-past}
-use Rattle.rdlpp_arguments.specs.CallReads.{IsExactCall, MeansCall, ReadsCall, ReadsUpTo, TellsCall, with_used}
-use Rattle.rdlpp_arguments.specs.declared.reading.CallRead.{CallRead}
-use Rattle.rdlpp_arguments.specs.declared.reading.CallRead.TheVariants as call
-use Rattle.rdlpp_arguments.proofs.CallLoop.{used_twice}
-use Rattle.rdlpp_cursors.specs.Opened.{usage_id, CursorsView}
-use Rattle.rdlpp_cursors.specs.Places.{texts_of}
+use Rattle.rdlpp_usages.specs.CallReads.{IsExactCall, MeansCall, ReadsCall, ReadsUpTo, TellsCall, with_used}
+use Rattle.rdlpp_usages.specs.declared.reading.CallRead.{CallRead}
+use Rattle.rdlpp_usages.specs.declared.reading.CallRead.TheVariants as call
+use Rattle.rdlpp_usages.proofs.CallLoop.{used_twice}
+use Rattle.rdlpp_texts.specs.Opened.{usage_id, CursorsView}
+use Rattle.rdlpp_texts.specs.Places.{texts_of}
 use Rattle.rdlpp_front.specs.Fronts.{IsUsage, usage_name}
 use Rattle.rdlpp_usages.specs.Usages.{BindsKept, ExpansionView, IsExactOpening, IsRun, KeepsCall, KeepsOpening, KeepsUsage, TellsCallUsage, TellsUsage, UsesCall, UsesSource, is_opened}
 use Rattle.rdlpp_usages.specs.declared.expansion.Opening.{Opening}

@@ -4,9 +4,9 @@ use Rattle.std.specs.Prelude.{◌≡◌, ℕ, ◌+◌, ◌*◌, ◌<◌, ◌≤�
 use Rattle.rdlpp_scan.specs.declared.token.Mode.TheVariants.{Plain}
 use Rattle.rdlpp_table.specs.Table.{Formal, Macro}
 use Rattle.rdlpp_table.specs.View.{macro_at}
-use Rattle.rdlpp_calls.specs.BoundCalls.{KeepsAll, actuals_of, range_part, ranges_tokens}
-use Rattle.rdlpp_calls.specs.SourceBound.{OpensBound}
-use Rattle.rdlpp_calls.specs.declared.bindings.Range.{Range}
+use Rattle.rdlpp_texts.specs.BoundCalls.{KeepsAll, actuals_of, range_part, ranges_tokens}
+use Rattle.rdlpp_texts.specs.SourceBound.{OpensBound}
+use Rattle.rdlpp_texts.specs.declared.bindings.Range.{Range}
 use Rattle.rdlpp_meaning.specs.Actuals.{kept, source_reads}
 use Rattle.rdlpp_meaning.specs.CallReading.{ReadClosed}
 use Rattle.rdlpp_meaning.specs.CallScan.{Before}
@@ -24,12 +24,12 @@ use Rattle.rdlpp_meaning.specs.declared.fault.FaultKind.TheVariants.{ArgumentsMi
 use Rattle.rdlpp_read.specs.Buffer.{BufferView, MovesOver, text_left, tokens_left, unused_of}
 use Rattle.rdlpp_read.specs.Files.{inner_buffer}
 use Rattle.rdlpp_read.specs.declared.files.File.{File}
-use Rattle.rdlpp_arguments.specs.CallReads.{with_used, ReadsUpTo}
-use Rattle.rdlpp_arguments.specs.Reads.{reading}
-use Rattle.rdlpp_cursors.specs.Opened.{CursorsView, bound_by}
-use Rattle.rdlpp_cursors.specs.Places.{texts_of}
-use Rattle.rdlpp_cursors.specs.declared.step.CursorStep.{CursorStep}
-use Rattle.rdlpp_cursors.specs.declared.step.CursorStep.TheVariants.{Lends, Silent, Refused as Fault}
+use Rattle.rdlpp_usages.specs.CallReads.{with_used, ReadsUpTo}
+use Rattle.rdlpp_usages.specs.Reads.{reading}
+use Rattle.rdlpp_texts.specs.Opened.{CursorsView, bound_by}
+use Rattle.rdlpp_texts.specs.Places.{texts_of}
+use Rattle.rdlpp_texts.specs.declared.step.CursorStep.{CursorStep}
+use Rattle.rdlpp_texts.specs.declared.step.CursorStep.TheVariants.{Lends, Silent, Refused as Fault}
 use Rattle.rdlpp_front.specs.SourceLeft.{source_left}
 use Rattle.rdlpp_usages.specs.declared.expansion.Opening.{Opening}
 use Rattle.rdlpp_usages.specs.declared.expansion.Opening.TheVariants.{Opened, Refused, Broken, Failed}

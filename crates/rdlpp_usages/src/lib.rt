@@ -1,6 +1,12 @@
-//! Usages of macros in a source: the call is read, its arguments are bound, and the body is opened.
+//! Usages of macros in a source: the call is read into a store, token by token, over any number of lines and refills, its
+//! arguments are bound, and the body is opened.
 #![tactic(auto)]
 
 mod expansion;
+mod reading;
+mod store;
+mod taking;
 
 pub use expansion::{Expansion, Opening};
+pub use reading::{CallRead, read_call};
+pub use store::ArgumentStore;

@@ -2,15 +2,15 @@
 ghost use Rattle.std.specs.Prelude.{◌≡◌, ◌&&◌};
 ghost use Rattle.rdlpp_read.specs.Buffer.{held_of};
 ghost use Rattle.rdlpp_read.specs.Files.{inner_buffer};
-ghost use Rattle.rdlpp_steps.specs.Opening.{start_fault};
-ghost use Rattle.rdlpp_steps.specs.Searches.{Retries, StartsAgain, begins_include, is_failed_call, is_failed_search, is_failed_start, is_over};
-ghost use Rattle.rdlpp_steps.specs.Steps.{is_call_failed, may_follow};
+ghost use Rattle.rdlpp_state.specs.Opening.{start_fault};
+ghost use Rattle.rdlpp_state.specs.Searches.{Retries, StartsAgain, begins_include, is_failed_call, is_failed_search, is_failed_start, is_over};
+ghost use Rattle.rdlpp_state.specs.Steps.{is_call_failed, may_follow};
 
 use super::Engine;
 use super::words::INCLUDE;
 use rdlpp_meaning::{Fault, FaultKind};
 use rdlpp_source::Sources;
-use rdlpp_steps::Phase;
+use rdlpp_state::Phase;
 
 impl<S: Sources> Engine<S> {
     /// Forgets the fault that is kept, where it is that of a search for an included source that failed at a device or for
@@ -80,7 +80,7 @@ impl<S: Sources> Engine<S> {
 }
 
 // Whether the main text has ended, or couldn't be opened.
-#[tactic(auto, unfolding(rdlpp_steps::specs::Searches::is_over))]
+#[tactic(auto, unfolding(rdlpp_state::specs::Searches::is_over))]
 fn has_closed(phase: Phase) -> bool
     ensures { result ≡ is_over phase }
 {
@@ -88,7 +88,7 @@ fn has_closed(phase: Phase) -> bool
 }
 
 // Whether the main text is open, and more may be lent.
-#[tactic(auto, unfolding(rdlpp_steps::specs::Steps::may_follow))]
+#[tactic(auto, unfolding(rdlpp_state::specs::Steps::may_follow))]
 fn has_open(phase: Phase) -> bool
     ensures { result ≡ may_follow phase }
 {
@@ -96,7 +96,7 @@ fn has_open(phase: Phase) -> bool
 }
 
 // Whether bytes begin with the word of an `include`.
-#[tactic(auto, unfolding(rdlpp_steps::specs::Searches::begins_include))]
+#[tactic(auto, unfolding(rdlpp_state::specs::Searches::begins_include))]
 fn begins_include(bytes: &[u8]) -> bool
     ensures { result ≡ begins_include bytes.now }
 {
@@ -104,7 +104,7 @@ fn begins_include(bytes: &[u8]) -> bool
 }
 
 // Whether a kind is that of a source that couldn't be read or searched for: a device failed, or memory was refused.
-#[tactic(auto, unfolding(rdlpp_steps::specs::Steps::is_call_failed, rdlpp_steps::specs::Steps::is_read_failed, rdlpp_steps::specs::Steps::is_memory_kind))]
+#[tactic(auto, unfolding(rdlpp_state::specs::Steps::is_call_failed, rdlpp_state::specs::Steps::is_read_failed, rdlpp_state::specs::Steps::is_memory_kind))]
 fn is_call_failure(kind: FaultKind) -> bool
     ensures { result ≡ is_call_failed kind }
 {

@@ -7,12 +7,12 @@ ghost use Rattle.rdlpp_meaning.specs.Meaning.{Progress};
 ghost use Rattle.rdlpp_read.specs.Buffer.{held_of};
 ghost use Rattle.rdlpp_read.specs.Files.{inner_buffer};
 ghost use Rattle.rdlpp_front.specs.Fronts.{HasName, IsDirective, IsNamed, argument_name};
-ghost use Rattle.rdlpp_steps.specs.Conditionals.{IsTested, OpensOne, elsif_len, goes_past, opening_word, test_of};
-ghost use Rattle.rdlpp_steps.specs.Held.{IsBounded};
-ghost use Rattle.rdlpp_steps.specs.Moves.{IsReady};
-ghost use Rattle.rdlpp_steps.specs.OpenConditionals.{inner_below};
-ghost use Rattle.rdlpp_steps.specs.Pieces.{IsPlaced, step_answer};
-ghost use Rattle.rdlpp_steps.specs.Steps.{Walks};
+ghost use Rattle.rdlpp_state.specs.Conditionals.{IsTested, OpensOne, elsif_len, goes_past, opening_word, test_of};
+ghost use Rattle.rdlpp_state.specs.Held.{IsBounded};
+ghost use Rattle.rdlpp_state.specs.Moves.{IsReady};
+ghost use Rattle.rdlpp_state.specs.OpenConditionals.{inner_below};
+ghost use Rattle.rdlpp_state.specs.Pieces.{IsPlaced, step_answer};
+ghost use Rattle.rdlpp_state.specs.Steps.{Walks};
 
 use super::Engine;
 use super::words::{ELSE_BYTES, ELSIF_BYTES, ENDIF_BYTES};
@@ -22,7 +22,7 @@ use rdlpp_front::Argument;
 use rdlpp_meaning::FaultKind;
 use rdlpp_scan::{Directive, Mode, reserved};
 use rdlpp_source::Sources;
-use rdlpp_steps::{Place, word_of};
+use rdlpp_state::{Place, word_of};
 
 impl<S: Sources> Engine<S> {
     // Opens a conditional in live text, whose first directive wants the name that it is given defined or

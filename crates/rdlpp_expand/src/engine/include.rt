@@ -4,13 +4,13 @@ ghost use Rattle.rdlpp_meaning.specs.Meaning.{unquoted};
 ghost use Rattle.rdlpp_read.specs.Buffer.{held_of};
 ghost use Rattle.rdlpp_read.specs.Files.{inner_buffer};
 ghost use Rattle.rdlpp_front.specs.Fronts.{HasString, IsGivenString, include_name};
-ghost use Rattle.rdlpp_steps.specs.Held.{IsBounded};
-ghost use Rattle.rdlpp_steps.specs.Includes.{Sought, included_engine, is_bad_name, left_engine};
-ghost use Rattle.rdlpp_steps.specs.Moves.{IsReady};
-ghost use Rattle.rdlpp_steps.specs.OpenConditionals.{inner_below};
-ghost use Rattle.rdlpp_steps.specs.Owed.{nothing_owed};
-ghost use Rattle.rdlpp_steps.specs.Pieces.{IsPlaced, step_answer};
-ghost use Rattle.rdlpp_steps.specs.Steps.{Walks};
+ghost use Rattle.rdlpp_state.specs.Held.{IsBounded};
+ghost use Rattle.rdlpp_state.specs.Includes.{Sought, included_engine, is_bad_name, left_engine};
+ghost use Rattle.rdlpp_state.specs.Moves.{IsReady};
+ghost use Rattle.rdlpp_state.specs.OpenConditionals.{inner_below};
+ghost use Rattle.rdlpp_state.specs.Owed.{nothing_owed};
+ghost use Rattle.rdlpp_state.specs.Pieces.{IsPlaced, step_answer};
+ghost use Rattle.rdlpp_state.specs.Steps.{Walks};
 
 use super::Engine;
 use super::opening::source_kind;
@@ -19,7 +19,7 @@ use rdlpp_front::Argument;
 use rdlpp_meaning::FaultKind;
 use rdlpp_scan::Mode;
 use rdlpp_source::{Found, Sources};
-use rdlpp_steps::{Phase, Place};
+use rdlpp_state::{Phase, Place};
 
 impl<S: Sources> Engine<S> {
     // Takes an `include`, which is given a string or none, and lends nothing.

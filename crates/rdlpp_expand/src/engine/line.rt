@@ -5,12 +5,12 @@ ghost use Rattle.rdlpp_read.specs.Buffer.{held_of};
 ghost use Rattle.rdlpp_read.specs.Arguments.{IsLineGiven};
 ghost use Rattle.rdlpp_read.specs.Files.{inner_buffer, with_inner};
 ghost use Rattle.rdlpp_front.specs.Fronts.{IsDirective};
-ghost use Rattle.rdlpp_steps.specs.Held.{IsBounded};
-ghost use Rattle.rdlpp_steps.specs.Lines.{Renumbers, renumbered_file};
-ghost use Rattle.rdlpp_steps.specs.Moves.{IsReady};
-ghost use Rattle.rdlpp_steps.specs.Owed.{nothing_owed};
-ghost use Rattle.rdlpp_steps.specs.Pieces.{IsPlaced, step_answer};
-ghost use Rattle.rdlpp_steps.specs.Steps.{Walks};
+ghost use Rattle.rdlpp_state.specs.Held.{IsBounded};
+ghost use Rattle.rdlpp_state.specs.Lines.{Renumbers, renumbered_file};
+ghost use Rattle.rdlpp_state.specs.Moves.{IsReady};
+ghost use Rattle.rdlpp_state.specs.Owed.{nothing_owed};
+ghost use Rattle.rdlpp_state.specs.Pieces.{IsPlaced, step_answer};
+ghost use Rattle.rdlpp_state.specs.Steps.{Walks};
 
 use super::Engine;
 use super::words::LINE_BYTES;
@@ -19,7 +19,7 @@ use rdlpp_meaning::FaultKind;
 use rdlpp_read::{GivenLine, given_line};
 use rdlpp_scan::{Mode, line_ends_in};
 use rdlpp_source::Sources;
-use rdlpp_steps::Place;
+use rdlpp_state::Place;
 
 impl<S: Sources> Engine<S> {
     // Takes the `line` with which the held bytes begin, and lends nothing; or refuses it.

@@ -3,7 +3,7 @@ ghost use Rattle.std.specs.Prelude.{◌≡◌, ◌≤◌, ◌⊎◌, [], IfNone,
 ghost use Rattle.rdlpp_meaning.specs.State.{shown_line};
 ghost use Rattle.rdlpp_read.specs.Buffer.{held_of};
 ghost use Rattle.rdlpp_read.specs.Files.{inner_buffer};
-ghost use Rattle.rdlpp_steps.specs.Remaining.{inner_name, state_of};
+ghost use Rattle.rdlpp_state.specs.Remaining.{inner_name, state_of};
 ghost use Rattle.rdlpp_expand.specs.Looking.{Includes};
 
 use super::Engine;

@@ -3,9 +3,9 @@ ghost use Rattle.std.specs.Prelude.{◌≡◌, OnErr};
 ghost use Rattle.rdlpp_table.specs.Define.{observed, set_of};
 ghost use Rattle.rdlpp_meaning.specs.Outcome.{told};
 ghost use Rattle.rdlpp_meaning.specs.Output.{name_cut, opening_fault};
-ghost use Rattle.rdlpp_steps.specs.Held.{IsBounded};
-ghost use Rattle.rdlpp_steps.specs.Includes.{kind_of_source};
-ghost use Rattle.rdlpp_steps.specs.Opening.{Makes, Starts, opened_engine, start_fault, unopened_engine};
+ghost use Rattle.rdlpp_state.specs.Held.{IsBounded};
+ghost use Rattle.rdlpp_state.specs.Includes.{kind_of_source};
+ghost use Rattle.rdlpp_state.specs.Opening.{Makes, Starts, opened_engine, start_fault, unopened_engine};
 
 use super::Engine;
 use arrayvec::ArrayString;
@@ -13,7 +13,7 @@ use rdlpp_conditions::Conditions;
 use rdlpp_meaning::{Fault, FaultKind};
 use rdlpp_read::Files;
 use rdlpp_source::{Found, SourceFault, Sources};
-use rdlpp_steps::{Marks, NewFault, Owed, Phase, copied_fault};
+use rdlpp_state::{Marks, NewFault, Owed, Phase, copied_fault};
 use rdlpp_table::{DefineFault, Limits, Table};
 use rdlpp_usages::Expansion;
 use std::alloc::Global;
@@ -119,7 +119,7 @@ impl<S: Sources> Engine<S> {
     }
 
     // Opens the main text that was found.
-    #[tactic(auto, unfolding(rdlpp_steps::specs::Opening::opened_engine, rdlpp_steps::specs::Owed::nothing_owed))]
+    #[tactic(auto, unfolding(rdlpp_state::specs::Opening::opened_engine, rdlpp_state::specs::Owed::nothing_owed))]
     fn open_main(&mut self, path: &str, found: Found<S::Reader>)
         requires { self.old.phase ≡ Phase.Fresh }
         ensures { self.new ≡ opened_engine self.old path.now found }
@@ -135,7 +135,7 @@ impl<S: Sources> Engine<S> {
     }
 
     // Keeps a fault of the opening of the main text.
-    #[tactic(auto, unfolding(rdlpp_steps::specs::Opening::unopened_engine, rdlpp_meaning::specs::Output::opening_fault, rdlpp_meaning::specs::Outcome::told))]
+    #[tactic(auto, unfolding(rdlpp_state::specs::Opening::unopened_engine, rdlpp_meaning::specs::Output::opening_fault, rdlpp_meaning::specs::Outcome::told))]
     fn refuse_main(&mut self, kind: FaultKind, path: &str) -> Fault
         requires { self.old.phase ≡ Phase.Fresh }
         ensures fault { told result ≡ opening_fault kind path.now }
@@ -164,7 +164,7 @@ fn cut_name(name: &str) -> ArrayString<1024>
 }
 
 // The kind of fault that a source's refusal is told as.
-#[tactic(auto, unfolding(rdlpp_steps::specs::Includes::kind_of_source))]
+#[tactic(auto, unfolding(rdlpp_state::specs::Includes::kind_of_source))]
 pub(super) fn source_kind(fault: SourceFault) -> FaultKind
     ensures { result ≡ kind_of_source fault }
 {

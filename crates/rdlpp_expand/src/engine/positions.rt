@@ -2,16 +2,16 @@
 ghost use Rattle.std.specs.Prelude.{◌≡◌, ◌<◌, IfNone, IfSome, length};
 ghost use Rattle.rdlpp_meaning.specs.State.{shown_line};
 ghost use Rattle.rdlpp_read.specs.Files.{inner_buffer};
-ghost use Rattle.rdlpp_steps.specs.Engine.{is_open};
-ghost use Rattle.rdlpp_steps.specs.Marks.{told_position};
-ghost use Rattle.rdlpp_steps.specs.Owed.{nothing_owed};
-ghost use Rattle.rdlpp_steps.specs.Positions.{TakesOwed, position_of};
-ghost use Rattle.rdlpp_steps.specs.Remaining.{state_of};
+ghost use Rattle.rdlpp_state.specs.Engine.{is_open};
+ghost use Rattle.rdlpp_state.specs.Marks.{told_position};
+ghost use Rattle.rdlpp_state.specs.Owed.{nothing_owed};
+ghost use Rattle.rdlpp_state.specs.Positions.{TakesOwed, position_of};
+ghost use Rattle.rdlpp_state.specs.Remaining.{state_of};
 
 use super::Engine;
 use arrayvec::ArrayString;
 use rdlpp_source::Sources;
-use rdlpp_steps::{OwedPiece, Phase, Position};
+use rdlpp_state::{OwedPiece, Phase, Position};
 
 // A name and a line that a source shows.
 #[derive(Drop)]
@@ -73,7 +73,7 @@ impl<S: Sources> Engine<S> {
 }
 
 // Whether a main text is open.
-#[tactic(auto, unfolding(rdlpp_steps::specs::Engine::is_open))]
+#[tactic(auto, unfolding(rdlpp_state::specs::Engine::is_open))]
 fn has_text(phase: Phase) -> bool
     ensures { result ≡ is_open phase }
 {

@@ -4,12 +4,12 @@ ghost use Rattle.rdlpp_scan.specs.declared.token.Directive.TheVariants.{Define, 
 ghost use Rattle.rdlpp_read.specs.Buffer.{held_of};
 ghost use Rattle.rdlpp_read.specs.Files.{inner_buffer};
 ghost use Rattle.rdlpp_front.specs.Fronts.{IsDirective, IsRefused, IsText, word_of};
-ghost use Rattle.rdlpp_steps.specs.Conditionals.{IsSkippedWord, opening_word, passes_over};
-ghost use Rattle.rdlpp_steps.specs.Held.{IsBounded};
-ghost use Rattle.rdlpp_steps.specs.Moves.{IsReady};
-ghost use Rattle.rdlpp_steps.specs.Owed.{nothing_owed};
-ghost use Rattle.rdlpp_steps.specs.Pieces.{IsPlaced, step_answer};
-ghost use Rattle.rdlpp_steps.specs.Steps.{Walks};
+ghost use Rattle.rdlpp_state.specs.Conditionals.{IsSkippedWord, opening_word, passes_over};
+ghost use Rattle.rdlpp_state.specs.Held.{IsBounded};
+ghost use Rattle.rdlpp_state.specs.Moves.{IsReady};
+ghost use Rattle.rdlpp_state.specs.Owed.{nothing_owed};
+ghost use Rattle.rdlpp_state.specs.Pieces.{IsPlaced, step_answer};
+ghost use Rattle.rdlpp_state.specs.Steps.{Walks};
 
 use super::Engine;
 use super::words::{IFDEF_BYTES, IFNDEF_BYTES, INCLUDE_BYTES, UNDEF_BYTES};
@@ -20,7 +20,7 @@ use rdlpp_meaning::FaultKind;
 use rdlpp_read::LogicalLine;
 use rdlpp_scan::{Mode, line_ends_in, line_len};
 use rdlpp_source::Sources;
-use rdlpp_steps::Place;
+use rdlpp_state::Place;
 
 impl<S: Sources> Engine<S> {
     // Passes skipped text: a stretch of it in which nothing counts, or what counts in front.

@@ -1,17 +1,17 @@
 // Steps over the open texts of a usage.
 ghost use Rattle.std.specs.Prelude.{◌≡◌, ◌↔◌, ◌<◌, IfSome, IsTrue, length};
-ghost use Rattle.rdlpp_cursors.specs.Places.{IsPlaced as IsTextPlaced, place_bytes};
-ghost use Rattle.rdlpp_steps.specs.Held.{IsBounded};
-ghost use Rattle.rdlpp_steps.specs.Moves.{IsUnowed};
-ghost use Rattle.rdlpp_steps.specs.Pieces.{IsPlaced, held_texts, step_answer};
-ghost use Rattle.rdlpp_steps.specs.Steps.{Steps, Walks, WalksOver};
+ghost use Rattle.rdlpp_texts.specs.Places.{IsPlaced as IsTextPlaced, place_bytes};
+ghost use Rattle.rdlpp_state.specs.Held.{IsBounded};
+ghost use Rattle.rdlpp_state.specs.Moves.{IsUnowed};
+ghost use Rattle.rdlpp_state.specs.Pieces.{IsPlaced, held_texts, step_answer};
+ghost use Rattle.rdlpp_state.specs.Steps.{Steps, Walks, WalksOver};
 ghost use Rattle.rdlpp_expand.specs.Texts.{IsInTexts, LeavesTexts, StaysUnowed, place_of};
 
 use super::FURTHER_STEPS;
 use crate::engine::Engine;
-use rdlpp_cursors::{CursorStep, TextPlace, text_at};
 use rdlpp_source::Sources;
-use rdlpp_steps::{Phase, Place};
+use rdlpp_state::{Phase, Place};
+use rdlpp_texts::{CursorStep, TextPlace, text_at};
 
 // What steps over open texts come to.
 #[derive(Clone, Copy)]

@@ -5,18 +5,18 @@ ghost use Rattle.rdlpp_table.specs.View.{macro_at};
 ghost use Rattle.rdlpp_read.specs.Buffer.{held_of};
 ghost use Rattle.rdlpp_read.specs.Files.{inner_buffer};
 ghost use Rattle.rdlpp_front.specs.Fronts.{IsUsage, usage_name};
-ghost use Rattle.rdlpp_steps.specs.Held.{IsBounded};
-ghost use Rattle.rdlpp_steps.specs.Moves.{IsReady};
-ghost use Rattle.rdlpp_steps.specs.Standing.{OpensUsage};
-ghost use Rattle.rdlpp_steps.specs.Pieces.{IsPlaced, lent_answer, step_answer};
-ghost use Rattle.rdlpp_steps.specs.Steps.{Walks};
+ghost use Rattle.rdlpp_state.specs.Held.{IsBounded};
+ghost use Rattle.rdlpp_state.specs.Moves.{IsReady};
+ghost use Rattle.rdlpp_state.specs.Standing.{OpensUsage};
+ghost use Rattle.rdlpp_state.specs.Pieces.{IsPlaced, lent_answer, step_answer};
+ghost use Rattle.rdlpp_state.specs.Steps.{Walks};
 
 use super::Engine;
 use arrayvec::ArrayString;
 use rdlpp_meaning::FaultKind;
 use rdlpp_scan::Mode;
 use rdlpp_source::Sources;
-use rdlpp_steps::{Place, word_of};
+use rdlpp_state::{Place, word_of};
 use rdlpp_table::MacroId;
 use rdlpp_usages::Opening;
 

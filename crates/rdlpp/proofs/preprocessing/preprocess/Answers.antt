@@ -1,6 +1,6 @@
 use Rattle.std.proofs.Common.{◌∙◌, ap, sym}
 use Rattle.rdlpp.specs.Definitions.{given_in}
-use Rattle.rdlpp_steps.specs.Opening.{fresh_engine}
+use Rattle.rdlpp_state.specs.Opening.{fresh_engine}
 use Rattle.rdlpp_expand.specs.Run.{count_of, fault_of}
 use Rattle.rdlpp.proofs.FreshRuns.{follows_output, follows_refusal, follows_run}
 use Rattle.rdlpp.proofs.preprocessing.preprocess.Goals as goal

@@ -1,7 +1,7 @@
 use Rattle.std.proofs.Common.{◌∙◌, ap, sym}
 use Rattle.rdlpp.specs.Definitions.{given_in}
 use Rattle.rdlpp.specs.Preprocess.{given_by}
-use Rattle.rdlpp_steps.specs.Opening.{fresh_engine}
+use Rattle.rdlpp_state.specs.Opening.{fresh_engine}
 use Rattle.rdlpp_expand.specs.Run.{count_of, fault_of}
 use Rattle.rdlpp.proofs.FreshRuns.{follows_output}
 use Rattle.rdlpp.proofs.RunsFrom.{follows_from, follows_of, refused_from, shows_nothing}

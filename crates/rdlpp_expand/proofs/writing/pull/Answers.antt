@@ -1,5 +1,5 @@
 use Rattle.std.proofs.Common.{Ok, sym, ap, ◌∙◌}
-use Rattle.rdlpp_steps.specs.Pieces.{answer_of}
+use Rattle.rdlpp_state.specs.Pieces.{answer_of}
 use Rattle.rdlpp_expand.proofs.RunFacts.{answer_step, pulled_written, pulled_none, pulled_fault, pulled_silent}
 use Rattle.rdlpp_expand.proofs.Shown.{shows_none}
 use Rattle.rdlpp_expand.proofs.writing.pull.Goals as goal

@@ -3,7 +3,7 @@ use Rattle.std.specs.Prelude.{◌↔◌, IsTrue}
 use Rattle.rdlpp_expand.specs.Run.{Wrote}
 use Rattle.rdlpp_expand.specs.Texts.{IsInTexts}
 use Rattle.rdlpp_expand.specs.Watching.{Shows}
-use Rattle.rdlpp_steps.specs.Remaining.{work_left}
+use Rattle.rdlpp_state.specs.Remaining.{work_left}
 use Rattle.rdlpp_expand.proofs.writing.write_output.Given as goal
 
 abbrev pub invariant-loop-in_texts : goal.invariant-loop-in_texts

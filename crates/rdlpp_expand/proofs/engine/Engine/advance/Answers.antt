@@ -1,7 +1,7 @@
 use Rattle.std.proofs.Common.{[], refl, arith}
-use Rattle.rdlpp_steps.proofs.EngineSteps.{follows}
-use Rattle.rdlpp_steps.proofs.FrontSteps.{opened_phase}
-use Rattle.rdlpp_steps.specs.Silences.{most_silent}
+use Rattle.rdlpp_state.proofs.EngineSteps.{follows}
+use Rattle.rdlpp_state.proofs.FrontSteps.{opened_phase}
+use Rattle.rdlpp_state.specs.Silences.{most_silent}
 use Rattle.rdlpp_expand.proofs.TextFacts.{open-lent, silent-steps}
 use Rattle.rdlpp_expand.proofs.engine.Engine.advance.Goals as goal
 

@@ -1,6 +1,6 @@
 use Rattle.std.proofs.Common.{arith}
-use Rattle.rdlpp_steps.specs.Silences.{most_silent}
-use Rattle.rdlpp_steps.proofs.EngineSteps.{wider}
+use Rattle.rdlpp_state.specs.Silences.{most_silent}
+use Rattle.rdlpp_state.proofs.EngineSteps.{wider}
 use Rattle.rdlpp_expand.proofs.TextFacts.{open-lent, silent-steps}
 use Rattle.rdlpp_expand.proofs.engine.Engine.advance_outside.Goals as goal
 

@@ -1,5 +1,5 @@
 use Rattle.std.proofs.Common.{refl}
-use Rattle.rdlpp_steps.proofs.Soundness.{left_alone, whole_closed}
+use Rattle.rdlpp_state.proofs.Soundness.{left_alone, whole_closed}
 use Rattle.rdlpp_expand.proofs.engine.Engine.close.Goals as goal
 
 pub invariant_of-self : goal.invariant_of-self

@@ -1,5 +1,5 @@
 use Rattle.std.proofs.Common.{refl}
-use Rattle.rdlpp_steps.proofs.Soundness.{whole_inner, used_less}
+use Rattle.rdlpp_state.proofs.Soundness.{whole_inner, used_less}
 use Rattle.rdlpp_expand.proofs.engine.Engine.consume.Goals as goal
 
 pub invariant_of-self : goal.invariant_of-self

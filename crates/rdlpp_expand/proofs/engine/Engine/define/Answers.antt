@@ -1,4 +1,4 @@
-use Rattle.rdlpp_steps.proofs.Soundness.{fresh_texts, whole_table}
+use Rattle.rdlpp_state.proofs.Soundness.{fresh_texts, whole_table}
 use Rattle.rdlpp_expand.proofs.engine.Engine.define.Goals as goal
 
 pub invariant_of-self : goal.invariant_of-self

@@ -2,8 +2,8 @@ use Rattle.std.proofs.Common.{false, true, [], ap, ◌∙◌}
 use Rattle.rdlpp_meaning.specs.declared.fault.FaultKind.TheVariants as fault
 use Rattle.rdlpp_read.specs.Files.{inner_buffer}
 use Rattle.rdlpp_front.proofs.DefineLeft.{define_inside, define_rest_whole}
-use Rattle.rdlpp_steps.proofs.EngineSteps.{called}
-use Rattle.rdlpp_steps.proofs.FrontSteps.{IsRead, defined_placed, defined_steps, held_few, fails_reading, left_cut_define, left_long_define, left_unheld, line_kind, opened_phase, refuses, slid, source_kind, reading_define}
+use Rattle.rdlpp_state.proofs.EngineSteps.{called}
+use Rattle.rdlpp_state.proofs.FrontSteps.{IsRead, defined_placed, defined_steps, held_few, fails_reading, left_cut_define, left_long_define, left_unheld, line_kind, opened_phase, refuses, slid, source_kind, reading_define}
 use Rattle.rdlpp_expand.proofs.engine.Engine.define_line.Goals as goal
 
 pub read_define-requires : goal.read_define-requires

@@ -3,9 +3,9 @@ use Rattle.rdlpp_scan.specs.Front.{Breach}
 use Rattle.rdlpp_scan.specs.declared.token.Mode.TheVariants.{InStr, InBlock}
 use Rattle.rdlpp_meaning.specs.State.{breach_kind}
 use Rattle.rdlpp_read.specs.Files.{inner_buffer}
-use Rattle.rdlpp_steps.proofs.Soundness.{inner_facts}
-use Rattle.rdlpp_steps.proofs.FrontSteps.{comment_kind, string_kind}
-use Rattle.rdlpp_steps.proofs.EndSteps.{stops_open}
+use Rattle.rdlpp_state.proofs.Soundness.{inner_facts}
+use Rattle.rdlpp_state.proofs.FrontSteps.{comment_kind, string_kind}
+use Rattle.rdlpp_state.proofs.EndSteps.{stops_open}
 use Rattle.rdlpp_expand.proofs.engine.Engine.end.Goals as goal
 
 pub refuse_at-requires-clause-line : goal.refuse_at-requires-clause-line

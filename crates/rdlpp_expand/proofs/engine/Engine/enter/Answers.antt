@@ -1,8 +1,8 @@
 use Rattle.std.proofs.Common.{◌≡◌, refl, ap, ◌∙◌, arith}
 use Rattle.rdlpp_read.specs.Buffer.{opened_buffer, unused_of}
 use Rattle.rdlpp_read.specs.Files.{inner_buffer}
-use Rattle.rdlpp_steps.proofs.EnterSteps.{included_by}
-use Rattle.rdlpp_steps.proofs.Soundness.{inner_facts, whole_entered}
+use Rattle.rdlpp_state.proofs.EnterSteps.{included_by}
+use Rattle.rdlpp_state.proofs.Soundness.{inner_facts, whole_entered}
 use Rattle.rdlpp_expand.proofs.engine.Engine.enter.Goals as goal
 
 pub invariant_of-self : goal.invariant_of-self

@@ -1,8 +1,8 @@
 use Rattle.std.proofs.Common.{refl, arith}
 use Rattle.rdlpp_read.specs.Buffer.{entered_mode}
 use Rattle.rdlpp_read.specs.Files.{inner_buffer}
-use Rattle.rdlpp_steps.proofs.Soundness.{buffer_less, whole_inner}
-use Rattle.rdlpp_steps.proofs.WorkFacts.{entered_unused}
+use Rattle.rdlpp_state.proofs.Soundness.{buffer_less, whole_inner}
+use Rattle.rdlpp_state.proofs.WorkFacts.{entered_unused}
 use Rattle.rdlpp_expand.proofs.engine.Engine.enter_mode.Goals as goal
 
 pub invariant_of-self : goal.invariant_of-self

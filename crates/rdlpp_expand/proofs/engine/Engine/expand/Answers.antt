@@ -5,8 +5,8 @@ use Rattle.rdlpp_read.specs.Buffer.{held_of}
 use Rattle.rdlpp_read.specs.Files.{inner_buffer}
 use Rattle.rdlpp_front.specs.Fronts.{usage_name}
 use Rattle.rdlpp_front.proofs.Insides.{usage_inside, usage_word}
-use Rattle.rdlpp_steps.proofs.EngineSteps.{not_called}
-use Rattle.rdlpp_steps.proofs.FrontSteps.{kept_cut, left_undefined, read_nothing, refuses, undefined_kind}
+use Rattle.rdlpp_state.proofs.EngineSteps.{not_called}
+use Rattle.rdlpp_state.proofs.FrontSteps.{kept_cut, left_undefined, read_nothing, refuses, undefined_kind}
 use Rattle.rdlpp_expand.proofs.engine.Engine.expand.Goals as goal
 
 pub name_of-name-requires-clause-some : goal.name_of-name-requires-clause-some

@@ -1,6 +1,6 @@
 use Rattle.std.proofs.Common.{refl, arith}
 use Rattle.rdlpp_read.specs.Files.{inner_buffer}
-use Rattle.rdlpp_steps.proofs.Soundness.{buffer_less, whole_inner}
+use Rattle.rdlpp_state.proofs.Soundness.{buffer_less, whole_inner}
 use Rattle.rdlpp_expand.proofs.engine.Engine.fill.Goals as goal
 
 pub invariant_of-self : goal.invariant_of-self

@@ -1,4 +1,4 @@
-use Rattle.rdlpp_steps.specs.Searches.{is_failed_search}
+use Rattle.rdlpp_state.specs.Searches.{is_failed_search}
 use Rattle.rdlpp_expand.proofs.Retries.{both_tests, first_test}
 use Rattle.rdlpp_expand.proofs.engine.Engine.keeps_failed_search.Goals as goal
 

@@ -1,5 +1,5 @@
 use Rattle.std.proofs.Common.{ap, ◌∙◌}
-use Rattle.rdlpp_steps.specs.Searches.{is_failed_start, is_over}
+use Rattle.rdlpp_state.specs.Searches.{is_failed_start, is_over}
 use Rattle.rdlpp_expand.proofs.Retries.{both_tests, first_test}
 use Rattle.rdlpp_expand.proofs.engine.Engine.keeps_failed_start.Goals as goal
 

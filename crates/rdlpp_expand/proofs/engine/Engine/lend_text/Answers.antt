@@ -5,10 +5,10 @@ use Rattle.rdlpp_read.specs.Buffer.{held_of}
 use Rattle.rdlpp_read.specs.Files.{consumed_file, inner_buffer, with_inner}
 use Rattle.rdlpp_read.proofs.Slices.{line_ends_le}
 use Rattle.rdlpp_front.proofs.Insides.{text_inside}
-use Rattle.rdlpp_steps.specs.Marks.{lends_line}
-use Rattle.rdlpp_steps.proofs.PlaceFacts.{marking}
-use Rattle.rdlpp_steps.proofs.Soundness.{inner_facts}
-use Rattle.rdlpp_steps.proofs.FrontSteps.{entered_at, entered_holds, room_of, take_text, text_placed}
+use Rattle.rdlpp_state.specs.Marks.{lends_line}
+use Rattle.rdlpp_state.proofs.PlaceFacts.{marking}
+use Rattle.rdlpp_state.proofs.Soundness.{inner_facts}
+use Rattle.rdlpp_state.proofs.FrontSteps.{entered_at, entered_holds, room_of, take_text, text_placed}
 use Rattle.rdlpp_expand.proofs.engine.Engine.lend_text.Goals as goal
 
 pub slice_bounds-line_ends_in-end : goal.slice_bounds-line_ends_in-end

@@ -1,8 +1,8 @@
 use Rattle.std.proofs.Common.{refl, arith}
 use Rattle.rdlpp_table.specs.Table.{table_size}
 use Rattle.rdlpp_read.specs.Buffer.{closed_buffer, unused_of}
-use Rattle.rdlpp_steps.specs.Engine.{is_open}
-use Rattle.rdlpp_steps.specs.Opening.{fresh_engine}
+use Rattle.rdlpp_state.specs.Engine.{is_open}
+use Rattle.rdlpp_state.specs.Opening.{fresh_engine}
 use Rattle.rdlpp_expand.proofs.engine.Engine.new.Goals as goal
 
 pub invariant_of-result : goal.invariant_of-result

@@ -1,4 +1,4 @@
-use Rattle.rdlpp_steps.proofs.BranchSteps.{nameless_steps}
+use Rattle.rdlpp_state.proofs.BranchSteps.{nameless_steps}
 use Rattle.rdlpp_expand.proofs.engine.Engine.open_conditional.Goals as goal
 
 pub returns-in-None-clause-walks : goal.returns-in-None-clause-walks

@@ -6,9 +6,9 @@ use Rattle.rdlpp_read.specs.Files.{inner_buffer}
 use Rattle.rdlpp_usages.specs.Usages.{is_opened}
 use Rattle.rdlpp_usages.specs.declared.expansion.Opening.{Opening}
 use Rattle.rdlpp_usages.specs.declared.expansion.Opening.TheVariants.{Opened, Refused, Broken, Failed}
-use Rattle.rdlpp_steps.proofs.Soundness.{inner_facts, whole_usage}
-use Rattle.rdlpp_steps.proofs.Stores.{called_by}
-use Rattle.rdlpp_steps.proofs.UsageOpenings.{used_file}
+use Rattle.rdlpp_state.proofs.Soundness.{inner_facts, whole_usage}
+use Rattle.rdlpp_state.proofs.Stores.{called_by}
+use Rattle.rdlpp_state.proofs.UsageOpenings.{used_file}
 use Rattle.rdlpp_expand.proofs.engine.Engine.open_macro.Goals as goal
 
 pub open_usage-opening-requires-clause-room : goal.open_usage-opening-requires-clause-room

@@ -1,6 +1,6 @@
 use Rattle.std.proofs.Common.{refl, arith}
 use Rattle.rdlpp_read.specs.Buffer.{opened_buffer, unused_of}
-use Rattle.rdlpp_steps.proofs.Soundness.{fresh_nest, whole_opened}
+use Rattle.rdlpp_state.proofs.Soundness.{fresh_nest, whole_opened}
 use Rattle.rdlpp_expand.proofs.engine.Engine.open_main.Goals as goal
 
 pub enter-requires : goal.enter-requires

@@ -7,8 +7,8 @@ use Rattle.rdlpp_read.specs.Buffer.{held_of}
 use Rattle.rdlpp_read.specs.Files.{inner_buffer}
 use Rattle.rdlpp_front.specs.Fronts.{argument_name}
 use Rattle.rdlpp_front.proofs.Insides.{name_inside, name_word}
-use Rattle.rdlpp_steps.specs.Conditionals.{OpensOne, opening_word, test_of}
-use Rattle.rdlpp_steps.proofs.BranchSteps.{found_by, opens_steps, reserved_steps}
+use Rattle.rdlpp_state.specs.Conditionals.{OpensOne, opening_word, test_of}
+use Rattle.rdlpp_state.proofs.BranchSteps.{found_by, opens_steps, reserved_steps}
 use Rattle.rdlpp_expand.proofs.engine.Engine.open_named.Goals as goal
 
 pub word_of-word-requires : goal.word_of-word-requires

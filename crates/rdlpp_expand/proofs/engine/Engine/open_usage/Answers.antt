@@ -4,10 +4,10 @@ use Rattle.rdlpp_read.specs.Files.{inner_buffer}
 use Rattle.rdlpp_front.specs.Fronts.{usage_name}
 use Rattle.rdlpp_front.proofs.Insides.{usage_word}
 use Rattle.rdlpp_usages.specs.declared.expansion.Opening.{Opening}
-use Rattle.rdlpp_steps.specs.Standing.{OpensUsage}
-use Rattle.rdlpp_steps.proofs.FrontSteps.{kept_cut}
-use Rattle.rdlpp_steps.proofs.UsageWalks.{breaks_step, fails_step, opens_step, refuses_step}
-use Rattle.rdlpp_steps.proofs.Soundness.{inner_facts}
+use Rattle.rdlpp_state.specs.Standing.{OpensUsage}
+use Rattle.rdlpp_state.proofs.FrontSteps.{kept_cut}
+use Rattle.rdlpp_state.proofs.UsageWalks.{breaks_step, fails_step, opens_step, refuses_step}
+use Rattle.rdlpp_state.proofs.Soundness.{inner_facts}
 use Rattle.rdlpp_expand.proofs.UsageNames.{used_name}
 use Rattle.rdlpp_expand.proofs.engine.Engine.open_usage.Goals as goal
 

@@ -5,9 +5,9 @@ use Rattle.rdlpp_table.specs.Define.{Accepted, Refused, define_of, observed}
 use Rattle.rdlpp_read.specs.Buffer.{held_of}
 use Rattle.rdlpp_read.specs.Files.{inner_buffer}
 use Rattle.rdlpp_read.proofs.Slices.{line_ends_le}
-use Rattle.rdlpp_steps.specs.Moves.{define_rest}
-use Rattle.rdlpp_steps.specs.Owed.{OwedView, nothing_owed}
-use Rattle.rdlpp_steps.proofs.FrontSteps.{behind_word, defined_same, defines_by, owing, reads_refused}
+use Rattle.rdlpp_state.specs.Moves.{define_rest}
+use Rattle.rdlpp_state.specs.Owed.{OwedView, nothing_owed}
+use Rattle.rdlpp_state.proofs.FrontSteps.{behind_word, defined_same, defines_by, owing, reads_refused}
 use Rattle.rdlpp_expand.proofs.engine.Engine.read_define.Goals as goal
 
 pub consume-requires-clause-lines : goal.consume-requires-clause-lines

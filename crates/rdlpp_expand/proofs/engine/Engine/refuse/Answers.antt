@@ -1,8 +1,8 @@
 use Rattle.std.proofs.Common.{◌≡◌, Some, ap, ◌∙◌, arith}
 use Rattle.rdlpp_meaning.specs.State.{fault_at}
 use Rattle.rdlpp_read.specs.Files.{inner_buffer}
-use Rattle.rdlpp_steps.specs.Remaining.{state_of}
-use Rattle.rdlpp_steps.proofs.Soundness.{inner_facts}
+use Rattle.rdlpp_state.specs.Remaining.{state_of}
+use Rattle.rdlpp_state.proofs.Soundness.{inner_facts}
 use Rattle.rdlpp_expand.proofs.engine.Engine.refuse.Goals as goal
 
 pub refuse_at-requires-clause-line : goal.refuse_at-requires-clause-line

@@ -1,4 +1,4 @@
-use Rattle.rdlpp_steps.proofs.Soundness.{whole_unopened}
+use Rattle.rdlpp_state.proofs.Soundness.{whole_unopened}
 use Rattle.rdlpp_expand.proofs.engine.Engine.refuse_main.Goals as goal
 
 pub invariant_of-self : goal.invariant_of-self

@@ -1,9 +1,9 @@
 use Rattle.std.proofs.Common.{◌≡◌, take, Some, ap, ◌∙◌}
-use Rattle.rdlpp_cursors.specs.Places.{place_bytes}
+use Rattle.rdlpp_texts.specs.Places.{place_bytes}
 use Rattle.rdlpp_meaning.specs.State.{fault_at}
-use Rattle.rdlpp_steps.specs.Pieces.{held_texts}
-use Rattle.rdlpp_steps.specs.Remaining.{state_of}
-use Rattle.rdlpp_steps.proofs.FrontSteps.{kept_cut}
+use Rattle.rdlpp_state.specs.Pieces.{held_texts}
+use Rattle.rdlpp_state.specs.Remaining.{state_of}
+use Rattle.rdlpp_state.proofs.FrontSteps.{kept_cut}
 use Rattle.rdlpp_expand.proofs.engine.Engine.refuse_text.Goals as goal
 
 pub returns-clause-kept : goal.returns-clause-kept

@@ -4,10 +4,10 @@ use Rattle.rdlpp_scan.specs.SourceTokens.{line_ends}
 use Rattle.rdlpp_read.specs.Buffer.{held_of}
 use Rattle.rdlpp_read.specs.Files.{inner_buffer}
 use Rattle.rdlpp_read.proofs.Slices.{line_ends_le}
-use Rattle.rdlpp_steps.specs.Owed.{OwedView, nothing_owed, origin_owed}
-use Rattle.rdlpp_steps.specs.Marks.{ends_line}
-use Rattle.rdlpp_steps.proofs.PlaceFacts.{owing_marked}
-use Rattle.rdlpp_steps.proofs.LineSteps.{renumbers_by}
+use Rattle.rdlpp_state.specs.Owed.{OwedView, nothing_owed, origin_owed}
+use Rattle.rdlpp_state.specs.Marks.{ends_line}
+use Rattle.rdlpp_state.proofs.PlaceFacts.{owing_marked}
+use Rattle.rdlpp_state.proofs.LineSteps.{renumbers_by}
 use Rattle.rdlpp_expand.proofs.engine.Engine.renumber.Goals as goal
 
 pub consume-requires-clause-lines : goal.consume-requires-clause-lines

@@ -1,6 +1,6 @@
 use Rattle.std.proofs.Common.{refl}
-use Rattle.rdlpp_steps.specs.Lines.{renumbered_file}
-use Rattle.rdlpp_steps.proofs.Soundness.{whole_inner, shown_less}
+use Rattle.rdlpp_state.specs.Lines.{renumbered_file}
+use Rattle.rdlpp_state.proofs.Soundness.{whole_inner, shown_less}
 use Rattle.rdlpp_expand.proofs.engine.Engine.show.Goals as goal
 
 pub invariant_of-self : goal.invariant_of-self

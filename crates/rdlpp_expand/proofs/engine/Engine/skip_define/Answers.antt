@@ -6,9 +6,9 @@ use Rattle.rdlpp_read.specs.Buffer.{held_of}
 use Rattle.rdlpp_read.specs.Files.{inner_buffer}
 use Rattle.rdlpp_read.proofs.Slices.{line_ends_le}
 use Rattle.rdlpp_front.proofs.DefineLeft.{define_inside}
-use Rattle.rdlpp_steps.proofs.EngineSteps.{called}
-use Rattle.rdlpp_steps.proofs.FrontSteps.{IsRead, fails_reading, held_few, left_unheld, line_kind, opened_phase, refuses, slid, source_kind, reading_define}
-use Rattle.rdlpp_steps.proofs.PassSteps.{define_steps, left_cut, left_long, skipping}
+use Rattle.rdlpp_state.proofs.EngineSteps.{called}
+use Rattle.rdlpp_state.proofs.FrontSteps.{IsRead, fails_reading, held_few, left_unheld, line_kind, opened_phase, refuses, slid, source_kind, reading_define}
+use Rattle.rdlpp_state.proofs.PassSteps.{define_steps, left_cut, left_long, skipping}
 use Rattle.rdlpp_expand.proofs.engine.Engine.skip_define.Goals as goal
 
 pub slice_bounds-line_ends_in-end : goal.slice_bounds-line_ends_in-end

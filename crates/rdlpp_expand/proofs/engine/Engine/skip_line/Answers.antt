@@ -4,7 +4,7 @@ use Rattle.rdlpp_scan.specs.SourceTokens.{line_ends, line_len}
 use Rattle.rdlpp_read.specs.Buffer.{held_of}
 use Rattle.rdlpp_read.specs.Files.{inner_buffer}
 use Rattle.rdlpp_read.proofs.Slices.{line_ends_le}
-use Rattle.rdlpp_steps.proofs.PassSteps.{line_steps, skipping}
+use Rattle.rdlpp_state.proofs.PassSteps.{line_steps, skipping}
 use Rattle.rdlpp_expand.proofs.engine.Engine.skip_line.Goals as goal
 
 pub pass-requires-clause-inside : goal.pass-requires-clause-inside

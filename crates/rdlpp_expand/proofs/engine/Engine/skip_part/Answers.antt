@@ -5,8 +5,8 @@ use Rattle.rdlpp_read.specs.Buffer.{held_of}
 use Rattle.rdlpp_read.specs.Files.{inner_buffer}
 use Rattle.rdlpp_read.proofs.Slices.{line_ends_le}
 use Rattle.rdlpp_front.proofs.Insides.{text_inside}
-use Rattle.rdlpp_steps.proofs.FrontSteps.{entered_holds}
-use Rattle.rdlpp_steps.proofs.PassSteps.{part_steps, skipping}
+use Rattle.rdlpp_state.proofs.FrontSteps.{entered_holds}
+use Rattle.rdlpp_state.proofs.PassSteps.{part_steps, skipping}
 use Rattle.rdlpp_expand.proofs.engine.Engine.skip_part.Goals as goal
 
 pub slice_bounds-line_ends_in-end : goal.slice_bounds-line_ends_in-end

@@ -1,8 +1,8 @@
 use Rattle.std.proofs.Common.{[]}
 use Rattle.rdlpp_meaning.specs.declared.fault.FaultKind.TheVariants as fault
-use Rattle.rdlpp_steps.proofs.EngineSteps.{not_called}
-use Rattle.rdlpp_steps.proofs.FrontSteps.{perl_kind, read_nothing, refuses}
-use Rattle.rdlpp_steps.proofs.PassSteps.{bare_is, left_perl, perl_is, skipping}
+use Rattle.rdlpp_state.proofs.EngineSteps.{not_called}
+use Rattle.rdlpp_state.proofs.FrontSteps.{perl_kind, read_nothing, refuses}
+use Rattle.rdlpp_state.proofs.PassSteps.{bare_is, left_perl, perl_is, skipping}
 use Rattle.rdlpp_expand.proofs.engine.Engine.skip_refused.Goals as goal
 
 pub returns-in-EmbeddedPerl-clause-walks : goal.returns-in-EmbeddedPerl-clause-walks

@@ -1,4 +1,4 @@
-use Rattle.rdlpp_steps.proofs.Soundness.{whole_passed}
+use Rattle.rdlpp_state.proofs.Soundness.{whole_passed}
 use Rattle.rdlpp_expand.proofs.engine.Engine.spend.Goals as goal
 
 pub invariant_of-self-2 : goal.invariant_of-self-2

@@ -1,6 +1,6 @@
-use Rattle.rdlpp_steps.specs.Opening.{start_fault}
-use Rattle.rdlpp_steps.proofs.OpeningFacts.{starts_open, starts_not_found}
-use Rattle.rdlpp_steps.proofs.Soundness.{fresh_nest, fresh_open, fresh_texts}
+use Rattle.rdlpp_state.specs.Opening.{start_fault}
+use Rattle.rdlpp_state.proofs.OpeningFacts.{starts_open, starts_not_found}
+use Rattle.rdlpp_state.proofs.Soundness.{fresh_nest, fresh_open, fresh_texts}
 use Rattle.rdlpp_expand.proofs.engine.Engine.start.Goals as goal
 
 pub returns-in-Ok : goal.returns-in-Ok

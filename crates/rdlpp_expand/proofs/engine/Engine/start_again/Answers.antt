@@ -2,8 +2,8 @@ use Rattle.std.proofs.Common.{ap, refl, sym, ◌∙◌}
 use Rattle.std.specs.Option.{option_map}
 use Rattle.std.proofs.lemmas.Bool.{false≢true}
 use Rattle.rdlpp_meaning.specs.Outcome.{told}
-use Rattle.rdlpp_steps.specs.Opening.{start_fault}
-use Rattle.rdlpp_steps.specs.Searches.{is_over}
+use Rattle.rdlpp_state.specs.Opening.{start_fault}
+use Rattle.rdlpp_state.specs.Searches.{is_over}
 use Rattle.rdlpp_expand.proofs.Retries.{failed_over, fresh_whole}
 use Rattle.rdlpp_expand.proofs.engine.Engine.start_again.Goals as goal
 

@@ -1,5 +1,5 @@
 use Rattle.std.proofs.Common.{arith}
-use Rattle.rdlpp_steps.proofs.EngineSteps.{wider}
+use Rattle.rdlpp_state.proofs.EngineSteps.{wider}
 use Rattle.rdlpp_expand.proofs.engine.Engine.step.Goals as goal
 
 pub returns-then-not-is_in_texts-clause-walks : goal.returns-then-not-is_in_texts-clause-walks

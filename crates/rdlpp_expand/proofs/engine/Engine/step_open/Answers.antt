@@ -1,8 +1,8 @@
 use Rattle.std.proofs.Common.{◌≡◌, arith}
-use Rattle.rdlpp_steps.specs.Moves.{IsUnowed}
-use Rattle.rdlpp_steps.specs.Owed.{nothing_owed}
-use Rattle.rdlpp_steps.proofs.EngineSteps.{wider}
-use Rattle.rdlpp_steps.proofs.FrontSteps.{opened_phase, owed_is_placed, ready_idle, take_owed}
+use Rattle.rdlpp_state.specs.Moves.{IsUnowed}
+use Rattle.rdlpp_state.specs.Owed.{nothing_owed}
+use Rattle.rdlpp_state.proofs.EngineSteps.{wider}
+use Rattle.rdlpp_state.proofs.FrontSteps.{opened_phase, owed_is_placed, ready_idle, take_owed}
 use Rattle.rdlpp_expand.proofs.engine.Engine.step_open.Goals as goal
 
 pub take_owed-requires : goal.take_owed-requires

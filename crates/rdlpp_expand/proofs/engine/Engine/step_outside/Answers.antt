@@ -1,9 +1,9 @@
 use Rattle.std.proofs.Common.{◌≡◌, None, sym, ap, subst, ◌∙◌, arith}
-use Rattle.rdlpp_steps.specs.declared.phase.Phase.TheVariants.{Closed, Passed}
-use Rattle.rdlpp_steps.specs.Held.{IsBounded}
-use Rattle.rdlpp_steps.specs.Remaining.{output_fault}
+use Rattle.rdlpp_state.specs.declared.phase.Phase.TheVariants.{Closed, Passed}
+use Rattle.rdlpp_state.specs.Held.{IsBounded}
+use Rattle.rdlpp_state.specs.Remaining.{output_fault}
 use Rattle.rdlpp_expand.proofs.RunFacts.{bounded_kept}
-use Rattle.rdlpp_steps.proofs.EngineSteps.{kept_at, steps_passed, steps_kept_by, steps_ended, is_closed, none_kept_by, wider}
+use Rattle.rdlpp_state.proofs.EngineSteps.{kept_at, steps_passed, steps_kept_by, steps_ended, is_closed, none_kept_by, wider}
 use Rattle.rdlpp_expand.proofs.engine.Engine.step_outside.Goals as goal
 
 pub returns-then-is_some-clause-walks : goal.returns-then-is_some-clause-walks

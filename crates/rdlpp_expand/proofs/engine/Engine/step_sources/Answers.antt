@@ -1,8 +1,8 @@
 use Rattle.std.proofs.Common.{false, true, [], inl, arith}
 use Rattle.rdlpp_meaning.specs.declared.fault.FaultKind.TheVariants as fault
-use Rattle.rdlpp_steps.proofs.EngineSteps.{called, silent_then, wider}
-use Rattle.rdlpp_steps.proofs.EndSteps.{ended_placed, ended_steps}
-use Rattle.rdlpp_steps.proofs.FrontSteps.{IsRead, fails_reading, left_long_line, left_long_source, left_unfilled, line_kind, ready_filled, refuses, silent_fill, slid, source_kind}
+use Rattle.rdlpp_state.proofs.EngineSteps.{called, silent_then, wider}
+use Rattle.rdlpp_state.proofs.EndSteps.{ended_placed, ended_steps}
+use Rattle.rdlpp_state.proofs.FrontSteps.{IsRead, fails_reading, left_long_line, left_long_source, left_unfilled, line_kind, ready_filled, refuses, silent_fill, slid, source_kind}
 use Rattle.rdlpp_expand.proofs.engine.Engine.step_sources.Goals as goal
 
 pub take_held-requires : goal.take_held-requires

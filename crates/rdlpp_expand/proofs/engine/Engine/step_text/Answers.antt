@@ -1,13 +1,13 @@
 use Rattle.std.proofs.Common.{ap, refl, subst, ◌∙◌, arith}
 use Rattle.std.specs.Prelude.{is_some}
-use Rattle.rdlpp_cursors.specs.Opened.{StaysOutermost}
-use Rattle.rdlpp_cursors.specs.Places.{texts_of}
-use Rattle.rdlpp_cursors.specs.Steps.{AreSound}
+use Rattle.rdlpp_texts.specs.Opened.{StaysOutermost}
+use Rattle.rdlpp_texts.specs.Places.{texts_of}
+use Rattle.rdlpp_texts.specs.Steps.{AreSound}
 use Rattle.rdlpp_usages.specs.Usages.{StaysLent, StaysOpen}
-use Rattle.rdlpp_steps.specs.declared.place.Place.TheVariants as place
+use Rattle.rdlpp_state.specs.declared.place.Place.TheVariants as place
 use Rattle.rdlpp_expand.proofs.TextFacts.{lent-texts, unowed-texts}
-use Rattle.rdlpp_steps.proofs.PlaceFacts.{marked_usage}
-use Rattle.rdlpp_steps.proofs.TextSteps.{HoldsTexts, TakesTexts, fault_text, lend_step, opening, placed_lent, placed_word, refuse_step, turn_step}
+use Rattle.rdlpp_state.proofs.PlaceFacts.{marked_usage}
+use Rattle.rdlpp_state.proofs.TextSteps.{HoldsTexts, TakesTexts, fault_text, lend_step, opening, placed_lent, placed_word, refuse_step, turn_step}
 use Rattle.rdlpp_expand.proofs.engine.Engine.step_text.Goals as goal
 
 pub refuse_text-kept-requires-clause-placed : goal.refuse_text-kept-requires-clause-placed

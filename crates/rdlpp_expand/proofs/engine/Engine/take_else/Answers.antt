@@ -5,10 +5,10 @@ use Rattle.rdlpp_conditions.specs.Moves.{IsBranch}
 use Rattle.rdlpp_conditions.specs.declared.conditions.Branch.TheVariants.{Decided, Inner, Named, Refused}
 use Rattle.rdlpp_read.specs.Buffer.{held_of}
 use Rattle.rdlpp_read.specs.Files.{inner_buffer}
-use Rattle.rdlpp_steps.specs.Conditionals.{goes_past}
-use Rattle.rdlpp_steps.specs.OpenConditionals.{inner_below}
-use Rattle.rdlpp_steps.proofs.BranchSteps.{else_decided, else_named, else_refused, inner_else, meets_here, word_within}
-use Rattle.rdlpp_steps.proofs.OpenSteps.{decides_own}
+use Rattle.rdlpp_state.specs.Conditionals.{goes_past}
+use Rattle.rdlpp_state.specs.OpenConditionals.{inner_below}
+use Rattle.rdlpp_state.proofs.BranchSteps.{else_decided, else_named, else_refused, inner_else, meets_here, word_within}
+use Rattle.rdlpp_state.proofs.OpenSteps.{decides_own}
 use Rattle.rdlpp_expand.proofs.engine.Engine.take_else.Goals as goal
 
 pub consume-requires-clause-inside : goal.consume-requires-clause-inside

@@ -1,5 +1,5 @@
 use Rattle.std.proofs.Common.{sym, ◌∙◌}
-use Rattle.rdlpp_steps.proofs.OpenSteps.{live_is, skipped_is}
+use Rattle.rdlpp_state.proofs.OpenSteps.{live_is, skipped_is}
 use Rattle.rdlpp_expand.proofs.engine.Engine.take_held.Goals as goal
 
 pub take_front-requires-clause-live : goal.take_front-requires-clause-live

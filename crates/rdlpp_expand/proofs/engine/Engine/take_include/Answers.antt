@@ -1,8 +1,8 @@
 use Rattle.std.proofs.Common.{[]}
 use Rattle.rdlpp_meaning.specs.declared.fault.FaultKind.TheVariants as fault
-use Rattle.rdlpp_steps.proofs.EngineSteps.{not_called}
-use Rattle.rdlpp_steps.proofs.EnterSteps.{include_name_kind, left_nameless_include}
-use Rattle.rdlpp_steps.proofs.FrontSteps.{read_nothing, refuses}
+use Rattle.rdlpp_state.proofs.EngineSteps.{not_called}
+use Rattle.rdlpp_state.proofs.EnterSteps.{include_name_kind, left_nameless_include}
+use Rattle.rdlpp_state.proofs.FrontSteps.{read_nothing, refuses}
 use Rattle.rdlpp_expand.proofs.engine.Engine.take_include.Goals as goal
 
 pub returns-in-None-clause-walks : goal.returns-in-None-clause-walks

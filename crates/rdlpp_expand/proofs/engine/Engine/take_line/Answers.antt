@@ -6,10 +6,10 @@ use Rattle.rdlpp_read.specs.Arguments.{LineGiven}
 use Rattle.rdlpp_read.specs.Buffer.{held_of}
 use Rattle.rdlpp_read.specs.Files.{inner_buffer}
 use Rattle.rdlpp_front.proofs.DefineLeft.{word_held}
-use Rattle.rdlpp_steps.specs.Lines.{inner_blanks}
-use Rattle.rdlpp_steps.proofs.EngineSteps.{not_called}
-use Rattle.rdlpp_steps.proofs.FrontSteps.{read_nothing, refuses}
-use Rattle.rdlpp_steps.proofs.LineSteps.{bad_line_kind, held_short, left_bad_line, left_late_line, take_renumbered}
+use Rattle.rdlpp_state.specs.Lines.{inner_blanks}
+use Rattle.rdlpp_state.proofs.EngineSteps.{not_called}
+use Rattle.rdlpp_state.proofs.FrontSteps.{read_nothing, refuses}
+use Rattle.rdlpp_state.proofs.LineSteps.{bad_line_kind, held_short, left_bad_line, left_late_line, take_renumbered}
 use Rattle.rdlpp_expand.proofs.engine.Engine.take_line.Goals as goal
 
 pub returns-then-not-file-clause-walks : goal.returns-then-not-file-clause-walks

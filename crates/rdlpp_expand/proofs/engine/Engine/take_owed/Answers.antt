@@ -1,8 +1,8 @@
 use Rattle.std.proofs.Common.{◌≡◌, length, sym, ap, ◌∙◌, arith}
 use Rattle.rdlpp_read.specs.Files.{inner_buffer}
-use Rattle.rdlpp_steps.specs.Remaining.{inner_name}
-use Rattle.rdlpp_steps.proofs.PlaceFacts.{takes_marked, untaken}
-use Rattle.rdlpp_steps.proofs.Soundness.{inner_facts}
+use Rattle.rdlpp_state.specs.Remaining.{inner_name}
+use Rattle.rdlpp_state.proofs.PlaceFacts.{takes_marked, untaken}
+use Rattle.rdlpp_state.proofs.Soundness.{inner_facts}
 use Rattle.rdlpp_expand.proofs.engine.Engine.take_owed.Goals as goal
 
 pub lend_owed-requires : goal.lend_owed-requires

@@ -9,8 +9,8 @@ use Rattle.rdlpp_read.specs.Files.{inner_buffer}
 use Rattle.rdlpp_front.specs.Fronts.{argument_name}
 use Rattle.rdlpp_front.proofs.Insides.{name_inside, name_word}
 use Rattle.rdlpp_conditions.specs.Moves.{turned_with}
-use Rattle.rdlpp_steps.specs.Conditionals.{goes_past}
-use Rattle.rdlpp_steps.proofs.BranchSteps.{elsif_named, elsif_reserved, found_by, own_tested}
+use Rattle.rdlpp_state.specs.Conditionals.{goes_past}
+use Rattle.rdlpp_state.proofs.BranchSteps.{elsif_named, elsif_reserved, found_by, own_tested}
 use Rattle.rdlpp_expand.proofs.engine.Engine.turn_named.Goals as goal
 
 pub word_of-word-requires : goal.word_of-word-requires

@@ -1,4 +1,4 @@
-use Rattle.rdlpp_steps.proofs.BranchSteps.{elsif_nameless}
+use Rattle.rdlpp_state.proofs.BranchSteps.{elsif_nameless}
 use Rattle.rdlpp_expand.proofs.engine.Engine.turn_tested.Goals as goal
 
 pub returns-in-None-clause-walks : goal.returns-in-None-clause-walks

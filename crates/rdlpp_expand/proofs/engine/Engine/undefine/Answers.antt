@@ -1,7 +1,7 @@
 use Rattle.std.proofs.Common.{[]}
 use Rattle.rdlpp_meaning.specs.declared.fault.FaultKind.TheVariants as fault
-use Rattle.rdlpp_steps.proofs.EngineSteps.{not_called}
-use Rattle.rdlpp_steps.proofs.FrontSteps.{left_nameless, nameless_kind, read_nothing, refuses}
+use Rattle.rdlpp_state.proofs.EngineSteps.{not_called}
+use Rattle.rdlpp_state.proofs.FrontSteps.{left_nameless, nameless_kind, read_nothing, refuses}
 use Rattle.rdlpp_expand.proofs.engine.Engine.undefine.Goals as goal
 
 pub returns-in-None-clause-walks : goal.returns-in-None-clause-walks

@@ -7,8 +7,8 @@ use Rattle.rdlpp_table.specs.Table.{without}
 use Rattle.rdlpp_read.specs.Files.{consumed_file, inner_buffer, with_inner}
 use Rattle.rdlpp_front.specs.Fronts.{argument_name}
 use Rattle.rdlpp_front.proofs.Insides.{name_inside, name_word}
-use Rattle.rdlpp_steps.proofs.EngineSteps.{not_called}
-use Rattle.rdlpp_steps.proofs.FrontSteps.{kept_cut, left_reserved, read_nothing, refuses, reserved_kind, take_undef}
+use Rattle.rdlpp_state.proofs.EngineSteps.{not_called}
+use Rattle.rdlpp_state.proofs.FrontSteps.{kept_cut, left_reserved, read_nothing, refuses, reserved_kind, take_undef}
 use Rattle.rdlpp_expand.proofs.engine.Engine.undefine_named.Goals as goal
 
 pub word_of-word-requires : goal.word_of-word-requires

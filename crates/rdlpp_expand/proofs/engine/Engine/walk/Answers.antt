@@ -1,6 +1,6 @@
 use Rattle.std.proofs.Common.{◌*◌, inl, refl, arith}
-use Rattle.rdlpp_steps.specs.Silences.{most_silent}
-use Rattle.rdlpp_steps.proofs.EngineSteps.{passes_more, passes_on, passes_started}
+use Rattle.rdlpp_state.specs.Silences.{most_silent}
+use Rattle.rdlpp_state.proofs.EngineSteps.{passes_more, passes_on, passes_started}
 use Rattle.rdlpp_expand.proofs.engine.Engine.walk.Goals as goal
 
 pub stepping-init : goal.stepping-init

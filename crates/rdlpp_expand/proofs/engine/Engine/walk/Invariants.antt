@@ -1,5 +1,5 @@
 use Rattle.std.proofs.Common.{◌*◌}
-use Rattle.rdlpp_steps.proofs.EngineSteps.{Passes}
+use Rattle.rdlpp_state.proofs.EngineSteps.{Passes}
 use Rattle.rdlpp_expand.proofs.engine.Engine.walk.Given as goal
 
 abbrev pub invariant-stepping : goal.invariant-stepping

@@ -1,4 +1,4 @@
-use Rattle.rdlpp_steps.proofs.EngineSteps.{Passes}
+use Rattle.rdlpp_state.proofs.EngineSteps.{Passes}
 use Rattle.rdlpp_expand.specs.Texts.{IsInTexts}
 use Rattle.rdlpp_expand.proofs.engine.Engine.walk_texts.Given as goal
 

@@ -1,5 +1,5 @@
 use Rattle.std.proofs.Common.{◌≡◌, ◌∙◌, ◌-◌, ap, take, arith}
-use Rattle.rdlpp_steps.proofs.OpeningFacts.{name_cut_at}
+use Rattle.rdlpp_state.proofs.OpeningFacts.{name_cut_at}
 use Rattle.rdlpp_expand.proofs.engine.opening.cut_name.Goals as goal
 
 pub returns : goal.returns

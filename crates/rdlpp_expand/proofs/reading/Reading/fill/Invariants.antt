@@ -1,4 +1,4 @@
-use Rattle.rdlpp_steps.specs.Remaining.{work_left}
+use Rattle.rdlpp_state.specs.Remaining.{work_left}
 use Rattle.rdlpp_expand.proofs.Readings.{IsGiven}
 use Rattle.rdlpp_expand.proofs.reading.Reading.fill.Given as goal
 

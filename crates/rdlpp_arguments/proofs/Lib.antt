@@ -1,5 +1,0 @@
-pub mod Halts
-pub mod Takes
-pub mod Turns
-pub mod CallLoop
-pub mod Faults

@@ -1,4 +1,0 @@
-pub mod Store
-pub mod Reads
-pub mod Taking
-pub mod CallReads

@@ -1,5 +1,0 @@
-use Rattle.rdlpp_calls.proofs.NoSlashes.{kept_is}
-use Rattle.rdlpp_calls.proofs.kept.keeps_each.Goals as goal
-
-pub returns-then-has_no_slash : goal.returns-then-has_no_slash
-returns-then-has_no_slash c = kept_is c.args.text.now c.has_no_slash.result c.has_no_slash.ensures c.if-has_no_slash.true

@@ -1,6 +1,0 @@
-use Rattle.std.proofs.Common.{arith}
-use Rattle.rdlpp_cursors.proofs.Bounding.{within-wider}
-use Rattle.rdlpp_cursors.proofs.scopes.body_bounds.Goals as goal
-
-pub returns : goal.returns
-returns c bindings = ((omega (arith, c.index.ensures), omega (arith, c.index.ensures)), within-wider _ c.scope_bounds-outer.result _ (omega arith) (omega arith) (c.scope_bounds-outer.ensures bindings))

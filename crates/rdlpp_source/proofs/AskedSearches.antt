@@ -1,0 +1,84 @@
+-- A search that came to an answer gives the one of the catalog.
+use Rattle.std.proofs.Common.{◌≡◌, ℕ, ◌==◌, Bool, true, false, cond, List, [], ◌∷◌, length, Option, None, Some, nat_lt, refl, sym, ap, subst, ◌∙◌, Result, Ok, Err}
+use Rattle.std.specs.Bool.{⊤}
+use Rattle.std.specs.List.{list_any}
+use Rattle.rdlpp_source.specs.declared.sources.Found.{Found}
+use Rattle.rdlpp_source.specs.declared.sources.SourceFault.{SourceFault}
+use Rattle.rdlpp_source.specs.declared.sources.SourceFault.TheVariants.{Absent, PathTooLong, Device, NoMemory}
+use Rattle.rdlpp_source.specs.Sources.{Answer, Finds, Missing, Overlong, Present}
+use Rattle.rdlpp_source.specs.Search.{answer_at, answer_or, at_path, candidates, first_answer}
+use Rattle.rdlpp_source.specs.Asked.{Answered, Answers, Comes, Ends, Refused, Search, Wanted, asked_catalog, failed_search, first_search, folders_of, known_search, search_at, search_of, search_or, standing_at, standing_text, text_at, unread_of}
+use Rattle.rdlpp_source.specs.declared.asked.AskedTexts.{AskedTexts}
+use Rattle.rdlpp_source.specs.declared.asked.Stop.{Stop}
+use Rattle.rdlpp_source.specs.declared.asked.Stop.TheVariants.{Absent as NotThere, PathTooLong as TooLong, Failed as NotOpened, NoMemory as NoRoom, Wanted as NotKnown}
+use Rattle.rdlpp_source.specs.declared.asked.Standing.{Standing}
+use Rattle.rdlpp_source.specs.declared.asked.Standing.TheVariants.{Text, Absent as Gone, Failed}
+
+-- what a search says of an answer: where it came to one, it is this
+abbrev Says : Search → Answer → Type 0
+Says (Answered found) answer = answer ≡ found
+Says Refused answer = ⊤
+Says (Wanted path) answer = ⊤
+
+known_says : (asks : Bool) (path : List ℕ) (s : Option Standing) → Says (known_search asks path s) (at_path path (standing_text s))
+known_says asks path (Some (Text text)) = refl
+known_says asks path (Some Gone) = refl
+known_says asks path (Some Failed) = tt
+known_says true path None = tt
+known_says false path None = refl
+
+cond_says : (b : Bool) (s t : Search) (x y : Answer) → Says s x → Says t y → Says (cond b s t) (cond b x y)
+cond_says true s t x y p q = p
+cond_says false s t x y p q = q
+
+at_says : (texts : AskedTexts) (path : List ℕ) → Says (search_at texts path) (answer_at (text_at texts) path)
+at_says texts path =
+    cond_says (nat_lt 1024 (length path)) (Answered Overlong) (cond (list_any (λ b. b == 10) path) (Answered Missing) (known_search texts.asks path (standing_at texts path)))
+    Overlong (cond (list_any (λ b. b == 10) path) Missing (at_path path (text_at texts path))) refl
+    (cond_says (list_any (λ b. b == 10) path) (Answered Missing) (known_search texts.asks path (standing_at texts path)) Missing (at_path path (text_at texts path)) refl
+    (known_says texts.asks path (standing_at texts path)))
+
+or_says : (s t : Search) (x y : Answer) → Says s x → Says t y → Says (search_or s t) (answer_or x y)
+or_says (Answered Missing) t x y p q = subst (λ (a : Answer). Says t (answer_or a y)) (sym p) q
+or_says (Answered Overlong) t x y p q = ap (λ (a : Answer). answer_or a y) p
+or_says (Answered (Present path text)) t x y p q = ap (λ (a : Answer). answer_or a y) p
+or_says Refused t x y p q = tt
+or_says (Wanted path) t x y p q = tt
+
+first_says : (texts : AskedTexts) (paths : List (List ℕ)) → Says (first_search texts paths) (first_answer (text_at texts) paths)
+first_says texts [] = refl
+first_says texts (path ∷ paths) =
+    or_says (search_at texts path) (first_search texts paths) (answer_at (text_at texts) path) (first_answer (text_at texts) paths) (at_says texts path) (first_says texts paths)
+
+says_finds : (s : Search) (answer : Answer) (r : Result (Found (List ℕ)) SourceFault) (wanted : Option (List ℕ)) → Says s answer → Answers s r wanted → Finds unread_of answer r
+says_finds s answer (Ok found) wanted says a = subst (λ (t : Search). Says t answer) a.0 says
+says_finds s answer (Err Absent) wanted says a = subst (λ (t : Search). Says t answer) a.0 says
+says_finds s answer (Err PathTooLong) wanted says a = subst (λ (t : Search). Says t answer) a.0 says
+says_finds s answer (Err Device) wanted says a = tt
+says_finds s answer (Err NoMemory) wanted says a = tt
+
+-- a search that is told as it ended within answers so
+pub answers_of : (s : Search) (within : Result (Found (List ℕ)) Stop) (r : Result (Found (List ℕ)) SourceFault) (wanted : Option (List ℕ))
+    → Comes s within → Ends within r wanted → Answers s r wanted
+answers_of s (Ok found) r wanted c e = subst (λ (t : Result (Found (List ℕ)) SourceFault). Answers s t wanted) (sym e.0) (c, e.1)
+answers_of s (Err NotThere) (Err fault) wanted c e = subst (λ (f : SourceFault). Answers s (Err f) wanted) (sym e.0) (c, e.1)
+answers_of s (Err TooLong) (Err fault) wanted c e = subst (λ (f : SourceFault). Answers s (Err f) wanted) (sym e.0) (c, e.1)
+answers_of s (Err NotOpened) (Err fault) wanted c e = subst (λ (f : SourceFault). Answers s (Err f) wanted) (sym e.0) (c ∙ ap failed_search (sym e.1))
+answers_of s (Err NoRoom) (Err fault) wanted c e = subst (λ (f : SourceFault). Answers s (Err f) wanted) (sym e.0) e.1
+answers_of s (Err (NotKnown path)) (Err fault) wanted c e = subst (λ (f : SourceFault). Answers s (Err f) wanted) (sym e.0) (c ∙ ap failed_search (sym e.1))
+answers_of s (Err NotThere) (Ok found) wanted c e = absurd e
+answers_of s (Err TooLong) (Ok found) wanted c e = absurd e
+answers_of s (Err NotOpened) (Ok found) wanted c e = absurd e
+answers_of s (Err NoRoom) (Ok found) wanted c e = absurd e
+answers_of s (Err (NotKnown path)) (Ok found) wanted c e = absurd e
+
+-- the search for a path gives what the catalog has
+pub finds_top : (texts : AskedTexts) (path : List ℕ) (r : Result (Found (List ℕ)) SourceFault) (wanted : Option (List ℕ))
+    → Answers (search_at texts path) r wanted → Finds unread_of ((asked_catalog texts).top path) r
+finds_top texts path r wanted a = says_finds (search_at texts path) (answer_at (text_at texts) path) r wanted (at_says texts path) a
+
+-- the search for a name gives what the catalog has
+pub finds_named : (texts : AskedTexts) (from name : List ℕ) (r : Result (Found (List ℕ)) SourceFault) (wanted : Option (List ℕ))
+    → Answers (search_of texts from name) r wanted → Finds unread_of ((asked_catalog texts).find from name) r
+finds_named texts from name r wanted a =
+    says_finds (search_of texts from name) (first_answer (text_at texts) (candidates (folders_of texts) from name)) r wanted (first_says texts (candidates (folders_of texts) from name)) a

@@ -1,0 +1,367 @@
+// Sources in memory that own their texts, and that may ask for what they don't have.
+ghost use Rattle.std.specs.Prelude.{◌≡◌, ◌≤◌, ℕ, List, [], None, false, map, min, drop, length, true, OnOk, OnErr};
+ghost use Rattle.std.specs.Option.{option_copied};
+ghost use Rattle.std.specs.Io.{ReadsAtMost};
+ghost use Rattle.std.specs.String.{string_bytes};
+ghost use Rattle.rdlpp_source.specs.Sources.{Finds, Reads, is_device, is_no_memory};
+ghost use Rattle.rdlpp_source.specs.Search.{joined_path};
+ghost use Rattle.rdlpp_source.specs.Counts.{Counts};
+ghost use Rattle.rdlpp_source.specs.Asked.{Answers, Comes, Adds, Ends, Opens, Stays, Stops, first_search, folders_of, is_failed, is_refused, search_at, search_of, standing_at, wanted_of};
+
+use crate::{Found, SourceFault, Sources, folder_of, joined_path};
+use arrayvec::ArrayString;
+use std::alloc::{AllocError, Global};
+use std::collections::BTreeMap;
+use std::marker::Model;
+use std::rc::Rc;
+
+/// What stands at a path.
+#[derive(Drop)]
+pub enum Standing {
+    /// A text. It is shared by those who read it.
+    Text(Rc<Vec<u8>, Global>),
+    /// Nothing: a search goes on behind it.
+    Absent,
+    /// What can't be opened: a search ends there, as at a device that failed.
+    Failed,
+}
+
+/// Sources in memory that own their texts, by this project's search rule, and that may ask for what
+/// they don't have.
+///
+/// They tell their texts: `top` and `find` answer by what stands at each path and the order of
+/// `folders`, and a reader gives the very text that stands there. Where `asks`, a candidate of which
+/// nothing is known ends a search: `Device` is answered, and `wanted` has the candidate's path until
+/// the next search; after `tell` of it the search may be made again. Else nothing stands at such a
+/// path. A text that has `usize::MAX` readers has room for no further one, which is told as `NoMemory`.
+#[derive(Drop)]
+pub struct AskedTexts {
+    /// What is known of each path. One that has more than 1,024 bytes or an LF byte is never found.
+    pub known: BTreeMap<String, Standing>,
+    /// The include folders, in the order of the search.
+    pub folders: Vec<String>,
+    /// Whether paths of which nothing is known are asked for.
+    pub asks: bool,
+    /// The path that the last search asked for, where it did.
+    pub wanted: Option<ArrayString<1024>>,
+    /// How often a candidate couldn't be opened, or was asked for.
+    pub failures: u64,
+    /// How often a text had no room for a further reader.
+    pub refusals: u64,
+}
+
+/// What reads a text of `AskedTexts`.
+#[derive(Drop)]
+pub struct AskedReader {
+    text: Rc<Vec<u8>, Global>,
+    // how many bytes were read
+    from: usize,
+}
+
+impl Model for AskedReader {
+    ghost use Rattle.std.specs.Prelude.{ℕ, List, ◌≤◌, drop, length};
+
+    ghost Value = { List ℕ };
+
+    ghost view = { λ r. drop r.from r.text.value.items };
+
+    ghost invariant = { λ r. r.from ≤ length r.text.value.items };
+}
+
+impl AskedReader {
+    // A text, from its first byte on.
+    fn of(text: Rc<Vec<u8>, Global>) -> AskedReader
+        ensures { result ≡ text.value.items }
+    {
+        AskedReader { text, from: 0 }
+    }
+
+    // The bytes that weren't read yet.
+    fn left(&self) -> &[u8]
+        ensures { result.now ≡ self.now }
+    {
+        let text: &Vec<u8> = self.text.as_ref();
+        &text[self.from..]
+    }
+
+    // Passes so many bytes.
+    fn pass(&mut self, len: usize)
+        requires { len ≤ length self.old }
+        ensures { self.new ≡ drop len self.old }
+    {
+        self.from += len;
+    }
+}
+
+// Why a search opened nothing.
+#[derive(Drop)]
+enum Stop {
+    // No candidate exists.
+    Absent,
+    // A candidate is too long.
+    PathTooLong,
+    // A candidate can't be opened.
+    Failed,
+    // A text has no room for a further reader.
+    NoMemory,
+    // Nothing is known of a candidate.
+    Wanted(ArrayString<1024>),
+}
+
+impl AskedTexts {
+    /// Sources of which nothing is known, and which don't ask.
+    #[tactic(auto, unfolding(crate::specs::Asked::standing_at))]
+    pub fn empty(alloc: Global) -> AskedTexts
+        ensures known { (q : List ℕ) → standing_at result q ≡ None }
+        ensures folders { result.folders.items ≡ [] }
+        ensures asks { result.asks ≡ false }
+        ensures wanted { result.wanted ≡ None }
+        ensures counts { (result.failures ≡ 0) × (result.refusals ≡ 0) }
+    {
+        AskedTexts {
+            known: BTreeMap::new(alloc),
+            folders: Vec::new(alloc),
+            asks: false,
+            wanted: None,
+            failures: 0,
+            refusals: 0,
+        }
+    }
+
+    /// Adds what stands at a path, unless something is known of that path already.
+    ///
+    /// # Errors
+    /// There is no memory for a further path; what is known stays.
+    #[tactic(auto, using(std::proofs::lemmas::Map::Text::text_keys), unfolding(crate::specs::Asked::standing_at))]
+    pub fn add(&mut self, path: String, standing: Standing) -> Result<(), AllocError>
+        ensures added { OnOk result (Adds self.old self.new true (string_bytes path) standing) }
+        ensures refused { OnErr result (Stays self.old self.new) }
+        ensures only { self.new ≡ record self.old { known = self.new.known } }
+    {
+        if self.known.contains_key(path.as_str()) {
+            return Ok(());
+        }
+        match self.known.insert(path, standing) {
+            Ok(_) => Ok(()),
+            Err(_) => Err(AllocError),
+        }
+    }
+
+    /// Tells what stands at a path. The first that is told of a path counts, and where these sources
+    /// don't ask all is told from the start: else nothing changes.
+    ///
+    /// # Errors
+    /// There is no memory for a further path; nothing is known of it then, as before.
+    pub fn tell(&mut self, path: String, standing: Standing) -> Result<(), AllocError>
+        ensures told { OnOk result (Adds self.old self.new self.old.asks (string_bytes path) standing) }
+        ensures refused { OnErr result (Stays self.old self.new) }
+        ensures only { self.new ≡ record self.old { known = self.new.known } }
+    {
+        if !self.asks {
+            return Ok(());
+        }
+        self.add(path, standing)
+    }
+
+    // What is known of a path.
+    #[tactic(auto, unfolding(crate::specs::Asked::standing_at))]
+    fn standing(&self, path: &str) -> Option<&Standing>
+        ensures { option_copied result ≡ standing_at self.now path.now }
+    {
+        self.known.get(path)
+    }
+
+    // The source at one candidate.
+    fn open(&self, path: ArrayString<1024>) -> Result<Found<AskedReader>, Stop>
+        ensures { Comes (search_at self.now path.bytes) result }
+    {
+        if path.as_bytes().contains(&b'\n') {
+            return Err(Stop::Absent);
+        }
+        let Some(standing) = self.standing(path.as_str()) else {
+            return Err(if self.asks {
+                Stop::Wanted(path)
+            } else {
+                Stop::Absent
+            });
+        };
+        match standing {
+            Standing::Text(text) => open_text(path, text),
+            Standing::Absent => Err(Stop::Absent),
+            Standing::Failed => Err(Stop::Failed),
+        }
+    }
+
+    // The source whose path is given.
+    fn open_top(&self, path: &str) -> Result<Found<AskedReader>, Stop>
+        ensures { Comes (search_at self.now path.now) result }
+    {
+        match ArrayString::from(path) {
+            Ok(path) => self.open(path),
+            Err(_) => Err(Stop::PathTooLong),
+        }
+    }
+
+    // The source of a name in a folder.
+    fn open_in(&self, folder: &str, name: &str) -> Result<Found<AskedReader>, Stop>
+        ensures { Comes (search_at self.now (joined_path folder.now name.now)) result }
+    {
+        match joined_path(folder, name) {
+            Some(path) => self.open(path),
+            None => Err(Stop::PathTooLong),
+        }
+    }
+
+    // The source of a name in the first of the include folders that has it.
+    fn open_in_folders(&self, name: &str) -> Result<Found<AskedReader>, Stop>
+        ensures { Comes (first_search self.now
+            (map (λ folder. joined_path folder name.now) (folders_of self.now))) result }
+    {
+        for folder in self.folders.iter() {
+            match self.open_in(folder.as_str(), name) {
+                Err(Stop::Absent) => {}
+                answer => return answer,
+            }
+        }
+        Err(Stop::Absent)
+    }
+
+    // The source that a name of an include directive names.
+    fn open_named(&self, from: &str, name: &str) -> Result<Found<AskedReader>, Stop>
+        ensures { Comes (search_of self.now from.now name.now) result }
+    {
+        if name.starts_with('/') {
+            return self.open_top(name);
+        }
+        match self.open_in(folder_of(from), name) {
+            Err(Stop::Absent) => self.open_in_folders(name),
+            answer => answer,
+        }
+    }
+
+    // Counts a failed search, and notes the path that it asked for.
+    fn failed(&mut self, wanted: Option<ArrayString<1024>>) -> SourceFault
+        ensures fault { result ≡ SourceFault.Device }
+        ensures wanted { self.new.wanted ≡ wanted }
+        ensures count { Counts true self.old.failures self.new.failures }
+        ensures only { self.new ≡ record self.old { wanted = self.new.wanted; failures = self.new.failures } }
+    {
+        self.wanted = wanted;
+        self.failures = self.failures.saturating_add(1);
+        SourceFault::Device
+    }
+
+    // Counts a text that had no room for a reader.
+    fn refused(&mut self) -> SourceFault
+        ensures fault { result ≡ SourceFault.NoMemory }
+        ensures count { Counts true self.old.refusals self.new.refusals }
+        ensures only { self.new ≡ record self.old { refusals = self.new.refusals } }
+    {
+        self.refusals = self.refusals.saturating_add(1);
+        SourceFault::NoMemory
+    }
+
+    // Tells why a search opened nothing.
+    fn stopped(&mut self, stop: Stop) -> SourceFault
+        ensures fault { Stops stop result (wanted_of self.new) }
+        ensures failures { Counts (is_failed stop) self.old.failures self.new.failures }
+        ensures refusals { Counts (is_refused stop) self.old.refusals self.new.refusals }
+        ensures only { self.new ≡ record self.old { wanted = self.new.wanted; failures = self.new.failures; refusals = self.new.refusals } }
+    {
+        self.wanted = None;
+        match stop {
+            Stop::Absent => SourceFault::Absent,
+            Stop::PathTooLong => SourceFault::PathTooLong,
+            Stop::Failed => self.failed(None),
+            Stop::Wanted(path) => self.failed(Some(path)),
+            Stop::NoMemory => self.refused(),
+        }
+    }
+
+    // Tells how a search ended.
+    fn ended(
+        &mut self,
+        answer: Result<Found<AskedReader>, Stop>,
+    ) -> Result<Found<AskedReader>, SourceFault>
+        ensures answer { Ends answer result (wanted_of self.new) }
+        ensures failures { Counts (is_device result) self.old.failures self.new.failures }
+        ensures refusals { Counts (is_no_memory result) self.old.refusals self.new.refusals }
+        ensures only { self.new ≡ record self.old { wanted = self.new.wanted; failures = self.new.failures; refusals = self.new.refusals } }
+    {
+        match answer {
+            Ok(found) => {
+                self.wanted = None;
+                Ok(found)
+            }
+            Err(stop) => Err(self.stopped(stop)),
+        }
+    }
+}
+
+// A text that a further reader is given.
+fn open_text(
+    path: ArrayString<1024>,
+    text: &Rc<Vec<u8>, Global>,
+) -> Result<Found<AskedReader>, Stop>
+    ensures { Opens path.bytes text.now.value.items result }
+{
+    match text.clone() {
+        Ok(text) => Ok(Found {
+            path,
+            reader: AskedReader::of(text),
+        }),
+        Err(_) => Err(Stop::NoMemory),
+    }
+}
+
+impl Sources for AskedTexts {
+    type Reader = AskedReader;
+
+    ghost use Rattle.std.specs.Prelude.{⊤};
+    ghost use Rattle.rdlpp_source.specs.Asked.{asked_catalog, unread_of};
+
+    ghost tells = { λ _. ⊤ };
+
+    ghost catalog = { asked_catalog };
+
+    ghost unread = { unread_of };
+
+    ghost failures = { λ s. s.failures };
+
+    ghost refusals = { λ s. s.refusals };
+
+    fn top(&mut self, path: &str) -> Result<Found<AskedReader>, SourceFault>
+        ensures answer { Answers (search_at self.old path.now) result (wanted_of self.new) }
+        ensures finds { Finds unread_of ((asked_catalog self.old).top path.now) result }
+        ensures failures { Counts (is_device result) self.old.failures self.new.failures }
+        ensures refusals { Counts (is_no_memory result) self.old.refusals self.new.refusals }
+        ensures only { self.new ≡ record self.old { wanted = self.new.wanted; failures = self.new.failures; refusals = self.new.refusals } }
+    {
+        let answer = self.open_top(path);
+        self.ended(answer)
+    }
+
+    fn find(&mut self, from: &str, name: &str) -> Result<Found<AskedReader>, SourceFault>
+        ensures answer { Answers (search_of self.old from.now name.now) result (wanted_of self.new) }
+        ensures finds { Finds unread_of ((asked_catalog self.old).find from.now name.now) result }
+        ensures failures { Counts (is_device result) self.old.failures self.new.failures }
+        ensures refusals { Counts (is_no_memory result) self.old.refusals self.new.refusals }
+        ensures only { self.new ≡ record self.old { wanted = self.new.wanted; failures = self.new.failures; refusals = self.new.refusals } }
+    {
+        let answer = self.open_named(from, name);
+        self.ended(answer)
+    }
+
+    fn read(&mut self, reader: &mut AskedReader, to: &mut [u8]) -> Result<usize, SourceFault>
+        ensures bound { ReadsAtMost result to.new }
+        ensures bytes { Reads reader.old reader.new result to.new }
+        ensures count { result ≡ Ok (min (length to.old) (length reader.old)) }
+        ensures unchanged { self.new ≡ self.old }
+    {
+        let left = reader.left();
+        let len = to.len().min(left.len());
+        to[..len].copy_from_slice(&left[..len]);
+        reader.pass(len);
+        Ok(len)
+    }
+}

@@ -1,0 +1,648 @@
+-- The steps of an engine, by what they met.
+use Rattle.std.proofs.Common.{◌≡◌, ◌⊎◌, inl, inr, ℕ, ◌+◌, ◌≤◌, ◌<◌, Bool, true, false, ◌&&◌, ◌||◌, List, [], ◌∷◌, ◌++◌, Option, None, Some, Result, Ok, Err, length, refl, sym, ap, ◌∙◌, subst, arith, length-append}
+use Rattle.std.specs.Option.{is_some, option_map}
+use Rattle.rdlpp_source.specs.Counts.{Counts}
+use Rattle.rdlpp_source.specs.declared.sources.Sources.{Ghosts}
+use Rattle.rdlpp_meaning.specs.declared.fault.Fault.{Fault}
+use Rattle.rdlpp_meaning.specs.declared.fault.FaultKind.{FaultKind}
+use Rattle.rdlpp_meaning.specs.declared.fault.FaultKind.TheVariants as fault
+use Rattle.rdlpp_meaning.specs.Meaning.{Passage, behind_bytes, leaves, outcome}
+use Rattle.rdlpp_meaning.specs.Outcome.{Told, told, Outcome, fails, gives}
+use Rattle.rdlpp_meaning.specs.State.{fault_at}
+use Rattle.rdlpp_meaning.proofs.Outputs.{outcome-behind_bytes}
+use Rattle.rdlpp_meaning.proofs.Passages.{outcome-leaves}
+use Rattle.rdlpp_read.specs.Buffer.{Slides, reading_line_of}
+use Rattle.rdlpp_read.specs.Calls.{SourcesRead}
+use Rattle.rdlpp_read.specs.Files.{inner_buffer, with_buffer}
+use Rattle.rdlpp_state.specs.Calls.{SourcesCalled}
+use Rattle.rdlpp_state.specs.Engine.{EngineView}
+use Rattle.rdlpp_state.specs.Held.{IsBounded}
+use Rattle.rdlpp_state.specs.Standing.{LendNone, LendsNone, LendsWhere, Reaches, StandsIn}
+use Rattle.rdlpp_state.specs.Stored.{AreParts}
+use Rattle.rdlpp_read.specs.declared.files.File.{File}
+use Rattle.rdlpp_state.proofs.Stores.{KeepsStores, keeps_refused, none_called}
+use Rattle.rdlpp_state.specs.Owed.{nothing_owed}
+use Rattle.rdlpp_state.specs.Pieces.{kept_answer, lent_answer}
+use Rattle.rdlpp_state.specs.Positions.{position_of}
+use Rattle.rdlpp_state.specs.Remaining.{uncut_of, kept_uncut, output_fault, phase_uncut, state_of, text_of, work_left}
+use Rattle.rdlpp_state.specs.Steps.{EndsText, FailsAt, OnRead, Halts, HaltsAt, IsReading, AtFront, Itself, LendsText, StopsReading, StepsOver, TellsText, Walks, WalksOver, all_of, may_follow, no_len, Tells, IsOwn, IsStarted, has_failed, has_met, has_refused, is_call_failed, is_memory_kind, is_read_failed, is_write_failed}
+use Rattle.rdlpp_state.specs.declared.phase.Phase.{Phase}
+use Rattle.rdlpp_state.specs.declared.phase.Phase.TheVariants.{Fresh, Open, Passed, Closed}
+use Rattle.rdlpp_state.specs.declared.place.Place.{Place}
+use Rattle.rdlpp_state.specs.declared.place.Place.TheVariants.{Kept}
+
+-- nothing was asked of the sources
+pub not_called : {S R : Type 0} (g : Ghosts S R) (sources : S) → SourcesCalled g false false sources sources
+not_called g sources = record { failures = refl; refusals = refl; tells = λ t. t; catalog = refl }
+
+-- a read that may have failed
+pub called : {S R : Type 0} (g : Ghosts S R) (failed : Bool) (old new : S) → SourcesRead g failed old new → SourcesCalled g failed false old new
+called g failed old new read = record { failures = read.failures; refusals = read.refusals; tells = read.tells; catalog = read.catalog }
+
+-- what remains of an engine whose main text is open
+pub left_open : {S R : Type 0} (g : Ghosts S R) (e : EngineView S R) → e.kept ≡ None → e.phase ≡ Open → uncut_of g e ≡ outcome (text_of g e)
+unfolding uncut_of kept_uncut phase_uncut
+left_open g e free open_ = rw (free, open_) refl
+
+-- a kept fault
+pub steps_kept : {S R : Type 0} (g : Ghosts S R) (e : EngineView S R) (f : Told) → IsStarted e → IsBounded e → e.kept ≡ Some f → Walks g e e (Err f)
+unfolding has_met uncut_of kept_uncut no_len
+steps_kept g e f started bounded kept = record {
+  limits = refl;
+  origins = refl;
+  main = refl;
+  started = started;
+  kept = λ h is. (let same : Some f ≡ Some h = sym kept ∙ is in cc, refl);
+  ended = λ none closed. absurd (let no : Some f ≡ None = sym kept ∙ none in cc);
+  passed = λ none past. absurd (let no : Some f ≡ None = sym kept ∙ none in cc);
+  keeps = kept;
+  free = tt;
+  own = λ none. absurd (let no : Some f ≡ None = sym kept ∙ none in cc);
+  ends = λ no. absurd (cc);
+  failed = λ met. absurd (let no : false ≡ true = rw kept at met in cc);
+  call = rw kept (not_called g e.sources);
+  tells = λ own t. rw kept refl;
+  text = λ none. absurd (let no : Some f ≡ None = sym kept ∙ none in cc);
+  reads = λ met. absurd (let no : false ≡ true = rw kept at met in cc);
+  halts = λ none. absurd (let no : Some f ≡ None = sym kept ∙ none in cc);
+  falls = λ bytes no. absurd (cc);
+  lends = λ bytes no. absurd (cc);
+  quota = omega arith;
+  most_bytes = refl;
+  most_macros = refl;
+  bounded = bounded;
+  stands = λ none. absurd (let no : Some f ≡ None = sym kept ∙ none in cc);
+  lets_go = λ h. h;
+  stores = λ t h. h;
+}
+
+-- the end once more
+pub steps_ended : {S R : Type 0} (g : Ghosts S R) (e : EngineView S R) → IsStarted e → IsBounded e → e.kept ≡ None → e.phase ≡ Closed → Walks g e e (Ok None)
+unfolding has_met uncut_of kept_uncut phase_uncut no_len
+steps_ended g e started bounded free closed = record {
+  limits = refl;
+  origins = refl;
+  main = refl;
+  started = started;
+  kept = λ h is. absurd (let no : None ≡ Some h = sym free ∙ is in cc);
+  ended = λ none is. (refl, refl);
+  passed = λ none past. absurd (let no : Closed ≡ Passed = sym closed ∙ past in cc);
+  keeps = tt;
+  free = free;
+  own = λ none. tt;
+  ends = λ same. (free, closed);
+  failed = λ met. absurd (let no : false ≡ true = rw free at met in cc);
+  call = rw free (not_called g e.sources);
+  tells = λ own t. (rw (free, closed) refl, rw (free, closed) refl);
+  text = λ none open_. absurd (let no : Closed ≡ Open = sym closed ∙ open_ in cc);
+  reads = λ met. absurd (let no : false ≡ true = rw free at met in cc);
+  halts = λ none open_. absurd (let no : Closed ≡ Open = sym closed ∙ open_ in cc);
+  falls = λ bytes no. absurd (cc);
+  lends = λ bytes no. absurd (cc);
+  quota = omega arith;
+  most_bytes = refl;
+  most_macros = refl;
+  bounded = bounded;
+  stands = λ _ _ bytes e. absurd (cc);
+  lets_go = λ h. h;
+  stores = λ t h. h;
+}
+
+-- no step at all
+abbrev reaches_same : {S R : Type 0} (g : Ghosts S R) (e : EngineView S R) → Reaches g e e
+reaches_same g e = record { between = []; steps = refl }
+
+-- steps that lend nothing, and then others
+lend_on : {S R : Type 0} (g : Ghosts S R) (old : EngineView S R) (mids : List (EngineView S R)) (mid : EngineView S R) (more : List (EngineView S R)) (new : EngineView S R)
+    → LendNone g old mids mid → LendNone g mid more new → LendNone g old (mids ++ more) new
+lend_on {S} {R} g old [] mid more new same then_ = subst (λ (e : EngineView S R). LendNone g e more new) same then_
+lend_on g old (m ∷ mids) mid more new first then_ = (first.0, lend_on g m mids mid more new first.1 then_)
+
+abbrev reaches_on : {S R : Type 0} (g : Ghosts S R) (old mid new : EngineView S R) → Reaches g old mid → Reaches g mid new → Reaches g old new
+reaches_on g old mid new first then_ = record { between = first.between ++ then_.between; steps = lend_on g old first.between mid then_.between new first.steps then_.steps }
+
+-- one step that lends nothing
+abbrev pub reaches_one : {S R : Type 0} (g : Ghosts S R) (old new : EngineView S R) → LendsNone g old new → Reaches g old new
+reaches_one g old new step = record { between = new ∷ []; steps = (step, refl) }
+
+-- how many there are, where they are none, one, one more than others, or others in a row
+no_part : (a : ℕ) → a ≡ 0 → a ≤ 0
+no_part a e = omega (arith, e)
+
+pub one_part : (a : ℕ) → a ≡ 1 → a ≤ 1
+one_part a e = omega (arith, e)
+
+part_more : (a b m : ℕ) → a ≡ b + 1 → b ≤ m → a ≤ m + 1
+part_more a b m e few = omega (arith, e, few)
+
+parts_both : (a b c n m : ℕ) → a ≡ b + c → b ≤ n → c ≤ m → a ≤ n + m
+parts_both a b c n m e few more = omega (arith, e, few, more)
+
+parts_wider : (a n m : ℕ) → a ≤ n → n ≤ m → a ≤ m
+parts_wider a n m few more = omega (arith, few, more)
+
+-- an engine whose main text is open and that keeps no fault
+module _ {S R : Type 0} (g : Ghosts S R) (old new : EngineView S R) (free : old.kept ≡ None) (open_ : old.phase ≡ Open) (bounded : IsBounded new) where
+  -- a piece was lent
+  pub walks_lent : (bytes : List ℕ) → new ≡ record old { owed = new.owed; marks = new.marks; table = new.table; conditions = new.conditions; files = new.files; sources = new.sources; expansion = new.expansion }
+      → (new.table.most_bytes ≡ old.table.most_bytes) × (new.table.most_macros ≡ old.table.most_macros)
+      → SourcesCalled g false false old.sources new.sources
+      → (g.tells old.sources → text_of g old ≡ behind_bytes bytes (text_of g new))
+      → work_left new < work_left old → KeepsStores g old new → StandsIn g old new bytes (position_of new) → Walks g old new (Ok (Some bytes))
+  unfolding has_met no_len all_of may_follow
+  walks_lent bytes becomes room call text falls keeps from =
+      let still : new.phase ≡ Open = ap (λ e. e.phase) becomes ∙ open_ in
+      let none : new.kept ≡ None = ap (λ e. e.kept) becomes ∙ free in
+      record {
+        limits = ap (λ e. e.limits) becomes;
+        origins = ap (λ e. e.origins) becomes;
+        main = ap (λ e. e.main) becomes;
+        started = λ fresh. (let no : Open ≡ Fresh = sym still ∙ fresh in cc);
+        kept = λ h is. absurd (let no : None ≡ Some h = sym free ∙ is in cc);
+        ended = λ _ closed. absurd (let no : Open ≡ Closed = sym open_ ∙ closed in cc);
+        passed = λ _ past. absurd (let no : Open ≡ Passed = sym open_ ∙ past in cc);
+        keeps = tt;
+        free = none;
+        own = λ _. tt;
+        ends = λ e. absurd (cc);
+        failed = λ met. absurd (let no : false ≡ true = rw free at met in cc);
+        call = rw free call;
+        tells = λ _ t. left_open g old free open_ ∙ (ap outcome (text t) ∙ (outcome-behind_bytes bytes (text_of g new) ∙ rw (left_open g new none still) refl));
+        text = λ _ _ _ t. record { piece = bytes; lent = refl; text = text t };
+        reads = λ met. absurd (let no : false ≡ true = rw free at met in cc);
+        halts = λ _ _. tt;
+        falls = λ _ _. falls;
+        lends = λ _ _. (open_, ap may_follow still);
+        quota = omega (arith, ap (λ e. e.quota) becomes);
+        most_bytes = room.0;
+        most_macros = room.1;
+        bounded = bounded;
+        stands = λ _ _ xs e. (let same : bytes ≡ xs = cc e in record { at = old; reached = reaches_same g old; few = no_part _ refl; text = λ _. refl; after = new; becomes = refl; piece = bytes; lent = sym same; stands = from });
+        lets_go = keeps.lets_go;
+        stores = keeps.stores;
+      }
+
+  -- what a fault leaves, where nothing is owed
+  halts_at : (f : Told) → new ≡ record old { kept = Some f; files = new.files; sources = new.sources }
+      → new.files ≡ record old.files { nest = with_buffer (inner_buffer new.files.nest) old.files.nest } → Slides (g.tells old.sources) ⊥ g.unread (inner_buffer old.files.nest) (inner_buffer new.files.nest) → old.owed ≡ nothing_owed → HaltsAt g old new
+  halts_at f becomes only moves unowed =
+      let keeps : Option Told → EngineView S R = λ k. record old { kept = k; files = new.files; sources = new.sources } in
+      record {
+        at = old;
+        text = λ t. refl;
+        unowed = unowed;
+        stopped = AtFront (record {
+          becomes = becomes ∙ ap keeps (sym (ap (λ e. e.kept) becomes));
+          only = only;
+          moves = moves;
+        });
+      }
+
+  -- the open texts stay
+  same_texts : (f : Told) → new ≡ record old { kept = Some f; files = new.files; sources = new.sources } → new ≡ record old { kept = Some f; files = new.files; sources = new.sources; expansion = new.expansion }
+  same_texts f becomes =
+      becomes ∙ ap (λ x. record old { kept = Some f; files = new.files; sources = new.sources; expansion = x }) (sym (ap (λ e. e.expansion) becomes))
+
+  -- the text has a fault, which is kept, wherever that came
+  pub walks_kept : (f : Told) → IsOwn f.kind → new ≡ record old { kept = Some f; files = new.files; sources = new.sources; expansion = new.expansion } → HaltsAt g old new
+      → SourcesCalled g false false old.sources new.sources
+      → (g.tells old.sources → text_of g old ≡ leaves (fails f) (state_of new)) → KeepsStores g old new → Walks g old new (Err f)
+  unfolding has_met no_len is_call_failed
+  walks_kept f own becomes halts call text stores =
+      let still : new.phase ≡ Open = ap (λ e. e.phase) becomes ∙ open_ in
+      record {
+        limits = ap (λ e. e.limits) becomes;
+        origins = ap (λ e. e.origins) becomes;
+        main = ap (λ e. e.main) becomes;
+        started = λ fresh. (let no : Open ≡ Fresh = sym still ∙ fresh in cc);
+        kept = λ h is. absurd (let no : None ≡ Some h = sym free ∙ is in cc);
+        ended = λ _ closed. absurd (let no : Open ≡ Closed = sym open_ ∙ closed in cc);
+        passed = λ _ past. absurd (let no : Open ≡ Passed = sym open_ ∙ past in cc);
+        keeps = ap (λ e. e.kept) becomes;
+        free = tt;
+        own = λ _. own.write;
+        ends = λ e. absurd (cc);
+        failed = λ met. absurd (let no : false ≡ true = rw (free, own.read, own.memory) at met in cc);
+        call = rw (free, own.read, own.memory) call;
+        tells = λ _ t. left_open g old free open_ ∙ (ap outcome (text t) ∙ outcome-leaves (fails f) (state_of new));
+        text = λ _ _ _ t. text t;
+        reads = λ met. absurd (let no : false ≡ true = rw (free, own.read, own.memory) at met in cc);
+        halts = λ _ _. halts;
+        falls = λ bytes e. absurd (cc);
+        lends = λ bytes e. absurd (cc);
+        quota = omega (arith, ap (λ e. e.quota) becomes);
+        most_bytes = ap (λ e. e.table.most_bytes) becomes;
+        most_macros = ap (λ e. e.table.most_macros) becomes;
+        bounded = bounded;
+        stands = λ _ _ bytes e. absurd (cc);
+        lets_go = stores.lets_go;
+        stores = stores.stores;
+      }
+
+  -- a fault at the front of what is held
+  pub walks_fault : (f : Told) → IsOwn f.kind → new ≡ record old { kept = Some f; files = new.files; sources = new.sources }
+      → new.files ≡ record old.files { nest = with_buffer (inner_buffer new.files.nest) old.files.nest }
+      → Slides (g.tells old.sources) ⊥ g.unread (inner_buffer old.files.nest) (inner_buffer new.files.nest) → old.owed ≡ nothing_owed
+      → SourcesCalled g false false old.sources new.sources
+      → (g.tells old.sources → text_of g old ≡ leaves (fails f) (state_of new)) → KeepsStores g old new → Walks g old new (Err f)
+  walks_fault f own becomes only moves unowed call text stores =
+      walks_kept f own (same_texts f becomes) (halts_at f becomes only moves unowed) call text stores
+
+  -- a read or a search failed, wherever that was
+  pub walks_ceased : (f : Told) → FailsAt new f → is_call_failed f.kind ≡ true → is_write_failed f.kind ≡ false
+      → new ≡ record old { kept = Some f; files = new.files; sources = new.sources; expansion = new.expansion } → HaltsAt g old new → StopsReading g old new
+      → SourcesCalled g (is_read_failed f.kind) (is_memory_kind f.kind) old.sources new.sources → KeepsStores g old new → Walks g old new (Err f)
+  unfolding has_met no_len
+  walks_ceased f fails met write becomes halts reads call stores =
+      let still : new.phase ≡ Open = ap (λ e. e.phase) becomes ∙ open_ in
+      record {
+        limits = ap (λ e. e.limits) becomes;
+        origins = ap (λ e. e.origins) becomes;
+        main = ap (λ e. e.main) becomes;
+        started = λ fresh. (let no : Open ≡ Fresh = sym still ∙ fresh in cc);
+        kept = λ h k. absurd (let no : None ≡ Some h = sym free ∙ k in cc);
+        ended = λ _ closed. absurd (let no : Open ≡ Closed = sym open_ ∙ closed in cc);
+        passed = λ _ past. absurd (let no : Open ≡ Passed = sym open_ ∙ past in cc);
+        keeps = ap (λ e. e.kept) becomes;
+        free = tt;
+        own = λ _. write;
+        ends = λ e. absurd (cc);
+        failed = λ _. fails;
+        call = rw free call;
+        tells = λ own t. absurd (let no : true ≡ false = sym (rw free met) ∙ own in cc);
+        text = λ _ _ own t. absurd (let no : true ≡ false = sym (rw free met) ∙ own in cc);
+        reads = λ _. reads;
+        halts = λ _ _. halts;
+        falls = λ bytes e. absurd (cc);
+        lends = λ bytes e. absurd (cc);
+        quota = omega (arith, ap (λ e. e.quota) becomes);
+        most_bytes = ap (λ e. e.table.most_bytes) becomes;
+        most_macros = ap (λ e. e.table.most_macros) becomes;
+        bounded = bounded;
+        stands = λ _ _ bytes e. absurd (cc);
+        lets_go = stores.lets_go;
+        stores = stores.stores;
+      }
+
+  -- at the front of what is held
+  pub walks_stopped : (f : Told) → FailsAt new f → is_call_failed f.kind ≡ true → is_write_failed f.kind ≡ false
+      → new ≡ record old { kept = Some f; files = new.files; sources = new.sources }
+      → new.files ≡ record old.files { nest = with_buffer (inner_buffer new.files.nest) old.files.nest }
+      → Slides (g.tells old.sources) ⊥ g.unread (inner_buffer old.files.nest) (inner_buffer new.files.nest) → old.owed ≡ nothing_owed
+      → SourcesCalled g (is_read_failed f.kind) (is_memory_kind f.kind) old.sources new.sources
+      → (g.tells old.sources → text_of g old ≡ text_of g new) → KeepsStores g old new → Walks g old new (Err f)
+  walks_stopped f fails met write becomes only moves unowed call text stores =
+      let still : new.phase ≡ Open = ap (λ e. e.phase) becomes ∙ open_ in
+      walks_ceased f fails met write (same_texts f becomes) (halts_at f becomes only moves unowed)
+      (record { open_ = open_; still = still; at = new; stood = Itself refl; text = text }) call stores
+
+  -- a read failed
+  pub walks_failed : (f : Told) → IsReading (inner_buffer new.files.nest) → f ≡ fault_at fault.ReadFailed (reading_line_of (inner_buffer new.files.nest)) [] (state_of new)
+      → new ≡ record old { kept = Some f; files = new.files; sources = new.sources }
+      → new.files ≡ record old.files { nest = with_buffer (inner_buffer new.files.nest) old.files.nest }
+      → Slides (g.tells old.sources) ⊥ g.unread (inner_buffer old.files.nest) (inner_buffer new.files.nest) → old.owed ≡ nothing_owed
+      → SourcesCalled g true false old.sources new.sources
+      → (g.tells old.sources → text_of g old ≡ text_of g new) → KeepsStores g old new → Walks g old new (Err f)
+  unfolding fault_at is_read_failed is_write_failed is_memory_kind is_call_failed
+  walks_failed f reading is becomes only moves unowed call text stores =
+      let read : is_read_failed f.kind ≡ true = ap (λ t. is_read_failed t.kind) is in
+      let write : is_write_failed f.kind ≡ false = ap (λ t. is_write_failed t.kind) is in
+      let memory : is_memory_kind f.kind ≡ false = ap (λ t. is_memory_kind t.kind) is in
+      walks_stopped f (OnRead reading is) (ap (λ t. is_call_failed t.kind) is) write becomes only moves unowed (rw (read, memory) call) text stores
+
+  -- the text has ended
+  pub walks_end : new ≡ record old { phase = Closed; files = new.files; sources = new.sources } → old.owed ≡ nothing_owed → old.expansion.opens ≡ []
+      → SourcesCalled g false false old.sources new.sources
+      → (g.tells old.sources → EndsText new (text_of g old)) → Walks g old new (Ok None)
+  unfolding has_met no_len uncut_of kept_uncut phase_uncut
+  walks_end becomes unowed idle call text =
+      let closed : new.phase ≡ Closed = ap (λ e. e.phase) becomes in
+      let none : new.kept ≡ None = ap (λ e. e.kept) becomes ∙ free in
+      record {
+        limits = ap (λ e. e.limits) becomes;
+        origins = ap (λ e. e.origins) becomes;
+        main = ap (λ e. e.main) becomes;
+        started = λ fresh. (let no : Closed ≡ Fresh = sym closed ∙ fresh in cc);
+        kept = λ h is. absurd (let no : None ≡ Some h = sym free ∙ is in cc);
+        ended = λ _ is. absurd (let no : Open ≡ Closed = sym open_ ∙ is in cc);
+        passed = λ _ past. absurd (let no : Open ≡ Passed = sym open_ ∙ past in cc);
+        keeps = tt;
+        free = none;
+        own = λ _. tt;
+        ends = λ e. (none, closed);
+        failed = λ met. absurd (let no : false ≡ true = rw free at met in cc);
+        call = rw free call;
+        tells = λ _ t. (left_open g old free open_ ∙ (ap outcome ((text t).text) ∙ outcome-leaves (gives []) (text t).last), rw (none, closed) refl);
+        text = λ _ _ _ t. text t;
+        reads = λ met. absurd (let no : false ≡ true = rw free at met in cc);
+        halts = λ _ _. ap (λ e. e.owed) becomes ∙ unowed;
+        falls = λ bytes e. absurd (cc);
+        lends = λ bytes e. absurd (cc);
+        quota = omega (arith, ap (λ e. e.quota) becomes);
+        most_bytes = ap (λ e. e.table.most_bytes) becomes;
+        most_macros = ap (λ e. e.table.most_macros) becomes;
+        bounded = bounded;
+        stands = λ _ _ bytes e. absurd (cc);
+        lets_go = λ h. record { idle = λ _ is. ap (λ e. e.expansion.arguments) becomes ∙ h.idle free (none_called old.table.macros old.expansion.opens idle) };
+        stores = λ t h. record {
+          lets_go = record { idle = λ _ is. ap (λ e. e.expansion.arguments) becomes ∙ h.lets_go.idle free (none_called old.table.macros old.expansion.opens idle) };
+          parts = subst (λ (ns : List (File R)). AreParts g.unread (g.catalog new.sources) (new.kept ≡ None) ns) (sym (text t).closed) tt;
+          begun = λ _. inl (ap (λ e. e.expansion.arguments) becomes ∙ h.lets_go.idle free (none_called old.table.macros old.expansion.opens idle));
+          call = λ fs called. absurd (let no : None ≡ Some fs = sym (none_called new.table.macros new.expansion.opens (ap (λ e. e.expansion.opens) becomes ∙ idle)) ∙ called in cc);
+        };
+      }
+
+-- what a part of a step did that lends nothing, in so many parts at most, where no fault was kept
+pub record IsSilent {S R : Type 0} (g : Ghosts S R) (n : ℕ) (old mid : EngineView S R) : Type 0 where
+  pub limits : mid.limits ≡ old.limits
+  pub origins : mid.origins ≡ old.origins
+  pub main : mid.main ≡ old.main
+  pub quota : mid.quota ≡ old.quota
+  pub most_bytes : mid.table.most_bytes ≡ old.table.most_bytes
+  pub most_macros : mid.table.most_macros ≡ old.table.most_macros
+  pub free : old.kept ≡ None
+  pub still : mid.kept ≡ None
+  pub open_ : old.phase ≡ Open
+  pub stays : mid.phase ≡ Open
+  pub call : SourcesCalled g false false old.sources mid.sources
+  pub text : g.tells old.sources → text_of g old ≡ text_of g mid
+  pub work : work_left mid ≤ work_left old
+  pub keeps : KeepsStores g old mid
+  pub reaches : Reaches g old mid
+  pub few : length reaches.between ≤ n
+
+-- what a step says of the fault that is kept, where it answers none: none was kept
+pub free_before : {S R : Type 0} {n : ℕ} (g : Ghosts S R) (left : EngineView S R → Outcome) (spent : Result (Option (List ℕ)) Told → ℕ) (most : ℕ → List ℕ → List ℕ) (goes_on : Phase → Bool) (old new : EngineView S R) (kept : Option Told) (lent : Option (List ℕ)) →
+    old.kept ≡ kept → StepsOver g n left spent most goes_on old new (Ok lent) → kept ≡ None
+free_before g left spent most goes_on old new None lent e s = refl
+free_before g left spent most goes_on old new (Some f) lent e s = cc ((s.kept f e).0)
+
+-- whether a fault was met, by the fault that was kept before
+met_none : (test : FaultKind → Bool) (a b : Option Told) (answer : Result (Option (List ℕ)) Told) → a ≡ None → b ≡ None → has_met test a answer ≡ has_met test b answer
+met_none test a b answer p q = ap (λ k. has_met test k answer) (p ∙ sym q)
+
+-- an answer with no fault met none
+pub ok_not_met : (test : FaultKind → Bool) (kept : Option Told) (lent : Option (List ℕ)) → has_met test kept (Ok lent) ≡ false
+unfolding has_met
+ok_not_met test None lent = refl
+ok_not_met test (Some f) lent = refl
+
+-- one count and then another, of which one at most rose
+pub counts_or : (a b : Bool) (old mid new : ℕ) → (a && b) ≡ false → Counts a old mid → Counts b mid new → Counts (a || b) old new
+counts_or true true old mid new e p q = cc e
+counts_or true false old mid new e p q = q ∙ p
+counts_or false b old mid new e p q = let P : ℕ → Type 0 = λ n. Counts b n new in subst P p q
+
+-- one call and then another, of which one at most failed, and one at most was refused memory
+pub called_after : {S R : Type 0} (g : Ghosts S R) (a b c d : Bool) (old mid new : S) → (a && b) ≡ false → (c && d) ≡ false →
+    SourcesCalled g a c old mid → SourcesCalled g b d mid new → SourcesCalled g (a || b) (c || d) old new
+called_after g a b c d old mid new e f first then_ = record {
+  failures = counts_or a b _ _ _ e first.failures then_.failures;
+  refusals = counts_or c d _ _ _ f first.refusals then_.refusals;
+  tells = λ t. then_.tells (first.tells t);
+  catalog = then_.catalog ∙ first.catalog;
+}
+
+-- all of a piece is lent, whatever may still be
+told_over : {S R : Type 0} (g : Ghosts S R) (answer : Result (Option (List ℕ)) Told) (a b : ℕ) (p : Passage) (new : EngineView S R)
+    → TellsText (all_of a) g answer p new → TellsText (all_of b) g answer p new
+unfolding all_of
+told_over g (Ok (Some bytes)) a b p new tells = record { piece = tells.piece; lent = tells.lent; text = tells.text }
+told_over g (Ok None) a b p new tells = tells
+told_over g (Err f) a b p new tells = tells
+
+-- where no byte was lent, the same remains
+silent_text : (quota : ℕ) (old new : Passage) → LendsText (all_of quota) [] old new → old ≡ new
+unfolding all_of behind_bytes
+silent_text quota old new lends = lends.text ∙ ap (λ (x : List ℕ). behind_bytes x new) (sym lends.lent)
+
+-- what an answer leaves, behind such a part
+halts_behind : {S R : Type 0} (g : Ghosts S R) (answer : Result (Option (List ℕ)) Told) (old mid new : EngineView S R) → (g.tells old.sources → text_of g old ≡ text_of g mid)
+    → (g.tells old.sources → g.tells mid.sources) → Halts g answer mid new → Halts g answer old new
+halts_behind g (Ok (Some bytes)) old mid new text tells halts = tt
+halts_behind g (Ok None) old mid new text tells halts = halts
+halts_behind g (Err f) old mid new text tells halts = record {
+  at = halts.at;
+  text = λ t. text t ∙ halts.text (tells t);
+  unowed = halts.unowed;
+  stopped = halts.stopped;
+}
+
+-- where bytes that are lent stand, behind such a part
+lends_behind : {S R : Type 0} (g : Ghosts S R) (n m : ℕ) (old mid new : EngineView S R) (bytes : List ℕ) (a b : ℕ) → (reaches : Reaches g old mid) → length reaches.between ≤ n → (g.tells old.sources → text_of g old ≡ text_of g mid) → (g.tells old.sources → g.tells mid.sources)
+    → LendsWhere g m (all_of b) mid new bytes → LendsWhere g (n + m) (all_of a) old new bytes
+unfolding all_of
+lends_behind g n m old mid new bytes a b reaches few text tells l = record { at = l.at; reached = reaches_on g old mid l.at reaches l.reached; few = parts_both _ _ _ n m (length-append reaches.between l.reached.between) few l.few; text = λ t. text t ∙ l.text (tells t); after = l.after; becomes = l.becomes; piece = l.piece; lent = l.lent; stands = l.stands }
+
+-- such a part, and then a step, are one step
+pub silent_then : {S R : Type 0} (g : Ghosts S R) (n m : ℕ) (old mid new : EngineView S R) (answer : Result (Option (List ℕ)) Told) →
+    IsSilent g n old mid → WalksOver g m mid new answer → WalksOver g (n + m) old new answer
+unfolding no_len all_of
+silent_then g n m old mid new answer first then_ =
+    let same : (test : FaultKind → Bool) → has_met test old.kept answer ≡ has_met test mid.kept answer = λ test. met_none test old.kept mid.kept answer first.free first.still in
+    record {
+      limits = then_.limits ∙ first.limits;
+      origins = then_.origins ∙ first.origins;
+      main = then_.main ∙ first.main;
+      started = then_.started;
+      kept = λ f is. absurd (let no : None ≡ Some f = sym first.free ∙ is in cc);
+      ended = λ none closed. absurd (let no : Open ≡ Closed = sym first.open_ ∙ closed in cc);
+      passed = λ none past. absurd (let no : Open ≡ Passed = sym first.open_ ∙ past in cc);
+      keeps = then_.keeps;
+      free = then_.free;
+      own = λ none. then_.own first.still;
+      ends = then_.ends;
+      failed = λ met. then_.failed (sym (same is_call_failed) ∙ met);
+      call = rw (same is_read_failed, same is_memory_kind)
+          (called_after g false (has_failed mid.kept answer) false (has_refused mid.kept answer) _ _ _ refl refl first.call then_.call);
+      tells = λ own t.
+          let left : uncut_of g mid ≡ uncut_of g old =
+          left_open g mid first.still first.stays ∙ (sym (ap outcome (first.text t)) ∙ sym (left_open g old first.free first.open_)) in
+          subst (λ (o : Outcome). Tells answer o (uncut_of g new)) left (then_.tells (sym (same is_call_failed) ∙ own) (first.call.tells t));
+      text = λ _ _ own t.
+          subst (λ (p : Passage). TellsText (all_of old.quota) g answer p new) (sym (first.text t))
+          (told_over g answer mid.quota old.quota (text_of g mid) new (then_.text first.still first.stays (sym (same is_call_failed) ∙ own) (first.call.tells t)));
+      reads = λ met.
+          let reads = then_.reads (sym (same is_call_failed) ∙ met) in
+          record { open_ = first.open_; still = reads.still; at = reads.at; stood = reads.stood; text = λ t. first.text t ∙ reads.text (first.call.tells t) };
+      halts = λ _ _. halts_behind g answer old mid new first.text first.call.tells (then_.halts first.still first.stays);
+      falls = λ bytes is. (let less = then_.falls bytes is in let most = first.work in omega arith);
+      lends = λ bytes is. (first.open_, (then_.lends bytes is).1);
+      quota = (let one = first.quota in let two = then_.quota in omega arith);
+      most_bytes = then_.most_bytes ∙ first.most_bytes;
+      most_macros = then_.most_macros ∙ first.most_macros;
+      bounded = then_.bounded;
+      stands = λ _ _ bytes is. lends_behind g n m old mid new bytes old.quota mid.quota first.reaches first.few (first.text) (first.call.tells) (then_.stands first.still first.stays bytes is);
+      lets_go = λ h. then_.lets_go (first.keeps.lets_go h);
+      stores = λ t h. then_.stores (first.call.tells t) (first.keeps.stores t h);
+    }
+
+-- where bytes may follow, the main text is open
+pub follows : (p : Phase) → may_follow p ≡ true → p ≡ Open
+unfolding may_follow
+follows Fresh h = cc h
+follows Open h = refl
+follows Passed h = cc h
+follows Closed h = cc h
+
+-- a step that lent nothing is such a part
+silent_step : {S R : Type 0} (g : Ghosts S R) (m : ℕ) (old mid : EngineView S R) → WalksOver g m old mid (Ok (Some [])) → IsSilent g (m + 1) old mid
+unfolding no_len all_of
+silent_step g m old mid w =
+    let free : old.kept ≡ None = free_before g (uncut_of g) no_len all_of may_follow old mid old.kept (Some []) refl w in
+    let lends = w.lends [] refl in
+    let none : (test : FaultKind → Bool) → has_met test old.kept (Ok (Some [])) ≡ false = λ test. ok_not_met test old.kept (Some []) in
+    record {
+      limits = w.limits;
+      origins = w.origins;
+      main = w.main;
+      quota = omega (arith, w.quota);
+      most_bytes = w.most_bytes;
+      most_macros = w.most_macros;
+      free = free;
+      still = w.free;
+      open_ = lends.0;
+      stays = follows mid.phase lends.1;
+      call = rw (none is_read_failed, none is_memory_kind) at w.call;
+      text = λ t. silent_text old.quota (text_of g old) (text_of g mid) (w.text free lends.0 (none is_call_failed) t);
+      work = (let less = w.falls [] refl in omega arith);
+      keeps = record { lets_go = w.lets_go; stores = w.stores };
+      reaches =
+          let l = w.stands free lends.0 [] refl in
+          reaches_on g old l.at mid l.reached
+          (reaches_one g l.at mid (record { after = l.after; place = position_of mid; stands = subst (λ (xs : List ℕ). StandsIn g l.at l.after xs (position_of mid)) (sym l.lent) l.stands; becomes = l.becomes }));
+      few =
+          let l = w.stands free lends.0 [] refl in
+          part_more _ (length l.reached.between) m (length-append l.reached.between (mid ∷ [])) l.few;
+    }
+
+-- what more parts may be is no more than so many
+pub wider : {S R : Type 0} (g : Ghosts S R) (n m : ℕ) (old new : EngineView S R) (answer : Result (Option (List ℕ)) Told) → n ≤ m
+    → WalksOver g n old new answer → WalksOver g m old new answer
+wider g n m old new answer more w = record {
+  limits = w.limits;
+  origins = w.origins;
+  main = w.main;
+  started = w.started;
+  kept = w.kept;
+  ended = w.ended;
+  passed = w.passed;
+  keeps = w.keeps;
+  free = w.free;
+  own = w.own;
+  ends = w.ends;
+  failed = w.failed;
+  call = w.call;
+  tells = w.tells;
+  text = w.text;
+  reads = w.reads;
+  halts = w.halts;
+  falls = w.falls;
+  lends = w.lends;
+  quota = w.quota;
+  most_bytes = w.most_bytes;
+  most_macros = w.most_macros;
+  bounded = w.bounded;
+  stands = λ free open_ bytes is.
+      let l = w.stands free open_ bytes is in
+      record { at = l.at; reached = l.reached; few = parts_wider _ n m l.few more; text = l.text; after = l.after; becomes = l.becomes; piece = l.piece; lent = l.lent; stands = l.stands };
+  lets_go = w.lets_go;
+  stores = w.stores;
+}
+
+-- a step that lent nothing, and then another, are one step
+pub steps_on : {S R : Type 0} (g : Ghosts S R) (n m : ℕ) (old mid new : EngineView S R) (answer : Result (Option (List ℕ)) Told) →
+    WalksOver g n old mid (Ok (Some [])) → WalksOver g m mid new answer → WalksOver g (n + 1 + m) old new answer
+steps_on g n m old mid new answer first then_ = silent_then g (n + 1) m old mid new answer (silent_step g n old mid first) then_
+
+-- steps that lent nothing, fewer than so many, and perhaps none
+abbrev pub Passes : {S R : Type 0} → Ghosts S R → ℕ → EngineView S R → EngineView S R → Type 0
+Passes g n old new = (new ≡ old) ⊎ ((m : ℕ) × (m < n) × WalksOver g m old new (Ok (Some [])))
+
+-- such steps, and then another, are one step
+pub passes_on : {S R : Type 0} (g : Ghosts S R) (n m k : ℕ) (old mid new : EngineView S R) (answer : Result (Option (List ℕ)) Told) → n + m ≤ k →
+    Passes g n old mid → WalksOver g m mid new answer → WalksOver g k old new answer
+passes_on {S} {R} g n m k old mid new answer room (inl same) steps =
+    wider g m k old new answer (omega (arith, room)) (subst (λ (e : EngineView S R). WalksOver g m e new answer) same steps)
+passes_on g n m k old mid new answer room (inr first) steps =
+    wider g (first.0 + 1 + m) k old new answer (let less = first.1 in omega (arith, room)) (steps_on g first.0 m old mid new answer first.2 steps)
+
+-- and another that lent nothing are more of them
+pub passes_more : {S R : Type 0} (g : Ghosts S R) (n m k : ℕ) (old mid new : EngineView S R) → n + m < k →
+    Passes g n old mid → WalksOver g m mid new (Ok (Some [])) → Passes g k old new
+passes_more g n m k old mid new room passes steps = inr (n + m, room, passes_on g n m (n + m) old mid new (Ok (Some [])) (omega arith) passes steps)
+
+-- an engine that such steps left was started
+pub passes_started : {S R : Type 0} (g : Ghosts S R) (n : ℕ) (old new : EngineView S R) → IsStarted old → Passes g n old new → IsStarted new
+passes_started {S} {R} g n old new started (inl same) = subst (λ (e : EngineView S R). IsStarted e) (sym same) started
+passes_started g n old new started (inr steps) = steps.2.started
+
+-- a phase that is neither the first nor one of an open text is the last
+pub is_closed : (p : Phase) → (p ≡ Fresh → ⊥) → (p ≡ Open → ⊥) → (p ≡ Passed → ⊥) → p ≡ Closed
+is_closed Fresh a b c = absurd (a refl)
+is_closed Open a b c = absurd (b refl)
+is_closed Passed a b c = absurd (c refl)
+is_closed Closed a b c = refl
+
+-- a kept fault, where one is
+pub steps_kept_by : {S R : Type 0} (g : Ghosts S R) (e : EngineView S R) (o : Option Fault) → IsStarted e → IsBounded e → e.kept ≡ option_map told o → is_some o ≡ true →
+    Walks g e e (kept_answer e.kept)
+steps_kept_by g e None started bounded kept some = cc some
+steps_kept_by g e (Some f) started bounded kept some =
+    subst (λ (a : Result (Option (List ℕ)) Told). Walks g e e a) (sym (ap kept_answer kept)) (steps_kept g e (told f) started bounded kept)
+
+-- none is kept, where none is
+pub none_kept_by : (k : Option Told) (o : Option Fault) → k ≡ option_map told o → is_some o ≡ false → k ≡ None
+none_kept_by k None kept none = kept
+none_kept_by k (Some f) kept none = cc none
+
+-- whether a kept fault is that of a write that failed
+pub write_failed_by : (f : Fault) (t : Told) → Some (told f) ≡ Some t → is_write_failed f.kind ≡ is_write_failed t.kind
+unfolding told
+write_failed_by f t e = ap (λ (x : Told). is_write_failed x.kind) (let same : told f ≡ t = cc e in same)
+
+-- more bytes are due than the output may have
+pub steps_passed : {S R : Type 0} (g : Ghosts S R) (old new : EngineView S R) →
+    old.kept ≡ None → old.phase ≡ Passed → IsBounded new → new ≡ record old { kept = Some (output_fault old.main) } → Walks g old new (Err (output_fault old.main))
+unfolding has_met uncut_of kept_uncut phase_uncut no_len output_fault is_call_failed is_read_failed is_write_failed is_memory_kind
+steps_passed {S} {R} g old new free past bounded becomes =
+    let still : new.phase ≡ Passed = ap (λ e. e.phase) becomes ∙ past in
+    let stores : KeepsStores g old new = subst (λ (e : EngineView S R). KeepsStores g old e) (sym becomes) (keeps_refused g old (output_fault old.main)) in
+    record {
+      limits = ap (λ e. e.limits) becomes;
+      origins = ap (λ e. e.origins) becomes;
+      main = ap (λ e. e.main) becomes;
+      started = λ fresh. (let no : Passed ≡ Fresh = sym still ∙ fresh in cc);
+      kept = λ h is. absurd (let no : None ≡ Some h = sym free ∙ is in cc);
+      ended = λ none closed. absurd (let no : Passed ≡ Closed = sym past ∙ closed in cc);
+      passed = λ _ _. (refl, becomes);
+      keeps = ap (λ e. e.kept) becomes;
+      free = tt;
+      own = λ none. refl;
+      ends = λ e. absurd (cc);
+      failed = λ met. absurd (let no : false ≡ true = rw free at met in cc);
+      call = rw (free, becomes) (not_called g old.sources);
+      tells = λ _ t. rw (free, past) refl;
+      text = λ none open_. absurd (let no : Passed ≡ Open = sym past ∙ open_ in cc);
+      reads = λ met. absurd (let no : false ≡ true = rw free at met in cc);
+      halts = λ none open_. absurd (let no : Passed ≡ Open = sym past ∙ open_ in cc);
+      falls = λ bytes e. absurd (cc);
+      lends = λ bytes e. absurd (cc);
+      quota = omega (arith, ap (λ e. e.quota) becomes);
+      most_bytes = ap (λ e. e.table.most_bytes) becomes;
+      most_macros = ap (λ e. e.table.most_macros) becomes;
+      bounded = bounded;
+      stands = λ _ _ bytes e. absurd (cc);
+      lets_go = stores.lets_go;
+      stores = stores.stores;
+    }
+
+-- a fault that is kept is what is answered
+pub kept_lent : {S R : Type 0} (e : EngineView S R) (place : Place) (f : Told) → place ≡ Kept → e.kept ≡ Some f → lent_answer e place ≡ Err f
+kept_lent e place f is kept = ap (lent_answer e) is ∙ ap kept_answer kept
+
+-- a fault that is kept is what a step answers
+pub kept_at : {S R : Type 0} (g : Ghosts S R) (old new : EngineView S R) (place : Place) (f : Told) →
+    place ≡ Kept → new.kept ≡ Some f → Walks g old new (Err f) → Walks g old new (lent_answer new place)
+kept_at g old new place f is kept steps =
+    subst (λ (a : Result (Option (List ℕ)) Told). Walks g old new a) (sym (kept_lent new place f is kept)) steps

@@ -1,0 +1,791 @@
+-- What is taken of the open sources, as steps of the engine.
+use Rattle.std.proofs.Common.{◌≡◌, ℕ, zero, suc, ◌+◌, ◌-◌, ◌^◌, ◌≤◌, ◌<◌, true, false, List, [], ◌∷◌, ◌++◌, length, take, drop, replicate, append_assoc, append-nil, Option, None, Some, Ok, refl, sym, ap, ◌∙◌, subst, inl, inr, codes, arith}
+use Rattle.std.specs.List.{slice_range}
+use Rattle.std.specs.Prelude.{min, IfSome}
+use Rattle.std.proofs.lemmas.List.{take-take, drop-take, length-drop, length-take, take_rest}
+use Rattle.std.proofs.Math.Seq.{drop-nil}
+use Rattle.rdlpp_source.specs.Sources.{Catalog}
+use Rattle.rdlpp_source.specs.declared.sources.Sources.{Ghosts}
+use Rattle.rdlpp_scan.specs.SourceTokens.{line_ends}
+use Rattle.rdlpp_scan.specs.Reserved.{is_reserved}
+use Rattle.rdlpp_scan.specs.declared.token.Directive.TheVariants.{Define, Undef}
+use Rattle.rdlpp_scan.specs.declared.token.Mode.{Mode}
+use Rattle.rdlpp_scan.specs.declared.token.Mode.TheVariants.{Plain}
+use Rattle.rdlpp_table.specs.Table.{Macro, macro_named, without}
+use Rattle.rdlpp_table.specs.View.{TableView, macro_at}
+use Rattle.rdlpp_table.specs.declared.limits.Limits.{Limits}
+use Rattle.rdlpp_table.specs.Define.{define_of}
+use Rattle.rdlpp_table.specs.Define as table_define
+use Rattle.rdlpp_table.specs.declared.fault.DefineKind.{DefineKind}
+use Rattle.rdlpp_table.specs.declared.fault.DefineKind.TheVariants as define
+use Rattle.rdlpp_meaning.specs.declared.fault.FaultKind.{FaultKind}
+use Rattle.rdlpp_meaning.specs.declared.fault.FaultKind.TheVariants as fault
+use Rattle.rdlpp_meaning.specs.Meaning.{Passage, behind_bytes, goes_on, leaves}
+use Rattle.rdlpp_meaning.specs.Outcome.{Told, fails}
+use Rattle.rdlpp_meaning.specs.Parts.{line_ends_of}
+use Rattle.rdlpp_meaning.specs.Profile.{define_fault, rules_of, with_fault}
+use Rattle.rdlpp_meaning.specs.State.{State, fault_at}
+use Rattle.rdlpp_meaning.proofs.OwedLineEnds.{line_ends_of-owed}
+use Rattle.rdlpp_texts.proofs.Starting.{whole-range}
+use Rattle.rdlpp_read.specs.Buffer.{BufferView, entered_mode, held_of, reading_line_of, Slides}
+use Rattle.rdlpp_read.specs.Files.{AreOpen, FilesView, consumed_file, inner_buffer, with_buffer, with_inner}
+use Rattle.rdlpp_read.specs.Filling.{IsExact, Fills}
+use Rattle.rdlpp_read.specs.LogicalLines.{IsExactLine, HoldsLine}
+use Rattle.rdlpp_read.specs.declared.buffer.extending.LogicalLine.TheVariants as line
+use Rattle.rdlpp_read.specs.declared.buffer.filling.Fill.TheVariants as fill
+use Rattle.rdlpp_read.specs.declared.files.File.{File}
+use Rattle.rdlpp_read.proofs.Slices.{line_ends_le}
+use Rattle.rdlpp_front.specs.Fronts.{AtBare, AtPerl, HasName, IsDirective, IsRefused, IsText, IsUsage, LacksName, argument_name, usage_name}
+use Rattle.rdlpp_front.proofs.Insides.{name_inside, text_inside, usage_inside}
+use Rattle.rdlpp_front.proofs.SourcePassages.{held_entered}
+use Rattle.rdlpp_conditions.specs.Conditions.{ConditionsView}
+use Rattle.rdlpp_state.specs.Calls.{SourcesCalled}
+use Rattle.rdlpp_state.specs.Engine.{EngineView, IsSoundEngine, is_open}
+use Rattle.rdlpp_state.specs.Held.{IsBounded}
+use Rattle.rdlpp_state.specs.Standing.{AtOwed, AtSource, InSources, Nowhere, StandsIn}
+use Rattle.rdlpp_state.specs.Stored.{AreParts}
+use Rattle.rdlpp_read.proofs.Sliding.{slides-same, slides-told}
+use Rattle.rdlpp_state.proofs.Stores.{KeepsParts, KeepsStores, keeps_owed, keeps_sources, keeps_stopped, parts_mode, parts_on, parts_slid, parts_used}
+use Rattle.rdlpp_state.specs.Moves.{Defines, IsReady, IsUnowed, ReadsDefine, RefusesDefine, define_rest}
+use Rattle.rdlpp_state.specs.Marks.{MarksView, lends_line, lends_owed}
+use Rattle.rdlpp_state.specs.Owed.{OriginView, OwedView, TakesPiece, digits_of, line_ends_owed, nothing_owed, origin_bytes, origin_pieces, owed_bytes, owed_pieces, part_bytes}
+use Rattle.rdlpp_state.specs.declared.owed.OwedPiece.{OwedPiece}
+use Rattle.rdlpp_state.specs.Pieces.{IsPlaced, lent_answer, step_answer}
+use Rattle.rdlpp_state.specs.Positions.{Unmarked, position_of}
+use Rattle.rdlpp_state.specs.Remaining.{file_state, inner_name, nest_left, nest_state, run_rules, source_rules, state_of, text_of, work_left}
+use Rattle.rdlpp_state.specs.Steps.{IsOwn, IsReading, Walks, is_memory_kind, is_read_failed, is_write_failed}
+use Rattle.rdlpp_state.specs.declared.phase.Phase.{Phase}
+use Rattle.rdlpp_state.specs.declared.phase.Phase.TheVariants.{Open}
+use Rattle.rdlpp_state.specs.declared.place.Place.{Place}
+use Rattle.rdlpp_state.specs.declared.place.Place.TheVariants.{Source, Text, Owed, End, Kept}
+use Rattle.rdlpp_usages.specs.Usages.{texts_left}
+use Rattle.rdlpp_state.proofs.IdleTexts.{text_idle}
+use Rattle.rdlpp_front.proofs.DefineLeft.{define_begins}
+use Rattle.rdlpp_state.proofs.PlaceFacts.{owed_position, source_position}
+use Rattle.rdlpp_state.proofs.EngineSteps.{IsSilent, kept_at, not_called, one_part, reaches_one, walks_failed, walks_fault, walks_lent}
+use Rattle.rdlpp_state.proofs.NestLeft.{nest_cut_define, nest_defined, nest_filled, nest_long_define, nest_long_line, nest_long_source, nest_nameless, nest_refused, nest_refused_define, nest_reserved, nest_text, nest_undef, nest_undefined, nest_unfilled, nest_unheld}
+use Rattle.rdlpp_state.proofs.Soundness.{inner_facts, with_inner-length}
+use Rattle.rdlpp_state.proofs.WorkFacts.{IsUsed, entered_unused, held_room, owed_falls, used_after, used_bytes, work_falls, work_same}
+
+-- another buffer for the innermost source changes no state
+pub same_state : {R : Type 0} (b : BufferView R) (limits : Limits) (macros : List Macro) (v : ConditionsView) (nest : List (File R))
+    → nest_state limits macros v (with_buffer b nest) ≡ nest_state limits macros v nest
+unfolding nest_state file_state
+same_state b limits macros v [] = refl
+same_state b limits macros v (f ∷ outer) = refl
+
+-- the innermost source with its own buffer
+pub same_nest : {R : Type 0} (nest : List (File R)) → nest ≡ with_buffer (inner_buffer nest) nest
+same_nest [] = refl
+same_nest (f ∷ outer) = refl
+
+-- the window stays where bytes are used and a mode is entered
+same_window : {R : Type 0} (nest : List (File R)) (len lines : ℕ) (next : Mode)
+    → (inner_buffer (with_inner (consumed_file len lines) (with_buffer (entered_mode (inner_buffer nest) next) nest))).window ≡ (inner_buffer nest).window
+unfolding entered_mode
+same_window [] len lines next = refl
+same_window (f ∷ outer) len lines next = refl
+
+-- a part of a text up to a place behind it
+part_slice : (xs : List ℕ) (at len accepted : ℕ) → at + len ≤ accepted → take len (drop at xs) ≡ take len (drop at (take accepted xs))
+part_slice xs at len accepted h =
+    let place : at + (accepted - at) ≡ accepted = omega arith in
+    let cut : drop at (take (at + (accepted - at)) xs) ≡ take (accepted - at) (drop at xs) = drop-take at (accepted - at) xs in
+    sym (ap (take len) (rw place at cut) ∙ take-take len (accepted - at) (drop at xs) (omega arith))
+
+-- the held bytes that are used are a part of the window
+held_part : {R : Type 0} (b : BufferView R) (len : ℕ) → b.at ≤ b.accepted → len ≤ length (held_of b) → slice_range b.window b.at (b.at + len) ≡ take len (held_of b)
+unfolding held_of
+held_part b len used inside =
+    let room = held_room b in
+    let within : b.at + len ≤ b.accepted = omega (arith, length-drop b.at (take b.accepted b.window), length-take b.accepted b.window) in
+    let same : b.at + len - b.at ≡ len = omega arith in
+    ap (λ k. take k (drop b.at b.window)) same ∙ part_slice b.window b.at len b.accepted within
+
+-- nothing that is owed is before nothing
+pub unowed_behind : (name : List ℕ) (owed : OwedView) (p : Passage) → owed ≡ nothing_owed → behind_bytes (owed_bytes name owed) p ≡ p
+unfolding nothing_owed owed_bytes origin_bytes behind_bytes
+unowed_behind name owed p none = rw none refl
+
+-- what remains of the text where nothing is owed
+pub text_unowed : {S R : Type 0} (g : Ghosts S R) (e : EngineView S R) → e.owed ≡ nothing_owed → e.expansion.opens ≡ []
+    → text_of g e ≡ nest_left e.limits (run_rules g e) g.unread e.table.macros e.conditions e.files.nest
+text_unowed g e none idle =
+    text_idle g e idle
+    ∙ unowed_behind (inner_name e.files.nest) e.owed (nest_left e.limits (run_rules g e) g.unread e.table.macros e.conditions e.files.nest) none
+
+-- nothing that is owed can be counted
+pub unowed_few : (owed : OwedView) → owed ≡ nothing_owed → owed_pieces owed < 2 ^ 31
+unfolding nothing_owed owed_pieces origin_pieces
+unowed_few owed none = rw none (omega arith)
+
+-- LF bytes alone that are owed
+pub owed_lines : (name : List ℕ) (lines : ℕ) → owed_bytes name (line_ends_owed lines) ≡ replicate lines 10
+unfolding line_ends_owed owed_bytes origin_bytes
+owed_lines name lines = append-nil (replicate lines 10)
+
+-- each of them is a piece
+pub lines_few : (lines n : ℕ) → lines < n → owed_pieces (line_ends_owed lines) < n
+unfolding line_ends_owed owed_pieces origin_pieces
+lines_few lines n few = omega arith
+
+-- what is left of the open sources of an engine, with other macros, other conditionals and others open
+abbrev pub left_by : {S R : Type 0} → Ghosts S R → EngineView S R → List Macro → ConditionsView → List (File R) → Passage
+left_by g e macros v nest = nest_left e.limits (run_rules g e) g.unread macros v nest
+
+-- the work left falls, and a piece is lent
+pub lends_by : {S R : Type 0} (g : Ghosts S R) (old : EngineView S R) (ready : IsReady old) (bytes : List ℕ) (owed : OwedView) (marks : MarksView) (macros : List Macro) (v : ConditionsView) (nest : List (File R)) (sources : S)
+    → let after = record old { owed = owed; marks = marks; table = record old.table { macros = macros }; conditions = v; files = record old.files { nest = nest }; sources = sources } in
+    IsBounded after → work_left after < work_left old → SourcesCalled g false false old.sources sources
+    → (g.tells old.sources → left_by g old old.table.macros old.conditions old.files.nest ≡ behind_bytes bytes (behind_bytes (owed_bytes (inner_name nest) owed) (left_by g old macros v nest)))
+    → (g.tells old.sources → AreParts g.unread (g.catalog old.sources) Unit old.files.nest → AreParts g.unread (g.catalog old.sources) Unit nest)
+    → StandsIn g old after bytes (position_of after) → Walks g old after (Ok (Some bytes))
+lends_by g old ready bytes owed marks macros v nest sources bounded falls call law parts from =
+    let after = record old { owed = owed; marks = marks; table = record old.table { macros = macros }; conditions = v; files = record old.files { nest = nest }; sources = sources } in
+    walks_lent g old after ready.free ready.open_ bounded bytes refl (refl, refl) call
+    (λ t. text_unowed g old ready.owed ready.idle
+    ∙ (law t ∙ (ap (λ (c : Catalog). behind_bytes bytes (behind_bytes (owed_bytes (inner_name nest) owed) (nest_left old.limits (source_rules c old.limits old.origins) g.unread macros v nest))) (sym call.catalog)
+    ∙ ap (behind_bytes bytes) (sym (text_idle g after ready.idle)))))
+    falls (keeps_sources g old owed marks macros v nest sources ready.free ready.idle call.catalog parts) from
+
+-- bytes of the innermost source are used, and a piece is lent
+pub lends_piece : {S R : Type 0} (g : Ghosts S R) (old : EngineView S R) (ready : IsReady old) (bytes : List ℕ) (owed : OwedView) (marks : MarksView) (macros : List Macro) (v : ConditionsView) (nest : List (File R)) (sources : S)
+    → let after = record old { owed = owed; marks = marks; table = record old.table { macros = macros }; conditions = v; files = record old.files { nest = nest }; sources = sources } in
+    IsBounded after → owed_pieces owed < 2 ^ 31 → IsUsed old.files.nest nest → SourcesCalled g false false old.sources sources
+    → (g.tells old.sources → left_by g old old.table.macros old.conditions old.files.nest ≡ behind_bytes bytes (behind_bytes (owed_bytes (inner_name nest) owed) (left_by g old macros v nest)))
+    → (g.tells old.sources → KeepsParts g.unread old.files.nest nest)
+    → StandsIn g old after bytes (position_of after) → Walks g old after (Ok (Some bytes))
+lends_piece g old ready bytes owed marks macros v nest sources bounded few used call law parts from =
+    let after = record old { owed = owed; marks = marks; table = record old.table { macros = macros }; conditions = v; files = record old.files { nest = nest }; sources = sources } in
+    lends_by g old ready bytes owed marks macros v nest sources bounded (work_falls old after refl used ready.idle ready.idle few) call law (λ t. parts t (g.catalog old.sources)) from
+
+-- and nothing is owed
+pub lends_source : {S R : Type 0} (g : Ghosts S R) (old new : EngineView S R) (ready : IsReady old) (bytes : List ℕ) (marks : MarksView) (macros : List Macro) (v : ConditionsView) (nest : List (File R))
+    → new ≡ record old { marks = marks; table = record old.table { macros = macros }; conditions = v; files = record old.files { nest = nest } }
+    → IsBounded new → IsUsed old.files.nest nest
+    → left_by g old old.table.macros old.conditions old.files.nest ≡ behind_bytes bytes (left_by g old macros v nest)
+    → KeepsParts g.unread old.files.nest nest
+    → (let after = record old { marks = marks; table = record old.table { macros = macros }; conditions = v; files = record old.files { nest = nest } } in StandsIn g old after bytes (position_of after)) → Walks g old new (Ok (Some bytes))
+lends_source {S} {R} g old new ready bytes marks macros v nest becomes bounded used law parts from =
+    subst (λ (e : EngineView S R). Walks g old e (Ok (Some bytes))) (sym becomes)
+    (lends_piece g old ready bytes old.owed marks macros v nest old.sources (subst IsBounded becomes bounded) (unowed_few old.owed ready.owed) used (not_called g old.sources)
+    (λ t. law ∙ ap (behind_bytes bytes) (sym (unowed_behind (inner_name nest) old.owed (left_by g old macros v nest) ready.owed))) (λ t. parts) from)
+
+-- what is refused in front isn't a failed read, a failed write or want of memory
+pub refused_kind : (mode : Mode) (held : List ℕ) (kind : FaultKind) → IsRefused mode held kind → IsOwn kind
+unfolding is_read_failed is_write_failed is_memory_kind
+refused_kind mode held kind (AtPerl h) = record { read = refl; write = refl; memory = refl }
+refused_kind mode held kind (AtBare plain h) = record { read = refl; write = refl; memory = refl }
+
+-- nor is a refused definition
+pub define_kind : (kind : DefineKind) → IsOwn (define_fault kind)
+unfolding is_read_failed is_write_failed is_memory_kind define_fault
+define_kind define.EmbeddedPerl = record { read = refl; write = refl; memory = refl }
+define_kind define.OpenString = record { read = refl; write = refl; memory = refl }
+define_kind define.OpenComment = record { read = refl; write = refl; memory = refl }
+define_kind define.NameExpected = record { read = refl; write = refl; memory = refl }
+define_kind define.ReservedName = record { read = refl; write = refl; memory = refl }
+define_kind define.NameTooLong = record { read = refl; write = refl; memory = refl }
+define_kind define.BadFormals = record { read = refl; write = refl; memory = refl }
+define_kind define.FormalTwice = record { read = refl; write = refl; memory = refl }
+define_kind define.TooManyFormals = record { read = refl; write = refl; memory = refl }
+define_kind define.DefinitionBytes = record { read = refl; write = refl; memory = refl }
+define_kind define.TooManyDefinitions = record { read = refl; write = refl; memory = refl }
+
+-- nor are the faults that the engine names itself
+pub undefined_kind : IsOwn fault.UndefinedMacro
+unfolding is_read_failed is_write_failed is_memory_kind
+undefined_kind = record { read = refl; write = refl; memory = refl }
+
+pub nameless_kind : IsOwn fault.NameExpected
+unfolding is_read_failed is_write_failed is_memory_kind
+nameless_kind = record { read = refl; write = refl; memory = refl }
+
+pub reserved_kind : IsOwn fault.ReservedName
+unfolding is_read_failed is_write_failed is_memory_kind
+reserved_kind = record { read = refl; write = refl; memory = refl }
+
+pub line_kind : IsOwn fault.LineTooLong
+unfolding is_read_failed is_write_failed is_memory_kind
+line_kind = record { read = refl; write = refl; memory = refl }
+
+pub source_kind : IsOwn fault.SourceTooLong
+unfolding is_read_failed is_write_failed is_memory_kind
+source_kind = record { read = refl; write = refl; memory = refl }
+
+pub string_kind : IsOwn fault.OpenString
+unfolding is_read_failed is_write_failed is_memory_kind
+string_kind = record { read = refl; write = refl; memory = refl }
+
+pub stray_kind : IsOwn fault.StrayBranch
+unfolding is_read_failed is_write_failed is_memory_kind
+stray_kind = record { read = refl; write = refl; memory = refl }
+
+pub late_branch_kind : IsOwn fault.BranchAfterElse
+unfolding is_read_failed is_write_failed is_memory_kind
+late_branch_kind = record { read = refl; write = refl; memory = refl }
+
+pub many_conditionals_kind : IsOwn fault.TooManyConditionals
+unfolding is_read_failed is_write_failed is_memory_kind
+many_conditionals_kind = record { read = refl; write = refl; memory = refl }
+
+pub unclosed_kind : IsOwn fault.OpenConditional
+unfolding is_read_failed is_write_failed is_memory_kind
+unclosed_kind = record { read = refl; write = refl; memory = refl }
+
+pub perl_kind : IsOwn fault.EmbeddedPerl
+unfolding is_read_failed is_write_failed is_memory_kind
+perl_kind = record { read = refl; write = refl; memory = refl }
+
+pub comment_kind : IsOwn fault.OpenComment
+unfolding is_read_failed is_write_failed is_memory_kind
+comment_kind = record { read = refl; write = refl; memory = refl }
+
+-- a fault's word is cut once
+pub cut_once : (kind : FaultKind) (line : ℕ) (word : List ℕ) (s : State) → fault_at kind line (take 128 word) s ≡ fault_at kind line word s
+unfolding fault_at
+cut_once kind line word s = rw (take-take 128 128 word (omega arith)) refl
+
+-- a fault that is kept about a name that was cut
+pub kept_cut : {S R : Type 0} (old new : EngineView S R) (kind : FaultKind) (line : ℕ) (word name : List ℕ) (s : State) →
+    new ≡ record old { kept = Some (fault_at kind line word s) } → word ≡ take 128 name →
+    new ≡ record old { kept = Some (fault_at kind line name s) }
+kept_cut {S} {R} old new kind line word name s becomes cut =
+    let keeps : Told → EngineView S R = λ f. record old { kept = Some f } in
+    becomes ∙ ap keeps (ap (λ w. fault_at kind line w s) cut ∙ cut_once kind line name s)
+
+-- only the innermost buffer and the sources changed
+pub record IsRead {S R : Type 0} (g : Ghosts S R) (old mid : EngineView S R) : Type 0 where
+  pub becomes : mid ≡ record old { files = mid.files; sources = mid.sources }
+  pub only : mid.files ≡ record old.files { nest = with_buffer (inner_buffer mid.files.nest) old.files.nest }
+  pub moves : Slides (g.tells old.sources) ⊥ g.unread (inner_buffer old.files.nest) (inner_buffer mid.files.nest)
+
+-- a window that moved on over its text, wherever bytes were lost
+pub slid : {R : Type 0} (tells exact : Type 0) (unread : R → List ℕ) (old new : BufferView R) → Slides tells exact unread old new → Slides tells ⊥ unread old new
+slid tells exact unread old new slides = slides-told tells tells ⊥ exact unread old new (λ t. t) (λ no. absurd no) slides
+
+-- the state is the same then
+pub read_state : {S R : Type 0} {g : Ghosts S R} (old mid : EngineView S R) → IsRead g old mid → state_of mid ≡ state_of old
+unfolding state_of
+read_state {S} {R} old mid r =
+    let limits : mid.limits ≡ old.limits = ap (λ e. e.limits) r.becomes in
+    let table : mid.table ≡ old.table = ap (λ e. e.table) r.becomes in
+    let conditions : mid.conditions ≡ old.conditions = ap (λ e. e.conditions) r.becomes in
+    let nest : mid.files.nest ≡ with_buffer (inner_buffer mid.files.nest) old.files.nest = ap (λ f. f.nest) r.only in
+    ap (λ (ns : List (File R)). nest_state mid.limits mid.table.macros mid.conditions ns) nest
+    ∙ (same_state (inner_buffer mid.files.nest) mid.limits mid.table.macros mid.conditions old.files.nest
+    ∙ rw (limits, table, conditions) refl)
+
+-- what keeping a fault makes of an engine
+pub keeps_fault : {S R : Type 0} {g : Ghosts S R} (old mid new : EngineView S R) (f : Told) → IsRead g old mid → new ≡ record mid { kept = Some f }
+    → new ≡ record old { kept = Some f; files = new.files; sources = new.sources }
+keeps_fault {S} {R} old mid new f r becomes =
+    let files : new.files ≡ mid.files = ap (λ e. e.files) becomes in
+    let sources : new.sources ≡ mid.sources = ap (λ e. e.sources) becomes in
+    let keeps : FilesView R → S → EngineView S R = λ fs s. record old { kept = Some f; files = fs; sources = s } in
+    becomes ∙ (ap (λ (m : EngineView S R). record m { kept = Some f }) r.becomes
+    ∙ (ap (λ (fs : FilesView R). keeps fs mid.sources) (sym files) ∙ ap (λ (s : S). keeps new.files s) (sym sources)))
+
+-- and the innermost buffer alone
+pub keeps_files : {S R : Type 0} {g : Ghosts S R} (old mid new : EngineView S R) (f : Told) → IsRead g old mid → new ≡ record mid { kept = Some f }
+    → new.files ≡ record old.files { nest = with_buffer (inner_buffer new.files.nest) old.files.nest }
+keeps_files {S} {R} old mid new f r becomes =
+    subst (λ (fs : FilesView R). fs ≡ record old.files { nest = with_buffer (inner_buffer fs.nest) old.files.nest }) (sym (ap (λ e. e.files) becomes)) r.only
+
+-- whose window moved on
+pub keeps_moves : {S R : Type 0} {g : Ghosts S R} (old mid new : EngineView S R) (f : Told) → IsRead g old mid → new ≡ record mid { kept = Some f }
+    → Slides (g.tells old.sources) ⊥ g.unread (inner_buffer old.files.nest) (inner_buffer new.files.nest)
+keeps_moves {S} {R} {g} old mid new f r becomes =
+    subst (λ (fs : FilesView R). Slides (g.tells old.sources) ⊥ g.unread (inner_buffer old.files.nest) (inner_buffer fs.nest)) (sym (ap (λ e. e.files) becomes)) r.moves
+
+-- and what is held stays
+pub keeps_read : {S R : Type 0} (g : Ghosts S R) (old mid new : EngineView S R) (f : Told) → IsReady old → IsRead g old mid → new ≡ record mid { kept = Some f } → g.catalog mid.sources ≡ g.catalog old.sources → KeepsStores g old new
+keeps_read {S} {R} g old mid new f ready r becomes catalog =
+    let b = inner_buffer mid.files.nest in
+    let is : new ≡ record old { kept = Some f; files = record old.files { nest = with_buffer b old.files.nest }; sources = mid.sources } =
+    becomes ∙ (ap (λ (m : EngineView S R). record m { kept = Some f }) r.becomes ∙ ap (λ (fs : FilesView R). record old { kept = Some f; files = fs; sources = mid.sources }) r.only) in
+    subst (λ (e : EngineView S R). KeepsStores g old e) (sym is)
+    (keeps_stopped g old f b mid.sources ready.free ready.idle ready.nest catalog r.moves)
+
+-- the text is the same where what remains of the open sources is
+pub read_text : {S R : Type 0} (g : Ghosts S R) (old mid : EngineView S R) → old.owed ≡ nothing_owed → old.expansion.opens ≡ [] → IsRead g old mid → g.catalog mid.sources ≡ g.catalog old.sources
+    → left_by g old old.table.macros old.conditions old.files.nest ≡ left_by g old old.table.macros old.conditions (with_buffer (inner_buffer mid.files.nest) old.files.nest)
+    → text_of g old ≡ text_of g mid
+read_text {S} {R} g old mid unowed idle r catalog law =
+    let limits : mid.limits ≡ old.limits = ap (λ e. e.limits) r.becomes in
+    let origins : mid.origins ≡ old.origins = ap (λ e. e.origins) r.becomes in
+    let table : mid.table ≡ old.table = ap (λ e. e.table) r.becomes in
+    let owed : mid.owed ≡ old.owed = ap (λ e. e.owed) r.becomes in
+    let conditions : mid.conditions ≡ old.conditions = ap (λ e. e.conditions) r.becomes in
+    let nest : mid.files.nest ≡ with_buffer (inner_buffer mid.files.nest) old.files.nest = ap (λ f. f.nest) r.only in
+    text_unowed g old unowed idle ∙ (law ∙ (ap (λ (ns : List (File R)). left_by g old old.table.macros old.conditions ns) (sym nest)
+    ∙ (rw (limits, origins, table, conditions, catalog) refl ∙ sym (text_unowed g mid (owed ∙ unowed) (ap (λ e. e.expansion.opens) r.becomes ∙ idle)))))
+
+-- the fault that is kept is no part of the text
+pub kept_text : {S R : Type 0} (g : Ghosts S R) (mid new : EngineView S R) (f : Told) → new ≡ record mid { kept = Some f } → text_of g new ≡ text_of g mid
+unfolding text_of state_of
+kept_text g mid new f becomes = ap (text_of g) becomes
+
+-- the kind of a fault that is told
+pub told_kind : (kind : FaultKind) (line : ℕ) (word : List ℕ) (s : State) → IsOwn kind → IsOwn (fault_at kind line word s).kind
+unfolding fault_at
+told_kind kind line word s own = own
+
+-- a fault of the text is kept, as it is told in the state that the text goes on from
+pub refuses_by : {S R : Type 0} (g : Ghosts S R) (old mid new : EngineView S R) (place : Place) (tell : State → Told) → ((s : State) → IsOwn (tell s).kind) → IsReady old → IsRead g old mid → IsBounded new
+    → place ≡ Kept → new ≡ record mid { kept = Some (tell (state_of mid)) } → SourcesCalled g false false old.sources mid.sources
+    → (g.tells old.sources → left_by g old old.table.macros old.conditions old.files.nest ≡ leaves (fails (tell (state_of old))) (state_of old))
+    → Walks g old new (lent_answer new place)
+unfolding state_of
+refuses_by {S} {R} g old mid new place tell own ready r bounded is becomes call law =
+    let f = tell (state_of mid) in
+    let same : state_of mid ≡ state_of old = read_state old mid r in
+    let here : state_of new ≡ state_of mid = ap (λ (e : EngineView S R). nest_state e.limits e.table.macros e.conditions e.files.nest) becomes in
+    let sources : new.sources ≡ mid.sources = ap (λ e. e.sources) becomes in
+    let P : S → Type 0 = λ s. SourcesCalled g false false old.sources s in
+    kept_at g old new place f is (ap (λ e. e.kept) becomes)
+    (walks_fault g old new ready.free ready.open_ bounded f (own (state_of mid)) (keeps_fault old mid new f r becomes) (keeps_files old mid new f r becomes) (keeps_moves old mid new f r becomes) ready.owed (subst P (sym sources) call)
+    (λ t. text_unowed g old ready.owed ready.idle ∙ (law t ∙ (ap (λ (s : State). leaves (fails (tell s)) s) (sym same) ∙ ap (leaves (fails f)) (sym here))))
+    (keeps_read g old mid new f ready r becomes call.catalog))
+
+-- a fault at a line of the source is kept
+pub refuses : {S R : Type 0} (g : Ghosts S R) (old mid new : EngineView S R) (place : Place) (kind : FaultKind) (line : ℕ) (word : List ℕ) → IsReady old → IsRead g old mid → IsBounded new
+    → place ≡ Kept → new ≡ record mid { kept = Some (fault_at kind line word (state_of mid)) } → IsOwn kind → SourcesCalled g false false old.sources mid.sources
+    → (g.tells old.sources → left_by g old old.table.macros old.conditions old.files.nest ≡ leaves (fails (fault_at kind line word (state_of old))) (state_of old))
+    → Walks g old new (lent_answer new place)
+refuses g old mid new place kind line word ready r bounded is becomes own call law =
+    refuses_by g old mid new place (λ s. fault_at kind line word s) (λ s. told_kind kind line word s own) ready r bounded is becomes call law
+
+-- a failed read is kept
+pub fails_reading : {S R : Type 0} (g : Ghosts S R) (old mid new : EngineView S R) (place : Place) → IsReady old → IsRead g old mid → IsReading (inner_buffer mid.files.nest) → IsBounded new
+    → place ≡ Kept → new ≡ record mid { kept = Some (fault_at fault.ReadFailed (reading_line_of (inner_buffer mid.files.nest)) [] (state_of mid)) } → SourcesCalled g true false old.sources mid.sources
+    → (g.tells old.sources → left_by g old old.table.macros old.conditions old.files.nest ≡ left_by g old old.table.macros old.conditions (with_buffer (inner_buffer mid.files.nest) old.files.nest))
+    → Walks g old new (lent_answer new place)
+unfolding state_of
+fails_reading {S} {R} g old mid new place ready r reading bounded is becomes call law =
+    let told : EngineView S R → Told = λ e. fault_at fault.ReadFailed (reading_line_of (inner_buffer e.files.nest)) [] (nest_state e.limits e.table.macros e.conditions e.files.nest) in
+    let sources : new.sources ≡ mid.sources = ap (λ e. e.sources) becomes in
+    let P : S → Type 0 = λ s. SourcesCalled g true false old.sources s in
+    kept_at g old new place (told mid) is (ap (λ e. e.kept) becomes)
+    (walks_failed g old new ready.free ready.open_ bounded (told mid)
+    (subst (λ (fs : FilesView R). IsReading (inner_buffer fs.nest)) (sym (ap (λ e. e.files) becomes)) reading) (sym (ap told becomes)) (keeps_fault old mid new (told mid) r becomes) (keeps_files old mid new (told mid) r becomes) (keeps_moves old mid new (told mid) r becomes) ready.owed (subst P (sym sources) call)
+    (λ t. read_text g old mid ready.owed ready.idle r call.catalog (law t) ∙ sym (kept_text g mid new (told mid) becomes))
+    (keeps_read g old mid new (told mid) ready r becomes call.catalog))
+
+-- a `define` begins what is held, of which more came
+pub reading_define : {R : Type 0} (old new : BufferView R) (more : List ℕ) → 0 < length (held_of old) → IsDirective Define (held_of old) → held_of new ≡ held_of old ++ more → IsReading new
+reading_define old new more some is held =
+    inr (
+      drop 7 (held_of old) ++ more,
+      held ∙ (ap (λ (xs : List ℕ). xs ++ more) (define_begins (held_of old) some is) ∙ append_assoc (codes "`define") (drop 7 (held_of old)) more),
+    )
+
+-- nothing changed
+pub read_nothing : {S R : Type 0} {g : Ghosts S R} (e : EngineView S R) → IsRead g e e
+read_nothing {S} {R} {g} e =
+    let b = inner_buffer e.files.nest in
+    record {
+      becomes = refl;
+      only = ap (λ ns. record e.files { nest = ns }) (same_nest e.files.nest);
+      moves = slides-same (g.tells e.sources) ⊥ g.unread b;
+    }
+
+-- text that is copied is lent
+pub take_text : {S R : Type 0} (g : Ghosts S R) (old mid new : EngineView S R) (len lines from to : ℕ) (next : Mode) → IsReady old → old.conditions.skipped ≡ None → IsBounded new
+    → 0 < length (held_of (inner_buffer old.files.nest)) → IsText (inner_buffer old.files.nest).mode (held_of (inner_buffer old.files.nest)) len next
+    → lines ≡ line_ends (take len (held_of (inner_buffer old.files.nest)))
+    → mid ≡ record old { files = record old.files { nest = with_buffer (entered_mode (inner_buffer old.files.nest) next) old.files.nest } }
+    → new ≡ record mid { files = record mid.files { nest = with_inner (consumed_file len lines) mid.files.nest }; marks = lends_line (inner_buffer old.files.nest).line mid.marks }
+    → from ≡ (inner_buffer old.files.nest).at → to ≡ from + len → Walks g old new (lent_answer new (Source from to))
+take_text {S} {R} g old mid new len lines from to next ready live bounded some text counted enters uses begins stops =
+    let inner = inner_facts old.files ready.nest ready.files in
+    let b = inner_buffer old.files.nest in
+    let within = text_inside b.mode (held_of b) len next some text in
+    let nest = with_inner (consumed_file len lines) (with_buffer (entered_mode b next) old.files.nest) in
+    let marks = lends_line b.line old.marks in
+    let becomes : new ≡ record old { files = record old.files { nest = nest }; marks = marks } =
+    uses ∙ ap (λ (m : EngineView S R). record m { files = record m.files { nest = with_inner (consumed_file len lines) m.files.nest }; marks = lends_line b.line m.marks }) enters in
+    let window : (inner_buffer new.files.nest).window ≡ b.window = ap (λ (e : EngineView S R). (inner_buffer e.files.nest).window) becomes ∙ same_window old.files.nest len lines next in
+    let part : slice_range (inner_buffer new.files.nest).window from to ≡ take len (held_of b) =
+    rw (window, begins, stops) (rw begins (held_part b len inner.buffer.used within.1)) in
+    subst (λ (xs : List ℕ). Walks g old new (Ok (Some xs))) (sym part)
+    (lends_source g old new ready (take len (held_of b)) marks old.table.macros old.conditions nest becomes bounded
+    (used_after old.files.nest (entered_mode b next) len lines ready.nest (entered_unused b next) within.0 (rw (held_entered b next) within.1))
+    (nest_text old.limits (run_rules g old) g.unread old.table.macros old.conditions live old.files.nest len lines next some inner.ends text counted)
+    (parts_on g.unread old.files.nest (with_buffer (entered_mode b next) old.files.nest) nest (parts_mode g.unread next old.files.nest) (parts_used g.unread len lines (with_buffer (entered_mode b next) old.files.nest)))
+    (AtSource len lines next ready.owed ready.idle refl (source_position old len lines next ready.free ready.open_) refl))
+
+-- a macro is taken out
+pub take_undef : {S R : Type 0} (g : Ghosts S R) (old new : EngineView S R) (start stop : ℕ) → IsReady old → old.conditions.skipped ≡ None → IsBounded new
+    → 0 < length (held_of (inner_buffer old.files.nest)) → (inner_buffer old.files.nest).mode ≡ Plain → HasName Undef (held_of (inner_buffer old.files.nest)) start stop
+    → is_reserved (argument_name (held_of (inner_buffer old.files.nest)) start stop) ≡ false
+    → new ≡ record old {
+      table = record old.table { macros = without (argument_name (held_of (inner_buffer old.files.nest)) start stop) old.table.macros };
+      files = record old.files { nest = with_inner (consumed_file stop 0) old.files.nest };
+    } → Walks g old new (step_answer new None)
+unfolding behind_bytes
+take_undef g old new start stop ready live bounded some plain named free becomes =
+    let inner = inner_facts old.files ready.nest ready.files in
+    let held = held_of (inner_buffer old.files.nest) in
+    let within = name_inside Undef held start stop named in
+    lends_source g old new ready [] old.marks (without (argument_name held start stop) old.table.macros) old.conditions (with_inner (consumed_file stop 0) old.files.nest) becomes bounded
+    (used_bytes old.files.nest stop 0 (omega (arith, within.0, within.1)) within.2)
+    (nest_undef old.limits (run_rules g old) g.unread old.table.macros old.conditions live old.files.nest start stop some inner.ends plain named free)
+    (parts_used g.unread stop 0 old.files.nest) (Nowhere refl (InSources ready.idle refl (Unmarked refl)))
+
+-- a `define` whose logical line is held, and what it comes to
+module _ {S R : Type 0} (g : Ghosts S R) (old mid new : EngineView S R) (len : ℕ) (ready : IsReady old) (live : old.conditions.skipped ≡ None) (r : IsRead g old mid) (bounded : IsBounded new)
+    (some : 0 < length (held_of (inner_buffer old.files.nest))) (plain : (inner_buffer old.files.nest).mode ≡ Plain) (define : IsDirective Define (held_of (inner_buffer old.files.nest)))
+    (holds : HoldsLine (g.tells old.sources) g.unread (line.Whole len) (inner_buffer old.files.nest) (inner_buffer mid.files.nest))
+    (call : SourcesCalled g false false old.sources mid.sources) where
+  -- it is accepted
+  accepted_steps : 7 ≤ len → len ≤ length (held_of (inner_buffer mid.files.nest)) → length (held_of (inner_buffer mid.files.nest)) < 2 ^ 31 → Defines len mid new → Walks g old new (step_answer new None)
+  unfolding source_rules rules_of with_fault behind_bytes
+  accepted_steps wide inside few d =
+      let inner = inner_facts old.files ready.nest ready.files in
+      let b = inner_buffer mid.files.nest in
+      let w = take len (held_of b) in
+      let limits : mid.limits ≡ old.limits = ap (λ e. e.limits) r.becomes in
+      let table : mid.table ≡ old.table = ap (λ e. e.table) r.becomes in
+      let nest : mid.files.nest ≡ with_buffer b old.files.nest = ap (λ f. f.nest) r.only in
+      let after = with_inner (consumed_file len d.lines) (with_buffer b old.files.nest) in
+      let least = line_ends_le w in
+      let size = length-take len (held_of b) in
+      let counted = d.counted in
+      let makes : List (File R) → EngineView S R = λ ns.
+      record old { owed = line_ends_owed d.lines; table = record old.table { macros = d.macros }; files = record old.files { nest = ns }; sources = mid.sources } in
+      let becomes : new ≡ makes after =
+      d.becomes ∙ (ap (λ (m : EngineView S R). record m { table = record m.table { macros = d.macros }; files = record m.files { nest = with_inner (consumed_file len d.lines) mid.files.nest }; owed = line_ends_owed d.lines }) r.becomes
+      ∙ (ap (λ (fs : FilesView R). record old { owed = line_ends_owed d.lines; table = record old.table { macros = d.macros }; files = record fs { nest = with_inner (consumed_file len d.lines) mid.files.nest }; sources = mid.sources }) r.only
+      ∙ ap (λ (ns : List (File R)). makes (with_inner (consumed_file len d.lines) ns)) nest)) in
+      let accepted : define_of old.limits.definition_bytes old.limits.definitions old.table.macros (drop 7 w) ≡ table_define.Accepted d.macros =
+      rw (← ready.sound.definition_bytes, ← ready.sound.definitions) (rw table at d.accepted) in
+      let owed : line_ends_of w ≡ owed_bytes (inner_name after) (line_ends_owed d.lines) =
+      line_ends_of-owed w ∙ (ap (λ n. replicate n 10) (sym counted) ∙ sym (owed_lines (inner_name after) d.lines)) in
+      subst (λ (e : EngineView S R). Walks g old e (Ok (Some []))) (sym becomes)
+      (lends_piece g old ready [] (line_ends_owed d.lines) old.marks d.macros old.conditions after mid.sources (subst IsBounded becomes bounded) (lines_few d.lines _ (omega arith))
+      (used_after old.files.nest b len d.lines ready.nest holds.extends.unused (omega arith) inside) call
+      (λ t. nest_defined old.limits (run_rules g old) g.unread old.table.macros old.conditions live (g.tells old.sources) t old.files.nest b len d.lines d.macros
+      some inner.ends plain define holds (ap with_fault accepted) counted
+      ∙ ap (λ (x : List ℕ). behind_bytes x (left_by g old d.macros old.conditions after)) owed)
+      (λ t. parts_on g.unread old.files.nest (with_buffer b old.files.nest) after (parts_slid (g.tells old.sources) Unit g.unread b old.files.nest ready.nest (slides-told (g.tells old.sources) (g.tells old.sources) Unit (IsExactLine (line.Whole len)) g.unread (inner_buffer old.files.nest) b (λ x. x) (λ _ e. cc) holds.slides) t)
+      (parts_used g.unread len d.lines (with_buffer b old.files.nest))) (Nowhere refl (InSources ready.idle refl (Unmarked refl))))
+
+  -- it is refused
+  refused_steps : (place : Place) → place ≡ Kept → RefusesDefine len mid new → Walks g old new (lent_answer new place)
+  unfolding source_rules rules_of with_fault state_of
+  refused_steps place is d =
+      let inner = inner_facts old.files ready.nest ready.files in
+      let b = inner_buffer mid.files.nest in
+      let table : mid.table ≡ old.table = ap (λ e. e.table) r.becomes in
+      let here : b.line ≡ (inner_buffer old.files.nest).line = holds.extends.line in
+      let refused : define_of old.limits.definition_bytes old.limits.definitions old.table.macros (drop 7 (take len (held_of b))) ≡ table_define.Refused d.kind d.word =
+      rw (← ready.sound.definition_bytes, ← ready.sound.definitions) (rw table at d.refused) in
+      refuses g old mid new place (define_fault d.kind) b.line d.word ready r bounded is d.becomes (define_kind d.kind) call
+      (λ t. nest_refused_define old.limits (run_rules g old) g.unread old.table.macros old.conditions live (g.tells old.sources) t old.files.nest b len (define_fault d.kind) d.word
+      some inner.ends plain define holds (ap with_fault refused)
+      ∙ rw here refl)
+
+  pub defined_steps : (result : Option Place) → 7 ≤ len → len ≤ length (held_of (inner_buffer mid.files.nest)) → length (held_of (inner_buffer mid.files.nest)) < 2 ^ 31 → ReadsDefine len mid new result → Walks g old new (step_answer new result)
+  defined_steps None wide inside few reads = accepted_steps wide inside few reads
+  defined_steps (Some Kept) wide inside few reads = refused_steps Kept refl reads
+  defined_steps (Some (Source start end)) wide inside few reads = absurd reads
+  defined_steps (Some (Text p)) wide inside few reads = absurd reads
+  defined_steps (Some (Owed n)) wide inside few reads = absurd reads
+  defined_steps (Some End) wide inside few reads = absurd reads
+
+-- a `define` leaves no place, or the fault that is kept
+pub defined_placed : {S R : Type 0} (len : ℕ) (old new : EngineView S R) (result : Option Place) → ReadsDefine len old new result → IfSome result (IsPlaced new)
+defined_placed len old new None reads = tt
+defined_placed len old new (Some Kept) reads = tt
+defined_placed len old new (Some (Source start end)) reads = absurd reads
+defined_placed len old new (Some (Text p)) reads = absurd reads
+defined_placed len old new (Some (Owed n)) reads = absurd reads
+defined_placed len old new (Some End) reads = absurd reads
+
+-- bytes in front of bytes
+pub behind_twice : (x y : List ℕ) (p : Passage) → behind_bytes (x ++ y) p ≡ behind_bytes x (behind_bytes y p)
+unfolding behind_bytes
+behind_twice x y p = ap (λ (xs : List ℕ). record { bytes = xs; fault = p.fault; after = p.after }) (append_assoc x y p.bytes)
+
+-- what is owed is lent
+pub take_owed : {S R : Type 0} (g : Ghosts S R) (old new : EngineView S R) (piece : OwedPiece) (owed : OwedView) → old.kept ≡ None → old.phase ≡ Open → IsBounded new
+    → TakesPiece (inner_name old.files.nest) old.owed owed piece → new ≡ record old { owed = owed; marks = lends_owed old.owed (inner_buffer old.files.nest).line old.marks } → Walks g old new (lent_answer new (Owed piece))
+unfolding text_of state_of
+take_owed {S} {R} g old new piece owed free open_ bounded takes becomes =
+    let marks = lends_owed old.owed (inner_buffer old.files.nest).line old.marks in
+    let after = record old { owed = owed; marks = marks } in
+    let name = inner_name old.files.nest in
+    let bytes = take piece.len (part_bytes piece.part name (digits_of owed.origin)) in
+    let rest = goes_on (texts_left (run_rules g old) (state_of old) old.table.macros old.expansion) (λ after. left_by g old old.table.macros old.conditions old.files.nest) in
+    subst (λ (e : EngineView S R). Walks g old e (lent_answer e (Owed piece))) (sym becomes)
+    (walks_lent g old after free open_ (subst IsBounded becomes bounded) bytes refl (refl, refl) (not_called g old.sources)
+    (λ t. ap (λ (x : List ℕ). behind_bytes x rest) takes.bytes ∙ behind_twice bytes (owed_bytes name owed) rest)
+    (owed_falls old after refl refl refl takes.fewer) (keeps_owed g old owed marks) (AtOwed piece owed takes refl (owed_position old owed piece takes free open_) refl))
+
+-- and it is a place
+pub owed_is_placed : {S R : Type 0} (old new : EngineView S R) (piece : OwedPiece) (owed : OwedView) → 0 < length old.files.nest
+    → (marks : MarksView) → TakesPiece (inner_name old.files.nest) old.owed owed piece → new ≡ record old { owed = owed; marks = marks } → IsPlaced new (Owed piece)
+owed_is_placed {S} {R} old new piece owed some marks takes becomes =
+    subst (λ (e : EngineView S R). IsPlaced e (Owed piece)) (sym becomes) (some, takes.inside)
+
+-- what is held stays so
+filled_stores : {S R : Type 0} (g : Ghosts S R) (old mid : EngineView S R) → IsReady old → IsRead g old mid
+    → Fills (g.tells old.sources) g.unread fill.Held (inner_buffer old.files.nest) (inner_buffer mid.files.nest) → SourcesCalled g false false old.sources mid.sources → KeepsStores g old mid
+filled_stores {S} {R} g old mid ready r fills call =
+    let b = inner_buffer mid.files.nest in
+    let nest = with_buffer b old.files.nest in
+    let is : mid ≡ record old { files = record old.files { nest = nest }; sources = mid.sources } =
+    r.becomes ∙ ap (λ (fs : FilesView R). record old { files = fs; sources = mid.sources }) r.only in
+    subst (λ (e : EngineView S R). KeepsStores g old e) (sym is)
+    (keeps_sources g old old.owed old.marks old.table.macros old.conditions nest mid.sources ready.free ready.idle call.catalog
+    (λ t. parts_slid (g.tells old.sources) Unit g.unread b old.files.nest ready.nest (slides-told (g.tells old.sources) (g.tells old.sources) Unit (IsExact fill.Held) g.unread (inner_buffer old.files.nest) b (λ x. x) (λ _ e. cc) fills.slides) t (g.catalog old.sources)))
+
+-- bytes are held that weren't, and nothing else changed
+pub silent_fill : {S R : Type 0} (g : Ghosts S R) (old mid : EngineView S R) → IsReady old → IsRead g old mid
+    → Fills (g.tells old.sources) g.unread fill.Held (inner_buffer old.files.nest) (inner_buffer mid.files.nest) → SourcesCalled g false false old.sources mid.sources → IsSilent g 1 old mid
+silent_fill {S} {R} g old mid ready r fills call =
+    let b = inner_buffer mid.files.nest in
+    let limits : mid.limits ≡ old.limits = ap (λ e. e.limits) r.becomes in
+    let origins : mid.origins ≡ old.origins = ap (λ e. e.origins) r.becomes in
+    let table : mid.table ≡ old.table = ap (λ e. e.table) r.becomes in
+    let conditions : mid.conditions ≡ old.conditions = ap (λ e. e.conditions) r.becomes in
+    let owed : mid.owed ≡ old.owed = ap (λ e. e.owed) r.becomes in
+    let nest : mid.files.nest ≡ with_buffer b old.files.nest = ap (λ f. f.nest) r.only in
+    record {
+      limits = limits;
+      origins = origins;
+      main = ap (λ e. e.main) r.becomes;
+      quota = ap (λ e. e.quota) r.becomes;
+      most_bytes = ap (λ t. t.most_bytes) table;
+      most_macros = ap (λ t. t.most_macros) table;
+      free = ready.free;
+      still = ap (λ e. e.kept) r.becomes ∙ ready.free;
+      open_ = ready.open_;
+      stays = ap (λ e. e.phase) r.becomes ∙ ready.open_;
+      call = call;
+      text = λ t. read_text g old mid ready.owed ready.idle r call.catalog
+          (nest_filled old.limits (run_rules g old) g.unread old.table.macros old.conditions (g.tells old.sources) t old.files.nest b fills);
+      work = (let same : work_left mid ≡ work_left old = work_same old mid b limits owed (ap (λ e. e.expansion) r.becomes) nest fills.unused in omega arith);
+      keeps = filled_stores g old mid ready r fills call;
+      reaches = reaches_one g old mid (record { after = mid; place = None; stands = Nowhere refl (InSources ready.idle (ap (λ e. e.expansion) r.becomes) (Unmarked (ap (λ e. e.marks) r.becomes))); becomes = refl });
+      few = one_part _ refl;
+    }
+
+-- the main text is open
+pub opened_phase : (p : Phase) → p ≡ Open → is_open p ≡ true
+unfolding is_open
+opened_phase p e = ap is_open e
+
+-- an engine that goes on still does where bytes were filled in
+pub ready_filled : {S R : Type 0} {g : Ghosts S R} (old mid : EngineView S R) → IsReady old → IsRead g old mid → IsSoundEngine mid.limits mid.phase mid.table mid.files mid.conditions → AreOpen mid.files → IsReady mid
+ready_filled old mid ready r sound files = record {
+  open_ = ap (λ e. e.phase) r.becomes ∙ ready.open_;
+  free = ap (λ e. e.kept) r.becomes ∙ ready.free;
+  owed = ap (λ e. e.owed) r.becomes ∙ ready.owed;
+  idle = ap (λ e. e.expansion.opens) r.becomes ∙ ready.idle;
+  nest = sound.open_ (opened_phase mid.phase (ap (λ e. e.phase) r.becomes ∙ ready.open_));
+  sound = sound;
+  files = files;
+}
+
+-- what remains of an engine that goes on, where what it begins with ends the output
+module _ {S R : Type 0} (g : Ghosts S R) (e : EngineView S R) where
+  abbrev pub Fails : FaultKind → ℕ → List ℕ → Type 0
+  Fails kind line word = left_by g e e.table.macros e.conditions e.files.nest ≡ leaves (fails (fault_at kind line word (state_of e))) (state_of e)
+
+  -- a usage of what isn't defined
+  pub left_undefined : (len : ℕ) → IsReady e → e.conditions.skipped ≡ None → 0 < length (held_of (inner_buffer e.files.nest)) → (inner_buffer e.files.nest).mode ≡ Plain → IsUsage (held_of (inner_buffer e.files.nest)) len
+      → macro_named e.table.macros (usage_name (held_of (inner_buffer e.files.nest)) len) ≡ None → Fails fault.UndefinedMacro (inner_buffer e.files.nest).line (usage_name (held_of (inner_buffer e.files.nest)) len)
+  unfolding state_of
+  left_undefined len ready live some plain usage none =
+      nest_undefined e.limits (run_rules g e) g.unread e.table.macros e.conditions live e.files.nest len some (inner_facts e.files ready.nest ready.files).ends plain usage none
+
+  -- what is refused
+  pub left_refused : (kind : FaultKind) → IsReady e → e.conditions.skipped ≡ None → 0 < length (held_of (inner_buffer e.files.nest)) → IsRefused (inner_buffer e.files.nest).mode (held_of (inner_buffer e.files.nest)) kind → Fails kind (inner_buffer e.files.nest).line []
+  unfolding state_of
+  left_refused kind ready live some refused =
+      nest_refused e.limits (run_rules g e) g.unread e.table.macros e.conditions live e.files.nest kind some (inner_facts e.files ready.nest ready.files).ends refused
+
+  -- an `undef` of a reserved name
+  pub left_reserved : (start stop : ℕ) → IsReady e → e.conditions.skipped ≡ None → 0 < length (held_of (inner_buffer e.files.nest)) → (inner_buffer e.files.nest).mode ≡ Plain → HasName Undef (held_of (inner_buffer e.files.nest)) start stop
+      → is_reserved (argument_name (held_of (inner_buffer e.files.nest)) start stop) ≡ true → Fails fault.ReservedName (inner_buffer e.files.nest).line (argument_name (held_of (inner_buffer e.files.nest)) start stop)
+  unfolding state_of
+  left_reserved start stop ready live some plain named taken =
+      nest_reserved e.limits (run_rules g e) g.unread e.table.macros e.conditions live e.files.nest start stop some (inner_facts e.files ready.nest ready.files).ends plain named taken
+
+  -- an `undef` without a name
+  pub left_nameless : IsReady e → e.conditions.skipped ≡ None → 0 < length (held_of (inner_buffer e.files.nest)) → (inner_buffer e.files.nest).mode ≡ Plain → LacksName Undef (held_of (inner_buffer e.files.nest)) → Fails fault.NameExpected (inner_buffer e.files.nest).line []
+  unfolding state_of
+  left_nameless ready live some plain lacks =
+      nest_nameless e.limits (run_rules g e) g.unread e.table.macros e.conditions live e.files.nest some (inner_facts e.files ready.nest ready.files).ends plain lacks
+
+-- what remains where a line breaks the source
+module _ {S R : Type 0} (g : Ghosts S R) (old mid : EngineView S R) (ready : IsReady old) (t : g.tells old.sources) where
+  pub left_long_line : Fills (g.tells old.sources) g.unread fill.LineLong (inner_buffer old.files.nest) (inner_buffer mid.files.nest)
+      → left_by g old old.table.macros old.conditions old.files.nest ≡ leaves (fails (fault_at fault.LineTooLong (inner_buffer mid.files.nest).line [] (state_of old))) (state_of old)
+  unfolding state_of
+  left_long_line fills =
+      nest_long_line old.limits (run_rules g old) g.unread old.table.macros old.conditions (g.tells old.sources) t old.files.nest (inner_buffer mid.files.nest) ready.nest fills
+      ∙ rw fills.line refl
+
+  pub left_long_source : Fills (g.tells old.sources) g.unread fill.SourceLong (inner_buffer old.files.nest) (inner_buffer mid.files.nest)
+      → left_by g old old.table.macros old.conditions old.files.nest ≡ leaves (fails (fault_at fault.SourceTooLong (inner_buffer mid.files.nest).line [] (state_of old))) (state_of old)
+  unfolding state_of
+  left_long_source fills =
+      nest_long_source old.limits (run_rules g old) g.unread old.table.macros old.conditions (g.tells old.sources) t old.files.nest (inner_buffer mid.files.nest) ready.nest fills
+      ∙ rw fills.line refl
+
+  -- where a read fails the same remains
+  pub left_unfilled : Fills (g.tells old.sources) g.unread fill.Failed (inner_buffer old.files.nest) (inner_buffer mid.files.nest)
+      → left_by g old old.table.macros old.conditions old.files.nest ≡ left_by g old old.table.macros old.conditions (with_buffer (inner_buffer mid.files.nest) old.files.nest)
+  left_unfilled fills = nest_unfilled old.limits (run_rules g old) g.unread old.table.macros old.conditions (g.tells old.sources) t old.files.nest (inner_buffer mid.files.nest) fills
+
+  pub left_unheld : HoldsLine (g.tells old.sources) g.unread line.Failed (inner_buffer old.files.nest) (inner_buffer mid.files.nest)
+      → left_by g old old.table.macros old.conditions old.files.nest ≡ left_by g old old.table.macros old.conditions (with_buffer (inner_buffer mid.files.nest) old.files.nest)
+  left_unheld holds = nest_unheld old.limits (run_rules g old) g.unread old.table.macros old.conditions (g.tells old.sources) t old.files.nest (inner_buffer mid.files.nest) holds
+
+  -- or the logical line of a `define` does
+  module _ (live : old.conditions.skipped ≡ None) (some : 0 < length (held_of (inner_buffer old.files.nest))) (plain : (inner_buffer old.files.nest).mode ≡ Plain) (define : IsDirective Define (held_of (inner_buffer old.files.nest))) where
+    pub left_long_define : HoldsLine (g.tells old.sources) g.unread line.TooLong (inner_buffer old.files.nest) (inner_buffer mid.files.nest)
+        → left_by g old old.table.macros old.conditions old.files.nest ≡ leaves (fails (fault_at fault.LineTooLong (inner_buffer mid.files.nest).line [] (state_of old))) (state_of old)
+    unfolding state_of
+    left_long_define holds =
+        nest_long_define old.limits (run_rules g old) g.unread old.table.macros old.conditions live (g.tells old.sources) t old.files.nest (inner_buffer mid.files.nest)
+        some (inner_facts old.files ready.nest ready.files).ends plain define holds
+        ∙ rw holds.extends.line refl
+
+    pub left_cut_define : HoldsLine (g.tells old.sources) g.unread line.SourceLong (inner_buffer old.files.nest) (inner_buffer mid.files.nest)
+        → left_by g old old.table.macros old.conditions old.files.nest ≡ leaves (fails (fault_at fault.SourceTooLong (inner_buffer mid.files.nest).line [] (state_of old))) (state_of old)
+    unfolding state_of
+    left_cut_define holds =
+        nest_cut_define old.limits (run_rules g old) g.unread old.table.macros old.conditions live (g.tells old.sources) t old.files.nest (inner_buffer mid.files.nest)
+        some (inner_facts old.files ready.nest ready.files).ends plain define holds
+        ∙ rw holds.extends.line refl
+
+-- no more is held than a line may have
+pub held_few : {S R : Type 0} (e : EngineView S R) → IsSoundEngine e.limits e.phase e.table e.files e.conditions → AreOpen e.files → 0 < length e.files.nest → length (held_of (inner_buffer e.files.nest)) < 2 ^ 31
+held_few e sound files some =
+    let inner = inner_facts e.files some files in
+    let room = held_room (inner_buffer e.files.nest) in
+    let lines = inner.buffer.lines in
+    let within = inner.buffer.within in
+    let size = inner.size in
+    let most = sound.line_bytes in
+    let range = sound.in_range.line_bytes.1 in
+    omega arith
+
+-- what stands where a mode is entered
+pub entered_at : {R : Type 0} (nest : List (File R)) (next : Mode) → (inner_buffer (with_buffer (entered_mode (inner_buffer nest) next) nest)).at ≡ (inner_buffer nest).at
+unfolding entered_mode
+entered_at [] next = refl
+entered_at (f ∷ outer) next = refl
+
+pub entered_holds : {R : Type 0} (nest : List (File R)) (next : Mode) → held_of (inner_buffer (with_buffer (entered_mode (inner_buffer nest) next) nest)) ≡ held_of (inner_buffer nest)
+unfolding entered_mode held_of
+entered_holds [] next = refl
+entered_holds (f ∷ outer) next = refl
+
+-- the places of held bytes can be counted, and lie in the window
+pub record IsRoom {S R : Type 0} (e : EngineView S R) (len start : ℕ) : Type 0 where
+  pub inside : start + len ≤ length (inner_buffer e.files.nest).window
+  pub few : start + len < 2 ^ 64
+
+pub room_of : {S R : Type 0} (e : EngineView S R) (len start : ℕ) → IsReady e → len ≤ length (held_of (inner_buffer e.files.nest)) → start ≡ (inner_buffer e.files.nest).at → IsRoom e len start
+room_of e len start ready inside is =
+    let inner = inner_facts e.files ready.nest ready.files in
+    let room = held_room (inner_buffer e.files.nest) in
+    let used = inner.buffer.used in
+    let lines = inner.buffer.lines in
+    let within = inner.buffer.within in
+    let size = inner.size in
+    let most = ready.sound.line_bytes in
+    let range = ready.sound.in_range.line_bytes.1 in
+    record { inside = omega arith; few = omega arith }
+
+-- the text that is lent lies in the window
+pub text_placed : {S R : Type 0} (old mid new : EngineView S R) (len lines start : ℕ) (next : Mode) → IsReady old → IsRoom old len start
+    → mid ≡ record old { files = record old.files { nest = with_buffer (entered_mode (inner_buffer old.files.nest) next) old.files.nest } }
+    → (marks : MarksView) → new ≡ record mid { files = record mid.files { nest = with_inner (consumed_file len lines) mid.files.nest }; marks = marks }
+    → IsPlaced new (Source start (start + len))
+text_placed {S} {R} old mid new len lines start next ready room enters marks uses =
+    let nest : new.files.nest ≡ with_inner (consumed_file len lines) (with_buffer (entered_mode (inner_buffer old.files.nest) next) old.files.nest) =
+    ap (λ e. e.files.nest) uses ∙ ap (λ (m : EngineView S R). with_inner (consumed_file len lines) m.files.nest) enters in
+    let window = ap (λ ns. length (inner_buffer ns).window) nest ∙ ap length (same_window old.files.nest len lines next) in
+    let size = ap length nest ∙ (with_inner-length (consumed_file len lines) (with_buffer (entered_mode (inner_buffer old.files.nest) next) old.files.nest) ∙ with_inner-length (λ f. record f { buffer = entered_mode (inner_buffer old.files.nest) next }) old.files.nest) in
+    let some = ready.nest in
+    let inside = room.inside in
+    (omega arith, omega arith, omega arith)
+
+-- what is dropped of a short text
+drop_min : (xs : List ℕ) (m k : ℕ) → m ≡ min (length xs) k → drop m xs ≡ drop k xs
+drop_min [] m k e = drop-nil m ∙ sym (drop-nil k)
+drop_min (x ∷ xs) zero zero e = refl
+drop_min (x ∷ xs) zero (suc k) e = absurd (omega arith)
+drop_min (x ∷ xs) (suc m) zero e = absurd (omega arith)
+drop_min (x ∷ xs) (suc m) (suc k) e = drop_min xs m k (omega arith)
+
+-- what stands behind the word of a `define`
+pub behind_word : (line : List ℕ) (len m : ℕ) → length line ≡ len → m ≡ min len 7 → take (length line - m) (drop m line) ≡ drop 7 line
+behind_word line len m wide least =
+    take_rest line m ∙ drop_min line m 7 (least ∙ ap (λ n. min n 7) (sym wide))
+
+-- what a `define` gives of the same things
+pub defined_same : (b n : ℕ) (macros : List Macro) (r1 r2 : List ℕ) (o : table_define.Defined) → o ≡ define_of b n macros r1 → r1 ≡ r2 → define_of b n macros r2 ≡ o
+defined_same b n macros r1 r2 o e r = rw (← r) (sym e)
+
+-- a refused `define`, at a place
+pub reads_refused : {S R : Type 0} (len : ℕ) (old new : EngineView S R) (place : Place) → place ≡ Kept → RefusesDefine len old new → ReadsDefine len old new (Some place)
+reads_refused {S} {R} len old new place is refuses = subst (λ (p : Place). ReadsDefine len old new (Some p)) (sym is) refuses
+
+-- a table of which only the macros changed
+table_same : (old new : TableView) → new.most_bytes ≡ old.most_bytes → new.most_macros ≡ old.most_macros → new ≡ record old { macros = new.macros }
+table_same old new bytes count = rw (← bytes, ← count) refl
+
+-- an accepted `define`
+pub defines_by : {S R : Type 0} (len : ℕ) (old now new : EngineView S R) (table : TableView) (owed : OwedView) (lines : ℕ)
+    → now ≡ record old { table = table; files = record old.files { nest = with_inner (consumed_file len lines) old.files.nest } }
+    → new ≡ record now { owed = owed } → owed ≡ record now.owed { line_ends = now.owed.line_ends + lines } → old.owed ≡ nothing_owed
+    → (table.most_bytes ≡ old.table.most_bytes) × (table.most_macros ≡ old.table.most_macros)
+    → define_of old.table.most_bytes old.table.most_macros old.table.macros (define_rest old len) ≡ table_define.Accepted table.macros
+    → lines ≡ line_ends (take len (held_of (inner_buffer old.files.nest))) → Defines len old new
+unfolding nothing_owed line_ends_owed
+defines_by {S} {R} len old now new table owed lines used owes adds nothing limits accepted counted =
+    let files : FilesView R = record old.files { nest = with_inner (consumed_file len lines) old.files.nest } in
+    let none : now.owed.line_ends ≡ 0 = ap (λ e. e.owed.line_ends) used ∙ ap (λ o. o.line_ends) nothing in
+    let count : now.owed.line_ends + lines ≡ lines = omega arith in
+    let empty : now.owed.origin ≡ None = ap (λ e. e.owed.origin) used ∙ ap (λ o. o.origin) nothing in
+    let owes_of : ℕ → Option OriginView → OwedView = λ n o. record { line_ends = n; origin = o } in
+    let exact : owed ≡ line_ends_owed lines = adds ∙ (ap (λ (n : ℕ). owes_of n now.owed.origin) count ∙ ap (owes_of lines) empty) in
+    let makes : TableView → OwedView → EngineView S R = λ t o. record old { table = t; files = files; owed = o } in
+    record {
+      macros = table.macros;
+      accepted = accepted;
+      lines = lines;
+      counted = counted;
+      becomes = owes ∙ (ap (λ (e : EngineView S R). record e { owed = owed }) used
+          ∙ (ap (makes table) exact ∙ ap (λ (t : TableView). makes t (line_ends_owed lines)) (table_same old.table table limits.0 limits.1)));
+    }
+
+-- an engine of which nothing is owed any more
+pub unowed_by : {S R : Type 0} (old new : EngineView S R) → old.phase ≡ Open → old.kept ≡ None → new ≡ record old { owed = nothing_owed } → IsUnowed new
+unowed_by old new open_ free becomes = rw becomes (record { open_ = open_; free = free; owed = refl })
+
+-- it goes on in its open sources where no text of a usage is open
+pub ready_idle : {S R : Type 0} (e : EngineView S R) → IsUnowed e → e.expansion.opens ≡ [] → IsSoundEngine e.limits e.phase e.table e.files e.conditions → AreOpen e.files → IsReady e
+ready_idle e unowed idle sound files = record {
+  open_ = unowed.open_;
+  free = unowed.free;
+  owed = unowed.owed;
+  idle = idle;
+  nest = sound.open_ (opened_phase e.phase unowed.open_);
+  sound = sound;
+  files = files;
+}
+
+-- the same engine, with something else owed
+pub owing : {S R : Type 0} (a b : EngineView S R) (owed : OwedView) → a ≡ b → record a { owed = owed } ≡ record b { owed = owed }
+owing {S} {R} a b owed same = ap (λ (e : EngineView S R). record e { owed = owed }) same
+
+pub owing_same : {S R : Type 0} (e : EngineView S R) (a b : OwedView) → a ≡ b → record e { owed = a } ≡ record e { owed = b }
+owing_same e a b same = ap (λ (o : OwedView). record e { owed = o }) same

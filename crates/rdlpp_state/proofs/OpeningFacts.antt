@@ -1,0 +1,312 @@
+-- The opening of a main text: the name that its fault tells, and what a start comes to.
+use Rattle.std.proofs.Common.{◌≡◌, ℕ, zero, suc, ◌-◌, ◌≤◌, ◌<◌, ◌&&◌, Bool, true, false, leb, List, [], length, get_or, take, Option, None, Some, Err, ◌∷◌, refl, sym, ap, subst, ◌∙◌, inl, inr, arith}
+use Rattle.std.specs.Str.{IsCharBoundary}
+use Rattle.std.proofs.lemmas.Bool.{cases_lt, cond-true, cond-false}
+use Rattle.std.proofs.lemmas.Bool.Decides.{nat_tests}
+use Rattle.std.proofs.lemmas.List.{take_all, get_or_past}
+use Rattle.rdlpp_scan.specs.SourceTokens.{whole_tokens}
+use Rattle.rdlpp_source.specs.Counts.{Counts}
+use Rattle.rdlpp_source.specs.Sources.{Answer, Catalog, Present, Finds, is_device, is_no_memory}
+use Rattle.rdlpp_source.specs.declared.sources.Found.{Found}
+use Rattle.rdlpp_source.specs.declared.sources.SourceFault.{SourceFault}
+use Rattle.rdlpp_source.specs.declared.sources.SourceFault.TheVariants as source
+use Rattle.rdlpp_source.specs.declared.sources.Sources.{Ghosts}
+use Rattle.rdlpp_meaning.specs.declared.fault.FaultKind.{FaultKind}
+use Rattle.rdlpp_meaning.specs.declared.fault.FaultKind.TheVariants.{SourceNotFound, PathTooLong, ReadFailed, SourceMemory}
+use Rattle.rdlpp_meaning.specs.Outcome.{Outcome, Told, and_then, fails, gives}
+use Rattle.rdlpp_meaning.specs.Resumed.{Live, remains}
+use Rattle.rdlpp_meaning.specs.Output.{character_place, name_cut, opening_fault, start_state, output}
+use Rattle.rdlpp_meaning.proofs.Outputs.{outcome-behind_bytes, output_found, output_missing, output_overlong}
+use Rattle.rdlpp_state.specs.Engine.{EngineView}
+use Rattle.rdlpp_scan.specs.SourceTokens.{SourceToken}
+use Rattle.rdlpp_meaning.specs.Meaning.{Passage, Progress, behind_bytes, origin_line, outcome}
+use Rattle.rdlpp_meaning.specs.Opened.{all_resumed}
+use Rattle.rdlpp_meaning.proofs.Includes.{all_resumed_alone}
+use Rattle.rdlpp_read.specs.Buffer.{ahead_of, held_of, opened_buffer, rest_of, tokens_left, unread_of}
+use Rattle.rdlpp_front.specs.SourceLeft.{source_left}
+use Rattle.rdlpp_state.proofs.ConditionalPlaces.{no_place}
+use Rattle.rdlpp_state.proofs.IdleTexts.{text_idle}
+use Rattle.rdlpp_state.proofs.OwedOrigins.{owed_origin}
+use Rattle.rdlpp_state.specs.Held.{IsBounded, stores_of}
+use Rattle.rdlpp_state.specs.Stored.{AreParts}
+use Rattle.rdlpp_state.proofs.Stores.{fault_lets_go, none_called, parts_opened}
+use Rattle.rdlpp_read.specs.Files.{entered_file}
+use Rattle.rdlpp_read.specs.declared.files.File.{File}
+use Rattle.rdlpp_state.specs.Owed.{origin_owed, owed_bytes}
+use Rattle.rdlpp_state.specs.Remaining.{file_state, kept_uncut, left_of, lookup_of, nest_left, nest_state, output_fault, phase_uncut, run_rules, source_rules, uncut_of, waiting_around, inner_name}
+use Rattle.rdlpp_meaning.specs.OutputLimit.{limited, limited_output, search_rules, unlimited_output}
+use Rattle.rdlpp_meaning.proofs.OutputLimits.{limited-fails}
+use Rattle.rdlpp_meaning.specs.State.{Lookup, NoSource, LongPath, Rules, State, no_shift}
+use Rattle.rdlpp_meaning.specs.Profile.{rules_of}
+use Rattle.rdlpp_state.specs.Steps.{is_memory_kind, is_read_failed}
+use Rattle.rdlpp_state.specs.Includes.{kind_of_source}
+use Rattle.rdlpp_state.specs.Opening.{opened_engine, unopened_engine, looked_up_output, searches_of, is_device_fault, is_memory_fault, is_opening_kind, Starts}
+
+-- whether the byte at a place goes on with a character
+goes_on : List ℕ → ℕ → Bool
+goes_on bytes n = leb 128 (get_or bytes n 0) && leb (get_or bytes n 0) 191
+
+-- a byte that begins a character, or the end
+begins : (b : ℕ) → (128 ≤ b → 192 ≤ b) → (leb 128 b && leb b 191) ≡ false
+begins b h = grind (arith, nat_tests)
+
+-- a byte within a character
+within : (b : ℕ) → 128 ≤ b → b < 192 → (leb 128 b && leb b 191) ≡ true
+within b h i = grind (arith, nat_tests)
+
+-- a byte behind the end goes on with nothing
+goes_on-past : (bytes : List ℕ) (n : ℕ) → length bytes ≤ n → goes_on bytes n ≡ false
+unfolding goes_on
+goes_on-past bytes n h =
+    let past : get_or bytes n 0 ≡ 0 = get_or_past bytes n 0 h in
+    ap (λ b. leb 128 b && leb b 191) past
+
+-- at a boundary no character goes on
+goes_on-boundary : (bytes : List ℕ) (n : ℕ) → n < length bytes → IsCharBoundary bytes n → goes_on bytes n ≡ false
+unfolding goes_on
+goes_on-boundary bytes n h at = begins (get_or bytes n 0) (at.1 h)
+
+-- where there is no boundary a character goes on
+goes_on-inside : (bytes : List ℕ) (n : ℕ) → n < length bytes → (IsCharBoundary bytes n → ⊥) → goes_on bytes n ≡ true
+unfolding goes_on
+goes_on-inside bytes n h out =
+    elim (cases_lt (get_or bytes n 0) 128) [
+      | inl low ↦ absurd (out (omega arith, λ i j. absurd (omega arith)))
+      | inr high ↦ elim (cases_lt (get_or bytes n 0) 192) [
+        | inl low ↦ within (get_or bytes n 0) high low
+        | inr top ↦ absurd (out (omega arith, λ i j. top))
+      ]
+    ]
+
+-- the place of a cut, one byte before
+place-here : (bytes : List ℕ) (n : ℕ) → goes_on bytes (suc n) ≡ false → character_place bytes (suc n) ≡ suc n
+unfolding character_place goes_on
+place-here bytes n e = cond-false _ _ _ e
+
+place-before : (bytes : List ℕ) (n : ℕ) → goes_on bytes (suc n) ≡ true → character_place bytes (suc n) ≡ character_place bytes n
+unfolding character_place goes_on
+place-before bytes n e = cond-true _ _ _ e
+
+-- nothing stands before the first byte
+first : (bytes : List ℕ) (r : ℕ) → r ≤ 0 → r ≡ character_place bytes zero
+unfolding character_place
+first bytes r h = omega arith
+
+-- where a text ends before a place, the greatest boundary up to that place is its end
+end_reached : (bytes : List ℕ) (r most : ℕ) → length bytes ≤ most
+    → ((i : ℕ) → r < i → i ≤ most → IsCharBoundary bytes i → ⊥) → length bytes ≤ r
+end_reached bytes r most h nearest =
+    elim (cases_lt r (length bytes)) [
+      | inl before ↦ absurd (nearest (length bytes) before h (omega arith, λ i j. absurd (omega arith)))
+      | inr past ↦ past
+    ]
+
+-- the greatest boundary up to a place is where a name is cut
+pub cut_at_boundary : (bytes : List ℕ) (most r : ℕ) → r ≤ most → IsCharBoundary bytes r
+    → ((i : ℕ) → r < i → i ≤ most → IsCharBoundary bytes i → ⊥)
+    → take r bytes ≡ take (character_place bytes most) bytes
+cut_at_boundary bytes zero r below at nearest =
+    let none : r ≡ character_place bytes zero = first bytes r below in
+    ap (λ n. take n bytes) none
+cut_at_boundary bytes (suc k) r below at nearest =
+    elim (cases_lt (suc k) (length bytes)) [
+      | inr past ↦
+          let whole : length bytes ≤ r = end_reached bytes r (suc k) past nearest in
+          take_all r bytes whole
+          ∙ sym (take_all (suc k) bytes past)
+          ∙ ap (λ n. take n bytes) (sym (place-here bytes k (goes_on-past bytes (suc k) past)))
+      | inl inside ↦ elim (cases_lt r (suc k)) [
+        | inl before ↦
+            cut_at_boundary bytes k r (omega arith) at (λ i h j. nearest i h (omega arith))
+            ∙ ap (λ n. take n bytes) (sym (place-before bytes k
+            (goes_on-inside bytes (suc k) inside (nearest (suc k) before (omega arith)))))
+        | inr here ↦
+            let same : r ≡ suc k = omega arith in
+            let boundary : IsCharBoundary bytes (suc k) = rw (← same) at in
+            ap (λ n. take n bytes) (same ∙ sym (place-here bytes k (goes_on-boundary bytes (suc k) inside boundary)))
+      ]
+    ]
+
+-- the first 1,024 bytes of a name, up to their last boundary
+pub name_cut_at : (bytes : List ℕ) (r : ℕ) → r ≤ 1024 → IsCharBoundary bytes r
+    → ((i : ℕ) → r < i → i ≤ 1024 → IsCharBoundary bytes i → ⊥) → take r bytes ≡ name_cut bytes
+unfolding name_cut
+name_cut_at bytes r below at nearest = cut_at_boundary bytes 1024 r below at nearest
+
+-- where no source waits, what remains of the text is what is owed and what remains of its only source
+alone : (rules : Rules) (x : List ℕ) (ts : List SourceToken) (s : State) → outcome (behind_bytes x (all_resumed rules [] (Live []) true ts s)) ≡ and_then (gives x) (remains rules (Live []) true ts s)
+unfolding remains
+alone rules x ts s =
+    outcome-behind_bytes x (all_resumed rules [] (Live []) true ts s)
+    ∙ ap (λ (p : Passage). and_then (gives x) (outcome p)) (all_resumed_alone rules (Live []) true ts s)
+
+-- what remains of a main text that was opened, where no text of a usage is
+left_idle : {S R : Type 0} (g : Ghosts S R) (e : EngineView S R) (s : S) (path : List ℕ) (found : Found R) → e.expansion.opens ≡ []
+    → let o = opened_engine (record e { sources = s }) path found in
+    left_of g o ≡ limited (output_fault (name_cut path)) e.limits.output_bytes
+    (outcome (behind_bytes (owed_bytes (inner_name o.files.nest) o.owed) (nest_left o.limits (run_rules g o) g.unread o.table.macros o.conditions o.files.nest)))
+unfolding left_of uncut_of kept_uncut phase_uncut opened_engine
+left_idle g e s path found idle =
+    ap (λ (p : Passage). limited (output_fault (name_cut path)) e.limits.output_bytes (outcome p)) (text_idle g (opened_engine (record e { sources = s }) path found) idle)
+
+-- what remains of a main text that was opened
+left_opened : {S R : Type 0} (g : Ghosts S R) (e : EngineView S R) (s : S) (path : List ℕ) (found : Found R)
+    → e.files.line_bytes ≡ e.limits.line_bytes → e.files.nest ≡ [] → e.conditions.open_now ≡ [] → e.expansion.opens ≡ [] → g.catalog s ≡ g.catalog e.sources
+    → left_of g (opened_engine (record e { sources = s }) path found)
+    ≡ limited (output_fault (name_cut path)) e.limits.output_bytes
+    (and_then (gives (origin_line (run_rules g e) found.path.bytes 1))
+    (remains (run_rules g e) (Live []) true ((run_rules g e).tokens (g.unread found.reader))
+    (start_state e.table.macros e.limits.includes e.limits.conditions found.path.bytes)))
+unfolding nest_left waiting_around nest_state file_state source_left opened_engine opened_buffer tokens_left held_of rest_of ahead_of unread_of whole_tokens source_rules rules_of start_state no_shift
+left_opened g e s path found most none unopened idle catalog =
+    let rules = run_rules g e in
+    let ts = whole_tokens e.limits.line_bytes e.limits.source_bytes (g.unread found.reader) in
+    let starts : ℕ → State = λ n. record (start_state e.table.macros e.limits.includes e.limits.conditions found.path.bytes) { sources_left = n } in
+    let count : e.limits.conditions - length {A = Progress} [] ≡ e.limits.conditions = omega arith in
+    let all : e.limits.includes - 0 ≡ e.limits.includes = omega arith in
+    let x = owed_bytes found.path.bytes (record { line_ends = 0; origin = origin_owed e.origins 1 }) in
+    let cuts : List ℕ → ℕ → Outcome = λ y n. limited (output_fault (name_cut path)) e.limits.output_bytes (and_then (gives y) (remains rules (Live []) true ts (starts n))) in
+    left_idle g e s path found idle
+    ∙ rw (none, most, catalog, no_place 0 e.conditions unopened, unopened, count) (ap (limited (output_fault (name_cut path)) e.limits.output_bytes) (alone rules x ts (starts (e.limits.includes - 0)))
+    ∙ (ap (cuts x) all ∙ ap (λ (y : List ℕ). cuts y e.limits.includes) (owed_origin (g.catalog e.sources) e.limits e.origins found.path.bytes 1)))
+
+-- what remains where no main text was opened
+left_unopened : {S R : Type 0} (g : Ghosts S R) (e : EngineView S R) (s : S) (kind : FaultKind) (path : List ℕ)
+    → left_of g (unopened_engine (record e { sources = s }) (opening_fault kind path)) ≡ fails (opening_fault kind path)
+unfolding left_of uncut_of kept_uncut unopened_engine
+left_unopened g e s kind path = limited-fails (output_fault e.main) e.quota (opening_fault kind path)
+
+-- the output of a main path by what the search for it comes to
+unfoldable looked_up : {S R : Type 0} → Ghosts S R → EngineView S R → List ℕ → Lookup → Outcome
+looked_up g e path lookup =
+    limited (output_fault (name_cut path)) e.limits.output_bytes
+    (output (run_rules g e) e.table.macros e.limits.includes e.limits.conditions path lookup)
+
+-- the output is that of what is found at the main path
+found_output : {S R : Type 0} (g : Ghosts S R) (e : EngineView S R) (path : List ℕ) (answer : Answer)
+    → (g.catalog e.sources).top path ≡ answer
+    → looked_up_output g e path ≡ looked_up g e path (lookup_of answer)
+unfolding looked_up_output looked_up searches_of limited_output unlimited_output search_rules source_rules opening_fault output_fault
+found_output g e path answer found = ap (λ (a : Answer). looked_up g e path (lookup_of a)) found
+
+-- the output of a main path that is no text
+looked_up-fails : {S R : Type 0} (g : Ghosts S R) (e : EngineView S R) (path : List ℕ) (lookup : Lookup) (f : Told)
+    → output (run_rules g e) e.table.macros e.limits.includes e.limits.conditions path lookup ≡ fails f
+    → looked_up g e path lookup ≡ fails f
+unfolding looked_up
+looked_up-fails g e path lookup f is =
+    ap (limited (output_fault (name_cut path)) e.limits.output_bytes) is ∙ limited-fails (output_fault (name_cut path)) e.limits.output_bytes f
+
+-- a start that finds its main text
+pub starts_open : {S R : Type 0} (g : Ghosts S R) (e : EngineView S R) (s : S) (found : Found R) (path : List ℕ)
+    → e.files.line_bytes ≡ e.limits.line_bytes
+    → e.files.nest ≡ []
+    → e.conditions.open_now ≡ []
+    → e.expansion.opens ≡ []
+    → IsBounded (opened_engine (record e { sources = s }) path found)
+    → (g.tells e.sources → (g.catalog e.sources).top path ≡ Present found.path.bytes (g.unread found.reader))
+    → g.failures s ≡ g.failures e.sources
+    → g.refusals s ≡ g.refusals e.sources
+    → (g.tells e.sources → g.tells s)
+    → g.catalog s ≡ g.catalog e.sources
+    → Starts g e (opened_engine (record e { sources = s }) path found) path None
+unfolding opened_engine is_device_fault is_memory_fault lookup_of looked_up
+starts_open {S} {R} g e s found path most none unopened idle bounded answer failures refusals tells catalog = record {
+  limits = refl;
+  origins = refl;
+  table = refl;
+  started = λ h. cc;
+  keeps = refl;
+  opens = λ _. record { found = found; becomes = refl; text = answer };
+  refused = λ f is. absurd (cc is);
+  call = record { failures = failures; refusals = refusals; tells = tells; catalog = catalog };
+  remains_output = λ _ _ telling.
+      left_opened g e s path found most none unopened idle catalog
+      ∙ sym (found_output g e path _ (answer telling)
+      ∙ ap (limited (output_fault (name_cut path)) e.limits.output_bytes)
+      (output_found (run_rules g e) e.table.macros e.limits.includes e.limits.conditions path
+      found.path.bytes (g.unread found.reader)));
+  bounded = bounded;
+  lets_go = λ h. record { idle = λ _ _. h };
+  kinds = tt;
+  stores = λ h telling. record {
+    lets_go = record { idle = λ _ _. h };
+    parts =
+        let file : File R = entered_file found e.limits.source_bytes e.files.line_bytes 0 0 in
+        let kept : Option Told = None in
+        let exact : Type 0 = kept ≡ None in
+        subst (λ (ns : List (File R)). AreParts g.unread (g.catalog s) exact (file ∷ ns)) (sym none)
+        (subst (λ (c : Catalog). AreParts g.unread c exact (file ∷ [])) (sym catalog)
+        (parts_opened g.unread (g.catalog e.sources) exact found e.limits.source_bytes e.files.line_bytes 0 0 path (answer telling)));
+    begun = λ _. inl h;
+    call = λ fs called. absurd (let no : None ≡ Some fs = sym (none_called e.table.macros e.expansion.opens idle) ∙ called in cc);
+  };
+}
+
+-- a start that is refused
+starts_refused : {S R : Type 0} (g : Ghosts S R) (e : EngineView S R) (s : S) (kind : FaultKind) (path : List ℕ)
+    → is_opening_kind kind ≡ true
+    → e.files.nest ≡ []
+    → e.expansion.opens ≡ []
+    → IsBounded e
+    → Counts (is_read_failed kind) (g.failures e.sources) (g.failures s)
+    → Counts (is_memory_kind kind) (g.refusals e.sources) (g.refusals s)
+    → (g.tells e.sources → g.tells s)
+    → g.catalog s ≡ g.catalog e.sources
+    → (is_read_failed kind ≡ false → is_memory_kind kind ≡ false → g.tells e.sources
+    → fails (opening_fault kind path) ≡ looked_up_output g e path)
+    → Starts g e (unopened_engine (record e { sources = s }) (opening_fault kind path)) path (Some (opening_fault kind path))
+unfolding unopened_engine is_device_fault is_memory_fault opening_fault stores_of
+starts_refused {S} {R} g e s kind path own none idle bounded failures refusals tells catalog told = record {
+  limits = refl;
+  origins = refl;
+  table = refl;
+  started = λ h. cc;
+  keeps = refl;
+  opens = λ is. absurd (cc is);
+  refused = λ f is.
+      let same : opening_fault kind path ≡ f = cc is in
+      (sym same ∙ ap (λ (t : Told). opening_fault t.kind path) same, ap (unopened_engine (record e { sources = s })) same);
+  call = record { failures = failures; refusals = refusals; tells = tells; catalog = catalog };
+  remains_output = λ device memory telling. left_unopened g e s kind path ∙ told device memory telling;
+  bounded = record {
+    bytes = bounded.bytes;
+    cursors = bounded.cursors;
+    bindings = bounded.bindings;
+    conditions = bounded.conditions;
+    sources = bounded.sources;
+    texts = bounded.texts;
+  };
+  kinds = own;
+  lets_go = λ _. fault_lets_go (unopened_engine (record e { sources = s }) (opening_fault kind path)) (opening_fault kind path) refl;
+  stores = λ h _. record {
+    lets_go = fault_lets_go (unopened_engine (record e { sources = s }) (opening_fault kind path)) (opening_fault kind path) refl;
+    parts = subst (λ (ns : List (File R)). AreParts g.unread (g.catalog s) (Some (opening_fault kind path) ≡ None) ns) (sym none) tt;
+    begun = λ _. inl h;
+    call = λ fs called. absurd (let no : None ≡ Some fs = sym (none_called e.table.macros e.expansion.opens idle) ∙ called in cc);
+  };
+}
+
+-- a start that the sources refuse
+pub starts_not_found : {S R : Type 0} (g : Ghosts S R) (e : EngineView S R) (s : S) (fault : SourceFault) (path : List ℕ)
+    → e.files.nest ≡ []
+    → e.expansion.opens ≡ []
+    → IsBounded e
+    → (g.tells e.sources → Finds {R = R} g.unread ((g.catalog e.sources).top path) (Err fault))
+    → Counts (is_device {A = Found R} (Err fault)) (g.failures e.sources) (g.failures s)
+    → Counts (is_no_memory {A = Found R} (Err fault)) (g.refusals e.sources) (g.refusals s)
+    → (g.tells e.sources → g.tells s)
+    → g.catalog s ≡ g.catalog e.sources
+    → Starts g e (unopened_engine (record e { sources = s }) (opening_fault (kind_of_source fault) path)) path
+    (Some (opening_fault (kind_of_source fault) path))
+unfolding kind_of_source is_read_failed is_memory_kind is_opening_kind lookup_of
+starts_not_found g e s source.Absent path none idle bounded answer failures refusals tells catalog =
+    starts_refused g e s SourceNotFound path refl none idle bounded failures refusals tells catalog
+    (λ _ _ telling. sym (found_output g e path _ (answer telling) ∙ looked_up-fails g e path NoSource _ (output_missing _ _ _ _ _)))
+starts_not_found g e s source.PathTooLong path none idle bounded answer failures refusals tells catalog =
+    starts_refused g e s PathTooLong path refl none idle bounded failures refusals tells catalog
+    (λ _ _ telling. sym (found_output g e path _ (answer telling) ∙ looked_up-fails g e path LongPath _ (output_overlong _ _ _ _ _)))
+starts_not_found g e s source.Device path none idle bounded answer failures refusals tells catalog =
+    starts_refused g e s ReadFailed path refl none idle bounded failures refusals tells catalog (λ device _ _. cc)
+starts_not_found g e s source.NoMemory path none idle bounded answer failures refusals tells catalog =
+    starts_refused g e s SourceMemory path refl none idle bounded failures refusals tells catalog (λ _ memory _. cc)

@@ -1,0 +1,420 @@
+-- What is held of the texts that are read, as an engine goes on.
+use Rattle.std.proofs.Common.{false, ◌≡◌, ◌⊎◌, inl, inr, ℕ, ◌+◌, ◌≤◌, ◌<◌, List, [], ◌∷◌, ◌++◌, length, take, drop, Option, None, Some, refl, sym, ap, ◌∙◌, subst, append_assoc, arith}
+use Rattle.arrayvec.specs.declared.array_string.ArrayString.{ArrayString}
+use Rattle.std.proofs.lemmas.List.{take-append-drop, take-take}
+use Rattle.rdlpp_scan.specs.declared.token.Mode.{Mode}
+use Rattle.rdlpp_scan.specs.declared.token.Mode.TheVariants.{Plain}
+use Rattle.rdlpp_meaning.specs.CallScan.{Before}
+use Rattle.rdlpp_source.specs.Sources.{Catalog, Present}
+use Rattle.rdlpp_source.specs.declared.sources.Found.{Found}
+use Rattle.rdlpp_table.specs.Table.{Formal, Macro}
+use Rattle.rdlpp_meaning.specs.Parts.{only_blanks}
+use Rattle.rdlpp_conditions.specs.Conditions.{ConditionsView}
+use Rattle.rdlpp_usages.specs.CallReads.{ReadsUpTo, with_used}
+use Rattle.rdlpp_table.specs.View.{macro_at}
+use Rattle.rdlpp_meaning.specs.Opens.{Open}
+use Rattle.rdlpp_texts.specs.Opened.{usage_id, StaysOutermost}
+use Rattle.rdlpp_usages.specs.Usages.{ExpansionView, KeepsCall, KeepsOpening, KeepsUsage, StaysOpen, is_opened}
+use Rattle.rdlpp_usages.specs.declared.expansion.Opening.{Opening}
+use Rattle.rdlpp_usages.specs.declared.expansion.Opening.TheVariants.{Broken, Failed, Opened, Refused}
+use Rattle.rdlpp_source.specs.declared.sources.Sources.{Ghosts}
+use Rattle.rdlpp_meaning.specs.Outcome.{Told}
+use Rattle.rdlpp_read.specs.Buffer.{BufferView, Gains, entered_mode, MovesOver, Slides, ahead_of, held_of, opened_buffer, rest_of, text_left, unread_of}
+use Rattle.rdlpp_read.specs.Files.{consumed_file, entered_file, inner_buffer, torn_after, with_buffer, with_inner}
+use Rattle.rdlpp_read.specs.declared.files.File.{File}
+use Rattle.rdlpp_state.specs.Engine.{EngineView}
+use Rattle.rdlpp_state.specs.Includes.{inner_path}
+use Rattle.rdlpp_state.specs.Lines.{renumbered_file}
+use Rattle.rdlpp_state.specs.Marks.{MarksView}
+use Rattle.rdlpp_state.specs.Owed.{OwedView}
+use Rattle.rdlpp_state.specs.declared.phase.Phase.{Phase}
+use Rattle.rdlpp_state.specs.Stored.{AreParts, BeginsCall, called_formals, HoldsCall, HoldsStores, IsBegunIn, IsCallOf, IsPartOf, LetsGo}
+
+-- a fault is kept: nothing is said then
+pub fault_lets_go : {S R : Type 0} (e : EngineView S R) (f : Told) → e.kept ≡ Some f → LetsGo e
+fault_lets_go e f kept = record { idle = λ none. absurd (let no : Some f ≡ None = sym kept ∙ none in cc) }
+
+-- a part of a text, where its window moved on over that
+pub part_moves : {R : Type 0} (unread : R → List ℕ) (catalog : Catalog) (own exact : Type 0) (path : List ℕ) (old new : BufferView R) (outer : List (File R)) (dropped gained : List ℕ)
+    → old.window ++ gained ≡ dropped ++ new.window → Gains exact gained (unread_of unread old.reader) (unread_of unread new.reader) → own → IsPartOf unread catalog own path old outer
+    → IsPartOf unread catalog exact path new outer
+part_moves unread catalog own exact path old new outer dropped gained window gains here p =
+    record {
+      text = p.text;
+      told = p.told;
+      front = p.front ++ dropped;
+      rest = gains.rest;
+      whole = p.whole
+          ∙ ap (λ (u : List ℕ). p.front ++ (old.window ++ u)) (p.same here ∙ gains.whole)
+          ∙ ap (λ (u : List ℕ). p.front ++ u) (sym (append_assoc old.window gained gains.rest) ∙ ap (λ (w : List ℕ). w ++ gains.rest) window ∙ append_assoc dropped new.window gains.rest)
+          ∙ sym (append_assoc p.front dropped (new.window ++ gains.rest));
+      same = gains.same;
+    }
+
+-- parts of which less is asked
+pub parts_told : {R : Type 0} (unread : R → List ℕ) (catalog : Catalog) (own exact : Type 0) (nest : List (File R)) → (exact → own) → AreParts unread catalog own nest → AreParts unread catalog exact nest
+parts_told unread catalog own exact [] t parts = tt
+parts_told unread catalog own exact (f ∷ outer) t parts = (
+  record { text = parts.0.text; told = parts.0.told; front = parts.0.front; rest = parts.0.rest; whole = parts.0.whole; same = λ e. parts.0.same (t e) },
+  parts_told unread catalog own exact outer t parts.1,
+)
+
+-- open sources that stay parts of their texts, of which no byte is lost where the move is exact
+abbrev pub MovesParts : {R : Type 0} → (R → List ℕ) → Type 0 → List (File R) → List (File R) → Type 0
+MovesParts unread exact old new = (catalog : Catalog) → AreParts unread catalog Unit old → AreParts unread catalog exact new
+
+-- and of which none is lost
+abbrev pub KeepsParts : {R : Type 0} → (R → List ℕ) → List (File R) → List (File R) → Type 0
+KeepsParts unread old new = MovesParts unread Unit old new
+
+-- where held bytes of the innermost are used
+pub parts_used : {R : Type 0} (unread : R → List ℕ) (len lines : ℕ) (nest : List (File R)) → KeepsParts unread nest (with_inner (consumed_file len lines) nest)
+parts_used unread len lines [] = λ catalog parts. parts
+parts_used unread len lines (f ∷ outer) = λ catalog parts.
+    (record { text = parts.0.text; told = parts.0.told; front = parts.0.front; rest = parts.0.rest; whole = parts.0.whole; same = parts.0.same }, parts.1)
+
+-- where the window of the innermost slid
+pub parts_slid : {R : Type 0} (tells exact : Type 0) (unread : R → List ℕ) (b : BufferView R) (nest : List (File R)) → 0 < length nest → Slides tells exact unread (inner_buffer nest) b → tells
+    → MovesParts unread exact nest (with_buffer b nest)
+parts_slid tells exact unread b [] some slides t = λ catalog parts. tt
+parts_slid tells exact unread b (f ∷ outer) some slides t = λ catalog parts. (
+  part_moves unread catalog Unit exact f.path.bytes f.buffer b outer slides.dropped slides.gained slides.window (slides.text t) tt parts.0,
+  parts_told unread catalog Unit exact outer (λ _. tt) parts.1,
+)
+
+-- one after the other
+pub parts_on : {R : Type 0} (unread : R → List ℕ) (old mid new : List (File R)) → KeepsParts unread old mid → KeepsParts unread mid new → KeepsParts unread old new
+parts_on unread old mid new first then_ = λ catalog parts. then_ catalog (first catalog parts)
+
+-- where the buffer has the same window and the same reader
+pub parts_same : {R : Type 0} (unread : R → List ℕ) (b : BufferView R) (nest : List (File R)) → b.window ≡ (inner_buffer nest).window → b.reader ≡ (inner_buffer nest).reader → KeepsParts unread nest (with_buffer b nest)
+parts_same unread b [] window reader = λ catalog parts. parts
+parts_same unread b (f ∷ outer) window reader = λ catalog parts. (
+  record {
+    text = parts.0.text;
+    told = parts.0.told;
+    front = parts.0.front;
+    rest = parts.0.rest;
+    whole = parts.0.whole ∙ ap (λ (w : List ℕ). parts.0.front ++ (w ++ parts.0.rest)) (sym window);
+    same = λ e. parts.0.same e ∙ ap (unread_of unread) (sym reader);
+  },
+  parts.1,
+)
+
+-- where another mode is entered
+pub parts_mode : {R : Type 0} (unread : R → List ℕ) (next : Mode) (nest : List (File R)) → KeepsParts unread nest (with_buffer (entered_mode (inner_buffer nest) next) nest)
+unfolding entered_mode
+parts_mode unread next nest = parts_same unread (entered_mode (inner_buffer nest) next) nest refl refl
+
+-- where the innermost shows another name and other numbers
+pub parts_shown : {R : Type 0} (unread : R → List ℕ) (from number : ℕ) (name : ArrayString 1024) (nest : List (File R)) → KeepsParts unread nest (with_inner (renumbered_file from number name) nest)
+parts_shown unread from number name [] = λ catalog parts. parts
+parts_shown unread from number name (f ∷ outer) = λ catalog parts.
+    (record { text = parts.0.text; told = parts.0.told; front = parts.0.front; rest = parts.0.rest; whole = parts.0.whole; same = parts.0.same }, parts.1)
+
+-- the sources around the innermost
+pub parts_around : {R : Type 0} (unread : R → List ℕ) (nest : List (File R)) → KeepsParts unread nest (drop 1 nest)
+parts_around unread [] = λ catalog parts. parts
+parts_around unread (f ∷ outer) = λ catalog parts. parts.1
+
+-- the sources of which bytes are used, whose window moved on
+pub parts_moved : {R : Type 0} (tells exact : Type 0) (unread : R → List ℕ) (used : List ℕ) (old new : List (File R)) → 0 < length old → new ≡ with_used (inner_buffer new) used old
+    → MovesOver tells exact unread used (inner_buffer old) (inner_buffer new) → tells → MovesParts unread exact old new
+parts_moved tells exact unread used [] new some inner moves t = λ catalog parts. absurd (omega (arith, some))
+parts_moved {R} tells exact unread used (f ∷ outer) new some inner moves t = λ catalog parts.
+    let b = inner_buffer new in
+    let changed : File R = record f { buffer = b; blanks = only_blanks f.blanks used; torn = torn_after f.torn used } in
+    let now : AreParts unread catalog exact (changed ∷ outer) = (
+      part_moves unread catalog Unit exact f.path.bytes f.buffer b outer moves.dropped moves.gained moves.window (moves.text t) tt parts.0,
+      parts_told unread catalog Unit exact outer (λ _. tt) parts.1,
+    ) in
+    subst (λ (ns : List (File R)). AreParts unread catalog exact ns) (sym inner) now
+
+-- an included source that was found
+pub parts_entered : {R : Type 0} (unread : R → List ℕ) (catalog : Catalog) (found : Found R) (stop source_bytes line_bytes below line : ℕ) (name : List ℕ) (nest : List (File R)) → 0 < length nest
+    → catalog.find (inner_path nest) name ≡ Present found.path.bytes (unread found.reader) → AreParts unread catalog Unit nest
+    → AreParts unread catalog Unit (entered_file found source_bytes line_bytes below line ∷ with_inner (consumed_file stop 0) nest)
+unfolding unread_of opened_buffer
+parts_entered unread catalog found stop source_bytes line_bytes below line name [] some finds parts = absurd (omega (arith, some))
+parts_entered unread catalog found stop source_bytes line_bytes below line name (f ∷ outer) some finds parts =
+    (record { text = unread found.reader; told = (name, finds); front = []; rest = unread found.reader; whole = refl; same = λ e. refl }, parts_used unread stop 0 (f ∷ outer) catalog parts)
+
+-- a main text that was found
+pub parts_opened : {R : Type 0} (unread : R → List ℕ) (catalog : Catalog) (exact : Type 0) (found : Found R) (source_bytes line_bytes below line : ℕ) (path : List ℕ)
+    → catalog.top path ≡ Present found.path.bytes (unread found.reader) → AreParts unread catalog exact (entered_file found source_bytes line_bytes below line ∷ [])
+unfolding unread_of opened_buffer
+parts_opened unread catalog exact found source_bytes line_bytes below line path finds =
+    (record { text = unread found.reader; told = (path, finds); front = []; rest = unread found.reader; whole = refl; same = λ e. refl }, tt)
+
+-- where no text of a usage is open, none is called
+pub none_called : (macros : List Macro) (opens : List Open) → opens ≡ [] → called_formals macros opens ≡ None
+unfolding called_formals usage_id
+none_called macros opens none = ap (called_formals macros) none
+
+-- where one is called, some text is open
+called_some : (macros : List Macro) (opens : List Open) (fs : List Formal) → called_formals macros opens ≡ Some fs → 0 < length opens
+called_some macros [] fs called = absurd (let no : None ≡ Some fs = sym (none_called macros [] refl) ∙ called in cc)
+called_some macros (x ∷ below) fs called = omega arith
+
+-- the macro of the usage is
+pub called_by : (macros : List Macro) (id : ℕ) (opens : List Open) → usage_id opens ≡ Some id → called_formals macros opens ≡ (macro_at macros id).formals
+unfolding called_formals
+called_by macros id opens is = ap (λ (u : Option ℕ). elim u [ None ↦ None | Some i ↦ (macro_at macros i).formals ]) is
+
+-- the same is called where the outermost text stays
+same_called : (macros : List Macro) (old new : List Open) → StaysOutermost old new → 0 < length new → called_formals macros new ≡ called_formals macros old
+unfolding called_formals
+same_called macros old new stays some = ap (λ (u : Option ℕ). elim u [ None ↦ None | Some id ↦ (macro_at macros id).formals ]) (stays some)
+
+-- a window and what is unread, from the used bytes on
+whole_left : {R : Type 0} (unread : R → List ℕ) (b : BufferView R) → b.at ≤ b.accepted → b.window ++ unread_of unread b.reader ≡ take b.at b.window ++ text_left unread b
+unfolding text_left held_of rest_of ahead_of
+whole_left unread b used =
+    let x = unread_of unread b.reader in
+    let front = take b.accepted b.window in
+    let ahead = drop b.accepted b.window in
+    let first : take b.at front ≡ take b.at b.window = take-take b.at b.accepted b.window used in
+    ap (λ (w : List ℕ). w ++ x) (sym (take-append-drop b.accepted b.window))
+    ∙ append_assoc front ahead x
+    ∙ ap (λ (w : List ℕ). w ++ (ahead ++ x)) (sym (take-append-drop b.at front))
+    ∙ append_assoc (take b.at front) (drop b.at front) (ahead ++ x)
+    ∙ ap (λ (w : List ℕ). w ++ (drop b.at front ++ (ahead ++ x))) first
+
+-- the text of a source, from the bytes on that aren't used
+text_from : {R : Type 0} (unread : R → List ℕ) (catalog : Catalog) (path : List ℕ) (b : BufferView R) (outer : List (File R)) → b.at ≤ b.accepted → (p : IsPartOf unread catalog Unit path b outer)
+    → p.text ≡ (p.front ++ take b.at b.window) ++ text_left unread b
+text_from unread catalog path b outer used p =
+    p.whole ∙ ap (λ (w : List ℕ). p.front ++ (b.window ++ w)) (p.same tt)
+    ∙ ap (λ (w : List ℕ). p.front ++ w) (whole_left unread b used)
+    ∙ sym (append_assoc p.front (take b.at b.window) (text_left unread b))
+
+-- the call of a usage, after whose name a source stood
+call_kept : {R : Type 0} (unread : R → List ℕ) (catalog : Catalog) (most : ℕ) (arguments path : List ℕ) (mid now : BufferView R) (outer : List (File R)) → mid.at ≤ mid.accepted → IsPartOf unread catalog Unit path mid outer
+    → KeepsCall unread most arguments mid now → IsCallOf unread catalog most arguments path now outer
+call_kept unread catalog most arguments path mid now outer used p keeps =
+    record {
+      text = p.text;
+      told = p.told;
+      front = p.front ++ take mid.at mid.window;
+      from = mid;
+      keeps = keeps;
+      whole = text_from unread catalog path mid outer used p ∙ ap (λ (w : List ℕ). (p.front ++ take mid.at mid.window) ++ w) keeps.text;
+    }
+
+-- one in which a fault came
+call_begun : {R : Type 0} (unread : R → List ℕ) (catalog : Catalog) (most : ℕ) (tells : Type 0) (arguments path : List ℕ) (mid now : BufferView R) (outer : List (File R)) → mid.at ≤ mid.accepted → mid.mode ≡ Plain
+    → IsPartOf unread catalog Unit path mid outer → tells → ReadsUpTo tells unread Before most arguments mid now → IsBegunIn unread catalog most arguments path now outer
+call_begun unread catalog most tells arguments path mid now outer used plain p t reads =
+    let on = reads.goes_on in
+    record {
+      text = p.text;
+      told = p.told;
+      front = p.front ++ take mid.at mid.window;
+      from = mid;
+      plain = plain;
+      reads = record {
+        to = reads.to;
+        used = reads.used;
+        there = reads.there;
+        goes_on = record { unused = on.unused; fits = on.fits; reads = λ _. on.reads t; bytes = λ _. on.bytes t };
+        whole = reads.whole;
+      };
+      whole = text_from unread catalog path mid outer used p;
+    }
+
+-- so it is among the open sources
+pub holds_call : {R : Type 0} (unread : R → List ℕ) (catalog : Catalog) (most len : ℕ) (tells : Type 0) (arguments used : List ℕ) (nest new : List (File R)) → 0 < length nest
+    → (inner_buffer (with_inner (consumed_file len 0) nest)).at ≤ (inner_buffer nest).accepted → new ≡ with_used (inner_buffer new) used nest → AreParts unread catalog Unit nest
+    → KeepsOpening tells unread most Opened arguments (inner_buffer (with_inner (consumed_file len 0) nest)) (inner_buffer new) → tells → HoldsCall unread catalog most arguments new
+holds_call unread catalog most len tells arguments used [] new some inside inner parts keeps t = absurd (omega (arith, some))
+holds_call {R} unread catalog most len tells arguments used (f ∷ outer) new some inside inner parts keeps t =
+    let b = inner_buffer new in
+    let mid = consumed_file len 0 f in
+    let changed : File R = record f { buffer = b; blanks = only_blanks f.blanks used; torn = torn_after f.torn used } in
+    let own : IsPartOf unread catalog Unit f.path.bytes mid.buffer outer = (parts_used unread len 0 (f ∷ outer) catalog parts).0 in
+    subst (λ (ns : List (File R)). HoldsCall unread catalog most arguments ns) (sym inner)
+    (call_kept unread catalog most arguments f.path.bytes mid.buffer b outer inside own (keeps t))
+
+-- and where a fault came in it
+begins_call : {R : Type 0} (unread : R → List ℕ) (catalog : Catalog) (most len : ℕ) (tells : Type 0) (arguments used : List ℕ) (nest new : List (File R)) → 0 < length nest
+    → (inner_buffer (with_inner (consumed_file len 0) nest)).at ≤ (inner_buffer nest).accepted → (inner_buffer nest).mode ≡ Plain → new ≡ with_used (inner_buffer new) used nest → AreParts unread catalog Unit nest
+    → tells → ReadsUpTo tells unread Before most arguments (inner_buffer (with_inner (consumed_file len 0) nest)) (inner_buffer new) → BeginsCall unread catalog most arguments new
+begins_call unread catalog most len tells arguments used [] new some inside plain inner parts t reads = absurd (omega (arith, some))
+begins_call {R} unread catalog most len tells arguments used (f ∷ outer) new some inside plain inner parts t reads =
+    let b = inner_buffer new in
+    let mid = consumed_file len 0 f in
+    let changed : File R = record f { buffer = b; blanks = only_blanks f.blanks used; torn = torn_after f.torn used } in
+    let own : IsPartOf unread catalog Unit f.path.bytes mid.buffer outer = (parts_used unread len 0 (f ∷ outer) catalog parts).0 in
+    subst (λ (ns : List (File R)). BeginsCall unread catalog most arguments ns) (sym inner)
+    (call_begun unread catalog most tells arguments f.path.bytes mid.buffer b outer inside plain own t reads)
+
+-- what is kept of a usage without a list, and of one with a list
+usage_none : {R : Type 0} (formals : Option (List Formal)) (tells : Type 0) (unread : R → List ℕ) (most : ℕ) (arguments : List ℕ) (from now : BufferView R) → KeepsUsage formals tells unread most Opened arguments from now
+    → formals ≡ None → arguments ≡ []
+usage_none None tells unread most arguments from now keeps e = keeps
+usage_none (Some fs) tells unread most arguments from now keeps e = cc e
+
+usage_some : {R : Type 0} (formals : Option (List Formal)) (fs : List Formal) (tells : Type 0) (unread : R → List ℕ) (most : ℕ) (arguments : List ℕ) (from now : BufferView R)
+    → KeepsUsage formals tells unread most Opened arguments from now → formals ≡ Some fs → KeepsOpening tells unread most Opened arguments from now
+usage_some None fs tells unread most arguments from now keeps e = cc e
+usage_some (Some own) fs tells unread most arguments from now keeps e = keeps
+
+-- what is kept of a usage in which a fault came: nothing, or what was kept so far
+usage_begun : {R : Type 0} (formals : Option (List Formal)) (tells : Type 0) (unread : R → List ℕ) (most : ℕ) (opening : Opening) (arguments : List ℕ) (from now : BufferView R) → is_opened opening ≡ false
+    → KeepsUsage formals tells unread most opening arguments from now → (arguments ≡ []) ⊎ ReadsUpTo tells unread Before most arguments from now
+usage_begun None tells unread most opening arguments from now none keeps = inl keeps
+usage_begun (Some fs) tells unread most Opened arguments from now none keeps = cc none
+usage_begun (Some fs) tells unread most (Refused kind) arguments from now none keeps = inr keeps
+usage_begun (Some fs) tells unread most (Broken kind own) arguments from now none keeps = inr keeps
+usage_begun (Some fs) tells unread most Failed arguments from now none keeps = inr keeps
+
+-- what is held as an engine goes on
+pub record KeepsStores {S R : Type 0} (g : Ghosts S R) (old new : EngineView S R) : Type 0 where
+  pub lets_go : LetsGo old → LetsGo new
+  pub stores : g.tells old.sources → HoldsStores g old → HoldsStores g new
+
+-- the parts of an engine's texts, of which no byte was lost
+free_parts : {S R : Type 0} (g : Ghosts S R) (e : EngineView S R) → e.kept ≡ None → HoldsStores g e → AreParts g.unread (g.catalog e.sources) Unit e.files.nest
+free_parts g e free h = parts_told g.unread (g.catalog e.sources) (e.kept ≡ None) Unit e.files.nest (λ _. free) h.parts
+
+-- where the sources changed, no fault is kept, and no text of a usage is open
+pub keeps_sources : {S R : Type 0} (g : Ghosts S R) (old : EngineView S R) (owed : OwedView) (marks : MarksView) (macros : List Macro) (v : ConditionsView) (nest : List (File R)) (sources : S) → old.kept ≡ None → old.expansion.opens ≡ []
+    → g.catalog sources ≡ g.catalog old.sources → (g.tells old.sources → AreParts g.unread (g.catalog old.sources) Unit old.files.nest → AreParts g.unread (g.catalog old.sources) Unit nest)
+    → KeepsStores g old (record old { owed = owed; marks = marks; table = record old.table { macros = macros }; conditions = v; files = record old.files { nest = nest }; sources = sources })
+keeps_sources g old owed marks macros v nest sources free idle catalog parts =
+    let none = none_called macros old.expansion.opens idle in
+    let nothing : LetsGo old → old.expansion.arguments ≡ [] = λ h. h.idle free (none_called old.table.macros old.expansion.opens idle) in
+    record {
+      lets_go = λ h. record { idle = λ _ _. nothing h };
+      stores = λ t h. record {
+        lets_go = record { idle = λ _ _. nothing h.lets_go };
+        parts = parts_told g.unread (g.catalog sources) Unit (old.kept ≡ None) nest (λ _. tt)
+            (subst (λ (c : Catalog). AreParts g.unread c Unit nest) (sym catalog) (parts t (free_parts g old free h)));
+        call = λ fs called. absurd (let no : None ≡ Some fs = sym none ∙ called in cc);
+        begun = λ _. inl (nothing h.lets_go);
+      };
+    }
+
+-- where nothing of it changed
+pub keeps_owed : {S R : Type 0} (g : Ghosts S R) (old : EngineView S R) (owed : OwedView) (marks : MarksView) → KeepsStores g old (record old { owed = owed; marks = marks })
+keeps_owed g old owed marks = record {
+  lets_go = λ h. record { idle = h.idle };
+  stores = λ t h. record { lets_go = record { idle = h.lets_go.idle }; parts = h.parts; call = h.call; begun = h.begun };
+}
+
+-- nor with how far an engine is, and how many bytes may be lent
+pub keeps_phase : {S R : Type 0} (g : Ghosts S R) (old : EngineView S R) (phase : Phase) (quota : ℕ) → KeepsStores g old (record old { phase = phase; quota = quota })
+keeps_phase g old phase quota = record {
+  lets_go = λ h. record { idle = h.idle };
+  stores = λ t h. record { lets_go = record { idle = h.lets_go.idle }; parts = h.parts; call = h.call; begun = h.begun };
+}
+
+-- where a fault is kept, and nothing else changed: it closes nothing
+pub keeps_refused : {S R : Type 0} (g : Ghosts S R) (old : EngineView S R) (f : Told) → KeepsStores g old (record old { kept = Some f })
+keeps_refused g old f = record {
+  lets_go = λ h. fault_lets_go (record old { kept = Some f }) f refl;
+  stores = λ t h. record {
+    lets_go = fault_lets_go (record old { kept = Some f }) f refl;
+    parts = parts_told g.unread (g.catalog old.sources) (old.kept ≡ None) (Some f ≡ None) old.files.nest (λ e. absurd (cc)) h.parts;
+    call = h.call;
+    begun = h.begun;
+  };
+}
+
+-- where a fault is kept that came at the front of what is held: the innermost window moved on, and bytes may be lost after it
+pub keeps_stopped : {S R : Type 0} (g : Ghosts S R) (old : EngineView S R) (f : Told) (b : BufferView R) (sources : S) → old.kept ≡ None → old.expansion.opens ≡ [] → 0 < length old.files.nest
+    → g.catalog sources ≡ g.catalog old.sources → Slides (g.tells old.sources) ⊥ g.unread (inner_buffer old.files.nest) b
+    → KeepsStores g old (record old { kept = Some f; files = record old.files { nest = with_buffer b old.files.nest }; sources = sources })
+keeps_stopped {S} {R} g old f b sources free idle some catalog slides =
+    let new : EngineView S R = record old { kept = Some f; files = record old.files { nest = with_buffer b old.files.nest }; sources = sources } in
+    let none = none_called old.table.macros old.expansion.opens idle in
+    record {
+      lets_go = λ h. fault_lets_go new f refl;
+      stores = λ t h. record {
+        lets_go = fault_lets_go new f refl;
+        parts = parts_told g.unread (g.catalog sources) ⊥ (Some f ≡ None) (with_buffer b old.files.nest) (λ e. cc e)
+            (subst (λ (c : Catalog). AreParts g.unread c ⊥ (with_buffer b old.files.nest)) (sym catalog)
+            (parts_slid (g.tells old.sources) ⊥ g.unread b old.files.nest some slides t (g.catalog old.sources) (free_parts g old free h)));
+        call = λ fs called. absurd (let no : None ≡ Some fs = sym none ∙ called in cc);
+        begun = λ _. inl (h.lets_go.idle free none);
+      };
+    }
+
+-- where a fault is kept that came in the call of a usage
+pub keeps_broken : {S R : Type 0} (g : Ghosts S R) (old : EngineView S R) (f : Told) (nest : List (File R)) (s : S) (opening : Opening) (arguments used : List ℕ) (len : ℕ) (exact : Type 0) (formals : Option (List Formal))
+    → old.kept ≡ None → old.expansion.opens ≡ [] → 0 < length old.files.nest → g.catalog s ≡ g.catalog old.sources → nest ≡ with_used (inner_buffer nest) used old.files.nest
+    → MovesOver (g.tells old.sources) exact g.unread used (inner_buffer old.files.nest) (inner_buffer nest)
+    → (inner_buffer (with_inner (consumed_file len 0) old.files.nest)).at ≤ (inner_buffer old.files.nest).accepted → (inner_buffer old.files.nest).mode ≡ Plain → is_opened opening ≡ false
+    → KeepsUsage formals (g.tells old.sources) g.unread old.expansion.most opening arguments (inner_buffer (with_inner (consumed_file len 0) old.files.nest)) (inner_buffer nest)
+    → KeepsStores g old (record old { kept = Some f; files = record old.files { nest = nest }; sources = s; expansion = record old.expansion { arguments = arguments } })
+keeps_broken {S} {R} g old f nest s opening arguments used len exact formals free idle some catalog inner moves inside plain unopened keeps =
+    let new : EngineView S R = record old { kept = Some f; files = record old.files { nest = nest }; sources = s; expansion = record old.expansion { arguments = arguments } } in
+    let none = none_called old.table.macros old.expansion.opens idle in
+    record {
+      lets_go = λ h. fault_lets_go new f refl;
+      stores = λ t h. record {
+        lets_go = fault_lets_go new f refl;
+        parts = parts_told g.unread (g.catalog s) exact (Some f ≡ None) nest (λ e. absurd (cc))
+            (subst (λ (c : Catalog). AreParts g.unread c exact nest) (sym catalog)
+            (parts_moved (g.tells old.sources) exact g.unread used old.files.nest nest some inner moves t (g.catalog old.sources) (free_parts g old free h)));
+        call = λ fs called. absurd (let no : None ≡ Some fs = sym none ∙ called in cc);
+        begun = λ _. elim (usage_begun formals (g.tells old.sources) g.unread old.expansion.most opening arguments _ _ unopened keeps) [
+          | inl nothing ↦ inl nothing
+          | inr reads ↦
+              inr (subst (λ (c : Catalog). BeginsCall g.unread c old.expansion.most arguments nest) (sym catalog)
+              (begins_call g.unread (g.catalog old.sources) old.expansion.most len (g.tells old.sources) arguments used old.files.nest nest some inside plain inner (free_parts g old free h) t reads))
+        ];
+      };
+    }
+
+-- where the open texts went on
+pub keeps_texts : {S R : Type 0} (g : Ghosts S R) (old : EngineView S R) (x : ExpansionView) (marks : MarksView) → old.kept ≡ None → StaysOpen old.expansion x → StaysOutermost old.expansion.opens x.opens → (x.opens ≡ [] → x.arguments ≡ [])
+    → KeepsStores g old (record old { expansion = x; marks = marks })
+keeps_texts g old x marks free stays outer lets_go = record {
+  lets_go = λ h. record { idle = λ _ none. by h none x.opens refl };
+  stores = λ t h. record {
+    lets_go = record { idle = λ _ none. by h.lets_go none x.opens refl };
+    parts = h.parts;
+    call = λ fs called.
+        let some = called_some old.table.macros x.opens fs called in
+        let own = sym (same_called old.table.macros old.expansion.opens x.opens outer some) ∙ called in
+        elim stays.arguments [
+          | inl same ↦
+              subst (λ (n : ℕ). HoldsCall g.unread (g.catalog old.sources) n x.arguments old.files.nest) (sym stays.most)
+              (subst (λ (a : List ℕ). HoldsCall g.unread (g.catalog old.sources) old.expansion.most a old.files.nest) (sym same) (h.call fs own))
+          | inr none ↦ (let zeroth = ap length none.0 in absurd (omega (arith, zeroth, some)))
+        ];
+    begun = λ none. inl (by h.lets_go none x.opens refl);
+  };
+}
+  where
+    by : LetsGo old → called_formals old.table.macros x.opens ≡ None → (opens : List Open) → x.opens ≡ opens → x.arguments ≡ []
+    by h none [] is = lets_go is
+    by h none (y ∷ below) is =
+        let size = ap length is in
+        let own = sym (same_called old.table.macros old.expansion.opens x.opens outer (omega (arith, size))) ∙ none in
+        elim stays.arguments [ inl same ↦ same ∙ h.idle free own | inr gone ↦ gone.1 ]
+
+-- where a usage is opened
+pub keeps_opened : {S R : Type 0} (g : Ghosts S R) (old : EngineView S R) (nest : List (File R)) (s : S) (x : ExpansionView) (used : List ℕ) (len : ℕ) (formals : Option (List Formal)) → old.kept ≡ None → 0 < length old.files.nest
+    → g.catalog s ≡ g.catalog old.sources → nest ≡ with_used (inner_buffer nest) used old.files.nest → (g.tells old.sources → KeepsParts g.unread old.files.nest nest)
+    → (inner_buffer (with_inner (consumed_file len 0) old.files.nest)).at ≤ (inner_buffer old.files.nest).accepted → called_formals old.table.macros x.opens ≡ formals → x.most ≡ old.expansion.most
+    → KeepsUsage formals (g.tells old.sources) g.unread old.expansion.most Opened x.arguments (inner_buffer (with_inner (consumed_file len 0) old.files.nest)) (inner_buffer nest)
+    → KeepsStores g old (record old { files = record old.files { nest = nest }; sources = s; expansion = x })
+keeps_opened g old nest s x used len formals free some catalog inner parts inside called most keeps =
+    let nothing : called_formals old.table.macros x.opens ≡ None → x.arguments ≡ [] =
+    λ none. usage_none formals (g.tells old.sources) g.unread old.expansion.most x.arguments _ _ keeps (sym called ∙ none) in
+    record {
+      lets_go = λ h. record { idle = λ _ none. nothing none };
+      stores = λ t h. record {
+        lets_go = record { idle = λ _ none. nothing none };
+        parts = parts_told g.unread (g.catalog s) Unit (old.kept ≡ None) nest (λ _. tt)
+            (subst (λ (c : Catalog). AreParts g.unread c Unit nest) (sym catalog) (parts t (g.catalog old.sources) (free_parts g old free h)));
+        call = λ fs own.
+            subst (λ (n : ℕ). HoldsCall g.unread (g.catalog s) n x.arguments nest) (sym most)
+            (subst (λ (c : Catalog). HoldsCall g.unread c old.expansion.most x.arguments nest) (sym catalog)
+            (holds_call g.unread (g.catalog old.sources) old.expansion.most len (g.tells old.sources) x.arguments used old.files.nest nest some inside inner (free_parts g old free h)
+            (usage_some formals fs (g.tells old.sources) g.unread old.expansion.most x.arguments _ _ keeps (sym called ∙ own)) t));
+        begun = λ none. inl (nothing none);
+      };
+    }

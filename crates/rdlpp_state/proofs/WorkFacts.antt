@@ -1,0 +1,237 @@
+-- The work left falls where fewer bytes aren't used, and where fewer pieces are owed.
+use Rattle.std.proofs.Common.{◌≡◌, ℕ, zero, suc, lit<, ◌+◌, ◌-◌, ◌*◌, ◌^◌, ◌≤◌, ◌<◌, List, [], ◌∷◌, ◌++◌, length, take, drop, map, replicate, refl, sym, ap, ◌∙◌, append_assoc, length-append, arith}
+use Rattle.std.proofs.Math.Nat.{mul-le-mul_right, pow-suc}
+use Rattle.std.proofs.lemmas.List.{length-drop, length-map, length-reverse, length-take, reverse-append}
+use Rattle.rdlpp_scan.specs.declared.token.Mode.{Mode}
+use Rattle.rdlpp_read.specs.Buffer.{BufferView, closed_buffer, entered_mode, held_of, unused_of}
+use Rattle.rdlpp_read.specs.Files.{consumed_file, inner_buffer, source_digits, with_buffer, with_inner}
+use Rattle.rdlpp_read.specs.declared.files.File.{File}
+use Rattle.rdlpp_meaning.specs.Opens.{Open}
+use Rattle.rdlpp_texts.specs.Digits.{cursor_digits}
+use Rattle.rdlpp_state.specs.Engine.{EngineView}
+use Rattle.rdlpp_state.specs.Owed.{owed_pieces}
+use Rattle.rdlpp_state.specs.Remaining.{work_left}
+use Rattle.rdlpp_state.specs.Work.{number_of, padded, work_of}
+use Rattle.rdlpp_state.proofs.PaddedDigits.{AreDigits, behind_size, digits_append, digits_padded, digits_zeros, number_within}
+
+-- a power of 2 isn't 0
+pub power_some : (n : ℕ) → 0 < (2 ^ 31) ^ n
+power_some zero = lit< tt
+power_some (suc n) = let less = power_some n in rw pow-suc (omega arith)
+
+-- a number with a smaller digit behind the same ones
+pub digits_fall : (before : List ℕ) (a b : ℕ) (t u : List ℕ) → length t ≡ length u → a < b → number_of t < (2 ^ 31) ^ length t
+    → number_of (before ++ a ∷ t) < number_of (before ++ b ∷ u)
+unfolding number_of
+digits_fall [] a b t u same less within =
+    let some = power_some (length t) in
+    let most : (a + 1) * (2 ^ 31) ^ length t ≤ b * (2 ^ 31) ^ length t = mul-le-mul_right ((2 ^ 31) ^ length t) (omega arith) in
+    rw (← same) (omega arith)
+digits_fall (d ∷ ds) a b t u same less within =
+    let rest = digits_fall ds a b t u same less within in
+    let long : length (ds ++ a ∷ t) ≡ length (ds ++ b ∷ u) = length-append ds (a ∷ t) ∙ (ap (λ n. length ds + suc n) same ∙ sym (length-append ds (b ∷ u))) in
+    rw long (omega arith)
+
+-- the digits of the open sources, the innermost of which comes last
+inner_digit : {R : Type 0} (f : File R) (outer : List (File R)) → source_digits (f ∷ outer) ≡ source_digits outer ++ (unused_of f.buffer + 1) ∷ []
+unfolding source_digits
+inner_digit {R} f outer = reverse-append ((unused_of f.buffer + 1) ∷ []) (map (λ (g : File R). unused_of g.buffer + 1) outer)
+
+-- the work left of open sources with the last digit apart
+work_by : (includes depth owed d : ℕ) (before cursors : List ℕ) → work_of includes depth (before ++ d ∷ []) cursors owed
+    ≡ number_of (before ++ d ∷ (replicate (includes + 1 - length (before ++ d ∷ [])) 0 ++ (padded depth cursors ++ owed ∷ [])))
+unfolding work_of padded
+work_by includes depth owed d before cursors =
+    let low = (cursors ++ replicate (depth - length cursors) 0) ++ owed ∷ [] in
+    ap number_of (append_assoc (before ++ d ∷ []) (replicate (includes + 1 - length (before ++ d ∷ [])) 0) low
+    ∙ append_assoc before (d ∷ []) (replicate (includes + 1 - length (before ++ d ∷ [])) 0 ++ low))
+
+-- the last digit is smaller, whatever texts are open behind it
+work_less : (includes depth owed owing a b : ℕ) (before old new : List ℕ) → a < b → length old ≤ depth → length new ≤ depth → AreDigits new → owing < 2 ^ 31
+    → work_of includes depth (before ++ a ∷ []) new owing < work_of includes depth (before ++ b ∷ []) old owed
+work_less includes depth owed owing a b before old new less fits room all few =
+    let n = includes + 1 - length (before ++ b ∷ []) in
+    let places : length (before ++ a ∷ []) ≡ length (before ++ b ∷ []) = length-append before (a ∷ []) ∙ sym (length-append before (b ∷ [])) in
+    let low : List ℕ → ℕ → List ℕ = λ cs k. replicate n 0 ++ (padded depth cs ++ k ∷ []) in
+    let long : length (low new owing) ≡ length (low old owed) =
+    length-append (replicate n 0) (padded depth new ++ owing ∷ [])
+    ∙ (ap (λ k. length {A = ℕ} (replicate n 0) + k) (behind_size depth owed owing old new fits room)
+    ∙ sym (length-append (replicate n 0) (padded depth old ++ owed ∷ []))) in
+    let within = number_within (low new owing) (digits_append (replicate n 0) (padded depth new ++ owing ∷ []) (digits_zeros n) (digits_append (padded depth new) (owing ∷ []) (digits_padded depth new all) (few, tt))) in
+    rw (work_by includes depth owing a before new, work_by includes depth owed b before old, places)
+    (digits_fall before a b (low new owing) (low old owed) long less within)
+
+-- fewer bytes of the innermost source aren't used, and those around it stay
+pub record IsUsed {R : Type 0} (old new : List (File R)) : Type 0 where
+  pub fewer : unused_of (inner_buffer new) < unused_of (inner_buffer old)
+  pub outer : drop 1 new ≡ drop 1 old
+  pub size : length new ≡ length old
+
+used_falls : {R : Type 0} (includes depth owed owing : ℕ) (cursors others : List ℕ) (old new : List (File R)) → IsUsed old new → length cursors ≤ depth → length others ≤ depth → AreDigits others → owing < 2 ^ 31
+    → work_of includes depth (source_digits new) others owing < work_of includes depth (source_digits old) cursors owed
+unfolding closed_buffer unused_of
+used_falls includes depth owed owing cursors others [] [] used fits room all few = let less = used.fewer in absurd (omega arith)
+used_falls includes depth owed owing cursors others [] (g ∷ inner) used fits room all few = let same = used.size in absurd (omega arith)
+used_falls includes depth owed owing cursors others (f ∷ outer) [] used fits room all few = let same = used.size in absurd (omega arith)
+used_falls includes depth owed owing cursors others (f ∷ outer) (g ∷ inner) used fits room all few =
+    let same : inner ≡ outer = used.outer in
+    let fewer : unused_of g.buffer < unused_of f.buffer = used.fewer in
+    rw (inner_digit f outer, inner_digit g inner, same)
+    (work_less includes depth owed owing (unused_of g.buffer + 1) (unused_of f.buffer + 1) (source_digits outer) cursors others (omega arith) fits room all few)
+
+-- the work left falls where fewer bytes aren't used, whatever texts are open then
+pub work_opens : {S R : Type 0} (old new : EngineView S R) → new.limits ≡ old.limits → IsUsed old.files.nest new.files.nest
+    → length (cursor_digits old.expansion.opens) ≤ old.limits.depth → length (cursor_digits new.expansion.opens) ≤ old.limits.depth → AreDigits (cursor_digits new.expansion.opens)
+    → owed_pieces new.owed < 2 ^ 31 → work_left new < work_left old
+unfolding work_left
+work_opens old new limits used fits room all few =
+    rw limits (used_falls old.limits.includes old.limits.depth (owed_pieces old.owed) (owed_pieces new.owed) (cursor_digits old.expansion.opens) (cursor_digits new.expansion.opens)
+    old.files.nest new.files.nest used fits room all few)
+
+-- no text that is open has a digit
+pub idle_digits : (opens : List Open) → opens ≡ [] → cursor_digits opens ≡ []
+unfolding cursor_digits
+idle_digits opens idle = rw idle refl
+
+-- the work left falls where fewer bytes aren't used, and no text is open
+pub work_falls : {S R : Type 0} (old new : EngineView S R) → new.limits ≡ old.limits → IsUsed old.files.nest new.files.nest → old.expansion.opens ≡ [] → new.expansion.opens ≡ []
+    → owed_pieces new.owed < 2 ^ 31 → work_left new < work_left old
+work_falls old new limits used before idle few =
+    work_opens old new limits used (rw (idle_digits old.expansion.opens before) (omega arith)) (rw (idle_digits new.expansion.opens idle) (omega arith)) (rw (idle_digits new.expansion.opens idle) tt) few
+
+-- the work left falls where fewer pieces are owed
+pub owed_falls : {S R : Type 0} (old new : EngineView S R) → new.limits ≡ old.limits → new.files ≡ old.files → new.expansion ≡ old.expansion → owed_pieces new.owed < owed_pieces old.owed
+    → work_left new < work_left old
+unfolding work_left work_of number_of
+owed_falls old new limits files texts less =
+    let sources = padded (old.limits.includes + 1) (source_digits old.files.nest) in
+    let cursors = padded old.limits.depth (cursor_digits old.expansion.opens) in
+    let apart : (n : ℕ) → sources ++ (cursors ++ n ∷ []) ≡ (sources ++ cursors) ++ n ∷ [] = λ n. sym (append_assoc sources cursors (n ∷ [])) in
+    rw (limits, files, texts, apart (owed_pieces new.owed), apart (owed_pieces old.owed))
+    (digits_fall (sources ++ cursors) (owed_pieces new.owed) (owed_pieces old.owed) [] [] refl less (omega arith))
+
+-- no more is held than the places say
+pub held_room : {R : Type 0} (b : BufferView R) → length (held_of b) ≤ b.accepted - b.at
+unfolding held_of
+held_room b = omega (arith, length-drop b.at (take b.accepted b.window), length-take b.accepted b.window)
+
+-- held bytes are used
+pub used_bytes : {R : Type 0} (nest : List (File R)) (len lines : ℕ) → 0 < len → len ≤ length (held_of (inner_buffer nest)) → IsUsed nest (with_inner (consumed_file len lines) nest)
+unfolding unused_of closed_buffer held_of
+used_bytes [] len lines some inside = absurd (omega arith)
+used_bytes (f ∷ outer) len lines some inside =
+    let room = held_room f.buffer in
+    record { fewer = omega arith; outer = refl; size = refl }
+
+-- held bytes are used, in another buffer of which as many aren't used
+pub used_after : {R : Type 0} (nest : List (File R)) (b : BufferView R) (len lines : ℕ) → 0 < length nest → unused_of b ≡ unused_of (inner_buffer nest) → 0 < len → len ≤ length (held_of b)
+    → IsUsed nest (with_inner (consumed_file len lines) (with_buffer b nest))
+unfolding unused_of
+used_after [] b len lines open_ same some inside = absurd (omega arith)
+used_after (f ∷ outer) b len lines open_ same some inside =
+    let room = held_room b in
+    record { fewer = omega arith; outer = refl; size = refl }
+
+-- as many bytes aren't used in each mode
+pub entered_unused : {R : Type 0} (b : BufferView R) (next : Mode) → unused_of (entered_mode b next) ≡ unused_of b
+unfolding unused_of entered_mode
+entered_unused b next = refl
+
+-- the digits are the same
+same_digits : {R : Type 0} (nest : List (File R)) (b : BufferView R) → unused_of b ≡ unused_of (inner_buffer nest) → source_digits (with_buffer b nest) ≡ source_digits nest
+same_digits [] b same = refl
+same_digits {R} (f ∷ outer) b same =
+    inner_digit (record f { buffer = b }) outer ∙ (ap (λ (n : ℕ). source_digits outer ++ (n + 1) ∷ []) same ∙ sym (inner_digit f outer))
+
+-- the work left is the same where as many bytes aren't used
+pub work_same : {S R : Type 0} (old new : EngineView S R) (b : BufferView R) → new.limits ≡ old.limits → new.owed ≡ old.owed → new.expansion ≡ old.expansion → new.files.nest ≡ with_buffer b old.files.nest
+    → unused_of b ≡ unused_of (inner_buffer old.files.nest) → work_left new ≡ work_left old
+unfolding work_left
+work_same old new b limits owed texts nest same = rw (limits, owed, texts, nest, same_digits old.files.nest b same) refl
+
+-- as many digits as sources
+digits-length : {R : Type 0} (nest : List (File R)) → length (source_digits nest) ≡ length nest
+unfolding source_digits
+digits-length {R} nest =
+    let digit : File R → ℕ = λ g. unused_of g.buffer + 1 in
+    length-reverse (map digit nest) ∙ length-map nest digit
+
+-- one more place of 0 is among those that are filled up
+zero_place : (n : ℕ) (before : List ℕ) → length before < n → padded n (before ++ 0 ∷ []) ≡ padded n before
+unfolding padded
+zero_place n before room =
+    let places : length (before ++ 0 ∷ []) ≡ suc (length before) = length-append before (0 ∷ []) ∙ omega arith in
+    let fewer : n - length before ≡ suc (n - length (before ++ 0 ∷ [])) = omega arith in
+    append_assoc before (0 ∷ []) (replicate (n - length (before ++ 0 ∷ [])) 0)
+    ∙ ap (λ k. before ++ replicate k 0) (sym fewer)
+
+-- the work left falls where the innermost source is left
+dropped_falls : {R : Type 0} (includes depth owed owing : ℕ) (nest : List (File R)) → 0 < length nest → length nest ≤ includes + 1 → owing < 2 ^ 31
+    → work_of includes depth (source_digits (drop 1 nest)) [] owing < work_of includes depth (source_digits nest) [] owed
+unfolding work_of
+dropped_falls includes depth owed owing [] some few least = absurd (omega arith)
+dropped_falls includes depth owed owing (f ∷ outer) some few least =
+    let before = source_digits outer in
+    let size : length before ≡ length outer = digits-length outer in
+    let same : padded (includes + 1) (before ++ 0 ∷ []) ≡ padded (includes + 1) before = zero_place (includes + 1) before (omega arith) in
+    rw (inner_digit f outer, ← same)
+    (work_less includes depth owed owing 0 (unused_of f.buffer + 1) before [] [] (omega arith) (omega arith) (omega arith) tt least)
+
+pub left_falls : {S R : Type 0} (old new : EngineView S R) → new.limits ≡ old.limits → old.expansion.opens ≡ [] → new.expansion.opens ≡ [] → new.files.nest ≡ drop 1 old.files.nest
+    → 0 < length old.files.nest → length old.files.nest ≤ old.limits.includes + 1 → owed_pieces new.owed < 2 ^ 31 → work_left new < work_left old
+unfolding work_left
+left_falls old new limits before idle nest some few least =
+    rw (limits, nest, idle_digits old.expansion.opens before, idle_digits new.expansion.opens idle) (dropped_falls old.limits.includes old.limits.depth (owed_pieces old.owed) (owed_pieces new.owed) old.files.nest some few least)
+
+-- the work left of two open sources and those around them
+work_by_two : (includes depth owed a e : ℕ) (before : List ℕ) → work_of includes depth ((before ++ a ∷ []) ++ e ∷ []) [] owed
+    ≡ number_of (before ++ a ∷ e ∷ (replicate (includes + 1 - length ((before ++ a ∷ []) ++ e ∷ [])) 0 ++ (padded depth [] ++ owed ∷ [])))
+work_by_two includes depth owed a e before =
+    let low = replicate (includes + 1 - length ((before ++ a ∷ []) ++ e ∷ [])) 0 ++ (padded depth [] ++ owed ∷ []) in
+    work_by includes depth owed e (before ++ a ∷ []) [] ∙ ap number_of (append_assoc before (a ∷ []) (e ∷ low))
+
+-- the work left falls where bytes of a source are used, and another is opened inside of it
+work_inside : (includes depth owed owing a b e : ℕ) (before : List ℕ) → a < b → length before < includes → e < 2 ^ 31 → owing < 2 ^ 31
+    → work_of includes depth ((before ++ a ∷ []) ++ e ∷ []) [] owing < work_of includes depth (before ++ b ∷ []) [] owed
+work_inside includes depth owed owing a b e before less room small few =
+    let n = includes + 1 - length ((before ++ a ∷ []) ++ e ∷ []) in
+    let two : length ((before ++ a ∷ []) ++ e ∷ []) ≡ length before + 2 =
+    length-append (before ++ a ∷ []) (e ∷ []) ∙ (ap (λ k. k + 1) (length-append before (a ∷ [])) ∙ omega arith) in
+    let one : length (before ++ b ∷ []) ≡ length before + 1 = length-append before (b ∷ []) in
+    let places : includes + 1 - length (before ++ b ∷ []) ≡ suc n = omega arith in
+    let low : ℕ → List ℕ = λ k. replicate n 0 ++ (padded depth [] ++ k ∷ []) in
+    let long : length (low owing) ≡ length (low owed) =
+    length-append (replicate n 0) (padded depth [] ++ owing ∷ [])
+    ∙ (ap (λ k. length {A = ℕ} (replicate n 0) + k) (behind_size depth owed owing [] [] (omega arith) (omega arith))
+    ∙ sym (length-append (replicate n 0) (padded depth [] ++ owed ∷ []))) in
+    let within = number_within (e ∷ low owing)
+    (small, digits_append (replicate n 0) (padded depth [] ++ owing ∷ []) (digits_zeros n) (digits_append (padded depth []) (owing ∷ []) (digits_padded depth [] tt) (few, tt))) in
+    rw (work_by_two includes depth owing a e before, work_by includes depth owed b before [], places)
+    (digits_fall before a b (e ∷ low owing) (0 ∷ low owed) (ap suc long) less within)
+
+-- the digits of open sources, where bytes of the innermost are used and another is opened
+pub record IsEntered {R : Type 0} (old new : List (File R)) : Type 0 where
+  pub inner : File R
+  pub used : List (File R)
+  pub becomes : new ≡ inner ∷ used
+  pub some : IsUsed old used
+  pub small : unused_of inner.buffer + 1 < 2 ^ 31
+
+entered_digits : {R : Type 0} (includes depth owed owing : ℕ) (old used : List (File R)) (inner : File R) → IsUsed old used → length old ≤ includes → unused_of inner.buffer + 1 < 2 ^ 31 → owing < 2 ^ 31
+    → work_of includes depth (source_digits (inner ∷ used)) [] owing < work_of includes depth (source_digits old) [] owed
+unfolding closed_buffer unused_of
+entered_digits includes depth owed owing [] [] inner used room small few = let less = used.fewer in absurd (omega arith)
+entered_digits includes depth owed owing [] (g ∷ rest) inner used room small few = let same = used.size in absurd (omega arith)
+entered_digits includes depth owed owing (f ∷ outer) [] inner used room small few = let same = used.size in absurd (omega arith)
+entered_digits includes depth owed owing (f ∷ outer) (g ∷ rest) inner used room small few =
+    let same : rest ≡ outer = used.outer in
+    let fewer : unused_of g.buffer < unused_of f.buffer = used.fewer in
+    let size : length (source_digits outer) ≡ length outer = digits-length outer in
+    rw (inner_digit inner (g ∷ rest), inner_digit f outer, inner_digit g rest, same)
+    (work_inside includes depth owed owing (unused_of g.buffer + 1) (unused_of f.buffer + 1) (unused_of inner.buffer + 1) (source_digits outer) (omega arith) (omega arith) small few)
+
+pub entered_falls : {S R : Type 0} (old new : EngineView S R) → new.limits ≡ old.limits → old.expansion.opens ≡ [] → new.expansion.opens ≡ [] → IsEntered old.files.nest new.files.nest → length old.files.nest ≤ old.limits.includes
+    → owed_pieces new.owed < 2 ^ 31 → work_left new < work_left old
+unfolding work_left
+entered_falls old new limits before idle entered room few =
+    rw (limits, entered.becomes, idle_digits old.expansion.opens before, idle_digits new.expansion.opens idle) (entered_digits old.limits.includes old.limits.depth (owed_pieces old.owed) (owed_pieces new.owed) old.files.nest entered.used entered.inner entered.some room entered.small few)

@@ -1,0 +1,80 @@
+-- What the directives of conditionals do to an engine.
+-- A definition that names no source is this project's own.
+use Rattle.std.specs.Prelude.{◌≡◌, ℕ, ◌<◌, ◌≤◌, Bool, true, false, not, List, [], ◌∷◌, length, Option, None, Some, if◌then◌else◌}
+use Rattle.rdlpp_scan.specs.declared.token.Directive.{Directive}
+use Rattle.rdlpp_scan.specs.declared.token.Directive.TheVariants.{Elsif, Ifdef, Ifndef, Include, Undef}
+use Rattle.rdlpp_scan.specs.declared.token.Kind.TheVariants.{BareBackquote}
+use Rattle.rdlpp_scan.specs.declared.token.Mode.TheVariants.{Plain}
+use Rattle.rdlpp_scan.specs.Tokens.{token_of}
+use Rattle.rdlpp_meaning.specs.declared.fault.FaultKind.TheVariants.{OpenConditional, TooManyConditionals}
+use Rattle.rdlpp_meaning.specs.Meaning.{Progress, macro_name, name_test}
+use Rattle.rdlpp_meaning.specs.Outcome.{Told}
+use Rattle.rdlpp_meaning.specs.State.{State, fault_at}
+use Rattle.rdlpp_conditions.specs.Conditions.{ConditionsView}
+use Rattle.rdlpp_conditions.specs.Moves.{HasTest, opened_with, skipped_by}
+use Rattle.rdlpp_read.specs.Files.{consumed_file, inner_buffer, with_inner}
+use Rattle.rdlpp_front.specs.Fronts.{IsDirective, IsUsage, word_of}
+use Rattle.rdlpp_front.specs.declared.front.Argument.{Argument}
+use Rattle.rdlpp_state.specs.Engine.{EngineView}
+use Rattle.rdlpp_state.specs.OpenConditionals.{inner_below, inner_shown}
+use Rattle.rdlpp_state.specs.Owed.{line_ends_owed}
+use Rattle.rdlpp_state.specs.Remaining.{state_of}
+use Rattle.rdlpp_state.specs.declared.place.Place.{Place}
+use Rattle.rdlpp_state.specs.declared.place.Place.TheVariants.{Source, Text, Owed, End, Kept}
+
+-- the directive that opens a conditional, by whether it wants its name defined (IEEE 1364-2001, `ifdef`, `ifndef`)
+abbrev pub opening_word : Bool → Directive
+opening_word true = Ifdef
+opening_word false = Ifndef
+
+-- whether its test holds, by whether its name is defined (IEEE 1364-2001, `ifdef`, `ifndef`)
+abbrev pub test_of : Bool → Bool → Bool
+test_of defined found = if defined then found else not found
+
+-- a word in skipped text that doesn't count there: a lone backquote, a usage, or the word of an `undef` or of an `include`
+-- (this project's profile)
+pub data IsSkippedWord (held : List ℕ) (len : ℕ) : Type 0 where
+  LoneBackquote : (token_of Plain held).kind ≡ BareBackquote → len ≡ 1 → IsSkippedWord held len
+  AnyUsage : IsUsage held len → IsSkippedWord held len
+  UndefWord : IsDirective Undef held → len ≡ length (word_of Undef) → IsSkippedWord held len
+  IncludeWord : IsDirective Include held → len ≡ length (word_of Include) → IsSkippedWord held len
+
+-- the innermost conditional is the innermost source's own, and the name of an `elsif` of it decides (IEEE 1364-2001, `elsif`)
+pub record IsTested {S R : Type 0} (e : EngineView S R) : Type 0 where
+  pub live : Bool
+  pub conditional : Progress
+  pub around : List Progress
+  pub is_open : e.conditions.open_now ≡ conditional ∷ around
+  pub below : inner_below e.files.nest ≤ length around
+  pub skips : e.conditions.skipped ≡ skipped_by live
+  pub test : HasTest conditional Elsif (λ c s. name_test true (macro_name c) s)
+
+-- how many bytes an `elsif` has whose name isn't looked at: up to behind its name, where it is given one
+abbrev pub elsif_len : Option Argument → ℕ
+elsif_len None = length (word_of Elsif)
+elsif_len (Some a) = a.stop
+
+-- an engine of whose innermost source so many bytes are passed, whose LF bytes are owed (this project's profile)
+unfoldable pub passes_over : {S R : Type 0} → ℕ → ℕ → EngineView S R → EngineView S R
+passes_over len lines e = record e { owed = line_ends_owed lines; files = record e.files { nest = with_inner (consumed_file len lines) e.files.nest } }
+
+-- the fault of a conditional that is open where its source ends, at the line that it showed (this project's profile)
+abbrev pub unclosed_fault : ℕ → State → Told
+unclosed_fault line s = record { kind = OpenConditional; name = s.name; line = line; word = [] }
+
+-- an engine of whose innermost source so many bytes are used that have no LF, with other conditionals open
+unfoldable pub goes_past : {S R : Type 0} → ConditionsView → ℕ → EngineView S R → EngineView S R
+goes_past v len e = record e { conditions = v; files = record e.files { nest = with_inner (consumed_file len 0) e.files.nest } }
+
+-- what a conditional whose test was answered comes to: it is opened, at the line that its directive shows, or too many are open
+-- (this project's profile)
+abbrev pub OpensOne : {S R : Type 0} → Bool → ℕ → EngineView S R → EngineView S R → Option Place → Type 0
+OpensOne holds len old new None =
+    (length old.conditions.open_now < old.limits.conditions) × (new ≡ goes_past (opened_with (inner_shown old.files.nest) holds old.conditions) len old)
+OpensOne holds len old new (Some Kept) =
+    (old.limits.conditions ≤ length old.conditions.open_now)
+    × (new ≡ record old { kept = Some (fault_at TooManyConditionals (inner_buffer old.files.nest).line [] (state_of old)) })
+OpensOne holds len old new (Some (Source start end)) = ⊥
+OpensOne holds len old new (Some (Text place)) = ⊥
+OpensOne holds len old new (Some (Owed piece)) = ⊥
+OpensOne holds len old new (Some End) = ⊥

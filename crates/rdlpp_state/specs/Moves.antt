@@ -1,0 +1,114 @@
+-- What the parts of a step over the open sources do.
+-- A definition that names no source is this project's own.
+use Rattle.std.specs.Prelude.{◌≡◌, ◌<◌, ◌≤◌, ◌⊎◌, ℕ, List, [], ◌∷◌, length, take, drop, Option, None, Some}
+use Rattle.rdlpp_scan.specs.Front.{Breach}
+use Rattle.rdlpp_scan.specs.SourceTokens.{line_ends}
+use Rattle.rdlpp_scan.specs.declared.token.Mode.TheVariants.{Plain}
+use Rattle.rdlpp_table.specs.Define.{Accepted, Refused, define_of}
+use Rattle.rdlpp_table.specs.Table.{Macro}
+use Rattle.rdlpp_table.specs.declared.fault.DefineKind.{DefineKind}
+use Rattle.rdlpp_meaning.specs.Meaning.{Progress}
+use Rattle.rdlpp_meaning.specs.Profile.{define_fault}
+use Rattle.rdlpp_meaning.specs.State.{breach_kind, fault_at}
+use Rattle.rdlpp_read.specs.Buffer.{held_of}
+use Rattle.rdlpp_read.specs.Filling.{ended_tokens, only_broken}
+use Rattle.rdlpp_read.specs.Files.{AreOpen, consumed_file, inner_buffer, with_inner}
+use Rattle.rdlpp_state.specs.Engine.{EngineView, IsSoundEngine}
+use Rattle.rdlpp_state.specs.Conditionals.{unclosed_fault}
+use Rattle.rdlpp_state.specs.Includes.{left_engine}
+use Rattle.rdlpp_state.specs.OpenConditionals.{inner_below}
+use Rattle.rdlpp_state.specs.Owed.{line_ends_owed, nothing_owed}
+use Rattle.rdlpp_state.specs.Remaining.{state_of}
+use Rattle.rdlpp_state.specs.Steps.{IsOwn}
+use Rattle.rdlpp_state.specs.declared.place.Place.{Place}
+use Rattle.rdlpp_state.specs.declared.place.Place.TheVariants.{Source, Text, Owed, End, Kept}
+use Rattle.rdlpp_state.specs.declared.phase.Phase.TheVariants.{Open, Closed}
+
+-- an engine whose main text is open, that keeps no fault and owes nothing
+pub record IsUnowed {S R : Type 0} (e : EngineView S R) : Type 0 where
+  pub open_ : e.phase ≡ Open
+  pub free : e.kept ≡ None
+  pub owed : e.owed ≡ nothing_owed
+
+-- an engine that goes on in its open sources: no fault is kept, nothing is owed, and no text of a usage is open
+pub record IsReady {S R : Type 0} (e : EngineView S R) : Type 0 where
+  pub open_ : e.phase ≡ Open
+  pub free : e.kept ≡ None
+  pub owed : e.owed ≡ nothing_owed
+  pub idle : e.expansion.opens ≡ []
+  pub nest : 0 < length e.files.nest
+  pub sound : IsSoundEngine e.limits e.phase e.table e.files e.conditions
+  pub files : AreOpen e.files
+
+-- an engine whose text ended in a string or in a block comment: its fault is kept, at the line where that opened
+pub record StopsOpen {S R : Type 0} (old new : EngineView S R) : Type 0 where
+  pub breach : Breach
+  pub tokens : ended_tokens (inner_buffer old.files.nest).mode (inner_buffer old.files.nest).open_token_line ≡ only_broken breach (inner_buffer old.files.nest).open_token_line
+  pub own : IsOwn (breach_kind breach)
+  pub kept : new ≡ record old { kept = Some (fault_at (breach_kind breach) (inner_buffer old.files.nest).open_token_line [] (state_of old)) }
+
+-- an engine whose text ended in an open conditional: its fault is kept, at the line that the conditional's first directive showed
+-- (this project's profile)
+pub record StopsUnclosed {S R : Type 0} (old new : EngineView S R) : Type 0 where
+  pub plain : (inner_buffer old.files.nest).mode ≡ Plain
+  pub conditional : Progress
+  pub around : List Progress
+  pub is_open : old.conditions.open_now ≡ conditional ∷ around
+  pub below : inner_below old.files.nest ≤ length around
+  pub kept : new ≡ record old { kept = Some (unclosed_fault conditional.line (state_of old)) }
+
+-- the main text has ended, with no conditional open (this project's profile)
+pub record Closes {S R : Type 0} (old new : EngineView S R) : Type 0 where
+  pub mode : (inner_buffer old.files.nest).mode ≡ Plain
+  pub alone : length old.files.nest ≤ 1
+  pub ended : length old.conditions.open_now ≡ inner_below old.files.nest
+  pub becomes : new ≡ record old { phase = Closed; files = record old.files { nest = [] } }
+
+-- an included source has ended, with no conditional of its own open: the one around it goes on, behind an LF where the text ends in
+-- mid-line, and the origin line of the `include` (this project's profile)
+pub record Returns {S R : Type 0} (old new : EngineView S R) : Type 0 where
+  pub mode : (inner_buffer old.files.nest).mode ≡ Plain
+  pub inner : 1 < length old.files.nest
+  pub ended : length old.conditions.open_now ≡ inner_below old.files.nest
+  pub becomes : new ≡ left_engine old
+
+-- what the end of the innermost source comes to
+abbrev pub Ends : {S R : Type 0} → EngineView S R → EngineView S R → Option Place → Type 0
+Ends old new None = Returns old new
+Ends old new (Some (Source start end)) = ⊥
+Ends old new (Some (Text place)) = ⊥
+Ends old new (Some (Owed len)) = ⊥
+Ends old new (Some End) = Closes old new
+Ends old new (Some Kept) = StopsOpen old new ⊎ StopsUnclosed old new
+
+-- what stands behind the word of the `define` at the front of what is held, whose logical line has so many bytes
+abbrev pub define_rest : {S R : Type 0} → EngineView S R → ℕ → List ℕ
+define_rest e len = drop 7 (take len (held_of (inner_buffer e.files.nest)))
+
+-- a `define` that was accepted: its line is used, and its LF bytes are owed
+pub record Defines {S R : Type 0} (len : ℕ) (old new : EngineView S R) : Type 0 where
+  pub macros : List Macro
+  pub accepted : define_of old.table.most_bytes old.table.most_macros old.table.macros (define_rest old len) ≡ Accepted macros
+  pub lines : ℕ
+  pub counted : lines ≡ line_ends (take len (held_of (inner_buffer old.files.nest)))
+  pub becomes : new ≡ record old {
+    table = record old.table { macros = macros };
+    files = record old.files { nest = with_inner (consumed_file len lines) old.files.nest };
+    owed = line_ends_owed lines;
+  }
+
+-- a `define` that was refused, whose fault is kept
+pub record RefusesDefine {S R : Type 0} (len : ℕ) (old new : EngineView S R) : Type 0 where
+  pub kind : DefineKind
+  pub word : List ℕ
+  pub refused : define_of old.table.most_bytes old.table.most_macros old.table.macros (define_rest old len) ≡ Refused kind word
+  pub becomes : new ≡ record old { kept = Some (fault_at (define_fault kind) (inner_buffer old.files.nest).line word (state_of old)) }
+
+-- what a `define` comes to whose logical line is held
+abbrev pub ReadsDefine : {S R : Type 0} → ℕ → EngineView S R → EngineView S R → Option Place → Type 0
+ReadsDefine len old new None = Defines len old new
+ReadsDefine len old new (Some Kept) = RefusesDefine len old new
+ReadsDefine len old new (Some (Source start end)) = ⊥
+ReadsDefine len old new (Some (Text place)) = ⊥
+ReadsDefine len old new (Some (Owed n)) = ⊥
+ReadsDefine len old new (Some End) = ⊥

@@ -1,0 +1,77 @@
+-- Pieces, and where they stand in the held stores.
+-- A definition that names no source is this project's own.
+use Rattle.std.specs.Prelude.{◌≡◌, ℕ, ◌≤◌, ◌<◌, List, [], length, take, slice_range, Option, None, Some, Result, Ok, Err, ⊤}
+use Rattle.std.specs.Borrow.{Bor}
+use Rattle.rdlpp_meaning.specs.Outcome.{Told, told}
+use Rattle.rdlpp_meaning.specs.declared.fault.Fault.{Fault}
+use Rattle.rdlpp_read.specs.Files.{inner_buffer}
+use Rattle.rdlpp_meaning.specs.Opens.{Texts}
+use Rattle.rdlpp_texts.specs.Places.{IsPlaced as IsTextPlaced, place_bytes, texts_of}
+use Rattle.rdlpp_state.specs.Engine.{EngineView}
+use Rattle.rdlpp_state.specs.Owed.{digits_of, part_bytes}
+use Rattle.rdlpp_state.specs.Remaining.{inner_name}
+use Rattle.rdlpp_state.specs.declared.owed.OwedPiece.{OwedPiece}
+use Rattle.rdlpp_state.specs.declared.place.Place.{Place}
+use Rattle.rdlpp_state.specs.declared.place.Place.TheVariants.{Source, Text, Owed, End, Kept}
+use Rattle.rdlpp_state.specs.declared.place.Piece.{Piece}
+use Rattle.rdlpp_state.specs.declared.place.Piece.TheVariants.{Bytes, Done}
+
+-- the bytes of the part of which a piece that is owed is the beginning, under the name that is shown
+abbrev pub owed_part : {S R : Type 0} → EngineView S R → OwedPiece → List ℕ
+owed_part e piece = part_bytes piece.part (inner_name e.files.nest) (digits_of e.owed.origin)
+
+-- the texts in which the open texts of a usage lie: the live macros, and what is kept of the call
+abbrev pub held_texts : {S R : Type 0} → EngineView S R → Texts
+held_texts e = texts_of e.table.macros e.expansion.arguments
+
+-- a place lies in the held stores, or in what is owed
+abbrev pub IsPlaced : {S R : Type 0} → EngineView S R → Place → Type 0
+IsPlaced e (Source start end) = (0 < length e.files.nest) × (start ≤ end) × (end ≤ length (inner_buffer e.files.nest).window)
+IsPlaced e (Text place) = IsTextPlaced (held_texts e) place
+IsPlaced e (Owed piece) = (0 < length e.files.nest) × (piece.len ≤ length (owed_part e piece))
+IsPlaced e End = ⊤
+IsPlaced e Kept = ⊤
+
+-- the bytes at a place: a part of the innermost source's buffer, or of an open text, or what is owed; none at the end
+abbrev pub bytes_at : {S R : Type 0} → EngineView S R → Place → Option (List ℕ)
+bytes_at e (Source start end) = Some (slice_range (inner_buffer e.files.nest).window start end)
+bytes_at e (Text place) = Some (place_bytes (held_texts e) place)
+bytes_at e (Owed piece) = Some (take piece.len (owed_part e piece))
+bytes_at e End = None
+bytes_at e Kept = None
+
+-- the bytes of a piece; none of the end
+abbrev pub piece_bytes : Piece → Option (List ℕ)
+piece_bytes (Bytes bytes) = Some bytes.now
+piece_bytes Done = None
+
+-- what an answer tells: bytes, the end, or a fault
+abbrev pub answer_of : Result Piece (Bor Fault) → Result (Option (List ℕ)) Told
+answer_of (Ok piece) = Ok (piece_bytes piece)
+answer_of (Err fault) = Err (told fault.now)
+
+-- what is answered of a fault, where one is kept
+abbrev pub kept_answer : Option Told → Result (Option (List ℕ)) Told
+kept_answer (Some f) = Err f
+kept_answer None = Ok None
+
+-- what is answered at a place
+abbrev pub lent_answer : {S R : Type 0} → EngineView S R → Place → Result (Option (List ℕ)) Told
+lent_answer e (Source start end) = Ok (bytes_at e (Source start end))
+lent_answer e (Text place) = Ok (bytes_at e (Text place))
+lent_answer e (Owed piece) = Ok (bytes_at e (Owed piece))
+lent_answer e End = Ok None
+lent_answer e Kept = kept_answer e.kept
+
+-- what is answered is what stands at a place: a part of the innermost source's buffer, of a live body, of a default, or of what is kept of a call, a few LF bytes, or a piece of
+-- an origin line: a fixed text, the shown name, or decimal digits
+-- (source: this project's profile)
+pub record Lends {S R : Type 0} (e : EngineView S R) (answer : Result (Option (List ℕ)) Told) : Type 0 where
+  pub place : Place
+  pub placed : IsPlaced e place
+  pub lent : answer ≡ lent_answer e place
+
+-- what is answered by a step: what stands at a place, or no bytes, where nothing is lent
+abbrev pub step_answer : {S R : Type 0} → EngineView S R → Option Place → Result (Option (List ℕ)) Told
+step_answer e None = Ok (Some [])
+step_answer e (Some place) = lent_answer e place

@@ -1,0 +1,247 @@
+// Texts that are owed: they are lent before anything that follows in the source.
+ghost use Rattle.std.specs.Prelude.{◌≡◌, ◌↔◌, ℕ, List, ◌+◌, ◌<◌, ◌≤◌, ◌^◌, IfNone, IfSome, IsTrue, decimal, length, take};
+ghost use Rattle.rdlpp_state.specs.Owed.{TakesPiece, behind_piece, cut_to, digits_of, first_piece, nothing_owed, origin_owed, owed_number, part_bytes};
+
+use arrayvec::ArrayString;
+use itoa::Buffer;
+use std::marker::Model;
+
+// The LF bytes that are lent at once at most.
+const LINE_ENDS: &[u8; 16] = b"\n\n\n\n\n\n\n\n\n\n\n\n\n\n\n\n";
+
+// What an origin line begins with.
+const LABEL: &[u8; 11] = b"// origin: ";
+
+/// The parts of the texts that are owed.
+#[derive(Clone, Copy, Debug, PartialEq, Eq)]
+pub enum OwedPart {
+    /// LF bytes.
+    LineEnds,
+    /// What an origin line begins with.
+    Label,
+    /// The name that is shown.
+    Name,
+    /// What stands behind the name in an origin line.
+    Colon,
+    /// The number of an origin line.
+    Digits,
+}
+
+/// The first bytes of a part.
+#[derive(Clone, Copy)]
+pub struct OwedPiece {
+    pub part: OwedPart,
+    pub len: usize,
+}
+
+// An origin line that is owed from a part of it on.
+#[derive(Drop)]
+struct OriginLine {
+    part: OwedPart,
+    number: u64,
+    // the decimal digits of the number
+    digits: ArrayString<20>,
+}
+
+/// Texts that are owed: LF bytes, and behind them an origin line.
+#[derive(Drop)]
+pub struct Owed {
+    line_ends: usize,
+    origin: Option<OriginLine>,
+}
+
+impl Model for OriginLine {
+    ghost use Rattle.std.specs.Prelude.{◌≡◌, decimal};
+    ghost use Rattle.rdlpp_state.specs.Owed.{OriginView};
+
+    ghost Value = { OriginView };
+
+    ghost view = { λ o. record { part = o.part; number = o.number } };
+
+    ghost invariant = { λ o. o.digits.bytes ≡ decimal o.number };
+}
+
+impl Model for Owed {
+    ghost use Rattle.rdlpp_state.specs.Owed.{OwedView};
+
+    ghost Value = { OwedView };
+
+    ghost view = { λ o. record { line_ends = o.line_ends; origin = o.origin } };
+}
+
+impl OwedPiece {
+    /// The first `len` bytes of it.
+    #[tactic(auto, unfolding(crate::specs::Owed::cut_to))]
+    pub fn cut(self, len: usize) -> Self
+        ensures { result ≡ cut_to self len }
+    {
+        OwedPiece { len, ..self }
+    }
+}
+
+impl OriginLine {
+    // The whole line with a number.
+    fn new(line: u64) -> Self
+        ensures { result ≡ record { part = OwedPart.Label; number = line } }
+    {
+        let mut buffer = Buffer::new();
+        let mut digits = ArrayString::new();
+        digits.push_str(buffer.format(line));
+        OriginLine {
+            part: OwedPart::Label,
+            number: line,
+            digits,
+        }
+    }
+
+    // Its first piece, where a name of `name_len` bytes is shown.
+    #[tactic(auto, unfolding(crate::specs::Owed::first_piece))]
+    fn first_piece(&self, name_len: usize) -> OwedPiece
+        ensures { result ≡ first_piece name_len self.now }
+    {
+        let len = match self.part {
+            OwedPart::LineEnds => 1,
+            OwedPart::Label => LABEL.len(),
+            OwedPart::Name => name_len,
+            OwedPart::Colon => 1,
+            OwedPart::Digits => self.digits.len(),
+        };
+        OwedPiece {
+            part: self.part,
+            len,
+        }
+    }
+
+    // What is owed behind its first piece.
+    #[tactic(auto, unfolding(crate::specs::Owed::behind_piece))]
+    fn behind_piece(&self) -> Option<Self>
+        ensures { result ≡ behind_piece self.now }
+    {
+        match self.part {
+            OwedPart::LineEnds => None,
+            OwedPart::Label => Some(self.from(OwedPart::Name)),
+            OwedPart::Name => Some(self.from(OwedPart::Colon)),
+            OwedPart::Colon => Some(self.from(OwedPart::Digits)),
+            OwedPart::Digits => Some(self.from(OwedPart::LineEnds)),
+        }
+    }
+
+    // The same line from a part of it on.
+    fn from(&self, part: OwedPart) -> Self
+        ensures { result ≡ record self.now { part = part } }
+    {
+        OriginLine {
+            part,
+            number: self.number,
+            digits: self.digits,
+        }
+    }
+}
+
+impl Owed {
+    /// Nothing.
+    #[tactic(auto, unfolding(crate::specs::Owed::nothing_owed))]
+    pub fn nothing() -> Self
+        ensures { result ≡ nothing_owed }
+    {
+        Owed {
+            line_ends: 0,
+            origin: None,
+        }
+    }
+
+    /// Whether nothing is owed.
+    pub fn is_nothing(&self) -> bool
+        ensures { IsTrue result ↔ (self.now ≡ nothing_owed) }
+    {
+        self.line_ends == 0 && self.origin.is_none()
+    }
+
+    /// How many LF bytes are owed.
+    pub fn line_ends(&self) -> usize
+        ensures { result ≡ self.now.line_ends }
+    {
+        self.line_ends
+    }
+
+    /// The number of the origin line that is owed, or of what is left of it.
+    pub fn origin_number(&self) -> Option<u64>
+        ensures { result ≡ owed_number self.now.origin }
+    {
+        match &self.origin {
+            None => None,
+            Some(line) => Some(line.number),
+        }
+    }
+
+    /// Owes so many LF bytes more, before the origin line that is owed.
+    pub fn owe_line_ends(&mut self, count: usize)
+        requires { self.old.line_ends + count < 2 ^ 64 }
+        ensures { self.new ≡ record self.old { line_ends = self.old.line_ends + count } }
+    {
+        self.line_ends += count;
+    }
+
+    /// Owes the origin line with a number, under the name that is shown, in the place of any other; or
+    /// none, where origin lines aren't asked for.
+    #[tactic(auto, unfolding(crate::specs::Owed::origin_owed))]
+    pub fn owe_origin(&mut self, asked: bool, line: u64)
+        ensures { self.new ≡ record self.old { origin = origin_owed asked line } }
+    {
+        self.origin = if asked {
+            Some(OriginLine::new(line))
+        } else {
+            None
+        };
+    }
+
+    /// Takes out the next piece, where a name of `name_len` bytes is shown.
+    pub fn take(&mut self, name_len: usize) -> Option<OwedPiece>
+        ensures nothing { IfNone result ((self.old ≡ nothing_owed) × (self.new ≡ self.old)) }
+        ensures piece { IfSome result (λ piece. (name : List ℕ) → length name ≡ name_len → TakesPiece name self.old self.new piece) }
+    {
+        if self.line_ends > 0 {
+            let len = self.line_ends.min(LINE_ENDS.len());
+            self.line_ends -= len;
+            return Some(OwedPiece {
+                part: OwedPart::LineEnds,
+                len,
+            });
+        }
+        match &self.origin {
+            None => None,
+            Some(line) => {
+                let piece = line.first_piece(name_len);
+                let behind = line.behind_piece();
+                self.origin = behind;
+                Some(piece)
+            }
+        }
+    }
+
+    /// The bytes of a piece, where `name` is shown.
+    #[tactic(auto, unfolding(crate::specs::Owed::part_bytes, crate::specs::Owed::digits_of))]
+    pub fn bytes<'a>(&'a self, piece: OwedPiece, name: &'a str) -> &'a [u8]
+        requires { piece.len ≤ length (part_bytes piece.part name.now (digits_of self.now.origin)) }
+        ensures { result.now ≡ take piece.len (part_bytes piece.part name.now (digits_of self.now.origin)) }
+    {
+        &self.part(piece.part, name)[..piece.len]
+    }
+
+    // The bytes of a part, where `name` is shown.
+    #[tactic(auto, unfolding(crate::specs::Owed::part_bytes, crate::specs::Owed::digits_of))]
+    fn part<'a>(&'a self, part: OwedPart, name: &'a str) -> &'a [u8]
+        ensures { result.now ≡ part_bytes part name.now (digits_of self.now.origin) }
+    {
+        match part {
+            OwedPart::LineEnds => LINE_ENDS,
+            OwedPart::Label => LABEL,
+            OwedPart::Name => name.as_bytes(),
+            OwedPart::Colon => b":",
+            OwedPart::Digits => match &self.origin {
+                None => &[],
+                Some(line) => line.digits.as_bytes(),
+            },
+        }
+    }
+}

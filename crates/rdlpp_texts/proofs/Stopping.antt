@@ -1,0 +1,473 @@
+-- The first stop of a text, and what stands at its front.
+use Rattle.std.proofs.Common.{◌≡◌, ℕ, ◌+◌, ◌-◌, ◌<◌, ◌≤◌, Bool, true, false, true≢false, List, [], ◌∷◌, length, take, drop, refl, sym, ap, subst, ◌∙◌, arith, Option, None, Some}
+use Rattle.std.specs.Prelude.{if◌then◌else◌, not, slice_range}
+use Rattle.std.proofs.lemmas.List.{length-drop, length-take, drop-drop, drop_all}
+use Rattle.rdlpp_scan.specs.declared.token.Kind.{Kind}
+use Rattle.rdlpp_scan.specs.declared.token.Kind.TheVariants.{Name, Back, BareBackquote}
+use Rattle.rdlpp_scan.specs.declared.token.Mode.{Mode}
+use Rattle.rdlpp_scan.specs.declared.token.Mode.TheVariants.{Plain}
+use Rattle.rdlpp_scan.specs.declared.token.Token.{Token}
+use Rattle.rdlpp_scan.specs.Tokens.{token_of, tokens_from}
+use Rattle.rdlpp_scan.proofs.RangeLaws.{tokens_from-first}
+use Rattle.rdlpp_scan.proofs.TokenLens.{token_of-part, tokens_from-step}
+use Rattle.rdlpp_table.specs.Table.{Formal}
+use Rattle.rdlpp_table.specs.View.{formal_named, formals_of, macro_at}
+use Rattle.rdlpp_table.specs.declared.stop.Stop.{Stop}
+use Rattle.rdlpp_table.specs.declared.stop.Stop.TheVariants as stop
+use Rattle.rdlpp_table.specs.Stops.{is_none, or_stop, stop_name, stop_at, first_stop, stop_of, stop_in}
+use Rattle.rdlpp_table.proofs.FirstStops.{or_none, or_some}
+use Rattle.rdlpp_texts.specs.Fronts.{is_back, run_len, AreCopied, IsAhead, IsFront}
+use Rattle.rdlpp_texts.specs.declared.front.Ahead.{Ahead}
+use Rattle.rdlpp_texts.proofs.Runs.{stop-plain}
+use Rattle.rdlpp_meaning.specs.Opens.{Texts}
+use Rattle.rdlpp_texts.specs.Places.{source_formals, source_text}
+use Rattle.rdlpp_texts.specs.declared.place.TextSource.{TextSource}
+use Rattle.rdlpp_texts.specs.declared.place.TextSource.TheVariants as place_of
+use Rattle.rdlpp_texts.specs.declared.front.Front.{Front}
+use Rattle.rdlpp_texts.specs.declared.front.Front.TheVariants as front
+
+-- where a stop stands
+abbrev pub stop_place : Stop → Option ℕ
+stop_place stop.None = None
+stop_place (stop.Formal at len place) = Some at
+stop_place (stop.Usage at len) = Some at
+stop_place (stop.Bare at) = Some at
+
+-- so many bytes stand before a stop at a place of a text that begins at a place, or in all
+PlaceTells : ℕ → ℕ → ℕ → Option ℕ → Type 0
+PlaceTells at n len None = n ≡ len
+PlaceTells at n len (Some p) = (p ≡ at + n) × (n < len)
+
+-- a stop is none wherever it stands, by the kind of its token
+none-at : (formals : List Formal) (at len : ℕ) (next : Mode) (kind : Kind) (bytes : List ℕ)
+    → is_none (stop_at formals at (record { kind = kind; len = len; next_mode = next }) bytes)
+    ≡ is_none (stop_at formals 0 (record { kind = kind; len = len; next_mode = next }) bytes)
+unfolding is_none stop_at stop_name
+none-at formals at len next Name bytes = by (formal_named formals bytes)
+  where
+    by : (found : Option ℕ) → is_none (stop_name at len found) ≡ is_none (stop_name 0 len found)
+    by None = refl
+    by (Some place) = refl
+none-at formals at len next kind bytes = refl
+
+-- a stop stands where its token does, by the kind of that
+own-place : (formals : List Formal) (at len : ℕ) (next : Mode) (kind : Kind) (bytes : List ℕ)
+    → is_none (stop_at formals at (record { kind = kind; len = len; next_mode = next }) bytes) ≡ false
+    → stop_place (stop_at formals at (record { kind = kind; len = len; next_mode = next }) bytes) ≡ Some at
+unfolding is_none stop_at stop_name
+own-place formals at len next Name bytes e = by (formal_named formals bytes) e
+  where
+    by : (found : Option ℕ) → is_none (stop_name at len found) ≡ false → stop_place (stop_name at len found) ≡ Some at
+    by None e = absurd (true≢false e)
+    by (Some place) e = refl
+own-place formals at len next Back bytes e = refl
+own-place formals at len next BareBackquote bytes e = refl
+own-place formals at len next kind bytes e = absurd (true≢false e)
+
+-- with a token in front
+tells-more : (at own n len rest : ℕ) (place : Option ℕ) → own ≤ len → rest ≡ len - own → PlaceTells (at + own) n rest place → PlaceTells at (own + n) len place
+unfolding PlaceTells
+tells-more at own n len rest None fits e h = omega (arith, fits, e, h)
+tells-more at own n len rest (Some p) fits e h = (let a = h.0 in omega (arith, a), let b = h.1 in omega (arith, fits, e, b))
+
+-- the first stop of a text stands behind the tokens before it
+stops-at : (formals : List Formal) (at : ℕ) (ts : List Token) (mode : Mode) (text : List ℕ) → tokens_from mode 0 text ≡ ts
+    → PlaceTells at (run_len formals ts text) (length text) (stop_place (first_stop formals at ts text))
+unfolding run_len first_stop PlaceTells
+stops-at formals at [] mode text e = none text e
+  where
+    none : (text : List ℕ) → tokens_from mode 0 text ≡ [] → 0 ≡ length text
+    none [] e = refl
+    none (b ∷ bs) e =
+        let some : 0 < length (b ∷ bs) = omega arith in
+        absurd (clash (token_of mode (b ∷ bs)) (tokens_from mode 0 (b ∷ bs)) _ e (tokens_from-step mode (b ∷ bs) some (token_of-part mode (b ∷ bs) some).not_empty))
+      where
+        clash : (t : Token) (xs ys : List Token) → xs ≡ [] → xs ≡ t ∷ ys → ⊥
+        clash t xs ys p q = cc
+stops-at formals at (t ∷ ts) mode text e =
+    let p = tokens_from-first mode text t ts e in
+    let inside : t.len ≤ length text = subst (λ (u : Token). u.len ≤ length text) p.1.0 (token_of-part mode text p.0).inside in
+    by (is_none (stop_at formals 0 t (take t.len text))) refl p.0 inside (stops-at formals (at + t.len) ts t.next_mode (drop t.len text) p.1.1)
+  where
+    by : (none : Bool) → is_none (stop_at formals 0 t (take t.len text)) ≡ none → 0 < length text → t.len ≤ length text
+        → PlaceTells (at + t.len) (run_len formals ts (drop t.len text)) (length (drop t.len text)) (stop_place (first_stop formals (at + t.len) ts (drop t.len text)))
+        → PlaceTells at (if none then t.len + run_len formals ts (drop t.len text) else 0) (length text)
+        (stop_place (or_stop (stop_at formals at t (take t.len text)) (first_stop formals (at + t.len) ts (drop t.len text))))
+    by true n some inside h =
+        subst (λ (s : Stop). PlaceTells at (t.len + run_len formals ts (drop t.len text)) (length text) (stop_place s))
+        (sym (or_none (stop_at formals at t (take t.len text)) _ (none-at formals at t.len t.next_mode t.kind (take t.len text) ∙ n)))
+        (tells-more at t.len (run_len formals ts (drop t.len text)) (length text) (length (drop t.len text)) _ inside (length-drop t.len text) h)
+    by false n some inside h =
+        let own : is_none (stop_at formals at t (take t.len text)) ≡ false = none-at formals at t.len t.next_mode t.kind (take t.len text) ∙ n in
+        subst (λ (o : Option ℕ). PlaceTells at 0 (length text) o)
+        (sym (ap (λ (s : Stop). stop_place s) (or_some (stop_at formals at t (take t.len text)) _ own) ∙ own-place formals at t.len t.next_mode t.kind (take t.len text) own))
+        (omega arith, some)
+
+-- a text in whose front no run stands begins with its first stop
+stop-token : (formals : List Formal) (at : ℕ) (mode : Mode) (text : List ℕ) → 0 < length text
+    → run_len formals (tokens_from mode 0 text) text ≡ 0
+    → stop_at formals at (token_of mode text) (take (token_of mode text).len text) ≡ first_stop formals at (tokens_from mode 0 text) text
+unfolding first_stop or_stop run_len
+stop-token formals at mode text some e =
+    let t = token_of mode text in
+    let part = token_of-part mode text some in
+    let ts = tokens_from t.next_mode 0 (drop t.len text) in
+    let step : tokens_from mode 0 text ≡ t ∷ ts = tokens_from-step mode text some part.not_empty in
+    by t ts (is_none (stop_at formals 0 t (take t.len text))) refl part.not_empty (ap (λ (us : List Token). run_len formals us text) (sym step) ∙ e)
+    ∙ sym (ap (λ (us : List Token). first_stop formals at us text) step)
+  where
+    zero-sum : (a b : ℕ) → 0 < a → a + b ≡ 0 → ⊥
+    zero-sum a b h e = omega (arith, h, e)
+
+    by : (t : Token) (ts : List Token) (none : Bool) → is_none (stop_at formals 0 t (take t.len text)) ≡ none → 0 < t.len
+        → run_len formals (t ∷ ts) text ≡ 0 → stop_at formals at t (take t.len text) ≡ first_stop formals at (t ∷ ts) text
+    by t ts true n positive e = absurd (zero-sum t.len (run_len formals ts (drop t.len text)) positive
+        (sym (ap (λ (b : Bool). if b then t.len + run_len formals ts (drop t.len text) else 0) n) ∙ e))
+    by t ts false n positive e =
+        sym (or_some (stop_at formals at t (take t.len text)) _ (none-at formals at t.len t.next_mode t.kind (take t.len text) ∙ n))
+
+-- which token a stop is: a formal, by the kind of the token
+formal-by : (formals : List Formal) (at len : ℕ) (next : Mode) (kind : Kind) (bytes : List ℕ) (p n place : ℕ)
+    → stop_at formals at (record { kind = kind; len = len; next_mode = next }) bytes ≡ stop.Formal p n place
+    → (kind ≡ Name) × (len ≡ n) × (formal_named formals bytes ≡ Some place)
+unfolding stop_at stop_name
+formal-by formals at len next Name bytes p n place e = by (formal_named formals bytes) e
+  where
+    by : (found : Option ℕ) → stop_name at len found ≡ stop.Formal p n place → (Name ≡ Name) × (len ≡ n) × (found ≡ Some place)
+    by None e = absurd (cc)
+    by (Some i) e = (refl, cc, cc)
+formal-by formals at len next Back bytes p n place e = absurd (cc)
+formal-by formals at len next BareBackquote bytes p n place e = absurd (cc)
+formal-by formals at len next kind bytes p n place e = absurd (cc)
+
+-- a usage
+usage-by : (formals : List Formal) (at len : ℕ) (next : Mode) (kind : Kind) (bytes : List ℕ) (p n : ℕ)
+    → stop_at formals at (record { kind = kind; len = len; next_mode = next }) bytes ≡ stop.Usage p n → (kind ≡ Back) × (len ≡ n)
+unfolding stop_at stop_name
+usage-by formals at len next Name bytes p n e = by (formal_named formals bytes) e
+  where
+    by : (found : Option ℕ) → stop_name at len found ≡ stop.Usage p n → (Name ≡ Back) × (len ≡ n)
+    by None e = absurd (cc)
+    by (Some i) e = absurd (cc)
+usage-by formals at len next Back bytes p n e = (refl, cc)
+usage-by formals at len next BareBackquote bytes p n e = absurd (cc)
+usage-by formals at len next kind bytes p n e = absurd (cc)
+
+-- a lone backquote
+bare-by : (formals : List Formal) (at len : ℕ) (next : Mode) (kind : Kind) (bytes : List ℕ) (p : ℕ)
+    → stop_at formals at (record { kind = kind; len = len; next_mode = next }) bytes ≡ stop.Bare p → kind ≡ BareBackquote
+unfolding stop_at stop_name
+bare-by formals at len next Name bytes p e = by (formal_named formals bytes) e
+  where
+    by : (found : Option ℕ) → stop_name at len found ≡ stop.Bare p → Name ≡ BareBackquote
+    by None e = absurd (cc)
+    by (Some i) e = absurd (cc)
+bare-by formals at len next Back bytes p e = absurd (cc)
+bare-by formals at len next BareBackquote bytes p e = refl
+bare-by formals at len next kind bytes p e = absurd (cc)
+
+-- the first stop of a text is that of what stands behind the tokens before it, which is read from plain text on
+stop-behind : (formals : List Formal) (at : ℕ) (ts : List Token) (mode : Mode) (text : List ℕ) → tokens_from mode 0 text ≡ ts
+    → is_none (first_stop formals at ts text) ≡ false
+    → first_stop formals (at + run_len formals ts text) (tokens_from Plain 0 (drop (run_len formals ts text) text)) (drop (run_len formals ts text) text)
+    ≡ first_stop formals at ts text
+unfolding run_len first_stop is_none
+stop-behind formals at [] mode text e found = absurd (true≢false found)
+stop-behind formals at (t ∷ ts) mode text e found =
+    let p = tokens_from-first mode text t ts e in
+    by (is_none (stop_at formals 0 t (take t.len text))) refl p.1.0 (λ some. stop-behind formals (at + t.len) ts t.next_mode (drop t.len text) p.1.1 some) found
+  where
+    by : (none : Bool) → is_none (stop_at formals 0 t (take t.len text)) ≡ none → token_of mode text ≡ t
+        → (is_none (first_stop formals (at + t.len) ts (drop t.len text)) ≡ false
+        → first_stop formals (at + t.len + run_len formals ts (drop t.len text)) (tokens_from Plain 0 (drop (run_len formals ts (drop t.len text)) (drop t.len text))) (drop (run_len formals ts (drop t.len text)) (drop t.len text))
+        ≡ first_stop formals (at + t.len) ts (drop t.len text))
+        → is_none (or_stop (stop_at formals at t (take t.len text)) (first_stop formals (at + t.len) ts (drop t.len text))) ≡ false
+        → first_stop formals (at + (if none then t.len + run_len formals ts (drop t.len text) else 0))
+        (tokens_from Plain 0 (drop (if none then t.len + run_len formals ts (drop t.len text) else 0) text))
+        (drop (if none then t.len + run_len formals ts (drop t.len text) else 0) text)
+        ≡ or_stop (stop_at formals at t (take t.len text)) (first_stop formals (at + t.len) ts (drop t.len text))
+    by true n same inner found =
+        let m = run_len formals ts (drop t.len text) in
+        let passed : or_stop (stop_at formals at t (take t.len text)) (first_stop formals (at + t.len) ts (drop t.len text)) ≡ first_stop formals (at + t.len) ts (drop t.len text) =
+        or_none (stop_at formals at t (take t.len text)) _ (none-at formals at t.len t.next_mode t.kind (take t.len text) ∙ n) in
+        let own = inner (ap (λ (s : Stop). is_none s) (sym passed) ∙ found) in
+        let place : at + (t.len + m) ≡ at + t.len + m = omega arith in
+        ap (λ (k : ℕ). first_stop formals k (tokens_from Plain 0 (drop (t.len + m) text)) (drop (t.len + m) text)) place
+        ∙ ap (λ (b : List ℕ). first_stop formals (at + t.len + m) (tokens_from Plain 0 b) b) (sym (drop-drop m t.len text))
+        ∙ own ∙ sym passed
+    by false n same inner found =
+        let m : mode ≡ Plain = stop-plain formals 0 mode text (take t.len text) (ap (λ (u : Token). is_none (stop_at formals 0 u (take t.len text))) same ∙ n) in
+        let place : at + 0 ≡ at = omega arith in
+        ap (λ (k : ℕ). first_stop formals k (tokens_from Plain 0 text) text) place
+        ∙ ap (λ (us : List Token). first_stop formals at us text) (ap (λ (x : Mode). tokens_from x 0 text) (sym m) ∙ e)
+
+-- a stop that stands at a place isn't none
+place-some : (s : Stop) (at : ℕ) → stop_place s ≡ Some at → is_none s ≡ false
+unfolding is_none
+place-some stop.None at e = absurd (cc)
+place-some (stop.Formal at len place) p e = refl
+place-some (stop.Usage at len) p e = refl
+place-some (stop.Bare at) p e = refl
+
+-- the first stop is that of the text from there on
+pub stop-moved : (formals : List Formal) (from at : ℕ) (text : List ℕ) (s : Stop) → s ≡ stop_of formals from text → stop_place s ≡ Some at
+    → s ≡ stop_of formals at (drop (at - from) text)
+unfolding stop_of PlaceTells
+stop-moved formals from at text s e p =
+    let ts = tokens_from Plain 0 text in
+    let n = run_len formals ts text in
+    let tells : (at ≡ from + n) × (n < length text) =
+    subst (λ (o : Option ℕ). PlaceTells from n (length text) o) (ap (λ (o : Stop). stop_place o) (sym e) ∙ p)
+    (stops-at formals from ts Plain text refl) in
+    let here : at ≡ from + n = tells.0 in
+    let less : n ≡ at - from = omega (arith, here) in
+    e
+    ∙ sym (stop-behind formals from ts Plain text refl (place-some (stop_of formals from text) at (ap (λ (o : Stop). stop_place o) (sym e) ∙ p)))
+    ∙ ap (λ (k : ℕ). first_stop formals k (tokens_from Plain 0 (drop n text)) (drop n text)) (sym here)
+    ∙ ap (λ (k : ℕ). first_stop formals at (tokens_from Plain 0 (drop k text)) (drop k text)) less
+
+-- no run stands in a text without bytes
+run-empty : (formals : List Formal) (bytes : List ℕ) → length bytes ≡ 0 → run_len formals (tokens_from Plain 0 bytes) bytes ≡ 0
+unfolding run_len tokens_from
+run-empty formals [] h = refl
+run-empty formals (b ∷ bs) h = absurd (omega (arith, h))
+
+-- no run stands behind a run
+pub run-behind : (formals : List Formal) (text : List ℕ) (n : ℕ) → n ≡ run_len formals (tokens_from Plain 0 text) text
+    → run_len formals (tokens_from Plain 0 (drop n text)) (drop n text) ≡ 0
+unfolding stop_of PlaceTells
+run-behind formals text n e =
+    by (stop_place (stop_of formals 0 text)) refl (subst (λ (k : ℕ). PlaceTells 0 k (length text) (stop_place (stop_of formals 0 text))) (sym e) (stops-at formals 0 (tokens_from Plain 0 text) Plain text refl))
+  where
+    by : (place : Option ℕ) → stop_place (stop_of formals 0 text) ≡ place → PlaceTells 0 n (length text) place
+        → run_len formals (tokens_from Plain 0 (drop n text)) (drop n text) ≡ 0
+    by None p h = run-empty formals (drop n text) (let l = length-drop n text in omega (arith, l, h))
+    by (Some at) p h =
+        let here : at ≡ 0 + n = h.0 in
+        let rest : at - 0 ≡ n = omega (arith, here) in
+        let moved : stop_of formals 0 text ≡ stop_of formals at (drop n text) =
+        stop-moved formals 0 at text (stop_of formals 0 text) refl p ∙ ap (λ (k : ℕ). stop_of formals at (drop k text)) rest in
+        let tells : (at ≡ at + run_len formals (tokens_from Plain 0 (drop n text)) (drop n text)) × (run_len formals (tokens_from Plain 0 (drop n text)) (drop n text) < length (drop n text)) =
+        subst (λ (o : Option ℕ). PlaceTells at (run_len formals (tokens_from Plain 0 (drop n text)) (drop n text)) (length (drop n text)) o)
+        (ap (λ (o : Stop). stop_place o) (sym moved) ∙ p) (stops-at formals at (tokens_from Plain 0 (drop n text)) Plain (drop n text) refl) in
+        let own = tells.0 in
+        omega (arith, own)
+
+-- a stop at the front: its token
+pub stop-front : (formals : List Formal) (from at : ℕ) (text : List ℕ) (s : Stop) → s ≡ stop_of formals from text → stop_place s ≡ Some at → at ≤ from
+    → (0 < length text) × (stop_at formals from (token_of Plain text) (take (token_of Plain text).len text) ≡ s)
+unfolding stop_of PlaceTells
+stop-front formals from at text s e p h =
+    let n = run_len formals (tokens_from Plain 0 text) text in
+    let tells : (at ≡ from + n) × (n < length text) =
+    subst (λ (o : Option ℕ). PlaceTells from n (length text) o) (ap (λ (o : Stop). stop_place o) (sym e) ∙ p)
+    (stops-at formals from (tokens_from Plain 0 text) Plain text refl) in
+    let a = tells.0 in
+    let b = tells.1 in
+    let some : 0 < length text = omega (arith, b) in
+    (some, stop-token formals from Plain text some (omega (arith, a, h)) ∙ sym e)
+
+-- a formal at the front
+pub front-formal : (formals : List Formal) (from at len place : ℕ) (text : List ℕ) → stop.Formal at len place ≡ stop_of formals from text → at ≤ from
+    → IsFront formals text (front.Formal len place)
+unfolding IsFront
+front-formal formals from at len place text e h =
+    let s = stop-front formals from at text (stop.Formal at len place) e refl h in
+    let t = token_of Plain text in
+    let f = formal-by formals from t.len t.next_mode t.kind (take t.len text) at len place s.1 in
+    (s.0, f.0, f.1, ap (λ (n : ℕ). formal_named formals (take n text)) (sym f.1) ∙ f.2)
+
+-- a usage at the front
+pub front-usage : (formals : List Formal) (from at len : ℕ) (text : List ℕ) → stop.Usage at len ≡ stop_of formals from text → at ≤ from
+    → IsFront formals text (front.Usage len)
+unfolding IsFront
+front-usage formals from at len text e h =
+    let s = stop-front formals from at text (stop.Usage at len) e refl h in
+    let t = token_of Plain text in
+    let f = usage-by formals from t.len t.next_mode t.kind (take t.len text) at len s.1 in
+    (s.0, f.0, f.1)
+
+-- a lone backquote at the front
+pub front-bare : (formals : List Formal) (from at : ℕ) (text : List ℕ) → stop.Bare at ≡ stop_of formals from text → at ≤ from
+    → IsFront formals text front.Bare
+unfolding IsFront
+front-bare formals from at text e h =
+    let s = stop-front formals from at text (stop.Bare at) e refl h in
+    let t = token_of Plain text in
+    (s.0, bare-by formals from t.len t.next_mode t.kind (take t.len text) at s.1)
+
+-- what stands before a stop is copied
+pub ahead-stop : (formals : List Formal) (from at : ℕ) (text : List ℕ) (s : Stop) (own : Front) → s ≡ stop_of formals from text → stop_place s ≡ Some at
+    → ((from : ℕ) (text : List ℕ) → s ≡ stop_of formals from text → at ≤ from → IsFront formals text own)
+    → IsAhead formals text from (record { at = at; front = own })
+unfolding stop_of AreCopied IsAhead PlaceTells
+ahead-stop formals from at text s own e p h =
+    let n = run_len formals (tokens_from Plain 0 text) text in
+    let tells : (at ≡ from + n) × (n < length text) =
+    subst (λ (o : Option ℕ). PlaceTells from n (length text) o) (ap (λ (o : Stop). stop_place o) (sym e) ∙ p)
+    (stops-at formals from (tokens_from Plain 0 text) Plain text refl) in
+    let a = tells.0 in
+    let b = tells.1 in
+    (omega (arith, a), (omega (arith, a, b), omega (arith, a)), h at (drop (at - from) text) (stop-moved formals from at text s e p) (omega arith))
+
+-- no stop: all of the text is copied
+pub ahead-whole : (formals : List Formal) (from end : ℕ) (text : List ℕ) → from + length text ≡ end → stop.None ≡ stop_of formals from text
+    → IsAhead formals text from (record { at = end; front = front.Ended })
+unfolding stop_of AreCopied IsAhead IsFront PlaceTells
+ahead-whole formals from end text e s =
+    let tells : run_len formals (tokens_from Plain 0 text) text ≡ length text =
+    subst (λ (o : Stop). PlaceTells from (run_len formals (tokens_from Plain 0 text) text) (length text) (stop_place o)) (sym s)
+    (stops-at formals from (tokens_from Plain 0 text) Plain text refl) in
+    (omega (arith, e), (omega (arith, e), omega (arith, tells, e)), drop_all (end - from) text (omega (arith, e)))
+
+-- the run of a text without formals, and what stands behind it
+pub ahead-plain : (text : List ℕ) (n from : ℕ) (own : Front) → n ≡ run_len [] (tokens_from Plain 0 text) text → n ≤ length text
+    → IsFront [] (drop n text) own → IsAhead [] text from (record { at = from + n; front = own })
+unfolding AreCopied IsAhead
+ahead-plain text n from own e inside f =
+    let same : from + n - from ≡ n = omega arith in
+    (omega arith, (omega (arith, inside), sym e ∙ sym same), subst (λ (k : ℕ). IsFront [] (drop k text) own) (sym same) f)
+
+-- the run in front of a text without formals, where so many of its bytes are passed and the rest is read in a mode
+pub record IsRunning (text : List ℕ) (mode : Mode) (at : ℕ) : Type 0 where
+  pub inside : at ≤ length text
+  pub same : at + run_len [] (tokens_from mode 0 (drop at text)) (drop at text) ≡ run_len [] (tokens_from Plain 0 text) text
+
+-- at first none are
+pub running-start : (text : List ℕ) → IsRunning text Plain 0
+running-start text = record { inside = omega arith; same = omega arith }
+
+-- a run by its first token
+run-step : (formals : List Formal) (mode : Mode) (text : List ℕ) (none : Bool) → 0 < length text
+    → is_none (stop_at formals 0 (token_of mode text) (take (token_of mode text).len text)) ≡ none
+    → run_len formals (tokens_from mode 0 text) text
+    ≡ (if none then (token_of mode text).len + run_len formals (tokens_from (token_of mode text).next_mode 0 (drop (token_of mode text).len text)) (drop (token_of mode text).len text) else 0)
+unfolding run_len
+run-step formals mode text none some e =
+    let t = token_of mode text in
+    let ts = tokens_from t.next_mode 0 (drop t.len text) in
+    ap (λ (us : List Token). run_len formals us text) (tokens_from-step mode text some (token_of-part mode text some).not_empty)
+    ∙ ap (λ (b : Bool). if b then t.len + run_len formals ts (drop t.len text) else 0) e
+
+-- without formals those are the stops
+pub back-none : (len : ℕ) (next : Mode) (kind : Kind) (bytes : List ℕ)
+    → is_none (stop_at [] 0 (record { kind = kind; len = len; next_mode = next }) bytes) ≡ not (is_back kind)
+unfolding is_none stop_at stop_name is_back
+back-none len next Name bytes = refl
+back-none len next Back bytes = refl
+back-none len next BareBackquote bytes = refl
+back-none len next kind bytes = refl
+
+-- one more token is passed
+pub running-more : (text : List ℕ) (mode : Mode) (at : ℕ) (t : Token) → IsRunning text mode at → at < length text → t ≡ token_of mode (drop at text)
+    → is_back t.kind ≡ false → IsRunning text t.next_mode (at + t.len)
+running-more text mode at t r more e back =
+    let rest = drop at text in
+    let size = length-drop at text in
+    let some : 0 < length rest = omega (arith, more, size) in
+    let part = token_of-part mode rest some in
+    let T = token_of mode rest in
+    let n : is_none (stop_at [] 0 T (take T.len rest)) ≡ true =
+    back-none T.len T.next_mode T.kind (take T.len rest) ∙ ap (λ (u : Token). not (is_back u.kind)) (sym e) ∙ ap (λ (b : Bool). not b) back in
+    let step = run-step [] mode rest true some n in
+    let behind : drop T.len rest ≡ drop (at + T.len) text = drop-drop T.len at text in
+    let whole : at + T.len + run_len [] (tokens_from T.next_mode 0 (drop (at + T.len) text)) (drop (at + T.len) text) ≡ run_len [] (tokens_from Plain 0 text) text =
+    sum at T.len (run_len [] (tokens_from T.next_mode 0 (drop (at + T.len) text)) (drop (at + T.len) text)) (run_len [] (tokens_from mode 0 rest) rest) (run_len [] (tokens_from Plain 0 text) text)
+    (step ∙ ap (λ (b : List ℕ). T.len + run_len [] (tokens_from T.next_mode 0 b) b) behind) r.same in
+    subst (λ (u : Token). IsRunning text u.next_mode (at + u.len)) (sym e)
+    (record { inside = (let inside = part.inside in omega (arith, inside, size, more)); same = whole })
+  where
+    sum : (a b c d n : ℕ) → d ≡ b + c → a + d ≡ n → a + b + c ≡ n
+    sum a b c d n e f = omega (arith, e, f)
+
+-- at a stop the run ends
+pub running-stop : (text : List ℕ) (mode : Mode) (at : ℕ) (t : Token) → IsRunning text mode at → at < length text → t ≡ token_of mode (drop at text)
+    → is_back t.kind ≡ true → at ≡ run_len [] (tokens_from Plain 0 text) text
+running-stop text mode at t r more e back =
+    let rest = drop at text in
+    let size = length-drop at text in
+    let some : 0 < length rest = omega (arith, more, size) in
+    let T = token_of mode rest in
+    let n : is_none (stop_at [] 0 T (take T.len rest)) ≡ false =
+    back-none T.len T.next_mode T.kind (take T.len rest) ∙ ap (λ (u : Token). not (is_back u.kind)) (sym e) ∙ ap (λ (b : Bool). not b) back in
+    let step = run-step [] mode rest false some n in
+    let same = r.same in
+    omega (arith, step, same)
+
+-- so it does at the end of the text
+pub running-end : (text : List ℕ) (mode : Mode) (at : ℕ) → IsRunning text mode at → length text ≤ at → at ≡ run_len [] (tokens_from Plain 0 text) text
+unfolding run_len tokens_from
+running-end text mode at r e =
+    let none : run_len [] (tokens_from mode 0 (drop at text)) (drop at text) ≡ 0 =
+    ap (λ (b : List ℕ). run_len [] (tokens_from mode 0 b) b) (drop_all at text e) ∙ nothing mode in
+    let same = r.same in
+    omega (arith, none, same)
+  where
+    nothing : (m : Mode) → run_len [] (tokens_from m 0 []) [] ≡ 0
+    nothing m = refl
+
+-- what stands at the front of a text without formals whose run is empty
+pub front-plain : (text : List ℕ) (t : Token) → 0 < length text → run_len [] (tokens_from Plain 0 text) text ≡ 0 → t ≡ token_of Plain text
+    → (t.kind ≡ Back → IsFront [] text (front.Usage t.len)) × ((t.kind ≡ Back → ⊥) → IsFront [] text front.Bare)
+unfolding IsFront is_back
+front-plain text t some e is =
+    let T = token_of Plain text in
+    let kind : T.kind ≡ t.kind = ap (λ (u : Token). u.kind) (sym is) in (
+      λ back. (some, kind ∙ back, ap (λ (u : Token). u.len) (sym is)),
+      λ other. (some, kind ∙ bare t.kind (ap (λ (k : Kind). is_back k) (sym kind) ∙ stops (is_back T.kind) refl) other),
+    )
+  where
+    bare : (kind : Kind) → is_back kind ≡ true → (kind ≡ Back → ⊥) → kind ≡ BareBackquote
+    bare Back h other = absurd (other refl)
+    bare BareBackquote h other = refl
+    bare kind h other = absurd (true≢false (sym h))
+
+    stops : (b : Bool) → is_back (token_of Plain text).kind ≡ b → b ≡ true
+    stops true h = refl
+    stops false h =
+        let T = token_of Plain text in
+        let n : is_none (stop_at [] 0 T (take T.len text)) ≡ true =
+        back-none T.len T.next_mode T.kind (take T.len text) ∙ ap (λ (b : Bool). not b) h in
+        let step = run-step [] Plain text true some n in
+        let positive = (token_of-part Plain text some).not_empty in
+        absurd (omega (arith, step, positive, e))
+
+-- a text that isn't a body has no formals
+pub plain-source : (texts : Texts) (source : TextSource) (text : List ℕ) (from : ℕ) (f : Ahead) → ((id : ℕ) → source ≡ place_of.Body id → ⊥) → IsAhead [] text from f
+    → IsAhead (source_formals texts source) text from f
+unfolding source_formals
+plain-source texts place_of.Arguments text from f other h = h
+plain-source texts (place_of.Body id) text from f other h = absurd (other id refl)
+plain-source texts (place_of.Default id place) text from f other h = h
+
+-- a range of a text that has no byte
+pub ahead-ended : (formals : List Formal) (text : List ℕ) (from end : ℕ) → end ≤ from → IsAhead formals (slice_range text from end) from (record { at = from; front = front.Ended })
+unfolding AreCopied IsAhead IsFront
+ahead-ended formals text from end h =
+    let e : end - from ≡ 0 = omega (arith, h) in
+    let none : take (end - from) (drop from text) ≡ [] = ap (λ (n : ℕ). take n (drop from text)) e in
+    subst (λ (bytes : List ℕ). IsAhead formals bytes from (record { at = from; front = front.Ended })) (sym none) (ended formals from (from - from) (omega arith) refl)
+  where
+    ended : (formals : List Formal) (from n : ℕ) → n ≡ 0 → from - from ≡ n → IsAhead formals [] from (record { at = from; front = front.Ended })
+    ended formals from n zero same =
+        (omega arith, (omega (arith, zero, same), run-empty formals [] refl ∙ sym (same ∙ zero)), drop_all (from - from) [] (omega arith))
+
+-- what stands ahead in a range of a body, by its first stop
+pub ahead-body : (texts : Texts) (source : TextSource) (id from end : ℕ) (s : Stop) (f : Ahead) → source ≡ place_of.Body id → from < end
+    → end ≤ length (source_text texts source) → s ≡ stop_in (macro_at texts.macros id) from end
+    → ((formals : List Formal) (from : ℕ) (text : List ℕ) → from + length text ≡ end → s ≡ stop_of formals from text → IsAhead formals text from f)
+    → IsAhead (source_formals texts source) (slice_range (source_text texts source) from end) from f
+unfolding source_formals source_text stop_in
+ahead-body texts source id from end s f e h inside is each =
+    let body = (macro_at texts.macros id).body in
+    let within : end ≤ length body = subst (λ (x : TextSource). end ≤ length (source_text texts x)) e inside in
+    let size = length-take (end - from) (drop from body) in
+    let rest = length-drop from body in
+    subst (λ (x : TextSource). IsAhead (source_formals texts x) (slice_range (source_text texts x) from end) from f) (sym e)
+    (each (formals_of (macro_at texts.macros id)) from (slice_range body from end) (omega (arith, h, within, size, rest)) is)
+
+-- a range of a body lies in it
+pub body-inside : (texts : Texts) (source : TextSource) (id end : ℕ) → source ≡ place_of.Body id → end ≤ length (source_text texts source)
+    → end ≤ length (macro_at texts.macros id).body
+unfolding source_text
+body-inside texts source id end e inside = subst (λ (x : TextSource). end ≤ length (source_text texts x)) e inside

@@ -1,0 +1,639 @@
+-- A usage at the front of the innermost open text: its name, and what it comes to.
+use Rattle.rdlpp_meaning.specs.Actuals.{Reads, text_reads}
+use Rattle.rdlpp_meaning.specs.Expansion.{Refuses, Opens, usage_of_formals, usage_of_macro, usage_of}
+use Rattle.std.proofs.Common.{◌≡◌, ℕ, suc, ◌+◌, ◌-◌, ◌<◌, ◌≤◌, Bool, true, false, true≢false, List, [], ◌∷◌, length, take, drop, refl, sym, ap, subst, ◌∙◌, arith, Option, None, Some}
+use Rattle.std.specs.Prelude.{if◌then◌else◌, ◌==◌, ◌||◌, bytes_eq, nat_le, slice_range, is_some}
+use Rattle.std.specs.List.{list_any}
+use Rattle.std.specs.Option.{option_map}
+use Rattle.std.proofs.lemmas.Bool.{eq-eqb}
+use Rattle.std.proofs.lemmas.List.Elements.{All-get_or}
+use Rattle.std.proofs.lemmas.List.{length-take, length-drop}
+use Rattle.std.proofs.lemmas.Slice.Eq.{bytes_eq-Decides}
+use Rattle.rdlpp_scan.specs.declared.token.Kind.{Kind}
+use Rattle.rdlpp_scan.specs.declared.token.Kind.TheVariants.{Back}
+use Rattle.rdlpp_scan.specs.declared.token.Mode.TheVariants.{Plain}
+use Rattle.rdlpp_scan.specs.SourceTokens.{SourceToken}
+use Rattle.rdlpp_scan.specs.Reserved.{is_reserved}
+use Rattle.rdlpp_scan.specs.TokenKinds.{opens_mode}
+use Rattle.rdlpp_scan.specs.Tokens.{token_of}
+use Rattle.rdlpp_scan.proofs.TokenLens.{IsPart, token_of-part}
+use Rattle.rdlpp_table.specs.Table.{Formal, Macro, macro_named}
+use Rattle.rdlpp_table.specs.View.{TableView, IsSound, IsSoundMacro, no_macro, macro_at, place_named}
+use Rattle.rdlpp_table.proofs.Places.{place_of_name}
+use Rattle.rdlpp_meaning.specs.declared.fault.FaultKind.{FaultKind}
+use Rattle.rdlpp_meaning.specs.declared.fault.FaultKind.TheVariants.{BareBackquote, UndefinedMacro, RecursiveMacro, DirectiveInText, ArgumentsMissing, ArgumentsOpen, ArgumentCount, DepthPassed}
+use Rattle.rdlpp_meaning.specs.State.{Rules, State}
+use Rattle.rdlpp_meaning.specs.Opens.{OpenKind, OpenBody, OpenActual, OpenDefault, Open, Texts, part_tokens, text_around, open_scope, open_bytes, open_behind, open_body, own_text, own_writers, writers_at, AreOpen}
+use Rattle.rdlpp_meaning.proofs.OpenCalls.{tokens_behind, first_usage, step-refused as left-refused, step-usage as left-usage, step-usage_deep as left-usage_deep}
+use Rattle.rdlpp_texts.specs.BoundCalls.{is_call_fault, KeepsAll}
+use Rattle.rdlpp_texts.specs.declared.bindings.Range.{Range}
+use Rattle.rdlpp_texts.specs.declared.front.Front.{Front}
+use Rattle.rdlpp_texts.specs.declared.front.Front.TheVariants as front
+use Rattle.rdlpp_texts.specs.declared.front.Look.{Look}
+use Rattle.rdlpp_texts.specs.declared.place.TextPlace.{TextPlace}
+use Rattle.rdlpp_texts.specs.declared.place.TextSource.{TextSource}
+use Rattle.rdlpp_meaning.proofs.OpenScopes.{part-whole}
+use Rattle.rdlpp_texts.specs.declared.place.TextSource.TheVariants.{Arguments}
+use Rattle.rdlpp_texts.specs.declared.slot.Slot.{Slot}
+use Rattle.rdlpp_texts.specs.declared.step.CursorFault.{CursorFault}
+use Rattle.rdlpp_texts.specs.declared.step.CursorStep.{CursorStep}
+use Rattle.rdlpp_texts.specs.declared.step.CursorStep.TheVariants.{Lends, Silent, Refused}
+use Rattle.rdlpp_texts.specs.Digits.{IsFalling}
+use Rattle.rdlpp_texts.specs.Fronts.{AreCopied, IsFront, IsLook, IsLookAhead}
+use Rattle.rdlpp_texts.specs.Opened.{bindings_below, opens_of, moved_to, AreHomedSlots, CursorsView}
+use Rattle.rdlpp_texts.specs.Places.{texts_of, place_bytes, source_text, source_formals, IsSource, IsPlaced}
+use Rattle.rdlpp_texts.specs.Scopes.{front_scope, front_source, own_ids, writer_ids, AreFurtherOut}
+use Rattle.rdlpp_texts.specs.Steps.{IsKnown, AreInside, AreSound, IsStep, StepsTo, StaysRefused, KeepsOpen, IsPlacedStep, wordless}
+use Rattle.rdlpp_texts.specs.Usages.{front_name, is_text_fault, unknown_kind, IsRefused, IsTextFault, IsUsed}
+use Rattle.rdlpp_texts.proofs.Falling.{look-opens, run-ends, usage-inside as falls-inside}
+use Rattle.rdlpp_texts.proofs.Keeping.{body-keeps, first-sound}
+use Rattle.rdlpp_texts.proofs.Looking.{source-known, source-inside}
+use Rattle.rdlpp_texts.proofs.Passing.{same-front, no-formals, no-word, IsPassed}
+use Rattle.rdlpp_texts.proofs.Runs.{slice-behind}
+use Rattle.rdlpp_texts.proofs.Scoping.{source-around, opens-length}
+use Rattle.rdlpp_texts.proofs.Stacking.{tail-is}
+use Rattle.rdlpp_texts.proofs.Stepping.{fault-same, kind-first, bytes-first, first-moved}
+
+-- where a usage lies in its text: it has its backquote, and ends in what is left of the open text, which ends in its text
+pub record IsUsageInside (texts : Texts) (look : Look) (len : ℕ) : Type 0 where
+  pub some : 0 < len
+  pub inside : look.at + len ≤ look.end
+  pub source : IsSource texts look.source
+  pub within : look.end ≤ length (source_text texts look.source)
+
+-- the front of a look at a usage
+pub front-is : (texts : Texts) (x : Open) (below : List Open) (look : Look) (len : ℕ) → look.front ≡ front.Usage len
+    → IsFront (source_formals texts (front_source (x ∷ below))) (open_bytes texts x below) look.front
+    → IsFront (source_formals texts (front_source (x ∷ below))) (open_bytes texts x below) (front.Usage len)
+front-is texts x below look len e f = subst (λ (f : Front). IsFront (source_formals texts (front_source (x ∷ below))) (open_bytes texts x below) f) e f
+
+-- how long a usage is
+usage-some : (texts : Texts) (x : Open) (below : List Open) (len : ℕ)
+    → IsFront (source_formals texts (front_source (x ∷ below))) (open_bytes texts x below) (front.Usage len)
+    → (0 < len) × (len ≤ length (open_bytes texts x below))
+unfolding IsFront
+usage-some texts x below len f =
+    let part : IsPart (token_of Plain (open_bytes texts x below)) (open_bytes texts x below) = token_of-part Plain (open_bytes texts x below) f.0 in
+    let e : (token_of Plain (open_bytes texts x below)).len ≡ len = f.2 in
+    (subst (λ (n : ℕ). 0 < n) e part.not_empty, subst (λ (n : ℕ). n ≤ length (open_bytes texts x below)) e part.inside)
+
+-- a usage lies there
+pub usage-place : (texts : Texts) (opens : List Open) (look : Look) (len : ℕ) → AreSound texts opens → IsLook texts opens look → look.front ≡ front.Usage len
+    → IsUsageInside texts look len
+unfolding IsLook open_bytes
+usage-place texts [] look len h l e = absurd l
+usage-place texts (x ∷ below) look len h l e =
+    let s = usage-some texts x below len (front-is texts x below look len e l.3) in
+    let size = length-take (x.part.end - x.part.from) (drop x.part.from (text_around texts x.kind x.home below)) in
+    let from : look.at ≡ x.part.from = l.1 in
+    let end : look.end ≡ x.part.end = l.2 in
+    let some : 0 < len = s.0 in
+    let inside = s.1 in
+    record {
+      some = some;
+      inside = omega (arith, size, from, end, some, inside);
+      source = subst (λ (t : TextSource). IsSource texts t) (sym l.0) (source-known texts x below h.are_inside);
+      within = subst (λ (t : TextSource). look.end ≤ length (source_text texts t)) (sym l.0)
+          (subst (λ (n : ℕ). n ≤ length (source_text texts (front_source (x ∷ below)))) (sym end) (source-inside texts x below h.are_inside));
+    }
+
+-- a part of a text behind its first byte
+behind-first : (text : List ℕ) (from n : ℕ) → from + n ≤ length text → 0 < n → slice_range text (from + 1) (from + n) ≡ drop 1 (slice_range text from (from + n))
+behind-first text from n h some =
+    let size = length-take (from + n - from) (drop from text) in
+    let rest = length-drop from text in
+    slice-behind text from (from + n) 1 (omega (arith, h, some, size, rest))
+
+-- the name of a usage is what stands behind its backquote
+pub usage-word : (texts : Texts) (opens : List Open) (look : Look) (len from end : ℕ) → AreSound texts opens → IsLook texts opens look → look.front ≡ front.Usage len
+    → from ≡ look.at + 1 → end ≡ look.at + len
+    → place_bytes texts (record { source = look.source; from = from; end = end }) ≡ front_name texts opens len
+unfolding IsLook front_name place_bytes open_bytes
+usage-word texts [] look len from end h l e f g = absurd l
+usage-word texts (x ∷ below) look len from end h l e f g =
+    let s = usage-some texts x below len (front-is texts x below look len e l.3) in
+    let within = usage-place texts (x ∷ below) look len h l e in
+    let inside = within.inside in
+    let ends = within.within in
+    let at : look.at ≡ x.part.from = l.1 in
+    let own = source_text texts (front_source (x ∷ below)) in
+    ap (λ (t : TextSource). slice_range (source_text texts t) from end) l.0
+    ∙ ap (λ (n : ℕ). slice_range own n end) f
+    ∙ ap (λ (n : ℕ). slice_range own (look.at + 1) n) g
+    ∙ behind-first own look.at len
+    (subst (λ (t : TextSource). look.at + len ≤ length (source_text texts t)) l.0 (omega (arith, inside, ends))) s.0
+    ∙ ap (λ (n : ℕ). drop 1 (slice_range own n (n + len))) at
+    ∙ ap (λ (bytes : List ℕ). drop 1 bytes)
+    (sym (same-front (text_around texts x.kind x.home below) own x.part.from x.part.end len s.0 s.1 (source-around texts x below)))
+
+-- what the usage at the front comes to, by its name and the macros in whose text it is written
+first-is : (rules : Rules) (s : State) (line : ℕ) (texts : Texts) (x : Open) (below : List Open) (len : ℕ) → x.part.mode ≡ Plain
+    → (token_of Plain (open_bytes texts x below)).len ≡ len
+    → first_usage rules s line texts x below
+    ≡ usage_of rules s text_reads line (writers_at texts (x ∷ below) (front_scope (x ∷ below))) (front_name texts (x ∷ below) len)
+    (tokens_behind texts x below)
+unfolding first_usage front_name front_scope
+first-is rules s line texts x below len m e =
+    ap (λ (bytes : List ℕ). usage_of rules s text_reads line (writers_at texts (x ∷ below) (open_scope x below)) (drop 1 bytes) (tokens_behind texts x below)) (bytes-first texts x below len m e)
+
+-- the name of a directive is refused
+reserved-is : (reads : Reads SourceToken) (rules : Rules) (s : State) (line : ℕ) (o : List (List ℕ)) (name : List ℕ) (ts : List SourceToken) → is_reserved name ≡ true
+    → usage_of rules s reads line o name ts ≡ Refuses DirectiveInText name line
+unfolding usage_of
+reserved-is reads rules s line o name ts e = rw e refl
+
+-- another name is that of a macro, or it is refused
+unreserved-is : (reads : Reads SourceToken) (rules : Rules) (s : State) (line : ℕ) (o : List (List ℕ)) (name : List ℕ) (ts : List SourceToken) (found : Option Macro)
+    → is_reserved name ≡ false → macro_named s.macros name ≡ found
+    → usage_of rules s reads line o name ts ≡ elim found [ None ↦ Refuses UndefinedMacro name line | Some m ↦ usage_of_macro rules reads line o name ts m ]
+unfolding usage_of
+unreserved-is reads rules s line o name ts found e f = rw (e, f) refl
+
+-- a macro in whose text its name stands is refused
+recursive-is : (reads : Reads SourceToken) (rules : Rules) (line : ℕ) (o : List (List ℕ)) (name : List ℕ) (ts : List SourceToken) (m : Macro)
+    → list_any (bytes_eq name) o ≡ true → usage_of_macro rules reads line o name ts m ≡ Refuses RecursiveMacro name line
+unfolding usage_of_macro
+recursive-is reads rules line o name ts m e = rw e refl
+
+-- another one is used by its formals
+apart-is : (reads : Reads SourceToken) (rules : Rules) (line : ℕ) (o : List (List ℕ)) (name : List ℕ) (ts : List SourceToken) (m : Macro)
+    → list_any (bytes_eq name) o ≡ false
+    → usage_of_macro rules reads line o name ts m ≡ usage_of_formals rules reads line name ts m m.formals
+unfolding usage_of_macro
+apart-is reads rules line o name ts m e = rw e refl
+
+-- a name that no macro has is refused
+pub unknown-refused : (texts : Texts) (opens : List Open) (name : List ℕ) (reserved : Bool) → macro_named texts.macros name ≡ None → is_reserved name ≡ reserved
+    → IsRefused texts opens name (unknown_kind reserved)
+unfolding IsRefused
+unknown-refused texts opens name true e r rules s line ts m = reserved-is text_reads rules s line _ name ts r
+unknown-refused texts opens name false e r rules s line ts m =
+    unreserved-is text_reads rules s line _ name ts None r (ap (λ (macros : List Macro). macro_named macros name) m ∙ e)
+
+-- so is a name that stands in the text of its macro
+pub recursive-refused : (texts : Texts) (opens : List Open) (name : List ℕ) (id : ℕ) → is_reserved name ≡ false
+    → macro_named texts.macros name ≡ Some (macro_at texts.macros id)
+    → list_any (bytes_eq name) (writers_at texts opens (front_scope opens)) ≡ true
+    → IsRefused texts opens name RecursiveMacro
+unfolding IsRefused
+recursive-refused texts opens name id r e w rules s line ts m =
+    unreserved-is text_reads rules s line _ name ts (Some (macro_at texts.macros id)) r (ap (λ (macros : List Macro). macro_named macros name) m ∙ e)
+    ∙ recursive-is text_reads rules line _ name ts (macro_at texts.macros id) w
+
+-- a usage of a macro comes to what its formals tell
+pub first-used : (rules : Rules) (s : State) (line : ℕ) (texts : Texts) (x : Open) (below : List Open) (len id : ℕ) → x.part.mode ≡ Plain
+    → (token_of Plain (open_bytes texts x below)).len ≡ len
+    → IsUsed texts (x ∷ below) (front_name texts (x ∷ below) len) id → s.macros ≡ texts.macros
+    → first_usage rules s line texts x below
+    ≡ usage_of_formals rules text_reads line (front_name texts (x ∷ below) len) (tokens_behind texts x below)
+    (macro_at texts.macros id) (macro_at texts.macros id).formals
+first-used rules s line texts x below len id mode e used m =
+    let name = front_name texts (x ∷ below) len in
+    let ts = tokens_behind texts x below in
+    first-is rules s line texts x below len mode e
+    ∙ unreserved-is text_reads rules s line _ name ts (Some (macro_at texts.macros id)) used.unreserved (ap (λ (macros : List Macro). macro_named macros name) m ∙ used.named)
+    ∙ apart-is text_reads rules line _ name ts (macro_at texts.macros id) used.apart
+
+-- a usage that is refused
+pub step-refused : (line depth : ℕ) (texts : Texts) (x : Open) (below : List Open) (len : ℕ) (kind : FaultKind) (new : List Open) (fault : CursorFault) → AreSound texts (x ∷ below)
+    → IsFront (source_formals texts (front_source (x ∷ below))) (open_bytes texts x below) (front.Usage len)
+    → IsRefused texts (x ∷ below) (front_name texts (x ∷ below) len) kind
+    → fault.kind ≡ kind → place_bytes texts fault.word ≡ front_name texts (x ∷ below) len
+    → IsStep line depth texts (x ∷ below) (Refused fault) new
+unfolding IsStep StepsTo IsFront IsRefused
+step-refused line depth texts x below len kind new fault h f r k w rules s m =
+    let mode : x.part.mode ≡ Plain = (h.are_inside).1.1.0 in
+    let name = front_name texts (x ∷ below) len in
+    left-refused rules s line depth texts x below kind name line f.0 (kind-first texts x below Back mode f.1)
+    (first-is rules s line texts x below len mode f.2 ∙ r rules s line (tokens_behind texts x below) m)
+    ∙ sym (fault-same s line texts fault kind name k w)
+
+-- a usage of a macro without a list opens its body, whatever it is told by
+plain-opens : (reads : Reads SourceToken) (rules : Rules) (line : ℕ) (name : List ℕ) (ts : List SourceToken) (m : Macro) → m.formals ≡ None
+    → usage_of_formals rules reads line name ts m m.formals ≡ Opens m [] 0
+unfolding usage_of_formals
+plain-opens reads rules line name ts m e = rw e refl
+
+-- a backquote with a name closes
+pub back-closes : (kind : Kind) → kind ≡ Back → opens_mode kind ≡ false
+unfolding opens_mode
+back-closes kind e = ap (λ (k : Kind). opens_mode k) e
+
+-- the body of a macro without a list is opened, where there is room
+pub step-opened : (line depth : ℕ) (texts : Texts) (x : Open) (below : List Open) (len id : ℕ) → AreSound texts (x ∷ below)
+    → IsFront (source_formals texts (front_source (x ∷ below))) (open_bytes texts x below) (front.Usage len)
+    → IsUsed texts (x ∷ below) (front_name texts (x ∷ below) len) id → (macro_at texts.macros id).formals ≡ None
+    → length (x ∷ below) < depth
+    → IsStep line depth texts (x ∷ below) Silent (open_body texts id [] (open_scope x below) ∷ moved_to (x.part.from + len) (x ∷ below))
+unfolding IsStep StepsTo IsFront moved_to open_behind tokens_behind
+step-opened line depth texts x below len id h f used none room rules s m =
+    let mode : x.part.mode ≡ Plain = (h.are_inside).1.1.0 in
+    let ts = tokens_behind texts x below in
+    left-usage rules s line depth texts x below id [] 0 len Plain (h.are_open).0 f.0 (kind-first texts x below Back mode f.1)
+    (first-used rules s line texts x below len id mode f.2 used m ∙ plain-opens text_reads rules line _ ts (macro_at texts.macros id) none)
+    (ap (λ (y : Open). part_tokens (text_around texts x.kind x.home below) y.part) (first-moved texts x below len mode (back-closes _ f.1) f.2)) room
+
+-- and is a fault where there is none
+pub step-opened_deep : (line depth : ℕ) (texts : Texts) (x : Open) (below : List Open) (len id : ℕ) (new : List Open) (fault : CursorFault) → AreSound texts (x ∷ below)
+    → IsFront (source_formals texts (front_source (x ∷ below))) (open_bytes texts x below) (front.Usage len)
+    → IsUsed texts (x ∷ below) (front_name texts (x ∷ below) len) id → (macro_at texts.macros id).formals ≡ None
+    → depth ≤ length (x ∷ below) → fault.kind ≡ DepthPassed → place_bytes texts fault.word ≡ []
+    → IsStep line depth texts (x ∷ below) (Refused fault) new
+unfolding IsStep StepsTo IsFront
+step-opened_deep line depth texts x below len id new fault h f used none deep k w rules s m =
+    let mode : x.part.mode ≡ Plain = (h.are_inside).1.1.0 in
+    let ts = tokens_behind texts x below in
+    left-usage_deep rules s line depth texts x below (macro_at texts.macros id) [] 0 f.0 (kind-first texts x below Back mode f.1)
+    (first-used rules s line texts x below len id mode f.2 used m ∙ plain-opens text_reads rules line _ ts (macro_at texts.macros id) none) deep
+    ∙ sym (fault-same s line texts fault DepthPassed [] k w)
+
+-- the macros in whose text a scope is, by name and by place
+pub writers-ids : (texts : Texts) (opens : List Open) (k id : ℕ) (name : List ℕ) → AreInside texts opens
+    → ((j : ℕ) → j < length texts.macros → bytes_eq name (macro_at texts.macros j).name ≡ (id == j))
+    → list_any (bytes_eq name) (writers_at texts opens k) ≡ list_any (λ j. id == j) (writer_ids opens k)
+unfolding writers_at writer_ids own_writers
+writers-ids texts [] k id name h alone = refl
+writers-ids texts (x ∷ below) k id name h alone =
+    by (k == suc (length below)) (kind-ids x.kind h.0 (writers-ids texts below x.home id name rest alone)) (writers-ids texts below k id name rest alone)
+  where
+    rest : AreInside texts below
+    rest = ((h.1).1).1
+
+    kind-ids : (kind : OpenKind) → IsKnown texts.macros kind
+        → list_any (bytes_eq name) (writers_at texts below x.home) ≡ list_any (λ j. id == j) (writer_ids below x.home)
+        → list_any (bytes_eq name) (own_writers texts kind (writers_at texts below x.home)) ≡ list_any (λ j. id == j) (own_ids kind (writer_ids below x.home))
+    kind-ids (OpenBody own parts) known e =
+        ap (λ (b : Bool). b || list_any (bytes_eq name) (writers_at texts below x.home)) (alone own known) ∙ ap (λ (b : Bool). (id == own) || b) e
+    kind-ids OpenActual known e = refl
+    kind-ids (OpenDefault own place) known e = e
+
+    by : (here : Bool) → list_any (bytes_eq name) (own_writers texts x.kind (writers_at texts below x.home)) ≡ list_any (λ j. id == j) (own_ids x.kind (writer_ids below x.home))
+        → list_any (bytes_eq name) (writers_at texts below k) ≡ list_any (λ j. id == j) (writer_ids below k)
+        → list_any (bytes_eq name) (if here then own_writers texts x.kind (writers_at texts below x.home) else writers_at texts below k)
+        ≡ list_any (λ j. id == j) (if here then own_ids x.kind (writer_ids below x.home) else writer_ids below k)
+    by true a b = a
+    by false a b = b
+
+-- the macro at the place of a name has it
+name-at : (table : TableView) (name : List ℕ) (id : ℕ) → IsSound table → place_named table.macros name ≡ Some id → id < length table.macros
+    → name ≡ (macro_at table.macros id).name
+name-at table name id h e inside =
+    (bytes_eq-Decides name (macro_at table.macros id).name).0 (place_of_name table.macros name id id h.distinct e inside ∙ eq-eqb id id refl)
+
+-- a name of a table is no directive's
+pub table-unreserved : (table : TableView) (name : List ℕ) (id : ℕ) → IsSound table → place_named table.macros name ≡ Some id → id < length table.macros
+    → is_reserved name ≡ false
+table-unreserved table name id h e inside =
+    ap (λ (n : List ℕ). is_reserved n) (name-at table name id h e inside) ∙ (All-get_or IsSoundMacro table.macros id no_macro inside h.each).unreserved
+
+-- a name stands in the text of its macro where its scope is in that of the macro at its place
+pub table-writers : (table : TableView) (arguments : List ℕ) (opens : List Open) (name : List ℕ) (id : ℕ) (written : Bool) → IsSound table
+    → AreInside (texts_of table.macros arguments) opens → place_named table.macros name ≡ Some id
+    → written ≡ list_any (λ own. id == own) (writer_ids opens (front_scope opens))
+    → list_any (bytes_eq name) (writers_at (texts_of table.macros arguments) opens (front_scope opens)) ≡ written
+table-writers table arguments opens name id written h inside e w =
+    writers-ids (texts_of table.macros arguments) opens (front_scope opens) id name inside (λ j l. place_of_name table.macros name id j h.distinct e l) ∙ sym w
+
+-- what a search in a table tells of a name in open texts, by whether its scope is in the text of the macro
+pub table-used : (table : TableView) (arguments : List ℕ) (opens : List Open) (name : List ℕ) (id : ℕ) → IsSound table
+    → AreInside (texts_of table.macros arguments) opens → place_named table.macros name ≡ Some id → id < length table.macros
+    → macro_named table.macros name ≡ Some (macro_at table.macros id)
+    → false ≡ list_any (λ own. id == own) (writer_ids opens (front_scope opens))
+    → IsUsed (texts_of table.macros arguments) opens name id
+table-used table arguments opens name id h inside e l m w = record {
+  inside = l;
+  named = m;
+  unreserved = table-unreserved table name id h e l;
+  apart = table-writers table arguments opens name id false h inside e w;
+}
+
+-- and it is refused where that is so
+pub table-recursive : (table : TableView) (arguments : List ℕ) (opens : List Open) (name : List ℕ) (id : ℕ) → IsSound table
+    → AreInside (texts_of table.macros arguments) opens → place_named table.macros name ≡ Some id → id < length table.macros
+    → macro_named table.macros name ≡ Some (macro_at table.macros id)
+    → true ≡ list_any (λ own. id == own) (writer_ids opens (front_scope opens))
+    → IsRefused (texts_of table.macros arguments) opens name RecursiveMacro
+table-recursive table arguments opens name id h inside e l m w =
+    recursive-refused (texts_of table.macros arguments) opens name id (table-unreserved table name id h e l) m
+    (table-writers table arguments opens name id true h inside e w)
+
+-- the homes of open texts are further out
+pub homes-out : (texts : Texts) (opens : List Open) → AreOpen texts opens → AreFurtherOut opens
+homes-out texts [] h = tt
+homes-out texts (x ∷ below) h = (h.0, homes-out texts below (h.1).1)
+
+-- they are so in open texts that are the same
+pub homes-same : (view mid : CursorsView) → mid ≡ view → AreFurtherOut view.opens → AreFurtherOut mid.opens
+homes-same view mid e h = subst (λ (v : CursorsView). AreFurtherOut v.opens) (sym e) h
+
+-- whose scope is in the text of the same macros
+pub inside-same : (view mid : CursorsView) (id : ℕ) (written : Bool) → mid ≡ view → written ≡ list_any (λ own. id == own) (writer_ids mid.opens (front_scope mid.opens))
+    → written ≡ list_any (λ own. id == own) (writer_ids view.opens (front_scope view.opens))
+inside-same view mid id written e w = subst (λ (v : CursorsView). written ≡ list_any (λ own. id == own) (writer_ids v.opens (front_scope v.opens))) e w
+
+-- the homes of open texts are those of their slots
+pub slots-homed : (slots : List Slot) (bindings : List Range) → AreFurtherOut (opens_of slots bindings) → AreHomedSlots slots
+unfolding opens_of
+slots-homed [] bindings h = tt
+slots-homed (slot ∷ below) bindings h = (
+  let home : slot.home ≤ length (opens_of below (bindings_below slot.kind bindings)) = h.0 in
+      let n = opens-length below (bindings_below slot.kind bindings) in omega (arith, home, n),
+  slots-homed below (bindings_below slot.kind bindings) h.1,
+)
+
+-- the scope of the innermost open text is one of the open texts
+pub scope-inside : (opens : List Open) → AreFurtherOut opens → front_scope opens ≤ length opens
+unfolding front_scope open_scope
+scope-inside [] h = omega arith
+scope-inside (x ∷ below) h = by x.kind
+  where
+    by : (kind : OpenKind) → elim kind [ OpenActual ↦ x.home | _ ↦ suc (length below) ] ≤ suc (length below)
+    by (OpenBody id parts) = omega arith
+    by OpenActual = let home : x.home ≤ length below = h.0 in omega (arith, home)
+    by (OpenDefault id place) = omega arith
+
+-- open texts that go on are as many
+pub moved-length : (opens : List Open) (at : ℕ) → length (moved_to at opens) ≡ length opens
+unfolding moved_to
+moved-length [] at = refl
+moved-length (x ∷ below) at = refl
+
+-- behind a usage open texts are sound
+pub sound-behind : (texts : Texts) (opens : List Open) (look : Look) (len at : ℕ) → AreSound texts opens → IsLook texts opens look → look.front ≡ front.Usage len
+    → at ≡ look.at + len → AreSound texts (moved_to at opens)
+unfolding IsLook IsFront
+sound-behind texts [] look len at h l e k = absurd l
+sound-behind texts (x ∷ below) look len at h l e k =
+    let f = front-is texts x below look len e l.3 in
+    let place : at ≡ x.part.from + len = k ∙ ap (λ (n : ℕ). n + len) l.1 in
+    subst (λ (n : ℕ). AreSound texts (moved_to n (x ∷ below))) (sym place) (first-sound texts x below len h f.0 (back-closes _ f.1) f.2)
+
+-- the body of a macro without a list is sound in front of sound open texts that go on
+pub sound-used : (table : TableView) (arguments : List ℕ) (opens : List Open) (id at : ℕ) → IsSound table → AreSound (texts_of table.macros arguments) (moved_to at opens)
+    → front_scope opens ≤ length opens → id < length table.macros → (macro_at table.macros id).formals ≡ None
+    → AreSound (texts_of table.macros arguments) (open_body (texts_of table.macros arguments) id [] (front_scope opens) ∷ moved_to at opens)
+unfolding open_body text_around own_text
+sound-used table arguments opens id at sound moved scope inside none =
+    let body = (macro_at table.macros id).body in
+    let n = moved-length opens at in
+    record {
+      are_open = (omega (arith, scope, n), ((no-formals (macro_at table.macros id).formals (ap (λ (fs : Option (List Formal)). option_map (λ (xs : List Formal). length xs) fs) none), tt), moved.are_open));
+      are_inside = (inside, (omega arith, (refl, moved.are_inside)));
+      are_kept = (subst (λ (ts : List SourceToken). KeepsAll ts) (sym (part-whole body)) (body-keeps table id sound inside), (tt, moved.are_kept));
+    }
+
+-- by a look: a usage that is refused
+look-refused : (line depth : ℕ) (texts : Texts) (opens : List Open) (look : Look) (len from end : ℕ) (kind own : FaultKind) → AreSound texts opens → IsLook texts opens look
+    → look.front ≡ front.Usage len → from ≡ look.at + 1 → end ≡ look.at + len → own ≡ kind
+    → IsRefused texts opens (front_name texts opens len) kind
+    → IsStep line depth texts opens (Refused (record { kind = own; word = record { source = look.source; from = from; end = end } })) opens
+unfolding IsLook
+look-refused line depth texts [] look len from end kind own h l e f g k r = absurd l
+look-refused line depth texts (x ∷ below) look len from end kind own h l e f g k r =
+    step-refused line depth texts x below len kind (x ∷ below) (record { kind = own; word = record { source = look.source; from = from; end = end } }) h
+    (front-is texts x below look len e l.3) r k (usage-word texts (x ∷ below) look len from end h l e f g)
+
+-- a body for which there is no slot left
+look-deep : (line depth : ℕ) (texts : Texts) (opens : List Open) (look : Look) (len id : ℕ) → AreSound texts opens → IsLook texts opens look
+    → look.front ≡ front.Usage len → IsUsed texts opens (front_name texts opens len) id → (macro_at texts.macros id).formals ≡ None → depth ≤ length opens
+    → IsStep line depth texts opens (wordless DepthPassed) opens
+unfolding IsLook
+look-deep line depth texts [] look len id h l e used none deep = absurd l
+look-deep line depth texts (x ∷ below) look len id h l e used none deep =
+    step-opened_deep line depth texts x below len id (x ∷ below) (record { kind = DepthPassed; word = record { source = Arguments; from = 0; end = 0 } }) h
+    (front-is texts x below look len e l.3) used none deep refl (no-word texts Arguments)
+
+-- a body that is opened
+look-opened : (line depth : ℕ) (texts : Texts) (opens : List Open) (look : Look) (len id at : ℕ) → AreSound texts opens → IsLook texts opens look
+    → look.front ≡ front.Usage len → IsUsed texts opens (front_name texts opens len) id → (macro_at texts.macros id).formals ≡ None → length opens < depth
+    → at ≡ look.at + len
+    → IsStep line depth texts opens Silent (open_body texts id [] (front_scope opens) ∷ moved_to at opens)
+unfolding IsLook front_scope
+look-opened line depth texts [] look len id at h l e used none room k = absurd l
+look-opened line depth texts (x ∷ below) look len id at h l e used none room k =
+    let place : at ≡ x.part.from + len = k ∙ ap (λ (n : ℕ). n + len) l.1 in
+    subst (λ (n : ℕ). IsStep line depth texts (x ∷ below) Silent (open_body texts id [] (open_scope x below) ∷ moved_to n (x ∷ below))) (sym place)
+    (step-opened line depth texts x below len id h (front-is texts x below look len e l.3) used none room)
+
+-- a usage that is refused
+pub pass-refused : (texts : Texts) (view : CursorsView) (look : Look) (len : ℕ) (kind : FaultKind) (word : TextPlace) → AreSound texts view.opens → IsLook texts view.opens look
+    → look.front ≡ front.Usage len → word ≡ record { source = look.source; from = look.at + 1; end = look.at + len }
+    → IsRefused texts view.opens (front_name texts view.opens len) kind
+    → IsPassed texts view view (Refused (record { kind = kind; word = word }))
+unfolding IsFalling StaysRefused
+pass-refused texts view look len kind word h l e w r =
+    subst (λ (place : TextPlace). IsPassed texts view view (Refused (record { kind = kind; word = place }))) (sym w) (record {
+      is_step = look-refused view.line view.depth texts view.opens look len (look.at + 1) (look.at + len) kind kind h l e refl refl refl r;
+      sound = h;
+      kept = (refl, refl);
+      digits = tt;
+      refused = refl;
+    })
+
+-- a body for which there is no slot left
+pub pass-deep : (texts : Texts) (view : CursorsView) (look : Look) (len id : ℕ) (step : CursorStep) → AreSound texts view.opens → IsLook texts view.opens look
+    → look.front ≡ front.Usage len → IsUsed texts view.opens (front_name texts view.opens len) id → (macro_at texts.macros id).formals ≡ None
+    → view.depth ≤ length view.opens → step ≡ wordless DepthPassed
+    → IsPassed texts view view step
+unfolding IsFalling StaysRefused
+pass-deep texts view look len id step h l e used none deep is =
+    subst (λ (s : CursorStep). IsPassed texts view view s) (sym is) (record {
+      is_step = look-deep view.line view.depth texts view.opens look len id h l e used none deep;
+      sound = h;
+      kept = (refl, refl);
+      digits = tt;
+      refused = refl;
+    })
+
+-- a body that is opened
+pub pass-opened : (table : TableView) (arguments : List ℕ) (view new : CursorsView) (look : Look) (len id at : ℕ) → IsSound table
+    → AreSound (texts_of table.macros arguments) view.opens → IsLook (texts_of table.macros arguments) view.opens look
+    → look.front ≡ front.Usage len → IsUsed (texts_of table.macros arguments) view.opens (front_name (texts_of table.macros arguments) view.opens len) id
+    → (macro_at table.macros id).formals ≡ None → length view.opens < view.depth → at ≡ look.at + len
+    → new ≡ record { opens = open_body (texts_of table.macros []) id [] (front_scope view.opens) ∷ moved_to at view.opens; line = view.line; depth = view.depth }
+    → IsPassed (texts_of table.macros arguments) view new Silent
+unfolding IsFalling StaysRefused open_body
+pass-opened table arguments view new look len id at sound h l e used none room k is =
+    let texts = texts_of table.macros arguments in
+    let further = falls-inside texts view.opens look len l e in
+    let less = further.0 in
+    let inside = further.1 in
+    subst (λ (v : CursorsView). IsPassed texts view v Silent) (sym is) (record {
+      is_step = look-opened view.line view.depth texts view.opens look len id at h l e used none room k;
+      sound = sound-used table arguments view.opens id at sound (sound-behind texts view.opens look len at h l e k) (scope-inside view.opens (homes-out texts view.opens h.are_open)) used.inside none;
+      kept = (refl, refl);
+      digits = look-opens texts view.opens look at (open_body texts id [] (front_scope view.opens)) l (omega (arith, less, k)) (omega (arith, inside, k));
+      refused = tt;
+    })
+
+-- the body of a macro is opened in front of open texts that go on
+pub entered : (macros : List Macro) (id end home at : ℕ) (view mid new : CursorsView) → end ≡ length (macro_at macros id).body → home ≡ front_scope view.opens
+    → mid ≡ record { opens = moved_to at view.opens; line = view.line; depth = view.depth }
+    → new ≡ record { opens = record { part = record { from = 0; end = end; mode = Plain }; home = home; kind = OpenBody id [] } ∷ mid.opens; line = mid.line; depth = mid.depth }
+    → new ≡ record { opens = open_body (texts_of macros []) id [] (front_scope view.opens) ∷ moved_to at view.opens; line = view.line; depth = view.depth }
+unfolding open_body
+entered macros id end home at view mid new e h m n =
+    n
+    ∙ ap (λ (v : CursorsView). record { opens = record { part = record { from = 0; end = end; mode = Plain }; home = home; kind = OpenBody id [] } ∷ v.opens; line = v.line; depth = v.depth }) m
+    ∙ ap (λ (k : ℕ). record { opens = record { part = record { from = 0; end = k; mode = Plain }; home = home; kind = OpenBody id [] } ∷ moved_to at view.opens; line = view.line; depth = view.depth }) e
+    ∙ ap (λ (k : ℕ). record { opens = record { part = record { from = 0; end = length (macro_at macros id).body; mode = Plain }; home = k; kind = OpenBody id [] } ∷ moved_to at view.opens; line = view.line; depth = view.depth }) h
+
+-- so it is in front of those that are the same
+pub entered-same : (macros : List Macro) (id at : ℕ) (view mid new : CursorsView) → mid ≡ view
+    → new ≡ record { opens = open_body (texts_of macros []) id [] (front_scope mid.opens) ∷ moved_to at mid.opens; line = mid.line; depth = mid.depth }
+    → new ≡ record { opens = open_body (texts_of macros []) id [] (front_scope view.opens) ∷ moved_to at view.opens; line = view.line; depth = view.depth }
+entered-same macros id at view mid new e n =
+    n ∙ ap (λ (v : CursorsView). record { opens = open_body (texts_of macros []) id [] (front_scope v.opens) ∷ moved_to at v.opens; line = v.line; depth = v.depth }) e
+
+-- and there is as much room
+pub full-same : (view mid : CursorsView) (full : Bool) → mid ≡ view → full ≡ nat_le mid.depth (length mid.opens) → full ≡ nat_le view.depth (length view.opens)
+full-same view mid full e f = f ∙ ap (λ (v : CursorsView). nat_le v.depth (length v.opens)) e
+
+-- what changes nothing leaves the same
+pub pass-same : (texts : Texts) (view mid : CursorsView) (step : CursorStep) → mid ≡ view → IsPassed texts view view step → IsPassed texts view mid step
+pass-same texts view mid step e p = subst (λ (v : CursorsView). IsPassed texts view v step) (sym e) p
+
+-- open texts that go on leave as much room
+pub moved-room : (view new : CursorsView) (at : ℕ) → new ≡ record { opens = moved_to at view.opens; line = view.line; depth = view.depth } → length view.opens < view.depth
+    → length new.opens < new.depth
+moved-room view new at e room =
+    subst (λ (v : CursorsView). length v.opens < v.depth) (sym e) (let n = moved-length view.opens at in omega (arith, n, room))
+
+-- the scope of the innermost open text is one of the slots
+pub rest-scope : (part items : List Slot) (first scope : ℕ) (bindings : List Range) → part ≡ items → AreFurtherOut (opens_of (drop first items) bindings)
+    → scope ≡ front_scope (opens_of (drop first items) bindings) → scope ≤ length (take (length part - first) (drop first part))
+rest-scope part items first scope bindings e homed is =
+    subst (λ (slots : List Slot). scope ≤ length slots) (sym (tail-is part items first e))
+    (let n = opens-length (drop first items) bindings in let inside = scope-inside (opens_of (drop first items) bindings) homed in omega (arith, n, inside, is))
+
+-- the homes of the slots are further out
+pub rest-homed : (part items : List Slot) (first : ℕ) (bindings : List Range) → part ≡ items → AreFurtherOut (opens_of (drop first items) bindings)
+    → AreHomedSlots (take (length part - first) (drop first part))
+rest-homed part items first bindings e homed =
+    subst (λ (slots : List Slot). AreHomedSlots slots) (sym (tail-is part items first e)) (slots-homed (drop first items) bindings homed)
+
+-- the place of the name of a usage lies in its text
+pub word-inside : (texts : Texts) (opens : List Open) (look : Look) (len : ℕ) (word : TextPlace) → AreSound texts opens → IsLook texts opens look → look.front ≡ front.Usage len
+    → word ≡ record { source = look.source; from = look.at + 1; end = look.at + len } → IsPlaced texts word
+word-inside texts opens look len word h l e is =
+    let place = usage-place texts opens look len h l e in
+    let some = place.some in
+    let inside = place.inside in
+    let within = place.within in
+    subst (λ (w : TextPlace). IsPlaced texts w) (sym is) (record {
+      source = place.source;
+      order = omega (arith, some);
+      inside = omega (arith, inside, within);
+    })
+
+-- the name of a usage lies in its text
+pub name-inside : (texts : Texts) (opens : List Open) (look : Look) (len : ℕ) (text : List ℕ) → AreSound texts opens → IsLook texts opens look → look.front ≡ front.Usage len
+    → text ≡ source_text texts look.source → (look.at + 1 ≤ look.at + len) × (look.at + len ≤ length text)
+name-inside texts opens look len text h l e is =
+    let place = usage-place texts opens look len h l e in
+    let some = place.some in
+    let inside = place.inside in
+    let within : look.end ≤ length text = subst (λ (t : List ℕ). look.end ≤ length t) (sym is) place.within in
+    (omega (arith, some), omega (arith, inside, within))
+
+-- and is what stands there
+pub name-is : (texts : Texts) (opens : List Open) (look : Look) (len : ℕ) (text : List ℕ) → AreSound texts opens → IsLook texts opens look → look.front ≡ front.Usage len
+    → text ≡ source_text texts look.source → slice_range text (look.at + 1) (look.at + len) ≡ front_name texts opens len
+unfolding place_bytes
+name-is texts opens look len text h l e is =
+    ap (λ (t : List ℕ). slice_range t (look.at + 1) (look.at + len)) is ∙ usage-word texts opens look len (look.at + 1) (look.at + len) h l e refl refl
+
+-- a name that a table hasn't is refused
+pub unknown-given : (texts : Texts) (opens : List Open) (name given : List ℕ) (kind : FaultKind) → given ≡ name → macro_named texts.macros given ≡ None
+    → kind ≡ unknown_kind (is_reserved given) → IsRefused texts opens name kind
+unknown-given texts opens name given kind e none k =
+    subst (λ (n : List ℕ). IsRefused texts opens n kind) e
+    (subst (λ (f : FaultKind). IsRefused texts opens given f) (sym k) (unknown-refused texts opens given (is_reserved given) none refl))
+
+-- a macro has no list where it has no count of formals
+pub no-list : (formals : Option (List Formal)) (count : Option ℕ) (some : Bool) → count ≡ option_map (λ (fs : List Formal). length fs) formals → some ≡ is_some count
+    → some ≡ false → formals ≡ None
+no-list None count some e s f = refl
+no-list (Some fs) count some e s f = absurd (true≢false (sym (s ∙ ap (λ (o : Option ℕ). is_some o) e) ∙ f))
+
+-- and it has one where it has a count
+pub has-list : (formals : Option (List Formal)) (count : Option ℕ) (some : Bool) → count ≡ option_map (λ (fs : List Formal). length fs) formals → some ≡ is_some count
+    → some ≡ true → is_some formals ≡ true
+has-list None count some e s f = absurd (true≢false (sym f ∙ s ∙ ap (λ (o : Option ℕ). is_some o) e))
+has-list (Some fs) count some e s f = refl
+
+-- a fault under the name of a usage is placed
+pub placed-word : (texts : Texts) (opens : List Open) (look : Look) (len : ℕ) (kind : FaultKind) (word : TextPlace) → AreSound texts opens → IsLook texts opens look
+    → look.front ≡ front.Usage len → word ≡ record { source = look.source; from = look.at + 1; end = look.at + len }
+    → IsPlacedStep texts (Refused (record { kind = kind; word = word }))
+unfolding IsPlacedStep
+placed-word texts opens look len kind word h l e is = word-inside texts opens look len word h l e is
+
+-- so is one without a word
+pub placed-wordless : (texts : Texts) (kind : FaultKind) (step : CursorStep) → step ≡ wordless kind → IsPlacedStep texts step
+unfolding IsPlacedStep
+placed-wordless texts kind step is =
+    subst (λ (s : CursorStep). IsPlacedStep texts s) (sym is) (record { source = tt; order = omega arith; inside = omega arith })
+
+-- a step that lends nothing and refuses nothing is
+pub placed-silent : (texts : Texts) → IsPlacedStep texts Silent
+unfolding IsPlacedStep
+placed-silent texts = tt
+
+-- a run that is lent is placed
+pub placed-run : (texts : Texts) (opens : List Open) (look : Look) → AreSound texts opens → IsLookAhead texts opens look → look.from < look.at
+    → IsPlacedStep texts (Lends (record { source = look.source; from = look.from; end = look.at }))
+unfolding IsLookAhead AreCopied IsPlacedStep
+placed-run texts [] look h l more = absurd l
+placed-run texts (x ∷ below) look h l more =
+    let from = l.1 in
+    let ends = run-ends texts x below (look.at - look.from) (omega (arith, more)) l.3.0 in
+    let own : x.part.end ≤ length (source_text texts look.source) =
+    subst (λ (t : TextSource). x.part.end ≤ length (source_text texts t)) (sym l.0) (source-inside texts x below h.are_inside) in
+    record {
+      source = subst (λ (t : TextSource). IsSource texts t) (sym l.0) (source-known texts x below h.are_inside);
+      order = omega (arith, more);
+      inside = omega (arith, from, more, ends, own);
+    }
+
+-- a text stays open behind a run that is lent
+pub open-run : (old new : CursorsView) (at : ℕ) → 0 < length old.opens → new ≡ record { opens = moved_to at old.opens; line = old.line; depth = old.depth } → 0 < length new.opens
+open-run old new at some e = subst (λ (v : CursorsView). 0 < length v.opens) (sym e) (let n = moved-length old.opens at in omega (arith, n, some))
+
+-- a fault without a word lends nothing
+pub open-wordless : (kind : FaultKind) (step : CursorStep) (new : List Open) → step ≡ wordless kind → KeepsOpen step new
+open-wordless kind step new is = subst (λ (s : CursorStep). KeepsOpen s new) (sym is) tt
+
+-- an unknown name is a fault of a text
+pub fault-unknown : (reserved : Bool) (kind : FaultKind) → kind ≡ unknown_kind reserved → is_text_fault kind ≡ true
+unfolding is_text_fault
+fault-unknown true kind e = ap (λ (k : FaultKind). is_text_fault k) e
+fault-unknown false kind e = ap (λ (k : FaultKind). is_text_fault k) e
+
+-- so is a recursive one
+pub fault-recursive : is_text_fault RecursiveMacro ≡ true
+unfolding is_text_fault
+fault-recursive = refl
+
+-- so is a fault of a call
+pub fault-call : (kind : FaultKind) → is_call_fault kind ≡ true → is_text_fault kind ≡ true
+unfolding is_text_fault is_call_fault
+fault-call ArgumentsMissing e = refl
+fault-call ArgumentsOpen e = refl
+fault-call ArgumentCount e = refl
+fault-call BareBackquote e = refl
+fault-call UndefinedMacro e = refl
+fault-call RecursiveMacro e = refl
+fault-call DirectiveInText e = refl
+fault-call DepthPassed e = refl
+fault-call kind e = absurd (true≢false (sym e))
+
+-- so is one without a word
+pub fault-deep : (step : CursorStep) → step ≡ wordless DepthPassed → IsTextFault step
+unfolding is_text_fault
+fault-deep step e = subst (λ (s : CursorStep). IsTextFault s) (sym e) refl
+
+-- and so is a lone backquote
+pub fault-bare : (step : CursorStep) → step ≡ wordless BareBackquote → IsTextFault step
+unfolding is_text_fault
+fault-bare step e = subst (λ (s : CursorStep). IsTextFault s) (sym e) refl

@@ -1,0 +1,62 @@
+use Rattle.std.proofs.Common.{◌∙◌, List, Option, unwrap_or, ℕ, length, drop, ap, refl, sym, arith}
+use Rattle.std.proofs.lemmas.Result.{err_from_is_err_and}
+use Rattle.rdlpp_texts.specs.BoundCalls.{added}
+use Rattle.rdlpp_texts.specs.declared.bindings.Range.{Range}
+use Rattle.rdlpp_table.specs.View.{macro_at, formals_of}
+use Rattle.rdlpp_table.proofs.Sizes.{count_items}
+use Rattle.rdlpp_texts.specs.Opened.{opens_of, CursorsView}
+use Rattle.rdlpp_texts.proofs.Binding.{arity-count, call-room, entered-opens, formals-few, stack-entered}
+use Rattle.rdlpp_texts.proofs.Bounding.{lent-body, lent-bounded}
+use Rattle.rdlpp_texts.proofs.Stacking.{view-is}
+use Rattle.rdlpp_texts.proofs.Starting.{call-dropped, call-miscounted, call-started, parts-counted, room-closed, started-opens}
+use Rattle.rdlpp_texts.proofs.cursors.Cursors.open_call.Goals as goal
+
+pub bind_parts-requires-clause-room : goal.bind_parts-requires-clause-room
+bind_parts-requires-clause-room c =
+    let few = formals-few c.args.table.now c.args.id c.len-macros.ensures.sound c.requires.id in
+    let n = c.unwrap_or-formals.ensures ∙ ap (λ (o : Option ℕ). unwrap_or o 0) c.arity.ensures ∙ arity-count (macro_at c.args.table.now.macros c.args.id).formals in
+    call-room c.self.inside.slots.items c.self.inside.first c.unwrap_or-formals.result c.self.inside.bindings c.self.invariant (omega (arith, few, n))
+
+pub overflow_sub-first : goal.overflow_sub-first
+overflow_sub-first c =
+    room-closed c.self.inside.slots c.self.inside.first c.self.inside.bindings.items c.self.invariant.inside (rw (← c.self.view_is) at c.requires.closed) (rw (← c.self.view_is) at c.requires.room)
+
+pub invariant_of-self-2 : goal.invariant_of-self-2
+invariant_of-self-2 c =
+    let few = formals-few c.args.table.now c.args.id c.len-macros.ensures.sound c.requires.id in
+    let n = c.unwrap_or-formals.ensures ∙ ap (λ (o : Option ℕ). unwrap_or o 0) c.arity.ensures ∙ arity-count (macro_at c.args.table.now.macros c.args.id).formals in
+    let some = room-closed c.self.inside.slots c.self.inside.first c.self.inside.bindings.items c.self.invariant.inside (rw (← c.self.view_is) at c.requires.closed) (rw (← c.self.view_is) at c.requires.room) in
+    stack-entered c.self.inside.slots.items c.self.inside.first c.self.inside.bindings c.bind_parts.new.bindings (added c.self.inside.bindings.items c.bind_parts.new.bindings.items) c.args.id _ 0 c.len-bound.result
+    c.unwrap_or-formals.result c.body_bounds-bounds.result some c.len-bound.ensures (omega (arith, few, n)) c.bind_parts.ensures.len c.bind_parts.ensures.whole c.bind_parts.ensures.capacity
+    (lent-body c.self.inside.slots.items _ c.self.inside.first c.args.id 0 c.body_bounds-bounds.result c.as_slice.ensures.value c.body_bounds-bounds.ensures) c.self.invariant
+
+pub returns-in_err-bind_parts-clause-refused : goal.returns-in_err-bind_parts-clause-refused
+returns-in_err-bind_parts-clause-refused c =
+    let p = err_from_is_err_and c.from_residual.result c.from_residual.ensures.1 in
+    let n = c.unwrap_or-formals.ensures ∙ ap (λ (o : Option ℕ). unwrap_or o 0) c.arity.ensures ∙ arity-count (macro_at c.args.table.now.macros c.args.id).formals in
+    rw (p.1, p.2)
+    (call-miscounted c.args.table.now c.args.arguments.now c.args.id _ _ _ c.in_err-bind_parts.ensures.refused.0
+    (parts-counted c.args.arguments.now _ c.unwrap_or-formals.result (formals_of (macro_at c.args.table.now.macros c.args.id)) _ refl n c.in_err-bind_parts.ensures.count)
+    (view-is _ _ _ _ _ (ap (λ (bs : List Range). opens_of (drop c.self.inside.first c.self.inside.slots.items) bs) c.in_err-bind_parts.ensures.refused.1) refl ∙ c.self.view_is))
+
+pub returns-clause-opens : goal.returns-clause-opens
+returns-clause-opens c =
+    let n = c.unwrap_or-formals.ensures ∙ ap (λ (o : Option ℕ). unwrap_or o 0) c.arity.ensures ∙ arity-count (macro_at c.args.table.now.macros c.args.id).formals in
+    let some = room-closed c.self.inside.slots c.self.inside.first c.self.inside.bindings.items c.self.invariant.inside (rw (← c.self.view_is) at c.requires.closed) (rw (← c.self.view_is) at c.requires.room) in
+    call-started c.args.table.now c.args.arguments.now c.args.id c.args.line _ (added c.self.inside.bindings.items c.bind_parts.new.bindings.items) _ _ c.len-macros.ensures.sound c.requires.id
+    (sym c.keeps_each.ensures ∙ c.if-not-keeps_each.false) refl (c.in_ok-bind_parts.ensures.actuals (formals_of (macro_at c.args.table.now.macros c.args.id)) (sym n))
+    (parts-counted c.args.arguments.now _ c.unwrap_or-formals.result (formals_of (macro_at c.args.table.now.macros c.args.id)) _ refl n c.in_ok-bind_parts.ensures.count)
+    c.bind_parts.ensures.within
+    (view-is _ _ _ _ _
+    (entered-opens c.self.inside.slots.items c.self.inside.first c.self.inside.bindings.items _ c.bind_parts.new.bindings.items c.args.id (length c.body.result.now) 0 c.len-bound.result c.body_bounds-bounds.result some
+    c.self.invariant.inside (c.len-bound.ensures ∙ count_items c.self.inside.bindings) c.bind_parts.ensures.whole
+    ∙ started-opens c.args.table.now c.args.arguments.now c.args.id (added c.self.inside.bindings.items c.bind_parts.new.bindings.items) c.body.result.now _ c.body.ensures
+    (rw (← c.self.view_is) at c.requires.closed))
+    (ap (λ (v : CursorsView). v.depth) c.self.view_is))
+
+pub returns-then-not-keeps_each-clause-refused : goal.returns-then-not-keeps_each-clause-refused
+returns-then-not-keeps_each-clause-refused c =
+    call-dropped c.args.table.now c.args.arguments.now c.args.id _ _ _ refl (sym c.keeps_each.ensures ∙ c.if-not-keeps_each.true) refl
+
+pub body_bounds-bounds-requires : goal.body_bounds-bounds-requires
+body_bounds-bounds-requires c = lent-bounded c.self.inside.slots.items _ c.self.inside.first c.as_slice.ensures.value c.self.invariant.bounded

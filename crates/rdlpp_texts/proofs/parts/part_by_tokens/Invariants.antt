@@ -1,0 +1,16 @@
+-- What the search for the end of the part comes to from here on.
+use Rattle.std.proofs.Common.{◌≡◌, ◌≤◌, ◌-◌, length, drop}
+use Rattle.rdlpp_meaning.specs.Substitution.{body_tokens}
+use Rattle.rdlpp_meaning.specs.TextTokens.{text_tokens}
+use Rattle.rdlpp_texts.specs.CallParts.{part_from}
+use Rattle.rdlpp_texts.proofs.parts.part_by_tokens.Given as goal
+
+abbrev pub invariant-loop-at : goal.invariant-loop-at
+invariant-loop-at l = record {
+  inside : l.at ≤ length l.text;
+  low : l.level ≤ l.at;
+  found : part_from l.from l.at l.level l.to (text_tokens l.mode (drop l.at l.text)) ≡ part_from l.from l.from 0 l.from (body_tokens (drop l.from l.text));
+}
+
+abbrev pub decreases-loop-at : goal.decreases-loop-at
+decreases-loop-at l = length l.text - l.at

@@ -1,0 +1,16 @@
+pub mod Opened
+pub mod Scopes
+pub mod Places
+pub mod Fronts
+pub mod Steps
+pub mod Usages
+pub mod Calls
+pub mod Digits
+pub mod Taking
+pub mod Guesses
+pub mod CallTokens
+pub mod CallParts
+pub mod BoundCalls
+pub mod SourceBound
+pub mod KeptTexts
+pub mod CalledParts

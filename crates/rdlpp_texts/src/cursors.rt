@@ -1,0 +1,281 @@
+// The stack of open texts.
+ghost use Rattle.std.specs.Prelude.{[], length, true, IfOk, IfSome, IsTrue, List, None, ℕ, ◌==◌, ◌<◌, ◌≡◌, ◌≤◌, ◌∷◌, ◌^◌, ◌+◌, ◌*◌, ◌++◌, drop, nat_le};
+ghost use Rattle.rdlpp_scan.specs.declared.token.Mode.TheVariants.{Plain};
+ghost use Rattle.std.specs.Option.{option_map};
+ghost use Rattle.rdlpp_table.specs.View.{macro_at};
+ghost use Rattle.rdlpp_meaning.specs.Opens.{open_body, OpenBody, Texts};
+ghost use Rattle.rdlpp_texts.specs.Digits.{IsFalling};
+ghost use Rattle.rdlpp_texts.specs.Fronts.{IsLookAhead, StandsAt};
+ghost use Rattle.rdlpp_texts.specs.Opened.{bound_by, is_spent, kept_by, moved_to, open_of, IsNoBody, StaysOutermost};
+ghost use Rattle.rdlpp_texts.specs.Places.{source_text, texts_of};
+ghost use Rattle.rdlpp_texts.specs.Usages.{IsTextFault};
+ghost use Rattle.rdlpp_texts.specs.Steps.{AreSound, IsStep, KeepsOpen, StaysRefused, IsPlacedStep, NamesWord};
+ghost use Rattle.rdlpp_texts.specs.Taking.{IsTaken};
+ghost use Rattle.rdlpp_texts.specs.declared.step.CursorStep.TheVariants.{Silent};
+
+mod call;
+mod usage;
+
+use crate::Range;
+use crate::front::{Sight, look_at};
+use crate::guesses::Guesses;
+use crate::place::{TextPlace, TextSource};
+use crate::scopes::{body_bounds, is_spent, scope_bounds};
+use crate::slot::{NO_BOUNDS, Slot, SlotKind};
+use crate::step::CursorStep;
+use rdlpp_table::{MacroId, Table};
+use std::alloc::{AllocError, Global};
+use std::marker::Model;
+
+mod formal;
+mod opening;
+
+// The most ranges that the call of one open body binds: one for each formal of its macro (this project's profile).
+const MOST_BINDINGS: usize = 255;
+
+// The open texts of a usage in a source that lie in slots, the innermost first: bodies, actuals and default texts, as ranges of
+// bytes.
+//
+// No call but `new` takes memory.
+#[derive(Drop)]
+pub struct Cursors {
+    slots: Vec<Slot>,
+    // the open texts stand from here on, the innermost first
+    first: usize,
+    // the ranges that the calls of the open bodies have bound, those of the innermost last
+    bindings: Vec<Range>,
+    line: u64,
+    guesses: Guesses,
+}
+
+impl Model for Cursors {
+    ghost use Rattle.std.specs.Prelude.{drop, vec_len};
+    ghost use Rattle.rdlpp_texts.specs.Opened.{opens_of, CursorsView, IsStack};
+
+    ghost Value = { CursorsView };
+
+    ghost view = { λ c. record {
+      opens = opens_of (drop c.first c.slots.items) c.bindings.items;
+      line = c.line;
+      depth = vec_len c.slots;
+    } };
+
+    ghost invariant = { λ c. IsStack c.slots.items c.first c.bindings };
+}
+
+// How many of so many ranges are kept where a slot is closed.
+fn kept_by(slot: &Slot, bound: usize) -> usize
+    ensures { result ≡ kept_by slot.now.kind bound }
+{
+    match slot.kind {
+        SlotKind::Body { first, .. } => first,
+        _ => bound,
+    }
+}
+
+impl Cursors {
+    // No open texts, with room for `depth` of them, each of which may bind 255 ranges (this project's profile).
+    pub fn new(alloc: Global, depth: usize) -> Result<Cursors, AllocError>
+        requires { depth ≤ 1024 }
+        ensures { IfOk result (λ c. c ≡ record { opens = []; line = 0; depth = depth }) }
+    {
+        let closed = Slot {
+            from: 0,
+            end: 0,
+            home: 0,
+            kind: SlotKind::Actual,
+            bounds: NO_BOUNDS,
+        };
+        let slots = vec![in alloc; closed; depth]?;
+        let bindings = Vec::with_capacity(alloc, (depth + 1) * MOST_BINDINGS)?;
+        Ok(Cursors {
+            slots,
+            first: depth,
+            bindings,
+            line: 0,
+            guesses: Guesses::new(),
+        })
+    }
+
+    // Whether no text is open.
+    pub fn is_empty(&self) -> bool
+        ensures { result ≡ (length self.now.opens == 0) }
+    {
+        self.len() == 0
+    }
+
+    // How many texts are open.
+    pub fn len(&self) -> usize
+        ensures value { result ≡ length self.now.opens }
+        ensures few { length self.now.opens ≤ self.now.depth }
+        ensures short { self.now.depth < 2 ^ 64 }
+    {
+        self.slots.len() - self.first
+    }
+
+    // The line of the usage in the source that opened them.
+    pub fn line(&self) -> u64
+        ensures { result ≡ self.now.line }
+    {
+        self.line
+    }
+
+    // How many ranges the calls of the open bodies have bound.
+    pub fn bound(&self) -> usize
+        ensures value { result ≡ bound_by self.now.opens }
+        ensures few { bound_by self.now.opens ≤ self.now.depth * 255 }
+    {
+        let _first = self.first;
+        self.bindings.len()
+    }
+
+    // Whether as many texts are open as there are slots.
+    fn is_full(&self) -> bool
+        ensures { result ≡ nat_le self.now.depth (length self.now.opens) }
+    {
+        self.first == 0
+    }
+
+    // Closes the innermost text, with the ranges that its call has bound.
+    fn close(&mut self)
+        requires { 0 < length self.old.opens }
+        ensures { self.new ≡ record self.old { opens = drop 1 self.old.opens } }
+    {
+        let kept = kept_by(&self.slots[self.first], self.bindings.len());
+        self.bindings.truncate(kept);
+        self.first += 1;
+    }
+
+    // Whether nothing is left of the innermost text.
+    fn is_spent(&self) -> bool
+        requires { 0 < length self.now.opens }
+        ensures { result ≡ is_spent self.now.opens }
+    {
+        let slots = self.slots.as_slice();
+        is_spent(&slots[self.first..])
+    }
+
+    // Closes the innermost text, of which nothing is left, and those around it of which nothing is left either, up to the
+    // outermost, which stays open if it isn't the innermost.
+    fn close_spent(&mut self)
+        requires { 0 < length self.old.opens }
+        ensures spent { (texts : Texts) → AreSound texts self.old.opens → is_spent self.old.opens ≡ true → IsTaken texts self.old Silent self.new }
+        ensures keeps { 1 < length self.old.opens → 0 < length self.new.opens }
+        ensures fewer { length self.new.opens < length self.old.opens }
+        ensures outer { StaysOutermost self.old.opens self.new.opens }
+    {
+        self.close();
+        while self.len() > 1 && self.is_spent() {
+            self.close();
+        }
+    }
+
+    // Goes on at a place of the innermost text.
+    fn move_to(&mut self, at: usize)
+        requires { 0 < length self.old.opens }
+        ensures { self.new ≡ record self.old { opens = moved_to at self.old.opens } }
+    {
+        let first = self.first;
+        self.slots[first].from = at;
+    }
+
+    // Opens an actual or a default.
+    #[inline(always)]
+    fn push_text(&mut self, mut new: Slot)
+        requires text { IsNoBody new.kind }
+        requires room { length self.old.opens < self.old.depth }
+        ensures { self.new ≡ record self.old { opens = open_of new [] ∷ self.old.opens } }
+    {
+        let first = self.first - 1;
+        new.bounds = scope_bounds(&self.slots.as_slice()[self.first..], new.home);
+        self.slots[first] = new;
+        self.first = first;
+    }
+
+    // Opens the body of a macro whose call is written in a scope and binds nothing.
+    fn push_body(&mut self, id: MacroId, end: usize, home: usize)
+        requires { length self.old.opens < self.old.depth }
+        ensures { self.new ≡ record self.old { opens = record { part = record { from = 0; end = end; mode = Plain }; home = home; kind = OpenBody id [] } ∷ self.old.opens } }
+    {
+        let bound = self.bindings.len();
+        let first = self.first - 1;
+        let bounds = body_bounds(&self.slots.as_slice()[self.first..], home, id);
+        self.slots[first] = Slot {
+            from: 0,
+            end,
+            home,
+            kind: SlotKind::Body { id, first: bound },
+            bounds,
+        };
+        self.first = first;
+    }
+
+    // Where the innermost text lies, where it goes on and ends, up to where it is copied, and what stands there, with the bytes of
+    // the text in which it lies.
+    fn look<'a>(&self, table: &'a Table, arguments: &'a [u8]) -> Sight<'a>
+        requires some { 0 < length self.now.opens }
+        requires sound { AreSound (texts_of table.now.macros arguments.now) self.now.opens }
+        ensures look { IsLookAhead (texts_of table.now.macros arguments.now) self.now.opens result.look }
+        ensures short { result.look.end < 2 ^ 64 }
+        ensures text { result.text.now ≡ source_text (texts_of table.now.macros arguments.now) result.look.source }
+    {
+        let slots = self.slots.as_slice();
+        look_at(
+            &slots[self.first..],
+            self.bindings.as_slice(),
+            table,
+            arguments,
+        )
+    }
+
+    // Opens the body of a macro for a usage without arguments, which stands in a source at a line.
+    pub fn open_body(&mut self, table: &Table, id: MacroId, line: u64)
+        requires id { id < length table.now.macros }
+        requires plain { option_map length (macro_at table.now.macros id).formals ≡ None }
+        requires closed { self.old.opens ≡ [] }
+        requires room { 0 < self.old.depth }
+        ensures opens { self.new ≡ record { opens = open_body (texts_of table.now.macros []) id [] 0 ∷ []; line = line; depth = self.old.depth } }
+        ensures sound { (arguments : List ℕ) → AreSound (texts_of table.now.macros arguments) self.new.opens }
+    {
+        let _macros = table.len();
+        self.line = line;
+        self.push_body(id, table.body(id).len(), 0);
+    }
+
+    /// One step of the innermost text, by what stands at its front. `arguments` is what is kept of the call in the source.
+    ///
+    /// It lends the longest run of bytes that are copied, in one piece as they lie. It opens the actual of a formal, its default
+    /// where the actual is empty, or the body of a macro, and goes on behind the name or the call. Or it closes a text of which
+    /// nothing is left, and those around it of which nothing is left either, but for the outermost. Where it lends a run, what
+    /// stands behind that is opened in the same step, or a text that ends there is closed while others are open around it.
+    pub fn step(&mut self, table: &Table, arguments: &[u8]) -> CursorStep
+        requires some { 0 < length self.old.opens }
+        requires sound { AreSound (texts_of table.now.macros arguments.now) self.old.opens }
+        ensures step { IsStep self.old.line self.old.depth (texts_of table.now.macros arguments.now) self.old.opens result self.new.opens }
+        ensures sound { AreSound (texts_of table.now.macros arguments.now) self.new.opens }
+        ensures kept { (self.new.line ≡ self.old.line) × (self.new.depth ≡ self.old.depth) }
+        ensures digits { IsFalling self.old.opens result self.new.opens }
+        ensures refused { StaysRefused self.old result self.new }
+        ensures placed { IsPlacedStep (texts_of table.now.macros arguments.now) result }
+        ensures lends { KeepsOpen result self.new.opens }
+        ensures fault { IsTextFault result }
+        ensures word { NamesWord (texts_of table.now.macros arguments.now) result }
+        ensures stands { StandsAt self.old.opens result }
+        ensures outer { StaysOutermost self.old.opens self.new.opens }
+    {
+        let sight = self.look(table, arguments);
+        let look = sight.look;
+        let lent = look.from < look.at;
+        self.move_to(look.at);
+        let opened = self.open_front(table, arguments, sight.text, &look, lent);
+        if lent {
+            CursorStep::Lends(TextPlace {
+                source: look.source,
+                from: look.from,
+                end: look.at,
+            })
+        } else {
+            opened
+        }
+    }
+}

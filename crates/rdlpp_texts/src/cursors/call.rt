@@ -1,0 +1,158 @@
+// Usages of macros with a list in an open text.
+ghost use Rattle.std.specs.Prelude.{drop, [], IfErr, IfOk, is_some, length, slice_range, true, ◌<◌, ◌≡◌, ◌≤◌, ◌^◌};
+ghost use Rattle.rdlpp_table.specs.View.{macro_at};
+ghost use Rattle.rdlpp_meaning.specs.Substitution.{body_tokens};
+ghost use Rattle.rdlpp_texts.specs.BoundCalls.{KeepsAll};
+ghost use Rattle.rdlpp_texts.specs.Calls.{IsCallFault, IsCallMiscounted, IsCallStarted, IsOpening};
+ghost use Rattle.rdlpp_texts.specs.Digits.{IsFalling};
+ghost use Rattle.rdlpp_texts.specs.Fronts.{IsLook};
+ghost use Rattle.rdlpp_texts.specs.Opened.{StaysOutermost};
+ghost use Rattle.rdlpp_texts.specs.Places.{source_text, texts_of};
+ghost use Rattle.rdlpp_texts.specs.Steps.{AreSound, IsStep, IsUnlent, KeepsOpen, StaysRefused, IsPlacedStep, NamesWord};
+ghost use Rattle.rdlpp_texts.specs.Usages.{front_name, IsTextFault, IsUsed};
+
+use crate::cursors::Cursors;
+use crate::cursors::usage::word_of;
+use crate::front::{Front, Look};
+use crate::scopes::body_bounds;
+use crate::slot::{Slot, SlotKind};
+use crate::step::{CursorFault, CursorStep, wordless};
+use crate::{bind_call, bind_parts, keeps_each};
+use rdlpp_meaning::FaultKind;
+use rdlpp_table::{MacroId, Table};
+
+// What a call in an open text comes to.
+enum Opening {
+    // The body is opened.
+    Opened,
+    // The call is refused.
+    Refused(FaultKind),
+    // The call is bound, and no further text may be open.
+    Deep,
+}
+
+impl Cursors {
+    // Opens the body of a macro with a list of formals for a call that stands in a source at a line.
+    pub fn open_call(
+        &mut self,
+        table: &Table,
+        arguments: &[u8],
+        id: MacroId,
+        line: u64,
+    ) -> Result<(), FaultKind>
+        requires id { id < length table.now.macros }
+        requires list { is_some (macro_at table.now.macros id).formals ≡ true }
+        requires closed { self.old.opens ≡ [] }
+        requires room { 0 < self.old.depth }
+        ensures opens { IfOk result (λ _. IsCallStarted (texts_of table.now.macros arguments.now) id line self.old self.new) }
+        ensures refused { IfErr result (λ kind. IsCallMiscounted (texts_of table.now.macros arguments.now) id kind self.old self.new) }
+    {
+        let _macros = table.len();
+        let formals = table.arity(id).unwrap_or(0);
+        let bound = self.bindings.len();
+        let bounds = body_bounds(&self.slots.as_slice()[self.first..], 0, id);
+        if !keeps_each(arguments) {
+            return Err(FaultKind::ArgumentCount);
+        }
+        bind_parts(arguments, 0, arguments.len(), formals, &mut self.bindings)?;
+        let first = self.first - 1;
+        self.slots[first] = Slot {
+            from: 0,
+            end: table.body(id).len(),
+            home: 0,
+            kind: SlotKind::Body { id, first: bound },
+            bounds,
+        };
+        self.first = first;
+        self.line = line;
+        Ok(())
+    }
+
+    // The usage, with so many bytes, of a macro with a list at the front of the innermost text: it opens the body, or is
+    // refused (IEEE 1364-2001, `define`), and nothing changes then.
+    pub(super) fn call(
+        &mut self,
+        table: &Table,
+        arguments: &[u8],
+        text: &[u8],
+        look: &Look,
+        len: usize,
+        id: MacroId,
+    ) -> CursorStep
+        requires some { 0 < length self.old.opens }
+        requires sound { AreSound (texts_of table.now.macros arguments.now) self.old.opens }
+        requires look { IsLook (texts_of table.now.macros arguments.now) self.old.opens look.now }
+        requires text { text.now ≡ source_text (texts_of table.now.macros arguments.now) look.now.source }
+        requires short { look.now.end < 2 ^ 64 }
+        requires front { look.now.front ≡ Front.Usage len }
+        requires used { IsUsed (texts_of table.now.macros arguments.now) self.old.opens (front_name (texts_of table.now.macros arguments.now) self.old.opens len) id }
+        requires list { is_some (macro_at table.now.macros id).formals ≡ true }
+        ensures step { IsStep self.old.line self.old.depth (texts_of table.now.macros arguments.now) self.old.opens result self.new.opens }
+        ensures sound { AreSound (texts_of table.now.macros arguments.now) self.new.opens }
+        ensures kept { (self.new.line ≡ self.old.line) × (self.new.depth ≡ self.old.depth) }
+        ensures digits { IsFalling self.old.opens result self.new.opens }
+        ensures refused { StaysRefused self.old result self.new }
+        ensures placed { IsPlacedStep (texts_of table.now.macros arguments.now) result }
+        ensures lends { KeepsOpen result self.new.opens }
+        ensures open { 0 < length self.new.opens }
+        ensures outer { StaysOutermost self.old.opens self.new.opens }
+        ensures unlent { IsUnlent result }
+        ensures fault { IsTextFault result }
+        ensures word { NamesWord (texts_of table.now.macros arguments.now) result }
+    {
+        let _macros = table.len();
+        let home = self.scope();
+        let at = look.at + len;
+        match self.open_bound(table, text, at, look.end, id, home) {
+            Opening::Opened => CursorStep::Silent,
+            Opening::Refused(kind) => CursorStep::Refused(CursorFault {
+                kind,
+                word: word_of(look, len),
+            }),
+            Opening::Deep => wordless(FaultKind::DepthPassed),
+        }
+    }
+
+    // Binds a call in the innermost text, from one place of that text up to another, goes on behind it, and opens the body of
+    // the macro. Nothing changes where that isn't so.
+    fn open_bound(
+        &mut self,
+        table: &Table,
+        text: &[u8],
+        at: usize,
+        end: usize,
+        id: MacroId,
+        home: usize,
+    ) -> Opening
+        requires some { 0 < length self.old.opens }
+        requires range { (at ≤ end) × (end ≤ length text.now) }
+        requires keeps { KeepsAll (body_tokens (slice_range text.now at end)) }
+        requires id { id < length table.now.macros }
+        ensures opening { IsOpening table.now.macros text.now at end id home self.old result self.new }
+        ensures fault { IsCallFault result }
+    {
+        let _macros = table.len();
+        let formals = table.arity(id).unwrap_or(0);
+        let first = self.first;
+        let bound = self.bindings.len();
+        let bounds = body_bounds(&self.slots.as_slice()[first..], home, id);
+        let behind = match bind_call(text, at, end, formals, &mut self.bindings) {
+            Ok(behind) => behind,
+            Err(kind) => return Opening::Refused(kind),
+        };
+        if first == 0 {
+            self.bindings.truncate(bound);
+            return Opening::Deep;
+        }
+        self.slots[first].from = behind;
+        self.slots[first - 1] = Slot {
+            from: 0,
+            end: table.body(id).len(),
+            home,
+            kind: SlotKind::Body { id, first: bound },
+            bounds,
+        };
+        self.first = first - 1;
+        Opening::Opened
+    }
+}

@@ -1,0 +1,76 @@
+// The opening of what a formal stands for.
+ghost use Rattle.std.specs.Prelude.{drop, [], length, ◌+◌, ◌<◌, ◌≡◌, ◌≤◌};
+ghost use Rattle.std.specs.Option.{option_map};
+ghost use Rattle.rdlpp_texts.specs.Digits.{IsFalling};
+ghost use Rattle.rdlpp_texts.specs.Fronts.{IsLook};
+ghost use Rattle.rdlpp_texts.specs.Opened.{open_of, StaysOutermost};
+ghost use Rattle.rdlpp_texts.specs.Places.{source_formals, texts_of};
+ghost use Rattle.rdlpp_meaning.specs.Opens.{found_standing, scope_open};
+ghost use Rattle.rdlpp_texts.specs.Scopes.{found_source, front_scope, AreBound};
+ghost use Rattle.rdlpp_texts.specs.Steps.{AreSound, IsStep, IsUnlent, KeepsOpen, StaysRefused, IsPlacedStep, NamesWord};
+ghost use Rattle.rdlpp_texts.specs.Usages.{IsTextFault};
+
+use crate::cursors::Cursors;
+use crate::front::{Front, Look};
+use crate::scopes::{front_scope, standing};
+use crate::slot::Slot;
+use crate::step::{CursorStep, wordless};
+use rdlpp_meaning::FaultKind;
+use rdlpp_table::Table;
+
+impl Cursors {
+    // Opens the actual of the formal whose name stands at the front of the innermost text, which goes on behind that name; its
+    // default, where the actual is empty and it has one (this project's profile).
+    //
+    // Where no slot is left it is a fault (`DepthPassed`) without a word, also for an empty actual, and nothing changes then.
+    pub(super) fn formal(
+        &mut self,
+        table: &Table,
+        arguments: &[u8],
+        look: &Look,
+        len: usize,
+        place: usize,
+    ) -> CursorStep
+        requires some { 0 < length self.old.opens }
+        requires sound { AreSound (texts_of table.now.macros arguments.now) self.old.opens }
+        requires look { IsLook (texts_of table.now.macros arguments.now) self.old.opens look.now }
+        requires front { look.now.front ≡ Front.Formal len place }
+        ensures step { IsStep self.old.line self.old.depth (texts_of table.now.macros arguments.now) self.old.opens result self.new.opens }
+        ensures sound { AreSound (texts_of table.now.macros arguments.now) self.new.opens }
+        ensures kept { (self.new.line ≡ self.old.line) × (self.new.depth ≡ self.old.depth) }
+        ensures digits { IsFalling self.old.opens result self.new.opens }
+        ensures refused { StaysRefused self.old result self.new }
+        ensures placed { IsPlacedStep (texts_of table.now.macros arguments.now) result }
+        ensures lends { KeepsOpen result self.new.opens }
+        ensures open { 0 < length self.new.opens }
+        ensures outer { StaysOutermost self.old.opens self.new.opens }
+        ensures unlent { IsUnlent result }
+        ensures fault { IsTextFault result }
+        ensures word { NamesWord (texts_of table.now.macros arguments.now) result }
+    {
+        let look = *look;
+        let _macros = table.len();
+        let _arguments = arguments.len();
+        let Some(new) = self.standing(table, place) else {
+            return wordless(FaultKind::DepthPassed);
+        };
+        if self.is_full() {
+            return wordless(FaultKind::DepthPassed);
+        }
+        self.move_to(look.at + len);
+        self.push_text(new);
+        CursorStep::Silent
+    }
+
+    // What the formal at a place stands for in the scope of the innermost text.
+    fn standing(&self, table: &Table, place: usize) -> Option<Slot>
+        requires some { 0 < length self.now.opens }
+        requires bound { AreBound table.now.macros self.now.opens }
+        requires place { place < length (source_formals (texts_of table.now.macros []) (found_source (scope_open self.now.opens (front_scope self.now.opens)))) }
+        ensures { option_map (λ slot. open_of slot []) result ≡ found_standing table.now.macros (scope_open self.now.opens (front_scope self.now.opens)) (front_scope self.now.opens) place }
+    {
+        let slots = &self.slots.as_slice()[self.first..];
+        let scope = front_scope(slots);
+        standing(slots, self.bindings.as_slice(), table, scope, place)
+    }
+}

@@ -1,0 +1,157 @@
+// Usages in open texts: their names, their faults, and the bodies of macros without a list.
+ghost use Rattle.std.specs.Prelude.{drop, ◌≡◌, IfErr, true, ◌==◌, ◌∷◌, ◌+◌, ◌<◌, ◌≤◌, ◌^◌, [], length};
+ghost use Rattle.std.specs.List.{list_any};
+ghost use Rattle.std.specs.Result.{MatchResult};
+ghost use Rattle.rdlpp_scan.specs.Reserved.{is_reserved};
+ghost use Rattle.rdlpp_table.specs.View.{macro_at};
+ghost use Rattle.rdlpp_meaning.specs.Opens.{open_body};
+ghost use Rattle.rdlpp_texts.specs.Digits.{IsFalling};
+ghost use Rattle.rdlpp_texts.specs.Fronts.{IsLook};
+ghost use Rattle.rdlpp_texts.specs.Opened.{moved_to, StaysOutermost};
+ghost use Rattle.rdlpp_texts.specs.Places.{place_bytes, source_text, texts_of, IsSource};
+ghost use Rattle.rdlpp_texts.specs.Scopes.{front_scope, writer_ids, AreFurtherOut};
+ghost use Rattle.rdlpp_texts.specs.Steps.{AreSound, IsStep, IsUnlent, KeepsOpen, StaysRefused, IsPlacedStep, NamesWord};
+ghost use Rattle.rdlpp_texts.specs.Usages.{front_name, is_text_fault, unknown_kind, IsRefused, IsTextFault, IsUsed};
+
+use crate::cursors::Cursors;
+use crate::front::{Front, Look};
+use crate::place::TextPlace;
+use crate::scopes::{front_scope, is_written_in};
+use crate::step::{CursorFault, CursorStep, wordless};
+use rdlpp_meaning::FaultKind;
+use rdlpp_scan::reserved;
+use rdlpp_table::{MacroId, Table};
+
+impl Cursors {
+    // One step at a usage of so many bytes, which stands at the front of the innermost text: it opens the body of its macro, or
+    // is refused (IEEE 1364-2001, `define`), and nothing changes then.
+    pub(super) fn usage(
+        &mut self,
+        table: &Table,
+        arguments: &[u8],
+        text: &[u8],
+        look: &Look,
+        len: usize,
+    ) -> CursorStep
+        requires some { 0 < length self.old.opens }
+        requires sound { AreSound (texts_of table.now.macros arguments.now) self.old.opens }
+        requires look { IsLook (texts_of table.now.macros arguments.now) self.old.opens look.now }
+        requires text { text.now ≡ source_text (texts_of table.now.macros arguments.now) look.now.source }
+        requires short { look.now.end < 2 ^ 64 }
+        requires front { look.now.front ≡ Front.Usage len }
+        ensures step { IsStep self.old.line self.old.depth (texts_of table.now.macros arguments.now) self.old.opens result self.new.opens }
+        ensures sound { AreSound (texts_of table.now.macros arguments.now) self.new.opens }
+        ensures kept { (self.new.line ≡ self.old.line) × (self.new.depth ≡ self.old.depth) }
+        ensures digits { IsFalling self.old.opens result self.new.opens }
+        ensures refused { StaysRefused self.old result self.new }
+        ensures placed { IsPlacedStep (texts_of table.now.macros arguments.now) result }
+        ensures lends { KeepsOpen result self.new.opens }
+        ensures open { 0 < length self.new.opens }
+        ensures outer { StaysOutermost self.old.opens self.new.opens }
+        ensures unlent { IsUnlent result }
+        ensures fault { IsTextFault result }
+        ensures word { NamesWord (texts_of table.now.macros arguments.now) result }
+    {
+        let _macros = table.len();
+        let id = match self.used_macro(table, arguments, text, look, len) {
+            Ok(id) => id,
+            Err(kind) => {
+                let word = word_of(look, len);
+                return CursorStep::Refused(CursorFault { kind, word });
+            }
+        };
+        if table.arity(id).is_some() {
+            return self.call(table, arguments, text, look, len, id);
+        }
+        if self.is_full() {
+            return wordless(FaultKind::DepthPassed);
+        }
+        self.enter(table, id, look.at + len);
+        CursorStep::Silent
+    }
+
+    // The macro of the usage at the front of the innermost text, or why it is refused.
+    fn used_macro(
+        &mut self,
+        table: &Table,
+        arguments: &[u8],
+        text: &[u8],
+        look: &Look,
+        len: usize,
+    ) -> Result<MacroId, FaultKind>
+        requires some { 0 < length self.old.opens }
+        requires sound { AreSound (texts_of table.now.macros arguments.now) self.old.opens }
+        requires look { IsLook (texts_of table.now.macros arguments.now) self.old.opens look.now }
+        requires text { text.now ≡ source_text (texts_of table.now.macros arguments.now) look.now.source }
+        requires short { look.now.end < 2 ^ 64 }
+        requires front { look.now.front ≡ Front.Usage len }
+        ensures same { self.new ≡ self.old }
+        ensures fault { IfErr result (λ kind. is_text_fault kind ≡ true) }
+        ensures used { MatchResult result (λ id. IsUsed (texts_of table.now.macros arguments.now) self.old.opens (front_name (texts_of table.now.macros arguments.now) self.old.opens len) id) (λ kind. IsRefused (texts_of table.now.macros arguments.now) self.old.opens (front_name (texts_of table.now.macros arguments.now) self.old.opens len) kind) }
+    {
+        let name = &text[look.at + 1..look.at + len];
+        let Some(id) = self.guesses.find(table, name) else {
+            return Err(unknown_kind(name));
+        };
+        if self.is_inside(id) {
+            return Err(FaultKind::RecursiveMacro);
+        }
+        Ok(id)
+    }
+
+    // Whether the innermost text is in the text of a macro.
+    fn is_inside(&self, id: MacroId) -> bool
+        requires some { 0 < length self.now.opens }
+        requires homed { AreFurtherOut self.now.opens }
+        ensures { result ≡ list_any (λ own. id == own) (writer_ids self.now.opens (front_scope self.now.opens)) }
+    {
+        let scope = self.scope();
+        let slots = self.slots.as_slice();
+        is_written_in(&slots[self.first..], scope, id)
+    }
+
+    // Opens the body of a macro without a list in front of the innermost text, which goes on at a place.
+    fn enter(&mut self, table: &Table, id: MacroId, at: usize)
+        requires some { 0 < length self.old.opens }
+        requires room { length self.old.opens < self.old.depth }
+        requires id { id < length table.now.macros }
+        ensures { self.new ≡ record self.old { opens = open_body (texts_of table.now.macros []) id [] (front_scope self.old.opens) ∷ moved_to at self.old.opens } }
+    {
+        let home = self.scope();
+        self.move_to(at);
+        self.push_body(id, table.body(id).len(), home);
+    }
+
+    // The scope of the innermost text.
+    pub(super) fn scope(&self) -> usize
+        requires { 0 < length self.now.opens }
+        ensures { result ≡ front_scope self.now.opens }
+    {
+        let slots = self.slots.as_slice();
+        front_scope(&slots[self.first..])
+    }
+}
+
+// The fault of a usage whose name no macro has.
+fn unknown_kind(name: &[u8]) -> FaultKind
+    ensures { result ≡ unknown_kind (is_reserved name.now) }
+{
+    if reserved(name).is_some() {
+        FaultKind::DirectiveInText
+    } else {
+        FaultKind::UndefinedMacro
+    }
+}
+
+// Where the name of a usage stands: behind its backquote.
+pub(super) fn word_of(look: &Look, len: usize) -> TextPlace
+    requires short { look.now.at + len < 2 ^ 64 }
+    requires some { 0 < len }
+    ensures { result ≡ record { source = look.now.source; from = look.now.at + 1; end = look.now.at + len } }
+{
+    TextPlace {
+        source: look.source,
+        from: look.at + 1,
+        end: look.at + len,
+    }
+}

@@ -1,0 +1,192 @@
+// What stands at the front of an open text.
+ghost use Rattle.std.specs.Prelude.{[], length, slice_range, List, ℕ, ◌+◌, ◌<◌, ◌≡◌, ◌≤◌, ◌^◌};
+ghost use Rattle.rdlpp_scan.specs.Tokens.{tokens_from};
+ghost use Rattle.rdlpp_table.specs.Stops.{stop_of};
+ghost use Rattle.rdlpp_table.specs.Table.{Formal};
+ghost use Rattle.rdlpp_texts.specs.Fronts.{is_back, run_len, IsAhead, IsFront, IsLookAhead};
+ghost use Rattle.rdlpp_texts.specs.Opened.{opens_of};
+ghost use Rattle.rdlpp_texts.specs.Places.{source_formals, source_text, texts_of, IsSource};
+ghost use Rattle.rdlpp_texts.specs.Steps.{AreSound};
+
+use crate::Range;
+use crate::place::TextSource;
+use crate::scopes::{front_source, text_of};
+use crate::slot::Slot;
+use memchr::memchr;
+use rdlpp_scan::{Kind, Mode, first_token};
+use rdlpp_table::{Stop, Table};
+
+// What stands at the front of an open text.
+#[derive(Clone, Copy)]
+pub(crate) enum Front {
+    // Nothing.
+    Ended,
+    // The name of a formal.
+    Formal { len: usize, place: usize },
+    // A backquote and a name, with so many bytes together.
+    Usage(usize),
+    // A backquote without a name.
+    Bare,
+}
+
+// Where what is copied at the front of an open text ends, and what stands there.
+#[derive(Clone, Copy)]
+pub(crate) struct Ahead {
+    pub(crate) at: usize,
+    pub(crate) front: Front,
+}
+
+// A look at the innermost open text: where it lies, where it goes on and ends, up to where it is copied, and what stands there.
+#[derive(Clone, Copy)]
+pub(crate) struct Look {
+    pub(crate) source: TextSource,
+    pub(crate) from: usize,
+    pub(crate) end: usize,
+    pub(crate) at: usize,
+    pub(crate) front: Front,
+}
+
+// A look at the innermost open text, with the bytes of the text in which that lies.
+#[derive(Clone, Copy, Drop)]
+pub(crate) struct Sight<'a> {
+    pub(crate) look: Look,
+    pub(crate) text: &'a [u8],
+}
+
+// A look at open texts, which lie in slots, the innermost first.
+pub(crate) fn look_at<'a>(
+    slots: &[Slot],
+    bindings: &[Range],
+    table: &'a Table,
+    arguments: &'a [u8],
+) -> Sight<'a>
+    requires some { 0 < length slots.now }
+    requires sound { AreSound (texts_of table.now.macros arguments.now) (opens_of slots.now bindings.now) }
+    ensures look { IsLookAhead (texts_of table.now.macros arguments.now) (opens_of slots.now bindings.now) result.look }
+    ensures short { result.look.end < 2 ^ 64 }
+    ensures text { result.text.now ≡ source_text (texts_of table.now.macros arguments.now) result.look.source }
+{
+    let _bound = bindings.len();
+    let slot = &slots[0];
+    let (from, end) = (slot.from, slot.end);
+    let source = front_source(slots);
+    let text = text_of(table, arguments, source);
+    let ahead = front_of(table, arguments, text, &source, from, end);
+    Sight {
+        look: Look {
+            source,
+            from,
+            end,
+            at: ahead.at,
+            front: ahead.front,
+        },
+        text,
+    }
+}
+
+// What stands ahead in a range of a text, whose bytes are given.
+#[inline(always)]
+pub(crate) fn front_of(
+    table: &Table,
+    arguments: &[u8],
+    text: &[u8],
+    source: &TextSource,
+    from: usize,
+    end: usize,
+) -> Ahead
+    requires source { IsSource (texts_of table.now.macros arguments.now) source.now }
+    requires text { text.now ≡ source_text (texts_of table.now.macros arguments.now) source.now }
+    requires inside { end ≤ length (source_text (texts_of table.now.macros arguments.now) source.now) }
+    ensures { IsAhead (source_formals (texts_of table.now.macros arguments.now) source.now) (slice_range (source_text (texts_of table.now.macros arguments.now) source.now) from end) from result }
+{
+    if end <= from {
+        return Ahead {
+            at: from,
+            front: Front::Ended,
+        };
+    }
+    if let TextSource::Body(id) = *source {
+        return stop_front(table.stop(id, from, end), end);
+    }
+    plain_front(&text[from..end], from)
+}
+
+// What stands ahead in a text that ends at a place, by its first stop.
+fn stop_front(stop: Stop, end: usize) -> Ahead
+    ensures { (formals : List Formal) (from : ℕ) (text : List ℕ) → from + length text ≡ end → stop ≡ stop_of formals from text → IsAhead formals text from result }
+{
+    match stop {
+        Stop::None => Ahead {
+            at: end,
+            front: Front::Ended,
+        },
+        Stop::Formal { at, len, place } => Ahead {
+            at,
+            front: Front::Formal { len, place },
+        },
+        Stop::Usage { at, len } => Ahead {
+            at,
+            front: Front::Usage(len),
+        },
+        Stop::Bare { at } => Ahead {
+            at,
+            front: Front::Bare,
+        },
+    }
+}
+
+// What stands ahead in a text without formals that begins at a place.
+fn plain_front(text: &[u8], from: usize) -> Ahead
+    requires { from + length text.now < 2 ^ 64 }
+    ensures { IsAhead [] text.now from result }
+{
+    let len = run_len(text);
+    Ahead {
+        at: from + len,
+        front: plain_stop(&text[len..]),
+    }
+}
+
+// What stands at the front of a text without formals that begins with no run.
+fn plain_stop(text: &[u8]) -> Front
+    requires { run_len [] (tokens_from Mode.Plain 0 text.now) text.now ≡ 0 }
+    ensures { IsFront [] text.now result }
+{
+    if text.is_empty() {
+        return Front::Ended;
+    }
+    let token = first_token(Mode::Plain, text);
+    match token.kind {
+        Kind::Back => Front::Usage(token.len),
+        _ => Front::Bare,
+    }
+}
+
+// How many bytes of a text without formals are copied up to its first usage or lone backquote.
+fn run_len(text: &[u8]) -> usize
+    ensures value { result ≡ run_len [] (tokens_from Mode.Plain 0 text.now) text.now }
+    ensures inside { result ≤ length text.now }
+{
+    if memchr(b'`', text).is_none() {
+        return text.len();
+    }
+    let mut mode = Mode::Plain;
+    let mut at = 0;
+    while at < text.len() {
+        let token = first_token(mode, &text[at..]);
+        if is_back(token.kind) {
+            return at;
+        }
+        mode = token.next_mode;
+        at += token.len;
+    }
+    at
+}
+
+// Whether a token of a kind is a usage or a lone backquote.
+#[tactic(auto, unfolding(crate::specs::Fronts::is_back))]
+fn is_back(kind: Kind) -> bool
+    ensures { result ≡ is_back kind }
+{
+    matches!(kind, Kind::Back | Kind::BareBackquote)
+}

@@ -1,0 +1,57 @@
+// Where the macros of names were found last.
+ghost use Rattle.std.specs.Prelude.{length, slice_index, IfSome, ◌<◌, ◌≡◌};
+ghost use Rattle.std.specs.Option.{option_map};
+ghost use Rattle.rdlpp_table.specs.Table.{macro_named};
+ghost use Rattle.rdlpp_table.specs.View.{macro_at, place_named, IsSound};
+ghost use Rattle.rdlpp_texts.specs.Guesses.{key_of};
+
+use rdlpp_table::{MacroId, Table};
+
+// How many places are kept.
+const GUESSES: usize = 64;
+
+// The place of the macro that was found last among those whose names have one key: a guess, since a later name of that key may
+// be another one, and a place may have another macro by then.
+#[derive(Clone, Copy)]
+pub(crate) struct Guesses {
+    pub(crate) places: [usize; GUESSES],
+}
+
+impl Guesses {
+    // The first place for each name.
+    pub(crate) fn new() -> Guesses {
+        Guesses {
+            places: [0; GUESSES],
+        }
+    }
+
+    // The macro of a name: the one at the place that is kept for it, or another one, whose place is kept from then on.
+    pub(crate) fn find(&mut self, table: &Table, name: &[u8]) -> Option<MacroId>
+        ensures value { result ≡ place_named table.now.macros name.now }
+        ensures inside { IfSome result (λ id. id < length table.now.macros) }
+        ensures named { macro_named table.now.macros name.now ≡ option_map (macro_at table.now.macros) result }
+        ensures sound { IsSound table.now }
+        ensures kept { IfSome result (λ id. slice_index self.new.places (key_of name.now) ≡ id) }
+    {
+        let key = key_of(name);
+        let guess = self.places[key];
+        let id = table.find_near(guess, name)?;
+        if id.index() != guess {
+            self.places[key] = id.index();
+        }
+        Some(id)
+    }
+}
+
+// The key of a name: its last byte and its length tell most names apart that are used near each other.
+#[tactic(auto, unfolding(crate::specs::Guesses::key_of))]
+fn key_of(name: &[u8]) -> usize
+    ensures value { result ≡ key_of name.now }
+    ensures inside { result < 64 }
+{
+    let len = name.len();
+    if len == 0 {
+        return 0;
+    }
+    (name[len - 1] as usize + len) % GUESSES
+}

@@ -1,0 +1,25 @@
+//! Macro text: the calls in a text, with their actuals as ranges of bytes, and the stack of open texts of a usage: bodies,
+//! actuals and default texts, as ranges of bytes too. Nothing of a text is copied.
+#![tactic(auto)]
+
+mod bindings;
+mod called;
+mod cursors;
+mod front;
+mod guesses;
+mod kept;
+mod parts;
+mod place;
+mod scopes;
+mod slot;
+mod step;
+mod tokens;
+
+pub use bindings::{Range, bind_call, bind_parts};
+pub use cursors::Cursors;
+pub use kept::keeps_each;
+pub use parts::{Arguments, CallFault, Part, arguments_of, call_end, call_start, next_part};
+pub use place::{TextPlace, TextSource};
+pub use scopes::text_at;
+pub use step::{CursorFault, CursorStep};
+pub use tokens::{CallRole, ends_call, level_behind, role_of};

@@ -1,0 +1,237 @@
+// The scopes of open texts, which lie in slots, the innermost first.
+ghost use Rattle.std.specs.Prelude.{[], length, nat_le, slice_index_or, if◌then◌else◌, List, ◌+◌, ◌==◌, ◌<◌, ◌≡◌, ◌≤◌, ◌∷◌};
+ghost use Rattle.std.specs.List.{list_any, AllByRecursion};
+ghost use Rattle.std.specs.Option.{option_map};
+ghost use Rattle.rdlpp_table.specs.View.{formal_at, formals_of, macro_at};
+ghost use Rattle.rdlpp_meaning.specs.Opens.{open_standing, part_at, Part, found_standing, scope_open};
+ghost use Rattle.rdlpp_texts.specs.Opened.{is_body_of, is_spent, open_of, opens_of, outer_of, slot_source, AreBounded, AreHomedSlots, IsWithin};
+ghost use Rattle.rdlpp_texts.specs.Places.{place_bytes, source_formals, source_text, texts_of, IsPlaced, IsSource};
+ghost use Rattle.rdlpp_texts.specs.Scopes.{found_source, front_scope, front_source, writer_ids, AreBound};
+ghost use Rattle.rdlpp_texts.specs.BoundCalls.{range_part};
+ghost use Rattle.rdlpp_texts.specs.declared.bindings.Range.{Range as Bound};
+
+use crate::Range;
+use crate::place::{TextPlace, TextSource};
+use crate::slot::{Bounds, NO_BOUNDS, Slot, SlotKind, is_excluded};
+use rdlpp_table::{MacroId, Table};
+
+// The bytes of a text.
+#[tactic(auto, unfolding(crate::specs::Places::source_text))]
+pub(crate) fn text_of<'a>(table: &'a Table, arguments: &'a [u8], source: TextSource) -> &'a [u8]
+    requires { IsSource (texts_of table.now.macros arguments.now) source }
+    ensures { result.now ≡ source_text (texts_of table.now.macros arguments.now) source }
+{
+    match source {
+        TextSource::Arguments => arguments,
+        TextSource::Body(id) => table.body(id),
+        TextSource::Default { id, place } => table.default_text(id, place),
+    }
+}
+
+/// The bytes at a place of a text, as a step lends them or tells the word of a fault. `arguments` is what is kept of the call in
+/// the source.
+#[tactic(auto, unfolding(crate::specs::Places::place_bytes))]
+pub fn text_at<'a>(table: &'a Table, arguments: &'a [u8], place: TextPlace) -> &'a [u8]
+    requires { IsPlaced (texts_of table.now.macros arguments.now) place }
+    ensures { result.now ≡ place_bytes (texts_of table.now.macros arguments.now) place }
+{
+    let text = text_of(table, arguments, place.source);
+    &text[place.from..place.end]
+}
+
+// The scope of what is written in the innermost open text: an actual is no scope of its own.
+pub(crate) fn front_scope(slots: &[Slot]) -> usize
+    requires { 0 < length slots.now }
+    ensures { (bindings : List Bound) → result ≡ front_scope (opens_of slots.now bindings) }
+{
+    let slot = &slots[0];
+    match slot.kind {
+        SlotKind::Actual => slot.home,
+        _ => slots.len(),
+    }
+}
+
+// Whether nothing is left of the innermost open text.
+pub(crate) fn is_spent(slots: &[Slot]) -> bool
+    requires { 0 < length slots.now }
+    ensures { (bindings : List Bound) → result ≡ is_spent (opens_of slots.now bindings) }
+{
+    let slot = &slots[0];
+    slot.end <= slot.from
+}
+
+// Where the text of a slot lies, if it is a body or a default.
+fn source_of(slot: &Slot) -> TextSource
+    ensures { result ≡ slot_source slot.now.kind }
+{
+    match slot.kind {
+        SlotKind::Body { id, .. } => TextSource::Body(id),
+        SlotKind::Actual => TextSource::Arguments,
+        SlotKind::Default { id, place } => TextSource::Default { id, place },
+    }
+}
+
+// Where the text of a scope lies.
+fn source_at(slots: &[Slot], scope: usize) -> TextSource
+    ensures { (bindings : List Bound) → result ≡ found_source (scope_open (opens_of slots.now bindings) scope) }
+{
+    if scope == 0 || slots.len() < scope {
+        return TextSource::Arguments;
+    }
+    source_of(&slots[slots.len() - scope])
+}
+
+// Where the innermost open text lies.
+pub(crate) fn front_source(slots: &[Slot]) -> TextSource
+    requires { 0 < length slots.now }
+    ensures { (bindings : List Bound) → result ≡ front_source (opens_of slots.now bindings) }
+{
+    let slot = &slots[0];
+    match slot.kind {
+        SlotKind::Actual => source_at(&slots[1..], slot.home),
+        _ => source_of(slot),
+    }
+}
+
+// The range that the formal at a place has, among ranges of which those of its call begin at a place.
+fn range_at(bindings: &[Range], first: usize, place: usize) -> Range
+    requires { first + place < length bindings.now }
+    ensures { result ≡ slice_index_or bindings.now (first + place) result }
+{
+    bindings[first + place]
+}
+
+// How long the default text of a formal is, where the range that is its actual is empty.
+fn default_len(table: &Table, id: MacroId, place: usize, range: Range) -> usize
+    requires id { id < length table.now.macros }
+    requires place { place < length (formals_of (macro_at table.now.macros id)) }
+    ensures { result ≡ (if nat_le range.to range.from then length (formal_at (formals_of (macro_at table.now.macros id)) place).text else 0) }
+{
+    if range.to <= range.from {
+        table.default_text(id, place).len()
+    } else {
+        0
+    }
+}
+
+// The text that the formal at a place of a macro stands for in a scope, whose call is written in its home: a range, or its
+// default where the range is empty.
+fn standing_of(
+    table: &Table,
+    id: MacroId,
+    place: usize,
+    range: Range,
+    scope: usize,
+    home: usize,
+) -> Slot
+    requires id { id < length table.now.macros }
+    requires place { place < length (formals_of (macro_at table.now.macros id)) }
+    ensures { (own : List Bound) (parts : List Part) → part_at parts place ≡ range_part range → open_of result own ≡ open_standing (formals_of (macro_at table.now.macros id)) id scope home parts place }
+{
+    let end = default_len(table, id, place, range);
+    if end > 0 {
+        return Slot {
+            from: 0,
+            end,
+            home: scope,
+            kind: SlotKind::Default { id, place },
+            bounds: NO_BOUNDS,
+        };
+    }
+    Slot {
+        from: range.from,
+        end: range.to,
+        home,
+        kind: SlotKind::Actual,
+        bounds: NO_BOUNDS,
+    }
+}
+
+// The text that the formal at a place stands for in a scope: its actual, or its default where the actual is empty.
+pub(crate) fn standing(
+    slots: &[Slot],
+    bindings: &[Range],
+    table: &Table,
+    scope: usize,
+    place: usize,
+) -> Option<Slot>
+    requires bound { AreBound table.now.macros (opens_of slots.now bindings.now) }
+    requires place { place < length (source_formals (texts_of table.now.macros []) (found_source (scope_open (opens_of slots.now bindings.now) scope))) }
+    ensures { (own : List Bound) → option_map (λ slot. open_of slot own) result ≡ found_standing table.now.macros (scope_open (opens_of slots.now bindings.now) scope) scope place }
+{
+    if scope == 0 || slots.len() < scope {
+        return None;
+    }
+    let slot = &slots[slots.len() - scope];
+    match slot.kind {
+        SlotKind::Body { id, first } => {
+            let range = range_at(bindings, first, place);
+            Some(standing_of(table, id, place, range, scope, slot.home))
+        }
+        _ => None,
+    }
+}
+
+// The bounds of a scope.
+pub(crate) fn scope_bounds(slots: &[Slot], scope: usize) -> Bounds
+    requires { AreBounded slots.now }
+    ensures { (bindings : List Bound) → AllByRecursion (IsWithin result) (writer_ids (opens_of slots.now bindings) scope) }
+{
+    if scope == 0 || slots.len() < scope {
+        return NO_BOUNDS;
+    }
+    slots[slots.len() - scope].bounds
+}
+
+// The bounds of the body of a macro whose call is written in a scope.
+pub(crate) fn body_bounds(slots: &[Slot], scope: usize, id: MacroId) -> Bounds
+    requires { AreBounded slots.now }
+    ensures { (bindings : List Bound) → AllByRecursion (IsWithin result) (id ∷ writer_ids (opens_of slots.now bindings) scope) }
+{
+    let outer = scope_bounds(slots, scope);
+    Bounds {
+        least: outer.least.min(id.index()),
+        greatest: outer.greatest.max(id.index()),
+    }
+}
+
+// Whether a slot has the body of a macro.
+fn is_body_of(slot: &Slot, id: MacroId) -> bool
+    ensures { result ≡ is_body_of slot.now.kind id }
+{
+    match slot.kind {
+        SlotKind::Body { id: own, .. } => id == own,
+        _ => false,
+    }
+}
+
+// The scope in which the call of a slot's text is written; the source, behind which nothing is sought, for an actual.
+fn outer_of(slot: &Slot) -> usize
+    ensures { result ≡ outer_of slot.now }
+{
+    match slot.kind {
+        SlotKind::Actual => 0,
+        _ => slot.home,
+    }
+}
+
+// Whether a scope is in the text of a macro: its own, or that of a home further out.
+pub(crate) fn is_written_in(slots: &[Slot], scope: usize, id: MacroId) -> bool
+    requires homed { AreHomedSlots slots.now }
+    requires bounded { AreBounded slots.now }
+    requires inside { scope ≤ length slots.now }
+    ensures { (bindings : List Bound) → result ≡ list_any (λ own. id == own) (writer_ids (opens_of slots.now bindings) scope) }
+{
+    let mut at = scope;
+    while at > 0 {
+        let slot = &slots[slots.len() - at];
+        if is_body_of(slot, id) {
+            return true;
+        }
+        if is_excluded(slot.bounds, id) {
+            return false;
+        }
+        at = outer_of(slot);
+    }
+    false
+}

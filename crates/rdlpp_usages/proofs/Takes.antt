@@ -1,0 +1,475 @@
+-- What is done with the first token of held bytes is what reading the call comes to there.
+use Rattle.std.proofs.Common.{◌≡◌, ◌≢◌, ℕ, ◌-◌, ◌≤◌, ◌<◌, Bool, true, false, cond, ◌==◌, List, [], ◌∷◌, ◌++◌, length, take, drop, slice_index, refl, sym, ap, ◌∙◌, subst, inl, arith, zero, suc, ◌+◌, ◌||◌, get_or, inr, ⊎_elim, append_assoc}
+use Rattle.std.specs.Prelude.{nat_le}
+use Rattle.std.proofs.lemmas.Bool.{cond_both, cases_Bool, eqb-true, false≢true, or_cases, leb-true, leb-false}
+use Rattle.std.proofs.lemmas.List.{length-take-le, drop-drop}
+use Rattle.std.specs.List.{prefix_len}
+use Rattle.std.proofs.Math.Seq.{take-add}
+use Rattle.std.proofs.lemmas.List.Sums.{prefix_len-le-length, prefix_len_passes}
+use Rattle.rdlpp_scan.specs.declared.token.Kind.{Kind}
+use Rattle.rdlpp_scan.specs.declared.token.Kind.TheVariants.{Opener, Closer, Back, Perl, Name, Word, Blank, Comma}
+use Rattle.rdlpp_scan.specs.declared.token.Mode.{Mode}
+use Rattle.rdlpp_scan.specs.declared.token.Mode.TheVariants.{Plain, InStr, InBlock}
+use Rattle.rdlpp_scan.specs.declared.token.Token.{Token}
+use Rattle.rdlpp_scan.specs.SourceTokens.{SourceToken, line_ends, remaining_tokens}
+use Rattle.rdlpp_scan.specs.Reserved.{is_reserved}
+use Rattle.rdlpp_scan.specs.TokenKinds.{opens_mode, is_one_byte}
+use Rattle.rdlpp_scan.specs.Bytes.{begins_perl, is_blank, is_digit, is_letter, is_word}
+use Rattle.rdlpp_scan.specs.Tokens.{token_of, whole, string_token}
+use Rattle.rdlpp_scan.specs.Pieces.{is_open}
+use Rattle.rdlpp_scan.proofs.StopKinds.{string_token-kind, block_token-kind, closed_kind_plain, one_byte_len}
+use Rattle.rdlpp_scan.proofs.Seams.{Seam, Closed, BeforePerl, OpenString, OpenComment, token_of-seam}
+use Rattle.rdlpp_scan.proofs.TokenLens.{token_of-part}
+use Rattle.rdlpp_scan.proofs.TokenSteps.{is_kept_kind}
+use Rattle.rdlpp_meaning.specs.declared.fault.FaultKind.{FaultKind}
+use Rattle.rdlpp_meaning.specs.Actuals.{Role, Space, Remark, Start, Dropped, Halt, End, Stops, Text, kind_role, kept_size, level_behind}
+use Rattle.rdlpp_meaning.specs.CallReading.{Reading, ReadRefused, ReadClosed, onto_kept, read, read_by}
+use Rattle.rdlpp_meaning.specs.CallScan.{Stand, Before, Inside, Turn, Keeps, Passes, Closes, Refuses, turn, turn_before, turn_fitting, turn_inside, fault_at_end, stand_behind, stand_behind_lead, room_behind}
+use Rattle.rdlpp_meaning.specs.Expansion.{bytes_of}
+use Rattle.rdlpp_meaning.proofs.CallReadings.{onto_kept-nil, onto_kept-append}
+use Rattle.rdlpp_texts.proofs.FirstTokens.{first_byte, front_byte}
+use Rattle.rdlpp_usages.specs.Taking.{Answers, Around, IsAround, IsClose, IsStep, IsTaking, IsUse, kept_len, kept_of, level_in, stand_meant, tokens_at, tokens_behind, IsKeptAt, is_calm}
+use Rattle.rdlpp_usages.specs.declared.taking.Taking.{Taking}
+use Rattle.rdlpp_usages.specs.declared.taking.Taking.TheVariants.{Uses, Closes as ClosesCall, Refused, Perl as PerlFound}
+use Rattle.rdlpp_usages.specs.declared.taking.Use.{Use}
+use Rattle.rdlpp_usages.proofs.Halts.{IsFirst, own_token, token_first, directive_reads, name_first, perl_reads}
+use Rattle.rdlpp_scan.specs.Resumed.{opening}
+use Rattle.rdlpp_scan.proofs.SourceLaws.{line_ends-miss, line_ends-part}
+use Rattle.rdlpp_scan.proofs.LineLaws.{EndsLine-drop}
+use Rattle.rdlpp_texts.proofs.QuickTokens.{letter_token, digit_token, blank_token, comma_token}
+use Rattle.rdlpp_usages.specs.declared.taking.Stand.TheVariants.{Inside as InsideCall}
+use Rattle.rdlpp_usages.proofs.Turns.{keeps_step}
+
+-- What is done with the first token of held bytes is what reading the call comes to there.
+
+-- a token that is kept or passed
+read_used : (b : Bool) (t : SourceToken) (us : List SourceToken) (rest : Reading) → read_by (cond b Keeps Passes) t us rest ≡ onto_kept (cond b t.bytes []) rest
+unfolding read_by
+read_used true t us rest = refl
+read_used false t us rest = sym (onto_kept-nil rest)
+
+-- how many bytes are kept
+kept_size_of : (b : Bool) (bytes : List ℕ) (n : ℕ) → length bytes ≡ n → length (kept_of b bytes) ≡ kept_len b n
+kept_size_of true bytes n e = e
+kept_size_of false bytes n e = refl
+
+-- a token that is used
+uses_taken : (at : Stand) (m : Mode) (room : ℕ) (held : List ℕ) (t : Token) (r : Role) (u : Use) → 0 < t.len → t.len ≤ length held
+    → (stand_behind at r ≡ Before → turn at r (nat_le t.len room) ≡ cond u.is_kept Keeps Passes → t.next_mode ≢ InStr)
+    → ((a : Around) → IsAround held a → IsFirst at m room held t r a) → IsStep at r room t u → IsUse at m room held u
+uses_taken at m room held t r u some inside lead first step =
+    let b = u.is_kept in
+    let size : length (take t.len held) ≡ t.len = length-take-le t.len held inside in
+    let own : length (kept_of b (take u.len held)) ≡ kept_len b t.len =
+    ap (λ n. length (kept_of b (take n held))) step.len ∙ kept_size_of b (take t.len held) t.len size in
+    record {
+      some = omega (arith, step.len);
+      inside = omega (arith, step.len);
+      fits = omega (arith, own, step.fits);
+      level = (let e = ap level_in step.stand in omega (arith, own, step.level, e));
+      lead = λ before open_. lead (sym step.stand ∙ before) step.turns (sym step.mode ∙ open_);
+      reads = λ a around.
+          let f = first a around in
+          let us = tokens_behind a m held t.len t.next_mode in
+          let T = own_token t held a.line in
+          let G : ℕ → Mode → Stand → ℕ → Reading = λ n d st left. onto_kept (kept_of b (take n held)) (read st (is_open d) left (tokens_behind a m held n d)) in
+          f.reads
+          ∙ ap (λ (w : Turn). read_by w T us (read (stand_behind at r) (is_open t.next_mode) (room_behind at room r t.len) us)) step.turns
+          ∙ read_used b T us (read (stand_behind at r) (is_open t.next_mode) (room_behind at room r t.len) us)
+          ∙ ap (G t.len t.next_mode (stand_behind at r)) (step.left ∙ ap (λ n. room - n) (sym own))
+          ∙ ap (λ st. G t.len t.next_mode st (room - length (kept_of b (take u.len held)))) (sym step.stand)
+          ∙ ap (λ d. G t.len d (stand_meant u.stand) (room - length (kept_of b (take u.len held)))) (sym step.mode)
+          ∙ ap (λ n. G n u.next_mode (stand_meant u.stand) (room - length (kept_of b (take u.len held)))) (sym step.len);
+      bytes = λ a around.
+          (first a around).bytes
+          ∙ ap (λ d. take t.len held ++ bytes_of (tokens_behind a m held t.len d)) (sym step.mode)
+          ∙ ap (λ n. take n held ++ bytes_of (tokens_behind a m held n u.next_mode)) (sym step.len);
+    }
+
+-- the call closes at a `)` alone
+closes_end : (at : Stand) (r : Role) (fits : Bool) → turn at r fits ≡ Closes → r ≡ End
+unfolding turn turn_before turn_inside turn_fitting
+closes_end Before Start fits e = absurd (cc)
+closes_end Before (Stops f line) fits e = absurd (cc)
+closes_end Before Space fits e = absurd (cc)
+closes_end Before Dropped fits e = absurd (cc)
+closes_end Before Remark fits e = absurd (cc)
+closes_end Before r fits e = absurd (cc)
+closes_end (Inside k) End fits e = refl
+closes_end (Inside k) Dropped fits e = absurd (cc)
+closes_end (Inside k) Halt fits e = absurd (cc)
+closes_end (Inside k) r true e = absurd (cc)
+closes_end (Inside k) r false e = absurd (cc)
+
+-- of a closer
+end_kind : (k : Kind) (bytes : List ℕ) → kind_role k bytes ≡ End → k ≡ Closer
+unfolding kind_role
+end_kind Closer bytes e = refl
+end_kind Opener bytes e =
+    cond_both (slice_index bytes 0 == 40) _ _ (λ (r : Role). r ≡ End → Opener ≡ Closer) (λ _ h. absurd (cc)) (λ _ h. absurd (cc)) e
+end_kind k bytes e = absurd (cc)
+
+-- a token that closes the call
+closes_taken : (at : Stand) (m : Mode) (room : ℕ) (held : List ℕ) (t : Token) (r : Role) → t.len ≡ 1 → t.next_mode ≡ Plain
+    → ((a : Around) → IsAround held a → IsFirst at m room held t r a) → turn at r (nat_le t.len room) ≡ Closes → IsClose at m room held
+unfolding read_by
+closes_taken at m room held t r one plain first closes =
+    record {
+      reads = λ a around.
+          let us = tokens_behind a m held t.len t.next_mode in
+          (first a around).reads
+          ∙ ap (λ (w : Turn). read_by w (own_token t held a.line) us (read (stand_behind at r) (is_open t.next_mode) (room_behind at room r t.len) us)) closes
+          ∙ ap (λ d. ReadClosed [] (tokens_behind a m held t.len d)) plain
+          ∙ ap (λ n. ReadClosed [] (tokens_behind a m held n Plain)) one;
+      bytes = λ a around.
+          (first a around).bytes
+          ∙ ap (λ d. take t.len held ++ bytes_of (tokens_behind a m held t.len d)) plain
+          ∙ ap (λ n. take n held ++ bytes_of (tokens_behind a m held n Plain)) one;
+    }
+
+-- a token at which the call is refused
+refused_taken : (at : Stand) (m : Mode) (room : ℕ) (held : List ℕ) (t : Token) (r : Role) (f : FaultKind)
+    → ((a : Around) → IsAround held a → IsFirst at m room held t r a) → turn at r (nat_le t.len room) ≡ Refuses f
+    → (a : Around) → IsAround held a → read at (is_open m) room (tokens_at a m held) ≡ ReadRefused f
+unfolding read_by
+refused_taken at m room held t r f first refuses a around =
+    let us = tokens_behind a m held t.len t.next_mode in
+    (first a around).reads
+    ∙ ap (λ (w : Turn). read_by w (own_token t held a.line) us (read (stand_behind at r) (is_open t.next_mode) (room_behind at room r t.len) us)) refuses
+
+-- each answer, by the role of the first token
+taken_by : (at : Stand) (m : Mode) (room : ℕ) (held : List ℕ) (t : Token) (r : Role) (x : Taking) → 0 < t.len → t.len ≤ length held
+    → (stand_behind at r ≡ Before → (b : Bool) → turn at r (nat_le t.len room) ≡ cond b Keeps Passes → t.next_mode ≢ InStr)
+    → (r ≡ End → (t.len ≡ 1) × (t.next_mode ≡ Plain))
+    → ((a : Around) → IsAround held a → IsFirst at m room held t r a) → Answers at r room t x → IsTaking at m room held x
+taken_by at m room held t r (Uses u) some inside lead end first answer = uses_taken at m room held t r u some inside (λ h e. lead h u.is_kept e) first answer
+taken_by at m room held t r ClosesCall some inside lead end first answer =
+    let e = end (closes_end at r (nat_le t.len room) answer) in closes_taken at m room held t r e.0 e.1 first answer
+taken_by at m room held t r (Refused f) some inside lead end first answer = refused_taken at m room held t r f first answer
+taken_by at m room held t r PerlFound some inside lead end first answer = absurd answer
+
+-- text before the `(` is refused
+text_refused : (at : Stand) (fits b : Bool) → stand_behind at Text ≡ Before → turn at Text fits ≡ cond b Keeps Passes → at ≢ at
+unfolding turn turn_before stand_behind stand_behind_lead
+text_refused Before fits true is e = absurd (cc)
+text_refused Before fits false is e = absurd (cc)
+text_refused (Inside k) fits b is e = absurd (cc)
+
+-- behind what is used before the `(` no string is open
+no_string : (at : Stand) (m : Mode) (held : List ℕ) (fits b : Bool) (own : List ℕ) → Seam held [] (token_of m held) (token_of m (held ++ []))
+    → stand_behind at (kind_role (token_of m held).kind own) ≡ Before → turn at (kind_role (token_of m held).kind own) fits ≡ cond b Keeps Passes → (token_of m held).next_mode ≢ InStr
+unfolding kind_role
+no_string at m held fits b own (Closed e closed) before turns open_ = (let no : Plain ≡ InStr = sym closed ∙ open_ in cc)
+no_string at m held fits b own (OpenComment is e) before turns open_ = (let mode = ap (λ (v : Token). v.next_mode) is in let no : InBlock ≡ InStr = sym mode ∙ open_ in cc)
+no_string at m held fits b own (BeforePerl e is lt perl) before turns open_ =
+    let kind = ap (λ (v : Token). v.kind) is in
+    let role = ap (λ k. kind_role k own) kind in
+    text_refused at fits b (ap (stand_behind at) (sym role) ∙ before) (ap (λ r. turn at r fits) (sym role) ∙ turns) refl
+no_string at m held fits b own (OpenString is e) before turns open_ =
+    let kind = ap (λ (v : Token). v.kind) is in
+    let role = ap (λ k. kind_role k own) kind in
+    text_refused at fits b (ap (stand_behind at) (sym role) ∙ before) (ap (λ r. turn at r fits) (sym role) ∙ turns) refl
+
+-- the first token of held bytes, by its role: neither `<%` nor a backquoted name
+pub role_taken : (at : Stand) (m : Mode) (room : ℕ) (held : List ℕ) (t : Token) (r : Role) (x : Taking) → 0 < length held → t ≡ token_of m held
+    → is_kept_kind t.kind ≡ true → (at ≡ Before → m ≢ InStr) → r ≡ kind_role t.kind (slice_index held 0 ∷ []) → Answers at r room t x → IsTaking at m room held x
+unfolding opens_mode is_one_byte
+role_taken at m room held t r x some is kept lead role answer =
+    let v = token_of m held in
+    let own = take v.len held in
+    let part = token_of-part m held some in
+    let seam = token_of-seam m held [] some (inl refl) in
+    let kind : v.kind ≡ t.kind = ap (λ (w : Token). w.kind) (sym is) in
+    let text : kind_role v.kind own ≡ r =
+    first_byte v.kind own (slice_index held 0 ∷ []) (front_byte v.len held part.not_empty) ∙ ap (λ k. kind_role k (slice_index held 0 ∷ [])) kind ∙ sym role in
+    let keeps : is_kept_kind v.kind ≡ true = ap is_kept_kind kind ∙ kept in
+    let ending : kind_role v.kind own ≡ End → (v.len ≡ 1) × (v.next_mode ≡ Plain) = λ e.
+    (let closer = end_kind v.kind own e in (one_byte_len m held (ap is_one_byte closer), closed_kind_plain m held (ap opens_mode closer))) in
+    taken_by at m room held v (kind_role v.kind own) x part.not_empty part.inside
+    (λ before b turns. no_string at m held (nat_le v.len room) b own seam before turns)
+    ending
+    (λ a around. token_first at m room held a around some keeps lead seam)
+    (subst (λ (w : Token). Answers at (kind_role v.kind own) room w x) is (subst (λ (q : Role). Answers at q room t x) (sym text) answer))
+
+-- a backquoted name that isn't reserved
+pub name_taken : (at : Stand) (room : ℕ) (held : List ℕ) (t : Token) (x : Taking) → 0 < length held → t ≡ token_of Plain held → t.kind ≡ Back
+    → is_reserved (take (t.len - 1) (drop 1 held)) ≡ false → Answers at Text room t x → IsTaking at Plain room held x
+unfolding opens_mode
+name_taken at room held t x some is back free answer =
+    let v = token_of Plain held in
+    let part = token_of-part Plain held some in
+    let kind : v.kind ≡ Back = ap (λ (w : Token). w.kind) (sym is) ∙ back in
+    let name : is_reserved (take (v.len - 1) (drop 1 held)) ≡ false = ap (λ (w : Token). is_reserved (take (w.len - 1) (drop 1 held))) (sym is) ∙ free in
+    let closed : v.next_mode ≡ Plain = closed_kind_plain Plain held (ap opens_mode kind) in
+    taken_by at Plain room held v Text x part.not_empty part.inside
+    (λ before b turns open_. (let no : Plain ≡ InStr = sym closed ∙ open_ in cc))
+    (λ e. absurd (cc))
+    (λ a around. name_first at room held a around some kind closed name)
+    (subst (λ (w : Token). Answers at Text room w x) is answer)
+
+-- a directive
+pub directive_taken : (at : Stand) (room : ℕ) (held : List ℕ) (t : Token) → 0 < length held → t ≡ token_of Plain held → t.kind ≡ Back
+    → is_reserved (take (t.len - 1) (drop 1 held)) ≡ true → IsTaking at Plain room held (Refused (fault_at_end at))
+unfolding is_open
+directive_taken at room held t some is back reserved a around =
+    directive_reads at room held a around some (ap (λ (w : Token). w.kind) (sym is) ∙ back)
+    (ap (λ (w : Token). is_reserved (take (w.len - 1) (drop 1 held))) (sym is) ∙ reserved)
+
+-- embedded Perl
+pub perl_taken : (at : Stand) (m : Mode) (room : ℕ) (held : List ℕ) → 0 < length held → (token_of m held).kind ≡ Perl → IsTaking at m room held PerlFound
+perl_taken at m room held some is a around =
+    perl_reads at m room held a around some is
+
+-- a backquoted name stands in plain text
+pub back_mode : (m : Mode) (held : List ℕ) → (token_of m held).kind ≡ Back → m ≡ Plain
+unfolding token_of whole
+back_mode Plain held is = refl
+back_mode InStr held is =
+    let P : Bool → Type 0 = λ b. (cond b (whole Perl 2) (string_token 0 held)).kind ≡ Back → InStr ≡ Plain in
+    let at_true : P true = λ e. absurd (cc) in
+    let at_false : P false = λ e. (let k = string_token-kind 0 held in absurd (cc)) in
+    elim (begins_perl held) as P [ true ↦ at_true | false ↦ at_false ] is
+back_mode InBlock held is = let k = block_token-kind 0 held in absurd (cc)
+
+-- a kind that is neither of the two stands in the list as it is
+pub kept_kind : (k : Kind) → (k ≡ Perl → ⊥) → (k ≡ Back → ⊥) → is_kept_kind k ≡ true
+unfolding is_kept_kind
+kept_kind Perl a b = absurd (a refl)
+kept_kind Back a b = absurd (b refl)
+kept_kind k a b = refl
+
+-- Words, blanks and commas behind the `(` of a call are used at once.
+
+-- where a test passes, another one passes as long at least
+longer : (p q : ℕ → Bool) → ((b : ℕ) → p b ≡ true → q b ≡ true) → (bs : List ℕ) → prefix_len p bs ≤ prefix_len q bs
+longer p q h [] = omega arith
+longer p q h (b ∷ bs) = elim (cases_Bool (p b)) [
+  | inl e ↦
+      let first : prefix_len p (b ∷ bs) ≡ 1 + prefix_len p bs = ap (λ (t : Bool). cond t (1 + prefix_len p bs) 0) e in
+      let second : prefix_len q (b ∷ bs) ≡ 1 + prefix_len q bs = ap (λ (t : Bool). cond t (1 + prefix_len q bs) 0) (h b e) in
+      let rest = longer p q h bs in
+      omega (arith, first, second, rest)
+  | inr e ↦
+      let first : prefix_len p (b ∷ bs) ≡ 0 = ap (λ (t : Bool). cond t (1 + prefix_len p bs) 0) e in
+      omega (arith, first)
+]
+
+-- it passes behind its first bytes for as long as it did
+behind : (p : ℕ → Bool) (m : ℕ) (bs : List ℕ) → m ≤ prefix_len p bs → prefix_len p (drop m bs) + m ≡ prefix_len p bs
+behind p zero bs inside = omega arith
+behind p (suc m) [] inside = absurd (omega (arith, inside))
+behind p (suc m) (b ∷ bs) inside = elim (cases_Bool (p b)) [
+  | inl e ↦
+      let first : prefix_len p (b ∷ bs) ≡ 1 + prefix_len p bs = ap (λ (t : Bool). cond t (1 + prefix_len p bs) 0) e in
+      let rest = behind p m bs (omega (arith, first, inside)) in
+      omega (arith, first, rest)
+  | inr e ↦
+      let first : prefix_len p (b ∷ bs) ≡ 0 = ap (λ (t : Bool). cond t (1 + prefix_len p bs) 0) e in
+      absurd (omega (arith, first, inside))
+]
+
+-- no LF is among such bytes
+no_line_end : (b : ℕ) → is_calm b ≡ true → b ≡ 10 → ⊥
+unfolding is_calm is_word is_letter is_digit is_blank
+no_line_end b calm e = false≢true (subst (λ (n : ℕ). is_calm n ≡ true) e calm)
+
+no_line_ends : (m : ℕ) (bs : List ℕ) → m ≤ prefix_len is_calm bs → line_ends (take m bs) ≡ 0
+unfolding line_ends
+no_line_ends zero bs inside = refl
+no_line_ends (suc m) bs inside =
+    let all = prefix_len-le-length is_calm bs in
+    let one : suc m ≡ m + 1 = omega arith in
+    ap (λ (n : ℕ). line_ends (take n bs)) one
+    ∙ line_ends-miss bs m (omega (arith, inside, all)) (no_line_end (get_or bs m 0) (prefix_len_passes is_calm bs m 0 (omega (arith, inside))))
+    ∙ no_line_ends m bs (omega (arith, inside))
+
+-- a kind of token that is kept behind the `(` and neither opens nor closes anything there
+record IsCalmKind (kind : Kind) : Type 0 where
+  kept : is_kept_kind kind ≡ true
+  turns : (own : List ℕ) (k : ℕ) (fits : Bool) → turn_inside (kind_role kind own) k fits ≡ turn_fitting fits Keeps
+  size : (own : List ℕ) (n : ℕ) → kept_size (kind_role kind own) n ≡ n
+  level : (own : List ℕ) (k : ℕ) → level_behind (kind_role kind own) k ≡ k
+
+calm_name : IsCalmKind Name
+unfolding is_kept_kind kind_role turn_inside kept_size level_behind
+calm_name = record { kept = refl; turns = λ own k fits. refl; size = λ own n. refl; level = λ own k. refl }
+
+calm_word : IsCalmKind Word
+unfolding is_kept_kind kind_role turn_inside kept_size level_behind
+calm_word = record { kept = refl; turns = λ own k fits. refl; size = λ own n. refl; level = λ own k. refl }
+
+calm_blank : IsCalmKind Blank
+unfolding is_kept_kind kind_role turn_inside kept_size level_behind
+calm_blank = record { kept = refl; turns = λ own k fits. refl; size = λ own n. refl; level = λ own k. refl }
+
+calm_comma : IsCalmKind Comma
+unfolding is_kept_kind kind_role turn_inside kept_size level_behind
+calm_comma = record { kept = refl; turns = λ own k fits. refl; size = λ own n. refl; level = λ own k. refl }
+
+-- the first token of such bytes is one of them, and plain text stands behind it
+record IsCalmToken (held : List ℕ) (t : Token) : Type 0 where
+  size : t.len ≤ prefix_len is_calm held
+  next : t.next_mode ≡ Plain
+  kind : IsCalmKind t.kind
+
+calm_whole : (held : List ℕ) (kind : Kind) (n : ℕ) (t : Token) → t ≡ whole kind n → IsCalmKind kind → n ≤ prefix_len is_calm held → IsCalmToken held t
+unfolding whole
+calm_whole held kind n t is calm size = subst (λ (v : Token). IsCalmToken held v) (sym is) (record { size = size; next = refl; kind = calm })
+
+or_left : (p q : Bool) → p ≡ true → (p || q) ≡ true
+or_left true q e = refl
+or_left false q e = absurd (false≢true e)
+
+or_right : (p q : Bool) → q ≡ true → (p || q) ≡ true
+or_right true q e = refl
+or_right false q e = e
+
+word_calm : (b : ℕ) → is_word b ≡ true → is_calm b ≡ true
+unfolding is_calm
+word_calm b e = or_left (is_word b || is_blank b) (b == 44) (or_left (is_word b) (is_blank b) e)
+
+blank_calm : (b : ℕ) → is_blank b ≡ true → is_calm b ≡ true
+unfolding is_calm
+blank_calm b e = or_left (is_word b || is_blank b) (b == 44) (or_right (is_word b) (is_blank b) e)
+
+-- a byte of which it isn't known whether it is a letter begins such a token
+calm_digit : (b : ℕ) (bs : List ℕ) → is_letter b ≡ false → is_word b ≡ true → IsCalmToken (b ∷ bs) (token_of Plain (b ∷ bs))
+unfolding is_word
+calm_digit b bs dark e =
+    calm_whole (b ∷ bs) Word (prefix_len is_word (b ∷ bs)) (token_of Plain (b ∷ bs))
+    (digit_token b bs dark (⊎_elim (λ l. absurd (false≢true (sym dark ∙ l))) (λ d. d) (or_cases (is_letter b) (is_digit b) e)))
+    calm_word (longer is_word is_calm word_calm (b ∷ bs))
+
+calm_dark : (b : ℕ) (bs : List ℕ) → is_letter b ≡ false → is_calm b ≡ true → IsCalmToken (b ∷ bs) (token_of Plain (b ∷ bs))
+unfolding is_calm
+calm_dark b bs dark e =
+    ⊎_elim (λ h. ⊎_elim (λ w. calm_digit b bs dark w)
+    (λ l. calm_whole (b ∷ bs) Blank (prefix_len is_blank (b ∷ bs)) (token_of Plain (b ∷ bs)) (blank_token b bs dark l) calm_blank (longer is_blank is_calm blank_calm (b ∷ bs)))
+    (or_cases (is_word b) (is_blank b) h))
+    (λ c. subst (λ (n : ℕ). IsCalmToken (n ∷ bs) (token_of Plain (n ∷ bs))) (sym (eqb-true b 44 c)) (comma bs))
+    (or_cases (is_word b || is_blank b) (b == 44) e)
+  where
+    calm_44 : is_calm 44 ≡ true
+    calm_44 = or_right (is_word 44 || is_blank 44) (44 == 44) refl
+
+    comma : (bs : List ℕ) → IsCalmToken (44 ∷ bs) (token_of Plain (44 ∷ bs))
+    comma bs =
+        let first : prefix_len is_calm (44 ∷ bs) ≡ 1 + prefix_len is_calm bs = ap (λ (t : Bool). cond t (1 + prefix_len is_calm bs) 0) calm_44 in
+        calm_whole (44 ∷ bs) Comma 1 (token_of Plain (44 ∷ bs)) (comma_token bs) calm_comma (omega (arith, first))
+
+calm_first : (held : List ℕ) → 0 < prefix_len is_calm held → IsCalmToken held (token_of Plain held)
+calm_first [] some = absurd (omega (arith, some))
+calm_first (b ∷ bs) some = elim (cases_Bool (is_calm b)) [
+  | inl e ↦ elim (cases_Bool (is_letter b)) [
+    | inl l ↦ calm_whole (b ∷ bs) Name (prefix_len is_word (b ∷ bs)) (token_of Plain (b ∷ bs)) (letter_token b bs l) calm_name (longer is_word is_calm word_calm (b ∷ bs))
+    | inr d ↦ calm_dark b bs d e
+  ]
+  | inr e ↦
+      let none : prefix_len is_calm (b ∷ bs) ≡ 0 = ap (λ (t : Bool). cond t (1 + prefix_len is_calm bs) 0) e in
+      absurd (omega (arith, none, some))
+]
+
+-- so many bytes are kept at a level of further openers, which stays
+abbrev calm_use : ℕ → ℕ → Use
+calm_use k n = record { len = n; next_mode = Plain; stand = InsideCall k; is_kept = true }
+
+-- such a token is used so, where it fits
+first_used : (k room : ℕ) (held : List ℕ) → 0 < length held → IsCalmToken held (token_of Plain held) → (token_of Plain held).len ≤ room
+    → IsUse (Inside k) Plain room held (calm_use k (token_of Plain held).len)
+first_used k room held some calm fits =
+    let t = token_of Plain held in
+    let own = slice_index held 0 ∷ [] in
+    let r = kind_role t.kind own in
+    let kept : IsKeptAt r k = record { turns = λ f. calm.kind.turns own k f; size = λ n. calm.kind.size own n } in
+    subst (λ (m : Mode). IsUse (Inside k) Plain room held (record { len = t.len; next_mode = m; stand = InsideCall k; is_kept = true })) calm.next
+    (role_taken (Inside k) Plain room held t r (Uses (record { len = t.len; next_mode = t.next_mode; stand = InsideCall k; is_kept = true })) some refl calm.kind.kept
+    (λ before (no : Plain ≡ InStr). (cc)) refl
+    (keeps_step r k room t k kept fits (token_of-part Plain held some).not_empty (sym (calm.kind.level own k))))
+
+-- the tokens behind two parts of held bytes, the first of which has no line end
+behind_both : (a : Around) (held : List ℕ) (m n : ℕ) → line_ends (take m held) ≡ 0
+    → tokens_behind (record { most = a.most; opened = opening Plain a.opened a.line; line = a.line + line_ends (take m held); left = a.left; rest = a.rest }) Plain (drop m held) n Plain
+    ≡ tokens_behind a Plain held (m + n) Plain
+unfolding opening
+behind_both a held m n none =
+    let R : ℕ → ℕ → List ℕ → List SourceToken = λ opened line bytes. remaining_tokens a.most Plain opened line bytes a.left a.rest in
+    let part : line_ends (take m held) + line_ends (take n (drop m held)) ≡ line_ends (take (m + n) held) =
+    ap (λ (k : ℕ). line_ends (take m held) + line_ends (take k (drop m held))) (same m n) ∙ line_ends-part held m n in
+    ap (λ (o : ℕ). R o (a.line + line_ends (take m held) + line_ends (take n (drop m held))) (drop n (drop m held))) (omega (arith, none))
+    ∙ ap (λ (l : ℕ). R a.line l (drop n (drop m held))) (omega (arith, part))
+    ∙ ap (λ (bytes : List ℕ). R a.line (a.line + line_ends (take (m + n) held)) bytes) (drop-drop n m held)
+  where
+    same : (x y : ℕ) → y ≡ x + y - x
+    same x y = omega arith
+
+-- two uses are one
+used_both : (k room m n : ℕ) (held : List ℕ) → IsUse (Inside k) Plain room held (calm_use k m) → IsUse (Inside k) Plain (room - m) (drop m held) (calm_use k n)
+    → line_ends (take m held) ≡ 0 → m + n ≤ length held → m + n ≤ room → IsUse (Inside k) Plain room held (calm_use k (m + n))
+unfolding stand_meant level_in
+used_both k room m n held p q none inside fits =
+    let first : length (take m held) ≡ m = length-take-le m held (omega (arith, inside)) in
+    let size : length (take (m + n) held) ≡ m + n = length-take-le (m + n) held inside in
+    let some = p.some in
+    let second : length (take n (drop m held)) ≡ n = length-take-le n (drop m held) q.inside in
+    record {
+      some = omega (arith, some);
+      inside = inside;
+      fits = omega (arith, size, fits);
+      level = omega arith;
+      lead = λ before (no : Plain ≡ InStr). (cc);
+      reads = λ a around.
+          let b = around_behind a held m in
+          let split = take-add m n held in
+          let left : room - m - length (take n (drop m held)) ≡ room - length (take (m + n) held) = omega (arith, second, size) in
+          p.reads a around
+          ∙ ap (λ (x : ℕ). onto_kept (take m held) (read (Inside k) (is_open Plain) (room - x) (tokens_behind a Plain held m Plain))) first
+          ∙ ap (λ (r : Reading). onto_kept (take m held) r) (q.reads b (record { ends = EndsLine-drop m held a.rest around.ends }))
+          ∙ sym (onto_kept-append (take m held) (take n (drop m held)) _)
+          ∙ ap (λ (bytes : List ℕ). onto_kept bytes (read (Inside k) (is_open Plain) (room - m - length (take n (drop m held))) (tokens_behind b Plain (drop m held) n Plain))) (sym split)
+          ∙ ap (λ (x : ℕ). onto_kept (take (m + n) held) (read (Inside k) (is_open Plain) x (tokens_behind b Plain (drop m held) n Plain))) left
+          ∙ ap (λ (ts : List SourceToken). onto_kept (take (m + n) held) (read (Inside k) (is_open Plain) (room - length (take (m + n) held)) ts)) (behind_both a held m n none);
+      bytes = λ a around.
+          let b = around_behind a held m in
+          p.bytes a around
+          ∙ ap (λ (bytes : List ℕ). take m held ++ bytes) (q.bytes b (record { ends = EndsLine-drop m held a.rest around.ends }))
+          ∙ sym (append_assoc (take m held) (take n (drop m held)) _)
+          ∙ ap (λ (bytes : List ℕ). bytes ++ bytes_of (tokens_behind b Plain (drop m held) n Plain)) (sym (take-add m n held))
+          ∙ ap (λ (ts : List SourceToken). take (m + n) held ++ bytes_of ts) (behind_both a held m n none);
+    }
+  where
+    around_behind : Around → List ℕ → ℕ → Around
+    around_behind a bytes at = record { most = a.most; opened = opening Plain a.opened a.line; line = a.line + line_ends (take at bytes); left = a.left; rest = a.rest }
+
+-- all such bytes are used at once
+calm_run : (fuel k room : ℕ) (held : List ℕ) → prefix_len is_calm held ≤ fuel → 0 < prefix_len is_calm held → prefix_len is_calm held ≤ room
+    → IsUse (Inside k) Plain room held (calm_use k (prefix_len is_calm held))
+calm_run zero k room held most some fits = absurd (omega (arith, most, some))
+calm_run (suc fuel) k room held most some fits =
+    let all = prefix_len-le-length is_calm held in
+    let calm = calm_first held some in
+    let size = calm.size in
+    let m = (token_of Plain held).len in
+    let long = (token_of-part Plain held (omega (arith, some, all))).not_empty in
+    let first = first_used k room held (omega (arith, some, all)) calm (omega (arith, size, fits)) in
+    let rest = behind is_calm m held size in
+    elim (cases_Bool (nat_le (prefix_len is_calm (drop m held)) 0)) [
+      | inl e ↦
+          let none = leb-true (prefix_len is_calm (drop m held)) 0 e in
+          let same : m ≡ prefix_len is_calm held = omega (arith, rest, none) in
+          subst (λ (n : ℕ). IsUse (Inside k) Plain room held (calm_use k n)) same first
+      | inr e ↦
+          let n = prefix_len is_calm (drop m held) in
+          let more = leb-false n 0 e in
+          let same : m + n ≡ prefix_len is_calm held = omega (arith, rest) in
+          subst (λ (x : ℕ). IsUse (Inside k) Plain room held (calm_use k x)) same
+          (used_both k room m n held first
+          (calm_run fuel k (room - m) (drop m held) (omega (arith, rest, most, long)) more (omega (arith, rest, fits)))
+          (no_line_ends m held size) (omega (arith, same, all)) (omega (arith, same, fits)))
+    ]
+
+-- so they are behind a call's `(`
+pub calm_used : (k room n : ℕ) (held : List ℕ) → n ≡ prefix_len is_calm held → (n ≡ 0 → ⊥) → n ≤ room
+    → IsUse (Inside k) Plain room held (record { len = n; next_mode = Plain; stand = InsideCall k; is_kept = true })
+calm_used k room n held is some fits =
+    subst (λ (x : ℕ). IsUse (Inside k) Plain room held (calm_use k x)) (sym is)
+    (calm_run (prefix_len is_calm held) k room held (omega arith) (omega (arith, is, some)) (omega (arith, is, fits)))

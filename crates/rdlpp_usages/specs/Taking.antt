@@ -1,0 +1,120 @@
+-- What is done with the first token of the held bytes of a source, in a call, or with the part of it that is held, or with a run of
+-- tokens that are words, blanks and commas.
+-- A definition that names no source is this project's own.
+use Rattle.std.specs.Prelude.{◌≡◌, ◌≢◌, ℕ, ◌+◌, ◌-◌, ◌≤◌, ◌<◌, Bool, nat_le, ◌||◌, ◌==◌, List, [], ◌++◌, length, take, drop, if◌then◌else◌}
+use Rattle.rdlpp_scan.specs.Bytes.{is_blank, is_word}
+use Rattle.rdlpp_scan.specs.declared.token.Mode.{Mode}
+use Rattle.rdlpp_scan.specs.declared.token.Mode.TheVariants.{Plain, InStr}
+use Rattle.rdlpp_scan.specs.declared.token.Token.{Token}
+use Rattle.rdlpp_scan.specs.Lines.{EndsLine}
+use Rattle.rdlpp_scan.specs.Resumed.{opening}
+use Rattle.rdlpp_scan.specs.SourceTokens.{SourceToken, line_ends, remaining_tokens}
+use Rattle.rdlpp_scan.specs.Pieces.{is_open}
+use Rattle.rdlpp_meaning.specs.declared.fault.FaultKind.TheVariants.{EmbeddedPerl}
+use Rattle.rdlpp_meaning.specs.Actuals.{Role, kept_size}
+use Rattle.rdlpp_meaning.specs.CallReading.{ReadRefused, ReadStopped, ReadClosed, onto_kept, read}
+use Rattle.rdlpp_meaning.specs.CallScan as scan
+use Rattle.rdlpp_meaning.specs.CallScan.{Keeps, Passes, turn, stand_behind, room_behind}
+use Rattle.rdlpp_meaning.specs.Expansion.{bytes_of}
+use Rattle.rdlpp_usages.specs.declared.taking.Stand.{Stand}
+use Rattle.rdlpp_usages.specs.declared.taking.Stand.TheVariants.{Before, Inside}
+use Rattle.rdlpp_usages.specs.declared.taking.Use.{Use}
+use Rattle.rdlpp_usages.specs.declared.taking.Taking.{Taking}
+use Rattle.rdlpp_usages.specs.declared.taking.Taking.TheVariants.{Uses, Closes, Refused, Perl}
+
+-- where the scan of a call stands
+unfoldable pub stand_meant : Stand → scan.Stand
+stand_meant Before = scan.Before
+stand_meant (Inside level) = scan.Inside level
+
+-- the level of further openers there
+unfoldable pub level_in : scan.Stand → ℕ
+level_in scan.Before = 0
+level_in (scan.Inside level) = level
+
+-- what held bytes stand in: the most bytes of a line, the line on which an open string or comment began, the
+-- line of the first held byte, how many bytes the source may still have behind them, and the text behind them
+pub record Around : Type 0 where
+  pub most : ℕ
+  pub opened : ℕ
+  pub line : ℕ
+  pub left : ℕ
+  pub rest : List ℕ
+
+-- held bytes end at a line end or with the text
+pub record IsAround (held : List ℕ) (a : Around) : Type 0 where
+  pub ends : EndsLine held a.rest
+
+-- the tokens from held bytes on
+abbrev pub tokens_at : Around → Mode → List ℕ → List SourceToken
+tokens_at a mode held = remaining_tokens a.most mode a.opened a.line held a.left a.rest
+
+-- the tokens behind the first `len` of held bytes, where a text stands in a mode
+abbrev pub tokens_behind : Around → Mode → List ℕ → ℕ → Mode → List SourceToken
+tokens_behind a mode held len next =
+    remaining_tokens a.most next (opening mode a.opened a.line) (a.line + line_ends (take len held)) (drop len held) a.left a.rest
+
+-- how many of so many bytes are kept
+abbrev pub kept_len : Bool → ℕ → ℕ
+kept_len is_kept len = if is_kept then len else 0
+
+-- bytes that are kept, or none
+abbrev pub kept_of : Bool → List ℕ → List ℕ
+kept_of is_kept bytes = if is_kept then bytes else []
+
+-- what the scan of a call does at a token of a role is what is answered
+pub record IsStep (at : scan.Stand) (r : Role) (room : ℕ) (t : Token) (u : Use) : Type 0 where
+  pub len : u.len ≡ t.len
+  pub mode : u.next_mode ≡ t.next_mode
+  pub stand : stand_meant u.stand ≡ stand_behind at r
+  pub turns : turn at r (nat_le t.len room) ≡ (if u.is_kept then Keeps else Passes)
+  pub left : room_behind at room r t.len ≡ room - kept_len u.is_kept t.len
+  pub fits : kept_len u.is_kept t.len ≤ room
+  pub level : level_in (stand_behind at r) ≤ level_in at + kept_len u.is_kept t.len
+
+-- the same of each answer
+abbrev pub Answers : scan.Stand → Role → ℕ → Token → Taking → Type 0
+Answers at r room t (Uses u) = IsStep at r room t u
+Answers at r room t Closes = turn at r (nat_le t.len room) ≡ scan.Closes
+Answers at r room t (Refused f) = turn at r (nat_le t.len room) ≡ scan.Refuses f
+Answers at r room t Perl = ⊥
+
+-- held bytes are used, and kept or not, and the reading of the call goes on behind them
+pub record IsUse (at : scan.Stand) (mode : Mode) (room : ℕ) (held : List ℕ) (u : Use) : Type 0 where
+  pub some : 0 < u.len
+  pub inside : u.len ≤ length held
+  pub fits : length (kept_of u.is_kept (take u.len held)) ≤ room
+  pub level : level_in (stand_meant u.stand) ≤ level_in at + length (kept_of u.is_kept (take u.len held))
+  pub lead : stand_meant u.stand ≡ scan.Before → u.next_mode ≢ InStr
+  pub reads : (a : Around) → IsAround held a
+      → read at (is_open mode) room (tokens_at a mode held)
+      ≡ onto_kept (kept_of u.is_kept (take u.len held))
+      (read (stand_meant u.stand) (is_open u.next_mode) (room - length (kept_of u.is_kept (take u.len held))) (tokens_behind a mode held u.len u.next_mode))
+  pub bytes : (a : Around) → IsAround held a
+      → bytes_of (tokens_at a mode held) ≡ take u.len held ++ bytes_of (tokens_behind a mode held u.len u.next_mode)
+
+-- whether a byte is of a word or a blank, or a comma: tokens of such bytes open nothing and close nothing (source: this project's
+-- profile)
+unfoldable pub is_calm : ℕ → Bool
+is_calm b = is_word b || is_blank b || b == 44
+
+-- the first byte closes the call
+pub record IsClose (at : scan.Stand) (mode : Mode) (room : ℕ) (held : List ℕ) : Type 0 where
+  pub reads : (a : Around) → IsAround held a
+      → read at (is_open mode) room (tokens_at a mode held) ≡ ReadClosed [] (tokens_behind a mode held 1 Plain)
+  pub bytes : (a : Around) → IsAround held a
+      → bytes_of (tokens_at a mode held) ≡ take 1 held ++ bytes_of (tokens_behind a mode held 1 Plain)
+
+-- what is done with the first token of held bytes is what reading the call comes to there (source: this project's profile)
+abbrev pub IsTaking : scan.Stand → Mode → ℕ → List ℕ → Taking → Type 0
+IsTaking at mode room held (Uses u) = IsUse at mode room held u
+IsTaking at mode room held Closes = IsClose at mode room held
+IsTaking at mode room held (Refused f) = (a : Around) → IsAround held a
+    → read at (is_open mode) room (tokens_at a mode held) ≡ ReadRefused f
+IsTaking at mode room held Perl = (a : Around) → IsAround held a
+    → read at (is_open mode) room (tokens_at a mode held) ≡ ReadStopped EmbeddedPerl a.line
+
+-- whether a token of a role at a level of openers is kept where it fits: it is neither the `)` nor dropped
+pub record IsKeptAt (r : Role) (k : ℕ) : Type 0 where
+  pub turns : (fits : Bool) → scan.turn_inside r k fits ≡ scan.turn_fitting fits Keeps
+  pub size : (n : ℕ) → kept_size r n ≡ n

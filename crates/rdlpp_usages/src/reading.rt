@@ -1,0 +1,199 @@
+// The reading of a call, token by token, over any number of refills.
+ghost use Rattle.std.specs.Prelude.{◌≡◌, ◌≢◌, ℕ, ◌+◌, ◌-◌, ◌^◌, ◌≤◌, ◌<◌, [], length, take, true};
+ghost use Rattle.rdlpp_scan.specs.declared.token.Mode.TheVariants.{InStr, Plain};
+ghost use Rattle.rdlpp_meaning.specs.CallScan.{Before};
+ghost use Rattle.rdlpp_read.specs.Buffer.{held_of};
+ghost use Rattle.rdlpp_read.specs.Calls.{SourcesRead};
+ghost use Rattle.rdlpp_read.specs.Files.{inner_buffer};
+ghost use Rattle.rdlpp_usages.specs.CallReads.{
+  IsEndOfText,
+  IsNextFault,
+  IsNextLine,
+  IsReadFault,
+  IsReadLine,
+  MeansCall,
+  ReadsCall,
+  TakesToken,
+  is_failed_call,
+  used_buffer,
+  with_used,
+};
+ghost use Rattle.rdlpp_usages.specs.Taking.{kept_of, level_in, stand_meant};
+
+use crate::store::ArgumentStore;
+use crate::taking::{Stand, Taking, Use, taking_of};
+use rdlpp_meaning::FaultKind;
+use rdlpp_read::{Files, Fill};
+use rdlpp_scan::{Mode, line_ends_in};
+use rdlpp_source::Sources;
+
+/// What reading a call comes to.
+#[derive(Clone, Copy, Debug, PartialEq, Eq)]
+pub enum CallRead {
+    /// The call is closed, and the store has its kept bytes.
+    Closed,
+    /// The call is refused, at the line of its usage: its `(` or its `)` is missing, or it has more kept
+    /// bytes than there may be.
+    Refused(FaultKind),
+    /// The call is broken by embedded Perl, by a string or a comment that isn't closed, or by a line or a
+    /// source that is too long; and the physical line of that.
+    Broken(FaultKind, u64),
+    /// A read failed.
+    Failed,
+}
+
+// What follows one token of a call.
+enum Next {
+    // The call goes on where it stands then.
+    Goes(Stand),
+    // The reading ends.
+    Ends(CallRead),
+}
+
+/// Reads what stands behind the name of a macro with a list of formals, from the innermost source, over
+/// any number of its lines: behind white space, line ends and comments a `(`, and all up to its `)`,
+/// which stands outside strings, comments and further openers. What is kept are the bytes between the
+/// two but those of `//` comments; the store has them, and nothing of what it had before. Behind a call
+/// that is closed, the source goes on behind its `)`.
+///
+/// The sources are asked to read only where all held bytes are used. Takes no memory.
+///
+/// # Rules
+///
+/// A directive, or the end of the text, ends the call: before the `(` its arguments are missing, behind
+/// it they aren't closed. For each token its bytes count first: kept bytes that pass the room of the
+/// store are refused before a broken token's own fault. Where a read failed nothing is lost: what was
+/// kept so far and what remains come to the same call (this project's profile).
+pub fn read_call<S: Sources>(
+    files: &mut Files<S::Reader>,
+    sources: &mut S,
+    store: &mut ArgumentStore,
+) -> CallRead
+    requires some { 0 < length files.old.nest }
+    requires plain { (inner_buffer files.old.nest).mode ≡ Plain }
+    ensures only { files.new ≡ record files.old { nest = files.new.nest } }
+    ensures room { store.new.most ≡ store.old.most }
+    ensures call { SourcesRead S.Sources (is_failed_call result) sources.old sources.new }
+    ensures reads { ReadsCall (S.tells sources.old) S.unread Before store.old.most store.new.bytes result files.old.nest files.new.nest }
+    ensures unheld { is_failed_call result ≡ true → held_of (inner_buffer files.new.nest) ≡ [] }
+    ensures fault { IsReadFault result }
+    ensures line { IsReadLine result }
+    ensures means { MeansCall (S.tells sources.old) S.unread store.old.most store.new.bytes (inner_buffer files.old.nest) (inner_buffer files.new.nest) result }
+{
+    read_tokens(files, sources, store)
+}
+
+// Uses the first `len` held bytes of the innermost source, behind which its text stands in a mode.
+fn use_bytes<R: Drop>(files: &mut Files<R>, len: usize, next: Mode)
+    requires some { 0 < length files.old.nest }
+    requires inside { len ≤ length (held_of (inner_buffer files.old.nest)) }
+    ensures { files.new ≡ record files.old { nest = with_used (used_buffer (inner_buffer files.old.nest) len next) (take len (held_of (inner_buffer files.old.nest))) files.old.nest } }
+{
+    let lines = line_ends_in(&files.file().buffer.held()[..len]);
+    files.enter_mode(next);
+    files.consume(len, lines);
+}
+
+// What is kept of the held bytes that a token uses.
+fn kept_part(token: Use, held: &[u8]) -> &[u8]
+    requires { token.len ≤ length held.now }
+    ensures { result.now ≡ kept_of token.is_kept (take token.len held.now) }
+{
+    if token.is_kept {
+        &held[..token.len]
+    } else {
+        &[]
+    }
+}
+
+// Takes one token of a call, or the part of it that is held, or a run of words, blanks and commas.
+fn take_token<R: Drop>(files: &mut Files<R>, store: &mut ArgumentStore, stand: Stand) -> Next
+    requires some { 0 < length files.old.nest }
+    requires held { 0 < length (held_of (inner_buffer files.old.nest)) }
+    requires level { level_in (stand_meant stand) ≤ length store.old.bytes }
+    requires lead { stand_meant stand ≡ Before → (inner_buffer files.old.nest).mode ≢ InStr }
+    ensures only { files.new ≡ record files.old { nest = files.new.nest } }
+    ensures room { store.new.most ≡ store.old.most }
+    ensures takes { TakesToken (stand_meant stand) (store.old.most - length store.old.bytes) store.old.bytes store.new.bytes files.old.nest files.new.nest result }
+    ensures fault { IsNextFault result }
+    ensures line { IsNextLine result }
+{
+    let buffer = &files.file().buffer;
+    let (held, line) = (buffer.held(), buffer.line());
+    match taking_of(stand, buffer.mode(), store.room(), held) {
+        Taking::Uses(token) => {
+            store.append(kept_part(token, held));
+            use_bytes(files, token.len, token.next_mode);
+            Next::Goes(token.stand)
+        }
+        Taking::Closes => {
+            use_bytes(files, 1, Mode::Plain);
+            Next::Ends(CallRead::Closed)
+        }
+        Taking::Refused(kind) => Next::Ends(CallRead::Refused(kind)),
+        Taking::Perl => Next::Ends(CallRead::Broken(FaultKind::EmbeddedPerl, line)),
+    }
+}
+
+// The physical line of the next byte of the innermost source.
+fn inner_line<R: Drop>(files: &Files<R>) -> u64
+    requires { 0 < length files.now.nest }
+    ensures line { result ≡ (inner_buffer files.now.nest).line }
+    ensures few { result < 2 ^ 63 }
+{
+    let buffer = &files.file().buffer;
+    buffer.facts();
+    buffer.line()
+}
+
+// What a call comes to where the text of the innermost source has ended.
+fn end_of_text<R: Drop>(files: &Files<R>, stand: Stand) -> CallRead
+    requires { 0 < length files.now.nest }
+    ensures text { (room : ℕ) → IsEndOfText (stand_meant stand) room (inner_buffer files.now.nest) result }
+    ensures fault { IsReadFault result }
+    ensures line { IsReadLine result }
+{
+    let buffer = &files.file().buffer;
+    buffer.facts();
+    match buffer.mode() {
+        Mode::Plain => CallRead::Refused(stand.fault_at_end()),
+        Mode::InStr => CallRead::Broken(FaultKind::OpenString, buffer.open_token_line()),
+        Mode::InBlock => CallRead::Broken(FaultKind::OpenComment, buffer.open_token_line()),
+    }
+}
+
+// Reads a call token by token, and fills the buffer where all that is held is used.
+fn read_tokens<S: Sources>(
+    files: &mut Files<S::Reader>,
+    sources: &mut S,
+    store: &mut ArgumentStore,
+) -> CallRead
+    requires some { 0 < length files.old.nest }
+    requires plain { (inner_buffer files.old.nest).mode ≡ Plain }
+    ensures only { files.new ≡ record files.old { nest = files.new.nest } }
+    ensures room { store.new.most ≡ store.old.most }
+    ensures call { SourcesRead S.Sources (is_failed_call result) sources.old sources.new }
+    ensures reads { ReadsCall (S.tells sources.old) S.unread Before store.old.most store.new.bytes result files.old.nest files.new.nest }
+    ensures unheld { is_failed_call result ≡ true → held_of (inner_buffer files.new.nest) ≡ [] }
+    ensures fault { IsReadFault result }
+    ensures line { IsReadLine result }
+{
+    store.clear();
+    let mut stand = Stand::Before;
+    'tokens: loop {
+        match files.fill(sources) {
+            Fill::Held => match take_token(files, store, stand) {
+                Next::Goes(to) => stand = to,
+                Next::Ends(read) => return read,
+            },
+            Fill::End => return end_of_text(files, stand),
+            Fill::SourceLong => {
+                return CallRead::Broken(FaultKind::SourceTooLong, inner_line(files));
+            }
+            Fill::LineLong => {
+                return CallRead::Broken(FaultKind::LineTooLong, inner_line(files));
+            }
+            Fill::Failed => return CallRead::Failed,
+        }
+    }
+}

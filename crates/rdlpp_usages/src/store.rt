@@ -1,0 +1,73 @@
+// The store of a call's kept bytes.
+ghost use Rattle.std.specs.Prelude.{◌≡◌, ◌+◌, ◌-◌, ◌≤◌, ◌++◌, [], length, IfOk};
+ghost use Rattle.rdlpp_usages.specs.Store.{StoreView};
+
+use std::alloc::{AllocError, Global};
+use std::marker::Model;
+
+/// The kept bytes of a call, of which there may be so many. No call but `new` takes memory.
+#[derive(Drop)]
+pub struct ArgumentStore {
+    bytes: Vec<u8>,
+    // how many bytes may be kept, for which there is room
+    most: usize,
+}
+
+impl Model for ArgumentStore {
+    ghost use Rattle.std.specs.Prelude.{◌≤◌, vec_capacity, vec_len};
+    ghost use Rattle.rdlpp_usages.specs.Store.{StoreView};
+
+    ghost Value = { StoreView };
+
+    ghost view = { λ s. record { bytes = s.bytes.items; most = s.most } };
+
+    ghost invariant = { λ s. (vec_len s.bytes ≤ s.most) × (s.most ≤ vec_capacity s.bytes) };
+}
+
+impl ArgumentStore {
+    /// An empty store with room for `argument_bytes` bytes: one growth, whose memory isn't touched before it is used.
+    ///
+    /// # Errors
+    ///
+    /// `AllocError` where the growth was refused.
+    pub fn new(alloc: Global, argument_bytes: usize) -> Result<Self, AllocError>
+        ensures { IfOk result (λ store. store ≡ record { bytes = []; most = argument_bytes }) }
+    {
+        Ok(ArgumentStore {
+            bytes: Vec::with_capacity(alloc, argument_bytes)?,
+            most: argument_bytes,
+        })
+    }
+
+    /// Lets go of all kept bytes.
+    pub fn clear(&mut self)
+        ensures { self.new ≡ record self.old { bytes = [] } }
+    {
+        self.bytes.clear();
+    }
+
+    /// The kept bytes.
+    pub fn bytes(&self) -> &[u8]
+        ensures value { result.now ≡ self.now.bytes }
+        ensures fits { length self.now.bytes ≤ self.now.most }
+    {
+        self.bytes.as_slice()
+    }
+
+    /// How many more bytes may be kept.
+    pub fn room(&self) -> usize
+        ensures value { result ≡ self.now.most - length self.now.bytes }
+        ensures fits { length self.now.bytes ≤ self.now.most }
+        ensures counted { self.now.most ≤ usize.MAX }
+    {
+        self.most - self.bytes.len()
+    }
+
+    /// Keeps bytes behind those that are kept, for which there is room.
+    pub fn append(&mut self, more: &[u8])
+        requires { length self.old.bytes + length more.now ≤ self.old.most }
+        ensures { self.new ≡ record self.old { bytes = self.old.bytes ++ more.now } }
+    {
+        let _ = self.bytes.extend_from_slice(more);
+    }
+}
