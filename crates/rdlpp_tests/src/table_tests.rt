@@ -1,6 +1,6 @@
-// Tables and limits as a caller meets them, by values from outside.
+// Tables as a caller meets them, by values from outside.
 use rdlpp_scan::logical_line;
-use rdlpp_table::{DefineFault, DefineKind, LimitFault, Limits, Steps, Table};
+use rdlpp_table::{DefineFault, DefineKind, Limits, Steps, Table};
 use std::alloc::{AllocError, Global};
 use std::process::Abort;
 use std::test::Fail;
@@ -29,8 +29,8 @@ fn kind(outcome: Result<(), DefineFault>) -> Option<DefineKind> {
     }
 }
 
-// Reads a definition, of which the logical line is whole.
-fn read<R: Abort>(rt: &R, table: &mut Table, rest: &[u8]) -> Result<(), DefineFault> {
+// Reads a definition, of which the logical line is whole, and answers why it was refused, if it was.
+fn define<R: Abort>(rt: &R, table: &mut Table, rest: &[u8]) -> Option<DefineKind> {
     let is_whole = match logical_line(rest) {
         Some(len) => len == rest.len(),
         None => true,
@@ -38,50 +38,13 @@ fn read<R: Abort>(rt: &R, table: &mut Table, rest: &[u8]) -> Result<(), DefineFa
     if !is_whole {
         panic!(rt; "the logical line isn't whole");
     }
-    table.read_define(rest)
-}
-
-// Reads a definition, and answers why it was refused, if it was.
-fn define<R: Abort>(rt: &R, table: &mut Table, rest: &[u8]) -> Option<DefineKind> {
-    kind(read(rt, table, rest))
-}
-
-// What follows the word `define` of a macro `F` with so many formals, from `a00` on.
-fn with_formals(alloc: Global, count: u8, last: &[u8]) -> Result<Vec<u8>, AllocError> {
-    let mut line = Vec::new(alloc);
-    line.extend_from_slice(b" F(".as_slice())?;
-    for i in 0..count {
-        if i > 0 {
-            line.extend_from_slice(b" , ".as_slice())?;
-        }
-        line.extend_from_slice([b'a' + i / 100, b'0' + i / 10 % 10, b'0' + i % 10].as_slice())?;
-    }
-    line.extend_from_slice(last)?;
-    line.extend_from_slice(b") x\n".as_slice())?;
-    Ok(line)
-}
-
-// Three texts, one after another.
-fn joined(alloc: Global, front: &[u8], middle: &[u8], back: &[u8]) -> Result<Vec<u8>, AllocError> {
-    let mut line = Vec::new(alloc);
-    line.extend_from_slice(front)?;
-    line.extend_from_slice(middle)?;
-    line.extend_from_slice(back)?;
-    Ok(line)
+    kind(table.read_define(rest))
 }
 
 // The place of a formal of the macro `F`.
 fn formal(table: &Table, name: &[u8]) -> Option<usize> {
     match table.find(b"F".as_slice()) {
         Some(id) => table.formal(id, name),
-        None => None,
-    }
-}
-
-// How many formals the macro `F` has.
-fn arity(table: &Table) -> Option<usize> {
-    match table.find(b"F".as_slice()) {
-        Some(id) => table.arity(id),
         None => None,
     }
 }
@@ -101,16 +64,6 @@ fn default_text(table: &Table, i: usize) -> &[u8] {
         },
         None => b"",
     }
-}
-
-#[test]
-fn limits_are_checked_in_order(rt: HostRuntime) {
-    let mut limits = Limits::standard();
-    assert_eq!(rt; limits.check(), Ok(()));
-    limits.conditions = 0;
-    assert_eq!(rt; limits.check(), Err(LimitFault::Conditions));
-    limits.line_bytes = 255;
-    assert_eq!(rt; limits.check(), Err(LimitFault::LineBytes));
 }
 
 #[test]
@@ -136,139 +89,6 @@ fn a_redefinition_goes_last(rt: HostRuntime) {
         Some(id) => assert_eq!(rt; table.body(id), b"3".as_slice()),
         None => panic!(rt; "the macro isn't found"),
     }
-}
-
-#[test]
-fn names_and_bodies_have_their_faults(rt: HostRuntime) {
-    let mut table = table(&rt, 1_024, 4);
-    match table.set(b"else".as_slice(), b"1".as_slice()) {
-        Err(fault) => {
-            assert_eq!(rt; fault.kind, DefineKind::ReservedName);
-            assert_eq!(rt; fault.word.as_str(), "else");
-        }
-        Ok(()) => panic!(rt; "a reserved name was taken"),
-    }
-    assert_eq!(rt;
-        kind(table.set(b"1x".as_slice(), b"2".as_slice())),
-        Some(DefineKind::NameExpected)
-    );
-    assert_eq!(rt;
-        kind(table.set([b'x'; 129].as_slice(), b"2".as_slice())),
-        Some(DefineKind::NameTooLong)
-    );
-    assert_eq!(rt;
-        kind(table.set([b'x'; 128].as_slice(), b"2".as_slice())),
-        None
-    );
-    assert_eq!(rt;
-        kind(table.set(b"A".as_slice(), b"a <% b".as_slice())),
-        Some(DefineKind::EmbeddedPerl)
-    );
-    assert_eq!(rt;
-        kind(table.set(b"A".as_slice(), b"a \"b".as_slice())),
-        Some(DefineKind::OpenString)
-    );
-    assert_eq!(rt;
-        kind(table.set(b"A".as_slice(), b"a /*/".as_slice())),
-        Some(DefineKind::OpenComment)
-    );
-    assert_eq!(rt; table.len(), 1);
-}
-
-#[test]
-fn headers_have_their_faults(rt: HostRuntime) {
-    let mut table = table(&rt, 1_024, 4);
-    assert_eq!(rt;
-        define(&rt, &mut table, b" F(a,a,\n".as_slice()),
-        Some(DefineKind::FormalTwice)
-    );
-    assert_eq!(rt;
-        define(&rt, &mut table, b" F(a b) 1\n".as_slice()),
-        Some(DefineKind::BadFormals)
-    );
-    assert_eq!(rt; define(&rt, &mut table, b" G(a=1) a\n".as_slice()), None);
-    assert_eq!(rt; table.remove(b"G".as_slice()), true);
-    assert_eq!(rt;
-        define(&rt, &mut table, b" \n".as_slice()),
-        Some(DefineKind::NameExpected)
-    );
-    match read(&rt, &mut table, b" else 1\n".as_slice()) {
-        Err(fault) => {
-            assert_eq!(rt; fault.kind, DefineKind::ReservedName);
-            assert_eq!(rt; fault.word.as_str(), "else");
-        }
-        Ok(()) => panic!(rt; "a reserved name was taken"),
-    }
-    assert_eq!(rt; table.bytes(), b"".as_slice());
-}
-
-#[test]
-fn a_name_has_at_most_128_bytes(rt: HostRuntime) -> Result<(), Fail> {
-    let mut table = table(&rt, 1_024, 4);
-    let longest = [b'n'; 128];
-    let longer = [b'n'; 129];
-    let line = joined(
-        rt.alloc(),
-        b" ".as_slice(),
-        longest.as_slice(),
-        b" 1\n".as_slice(),
-    )?;
-    assert_eq!(rt; define(&rt, &mut table, line.as_slice()), None);
-    assert_eq!(rt; table.bytes().len(), 129);
-    let line = joined(
-        rt.alloc(),
-        b" ".as_slice(),
-        longer.as_slice(),
-        b" 1\n".as_slice(),
-    )?;
-    assert_eq!(rt;
-        define(&rt, &mut table, line.as_slice()),
-        Some(DefineKind::NameTooLong)
-    );
-    let line = joined(
-        rt.alloc(),
-        b" F(".as_slice(),
-        longest.as_slice(),
-        b") 1\n".as_slice(),
-    )?;
-    assert_eq!(rt; define(&rt, &mut table, line.as_slice()), None);
-    assert_eq!(rt; formal(&table, longest.as_slice()), Some(0));
-    let line = joined(
-        rt.alloc(),
-        b" F(a,".as_slice(),
-        longer.as_slice(),
-        b",a) 1\n".as_slice(),
-    )?;
-    assert_eq!(rt;
-        define(&rt, &mut table, line.as_slice()),
-        Some(DefineKind::NameTooLong)
-    );
-    assert_eq!(rt; table.len(), 2);
-    Ok(())
-}
-
-#[test]
-fn a_macro_has_at_most_255_formals(rt: HostRuntime) -> Result<(), Fail> {
-    let mut table = table(&rt, 1_024, 4);
-    let line = with_formals(rt.alloc(), 255, b"".as_slice())?;
-    assert_eq!(rt; define(&rt, &mut table, line.as_slice()), None);
-    assert_eq!(rt; arity(&table), Some(255));
-    assert_eq!(rt; formal(&table, b"a00".as_slice()), Some(0));
-    assert_eq!(rt; formal(&table, b"c54".as_slice()), Some(254));
-    assert_eq!(rt; formal(&table, b"c55".as_slice()), None);
-    assert_eq!(rt; table.bytes().len(), 1 + 255 * 4 + 1);
-    let line = with_formals(rt.alloc(), 255, b",c55".as_slice())?;
-    assert_eq!(rt;
-        define(&rt, &mut table, line.as_slice()),
-        Some(DefineKind::TooManyFormals)
-    );
-    let line = with_formals(rt.alloc(), 255, b",c54=<%".as_slice())?;
-    assert_eq!(rt;
-        define(&rt, &mut table, line.as_slice()),
-        Some(DefineKind::FormalTwice)
-    );
-    assert_eq!(rt; arity(&table), Some(255));
-    Ok(())
 }
 
 #[test]
