@@ -1,5 +1,5 @@
 # The few commands that a reader of this repository needs. `make help` lists them.
-.PHONY: help build run test check c python fuzz install uninstall dist clean fmt bench definitions
+.PHONY: help build run test check c python fuzz install uninstall dist clean fmt bench definitions promises
 .DELETE_ON_ERROR:
 
 # Where `make install` puts its files, below DESTDIR where that is given.
@@ -89,3 +89,6 @@ bench: out/rdlpp out/librdlpp_c.a ## build the programs, compare speed and memor
 
 definitions: ## write the list of all definitions to out/definitions.md
 	@docs/list_definitions
+
+promises: ## write the contract of every public function, clause by clause, to out/promises.md
+	@docs/list_promises
