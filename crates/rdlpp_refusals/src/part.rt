@@ -1,5 +1,4 @@
 //! Parts of the library that ask for memory when they are made.
-ghost use Rattle.std.specs.Prelude.{◌≡◌};
 
 use rdlpp::{Folders, Limits, Texts, UsageFault, parse_words};
 use rdlpp_expand::{Engine, NewFault};
@@ -27,22 +26,12 @@ impl Display for Answer {
     }
 }
 
-// The standard limits, with so many includes.
-pub(crate) fn limits_of(includes: usize) -> Limits
-    ensures { result ≡ record { depth = 256; includes = includes; line_bytes = 65536; source_bytes = 1073741824; argument_bytes = 65536; definition_bytes = 1048576; definitions = 4096; conditions = 256; output_bytes = 18446744073709551615 } }
-{
-    Limits {
-        includes,
-        ..Limits::standard()
-    }
-}
-
 // Makes the part of this name, and lets it go.
-pub(crate) fn make(rt: &HostRuntime, part: &str, includes: usize) -> Answer {
+pub(crate) fn make(rt: &HostRuntime, part: &str, limits: Limits) -> Answer {
     match part {
         "nothing" => Answer::Made,
-        "table" => make_table(rt, includes),
-        "engine" => make_engine(rt, includes),
+        "table" => make_table(rt, limits),
+        "engine" => make_engine(rt, limits),
         "folders" => make_folders(rt),
         "words" => read_words(rt),
         _ => Answer::Another,
@@ -50,8 +39,7 @@ pub(crate) fn make(rt: &HostRuntime, part: &str, includes: usize) -> Answer {
 }
 
 // Makes a table.
-fn make_table(rt: &HostRuntime, includes: usize) -> Answer {
-    let limits = limits_of(includes);
+fn make_table(rt: &HostRuntime, limits: Limits) -> Answer {
     if limits.check().is_err() {
         return Answer::Another;
     }
@@ -62,12 +50,12 @@ fn make_table(rt: &HostRuntime, includes: usize) -> Answer {
 }
 
 // Makes an engine over no sources.
-fn make_engine(rt: &HostRuntime, includes: usize) -> Answer {
+fn make_engine(rt: &HostRuntime, limits: Limits) -> Answer {
     let texts = Texts {
         files: &[],
         folders: &[],
     };
-    match Engine::new(rt.alloc(), limits_of(includes), texts, false) {
+    match Engine::new(rt.alloc(), limits, texts, false) {
         Ok(_engine) => Answer::Made,
         Err(NewFault::NoMemory) => Answer::NoMemory,
         Err(NewFault::BadLimits(_)) => Answer::Another,

@@ -1,6 +1,6 @@
 //! A run of an engine whose sources and writer take no memory.
-use crate::part::{Answer, limits_of};
-use rdlpp::{Counted, Texts};
+use crate::part::Answer;
+use rdlpp::{Counted, Limits, Texts};
 use rdlpp_expand::{Engine, NewFault, run};
 use std::alloc::Global;
 use std::io::{self, Write};
@@ -34,15 +34,15 @@ impl Write for Nowhere {
     }
 }
 
-// Makes an engine, with so many includes and with origin comments, and runs it: the bytes that it wrote, and the
-// number of the fault that ended them, 0 for none; or why no engine was made.
-pub(crate) fn run_alone(alloc: Global, includes: usize) -> Result<(u64, u32), Answer> {
+// Makes an engine with origin comments, and runs it: the bytes that it wrote, and the number of the fault that ended
+// them, 0 for none; or why no engine was made.
+pub(crate) fn run_alone(alloc: Global, limits: Limits) -> Result<(u64, u32), Answer> {
     let files = [("m", MAIN)];
     let texts = Texts {
         files: &files,
         folders: &["inc"],
     };
-    let mut engine = match Engine::new(alloc, limits_of(includes), texts, true) {
+    let mut engine = match Engine::new(alloc, limits, texts, true) {
         Ok(engine) => engine,
         Err(NewFault::NoMemory) => return Err(Answer::NoMemory),
         Err(NewFault::BadLimits(_)) => return Err(Answer::Another),
