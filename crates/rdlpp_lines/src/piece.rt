@@ -48,8 +48,10 @@ pub(crate) fn trimmed(text: &[u8]) -> &[u8]
     &front[..unblanked_len(front)]
 }
 
-// Appends bytes for which there is room.
-pub(crate) fn append_part(to: &mut Vec<u8>, part: &[u8])
+/// Appends bytes for which there is room, so that no memory is asked for.
+///
+/// Costs time linear in their number.
+pub fn append_part(to: &mut Vec<u8>, part: &[u8])
     requires { vec_len to.old + length part.now ≤ vec_capacity to.old }
     ensures items { to.new.items ≡ to.old.items ++ part.now }
     ensures capacity { vec_capacity to.new ≡ vec_capacity to.old }

@@ -24,10 +24,10 @@ pub record IsHeld (bytes : List ℕ) (entries : List Entry) (most_bytes most_mac
 -- what holds of the fields
 pub record IsLaidOut (t : Inside) : Type 0 where
   pub held : IsHeld t.bytes.items t.entries.items t.most_bytes t.most_macros
-  pub room : t.most_bytes ≤ vec_capacity t.bytes
-  pub entry_room : t.most_macros ≤ vec_capacity t.entries
+  pub room : vec_capacity t.bytes ≡ t.most_bytes
+  pub entry_room : vec_capacity t.entries ≡ t.most_macros
   pub indexed : IsIndexed (names_of (macros_in t.bytes.items t.entries.items)) (take (vec_len t.entries) t.order.items) t.starts
   pub marked : drop (vec_len t.entries) t.order.items ≡ table_marks (macros_in t.bytes.items t.entries.items)
-  pub index_room : t.most_macros + t.most_bytes / 8 ≤ vec_capacity t.order
+  pub index_room : vec_capacity t.order ≡ t.most_macros + t.most_bytes / 8
   pub few : t.most_macros ≤ 65536
   pub small : t.most_bytes ≤ 16777216

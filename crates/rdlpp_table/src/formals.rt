@@ -33,9 +33,8 @@ ghost use Rattle.rdlpp_table.specs.Table.{formal_bytes, formal_size, Formal};
 use crate::fault::DefineKind;
 use crate::header::{after_space, leading_name};
 use crate::name::MOST_NAME_BYTES;
-use crate::storing::append;
 use arrayvec::ArrayVec;
-use rdlpp_lines::{append_trimmed, split_first, trimmed_len};
+use rdlpp_lines::{append_part, append_trimmed, split_first, trimmed_len};
 
 // The most formals of a macro (this project's profile).
 const MOST_FORMALS: usize = 255;
@@ -198,13 +197,13 @@ fn append_formal<'a>(to: &mut Vec<u8>, text: &'a [u8]) -> Option<&'a [u8]>
     requires good { is_told (joined true text.now) ≡ true }
     requires room { vec_len to.old + formal_size (formal_told (joined true text.now)) ≤ vec_capacity to.old }
     ensures items { to.new.items ≡ to.old.items ++ formal_bytes (formal_told (joined true text.now)) }
-    ensures capacity { vec_capacity to.old ≤ vec_capacity to.new }
+    ensures capacity { vec_capacity to.new ≡ vec_capacity to.old }
     ensures behind { MatchOption result (slice_index (behind_told (joined true text.now)) 0 ≢ 44) (λ behind. behind_told (joined true text.now) ≡ 44 ∷ joined true behind.now) }
     ensures less { IfSome result (λ behind. length behind.now < length text.now) }
 {
     let part = first_part(text);
     let default = default_in(part.behind)?;
-    append(to, part.name);
+    append_part(to, part.name);
     if default.size > 0 {
         to.push_reserved(b'=');
         append_trimmed(to, default.from, true, true, default.size - 1);
@@ -223,7 +222,7 @@ pub(crate) fn append_list(to: &mut Vec<u8>, text: &[u8])
     requires listed { is_some (listed (formals_in 255 [] (joined true text.now))) ≡ true }
     requires room { vec_len to.old + sum_by formal_size (unwrap_or (listed (formals_in 255 [] (joined true text.now))) []) ≤ vec_capacity to.old }
     ensures items { to.new.items ≡ to.old.items ++ flat_map formal_bytes (unwrap_or (listed (formals_in 255 [] (joined true text.now))) []) }
-    ensures capacity { vec_capacity to.old ≤ vec_capacity to.new }
+    ensures capacity { vec_capacity to.new ≡ vec_capacity to.old }
 {
     let mut rest = text;
     while let Some(behind) = append_formal(to, rest) {

@@ -38,16 +38,7 @@ use crate::marks::{Listed, push_marks};
 use crate::parts::{begin_later, part_of};
 use crate::removal::take_out_named;
 use crate::sought::Steps;
-use rdlpp_lines::append_trimmed;
-
-// Appends bytes for which there is room.
-pub(crate) fn append(bytes: &mut Vec<u8>, part: &[u8])
-    requires { vec_len bytes.old + length part.now ≤ vec_capacity bytes.old }
-    ensures items { bytes.new.items ≡ bytes.old.items ++ part.now }
-    ensures capacity { vec_capacity bytes.old ≤ vec_capacity bytes.new }
-{
-    let _ = bytes.extend_from_slice(part);
-}
+use rdlpp_lines::{append_part, append_trimmed};
 
 // A macro that is to be stored: its body is read from a text, of a logical line or as it stands.
 #[derive(Clone, Copy, Drop)]
@@ -67,7 +58,7 @@ fn append_formals(bytes: &mut Vec<u8>, new: &New)
     requires listed { IsList new.now.arity new.now.list.now new.now.list_len }
     requires room { vec_len bytes.old + new.now.list_len ≤ vec_capacity bytes.old }
     ensures items { bytes.new.items ≡ bytes.old.items ++ flat_map formal_bytes (unwrap_or (list_formals new.now.arity new.now.list.now) []) }
-    ensures capacity { vec_capacity bytes.old ≤ vec_capacity bytes.new }
+    ensures capacity { vec_capacity bytes.new ≡ vec_capacity bytes.old }
 {
     if new.arity.unwrap_or(0) > 0 {
         append_list(bytes, new.list);
@@ -102,10 +93,10 @@ fn put(bytes: &mut Vec<u8>, entries: &mut Vec<Entry>, order: &mut Vec<u32>, new:
     ensures stored { IsStored bytes.new.items entries.new.items (macros_in bytes.old.items entries.old.items ++ new_macro new.now.name.now new.now.arity new.now.list.now new.now.is_logical new.now.text.now ∷ []) }
     ensures index { take (vec_len entries.new) order.new.items ≡ take (vec_len entries.old + 1) order.old.items }
     ensures marked { drop (vec_len entries.new) order.new.items ≡ table_marks (macros_in bytes.old.items entries.old.items ++ new_macro new.now.name.now new.now.arity new.now.list.now new.now.is_logical new.now.text.now ∷ []) }
-    ensures capacity { (vec_capacity bytes.old ≤ vec_capacity bytes.new) × (vec_capacity entries.new ≡ vec_capacity entries.old) × (vec_capacity order.new ≡ vec_capacity order.old) }
+    ensures capacity { (vec_capacity bytes.new ≡ vec_capacity bytes.old) × (vec_capacity entries.new ≡ vec_capacity entries.old) × (vec_capacity order.new ≡ vec_capacity order.old) }
 {
     let start = bytes.len();
-    append(bytes, new.name);
+    append_part(bytes, new.name);
     let list = bytes.len();
     append_formals(bytes, new);
     let body = bytes.len();
@@ -183,7 +174,7 @@ pub(crate) fn replace(
     ensures stored { IsStored bytes.new.items entries.new.items (without new.now.name.now (macros_in bytes.old.items entries.old.items) ++ new_macro new.now.name.now new.now.arity new.now.list.now new.now.is_logical new.now.text.now ∷ []) }
     ensures indexed { IsIndexed (names_of (without new.now.name.now (macros_in bytes.old.items entries.old.items) ++ new_macro new.now.name.now new.now.arity new.now.list.now new.now.is_logical new.now.text.now ∷ [])) (take (vec_len entries.new) order.new.items) starts.new }
     ensures marked { drop (vec_len entries.new) order.new.items ≡ table_marks (without new.now.name.now (macros_in bytes.old.items entries.old.items) ++ new_macro new.now.name.now new.now.arity new.now.list.now new.now.is_logical new.now.text.now ∷ []) }
-    ensures capacity { (vec_capacity bytes.old ≤ vec_capacity bytes.new) × (vec_capacity entries.new ≡ vec_capacity entries.old) × (vec_capacity order.new ≡ vec_capacity order.old) }
+    ensures capacity { (vec_capacity bytes.new ≡ vec_capacity bytes.old) × (vec_capacity entries.new ≡ vec_capacity entries.old) × (vec_capacity order.new ≡ vec_capacity order.old) }
 {
     take_out_named(bytes, entries, order, starts, new.name);
     let count = entries.len();

@@ -123,6 +123,13 @@ impl Table {
         self.entries.len()
     }
 
+    /// How many bytes of macros there is memory for: as many as the table takes, however many are taken.
+    pub fn capacity(&self) -> usize
+        ensures { result ≡ self.now.most_bytes }
+    {
+        self.bytes.capacity()
+    }
+
     /// Whether there are as many macros as the table takes.
     pub fn is_full(&self) -> bool
         ensures { result ≡ (length self.now.macros == self.now.most_macros) }

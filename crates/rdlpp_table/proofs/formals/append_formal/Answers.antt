@@ -11,8 +11,8 @@ returns-in_err-default-clause-items c = absurd (told_default _ _ _ c.first_part-
 pub returns-in_err-default-clause-behind : goal.returns-in_err-default-clause-behind
 returns-in_err-default-clause-behind c = absurd (told_default _ _ _ c.first_part-part.ensures.part c.requires.good c.in_err-default.ensures.is)
 
-pub append-requires : goal.append-requires
-append-requires c =
+pub append_part-requires : goal.append_part-requires
+append_part-requires c =
     let t : IsTold (joined true c.args.text.now) c.first_part-part.result.name.now (joined true c.in_ok-default.default.from.now) (joined true c.in_ok-default.default.behind.now) c.in_ok-default.default.size = (told_is _ _ _ _ _ _ c.first_part-part.ensures.part c.requires.good c.in_ok-default.ensures.is) in
     omega (arith, t.size_is, c.requires.room)
 
@@ -20,7 +20,7 @@ pub push_reserved-requires : goal.push_reserved-requires
 push_reserved-requires c =
     let t : IsTold (joined true c.args.text.now) c.first_part-part.result.name.now (joined true c.in_ok-default.default.from.now) (joined true c.in_ok-default.default.behind.now) c.in_ok-default.default.size = (told_is _ _ _ _ _ _ c.first_part-part.ensures.part c.requires.good c.in_ok-default.ensures.is) in
     let named = length-append c.args.to.now.items c.first_part-part.result.name.now in
-    omega (arith, t.size_is, c.requires.room, c.if-default-gt0.true, c.append.ensures.capacity, count_items c.append.new.bytes, count_items c.args.to.now, ap (length {A = ℕ}) c.append.ensures.items, named)
+    omega (arith, t.size_is, c.requires.room, c.if-default-gt0.true, c.append_part.ensures.capacity, count_items c.append_part.new.to, count_items c.args.to.now, ap (length {A = ℕ}) c.append_part.ensures.items, named)
 
 pub append_trimmed-requires-clause-len : goal.append_trimmed-requires-clause-len
 append_trimmed-requires-clause-len c = (told_is _ _ _ _ _ _ c.first_part-part.ensures.part c.requires.good c.in_ok-default.ensures.is).len c.if-default-gt0.true
@@ -29,18 +29,18 @@ pub append_trimmed-requires-clause-room : goal.append_trimmed-requires-clause-ro
 append_trimmed-requires-clause-room c =
     let t : IsTold (joined true c.args.text.now) c.first_part-part.result.name.now (joined true c.in_ok-default.default.from.now) (joined true c.in_ok-default.default.behind.now) c.in_ok-default.default.size = (told_is _ _ _ _ _ _ c.first_part-part.ensures.part c.requires.good c.in_ok-default.ensures.is) in
     let named = length-append c.args.to.now.items c.first_part-part.result.name.now in
-    omega (arith, t.size_is, c.requires.room, c.if-default-gt0.true, c.append.ensures.capacity, count_items c.append.new.bytes, count_items c.args.to.now, ap (length {A = ℕ}) c.append.ensures.items, named, c.push_reserved.ensures.len, c.push_reserved.ensures.capacity)
+    omega (arith, t.size_is, c.requires.room, c.if-default-gt0.true, c.append_part.ensures.capacity, count_items c.append_part.new.to, count_items c.args.to.now, ap (length {A = ℕ}) c.append_part.ensures.items, named, c.push_reserved.ensures.len, c.push_reserved.ensures.capacity)
 
 pub push_reserved-requires-2 : goal.push_reserved-requires-2
 push_reserved-requires-2 c =
     let t : IsTold (joined true c.args.text.now) c.first_part-part.result.name.now (joined true c.in_ok-default.default.from.now) (joined true c.in_ok-default.default.behind.now) c.in_ok-default.default.size = (told_is _ _ _ _ _ _ c.first_part-part.ensures.part c.requires.good c.in_ok-default.ensures.is) in
     let mid : IsMid (joined true c.args.text.now) c.args.to.now.items c.if-default-gt0.to.items = elim c.if-default-gt0.branch [
-      | then-default-gt0 w ↦ mid_long _ _ _ _ _ _ _ _ _ t w.if-default-gt0.true c.append.ensures.items w.push_reserved.ensures.items (ap (λ (v : Vec ℕ Global). v.items) w.to-is ∙ w.append_trimmed.ensures.items)
-      | else-default-gt0 w ↦ mid_short _ _ _ _ _ _ _ t (let z : c.in_ok-default.default.size ≡ 0 = omega (arith, w.if-default-gt0.false) in z) (ap (λ (v : Vec ℕ Global). v.items) w.to-is ∙ c.append.ensures.items)
+      | then-default-gt0 w ↦ mid_long _ _ _ _ _ _ _ _ _ t w.if-default-gt0.true c.append_part.ensures.items w.push_reserved.ensures.items (ap (λ (v : Vec ℕ Global). v.items) w.to-is ∙ w.append_trimmed.ensures.items)
+      | else-default-gt0 w ↦ mid_short _ _ _ _ _ _ _ t (let z : c.in_ok-default.default.size ≡ 0 = omega (arith, w.if-default-gt0.false) in z) (ap (λ (v : Vec ℕ Global). v.items) w.to-is ∙ c.append_part.ensures.items)
     ] in
     let room : vec_capacity c.args.to.now ≤ vec_capacity c.if-default-gt0.to = elim c.if-default-gt0.branch [
-      | then-default-gt0 w ↦ omega (arith, c.append.ensures.capacity, w.push_reserved.ensures.capacity, w.append_trimmed.ensures.capacity, ap (λ (v : Vec ℕ Global). vec_capacity v) w.to-is)
-      | else-default-gt0 w ↦ omega (arith, c.append.ensures.capacity, ap (λ (v : Vec ℕ Global). vec_capacity v) w.to-is)
+      | then-default-gt0 w ↦ omega (arith, c.append_part.ensures.capacity, w.push_reserved.ensures.capacity, w.append_trimmed.ensures.capacity, ap (λ (v : Vec ℕ Global). vec_capacity v) w.to-is)
+      | else-default-gt0 w ↦ omega (arith, c.append_part.ensures.capacity, ap (λ (v : Vec ℕ Global). vec_capacity v) w.to-is)
     ] in
     omega (arith, mid_length _ _ _ mid, room, c.requires.room, count_items c.if-default-gt0.to, count_items c.args.to.now)
 
@@ -48,8 +48,8 @@ pub returns-then-b-eq44-clause-items : goal.returns-then-b-eq44-clause-items
 returns-then-b-eq44-clause-items c =
     let t : IsTold (joined true c.args.text.now) c.first_part-part.result.name.now (joined true c.in_ok-default.default.from.now) (joined true c.in_ok-default.default.behind.now) c.in_ok-default.default.size = (told_is _ _ _ _ _ _ c.first_part-part.ensures.part c.requires.good c.in_ok-default.ensures.is) in
     let mid : IsMid (joined true c.args.text.now) c.args.to.now.items c.if-default-gt0.to.items = elim c.if-default-gt0.branch [
-      | then-default-gt0 w ↦ mid_long _ _ _ _ _ _ _ _ _ t w.if-default-gt0.true c.append.ensures.items w.push_reserved.ensures.items (ap (λ (v : Vec ℕ Global). v.items) w.to-is ∙ w.append_trimmed.ensures.items)
-      | else-default-gt0 w ↦ mid_short _ _ _ _ _ _ _ t (let z : c.in_ok-default.default.size ≡ 0 = omega (arith, w.if-default-gt0.false) in z) (ap (λ (v : Vec ℕ Global). v.items) w.to-is ∙ c.append.ensures.items)
+      | then-default-gt0 w ↦ mid_long _ _ _ _ _ _ _ _ _ t w.if-default-gt0.true c.append_part.ensures.items w.push_reserved.ensures.items (ap (λ (v : Vec ℕ Global). v.items) w.to-is ∙ w.append_trimmed.ensures.items)
+      | else-default-gt0 w ↦ mid_short _ _ _ _ _ _ _ t (let z : c.in_ok-default.default.size ≡ 0 = omega (arith, w.if-default-gt0.false) in z) (ap (λ (v : Vec ℕ Global). v.items) w.to-is ∙ c.append_part.ensures.items)
     ] in
     c.push_reserved-2.ensures.items ∙ mid.whole
 
@@ -60,8 +60,8 @@ pub returns-clause-items : goal.returns-clause-items
 returns-clause-items c =
     let t : IsTold (joined true c.args.text.now) c.first_part-part.result.name.now (joined true c.in_ok-default.default.from.now) (joined true c.in_ok-default.default.behind.now) c.in_ok-default.default.size = (told_is _ _ _ _ _ _ c.first_part-part.ensures.part c.requires.good c.in_ok-default.ensures.is) in
     let mid : IsMid (joined true c.args.text.now) c.args.to.now.items c.if-default-gt0.to.items = elim c.if-default-gt0.branch [
-      | then-default-gt0 w ↦ mid_long _ _ _ _ _ _ _ _ _ t w.if-default-gt0.true c.append.ensures.items w.push_reserved.ensures.items (ap (λ (v : Vec ℕ Global). v.items) w.to-is ∙ w.append_trimmed.ensures.items)
-      | else-default-gt0 w ↦ mid_short _ _ _ _ _ _ _ t (let z : c.in_ok-default.default.size ≡ 0 = omega (arith, w.if-default-gt0.false) in z) (ap (λ (v : Vec ℕ Global). v.items) w.to-is ∙ c.append.ensures.items)
+      | then-default-gt0 w ↦ mid_long _ _ _ _ _ _ _ _ _ t w.if-default-gt0.true c.append_part.ensures.items w.push_reserved.ensures.items (ap (λ (v : Vec ℕ Global). v.items) w.to-is ∙ w.append_trimmed.ensures.items)
+      | else-default-gt0 w ↦ mid_short _ _ _ _ _ _ _ t (let z : c.in_ok-default.default.size ≡ 0 = omega (arith, w.if-default-gt0.false) in z) (ap (λ (v : Vec ℕ Global). v.items) w.to-is ∙ c.append_part.ensures.items)
     ] in
     c.push_reserved-2.ensures.items ∙ mid.whole
 

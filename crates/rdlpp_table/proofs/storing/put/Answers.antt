@@ -21,33 +21,33 @@ pub append_trimmed-requires-clause-room : goal.append_trimmed-requires-clause-ro
 append_trimmed-requires-clause-room c =
     let formals : List Formal = unwrap_or (list_formals c.args.new.now.arity c.args.new.now.list.now) [] in
     let named = length-append c.args.bytes.now.items c.args.new.now.name.now in
-    let listed = length-append c.append.new.bytes.items (flat_map formal_bytes formals) in
-    omega (arith, c.requires.room, count_items c.args.bytes.now, count_items c.append_formals.new.bytes, ap (length {A = ℕ}) c.append.ensures.items, named, ap (length {A = ℕ}) c.append_formals.ensures.items, listed, length_list_bytes formals, c.requires.counted.listed.size_is, c.append.ensures.capacity, c.append_formals.ensures.capacity)
+    let listed = length-append c.append_part.new.to.items (flat_map formal_bytes formals) in
+    omega (arith, c.requires.room, count_items c.args.bytes.now, count_items c.append_formals.new.bytes, ap (length {A = ℕ}) c.append_part.ensures.items, named, ap (length {A = ℕ}) c.append_formals.ensures.items, listed, length_list_bytes formals, c.requires.counted.listed.size_is, c.append_part.ensures.capacity, c.append_formals.ensures.capacity)
 
 pub push_marks-requires-clause-whole : goal.push_marks-requires-clause-whole
 push_marks-requires-clause-whole c =
-    let a = appended_last c.append.new.bytes.items _ c.deref.result.now _ _ _ c.unwrap_or-count.result c.len-list.result c.requires.counted.listed c.append_formals.ensures.items (c.len-list.ensures ∙ count_items c.append.new.bytes) c.unwrap_or-count.ensures c.deref.ensures.value in
+    let a = appended_last c.append_part.new.to.items _ c.deref.result.now _ _ _ c.unwrap_or-count.result c.len-list.result c.requires.counted.listed c.append_formals.ensures.items (c.len-list.ensures ∙ count_items c.append_part.new.to) c.unwrap_or-count.ensures c.deref.ensures.value in
     a.whole
 
 pub push_marks-requires-clause-plain : goal.push_marks-requires-clause-plain
 push_marks-requires-clause-plain c =
-    let a = appended_last c.append.new.bytes.items _ c.deref.result.now _ _ _ c.unwrap_or-count.result c.len-list.result c.requires.counted.listed c.append_formals.ensures.items (c.len-list.ensures ∙ count_items c.append.new.bytes) c.unwrap_or-count.ensures c.deref.ensures.value in
+    let a = appended_last c.append_part.new.to.items _ c.deref.result.now _ _ _ c.unwrap_or-count.result c.len-list.result c.requires.counted.listed c.append_formals.ensures.items (c.len-list.ensures ∙ count_items c.append_part.new.to) c.unwrap_or-count.ensures c.deref.ensures.value in
     a.plain
 
 pub push_marks-requires-clause-short : goal.push_marks-requires-clause-short
 push_marks-requires-clause-short c =
-    let a = appended_last c.append.new.bytes.items _ c.deref.result.now _ _ _ c.unwrap_or-count.result c.len-list.result c.requires.counted.listed c.append_formals.ensures.items (c.len-list.ensures ∙ count_items c.append.new.bytes) c.unwrap_or-count.ensures c.deref.ensures.value in
+    let a = appended_last c.append_part.new.to.items _ c.deref.result.now _ _ _ c.unwrap_or-count.result c.len-list.result c.requires.counted.listed c.append_formals.ensures.items (c.len-list.ensures ∙ count_items c.append_part.new.to) c.unwrap_or-count.ensures c.deref.ensures.value in
     omega (arith, a.long, c.requires.small)
 
 pub push_marks-requires-clause-room : goal.push_marks-requires-clause-room
 push_marks-requires-clause-room c =
-    let a = appended_last c.append.new.bytes.items _ c.deref.result.now _ _ _ c.unwrap_or-count.result c.len-list.result c.requires.counted.listed c.append_formals.ensures.items (c.len-list.ensures ∙ count_items c.append.new.bytes) c.unwrap_or-count.ensures c.deref.ensures.value in
+    let a = appended_last c.append_part.new.to.items _ c.deref.result.now _ _ _ c.unwrap_or-count.result c.len-list.result c.requires.counted.listed c.append_formals.ensures.items (c.len-list.ensures ∙ count_items c.append_part.new.to) c.unwrap_or-count.ensures c.deref.ensures.value in
     omega (arith, appended_few _ _ _ c.unwrap_or-count.result _ c.requires.counted.listed a, c.requires.mark_room)
 
 pub stops_at-stops-requires-clause-listed : goal.stops_at-stops-requires-clause-listed
 stops_at-stops-requires-clause-listed c =
-    let a = appended_last c.append.new.bytes.items _ c.deref.result.now _ _ _ c.unwrap_or-count.result c.len-list.result c.requires.counted.listed c.append_formals.ensures.items (c.len-list.ensures ∙ count_items c.append.new.bytes) c.unwrap_or-count.ensures c.deref.ensures.value in
-    let b = appended_between c.append.new.bytes.items _ _ c.as_slice.result.now _ _ _ c.unwrap_or-count.result c.len-list.result c.len-body.result _ c.requires.counted.listed c.append_formals.ensures.items (c.append_trimmed.ensures.items ∙ ap (λ (l : List ℕ). c.append_formals.new.bytes.items ++ l) (body_is _ _)) (c.len-list.ensures ∙ count_items c.append.new.bytes) (c.len-body.ensures ∙ count_items c.append_formals.new.bytes) c.unwrap_or-count.ensures c.as_slice.ensures.value in
+    let a = appended_last c.append_part.new.to.items _ c.deref.result.now _ _ _ c.unwrap_or-count.result c.len-list.result c.requires.counted.listed c.append_formals.ensures.items (c.len-list.ensures ∙ count_items c.append_part.new.to) c.unwrap_or-count.ensures c.deref.ensures.value in
+    let b = appended_between c.append_part.new.to.items _ _ c.as_slice.result.now _ _ _ c.unwrap_or-count.result c.len-list.result c.len-body.result _ c.requires.counted.listed c.append_formals.ensures.items (c.append_trimmed.ensures.items ∙ ap (λ (l : List ℕ). c.append_formals.new.bytes.items ++ l) (body_is _ _)) (c.len-list.ensures ∙ count_items c.append_part.new.to) (c.len-body.ensures ∙ count_items c.append_formals.new.bytes) c.unwrap_or-count.ensures c.as_slice.ensures.value in
     appended_listed _ _ _ _ _ _ c.args.order.now.items c.deref-2.result.now c.len-first.result a b (c.deref-2.ensures.value ∙ c.push_marks.ensures.items) (c.len-first.ensures ∙ count_items c.args.order.now)
 
 pub returns-clause-stored : goal.returns-clause-stored
@@ -57,14 +57,14 @@ returns-clause-stored c =
     (new_plain _ _ _ _ _ _ c.requires.counted.listed)
     (c.len-start.ensures ∙ count_items c.args.bytes.now)
     (omega (arith, c.len-first.ensures, count_items c.args.order.now, c.len.ensures, length-drop (vec_len c.args.entries.now + 1) c.args.order.now.items, ap (length {A = ℕ}) c.requires.marked))
-    (new_bytes _ _ _ _ _ _ _ _ _ c.append.ensures.items c.append_formals.ensures.items (c.append_trimmed.ensures.items ∙ ap (λ (l : List ℕ). c.append_formals.new.bytes.items ++ l) (body_is _ _)))
+    (new_bytes _ _ _ _ _ _ _ _ _ c.append_part.ensures.items c.append_formals.ensures.items (c.append_trimmed.ensures.items ∙ ap (λ (l : List ℕ). c.append_formals.new.bytes.items ++ l) (body_is _ _)))
     (c.push_reserved.ensures.items ∙ ap (λ (e : Entry). c.args.entries.now.items ++ e ∷ []) (new_entry c.len-start.result (c.len-first.result - (c.len.result + 1)) _ _ _ _ _ _ _ _ c.requires.counted
     (new_stops c.args.new.now.name.now _ _ _ _ _ _ _ _ _ _ _ _ c.requires.counted.listed c.append_formals.ensures.items (c.append_trimmed.ensures.items ∙ ap (λ (l : List ℕ). c.append_formals.new.bytes.items ++ l) (body_is _ _))
-    (c.len-list.ensures ∙ count_items c.append.new.bytes) (c.len-body.ensures ∙ count_items c.append_formals.new.bytes) c.unwrap_or-count.ensures (c.stops_at-stops.ensures ∙ ap (λ (x : List ℕ). stops_told x c.len-list.result c.len-body.result c.unwrap_or-count.result) c.as_slice.ensures.value))))
+    (c.len-list.ensures ∙ count_items c.append_part.new.to) (c.len-body.ensures ∙ count_items c.append_formals.new.bytes) c.unwrap_or-count.ensures (c.stops_at-stops.ensures ∙ ap (λ (x : List ℕ). stops_told x c.len-list.result c.len-body.result c.unwrap_or-count.result) c.as_slice.ensures.value))))
 
 pub returns-clause-marked : goal.returns-clause-marked
 returns-clause-marked c =
-    let a = appended_last c.append.new.bytes.items _ c.deref.result.now _ _ _ c.unwrap_or-count.result c.len-list.result c.requires.counted.listed c.append_formals.ensures.items (c.len-list.ensures ∙ count_items c.append.new.bytes) c.unwrap_or-count.ensures c.deref.ensures.value in
+    let a = appended_last c.append_part.new.to.items _ c.deref.result.now _ _ _ c.unwrap_or-count.result c.len-list.result c.requires.counted.listed c.append_formals.ensures.items (c.len-list.ensures ∙ count_items c.append_part.new.to) c.unwrap_or-count.ensures c.deref.ensures.value in
     let n : vec_len c.push_reserved.new.self ≡ vec_len c.args.entries.now + 1 = omega (arith, c.push_reserved.ensures.len) in
     let m = put_marks c.args.order.now.items (marks_of _) c.push_marks.new.marks.items (macros_in c.args.bytes.now.items c.args.entries.now.items) (new_macro c.args.new.now.name.now c.args.new.now.arity c.args.new.now.list.now c.args.new.now.is_logical c.args.new.now.text.now) (vec_len c.args.entries.now + 1) (omega (arith, c.requires.index, count_items c.args.order.now)) c.requires.marked (appended_marks _ _ _ _ _ _ _ _ a) c.push_marks.ensures.items in
     ap (λ (k : ℕ). drop k c.push_marks.new.marks.items) n ∙ m.1

@@ -7,11 +7,11 @@ use Rattle.rdlpp_table.proofs.table.Table.new.Goals as goal
 pub invariant_of-result : goal.invariant_of-result
 invariant_of-result c = record {
   held = held_when_empty _ _ _ _ c.in-Ok.ensures.items c.in-Ok-with_capacity.ensures.items;
-  room = c.in-Ok.ensures.capacity;
-  entry_room = c.in-Ok-with_capacity.ensures.capacity;
+  room = c.in-Ok.ensures.exact;
+  entry_room = c.in-Ok-with_capacity.ensures.exact;
   indexed = index_of_nothing _ _ _ _ c.in-Ok-with_capacity.ensures.items (nothing_front _ _ c.in-Ok-with_capacity-2.ensures.items) refl (λ p h. get_or-replicate 1025 p 0 0 h);
   marked = nothing_marked _ _ _ _ c.in-Ok-with_capacity.ensures.items c.in-Ok-with_capacity-2.ensures.items;
-  index_room = c.in-Ok-with_capacity-2.ensures.capacity;
+  index_room = c.in-Ok-with_capacity-2.ensures.exact;
   few = c.requires.definitions.1;
   small = c.requires.definition_bytes.1;
 }
