@@ -57,7 +57,7 @@ pub struct Conditions {
 }
 
 impl Model for Conditions {
-    ghost use Rattle.std.specs.Prelude.{◌≤◌, length};
+    ghost use Rattle.std.specs.Prelude.{◌≡◌, ◌≤◌, length};
     ghost use Rattle.std.specs.Vec.{vec_capacity};
     ghost use Rattle.rdlpp_conditions.specs.Conditions.{ConditionsView, seen_of};
 
@@ -65,7 +65,7 @@ impl Model for Conditions {
 
     ghost view = { λ a. record { open_now = seen_of a.open.items; skipped = a.skipped; limit = a.limit } };
 
-    ghost invariant = { λ a. (length a.open.items ≤ a.limit) × (a.limit ≤ vec_capacity a.open) };
+    ghost invariant = { λ a. (length a.open.items ≤ a.limit) × (vec_capacity a.open ≡ a.limit) };
 }
 
 impl Conditions {
@@ -90,6 +90,13 @@ impl Conditions {
         ensures bound { result ≤ self.now.limit }
     {
         self.open.len()
+    }
+
+    /// How many open conditionals there is memory for: as many as the limit allows, however many are open.
+    pub fn capacity(&self) -> usize
+        ensures { result ≡ self.now.limit }
+    {
+        self.open.capacity()
     }
 
     /// Whether text is live: no open conditional skips it.
