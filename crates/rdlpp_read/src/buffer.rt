@@ -32,7 +32,7 @@ pub struct SourceBuffer<R> {
 }
 
 impl<R> Model for SourceBuffer<R> {
-    ghost use Rattle.std.specs.Prelude.{◌+◌, ◌-◌, ◌^◌, ◌≤◌, ◌<◌, take, vec_len};
+    ghost use Rattle.std.specs.Prelude.{◌≡◌, ◌+◌, ◌-◌, ◌^◌, ◌≤◌, ◌<◌, take, vec_len};
     ghost use Rattle.std.specs.Vec.{vec_capacity};
     ghost use Rattle.rdlpp_read.specs.Buffer.{BufferView, IsBuffer};
 
@@ -53,7 +53,7 @@ impl<R> Model for SourceBuffer<R> {
     ghost invariant = { λ f. (f.at ≤ f.accepted) × (f.accepted ≤ f.filled) × (f.filled ≤ vec_len f.bytes)
         × (f.line + (f.bytes_left + (f.accepted - f.at)) + 1 < 2 ^ 31)
         × (f.open_token_line ≤ f.line)
-        × (vec_len f.bytes ≤ f.line_bytes) × (f.line_bytes ≤ vec_capacity f.bytes) };
+        × (vec_len f.bytes ≤ f.line_bytes) × (vec_capacity f.bytes ≡ f.line_bytes) };
 }
 
 impl<R: Drop> SourceBuffer<R> {
@@ -171,6 +171,13 @@ impl<R: Drop> SourceBuffer<R> {
         ensures { result ≡ length self.now.window }
     {
         self.filled
+    }
+
+    /// How many bytes there is memory for: those of one line, however many are held.
+    pub fn capacity(&self) -> usize
+        ensures { result ≡ self.now.line_bytes }
+    {
+        self.bytes.capacity()
     }
 
     /// Uses `len` bytes, which have `lines` line ends, and answers where they begin.

@@ -313,6 +313,18 @@ impl<R: Drop> Files<R> {
         len
     }
 
+    /// How many bytes of texts there is memory for, of all slots: one line for each, however many sources are open.
+    pub fn capacity(&self) -> usize
+        requires { self.now.slots * self.now.line_bytes < 2 ^ 64 }
+        ensures { result ≡ self.now.slots * self.now.line_bytes }
+    {
+        let mut bytes = 0;
+        for file in &self.slots {
+            bytes += file.buffer.capacity();
+        }
+        bytes
+    }
+
     /// What always holds of the open sources.
     pub fn facts(&self)
         ensures { AreOpen self.now }

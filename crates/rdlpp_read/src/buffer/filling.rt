@@ -88,9 +88,11 @@ fn fill_room(bytes: &mut Vec<u8>, len: usize)
     requires reserved { len ≤ vec_capacity bytes.old }
     ensures len { vec_len bytes.new ≡ len }
     ensures kept { (n : ℕ) → n ≤ vec_len bytes.old → take n bytes.new.items ≡ take n bytes.old.items }
-    ensures capacity { vec_capacity bytes.old ≤ vec_capacity bytes.new }
+    ensures capacity { vec_capacity bytes.new ≡ vec_capacity bytes.old }
 {
-    let _ = bytes.resize(len, 0);
+    while bytes.len() < len {
+        bytes.push_reserved(0);
+    }
 }
 
 // Makes room behind the first `filled` bytes where there is none: a little for the first read of a source, and as much again
@@ -103,7 +105,7 @@ fn make_room(bytes: &mut Vec<u8>, filled: usize, line_bytes: usize)
     ensures inside { filled ≤ vec_len bytes.new }
     ensures within { vec_len bytes.new ≤ line_bytes }
     ensures kept { take filled bytes.new.items ≡ take filled bytes.old.items }
-    ensures capacity { vec_capacity bytes.old ≤ vec_capacity bytes.new }
+    ensures capacity { vec_capacity bytes.new ≡ vec_capacity bytes.old }
 {
     if filled == bytes.len() {
         fill_room(
