@@ -201,7 +201,7 @@ stack-moved slots first at bindings own inside e h =
 
 -- where it is closed
 pub stack-closed : (slots : List Slot) (first : ℕ) (bindings new : Vec Range Global) (own : Slot) (kept : ℕ) → first < length slots → own ≡ get_or slots first own
-    → kept ≡ kept_by own.kind (length bindings.items) → new.items ≡ take kept bindings.items → vec_capacity bindings ≤ vec_capacity new
+    → kept ≡ kept_by own.kind (length bindings.items) → new.items ≡ take kept bindings.items → vec_capacity new ≡ vec_capacity bindings
     → IsStack slots first bindings → IsStack slots (first + 1) new
 stack-closed slots first bindings new own kept inside e k is more h =
     let room = h.room in

@@ -99,7 +99,7 @@ pub record IsStack {A : Type 0} (slots : List Slot) (first : ℕ) (bindings : Ve
   pub inside : first ≤ length slots
   pub laid : AreLaid (drop first slots) bindings.items
   pub bounded : AreBounded (drop first slots)
-  pub room : 255 * (length slots + 1) ≤ vec_capacity bindings
+  pub room : vec_capacity bindings ≡ 255 * (length slots + 1)
 
 -- what is no body
 abbrev pub IsNoBody : SlotKind → Type 0

@@ -1,4 +1,4 @@
-use Rattle.std.proofs.Common.{◌<◌, ◌+◌, List, ℕ, length, drop, ap, refl, ◌∙◌, arith}
+use Rattle.std.proofs.Common.{◌<◌, ◌+◌, List, ℕ, length, drop, ap, refl, ◌∙◌}
 use Rattle.rdlpp_texts.specs.declared.bindings.Range.{Range}
 use Rattle.rdlpp_table.proofs.Sizes.{count_items}
 use Rattle.rdlpp_texts.specs.Opened.{kept_by, opens_of}
@@ -13,7 +13,7 @@ invariant_of-self c =
     let some : c.self.inside.first < length c.self.inside.slots.items = some-open c.self.inside.slots.items c.self.inside.first c.self.inside.bindings.items (rw (← c.self.view_is) at c.requires) in
     stack-closed c.self.inside.slots.items c.self.inside.first c.self.inside.bindings c.truncate.new.self c.index.result.now _ some c.index.ensures
     (c.kept_by-kept.ensures ∙ ap (λ (n : ℕ). kept_by c.index.result.now.kind n) (c.len.ensures ∙ count_items c.self.inside.bindings))
-    c.truncate.ensures.items (omega (arith, c.truncate.ensures.capacity)) c.self.invariant
+    c.truncate.ensures.items c.truncate.ensures.capacity c.self.invariant
 
 pub returns : goal.returns
 returns c =
