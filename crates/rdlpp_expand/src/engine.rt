@@ -242,12 +242,16 @@ impl<S: Sources> Engine<S> {
         ensures place { IfSome result (IsPlaced self.new) }
         ensures walks { WalksOver S.Sources most_silent self.old self.new (step_answer self.new result) }
     {
-        'stepping: for _round in 0..FURTHER_STEPS {
+        let mut silent = 0;
+        loop {
             if let Some(place) = self.step() {
                 return Some(place);
             }
+            if silent == FURTHER_STEPS {
+                return None;
+            }
+            silent += 1;
         }
-        self.step()
     }
 
     // Takes one step, or 256 over open texts at most, which may lend nothing.

@@ -26,9 +26,9 @@ pub trait Watcher {
         ensures looks { looks self.new ≡ looks self.old };
 }
 
-// Nobody watches.
+/// Nobody watches: it is shown nothing.
 #[derive(Drop)]
-pub(crate) struct Unwatched {}
+pub struct Unwatched {}
 
 impl Watcher for Unwatched {
     ghost use Rattle.std.specs.Prelude.{false};

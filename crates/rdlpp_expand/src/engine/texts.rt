@@ -86,18 +86,19 @@ impl<S: Sources> Engine<S> {
         ensures walks { IsBounded self.new → WalksOver S.Sources 255 self.old self.new (step_answer self.new (place_of result)) }
         ensures leaves { LeavesTexts result self.new }
     {
-        'stepping: for _round in 0..FURTHER_STEPS {
+        let mut silent = 0;
+        loop {
             match self.step_text() {
                 TextStep::Silent => {
                     self.facts();
-                    if self.expansion.is_empty() {
+                    if silent == FURTHER_STEPS || self.expansion.is_empty() {
                         return TextStep::Silent;
                     }
+                    silent += 1;
                 }
                 step => return step,
             }
         }
-        self.step_text()
     }
 
     // Takes one step over the open texts of a usage.
