@@ -1,6 +1,6 @@
 -- Sources that note what is opened, and the paths that were noted.
 -- A definition that names no source is this project's own.
-use Rattle.std.specs.Prelude.{◌≡◌, ℕ, Bool, true, List, [], ◌∷◌, ◌++◌, map, bytes_eq, Result, Ok, Err, if◌then◌else◌}
+use Rattle.std.specs.Prelude.{◌≡◌, ℕ, Bool, true, false, List, [], ◌∷◌, ◌++◌, map, bytes_eq, Result, Ok, Err, if◌then◌else◌}
 use Rattle.std.specs.List.{list_any}
 use Rattle.std.specs.String.{string_bytes}
 use Rattle.rdlpp_source.specs.declared.sources.Found.{Found}
@@ -20,6 +20,10 @@ paths_of opened = map string_bytes opened.paths.keys
 abbrev pub noted_paths : {S : Type 0} → Recorded S → OpenedPaths
 noted_paths r = r.opened
 
+-- whether sources note the paths of what they open
+abbrev pub is_noting : {S : Type 0} → Recorded S → Bool
+is_noting r = r.is_noting
+
 -- whether memory was there for each of them
 abbrev pub is_whole : OpenedPaths → Bool
 is_whole opened = opened.is_whole
@@ -36,3 +40,8 @@ NotesPath old new path = is_whole new ≡ true → (is_whole old ≡ true) × (p
 abbrev pub NotesAnswer : {R : Type 0} → OpenedPaths → OpenedPaths → Result (Found R) SourceFault → Type 0
 NotesAnswer old new (Ok found) = NotesPath old new found.path.bytes
 NotesAnswer old new (Err fault) = new ≡ old
+
+-- so it is where paths are noted, and else nothing was noted
+abbrev pub NotesWhere : {R : Type 0} → Bool → OpenedPaths → OpenedPaths → Result (Found R) SourceFault → Type 0
+NotesWhere true old new answer = NotesAnswer old new answer
+NotesWhere false old new answer = new ≡ old

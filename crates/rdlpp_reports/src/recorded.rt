@@ -1,10 +1,10 @@
 //! Sources that note what is opened.
-ghost use Rattle.std.specs.Prelude.{◌≡◌, [], map, true, IfErr};
+ghost use Rattle.std.specs.Prelude.{◌≡◌, [], map, true, false, IfErr};
 ghost use Rattle.std.specs.Io.{ReadsAtMost};
 ghost use Rattle.std.specs.String.{string_bytes};
 ghost use Rattle.rdlpp_source.specs.Counts.{Counts};
 ghost use Rattle.rdlpp_source.specs.Sources.{Finds, Reads, is_device, is_no_memory};
-ghost use Rattle.rdlpp_reports.specs.Recorded.{is_whole, noted_paths, noted_sources, paths_of, NotesAnswer, NotesPath};
+ghost use Rattle.rdlpp_reports.specs.Recorded.{is_noting, is_whole, noted_paths, noted_sources, paths_of, NotesWhere, NotesPath};
 
 use indexmap::IndexSet;
 use rdlpp_source::{Found, SourceFault, Sources};
@@ -62,7 +62,7 @@ impl OpenedPaths {
     }
 }
 
-/// Sources over others, which note the path of each source that they open.
+/// Sources over others, which may note the path of each source that they open.
 ///
 /// They answer what the sources below answer, and count as these do. Where memory is refused for a path, the list of the paths
 /// isn't whole, and nothing else changes.
@@ -70,18 +70,35 @@ impl OpenedPaths {
 pub struct Recorded<S> {
     sources: S,
     opened: OpenedPaths,
+    is_noting: bool,
 }
 
 impl<S: Sources> Recorded<S> {
-    /// Sources over others, with no path noted.
+    /// Sources over others, with no path noted, which note each path.
     pub fn new(alloc: Global, sources: S) -> Recorded<S>
         ensures sources { noted_sources result ≡ sources }
         ensures paths { paths_of (noted_paths result) ≡ [] }
         ensures whole { is_whole (noted_paths result) ≡ true }
+        ensures noting { is_noting result ≡ true }
     {
         Recorded {
             sources,
             opened: OpenedPaths::new(alloc),
+            is_noting: true,
+        }
+    }
+
+    /// Sources over others, with no path noted, which note none.
+    pub fn silent(alloc: Global, sources: S) -> Recorded<S>
+        ensures sources { noted_sources result ≡ sources }
+        ensures paths { paths_of (noted_paths result) ≡ [] }
+        ensures whole { is_whole (noted_paths result) ≡ true }
+        ensures noting { is_noting result ≡ false }
+    {
+        Recorded {
+            sources,
+            opened: OpenedPaths::new(alloc),
+            is_noting: false,
         }
     }
 
@@ -99,11 +116,15 @@ impl<S: Sources> Recorded<S> {
         &self.opened
     }
 
-    // Notes the path of what was found.
+    // Notes the path of what was found, where paths are noted.
     fn note(&mut self, answer: &Result<Found<S::Reader>, SourceFault>)
-        ensures notes { NotesAnswer (noted_paths self.old) (noted_paths self.new) answer.now }
+        ensures notes { NotesWhere (is_noting self.old) (noted_paths self.old) (noted_paths self.new) answer.now }
+        ensures noting { is_noting self.new ≡ is_noting self.old }
         ensures sources { noted_sources self.new ≡ noted_sources self.old }
     {
+        if !self.is_noting {
+            return;
+        }
         if let Ok(found) = answer {
             self.opened.note(found.path.as_str());
         }
@@ -113,7 +134,7 @@ impl<S: Sources> Recorded<S> {
 impl<S: Sources> Sources for Recorded<S> {
     type Reader = S::Reader;
 
-    ghost use Rattle.rdlpp_reports.specs.Recorded.{noted_sources, noted_paths, NotesAnswer};
+    ghost use Rattle.rdlpp_reports.specs.Recorded.{is_noting, noted_sources, noted_paths, NotesWhere};
 
     ghost tells = { λ r. S.tells (noted_sources r) };
 
@@ -131,7 +152,8 @@ impl<S: Sources> Sources for Recorded<S> {
         ensures refusals { Counts (is_no_memory result) (S.refusals (noted_sources self.old)) (S.refusals (noted_sources self.new)) }
         ensures tells { S.tells (noted_sources self.old) → S.tells (noted_sources self.new) }
         ensures catalog { S.catalog (noted_sources self.new) ≡ S.catalog (noted_sources self.old) }
-        ensures notes { NotesAnswer (noted_paths self.old) (noted_paths self.new) result }
+        ensures notes { NotesWhere (is_noting self.old) (noted_paths self.old) (noted_paths self.new) result }
+        ensures noting { is_noting self.new ≡ is_noting self.old }
     {
         let answer = self.sources.top(path);
         self.note(&answer);
@@ -144,7 +166,8 @@ impl<S: Sources> Sources for Recorded<S> {
         ensures refusals { Counts (is_no_memory result) (S.refusals (noted_sources self.old)) (S.refusals (noted_sources self.new)) }
         ensures tells { S.tells (noted_sources self.old) → S.tells (noted_sources self.new) }
         ensures catalog { S.catalog (noted_sources self.new) ≡ S.catalog (noted_sources self.old) }
-        ensures notes { NotesAnswer (noted_paths self.old) (noted_paths self.new) result }
+        ensures notes { NotesWhere (is_noting self.old) (noted_paths self.old) (noted_paths self.new) result }
+        ensures noting { is_noting self.new ≡ is_noting self.old }
     {
         let answer = self.sources.find(from, name);
         self.note(&answer);
@@ -160,6 +183,7 @@ impl<S: Sources> Sources for Recorded<S> {
         ensures tells { S.tells (noted_sources self.old) → S.tells (noted_sources self.new) }
         ensures catalog { S.catalog (noted_sources self.new) ≡ S.catalog (noted_sources self.old) }
         ensures notes { noted_paths self.new ≡ noted_paths self.old }
+        ensures noting { is_noting self.new ≡ is_noting self.old }
     {
         self.sources.read(reader, to)
     }
