@@ -83,7 +83,7 @@ clean: ## remove all that was built, and what proofs were kept, so that the next
 fmt: ## lay out every file
 	@for crate in crates/*/; do (cd $$crate && rt fmt); done
 
-bench: out/rdlpp out/librdlpp_c.a ## build the programs, compare speed and memory with cat, cpp, ivlpp and m4, and calls from Python with the program
+bench: out/rdlpp out/librdlpp_c.a ## build the programs, compare speed and memory with cat and five other tools, and calls from Python with the program
 	@bench/compare out/rdlpp
 	@bench/python out/rdlpp
 
