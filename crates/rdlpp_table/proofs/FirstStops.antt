@@ -15,13 +15,13 @@ use Rattle.rdlpp_scan.proofs.QuietTokens.{is_still, quiet_first, IsQuietToken}
 use Rattle.rdlpp_scan.proofs.TokenLens.{tokens_from-step, token_of-part}
 use Rattle.rdlpp_table.specs.declared.stop.Stop.{Stop}
 use Rattle.rdlpp_table.specs.Table.{Formal, Macro}
-use Rattle.rdlpp_table.specs.Stops.{first_stop, is_none, or_stop, quiet_len, stop_at, stop_name, stop_of, is_copied, stop_in}
+use Rattle.rdlpp_table.specs.Stops.{first_stop, is_none, or_stop, quiet_len, stop_at, stop_name, stop_of, stop_in}
 use Rattle.rdlpp_table.specs.View.{formal_named, TableView, formals_of, macro_at}
 use Rattle.rdlpp_scan.specs.Ordinary.{is_plain_kind}
 use Rattle.rdlpp_scan.proofs.FirstTokens.{plain_token-run, IsRun}
 use Rattle.rdlpp_scan.proofs.RangeLaws.{token_of-front, EndsIn}
 use Rattle.rdlpp_scan.proofs.StopKinds.{Row, AtPerl, AtLineComment, AtBlockComment, AtString, AtBack, AtBare, AtPlain, token_of-row}
-use Rattle.rdlpp_table.specs.Kept.{stop_end, endless, first_stops, is_behind_quiet, is_kept_none, is_known, kept_from, kept_of, placed, quiet_kept, stop_by, stop_kept}
+use Rattle.rdlpp_table.specs.Kept.{stop_end, endless, first_stops, is_behind_quiet, is_known, kept_from, kept_of, placed, quiet_kept, stop_by, stop_kept}
 use Rattle.rdlpp_table.specs.declared.kept.FirstStops.{FirstStops}
 use Rattle.rdlpp_table.specs.declared.kept.Kept.{Kept}
 use Rattle.rdlpp_table.specs.declared.kept.KeptKind.{KeptKind}
@@ -460,19 +460,6 @@ kept_back (stop.Formal at len place) quiet = back_when _ kept.Formal at len plac
 kept_back (stop.Usage at len) quiet = back_when _ kept.Usage at len 0 quiet _ refl
 kept_back (stop.Bare at) quiet = back_when _ kept.Bare at 1 0 quiet _ refl
 
-none_when : (b : Bool) (kind : KeptKind) (at len place quiet : ℕ) → is_kept_none (when true kind at len place quiet) ≡ false → is_kept_none (when b kind at len place quiet) ≡ false
-unfolding is_kept_none endless
-none_when true kind at len place quiet e = e
-none_when false kind at len place quiet e = refl
-
--- and no stop is kept as such
-pub kept_none : (s : Stop) (quiet : ℕ) → is_kept_none (kept_of s quiet) ≡ is_none s
-unfolding is_kept_none kept_of is_none endless placed
-kept_none stop.None quiet = refl
-kept_none (stop.Formal at len place) quiet = none_when _ kept.Formal at len place quiet refl
-kept_none (stop.Usage at len) quiet = none_when _ kept.Usage at len 0 quiet refl
-kept_none (stop.Bare at) quiet = none_when _ kept.Bare at 1 0 quiet refl
-
 pub none_end : stop_end stop.None ≡ 0
 unfolding stop_end
 none_end = refl
@@ -616,12 +603,6 @@ body_here bs bytes entries a b view i j entry body p e s h q f =
 pub formals_here : (bs bytes : List ℕ) (entries : List Entry) (a b : ℕ) (view : TableView) (i j : ℕ) (entry : Entry) (formals : List Formal) → bs ≡ bytes → view_of bytes entries a b ≡ view → i ≡ j → i < length entries → entry ≡ get_or entries i entry → formals ≡ formals_of (macro_in bs entry) → formals ≡ formals_of (macro_at view.macros j)
 formals_here bs bytes entries a b view i j entry formals p e s h q f =
     f ∙ ap (λ (m : Macro). formals_of m) (macro_here bs bytes entries a b view i j entry p e s h q)
-
--- the first stop that is kept tells whether a body is copied
-pub copied_of : (m : Macro) (stops : FirstStops) (b : Bool) → stops ≡ first_stops (formals_of m) m.body → b ≡ is_kept_none stops.first → b ≡ is_copied m
-unfolding is_copied kept_from
-copied_of m stops b e n =
-    n ∙ (ap is_kept_none (first_of (formals_of m) m.body stops e) ∙ kept_none (stop_of (formals_of m) 0 m.body) (quiet_kept m.body))
 
 -- a stop that was read of a body
 pub some_kept : (m : Macro) (formals : List Formal) (body : List ℕ) (from to : ℕ) (s : Stop) → formals ≡ formals_of m → body ≡ m.body → s ≡ stop_of formals from (slice_range body from to) → s ≡ stop_in m from to

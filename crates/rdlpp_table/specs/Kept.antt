@@ -49,10 +49,6 @@ stop_by kept.Bare at len place = Some (stop.Bare at)
 unfoldable pub stop_kept : Kept → Option Stop
 stop_kept k = stop_by k.kind (k.end - k.len) k.len k.place
 
--- whether it is kept that there is no stop
-unfoldable pub is_kept_none : Kept → Bool
-is_kept_none k = elim k.kind [ kept.None ↦ true | _ ↦ false ]
-
 -- how many quiet bytes a text begins with, as they are kept
 unfoldable pub quiet_kept : List ℕ → ℕ
 quiet_kept text = let quiet = prefix_len is_quiet text in if nat_lt quiet 255 then quiet else 255

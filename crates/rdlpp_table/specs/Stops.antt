@@ -56,7 +56,3 @@ is_none _ = false
 -- the first stop in a range of the body of a macro
 unfoldable pub stop_in : Macro → ℕ → ℕ → Stop
 stop_in m from to = stop_of (formals_of m) from (slice_range m.body from to)
-
--- whether the body of a macro is copied as it stands: it has no usage, no lone backquote and no formal
-unfoldable pub is_copied : Macro → Bool
-is_copied m = is_none (stop_of (formals_of m) 0 m.body)

@@ -4,7 +4,6 @@ ghost use Rattle.rdlpp_table.specs.Kept.{
   endless,
   first_stops,
   is_behind_quiet,
-  is_kept_none,
   is_known,
   kept_from,
   kept_of,
@@ -123,14 +122,6 @@ fn stop_kept(kept: Kept) -> Option<Stop>
     let len = kept.len as usize;
     let at = (kept.end as usize).saturating_sub(len);
     stop_by(kept.kind, at, len, kept.place as usize)
-}
-
-// Whether it is kept that there is no stop.
-#[tactic(auto, unfolding(crate::specs::Kept::is_kept_none))]
-pub(crate) fn is_kept_none(kept: Kept) -> bool
-    ensures { result ≡ is_kept_none kept }
-{
-    matches!(kept.kind, KeptKind::None)
 }
 
 // How many quiet bytes a text begins with, as they are kept.

@@ -4,7 +4,7 @@ ghost use Rattle.rdlpp_table.specs.New.{list_formals, new_macro, IsList, IsNew};
 ghost use Rattle.rdlpp_lines.specs.Continuations.{joined};
 ghost use Rattle.rdlpp_table.specs.Index.{IsCounted};
 ghost use Rattle.rdlpp_table.specs.Limits.{AreInRange};
-ghost use Rattle.rdlpp_table.specs.Stops.{is_copied, stop_in};
+ghost use Rattle.rdlpp_table.specs.Stops.{stop_in};
 ghost use Rattle.rdlpp_table.specs.Table.{macro_named, table_bytes, table_size, without};
 ghost use Rattle.rdlpp_scan.specs.SourceTokens.{logical_len};
 ghost use Rattle.rdlpp_table.specs.Define.{define_of, name_fault, observed, set_of, stored, stored_draft, with_body, with_list};
@@ -16,7 +16,7 @@ use crate::fault::{DefineFault, DefineKind, NoMemory, lexical, refusal};
 use crate::formals::read_list;
 use crate::header::{after_space, leading_name, list_behind, unended};
 use crate::index::place_in;
-use crate::kept::{is_kept_none, known_stop};
+use crate::kept::known_stop;
 use crate::limits::Limits;
 use crate::marks::{LONG_FORMAL, Listed, default_of, place_of};
 use crate::name::check_name;
@@ -213,15 +213,6 @@ impl Table {
         ensures { result ≡ option_map length (macro_at self.now.macros id).formals }
     {
         self.entries[id.index].arity
-    }
-
-    /// Whether the body of a macro is copied as it stands: no usage, no lone backquote and no formal of the macro
-    /// stands in it as a token. Takes the same time however long the body is.
-    pub fn is_copied(&self, id: MacroId) -> bool
-        requires { id < length self.now.macros }
-        ensures { result ≡ is_copied (macro_at self.now.macros id) }
-    {
-        is_kept_none(self.entries[id.index].stops.first)
     }
 
     /// The first place, from `from` on and before `to`, of the body of a macro that isn't copied as it stands:
