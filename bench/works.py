@@ -70,6 +70,12 @@ def random_usages(macros, count):
     return head + b"".join(b"    reset = @REG_%d;\n" % chosen.randrange(macros) for _ in range(count))
 
 
+def definitions(macros):
+    """Definitions alone, each with a body of a line."""
+    lines = [FIELD.strip() % (number % 32, number % 16) for number in range(macros)]
+    return b"".join(b"@define FIELD_%d %b\n" % (number, line) for number, line in enumerate(lines))
+
+
 def calls(size):
     """A call with two arguments on every line, three macros deep."""
     head = (b"@define FIELD(w, r) field { reset = r; } f[w];\n@define PAIR(w, r) @FIELD(w, r) @FIELD(w, 0)\n"
@@ -159,7 +165,8 @@ def works(megabytes):
     for macros in (10, 1000, 4000):
         yield Work(f"usages of {macros} macros", usages(size // 3, macros))
     yield Work("a usage on fifth lines", fifth_lines(size // 2))
-    room = ("--max-definitions", "65536", "--max-definition-bytes", "4194304")
+    room = ("--max-definitions", "65536", "--max-definition-bytes", "16777216")
+    yield Work("60,000 definitions", definitions(60000), options=room)
     yield Work("60,000 macros at random", random_usages(60000, 240000), options=room)
     yield Work("bodies of 1 kB", long_bodies(size // 1024), over_output=True)
     yield from in_calls(size)

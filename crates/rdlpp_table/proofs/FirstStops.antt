@@ -15,7 +15,7 @@ use Rattle.rdlpp_scan.proofs.QuietTokens.{is_still, quiet_first, IsQuietToken}
 use Rattle.rdlpp_scan.proofs.TokenLens.{tokens_from-step, token_of-part}
 use Rattle.rdlpp_table.specs.declared.stop.Stop.{Stop}
 use Rattle.rdlpp_table.specs.Table.{Formal, Macro}
-use Rattle.rdlpp_table.specs.Stops.{first_stop, is_none, or_stop, quiet_len, stop_at, stop_name, stop_of, stop_in}
+use Rattle.rdlpp_table.specs.Stops.{first_stop, is_none, or_stop, stop_at, stop_name, stop_of, stop_in}
 use Rattle.rdlpp_table.specs.View.{formal_named, TableView, formals_of, macro_at}
 use Rattle.rdlpp_scan.specs.Ordinary.{is_plain_kind}
 use Rattle.rdlpp_scan.proofs.FirstTokens.{plain_token-run, IsRun}
@@ -173,27 +173,6 @@ quiet_one formals at b bs q =
     (cases_Bool (is_blank b))
 
 -- quiet bytes are passed
-quiet_run : (formals : List Formal) (at : ℕ) (bs : List ℕ)
-    → first_stop formals (at + prefix_len is_quiet bs) (tokens_from Plain 0 (drop (prefix_len is_quiet bs) bs)) (drop (prefix_len is_quiet bs) bs) ≡ first_stop formals at (tokens_from Plain 0 bs) bs
-quiet_run formals at [] = ap (λ (n : ℕ). first_stop formals n (tokens_from Plain 0 []) []) (omega arith)
-quiet_run formals at (b ∷ bs) =
-    let F : ℕ → Stop = λ n. first_stop formals (at + n) (tokens_from Plain 0 (drop n (b ∷ bs))) (drop n (b ∷ bs)) in
-    let k = prefix_len is_quiet bs in
-    ⊎_elim
-    (λ h. ap F (prefix_more is_quiet b bs h)
-    ∙ (ap (λ (n : ℕ). first_stop formals n (tokens_from Plain 0 (drop k bs)) (drop k bs)) (omega arith)
-    ∙ (quiet_run formals (at + 1) bs ∙ sym (quiet_one formals at b bs h))))
-    (λ h. ap F (prefix_none is_quiet b bs h) ∙ ap (λ (n : ℕ). first_stop formals n (tokens_from Plain 0 (b ∷ bs)) (b ∷ bs)) (omega arith))
-    (cases_Bool (is_quiet b))
-
-quiet_passed : (formals : List Formal) (mode : Mode) (at : ℕ) (bs : List ℕ)
-    → first_stop formals (at + quiet_len mode bs) (tokens_from mode 0 (drop (quiet_len mode bs) bs)) (drop (quiet_len mode bs) bs) ≡ first_stop formals at (tokens_from mode 0 bs) bs
-unfolding quiet_len
-quiet_passed formals Plain at bs = quiet_run formals at bs
-quiet_passed formals InStr at bs = ap (λ (n : ℕ). first_stop formals n (tokens_from InStr 0 bs) bs) (omega arith)
-quiet_passed formals InBlock at bs = ap (λ (n : ℕ). first_stop formals n (tokens_from InBlock 0 bs) bs) (omega arith)
-
--- as are some of them
 pub quiet_some : (formals : List Formal) (at n : ℕ) (bs : List ℕ) → n ≤ prefix_len is_quiet bs
     → first_stop formals (at + n) (tokens_from Plain 0 (drop n bs)) (drop n bs) ≡ first_stop formals at (tokens_from Plain 0 bs) bs
 quiet_some formals at zero bs h = ap (λ (m : ℕ). first_stop formals m (tokens_from Plain 0 bs) bs) (omega arith)
@@ -208,14 +187,6 @@ quiet_some formals at (suc n) (b ∷ bs) h =
 -- what stands behind a place, as a range up to the end
 pub behind_place : (n : ℕ) (xs : List ℕ) → take (length xs - n) (drop n xs) ≡ drop n xs
 behind_place n xs = take_all (length xs - n) (drop n xs) (omega (arith, length-drop n xs))
-
-pub stopping_quiet : (formals : List Formal) (from : ℕ) (text : List ℕ) (mode : Mode) (at : ℕ) (rest after : List ℕ) (n : ℕ) → IsStopping formals from text mode at rest → n ≡ quiet_len mode rest → n ≤ length rest → after ≡ drop n rest → IsStopping formals from text mode (at + n) after
-stopping_quiet formals from text mode at rest after n i is inside e =
-    let F : ℕ → Stop = λ m. first_stop formals (at + m) (tokens_from mode 0 (drop m rest)) (drop m rest) in
-    record {
-      same = ap (λ (r : List ℕ). first_stop formals (at + n) (tokens_from mode 0 r) r) e ∙ (ap F is ∙ (quiet_passed formals mode at rest ∙ i.same));
-      place = omega (arith, ap length e, length-drop n rest, i.place, inside);
-    }
 
 -- The first stop of a range of a text, beside that of the text from a place on.
 

@@ -1,10 +1,7 @@
 -- Where the body of a macro isn't copied as it stands.
 -- A definition that names no source is this project's own.
 use Rattle.std.specs.Prelude.{ℕ, ◌+◌, Bool, true, false, List, [], ◌∷◌, take, drop, slice_range, Option, Some, None}
-use Rattle.std.specs.List.{prefix_len}
-use Rattle.rdlpp_scan.specs.Bytes.{is_quiet}
 use Rattle.rdlpp_scan.specs.declared.token.Kind.TheVariants.{Name, Back, BareBackquote}
-use Rattle.rdlpp_scan.specs.declared.token.Mode.{Mode}
 use Rattle.rdlpp_scan.specs.declared.token.Mode.TheVariants.{Plain}
 use Rattle.rdlpp_scan.specs.declared.token.Token.{Token}
 use Rattle.rdlpp_scan.specs.Tokens.{tokens_from}
@@ -37,12 +34,6 @@ unfoldable pub first_stop : List Formal → ℕ → List Token → List ℕ → 
 first_stop formals at [] text = stop.None
 first_stop formals at (t ∷ ts) text =
     or_stop (stop_at formals at t (take t.len text)) (first_stop formals (at + t.len) ts (drop t.len text))
-
--- how many bytes a text begins with of which none is part of a stop, nor of a token that may go on behind them: none but in plain
--- text
-unfoldable pub quiet_len : Mode → List ℕ → ℕ
-quiet_len Plain text = prefix_len is_quiet text
-quiet_len _ text = 0
 
 -- the first stop of a text that begins at a place, where it is read from plain text on (this project's profile)
 unfoldable pub stop_of : List Formal → ℕ → List ℕ → Stop

@@ -1,11 +1,11 @@
 // Where the text of a body isn't copied as it stands.
 ghost use Rattle.std.specs.Prelude.{[], length, slice_index, ◌+◌, ◌<◌, ◌≡◌, ◌≤◌, ◌^◌};
 ghost use Rattle.rdlpp_table.specs.Kept.{stop_end};
-ghost use Rattle.rdlpp_table.specs.Stops.{is_none, quiet_len, stop_at, stop_of};
+ghost use Rattle.rdlpp_table.specs.Stops.{is_none, stop_at, stop_of};
 ghost use Rattle.rdlpp_table.specs.Store.{formals_read, IsListed};
 
 use crate::marks::{Listed, place_of};
-use rdlpp_scan::{Kind, Mode, Token, first_token, quiet_bytes};
+use rdlpp_scan::{Kind, Mode, Token, first_token};
 
 /// The first place of a range of a body that isn't copied as it stands.
 ///
@@ -66,18 +66,6 @@ fn stop_at(formals: &Listed, at: usize, token: Token, text: &[u8]) -> Stop
     }
 }
 
-// How many bytes a text begins with that are passed one by one: none but in plain text.
-#[tactic(auto, unfolding(crate::specs::Stops::quiet_len))]
-fn quiet_len(mode: Mode, text: &[u8]) -> usize
-    ensures value { result ≡ quiet_len mode text.now }
-    ensures inside { result ≤ length text.now }
-{
-    match mode {
-        Mode::Plain => quiet_bytes(text),
-        _ => 0,
-    }
-}
-
 // The first stop of a text whose first byte stands at a place, among formals as they lie in a table.
 pub(crate) fn first_stop(formals: &Listed, text: &[u8], from: usize) -> Stop
     requires listed { IsListed formals.now.count formals.now.list.now formals.now.marks.now }
@@ -89,12 +77,6 @@ pub(crate) fn first_stop(formals: &Listed, text: &[u8], from: usize) -> Stop
     let mut rest = text;
     let mut at = from;
     while !rest.is_empty() {
-        let quiet = quiet_len(mode, rest);
-        if quiet > 0 {
-            at += quiet;
-            rest = &rest[quiet..];
-            continue;
-        }
         let token = first_token(mode, rest);
         let (here, after) = rest.split_at(token.len);
         let stop = stop_at(formals, at, token, here);

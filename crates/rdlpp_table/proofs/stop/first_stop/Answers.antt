@@ -2,7 +2,7 @@ use Rattle.std.proofs.Common.{◌∙◌, ◌<◌, ap, length, arith, sym}
 use Rattle.std.proofs.lemmas.Bool.{eqb-true}
 use Rattle.rdlpp_table.specs.Kept.{stop_end}
 use Rattle.rdlpp_table.specs.Store.{formals_read}
-use Rattle.rdlpp_table.proofs.FirstStops.{none_end, token_end, behind_place, stopping_ended, stopping_found, stopping_more, stopping_quiet, stopping_start}
+use Rattle.rdlpp_table.proofs.FirstStops.{none_end, token_end, stopping_ended, stopping_found, stopping_more, stopping_start}
 use Rattle.rdlpp_table.proofs.stop.first_stop.Goals as goal
 
 pub loop-rest-init : goal.loop-rest-init
@@ -17,9 +17,6 @@ pub returns-then-not-is_none-clause-end : goal.returns-then-not-is_none-clause-e
 returns-then-not-is_none-clause-end c =
     let here = token_end (formals_read c.args.formals.now.count c.args.formals.now.list.now) c.loop-rest.at c.first_token-token.result c.split_at.result.0.now c.first_token-token.ensures.not_empty in
     omega (arith, ap stop_end c.stop_at-stop.ensures, here, c.loop-rest.invariant.place, c.first_token-token.ensures.inside)
-
-pub loop-rest-preserved-then-quiet-gt0 : goal.loop-rest-preserved-then-quiet-gt0
-loop-rest-preserved-then-quiet-gt0 c = stopping_quiet _ _ _ _ _ _ _ _ c.loop-rest.invariant c.quiet_len-quiet.ensures.value c.quiet_len-quiet.ensures.inside (behind_place c.quiet_len-quiet.result c.loop-rest.rest.now)
 
 pub loop-rest-preserved : goal.loop-rest-preserved
 loop-rest-preserved c =
