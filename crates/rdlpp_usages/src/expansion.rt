@@ -110,6 +110,13 @@ impl Expansion {
         self.arguments.bytes()
     }
 
+    /// How many kept bytes of a call there is memory for: as many as may be kept, however many are.
+    pub fn capacity(&self) -> usize
+        ensures { result ≡ self.now.most }
+    {
+        self.arguments.capacity()
+    }
+
     /// The line of the usage.
     pub fn line(&self) -> u64
         ensures { result ≡ self.now.line }

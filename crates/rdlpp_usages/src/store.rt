@@ -2,6 +2,7 @@
 ghost use Rattle.std.specs.Prelude.{◌≡◌, ◌+◌, ◌-◌, ◌≤◌, ◌++◌, [], length, IfOk};
 ghost use Rattle.rdlpp_usages.specs.Store.{StoreView};
 
+use rdlpp_lines::append_part;
 use std::alloc::{AllocError, Global};
 use std::marker::Model;
 
@@ -14,14 +15,14 @@ pub struct ArgumentStore {
 }
 
 impl Model for ArgumentStore {
-    ghost use Rattle.std.specs.Prelude.{◌≤◌, vec_capacity, vec_len};
+    ghost use Rattle.std.specs.Prelude.{◌≡◌, ◌≤◌, vec_capacity, vec_len};
     ghost use Rattle.rdlpp_usages.specs.Store.{StoreView};
 
     ghost Value = { StoreView };
 
     ghost view = { λ s. record { bytes = s.bytes.items; most = s.most } };
 
-    ghost invariant = { λ s. (vec_len s.bytes ≤ s.most) × (s.most ≤ vec_capacity s.bytes) };
+    ghost invariant = { λ s. (vec_len s.bytes ≤ s.most) × (vec_capacity s.bytes ≡ s.most) };
 }
 
 impl ArgumentStore {
@@ -54,6 +55,13 @@ impl ArgumentStore {
         self.bytes.as_slice()
     }
 
+    /// How many bytes there is memory for: as many as may be kept, however many are.
+    pub fn capacity(&self) -> usize
+        ensures { result ≡ self.now.most }
+    {
+        self.bytes.capacity()
+    }
+
     /// How many more bytes may be kept.
     pub fn room(&self) -> usize
         ensures value { result ≡ self.now.most - length self.now.bytes }
@@ -68,6 +76,6 @@ impl ArgumentStore {
         requires { length self.old.bytes + length more.now ≤ self.old.most }
         ensures { self.new ≡ record self.old { bytes = self.old.bytes ++ more.now } }
     {
-        let _ = self.bytes.extend_from_slice(more);
+        append_part(&mut self.bytes, more);
     }
 }
