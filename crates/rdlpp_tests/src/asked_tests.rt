@@ -2,7 +2,7 @@
 use crate::runs::{STANDARD, fault_of};
 use crate::sources::{Asked, AskedTexts, NOTHING};
 use arrayvec::ArrayString;
-use rdlpp::{FaultKind, Options, Sink, SinkFault, Texts, preprocess};
+use rdlpp::{FaultKind, Limits, Options, Sink, SinkFault, Texts, preprocess};
 use std::cell::Cell;
 use std::test::Fail;
 
@@ -68,6 +68,9 @@ const FILES: [(&str, &[u8]); 4] = [
     ("e", b""),
 ];
 
+// The bytes of the first, of `i` and `j` twice, and of `e`.
+const GIVEN: u64 = 92 + 2 * (14 + 3);
+
 // Each text is searched once for each directive that names it, no part without bytes is written, and no reader is asked after
 // its end.
 #[test]
@@ -97,6 +100,7 @@ fn asks_once(rt: HostRuntime) {
         tops: 1,
         finds: 5,
         late_reads: 0,
+        given: GIVEN,
     };
     assert_eq!(rt; asked.get(), wanted);
 }
@@ -132,6 +136,38 @@ fn opens_nothing_after_a_refused_definition(rt: HostRuntime) -> Result<(), Fail>
         assert_eq!(rt; asked.get().finds, 0);
     }
     Ok(())
+}
+
+// Of a line that is too long no more is read than a line may have, and one byte that tells so.
+#[test]
+fn reads_one_byte_past_a_full_line(rt: HostRuntime) {
+    let asked = Cell::new(NOTHING);
+    let line = [b'x'; 1_000];
+    let files = [("m", line.as_slice())];
+    let texts = AskedTexts {
+        texts: Texts {
+            files: &files,
+            folders: &[],
+        },
+        main: None,
+        searches: 1,
+        asked: &asked,
+        failures: 0,
+    };
+    let options = Options {
+        defines: Vec::new(rt.alloc()),
+        limits: Limits {
+            line_bytes: 256,
+            ..STANDARD
+        },
+        origins: false,
+    };
+    let outcome = preprocess(rt.alloc(), &options, texts, "m", &mut sink(false));
+    let Some(fault) = fault_of(&outcome) else {
+        panic!(rt; "no fault");
+    };
+    assert_eq!(rt; fault.kind, FaultKind::LineTooLong);
+    assert_eq!(rt; asked.get().given, 257);
 }
 
 // A failed write names the path that was asked for.

@@ -80,7 +80,7 @@ impl<'a> Sources for DealtText<'a> {
     }
 }
 
-/// How often sources were asked, and how often a reader was asked after it had told its end.
+/// How often sources were asked, how often a reader was asked after it had told its end, and what readers gave.
 #[derive(Clone, Copy, Debug, PartialEq, Eq)]
 pub struct Asked {
     /// How often a main text was asked for.
@@ -89,6 +89,8 @@ pub struct Asked {
     pub finds: u64,
     /// How often a reader was asked after its end.
     pub late_reads: u64,
+    /// How many bytes readers gave.
+    pub given: u64,
 }
 
 /// Nothing was asked.
@@ -96,6 +98,7 @@ pub const NOTHING: Asked = Asked {
     tops: 0,
     finds: 0,
     late_reads: 0,
+    given: 0,
 };
 
 /// Texts in memory that count what is asked of them, and of which so many searches go well. The main text may have another
@@ -185,14 +188,13 @@ impl<'a> Sources for AskedTexts<'a> {
     }
 
     fn read(&mut self, reader: &mut AskedReader<'a>, to: &mut [u8]) -> Result<usize, SourceFault> {
-        if reader.ended {
-            let before = self.asked.get();
-            self.asked.set(Asked {
-                late_reads: before.late_reads.saturating_add(1),
-                ..before
-            });
-        }
+        let before = self.asked.get();
         let len = self.texts.read(&mut reader.reader, to)?;
+        self.asked.set(Asked {
+            late_reads: before.late_reads.saturating_add(u64::from(reader.ended)),
+            given: before.given.saturating_add(len as u64),
+            ..before
+        });
         reader.ended = len == 0 && !to.is_empty();
         Ok(len)
     }
