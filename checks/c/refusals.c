@@ -84,6 +84,20 @@ static rdlpp_outcome read_all(char *out, size_t room)
     return outcome;
 }
 
+/* Opens twice, and then closes: what the first opening made is given back by the second. */
+static rdlpp_outcome open_twice(char *out, size_t room)
+{
+    const rdlpp_request request = asked();
+    rdlpp_handle handle = RDLPP_CLOSED_HANDLE;
+    rdlpp_outcome outcome = rdlpp_open(&request, out, 0, out, 0, &handle);
+    if (outcome.status == RDLPP_WHOLE) {
+        outcome = rdlpp_open(&request, out, 0, out, 0, &handle);
+    }
+    (void)room;
+    rdlpp_close(&handle);
+    return outcome;
+}
+
 /* Opens an output whose sources are asked for, gives each, reads to the end and closes. */
 static rdlpp_outcome pull_all(char *out, size_t room)
 {
@@ -139,5 +153,7 @@ static long refuse_each(rdlpp_outcome (*way)(char *, size_t))
 
 int main(void)
 {
-    return refuse_each(call) > 8 && refuse_each(read_all) > 8 && refuse_each(pull_all) > 8 ? EXIT_SUCCESS : EXIT_FAILURE;
+    return refuse_each(call) > 8 && refuse_each(read_all) > 8 && refuse_each(pull_all) > 8
+            && refuse_each(open_twice) > 16
+        ? EXIT_SUCCESS : EXIT_FAILURE;
 }
