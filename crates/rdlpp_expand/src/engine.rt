@@ -19,7 +19,7 @@ ghost use Rattle.rdlpp_front.specs.Fronts.{HasName, IsDirective, IsNamed, IsText
 ghost use Rattle.rdlpp_usages.specs.Usages.{IsRoomy};
 ghost use Rattle.rdlpp_state.specs.Conditionals.{unclosed_fault};
 ghost use Rattle.rdlpp_state.specs.Engine.{AreOpenTexts, EngineView, IsSoundEngine};
-ghost use Rattle.rdlpp_state.specs.Held.{HoldsDefinitions, IsBounded, held_told};
+ghost use Rattle.rdlpp_state.specs.Held.{HoldsDefinitions, IsBounded, bound_of, held_told};
 ghost use Rattle.rdlpp_state.specs.Moves.{Ends, IsReady, IsUnowed, ReadsDefine};
 ghost use Rattle.rdlpp_state.specs.OpenConditionals.{inner_below};
 ghost use Rattle.rdlpp_state.specs.Owed.{nothing_owed};
@@ -144,6 +144,14 @@ impl<S: Sources> Engine<S> {
             conditions: self.conditions.len(),
             sources: self.files.len(),
         }
+    }
+
+    /// How many bytes of definitions, of arguments and of sources the engine has memory for: as many as its limits allow,
+    /// from the time when it is made, however many are held.
+    pub fn capacity(&self) -> usize
+        ensures { result ≡ bound_of self.now.limits }
+    {
+        self.table.capacity() + (self.expansion.capacity() + self.files.capacity())
     }
 
     /// The next piece of the output, or its end, or the fault that ends it, which the engine keeps.
