@@ -205,38 +205,6 @@ writes_nothing before after count f fault e c a = record {
   exact = λ _. ap (λ x. record { bytes = []; fault = x }) (sym e);
 }
 
--- an engine that is fresh was given definitions, started and run
-pub follows_run : {S R W : Type 0} (g : Ghosts S R) (h : SinkGhosts W) (limits : Limits) (defines : List Pair) (origins : Bool) (sources : S)
-    (path : List ℕ) (before after : W) (fresh given_to started ended : EngineView S R) (opening : Option Told) (answer : Result ℕ RunFault)
-    (count : ℕ) (fault : Option Told)
-    → fresh ≡ fresh_engine limits sources origins
-    → given_in fresh defines ≡ Taken given_to.table.macros → given_to ≡ with_macros fresh given_to.table.macros
-    → Starts g given_to started path opening
-    → Runs g h started ended before after (count_of answer) (fault_of answer) → count_of answer ≡ count → fault_of answer ≡ fault
-    → Follows g h limits (given limits.definition_bytes limits.definitions 0 [] defines) origins sources path before after count fault
-unfolding fresh_engine
-follows_run g h limits defines origins sources path before after fresh given_to started ended opening answer count fault e d m s r c f =
-    let macros = given_to.table.macros in
-    subst (λ w. Follows g h limits w origins sources path before after count fault) (sym (ap (λ x. given_in x defines) (sym e) ∙ d))
-    record {
-      started = started;
-      ended = ended;
-      opening = opening;
-      starts = subst (λ x. Starts g x started path opening) (m ∙ ap (λ x. with_macros x macros) e) s;
-      runs = subst (λ n. Runs g h started ended before after n fault) c
-          (subst (λ x. Runs g h started ended before after (count_of answer) x) f r);
-    }
-
--- a definition was refused
-pub follows_refusal : {S R W : Type 0} (g : Ghosts S R) (h : SinkGhosts W) (limits : Limits) (defines : List Pair) (origins : Bool) (sources : S)
-    (path : List ℕ) (writer : W) (fresh : EngineView S R) (count : ℕ) (f : Told)
-    → fresh ≡ fresh_engine limits sources origins → given_in fresh defines ≡ Declined f → count ≡ 0
-    → Follows g h limits (given limits.definition_bytes limits.definitions 0 [] defines) origins sources path writer writer count (Some f)
-unfolding fresh_engine
-follows_refusal g h limits defines origins sources path writer fresh count f e d c =
-    subst (λ w. Follows g h limits w origins sources path writer writer count (Some f)) (sym (ap (λ x. given_in x defines) (sym e) ∙ d))
-    (refl, c, refl)
-
 -- what follows tells the output
 pub follows_output : {S R W : Type 0} (g : Ghosts S R) (h : SinkGhosts W) (limits : Limits) (what : Given) (origins : Bool) (sources : S)
     (path : List ℕ) (before after : W) (count : ℕ) (fault : Option Told)

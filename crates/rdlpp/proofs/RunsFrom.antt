@@ -1,8 +1,8 @@
 -- What an engine that stays comes to, and what it says of the output.
-use Rattle.std.proofs.Common.{◌≡◌, ℕ, List, [], Option, Some, Result, sym, ap, ◌∙◌, subst, refl}
+use Rattle.std.proofs.Common.{◌≡◌, ℕ, List, [], Option, None, Some, Result, Ok, Err, sym, ap, ◌∙◌, subst, refl}
 use Rattle.rdlpp_source.specs.declared.sources.Sources.{Ghosts}
 use Rattle.rdlpp_source.specs.declared.sinks.Sink.{Ghosts as SinkGhosts}
-use Rattle.rdlpp_meaning.specs.Outcome.{Told}
+use Rattle.rdlpp_meaning.specs.Outcome.{Told, Outcome, told}
 use Rattle.rdlpp_state.specs.Engine.{EngineView}
 use Rattle.rdlpp_state.specs.Opening.{Starts, fresh_engine}
 use Rattle.rdlpp_expand.specs.Run.{Runs, count_of, fault_of}
@@ -11,9 +11,11 @@ use Rattle.rdlpp_expand.specs.declared.watching.Watcher.{Ghosts as WatcherGhosts
 use Rattle.rdlpp_expand.specs.declared.writing.RunFault.{RunFault}
 use Rattle.rdlpp_expand.proofs.RunFacts.{appends_none}
 use Rattle.rdlpp.specs.Definitions.{Given, Taken, Declined, given_in, with_macros}
-use Rattle.rdlpp.specs.Preprocess.{Follows, given_by}
-use Rattle.rdlpp.specs.Running.{FollowsFrom, IsFreshOf}
+use Rattle.rdlpp.specs.Preprocess.{Follows, Preprocesses, Tells, given_by}
+use Rattle.rdlpp.specs.Running.{FollowsFrom, IsFreshOf, MakesEngine, RunsFrom}
 use Rattle.rdlpp.specs.declared.options.Options.{Options}
+use Rattle.rdlpp.specs.declared.fault.PrepFault.{PrepFault}
+use Rattle.rdlpp.specs.declared.fault.PrepFault.TheVariants.{BadLimits, NoMemory, Run}
 
 -- an engine over sources is fresh
 pub fresh_of : {S R : Type 0} (options : Options) (sources : S) (engine : EngineView S R)
@@ -65,6 +67,37 @@ pub follows_of : {S R W : Type 0} (g : Ghosts S R) (h : SinkGhosts W) (options :
     → Follows g h options.limits what options.origins old.sources path before after count fault
 follows_of g h options (Taken macros) old new path before after count fault r = r.0
 follows_of g h options (Declined f) old new path before after count fault r = r
+
+-- the run of an engine that was made is what preprocessing comes to
+pub preprocesses_of : {S R W : Type 0} (g : Ghosts S R) (h : SinkGhosts W) (options : Options) (sources : S) (old new : EngineView S R)
+    (path : List ℕ) (before after : W) (answer : Result ℕ PrepFault)
+    → MakesEngine options sources (Ok old) → RunsFrom g h options old new path before after answer
+    → Preprocesses g h options sources path before after answer
+preprocesses_of {S} g h options sources old new path before after (Ok count) (fits, fresh, same) run = (
+  fits,
+  subst (λ (s : S). Follows g h options.limits (given_by options) options.origins s path before after count None) same
+      (follows_of g h options (given_by options) old new path before after count None run),
+)
+preprocesses_of g h options sources old new path before after (Err (BadLimits fault)) made run = absurd run
+preprocesses_of g h options sources old new path before after (Err NoMemory) made run = absurd run
+preprocesses_of {S} g h options sources old new path before after (Err (Run f)) (fits, fresh, same) run = (
+  fits,
+  subst (λ (s : S). Follows g h options.limits (given_by options) options.origins s path before after f.written (Some (told f.fault))) same
+      (follows_of g h options (given_by options) old new path before after f.written (Some (told f.fault)) run),
+)
+
+-- where no engine was made nothing is written
+pub preprocesses_none : {S R W : Type 0} (g : Ghosts S R) (h : SinkGhosts W) (options : Options) (sources : S) (path : List ℕ) (writer : W) (fault : PrepFault)
+    → MakesEngine {S = S} {R = R} options sources (Err fault) → Preprocesses g h options sources path writer writer (Err fault)
+preprocesses_none g h options sources path writer (BadLimits fault) made = (made, refl)
+preprocesses_none g h options sources path writer NoMemory made = (made, refl)
+preprocesses_none g h options sources path writer (Run f) made = absurd made
+
+pub tells_none : {S R : Type 0} (g : Ghosts S R) (options : Options) (sources : S) (taken : Option (List ℕ)) (output : Outcome) (fault : PrepFault)
+    → MakesEngine {S = S} {R = R} options sources (Err fault) → Tells taken taken output (Err fault)
+tells_none g options sources taken output (BadLimits fault) made = refl
+tells_none g options sources taken output NoMemory made = refl
+tells_none g options sources taken output (Run f) made = absurd made
 
 -- nothing was written, and nothing shown
 pub shows_nothing : {W V : Type 0} (h : SinkGhosts W) (v : WatcherGhosts V) (writer : W) (watcher : V) → Shows h v writer writer watcher watcher

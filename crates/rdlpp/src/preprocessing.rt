@@ -1,9 +1,8 @@
 // Preprocessing a main text.
 ghost use Rattle.rdlpp.specs.Preprocess.{Preprocesses, Tells, output_of};
 
-use crate::defining::define_all;
-use crate::{Options, PrepFault};
-use rdlpp_expand::{Engine, NewFault, run};
+use crate::{Options, PrepFault, new_engine, run_watched_from};
+use rdlpp_expand::Unwatched;
 use rdlpp_source::{Sink, Sources};
 use std::alloc::Global;
 
@@ -30,18 +29,9 @@ pub fn preprocess<S: Sources, W: Sink>(
     ensures output { S.tells sources →
         Tells (W.taken writer.old) (W.taken writer.new) (output_of S.Sources options.now sources path.now) result }
 {
-    let mut engine = match Engine::new(alloc, options.limits, sources, options.origins) {
-        Ok(engine) => engine,
-        Err(NewFault::BadLimits(limit)) => return Err(PrepFault::BadLimits(limit)),
-        Err(NewFault::NoMemory) => return Err(PrepFault::NoMemory),
-    };
-    if let Err(fault) = define_all(&mut engine, &options.defines) {
-        return Err(PrepFault::Run(fault));
-    }
-    // A fault of the opening is kept by the engine, and `run` answers it.
-    let _opened = engine.start(path);
-    match run(&mut engine, writer) {
-        Ok(written) => Ok(written),
-        Err(fault) => Err(PrepFault::Run(fault)),
+    let mut nobody = Unwatched {};
+    match new_engine(alloc, options, sources) {
+        Ok(mut engine) => run_watched_from(&mut engine, options, path, writer, &mut nobody),
+        Err(fault) => Err(fault),
     }
 }

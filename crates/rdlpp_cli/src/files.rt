@@ -1,4 +1,5 @@
 //! The files that are told beside the text.
+use rdlpp::Invocation;
 use std::fs::{self, File, OpenOptions};
 use std::io::{self, ErrorKind};
 use std::os::unix::fs::MetadataExt;
@@ -20,9 +21,12 @@ pub struct TakenFiles {
 }
 
 impl TakenFiles {
-    /// The output's file alone, which has been opened.
-    pub fn of_output(rt: &HostRuntime, path: Option<&String>) -> TakenFiles {
-        let path = match path {
+    /// The output's file alone, which has been opened; none where nothing is told beside the text.
+    pub fn of(rt: &HostRuntime, invocation: &Invocation) -> TakenFiles {
+        if !invocation.reports.is_any() {
+            return TakenFiles { files: [None; 4] };
+        }
+        let path = match &invocation.output {
             Some(path) => path.as_str(),
             None => STANDARD_OUTPUT,
         };

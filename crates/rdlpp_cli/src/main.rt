@@ -10,9 +10,9 @@ mod reports;
 mod telling;
 mod words;
 
-use output::{Output, open_output};
-use rdlpp::{Buffered, Folders, Invocation, PrepFault, UsageFault, exit_status, preprocess};
-use reports::run_reported;
+use output::open_output;
+use rdlpp::{Folders, Invocation, PrepFault, UsageFault};
+use reports::run_told;
 use std::alloc::AllocError;
 use std::io::Write;
 use std::process::ExitCode;
@@ -45,35 +45,7 @@ fn run_invocation(rt: &HostRuntime, invocation: &Invocation) -> u8 {
             return DEVICE_STATUS;
         }
     };
-    if invocation.reports.is_any() {
-        return run_reported(rt, invocation, &mut output);
-    }
-    let outcome = preprocess_to(rt, invocation, output);
-    if let Err(fault) = &outcome {
-        tell_fault(rt, fault);
-    }
-    exit_status(&outcome)
-}
-
-// Preprocesses the source of a command line.
-fn preprocess_to(
-    rt: &HostRuntime,
-    invocation: &Invocation,
-    output: Output,
-) -> Result<u64, PrepFault> {
-    let Ok(mut writer) = Buffered::with_capacity(rt.alloc(), OUTPUT_BYTES, output) else {
-        return Err(PrepFault::NoMemory);
-    };
-    let Ok(sources) = folders_of(rt, invocation) else {
-        return Err(PrepFault::NoMemory);
-    };
-    preprocess(
-        rt.alloc(),
-        &invocation.options,
-        sources,
-        invocation.source.as_str(),
-        &mut writer,
-    )
+    run_told(rt, invocation, &mut output)
 }
 
 // The sources of a command line.

@@ -1,4 +1,4 @@
-//! Runs of which more is told than the text.
+//! Runs, and what is told of them beside the text, where that is asked for.
 ghost use Rattle.rdlpp.specs.Running.{IsFreshOf};
 
 use crate::files::TakenFiles;
@@ -12,15 +12,18 @@ use rdlpp::{
 };
 use std::io::{self, BufWriter, ErrorKind, Write};
 
-/// An engine that notes what it opens.
+/// An engine that may note what it opens.
 pub type NotedEngine<'r> = Engine<Recorded<Folders<'r, HostRuntime>>>;
 
-/// Does what a command line asks for that wants more told than the text, and answers the exit status.
-pub fn run_reported(rt: &HostRuntime, invocation: &Invocation, output: &mut Output) -> u8 {
+/// Preprocesses the source of a command line, tells what else is asked for, and answers the exit status.
+pub fn run_told(rt: &HostRuntime, invocation: &Invocation, output: &mut Output) -> u8 {
     let Ok(sources) = folders_of(rt, invocation) else {
         return tell_unmade(rt, PrepFault::NoMemory);
     };
-    let sources = Recorded::new(rt.alloc(), sources);
+    let sources = match invocation.reports.deps {
+        Some(_) => Recorded::new(rt.alloc(), sources),
+        None => Recorded::silent(rt.alloc(), sources),
+    };
     match new_engine(rt.alloc(), &invocation.options, sources) {
         Ok(mut engine) => run_noted(rt, invocation, &mut engine, output),
         Err(fault) => tell_unmade(rt, fault),
@@ -42,7 +45,7 @@ fn run_noted(
 ) -> u8
     requires { IsFreshOf invocation.now.options engine.old }
 {
-    let mut files = TakenFiles::of_output(rt, invocation.output.as_ref());
+    let mut files = TakenFiles::of(rt, invocation);
     let mut mapping = open_mapping(rt, &mut files, invocation.reports.line_map.as_ref());
     let outcome = run_mapped(rt, invocation, engine, output, &mut mapping);
     if let Err(fault) = &outcome {
