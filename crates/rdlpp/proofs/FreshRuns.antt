@@ -19,8 +19,7 @@ use Rattle.rdlpp.specs.Opening.{OpensGiven}
 use Rattle.rdlpp.specs.Preprocess.{engine_with, output_given, Follows, RunsFresh, WritesOutput, is_failure}
 use Rattle.rdlpp_source.specs.declared.sinks.Sink.{Ghosts as SinkGhosts}
 use Rattle.rdlpp_meaning.specs.declared.fault.FaultKind.{FaultKind}
-use Rattle.rdlpp_expand.specs.Run.{Begins, Runs, count_of, fault_of, is_fresh}
-use Rattle.rdlpp_expand.specs.declared.writing.RunFault.{RunFault}
+use Rattle.rdlpp_expand.specs.Run.{Begins, is_fresh}
 use Rattle.rdlpp_expand.proofs.RunFacts.{appends_none}
 use Rattle.rdlpp_state.specs.Steps.{is_call_failed, is_memory_kind, is_read_failed, is_write_failed}
 
