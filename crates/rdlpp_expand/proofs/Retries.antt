@@ -2,7 +2,7 @@
 use Rattle.std.proofs.Common.{◌≡◌, ℕ, ◌&&◌, Bool, true, false, List, [], ◌++◌, drop, nat_eq, codes, Option, None, Some, Err, refl, sym, ap, subst, ◌∙◌, inl, inr, length, ◌∷◌}
 use Rattle.std.specs.Cmp.{unsigned_Decides}
 use Rattle.std.specs.List.{starts_with}
-use Rattle.std.proofs.lemmas.Bool.{and_parts, false≢true}
+use Rattle.std.proofs.lemmas.Bool.{and_parts, false≢true, or_left, or_right}
 use Rattle.std.proofs.lemmas.List.{take-append-drop}
 use Rattle.std.proofs.lemmas.Slice.Eq.{starts_is}
 use Rattle.rdlpp_scan.specs.Tokens.{token_of}
@@ -17,13 +17,18 @@ use Rattle.rdlpp_conditions.specs.Conditions.{ConditionsView}
 use Rattle.rdlpp_table.specs.View.{TableView}
 use Rattle.rdlpp_table.specs.declared.limits.Limits.{Limits}
 use Rattle.rdlpp_usages.specs.Usages.{ExpansionView}
-use Rattle.rdlpp_state.specs.Engine.{EngineView, IsWholeEngine, is_open}
+use Rattle.rdlpp_state.specs.Engine.{AreOpenTexts, EngineView, IsWholeEngine, is_open}
+use Rattle.rdlpp_state.specs.Failures.{MayGoOn, begins_include, is_failed_call, is_failed_search, is_failed_start, is_over}
 use Rattle.rdlpp_state.specs.Includes.{IsSearch}
 use Rattle.rdlpp_state.specs.Remaining.{left_of, state_of, text_of}
-use Rattle.rdlpp_state.specs.Searches.{Retries, begins_include, is_failed_call, is_failed_search, is_failed_start, is_over}
-use Rattle.rdlpp_state.specs.Steps.{BeforeCall, IsReading, Itself, Steps, Stood, StopsReading, has_met, has_stopped, is_call_failed, is_read_failed, may_follow}
+use Rattle.rdlpp_state.specs.Opening.{Starts}
+use Rattle.rdlpp_state.specs.Searches.{Retries, StartsAgain}
+use Rattle.rdlpp_state.specs.Stored.{HoldsStores, LetsGo}
+use Rattle.rdlpp_state.specs.Steps.{BeforeCall, Itself, Steps, Stood, StopsReading, has_met, has_stopped, is_call_failed, is_read_failed, may_follow}
 use Rattle.rdlpp_state.specs.declared.phase.Phase.{Phase}
 use Rattle.rdlpp_state.specs.declared.phase.Phase.TheVariants.{Fresh, Open, Passed, Closed}
+use Rattle.rdlpp_state.proofs.GoingOn.{read_front, read_never}
+use Rattle.rdlpp_state.proofs.Stores.{none_called, parts_told}
 use Rattle.rdlpp_expand.proofs.RunFacts.{failed_rest}
 
 -- where an `include` asks for a search, its word begins what is held
@@ -34,19 +39,6 @@ searched_front e s =
     let len : ℕ = (token_of Plain held).len in
     (starts_is unsigned_Decides held (codes "`include") (starts_with nat_eq held (codes "`include")) refl).1 (drop len held)
     (sym (take-append-drop len held) ∙ ap (λ (l : List ℕ). l ++ drop len held) s.has.word.word)
-
--- where a source is read, it doesn't
-read_front : {R : Type 0} (b : BufferView R) → IsReading b → begins_include (held_of b) ≡ false
-unfolding begins_include
-read_front b (inl none) = ap (λ (held : List ℕ). starts_with nat_eq held (codes "`include")) none
-read_front b (inr define) = ap (λ (held : List ℕ). starts_with nat_eq held (codes "`include")) define.1
-
--- a test that is two, of which the second doesn't hold
-second_fails : (a b c : Bool) → c ≡ false → (a && (b && c)) ≡ false
-second_fails true true false fails = refl
-second_fails true true true fails = absurd (false≢true (sym fails))
-second_fails true false c fails = refl
-second_fails false b c fails = refl
 
 -- all three hold
 all_hold : (a b c : Bool) → a ≡ true → b ≡ true → c ≡ true → (a && (b && c)) ≡ true
@@ -64,11 +56,6 @@ unfolding is_failed_search is_failed_call may_follow
 search_again e f kept failed open_ search =
     all_hold (is_failed_call e.kept) (may_follow e.phase) (begins_include (held_of (inner_buffer e.files.nest)))
     (ap is_failed_call kept ∙ failed) (ap may_follow open_) (searched_front e search)
-
--- a read is none
-read_never : {S R : Type 0} (e : EngineView S R) → IsReading (inner_buffer e.files.nest) → is_failed_search e ≡ false
-unfolding is_failed_search
-read_never e reading = second_fails (is_failed_call e.kept) (may_follow e.phase) (begins_include (held_of (inner_buffer e.files.nest))) (read_front (inner_buffer e.files.nest) reading)
 
 -- where a search failed, the engine that stopped is the one whose text remains
 stood_itself : {S R : Type 0} (g : Ghosts S R) (at new : EngineView S R) → begins_include (held_of (inner_buffer new.files.nest)) ≡ true → Stood g at new → at ≡ new
@@ -96,6 +83,18 @@ searched_rest {S} {R} g before old f failed free s t =
       failed_rest g before old f s met reads t ∙ ap (λ (e : EngineView S R). left_of g (record e { kept = None })) same,
     )
 
+-- where the fault of a search that failed is forgotten, what is held stays what it was
+forgets_lets_go : {S R : Type 0} (old : EngineView S R) → MayGoOn old → LetsGo old → LetsGo (record old { kept = None })
+forgets_lets_go old on h = record { idle = λ _. h.idle on }
+
+forgets_stores : {S R : Type 0} (g : Ghosts S R) (old : EngineView S R) → MayGoOn old → HoldsStores g old → HoldsStores g (record old { kept = None })
+forgets_stores g old on h = record {
+  lets_go = forgets_lets_go old on h.lets_go;
+  parts = parts_told g.unread (g.catalog old.sources) (MayGoOn old) _ old.files.nest (λ _. on) h.parts;
+  call = h.call;
+  begun = h.begun;
+}
+
 -- a retry, by what it does
 pub retries : {S R : Type 0} (g : Ghosts S R) (old new : EngineView S R) → (is_failed_search old ≡ true → new ≡ record old { kept = None })
     → (is_failed_search old ≡ false → new ≡ old) → Retries g old new
@@ -106,7 +105,13 @@ retries {S} {R} g old new forgets same = record {
   read = read_never old;
   remains = λ failed before f free s t.
       subst (λ (e : EngineView S R). (text_of g before ≡ text_of g e) × (left_of g before ≡ left_of g e)) (sym (forgets failed)) (searched_rest g before old f failed free s t);
+  lets_go = λ h. by LetsGo (λ on. forgets_lets_go old on h) h (is_failed_search old) refl;
+  stores = λ h. by (HoldsStores g) (λ on. forgets_stores g old on h) h (is_failed_search old) refl;
 }
+  where
+    by : (P : EngineView S R → Type 0) → (MayGoOn old → P (record old { kept = None })) → P old → (failed : Bool) → is_failed_search old ≡ failed → P new
+    by P forgotten stays true is = subst P (sym (forgets is)) (forgotten (inr (or_left (is_failed_search old) (is_failed_start old) is)))
+    by P forgotten stays false is = subst P (sym (same is)) stays
 
 -- two tests in a row, where the first holds
 pub both_tests : (a b x r : Bool) → x ≡ a → x ≡ true → r ≡ b → r ≡ (a && b)
@@ -167,3 +172,34 @@ fresh_whole limits Closed table files conditions expansion over w = record {
 pub failed_over : {S R : Type 0} (e : EngineView S R) → is_failed_start e ≡ true → is_over e.phase ≡ true
 unfolding is_failed_start
 failed_over e failed = (and_parts (is_failed_call e.kept) (is_over e.phase) failed).1
+
+-- nor is one of a usage
+over_shut : (p : Phase) → is_over p ≡ true → is_open p ≡ false
+unfolding is_over is_open
+over_shut Fresh over = absurd (false≢true over)
+over_shut Open over = absurd (false≢true over)
+over_shut Passed over = absurd (false≢true over)
+over_shut Closed over = refl
+
+-- a start that is made again, by what it does
+pub starts_again : {S R : Type 0} (g : Ghosts S R) (old new : EngineView S R) (path : List ℕ) (answer : Option Told) → is_failed_start old ≡ true
+    → AreOpenTexts old.limits old.phase old.table.macros old.expansion → Starts g (record old { phase = Fresh; kept = None }) new path answer → StartsAgain g old new path answer
+starts_again g old new path answer failed texts starts =
+    let idle = texts.closed (over_shut old.phase (failed_over old failed)) in
+    let nothing : LetsGo old → old.expansion.arguments ≡ [] =
+    λ h. h.idle (inr (or_right (is_failed_search old) (is_failed_start old) failed)) (none_called old.table.macros old.expansion.opens idle) in
+    record {
+      again = λ _. starts;
+      same = λ no. absurd (false≢true (sym no ∙ failed));
+      lets_go = λ h. starts.lets_go (nothing h);
+      stores = λ t h. starts.stores (nothing h.lets_go) t;
+    }
+
+-- and one that isn't
+pub starts_never : {S R : Type 0} (g : Ghosts S R) (e : EngineView S R) (path : List ℕ) (answer : Option Told) → is_failed_start e ≡ false → answer ≡ e.kept → StartsAgain g e e path answer
+starts_never g e path answer isnt kept = record {
+  again = λ yes. absurd (false≢true (sym isnt ∙ yes));
+  same = λ _. (refl, kept);
+  lets_go = λ h. h;
+  stores = λ t h. h;
+}

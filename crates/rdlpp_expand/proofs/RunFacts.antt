@@ -419,6 +419,11 @@ unfolding is_fresh write_fault is_call_failed is_read_failed is_memory_kind
 write_no_call None name f p = ap (λ (x : Told). is_call_failed x.kind) p
 write_no_call (Some k) name f p = refl
 
+-- and none of a device or of memory
+write_own : (name : List ℕ) → is_call_failed (write_fault name).kind ≡ false
+unfolding write_fault is_call_failed is_read_failed is_memory_kind
+write_own name = refl
+
 -- or with nothing behind it
 or_false : (b : Bool) → (b || false) ≡ b
 or_false true = refl
@@ -552,7 +557,7 @@ pub runs_unwritten : {S R W : Type 0} (g : Ghosts S R) (h : SinkGhosts W) (old m
     → (unwritten ≡ false → (mid.phase ≡ Closed) × (g.tells old.sources → left_of g old ≡ gives w.bytes)) → Runs g h old new before after n fault
 runs_unwritten {S} {R} g h old mid new before between after n fault ending unwritten unflushed asked w quiet free begins bounded keeps writes failed flushes some asks first becomes is held whole =
     let f = write_fault mid.main in
-    let stores : KeepsStores g mid new = subst (λ (e : EngineView S R). KeepsStores g mid e) (sym becomes) (keeps_refused g mid f) in
+    let stores : KeepsStores g mid new = subst (λ (e : EngineView S R). KeepsStores g mid e) (sym becomes) (keeps_refused g mid f (write_own mid.main)) in
     let told : fault ≡ Some f = is ∙ ap (λ e. e.kept) becomes in
     let fresh : is_fresh is_write_failed old.kept fault ≡ true = ap (is_fresh is_write_failed old.kept) told ∙ write_fresh old.kept mid.main f free refl in
     let P : Option Told → Type 0 = λ k. SourcesCalled g (is_fresh is_read_failed old.kept k) (is_fresh is_memory_kind old.kept k) old.sources mid.sources in

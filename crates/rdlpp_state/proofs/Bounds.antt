@@ -1,5 +1,5 @@
 -- The bytes that are held are within their bound.
-use Rattle.std.proofs.Common.{◌≡◌, ℕ, ◌+◌, ◌*◌, ◌^◌, ◌≤◌, ◌<◌, List, [], None, length, map, reverse, sum_by, ap, ◌∙◌, subst, arith}
+use Rattle.std.proofs.Common.{◌≡◌, inl, ℕ, ◌+◌, ◌*◌, ◌^◌, ◌≤◌, ◌<◌, List, [], None, length, map, reverse, sum_by, ap, ◌∙◌, subst, arith}
 use Rattle.std.proofs.Math.Nat.{mul-le-mul_right}
 use Rattle.rdlpp_table.proofs.Sizes.{length_table_bytes}
 use Rattle.rdlpp_table.specs.Limits.{AreInRange}
@@ -61,7 +61,7 @@ closed_holds {S} {R} e sound texts closed free lets_go =
     let opens = texts.closed shut in
     let below : AreBelow {R = R} (length e.conditions.open_now) [] = subst (λ ns. AreBelow (length e.conditions.open_now) ns) nest sound.conditions_of.below in
     record {
-      arguments = ap length (lets_go.idle free (none_called e.table.macros e.expansion.opens opens));
+      arguments = ap length (lets_go.idle (inl free) (none_called e.table.macros e.expansion.opens opens));
       buffers = ap (λ ns. sum_by length (reverse (map (λ f. f.buffer.window) ns))) nest;
       cursors = ap length opens;
       bindings = ap bound_by opens;

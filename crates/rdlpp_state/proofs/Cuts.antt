@@ -208,8 +208,8 @@ module _ {S R : Type 0} (g : Ghosts S R) (old mid new : EngineView S R) (xs : Li
               lent = sym same ∙ part ∙ ap (take old.quota) l.lent;
               stands = subst (λ (p : Option PlaceView). StandsIn g l.at l.after l.piece p) (sym (position_kept mid new becomes w.free (follows_open mid.phase (w.lends xs refl).1) opens)) l.stands;
             };
-        lets_go = λ h. subst LetsGo (sym becomes) ((keeps_phase g mid new.phase new.quota).lets_go (w.lets_go h));
-        stores = λ t h. subst (HoldsStores g) (sym becomes) ((keeps_phase g mid new.phase new.quota).stores (w.call.tells t) (w.stores t h));
+        lets_go = λ h. subst LetsGo (sym becomes) ((keeps_phase g mid new.phase new.quota w.free).lets_go (w.lets_go h));
+        stores = λ t h. subst (HoldsStores g) (sym becomes) ((keeps_phase g mid new.phase new.quota w.free).stores (w.call.tells t) (w.stores t h));
       }
 
   -- the whole piece may be lent

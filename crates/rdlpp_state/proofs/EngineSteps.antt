@@ -16,6 +16,7 @@ use Rattle.rdlpp_read.specs.Calls.{SourcesRead}
 use Rattle.rdlpp_read.specs.Files.{inner_buffer, with_buffer}
 use Rattle.rdlpp_state.specs.Calls.{SourcesCalled}
 use Rattle.rdlpp_state.specs.Engine.{EngineView}
+use Rattle.rdlpp_state.specs.Failures.{MayGoOn}
 use Rattle.rdlpp_state.specs.Held.{IsBounded}
 use Rattle.rdlpp_state.specs.Standing.{LendNone, LendsNone, LendsWhere, Reaches, StandsIn}
 use Rattle.rdlpp_state.specs.Stored.{AreParts}
@@ -343,11 +344,11 @@ module _ {S R : Type 0} (g : Ghosts S R) (old new : EngineView S R) (free : old.
         most_macros = ap (λ e. e.table.most_macros) becomes;
         bounded = bounded;
         stands = λ _ _ bytes e. absurd (cc);
-        lets_go = λ h. record { idle = λ _ is. ap (λ e. e.expansion.arguments) becomes ∙ h.idle free (none_called old.table.macros old.expansion.opens idle) };
+        lets_go = λ h. record { idle = λ _ is. ap (λ e. e.expansion.arguments) becomes ∙ h.idle (inl free) (none_called old.table.macros old.expansion.opens idle) };
         stores = λ t h. record {
-          lets_go = record { idle = λ _ is. ap (λ e. e.expansion.arguments) becomes ∙ h.lets_go.idle free (none_called old.table.macros old.expansion.opens idle) };
-          parts = subst (λ (ns : List (File R)). AreParts g.unread (g.catalog new.sources) (new.kept ≡ None) ns) (sym (text t).closed) tt;
-          begun = λ _. inl (ap (λ e. e.expansion.arguments) becomes ∙ h.lets_go.idle free (none_called old.table.macros old.expansion.opens idle));
+          lets_go = record { idle = λ _ is. ap (λ e. e.expansion.arguments) becomes ∙ h.lets_go.idle (inl free) (none_called old.table.macros old.expansion.opens idle) };
+          parts = subst (λ (ns : List (File R)). AreParts g.unread (g.catalog new.sources) (MayGoOn new) ns) (sym (text t).closed) tt;
+          begun = λ _. inl (ap (λ e. e.expansion.arguments) becomes ∙ h.lets_go.idle (inl free) (none_called old.table.macros old.expansion.opens idle));
           call = λ fs called. absurd (let no : None ≡ Some fs = sym (none_called new.table.macros new.expansion.opens (ap (λ e. e.expansion.opens) becomes ∙ idle)) ∙ called in cc);
         };
       }
@@ -607,7 +608,7 @@ pub steps_passed : {S R : Type 0} (g : Ghosts S R) (old new : EngineView S R) �
 unfolding has_met uncut_of kept_uncut phase_uncut no_len output_fault is_call_failed is_read_failed is_write_failed is_memory_kind
 steps_passed {S} {R} g old new free past bounded becomes =
     let still : new.phase ≡ Passed = ap (λ e. e.phase) becomes ∙ past in
-    let stores : KeepsStores g old new = subst (λ (e : EngineView S R). KeepsStores g old e) (sym becomes) (keeps_refused g old (output_fault old.main)) in
+    let stores : KeepsStores g old new = subst (λ (e : EngineView S R). KeepsStores g old e) (sym becomes) (keeps_refused g old (output_fault old.main) refl) in
     record {
       limits = ap (λ e. e.limits) becomes;
       origins = ap (λ e. e.origins) becomes;

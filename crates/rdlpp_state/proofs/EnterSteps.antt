@@ -31,7 +31,7 @@ use Rattle.rdlpp_state.specs.Calls.{SourcesCalled}
 use Rattle.rdlpp_state.specs.Engine.{EngineView}
 use Rattle.rdlpp_state.specs.Held.{IsBounded}
 use Rattle.rdlpp_state.specs.Standing.{InSources, Nowhere}
-use Rattle.rdlpp_state.proofs.Stores.{parts_entered}
+use Rattle.rdlpp_state.proofs.Stores.{KeepsStores, keeps_searched, parts_entered}
 use Rattle.rdlpp_state.specs.Includes.{BadName, Denies, Full, IsSearch, Refuses, Searches, included_engine, inner_path, is_bad_name, kind_of_source}
 use Rattle.rdlpp_state.specs.Moves.{IsReady}
 use Rattle.rdlpp_state.specs.Owed.{OwedView, nothing_owed, origin_owed}
@@ -42,7 +42,7 @@ use Rattle.rdlpp_state.specs.Steps.{IsOwn, OnSearch, Walks, is_call_failed, is_m
 use Rattle.rdlpp_state.specs.declared.place.Place.{Place}
 use Rattle.rdlpp_state.specs.declared.place.Place.TheVariants.{Kept}
 use Rattle.rdlpp_state.proofs.EngineSteps.{kept_at, not_called, walks_stopped}
-use Rattle.rdlpp_state.proofs.FrontSteps.{Fails, IsRead, keeps_fault, keeps_files, keeps_moves, keeps_read, kept_text, left_by, lends_by, read_nothing, read_text, refuses}
+use Rattle.rdlpp_state.proofs.FrontSteps.{Fails, IsRead, keeps_fault, keeps_files, keeps_moves, kept_text, left_by, lends_by, read_nothing, read_text, refuses}
 use Rattle.rdlpp_state.proofs.IncludeSteps.{nest_include_absent, nest_include_bad, nest_include_deep, nest_include_nameless, nest_include_overlong, nest_included}
 use Rattle.rdlpp_state.proofs.NestLeft.{none_held}
 use Rattle.rdlpp_state.proofs.OwedOrigins.{owed_few, owed_origin}
@@ -190,7 +190,8 @@ module _ {S R : Type 0} (g : Ghosts S R) (old mid new : EngineView S R) (start s
       (walks_stopped g old new ready.free ready.open_ bounded (told mid) (OnSearch search kind met (sym (ap told kept))) met write
       (keeps_fault old mid new (told mid) r kept) (keeps_files old mid new (told mid) r kept) (keeps_moves old mid new (told mid) r kept) ready.owed (subst P (sym sources) call)
       (λ t. read_text g old mid ready.owed ready.idle r call.catalog (ap (λ (ns : List (File R)). left_by g old old.table.macros old.conditions ns) nest) ∙ sym (kept_text g mid new (told mid) kept))
-      (keeps_read g old mid new (told mid) ready r kept call.catalog))
+      (subst (λ (e : EngineView S R). KeepsStores g old e) (sym (kept ∙ ap (λ (m : EngineView S R). record m { kept = Some (told mid) }) becomes))
+      (keeps_searched g old (told mid) mid.sources ready.free ready.idle call.catalog)))
 
   -- what is found is what the rules find
   finds_as : (fault : SourceFault) → Searches g old name_of mid.sources (Err fault) → (place : Place) → place ≡ Kept → KeepsKind (kind_of_source fault) → Walks g old new (lent_answer new place)

@@ -41,6 +41,8 @@ use Rattle.rdlpp_front.proofs.SourcePassages.{held_entered}
 use Rattle.rdlpp_conditions.specs.Conditions.{ConditionsView}
 use Rattle.rdlpp_state.specs.Calls.{SourcesCalled}
 use Rattle.rdlpp_state.specs.Engine.{EngineView, IsSoundEngine, is_open}
+use Rattle.rdlpp_state.specs.Failures.{MayGoOn}
+use Rattle.rdlpp_state.proofs.GoingOn.{own_failed, own_stops, read_stops}
 use Rattle.rdlpp_state.specs.Held.{IsBounded}
 use Rattle.rdlpp_state.specs.Standing.{AtOwed, AtSource, InSources, Nowhere, StandsIn}
 use Rattle.rdlpp_state.specs.Stored.{AreParts}
@@ -299,13 +301,14 @@ keeps_moves {S} {R} {g} old mid new f r becomes =
     subst (λ (fs : FilesView R). Slides (g.tells old.sources) ⊥ g.unread (inner_buffer old.files.nest) (inner_buffer fs.nest)) (sym (ap (λ e. e.files) becomes)) r.moves
 
 -- and what is held stays
-pub keeps_read : {S R : Type 0} (g : Ghosts S R) (old mid new : EngineView S R) (f : Told) → IsReady old → IsRead g old mid → new ≡ record mid { kept = Some f } → g.catalog mid.sources ≡ g.catalog old.sources → KeepsStores g old new
-keeps_read {S} {R} g old mid new f ready r becomes catalog =
+pub keeps_read : {S R : Type 0} (g : Ghosts S R) (old mid new : EngineView S R) (f : Told) → IsReady old → IsRead g old mid → new ≡ record mid { kept = Some f } → g.catalog mid.sources ≡ g.catalog old.sources → (MayGoOn new → ⊥)
+    → KeepsStores g old new
+keeps_read {S} {R} g old mid new f ready r becomes catalog stops =
     let b = inner_buffer mid.files.nest in
     let is : new ≡ record old { kept = Some f; files = record old.files { nest = with_buffer b old.files.nest }; sources = mid.sources } =
     becomes ∙ (ap (λ (m : EngineView S R). record m { kept = Some f }) r.becomes ∙ ap (λ (fs : FilesView R). record old { kept = Some f; files = fs; sources = mid.sources }) r.only) in
     subst (λ (e : EngineView S R). KeepsStores g old e) (sym is)
-    (keeps_stopped g old f b mid.sources ready.free ready.idle ready.nest catalog r.moves)
+    (keeps_stopped g old f b mid.sources ready.free ready.idle ready.nest catalog r.moves (subst (λ (e : EngineView S R). MayGoOn e → ⊥) is stops))
 
 -- the text is the same where what remains of the open sources is
 pub read_text : {S R : Type 0} (g : Ghosts S R) (old mid : EngineView S R) → old.owed ≡ nothing_owed → old.expansion.opens ≡ [] → IsRead g old mid → g.catalog mid.sources ≡ g.catalog old.sources
@@ -346,7 +349,7 @@ refuses_by {S} {R} g old mid new place tell own ready r bounded is becomes call 
     kept_at g old new place f is (ap (λ e. e.kept) becomes)
     (walks_fault g old new ready.free ready.open_ bounded f (own (state_of mid)) (keeps_fault old mid new f r becomes) (keeps_files old mid new f r becomes) (keeps_moves old mid new f r becomes) ready.owed (subst P (sym sources) call)
     (λ t. text_unowed g old ready.owed ready.idle ∙ (law t ∙ (ap (λ (s : State). leaves (fails (tell s)) s) (sym same) ∙ ap (leaves (fails f)) (sym here))))
-    (keeps_read g old mid new f ready r becomes call.catalog))
+    (keeps_read g old mid new f ready r becomes call.catalog (own_stops new f (ap (λ e. e.kept) becomes) (own_failed f.kind (own (state_of mid))))))
 
 -- a fault at a line of the source is kept
 pub refuses : {S R : Type 0} (g : Ghosts S R) (old mid new : EngineView S R) (place : Place) (kind : FaultKind) (line : ℕ) (word : List ℕ) → IsReady old → IsRead g old mid → IsBounded new
@@ -366,11 +369,13 @@ fails_reading {S} {R} g old mid new place ready r reading bounded is becomes cal
     let told : EngineView S R → Told = λ e. fault_at fault.ReadFailed (reading_line_of (inner_buffer e.files.nest)) [] (nest_state e.limits e.table.macros e.conditions e.files.nest) in
     let sources : new.sources ≡ mid.sources = ap (λ e. e.sources) becomes in
     let P : S → Type 0 = λ s. SourcesCalled g true false old.sources s in
+    let open_ : new.phase ≡ Open = ap (λ e. e.phase) becomes ∙ (ap (λ e. e.phase) r.becomes ∙ ready.open_) in
+    let here : IsReading (inner_buffer new.files.nest) = subst (λ (fs : FilesView R). IsReading (inner_buffer fs.nest)) (sym (ap (λ e. e.files) becomes)) reading in
     kept_at g old new place (told mid) is (ap (λ e. e.kept) becomes)
     (walks_failed g old new ready.free ready.open_ bounded (told mid)
-    (subst (λ (fs : FilesView R). IsReading (inner_buffer fs.nest)) (sym (ap (λ e. e.files) becomes)) reading) (sym (ap told becomes)) (keeps_fault old mid new (told mid) r becomes) (keeps_files old mid new (told mid) r becomes) (keeps_moves old mid new (told mid) r becomes) ready.owed (subst P (sym sources) call)
+    here (sym (ap told becomes)) (keeps_fault old mid new (told mid) r becomes) (keeps_files old mid new (told mid) r becomes) (keeps_moves old mid new (told mid) r becomes) ready.owed (subst P (sym sources) call)
     (λ t. read_text g old mid ready.owed ready.idle r call.catalog (law t) ∙ sym (kept_text g mid new (told mid) becomes))
-    (keeps_read g old mid new (told mid) ready r becomes call.catalog))
+    (keeps_read g old mid new (told mid) ready r becomes call.catalog (read_stops new (told mid) (ap (λ e. e.kept) becomes) open_ here)))
 
 -- a `define` begins what is held, of which more came
 pub reading_define : {R : Type 0} (old new : BufferView R) (more : List ℕ) → 0 < length (held_of old) → IsDirective Define (held_of old) → held_of new ≡ held_of old ++ more → IsReading new

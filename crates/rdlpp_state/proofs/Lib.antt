@@ -13,6 +13,7 @@ pub mod SkippedSteps
 pub mod PaddedDigits
 pub mod PassedNests
 pub mod WorkFacts
+pub mod GoingOn
 pub mod Stores
 pub mod OpeningFacts
 pub mod PlaceFacts

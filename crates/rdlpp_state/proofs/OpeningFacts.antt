@@ -18,6 +18,7 @@ use Rattle.rdlpp_meaning.specs.Resumed.{Live, remains}
 use Rattle.rdlpp_meaning.specs.Output.{character_place, name_cut, opening_fault, start_state, output}
 use Rattle.rdlpp_meaning.proofs.Outputs.{outcome-behind_bytes, output_found, output_missing, output_overlong}
 use Rattle.rdlpp_state.specs.Engine.{EngineView}
+use Rattle.rdlpp_state.specs.Failures.{MayGoOn}
 use Rattle.rdlpp_scan.specs.SourceTokens.{SourceToken}
 use Rattle.rdlpp_meaning.specs.Meaning.{Passage, Progress, behind_bytes, origin_line, outcome}
 use Rattle.rdlpp_meaning.specs.Opened.{all_resumed}
@@ -29,7 +30,7 @@ use Rattle.rdlpp_state.proofs.IdleTexts.{text_idle}
 use Rattle.rdlpp_state.proofs.OwedOrigins.{owed_origin}
 use Rattle.rdlpp_state.specs.Held.{IsBounded, stores_of}
 use Rattle.rdlpp_state.specs.Stored.{AreParts}
-use Rattle.rdlpp_state.proofs.Stores.{fault_lets_go, none_called, parts_opened}
+use Rattle.rdlpp_state.proofs.Stores.{none_called, parts_opened}
 use Rattle.rdlpp_read.specs.Files.{entered_file}
 use Rattle.rdlpp_read.specs.declared.files.File.{File}
 use Rattle.rdlpp_state.specs.Owed.{origin_owed, owed_bytes}
@@ -233,8 +234,7 @@ starts_open {S} {R} g e s found path most none unopened idle bounded answer fail
     lets_go = record { idle = λ _ _. h };
     parts =
         let file : File R = entered_file found e.limits.source_bytes e.files.line_bytes 0 0 in
-        let kept : Option Told = None in
-        let exact : Type 0 = kept ≡ None in
+        let exact : Type 0 = MayGoOn (opened_engine (record e { sources = s }) path found) in
         subst (λ (ns : List (File R)). AreParts g.unread (g.catalog s) exact (file ∷ ns)) (sym none)
         (subst (λ (c : Catalog). AreParts g.unread c exact (file ∷ [])) (sym catalog)
         (parts_opened g.unread (g.catalog e.sources) exact found e.limits.source_bytes e.files.line_bytes 0 0 path (answer telling)));
@@ -278,10 +278,10 @@ starts_refused {S} {R} g e s kind path own none idle bounded failures refusals t
     texts = bounded.texts;
   };
   kinds = own;
-  lets_go = λ _. fault_lets_go (unopened_engine (record e { sources = s }) (opening_fault kind path)) (opening_fault kind path) refl;
+  lets_go = λ h. record { idle = λ _ _. h };
   stores = λ h _. record {
-    lets_go = fault_lets_go (unopened_engine (record e { sources = s }) (opening_fault kind path)) (opening_fault kind path) refl;
-    parts = subst (λ (ns : List (File R)). AreParts g.unread (g.catalog s) (Some (opening_fault kind path) ≡ None) ns) (sym none) tt;
+    lets_go = record { idle = λ _ _. h };
+    parts = subst (λ (ns : List (File R)). AreParts g.unread (g.catalog s) (MayGoOn (unopened_engine (record e { sources = s }) (opening_fault kind path))) ns) (sym none) tt;
     begun = λ _. inl h;
     call = λ fs called. absurd (let no : None ≡ Some fs = sym (none_called e.table.macros e.expansion.opens idle) ∙ called in cc);
   };

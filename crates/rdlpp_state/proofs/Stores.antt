@@ -23,16 +23,18 @@ use Rattle.rdlpp_read.specs.Buffer.{BufferView, Gains, entered_mode, MovesOver, 
 use Rattle.rdlpp_read.specs.Files.{consumed_file, entered_file, inner_buffer, torn_after, with_buffer, with_inner}
 use Rattle.rdlpp_read.specs.declared.files.File.{File}
 use Rattle.rdlpp_state.specs.Engine.{EngineView}
+use Rattle.rdlpp_state.specs.Failures.{MayGoOn, is_call_failed, is_failed_search, is_failed_start}
 use Rattle.rdlpp_state.specs.Includes.{inner_path}
 use Rattle.rdlpp_state.specs.Lines.{renumbered_file}
 use Rattle.rdlpp_state.specs.Marks.{MarksView}
 use Rattle.rdlpp_state.specs.Owed.{OwedView}
 use Rattle.rdlpp_state.specs.declared.phase.Phase.{Phase}
+use Rattle.rdlpp_state.proofs.GoingOn.{own_stops}
 use Rattle.rdlpp_state.specs.Stored.{AreParts, BeginsCall, called_formals, HoldsCall, HoldsStores, IsBegunIn, IsCallOf, IsPartOf, LetsGo}
 
--- a fault is kept: nothing is said then
-pub fault_lets_go : {S R : Type 0} (e : EngineView S R) (f : Told) → e.kept ≡ Some f → LetsGo e
-fault_lets_go e f kept = record { idle = λ none. absurd (let no : Some f ≡ None = sym kept ∙ none in cc) }
+-- an engine that can't go on: nothing is said then
+stopped_lets_go : {S R : Type 0} (e : EngineView S R) → (MayGoOn e → ⊥) → LetsGo e
+stopped_lets_go e stops = record { idle = λ on. absurd (stops on) }
 
 -- a part of a text, where its window moved on over that
 pub part_moves : {R : Type 0} (unread : R → List ℕ) (catalog : Catalog) (own exact : Type 0) (path : List ℕ) (old new : BufferView R) (outer : List (File R)) (dropped gained : List ℕ)
@@ -275,7 +277,7 @@ pub record KeepsStores {S R : Type 0} (g : Ghosts S R) (old new : EngineView S R
 
 -- the parts of an engine's texts, of which no byte was lost
 free_parts : {S R : Type 0} (g : Ghosts S R) (e : EngineView S R) → e.kept ≡ None → HoldsStores g e → AreParts g.unread (g.catalog e.sources) Unit e.files.nest
-free_parts g e free h = parts_told g.unread (g.catalog e.sources) (e.kept ≡ None) Unit e.files.nest (λ _. free) h.parts
+free_parts g e free h = parts_told g.unread (g.catalog e.sources) (MayGoOn e) Unit e.files.nest (λ _. inl free) h.parts
 
 -- where the sources changed, no fault is kept, and no text of a usage is open
 pub keeps_sources : {S R : Type 0} (g : Ghosts S R) (old : EngineView S R) (owed : OwedView) (marks : MarksView) (macros : List Macro) (v : ConditionsView) (nest : List (File R)) (sources : S) → old.kept ≡ None → old.expansion.opens ≡ []
@@ -283,12 +285,12 @@ pub keeps_sources : {S R : Type 0} (g : Ghosts S R) (old : EngineView S R) (owed
     → KeepsStores g old (record old { owed = owed; marks = marks; table = record old.table { macros = macros }; conditions = v; files = record old.files { nest = nest }; sources = sources })
 keeps_sources g old owed marks macros v nest sources free idle catalog parts =
     let none = none_called macros old.expansion.opens idle in
-    let nothing : LetsGo old → old.expansion.arguments ≡ [] = λ h. h.idle free (none_called old.table.macros old.expansion.opens idle) in
+    let nothing : LetsGo old → old.expansion.arguments ≡ [] = λ h. h.idle (inl free) (none_called old.table.macros old.expansion.opens idle) in
     record {
       lets_go = λ h. record { idle = λ _ _. nothing h };
       stores = λ t h. record {
         lets_go = record { idle = λ _ _. nothing h.lets_go };
-        parts = parts_told g.unread (g.catalog sources) Unit (old.kept ≡ None) nest (λ _. tt)
+        parts = parts_told g.unread (g.catalog sources) Unit _ nest (λ _. tt)
             (subst (λ (c : Catalog). AreParts g.unread c Unit nest) (sym catalog) (parts t (free_parts g old free h)));
         call = λ fs called. absurd (let no : None ≡ Some fs = sym none ∙ called in cc);
         begun = λ _. inl (nothing h.lets_go);
@@ -297,64 +299,92 @@ keeps_sources g old owed marks macros v nest sources free idle catalog parts =
 
 -- where nothing of it changed
 pub keeps_owed : {S R : Type 0} (g : Ghosts S R) (old : EngineView S R) (owed : OwedView) (marks : MarksView) → KeepsStores g old (record old { owed = owed; marks = marks })
+unfolding is_failed_search is_failed_start
 keeps_owed g old owed marks = record {
   lets_go = λ h. record { idle = h.idle };
   stores = λ t h. record { lets_go = record { idle = h.lets_go.idle }; parts = h.parts; call = h.call; begun = h.begun };
 }
 
--- nor with how far an engine is, and how many bytes may be lent
-pub keeps_phase : {S R : Type 0} (g : Ghosts S R) (old : EngineView S R) (phase : Phase) (quota : ℕ) → KeepsStores g old (record old { phase = phase; quota = quota })
-keeps_phase g old phase quota = record {
-  lets_go = λ h. record { idle = h.idle };
-  stores = λ t h. record { lets_go = record { idle = h.lets_go.idle }; parts = h.parts; call = h.call; begun = h.begun };
-}
-
--- where a fault is kept, and nothing else changed: it closes nothing
-pub keeps_refused : {S R : Type 0} (g : Ghosts S R) (old : EngineView S R) (f : Told) → KeepsStores g old (record old { kept = Some f })
-keeps_refused g old f = record {
-  lets_go = λ h. fault_lets_go (record old { kept = Some f }) f refl;
+-- nor with how far an engine is that keeps no fault, and how many bytes may be lent
+pub keeps_phase : {S R : Type 0} (g : Ghosts S R) (old : EngineView S R) (phase : Phase) (quota : ℕ) → old.kept ≡ None → KeepsStores g old (record old { phase = phase; quota = quota })
+keeps_phase g old phase quota free = record {
+  lets_go = λ h. record { idle = λ _. h.idle (inl free) };
   stores = λ t h. record {
-    lets_go = fault_lets_go (record old { kept = Some f }) f refl;
-    parts = parts_told g.unread (g.catalog old.sources) (old.kept ≡ None) (Some f ≡ None) old.files.nest (λ e. absurd (cc)) h.parts;
+    lets_go = record { idle = λ _. h.lets_go.idle (inl free) };
+    parts = parts_told g.unread (g.catalog old.sources) (MayGoOn old) _ old.files.nest (λ _. inl free) h.parts;
     call = h.call;
     begun = h.begun;
   };
 }
 
--- where a fault is kept that came at the front of what is held: the innermost window moved on, and bytes may be lost after it
-pub keeps_stopped : {S R : Type 0} (g : Ghosts S R) (old : EngineView S R) (f : Told) (b : BufferView R) (sources : S) → old.kept ≡ None → old.expansion.opens ≡ [] → 0 < length old.files.nest
-    → g.catalog sources ≡ g.catalog old.sources → Slides (g.tells old.sources) ⊥ g.unread (inner_buffer old.files.nest) b
-    → KeepsStores g old (record old { kept = Some f; files = record old.files { nest = with_buffer b old.files.nest }; sources = sources })
-keeps_stopped {S} {R} g old f b sources free idle some catalog slides =
-    let new : EngineView S R = record old { kept = Some f; files = record old.files { nest = with_buffer b old.files.nest }; sources = sources } in
-    let none = none_called old.table.macros old.expansion.opens idle in
+-- where a fault is kept that is none of a device or of memory, and nothing else changed: it closes nothing
+pub keeps_refused : {S R : Type 0} (g : Ghosts S R) (old : EngineView S R) (f : Told) → is_call_failed f.kind ≡ false → KeepsStores g old (record old { kept = Some f })
+keeps_refused {S} {R} g old f own =
+    let new : EngineView S R = record old { kept = Some f } in
+    let stops : MayGoOn new → ⊥ = own_stops new f refl own in
     record {
-      lets_go = λ h. fault_lets_go new f refl;
+      lets_go = λ h. stopped_lets_go new stops;
       stores = λ t h. record {
-        lets_go = fault_lets_go new f refl;
-        parts = parts_told g.unread (g.catalog sources) ⊥ (Some f ≡ None) (with_buffer b old.files.nest) (λ e. cc e)
-            (subst (λ (c : Catalog). AreParts g.unread c ⊥ (with_buffer b old.files.nest)) (sym catalog)
-            (parts_slid (g.tells old.sources) ⊥ g.unread b old.files.nest some slides t (g.catalog old.sources) (free_parts g old free h)));
-        call = λ fs called. absurd (let no : None ≡ Some fs = sym none ∙ called in cc);
-        begun = λ _. inl (h.lets_go.idle free none);
+        lets_go = stopped_lets_go new stops;
+        parts = parts_told g.unread (g.catalog old.sources) (MayGoOn old) (MayGoOn new) old.files.nest (λ on. absurd (stops on)) h.parts;
+        call = h.call;
+        begun = h.begun;
       };
     }
 
--- where a fault is kept that came in the call of a usage
+-- where a search failed: the sources alone changed, and no byte is lost
+pub keeps_searched : {S R : Type 0} (g : Ghosts S R) (old : EngineView S R) (f : Told) (sources : S) → old.kept ≡ None → old.expansion.opens ≡ [] → g.catalog sources ≡ g.catalog old.sources
+    → KeepsStores g old (record old { kept = Some f; sources = sources })
+keeps_searched g old f sources free idle catalog =
+    let none = none_called old.table.macros old.expansion.opens idle in
+    record {
+      lets_go = λ h. record { idle = λ _ _. h.idle (inl free) none };
+      stores = λ t h. record {
+        lets_go = record { idle = λ _ _. h.lets_go.idle (inl free) none };
+        parts = parts_told g.unread (g.catalog sources) Unit _ old.files.nest (λ _. tt)
+            (subst (λ (c : Catalog). AreParts g.unread c Unit old.files.nest) (sym catalog) (free_parts g old free h));
+        call = λ fs called. absurd (let no : None ≡ Some fs = sym none ∙ called in cc);
+        begun = λ _. inl (h.lets_go.idle (inl free) none);
+      };
+    }
+
+-- where a fault is kept that came at the front of what is held, and after which the engine can't go on: the innermost window moved on, and
+-- bytes may be lost after it
+pub keeps_stopped : {S R : Type 0} (g : Ghosts S R) (old : EngineView S R) (f : Told) (b : BufferView R) (sources : S) → old.kept ≡ None → old.expansion.opens ≡ [] → 0 < length old.files.nest
+    → g.catalog sources ≡ g.catalog old.sources → Slides (g.tells old.sources) ⊥ g.unread (inner_buffer old.files.nest) b
+    → (MayGoOn (record old { kept = Some f; files = record old.files { nest = with_buffer b old.files.nest }; sources = sources }) → ⊥)
+    → KeepsStores g old (record old { kept = Some f; files = record old.files { nest = with_buffer b old.files.nest }; sources = sources })
+keeps_stopped {S} {R} g old f b sources free idle some catalog slides stops =
+    let new : EngineView S R = record old { kept = Some f; files = record old.files { nest = with_buffer b old.files.nest }; sources = sources } in
+    let none = none_called old.table.macros old.expansion.opens idle in
+    record {
+      lets_go = λ h. stopped_lets_go new stops;
+      stores = λ t h. record {
+        lets_go = stopped_lets_go new stops;
+        parts = parts_told g.unread (g.catalog sources) ⊥ (MayGoOn new) (with_buffer b old.files.nest) stops
+            (subst (λ (c : Catalog). AreParts g.unread c ⊥ (with_buffer b old.files.nest)) (sym catalog)
+            (parts_slid (g.tells old.sources) ⊥ g.unread b old.files.nest some slides t (g.catalog old.sources) (free_parts g old free h)));
+        call = λ fs called. absurd (let no : None ≡ Some fs = sym none ∙ called in cc);
+        begun = λ _. inl (h.lets_go.idle (inl free) none);
+      };
+    }
+
+-- where a fault is kept that came in the call of a usage, and after which the engine can't go on
 pub keeps_broken : {S R : Type 0} (g : Ghosts S R) (old : EngineView S R) (f : Told) (nest : List (File R)) (s : S) (opening : Opening) (arguments used : List ℕ) (len : ℕ) (exact : Type 0) (formals : Option (List Formal))
     → old.kept ≡ None → old.expansion.opens ≡ [] → 0 < length old.files.nest → g.catalog s ≡ g.catalog old.sources → nest ≡ with_used (inner_buffer nest) used old.files.nest
     → MovesOver (g.tells old.sources) exact g.unread used (inner_buffer old.files.nest) (inner_buffer nest)
     → (inner_buffer (with_inner (consumed_file len 0) old.files.nest)).at ≤ (inner_buffer old.files.nest).accepted → (inner_buffer old.files.nest).mode ≡ Plain → is_opened opening ≡ false
     → KeepsUsage formals (g.tells old.sources) g.unread old.expansion.most opening arguments (inner_buffer (with_inner (consumed_file len 0) old.files.nest)) (inner_buffer nest)
+    → (MayGoOn (record old { kept = Some f; files = record old.files { nest = nest }; sources = s; expansion = record old.expansion { arguments = arguments } }) → ⊥)
     → KeepsStores g old (record old { kept = Some f; files = record old.files { nest = nest }; sources = s; expansion = record old.expansion { arguments = arguments } })
-keeps_broken {S} {R} g old f nest s opening arguments used len exact formals free idle some catalog inner moves inside plain unopened keeps =
+keeps_broken {S} {R} g old f nest s opening arguments used len exact formals free idle some catalog inner moves inside plain unopened keeps stops =
     let new : EngineView S R = record old { kept = Some f; files = record old.files { nest = nest }; sources = s; expansion = record old.expansion { arguments = arguments } } in
     let none = none_called old.table.macros old.expansion.opens idle in
     record {
-      lets_go = λ h. fault_lets_go new f refl;
+      lets_go = λ h. stopped_lets_go new stops;
       stores = λ t h. record {
-        lets_go = fault_lets_go new f refl;
-        parts = parts_told g.unread (g.catalog s) exact (Some f ≡ None) nest (λ e. absurd (cc))
+        lets_go = stopped_lets_go new stops;
+        parts = parts_told g.unread (g.catalog s) exact (MayGoOn new) nest (λ on. absurd (stops on))
             (subst (λ (c : Catalog). AreParts g.unread c exact nest) (sym catalog)
             (parts_moved (g.tells old.sources) exact g.unread used old.files.nest nest some inner moves t (g.catalog old.sources) (free_parts g old free h)));
         call = λ fs called. absurd (let no : None ≡ Some fs = sym none ∙ called in cc);
@@ -374,7 +404,7 @@ keeps_texts g old x marks free stays outer lets_go = record {
   lets_go = λ h. record { idle = λ _ none. by h none x.opens refl };
   stores = λ t h. record {
     lets_go = record { idle = λ _ none. by h.lets_go none x.opens refl };
-    parts = h.parts;
+    parts = parts_told g.unread (g.catalog old.sources) (MayGoOn old) _ old.files.nest (λ _. inl free) h.parts;
     call = λ fs called.
         let some = called_some old.table.macros x.opens fs called in
         let own = sym (same_called old.table.macros old.expansion.opens x.opens outer some) ∙ called in
@@ -393,7 +423,7 @@ keeps_texts g old x marks free stays outer lets_go = record {
     by h none (y ∷ below) is =
         let size = ap length is in
         let own = sym (same_called old.table.macros old.expansion.opens x.opens outer (omega (arith, size))) ∙ none in
-        elim stays.arguments [ inl same ↦ same ∙ h.idle free own | inr gone ↦ gone.1 ]
+        elim stays.arguments [ inl same ↦ same ∙ h.idle (inl free) own | inr gone ↦ gone.1 ]
 
 -- where a usage is opened
 pub keeps_opened : {S R : Type 0} (g : Ghosts S R) (old : EngineView S R) (nest : List (File R)) (s : S) (x : ExpansionView) (used : List ℕ) (len : ℕ) (formals : Option (List Formal)) → old.kept ≡ None → 0 < length old.files.nest
@@ -408,7 +438,7 @@ keeps_opened g old nest s x used len formals free some catalog inner parts insid
       lets_go = λ h. record { idle = λ _ none. nothing none };
       stores = λ t h. record {
         lets_go = record { idle = λ _ none. nothing none };
-        parts = parts_told g.unread (g.catalog s) Unit (old.kept ≡ None) nest (λ _. tt)
+        parts = parts_told g.unread (g.catalog s) Unit _ nest (λ _. tt)
             (subst (λ (c : Catalog). AreParts g.unread c Unit nest) (sym catalog) (parts t (g.catalog old.sources) (free_parts g old free h)));
         call = λ fs own.
             subst (λ (n : ℕ). HoldsCall g.unread (g.catalog s) n x.arguments nest) (sym most)

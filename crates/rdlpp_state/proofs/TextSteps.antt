@@ -27,6 +27,7 @@ use Rattle.rdlpp_state.specs.Held.{IsBounded}
 use Rattle.rdlpp_state.specs.Standing.{AtCursor, InTexts, Nowhere}
 use Rattle.rdlpp_texts.specs.Fronts.{IsFrontPlace, StandsAt}
 use Rattle.rdlpp_texts.specs.Opened.{StaysOutermost}
+use Rattle.rdlpp_state.proofs.GoingOn.{own_failed}
 use Rattle.rdlpp_state.proofs.Stores.{KeepsStores, keeps_refused, keeps_texts}
 use Rattle.rdlpp_state.specs.Marks.{lends_usage}
 use Rattle.rdlpp_state.specs.Moves.{IsUnowed}
@@ -192,7 +193,7 @@ texts_refuse {S} {R} g old mid new place fault unowed bounded same is kept own s
     ∙ (texts_fail (run_rules g old) (state_of old) old.table.macros old.expansion f p
     (step (run_rules g old) (state_of old) (nest_macros old.limits old.table.macros old.conditions old.files.nest))
     ∙ ap (leaves (fails f)) here))
-    (subst (λ (e : EngineView S R). KeepsStores g old e) (sym becomes) (keeps_refused g old f)))
+    (subst (λ (e : EngineView S R). KeepsStores g old e) (sym becomes) (keeps_refused g old f (own_failed f.kind (told_kind fault.kind old.expansion.line word (state_of old) (text_kind fault.kind own))))))
 
 -- the same engine, with other open texts
 pub opening : {S R : Type 0} (a b : EngineView S R) (x : ExpansionView) → a ≡ b → record a { expansion = x } ≡ record b { expansion = x }

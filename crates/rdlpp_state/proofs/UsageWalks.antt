@@ -25,6 +25,8 @@ use Rattle.rdlpp_usages.specs.declared.expansion.Opening.{Opening}
 use Rattle.rdlpp_usages.specs.declared.expansion.Opening.TheVariants.{Opened, Refused, Broken, Failed}
 use Rattle.rdlpp_state.specs.Calls.{SourcesCalled}
 use Rattle.rdlpp_state.specs.Engine.{AreOpenTexts, EngineView}
+use Rattle.rdlpp_state.specs.Failures.{MayGoOn}
+use Rattle.rdlpp_state.proofs.GoingOn.{own_failed, own_stops, read_stops}
 use Rattle.rdlpp_state.specs.Held.{IsBounded}
 use Rattle.rdlpp_state.specs.Standing.{Nowhere, OpensText, OpensUsage, Turns}
 use Rattle.rdlpp_front.proofs.Insides.{usage_inside}
@@ -161,9 +163,9 @@ module _ {S R : Type 0} (g : Ghosts S R) (old : EngineView S R) (ready : IsReady
     stops_in f = record { len = len; mode = mode; usage = usage; idle = ready.idle; becomes = refl; only = refl; opening = opening; unopened = unopened; macro = macro; named = named; kept = kept; uses = uses }
 
     -- and closes nothing
-    stores_in : (f : Told) → g.catalog s ≡ g.catalog old.sources → KeepsStores g old (stopped_engine f)
-    stores_in f catalog =
-        keeps_broken g old f nest s opening x.arguments uses.used len (IsExactOpening opening) macro.formals ready.free ready.idle ready.nest catalog uses.inner uses.moves inside mode unopened kept
+    stores_in : (f : Told) → g.catalog s ≡ g.catalog old.sources → (MayGoOn (stopped_engine f) → ⊥) → KeepsStores g old (stopped_engine f)
+    stores_in f catalog stops =
+        keeps_broken g old f nest s opening x.arguments uses.used len (IsExactOpening opening) macro.formals ready.free ready.idle ready.nest catalog uses.inner uses.moves inside mode unopened kept stops
 
     halts_in : (f : Told) → HaltsAt g old (stopped_engine f)
     halts_in f = record { at = old; text = λ t. refl; unowed = ready.owed; stopped = InCall (stops_in f) }
@@ -180,7 +182,7 @@ module _ {S R : Type 0} (g : Ghosts S R) (old : EngineView S R) (ready : IsReady
         → (g.tells old.sources → text_by (run_rules g old) g old ≡ leaves (fails f) (state_of old)) → Walks g old (stopped_engine f) (Err f)
     usage_faults f own bounded call law =
         walks_kept g old (stopped_engine f) ready.free ready.open_ bounded f own refl (halts_in f) call
-        (λ t. by_run g old ∙ (law t ∙ ap (leaves (fails f)) (sym (same_here f)))) (stores_in f call.catalog)
+        (λ t. by_run g old ∙ (law t ∙ ap (leaves (fails f)) (sym (same_here f)))) (stores_in f call.catalog (own_stops (stopped_engine f) f refl (own_failed f.kind own)))
 
     -- the usage is refused, at its line about its name
     pub usage_refuses : (kind : FaultKind) (line : ℕ) (name : List ℕ) → is_usage_fault kind ≡ true → let f = fault_at kind line name (state_of old) in IsBounded (stopped_engine f)
@@ -205,7 +207,7 @@ module _ {S R : Type 0} (g : Ghosts S R) (old : EngineView S R) (ready : IsReady
         let here : f ≡ fault_at fault.ReadFailed (reading_line_of (inner_buffer nest)) [] (state_of (stopped_engine f)) =
         ap (fault_at fault.ReadFailed (reading_line_of (inner_buffer nest)) []) (sym (same_here f)) in
         walks_ceased g old (stopped_engine f) ready.free ready.open_ bounded f (OnRead (inl unheld) here) refl refl refl (halts_in f)
-        (record { open_ = ready.open_; still = ready.open_; at = old; stood = BeforeCall (stops_in f) unheld; text = λ t. refl }) call (stores_in f call.catalog)
+        (record { open_ = ready.open_; still = ready.open_; at = old; stood = BeforeCall (stops_in f) unheld; text = λ t. refl }) call (stores_in f call.catalog (read_stops (stopped_engine f) f refl ready.open_ (inl unheld)))
 
 -- a usage as a step of the engine, by what its opening says
 module _ {S R : Type 0} (g : Ghosts S R) (old mid : EngineView S R) (len : ℕ) (ready : IsReady old) (live : old.conditions.skipped ≡ None) (mode : (inner_buffer old.files.nest).mode ≡ Plain)

@@ -4,6 +4,7 @@ pub mod Owed
 pub mod Marks
 pub mod OpenConditionals
 pub mod Engine
+pub mod Failures
 pub mod Held
 pub mod Remaining
 pub mod Includes

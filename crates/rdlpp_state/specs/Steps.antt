@@ -1,10 +1,10 @@
 -- What a step of an engine does.
 -- A definition that names no source is this project's own.
-use Rattle.std.specs.Prelude.{◌≡◌, ℕ, ◌+◌, ◌<◌, Bool, true, false, List, [], ◌++◌, ◌||◌, Option, None, Some, Result, Ok, Err, IfErr, IfOk, length, take, ⊤, ◌⊎◌, codes}
+use Rattle.std.specs.Prelude.{◌≡◌, ℕ, ◌+◌, ◌<◌, Bool, true, false, List, [], ◌++◌, Option, None, Some, Result, Ok, Err, IfErr, IfOk, length, take, ⊤, ◌⊎◌, codes}
 use Rattle.rdlpp_scan.specs.declared.token.Mode.TheVariants.{Plain}
 use Rattle.rdlpp_source.specs.declared.sources.Sources.{Ghosts}
 use Rattle.rdlpp_meaning.specs.declared.fault.FaultKind.{FaultKind}
-use Rattle.rdlpp_meaning.specs.declared.fault.FaultKind.TheVariants.{ReadFailed, WriteFailed, SourceMemory, EmbeddedPerl}
+use Rattle.rdlpp_meaning.specs.declared.fault.FaultKind.TheVariants.{ReadFailed}
 use Rattle.rdlpp_meaning.specs.Meaning.{Passage, behind_bytes, leaves}
 use Rattle.rdlpp_meaning.specs.State.{State, fault_at}
 use Rattle.rdlpp_meaning.specs.Outcome.{Told, Outcome, gives, fails, and_then}
@@ -16,6 +16,7 @@ use Rattle.rdlpp_usages.specs.Usages.{KeepsUsage, UsesSource, is_opened}
 use Rattle.rdlpp_usages.specs.declared.expansion.Opening.{Opening}
 use Rattle.rdlpp_state.specs.Calls.{SourcesCalled}
 use Rattle.rdlpp_state.specs.Engine.{EngineView, is_open}
+unfoldable pub use Rattle.rdlpp_state.specs.Failures.{is_call_failed, is_memory_kind, is_read_failed, is_write_failed, may_follow}
 use Rattle.rdlpp_state.specs.Held.{IsBounded}
 use Rattle.rdlpp_state.specs.Includes.{IsSearch}
 use Rattle.rdlpp_state.specs.Owed.{nothing_owed}
@@ -25,28 +26,6 @@ use Rattle.rdlpp_state.specs.Stored.{HoldsStores, LetsGo}
 use Rattle.rdlpp_state.specs.Remaining.{left_of, output_fault, uncut_of, state_of, text_of, work_left}
 use Rattle.rdlpp_state.specs.declared.phase.Phase.{Phase}
 use Rattle.rdlpp_state.specs.declared.phase.Phase.TheVariants.{Fresh, Open, Passed, Closed}
-
--- whether a kind is that of a read that failed
-unfoldable pub is_read_failed : FaultKind → Bool
-is_read_failed EmbeddedPerl = false
-is_read_failed ReadFailed = true
-is_read_failed _ = false
-
--- whether a kind is that of a write that failed
-unfoldable pub is_write_failed : FaultKind → Bool
-is_write_failed EmbeddedPerl = false
-is_write_failed WriteFailed = true
-is_write_failed _ = false
-
--- whether a kind is that of memory that was refused for a source
-unfoldable pub is_memory_kind : FaultKind → Bool
-is_memory_kind EmbeddedPerl = false
-is_memory_kind SourceMemory = true
-is_memory_kind _ = false
-
--- whether a kind is that of a source that couldn't be read or searched for: a device failed, or memory was refused
-unfoldable pub is_call_failed : FaultKind → Bool
-is_call_failed kind = is_read_failed kind || is_memory_kind kind
 
 -- whether an answer is a fault of such a kind, and none was kept before the call
 unfoldable pub has_met : (FaultKind → Bool) → Option Told → Result (Option (List ℕ)) Told → Bool
@@ -215,13 +194,6 @@ no_len answer = 0
 -- all of a piece, whatever may still be lent
 unfoldable pub all_of : ℕ → List ℕ → List ℕ
 all_of quota piece = piece
-
--- whether bytes may follow
-unfoldable pub may_follow : Phase → Bool
-may_follow Fresh = false
-may_follow Open = true
-may_follow Passed = false
-may_follow Closed = false
 
 -- a step over what remains of the output, in which the lent bytes count: no more are lent of a piece than may be (this project's
 -- profile)

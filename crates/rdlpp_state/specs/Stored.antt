@@ -14,6 +14,7 @@ use Rattle.rdlpp_usages.specs.CallReads.{ReadsUpTo}
 use Rattle.rdlpp_texts.specs.Opened.{usage_id}
 use Rattle.rdlpp_usages.specs.Usages.{KeepsCall}
 use Rattle.rdlpp_state.specs.Engine.{EngineView}
+use Rattle.rdlpp_state.specs.Failures.{MayGoOn}
 
 -- a text that sources tell under a path, where these sources are open around it: that of a main path, or that of an `include` in the innermost of them
 abbrev pub IsTextOf : {R : Type 0} → Catalog → List ℕ → List (File R) → List ℕ → Type 0
@@ -68,15 +69,16 @@ BeginsCall unread catalog most arguments (f ∷ outer) = IsBegunIn unread catalo
 unfoldable pub called_formals : List Macro → List Open → Option (List Formal)
 called_formals macros opens = elim (usage_id opens) [ None ↦ None | Some id ↦ (macro_at macros id).formals ]
 
--- nothing is kept where no call in the source is open, unless a fault came in that call
+-- nothing is kept where no call in the source is open, but where a fault came, in that call perhaps, after which the engine can't go on
 pub record LetsGo {S R : Type 0} (e : EngineView S R) : Type 0 where
-  pub idle : e.kept ≡ None → called_formals e.table.macros e.expansion.opens ≡ None → e.expansion.arguments ≡ []
+  pub idle : MayGoOn e → called_formals e.table.macros e.expansion.opens ≡ None → e.expansion.arguments ≡ []
 
--- the buffers are parts of their texts, also after a fault; while a call in the source is open, what is kept is its kept text, all of it; and
--- where none is, nothing is kept, or after a fault that came in a call what was kept of that so far
+-- the buffers are parts of their texts, also after a fault, and no byte is lost where the engine may go on; while a call in the source is
+-- open, what is kept is its kept text, all of it; and where none is, nothing is kept, or after a fault that came in a call what was kept of
+-- that so far
 pub record HoldsStores {S R : Type 0} (g : Ghosts S R) (e : EngineView S R) : Type 0 where
   pub lets_go : LetsGo e
-  pub parts : AreParts g.unread (g.catalog e.sources) (e.kept ≡ None) e.files.nest
+  pub parts : AreParts g.unread (g.catalog e.sources) (MayGoOn e) e.files.nest
   pub call : (fs : List Formal) → called_formals e.table.macros e.expansion.opens ≡ Some fs
       → HoldsCall g.unread (g.catalog e.sources) e.expansion.most e.expansion.arguments e.files.nest
   pub begun : called_formals e.table.macros e.expansion.opens ≡ None
