@@ -6,7 +6,7 @@ use rdlpp_front::{Front, front_of};
 use rdlpp_scan::Mode;
 use rdlpp_source::{Sources, folder_of, joined_path};
 use rdlpp_table::Limits;
-use rdlpp_texts::next_part;
+use rdlpp_texts::{PartEnd, next_part};
 use std::io::{self, Write};
 
 // What a note begins with.
@@ -103,20 +103,21 @@ fn write_counts<S: Sources, W: Write>(
 
 // How many arguments a call has, whose text between its parentheses is kept; none where that is nothing but white space.
 fn arguments_in(text: &[u8]) -> u64 {
-    if !next_part(text).has_items() && next_part(text).next.is_none() {
-        return 0;
+    let first = next_part(text, false);
+    match first.end {
+        PartEnd::Last(_) if !first.has_items() => 0,
+        _ => further_parts(text).saturating_add(1),
     }
-    further_parts(text).saturating_add(1)
 }
 
-// How many parts a text between parentheses has behind the first one.
-#[tactic(auto, unfolding(rdlpp_texts::specs::CallParts::AreFurther))]
+// How many parts a text between parentheses has after the first one.
+#[tactic(auto, unfolding(rdlpp_texts::specs::CallParts::Follows))]
 fn further_parts(text: &[u8]) -> u64 {
     let mut rest = text;
     for count in 0..text.len() {
-        match next_part(rest).next {
-            Some(next) => rest = &rest[next..],
-            None => return count as u64,
+        match next_part(rest, false).end {
+            PartEnd::Comma(next) => rest = &rest[next..],
+            PartEnd::Last(_) => return count as u64,
         }
     }
     text.len() as u64

@@ -1,6 +1,6 @@
--- The arguments that are found in a text are those of the call of the definition.
-use Rattle.std.proofs.Common.{◌≡◌, ◌≤◌, ◌<◌, ℕ, zero, suc, ◌+◌, ◌-◌, Bool, true, cond, List, [], ◌∷◌, ◌++◌, length, take, drop, filter, All, refl, sym, ap, ◌∙◌, subst, arith, Some, None}
-use Rattle.std.proofs.lemmas.List.{drop-drop, length-drop}
+-- A call in a text is that of the definition.
+use Rattle.std.proofs.Common.{◌≡◌, ◌≤◌, ◌<◌, ℕ, zero, suc, ◌+◌, Bool, true, cond, List, [], ◌∷◌, ◌++◌, length, drop, filter, All, refl, sym, ap, ◌∙◌, subst, arith, Some, None, ◌⊎◌, ⊎_elim, inl, inr}
+use Rattle.std.proofs.lemmas.List.{drop-drop}
 use Rattle.std.proofs.lemmas.List.Elements.{All-nil, All-cons, All-head, All-tail, filter_passes}
 use Rattle.rdlpp_scan.specs.declared.token.Mode.TheVariants.{Plain}
 use Rattle.rdlpp_scan.specs.SourceTokens.{SourceToken}
@@ -12,10 +12,11 @@ use Rattle.rdlpp_meaning.specs.Expansion.{bytes_of}
 use Rattle.rdlpp_meaning.specs.Substitution.{body_tokens}
 use Rattle.rdlpp_meaning.specs.TextTokens.{text_tokens}
 use Rattle.rdlpp_meaning.proofs.ClosedScans.{behind_cut}
+use Rattle.rdlpp_meaning.proofs.Cover.{body_covered}
 use Rattle.rdlpp_meaning.proofs.LeftScan.{call_is_scan}
 use Rattle.rdlpp_meaning.proofs.TextRanges.{body_text, closes_text, is_one_role, text_cut, text_behind, text_one}
-use Rattle.rdlpp_texts.specs.CallParts.{opener_from, closer_from, IsCallAt}
-use Rattle.rdlpp_texts.proofs.CallLaws.{text_is_text, passing, IsLed, opener_none, opener_some, IsEnded, closer_none, closer_some}
+use Rattle.rdlpp_texts.specs.CallParts.{opener_from, inner_size, inner_tokens}
+use Rattle.rdlpp_texts.proofs.CallLaws.{text_is_text, passing, IsLed, opener_none, opener_some, IsEnded, IsUnclosed, ended}
 
 -- all tokens may stand between the parentheses of a call
 AllText : List SourceToken → Type 0
@@ -44,36 +45,6 @@ opened text from e =
       led = c;
       inside = omega (arith, place, b.1);
       rest = body_text (drop from text) ∙ ap (λ (n : ℕ). text_tokens Plain (drop n text)) place ∙ b.0;
-    }
-
--- what stands between the parentheses of a call, in the text behind its `(`
-record IsInner (text : List ℕ) (len : ℕ) (ts : List SourceToken) : Type 0 where
-  ended : IsEnded 0 0 len ts
-  inside : len < length text
-  inner : body_tokens (take len text) ≡ ended.inner
-  rest : body_tokens (drop (len + 1) text) ≡ ended.rest
-
--- it is that
-inner_of : (text : List ℕ) (len : ℕ) → closer_from 0 0 (body_tokens text) ≡ Some len → IsInner text len (body_tokens text)
-unfolding closes_text is_one_role
-inner_of text len e =
-    let all = body_is_text text in
-    let c = closer_some (body_tokens text) 0 0 len all e in
-    let whole = sym (body_text text) ∙ c.whole in
-    let cut = text_cut Plain text c.inner (c.closer ∷ c.rest) whole in
-    let b = text_behind Plain text c.inner c.closer c.rest whole (ap closes_text c.closes) in
-    let one : length c.closer.bytes ≡ 1 = text_one Plain text c.inner c.closer c.rest whole (ap is_one_role c.closes) in
-    let place : len ≡ length (bytes_of c.inner) = let p = c.place in omega arith in
-    let size : length (bytes_of c.inner) + length c.closer.bytes ≡ len + 1 = omega (arith, one, place) in
-    record {
-      ended = c;
-      inside = omega (arith, size, b.1);
-      inner =
-          body_text (take len text)
-          ∙ ap (λ (n : ℕ). text_tokens Plain (take n text)) place
-          ∙ ap (λ (x : List ℕ). text_tokens Plain x) (sym cut.bytes)
-          ∙ cut.front;
-      rest = body_text (drop (len + 1) text) ∙ ap (λ (n : ℕ). text_tokens Plain (drop n text)) (sym size) ∙ b.0;
     }
 
 -- a scan that closes behind things that it passes
@@ -124,57 +95,81 @@ missing_call text e room =
     call_is_scan token_role not_kept room (body_tokens text)
     ∙ ap (call_of_scan token_role 0) (opener_none (body_tokens text) 0 room all e)
 
--- where there is no `)`, arguments are open
-pub open_call : (text : List ℕ) (from : ℕ) → opener_from 0 (body_tokens text) ≡ Some from → closer_from 0 0 (body_tokens (drop from text)) ≡ None
-    → (room : ℕ) → call_of token_role not_kept room (body_tokens text) ≡ Lacking ArgumentsOpen
-unfolding call_of_scan
-open_call text from e f room =
-    let o = opened text from e in
-    let rest = body_tokens (drop from text) in
-    let all = body_is_text (drop from text) in
-    call_is_scan token_role not_kept room (body_tokens text)
-    ∙ ap (call_of_scan token_role 0) (o.led.scans room
-    ∙ ap (λ (ts : List SourceToken). passing (suc (length o.led.lead)) (scan token_role not_kept (Inside 0) room ts)) (sym o.rest)
-    ∙ ap (passing (suc (length o.led.lead))) (closer_none rest 0 0 room all f)
-    ∙ passing_refused (suc (length o.led.lead)) ArgumentsOpen)
+-- a call in a text, behind its `(`, that isn't closed: it has all bytes of the text
+pub record IsUnclosedAt (text : List ℕ) (from : ℕ) : Type 0 where
+  pub size : inner_size true (drop from text) ≡ length (drop from text)
+  pub call : (room : ℕ) → call_of token_role not_kept room (body_tokens text) ≡ Lacking ArgumentsOpen
 
--- where both stand, the call is that of the definition
-pub call_at : (text : List ℕ) (from len : ℕ) → opener_from 0 (body_tokens text) ≡ Some from → closer_from 0 0 (body_tokens (drop from text)) ≡ Some len
-    → IsCallAt text from (from + len)
-call_at text from len e f =
-    let o = opened text from e in
-    let i = inner_of (drop from text) len f in
-    let size = length-drop from text in
+-- one that is closed: the call is that of the definition, with what is kept of its tokens, and behind its `)` stand those of the
+-- text; where the text keeps all, so does the call
+pub record IsClosedAt (text : List ℕ) (from : ℕ) : Type 0 where
+  pub size : inner_size true (drop from text) < length (drop from text)
+  pub used : ℕ
+  pub call : (room : ℕ) → call_of token_role not_kept room (body_tokens text)
+      ≡ call_of_scan token_role 0 (Closed (filter (λ t. is_kept (token_role t)) (inner_tokens true 0 (body_tokens (drop from text)))) used)
+  pub behind : drop used (body_tokens text) ≡ body_tokens (drop (from + inner_size true (drop from text) + 1) text)
+  pub keeps : filter (λ t. is_kept (token_role t)) (body_tokens text) ≡ body_tokens text
+      → filter (λ t. is_kept (token_role t)) (inner_tokens true 0 (body_tokens (drop from text))) ≡ inner_tokens true 0 (body_tokens (drop from text))
+  pub own : body_tokens (bytes_of (inner_tokens true 0 (body_tokens (drop from text)))) ≡ inner_tokens true 0 (body_tokens (drop from text))
+
+-- a call without a `)`
+unclosed_at : (text : List ℕ) (from : ℕ) → IsOpened text from (body_tokens text) → IsUnclosed 0 (body_tokens (drop from text)) → IsUnclosedAt text from
+unfolding call_of_scan inner_size
+unclosed_at text from o u =
+    let n = suc (length o.led.lead) in
+    record {
+      size = ap (λ (ts : List SourceToken). length (bytes_of ts)) u.all ∙ ap length (body_covered (drop from text));
+      call = λ room.
+          call_is_scan token_role not_kept room (body_tokens text)
+          ∙ ap (call_of_scan token_role 0) (o.led.scans room
+          ∙ ap (λ (ts : List SourceToken). passing n (scan token_role not_kept (Inside 0) room ts)) (sym o.rest)
+          ∙ ap (passing n) (u.scans room)
+          ∙ passing_refused n ArgumentsOpen);
+    }
+
+-- and one with it
+closed_at : (text : List ℕ) (from : ℕ) → IsOpened text from (body_tokens text) → IsEnded 0 (body_tokens (drop from text)) → IsClosedAt text from
+unfolding closes_text is_one_role inner_size
+closed_at text from o c =
+    let T = drop from text in
     let lead = o.led.lead in
-    let c = i.ended in
-    let kept : List SourceToken → List SourceToken = λ ts. filter (λ t. is_kept (token_role t)) ts in
-    let used = length lead + (length c.inner + 2) in
-    let count : suc (length lead) + (length c.inner + 1) ≡ used = omega arith in
-    let less : (from + len) - from ≡ len = omega arith in
-    let more : from + (len + 1) ≡ (from + len) + 1 = omega arith in
-    let whole : body_tokens text ≡ lead ++ o.led.opener ∷ (c.inner ++ c.closer ∷ c.rest) =
+    let inner = inner_tokens true 0 (body_tokens T) in
+    let kept = filter (λ (t : SourceToken). is_kept (token_role t)) inner in
+    let used = length lead + (length inner + 2) in
+    let whole = sym (body_text T) ∙ c.whole in
+    let cut = text_cut Plain T inner (c.closer ∷ c.rest) whole in
+    let b = text_behind Plain T inner c.closer c.rest whole (ap closes_text c.closes) in
+    let one : length c.closer.bytes ≡ 1 = text_one Plain T inner c.closer c.rest whole (ap is_one_role c.closes) in
+    let count : suc (length lead) + (length inner + 1) ≡ used = omega arith in
+    let place : length (bytes_of inner) + length c.closer.bytes + from ≡ from + length (bytes_of inner) + 1 = omega (arith, one) in
+    let all : body_tokens text ≡ lead ++ o.led.opener ∷ (inner ++ c.closer ∷ c.rest) =
     o.led.whole ∙ ap (λ (ts : List SourceToken). lead ++ o.led.opener ∷ ts) (sym o.rest ∙ c.whole) in
     record {
-      ordered = omega arith;
-      inside = omega (arith, i.inside, size);
+      size = omega (arith, one, b.1);
       used = used;
       call = λ room.
           call_is_scan token_role not_kept room (body_tokens text)
           ∙ ap (call_of_scan token_role 0) (o.led.scans room
           ∙ ap (λ (ts : List SourceToken). passing (suc (length lead)) (scan token_role not_kept (Inside 0) room ts)) (sym o.rest)
           ∙ ap (passing (suc (length lead))) (c.scans room)
-          ∙ passing_closed (suc (length lead)) (kept c.inner) (length c.inner + 1)
-          ∙ ap (λ (n : ℕ). Closed (kept c.inner) n) count
-          ∙ ap (λ (ts : List SourceToken). Closed (kept ts) used) (sym i.inner)
-          ∙ ap (λ (n : ℕ). Closed (kept (body_tokens (take n (drop from text)))) used) (sym less));
+          ∙ passing_closed (suc (length lead)) kept (length inner + 1)
+          ∙ ap (λ (n : ℕ). Closed kept n) count);
       behind =
-          ap (drop used) whole
-          ∙ behind_cut lead o.led.opener c.inner c.closer c.rest
-          ∙ sym i.rest
-          ∙ ap body_tokens (drop-drop (len + 1) from text)
-          ∙ ap (λ (n : ℕ). body_tokens (drop n text)) more;
-      keeps_all = λ e.
-          let range : body_tokens (take ((from + len) - from) (drop from text)) ≡ c.inner =
-          ap (λ (n : ℕ). body_tokens (take n (drop from text))) less ∙ i.inner in
-          ap kept range ∙ inner_kept (body_tokens text) lead c.inner (c.closer ∷ c.rest) o.led.opener whole e ∙ sym range;
+          ap (drop used) all
+          ∙ behind_cut lead o.led.opener inner c.closer c.rest
+          ∙ sym b.0
+          ∙ ap (λ (x : List ℕ). text_tokens Plain x) (drop-drop (length (bytes_of inner) + length c.closer.bytes) from text)
+          ∙ ap (λ (n : ℕ). text_tokens Plain (drop n text)) (sum from (length (bytes_of inner) + length c.closer.bytes) ∙ place)
+          ∙ sym (body_text (drop (from + length (bytes_of inner) + 1) text));
+      keeps = λ e. inner_kept (body_tokens text) lead inner (c.closer ∷ c.rest) o.led.opener all e;
+      own = body_text (bytes_of inner) ∙ cut.front;
     }
+  where
+    sum : (n m : ℕ) → n + m ≡ m + n
+    sum n m = omega arith
+
+-- each call behind a `(` is one of the two
+pub call_at : (text : List ℕ) (from : ℕ) → opener_from 0 (body_tokens text) ≡ Some from → IsUnclosedAt text from ⊎ IsClosedAt text from
+call_at text from e =
+    let o = opened text from e in
+    ⊎_elim (λ u. inl (unclosed_at text from o u)) (λ c. inr (closed_at text from o c)) (ended (body_tokens (drop from text)) 0 (body_is_text (drop from text)))

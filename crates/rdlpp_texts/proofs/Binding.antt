@@ -40,12 +40,12 @@ drop-few slots first size h inside = let n = length-drop first slots in omega (a
 
 -- there is room for the ranges of one call more
 pub call-room : (slots : List Slot) (first n : ℕ) (bindings : Vec Range Global) → IsStack slots first bindings → n ≤ 255
-    → (vec_len bindings + n ≤ vec_capacity bindings) × (vec_len bindings < vec_capacity bindings)
+    → vec_len bindings + n ≤ vec_capacity bindings
 call-room slots first n bindings h few =
     let room = h.room in
     let size = count_items bindings in
     let all = drop-few slots first (length bindings.items) (laid-few (drop first slots) bindings.items h.laid) h.inside in
-    (omega (arith, room, size, all, few), omega (arith, room, size, all))
+    omega (arith, room, size, all, few)
 
 -- a slot for the body of a macro whose ranges stand behind so many
 abbrev pub body-slot : ℕ → ℕ → ℕ → ℕ → Bounds → Slot

@@ -1,207 +1,237 @@
--- Ranges that are bound part by part are the actuals of the text between the parentheses.
-use Rattle.std.proofs.Common.{◌≡◌, ◌≤◌, ◌<◌, ℕ, ◌+◌, ◌-◌, Bool, true, false, List, [], ◌∷◌, ◌++◌, map, length, take, drop, refl, sym, ap, ◌∙◌, subst, arith, append_assoc, Option, Some, None}
-use Rattle.std.specs.Prelude.{slice_range, ◌==◌, is_some, not}
+-- The parts of a call that are bound one after another are its actuals.
+use Rattle.std.proofs.Common.{◌≡◌, ◌≤◌, ◌<◌, ◌⊎◌, inl, inr, ℕ, ◌+◌, ◌-◌, Bool, true, false, List, [], ◌∷◌, ◌++◌, map, length, take, drop, min, refl, sym, ap, ◌∙◌, subst, arith, append_assoc}
+use Rattle.std.specs.Prelude.{slice_range, nat_lt}
 use Rattle.std.proofs.Math.Seq.{drop-append_seam}
-use Rattle.std.proofs.lemmas.Bool.{false≢true}
+use Rattle.std.proofs.lemmas.Bool.{eqb-true, ltb-true}
 use Rattle.std.proofs.lemmas.Bool.Decides.{nat_tests}
-use Rattle.std.proofs.lemmas.List.{append-nil, take-take, length-drop, length-take, length-append, length-map, map-append}
+use Rattle.std.proofs.lemmas.List.{append-nil, drop-drop, length-drop, map-append}
 use Rattle.rdlpp_scan.specs.SourceTokens.{SourceToken}
+use Rattle.rdlpp_table.specs.Table.{Formal}
 use Rattle.rdlpp_meaning.specs.Actuals.{trimmed, token_role}
-use Rattle.rdlpp_meaning.specs.CallScan.{split, all_parts}
+use Rattle.rdlpp_meaning.specs.CallScan.{all_parts}
+use Rattle.rdlpp_meaning.specs.Expansion.{bound_parts, is_count}
 use Rattle.rdlpp_meaning.specs.Opens.{part_tokens}
 use Rattle.rdlpp_meaning.specs.Substitution.{body_tokens}
-use Rattle.rdlpp_meaning.proofs.OpenScopes.{range_behind}
 use Rattle.rdlpp_meaning.proofs.TextRanges.{body_text}
 use Rattle.rdlpp_texts.specs.declared.bindings.Range.{Range}
 use Rattle.rdlpp_texts.specs.declared.parts.Part.{Part}
-use Rattle.rdlpp_texts.specs.CallParts.{AreFurther, IsNextPart}
-use Rattle.rdlpp_texts.specs.BoundCalls.{range_part, ranges_tokens, added, AreWithin, actuals_of}
+use Rattle.rdlpp_texts.specs.declared.parts.PartEnd.{PartEnd}
+use Rattle.rdlpp_texts.specs.declared.parts.PartEnd.TheVariants.{Comma, Last}
+use Rattle.rdlpp_texts.specs.CallParts.{actuals_in, inner_size, parts_in, Follows, IsNextPart}
+use Rattle.rdlpp_texts.specs.BoundCalls.{range_part, ranges_tokens, added, AreWithin, IsBoundTo}
 
--- a range of a range of a text is one of the text
-pub range_within : (text : List ℕ) (at to i j : ℕ) → i ≤ j → j ≤ to - at → slice_range (slice_range text at to) i j ≡ slice_range text (at + i) (at + j)
-range_within text at to i j low high =
-    let size : (at + j) - (at + i) ≡ j - i = omega arith in
-    ap (take (j - i)) (range_behind text at to i (omega (arith, low, high)))
-    ∙ take-take (j - i) (to - (at + i)) (drop (at + i) text) (omega (arith, low, high))
-    ∙ ap (λ (k : ℕ). take k (drop (at + i) text)) (sym size)
+-- the ranges of the parts of a call that were read, so many and at most so many of them, and the actuals that are left
+pub record HasBound (closes : Bool) (text : List ℕ) (from to count most : ℕ) (left : List (List SourceToken)) (old new : List Range) : Type 0 where
+  pub whole : new ≡ old ++ added old new
+  pub none : most ≡ 0 → new ≡ old
+  pub within : AreWithin from to (added old new)
+  pub many : length (actuals_in closes (drop from text)) ≡ count + length left
+  pub tokens : count ≤ most → actuals_in closes (drop from text) ≡ ranges_tokens text (added old new) ++ left
 
--- how long a range of a text is
-pub range_size : (text : List ℕ) (at to : ℕ) → to ≤ length text → length (slice_range text at to) ≡ to - at
-range_size text at to inside =
-    let n = length-take (to - at) (drop at text) in
-    let d = length-drop at text in
-    omega (arith, inside)
+-- nothing is added where nothing changed
+pub added_none : (old new : List Range) → new ≡ old → added old new ≡ []
+added_none old new e = ap (λ (rs : List Range). drop (length old) rs) (e ∙ sym (append-nil old)) ∙ drop-append_seam old []
 
--- the actuals that are bound to ranges of a text, so many, and the others that aren't yet
-pub record HasBound (text : List ℕ) (from to count : ℕ) (others : List (List SourceToken)) (old new : List Range) : Type 0 where
-  pub ranges : List Range
-  pub whole : new ≡ old ++ ranges
-  pub within : AreWithin from to ranges
-  pub tokens : actuals_of (slice_range text from to) ≡ ranges_tokens text ranges ++ others
-  pub many : length ranges ≡ count
+-- none are bound at first
+pub bound_first : (closes : Bool) (text : List ℕ) (from most : ℕ) (old : List Range) → HasBound closes text from from 0 most (actuals_in closes (drop from text)) old old
+bound_first closes text from most old =
+    let none = added_none old old refl in
+    record {
+      whole = sym (ap (λ (rs : List Range). old ++ rs) none ∙ append-nil old);
+      none = λ _. refl;
+      within = subst (λ (rs : List Range). AreWithin from from rs) (sym none) tt;
+      many = omega arith;
+      tokens = λ _. sym (ap (λ (rs : List Range). ranges_tokens text rs ++ actuals_in closes (drop from text)) none);
+    }
 
 -- ranges between two places, and one more
-within_more : (from to : ℕ) (ranges : List Range) (r : Range) → AreWithin from to ranges → from ≤ r.from → r.from ≤ r.to → r.to ≤ to → AreWithin from to (ranges ++ r ∷ [])
-within_more from to [] r h a b c = ((a, (b, c)), tt)
-within_more from to (x ∷ xs) r h a b c = (h.0, within_more from to xs r h.1 a b c)
+within_more : (from at to : ℕ) (ranges : List Range) (r : Range) → AreWithin from at ranges → at ≤ r.from → r.from ≤ r.to → r.to ≤ to → from ≤ at → AreWithin from to (ranges ++ r ∷ [])
+within_more from at to [] r h a b c low = ((omega (arith, a, low), (b, c)), tt)
+within_more from at to (x ∷ xs) r h a b c low =
+    let first = h.0 in
+    ((first.0, (first.1.0, omega (arith, first.1.1, a, b, c))), within_more from at to xs r h.1 a b c low)
+
+-- ranges lie between places that are further apart too
+pub within_wider : (from to at end : ℕ) (ranges : List Range) → at ≤ from → to ≤ end → AreWithin from to ranges → AreWithin at end ranges
+within_wider from to at end [] low high all = tt
+within_wider from to at end (r ∷ rs) low high all =
+    let h = all.0 in
+    ((omega (arith, low, h.0), (h.1.0, omega (arith, high, h.1.1))), within_wider from to at end rs low high all.1)
 
 -- the tokens of ranges, and of one more
 tokens_more : (text : List ℕ) (ranges : List Range) (r : Range) → ranges_tokens text (ranges ++ r ∷ []) ≡ ranges_tokens text ranges ++ part_tokens text (range_part r) ∷ []
 tokens_more text ranges r = ap (map (part_tokens text)) (map-append range_part ranges (r ∷ [])) ∙ map-append (part_tokens text) (map range_part ranges) (range_part r ∷ [])
 
--- a part that is found from a place on, as a range of the whole text
-record IsRangeOf (text : List ℕ) (at to : ℕ) (r : Range) : Type 0 where
-  low : at ≤ r.from
-  ordered : r.from ≤ r.to
-  high : r.to ≤ to
-  tokens : part_tokens text (range_part r) ≡ trimmed token_role (split token_role 0 (body_tokens (slice_range text at to))).first
-
--- it is one
-range_is : (text : List ℕ) (at to : ℕ) (part : Part) (r : Range) → at ≤ to → to ≤ length text → IsNextPart (slice_range text at to) part
-    → r.from ≡ at + part.from → r.to ≡ at + part.to → IsRangeOf text at to r
+-- the tokens of a part from a place on, as those of a range of the whole text
+range_is : (text : List ℕ) (at from to : ℕ) (r : Range) → r.from ≡ at + from → r.to ≡ at + to → part_tokens text (range_part r) ≡ body_tokens (slice_range (drop at text) from to)
 unfolding part_tokens
-range_is text at to part r low inside p from end =
-    let size = range_size text at to inside in
-    let fits : part.to ≤ to - at = omega (arith, p.inside, size) in
-    let bytes : slice_range text r.from r.to ≡ slice_range (slice_range text at to) part.from part.to =
-    ap (λ (n : ℕ). slice_range text n r.to) from
-    ∙ ap (λ (n : ℕ). slice_range text (at + part.from) n) end
-    ∙ sym (range_within text at to part.from part.to p.ordered fits) in
-    record {
-      low = omega (arith, from);
-      ordered = omega (arith, from, end, p.ordered);
-      high = omega (arith, end, fits, low);
-      tokens = sym (body_text (slice_range text r.from r.to)) ∙ ap body_tokens bytes ∙ p.actual;
-    }
+range_is text at from to r begins ends =
+    let size : r.to - r.from ≡ to - from = omega (arith, begins, ends) in
+    sym (body_text (slice_range text r.from r.to))
+    ∙ ap (λ (n : ℕ). body_tokens (take n (drop r.from text))) size
+    ∙ ap (λ (n : ℕ). body_tokens (take (to - from) (drop n text))) begins
+    ∙ ap (λ (x : List ℕ). body_tokens (take (to - from) x)) (sym (drop-drop from at text))
 
--- the actuals that aren't bound, by the first of them and the further parts
-unfoldable pub others_from : List ℕ → ℕ → ℕ → List (List SourceToken)
-others_from text at to = map (trimmed token_role) (split token_role 0 (body_tokens (slice_range text at to))).further
+-- a range is added to others, or there are as many as there may be
+abbrev pub IsPut : ℕ → ℕ → List Range → List Range → Range → Type 0
+IsPut count most new last r = ((count < most) × (last ≡ new ++ r ∷ [])) ⊎ ((most ≤ count) × (last ≡ new))
 
--- one more is bound
-pub bound_more : (text : List ℕ) (from to at count : ℕ) (old new last : List Range) (part : Part) (r : Range) → from ≤ at → at ≤ to → to ≤ length text
-    → HasBound text from to count (actuals_of (slice_range text at to)) old new → IsNextPart (slice_range text at to) part
-    → r.from ≡ at + part.from → r.to ≡ at + part.to → last ≡ new ++ r ∷ [] → HasBound text from to (count + 1) (others_from text at to) old last
-unfolding actuals_of all_parts others_from
-bound_more text from to at count old new last part r above below inside b p f t put =
-    let is = range_is text at to part r below inside p f t in
-    let size = length-append b.ranges (r ∷ []) in
-    let own = trimmed token_role (split token_role 0 (body_tokens (slice_range text at to))).first in
-    let others = map (trimmed token_role) (split token_role 0 (body_tokens (slice_range text at to))).further in
-    record {
-      ranges = b.ranges ++ r ∷ [];
-      whole = put ∙ ap (λ (rs : List Range). rs ++ r ∷ []) b.whole ∙ append_assoc old b.ranges (r ∷ []);
-      within = within_more from to b.ranges r b.within (omega (arith, above, is.low)) is.ordered is.high;
-      tokens =
-          b.tokens
-          ∙ ap (λ (x : List SourceToken). ranges_tokens text b.ranges ++ x ∷ others) (sym is.tokens)
-          ∙ sym (append_assoc (ranges_tokens text b.ranges) (part_tokens text (range_part r) ∷ []) others)
-          ∙ ap (λ (xs : List (List SourceToken)). xs ++ others) (sym (tokens_more text b.ranges r));
-      many = omega (arith, size, b.many);
-    }
-
--- what is bound, where the actuals that aren't are others
-bound_by : (text : List ℕ) (from to count : ℕ) (others more : List (List SourceToken)) (old new : List Range) → others ≡ more
-    → HasBound text from to count others old new → HasBound text from to count more old new
-bound_by text from to count others more old new e b = subst (λ (xs : List (List SourceToken)). HasBound text from to count xs old new) e b
-
--- where no part follows, all are bound
-pub others_none : (text : List ℕ) (from to at count : ℕ) (old new : List Range) (part : Part) → IsNextPart (slice_range text at to) part → part.next ≡ None
-    → HasBound text from to count (others_from text at to) old new → HasBound text from to count [] old new
-unfolding AreFurther others_from
-others_none text from to at count old new part p none b =
-    let further = (split token_role 0 (body_tokens (slice_range text at to))).further in
-    let last : further ≡ [] = subst (λ (next : Option ℕ). AreFurther (slice_range text at to) next further) none p.further in
-    bound_by text from to count (others_from text at to) [] old new (ap (map (trimmed token_role)) last) b
-
--- where one follows, the others are those from its place on
-pub others_some : (text : List ℕ) (from to at len count : ℕ) (old new : List Range) (part : Part) → at ≤ to → to ≤ length text
-    → IsNextPart (slice_range text at to) part → part.next ≡ Some len
-    → HasBound text from to count (others_from text at to) old new
-    → (at + len ≤ to) × HasBound text from to count (actuals_of (slice_range text (at + len) to)) old new
-unfolding AreFurther others_from actuals_of
-others_some text from to at len count old new part below inside p some b =
-    let size = range_size text at to inside in
-    let further = (split token_role 0 (body_tokens (slice_range text at to))).further in
-    let next = subst (λ (n : Option ℕ). AreFurther (slice_range text at to) n further) some p.further in
-    let fits : len ≤ to - at = omega (arith, next.0, size) in
-    let same : others_from text at to ≡ actuals_of (slice_range text (at + len) to) =
-    ap (map (trimmed token_role)) next.1
-    ∙ ap (λ (x : List ℕ). actuals_of x) (range_behind text at to len fits) in
-    (omega (arith, fits, below), bound_by text from to count (others_from text at to) (actuals_of (slice_range text (at + len) to)) old new same b)
-
--- the ranges that were added are those that are bound
-pub added_is : (text : List ℕ) (from to count : ℕ) (others : List (List SourceToken)) (old new : List Range) (b : HasBound text from to count others old new)
-    → added old new ≡ b.ranges
-added_is text from to count others old new b = ap (drop (length old)) b.whole ∙ drop-append_seam old b.ranges
-
--- where no others are left, what is bound are the actuals
-pub bound_all : (text : List ℕ) (from to count : ℕ) (old new : List Range) → HasBound text from to count [] old new
-    → actuals_of (slice_range text from to) ≡ ranges_tokens text (added old new)
-bound_all text from to count old new b =
-    b.tokens
-    ∙ append-nil (ranges_tokens text b.ranges)
-    ∙ ap (ranges_tokens text) (sym (added_is text from to count [] old new b))
-
--- how many actuals there are: those that are bound, and the others
-pub bound_count : (text : List ℕ) (from to count : ℕ) (others : List (List SourceToken)) (old new : List Range) → HasBound text from to count others old new
-    → length (actuals_of (slice_range text from to)) ≡ count + length others
-bound_count text from to count others old new b =
-    let n = length-append (ranges_tokens text b.ranges) others in
-    let m = length-map (map range_part b.ranges) (part_tokens text) in
-    let k = length-map b.ranges range_part in
-    ap length b.tokens ∙ n ∙ ap (λ (i : ℕ). i + length others) (m ∙ k ∙ b.many)
-
--- there is always an actual
-pub some_actual : (text : List ℕ) → 0 < length (actuals_of text)
-unfolding actuals_of all_parts
-some_actual text = let n = length-map (split token_role 0 (body_tokens text)).further (trimmed token_role) in omega (arith, n)
-
--- a test of two numbers that differ
-pub differ : (n m : ℕ) → m < n → false ≡ (n == m)
-differ n m less = grind (arith, nat_tests)
-
--- a test of two that are one
-pub agree : (n m : ℕ) → n ≡ m → true ≡ (n == m)
-agree n m same = grind (arith, nat_tests)
-
--- where all actuals are bound and there are fewer than wanted
-pub too_few : (text : List ℕ) (from to bound count : ℕ) (old new : List Range) → HasBound text from to bound [] old new → bound < count
-    → false ≡ (length (actuals_of (slice_range text from to)) == count)
-too_few text from to bound count old new b less =
-    let n = bound_count text from to bound [] old new b in
-    sym (ne (length (actuals_of (slice_range text from to))) count (omega (arith, n, less)))
+-- so many are added then
+pub many-more : (start before count most now : ℕ) → before ≡ start + min count most → (count < most → now ≡ before + 1) → (most ≤ count → now ≡ before)
+    → now ≡ start + min (count + 1) most
+many-more start before count most now is longer same = by (nat_lt count most) refl
   where
-    ne : (n m : ℕ) → n < m → (n == m) ≡ false
-    ne n m less = grind (arith, nat_tests)
+    over : nat_lt count most ≡ false → most ≤ count
+    over e = grind (arith, nat_tests)
 
--- a test that is the opposite of one that fails
-opposite : (none : Bool) → false ≡ not none → none ≡ true
-opposite true e = refl
-opposite false e = absurd (false≢true e)
+    by : (b : Bool) → nat_lt count most ≡ b → now ≡ start + min (count + 1) most
+    by true e =
+        let less : count < most = ltb-true count most e in
+        let more = longer less in
+        omega (arith, is, less, more)
+    by false e =
+        let full = over e in
+        let kept = same full in
+        omega (arith, is, full, kept)
 
--- or of one that holds
-opposite_fails : (none : Bool) → true ≡ not none → none ≡ false
-opposite_fails true e = absurd (false≢true (sym e))
-opposite_fails false e = refl
+-- the range of a part is added, or there are as many as there may be
+pub put-by : (count most : ℕ) (new last : List Range) (r : Range) → (count < most → last ≡ new ++ r ∷ []) → (most ≤ count → last ≡ new) → IsPut count most new last r
+put-by count most new last r puts stays = by (nat_lt count most) refl
+  where
+    over : nat_lt count most ≡ false → most ≤ count
+    over e = grind (arith, nat_tests)
 
--- whether there are so many, where the last of them is bound, by whether a part follows
-pub last_count : (text : List ℕ) (from to at count : ℕ) (old new : List Range) (part : Part) (next : Option ℕ) (none : Bool) → at ≤ to → to ≤ length text
-    → IsNextPart (slice_range text at to) part → part.next ≡ next → is_some next ≡ not none → HasBound text from to count (others_from text at to) old new
-    → none ≡ (length (actuals_of (slice_range text from to)) == count)
-last_count text from to at count old new part None none below inside p is h b =
-    let n = bound_count text from to count [] old new (others_none text from to at count old new part p is b) in
-    opposite none h ∙ agree (length (actuals_of (slice_range text from to))) count (omega (arith, n))
-last_count text from to at count old new part (Some len) none below inside p is h b =
-    let more = others_some text from to at len count old new part below inside p is b in
-    let rest = slice_range text (at + len) to in
-    let n = bound_count text from to count (actuals_of rest) old new more.1 in
-    let some = some_actual rest in
-    opposite_fails none h ∙ differ (length (actuals_of (slice_range text from to))) count (omega (arith, n, some))
+    by : (b : Bool) → nat_lt count most ≡ b → IsPut count most new last r
+    by true e = inl (ltb-true count most e, puts (ltb-true count most e))
+    by false e = inr (over e, stays (over e))
 
--- those that are bound are the actuals, where none follows the last
-pub last_actuals : (text : List ℕ) (from to at count : ℕ) (old new : List Range) (part : Part) (next : Option ℕ) → IsNextPart (slice_range text at to) part
-    → part.next ≡ next → is_some next ≡ false → HasBound text from to count (others_from text at to) old new
-    → actuals_of (slice_range text from to) ≡ ranges_tokens text (added old new)
-last_actuals text from to at count old new part None p is none b = bound_all text from to count old new (others_none text from to at count old new part p is b)
-last_actuals text from to at count old new part (Some len) p is none b = absurd (false≢true (sym none))
+-- the actuals that are left behind the first one
+abbrev pub left_of : Bool → List ℕ → List (List SourceToken)
+left_of closes text = map (trimmed token_role) (parts_in closes text).further
+
+-- one more was read
+pub bound_more : (closes : Bool) (text : List ℕ) (from at count most : ℕ) (old new last : List Range) (part : Part) (r : Range) → from ≤ at
+    → HasBound closes text from at count most (actuals_in closes (drop at text)) old new → IsNextPart closes (drop at text) part
+    → r.from ≡ at + part.from → r.to ≡ at + part.to → IsPut count most new last r
+    → HasBound closes text from (at + part.to) (count + 1) most (left_of closes (drop at text)) old last
+unfolding actuals_in all_parts
+bound_more closes text from at count most old new last part r low b p begins ends (inl put) =
+    let own = trimmed token_role (parts_in closes (drop at text)).first in
+    let left = left_of closes (drop at text) in
+    let more = added old new ++ r ∷ [] in
+    let ordered = p.ordered in
+    let is : added old last ≡ more =
+    ap (λ (rs : List Range). drop (length old) rs) (put.1 ∙ ap (λ (rs : List Range). rs ++ r ∷ []) b.whole ∙ append_assoc old (added old new) (r ∷ []))
+    ∙ drop-append_seam old more in
+    let tokens : part_tokens text (range_part r) ≡ own = range_is text at part.from part.to r begins ends ∙ p.actual in
+    record {
+      whole = put.1 ∙ ap (λ (rs : List Range). rs ++ r ∷ []) b.whole ∙ append_assoc old (added old new) (r ∷ []) ∙ ap (λ (rs : List Range). old ++ rs) (sym is);
+      none = λ e. absurd (let some = put.0 in omega (arith, e, some));
+      within = subst (λ (rs : List Range). AreWithin from (at + part.to) rs) (sym is)
+          (within_more from at (at + part.to) (added old new) r b.within (omega (arith, begins)) (omega (arith, begins, ends, ordered)) (omega (arith, ends)) low);
+      many = let n = b.many in omega (arith, n);
+      tokens = λ few. b.tokens (omega (arith, few))
+          ∙ ap (λ (x : List SourceToken). ranges_tokens text (added old new) ++ x ∷ left) (sym tokens)
+          ∙ sym (append_assoc (ranges_tokens text (added old new)) (part_tokens text (range_part r) ∷ []) left)
+          ∙ ap (λ (xs : List (List SourceToken)). xs ++ left) (sym (tokens_more text (added old new) r))
+          ∙ ap (λ (rs : List Range). ranges_tokens text rs ++ left) (sym is);
+    }
+bound_more closes text from at count most old new last part r low b p begins ends (inr put) =
+    let over = put.0 in
+    record {
+      whole = put.1 ∙ b.whole ∙ ap (λ (rs : List Range). old ++ added old rs) (sym put.1);
+      none = λ e. put.1 ∙ b.none e;
+      within = subst (λ (rs : List Range). AreWithin from (at + part.to) (added old rs)) (sym put.1) (within_wider from at from (at + part.to) (added old new) (omega arith) (omega arith) b.within);
+      many = let n = b.many in omega (arith, n);
+      tokens = λ few. absurd (omega (arith, few, over));
+    }
+
+-- those that are left are others, and what is read reaches further
+bound_by : (closes : Bool) (text : List ℕ) (from at to count most : ℕ) (left more : List (List SourceToken)) (old new : List Range) → left ≡ more → at ≤ to
+    → HasBound closes text from at count most left old new → HasBound closes text from to count most more old new
+bound_by closes text from at to count most left more old new e high b = record {
+  whole = b.whole;
+  none = b.none;
+  within = within_wider from at from to (added old new) (omega arith) high b.within;
+  many = b.many ∙ ap (λ (xs : List (List SourceToken)). count + length xs) e;
+  tokens = λ few. b.tokens few ∙ ap (λ (xs : List (List SourceToken)). ranges_tokens text (added old new) ++ xs) e;
+}
+
+-- at a comma the call goes on
+pub record GoesOnAt (closes : Bool) (text : List ℕ) (from at next count most : ℕ) (old new : List Range) : Type 0 where
+  pub some : 0 < next
+  pub inside : at + next ≤ length text
+  pub size : at + inner_size closes (drop at text) ≡ at + next + inner_size closes (drop (at + next) text)
+  pub bound : HasBound closes text from (at + next) count most (actuals_in closes (drop (at + next) text)) old new
+
+pub bound_comma : (closes : Bool) (text : List ℕ) (from at to next count most : ℕ) (old new : List Range) (end : PartEnd) → at ≤ length text → end ≡ Comma next
+    → Follows closes (drop at text) to end (parts_in closes (drop at text)).further
+    → HasBound closes text from (at + to) count most (left_of closes (drop at text)) old new → GoesOnAt closes text from at next count most old new
+unfolding Follows actuals_in
+bound_comma closes text from at to next count most old new end low e f b =
+    let further = (parts_in closes (drop at text)).further in
+    let g = subst (λ (x : PartEnd). Follows closes (drop at text) to x further) e f in
+    let place = g.after in
+    let inside = g.inside in
+    let left = length-drop at text in
+    let rest = drop-drop next at text in
+    let size = g.size ∙ ap (λ (x : List ℕ). next + inner_size closes x) rest in
+    record {
+      some = omega (arith, place);
+      inside = omega (arith, inside, left, low);
+      size = omega (arith, size);
+      bound = bound_by closes text from (at + to) (at + next) count most (left_of closes (drop at text)) (actuals_in closes (drop (at + next) text)) old new
+          (ap (map (trimmed token_role)) g.parts ∙ ap (actuals_in closes) rest) (omega (arith, place)) b;
+    }
+
+-- or it ends
+pub record EndsAtPlace (closes : Bool) (text : List ℕ) (from at end count most : ℕ) (old new : List Range) : Type 0 where
+  pub inside : at + end ≤ length text
+  pub size : at + inner_size closes (drop at text) ≡ at + end
+  pub bound : HasBound closes text from (at + end) count most [] old new
+
+pub bound_last : (closes : Bool) (text : List ℕ) (from at to stop count most : ℕ) (old new : List Range) (end : PartEnd) → at ≤ length text → end ≡ Last stop
+    → Follows closes (drop at text) to end (parts_in closes (drop at text)).further
+    → HasBound closes text from (at + to) count most (left_of closes (drop at text)) old new → EndsAtPlace closes text from at stop count most old new
+unfolding Follows
+bound_last closes text from at to stop count most old new end low e f b =
+    let further = (parts_in closes (drop at text)).further in
+    let g = subst (λ (x : PartEnd). Follows closes (drop at text) to x further) e f in
+    let place = g.after in
+    let inside = g.inside in
+    let left = length-drop at text in
+    let size = g.size in
+    record {
+      inside = omega (arith, inside, left, low);
+      size = omega (arith, size);
+      bound = bound_by closes text from (at + to) (at + stop) count most (left_of closes (drop at text)) [] old new (ap (map (trimmed token_role)) g.parts) (omega (arith, place)) b;
+    }
+
+-- where no actuals are left, those that are bound are all
+pub bound_all : (closes : Bool) (text : List ℕ) (from to count most : ℕ) (old new : List Range) → HasBound closes text from to count most [] old new → count ≤ most
+    → actuals_in closes (drop from text) ≡ ranges_tokens text (added old new)
+bound_all closes text from to count most old new b few = b.tokens few ∙ append-nil (ranges_tokens text (added old new))
+
+-- as many actuals as formals are those of the ranges
+actuals_by : (fs : List Formal) (xs ys : List (List SourceToken)) (formals further : ℕ) → length fs ≡ formals → true ≡ is_count fs xs → length xs ≡ further + 1
+    → (formals ≡ 0 → ys ≡ []) → (further < formals → xs ≡ ys) → bound_parts fs xs ≡ ys
+unfolding bound_parts is_count
+actuals_by [] xs ys formals further is count many none some = sym (none (sym is))
+actuals_by (f ∷ fs) xs ys formals further is count many none some =
+    let n = eqb-true (length xs) (length (f ∷ fs)) (sym count) in
+    some (omega (arith, n, many, is))
+
+-- what is bound, where the actuals are as many as the formals
+pub bound_to : (closes : Bool) (text : List ℕ) (from formals further to : ℕ) (old new : List Range) → to ≡ from + inner_size closes (drop from text) → (closes ≡ true → to < length text)
+    → AreWithin from to (added old new) → length (actuals_in closes (drop from text)) ≡ further + 1
+    → (further < formals → actuals_in closes (drop from text) ≡ ranges_tokens text (added old new)) → (formals ≡ 0 → new ≡ old)
+    → ((fs : List Formal) → length fs ≡ formals → true ≡ is_count fs (actuals_in closes (drop from text)))
+    → IsBoundTo closes text from formals (added old new) to
+bound_to closes text from formals further to old new end closed within many some none count = record {
+  end = end;
+  closed = closed;
+  within = within;
+  actuals = λ fs is. actuals_by fs (actuals_in closes (drop from text)) (ranges_tokens text (added old new)) formals further is (count fs is) many
+      (λ e. ap (ranges_tokens text) (added_none old new (none e))) some;
+  count = count;
+}

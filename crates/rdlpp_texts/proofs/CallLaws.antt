@@ -1,5 +1,5 @@
 -- Where the parentheses of a call stand in a text is where its scan opens and closes.
-use Rattle.std.proofs.Common.{◌≡◌, ℕ, zero, suc, ◌+◌, ◌-◌, Bool, true, false, cond, List, [], ◌∷◌, ◌++◌, length, take, drop, filter, ◌==◌, slice_index, All, refl, ap, ◌∙◌, arith, Option, Some, None}
+use Rattle.std.proofs.Common.{◌≡◌, ℕ, zero, suc, ◌+◌, ◌-◌, Bool, true, false, cond, List, [], ◌∷◌, ◌++◌, length, take, drop, filter, ◌==◌, slice_index, All, refl, sym, ap, ◌∙◌, arith, Option, Some, None, ◌⊎◌, ⊎_elim, inl, inr}
 use Rattle.std.specs.Prelude.{nat_le}
 use Rattle.std.proofs.lemmas.Bool.{false≢true}
 use Rattle.std.proofs.lemmas.Bool.Decides.{nat_tests}
@@ -17,7 +17,7 @@ use Rattle.rdlpp_meaning.specs.CallScan.{Stand, Before, Inside, Turn, Passes, Ke
 use Rattle.rdlpp_meaning.specs.Expansion.{bytes_of}
 use Rattle.rdlpp_meaning.specs.Substitution.{spelled}
 use Rattle.rdlpp_meaning.specs.TextTokens.{text_tokens}
-use Rattle.rdlpp_texts.specs.CallParts.{opener_by, opener_from, ends_call, closer_from}
+use Rattle.rdlpp_texts.specs.CallParts.{opener_by, opener_from, ends_call, ends_text, inner_tokens}
 
 -- a choice of two texts of a call is one
 either : (c : Bool) (r q : Role) → is_call_text r ≡ true → is_call_text q ≡ true → is_call_text (cond c r q) ≡ true
@@ -129,16 +129,6 @@ opener_some [] at n e = absurd (cc)
 opener_some (t ∷ ts) at n e =
     led_by (token_role t) t ts at n (opener_from (at + length t.bytes) ts) refl (λ h. opener_some ts (at + length t.bytes) n h) e
 
--- how what stands between the parentheses of a call lies in tokens that stand from a place and at a level on
-pub record IsEnded (at level n : ℕ) (ts : List SourceToken) : Type 0 where
-  pub inner : List SourceToken
-  pub closer : SourceToken
-  pub rest : List SourceToken
-  pub whole : ts ≡ inner ++ closer ∷ rest
-  pub closes : token_role closer ≡ End
-  pub place : n ≡ at + length (bytes_of inner)
-  pub scans : (room : ℕ) → scan token_role not_kept (Inside level) room ts ≡ Closed (filter (λ t. is_kept (token_role t)) inner) (length inner + 1)
-
 -- what the scan does at a token of text
 turn_text : (r : Role) (k : ℕ) → is_call_text r ≡ true → turn_inside r k true ≡ cond (ends_call r k) Closes (cond (is_kept r) Keeps Passes)
 unfolding turn_inside turn_fitting ends_call is_kept is_call_text
@@ -162,83 +152,94 @@ scan_inside k room t ts text =
     let fits : nat_le 0 room ≡ true = grind (arith, nat_tests) in
     ap (λ b. scanned (turn_inside r k b) t rest) fits ∙ ap (λ (q : Turn). scanned q t rest) (turn_text r k text)
 
--- a scan that lacks something does so with a thing in front
-lacking_front : (ends kept : Bool) (t : SourceToken) (found : Option ℕ) (at : ℕ) (s : Scanned SourceToken)
-    → (found ≡ None → s ≡ Refused ArgumentsOpen) → cond ends (Some at) found ≡ None → scanned (cond ends Closes (cond kept Keeps Passes)) t s ≡ Refused ArgumentsOpen
-unfolding scanned scan_keeping scan_passing
-lacking_front true kept t found at s rest e = absurd (cc)
-lacking_front false true t found at s rest e = ap (scan_keeping t) (rest e)
-lacking_front false false t found at s rest e = ap scan_passing (rest e)
-
--- where no `)` follows, arguments are open
-pub closer_none : (ts : List SourceToken) (at k room : ℕ) → All (λ t. is_call_text (token_role t) ≡ true) ts → closer_from at k ts ≡ None
-    → scan token_role not_kept (Inside k) room ts ≡ Refused ArgumentsOpen
-unfolding closer_from scan fault_at_end
-closer_none [] at k room all e = refl
-closer_none (t ∷ ts) at k room all e =
-    let P : SourceToken → Type 0 = λ u. is_call_text (token_role u) ≡ true in
-    let r = token_role t in
-    let later = room - kept_size r 0 in
-    scan_inside k room t ts (All-head P t ts all)
-    ∙ lacking_front (ends_call r k) (is_kept r) t (closer_from (at + length t.bytes) (level_behind r k) ts) at
-    (scan token_role not_kept (Inside (level_behind r k)) later ts)
-    (λ h. closer_none ts (at + length t.bytes) (level_behind r k) later (All-tail P t ts all) h) e
-
 -- the `)` of a call is one
-pub ends_is : (r : Role) (k : ℕ) → ends_call r k ≡ true → r ≡ End
+ends_is : (r : Role) (k : ℕ) → ends_call r k ≡ true → r ≡ End
 unfolding ends_call
 ends_is End zero e = refl
 ends_is End (suc k) e = absurd (false≢true e)
 ends_is r k e = absurd (false≢true e)
 
--- a thing in front of a scan that closes
-closed_front : (kept : Bool) (t : SourceToken) (ks : List SourceToken) (n m : ℕ) → suc n ≡ m
-    → scanned (cond kept Keeps Passes) t (Closed ks n) ≡ Closed (cond kept (t ∷ ks) ks) m
-unfolding scanned scan_keeping scan_passing
-closed_front true t ks n m e = ap (λ i. Closed (t ∷ ks) i) e
-closed_front false t ks n m e = ap (λ i. Closed ks i) e
+-- a call that isn't closed has all its tokens, and its scan is refused
+pub record IsUnclosed (level : ℕ) (ts : List SourceToken) : Type 0 where
+  pub all : inner_tokens true level ts ≡ ts
+  pub scans : (room : ℕ) → scan token_role not_kept (Inside level) room ts ≡ Refused ArgumentsOpen
 
--- what stands between the parentheses, by whether the first token is the `)`
-ended_by : (ends : Bool) (t : SourceToken) (ts : List SourceToken) (at k n : ℕ) (found : Option ℕ) → ends_call (token_role t) k ≡ ends → is_call_text (token_role t) ≡ true
-    → (found ≡ Some n → IsEnded (at + length t.bytes) (level_behind (token_role t) k) n ts) → cond ends (Some at) found ≡ Some n → IsEnded at k n (t ∷ ts)
-unfolding scanned
-ended_by true t ts at k n found is text rest e =
-    let here : at ≡ n = cc in
+-- one that is closed has those in front of its `)`, and its scan keeps what is kept of them
+pub record IsEnded (level : ℕ) (ts : List SourceToken) : Type 0 where
+  pub closer : SourceToken
+  pub rest : List SourceToken
+  pub whole : ts ≡ inner_tokens true level ts ++ closer ∷ rest
+  pub closes : token_role closer ≡ End
+  pub scans : (room : ℕ) → scan token_role not_kept (Inside level) room ts
+      ≡ Closed (filter (λ t. is_kept (token_role t)) (inner_tokens true level ts)) (length (inner_tokens true level ts) + 1)
+
+-- a scan that is refused is so with a thing in front
+refused_front : (kept : Bool) (t : SourceToken) → scanned (cond kept Keeps Passes) t (Refused ArgumentsOpen) ≡ Refused ArgumentsOpen
+unfolding scanned scan_keeping scan_passing
+refused_front true t = refl
+refused_front false t = refl
+
+-- one that closes does, and keeps the thing where it is kept
+closed_front : (kept : Bool) (t : SourceToken) (ks : List SourceToken) (n : ℕ)
+    → scanned (cond kept Keeps Passes) t (Closed ks (n + 1)) ≡ Closed (cond kept (t ∷ ks) ks) (suc n + 1)
+unfolding scanned scan_keeping scan_passing
+closed_front true t ks n = let e : suc (n + 1) ≡ suc n + 1 = omega arith in ap (λ i. Closed (t ∷ ks) i) e
+closed_front false t ks n = let e : suc (n + 1) ≡ suc n + 1 = omega arith in ap (λ i. Closed ks i) e
+
+-- a call, by whether the first token is its `)`
+ended_by : (ends : Bool) (t : SourceToken) (ts : List SourceToken) (k : ℕ) → ends_call (token_role t) k ≡ ends → is_call_text (token_role t) ≡ true
+    → IsUnclosed (level_behind (token_role t) k) ts ⊎ IsEnded (level_behind (token_role t) k) ts → IsUnclosed k (t ∷ ts) ⊎ IsEnded k (t ∷ ts)
+unfolding inner_tokens ends_text scanned
+ended_by true t ts k is text rest =
     let r = token_role t in
-    record {
-      inner = [];
+    let none : inner_tokens true k (t ∷ ts) ≡ [] = ap (λ (b : Bool). cond b [] (t ∷ inner_tokens true (level_behind r k) ts)) is in
+    inr (record {
       closer = t;
       rest = ts;
-      whole = refl;
+      whole = sym (ap (λ (us : List SourceToken). us ++ t ∷ ts) none);
       closes = ends_is r k is;
-      place = omega (arith, here);
-      scans = λ room. scan_inside k room t ts text
-          ∙ ap (λ b. scanned (cond b Closes (cond (is_kept r) Keeps Passes)) t (scan token_role not_kept (Inside (level_behind r k)) (room - kept_size r 0) ts)) is;
-    }
-ended_by false t ts at k n found is text rest e =
-    let c = rest e in
-    let r = token_role t in
-    let size = length-append t.bytes (bytes_of c.inner) in
-    let count : suc (length c.inner + 1) ≡ suc (length c.inner) + 1 = omega arith in
-    record {
-      inner = t ∷ c.inner;
-      closer = c.closer;
-      rest = c.rest;
-      whole = ap (λ us. t ∷ us) c.whole;
-      closes = c.closes;
-      place = omega (arith, c.place, size);
       scans = λ room. scan_inside k room t ts text
           ∙ ap (λ b. scanned (cond b Closes (cond (is_kept r) Keeps Passes)) t (scan token_role not_kept (Inside (level_behind r k)) (room - kept_size r 0) ts)) is
-          ∙ ap (λ (s : Scanned SourceToken). scanned (cond (is_kept r) Keeps Passes) t s) (c.scans (room - kept_size r 0))
-          ∙ closed_front (is_kept r) t (filter (λ u. is_kept (token_role u)) c.inner) (length c.inner + 1) (suc (length c.inner) + 1) count;
-    }
+          ∙ sym (ap (λ (us : List SourceToken). Closed (filter (λ u. is_kept (token_role u)) us) (length us + 1)) none);
+    })
+ended_by false t ts k is text rest = ⊎_elim unclosed closed rest
+  where
+    r : Role
+    r = token_role t
 
--- where one follows
-pub closer_some : (ts : List SourceToken) (at k n : ℕ) → All (λ t. is_call_text (token_role t) ≡ true) ts → closer_from at k ts ≡ Some n → IsEnded at k n ts
-unfolding closer_from
-closer_some [] at k n all e = absurd (cc)
-closer_some (t ∷ ts) at k n all e =
+    inner : List SourceToken
+    inner = inner_tokens true (level_behind r k) ts
+
+    more : inner_tokens true k (t ∷ ts) ≡ t ∷ inner
+    more = ap (λ (b : Bool). cond b [] (t ∷ inner)) is
+
+    step : (room : ℕ) → scan token_role not_kept (Inside k) room (t ∷ ts)
+        ≡ scanned (cond (is_kept r) Keeps Passes) t (scan token_role not_kept (Inside (level_behind r k)) (room - kept_size r 0) ts)
+    step room = scan_inside k room t ts text
+        ∙ ap (λ b. scanned (cond b Closes (cond (is_kept r) Keeps Passes)) t (scan token_role not_kept (Inside (level_behind r k)) (room - kept_size r 0) ts)) is
+
+    unclosed : IsUnclosed (level_behind r k) ts → IsUnclosed k (t ∷ ts) ⊎ IsEnded k (t ∷ ts)
+    unclosed u = inl (record {
+      all = more ∙ ap (λ (us : List SourceToken). t ∷ us) u.all;
+      scans = λ room. step room ∙ ap (scanned (cond (is_kept r) Keeps Passes) t) (u.scans (room - kept_size r 0)) ∙ refused_front (is_kept r) t;
+    })
+
+    closed : IsEnded (level_behind r k) ts → IsUnclosed k (t ∷ ts) ⊎ IsEnded k (t ∷ ts)
+    closed c = inr (record {
+      closer = c.closer;
+      rest = c.rest;
+      whole = ap (λ (us : List SourceToken). t ∷ us) c.whole ∙ sym (ap (λ (us : List SourceToken). us ++ c.closer ∷ c.rest) more);
+      closes = c.closes;
+      scans = λ room. step room
+          ∙ ap (scanned (cond (is_kept r) Keeps Passes) t) (c.scans (room - kept_size r 0))
+          ∙ closed_front (is_kept r) t (filter (λ u. is_kept (token_role u)) inner) (length inner)
+          ∙ sym (ap (λ (us : List SourceToken). Closed (filter (λ u. is_kept (token_role u)) us) (length us + 1)) more);
+    })
+
+-- each call is one of the two
+pub ended : (ts : List SourceToken) (k : ℕ) → All (λ t. is_call_text (token_role t) ≡ true) ts → IsUnclosed k ts ⊎ IsEnded k ts
+unfolding inner_tokens scan fault_at_end
+ended [] k all = inl (record { all = refl; scans = λ room. refl })
+ended (t ∷ ts) k all =
     let P : SourceToken → Type 0 = λ u. is_call_text (token_role u) ≡ true in
-    let r = token_role t in
-    ended_by (ends_call r k) t ts at k n (closer_from (at + length t.bytes) (level_behind r k) ts) refl (All-head P t ts all)
-    (λ h. closer_some ts (at + length t.bytes) (level_behind r k) n (All-tail P t ts all) h) e
+    ended_by (ends_call (token_role t) k) t ts k refl (All-head P t ts all) (ended ts (level_behind (token_role t) k) (All-tail P t ts all))

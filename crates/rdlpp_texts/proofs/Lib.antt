@@ -31,11 +31,6 @@ pub mod BoundUsages
 pub mod BoundSourceCalls
 pub mod KeptTexts
 mod WhiteSpace
-mod CalledParts
-mod CalledTexts
-mod CalledBounds
-mod CalledCounts
-mod CalledCalls
 mod WordParts
 mod FirstOpeners
 mod NoSlashes

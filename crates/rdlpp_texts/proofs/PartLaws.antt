@@ -1,7 +1,8 @@
--- The next part that is found in a text is that of the definition, trimmed.
-use Rattle.std.proofs.Common.{◌≡◌, ◌≤◌, ℕ, zero, suc, ◌+◌, ◌-◌, Bool, true, false, cond, List, [], ◌∷◌, ◌++◌, length, take, drop, All, refl, sym, ap, ◌∙◌, subst, arith, append_assoc, Option, Some, None}
+-- The next part of a call that is found in a text is that of the definition, trimmed.
+use Rattle.std.proofs.Common.{◌≡◌, ◌≤◌, ℕ, zero, suc, ◌+◌, ◌-◌, Bool, true, false, cond, List, [], ◌∷◌, ◌++◌, length, take, drop, All, refl, sym, ap, ◌∙◌, subst, arith, append_assoc}
 use Rattle.std.proofs.lemmas.Bool.{false≢true}
-use Rattle.std.proofs.lemmas.List.{append-nil, drop-drop, length-drop, length-take, length-append}
+use Rattle.std.proofs.lemmas.Grind.{flat_map-append}
+use Rattle.std.proofs.lemmas.List.{drop-drop, length-drop, length-take, length-append}
 use Rattle.std.proofs.lemmas.List.Elements.{All-nil, All-cons, All-head, All-tail}
 use Rattle.std.specs.Prelude.{nat_lt}
 use Rattle.std.proofs.lemmas.Bool.Decides.{nat_tests}
@@ -13,9 +14,11 @@ use Rattle.rdlpp_meaning.specs.CallScan.{Split, split_by, split, all_parts}
 use Rattle.rdlpp_meaning.specs.Expansion.{bytes_of}
 use Rattle.rdlpp_meaning.specs.Substitution.{body_tokens}
 use Rattle.rdlpp_meaning.specs.TextTokens.{text_tokens}
-use Rattle.rdlpp_meaning.proofs.TextRanges.{body_text, text_nil, text_step, closes_text, text_cut, text_behind, first_behind}
+use Rattle.rdlpp_meaning.proofs.TextRanges.{body_text, text_nil, text_step, closes_text, is_one_role, text_cut, text_behind, text_one, first_behind}
 use Rattle.rdlpp_texts.specs.declared.parts.Part.{Part}
-use Rattle.rdlpp_texts.specs.CallParts.{space_from, ends_part, part_from, AreFurther, IsNextPart}
+use Rattle.rdlpp_texts.specs.declared.parts.PartEnd.{PartEnd}
+use Rattle.rdlpp_texts.specs.declared.parts.PartEnd.TheVariants.{Comma, Last}
+use Rattle.rdlpp_texts.specs.CallParts.{space_from, ends_call, ends_part, ends_text, inner_tokens, inner_size, part_from, parts_in, Follows, IsNextPart}
 use Rattle.rdlpp_texts.proofs.Trimming.{solid_front, solid, space_front, space_nil, trimmed_is, has_solid}
 
 -- where what isn't white space ends, in tokens that stand from a place on, without the white space at their end
@@ -23,25 +26,38 @@ unfoldable solid_end : ℕ → ℕ → List SourceToken → ℕ
 solid_end at end [] = end
 solid_end at end (t ∷ ts) = at + length (bytes_of (t ∷ ts))
 
--- what follows the first part, in tokens that stand from a place on
-record IsCutAt (at next : ℕ) (ts first : List SourceToken) (further : List (List SourceToken)) : Type 0 where
+-- how many bytes tokens and others have
+pub more_bytes : (xs ys : List SourceToken) → length (bytes_of (xs ++ ys)) ≡ length (bytes_of xs) + length (bytes_of ys)
+more_bytes xs ys = ap length (flat_map-append (λ (t : SourceToken). t.bytes) xs ys) ∙ length-append (bytes_of xs) (bytes_of ys)
+
+-- the first part ends at a comma, behind which the call goes on
+record IsCutAt (closes : Bool) (at next : ℕ) (ts inner first : List SourceToken) (further : List (List SourceToken)) : Type 0 where
   comma : SourceToken
   more : List SourceToken
   whole : ts ≡ first ++ comma ∷ more
   cuts : token_role comma ≡ Cut
   place : next ≡ at + (length (bytes_of first) + length comma.bytes)
-  parts : further ≡ all_parts (split token_role 0 more)
+  size : at + length (bytes_of inner) ≡ next + length (bytes_of (inner_tokens closes 0 more))
+  parts : further ≡ all_parts (split token_role 0 (inner_tokens closes 0 more))
 
--- what follows the first part: the text behind its comma, or nothing
-unfoldable Follows : ℕ → Option ℕ → List SourceToken → List SourceToken → List (List SourceToken) → Type 0
-Follows at None ts first further = (ts ≡ first) × (further ≡ [])
-Follows at (Some next) ts first further = IsCutAt at next ts first further
+-- or at the end of the call, and is the last
+record IsLastAt (at end : ℕ) (ts inner first : List SourceToken) (further : List (List SourceToken)) : Type 0 where
+  more : List SourceToken
+  whole : ts ≡ first ++ more
+  same : inner ≡ first
+  place : end ≡ at + length (bytes_of first)
+  parts : further ≡ []
+
+-- what follows the first part, in tokens that stand from a place on
+unfoldable FollowsIn : Bool → ℕ → PartEnd → List SourceToken → List SourceToken → List SourceToken → List (List SourceToken) → Type 0
+FollowsIn closes at (Comma next) ts inner first further = IsCutAt closes at next ts inner first further
+FollowsIn closes at (Last end) ts inner first further = IsLastAt at end ts inner first further
 
 -- a part that is found lies in its tokens as the first part of the definition does
-record IsPartIn (start at level end : ℕ) (ts : List SourceToken) (p : Part) : Type 0 where
+record IsPartIn (closes : Bool) (start at level end : ℕ) (ts inner : List SourceToken) (p : Part) : Type 0 where
   from_is : p.from ≡ start
-  to_is : p.to ≡ solid_end at end (solid token_role (split token_role level ts).first)
-  next_is : Follows at p.next ts (split token_role level ts).first (split token_role level ts).further
+  to_is : p.to ≡ solid_end at end (solid token_role (split token_role level inner).first)
+  follows : FollowsIn closes at p.end ts inner (split token_role level inner).first (split token_role level inner).further
 
 -- a comma outside further openers ends a part
 ends_is : (r : Role) (k : ℕ) → ends_part r k ≡ true → (r ≡ Cut) × (k ≡ 0)
@@ -50,12 +66,20 @@ ends_is Cut zero e = (refl, refl)
 ends_is Cut (suc k) e = absurd (false≢true e)
 ends_is r k e = absurd (false≢true e)
 
--- a comma that ends a part leaves nothing in it
-cut_here : (r : Role) (k : ℕ) (t : SourceToken) (ts : List SourceToken) → r ≡ Cut → k ≡ 0
-    → split_by r k t (split token_role (level_behind r k) ts) ≡ record { first = []; further = all_parts (split token_role 0 ts) }
-unfolding split_by level_behind all_parts
-cut_here r k t ts e f =
-    ap (λ (q : Role). split_by q k t (split token_role (level_behind q k) ts)) e ∙ ap (λ (n : ℕ). split_by Cut n t (split token_role n ts)) f
+-- it leaves no opener open
+cut_level : (r : Role) (k : ℕ) → r ≡ Cut → k ≡ 0 → level_behind r k ≡ 0
+unfolding level_behind
+cut_level r k e f = ap (λ (q : Role). level_behind q k) e ∙ f
+
+-- and nothing of the part behind it
+cut_here : (closes : Bool) (r : Role) (k : ℕ) (t : SourceToken) (ts : List SourceToken) → r ≡ Cut → k ≡ 0
+    → split_by r k t (split token_role (level_behind r k) (inner_tokens closes (level_behind r k) ts))
+    ≡ record { first = []; further = all_parts (split token_role 0 (inner_tokens closes 0 ts)) }
+unfolding split_by all_parts
+cut_here closes r k t ts e f =
+    ap (λ (n : ℕ). split_by r k t (split token_role n (inner_tokens closes n ts))) (cut_level r k e f)
+    ∙ ap (λ (q : Role). split_by q k t (split token_role 0 (inner_tokens closes 0 ts))) e
+    ∙ ap (λ (n : ℕ). split_by Cut n t (split token_role 0 (inner_tokens closes 0 ts))) f
 
 -- anything else is of the first part
 not_cut : (r : Role) (k : ℕ) (t : SourceToken) (s : Split SourceToken) → ends_part r k ≡ false
@@ -75,38 +99,58 @@ solid_step false at end t [] = let n = length-append t.bytes [] in omega arith
 solid_step false at end t (y ∷ ys) = let n = length-append t.bytes (bytes_of (y ∷ ys)) in omega arith
 
 -- what follows the first part, with one more token in front
-follows_step : (at : ℕ) (next : Option ℕ) (t : SourceToken) (ts first : List SourceToken) (further : List (List SourceToken))
-    → Follows (at + length t.bytes) next ts first further → Follows at next (t ∷ ts) (t ∷ first) further
-unfolding Follows
-follows_step at None t ts first further f = (ap (λ (us : List SourceToken). t ∷ us) f.0, f.1)
-follows_step at (Some n) t ts first further c =
+follows_step : (closes : Bool) (at : ℕ) (end : PartEnd) (t : SourceToken) (ts inner first : List SourceToken) (further : List (List SourceToken))
+    → FollowsIn closes (at + length t.bytes) end ts inner first further → FollowsIn closes at end (t ∷ ts) (t ∷ inner) (t ∷ first) further
+unfolding FollowsIn
+follows_step closes at (Comma n) t ts inner first further c =
     let size = length-append t.bytes (bytes_of first) in
+    let all = length-append t.bytes (bytes_of inner) in
     record {
       comma = c.comma;
       more = c.more;
       whole = ap (λ (us : List SourceToken). t ∷ us) c.whole;
       cuts = c.cuts;
       place = omega (arith, c.place, size);
+      size = omega (arith, c.size, all);
+      parts = c.parts;
+    }
+follows_step closes at (Last n) t ts inner first further c =
+    let size = length-append t.bytes (bytes_of first) in
+    record {
+      more = c.more;
+      whole = ap (λ (us : List SourceToken). t ∷ us) c.whole;
+      same = ap (λ (us : List SourceToken). t ∷ us) c.same;
+      place = omega (arith, c.place, size);
       parts = c.parts;
     }
 
--- a part that is found, by whether the first token ends it
-part_by : (ends : Bool) (start at level end : ℕ) (t : SourceToken) (ts : List SourceToken) (p : Part) → ends_part (token_role t) level ≡ ends
-    → IsPartIn start (at + length t.bytes) (level_behind (token_role t) level) (cond (is_space (token_role t)) end (at + length t.bytes)) ts p
-    → IsPartIn start at level end (t ∷ ts) (cond ends (record { from = start; to = end; next = Some (at + length t.bytes) }) p)
-unfolding split solid solid_end Follows all_parts
-part_by true start at level end t ts p is rest =
+-- a part that is found, by whether the first token ends the call, and by whether it ends the part
+part_by : (ends cuts : Bool) (closes : Bool) (start at level end : ℕ) (t : SourceToken) (ts : List SourceToken) (p : Part) → ends_part (token_role t) level ≡ cuts
+    → IsPartIn closes start (at + length t.bytes) (level_behind (token_role t) level) (cond (is_space (token_role t)) end (at + length t.bytes)) ts (inner_tokens closes (level_behind (token_role t) level) ts) p
+    → IsPartIn closes start at level end (t ∷ ts) (cond ends [] (t ∷ inner_tokens closes (level_behind (token_role t) level) ts))
+    (cond ends (record { from = start; to = end; end = Last at }) (cond cuts (record { from = start; to = end; end = Comma (at + length t.bytes) }) p))
+unfolding split solid solid_end FollowsIn all_parts
+part_by true cuts closes start at level end t ts p is rest = record {
+  from_is = refl;
+  to_is = refl;
+  follows = record { more = t ∷ ts; whole = refl; same = refl; place = omega arith; parts = refl };
+}
+part_by false true closes start at level end t ts p is rest =
     let e = ends_is (token_role t) level is in
-    let s : Split SourceToken = split token_role (level_behind (token_role t) level) ts in
-    let cut = cut_here (token_role t) level t ts e.0 e.1 in
+    let inner = inner_tokens closes (level_behind (token_role t) level) ts in
+    let cut = cut_here closes (token_role t) level t ts e.0 e.1 in
+    let same : length (bytes_of inner) ≡ length (bytes_of (inner_tokens closes 0 ts)) =
+    ap (λ (n : ℕ). length (bytes_of (inner_tokens closes n ts))) (cut_level (token_role t) level e.0 e.1) in
+    let size = length-append t.bytes (bytes_of inner) in
     record {
       from_is = refl;
       to_is = sym (ap (λ (x : Split SourceToken). solid_end at end (solid token_role x.first)) cut);
-      next_is = subst (λ (x : Split SourceToken). IsCutAt at (at + length t.bytes) (t ∷ ts) x.first x.further) (sym cut)
-          (record { comma = t; more = ts; whole = refl; cuts = e.0; place = omega arith; parts = refl });
+      follows = subst (λ (x : Split SourceToken). IsCutAt closes at (at + length t.bytes) (t ∷ ts) (t ∷ inner) x.first x.further) (sym cut)
+          (record { comma = t; more = ts; whole = refl; cuts = e.0; place = omega arith; size = omega (arith, same, size); parts = refl });
     }
-part_by false start at level end t ts p is rest =
-    let s : Split SourceToken = split token_role (level_behind (token_role t) level) ts in
+part_by false false closes start at level end t ts p is rest =
+    let inner = inner_tokens closes (level_behind (token_role t) level) ts in
+    let s : Split SourceToken = split token_role (level_behind (token_role t) level) inner in
     let same = not_cut (token_role t) level t s is in
     record {
       from_is = rest.from_is;
@@ -114,38 +158,55 @@ part_by false start at level end t ts p is rest =
           rest.to_is
           ∙ solid_step (is_space (token_role t)) at end t (solid token_role s.first)
           ∙ sym (ap (λ (x : Split SourceToken). solid_end at end (solid token_role x.first)) same);
-      next_is = subst (λ (x : Split SourceToken). Follows at p.next (t ∷ ts) x.first x.further) (sym same)
-          (follows_step at p.next t ts s.first s.further rest.next_is);
+      follows = subst (λ (x : Split SourceToken). FollowsIn closes at p.end (t ∷ ts) (t ∷ inner) x.first x.further) (sym same)
+          (follows_step closes at p.end t ts inner s.first s.further rest.follows);
     }
 
 -- each part that is found lies so
-part_in : (ts : List SourceToken) (start at level end : ℕ) → IsPartIn start at level end ts (part_from start at level end ts)
-unfolding part_from split solid solid_end Follows
-part_in [] start at level end = record { from_is = refl; to_is = refl; next_is = (refl, refl) }
-part_in (t ∷ ts) start at level end =
+part_in : (ts : List SourceToken) (closes : Bool) (start at level end : ℕ) → IsPartIn closes start at level end ts (inner_tokens closes level ts) (part_from closes start at level end ts)
+unfolding part_from inner_tokens split solid solid_end FollowsIn
+part_in [] closes start at level end = record {
+  from_is = refl;
+  to_is = refl;
+  follows = record { more = []; whole = refl; same = refl; place = omega arith; parts = refl };
+}
+part_in (t ∷ ts) closes start at level end =
     let here = at + length t.bytes in
     let e = cond (is_space (token_role t)) end here in
     let k = level_behind (token_role t) level in
-    part_by (ends_part (token_role t) level) start at level end t ts (part_from start here k e ts) refl (part_in ts start here k e)
+    part_by (ends_text closes (token_role t) level) (ends_part (token_role t) level) closes start at level end t ts (part_from closes start here k e ts) refl
+    (part_in ts closes start here k e)
 
 -- the white space in front of a call's parts: what is behind it has the same parts, but for that white space
-pub record HasLead (at : ℕ) (ts : List SourceToken) : Type 0 where
-  pub lead : List SourceToken
-  pub rest : List SourceToken
-  pub whole : ts ≡ lead ++ rest
-  pub spaces : All (λ t. token_role t ≡ Space) lead
-  pub place : space_from at ts ≡ at + length (bytes_of lead)
-  pub first : behind_space token_role (split token_role 0 ts).first ≡ (split token_role 0 rest).first
-  pub further : (split token_role 0 ts).further ≡ (split token_role 0 rest).further
+record HasLead (closes : Bool) (at : ℕ) (ts : List SourceToken) : Type 0 where
+  lead : List SourceToken
+  rest : List SourceToken
+  whole : ts ≡ lead ++ rest
+  spaces : All (λ t. token_role t ≡ Space) lead
+  place : space_from at ts ≡ at + length (bytes_of lead)
+  inner : inner_tokens closes 0 ts ≡ lead ++ inner_tokens closes 0 rest
+  first : behind_space token_role (split token_role 0 (inner_tokens closes 0 ts)).first ≡ (split token_role 0 (inner_tokens closes 0 rest)).first
+  further : (split token_role 0 (inner_tokens closes 0 ts)).further ≡ (split token_role 0 (inner_tokens closes 0 rest)).further
 
 -- a role that is white space
-pub space_is : (r : Role) → is_space r ≡ true → r ≡ Space
+space_is : (r : Role) → is_space r ≡ true → r ≡ Space
 unfolding is_space
 space_is Space e = refl
 space_is r e = absurd (false≢true e)
 
+-- it ends no call, and opens nothing
+space_inner : (closes : Bool) (t : SourceToken) (ts : List SourceToken) → token_role t ≡ Space → inner_tokens closes 0 (t ∷ ts) ≡ t ∷ inner_tokens closes 0 ts
+unfolding inner_tokens level_behind ends_text ends_call
+space_inner closes t ts is =
+    ap (λ (r : Role). cond (ends_text closes r 0) [] (t ∷ inner_tokens closes (level_behind r 0) ts)) is
+    ∙ ap (λ (b : Bool). cond b [] (t ∷ inner_tokens closes 0 ts)) (none closes)
+  where
+    none : (closes : Bool) → ends_text closes Space 0 ≡ false
+    none true = refl
+    none false = refl
+
 -- the first part that begins with what isn't white space has none in front
-solid_first : (ends : Bool) (t : SourceToken) (s : Split SourceToken) → ends_part (token_role t) 0 ≡ ends → is_space (token_role t) ≡ false
+solid_first : (cuts : Bool) (t : SourceToken) (s : Split SourceToken) → ends_part (token_role t) 0 ≡ cuts → is_space (token_role t) ≡ false
     → behind_space token_role (split_by (token_role t) 0 t s).first ≡ (split_by (token_role t) 0 t s).first
 unfolding split_by
 solid_first true t s e other =
@@ -159,14 +220,23 @@ solid_first false t s e other =
     ∙ ap (λ b. cond b (behind_space token_role s.first) (t ∷ s.first)) other
     ∙ sym first
 
+-- or it is empty
+inner_first : (ends : Bool) (t : SourceToken) (ts : List SourceToken) → is_space (token_role t) ≡ false
+    → behind_space token_role (split token_role 0 (cond ends [] (t ∷ ts))).first ≡ (split token_role 0 (cond ends [] (t ∷ ts))).first
+unfolding split
+inner_first true t ts other = space_nil token_role
+inner_first false t ts other = solid_first (ends_part (token_role t) 0) t (split token_role (level_behind (token_role t) 0) ts) refl other
+
 -- white space in front of parts, by whether the first token is
-lead_by : (space : Bool) (at : ℕ) (t : SourceToken) (ts : List SourceToken) → is_space (token_role t) ≡ space → HasLead (at + length t.bytes) ts → HasLead at (t ∷ ts)
-unfolding space_from split split_by level_behind
-lead_by true at t ts e h =
+lead_by : (space : Bool) (closes : Bool) (at : ℕ) (t : SourceToken) (ts : List SourceToken) → is_space (token_role t) ≡ space → HasLead closes (at + length t.bytes) ts → HasLead closes at (t ∷ ts)
+unfolding space_from split split_by level_behind inner_tokens
+lead_by true closes at t ts e h =
     let is = space_is (token_role t) e in
-    let s : Split SourceToken = split token_role 0 ts in
-    let here : split token_role 0 (t ∷ ts) ≡ record { first = t ∷ s.first; further = s.further } =
-    ap (λ (q : Role). split_by q 0 t (split token_role (level_behind q 0) ts)) is in
+    let s : Split SourceToken = split token_role 0 (inner_tokens closes 0 ts) in
+    let inner = space_inner closes t ts is in
+    let here : split token_role 0 (inner_tokens closes 0 (t ∷ ts)) ≡ record { first = t ∷ s.first; further = s.further } =
+    ap (split token_role 0) inner
+    ∙ ap (λ (q : Role). split_by q 0 t (split token_role (level_behind q 0) (inner_tokens closes 0 ts))) is in
     let size = length-append t.bytes (bytes_of h.lead) in
     let there : space_from at (t ∷ ts) ≡ space_from (at + length t.bytes) ts =
     ap (λ b. cond b (space_from (at + length t.bytes) ts) at) e in
@@ -176,6 +246,7 @@ lead_by true at t ts e h =
       whole = ap (λ (us : List SourceToken). t ∷ us) h.whole;
       spaces = All-cons (λ u. token_role u ≡ Space) t h.lead is h.spaces;
       place = omega (arith, there, h.place, size);
+      inner = inner ∙ ap (λ (us : List SourceToken). t ∷ us) h.inner;
       first =
           ap (λ (x : Split SourceToken). behind_space token_role x.first) here
           ∙ space_front token_role t s.first
@@ -183,7 +254,7 @@ lead_by true at t ts e h =
           ∙ h.first;
       further = ap (λ (x : Split SourceToken). x.further) here ∙ h.further;
     }
-lead_by false at t ts e h =
+lead_by false closes at t ts e h =
     let there : space_from at (t ∷ ts) ≡ at = ap (λ b. cond b (space_from (at + length t.bytes) ts) at) e in
     record {
       lead = [];
@@ -191,27 +262,29 @@ lead_by false at t ts e h =
       whole = refl;
       spaces = All-nil (λ u. token_role u ≡ Space);
       place = omega (arith, there);
-      first = solid_first (ends_part (token_role t) 0) t (split token_role (level_behind (token_role t) 0) ts) refl e;
+      inner = refl;
+      first = inner_first (ends_text closes (token_role t) 0) t (inner_tokens closes (level_behind (token_role t) 0) ts) e;
       further = refl;
     }
 
 -- there is such white space, or none
-pub has_lead : (ts : List SourceToken) (at : ℕ) → HasLead at ts
-unfolding space_from split
-has_lead [] at =
+has_lead : (ts : List SourceToken) (closes : Bool) (at : ℕ) → HasLead closes at ts
+unfolding space_from split inner_tokens
+has_lead [] closes at =
     record {
       lead = [];
       rest = [];
       whole = refl;
       spaces = All-nil (λ u. token_role u ≡ Space);
       place = omega arith;
+      inner = refl;
       first = space_nil token_role;
       further = refl;
     }
-has_lead (t ∷ ts) at = lead_by (is_space (token_role t)) at t ts refl (has_lead ts (at + length t.bytes))
+has_lead (t ∷ ts) closes at = lead_by (is_space (token_role t)) closes at t ts refl (has_lead ts closes (at + length t.bytes))
 
 -- behind white space a text goes on as plain text
-pub lead_behind : (lead rest : List SourceToken) (bs : List ℕ) → text_tokens Plain bs ≡ lead ++ rest → All (λ t. token_role t ≡ Space) lead
+lead_behind : (lead rest : List SourceToken) (bs : List ℕ) → text_tokens Plain bs ≡ lead ++ rest → All (λ t. token_role t ≡ Space) lead
     → (text_tokens Plain (drop (length (bytes_of lead)) bs) ≡ rest) × (length (bytes_of lead) ≤ length bs)
 unfolding closes_text
 lead_behind [] rest bs e spaces = (e, omega arith)
@@ -229,22 +302,36 @@ lead_behind (t ∷ lead) rest bs e spaces =
     )
 
 -- what follows the first part, as a place in the text
-further_at : (text : List ℕ) (start : ℕ) (next : Option ℕ) (ts first : List SourceToken) (further : List (List SourceToken)) → start ≤ length text
-    → text_tokens Plain (drop start text) ≡ ts → Follows start next ts first further → AreFurther text next further
-unfolding Follows AreFurther closes_text
-further_at text start None ts first further inside e f = f.1
-further_at text start (Some n) ts first further inside e c =
+follows_at : (closes : Bool) (text : List ℕ) (start to : ℕ) (end : PartEnd) (ts first : List SourceToken) (further : List (List SourceToken)) → start ≤ length text
+    → text_tokens Plain (drop start text) ≡ ts → to ≤ start + length (bytes_of first) → inner_size closes text ≡ start + length (bytes_of (inner_tokens closes 0 ts))
+    → FollowsIn closes start end ts (inner_tokens closes 0 ts) first further → Follows closes text to end further
+unfolding FollowsIn Follows closes_text is_one_role inner_size
+follows_at closes text start to (Comma n) ts first further inside e low size c =
     let b = text_behind Plain (drop start text) first c.comma c.more (e ∙ c.whole) (ap closes_text c.cuts) in
-    let size = length-drop start text in
-    let k = length (bytes_of first) + length c.comma.bytes in (
-      omega (arith, c.place, b.1, size),
-      c.parts
-          ∙ ap (λ (ts : List SourceToken). all_parts (split token_role 0 ts))
-          (sym b.0
-          ∙ ap (λ (x : List ℕ). text_tokens Plain x) (drop-drop k start text)
-          ∙ ap (λ (i : ℕ). text_tokens Plain (drop i text)) (sym c.place)
-          ∙ sym (body_text (drop n text))),
-    )
+    let one : length c.comma.bytes ≡ 1 = text_one Plain (drop start text) first c.comma c.more (e ∙ c.whole) (ap is_one_role c.cuts) in
+    let left = length-drop start text in
+    let k = length (bytes_of first) + length c.comma.bytes in
+    let rest : c.more ≡ body_tokens (drop n text) =
+    sym b.0
+    ∙ ap (λ (x : List ℕ). text_tokens Plain x) (drop-drop k start text)
+    ∙ ap (λ (i : ℕ). text_tokens Plain (drop i text)) (sym c.place)
+    ∙ sym (body_text (drop n text)) in
+    record {
+      after = omega (arith, c.place, low, one);
+      inside = omega (arith, c.place, b.1, left, inside);
+      size = size ∙ c.size ∙ ap (λ (us : List SourceToken). n + length (bytes_of (inner_tokens closes 0 us))) rest;
+      parts = c.parts ∙ ap (λ (us : List SourceToken). all_parts (split token_role 0 (inner_tokens closes 0 us))) rest;
+    }
+follows_at closes text start to (Last n) ts first further inside e low size c =
+    let cut = text_cut Plain (drop start text) first c.more (e ∙ c.whole) in
+    let left = length-drop start text in
+    let same : length (bytes_of (inner_tokens closes 0 ts)) ≡ length (bytes_of first) = ap (λ (us : List SourceToken). length (bytes_of us)) c.same in
+    record {
+      after = omega (arith, c.place, low);
+      inside = omega (arith, c.place, cut.inside, left, inside);
+      size = omega (arith, size, same, c.place);
+      parts = c.parts;
+    }
 
 -- where what isn't white space ends, from its beginning on
 solid_size : (at : ℕ) (ts : List SourceToken) → solid_end at at ts ≡ at + length (bytes_of ts)
@@ -253,11 +340,11 @@ solid_size at [] = omega arith
 solid_size at (t ∷ ts) = refl
 
 -- the first part stands in front of its tokens
-first_more : (at : ℕ) (next : Option ℕ) (ts first : List SourceToken) (further : List (List SourceToken)) → Follows at next ts first further
+first_more : (closes : Bool) (at : ℕ) (end : PartEnd) (ts inner first : List SourceToken) (further : List (List SourceToken)) → FollowsIn closes at end ts inner first further
     → (more : List SourceToken) × (ts ≡ first ++ more)
-unfolding Follows
-first_more at None ts first further f = ([], f.0 ∙ sym (append-nil first))
-first_more at (Some n) ts first further c = (c.comma ∷ c.more, c.whole)
+unfolding FollowsIn
+first_more closes at (Comma n) ts inner first further c = (c.comma ∷ c.more, c.whole)
+first_more closes at (Last n) ts inner first further c = (c.more, c.whole)
 
 -- a text has tokens where it has bytes
 has_tokens : (bs : List ℕ) → nat_lt 0 (length (body_tokens bs)) ≡ nat_lt 0 (length bs)
@@ -276,33 +363,38 @@ range_some : (from to n : ℕ) → n ≡ to - from → nat_lt from to ≡ nat_lt
 range_some from to n e = grind (arith, nat_tests)
 
 -- the part that is found is the next one of the definition
-pub next_part_is : (text : List ℕ) (start : ℕ) (p : Part) → start ≡ space_from 0 (body_tokens text) → p ≡ part_from start start 0 start (body_tokens (drop start text))
-    → IsNextPart text p
-next_part_is text start p at is =
-    let h = has_lead (body_tokens text) 0 in
+pub next_part_is : (closes : Bool) (text : List ℕ) (start : ℕ) (p : Part) → start ≡ space_from 0 (body_tokens text)
+    → p ≡ part_from closes start start 0 start (body_tokens (drop start text)) → IsNextPart closes text p
+unfolding inner_size
+next_part_is closes text start p at is =
+    let h = has_lead (body_tokens text) closes 0 in
     let place : start ≡ length (bytes_of h.lead) = omega (arith, at, h.place) in
     let b = lead_behind h.lead h.rest text (sym (body_text text) ∙ h.whole) h.spaces in
     let inside : start ≤ length text = omega (arith, place, b.1) in
     let tokens : text_tokens Plain (drop start text) ≡ h.rest = ap (λ (n : ℕ). text_tokens Plain (drop n text)) place ∙ b.0 in
     let found : body_tokens (drop start text) ≡ h.rest = body_text (drop start text) ∙ tokens in
-    let q = subst (λ (x : Part). IsPartIn start start 0 start h.rest x) (sym (is ∙ ap (part_from start start 0 start) found)) (part_in h.rest start start 0 start) in
-    let first = (split token_role 0 h.rest).first in
+    let inner = inner_tokens closes 0 h.rest in
+    let q = subst (λ (x : Part). IsPartIn closes start start 0 start h.rest inner x) (sym (is ∙ ap (part_from closes start start 0 start) found)) (part_in h.rest closes start start 0 start) in
+    let first = (split token_role 0 inner).first in
     let s = solid token_role first in
     let tail = has_solid token_role first in
-    let more = first_more start p.next h.rest first (split token_role 0 h.rest).further q.next_is in
+    let more = first_more closes start p.end h.rest inner first (split token_role 0 inner).further q.follows in
     let cut = text_cut Plain (drop start text) s (tail.tail ++ more.0)
     (tokens ∙ more.1 ∙ ap (λ (us : List SourceToken). us ++ more.0) tail.whole ∙ append_assoc s tail.tail more.0) in
     let to : p.to ≡ start + length (bytes_of s) = q.to_is ∙ solid_size start s in
     let size = length-drop start text in
     let len : p.to - p.from ≡ length (bytes_of s) = omega (arith, q.from_is, to) in
-    let actual : body_tokens (take (p.to - p.from) (drop p.from text)) ≡ trimmed token_role (split token_role 0 (body_tokens text)).first =
+    let few : length (bytes_of first) ≡ length (bytes_of s) + length (bytes_of tail.tail) = ap (λ (us : List SourceToken). length (bytes_of us)) tail.whole ∙ more_bytes s tail.tail in
+    let all : length (bytes_of (inner_tokens closes 0 (body_tokens text))) ≡ length (bytes_of h.lead) + length (bytes_of inner) =
+    ap (λ (us : List SourceToken). length (bytes_of us)) h.inner ∙ more_bytes h.lead inner in
+    let actual : body_tokens (take (p.to - p.from) (drop p.from text)) ≡ trimmed token_role (parts_in closes text).first =
     ap (λ (n : ℕ). body_tokens (take n (drop p.from text))) len
     ∙ ap (λ (n : ℕ). body_tokens (take (length (bytes_of s)) (drop n text))) q.from_is
     ∙ ap (λ (x : List ℕ). body_tokens x) (sym cut.bytes)
     ∙ body_text (bytes_of s)
     ∙ cut.front
     ∙ ap (λ (us : List SourceToken). solid token_role us) (sym h.first)
-    ∙ sym (trimmed_is token_role (split token_role 0 (body_tokens text)).first) in
+    ∙ sym (trimmed_is token_role (parts_in closes text).first) in
     let range : length (take (p.to - p.from) (drop p.from text)) ≡ p.to - p.from =
     let k = length-take (p.to - p.from) (drop p.from text) in let d = length-drop p.from text in omega (arith, q.from_is, to, cut.inside, size) in
     record {
@@ -313,6 +405,6 @@ next_part_is text start p at is =
           range_some p.from p.to (length (take (p.to - p.from) (drop p.from text))) range
           ∙ sym (has_tokens (take (p.to - p.from) (drop p.from text)))
           ∙ ap (λ (ts : List SourceToken). nat_lt 0 (length ts)) actual;
-      further = subst (λ (parts : List (List SourceToken)). AreFurther text p.next parts) (sym h.further)
-          (further_at text start p.next h.rest first (split token_role 0 h.rest).further inside tokens q.next_is);
+      follows = subst (λ (parts : List (List SourceToken)). Follows closes text p.to p.end parts) (sym h.further)
+          (follows_at closes text start p.to p.end h.rest first (split token_role 0 inner).further inside tokens (omega (arith, to, few)) (omega (arith, all, place)) q.follows);
     }

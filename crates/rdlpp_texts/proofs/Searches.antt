@@ -1,14 +1,15 @@
--- A turn of the search for the `(`, of that for the `)`, and of that for the end of a part.
-use Rattle.std.proofs.Common.{◌≡◌, ◌⊎◌, ⊎_elim, ◌≤◌, ◌<◌, ℕ, ◌+◌, ◌-◌, cond, List, [], length, take, drop, refl, ap, ◌∙◌, subst, arith, Option, None, Some}
+-- A turn of the search for the `(`, and of that for the end of a part.
+use Rattle.std.proofs.Common.{◌≡◌, ◌⊎◌, ⊎_elim, ◌≤◌, ◌<◌, ℕ, ◌+◌, ◌-◌, Bool, cond, List, [], length, take, drop, refl, ap, ◌∙◌, subst, arith, Option, None}
 use Rattle.std.proofs.lemmas.List.{drop-drop, length-drop, drop_all}
 use Rattle.std.proofs.lemmas.Slice.{between_to_end}
 use Rattle.rdlpp_scan.specs.declared.token.Mode.{Mode}
 use Rattle.rdlpp_meaning.specs.Actuals.{Role, level_behind, is_space}
 use Rattle.rdlpp_meaning.specs.TextTokens.{text_tokens}
 use Rattle.rdlpp_meaning.proofs.TextRanges.{text_nil}
-use Rattle.rdlpp_texts.specs.CallParts.{opener_by, opener_from, ends_call, closer_from, ends_part, part_from}
+use Rattle.rdlpp_texts.specs.CallParts.{opener_by, opener_from, ends_part, ends_text, part_from}
 use Rattle.rdlpp_texts.specs.CallTokens.{role_meant, IsFirstToken}
 use Rattle.rdlpp_texts.specs.declared.parts.Part.{Part}
+use Rattle.rdlpp_texts.specs.declared.parts.PartEnd.TheVariants.{Comma as AtComma, Last}
 use Rattle.rdlpp_texts.specs.declared.tokens.CallRole.{CallRole}
 use Rattle.rdlpp_texts.specs.declared.tokens.CallRole.TheVariants.{Space, LineComment, BlockComment, Start, Opener, End, Closer, Comma, Text}
 use Rattle.rdlpp_texts.specs.declared.tokens.CallToken.{CallToken}
@@ -36,30 +37,19 @@ opener_turn mode text at token f =
     ∙ ap (λ (x : List ℕ). opener_by (role_meant token.role) (at + token.len) (opener_from (at + token.len) (text_tokens token.next_mode x)))
     (rest_behind mode text at token)
 
--- the search for the `)` at a token
-pub closer_turn : (mode : Mode) (text : List ℕ) (at level : ℕ) (token : CallToken) → IsFirstToken mode (drop at text) token
-    → closer_from at level (text_tokens mode (drop at text))
-    ≡ cond (ends_call (role_meant token.role) level) (Some at)
-    (closer_from (at + token.len) (level_behind (role_meant token.role) level) (text_tokens token.next_mode (drop (at + token.len) text)))
-unfolding closer_from
-closer_turn mode text at level token f =
-    let later : Role → ℕ → List ℕ → Option ℕ = λ r n x. cond (ends_call r level) (Some at) (closer_from (at + n) (level_behind r level) (text_tokens token.next_mode x)) in
-    ap (closer_from at level) f.tokens
-    ∙ ap (λ (r : Role). later r (length f.first.bytes) (drop token.len (drop at text))) f.role_is
-    ∙ ap (λ (n : ℕ). later (role_meant token.role) n (drop token.len (drop at text))) f.size
-    ∙ ap (λ (x : List ℕ). later (role_meant token.role) token.len x) (rest_behind mode text at token)
-
 -- the search for the end of a part at a token
-pub part_turn : (mode : Mode) (text : List ℕ) (start at level end : ℕ) (token : CallToken) → IsFirstToken mode (drop at text) token
-    → part_from start at level end (text_tokens mode (drop at text))
-    ≡ cond (ends_part (role_meant token.role) level) (record { from = start; to = end; next = Some (at + token.len) })
-    (part_from start (at + token.len) (level_behind (role_meant token.role) level)
-    (cond (is_space (role_meant token.role)) end (at + token.len)) (text_tokens token.next_mode (drop (at + token.len) text)))
+pub part_turn : (closes : Bool) (mode : Mode) (text : List ℕ) (start at level end : ℕ) (token : CallToken) → IsFirstToken mode (drop at text) token
+    → part_from closes start at level end (text_tokens mode (drop at text))
+    ≡ cond (ends_text closes (role_meant token.role) level) (record { from = start; to = end; end = Last at })
+    (cond (ends_part (role_meant token.role) level) (record { from = start; to = end; end = AtComma (at + token.len) })
+    (part_from closes start (at + token.len) (level_behind (role_meant token.role) level)
+    (cond (is_space (role_meant token.role)) end (at + token.len)) (text_tokens token.next_mode (drop (at + token.len) text))))
 unfolding part_from
-part_turn mode text start at level end token f =
-    let later : Role → ℕ → List ℕ → Part = λ r n x. cond (ends_part r level) (record { from = start; to = end; next = Some (at + n) })
-    (part_from start (at + n) (level_behind r level) (cond (is_space r) end (at + n)) (text_tokens token.next_mode x)) in
-    ap (part_from start at level end) f.tokens
+part_turn closes mode text start at level end token f =
+    let later : Role → ℕ → List ℕ → Part = λ r n x. cond (ends_text closes r level) (record { from = start; to = end; end = Last at })
+    (cond (ends_part r level) (record { from = start; to = end; end = AtComma (at + n) })
+    (part_from closes start (at + n) (level_behind r level) (cond (is_space r) end (at + n)) (text_tokens token.next_mode x))) in
+    ap (part_from closes start at level end) f.tokens
     ∙ ap (λ (r : Role). later r (length f.first.bytes) (drop token.len (drop at text))) f.role_is
     ∙ ap (λ (n : ℕ). later (role_meant token.role) n (drop token.len (drop at text))) f.size
     ∙ ap (λ (x : List ℕ). later (role_meant token.role) token.len x) (rest_behind mode text at token)

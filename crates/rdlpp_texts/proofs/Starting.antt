@@ -1,13 +1,11 @@
 -- A call in a source, whose kept text is bound, opens the body of its macro.
 use Rattle.rdlpp_meaning.specs.Expansion.{is_count, bound_parts}
-use Rattle.std.proofs.Common.{◌≡◌, ℕ, ◌-◌, ◌<◌, ◌≤◌, Bool, true, false, true≢false, List, [], ◌∷◌, map, length, take, drop, refl, sym, ap, subst, ◌∙◌, arith, Global}
-use Rattle.std.specs.Prelude.{slice_range, vec_len, Vec}
+use Rattle.std.proofs.Common.{◌≡◌, ℕ, ◌<◌, ◌≤◌, true, false, true≢false, List, [], ◌∷◌, map, length, drop, refl, sym, ap, subst, ◌∙◌, arith, Global}
+use Rattle.std.specs.Prelude.{vec_len, Vec}
 use Rattle.std.specs.List.{AllByRecursion}
-use Rattle.std.proofs.Math.Seq.{take-length}
 use Rattle.std.proofs.lemmas.List.{length-map}
 use Rattle.rdlpp_scan.specs.declared.token.Mode.TheVariants.{Plain}
 use Rattle.rdlpp_scan.specs.SourceTokens.{SourceToken}
-use Rattle.rdlpp_table.specs.Table.{Formal}
 use Rattle.rdlpp_table.specs.View.{TableView, IsSound, macro_at, formals_of}
 use Rattle.rdlpp_meaning.specs.declared.fault.FaultKind.{FaultKind}
 use Rattle.rdlpp_meaning.specs.declared.fault.FaultKind.TheVariants.{ArgumentCount}
@@ -29,13 +27,6 @@ use Rattle.rdlpp_texts.proofs.Calling.{parts-keep}
 use Rattle.rdlpp_texts.proofs.Keeping.{body-keeps}
 use Rattle.rdlpp_texts.proofs.Stacking.{room-first}
 
--- the range of all of a text is that text
-pub whole-range : (text : List ℕ) (to : ℕ) → to ≡ length text → slice_range text 0 to ≡ text
-whole-range text to e = ap (λ (n : ℕ). take n text) (same to ∙ e) ∙ take-length text
-  where
-    same : (n : ℕ) → n - 0 ≡ n
-    same n = omega arith
-
 -- the body that a call in a source opens is sound
 sound-started : (table : TableView) (arguments : List ℕ) (id : ℕ) (ranges : List Range) → IsSound table → id < length table.macros → KeepsAll (body_tokens arguments)
     → bound_parts (formals_of (macro_at table.macros id)) (actuals_of arguments) ≡ ranges_tokens arguments ranges → true ≡ is_count (formals_of (macro_at table.macros id)) (actuals_of arguments)
@@ -56,29 +47,21 @@ sound-started table arguments id ranges sound inside keeps tokens counted within
       );
     }
 
--- what binding the parts of all of a text tells of the count
-pub parts-counted : (arguments : List ℕ) (to n : ℕ) (own : List Formal) (right : Bool) → to ≡ length arguments → n ≡ length own
-    → ((fs : List Formal) → length fs ≡ n → right ≡ is_count fs (actuals_of (slice_range arguments 0 to)))
-    → right ≡ is_count own (actuals_of arguments)
-parts-counted arguments to n own right e k count = count own (sym k) ∙ ap (λ (text : List ℕ). is_count own (actuals_of text)) (whole-range arguments to e)
-
 -- a call whose parts are bound opens its body
-pub call-started : (table : TableView) (arguments : List ℕ) (id line to : ℕ) (ranges : List Range) (old new : CursorsView) → IsSound table → id < length table.macros
-    → keeps_each (body_tokens arguments) ≡ true → to ≡ length arguments
-    → bound_parts (formals_of (macro_at table.macros id)) (actuals_of (slice_range arguments 0 to)) ≡ ranges_tokens arguments ranges → true ≡ is_count (formals_of (macro_at table.macros id)) (actuals_of arguments)
-    → AreWithin 0 to ranges
+pub call-started : (table : TableView) (arguments : List ℕ) (id line : ℕ) (ranges : List Range) (old new : CursorsView) → IsSound table → id < length table.macros
+    → keeps_each (body_tokens arguments) ≡ true
+    → bound_parts (formals_of (macro_at table.macros id)) (actuals_of arguments) ≡ ranges_tokens arguments ranges → true ≡ is_count (formals_of (macro_at table.macros id)) (actuals_of arguments)
+    → AreWithin 0 (length arguments) ranges
     → new ≡ record { opens = open_body (texts_of table.macros arguments) id (map range_part ranges) 0 ∷ []; line = line; depth = old.depth }
     → IsCallStarted (texts_of table.macros arguments) id line old new
-call-started table arguments id line to ranges old new sound inside keeps e tokens counted within is =
-    let own = formals_of (macro_at table.macros id) in
-    let same : bound_parts own (actuals_of arguments) ≡ ranges_tokens arguments ranges = ap (λ (text : List ℕ). bound_parts own (actuals_of text)) (sym (whole-range arguments to e)) ∙ tokens in
+call-started table arguments id line ranges old new sound inside keeps tokens counted within is =
     record {
       ranges = ranges;
-      actuals = same;
+      actuals = tokens;
       counted = sym counted;
       opens = is;
       sound = subst (λ (v : CursorsView). AreSound (texts_of table.macros arguments) v.opens) (sym is)
-          (sound-started table arguments id ranges sound inside (each_kept (body_tokens arguments) keeps) same counted (subst (λ (n : ℕ). AreWithin 0 n ranges) e within));
+          (sound-started table arguments id ranges sound inside (each_kept (body_tokens arguments) keeps) tokens counted within);
     }
 
 -- a call with more or fewer parts

@@ -1,7 +1,7 @@
 -- The actuals of a call as ranges of the text in which the call stands.
 -- A definition that names no source is this project's own.
-use Rattle.rdlpp_meaning.specs.Expansion.{Usage, Refuses, Opens, usage_of_formals}
-use Rattle.std.specs.Prelude.{◌≡◌, ℕ, ◌≤◌, Bool, true, false, List, map, length, drop, slice_range, All, Some, Result, Ok, Err}
+use Rattle.rdlpp_meaning.specs.Expansion.{Usage, Refuses, Opens, bound_parts, is_count, usage_of_formals}
+use Rattle.std.specs.Prelude.{◌≡◌, ℕ, ◌+◌, ◌<◌, ◌≤◌, Bool, true, false, List, map, length, drop, slice_range, All, Some, Result, Ok, Err}
 use Rattle.std.specs.List.{AllByRecursion}
 use Rattle.rdlpp_scan.specs.declared.token.Mode.TheVariants.{Plain}
 use Rattle.rdlpp_scan.specs.SourceTokens.{SourceToken}
@@ -13,6 +13,9 @@ use Rattle.rdlpp_meaning.specs.Actuals.{trimmed, token_role, text_reads}
 use Rattle.rdlpp_meaning.specs.CallScan.{split, all_parts, is_kept}
 use Rattle.rdlpp_meaning.specs.Opens.{Part, part_tokens}
 use Rattle.rdlpp_meaning.specs.Substitution.{body_tokens}
+use Rattle.rdlpp_texts.specs.CallParts.{actuals_in, inner_size}
+use Rattle.rdlpp_texts.specs.declared.bindings.Bound.{Bound}
+use Rattle.rdlpp_texts.specs.declared.bindings.Bound.TheVariants.{To, Open, Miscounted}
 use Rattle.rdlpp_texts.specs.declared.bindings.Range.{Range}
 
 -- a range of a text as a part of it, which is read as plain text from its beginning on
@@ -35,9 +38,31 @@ AreWithin from to ranges = AllByRecursion (λ r. (from ≤ r.from) × ((r.from �
 unfoldable pub actuals_of : List ℕ → List (List SourceToken)
 actuals_of text = map (trimmed token_role) (all_parts (split token_role 0 (body_tokens text)))
 
--- the first of them
-unfoldable pub first_actual : List ℕ → List SourceToken
-first_actual text = trimmed token_role (split token_role 0 (body_tokens text)).first
+-- the parts of a call of a macro with so many formals, in a text from a place on, are bound to ranges, up to where the call ends
+pub record IsBoundTo (closes : Bool) (text : List ℕ) (from formals : ℕ) (ranges : List Range) (to : ℕ) : Type 0 where
+  pub end : to ≡ from + inner_size closes (drop from text)
+  pub closed : closes ≡ true → to < length text
+  pub within : AreWithin from to ranges
+  pub actuals : (fs : List Formal) → length fs ≡ formals → bound_parts fs (actuals_in closes (drop from text)) ≡ ranges_tokens text ranges
+  pub count : (fs : List Formal) → length fs ≡ formals → true ≡ is_count fs (actuals_in closes (drop from text))
+
+-- they are more or fewer than the formals, and none is bound
+pub record IsMiscounted (closes : Bool) (text : List ℕ) (from formals : ℕ) (old new : List Range) : Type 0 where
+  pub same : new ≡ old
+  pub closed : closes ≡ true → from + inner_size closes (drop from text) < length text
+  pub count : (fs : List Formal) → length fs ≡ formals → false ≡ is_count fs (actuals_in closes (drop from text))
+
+-- no `)` closes the call, and none is bound
+pub record IsOpen (closes : Bool) (text : List ℕ) (from : ℕ) (old new : List Range) : Type 0 where
+  pub same : new ≡ old
+  pub closes_is : closes ≡ true
+  pub end : from + inner_size closes (drop from text) ≡ length text
+
+-- what binding the parts of a call comes to, with the ranges before and then
+unfoldable pub IsBound : Bool → List ℕ → ℕ → ℕ → List Range → List Range → Bound → Type 0
+IsBound closes text from formals old new (To to) = IsBoundTo closes text from formals (added old new) to
+IsBound closes text from formals old new Open = IsOpen closes text from old new
+IsBound closes text from formals old new Miscounted = IsMiscounted closes text from formals old new
 
 -- tokens of which a call drops none: no `//` comment is among them
 abbrev pub KeepsAll : List SourceToken → Type 0

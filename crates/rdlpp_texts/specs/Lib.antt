@@ -13,4 +13,3 @@ pub mod CallParts
 pub mod BoundCalls
 pub mod SourceBound
 pub mod KeptTexts
-pub mod CalledParts

@@ -1,14 +1,13 @@
 // The actuals of a call as ranges of the text in which the call stands.
-ghost use Rattle.std.specs.Prelude.{◌≡◌, ℕ, ◌+◌, ◌^◌, ◌≤◌, ◌<◌, ◌==◌, ◌++◌, ◌||◌, not, nat_lt, max, List, true, length, map, drop, slice_range, IfOk, IfErr, IfSome, None, is_ok, vec_len, vec_capacity};
+ghost use Rattle.std.specs.Prelude.{◌≡◌, ℕ, ◌+◌, ◌≤◌, ◌<◌, ◌++◌, ◌∷◌, [], List, true, length, map, drop, slice_range, IfOk, IfErr, is_ok, vec_len, vec_capacity};
 ghost use Rattle.rdlpp_meaning.specs.Expansion.{bound_parts, is_count};
 ghost use Rattle.rdlpp_meaning.specs.Substitution.{body_tokens};
 ghost use Rattle.rdlpp_meaning.specs.declared.fault.FaultKind.TheVariants.{ArgumentCount};
 ghost use Rattle.rdlpp_table.specs.Table.{Formal};
-ghost use Rattle.rdlpp_texts.specs.CalledParts.{IsBoundBehind};
-ghost use Rattle.rdlpp_texts.specs.BoundCalls.{actuals_of, first_actual, added, is_call_fault, ranges_tokens, AreWithin, IsBoundCall, KeepsAll};
+ghost use Rattle.rdlpp_texts.specs.BoundCalls.{actuals_of, added, is_call_fault, ranges_tokens, AreWithin, IsBound, IsBoundCall, KeepsAll};
+ghost use Rattle.rdlpp_texts.specs.CallParts.{actuals_in, inner_size};
 
-use crate::called::push_call;
-use crate::parts::{Part, call_end, call_start, next_part};
+use crate::parts::{PartEnd, call_start, next_part};
 use rdlpp_meaning::FaultKind;
 
 /// Where an actual stands in the text of its call: from one byte up to another.
@@ -20,9 +19,27 @@ pub struct Range {
     pub to: usize,
 }
 
+// What the parts of a call come to.
+#[derive(Clone, Copy)]
+enum Bound {
+    // They are bound, and the call ends at a place.
+    To(usize),
+    // No `)` closes the call.
+    Open,
+    // There are more or fewer of them than formals.
+    Miscounted,
+}
+
+// How many parts of a call follow the first one, and where the call ends.
+#[derive(Clone, Copy)]
+struct Pushed {
+    further: usize,
+    to: usize,
+}
+
 /// Binds the call of a macro with so many formals: the text between two places stands behind the macro's name. Appends where
-/// each actual stands, as [`bind_parts`] does, and answers the place behind the `)` of the call (IEEE 1364-2001, `define`;
-/// what a call may hold is this project's profile). There must be room for so many ranges, and for one at least.
+/// each actual stands, as [`bind_parts`] does, and answers the place after the `)` of the call (IEEE 1364-2001, `define`;
+/// what a call may hold is this project's profile). There must be room for so many ranges.
 ///
 /// # Errors
 ///
@@ -38,7 +55,7 @@ pub fn bind_call(
     bindings: &mut Vec<Range>,
 ) -> Result<usize, FaultKind>
     requires range { (at ≤ end) × (end ≤ length text.now) }
-    requires room { (vec_len bindings.old + formals ≤ vec_capacity bindings.old) × (vec_len bindings.old < vec_capacity bindings.old) }
+    requires room { vec_len bindings.old + formals ≤ vec_capacity bindings.old }
     ensures whole { bindings.new.items ≡ bindings.old.items ++ added bindings.old.items bindings.new.items }
     ensures within { AreWithin at end (added bindings.old.items bindings.new.items) }
     ensures len { vec_len bindings.new ≤ vec_len bindings.old + formals }
@@ -51,47 +68,16 @@ pub fn bind_call(
     let Some(len) = call_start(&text[at..end]) else {
         return Err(FaultKind::ArgumentsMissing);
     };
-    let from = at + len;
-    if let Some(to) = bind_behind(&text[..end], from, formals, bindings) {
-        return Ok(to + 1);
-    }
-    match call_end(&text[from..end]) {
-        Some(_) => Err(FaultKind::ArgumentCount),
-        None => Err(FaultKind::ArgumentsOpen),
+    match bind(&text[..end], at + len, true, formals, bindings) {
+        Bound::To(to) => Ok(to + 1),
+        Bound::Open => Err(FaultKind::ArgumentsOpen),
+        Bound::Miscounted => Err(FaultKind::ArgumentCount),
     }
 }
 
-// Binds the call of a macro with so many formals that goes on in a text from the place behind its `(`, and answers where its `)`
-// stands. Appends nothing where the call isn't closed or has more or fewer parts.
-fn bind_behind(text: &[u8], from: usize, formals: usize, bindings: &mut Vec<Range>) -> Option<usize>
-    requires range { from ≤ length text.now }
-    requires room { (vec_len bindings.old + formals ≤ vec_capacity bindings.old) × (vec_len bindings.old < vec_capacity bindings.old) }
-    ensures whole { bindings.new.items ≡ bindings.old.items ++ added bindings.old.items bindings.new.items }
-    ensures len { vec_len bindings.new ≤ vec_len bindings.old + formals }
-    ensures capacity { vec_capacity bindings.new ≡ vec_capacity bindings.old }
-    ensures refused { result ≡ None → bindings.new.items ≡ bindings.old.items }
-    ensures inside { IfSome result (λ to. (from ≤ to) × (to < length text.now)) }
-    ensures call { IsBoundBehind text.now from formals (added bindings.old.items bindings.new.items) result }
-{
-    let kept = bindings.len();
-    let count = if formals > 0 { formals } else { 1 };
-    let Some(to) = push_call(text, from, count, bindings) else {
-        bindings.truncate(kept);
-        return None;
-    };
-    if !admits(&text[from..to], formals) {
-        bindings.truncate(kept);
-        return None;
-    }
-    if formals == 0 {
-        bindings.truncate(kept);
-    }
-    Some(to)
-}
-
-/// Binds the actuals of a call between its parentheses, two places of a text: appends where each part stands, without the
-/// white space at both of its ends (IEEE 1364-2001, `define`; what a part is, is this project's profile). There must be room
-/// for so many ranges, and for one at least.
+/// Binds the actuals of a call whose text between its parentheses is kept: appends where each part stands, without the white
+/// space at both of its ends (IEEE 1364-2001, `define`; what a part is, is this project's profile). There must be room for so
+/// many ranges.
 ///
 /// # Rules
 ///
@@ -100,79 +86,111 @@ fn bind_behind(text: &[u8], from: usize, formals: usize, bindings: &mut Vec<Rang
 /// # Errors
 ///
 /// [`FaultKind::ArgumentCount`] where there are more or fewer parts. No binding is appended then.
-pub fn bind_parts(
-    text: &[u8],
-    from: usize,
-    to: usize,
-    formals: usize,
-    bindings: &mut Vec<Range>,
-) -> Result<(), FaultKind>
-    requires range { (from ≤ to) × (to ≤ length text.now) }
-    requires room { (vec_len bindings.old + formals ≤ vec_capacity bindings.old) × (vec_len bindings.old < vec_capacity bindings.old) }
+pub fn bind_parts(text: &[u8], formals: usize, bindings: &mut Vec<Range>) -> Result<(), FaultKind>
+    requires room { vec_len bindings.old + formals ≤ vec_capacity bindings.old }
     ensures whole { bindings.new.items ≡ bindings.old.items ++ added bindings.old.items bindings.new.items }
-    ensures within { AreWithin from to (added bindings.old.items bindings.new.items) }
+    ensures within { AreWithin 0 (length text.now) (added bindings.old.items bindings.new.items) }
     ensures len { vec_len bindings.new ≤ vec_len bindings.old + formals }
     ensures capacity { vec_capacity bindings.new ≡ vec_capacity bindings.old }
     ensures refused { IfErr result (λ kind. (kind ≡ ArgumentCount) × (bindings.new.items ≡ bindings.old.items)) }
-    ensures actuals { IfOk result (λ _. (fs : List Formal) → length fs ≡ formals → bound_parts fs (actuals_of (slice_range text.now from to)) ≡ ranges_tokens text.now (added bindings.old.items bindings.new.items)) }
-    ensures count { (fs : List Formal) → length fs ≡ formals → is_ok result ≡ is_count fs (actuals_of (slice_range text.now from to)) }
+    ensures actuals { IfOk result (λ _. (fs : List Formal) → length fs ≡ formals → bound_parts fs (actuals_of text.now) ≡ ranges_tokens text.now (added bindings.old.items bindings.new.items)) }
+    ensures count { (fs : List Formal) → length fs ≡ formals → is_ok result ≡ is_count fs (actuals_of text.now) }
 {
-    let before = bindings.len();
-    let count = if formals > 0 { formals } else { 1 };
-    let all = push_parts(text, from, to, count, bindings);
-    if !all || !admits(&text[from..to], formals) {
-        bindings.truncate(before);
-        return Err(FaultKind::ArgumentCount);
+    match bind(text, 0, false, formals, bindings) {
+        Bound::To(_) => Ok(()),
+        Bound::Open | Bound::Miscounted => Err(FaultKind::ArgumentCount),
     }
-    if formals == 0 {
-        bindings.truncate(before);
-    }
-    Ok(())
 }
 
-// Appends the ranges of the parts between two places of a text, but of no more than so many, and answers whether these are all
-// and there are so many.
-fn push_parts(text: &[u8], from: usize, to: usize, count: usize, bindings: &mut Vec<Range>) -> bool
-    requires range { (from ≤ to) × (to ≤ length text.now) }
-    requires some { 0 < count }
-    requires room { vec_len bindings.old + count ≤ vec_capacity bindings.old }
+// Binds the parts of a call in a text from a place on to so many formals: appends where each part stands, or nothing where the
+// call isn't closed, where a `)` has to close it, or has more or fewer parts.
+fn bind(text: &[u8], from: usize, closes: bool, formals: usize, bindings: &mut Vec<Range>) -> Bound
+    requires range { from ≤ length text.now }
+    requires room { vec_len bindings.old + formals ≤ vec_capacity bindings.old }
     ensures whole { bindings.new.items ≡ bindings.old.items ++ added bindings.old.items bindings.new.items }
-    ensures within { AreWithin from to (added bindings.old.items bindings.new.items) }
-    ensures len { vec_len bindings.new ≤ vec_len bindings.old + count }
+    ensures within { AreWithin from (length text.now) (added bindings.old.items bindings.new.items) }
+    ensures len { vec_len bindings.new ≤ vec_len bindings.old + formals }
     ensures capacity { vec_capacity bindings.new ≡ vec_capacity bindings.old }
-    ensures actuals { result ≡ true → actuals_of (slice_range text.now from to) ≡ ranges_tokens text.now (added bindings.old.items bindings.new.items) }
-    ensures count { result ≡ (length (actuals_of (slice_range text.now from to)) == count) }
+    ensures bound { IsBound closes text.now from formals bindings.old.items bindings.new.items result }
+{
+    let kept = bindings.len();
+    let pushed = push_parts(text, from, closes, formals, bindings);
+    if closes && pushed.to == text.len() {
+        bindings.truncate(kept);
+        return Bound::Open;
+    }
+    if !admits(text, from, closes, formals, pushed.further) {
+        bindings.truncate(kept);
+        return Bound::Miscounted;
+    }
+    Bound::To(pushed.to)
+}
+
+// Appends the ranges of the parts of a call in a text from a place on, but of no more than so many.
+fn push_parts(
+    text: &[u8],
+    from: usize,
+    closes: bool,
+    most: usize,
+    bindings: &mut Vec<Range>,
+) -> Pushed
+    requires range { from ≤ length text.now }
+    requires room { vec_len bindings.old + most ≤ vec_capacity bindings.old }
+    ensures whole { bindings.new.items ≡ bindings.old.items ++ added bindings.old.items bindings.new.items }
+    ensures len { vec_len bindings.new ≤ vec_len bindings.old + most }
+    ensures capacity { vec_capacity bindings.new ≡ vec_capacity bindings.old }
+    ensures within { AreWithin from result.to (added bindings.old.items bindings.new.items) }
+    ensures end { result.to ≡ from + inner_size closes (drop from text.now) }
+    ensures inside { result.to ≤ length text.now }
+    ensures count { length (actuals_in closes (drop from text.now)) ≡ result.further + 1 }
+    ensures actuals { result.further < most → actuals_in closes (drop from text.now) ≡ ranges_tokens text.now (added bindings.old.items bindings.new.items) }
+    ensures none { most ≡ 0 → bindings.new.items ≡ bindings.old.items }
 {
     let mut at = from;
-    for bound in 1..count {
-        let part = next_part(&text[at..to]);
-        bindings.push_reserved(range_of(&part, at));
-        let Some(len) = part.next else {
-            return false;
+    let mut further = 0;
+    'parts: loop {
+        let part = next_part(&text[at..], closes);
+        let range = Range {
+            from: at + part.from,
+            to: at + part.to,
         };
-        at += len;
-    }
-    let part = next_part(&text[at..to]);
-    bindings.push_reserved(range_of(&part, at));
-    part.next.is_none()
-}
-
-// The range of a part of the text from a place on.
-fn range_of(part: &Part, at: usize) -> Range
-    requires { (at + part.now.from < 2 ^ 64) × (at + part.now.to < 2 ^ 64) }
-    ensures from { result.from ≡ at + part.now.from }
-    ensures to { result.to ≡ at + part.now.to }
-{
-    Range {
-        from: at + part.from,
-        to: at + part.to,
+        put(bindings, further, most, range);
+        match part.end {
+            PartEnd::Comma(next) => {
+                at += next;
+                further += 1;
+            }
+            PartEnd::Last(end) => {
+                let to = at + end;
+                return Pushed { further, to };
+            }
+        }
     }
 }
 
-// Whether the text between the parentheses of a call can have so many actuals by its first part: for no formals, that has
-// no items.
-fn admits(text: &[u8], formals: usize) -> bool
-    ensures { result ≡ (nat_lt 0 formals || not (nat_lt 0 (length (first_actual text.now)))) }
+// Appends a range, where fewer than so many were appended before.
+fn put(bindings: &mut Vec<Range>, count: usize, most: usize, range: Range)
+    requires { count < most → vec_len bindings.old < vec_capacity bindings.old }
+    ensures puts { count < most → bindings.new.items ≡ bindings.old.items ++ range ∷ [] }
+    ensures stays { most ≤ count → bindings.new.items ≡ bindings.old.items }
+    ensures longer { count < most → vec_len bindings.new ≡ vec_len bindings.old + 1 }
+    ensures len { most ≤ count → vec_len bindings.new ≡ vec_len bindings.old }
+    ensures capacity { vec_capacity bindings.new ≡ vec_capacity bindings.old }
 {
-    formals > 0 || !next_part(text).has_items()
+    if count < most {
+        bindings.push_reserved(range);
+    }
+}
+
+// Whether a call in a text from a place on can have so many actuals, by how many parts follow its first one: for no formals that
+// is the only one, and has no items.
+fn admits(text: &[u8], from: usize, closes: bool, formals: usize, further: usize) -> bool
+    requires range { from ≤ length text.now }
+    requires count { length (actuals_in closes (drop from text.now)) ≡ further + 1 }
+    ensures { (fs : List Formal) → length fs ≡ formals → result ≡ is_count fs (actuals_in closes (drop from text.now)) }
+{
+    if formals > 0 {
+        return further == formals - 1;
+    }
+    further == 0 && !next_part(&text[from..], closes).has_items()
 }

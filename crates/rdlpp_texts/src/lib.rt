@@ -3,7 +3,6 @@
 #![tactic(auto)]
 
 mod bindings;
-mod called;
 mod cursors;
 mod front;
 mod guesses;
@@ -18,7 +17,7 @@ mod tokens;
 pub use bindings::{Range, bind_call, bind_parts};
 pub use cursors::Cursors;
 pub use kept::keeps_each;
-pub use parts::{Arguments, CallFault, Part, arguments_of, call_end, call_start, next_part};
+pub use parts::{Part, PartEnd, call_start, next_part};
 pub use place::{TextPlace, TextSource};
 pub use scopes::text_at;
 pub use step::{CursorFault, CursorStep};

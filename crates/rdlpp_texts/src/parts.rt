@@ -1,53 +1,31 @@
-// The `(` and the `)` of a call in a text, and the parts between them.
-ghost use Rattle.std.specs.Prelude.{◌≡◌, ◌+◌, ◌≤◌, ◌<◌, IfSome, length, drop, nat_lt};
+// The `(` of a call in a text, and the parts after it.
+ghost use Rattle.std.specs.Prelude.{◌≡◌, ◌≤◌, IfSome, length, drop, nat_lt};
 ghost use Rattle.std.specs.List.{prefix_len};
 ghost use Rattle.rdlpp_meaning.specs.Substitution.{body_tokens};
-ghost use Rattle.rdlpp_texts.specs.CallParts.{IsCall, IsNextPart, call_fault_kind, closer_from, is_white, opener_from, part_from, space_from};
+ghost use Rattle.rdlpp_texts.specs.CallParts.{IsNextPart, ends_text, is_white, opener_from, part_from, space_from};
+ghost use Rattle.rdlpp_texts.specs.CallTokens.{role_meant};
 
 use crate::tokens::{CallRole, ends_call, ends_part, is_space, level_behind, token_in_call};
-use rdlpp_meaning::FaultKind;
 use rdlpp_scan::{Mode, byte_at, is_blank, word_bytes};
 
-/// The arguments of a call in a text: what stands between its parentheses.
+/// Where a part of a call ends.
 #[derive(Clone, Copy, Debug, PartialEq, Eq)]
-pub struct Arguments {
-    /// Where they begin, behind the `(`.
-    pub from: usize,
-    /// Where they end; the `)` stands there.
-    pub to: usize,
+pub enum PartEnd {
+    /// At a comma: the next part begins here.
+    Comma(usize),
+    /// At the end of the call: its `)` stands here, or the text ends here.
+    Last(usize),
 }
 
-/// What is missing of a call.
-#[derive(Clone, Copy, Debug, PartialEq, Eq)]
-pub enum CallFault {
-    /// No `(` follows, but for white space, line ends and comments.
-    Missing,
-    /// No `)` closes the call.
-    Unclosed,
-}
-
-impl CallFault {
-    /// The fault that ends the output.
-    #[tactic(auto, unfolding(crate::specs::CallParts::call_fault_kind))]
-    pub fn kind(&self) -> FaultKind
-        ensures { result ≡ call_fault_kind self.now }
-    {
-        match self {
-            CallFault::Missing => FaultKind::ArgumentsMissing,
-            CallFault::Unclosed => FaultKind::ArgumentsOpen,
-        }
-    }
-}
-
-/// The next part of a call.
+/// A part of a call.
 #[derive(Clone, Copy, Debug, PartialEq, Eq)]
 pub struct Part {
     /// Where its text begins, without the white space in front of it.
     pub from: usize,
-    /// Where its text ends, without the white space behind it.
+    /// Where its text ends, without the white space after it.
     pub to: usize,
-    /// Where the part behind it begins; none where it is the last.
-    pub next: Option<usize>,
+    /// What follows it.
+    pub end: PartEnd,
 }
 
 impl Part {
@@ -57,28 +35,6 @@ impl Part {
     {
         self.from < self.to
     }
-}
-
-/// The arguments of a call in a text that begins behind the name of its macro (IEEE 1364-2001, `define`; what may stand
-/// between the name and the `(` is this project's profile).
-///
-/// # Errors
-///
-/// [`CallFault::Missing`] where no `(` follows, but for white space, line ends and comments, and [`CallFault::Unclosed`]
-/// where no `)` closes the call outside strings, comments and further openers.
-pub fn arguments_of(text: &[u8]) -> Result<Arguments, CallFault>
-    ensures { IsCall text.now result }
-{
-    let Some(from) = call_start(text) else {
-        return Err(CallFault::Missing);
-    };
-    let Some(len) = call_end(&text[from..]) else {
-        return Err(CallFault::Unclosed);
-    };
-    Ok(Arguments {
-        from,
-        to: from + len,
-    })
 }
 
 /// How many bytes of a text stand up to and with the `(` of a call, behind white space, line ends and comments; none where
@@ -113,44 +69,24 @@ fn spaced_start(text: &[u8]) -> Option<usize>
     None
 }
 
-/// How many bytes of a text behind a `(` stand in front of the `)` of the call: the first that no opener in the text
-/// precedes, outside strings and comments; none where the text ends first (this project's profile).
-pub fn call_end(text: &[u8]) -> Option<usize>
-    ensures value { result ≡ closer_from 0 0 (body_tokens text.now) }
-    ensures inside { IfSome result (λ n. n < length text.now) }
-{
-    let mut at = 0;
-    let mut level = 0;
-    let mut mode = Mode::Plain;
-    while at < text.len() {
-        let token = token_in_call(mode, &text[at..]);
-        if ends_call(token.role, level) {
-            return Some(at);
-        }
-        at += token.len;
-        level = level_behind(token.role, level);
-        mode = token.next_mode;
-    }
-    None
-}
-
-/// The next part of a call, in the text between its parentheses or behind a comma of it.
+/// The next part of a call, in the text after its `(` or after a comma of it. What is kept of a call has no `)` of the call;
+/// in any other text that `closes` it.
 ///
 /// # Rules
 ///
-/// A comma ends a part outside strings, comments and further openers, and white space and line ends at both ends of a part
-/// aren't of it; comments are (this project's profile). A part may have no bytes.
-pub fn next_part(text: &[u8]) -> Part
+/// A comma ends a part outside strings, comments and further openers, and so does the `)` of the call. White space and line
+/// ends at both ends of a part aren't of it; comments are (this project's profile). A part may have no bytes.
+pub fn next_part(text: &[u8], closes: bool) -> Part
     ensures value { let start = space_from 0 (body_tokens text.now) in
-        result ≡ part_from start start 0 start (body_tokens (drop start text.now)) }
-    ensures part { IsNextPart text.now result }
+        result ≡ part_from closes start start 0 start (body_tokens (drop start text.now)) }
+    ensures part { IsNextPart closes text.now result }
 {
     let from = space_len(text);
-    part_at(text, from)
+    part_at(text, from, closes)
 }
 
 // How many bytes of white space a text begins with.
-pub(crate) fn space_len(text: &[u8]) -> usize
+fn space_len(text: &[u8]) -> usize
     ensures value { result ≡ space_from 0 (body_tokens text.now) }
     ensures inside { result ≤ length text.now }
 {
@@ -173,34 +109,35 @@ fn is_white(b: u8) -> bool
     is_blank(b) || b == b'\n'
 }
 
-// The part that begins at a place, in the text between the parentheses of a call. Most parts are one word, or nothing.
-fn part_at(text: &[u8], from: usize) -> Part
+// The part that begins at a place of a text. Most parts are one word, or nothing.
+fn part_at(text: &[u8], from: usize, closes: bool) -> Part
     requires { from ≤ length text.now }
-    ensures { result ≡ part_from from from 0 from (body_tokens (drop from text.now)) }
+    ensures { result ≡ part_from closes from from 0 from (body_tokens (drop from text.now)) }
 {
     let to = from + word_bytes(&text[from..]);
-    if to >= text.len() {
+    let next = byte_at(text, to);
+    if next == b',' {
         return Part {
             from,
             to,
-            next: None,
+            end: PartEnd::Comma(to + 1),
         };
     }
-    if text[to] == b',' {
+    if closes && next == b')' {
         return Part {
             from,
             to,
-            next: Some(to + 1),
+            end: PartEnd::Last(to),
         };
     }
-    part_by_tokens(text, from)
+    part_by_tokens(text, from, closes)
 }
 
 // The same, token by token.
 #[inline(never)]
-fn part_by_tokens(text: &[u8], from: usize) -> Part
+fn part_by_tokens(text: &[u8], from: usize, closes: bool) -> Part
     requires { from ≤ length text.now }
-    ensures { result ≡ part_from from from 0 from (body_tokens (drop from text.now)) }
+    ensures { result ≡ part_from closes from from 0 from (body_tokens (drop from text.now)) }
 {
     let mut at = from;
     let mut to = from;
@@ -208,12 +145,19 @@ fn part_by_tokens(text: &[u8], from: usize) -> Part
     let mut mode = Mode::Plain;
     while at < text.len() {
         let token = token_in_call(mode, &text[at..]);
+        if ends_text(closes, token.role, level) {
+            return Part {
+                from,
+                to,
+                end: PartEnd::Last(at),
+            };
+        }
         at += token.len;
         if ends_part(token.role, level) {
             return Part {
                 from,
                 to,
-                next: Some(at),
+                end: PartEnd::Comma(at),
             };
         }
         if !is_space(token.role) {
@@ -225,6 +169,14 @@ fn part_by_tokens(text: &[u8], from: usize) -> Part
     Part {
         from,
         to,
-        next: None,
+        end: PartEnd::Last(at),
     }
+}
+
+// Whether a token at a level of openers is the `)` of a call, where one may end it.
+#[tactic(auto, unfolding(crate::specs::CallParts::ends_text))]
+fn ends_text(closes: bool, role: CallRole, level: usize) -> bool
+    ensures { result ≡ ends_text closes (role_meant role) level }
+{
+    closes && ends_call(role, level)
 }

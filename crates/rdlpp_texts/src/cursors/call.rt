@@ -54,7 +54,7 @@ impl Cursors {
         if !keeps_each(arguments) {
             return Err(FaultKind::ArgumentCount);
         }
-        bind_parts(arguments, 0, arguments.len(), formals, &mut self.bindings)?;
+        bind_parts(arguments, formals, &mut self.bindings)?;
         let first = self.first - 1;
         self.slots[first] = Slot {
             from: 0,

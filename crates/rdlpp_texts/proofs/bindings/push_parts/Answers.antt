@@ -1,83 +1,229 @@
-use Rattle.std.proofs.Common.{◌≡◌, ℕ, ◌+◌, ◌-◌, List, length, arith, ap, refl, ◌∙◌, subst}
-use Rattle.std.specs.Prelude.{slice_range, ◌==◌, not}
-use Rattle.rdlpp_texts.specs.BoundCalls.{actuals_of}
+use Rattle.std.proofs.Common.{ℕ, ◌+◌, ◌∙◌, List, length, subst, sym, arith, refl}
+use Rattle.std.proofs.lemmas.Slice.{between_to_end}
+use Rattle.rdlpp_texts.specs.CallParts.{IsNextPart}
 use Rattle.rdlpp_texts.specs.declared.bindings.Range.{Range}
-use Rattle.rdlpp_texts.proofs.BoundParts.{HasBound, bound_more, others_none, others_some, too_few, last_count, last_actuals}
+use Rattle.rdlpp_texts.proofs.BoundParts.{bound_all, bound_comma, bound_first, bound_last, bound_more, many-more, put-by}
 use Rattle.rdlpp_texts.proofs.bindings.push_parts.Goals as goal
 
--- a count by another name
-counted : (text : List ℕ) (from to count same : ℕ) (others : List (List Rattle.rdlpp_scan.specs.SourceTokens.SourceToken)) (old new : List Range) → count ≡ same
-    → HasBound text from to count others old new → HasBound text from to same others old new
-counted text from to count same others old new e b = subst (λ (n : ℕ). HasBound text from to n others old new) e b
-
-pub returns-in_default-clause-count : goal.returns-in_default-clause-count
-returns-in_default-clause-count c =
-    let text = c.args.text.now in
-    let i = c.loop-bound.invariant in
-    let part = c.next_part-part.result in
-    let n = c.loop-bound.bound - 1 in
-    let more = bound_more text c.args.from c.args.to c.loop-bound.at n c.args.bindings.now.items c.loop-bound.bindings.items c.push_reserved.new.self.items part c.range_of.result
-    i.above i.below c.requires.range.1 i.bound c.next_part-part.ensures.part c.range_of.ensures.from c.range_of.ensures.to c.push_reserved.ensures.items in
-    too_few text c.args.from c.args.to (n + 1) c.args.count c.args.bindings.now.items c.push_reserved.new.self.items
-    (others_none text c.args.from c.args.to c.loop-bound.at (n + 1) c.args.bindings.now.items c.push_reserved.new.self.items part c.next_part-part.ensures.part c.in_default.is more)
-    (omega (arith, c.loop-bound-test.true, c.loop-bound.auto.bound))
+pub parts-init : goal.parts-init
+parts-init c = record {
+  low = omega arith;
+  inside = c.requires.range;
+  few = omega arith;
+  size = refl;
+  bound = bound_first c.args.closes c.args.text.now c.args.from c.args.most c.args.bindings.now.items;
+  many = omega arith;
+  capacity = refl;
+}
 
 pub overflow_add-at : goal.overflow_add-at
 overflow_add-at c =
     let text = c.args.text.now in
-    let i = c.loop-bound.invariant in
+    let from = c.args.from in
+    let closes = c.args.closes in
+    let most = c.args.most in
+    let at = c.parts.at in
+    let i = c.parts.invariant in
     let part = c.next_part-part.result in
-    let n = c.loop-bound.bound - 1 in
     let old = c.args.bindings.now.items in
-    let new = c.push_reserved.new.self.items in
-    let more = bound_more text c.args.from c.args.to c.loop-bound.at n old c.loop-bound.bindings.items new part c.range_of.result
-    i.above i.below c.requires.range.1 i.bound c.next_part-part.ensures.part c.range_of.ensures.from c.range_of.ensures.to c.push_reserved.ensures.items in
-    let some = others_some text c.args.from c.args.to c.loop-bound.at c.in-Some.len (n + 1) old new part i.below c.requires.range.1 c.next_part-part.ensures.part c.in-Some.is more in
-    omega (arith, some.0, c.ranges.to)
+    let last = c.put.new.bindings.items in
+    let r : Range = record { from = at + part.from; to = at + part.to } in
+    let p = subst (λ (x : List ℕ). IsNextPart closes x part) (between_to_end text at (length text) (omega arith)) c.next_part-part.ensures.part in
+    let b = bound_more closes text from at c.parts.further most old c.parts.bindings.items last part r i.low i.bound p refl refl
+    (put-by c.parts.further most c.parts.bindings.items last r c.put.ensures.puts c.put.ensures.stays) in
+    let g = bound_comma closes text from at part.to c.in-Comma.next (c.parts.further + 1) most old last part.end i.inside c.in-Comma.is p.follows b in
+    let inside = g.inside in
+    omega (arith, inside)
 
-pub loop-bound-preserved : goal.loop-bound-preserved
-loop-bound-preserved c =
+pub parts-smaller : goal.parts-smaller
+parts-smaller c =
     let text = c.args.text.now in
-    let i = c.loop-bound.invariant in
+    let from = c.args.from in
+    let closes = c.args.closes in
+    let most = c.args.most in
+    let at = c.parts.at in
+    let i = c.parts.invariant in
     let part = c.next_part-part.result in
-    let n = c.loop-bound.bound - 1 in
     let old = c.args.bindings.now.items in
-    let new = c.push_reserved.new.self.items in
-    let more = bound_more text c.args.from c.args.to c.loop-bound.at n old c.loop-bound.bindings.items new part c.range_of.result
-    i.above i.below c.requires.range.1 i.bound c.next_part-part.ensures.part c.range_of.ensures.from c.range_of.ensures.to c.push_reserved.ensures.items in
-    let some = others_some text c.args.from c.args.to c.loop-bound.at c.in-Some.len (n + 1) old new part i.below c.requires.range.1 c.next_part-part.ensures.part c.in-Some.is more in
+    let last = c.put.new.bindings.items in
+    let r : Range = record { from = at + part.from; to = at + part.to } in
+    let p = subst (λ (x : List ℕ). IsNextPart closes x part) (between_to_end text at (length text) (omega arith)) c.next_part-part.ensures.part in
+    let b = bound_more closes text from at c.parts.further most old c.parts.bindings.items last part r i.low i.bound p refl refl
+    (put-by c.parts.further most c.parts.bindings.items last r c.put.ensures.puts c.put.ensures.stays) in
+    let g = bound_comma closes text from at part.to c.in-Comma.next (c.parts.further + 1) most old last part.end i.inside c.in-Comma.is p.follows b in
+    let inside = g.inside in
+    let some = g.some in
+    omega (arith, inside, some)
+
+pub parts-preserved : goal.parts-preserved
+parts-preserved c =
+    let text = c.args.text.now in
+    let from = c.args.from in
+    let closes = c.args.closes in
+    let most = c.args.most in
+    let at = c.parts.at in
+    let i = c.parts.invariant in
+    let part = c.next_part-part.result in
+    let old = c.args.bindings.now.items in
+    let last = c.put.new.bindings.items in
+    let r : Range = record { from = at + part.from; to = at + part.to } in
+    let p = subst (λ (x : List ℕ). IsNextPart closes x part) (between_to_end text at (length text) (omega arith)) c.next_part-part.ensures.part in
+    let b = bound_more closes text from at c.parts.further most old c.parts.bindings.items last part r i.low i.bound p refl refl
+    (put-by c.parts.further most c.parts.bindings.items last r c.put.ensures.puts c.put.ensures.stays) in
+    let g = bound_comma closes text from at part.to c.in-Comma.next (c.parts.further + 1) most old last part.end i.inside c.in-Comma.is p.follows b in
+    let some = g.some in
+    let low = i.low in
+    let few = i.few in
     record {
-      above = omega (arith, i.above);
-      below = some.0;
-      bound = counted text c.args.from c.args.to (n + 1) (c.loop-bound.bound + 1 - 1) (actuals_of (slice_range text (c.loop-bound.at + c.in-Some.len) c.args.to)) old new
-          (omega (arith, c.loop-bound.auto.bound)) some.1;
-      many = omega (arith, c.push_reserved.ensures.len, i.many, c.loop-bound.auto.bound);
-      capacity = c.push_reserved.ensures.capacity ∙ i.capacity;
+      low = omega (arith, low);
+      inside = g.inside;
+      few = omega (arith, few, some);
+      size = i.size ∙ g.size;
+      bound = g.bound;
+      many = many-more _ _ c.parts.further most _ i.many c.put.ensures.longer c.put.ensures.len;
+      capacity = c.put.ensures.capacity ∙ i.capacity;
     }
 
-pub returns-clause-actuals : goal.returns-clause-actuals
-returns-clause-actuals c = λ all.
+pub overflow_add-to : goal.overflow_add-to
+overflow_add-to c =
     let text = c.args.text.now in
-    let i = c.loop-bound.invariant in
-    let part = c.next_part-part-2.result in
+    let from = c.args.from in
+    let closes = c.args.closes in
+    let most = c.args.most in
+    let at = c.parts.at in
+    let i = c.parts.invariant in
+    let part = c.next_part-part.result in
     let old = c.args.bindings.now.items in
-    let new = c.push_reserved-2.new.self.items in
-    let more = bound_more text c.args.from c.args.to c.loop-bound.at (c.loop-bound.bound - 1) old c.loop-bound.bindings.items new part c.range_of-2.result
-    i.above i.below c.requires.range.1 i.bound c.next_part-part-2.ensures.part c.range_of-2.ensures.from c.range_of-2.ensures.to c.push_reserved-2.ensures.items in
-    last_actuals text c.args.from c.args.to c.loop-bound.at ((c.loop-bound.bound - 1) + 1) old new part part.next c.next_part-part-2.ensures.part refl
-    (c.is_none.ensures ∙ ap not all) more
+    let last = c.put.new.bindings.items in
+    let r : Range = record { from = at + part.from; to = at + part.to } in
+    let p = subst (λ (x : List ℕ). IsNextPart closes x part) (between_to_end text at (length text) (omega arith)) c.next_part-part.ensures.part in
+    let b = bound_more closes text from at c.parts.further most old c.parts.bindings.items last part r i.low i.bound p refl refl
+    (put-by c.parts.further most c.parts.bindings.items last r c.put.ensures.puts c.put.ensures.stays) in
+    let e = bound_last closes text from at part.to c.in-Last.end (c.parts.further + 1) most old last part.end i.inside c.in-Last.is p.follows b in
+    let inside = e.inside in
+    omega (arith, inside)
 
-pub returns-clause-count : goal.returns-clause-count
-returns-clause-count c =
+pub returns-in-Last-clause-within : goal.returns-in-Last-clause-within
+returns-in-Last-clause-within c =
     let text = c.args.text.now in
-    let i = c.loop-bound.invariant in
-    let part = c.next_part-part-2.result in
-    let n = c.loop-bound.bound - 1 in
+    let from = c.args.from in
+    let closes = c.args.closes in
+    let most = c.args.most in
+    let at = c.parts.at in
+    let i = c.parts.invariant in
+    let part = c.next_part-part.result in
     let old = c.args.bindings.now.items in
-    let new = c.push_reserved-2.new.self.items in
-    let more = bound_more text c.args.from c.args.to c.loop-bound.at n old c.loop-bound.bindings.items new part c.range_of-2.result
-    i.above i.below c.requires.range.1 i.bound c.next_part-part-2.ensures.part c.range_of-2.ensures.from c.range_of-2.ensures.to c.push_reserved-2.ensures.items in
-    let last : n + 1 ≡ c.args.count = omega (arith, c.loop-bound-test.false, c.loop-bound.auto.bound, c.requires.some) in
-    last_count text c.args.from c.args.to c.loop-bound.at (n + 1) old new part part.next c.is_none.result i.below c.requires.range.1 c.next_part-part-2.ensures.part refl
-    c.is_none.ensures more
-    ∙ ap (λ (k : ℕ). length (actuals_of (slice_range text c.args.from c.args.to)) == k) last
+    let last = c.put.new.bindings.items in
+    let r : Range = record { from = at + part.from; to = at + part.to } in
+    let p = subst (λ (x : List ℕ). IsNextPart closes x part) (between_to_end text at (length text) (omega arith)) c.next_part-part.ensures.part in
+    let b = bound_more closes text from at c.parts.further most old c.parts.bindings.items last part r i.low i.bound p refl refl
+    (put-by c.parts.further most c.parts.bindings.items last r c.put.ensures.puts c.put.ensures.stays) in
+    let e = bound_last closes text from at part.to c.in-Last.end (c.parts.further + 1) most old last part.end i.inside c.in-Last.is p.follows b in
+    e.bound.within
+
+pub returns-in-Last-clause-end : goal.returns-in-Last-clause-end
+returns-in-Last-clause-end c =
+    let text = c.args.text.now in
+    let from = c.args.from in
+    let closes = c.args.closes in
+    let most = c.args.most in
+    let at = c.parts.at in
+    let i = c.parts.invariant in
+    let part = c.next_part-part.result in
+    let old = c.args.bindings.now.items in
+    let last = c.put.new.bindings.items in
+    let r : Range = record { from = at + part.from; to = at + part.to } in
+    let p = subst (λ (x : List ℕ). IsNextPart closes x part) (between_to_end text at (length text) (omega arith)) c.next_part-part.ensures.part in
+    let b = bound_more closes text from at c.parts.further most old c.parts.bindings.items last part r i.low i.bound p refl refl
+    (put-by c.parts.further most c.parts.bindings.items last r c.put.ensures.puts c.put.ensures.stays) in
+    let e = bound_last closes text from at part.to c.in-Last.end (c.parts.further + 1) most old last part.end i.inside c.in-Last.is p.follows b in
+    sym (i.size ∙ e.size)
+
+pub returns-in-Last-clause-inside : goal.returns-in-Last-clause-inside
+returns-in-Last-clause-inside c =
+    let text = c.args.text.now in
+    let from = c.args.from in
+    let closes = c.args.closes in
+    let most = c.args.most in
+    let at = c.parts.at in
+    let i = c.parts.invariant in
+    let part = c.next_part-part.result in
+    let old = c.args.bindings.now.items in
+    let last = c.put.new.bindings.items in
+    let r : Range = record { from = at + part.from; to = at + part.to } in
+    let p = subst (λ (x : List ℕ). IsNextPart closes x part) (between_to_end text at (length text) (omega arith)) c.next_part-part.ensures.part in
+    let b = bound_more closes text from at c.parts.further most old c.parts.bindings.items last part r i.low i.bound p refl refl
+    (put-by c.parts.further most c.parts.bindings.items last r c.put.ensures.puts c.put.ensures.stays) in
+    let e = bound_last closes text from at part.to c.in-Last.end (c.parts.further + 1) most old last part.end i.inside c.in-Last.is p.follows b in
+    e.inside
+
+pub returns-in-Last-clause-count : goal.returns-in-Last-clause-count
+returns-in-Last-clause-count c =
+    let text = c.args.text.now in
+    let from = c.args.from in
+    let closes = c.args.closes in
+    let most = c.args.most in
+    let at = c.parts.at in
+    let i = c.parts.invariant in
+    let part = c.next_part-part.result in
+    let old = c.args.bindings.now.items in
+    let last = c.put.new.bindings.items in
+    let r : Range = record { from = at + part.from; to = at + part.to } in
+    let p = subst (λ (x : List ℕ). IsNextPart closes x part) (between_to_end text at (length text) (omega arith)) c.next_part-part.ensures.part in
+    let b = bound_more closes text from at c.parts.further most old c.parts.bindings.items last part r i.low i.bound p refl refl
+    (put-by c.parts.further most c.parts.bindings.items last r c.put.ensures.puts c.put.ensures.stays) in
+    let e = bound_last closes text from at part.to c.in-Last.end (c.parts.further + 1) most old last part.end i.inside c.in-Last.is p.follows b in
+    let many = e.bound.many in
+    omega (arith, many)
+
+pub returns-in-Last-clause-actuals : goal.returns-in-Last-clause-actuals
+returns-in-Last-clause-actuals c = λ less.
+    let text = c.args.text.now in
+    let from = c.args.from in
+    let closes = c.args.closes in
+    let most = c.args.most in
+    let at = c.parts.at in
+    let i = c.parts.invariant in
+    let part = c.next_part-part.result in
+    let old = c.args.bindings.now.items in
+    let last = c.put.new.bindings.items in
+    let r : Range = record { from = at + part.from; to = at + part.to } in
+    let p = subst (λ (x : List ℕ). IsNextPart closes x part) (between_to_end text at (length text) (omega arith)) c.next_part-part.ensures.part in
+    let b = bound_more closes text from at c.parts.further most old c.parts.bindings.items last part r i.low i.bound p refl refl
+    (put-by c.parts.further most c.parts.bindings.items last r c.put.ensures.puts c.put.ensures.stays) in
+    let e = bound_last closes text from at part.to c.in-Last.end (c.parts.further + 1) most old last part.end i.inside c.in-Last.is p.follows b in
+    bound_all closes text from (at + c.in-Last.end) (c.parts.further + 1) most old last e.bound (omega (arith, less))
+
+pub returns-in-Last-clause-none : goal.returns-in-Last-clause-none
+returns-in-Last-clause-none c =
+    let text = c.args.text.now in
+    let from = c.args.from in
+    let closes = c.args.closes in
+    let most = c.args.most in
+    let at = c.parts.at in
+    let i = c.parts.invariant in
+    let part = c.next_part-part.result in
+    let old = c.args.bindings.now.items in
+    let last = c.put.new.bindings.items in
+    let r : Range = record { from = at + part.from; to = at + part.to } in
+    let p = subst (λ (x : List ℕ). IsNextPart closes x part) (between_to_end text at (length text) (omega arith)) c.next_part-part.ensures.part in
+    let b = bound_more closes text from at c.parts.further most old c.parts.bindings.items last part r i.low i.bound p refl refl
+    (put-by c.parts.further most c.parts.bindings.items last r c.put.ensures.puts c.put.ensures.stays) in
+    b.none
+
+pub returns-in-Last-clause-whole : goal.returns-in-Last-clause-whole
+returns-in-Last-clause-whole c =
+    let text = c.args.text.now in
+    let from = c.args.from in
+    let closes = c.args.closes in
+    let most = c.args.most in
+    let at = c.parts.at in
+    let i = c.parts.invariant in
+    let part = c.next_part-part.result in
+    let old = c.args.bindings.now.items in
+    let last = c.put.new.bindings.items in
+    let r : Range = record { from = at + part.from; to = at + part.to } in
+    let p = subst (λ (x : List ℕ). IsNextPart closes x part) (between_to_end text at (length text) (omega arith)) c.next_part-part.ensures.part in
+    let b = bound_more closes text from at c.parts.further most old c.parts.bindings.items last part r i.low i.bound p refl refl
+    (put-by c.parts.further most c.parts.bindings.items last r c.put.ensures.puts c.put.ensures.stays) in
+    b.whole

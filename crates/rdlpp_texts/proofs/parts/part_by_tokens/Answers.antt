@@ -1,10 +1,11 @@
-use Rattle.std.proofs.Common.{◌≡◌, ℕ, ◌+◌, cond, drop, sym, ap, ◌∙◌, arith, Some}
+use Rattle.std.proofs.Common.{◌≡◌, ℕ, ◌+◌, cond, drop, sym, ap, ◌∙◌, arith}
 use Rattle.rdlpp_meaning.specs.Actuals.{level_behind, is_space}
 use Rattle.rdlpp_meaning.specs.TextTokens.{text_tokens}
 use Rattle.rdlpp_meaning.proofs.TextRanges.{body_text}
-use Rattle.rdlpp_texts.specs.CallParts.{part_from}
+use Rattle.rdlpp_texts.specs.CallParts.{ends_part, part_from}
 use Rattle.rdlpp_texts.specs.CallTokens.{role_meant}
 use Rattle.rdlpp_texts.specs.declared.parts.Part.{Part}
+use Rattle.rdlpp_texts.specs.declared.parts.PartEnd.TheVariants.{Comma, Last}
 use Rattle.rdlpp_texts.proofs.Searches.{token_at, token_inside, part_turn, level_low, none_left}
 use Rattle.rdlpp_texts.proofs.parts.part_by_tokens.Goals as goal
 use Rattle.rdlpp_texts.proofs.parts.part_by_tokens.Goals.{then-not-is_space, else-not-is_space}
@@ -15,8 +16,25 @@ loop-at-init c =
     record {
       inside = omega arith;
       low = omega arith;
-      found = ap (part_from start start 0 start) (sym (body_text (drop start c.args.text.now)));
+      found = ap (part_from c.args.closes start start 0 start) (sym (body_text (drop start c.args.text.now)));
     }
+
+pub returns-then-ends_text : goal.returns-then-ends_text
+returns-then-ends_text c =
+    let text = c.args.text.now in
+    let at = c.loop-at.at in
+    let start = c.args.from in
+    let token = c.token_in_call-token.result in
+    let f = token_at c.loop-at.mode text at token c.loop-at.invariant.inside c.token_in_call-token.ensures in
+    let here = at + token.len in
+    let r = role_meant token.role in
+    let level = c.loop-at.level in
+    let to = c.loop-at.to in
+    let rest = cond (ends_part r level) (record { from = start; to = to; end = Comma here })
+    (part_from c.args.closes start here (level_behind r level) (cond (is_space r) to here) (text_tokens token.next_mode (drop here text))) in
+    let last : Part = record { from = start; to = to; end = Last at } in
+    sym (sym c.loop-at.invariant.found ∙ part_turn c.args.closes c.loop-at.mode text start at level to token f
+    ∙ ap (λ b. cond b last rest) (sym c.ends_text.ensures ∙ c.if-ends_text.true))
 
 pub returns-then-ends_part : goal.returns-then-ends_part
 returns-then-ends_part c =
@@ -26,11 +44,15 @@ returns-then-ends_part c =
     let token = c.token_in_call-token.result in
     let f = token_at c.loop-at.mode text at token c.loop-at.invariant.inside c.token_in_call-token.ensures in
     let here = at + token.len in
-    let rest = part_from start here (level_behind (role_meant token.role) c.loop-at.level) (cond (is_space (role_meant token.role)) c.loop-at.to here)
-    (text_tokens token.next_mode (drop here text)) in
-    let ended : Part = record { from = start; to = c.loop-at.to; next = Some here } in
-    sym (sym c.loop-at.invariant.found ∙ part_turn c.loop-at.mode text start at c.loop-at.level c.loop-at.to token f
-    ∙ ap (λ b. cond b ended rest) (sym c.ends_part.ensures ∙ c.if-ends_part.true))
+    let r = role_meant token.role in
+    let level = c.loop-at.level in
+    let to = c.loop-at.to in
+    let rest = part_from c.args.closes start here (level_behind r level) (cond (is_space r) to here) (text_tokens token.next_mode (drop here text)) in
+    let last : Part = record { from = start; to = to; end = Last at } in
+    let cut : Part = record { from = start; to = to; end = Comma here } in
+    sym (sym c.loop-at.invariant.found ∙ part_turn c.args.closes c.loop-at.mode text start at level to token f
+    ∙ ap (λ b. cond b last (cond (ends_part r level) cut rest)) (sym c.ends_text.ensures ∙ c.if-ends_text.false)
+    ∙ ap (λ b. cond b cut rest) (sym c.ends_part.ensures ∙ c.if-ends_part.true))
 
 pub loop-at-preserved : goal.loop-at-preserved
 loop-at-preserved c =
@@ -40,22 +62,26 @@ loop-at-preserved c =
     let token = c.token_in_call-token.result in
     let f = token_at c.loop-at.mode text at token c.loop-at.invariant.inside c.token_in_call-token.ensures in
     let here = at + token.len in
-    let end : c.if-not-is_space.to ≡ cond (is_space (role_meant token.role)) c.loop-at.to here =
+    let r = role_meant token.role in
+    let level = c.loop-at.level in
+    let to = c.loop-at.to in
+    let end : c.if-not-is_space.to ≡ cond (is_space r) to here =
     elim c.if-not-is_space.branch [
-      | then-not-is_space w ↦ w.to-is ∙ ap (λ b. cond b c.loop-at.to here) (sym w.if-not-is_space.true ∙ c.is_space.ensures)
-      | else-not-is_space w ↦ w.to-is ∙ ap (λ b. cond b c.loop-at.to here) (sym w.if-not-is_space.false ∙ c.is_space.ensures)
+      | then-not-is_space w ↦ w.to-is ∙ ap (λ b. cond b to here) (sym w.if-not-is_space.true ∙ c.is_space.ensures)
+      | else-not-is_space w ↦ w.to-is ∙ ap (λ b. cond b to here) (sym w.if-not-is_space.false ∙ c.is_space.ensures)
     ] in
-    let rest : ℕ → ℕ → Part = λ level to. part_from start here level to (text_tokens token.next_mode (drop here text)) in
-    let ended : Part = record { from = start; to = c.loop-at.to; next = Some here } in
+    let rest : ℕ → ℕ → Part = λ k n. part_from c.args.closes start here k n (text_tokens token.next_mode (drop here text)) in
+    let last : Part = record { from = start; to = to; end = Last at } in
+    let cut : Part = record { from = start; to = to; end = Comma here } in
     record {
       inside = token_inside c.loop-at.mode text at token c.loop-at.invariant.inside f;
-      low = level_low token.role c.loop-at.level at token.len c.level_behind-level.result f.not_empty c.loop-at.invariant.low c.level_behind-level.ensures;
+      low = level_low token.role level at token.len c.level_behind-level.result f.not_empty c.loop-at.invariant.low c.level_behind-level.ensures;
       found =
           ap (λ (n : ℕ). rest n c.if-not-is_space.to) c.level_behind-level.ensures
-          ∙ ap (λ (n : ℕ). rest (level_behind (role_meant token.role) c.loop-at.level) n) end
-          ∙ sym (part_turn c.loop-at.mode text start at c.loop-at.level c.loop-at.to token f
-          ∙ ap (λ b. cond b ended (rest (level_behind (role_meant token.role) c.loop-at.level) (cond (is_space (role_meant token.role)) c.loop-at.to here)))
-          (sym c.ends_part.ensures ∙ c.if-ends_part.false))
+          ∙ ap (λ (n : ℕ). rest (level_behind r level) n) end
+          ∙ sym (part_turn c.args.closes c.loop-at.mode text start at level to token f
+          ∙ ap (λ b. cond b last (cond (ends_part r level) cut (rest (level_behind r level) (cond (is_space r) to here)))) (sym c.ends_text.ensures ∙ c.if-ends_text.false)
+          ∙ ap (λ b. cond b cut (rest (level_behind r level) (cond (is_space r) to here))) (sym c.ends_part.ensures ∙ c.if-ends_part.false))
           ∙ c.loop-at.invariant.found;
     }
 
@@ -64,4 +90,4 @@ unfolding part_from
 returns c =
     let start = c.args.from in
     let text = c.args.text.now in
-    sym (sym c.loop-at.invariant.found ∙ ap (part_from start c.loop-at.at c.loop-at.level c.loop-at.to) (none_left c.loop-at.mode text c.loop-at.at (omega arith)))
+    sym (sym c.loop-at.invariant.found ∙ ap (part_from c.args.closes start c.loop-at.at c.loop-at.level c.loop-at.to) (none_left c.loop-at.mode text c.loop-at.at (omega arith)))

@@ -9,7 +9,7 @@ abbrev pub invariant-loop-at : goal.invariant-loop-at
 invariant-loop-at l = record {
   inside : l.at ≤ length l.text;
   low : l.level ≤ l.at;
-  found : part_from l.from l.at l.level l.to (text_tokens l.mode (drop l.at l.text)) ≡ part_from l.from l.from 0 l.from (body_tokens (drop l.from l.text));
+  found : part_from l.closes l.from l.at l.level l.to (text_tokens l.mode (drop l.at l.text)) ≡ part_from l.closes l.from l.from 0 l.from (body_tokens (drop l.from l.text));
 }
 
 abbrev pub decreases-loop-at : goal.decreases-loop-at

@@ -8,14 +8,14 @@ use Rattle.rdlpp_texts.specs.Opened.{opens_of, CursorsView}
 use Rattle.rdlpp_texts.proofs.Binding.{arity-count, call-room, entered-opens, formals-few, stack-entered}
 use Rattle.rdlpp_texts.proofs.Bounding.{lent-body, lent-bounded}
 use Rattle.rdlpp_texts.proofs.Stacking.{view-is}
-use Rattle.rdlpp_texts.proofs.Starting.{call-dropped, call-miscounted, call-started, parts-counted, room-closed, started-opens}
+use Rattle.rdlpp_texts.proofs.Starting.{call-dropped, call-miscounted, call-started, room-closed, started-opens}
 use Rattle.rdlpp_texts.proofs.cursors.Cursors.open_call.Goals as goal
 
-pub bind_parts-requires-clause-room : goal.bind_parts-requires-clause-room
-bind_parts-requires-clause-room c =
+pub bind_parts-requires : goal.bind_parts-requires
+bind_parts-requires c =
     let few = formals-few c.args.table.now c.args.id c.len-macros.ensures.sound c.requires.id in
     let n = c.unwrap_or-formals.ensures ∙ ap (λ (o : Option ℕ). unwrap_or o 0) c.arity.ensures ∙ arity-count (macro_at c.args.table.now.macros c.args.id).formals in
-    call-room c.self.inside.slots.items c.self.inside.first c.unwrap_or-formals.result c.self.inside.bindings c.self.invariant (omega (arith, few, n))
+    record { room = call-room c.self.inside.slots.items c.self.inside.first c.unwrap_or-formals.result c.self.inside.bindings c.self.invariant (omega (arith, few, n)) }
 
 pub overflow_sub-first : goal.overflow_sub-first
 overflow_sub-first c =
@@ -36,16 +36,16 @@ returns-in_err-bind_parts-clause-refused c =
     let n = c.unwrap_or-formals.ensures ∙ ap (λ (o : Option ℕ). unwrap_or o 0) c.arity.ensures ∙ arity-count (macro_at c.args.table.now.macros c.args.id).formals in
     rw (p.1, p.2)
     (call-miscounted c.args.table.now c.args.arguments.now c.args.id _ _ _ c.in_err-bind_parts.ensures.refused.0
-    (parts-counted c.args.arguments.now _ c.unwrap_or-formals.result (formals_of (macro_at c.args.table.now.macros c.args.id)) _ refl n c.in_err-bind_parts.ensures.count)
+    (c.in_err-bind_parts.ensures.count (formals_of (macro_at c.args.table.now.macros c.args.id)) (sym n))
     (view-is _ _ _ _ _ (ap (λ (bs : List Range). opens_of (drop c.self.inside.first c.self.inside.slots.items) bs) c.in_err-bind_parts.ensures.refused.1) refl ∙ c.self.view_is))
 
 pub returns-clause-opens : goal.returns-clause-opens
 returns-clause-opens c =
     let n = c.unwrap_or-formals.ensures ∙ ap (λ (o : Option ℕ). unwrap_or o 0) c.arity.ensures ∙ arity-count (macro_at c.args.table.now.macros c.args.id).formals in
     let some = room-closed c.self.inside.slots c.self.inside.first c.self.inside.bindings.items c.self.invariant.inside (rw (← c.self.view_is) at c.requires.closed) (rw (← c.self.view_is) at c.requires.room) in
-    call-started c.args.table.now c.args.arguments.now c.args.id c.args.line _ (added c.self.inside.bindings.items c.bind_parts.new.bindings.items) _ _ c.len-macros.ensures.sound c.requires.id
-    (sym c.keeps_each.ensures ∙ c.if-not-keeps_each.false) refl (c.in_ok-bind_parts.ensures.actuals (formals_of (macro_at c.args.table.now.macros c.args.id)) (sym n))
-    (parts-counted c.args.arguments.now _ c.unwrap_or-formals.result (formals_of (macro_at c.args.table.now.macros c.args.id)) _ refl n c.in_ok-bind_parts.ensures.count)
+    call-started c.args.table.now c.args.arguments.now c.args.id c.args.line (added c.self.inside.bindings.items c.bind_parts.new.bindings.items) _ _ c.len-macros.ensures.sound c.requires.id
+    (sym c.keeps_each.ensures ∙ c.if-not-keeps_each.false) (c.in_ok-bind_parts.ensures.actuals (formals_of (macro_at c.args.table.now.macros c.args.id)) (sym n))
+    (c.in_ok-bind_parts.ensures.count (formals_of (macro_at c.args.table.now.macros c.args.id)) (sym n))
     c.bind_parts.ensures.within
     (view-is _ _ _ _ _
     (entered-opens c.self.inside.slots.items c.self.inside.first c.self.inside.bindings.items _ c.bind_parts.new.bindings.items c.args.id (length c.body.result.now) 0 c.len-bound.result c.body_bounds-bounds.result some
