@@ -7,7 +7,7 @@ use Rattle.rdlpp_scan.specs.Bytes.{is_blank, is_quiet}
 use Rattle.rdlpp_scan.specs.declared.token.Kind.{Kind}
 use Rattle.rdlpp_scan.specs.declared.token.Kind.TheVariants.{Name, Word, Back, Blank, LineEnd, Str, LineComment, BlockComment, Opener, Closer, Comma, Other, Perl, BareBackquote}
 use Rattle.rdlpp_scan.specs.declared.token.Mode.{Mode}
-use Rattle.rdlpp_scan.specs.declared.token.Mode.TheVariants.{Plain, InStr, InBlock}
+use Rattle.rdlpp_scan.specs.declared.token.Mode.TheVariants.{Plain}
 use Rattle.rdlpp_scan.specs.declared.token.Token.{Token}
 use Rattle.rdlpp_scan.specs.Tokens.{token_of, tokens_from, whole}
 use Rattle.rdlpp_scan.proofs.CleanTexts.{blank-step}

@@ -2,7 +2,6 @@
 use Rattle.std.proofs.Common.{◌≡◌, [], ◌∷◌, Some, refl, codes}
 use Rattle.rdlpp_table.specs.Table.{Macro, table_bytes, table_size, macro_bytes, macro_size, formal_bytes, formal_size, default_bytes, default_size}
 use Rattle.rdlpp_table.specs.Define.{Drawn, macro_of, macro_from, unended, logical_text, without_continuations, continuation_len, is_space, after_space, leading_name, name_fault, without_remarks, onto_trimmed, without_end, trimmed_of, trimmed, ends_default, level_behind, onto_default, default_of_tokens, trimmed_default, default_in, formal_name, behind_name, formal_fault, with_default, formal_in, formals_in, formals_of_list, formal_list, with_body, with_list}
-use Rattle.rdlpp_table.specs.declared.fault.DefineKind.TheVariants as kind
 use Rattle.rdlpp_scan.specs.Bytes.{is_blank, is_line_end, is_letter, is_digit, is_word, is_opener, is_closer, takes_word, begins_perl, begins_line_comment, begins_block_comment, ends_block_comment}
 use Rattle.rdlpp_scan.specs.Tokens.{first_place, string_stop, whole, string_token, block_token, plain_token, token_of, tokens_from}
 use Rattle.rdlpp_scan.specs.LexFaults.{is_perl, open_fault, fault_of_tokens, lex_fault_from}

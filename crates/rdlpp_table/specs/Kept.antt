@@ -1,6 +1,6 @@
 -- The first stops of a body, as they are kept in its entry.
 -- A definition that names no source is this project's own.
-use Rattle.std.specs.Prelude.{ℕ, ◌+◌, ◌-◌, Bool, true, false, nat_le, nat_lt, if◌then◌else◌, ◌&&◌, ◌||◌, ◌==◌, List, drop, Option, Some, None}
+use Rattle.std.specs.Prelude.{ℕ, ◌+◌, ◌-◌, Bool, nat_le, nat_lt, if◌then◌else◌, ◌&&◌, ◌||◌, ◌==◌, List, drop, Option, Some, None}
 use Rattle.std.specs.List.{prefix_len}
 use Rattle.rdlpp_scan.specs.Bytes.{is_quiet}
 use Rattle.rdlpp_table.specs.declared.kept.FirstStops.{FirstStops}
