@@ -1,13 +1,14 @@
 -- A search that came to an answer gives the one of the catalog.
-use Rattle.std.proofs.Common.{◌≡◌, ℕ, ◌==◌, Bool, true, false, cond, List, [], ◌∷◌, length, Option, None, Some, nat_lt, refl, sym, ap, subst, ◌∙◌, Result, Ok, Err}
+use Rattle.std.proofs.Common.{◌≡◌, ℕ, ◌+◌, ◌-◌, ◌^◌, ◌==◌, min, arith, Bool, true, false, cond, List, [], ◌∷◌, length, Option, None, Some, nat_lt, refl, sym, ap, subst, ◌∙◌, Result, Ok, Err}
 use Rattle.std.specs.Bool.{⊤}
 use Rattle.std.specs.List.{list_any}
 use Rattle.rdlpp_source.specs.declared.sources.Found.{Found}
 use Rattle.rdlpp_source.specs.declared.sources.SourceFault.{SourceFault}
 use Rattle.rdlpp_source.specs.declared.sources.SourceFault.TheVariants.{Absent, PathTooLong, Device, NoMemory}
-use Rattle.rdlpp_source.specs.Sources.{Answer, Finds, Missing, Overlong, Present}
+use Rattle.rdlpp_source.specs.Counts.{Counts}
+use Rattle.rdlpp_source.specs.Sources.{Answer, Finds, Missing, Overlong, Present, is_device}
 use Rattle.rdlpp_source.specs.Search.{answer_at, answer_or, at_path, candidates, first_answer}
-use Rattle.rdlpp_source.specs.Asked.{Answered, Answers, Comes, Ends, Refused, Search, Wanted, asked_catalog, failed_search, first_search, folders_of, known_search, search_at, search_of, search_or, standing_at, standing_text, text_at, unread_of}
+use Rattle.rdlpp_source.specs.Asked.{Answered, Answers, Comes, Ends, Refused, Search, Wanted, asked_catalog, failed_search, seen_failures, first_search, folders_of, known_search, search_at, search_of, search_or, standing_at, standing_text, text_at, unread_of}
 use Rattle.rdlpp_source.specs.declared.asked.AskedTexts.{AskedTexts}
 use Rattle.rdlpp_source.specs.declared.asked.Stop.{Stop}
 use Rattle.rdlpp_source.specs.declared.asked.Stop.TheVariants.{Absent as NotThere, PathTooLong as TooLong, Failed as NotOpened, NoMemory as NoRoom, Wanted as NotKnown}
@@ -23,7 +24,8 @@ Says (Wanted path) answer = ⊤
 known_says : (asks : Bool) (path : List ℕ) (s : Option Standing) → Says (known_search asks path s) (at_path path (standing_text s))
 known_says asks path (Some (Text text)) = refl
 known_says asks path (Some Gone) = refl
-known_says asks path (Some Failed) = tt
+known_says true path (Some Failed) = tt
+known_says false path (Some Failed) = refl
 known_says true path None = tt
 known_says false path None = refl
 
@@ -82,3 +84,97 @@ pub finds_named : (texts : AskedTexts) (from name : List ℕ) (r : Result (Found
     → Answers (search_of texts from name) r wanted → Finds unread_of ((asked_catalog texts).find from name) r
 finds_named texts from name r wanted a =
     says_finds (search_of texts from name) (first_answer (text_at texts) (candidates (folders_of texts) from name)) r wanted (first_says texts (candidates (folders_of texts) from name)) a
+
+-- Sources that don't ask: no search fails at a device, and contracts see no failure.
+
+-- whether a search came to an answer
+is_answered : Search → Bool
+is_answered (Answered found) = true
+is_answered Refused = false
+is_answered (Wanted path) = false
+
+known_answered : (path : List ℕ) (s : Option Standing) → is_answered (known_search false path s) ≡ true
+unfolding is_answered
+known_answered path (Some (Text text)) = refl
+known_answered path (Some Gone) = refl
+known_answered path (Some Failed) = refl
+known_answered path None = refl
+
+cond_answered : (b : Bool) (s t : Search) → is_answered s ≡ true → is_answered t ≡ true → is_answered (cond b s t) ≡ true
+cond_answered true s t p q = p
+cond_answered false s t p q = q
+
+at_answered : (texts : AskedTexts) (path : List ℕ) → texts.asks ≡ false → is_answered (search_at texts path) ≡ true
+unfolding is_answered
+at_answered texts path e =
+    let known = known_search texts.asks path (standing_at texts path) in
+    cond_answered (nat_lt 1024 (length path)) (Answered Overlong) (cond (list_any (λ b. b == 10) path) (Answered Missing) known) refl
+    (cond_answered (list_any (λ b. b == 10) path) (Answered Missing) known refl
+    (subst (λ (asks : Bool). is_answered (known_search asks path (standing_at texts path)) ≡ true) (sym e) (known_answered path (standing_at texts path))))
+
+or_answered : (s t : Search) → is_answered s ≡ true → is_answered t ≡ true → is_answered (search_or s t) ≡ true
+unfolding is_answered
+or_answered (Answered Missing) t p q = q
+or_answered (Answered Overlong) t p q = refl
+or_answered (Answered (Present path text)) t p q = refl
+or_answered Refused t p q = p
+or_answered (Wanted path) t p q = p
+
+first_answered : (texts : AskedTexts) (paths : List (List ℕ)) → texts.asks ≡ false → is_answered (first_search texts paths) ≡ true
+unfolding is_answered
+first_answered texts [] e = refl
+first_answered texts (path ∷ paths) e = or_answered (search_at texts path) (first_search texts paths) (at_answered texts path e) (first_answered texts paths e)
+
+failed_unanswered : (wanted : Option (List ℕ)) → is_answered (failed_search wanted) ≡ false
+unfolding is_answered
+failed_unanswered None = refl
+failed_unanswered (Some path) = refl
+
+answered_unfailed : (s : Search) (r : Result (Found (List ℕ)) SourceFault) (wanted : Option (List ℕ)) → is_answered s ≡ true → Answers s r wanted → is_device r ≡ false
+answered_unfailed s (Ok found) wanted e a = refl
+answered_unfailed s (Err Absent) wanted e a = refl
+answered_unfailed s (Err PathTooLong) wanted e a = refl
+answered_unfailed s (Err Device) wanted e a = let bad = ap is_answered a in let none = failed_unanswered wanted in cc
+answered_unfailed s (Err NoMemory) wanted e a = refl
+
+-- the search for a path fails at no device where none is asked for
+pub top_unfailed : (texts : AskedTexts) (path : List ℕ) (r : Result (Found (List ℕ)) SourceFault) (wanted : Option (List ℕ))
+    → texts.asks ≡ false → Answers (search_at texts path) r wanted → is_device r ≡ false
+top_unfailed texts path r wanted e a = answered_unfailed (search_at texts path) r wanted (at_answered texts path e) a
+
+-- the search for a name fails at no device where none is asked for
+pub named_unfailed : (texts : AskedTexts) (from name : List ℕ) (r : Result (Found (List ℕ)) SourceFault) (wanted : Option (List ℕ))
+    → texts.asks ≡ false → Answers (search_of texts from name) r wanted → is_device r ≡ false
+named_unfailed texts from name r wanted e a =
+    answered_unfailed (search_of texts from name) r wanted (first_answered texts (candidates (folders_of texts) from name) e) a
+
+failures_seen : (asks rose : Bool) (old new : ℕ) → (asks ≡ false → rose ≡ false) → Counts rose old new → Counts rose (seen_failures asks old) (seen_failures asks new)
+unfolding seen_failures
+failures_seen true true old new quiet c = grind arith
+failures_seen true false old new quiet c = ap (λ n. min (n + 2) (2 ^ 64 - 1)) c
+failures_seen false true old new quiet c = let bad = quiet refl in cc
+failures_seen false false old new quiet c = refl
+
+-- what contracts see of the failures rises as they do
+pub failures_rise : (asks still rose : Bool) (old new : ℕ) → still ≡ asks → (asks ≡ false → rose ≡ false) → Counts rose old new
+    → Counts rose (seen_failures asks old) (seen_failures still new)
+failures_rise asks still rose old new same quiet c =
+    subst (λ (b : Bool). Counts rose (seen_failures asks old) (seen_failures b new)) (sym same) (failures_seen asks rose old new quiet c)
+
+-- a call of sources that don't ask fails at no device
+pub unasked : (asks still rose : Bool) (old new : ℕ) → asks ≡ false → Counts rose (seen_failures asks old) (seen_failures still new) → rose ≡ false
+unfolding seen_failures
+unasked true still rose old new e c = cc
+unasked false still false old new e c = refl
+unasked false true true old new e c = (let bad : ⊥ = omega (arith, c) in absurd bad)
+unasked false false true old new e c = (let bad : ⊥ = omega (arith, c) in absurd bad)
+
+-- after a call sources ask where they did
+pub still_asked : (asks still rose : Bool) (old new : ℕ) → Counts rose (seen_failures asks old) (seen_failures still new) → still ≡ asks
+unfolding seen_failures
+still_asked true true rose old new c = refl
+still_asked false false rose old new c = refl
+still_asked true false true old new c = (let bad : ⊥ = omega (arith, c) in absurd bad)
+still_asked true false false old new c = (let bad : ⊥ = omega (arith, c) in absurd bad)
+still_asked false true true old new c = (let bad : ⊥ = omega (arith, c) in absurd bad)
+still_asked false true false old new c = (let bad : ⊥ = omega (arith, c) in absurd bad)

@@ -1,6 +1,6 @@
 -- What sources in memory that own their texts tell, and what they ask for.
 -- A definition that names no source is this project's own.
-use Rattle.std.specs.Prelude.{◌≡◌, ℕ, ◌==◌, Bool, true, false, List, [], ◌∷◌, length, map, bytes_eq, ◌&&◌, Option, None, Some, nat_lt, ⊤, Result, Ok, Err, if◌then◌else◌}
+use Rattle.std.specs.Prelude.{◌≡◌, ℕ, ◌+◌, ◌-◌, ◌^◌, ◌==◌, min, Bool, true, false, List, [], ◌∷◌, length, map, bytes_eq, ◌&&◌, Option, None, Some, nat_lt, ⊤, Result, Ok, Err, if◌then◌else◌}
 use Rattle.std.specs.List.{list_any}
 use Rattle.std.specs.Option.{option_map}
 use Rattle.std.specs.String.{string_bytes}
@@ -53,11 +53,13 @@ pub data Search : Type 0 where
   Refused : Search
   Wanted : List ℕ → Search
 
--- what a candidate comes to of which this is known: where nothing is, it is wanted by sources that ask, and isn't there in others (source: this project's profile)
+-- what a candidate comes to of which this is known: where nothing is, it is wanted by sources that ask, and isn't there in others; nor is it there in others
+-- where it can't be opened (source: this project's profile)
 abbrev pub known_search : Bool → List ℕ → Option Standing → Search
 known_search asks path (Some (Text text)) = Answered (Present path text.value.items)
 known_search asks path (Some Gone) = Answered Missing
-known_search asks path (Some Failed) = Refused
+known_search true path (Some Failed) = Refused
+known_search false path (Some Failed) = Answered Missing
 known_search true path None = Wanted path
 known_search false path None = Answered Missing
 
@@ -109,6 +111,14 @@ Answers search (Err NoMemory) wanted = wanted ≡ None
 -- the path that is wanted
 abbrev pub wanted_of : AskedTexts → Option (List ℕ)
 wanted_of texts = option_map (λ (path : ArrayString 1024). path.bytes) texts.wanted
+
+-- the count of device failures as contracts see it: none in sources that don't ask, and in others two more than there were, so that none goes from 0 to 1
+unfoldable pub seen_failures : Bool → ℕ → ℕ
+seen_failures true failures = min (failures + 2) (2 ^ 64 - 1)
+seen_failures false failures = 0
+
+abbrev pub failures_of : AskedTexts → ℕ
+failures_of texts = seen_failures texts.asks texts.failures
 
 -- what was known first, and else what is told later (source: this project's profile)
 abbrev pub first_known : Option Standing → Option Standing → Option Standing

@@ -1,5 +1,5 @@
 // Sources in memory that own their texts, and that may ask for what they don't have.
-ghost use Rattle.std.specs.Prelude.{◌≡◌, ◌≤◌, ℕ, List, [], None, false, map, min, drop, length, true, OnOk, OnErr};
+ghost use Rattle.std.specs.Prelude.{◌≡◌, ◌≤◌, ℕ, List, [], None, false, map, min, drop, length, true, OnOk, OnErr, if◌then◌else◌};
 ghost use Rattle.std.specs.Option.{option_copied};
 ghost use Rattle.std.specs.Io.{ReadsAtMost};
 ghost use Rattle.std.specs.String.{string_bytes};
@@ -20,9 +20,10 @@ use std::rc::Rc;
 pub enum Standing {
     /// A text. It is shared by those who read it.
     Text(Rc<Vec<u8>, Global>),
-    /// Nothing: a search goes on behind it.
+    /// Nothing: a search goes on after it.
     Absent,
-    /// What can't be opened: a search ends there, as at a device that failed.
+    /// What can't be opened: a search of sources that ask ends there, as at a device that failed. In
+    /// others nothing stands there.
     Failed,
 }
 
@@ -33,7 +34,8 @@ pub enum Standing {
 /// `folders`, and a reader gives the very text that stands there. Where `asks`, a candidate of which
 /// nothing is known ends a search: `Device` is answered, and `wanted` has the candidate's path until
 /// the next search; after `tell` of it the search may be made again. Else nothing stands at such a
-/// path. A text that has `usize::MAX` readers has room for no further one, which is told as `NoMemory`.
+/// path, and no search answers `Device`. A text that has `usize::MAX` readers has room for no further
+/// one, which is told as `NoMemory`.
 #[derive(Drop)]
 pub struct AskedTexts {
     /// What is known of each path. One that has more than 1,024 bytes or an LF byte is never found.
@@ -178,18 +180,19 @@ impl AskedTexts {
         if path.as_bytes().contains(&b'\n') {
             return Err(Stop::Absent);
         }
-        let Some(standing) = self.standing(path.as_str()) else {
-            return Err(if self.asks {
-                Stop::Wanted(path)
-            } else {
-                Stop::Absent
-            });
-        };
-        match standing {
-            Standing::Text(text) => open_text(path, text),
-            Standing::Absent => Err(Stop::Absent),
-            Standing::Failed => Err(Stop::Failed),
+        match self.standing(path.as_str()) {
+            Some(Standing::Text(text)) => open_text(path, text),
+            Some(Standing::Absent) => Err(Stop::Absent),
+            Some(Standing::Failed) => Err(self.if_asks(Stop::Failed)),
+            None => Err(self.if_asks(Stop::Wanted(path))),
         }
+    }
+
+    // What ends a search where these sources ask: in others nothing stands there.
+    fn if_asks(&self, stop: Stop) -> Stop
+        ensures { result ≡ (if self.now.asks then stop else Stop.Absent) }
+    {
+        if self.asks { stop } else { Stop::Absent }
     }
 
     // The source whose path is given.
@@ -318,7 +321,7 @@ impl Sources for AskedTexts {
     type Reader = AskedReader;
 
     ghost use Rattle.std.specs.Prelude.{⊤};
-    ghost use Rattle.rdlpp_source.specs.Asked.{asked_catalog, unread_of};
+    ghost use Rattle.rdlpp_source.specs.Asked.{asked_catalog, failures_of, unread_of};
 
     ghost tells = { λ _. ⊤ };
 
@@ -326,13 +329,14 @@ impl Sources for AskedTexts {
 
     ghost unread = { unread_of };
 
-    ghost failures = { λ s. s.failures };
+    ghost failures = { failures_of };
 
     ghost refusals = { λ s. s.refusals };
 
     fn top(&mut self, path: &str) -> Result<Found<AskedReader>, SourceFault>
         ensures answer { Answers (search_at self.old path.now) result (wanted_of self.new) }
         ensures finds { Finds unread_of ((asked_catalog self.old).top path.now) result }
+        ensures unasked { self.old.asks ≡ false → is_device result ≡ false }
         ensures failures { Counts (is_device result) self.old.failures self.new.failures }
         ensures refusals { Counts (is_no_memory result) self.old.refusals self.new.refusals }
         ensures only { self.new ≡ record self.old { wanted = self.new.wanted; failures = self.new.failures; refusals = self.new.refusals } }
@@ -344,6 +348,7 @@ impl Sources for AskedTexts {
     fn find(&mut self, from: &str, name: &str) -> Result<Found<AskedReader>, SourceFault>
         ensures answer { Answers (search_of self.old from.now name.now) result (wanted_of self.new) }
         ensures finds { Finds unread_of ((asked_catalog self.old).find from.now name.now) result }
+        ensures unasked { self.old.asks ≡ false → is_device result ≡ false }
         ensures failures { Counts (is_device result) self.old.failures self.new.failures }
         ensures refusals { Counts (is_no_memory result) self.old.refusals self.new.refusals }
         ensures only { self.new ≡ record self.old { wanted = self.new.wanted; failures = self.new.failures; refusals = self.new.refusals } }
