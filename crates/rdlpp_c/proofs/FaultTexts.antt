@@ -8,7 +8,7 @@ use Rattle.rdlpp_meaning.specs.FaultNumbers.{fault_number}
 use Rattle.rdlpp_c.specs.Faults.{kind_text, kinds, kind_numbered, found_text, fault_text, IsNoFault}
 
 -- the number of each kind gives that kind
-own_kind : (kind : FaultKind) → kind_numbered (fault_number kind) ≡ Some kind
+pub own_kind : (kind : FaultKind) → kind_numbered (fault_number kind) ≡ Some kind
 own_kind EmbeddedPerl = refl
 own_kind OpenString = refl
 own_kind OpenComment = refl

@@ -4,3 +4,5 @@ pub mod Values
 pub mod FaultTexts
 pub mod Texts
 pub mod Handles
+pub mod Quiet
+pub mod MappedReads

@@ -12,7 +12,7 @@ use Rattle.rdlpp.specs.declared.fault.PrepFault.TheVariants.{BadLimits, Run, NoM
 use Rattle.rdlpp_c.specs.Request.{Asked, file_bytes}
 use Rattle.rdlpp_c.specs.Answer.{AreLists, Gives, IsOutput, text_sources, output_bytes}
 use Rattle.rdlpp_c.specs.Output.{IsRead}
-use Rattle.rdlpp_c.specs.Streaming.{refused_answer, AreOwned, IsStreamed, OpensStream, ReadBuffers, Reads, ReadsStream, StreamsOutput, owned_sources}
+use Rattle.rdlpp_c.specs.Streaming.{refused_answer, AreOwned, IsQuiet, IsStreamed, OpensStream, ReadBuffers, Reads, ReadsStream, StreamsOutput, owned_sources}
 use Rattle.rdlpp_c.specs.declared.asking.Answer.{Answer}
 use Rattle.rdlpp_c.specs.declared.asking.Answer.TheVariants.{Whole, Stopped}
 use Rattle.rdlpp_c.specs.declared.asking.Lists.{Lists}
@@ -105,8 +105,9 @@ gives_refused a lists sources buffer fault answer are files folders in_range ope
 -- what remains of a stream over what a call asks for
 pub streams : (a : Asked) (owned : Owned) (reading : ReadingView AskedTexts (List ℕ)) (stream : Stream) → AreOwned a owned → limit_fault a.limits ≡ None
     → OpensOutput owned_sources (output_of owned_sources owned.options owned.sources (string_bytes owned.path)) (Ok reading)
+    → reading.engine.sources.asks ≡ owned.sources.asks → (owned.sources.asks ≡ false → IsQuiet reading.engine)
     → stream.reading ≡ reading → stream.path ≡ owned.path → stream.pieces ≡ owned.pieces → StreamsOutput a stream
-streams a owned reading stream are in_range opens same path pieces = record {
+streams a owned reading stream are in_range opens asks quiet same path pieces = record {
   output = output_of owned_sources owned.options owned.sources (string_bytes owned.path);
   is = record {
     options = owned.options;
@@ -117,6 +118,8 @@ streams a owned reading stream are in_range opens same path pieces = record {
   };
   remains = subst (λ (r : ReadingView AskedTexts (List ℕ)). is_device_fault r.engine.kept ≡ false → is_memory_fault r.engine.kept ≡ false
       → reading_left owned_sources r ≡ output_of owned_sources owned.options owned.sources (string_bytes owned.path)) (sym same) opens;
+  asks = ap (λ (r : ReadingView AskedTexts (List ℕ)). r.engine.sources.asks) same ∙ asks ∙ are.asks.asks;
+  quiet = λ none. subst (λ (r : ReadingView AskedTexts (List ℕ)). IsQuiet r.engine) (sym same) (quiet (are.asks.asks ∙ none));
   path = ap string_bytes path ∙ are.path;
   pieces = pieces ∙ are.pieces;
 }

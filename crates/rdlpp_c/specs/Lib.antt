@@ -10,3 +10,4 @@ pub mod Streaming
 pub mod Giving
 pub mod Placing
 pub mod Reporting
+pub mod Mapping

@@ -6,7 +6,7 @@ use Rattle.std.specs.String.{string_bytes}
 use Rattle.std.specs.declared.alloc.Global.{Global}
 use Rattle.std_alloc.specs.declared.boxed.Box.{Box}
 use Rattle.rdlpp_source.specs.declared.sources.Sources.{Ghosts}
-use Rattle.rdlpp_source.specs.Asked.{asked_catalog, unread_of, wanted_of}
+use Rattle.rdlpp_source.specs.Asked.{asked_catalog, failures_of, unread_of, wanted_of}
 use Rattle.rdlpp_source.specs.declared.asked.AskedTexts.{AskedTexts}
 use Rattle.rdlpp_table.specs.Limits.{limit_fault}
 use Rattle.rdlpp_meaning.specs.FaultNumbers.{fault_number}
@@ -51,7 +51,7 @@ refused_answer (Run run) = Stopped run
 
 -- what sources in memory that own their texts answer: by what is known of each path
 abbrev pub owned_sources : Ghosts AskedTexts (List ℕ)
-owned_sources = record { tells = λ _. ⊤; catalog = asked_catalog; unread = unread_of; failures = λ s. s.failures; refusals = λ s. s.refusals }
+owned_sources = record { tells = λ _. ⊤; catalog = asked_catalog; unread = unread_of; failures = failures_of; refusals = λ s. s.refusals }
 
 -- options and sources that own their texts are what a call asks for
 pub record AsksOwned (a : Asked) (options : Options) (sources : AskedTexts) : Type 0 where
@@ -76,11 +76,18 @@ pub record IsStreamed (a : Asked) (output : Outcome) : Type 0 where
   pub in_range : limit_fault a.limits ≡ None
   pub is : output_of owned_sources options sources a.path ≡ output
 
+-- the sources of an engine don't ask, and no fault of a device is kept
+pub record IsQuiet (engine : EngineView AskedTexts (List ℕ)) : Type 0 where
+  pub asks : engine.sources.asks ≡ false
+  pub kept : is_device_fault engine.kept ≡ false
+
 -- what remains of a stream is the output that a call asks for, unless its main text was asked for or couldn't be opened, or had no room for a reader
 pub record StreamsOutput (a : Asked) (stream : Stream) : Type 0 where
   pub output : Outcome
   pub is : IsStreamed a output
   pub remains : is_device_fault stream.reading.engine.kept ≡ false → is_memory_fault stream.reading.engine.kept ≡ false → reading_left owned_sources stream.reading ≡ output
+  pub asks : stream.reading.engine.sources.asks ≡ a.asks
+  pub quiet : a.asks ≡ false → IsQuiet stream.reading.engine
   pub path : string_bytes stream.path ≡ a.path
   pub pieces : stream.pieces ≡ a.pieces
 
@@ -244,6 +251,17 @@ pub record ReadsStream (old new : ReadBuffers) (before after : Stream) (outcome 
 abbrev pub Reads : ReadBuffers → ReadBuffers → Option Stream → Option Stream → Numbers → Type 0
 Reads old new None held outcome = (held ≡ None) × (new ≡ old) × (outcome ≡ numbered 6 0)
 Reads old new (Some before) held outcome = (after : Stream) × (held ≡ Some after) × ReadsStream old new before after outcome
+
+-- a read that asked for nothing and met no fault of a device: the stream stays as quiet, and neither status 7 nor that fault's number, 32, is told
+pub record StaysQuiet (after : Stream) (outcome : Numbers) : Type 0 where
+  pub engine : IsQuiet after.reading.engine
+  pub unasked : ¬ (outcome.status ≡ 7)
+  pub unfailed : ¬ (outcome.number ≡ 32)
+
+-- a read by a handle: where its sources don't ask, and no fault of a device is kept, none is met
+abbrev pub ReadsQuietly : Option Stream → Option Stream → Numbers → Type 0
+ReadsQuietly None held outcome = held ≡ None
+ReadsQuietly (Some before) held outcome = IsQuiet before.reading.engine → (after : Stream) × (held ≡ Some after) × StaysQuiet after outcome
 
 -- the fault that ended the output of a stream, if one did: none where a source is asked for
 abbrev pub fault_or : Option Told → Option (List ℕ) → Option Told

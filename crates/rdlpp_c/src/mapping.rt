@@ -1,5 +1,7 @@
 // The call by which a program in C reads an output with its line map.
-ghost use Rattle.std.specs.Prelude.{◌≤◌, length};
+ghost use Rattle.std.specs.Prelude.{◌≡◌, ◌-◌, ◌≤◌, length, nat_lt};
+ghost use Rattle.rdlpp_c.specs.Mapping.{MapsOpen, ReadsLines, ReadsMapped, ReadsPart};
+ghost use Rattle.rdlpp_c.specs.Streaming.{IsQuiet, ReadsQuietly, StaysQuiet};
 
 use crate::handle::{Handle, put, take};
 use crate::stream::{Stream, part_place, told_read};
@@ -23,7 +25,7 @@ pub struct Mapped {
 }
 
 /// Writes the next bytes of an output to `out` as `rdlpp_read` does, and the lines of the line map that end with
-/// them to `map`: all calls together write those of a line map file behind its first line.
+/// them to `map`: all calls together write those of a line map file after its first line.
 ///
 /// The read also ends, by the status 5, where fewer than 1,100 bytes of `map` are left. Where it has fewer to begin
 /// with the status is 8, and nothing is written.
@@ -35,23 +37,45 @@ pub extern "C" fn rdlpp_read_mapped(
     map: &mut [u8],
     name: &mut [u8],
     word: &mut [u8],
-) -> Mapped {
+) -> Mapped
+    ensures reads { ReadsMapped (nat_lt (length map.old) 1100) (length map.old - result.map_length)
+        (record { out = out.old; name = name.old; word = word.old }) (record { out = out.new; name = name.new; word = word.new }) handle.old.slot.value handle.new.slot.value result.outcome }
+    ensures map { result.map_length ≤ length map.old }
+    ensures quiet { ReadsQuietly handle.old.slot.value handle.new.slot.value result.outcome }
+{
     let Some(mut stream) = take(alloc, handle) else {
         return mapped_of(numbered(CLOSED, 0), 0);
     };
-    let told = if map.len() < MAP_ROOM {
-        mapped_of(numbered(SHORT_MAP, 0), 0)
-    } else {
-        stream.take_up();
-        let read = read_lines(&mut stream, out, map);
-        mapped_of(told_read(&stream, &read.part, name, word), read.map_len)
-    };
+    let mapped = read_mapped(&mut stream, out, map, name, word);
     put(handle, stream);
-    told
+    mapped
+}
+
+// Reads the next bytes of an output with the lines of its map, and tells how that ended.
+fn read_mapped(
+    stream: &mut Stream,
+    out: &mut [u8],
+    map: &mut [u8],
+    name: &mut [u8],
+    word: &mut [u8],
+) -> Mapped
+    ensures reads { MapsOpen (nat_lt (length map.old) 1100) (length map.old - result.map_length)
+        (record { out = out.old; name = name.old; word = word.old }) (record { out = out.new; name = name.new; word = word.new }) stream.old stream.new result.outcome }
+    ensures map { result.map_length ≤ length map.old }
+    ensures quiet { IsQuiet stream.old.reading.engine → StaysQuiet stream.new result.outcome }
+{
+    if map.len() < MAP_ROOM {
+        return mapped_of(numbered(SHORT_MAP, 0), 0);
+    }
+    stream.take_up();
+    let read = read_lines(stream, out, map);
+    mapped_of(told_read(stream, &read.part, name, word), read.map_len)
 }
 
 // An outcome, and how many bytes of the map were written.
-fn mapped_of(outcome: Outcome, map_length: usize) -> Mapped {
+fn mapped_of(outcome: Outcome, map_length: usize) -> Mapped
+    ensures { result ≡ record { outcome = outcome; map_length = map_length } }
+{
     Mapped {
         outcome,
         map_length,
@@ -66,7 +90,10 @@ struct Lines {
 }
 
 // Reads piece by piece, and writes the runs of lines that end.
-fn read_lines(stream: &mut Stream, out: &mut [u8], map: &mut [u8]) -> Lines {
+fn read_lines(stream: &mut Stream, out: &mut [u8], map: &mut [u8]) -> Lines
+    ensures lines { ReadsLines stream.old stream.new out.old out.new result.part.len result.part.ending (length map.old - result.map_len) }
+    ensures map { result.map_len ≤ length map.old }
+{
     let mut len = 0;
     let mut map_len = 0;
     while len < out.len() && map.len() - map_len >= MAP_ROOM {
@@ -90,6 +117,7 @@ fn read_lines(stream: &mut Stream, out: &mut [u8], map: &mut [u8]) -> Lines {
 // Reads a part of a piece, and writes the run of lines that ended, if one did.
 fn read_part(stream: &mut Stream, out: &mut [u8], map: &mut [u8]) -> Lines
     requires { 1100 ≤ length map.old }
+    ensures part { ReadsPart stream.old stream.new out.old out.new result.part.len result.part.ending }
     ensures inside { result.part.len ≤ length out.new }
     ensures map { result.map_len ≤ length map.new }
 {
@@ -101,7 +129,8 @@ fn read_part(stream: &mut Stream, out: &mut [u8], map: &mut [u8]) -> Lines
 // Writes the run of lines that ended with a part of a piece, if one did. Answers how many bytes of the map were written.
 fn map_part(stream: &mut Stream, part: &ReadPart, piece: &[u8], map: &mut [u8]) -> usize
     requires { 1100 ≤ length map.old }
-    ensures { result ≤ length map.new }
+    ensures len { result ≤ length map.new }
+    ensures only { stream.new ≡ record stream.old { lines = stream.new.lines } }
 {
     match part.ending {
         None => map_piece(stream, piece, map),
@@ -112,7 +141,8 @@ fn map_part(stream: &mut Stream, part: &ReadPart, piece: &[u8], map: &mut [u8]) 
 // Takes the piece that was read, and writes the run that ended, if one did. Answers how many bytes of the map were written.
 fn map_piece(stream: &mut Stream, piece: &[u8], map: &mut [u8]) -> usize
     requires { 1100 ≤ length map.old }
-    ensures { result ≤ length map.new }
+    ensures len { result ≤ length map.new }
+    ensures only { stream.new ≡ record stream.old { lines = stream.new.lines } }
 {
     let Some(place) = part_place(&stream.reading, &stream.part) else {
         return 0;
@@ -127,7 +157,8 @@ fn map_piece(stream: &mut Stream, piece: &[u8], map: &mut [u8]) -> usize
 // written.
 fn map_end(stream: &mut Stream, part: &ReadPart, map: &mut [u8]) -> usize
     requires { 1100 ≤ length map.old }
-    ensures { result ≤ length map.new }
+    ensures len { result ≤ length map.new }
+    ensures only { stream.new ≡ record stream.old { lines = stream.new.lines } }
 {
     if stream.wanted(part.ending).is_some() || !stream.lines.finish() {
         return 0;

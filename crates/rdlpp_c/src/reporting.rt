@@ -1,5 +1,6 @@
 // The calls by which a program in C learns what an output leaves: its definitions, and notes on its fault.
-ghost use Rattle.rdlpp_c.specs.Reporting.{Notes, TellsDefinitions, TellsNotes, TellsSome};
+ghost use Rattle.rdlpp_reports.specs.Definitions.{definition_lines};
+ghost use Rattle.rdlpp_c.specs.Reporting.{Notes, TellsDefinitions, TellsNotes, TellsOrNot, TellsSome};
 ghost use Rattle.rdlpp_c.specs.Streaming.{stream_fault};
 
 use crate::handle::{Handle, put, take};
@@ -40,7 +41,7 @@ pub extern "C" fn rdlpp_notes(alloc: Global, handle: &mut Handle, out: &mut [u8]
 
 // Tells the definitions of a table.
 fn tell_definitions(alloc: Global, table: &Table, out: &mut [u8]) -> usize
-    ensures { TellsSome out.old out.new result }
+    ensures { TellsOrNot (definition_lines table.now.macros) out.old out.new result }
 {
     let mut lines = Vec::new(alloc);
     match write_definitions(table, &mut lines) {

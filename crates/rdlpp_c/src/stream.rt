@@ -9,7 +9,7 @@ ghost use Rattle.rdlpp_state.specs.Positions.{position_of};
 ghost use Rattle.rdlpp_expand.specs.Reading.{ended_with};
 ghost use Rattle.rdlpp_c.specs.Buffers.{overwritten};
 ghost use Rattle.rdlpp_c.specs.Placing.{part_position, stream_place};
-ghost use Rattle.rdlpp_c.specs.Streaming.{ReadsBytes, ReadsPiece, ReadsStream, SearchesAgain, TakesUp, TellsRead, fault_name, fault_word, read_numbers, read_wanted, stream_fault, told_numbers, wanted_by};
+ghost use Rattle.rdlpp_c.specs.Streaming.{IsQuiet, ReadsBytes, ReadsPiece, ReadsStream, SearchesAgain, StaysQuiet, TakesUp, TellsRead, fault_name, fault_word, read_numbers, read_wanted, stream_fault, told_numbers, wanted_by};
 
 use crate::telling::{MORE, Outcome, STOPPED, WANTED, WHOLE, numbered, tell_text};
 use arrayvec::ArrayString;
@@ -243,7 +243,8 @@ pub(crate) fn read_stream(
     name: &mut [u8],
     word: &mut [u8],
 ) -> Outcome
-    ensures { ReadsStream (record { out = out.old; name = name.old; word = word.old }) (record { out = out.new; name = name.new; word = word.new }) stream.old stream.new result }
+    ensures reads { ReadsStream (record { out = out.old; name = name.old; word = word.old }) (record { out = out.new; name = name.new; word = word.new }) stream.old stream.new result }
+    ensures quiet { IsQuiet stream.old.reading.engine → StaysQuiet stream.new result }
 {
     stream.take_up();
     let part = stream.read(out);

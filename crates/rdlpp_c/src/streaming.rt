@@ -1,7 +1,7 @@
 // The calls that a program in C makes to read an output piece by piece.
 ghost use Rattle.std.specs.Prelude.{◌≡◌, None};
 ghost use Rattle.rdlpp_c.specs.Request.{requested};
-ghost use Rattle.rdlpp_c.specs.Streaming.{Opens, Reads};
+ghost use Rattle.rdlpp_c.specs.Streaming.{Opens, Reads, ReadsQuietly};
 
 use crate::arrays::Request;
 use crate::handle::{Handle, put, take};
@@ -45,7 +45,8 @@ pub extern "C" fn rdlpp_open(
 ///
 /// The shown name and the word of the fault that ended it are told as by `rdlpp_preprocess`. After the
 /// end, and after a fault, each later read answers the same again with no bytes; but an empty `out` is
-/// always full. It asks for no memory.
+/// always full. It asks for no memory. Of an output that doesn't ask for its sources no read ends by status
+/// 7, and none meets the fault of a device.
 #[unsafe(no_mangle)]
 pub extern "C" fn rdlpp_read(
     alloc: Global,
@@ -54,7 +55,8 @@ pub extern "C" fn rdlpp_read(
     name: &mut [u8],
     word: &mut [u8],
 ) -> Outcome
-    ensures { Reads (record { out = out.old; name = name.old; word = word.old }) (record { out = out.new; name = name.new; word = word.new }) handle.old.slot.value handle.new.slot.value result }
+    ensures reads { Reads (record { out = out.old; name = name.old; word = word.old }) (record { out = out.new; name = name.new; word = word.new }) handle.old.slot.value handle.new.slot.value result }
+    ensures quiet { ReadsQuietly handle.old.slot.value handle.new.slot.value result }
 {
     let Some(mut stream) = take(alloc, handle) else {
         return numbered(CLOSED, 0);
