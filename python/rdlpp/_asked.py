@@ -7,6 +7,8 @@ something is there that can't be read; any other exception ends the run and come
 import errno
 import os
 import stat
+from contextlib import suppress
+from mmap import MADV_HUGEPAGE, MAP_ANONYMOUS, MAP_PRIVATE, mmap
 from typing import Callable, List, Mapping, Optional, Union
 
 # What a mapping and a callable may give as a text.
@@ -14,9 +16,11 @@ Bytes = Union[bytes, bytearray, memoryview]
 Asked = Callable[[str], Optional[Bytes]]
 
 NUL_IN_NAME = "file name contained an unexpected NUL byte"
-# How much is read at once: of a file what its size tells, within these.
+# How much is read at once, where a file's size doesn't tell that less is left.
 SMALL_PART = 65_536
-LARGE_PART = 67_108_864
+LARGE_PART = 4_194_304
+# The size from which on a file is read into memory of its own.
+LARGE = 4_194_304
 
 
 class Unreadable(Exception):
@@ -74,21 +78,60 @@ class Disk:
         finally:
             os.close(file)
 
-    def _text(self, file: int) -> bytes:
+    def _text(self, file: int) -> Bytes:
         """What a run can use of an open file."""
         told = os.fstat(file)
-        size = told.st_size + 1 if stat.S_ISREG(told.st_mode) else 0
+        size = told.st_size if stat.S_ISREG(told.st_mode) else 0
+        return self._large_text(file, size) if size >= LARGE else self._small_text(file, size)
+
+    def _small_text(self, file: int, size: int) -> bytes:
+        """What a run can use of a file that is small, or whose size isn't known."""
         parts: List[bytes] = []
         length = line = 0
         while length < self._most and line <= self._line:
-            part = os.read(file, min(max(size - length, SMALL_PART), LARGE_PART, self._most - length))
+            part = os.read(file, min(max(size + 1 - length, SMALL_PART), self._most - length))
             if not part:
                 break
-            parts.append(part)
-            length += len(part)
             last = part.rfind(b"\n")
             line = len(part) - 1 - last if last >= 0 else line + len(part)
+            length += len(part)
+            parts.append(part)
         return parts[0] if len(parts) == 1 else b"".join(parts)
+
+    def _large_text(self, file: int, size: int) -> memoryview:
+        """What a run can use of a file of this size, which may grow meanwhile."""
+        room = _memory(min(size + 1, self._most))
+        length = line = 0
+        while length < self._most and line <= self._line:
+            if length == len(room):
+                _grow(room, min(2 * length, self._most))
+            with memoryview(room) as whole:
+                count = os.readv(file, [whole[length : length + LARGE_PART]])
+            if not count:
+                break
+            last = room.rfind(b"\n", length, length + count)
+            line = length + count - 1 - last if last >= 0 else line + count
+            length += count
+        return memoryview(room)[:length]
+
+
+def _memory(size: int) -> mmap:
+    """Memory apart from Python's own: in huge pages, if the system wants to, and given back to it as soon as it is dropped."""
+    try:
+        made = mmap(-1, size, flags=MAP_PRIVATE | MAP_ANONYMOUS)
+    except OSError as error:
+        raise MemoryError("memory was refused") from error
+    with suppress(OSError):
+        made.madvise(MADV_HUGEPAGE)
+    return made
+
+
+def _grow(memory: mmap, size: int) -> None:
+    """Makes memory larger; what stands in it stays."""
+    try:
+        memory.resize(size)
+    except OSError as error:
+        raise MemoryError("memory was refused") from error
 
 
 def entries(files: Mapping[str, Bytes]) -> Asked:

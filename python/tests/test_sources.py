@@ -1,10 +1,12 @@
 """Where the sources come from: what a run asks for, and in which order; files that are none; limits on what is read."""
 
+import errno
 import os
 import pathlib
 import signal
 import tempfile
 import threading
+import tracemalloc
 import unittest
 from unittest import mock
 
@@ -64,6 +66,20 @@ class Callables(Sources):
     def test_texts_of_other_types(self):
         for text in (bytearray(b"ab"), memoryview(b"abc")[:2], memoryview(b"axbx")[::2]):
             self.assertEqual(rdlpp.preprocess("m", read=lambda path: text), b"ab")
+
+    def test_a_text_that_was_given_is_not_kept(self):
+        held = []
+
+        def read(path):
+            held.append(tracemalloc.get_traced_memory()[0])
+            return b"reg a @ 0x0;\n" * 1_000_000 + b'`include "i"\n' if path == "m" else b"q\n"
+
+        tracemalloc.start()
+        self.addCleanup(tracemalloc.stop)
+        with rdlpp.stream("m", read=read) as pieces:
+            length = sum(len(piece) for piece in pieces)
+        self.assertEqual(length, 13_000_003)
+        self.assertLess(held[1] - held[0], 1_000_000)
 
     def test_no_source(self):
         fault = self.fault("m", read=lambda path: None)
@@ -212,16 +228,65 @@ class Files(Sources):
         with self.assertRaises(TimeoutError):
             rdlpp.preprocess("pipe")
 
+    def test_a_large_file(self):
+        text = b"reg a @ 0x0;\n" * (_asked.LARGE // 10)
+        self.write("i", text)
+        self.write("m", b'a\n`include "i"\nb\n`include "i"\n')
+        self.assertEqual(rdlpp.preprocess("i"), text)
+        self.assertEqual(b"".join(rdlpp.stream("i")), text)
+        output = rdlpp.run("m")
+        self.assertEqual((output.text, output.sources), (b"a\n" + text + b"\nb\n" + text + b"\n", ("m", "i")))
+
+    def test_a_large_file_that_grows_meanwhile(self):
+        text = b"reg a @ 0x0;\n" * _asked.LARGE
+        self.write("m", text)
+        told = mock.Mock(st_size=_asked.LARGE, st_mode=os.stat("m").st_mode)
+        with mock.patch.object(_asked.os, "fstat", lambda file: told):
+            self.assertEqual(rdlpp.preprocess("m"), text)
+
+    def test_a_large_file_that_shrinks_meanwhile(self):
+        self.write("m", b"reg a @ 0x0;\n")
+        told = mock.Mock(st_size=2 * _asked.LARGE, st_mode=os.stat("m").st_mode)
+        with mock.patch.object(_asked.os, "fstat", lambda file: told):
+            self.assertEqual(rdlpp.preprocess("m"), b"reg a @ 0x0;\n")
+            self.write("m", b"")
+            self.assertEqual(rdlpp.preprocess("m"), b"")
+
+    def test_a_file_that_fails_in_the_middle(self):
+        def failing(name):
+            """A read that fails at its second call, with what it stands for."""
+            calls, call = [], getattr(os, name)
+
+            def read(*given):
+                calls.append(given)
+                if len(calls) == 2:
+                    raise OSError(errno.EIO, os.strerror(errno.EIO))
+                return call(*given)
+
+            return mock.patch.object(_asked.os, name, read)
+
+        for name, text in (("read", b"x\n"), ("readv", b"x\n" * _asked.LARGE)):
+            self.write("m", text)
+            with failing(name):
+                fault = self.fault("m")
+            self.assertEqual((str(fault), fault.output), ("m:1: error F32: read failed", b""))
+            self.assertEqual((fault.notes, fault.__cause__.errno), (("m: Input/output error (os error 5)",), errno.EIO))
+
     def reads(self, *given, **named):
         """How many bytes a call reads of files, and its fault."""
-        read, lengths = os.read, []
+        read, readv, lengths = os.read, os.readv, []
 
         def noted(file, most):
             part = read(file, most)
             lengths.append(len(part))
             return part
 
-        with mock.patch.object(_asked.os, "read", noted):
+        def noted_in_place(file, places):
+            count = readv(file, places)
+            lengths.append(count)
+            return count
+
+        with mock.patch.object(_asked.os, "read", noted), mock.patch.object(_asked.os, "readv", noted_in_place):
             fault = self.fault(*given, **named)
         return sum(lengths), fault
 
@@ -234,6 +299,10 @@ class Files(Sources):
         count, fault = self.reads("m", limits=rdlpp.Limits(source_bytes=1_000_000))
         self.assertEqual((str(fault), fault.output), ("m:2: error F4: line too long", b"text\n"))
         self.assertLess(count, 1_100_000)
+        self.write("m", b"text\n" * 10_000_000)
+        count, fault = self.reads("m", limits=rdlpp.Limits(source_bytes=20_000_000))
+        self.assertEqual((str(fault), fault.output), ("m:4000001: error F5: source too long", b"text\n" * 4_000_000))
+        self.assertLess(count, 20_100_000)
 
     def test_a_file_of_two_gigabytes(self):
         with open("m", "wb") as file:
@@ -241,7 +310,7 @@ class Files(Sources):
             file.truncate(2**31)
         count, fault = self.reads("m")
         self.assertEqual((str(fault), fault.output), ("m:2: error F4: line too long", b"text\n"))
-        self.assertLess(count, 2**27)
+        self.assertLess(count, 2**23)
 
     def test_a_file_whose_size_is_not_told(self):
         self.assertEqual(rdlpp.preprocess("/proc/version"), pathlib.Path("/proc/version").read_bytes())
