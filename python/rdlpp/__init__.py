@@ -34,3 +34,8 @@ __all__ = [
     "version",
 ]
 __version__ = version()
+
+# Errors and texts of items name the module that has them for users.
+for _item in (Fault, FaultKind, LimitError, Limits, Lines, Output, Place, Position, Stream):
+    _item.__module__ = __name__
+del _item

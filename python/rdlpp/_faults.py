@@ -1,7 +1,7 @@
 """Why a text wasn't preprocessed to its end."""
 
 from enum import IntEnum
-from typing import TYPE_CHECKING, Optional, Tuple
+from typing import TYPE_CHECKING, Any, Optional, Tuple
 
 if TYPE_CHECKING:
     from ._output import Output
@@ -87,7 +87,7 @@ class Fault(Exception):
         output: bytes = b"",
         partial: "Optional[Output]" = None,
     ):
-        super().__init__(kind, name, line, word, text, notes, output, partial)
+        super().__init__(kind, name, line, word, text)
         self.kind = kind
         self.name = name
         self.line = line
@@ -109,6 +109,10 @@ class Fault(Exception):
     def __repr__(self) -> str:
         return f"<Fault {self}>"
 
+    def __reduce__(self) -> Tuple[Any, ...]:
+        parts = (self.kind, self.name, self.line, self.word, self.text, self.notes, self.output, self.partial)
+        return type(self), parts
+
 
 class LimitError(ValueError):
     """A limit is out of its range.
@@ -117,7 +121,7 @@ class LimitError(ValueError):
         >>> rdlpp.Limits(depth=0)
         Traceback (most recent call last):
           ...
-        rdlpp._faults.LimitError: limit depth is 0, and must be 1 to 1,024
+        rdlpp.LimitError: limit depth is 0, and must be 1 to 1,024
 
     Attributes:
         limit: the name of the first such field of `Limits`.

@@ -4,6 +4,7 @@ import ctypes
 import os
 from typing import Any, Callable, Sequence, Tuple
 
+from ._asked import Bytes
 from ._limits import Limits
 from ._written import Written
 
@@ -111,6 +112,16 @@ notes = _declared("rdlpp_notes", ctypes.c_size_t, _handle, *_buffer)
 close_handle = _declared("rdlpp_close", None, _handle)
 _fault_text = _declared("rdlpp_fault_text", ctypes.c_size_t, ctypes.c_uint32, *_buffer)
 _version = _declared("rdlpp_version", ctypes.c_size_t, *_buffer)
+
+
+def lent(text: Bytes) -> Tuple[Any, int]:
+    """A text as the pointer and the length that a call takes; it is copied only where its memory can't be lent."""
+    if isinstance(text, bytes):
+        return text, len(text)
+    view = memoryview(text)
+    if view.readonly or not view.c_contiguous or not view.nbytes:
+        return bytes(view), view.nbytes
+    return ctypes.byref(ctypes.c_char.from_buffer(view)), view.nbytes
 
 
 def array(kind: Any, items: Sequence[Tuple[bytes, ...]]) -> Any:

@@ -21,6 +21,7 @@ class Reading:
         fault: the fault that ended it, once it was read up to there.
         sources: the path of each source that was opened, in order, once.
         text_bytes: how many bytes the sources have that were given.
+        runs: the lines of the line map for what `read_mapped` wrote.
     """
 
     def __init__(self, request: Request, *, pieces: bool = False):
@@ -30,6 +31,7 @@ class Reading:
         self.fault: Optional[Fault] = None
         self.sources: List[str] = []
         self.text_bytes = sum(len(text) for _, text in request.texts)
+        self.runs: List[bytes] = []
         self._asked = request.asked
         self._unreadable: Optional[Tuple[str, Unreadable]] = None
         self._buffers = (ctypes.c_char * (library.NAME_ROOM + library.WORD_ROOM))()
@@ -71,16 +73,16 @@ class Reading:
         self._go_on(outcome)
         return int(outcome.length)
 
-    def read_mapped(self, place: int, room: int) -> Tuple[int, bytes]:
-        """Reads once, as `read` does, and answers also the lines of the line map for what it wrote."""
+    def read_mapped(self, place: int, room: int) -> int:
+        """Reads once, as `read` does, and adds the lines of the line map for what it wrote to `runs`."""
         if not self._map:
             self._map = (ctypes.c_char * library.MAP_ROOM)()
         mapped = library.read_mapped(
             self._at, place, room, ctypes.addressof(self._map), library.MAP_ROOM, *self._told
         )
-        lines = ctypes.string_at(self._map, mapped.map_length)
+        self.runs.append(ctypes.string_at(self._map, mapped.map_length))
         self._go_on(mapped.outcome)
-        return int(mapped.outcome.length), lines
+        return int(mapped.outcome.length)
 
     def position(self) -> Optional[Position]:
         """The place of the first byte of what was read last, where there is one."""
@@ -96,6 +98,12 @@ class Reading:
     def close(self) -> None:
         """Gives back what is open."""
         library.close_handle(self._at)
+
+    def __enter__(self) -> "Reading":
+        return self
+
+    def __exit__(self, *_raised: object) -> None:
+        self.close()
 
     def __del__(self) -> None:
         self.close()
@@ -125,9 +133,9 @@ class Reading:
         if text is None:
             return _raise_refusal(library.give_absent(self._at, path, len(path)))
         self.sources.append(shown)
-        held = text if isinstance(text, bytes) else bytes(text)
-        self.text_bytes += len(held)
-        return _raise_refusal(library.give(self._at, path, len(path), held, len(held)))
+        place, length = library.lent(text)
+        self.text_bytes += length
+        return _raise_refusal(library.give(self._at, path, len(path), place, length))
 
     def _shown_name(self, outcome: library.Outcome) -> str:
         return ctypes.string_at(self._name, outcome.name_length).decode()
@@ -137,8 +145,9 @@ class Reading:
         kind, line = FaultKind(outcome.number), outcome.line
         name, word = self._shown_name(outcome), ctypes.string_at(self._word, outcome.word_length).decode()
         fault = Fault(kind, name, line, word, library.fault_text(kind), _notes(library.told(library.notes, self._at)))
-        if kind == FaultKind.READ_FAILED and self._unreadable is not None:
-            return _of_file(fault, *self._unreadable)
+        unreadable, self._unreadable = self._unreadable, None
+        if kind == FaultKind.READ_FAILED and unreadable is not None:
+            return _of_file(fault, *unreadable)
         return fault
 
 
@@ -150,7 +159,8 @@ def _of_file(fault: Fault, path: str, unreadable: Unreadable) -> Fault:
         if fault.line:
             notes = (f"included from {fault.name}:{fault.line}", *notes)
     made = Fault(fault.kind, name, line, fault.word, fault.text, (f"{path}: {unreadable.reason}", *notes))
-    made.__cause__ = unreadable.error
+    # its traceback leads into this package alone, and would keep what the call held
+    made.__cause__ = unreadable.error.with_traceback(None)
     return made
 
 

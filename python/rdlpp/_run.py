@@ -1,9 +1,8 @@
 """Preprocessing as one call."""
 
-from typing import Iterable, List, Mapping, Optional
+from typing import Callable, Iterable, Mapping, Optional
 
 from ._asked import Bytes
-from ._faults import Fault
 from ._limits import Limits
 from ._output import Output, lines_of
 from ._reading import Reading
@@ -15,32 +14,37 @@ PART = 65_536
 
 
 def _room(reading: Reading, room: int) -> int:
-    """More room than there is: for an output that isn't much longer than its sources, and else half as much again."""
-    return max(room + room // 2, reading.text_bytes + 2 * PART)
+    """More room than there is: for an output that isn't longer than its sources, and else half as much again.
+
+    With one byte more than the sources have, so that the end is told there.
+    """
+    return max(room + room // 2, reading.text_bytes + 1, PART)
 
 
-def _read_all(reading: Reading, runs: Optional[List[bytes]]) -> bytes:
-    """All of an output; its line map goes to `runs`, where that is wanted."""
+def _read_all(reading: Reading, read: Callable[[int, int], int]) -> bytes:
+    """All of an output, by reads to a place with room for some bytes, each of which answers how many it wrote."""
     room, filled = _room(reading, 0), 0
     written = Written(room)
     while not reading.is_over:
-        if room - filled < PART:
+        if filled == room:
             room = _room(reading, room)
             written.grow(room)
-        if runs is None:
-            filled += reading.read(written.place + filled, PART)
-        else:
-            length, lines = reading.read_mapped(written.place + filled, PART)
-            filled += length
-            runs.append(lines)
+        filled += read(written.place + filled, min(PART, room - filled))
     return written.take(filled)
 
 
-def _raised(fault: Fault, text: bytes, partial: Optional[Output]) -> Fault:
-    """The fault of a run, with the output before it."""
-    fault.output, fault.partial = text, partial
-    fault.args = (*fault.args[:6], text, partial)
-    return fault
+def _raise_fault(reading: Reading, text: bytes, partial: Optional[Output] = None) -> None:
+    """Raises the fault of an output that was ended by one, with what was made before it.
+
+    No frame keeps it, so that it goes, and the output with it, as soon as the caller drops it.
+    """
+    fault, reading.fault = reading.fault, None
+    if fault is not None:
+        fault.output, fault.partial = text, partial
+        try:
+            raise fault
+        finally:
+            del fault
 
 
 def preprocess(
@@ -79,14 +83,9 @@ def preprocess(
         ValueError: an argument can't be used, as a path that UTF-8 can't write.
         MemoryError: memory was refused.
     """
-    request = request_of(source, include_dirs, defines, limits, origins, files, read)
-    reading = Reading(request)
-    try:
-        text = _read_all(reading, None)
-    finally:
-        reading.close()
-    if reading.fault is not None:
-        raise _raised(reading.fault, text, None)
+    with Reading(request_of(source, include_dirs, defines, limits, origins, files, read)) as reading:
+        text = _read_all(reading, reading.read)
+    _raise_fault(reading, text)
     return text
 
 
@@ -109,15 +108,9 @@ def run(
 
     The arguments and the errors are those of `preprocess`. A fault has what was made before it as its `partial`.
     """
-    request = request_of(source, include_dirs, defines, limits, origins, files, read)
-    reading = Reading(request)
-    runs: List[bytes] = []
-    try:
-        text = _read_all(reading, runs)
+    with Reading(request_of(source, include_dirs, defines, limits, origins, files, read)) as reading:
+        text = _read_all(reading, reading.read_mapped)
         definitions = reading.definitions()
-    finally:
-        reading.close()
-    output = Output(text, lines_of(text, runs), tuple(reading.sources), definitions)
-    if reading.fault is not None:
-        raise _raised(reading.fault, text, output)
+    output = Output(text, lines_of(text, reading.runs), tuple(reading.sources), definitions)
+    _raise_fault(reading, text, output)
     return output

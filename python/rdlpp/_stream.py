@@ -17,7 +17,7 @@ MOST_ROOM = 1_073_741_824
 
 
 class Stream(Iterator[bytes]):
-    """The pieces of an output, in order; none is empty.
+    """The pieces of an output, in order; none is empty. `stream` makes it.
 
     It ends where the output ends, and raises the fault that ends it behind the pieces before it. It is read and
     closed in any thread, by one call at a time; others wait. A call looks every few milliseconds whether the
@@ -50,7 +50,7 @@ class Stream(Iterator[bytes]):
         if piece:
             return piece
         if self._reading.fault is not None:
-            raise self._reading.fault
+            raise self._reading.fault.with_traceback(None)
         raise StopIteration
 
     def close(self) -> None:

@@ -1,16 +1,36 @@
 """Calls of the package: what they give, and how a fault and a limit are told."""
 
+import copy
 import ctypes
+import gc
 import pathlib
 import pickle
 import re
+import subprocess
+import sys
 import threading
 import unittest
+import weakref
 
 import rdlpp
 from rdlpp import _library, _limits
 
 HEADER = pathlib.Path(__file__).resolve().parents[2] / "include" / "rdlpp.h"
+
+# Calls where there is no memory for a copy of the source, and none for the output.
+WANT_OF_MEMORY = """
+import resource, rdlpp
+
+resource.setrlimit(resource.RLIMIT_AS, (250 << 20, 250 << 20))
+for source, body in (b"reg a @ 0x0;\\n" * 10_000_000, ""), (b"`W\\n" * 500_000, "x" * 1000):
+    for call in rdlpp.preprocess, rdlpp.run, lambda *given, **named: list(rdlpp.stream(*given, **named)):
+        try:
+            call(source, defines={"W": body})
+        except MemoryError:
+            print("refused")
+del source
+print(rdlpp.preprocess(b"`W", defines={"W": "8"}))
+"""
 
 
 class Outputs(unittest.TestCase):
@@ -22,7 +42,14 @@ class Outputs(unittest.TestCase):
             self.assertEqual(rdlpp.preprocess(text, defines={"W": "8"}), b"8")
 
     def test_an_empty_text(self):
-        self.assertEqual(rdlpp.preprocess(b""), b"")
+        for text in (b"", bytearray(), memoryview(bytearray(b"a"))[1:]):
+            self.assertEqual(rdlpp.preprocess(text), b"")
+
+    def test_a_text_that_changes_after_the_call(self):
+        text = bytearray(b"a\n`W")
+        pieces = rdlpp.stream(text, defines={"W": "8"}, room=2)
+        text[:] = b"b\n"
+        self.assertEqual(b"".join(pieces), b"a\n8")
 
     def test_definitions(self):
         self.assertEqual(rdlpp.preprocess(b"`W`V", defines={"W": "8", "V": ""}), b"8")
@@ -36,6 +63,10 @@ class Outputs(unittest.TestCase):
 
     def test_bytes_of_any_encoding(self):
         self.assertEqual(rdlpp.preprocess(b"\xff\0\n"), b"\xff\0\n")
+
+    def test_want_of_memory(self):
+        done = subprocess.run([sys.executable, "-c", WANT_OF_MEMORY], capture_output=True, text=True, timeout=60)
+        self.assertEqual((done.stdout, done.stderr), ("refused\n" * 6 + "b'8'\n", ""))
 
     def test_threads(self):
         given = []
@@ -131,8 +162,23 @@ class Faults(unittest.TestCase):
             self.assertIn(path, notes)
 
     def test_it_is_pickled(self):
-        fault = pickle.loads(pickle.dumps(self.fault(b"a\n`Q")))
-        self.assertEqual((str(fault), fault.output, fault.kind), ("-:2: error F7: undefined macro 'Q'", b"a\n", 7))
+        for copied in (lambda fault: pickle.loads(pickle.dumps(fault)), copy.copy):
+            fault = copied(self.fault(b"a\n`Q"))
+            self.assertEqual((str(fault), fault.output, fault.kind), ("-:2: error F7: undefined macro 'Q'", b"a\n", 7))
+            self.assertEqual(type(fault).__module__, "rdlpp")
+
+    def test_it_goes_as_soon_as_it_is_dropped(self):
+        gc.disable()
+        self.addCleanup(gc.enable)
+        for call in (rdlpp.preprocess, rdlpp.run):
+            for given in ({"source": b"a\n`Q"}, {"source": b"a", "defines": {"1x": ""}}, {"source": "/dev"}):
+                with self.subTest(call=call, **given):
+                    try:
+                        call(**given)
+                    except rdlpp.Fault as fault:
+                        kept = weakref.ref(fault)
+                        del fault
+                    self.assertIsNone(kept())
 
     def test_a_fault_behind_a_long_output(self):
         fault = self.fault(b"`W\n" * 1000 + b"`Q", defines={"W": "x" * 1000})
