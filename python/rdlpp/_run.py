@@ -14,11 +14,8 @@ PART = 65_536
 
 
 def _room(reading: Reading, room: int) -> int:
-    """More room than there is: for an output that isn't longer than its sources, and else half as much again.
-
-    With one byte more than the sources have, so that the end is told there.
-    """
-    return max(room + room // 2, reading.text_bytes + 1, PART)
+    """More room than there is: for an output that isn't much longer than its sources, and else half as much again."""
+    return max(room + room // 2, reading.text_bytes + 2 * PART)
 
 
 def _read_all(reading: Reading, read: Callable[[int, int], int]) -> bytes:
@@ -26,10 +23,10 @@ def _read_all(reading: Reading, read: Callable[[int, int], int]) -> bytes:
     room, filled = _room(reading, 0), 0
     written = Written(room)
     while not reading.is_over:
-        if filled == room:
+        if room - filled < PART:
             room = _room(reading, room)
             written.grow(room)
-        filled += read(written.place + filled, min(PART, room - filled))
+        filled += read(written.place + filled, PART)
     return written.take(filled)
 
 
