@@ -5,6 +5,7 @@ use Rattle.std.proofs.Math.Seq.{drop-append_seam}
 use Rattle.std.proofs.lemmas.Bool.{eqb-true, ltb-true}
 use Rattle.std.proofs.lemmas.Bool.Decides.{nat_tests}
 use Rattle.std.proofs.lemmas.List.{append-nil, drop-drop, length-drop, map-append}
+use Rattle.std.proofs.lemmas.Slice.{between_to_end}
 use Rattle.rdlpp_scan.specs.SourceTokens.{SourceToken}
 use Rattle.rdlpp_table.specs.Table.{Formal}
 use Rattle.rdlpp_meaning.specs.Actuals.{trimmed, token_role}
@@ -73,7 +74,7 @@ range_is text at from to r begins ends =
     ∙ ap (λ (x : List ℕ). body_tokens (take (to - from) x)) (sym (drop-drop from at text))
 
 -- a range is added to others, or there are as many as there may be
-abbrev pub IsPut : ℕ → ℕ → List Range → List Range → Range → Type 0
+abbrev IsPut : ℕ → ℕ → List Range → List Range → Range → Type 0
 IsPut count most new last r = ((count < most) × (last ≡ new ++ r ∷ [])) ⊎ ((most ≤ count) × (last ≡ new))
 
 -- so many are added then
@@ -95,7 +96,7 @@ many-more start before count most now is longer same = by (nat_lt count most) re
         omega (arith, is, full, kept)
 
 -- the range of a part is added, or there are as many as there may be
-pub put-by : (count most : ℕ) (new last : List Range) (r : Range) → (count < most → last ≡ new ++ r ∷ []) → (most ≤ count → last ≡ new) → IsPut count most new last r
+put-by : (count most : ℕ) (new last : List Range) (r : Range) → (count < most → last ≡ new ++ r ∷ []) → (most ≤ count → last ≡ new) → IsPut count most new last r
 put-by count most new last r puts stays = by (nat_lt count most) refl
   where
     over : nat_lt count most ≡ false → most ≤ count
@@ -106,11 +107,11 @@ put-by count most new last r puts stays = by (nat_lt count most) refl
     by false e = inr (over e, stays (over e))
 
 -- the actuals that are left behind the first one
-abbrev pub left_of : Bool → List ℕ → List (List SourceToken)
+abbrev left_of : Bool → List ℕ → List (List SourceToken)
 left_of closes text = map (trimmed token_role) (parts_in closes text).further
 
 -- one more was read
-pub bound_more : (closes : Bool) (text : List ℕ) (from at count most : ℕ) (old new last : List Range) (part : Part) (r : Range) → from ≤ at
+bound_more : (closes : Bool) (text : List ℕ) (from at count most : ℕ) (old new last : List Range) (part : Part) (r : Range) → from ≤ at
     → HasBound closes text from at count most (actuals_in closes (drop at text)) old new → IsNextPart closes (drop at text) part
     → r.from ≡ at + part.from → r.to ≡ at + part.to → IsPut count most new last r
     → HasBound closes text from (at + part.to) (count + 1) most (left_of closes (drop at text)) old last
@@ -164,7 +165,7 @@ pub record GoesOnAt (closes : Bool) (text : List ℕ) (from at next count most :
   pub size : at + inner_size closes (drop at text) ≡ at + next + inner_size closes (drop (at + next) text)
   pub bound : HasBound closes text from (at + next) count most (actuals_in closes (drop (at + next) text)) old new
 
-pub bound_comma : (closes : Bool) (text : List ℕ) (from at to next count most : ℕ) (old new : List Range) (end : PartEnd) → at ≤ length text → end ≡ Comma next
+bound_comma : (closes : Bool) (text : List ℕ) (from at to next count most : ℕ) (old new : List Range) (end : PartEnd) → at ≤ length text → end ≡ Comma next
     → Follows closes (drop at text) to end (parts_in closes (drop at text)).further
     → HasBound closes text from (at + to) count most (left_of closes (drop at text)) old new → GoesOnAt closes text from at next count most old new
 unfolding Follows actuals_in
@@ -190,7 +191,7 @@ pub record EndsAtPlace (closes : Bool) (text : List ℕ) (from at end count most
   pub size : at + inner_size closes (drop at text) ≡ at + end
   pub bound : HasBound closes text from (at + end) count most [] old new
 
-pub bound_last : (closes : Bool) (text : List ℕ) (from at to stop count most : ℕ) (old new : List Range) (end : PartEnd) → at ≤ length text → end ≡ Last stop
+bound_last : (closes : Bool) (text : List ℕ) (from at to stop count most : ℕ) (old new : List Range) (end : PartEnd) → at ≤ length text → end ≡ Last stop
     → Follows closes (drop at text) to end (parts_in closes (drop at text)).further
     → HasBound closes text from (at + to) count most (left_of closes (drop at text)) old new → EndsAtPlace closes text from at stop count most old new
 unfolding Follows
@@ -206,6 +207,28 @@ bound_last closes text from at to stop count most old new end low e f b =
       size = omega (arith, size);
       bound = bound_by closes text from (at + to) (at + stop) count most (left_of closes (drop at text)) [] old new (ap (map (trimmed token_role)) g.parts) (omega (arith, place)) b;
     }
+
+-- a part was read that ends at a comma
+pub read_comma : (closes : Bool) (text : List ℕ) (from at next count most : ℕ) (old new last : List Range) (part : Part) → from ≤ at → at ≤ length text
+    → HasBound closes text from at count most (actuals_in closes (drop at text)) old new → IsNextPart closes (take (length text - at) (drop at text)) part
+    → (count < most → last ≡ new ++ record { from = at + part.from; to = at + part.to } ∷ []) → (most ≤ count → last ≡ new) → part.end ≡ Comma next
+    → GoesOnAt closes text from at next (count + 1) most old last
+read_comma closes text from at next count most old new last part low inside b n puts stays is =
+    let p = subst (λ (x : List ℕ). IsNextPart closes x part) (between_to_end text at (length text) (omega arith)) n in
+    let r : Range = record { from = at + part.from; to = at + part.to } in
+    bound_comma closes text from at part.to next (count + 1) most old last part.end inside is p.follows
+    (bound_more closes text from at count most old new last part r low b p refl refl (put-by count most new last r puts stays))
+
+-- or that is the last
+pub read_last : (closes : Bool) (text : List ℕ) (from at stop count most : ℕ) (old new last : List Range) (part : Part) → from ≤ at → at ≤ length text
+    → HasBound closes text from at count most (actuals_in closes (drop at text)) old new → IsNextPart closes (take (length text - at) (drop at text)) part
+    → (count < most → last ≡ new ++ record { from = at + part.from; to = at + part.to } ∷ []) → (most ≤ count → last ≡ new) → part.end ≡ Last stop
+    → EndsAtPlace closes text from at stop (count + 1) most old last
+read_last closes text from at stop count most old new last part low inside b n puts stays is =
+    let p = subst (λ (x : List ℕ). IsNextPart closes x part) (between_to_end text at (length text) (omega arith)) n in
+    let r : Range = record { from = at + part.from; to = at + part.to } in
+    bound_last closes text from at part.to stop (count + 1) most old last part.end inside is p.follows
+    (bound_more closes text from at count most old new last part r low b p refl refl (put-by count most new last r puts stays))
 
 -- where no actuals are left, those that are bound are all
 pub bound_all : (closes : Bool) (text : List ℕ) (from to count most : ℕ) (old new : List Range) → HasBound closes text from to count most [] old new → count ≤ most
