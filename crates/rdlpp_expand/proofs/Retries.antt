@@ -10,7 +10,7 @@ use Rattle.rdlpp_scan.specs.declared.token.Mode.TheVariants.{Plain}
 use Rattle.rdlpp_source.specs.declared.sources.Sources.{Ghosts}
 use Rattle.rdlpp_meaning.specs.Outcome.{Told, told}
 use Rattle.rdlpp_meaning.specs.declared.fault.Fault.{Fault}
-use Rattle.rdlpp_read.specs.Buffer.{BufferView, closed_buffer, held_of}
+use Rattle.rdlpp_read.specs.Buffer.{closed_buffer, held_of}
 use Rattle.rdlpp_read.specs.Files.{FilesView, inner_buffer}
 use Rattle.rdlpp_read.specs.declared.files.File.{File}
 use Rattle.rdlpp_conditions.specs.Conditions.{ConditionsView}

@@ -1,5 +1,5 @@
 -- Engines that may go on after a fault, and those that may not.
-use Rattle.std.proofs.Common.{◌≡◌, ◌⊎◌, inl, inr, ℕ, ◌&&◌, ◌||◌, Bool, true, false, List, [], nat_eq, codes, Option, None, Some, refl, sym, ap, ◌∙◌}
+use Rattle.std.proofs.Common.{◌≡◌, inl, inr, ℕ, ◌&&◌, Bool, true, false, List, nat_eq, codes, None, Some, refl, sym, ap, ◌∙◌}
 use Rattle.std.specs.List.{starts_with}
 use Rattle.std.proofs.lemmas.Bool.{false≢true, or_from}
 use Rattle.rdlpp_meaning.specs.Outcome.{Told}
@@ -9,7 +9,6 @@ use Rattle.rdlpp_read.specs.Files.{inner_buffer}
 use Rattle.rdlpp_state.specs.Engine.{EngineView}
 use Rattle.rdlpp_state.specs.Failures.{MayGoOn, begins_include, is_call_failed, is_failed_call, is_failed_search, is_failed_start, is_over, may_follow}
 use Rattle.rdlpp_state.specs.Steps.{IsOwn, IsReading}
-use Rattle.rdlpp_state.specs.declared.phase.Phase.{Phase}
 use Rattle.rdlpp_state.specs.declared.phase.Phase.TheVariants.{Open}
 
 -- where a source is read, no `include` begins what is held
