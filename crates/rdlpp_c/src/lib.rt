@@ -19,8 +19,6 @@ mod slot;
 mod stream;
 mod streaming;
 mod telling;
-#[cfg(test)]
-mod tests;
 
 pub use arrays::{Definition, Folder, Limits, Request, Text};
 pub use exports::{rdlpp_fault_text, rdlpp_preprocess, rdlpp_standard_limits, rdlpp_version};
