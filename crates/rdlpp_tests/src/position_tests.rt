@@ -59,46 +59,6 @@ fn check_place<R: Abort>(rt: &R, place: Option<Position<'_>>, wanted: &Placed<'_
 }
 
 #[test]
-fn an_include(rt: HostRuntime) -> Result<(), Fail> {
-    let files: [(&str, &[u8]); 2] = [
-        ("m", b"a\nb `include \"i\"\nc\n"),
-        ("i", b"`define X \\\n1\ny"),
-    ];
-    check(
-        &rt,
-        STANDARD,
-        &files,
-        false,
-        &[
-            (b"a\nb ", "m", 1, LineStep::Next),
-            (b"\n\n", "i", 1, LineStep::Next),
-            (b"y", "i", 3, LineStep::Next),
-            (b"\n", "m", 2, LineStep::Next),
-            (b"\nc\n", "m", 2, LineStep::Next),
-        ],
-    )
-}
-
-#[test]
-fn a_line(rt: HostRuntime) -> Result<(), Fail> {
-    let files: [(&str, &[u8]); 1] = [("m", b"a\n`line 70 \"n\" 0\nb\n`ifdef Q\nz\n`endif\nc")];
-    check(
-        &rt,
-        STANDARD,
-        &files,
-        false,
-        &[
-            (b"a\n", "m", 1, LineStep::Next),
-            (b"\n", "m", 2, LineStep::Next),
-            (b"b\n", "n", 70, LineStep::Next),
-            (b"\n\n", "n", 71, LineStep::Next),
-            (b"\n", "n", 73, LineStep::Next),
-            (b"c", "n", 74, LineStep::Next),
-        ],
-    )
-}
-
-#[test]
 fn usages_over_lines(rt: HostRuntime) -> Result<(), Fail> {
     let files: [(&str, &[u8]); 1] = [("m", b"`define A(x, y) <x\\\ny>\n`A(1,\n2)`A(\n3, 4) c\n")];
     check(
@@ -119,43 +79,6 @@ fn usages_over_lines(rt: HostRuntime) -> Result<(), Fail> {
             (b"4", "m", 4, LineStep::Same),
             (b">", "m", 4, LineStep::Same),
             (b" c\n", "m", 5, LineStep::Next),
-        ],
-    )
-}
-
-#[test]
-fn origin_lines(rt: HostRuntime) -> Result<(), Fail> {
-    let files: [(&str, &[u8]); 2] = [("m", b"\n`include \"i\"\n`line 9 \"n\" 1\nx"), ("i", b"")];
-    check(
-        &rt,
-        STANDARD,
-        &files,
-        true,
-        &[
-            (b"// origin: ", "m", 1, LineStep::Same),
-            (b"m", "m", 1, LineStep::Same),
-            (b":", "m", 1, LineStep::Same),
-            (b"1", "m", 1, LineStep::Same),
-            (b"\n", "m", 1, LineStep::Same),
-            (b"\n", "m", 1, LineStep::Next),
-            (b"// origin: ", "i", 1, LineStep::Same),
-            (b"i", "i", 1, LineStep::Same),
-            (b":", "i", 1, LineStep::Same),
-            (b"1", "i", 1, LineStep::Same),
-            (b"\n", "i", 1, LineStep::Same),
-            (b"// origin: ", "m", 2, LineStep::Same),
-            (b"m", "m", 2, LineStep::Same),
-            (b":", "m", 2, LineStep::Same),
-            (b"2", "m", 2, LineStep::Same),
-            (b"\n", "m", 2, LineStep::Same),
-            (b"\n", "m", 2, LineStep::Next),
-            (b"\n", "m", 3, LineStep::Next),
-            (b"// origin: ", "n", 9, LineStep::Same),
-            (b"n", "n", 9, LineStep::Same),
-            (b":", "n", 9, LineStep::Same),
-            (b"9", "n", 9, LineStep::Same),
-            (b"\n", "n", 9, LineStep::Same),
-            (b"x", "n", 9, LineStep::Next),
         ],
     )
 }

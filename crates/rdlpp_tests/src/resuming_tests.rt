@@ -1,8 +1,8 @@
-// Outputs that stop and go on: searches that are made again, steps without bytes, single pieces, and watchers.
+// Outputs that stop and go on: searches that are made again, and steps without bytes.
 use crate::runs::STANDARD;
 use crate::sources::{After, Asked, AskedTexts, DealtText, NOTHING};
-use rdlpp::{Counted, FaultKind, Texts};
-use rdlpp_expand::{Engine, Piece, Position, ReadEnd, Reading, Watcher, run_watched};
+use rdlpp::{FaultKind, Texts};
+use rdlpp_expand::{Engine, ReadEnd, Reading};
 use rdlpp_source::Sources;
 use std::alloc::AllocError;
 use std::cell::Cell;
@@ -148,91 +148,5 @@ fn comes_back_over_doublings_of_nothing(rt: HostRuntime) -> Result<(), Fail> {
     let part = reading.read(&mut out);
     assert!(rt; part.len == 0 && part.ending.is_none());
     assert!(rt; reading.engine().held().cursors > 0);
-    Ok(())
-}
-
-// The source of the tests of pieces, with a usage, a call and LF bytes that are owed.
-const PIECES: &[u8] = b"a `define K(x) (x)\n b`K(c\nd)e\n// f\n";
-
-// A piece that is read has the bytes of one that is lent.
-#[test]
-fn reads_single_pieces(rt: HostRuntime) -> Result<(), Fail> {
-    let files = [("m", PIECES)];
-    let texts = Texts {
-        files: &files,
-        folders: &[],
-    };
-    let mut engine = Engine::new(rt.alloc(), STANDARD, texts, false)?;
-    assert!(rt; engine.is_fresh());
-    assert!(rt; engine.start("m").is_ok());
-    let texts = Texts {
-        files: &files,
-        folders: &[],
-    };
-    let mut other = Engine::new(rt.alloc(), STANDARD, texts, false)?;
-    assert!(rt; other.is_fresh());
-    assert!(rt; other.start("m").is_ok());
-    let mut reading = Reading::of(other);
-    let mut pieces = 0_u64;
-    for _ in 0..100 {
-        assert!(rt; !engine.is_fresh());
-        let mut out = [0_u8; 64];
-        let part = reading.read_piece(&mut out);
-        match engine.next() {
-            Ok(Piece::Bytes(bytes)) => {
-                assert!(rt; part.ending.is_none());
-                assert!(rt; bytes == &out[..part.len.min(64)]);
-                pieces = pieces.saturating_add(1);
-            }
-            Ok(Piece::Done) => assert!(rt; part.ending == Some(ReadEnd::Finished)),
-            Err(_) => assert!(rt; false, "no fault comes"),
-        }
-        assert_eq!(rt; reading.rest_len(), 0);
-    }
-    assert!(rt; pieces > 4);
-    Ok(())
-}
-
-// A watcher that keeps what it is shown.
-#[derive(Drop)]
-struct Keeping {
-    bytes: Vec<u8>,
-    pieces: u64,
-    // the line of the last one
-    last: u64,
-}
-
-impl Watcher for Keeping {
-    fn is_looking(&self) -> bool {
-        true
-    }
-
-    fn saw(&mut self, piece: &[u8], position: Position<'_>) {
-        self.pieces = self.pieces.saturating_add(1);
-        self.last = position.line;
-        let _kept = self.bytes.extend_from_slice(piece);
-    }
-}
-
-#[test]
-fn shows_a_watcher_what_is_written(rt: HostRuntime) -> Result<(), Fail> {
-    let files = [("m", PIECES)];
-    let texts = Texts {
-        files: &files,
-        folders: &[],
-    };
-    let mut engine = Engine::new(rt.alloc(), STANDARD, texts, false)?;
-    assert!(rt; engine.is_fresh());
-    assert!(rt; engine.start("m").is_ok());
-    let mut counted = Counted::new(Vec::new(rt.alloc()));
-    let mut keeping = Keeping {
-        bytes: Vec::new(rt.alloc()),
-        pieces: 0,
-        last: 0,
-    };
-    assert!(rt; run_watched(&mut engine, &mut counted, &mut keeping).is_ok());
-    assert!(rt; keeping.pieces > 4);
-    assert_eq!(rt; keeping.last, 4);
-    assert!(rt; counted.into_writer().as_slice() == keeping.bytes.as_slice());
     Ok(())
 }
