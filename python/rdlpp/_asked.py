@@ -4,23 +4,27 @@ Each is a callable from a path to its text, or to None where nothing is there. I
 something is there that can't be read; any other exception ends the run and comes out of it.
 """
 
+import ctypes
 import errno
 import os
 import stat
-from contextlib import suppress
-from mmap import MADV_HUGEPAGE, MAP_ANONYMOUS, MAP_PRIVATE, mmap
-from typing import Callable, List, Mapping, Optional, Union
+from typing import Callable, Mapping, Optional, Union
+
+from ._written import Part, Written, roomy
 
 # What a mapping and a callable may give as a text.
 Bytes = Union[bytes, bytearray, memoryview]
-Asked = Callable[[str], Optional[Bytes]]
+# What tells a source: what it reads itself stands in the room that it is lent, behind what was written.
+Asked = Callable[[str, Written], Union[Bytes, Part, None]]
 
 NUL_IN_NAME = "file name contained an unexpected NUL byte"
-# How much is read at once, where a file's size doesn't tell that less is left.
-SMALL_PART = 65_536
-LARGE_PART = 4_194_304
-# The size from which on a file is read into memory of its own.
-LARGE = 4_194_304
+# How much is read at once: a signal is seen between two such parts.
+PART = 4_194_304
+
+_part = ctypes.c_char * PART
+_last = ctypes.CDLL(None).memrchr
+_last.restype = ctypes.c_void_p
+_last.argtypes = [ctypes.c_void_p, ctypes.c_int, ctypes.c_size_t]
 
 
 class Unreadable(Exception):
@@ -56,7 +60,7 @@ class Disk:
         self._most = source_bytes + line_bytes + 1
         self._line = line_bytes
 
-    def __call__(self, path: str) -> Optional[bytes]:
+    def __call__(self, path: str, written: Written) -> Optional[Part]:
         if "\n" in path:
             return None
         if "\0" in path:
@@ -70,7 +74,7 @@ class Disk:
                 return None
             raise Unreadable(error, False) from error
         try:
-            return self._text(file)
+            return self._text(file, written)
         except OSError as error:
             if error.errno is None:
                 raise
@@ -78,66 +82,27 @@ class Disk:
         finally:
             os.close(file)
 
-    def _text(self, file: int) -> Bytes:
-        """What a run can use of an open file."""
+    def _text(self, file: int, written: Written) -> Part:
+        """What a run can use of an open file, which may grow meanwhile."""
         told = os.fstat(file)
         size = told.st_size if stat.S_ISREG(told.st_mode) else 0
-        return self._large_text(file, size) if size >= LARGE else self._small_text(file, size)
-
-    def _small_text(self, file: int, size: int) -> bytes:
-        """What a run can use of a file that is small, or whose size isn't known."""
-        parts: List[bytes] = []
         length = line = 0
         while length < self._most and line <= self._line:
-            part = os.read(file, min(max(size + 1 - length, SMALL_PART), self._most - length))
-            if not part:
-                break
-            last = part.rfind(b"\n")
-            line = len(part) - 1 - last if last >= 0 else line + len(part)
-            length += len(part)
-            parts.append(part)
-        return parts[0] if len(parts) == 1 else b"".join(parts)
-
-    def _large_text(self, file: int, size: int) -> memoryview:
-        """What a run can use of a file of this size, which may grow meanwhile."""
-        room = _memory(min(size + 1, self._most))
-        length = line = 0
-        while length < self._most and line <= self._line:
-            if length == len(room):
-                _grow(room, min(2 * length, self._most))
-            with memoryview(room) as whole:
-                count = os.readv(file, [whole[length : length + LARGE_PART]])
+            room = min(roomy(max(size, length)), self._most)
+            place = written.end(room) + length
+            count = os.readv(file, [memoryview(_part.from_address(place))[: room - length]])
             if not count:
                 break
-            last = room.rfind(b"\n", length, length + count)
-            line = length + count - 1 - last if last >= 0 else line + count
+            last = _last(place, ord("\n"), count)
+            line = place + count - 1 - last if last else line + count
             length += count
-        return memoryview(room)[:length]
-
-
-def _memory(size: int) -> mmap:
-    """Memory apart from Python's own: in huge pages, if the system wants to, and given back to it as soon as it is dropped."""
-    try:
-        made = mmap(-1, size, flags=MAP_PRIVATE | MAP_ANONYMOUS)
-    except OSError as error:
-        raise MemoryError("memory was refused") from error
-    with suppress(OSError):
-        made.madvise(MADV_HUGEPAGE)
-    return made
-
-
-def _grow(memory: mmap, size: int) -> None:
-    """Makes memory larger; what stands in it stays."""
-    try:
-        memory.resize(size)
-    except OSError as error:
-        raise MemoryError("memory was refused") from error
+        return Part(written.end(0), length)
 
 
 def entries(files: Mapping[str, Bytes]) -> Asked:
     """The entries of a mapping."""
 
-    def entry(path: str) -> Optional[Bytes]:
+    def entry(path: str, _written: Written) -> Optional[Bytes]:
         text = files.get(path)
         if text is None or isinstance(text, (bytes, bytearray, memoryview)):
             return text
@@ -149,7 +114,7 @@ def entries(files: Mapping[str, Bytes]) -> Asked:
 def given(read: Callable[[str], Optional[Bytes]]) -> Asked:
     """What a callable gives."""
 
-    def text_of(path: str) -> Optional[Bytes]:
+    def text_of(path: str, _written: Written) -> Optional[Bytes]:
         text = read(path)
         if text is None or isinstance(text, (bytes, bytearray, memoryview)):
             return text

@@ -2,11 +2,11 @@
 
 import ctypes
 import os
-from typing import Any, Callable, Sequence, Tuple
+from typing import Any, Callable, Sequence, Tuple, Union
 
 from ._asked import Bytes
 from ._limits import Limits
-from ._written import Written
+from ._written import Part, Written
 
 WHOLE, STOPPED, BAD_LIMIT, BAD_TEXT, NO_MEMORY, MORE, CLOSED, WANTED, SHORT_MAP = range(9)
 NAME_ROOM = 1024
@@ -114,8 +114,10 @@ _fault_text = _declared("rdlpp_fault_text", ctypes.c_size_t, ctypes.c_uint32, *_
 _version = _declared("rdlpp_version", ctypes.c_size_t, *_buffer)
 
 
-def lent(text: Bytes) -> Tuple[Any, int]:
+def lent(text: Union[Bytes, Part]) -> Tuple[Any, int]:
     """A text as the pointer and the length that a call takes; it is copied only where its memory can't be lent."""
+    if isinstance(text, Part):
+        return ctypes.c_char_p(text.place), text.length
     if isinstance(text, bytes):
         return text, len(text)
     view = memoryview(text)
@@ -137,9 +139,10 @@ def told(call: Callable[..., int], *given: Any) -> bytes:
     room = TEXT_ROOM
     while True:
         text = Written(room)
-        length = call(*given, text.place, room)
+        length = call(*given, text.end(room), room)
         if length <= room:
-            return text.take(length)
+            text.filled = length
+            return text.take()
         room = length
 
 

@@ -1,7 +1,7 @@
 """What a run gives: the output, and what is told beside it."""
 
 from bisect import bisect_right
-from typing import Iterator, List, NamedTuple, Optional, Tuple
+from typing import Iterator, List, NamedTuple, Optional, Tuple, Union
 
 
 class Place(NamedTuple):
@@ -58,9 +58,10 @@ class Lines:
 
     HEAD = b"# rdlpp line map 1\n"
 
-    def __init__(self, runs: bytes, count: int):
+    def __init__(self, runs: bytes, text: bytes):
         self._runs = runs
-        self._count = count
+        # the output, until its lines are counted, and then their number
+        self._counted: Union[bytes, int] = text
         self._starts: Optional[List[int]] = None
         self._parts: List[Tuple[bytes, ...]] = []
 
@@ -70,8 +71,8 @@ class Lines:
         Raises:
             IndexError: the output has no such line.
         """
-        if not 1 <= line <= self._count:
-            raise IndexError(f"the output has {self._count} lines, and no line {line}")
+        if not 1 <= line <= len(self):
+            raise IndexError(f"the output has {len(self)} lines, and no line {line}")
         if self._starts is None:
             self._parts = [tuple(run.split(b"\t", 3)) for run in self._runs.split(b"\n")[:-1]]
             self._starts = [int(part[0]) for part in self._parts]
@@ -79,18 +80,22 @@ class Lines:
         return Place(name.decode(), int(shown) + int(step) * (line - int(first)))
 
     def __len__(self) -> int:
-        return self._count
+        counted = self._counted
+        if isinstance(counted, bytes):
+            is_unended = bool(counted) and not counted.endswith(b"\n")
+            counted = self._counted = counted.count(b"\n") + is_unended
+        return counted
 
     def __iter__(self) -> Iterator[Place]:
         """The place of each line, in order."""
-        return (self.place(line) for line in range(1, self._count + 1))
+        return (self.place(line) for line in range(1, len(self) + 1))
 
     def __bytes__(self) -> bytes:
         """The line map as the program writes it to a file."""
         return self.HEAD + self._runs
 
     def __repr__(self) -> str:
-        return f"<Lines of {self._count} lines>"
+        return f"<Lines of {len(self)} lines>"
 
 
 class Output(NamedTuple):
@@ -121,9 +126,3 @@ class Output(NamedTuple):
 
     def __repr__(self) -> str:
         return f"<Output of {len(self.text)} bytes, from {len(self.sources)} sources>"
-
-
-def lines_of(text: bytes, runs: List[bytes]) -> Lines:
-    """The lines of an output, by the runs of its line map."""
-    unended = 0 if not text or text.endswith(b"\n") else 1
-    return Lines(b"".join(runs), text.count(b"\n") + unended)

@@ -8,6 +8,7 @@ from ._asked import Unreadable
 from ._faults import Fault, FaultKind
 from ._output import Position
 from ._request import Request
+from ._written import Written
 
 # What a note begins with where it is written.
 NOTE = "rdlpp: note: "
@@ -64,25 +65,23 @@ class Reading:
             raise self._fault(outcome)
         _raise_refusal(outcome.status)
 
-    def read(self, place: int, room: int) -> int:
-        """Reads once, and answers how many bytes it wrote to a place with room for some.
+    def read(self, written: Written, most: int) -> None:
+        """Reads once, at most so many bytes.
 
         It may be none, also where more follow: `has_ended` and `fault` tell the end.
         """
-        outcome = library.read_handle(self._at, place, room, *self._told)
-        self._go_on(outcome)
-        return int(outcome.length)
+        outcome = library.read_handle(self._at, written.end(most), most, *self._told)
+        self._go_on(outcome, written)
 
-    def read_mapped(self, place: int, room: int) -> int:
+    def read_mapped(self, written: Written, most: int) -> None:
         """Reads once, as `read` does, and adds the lines of the line map for what it wrote to `runs`."""
         if not self._map:
             self._map = (ctypes.c_char * library.MAP_ROOM)()
         mapped = library.read_mapped(
-            self._at, place, room, ctypes.addressof(self._map), library.MAP_ROOM, *self._told
+            self._at, written.end(most), most, ctypes.addressof(self._map), library.MAP_ROOM, *self._told
         )
         self.runs.append(ctypes.string_at(self._map, mapped.map_length))
-        self._go_on(mapped.outcome)
-        return int(mapped.outcome.length)
+        self._go_on(mapped.outcome, written)
 
     def position(self) -> Optional[Position]:
         """The place of the first byte of what was read last, where there is one."""
@@ -108,11 +107,12 @@ class Reading:
     def __del__(self) -> None:
         self.close()
 
-    def _go_on(self, outcome: library.Outcome) -> None:
-        """Does what the outcome of a read asks for, so that the next one goes on."""
+    def _go_on(self, outcome: library.Outcome, written: Written) -> None:
+        """Counts what a read wrote, and does what its outcome asks for, so that the next one goes on."""
+        written.filled += outcome.length
         status = outcome.status
         if status == library.WANTED:
-            self._give(ctypes.string_at(self._name, outcome.name_length))
+            self._give(ctypes.string_at(self._name, outcome.name_length), written)
         elif status == library.WHOLE:
             self.has_ended = True
         elif status == library.STOPPED:
@@ -120,11 +120,11 @@ class Reading:
         elif status != library.MORE:
             _raise_refusal(status)
 
-    def _give(self, path: bytes) -> None:
-        """Tells the library what stands at a path."""
+    def _give(self, path: bytes, written: Written) -> None:
+        """Tells the library what stands at a path: a text may stand behind what was written, since it is copied."""
         shown = path.decode()
         try:
-            text = self._asked(shown)
+            text = self._asked(shown, written)
         except Unreadable as unreadable:
             self._unreadable = shown, unreadable
             if unreadable.is_open:

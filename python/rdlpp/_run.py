@@ -4,30 +4,23 @@ from typing import Callable, Iterable, Mapping, Optional
 
 from ._asked import Bytes
 from ._limits import Limits
-from ._output import Output, lines_of
+from ._output import Lines, Output
 from ._reading import Reading
 from ._request import Path, Read, Source, request_of
-from ._written import Written
+from ._written import Written, roomy
 
 # How much one read asks for: it comes back soon, so that a signal is seen.
-PART = 65_536
+PART = 262_144
 
 
-def _room(reading: Reading, room: int) -> int:
-    """More room than there is: for an output that isn't much longer than its sources, and else half as much again."""
-    return max(room + room // 2, reading.text_bytes + 2 * PART)
-
-
-def _read_all(reading: Reading, read: Callable[[int, int], int]) -> bytes:
-    """All of an output, by reads to a place with room for some bytes, each of which answers how many it wrote."""
-    room, filled = _room(reading, 0), 0
-    written = Written(room)
+def _read_all(reading: Reading, read: Callable[[Written, int], None]) -> bytes:
+    """All of an output, by reads that write so many bytes at most. It is often about as long as its sources."""
+    written = Written(roomy(reading.text_bytes))
     while not reading.is_over:
-        if room - filled < PART:
-            room = _room(reading, room)
-            written.grow(room)
-        filled += read(written.place + filled, PART)
-    return written.take(filled)
+        if not written.left:
+            written.end(roomy(max(reading.text_bytes - written.filled, 0)))
+        read(written, min(written.left, PART))
+    return written.take()
 
 
 def _raise_fault(reading: Reading, text: bytes, partial: Optional[Output] = None) -> None:
@@ -108,6 +101,6 @@ def run(
     with Reading(request_of(source, include_dirs, defines, limits, origins, files, read)) as reading:
         text = _read_all(reading, reading.read_mapped)
         definitions = reading.definitions()
-    output = Output(text, lines_of(text, reading.runs), tuple(reading.sources), definitions)
+    output = Output(text, Lines(b"".join(reading.runs), text), tuple(reading.sources), definitions)
     _raise_fault(reading, text, output)
     return output

@@ -112,18 +112,18 @@ class Stream(Iterator[bytes]):
         """Reads until there is a piece, or the end."""
         if self._is_closed:
             raise ValueError("the stream is closed")
-        written, filled = Written(self._room), 0
+        written = Written(self._room)
         self._position = None
-        while filled < self._room and not self._reading.is_over:
-            filled += self._reading.read(written.place + filled, min(PART, self._room - filled))
+        while written.filled < self._room and not self._reading.is_over:
+            self._reading.read(written, min(PART, self._room - written.filled))
             if self._is_closed:
                 raise ValueError("the stream was closed")
-            if filled and self._has_positions:
+            if written.filled and self._has_positions:
                 self._position = self._reading.position()
                 break
         if self._reading.is_over:
             self._reading.close()
-        return written.take(filled)
+        return written.take()
 
     def _close_if_asked(self) -> None:
         """Closes the output where that was asked for, but while a call reads it: that one closes it then."""

@@ -5,7 +5,7 @@ else has it, and gives it another length by `_PyBytes_Resize`; so it is here, by
 """
 
 import ctypes
-from typing import cast
+from typing import NamedTuple, cast
 
 _new = ctypes.pythonapi.PyBytes_FromStringAndSize
 _new.restype = ctypes.c_void_p
@@ -23,34 +23,68 @@ _advise = ctypes.CDLL(None).madvise
 _advise.restype = ctypes.c_int
 _advise.argtypes = [ctypes.c_void_p, ctypes.c_size_t, ctypes.c_int]
 
+MARGIN = 65_536
 PAGE = 4_096
 HUGE_PAGES = 14
 # From here on the system's making of small pages costs more than writing into them.
 LARGE = 4_194_304
 
 
+def roomy(length: int) -> int:
+    """The room for an output of about this length, or for a text of which more may come.
+
+    It is more than the library's copy of such a text has left at the end of malloc's heap, so that it stands apart:
+    a heap that both stand in is cut back and made anew by each call.
+    """
+    return length + length // 16 + MARGIN
+
+
+class Part(NamedTuple):
+    """Bytes that stand at an address."""
+
+    place: int
+    length: int
+
+
 class Written:
-    """Room for some bytes, which are written at its place and then taken as a bytes object, once."""
+    """Room for bytes, which are written behind those that were, and then taken as a bytes object, once.
+
+    Attributes:
+        filled: how many bytes were written.
+        room: how many there is room for.
+    """
 
     _held = ctypes.c_void_p()
 
     def __init__(self, room: int):
+        self.filled = 0
+        self.room = room
         # The one object without bytes is everybody's, so there is room for one byte more.
         self._held = ctypes.c_void_p(_new(None, room + 1))
-        self.place: int = _place_of(self._held)
-        """The address of the first byte, until there is more room."""
-        _prefer_huge_pages(self.place, room)
+        self._place: int = _place_of(self._held)
+        _prefer_huge_pages(self._place, room)
 
-    def grow(self, room: int) -> None:
-        """Makes room for more bytes; those that were written stay."""
-        _resize(ctypes.byref(self._held), room + 1)
-        self.place = _place_of(self._held)
-        _prefer_huge_pages(self.place, room)
+    @property
+    def left(self) -> int:
+        """How many more bytes there is room for."""
+        return self.room - self.filled
 
-    def take(self, length: int) -> bytes:
-        """The first bytes, which are at most as many as there is room for."""
-        _resize(ctypes.byref(self._held), length)
+    def end(self, least: int) -> int:
+        """The address behind the bytes that were written, with room for so many more at least. What stands there stays
+        where room is made."""
+        if self.left < least:
+            self._grow(max(self.filled + least, self.room + self.room // 2))
+        return self._place + self.filled
+
+    def take(self) -> bytes:
+        """The bytes that were written."""
+        _resize(ctypes.byref(self._held), self.filled)
         return cast(bytes, ctypes.cast(self._held, ctypes.py_object).value)
+
+    def _grow(self, room: int) -> None:
+        _resize(ctypes.byref(self._held), room + 1)
+        self._place, self.room = _place_of(self._held), room
+        _prefer_huge_pages(self._place, room)
 
     def __del__(self) -> None:
         _forget(self._held)

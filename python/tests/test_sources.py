@@ -229,7 +229,7 @@ class Files(Sources):
             rdlpp.preprocess("pipe")
 
     def test_a_large_file(self):
-        text = b"reg a @ 0x0;\n" * (_asked.LARGE // 10)
+        text = b"reg a @ 0x0;\n" * (_asked.PART // 10)
         self.write("i", text)
         self.write("m", b'a\n`include "i"\nb\n`include "i"\n')
         self.assertEqual(rdlpp.preprocess("i"), text)
@@ -238,24 +238,24 @@ class Files(Sources):
         self.assertEqual((output.text, output.sources), (b"a\n" + text + b"\nb\n" + text + b"\n", ("m", "i")))
 
     def test_a_large_file_that_grows_meanwhile(self):
-        text = b"reg a @ 0x0;\n" * _asked.LARGE
+        text = b"reg a @ 0x0;\n" * _asked.PART
         self.write("m", text)
-        told = mock.Mock(st_size=_asked.LARGE, st_mode=os.stat("m").st_mode)
+        told = mock.Mock(st_size=_asked.PART, st_mode=os.stat("m").st_mode)
         with mock.patch.object(_asked.os, "fstat", lambda file: told):
             self.assertEqual(rdlpp.preprocess("m"), text)
 
     def test_a_large_file_that_shrinks_meanwhile(self):
         self.write("m", b"reg a @ 0x0;\n")
-        told = mock.Mock(st_size=2 * _asked.LARGE, st_mode=os.stat("m").st_mode)
+        told = mock.Mock(st_size=2 * _asked.PART, st_mode=os.stat("m").st_mode)
         with mock.patch.object(_asked.os, "fstat", lambda file: told):
             self.assertEqual(rdlpp.preprocess("m"), b"reg a @ 0x0;\n")
             self.write("m", b"")
             self.assertEqual(rdlpp.preprocess("m"), b"")
 
     def test_a_file_that_fails_in_the_middle(self):
-        def failing(name):
-            """A read that fails at its second call, with what it stands for."""
-            calls, call = [], getattr(os, name)
+        def failing():
+            """A read that fails at its second call."""
+            calls, call = [], os.readv
 
             def read(*given):
                 calls.append(given)
@@ -263,30 +263,24 @@ class Files(Sources):
                     raise OSError(errno.EIO, os.strerror(errno.EIO))
                 return call(*given)
 
-            return mock.patch.object(_asked.os, name, read)
+            return mock.patch.object(_asked.os, "readv", read)
 
-        for name, text in (("read", b"x\n"), ("readv", b"x\n" * _asked.LARGE)):
+        for text in (b"x\n", b"x\n" * _asked.PART):
             self.write("m", text)
-            with failing(name):
+            with failing():
                 fault = self.fault("m")
             self.assertEqual((str(fault), fault.output), ("m:1: error F32: read failed", b""))
             self.assertEqual((fault.notes, fault.__cause__.errno), (("m: Input/output error (os error 5)",), errno.EIO))
 
     def reads(self, *given, **named):
         """How many bytes a call reads of files, and its fault."""
-        read, readv, lengths = os.read, os.readv, []
+        call, lengths = os.readv, []
 
-        def noted(file, most):
-            part = read(file, most)
-            lengths.append(len(part))
-            return part
+        def noted(file, places):
+            lengths.append(call(file, places))
+            return lengths[-1]
 
-        def noted_in_place(file, places):
-            count = readv(file, places)
-            lengths.append(count)
-            return count
-
-        with mock.patch.object(_asked.os, "read", noted), mock.patch.object(_asked.os, "readv", noted_in_place):
+        with mock.patch.object(_asked.os, "readv", noted):
             fault = self.fault(*given, **named)
         return sum(lengths), fault
 
