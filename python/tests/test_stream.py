@@ -17,6 +17,8 @@ FILES = {"m": SOURCE, "inc/i": b"q"}
 WHOLE = b"\n<long body>q\n\n8\n"
 # Macros that double nothing so often that no run of them ends in a lifetime.
 NOTHING = b"`define E0\n" + b"".join(b"`define E%d `E%d`E%d\n" % (n + 1, n, n) for n in range(60)) + b"`E60\n"
+# Lines that each give some bytes behind 32,768 steps that give none.
+RARE = NOTHING[: NOTHING.index(b"`define E15")] + b"`define L `E14 x\n" + b"`L\n" * 1_000_000
 
 
 class Pieces(unittest.TestCase):
@@ -256,6 +258,12 @@ class Signals(unittest.TestCase):
     def test_an_alarm_ends_each_call(self):
         for call in (rdlpp.preprocess, rdlpp.run, lambda text: list(rdlpp.stream(text))):
             self.check(lambda: call(NOTHING))
+
+    def test_an_alarm_ends_a_call_whose_bytes_come_rarely(self):
+        for call in (rdlpp.preprocess, rdlpp.run, lambda text: list(rdlpp.stream(text))):
+            began = time.monotonic()
+            self.check(lambda: call(RARE))
+            self.assertLess(time.monotonic() - began, 1)
 
     def test_an_alarm_closes_a_stream(self):
         given = rdlpp.stream(NOTHING, room=10)
