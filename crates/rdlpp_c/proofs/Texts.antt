@@ -8,23 +8,6 @@ use Rattle.rdlpp_source.specs.declared.asked.Standing.{Standing}
 use Rattle.rdlpp_c.specs.declared.arrays.Text.{Text}
 use Rattle.rdlpp_c.specs.Knowing.{AddsText, KnowsTexts, content, content_at, first_of, lent_at, lent_content}
 
--- the content of the first of two
-first_content : (a b : Option Standing) → option_map content (first_known a b) ≡ first_of (option_map content a) (option_map content b)
-first_content None b = refl
-first_content (Some s) b = refl
-
--- the content of what is told
-told_content : (is : Bool) (standing : Standing) (text : Option (List ℕ)) → content standing ≡ text → option_map content (cond is (Some standing) None) ≡ cond is (Some text) None
-told_content true standing text e = ap Some e
-told_content false standing text e = refl
-
--- a text that was added
-pub adds_text : (text : Text) (old new : AskedTexts) (path : List ℕ) (standing : Standing) → path ≡ text.path.now → content standing ≡ lent_content text → Adds old new true path standing
-    → AddsText text old new
-adds_text text old new path standing same stands adds q =
-    ap (option_map content) (adds q) ∙ first_content (standing_at old q) (told_of true path standing q)
-    ∙ ap (first_of (content_at old q)) (told_content (bytes_eq q path) standing (lent_content text) stands ∙ ap (λ p. cond (bytes_eq q p) (Some (lent_content text)) None) same)
-
 first_behind : (f : Text → Option (List ℕ)) (is : Text → Bool) (x : Text) (b : Bool) (e : Option Text) (rest : Option (Option (List ℕ)))
     → option_map f e ≡ rest → option_map f (cond b (Some x) e) ≡ cond b (Some (f x)) rest
 first_behind f is x true e rest h = refl

@@ -32,7 +32,3 @@ pub shows_part : {W V : Type 0} (h : SinkGhosts W) (v : WatcherGhosts V) (before
     → v.looks now ≡ v.looks was → (v.looks was ≡ true → Appends (v.seen was) (v.seen now) ys) → (v.looks was ≡ false → now ≡ was) → ys ≡ xs → Shows h v before after was now
 shows_part h v before after was now xs ys taken looks seen blind same =
     record { bytes = xs; taken = taken; looks = looks; seen = λ l. (let P : List ℕ → Type 0 = λ zs. Appends (v.seen was) (v.seen now) zs in subst P same (seen l)); blind = blind }
-
--- no bytes are shown
-pub shown_nothing : (known : Option (List ℕ)) (xs : List ℕ) → xs ≡ [] → Appends known known xs
-shown_nothing known xs none = (let P : List ℕ → Type 0 = λ zs. Appends known known zs in subst P (sym none) (appends_none known))

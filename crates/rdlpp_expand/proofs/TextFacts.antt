@@ -50,13 +50,6 @@ kept-some (Some f) e = (f, refl)
 pub open-texts : {S R : Type 0} (e : EngineView S R) (b : Bool) → (IsTrue b ↔ (e.phase ≡ Open)) → (e.phase ≡ Open → IsInTexts e) → IsTrue b ↔ IsInTexts e
 open-texts e b both leaves = (λ t. leaves (both.0 t), λ t. both.1 t.0.open_)
 
--- where none is open, it is none over them
-pub none-texts : {S R : Type 0} (e : EngineView S R) → e.expansion.opens ≡ [] → IsTrue false ↔ IsInTexts e
-none-texts e none = (
-  λ t. absurd (true≢false (sym t)),
-  λ t. (let some = t.1 in let size : length e.expansion.opens ≡ 0 = ap length none in absurd (omega (arith, some, size))),
-)
-
 -- other open texts change nothing of what is owed or kept
 pub unowed-texts : {S R : Type 0} (old new : EngineView S R) (x : ExpansionView) (marks : MarksView) → IsUnowed old → new ≡ record old { expansion = x; marks = marks } → IsUnowed new
 unowed-texts old new x marks unowed becomes = rw becomes (record { open_ = unowed.open_; free = unowed.free; owed = unowed.owed })

@@ -74,16 +74,6 @@ pub part_by : (place : ℕ) (name text : List ℕ) (f : Formal) → name ≡ f.n
 part_by place name text f e h =
     ap (λ n. formal_part place (record { name = n; text = text })) e ∙ ap (λ t. formal_part place (record { name = f.name; text = t })) h
 
--- a list of formals
-pub list_some : (formals : Option (List Formal)) (body : List ℕ) (n : ℕ) → Some n ≡ option_map length formals → codes "(" ++ (formals_text 0 (unwrap_or formals []) ++ codes ")") ≡ list_text formals body
-list_some None body n e = absurd (none-some n (sym e))
-list_some (Some fs) body n e = refl
-
--- no list
-pub list_none : (formals : Option (List Formal)) (body : List ℕ) → None ≡ option_map length formals → gap body ≡ list_text formals body
-list_none None body e = refl
-list_none (Some fs) body e = absurd (none-some (length fs) e)
-
 -- the comment in place of a macro's line
 pub comment_line : (m : Macro) (name body : List ℕ) → name ≡ m.name → body ≡ m.body → ends_in_slash body ≡ true → concat (codes "// not as a define: " ∷ name ∷ codes "\n" ∷ []) ≡ definition_line m
 comment_line m name body n b e =

@@ -111,28 +111,6 @@ gone_on m step count = if count == 0 then m else record m {
 abbrev pub finished : LinesView → LinesView
 finished m = record m { has_run = false; ended = if m.has_run then m.run else m.ended }
 
--- lines more, in order
-unfoldable pub all_added : LinesView → List LinePlace → LinesView
-all_added m [] = m
-all_added m (place ∷ places) = all_added (added m place) places
-
--- the runs that lines ended, in order
-unfoldable pub all_ended : LinesView → List LinePlace → List RunView
-all_ended m [] = []
-all_ended m (place ∷ places) = ended m place ++ all_ended (added m place) places
-
--- the places of the lines that begin in a piece, whose next byte has a place: a line begins at the first byte, and behind each LF (source: this project's profile)
-unfoldable pub line_places : Bool → LineStep → LinePlace → List ℕ → List LinePlace
-line_places begun step place [] = []
-line_places begun step place (b ∷ bs) =
-    (if begun then [] else place ∷ [])
-    ++ (if b == 10 then line_places false step (record place { line = next_line place.line step }) bs else line_places true step place bs)
-
--- whether the line at hand has a byte behind bytes
-unfoldable pub begun_behind : Bool → List ℕ → Bool
-begun_behind begun [] = begun
-begun_behind begun (b ∷ bs) = begun_behind (if b == 10 then false else true) bs
-
 -- the mark of a step: how many lines each place is behind the one before it; 1 where there is only one (source: this project's profile)
 abbrev pub step_bytes : Option LineStep → List ℕ
 step_bytes None = codes "\t1\t"
@@ -154,11 +132,3 @@ no_run = record { out = 0; line = 0; step = None; name = [] }
 -- no lines
 abbrev pub no_lines : LinesView
 no_lines = record { begun = false; lines = 0; has_run = false; run = no_run; last = 0; ended = no_run }
-
--- the last run, if there is one
-abbrev pub last_run : LinesView → List RunView
-last_run m = if m.has_run then m.run ∷ [] else []
-
--- the line map of lines with these places (source: this project's profile)
-abbrev pub map_bytes : List LinePlace → List ℕ
-map_bytes places = map_start ++ flat_map run_bytes (all_ended no_lines places ++ last_run (all_added no_lines places))

@@ -771,10 +771,6 @@ defines_by {S} {R} len old now new table owed lines used owes adds nothing limit
           ∙ (ap (makes table) exact ∙ ap (λ (t : TableView). makes t (line_ends_owed lines)) (table_same old.table table limits.0 limits.1)));
     }
 
--- an engine of which nothing is owed any more
-pub unowed_by : {S R : Type 0} (old new : EngineView S R) → old.phase ≡ Open → old.kept ≡ None → new ≡ record old { owed = nothing_owed } → IsUnowed new
-unowed_by old new open_ free becomes = rw becomes (record { open_ = open_; free = free; owed = refl })
-
 -- it goes on in its open sources where no text of a usage is open
 pub ready_idle : {S R : Type 0} (e : EngineView S R) → IsUnowed e → e.expansion.opens ≡ [] → IsSoundEngine e.limits e.phase e.table e.files e.conditions → AreOpen e.files → IsReady e
 ready_idle e unowed idle sound files = record {
@@ -790,6 +786,3 @@ ready_idle e unowed idle sound files = record {
 -- the same engine, with something else owed
 pub owing : {S R : Type 0} (a b : EngineView S R) (owed : OwedView) → a ≡ b → record a { owed = owed } ≡ record b { owed = owed }
 owing {S} {R} a b owed same = ap (λ (e : EngineView S R). record e { owed = owed }) same
-
-pub owing_same : {S R : Type 0} (e : EngineView S R) (a b : OwedView) → a ≡ b → record e { owed = a } ≡ record e { owed = b }
-owing_same e a b same = ap (λ (o : OwedView). record e { owed = o }) same
