@@ -11,7 +11,7 @@ use Rattle.rdlpp_meaning.specs.declared.fault.FaultKind.{FaultKind}
 use Rattle.rdlpp_meaning.specs.declared.fault.FaultKind.TheVariants.{ArgumentsMissing}
 use Rattle.rdlpp_meaning.specs.State.{breach_kind}
 use Rattle.rdlpp_meaning.specs.Actuals.{Role, Ends, Stops, level_behind, kept_size, kind_role, broken_role, token_role, kept}
-use Rattle.rdlpp_meaning.specs.CallScan.{Stand, Before, Inside, Turn, Passes, Keeps, Closes, Refuses, Breaks, turn_before, turn_fitting, turn_inside, turn, stand_behind, stand_behind_lead, room_behind, Scanned, Refused, Stopped, Closed, scan_passing, scan_keeping, scanned, scan, source_role}
+use Rattle.rdlpp_meaning.specs.CallScan.{Stand, Before, Inside, Turn, Passes, Keeps, Closes, Refuses, Breaks, turn_before, turn_fitting, turn_inside, turn, stand_behind, stand_behind_lead, room_behind, Scanned, Refused, Stopped, Closed, scan_onto, scanned, scan, source_role}
 use Rattle.rdlpp_meaning.specs.CallReading.{Reading, ReadRefused, ReadStopped, ReadClosed, onto_kept, rest_role, role_in, read_by, read, reading_of, is_part_breach, is_part_sort, part_kept}
 use Rattle.rdlpp_meaning.specs.Parts.{directive_of}
 
@@ -32,7 +32,7 @@ onto_kept-append x y (ReadClosed bytes behind) = ap (λ z. ReadClosed z behind) 
 -- a token in front of a scan, by what the scan does at it
 reading_front : (t : SourceToken) (ts : List SourceToken) (at : Turn) (s : Scanned SourceToken)
     → read_by at t ts (reading_of ts s) ≡ reading_of (t ∷ ts) (scanned at t s)
-unfolding read_by reading_of scanned scan_passing scan_keeping onto_kept
+unfolding read_by reading_of scanned scan_onto onto_kept
 reading_front t ts Passes (Refused f) = refl
 reading_front t ts Passes (Stopped f line) = refl
 reading_front t ts Passes (Closed kept used) = refl

@@ -1,11 +1,48 @@
 -- A scan that closes cuts its things into what passes before the `(`, what stands between the parentheses, and the rest.
-use Rattle.std.proofs.Common.{◌≡◌, ℕ, suc, ◌+◌, ◌-◌, true, List, [], ◌∷◌, ◌++◌, length, drop, filter, cond, All, refl, sym, ap, ◌∙◌, arith}
+use Rattle.std.proofs.Common.{◌≡◌, ℕ, suc, ◌+◌, ◌-◌, Bool, true, false, zero, List, [], ◌∷◌, ◌++◌, length, drop, filter, cond, All, refl, sym, ap, ◌∙◌, arith}
 use Rattle.std.specs.Prelude.{nat_le}
 use Rattle.std.proofs.Math.Seq.{drop-append-add}
 use Rattle.std.proofs.lemmas.List.Elements.{All-nil, All-cons}
-use Rattle.rdlpp_meaning.specs.Actuals.{Role, Space, Dropped, Remark, Start, End, Stops, level_behind, kept_size}
-use Rattle.rdlpp_meaning.specs.CallScan.{Before, Inside, Turn, Passes, Keeps, Closes, Refuses, Breaks, turn_before, turn_inside, turn, stand_behind_lead, stand_behind, room_behind, Scanned, Refused, Stopped, Closed, scan_passing, scan_keeping, scanned, scan, is_kept, is_call_text, level_of_things, IsClosed}
-use Rattle.rdlpp_meaning.proofs.LeftScan.{TurnFacts, turn_facts}
+use Rattle.rdlpp_meaning.specs.Actuals.{Role, Space, Dropped, Remark, Start, Up, End, Down, Cut, Halt, Text, Ends, Stops, level_behind, kept_size}
+use Rattle.rdlpp_meaning.specs.CallScan.{Before, Inside, Turn, Passes, Keeps, Closes, Refuses, Breaks, turn_before, turn_fitting, turn_inside, turn, stand_behind_lead, stand_behind, room_behind, Scanned, Refused, Stopped, Closed, scan_onto, scanned, scan, is_kept, is_call_text, level_of_things, IsClosed}
+use Rattle.rdlpp_meaning.specs.declared.fault.FaultKind.{FaultKind}
+
+-- behind the `(`, a thing that is passed is a dropped one, one that is kept is text, and the end is a `)` outside further openers
+unfoldable TurnFacts : Role → ℕ → Turn → Type 0
+TurnFacts r k Passes = (is_kept r ≡ false) × (is_call_text r ≡ true)
+TurnFacts r k Keeps = (is_kept r ≡ true) × (is_call_text r ≡ true)
+TurnFacts r k Closes = (r ≡ End) × (k ≡ 0)
+TurnFacts r k (Refuses f) = Unit {0}
+TurnFacts r k (Breaks f line) = Unit {0}
+
+-- text that fits or not
+fitting : (r : Role) (k : ℕ) (fits : Bool) → is_kept r ≡ true → is_call_text r ≡ true → TurnFacts r k (turn_fitting fits Keeps)
+unfolding TurnFacts turn_fitting
+fitting r k true kept text = (kept, text)
+fitting r k false kept text = tt
+
+-- a broken token that fits or not
+breaking : (r : Role) (k : ℕ) (fits : Bool) (f : FaultKind) (line : ℕ) → TurnFacts r k (turn_fitting fits (Breaks f line))
+unfolding TurnFacts turn_fitting
+breaking r k true f line = tt
+breaking r k false f line = tt
+
+-- these facts hold
+turn_facts : (r : Role) (k : ℕ) (fits : Bool) → TurnFacts r k (turn_inside r k fits)
+unfolding TurnFacts turn_inside is_kept is_call_text
+turn_facts End zero fits = (refl, refl)
+turn_facts Dropped k fits = (refl, refl)
+turn_facts Halt k fits = tt
+turn_facts (Ends f line) k fits = breaking (Ends f line) k fits f line
+turn_facts (Stops f line) k fits = breaking (Stops f line) k fits f line
+turn_facts End (suc k) fits = fitting End (suc k) fits refl refl
+turn_facts Space k fits = fitting Space k fits refl refl
+turn_facts Remark k fits = fitting Remark k fits refl refl
+turn_facts Start k fits = fitting Start k fits refl refl
+turn_facts Up k fits = fitting Up k fits refl refl
+turn_facts Down k fits = fitting Down k fits refl refl
+turn_facts Cut k fits = fitting Cut k fits refl refl
+turn_facts Text k fits = fitting Text k fits refl refl
 
 -- how a scan that closes lies in the things behind the `(`
 pub record IsClosedInside {A : Type 0} (role : A → Role) (k : ℕ) (xs kept : List A) (used : ℕ) : Type 0 where
@@ -19,20 +56,13 @@ pub record IsClosedInside {A : Type 0} (role : A → Role) (k : ℕ) (xs kept : 
   pub keeps : kept ≡ filter (λ x. is_kept (role x)) inner
   pub takes : used ≡ length inner + 1
 
--- a scan that closes with a thing in front that it passes
-passing_closed : {A : Type 0} (s : Scanned A) (kept : List A) (used : ℕ) → scan_passing s ≡ Closed kept used → (n : ℕ) × ((s ≡ Closed kept n) × (used ≡ suc n))
-unfolding scan_passing
-passing_closed (Refused f) kept used e = absurd (cc)
-passing_closed (Stopped f line) kept used e = absurd (cc)
-passing_closed (Closed ks n) kept used e = (n, (cc, cc))
-
--- a scan that closes with a thing in front that it keeps
-keeping_closed : {A : Type 0} (x : A) (s : Scanned A) (kept : List A) (used : ℕ) → scan_keeping x s ≡ Closed kept used
-    → (ks : List A) × ((n : ℕ) × ((s ≡ Closed ks n) × ((kept ≡ x ∷ ks) × (used ≡ suc n))))
-unfolding scan_keeping
-keeping_closed x (Refused f) kept used e = absurd (cc)
-keeping_closed x (Stopped f line) kept used e = absurd (cc)
-keeping_closed x (Closed ks n) kept used e = (ks, (n, (refl, (cc, cc))))
+-- a scan that closes with things in front that it keeps
+onto_closed : {A : Type 0} (front : List A) (s : Scanned A) (kept : List A) (used : ℕ) → scan_onto front s ≡ Closed kept used
+    → (ks : List A) × ((n : ℕ) × ((s ≡ Closed ks n) × ((kept ≡ front ++ ks) × (used ≡ suc n))))
+unfolding scan_onto
+onto_closed front (Refused f) kept used e = absurd (cc)
+onto_closed front (Stopped f line) kept used e = absurd (cc)
+onto_closed front (Closed ks n) kept used e = (ks, (n, (refl, (cc, cc))))
 
 -- two scans that close are one in what they keep and take
 closed_kept : {A : Type 0} (ks kept : List A) (n used : ℕ) → Closed ks n ≡ Closed kept used → (ks ≡ kept) × (n ≡ used)
@@ -63,10 +93,10 @@ lead_scan role size r room xs = refl
 -- a scan that closes with a thing in front that it passes before the `(`
 led : {A : Type 0} (role : A → Role) (x : A) (xs kept : List A) (used : ℕ) (before : Scanned A) → is_call_text (role x) ≡ true
     → ((ks : List A) (n : ℕ) → before ≡ Closed ks n → IsClosed role xs ks n)
-    → scan_passing before ≡ Closed kept used → IsClosed role (x ∷ xs) kept used
+    → scan_onto [] before ≡ Closed kept used → IsClosed role (x ∷ xs) kept used
 led role x xs kept used before text rest e =
-    let p = passing_closed before kept used e in
-    let c = rest kept p.0 p.1.0 in
+    let p = onto_closed [] before kept used e in
+    let c = rest p.0 p.1.0 p.1.1.0 in
     record {
       lead = x ∷ c.lead;
       opener = c.opener;
@@ -79,8 +109,8 @@ led role x xs kept used before text rest e =
       level = c.level;
       leads = All-cons (λ y. is_call_text (role y) ≡ true) x c.lead text c.leads;
       text = c.text;
-      keeps = c.keeps;
-      takes = omega (arith, p.1.1, c.takes);
+      keeps = p.1.1.1.0 ∙ c.keeps;
+      takes = omega (arith, p.1.1.1.1, c.takes);
     }
 
 -- a thing in front of one that lies so, by what the scan does at it
@@ -90,8 +120,8 @@ inside_by : {A : Type 0} (role : A → Role) (k : ℕ) (x : A) (xs kept : List A
     → scanned t x s ≡ Closed kept used → IsClosedInside role k (x ∷ xs) kept used
 unfolding scanned TurnFacts level_of_things
 inside_by role k x xs kept used Passes s facts rest e =
-    let p = passing_closed s kept used e in
-    let c = rest kept p.0 p.1.0 in
+    let p = onto_closed [] s kept used e in
+    let c = rest p.0 p.1.0 p.1.1.0 in
     record {
       inner = x ∷ c.inner;
       closer = c.closer;
@@ -100,11 +130,11 @@ inside_by role k x xs kept used Passes s facts rest e =
       closes = c.closes;
       level = c.level;
       text = All-cons (λ y. is_call_text (role y) ≡ true) x c.inner facts.1 c.text;
-      keeps = c.keeps ∙ sym (ap (λ b. cond b (x ∷ filter (λ y. is_kept (role y)) c.inner) (filter (λ y. is_kept (role y)) c.inner)) facts.0);
-      takes = omega (arith, p.1.1, c.takes);
+      keeps = p.1.1.1.0 ∙ c.keeps ∙ sym (ap (λ b. cond b (x ∷ filter (λ y. is_kept (role y)) c.inner) (filter (λ y. is_kept (role y)) c.inner)) facts.0);
+      takes = omega (arith, p.1.1.1.1, c.takes);
     }
 inside_by role k x xs kept used Keeps s facts rest e =
-    let p = keeping_closed x s kept used e in
+    let p = onto_closed (x ∷ []) s kept used e in
     let c = rest p.0 p.1.0 p.1.1.0 in
     record {
       inner = x ∷ c.inner;
@@ -154,8 +184,8 @@ before_by role Space x xs kept used before inside is rest opened e = led role x 
 before_by role Dropped x xs kept used before inside is rest opened e = led role x xs kept used before (ap is_call_text is) rest e
 before_by role Remark x xs kept used before inside is rest opened e = led role x xs kept used before (ap is_call_text is) rest e
 before_by role Start x xs kept used before inside is rest opened e =
-    let p = passing_closed inside kept used e in
-    let c = opened kept p.0 p.1.0 in
+    let p = onto_closed [] inside kept used e in
+    let c = opened p.0 p.1.0 p.1.1.0 in
     record {
       lead = [];
       opener = x;
@@ -168,8 +198,8 @@ before_by role Start x xs kept used before inside is rest opened e =
       level = c.level;
       leads = All-nil (λ y. is_call_text (role y) ≡ true);
       text = c.text;
-      keeps = c.keeps;
-      takes = omega (arith, p.1.1, c.takes);
+      keeps = p.1.1.1.0 ∙ c.keeps;
+      takes = omega (arith, p.1.1.1.1, c.takes);
     }
 before_by role (Stops f line) x xs kept used before inside is rest opened e = absurd (cc)
 before_by role r x xs kept used before inside is rest opened e = absurd (cc)

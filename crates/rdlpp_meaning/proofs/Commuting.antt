@@ -1,137 +1,89 @@
--- The scan of a call commutes with what keeps roles and sizes; so does trimming.
-use Rattle.std.proofs.Common.{◌≡◌, ℕ, zero, suc, ◌-◌, Bool, true, false, List, [], ◌∷◌, ◌++◌, map, reverse, drop, refl, sym, ap, ◌∙◌}
+-- The scan of a call, and its parts, commute with what keeps roles and sizes; so does trimming.
+use Rattle.std.proofs.Common.{◌≡◌, ℕ, zero, suc, List, [], ◌∷◌, ◌++◌, map, reverse, drop, refl, sym, ap, ◌∙◌}
 use Rattle.std.specs.Prelude.{nat_le}
 use Rattle.std.specs.List.{prefix_len}
 use Rattle.std.proofs.lemmas.List.{drop-map, map-append, reverse-append}
-use Rattle.rdlpp_meaning.specs.declared.fault.FaultKind.TheVariants.{ArgumentsMissing}
-use Rattle.rdlpp_meaning.specs.Actuals.{Role, Space, Dropped, Remark, Start, Up, End, Down, Cut, Halt, Text, Ends, Stops, Call, Lacking, Broke, Bound, passed, put, parted, level_behind, kept_size, heed, inside_call, call_of, is_space, behind_space, trimmed, map_call}
+use Rattle.rdlpp_meaning.specs.Actuals.{Role, Cut, level_behind, is_space, behind_space, trimmed, map_call}
+use Rattle.rdlpp_meaning.specs.CallScan.{Stand, Before, Turn, Passes, Keeps as KeepsThing, Closes, Refuses, Breaks, turn, stand_behind, room_behind, Scanned, Refused, Stopped, Closed, scan_onto, scanned, scan, Split, split_by, split, call_of_scan, call_of}
 
--- a thing passed over
-passed-map : {A B : Type 0} (f : A → B) (c : Call A) → passed (map_call f c) ≡ map_call f (passed c)
-unfolding map_call passed
-passed-map f (Lacking k) = refl
-passed-map f (Broke k line) = refl
-passed-map f (Bound first further used) = refl
+-- a scan of what things become
+unfoldable map_scan : {A B : Type 0} → (A → B) → Scanned A → Scanned B
+map_scan f (Refused k) = Refused k
+map_scan f (Stopped k line) = Stopped k line
+map_scan f (Closed kept used) = Closed (map f kept) used
 
--- a thing in front
-put-map : {A B : Type 0} (f : A → B) (x : A) (c : Call A) → put (f x) (map_call f c) ≡ map_call f (put x c)
-unfolding map_call put
-put-map f x (Lacking k) = refl
-put-map f x (Broke k line) = refl
-put-map f x (Bound first further used) = refl
-
--- a comma in front
-parted-map : {A B : Type 0} (f : A → B) (c : Call A) → parted (map_call f c) ≡ map_call f (parted c)
-unfolding map_call parted
-parted-map f (Lacking k) = refl
-parted-map f (Broke k line) = refl
-parted-map f (Bound first further used) = refl
-
--- a thing of a call
-heed-map : {A B : Type 0} (f : A → B) (r : Role) (k : ℕ) (fits : Bool) (x : A) (c : Call A)
-    → heed r k fits (f x) (map_call f c) ≡ map_call f (heed r k fits x c)
-unfolding heed map_call
-heed-map f End zero fits x c = refl
-heed-map f Dropped k fits x c = passed-map f c
-heed-map f Halt k fits x c = refl
-heed-map f End (suc k) false x c = refl
-heed-map f Space k false x c = refl
-heed-map f Remark k false x c = refl
-heed-map f Start k false x c = refl
-heed-map f Up k false x c = refl
-heed-map f Down k false x c = refl
-heed-map f Cut k false x c = refl
-heed-map f Text k false x c = refl
-heed-map f (Ends e line) k false x c = refl
-heed-map f (Stops e line) k false x c = refl
-heed-map f Cut zero true x c = parted-map f c
-heed-map f (Ends e line) k true x c = refl
-heed-map f (Stops e line) k true x c = refl
-heed-map f End (suc k) true x c = put-map f x c
-heed-map f Cut (suc k) true x c = put-map f x c
-heed-map f Space k true x c = put-map f x c
-heed-map f Remark k true x c = put-map f x c
-heed-map f Start k true x c = put-map f x c
-heed-map f Up k true x c = put-map f x c
-heed-map f Down k true x c = put-map f x c
-heed-map f Text k true x c = put-map f x c
+-- a thing of a scan
+scanned-map : {A B : Type 0} (f : A → B) (t : Turn) (x : A) (s : Scanned A) → scanned t (f x) (map_scan f s) ≡ map_scan f (scanned t x s)
+unfolding scanned scan_onto map_scan
+scanned-map f Passes x (Refused k) = refl
+scanned-map f Passes x (Stopped k line) = refl
+scanned-map f Passes x (Closed kept used) = refl
+scanned-map f KeepsThing x (Refused k) = refl
+scanned-map f KeepsThing x (Stopped k line) = refl
+scanned-map f KeepsThing x (Closed kept used) = refl
+scanned-map f Closes x s = refl
+scanned-map f (Refuses k) x s = refl
+scanned-map f (Breaks k line) x s = refl
 
 -- what keeps the role and the size of each thing
 pub record Keeps {A B : Type 0} (role : A → Role) (size : A → ℕ) (role' : B → Role) (size' : B → ℕ) (f : A → B) : Type 0 where
   pub role_of : (x : A) → role' (f x) ≡ role x
   pub size_of : (x : A) → size' (f x) ≡ size x
 
--- what stands in a call
-inside-map : {A B : Type 0} (role : A → Role) (size : A → ℕ) (role' : B → Role) (size' : B → ℕ) (f : A → B)
-    → Keeps role size role' size' f → (k room : ℕ) (xs : List A)
-    → inside_call role' size' k room (map f xs) ≡ map_call f (inside_call role size k room xs)
-unfolding inside_call map_call
-inside-map {B = B} role size role' size' f keeps k room [] = refl
-inside-map {B = B} role size role' size' f keeps k room (x ∷ xs) =
-    ap (λ (r : Role). heed r k (nat_le (size' (f x)) room) (f x)
-    (inside_call role' size' (level_behind r k) (room - kept_size r (size' (f x))) (map f xs))) (keeps.role_of x)
-    ∙ ap (λ (n : ℕ). heed (role x) k (nat_le n room) (f x)
-    (inside_call role' size' (level_behind (role x) k) (room - kept_size (role x) n) (map f xs))) (keeps.size_of x)
-    ∙ ap (λ (c : Call B). heed (role x) k (nat_le (size x) room) (f x) c)
-    (inside-map role size role' size' f keeps (level_behind (role x) k) (room - kept_size (role x) (size x)) xs)
-    ∙ heed-map f (role x) k (nat_le (size x) room) x
-    (inside_call role size (level_behind (role x) k) (room - kept_size (role x) (size x)) xs)
+-- a scan
+scan-map : {A B : Type 0} (role : A → Role) (size : A → ℕ) (role' : B → Role) (size' : B → ℕ) (f : A → B)
+    → Keeps role size role' size' f → (at : Stand) (room : ℕ) (xs : List A) → scan role' size' at room (map f xs) ≡ map_scan f (scan role size at room xs)
+unfolding scan map_scan
+scan-map role size role' size' f keeps at room [] = refl
+scan-map {B = B} role size role' size' f keeps at room (x ∷ xs) =
+    let by : Role → ℕ → Scanned B =
+    λ r n. scanned (turn at r (nat_le n room)) (f x) (scan role' size' (stand_behind at r) (room_behind at room r n) (map f xs)) in
+    ap (λ (r : Role). by r (size' (f x))) (keeps.role_of x)
+    ∙ ap (by (role x)) (keeps.size_of x)
+    ∙ ap (scanned (turn at (role x) (nat_le (size x) room)) (f x))
+    (scan-map role size role' size' f keeps (stand_behind at (role x)) (room_behind at room (role x) (size x)) xs)
+    ∙ scanned-map f (turn at (role x) (nat_le (size x) room)) x (scan role size (stand_behind at (role x)) (room_behind at room (role x) (size x)) xs)
 
--- a call by the role of the first thing behind its name, with the rest of the call
-unfoldable pub call_by : {A : Type 0} → Role → Call A → Call A → Call A
-call_by Space rest inner = passed rest
-call_by Dropped rest inner = passed rest
-call_by Remark rest inner = passed rest
-call_by Start rest inner = passed inner
-call_by (Stops f line) rest inner = Broke f line
-call_by r rest inner = Lacking ArgumentsMissing
+-- a thing in front of parts, of things and of what they become
+split_by-map : {A B : Type 0} (f : A → B) (r : Role) (k : ℕ) (x : A) (s : Split A)
+    → split_by r k (f x) (record { first = map f s.first; further = map (map f) s.further })
+    ≡ record { first = map f (split_by r k x s).first; further = map (map f) (split_by r k x s).further }
+unfolding split_by
+split_by-map f Cut zero x s = refl
+split_by-map f Cut (suc k) x s = refl
+split_by-map f r k x s = refl
 
--- a call is that
-pub call_is : {A : Type 0} (role : A → Role) (size : A → ℕ) (room : ℕ) (x : A) (xs : List A)
-    → call_of role size room (x ∷ xs) ≡ call_by (role x) (call_of role size room xs) (inside_call role size 0 room xs)
-unfolding call_of call_by
-call_is role size room x xs = by_role (role x)
-  where
-    by_role : (r : Role)
-        → elim r [
-          | Space ↦ passed (call_of role size room xs)
-          | Dropped ↦ passed (call_of role size room xs)
-          | Remark ↦ passed (call_of role size room xs)
-          | Start ↦ passed (inside_call role size 0 room xs)
-          | Stops f line ↦ Broke f line
-          | _ ↦ Lacking ArgumentsMissing
-        ] ≡ call_by r (call_of role size room xs) (inside_call role size 0 room xs)
-    by_role Space = refl
-    by_role Dropped = refl
-    by_role Remark = refl
-    by_role Start = refl
-    by_role (Stops f line) = refl
-    by_role r = refl
+-- the parts commute with what keeps roles
+pub split-map : {A B : Type 0} (role : A → Role) (role' : B → Role) (f : A → B) → ((x : A) → role' (f x) ≡ role x) → (k : ℕ) (xs : List A)
+    → split role' k (map f xs) ≡ record { first = map f (split role k xs).first; further = map (map f) (split role k xs).further }
+unfolding split
+split-map role role' f keeps k [] = refl
+split-map {B = B} role role' f keeps k (x ∷ xs) =
+    ap (λ (r : Role). split_by r k (f x) (split role' (level_behind r k) (map f xs))) (keeps x)
+    ∙ ap (λ (s : Split B). split_by (role x) k (f x) s) (split-map role role' f keeps (level_behind (role x) k) xs)
+    ∙ split_by-map f (role x) k x (split role (level_behind (role x) k) xs)
 
--- a call by a role commutes
-call_by-map : {A B : Type 0} (f : A → B) (r : Role) (rest inner : Call A)
-    → call_by r (map_call f rest) (map_call f inner) ≡ map_call f (call_by r rest inner)
-unfolding call_by map_call
-call_by-map f Space rest inner = passed-map f rest
-call_by-map f Dropped rest inner = passed-map f rest
-call_by-map f Remark rest inner = passed-map f rest
-call_by-map f Start rest inner = passed-map f inner
-call_by-map f (Stops k line) rest inner = refl
-call_by-map f r rest inner = refl
+-- a call of a scan commutes with what keeps roles
+scan_call-map : {A B : Type 0} (role : A → Role) (role' : B → Role) (f : A → B) → ((x : A) → role' (f x) ≡ role x) → (k : ℕ) (s : Scanned A)
+    → call_of_scan role' k (map_scan f s) ≡ map_call f (call_of_scan role k s)
+unfolding call_of_scan map_call map_scan
+scan_call-map role role' f keeps k (Refused e) = refl
+scan_call-map role role' f keeps k (Stopped e line) = refl
+scan_call-map role role' f keeps k (Closed kept used) = rw (split-map role role' f keeps k kept) refl
 
--- the scan of a call commutes with what keeps roles and sizes
+-- and so does that of one which closed
+pub closed_call-map : {A B : Type 0} (role : A → Role) (role' : B → Role) (f : A → B) → ((x : A) → role' (f x) ≡ role x) → (k : ℕ) (kept : List A) (used : ℕ)
+    → call_of_scan role' k (Closed (map f kept) used) ≡ map_call f (call_of_scan role k (Closed kept used))
+unfolding map_scan
+closed_call-map role role' f keeps k kept used = scan_call-map role role' f keeps k (Closed kept used)
+
+-- a call commutes with what keeps roles and sizes
 pub call-map : {A B : Type 0} (role : A → Role) (size : A → ℕ) (role' : B → Role) (size' : B → ℕ) (f : A → B)
     → Keeps role size role' size' f → (room : ℕ) (xs : List A)
     → call_of role' size' room (map f xs) ≡ map_call f (call_of role size room xs)
-unfolding call_of map_call
-call-map {B = B} role size role' size' f keeps room [] = refl
-call-map {B = B} role size role' size' f keeps room (x ∷ xs) =
-    call_is role' size' room (f x) (map f xs)
-    ∙ ap (λ (r : Role). call_by r (call_of role' size' room (map f xs)) (inside_call role' size' 0 room (map f xs))) (keeps.role_of x)
-    ∙ ap (λ (c : Call B). call_by (role x) c (inside_call role' size' 0 room (map f xs))) (call-map role size role' size' f keeps room xs)
-    ∙ ap (λ (c : Call B). call_by (role x) (map_call f (call_of role size room xs)) c) (inside-map role size role' size' f keeps 0 room xs)
-    ∙ call_by-map f (role x) (call_of role size room xs) (inside_call role size 0 room xs)
-    ∙ sym (ap (map_call f) (call_is role size room x xs))
+call-map role size role' size' f keeps room xs =
+    ap (call_of_scan role' 0) (scan-map role size role' size' f keeps Before room xs)
+    ∙ scan_call-map role role' f keeps.role_of 0 (scan role size Before room xs)
 
 -- a map of a reversed list is the reverse of the map
 map-reverse : {A B : Type 0} (f : A → B) (xs : List A) → map f (reverse xs) ≡ reverse (map f xs)

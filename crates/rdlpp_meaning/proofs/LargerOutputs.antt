@@ -13,7 +13,7 @@ use Rattle.rdlpp_meaning.specs.State.{Defined, Accepted, Refused, Lookup, NoSour
 use Rattle.rdlpp_meaning.specs.Parts.{Command, line_ends_of, Piece, Run, Single, Opening, Branching, Closing, pieces, parts_of}
 use Rattle.rdlpp_meaning.specs.Meaning.{Passage, leaves, behind_bytes, goes_on, refusal, Nest, skipped_run, Checked, Fine, Faulty, macro_name, defines, undefines, origin_line, at_start_of, back_in, added_end, includes, includes_found, unquoted, includes_named, includes_given, Renumbered, renumbered, renumbers, single, Progress, Test, Stopped, Holds, by_test, is_defined, name_test, wants_defined, opening_within, opening, in_conditional, past_conditional, is_else, turn, outcome, skipped_command, begun, turned, unclosed, mean, nest_of, text_meaning}
 use Rattle.rdlpp_meaning.specs.LimitLaws.{is_limit, NamesNoLimit, IsLarger}
-use Rattle.rdlpp_meaning.proofs.LargerCalls.{wider, roomier, Agrees, run-agrees}
+use Rattle.rdlpp_meaning.proofs.LargerRuns.{Agrees, IsFault, TornAgrees, run-agrees, run-torn, skip-torn}
 use Rattle.std.proofs.lemmas.Bool.{leb-true, leb-false}
 use Rattle.rdlpp_scan.specs.Front.{Breach}
 use Rattle.rdlpp_table.specs.declared.limits.Limits.{Limits}
@@ -29,11 +29,15 @@ use Rattle.rdlpp_meaning.specs.Items.{Written}
 use Rattle.rdlpp_meaning.specs.Actuals.{token_role}
 use Rattle.rdlpp_meaning.proofs.OutputLimits.{limited-within, limited-over}
 use Rattle.rdlpp_meaning.proofs.Walks.{expand_walk}
-use Rattle.rdlpp_meaning.proofs.TornCalls.{TornBy, IsFault, TornAgrees, run-torn, skip-torn}
+use Rattle.rdlpp_meaning.proofs.TornCalls.{roomier, TornBy}
 use Rattle.rdlpp_meaning.proofs.TornPieces.{TokensTorn, run_front, EndsTorn, PiecesTorn, FirstUnbroken, pieces-torn}
 use Rattle.rdlpp_meaning.proofs.TornTokens.{unpassed}
 use Rattle.rdlpp_meaning.proofs.TornSources.{sources-torn}
 use Rattle.rdlpp_meaning.proofs.Resuming.{mean_resumes}
+
+-- rules with other limits
+abbrev pub wider : Rules → ℕ → ℕ → (List Macro → List ℕ → Defined) → (List ℕ → List SourceToken) → Rules
+wider rules depth most define tokens = record rules { depth = depth; argument_bytes = most; define = define; tokens = tokens }
 
 -- a passage that leaves more room
 abbrev pub lifted : ℕ → ℕ → Passage → Passage
@@ -429,7 +433,7 @@ piece-agrees rules depth most define tokens more nest nest' w h (Run ts) ps qs r
     behind-agrees rules depth most define tokens more nest nest' ps qs (Live os) (leaves (run_outcome rules s ts) s)
     (leaves (run_outcome (wider rules depth most define tokens) (roomier sources more s) ts) (roomier sources more s)) r
     (leaves-agrees sources more s (run_outcome rules s ts) (run_outcome (wider rules depth most define tokens) (roomier sources more s) ts)
-    (run-agrees rules depth most define tokens s sources more ts w.bytes w.depths))
+    (run-agrees rules (wider rules depth most define tokens) s sources more w.bytes ts w.depths))
 piece-agrees rules depth most define tokens more nest nest' w h (Single c) ps qs r (Live os) sources s =
     behind-agrees rules depth most define tokens more nest nest' ps qs (Live os) (single rules nest c s)
     (single (wider rules depth most define tokens) nest' c (roomier sources more s)) r
@@ -479,9 +483,9 @@ faulty-by sources more x (Some g) b s next next' h k =
     λ n. (sources, ap (λ (o : Outcome). goes_on (leaves o (roomier sources more s)) next') (k n))
 
 -- what goes on behind torn outcomes agrees
-faulty-agrees : (sources more : ℕ) (a b : Outcome) (s : State) (next next' : State → Passage) → TornAgrees a b
+faulty-agrees : (sources more : ℕ) (a b : Outcome) (s : State) (next next' : State → Passage) → TornAgrees Unit a b
     → PassageAgrees more (goes_on (leaves a s) next) (goes_on (leaves b (roomier sources more s)) next')
-faulty-agrees sources more a b s next next' h = faulty-by sources more a.bytes a.fault b s next next' h.faulty h.agrees
+faulty-agrees sources more a b s next next' h = faulty-by sources more a.bytes a.fault b s next next' (h.faulty tt) h.agrees
 
 -- a torn token alone ends in its fault
 tear-fault : (rules : Rules) (s : State) (b : Breach) (bytes : List ℕ) (line : ℕ)
@@ -530,7 +534,7 @@ later-torn rules depth most define tokens more nest nest' w xs b bytes line us q
     let t : SourceToken = record { sort = Broken b; bytes = bytes; line = line } in
     faulty-agrees sources more (run_outcome rules s (xs ++ t ∷ [])) (run_outcome (wider rules depth most define tokens) (roomier sources more s) (xs ++ us)) s
     (λ after. resume rules nest (Live os) [] after) (λ after. resume (wider rules depth most define tokens) nest' (Live os) qs after)
-    (run-torn rules depth most define tokens s sources more xs b bytes line us w.bytes w.depths limit torn)
+    (run-torn rules (wider rules depth most define tokens) s sources more w.bytes xs b bytes line us w.depths limit torn)
 later-torn rules depth most define tokens more nest nest' w xs b bytes line us qs limit torn (Skipped n o os) sources s =
     let t : SourceToken = record { sort = Broken b; bytes = bytes; line = line } in
     faulty-agrees sources more (skipped_run s (xs ++ t ∷ [])) (skipped_run (roomier sources more s) (xs ++ us)) s

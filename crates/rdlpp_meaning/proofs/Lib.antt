@@ -19,7 +19,7 @@ pub mod Cover
 pub mod PlainOutputs
 pub mod SkippedStretches
 pub mod Undefining
-pub mod LargerCalls
+pub mod LargerRuns
 pub mod LargerOutputs
 pub mod OutputLimits
 pub mod BorderRows
@@ -36,7 +36,6 @@ pub mod TornCalls
 pub mod TornPieces
 pub mod TornTokens
 pub mod TornSources
-pub mod LeftScan
 pub mod SourceScans
 pub mod ClosedScans
 pub mod CallReadings
@@ -48,6 +47,5 @@ pub mod OpenScopes
 pub mod FormalItems
 pub mod OpenSteps
 pub mod OpenCalls
-pub mod OpenRows
 pub mod RestTokens
 pub mod TableTexts

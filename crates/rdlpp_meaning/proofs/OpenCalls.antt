@@ -20,7 +20,7 @@ use Rattle.rdlpp_meaning.specs.OpenItems.{part_items, own_item, item_at, open_it
 use Rattle.rdlpp_meaning.proofs.Outcomes.{and_then-assoc, and_then-fails}
 use Rattle.rdlpp_meaning.proofs.Walks.{deeper_of}
 use Rattle.rdlpp_meaning.proofs.Calls.{walk_skip}
-use Rattle.rdlpp_meaning.proofs.LargerCalls.{usage_walk}
+use Rattle.rdlpp_meaning.proofs.Usages.{usage_walk}
 use Rattle.rdlpp_meaning.proofs.OpenScopes.{first_kind, first_bytes, first_behind, text-around, next_is}
 use Rattle.rdlpp_meaning.proofs.OpenSteps.{room_in, usage-left, behind-walk, opens-room, opens-deep, body-items, body-writers, scope-writers}
 use Rattle.rdlpp_meaning.proofs.TokenUsages.{KeepsReads, map_usage, usage-map}
@@ -169,7 +169,7 @@ first_usage rules s line texts x below =
 usage-walks-on : (rules : Rules) (s : State) (line depth : ℕ) (texts : Texts) (x : Open) (below : List Open) (u : Usage SourceToken)
     → 0 < length (open_bytes texts x below) → first_kind texts x below ≡ Back → first_usage rules s line texts x below ≡ u
     → open_left rules s line depth texts (x ∷ below)
-    ≡ and_then (usage_walk rules s (deeper_of rules s (room_in depth below)) (Some line) (open_writers texts x below) line (drop 1 (first_bytes texts x below))
+    ≡ and_then (usage_walk rules s (deeper_of rules s (room_in depth below)) (Some line) (open_writers texts x below) line
     (open_items texts (first_behind texts x below) below) (map_usage (item_at texts (x ∷ below) (open_scope x below)) u)) (open_left rules s line depth texts below)
 unfolding first_usage
 usage-walks-on rules s line depth texts x below u some back comes =

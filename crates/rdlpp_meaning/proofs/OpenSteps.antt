@@ -25,7 +25,7 @@ use Rattle.rdlpp_meaning.proofs.Outcomes.{and_then-nil, and_then-assoc, and_then
 use Rattle.rdlpp_meaning.proofs.Walks.{deeper_of, expand_walk, walk_copied}
 use Rattle.rdlpp_meaning.proofs.TextRanges.{text_step, text_nil, first_spelled}
 use Rattle.rdlpp_meaning.proofs.OpenScopes.{range_behind, first_kind, first_bytes, first_behind, Alone, part-whole, item-own, writers-own}
-use Rattle.rdlpp_meaning.proofs.LargerCalls.{usage_walk, usage_walks}
+use Rattle.rdlpp_meaning.proofs.Usages.{usage_walk, usage_walks}
 use Rattle.rdlpp_meaning.proofs.FormalItems.{text-mark, IsMarkOf, StandsFor, name-stands, name_token}
 
 -- the items of a mark as a list are those that were packed
@@ -285,7 +285,7 @@ pub usage-left : (rules : Rules) (s : State) (line depth : ℕ) (texts : Texts) 
     → 0 < length (open_bytes texts x below) → first_kind texts x below ≡ Back
     → usage_of rules s (item_reads (Some line)) line (open_writers texts x below) (drop 1 (first_bytes texts x below)) (open_items texts (first_behind texts x below) below) ≡ u
     → open_left rules s line depth texts (x ∷ below)
-    ≡ and_then (usage_walk rules s (deeper_of rules s (room_in depth below)) (Some line) (open_writers texts x below) line (drop 1 (first_bytes texts x below))
+    ≡ and_then (usage_walk rules s (deeper_of rules s (room_in depth below)) (Some line) (open_writers texts x below) line
     (open_items texts (first_behind texts x below) below) u) (open_left rules s line depth texts below)
 unfolding marked
 usage-left rules s line depth texts x below u some e comes =

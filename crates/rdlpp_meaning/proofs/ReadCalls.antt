@@ -4,9 +4,9 @@ use Rattle.std.specs.Prelude.{All}
 use Rattle.rdlpp_scan.specs.declared.token.Mode.{Mode}
 use Rattle.rdlpp_scan.specs.SourceTokens.{SourceToken, Course, source_tokens}
 use Rattle.rdlpp_meaning.specs.declared.fault.FaultKind.{FaultKind}
-use Rattle.rdlpp_meaning.specs.Actuals.{Lacking, Broke, map_call, call_of, token_role, kept}
+use Rattle.rdlpp_meaning.specs.Actuals.{Lacking, Broke, map_call, token_role, kept}
 use Rattle.rdlpp_meaning.specs.CallReading.{ReadRefused, ReadStopped, ReadClosed, read, reading_of}
-use Rattle.rdlpp_meaning.specs.CallScan.{Before, Scanned, Refused, Stopped, Closed, scan, call_of_scan, is_kept, source_role}
+use Rattle.rdlpp_meaning.specs.CallScan.{Before, Scanned, Refused, Stopped, Closed, scan, call_of_scan, is_kept, source_role, call_of}
 use Rattle.rdlpp_meaning.specs.Expansion.{bytes_of}
 use Rattle.rdlpp_meaning.specs.Resumed.{leading}
 use Rattle.rdlpp_meaning.specs.Substitution.{body_tokens}
@@ -15,7 +15,8 @@ use Rattle.rdlpp_meaning.proofs.CallReadings.{read_is_scan}
 use Rattle.rdlpp_meaning.proofs.ClosedScans.{closed_scan}
 use Rattle.rdlpp_meaning.proofs.KeptTexts.{kept_call_keeps, kept_call_text}
 use Rattle.rdlpp_meaning.proofs.SourceScans.{call_of_source}
-use Rattle.rdlpp_meaning.proofs.UnlinedTokens.{unlined_role, closed_call-map}
+use Rattle.rdlpp_meaning.proofs.Commuting.{closed_call-map}
+use Rattle.rdlpp_meaning.proofs.UnlinedTokens.{unlined_role}
 
 -- a reading that closes is a scan that does
 closed_reading : (ts : List SourceToken) (s : Scanned SourceToken) (bytes : List ℕ) (behind : List SourceToken) → reading_of ts s ≡ ReadClosed bytes behind

@@ -3,12 +3,11 @@ use Rattle.std.proofs.Common.{◌≡◌, ℕ, Bool, List, [], ◌∷◌, refl, s
 use Rattle.std.specs.Prelude.{nat_le}
 use Rattle.rdlpp_scan.specs.declared.token.Directive.{Directive}
 use Rattle.rdlpp_scan.specs.SourceTokens.{SourceToken}
-use Rattle.rdlpp_meaning.specs.Actuals.{Role, Halt, call_of, token_role}
-use Rattle.rdlpp_meaning.specs.CallScan.{Stand, Before, Inside, turn_before, turn_inside, turn, stand_behind, room_behind, fault_at_end, Scanned, Refused, scanned, scan, call_of_scan, source_role}
+use Rattle.rdlpp_meaning.specs.Actuals.{Role, Halt, token_role}
+use Rattle.rdlpp_meaning.specs.CallScan.{Stand, Before, Inside, turn_before, turn_inside, turn, stand_behind, room_behind, fault_at_end, Scanned, Refused, scanned, scan, call_of_scan, source_role, call_of}
 use Rattle.rdlpp_meaning.specs.Parts.{directive_of}
 use Rattle.rdlpp_meaning.specs.Resumed.{leading}
 use Rattle.rdlpp_meaning.proofs.Leading.{leading_text, leading_directive}
-use Rattle.rdlpp_meaning.proofs.LeftScan.{call_is_scan}
 
 -- the role of a token that begins no directive
 pub source_role_text : (t : SourceToken) → directive_of t ≡ None → source_role t ≡ token_role t
@@ -20,8 +19,8 @@ pub source_role_directive : (t : SourceToken) (d : Directive) → directive_of t
 unfolding source_role
 source_role_directive t d e = rw (e, source_role) refl
 
--- a directive ends a scan as nothing more does
-halted : (at : Stand) (fits : Bool) (t : SourceToken) (rest : Scanned SourceToken) → Refused (fault_at_end at) ≡ scanned (turn at Halt fits) t rest
+-- what ends the run ends a scan as nothing more does
+pub halted : {A : Type 0} (at : Stand) (fits : Bool) (t : A) (rest : Scanned A) → Refused (fault_at_end at) ≡ scanned (turn at Halt fits) t rest
 unfolding fault_at_end scanned turn turn_before turn_inside
 halted Before fits t rest = refl
 halted (Inside k) fits t rest = refl
@@ -55,5 +54,4 @@ scan_leading size (t ∷ ts) at room = scan_by size at room t ts (directive_of t
 -- a call in front of the first directive of a source is what the scan of all its tokens comes to, where a directive halts
 pub call_of_source : (size : SourceToken → ℕ) (room : ℕ) (ts : List SourceToken)
     → call_of token_role size room (leading ts) ≡ call_of_scan token_role 0 (scan source_role size Before room ts)
-call_of_source size room ts =
-    call_is_scan token_role size room (leading ts) ∙ ap (call_of_scan token_role 0) (scan_leading size ts Before room)
+call_of_source size room ts = ap (call_of_scan token_role 0) (scan_leading size ts Before room)

@@ -9,9 +9,10 @@ use Rattle.rdlpp_table.specs.Table.{Formal, Macro, macro_named}
 use Rattle.rdlpp_meaning.specs.declared.fault.FaultKind.TheVariants.{UndefinedMacro, RecursiveMacro, DirectiveInText, ArgumentCount}
 use Rattle.rdlpp_meaning.specs.State.{Rules, State}
 use Rattle.rdlpp_meaning.specs.Items.{Written, unlined_item}
-use Rattle.rdlpp_meaning.specs.Actuals.{Call, Lacking, Broke, Bound, call_of, trimmed, item_role, item_size, kept, map_call, Reads, item_reads, source_reads, actual_of}
+use Rattle.rdlpp_meaning.specs.Actuals.{Call, Lacking, Broke, Bound, trimmed, item_role, item_size, kept, map_call, Reads, item_reads, source_reads, actual_of}
 use Rattle.rdlpp_meaning.specs.Expansion.{Usage, Refuses, Opens, bound_parts, is_count, usage_of_call, usage_of_formals, usage_of_macro, usage_of}
 use Rattle.rdlpp_meaning.proofs.Commuting.{Keeps, call-map, trimmed-map}
+use Rattle.rdlpp_meaning.specs.CallScan.{call_of}
 
 -- a usage with its actuals as what they become
 unfoldable pub map_usage : {A B : Type 0} → (A → B) → Usage A → Usage B

@@ -1,13 +1,14 @@
 -- The lines of tokens that aren't broken count for nothing in a call: not for roles, parts, trimming or bytes.
-use Rattle.std.proofs.Common.{◌≡◌, ℕ, zero, suc, Bool, true, false, cond, List, [], ◌∷◌, ◌++◌, map, take, drop, filter, refl, sym, ap, ◌∙◌, Option, None, Some}
+use Rattle.std.proofs.Common.{◌≡◌, ℕ, Bool, true, false, cond, List, [], ◌∷◌, ◌++◌, map, take, drop, filter, refl, sym, ap, ◌∙◌, Option, None, Some}
 use Rattle.rdlpp_scan.specs.declared.token.Directive.{Directive}
 use Rattle.rdlpp_scan.specs.declared.token.Kind.TheVariants.{Back}
 use Rattle.rdlpp_scan.specs.declared.token.Mode.TheVariants.{Plain}
 use Rattle.rdlpp_scan.specs.declared.token.Token.{Token}
 use Rattle.rdlpp_scan.specs.Tokens.{tokens_from}
 use Rattle.rdlpp_scan.specs.SourceTokens.{Sort, Ordinary, Definition, Renumbering, Broken, SourceToken}
-use Rattle.rdlpp_meaning.specs.Actuals.{Role, Cut, Halt, Text, map_call, level_behind, kind_role, token_role, trimmed, text_reads, actual_of}
-use Rattle.rdlpp_meaning.specs.CallScan.{Closed, Split, split_by, split, all_parts, call_of_scan, source_role, is_kept}
+use Rattle.rdlpp_meaning.proofs.Commuting.{split-map}
+use Rattle.rdlpp_meaning.specs.Actuals.{Role, Halt, Text, kind_role, token_role, trimmed, text_reads, actual_of}
+use Rattle.rdlpp_meaning.specs.CallScan.{Split, split, all_parts, source_role, is_kept}
 use Rattle.rdlpp_meaning.specs.Expansion.{bytes_of}
 use Rattle.rdlpp_meaning.specs.Parts.{directive_named, directive_of}
 use Rattle.rdlpp_meaning.specs.Items.{broken_line, unlined}
@@ -32,31 +33,6 @@ pub unlined_bytes : (ts : List SourceToken) → bytes_of (map unlined ts) ≡ by
 unfolding unlined
 unlined_bytes [] = refl
 unlined_bytes (t ∷ ts) = ap (λ (x : List ℕ). t.bytes ++ x) (unlined_bytes ts)
-
--- a thing in front of parts, of things and of what they become
-split_by-map : {A B : Type 0} (f : A → B) (r : Role) (k : ℕ) (x : A) (s : Split A)
-    → split_by r k (f x) (record { first = map f s.first; further = map (map f) s.further })
-    ≡ record { first = map f (split_by r k x s).first; further = map (map f) (split_by r k x s).further }
-unfolding split_by
-split_by-map f Cut zero x s = refl
-split_by-map f Cut (suc k) x s = refl
-split_by-map f r k x s = refl
-
--- the parts commute with what keeps roles
-pub split-map : {A B : Type 0} (role : A → Role) (role' : B → Role) (f : A → B) → ((x : A) → role' (f x) ≡ role x) → (k : ℕ) (xs : List A)
-    → split role' k (map f xs) ≡ record { first = map f (split role k xs).first; further = map (map f) (split role k xs).further }
-unfolding split
-split-map role role' f keeps k [] = refl
-split-map {B = B} role role' f keeps k (x ∷ xs) =
-    ap (λ (r : Role). split_by r k (f x) (split role' (level_behind r k) (map f xs))) (keeps x)
-    ∙ ap (λ (s : Split B). split_by (role x) k (f x) s) (split-map role role' f keeps (level_behind (role x) k) xs)
-    ∙ split_by-map f (role x) k x (split role (level_behind (role x) k) xs)
-
--- a call of a scan commutes with what keeps roles
-pub closed_call-map : {A B : Type 0} (role : A → Role) (role' : B → Role) (f : A → B) → ((x : A) → role' (f x) ≡ role x) → (k : ℕ) (kept : List A) (used : ℕ)
-    → call_of_scan role' k (Closed (map f kept) used) ≡ map_call f (call_of_scan role k (Closed kept used))
-unfolding call_of_scan map_call
-closed_call-map role role' f keeps k kept used = rw (split-map role role' f keeps k kept) refl
 
 -- tokens of a text have no line
 unlined-spelled : (ts : List Token) (bytes : List ℕ) → map unlined (spelled ts bytes) ≡ spelled ts bytes

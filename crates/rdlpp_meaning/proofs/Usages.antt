@@ -1,7 +1,9 @@
 -- Laws of usages: of a name that isn't defined, and of a macro without a list.
 use Rattle.rdlpp_meaning.specs.Actuals.{item_reads}
-use Rattle.std.proofs.Common.{◌≡◌, ℕ, false, List, [], ◌∷◌, map, refl, ◌∙◌, Option, None}
-use Rattle.rdlpp_scan.specs.SourceTokens.{SourceToken}
+use Rattle.std.proofs.Common.{◌≡◌, ℕ, false, List, [], ◌∷◌, map, drop, refl, ◌∙◌, Option, None}
+use Rattle.std.specs.Prelude.{unwrap_or}
+use Rattle.rdlpp_scan.specs.declared.token.Kind.TheVariants.{Back}
+use Rattle.rdlpp_scan.specs.SourceTokens.{SourceToken, Ordinary}
 use Rattle.rdlpp_scan.specs.Reserved.{is_reserved}
 use Rattle.rdlpp_table.specs.Table.{macro_named}
 use Rattle.rdlpp_meaning.specs.declared.fault.FaultKind.{FaultKind}
@@ -21,24 +23,25 @@ unfolding usage_of
 usage_none rules s source line o name xs r e = rw (r, e) refl
 
 -- what a usage writes in front of further items, by what it comes to
-unfoldable pub after_usage : Rules → State → (ℕ → List (List ℕ) → List Item → Outcome) → ℕ → List Item → Usage Item → Outcome
-after_usage rules s deeper line xs (Refuses f word at) = fails (fault_at f at word s)
-after_usage rules s deeper line xs (Opens m actuals used) =
-    and_then (deeper line (m.name ∷ []) (substituted m actuals [])) (walk rules s deeper None [] used xs)
+unfoldable pub usage_walk : Rules → State → (ℕ → List (List ℕ) → List Item → Outcome) → Option ℕ → List (List ℕ) → ℕ → List Item → Usage Item → Outcome
+usage_walk rules s deeper source o line xs (Refuses f word at) = fails (fault_at f at word s)
+usage_walk rules s deeper source o line xs (Opens m actuals used) =
+    and_then (deeper line (m.name ∷ o) (substituted m actuals o)) (walk rules s deeper source o used xs)
 
--- a usage in a source writes that
-pub walk_usage : (rules : Rules) (s : State) (deeper : ℕ → List (List ℕ) → List Item → Outcome) (name : List ℕ) (line : ℕ) (xs : List Item) (u : Usage Item)
-    → usage_of rules s (item_reads None) line [] name xs ≡ u
-    → walk rules s deeper None [] 0 (Written (usage_token name line) ∷ xs) ≡ after_usage rules s deeper line xs u
-unfolding walk after_usage name_of
-walk_usage rules s deeper name line xs (Refuses f word at) e = rw (e, walk) refl
-walk_usage rules s deeper name line xs (Opens m actuals used) e = rw (e, walk) refl
+-- a usage writes that
+pub usage_walks : (rules : Rules) (s : State) (deeper : ℕ → List (List ℕ) → List Item → Outcome) (source : Option ℕ) (o : List (List ℕ)) (bytes : List ℕ) (line : ℕ) (xs : List Item) (u : Usage Item)
+    → usage_of rules s (item_reads source) (unwrap_or source line) o (drop 1 bytes) xs ≡ u
+    → walk rules s deeper source o 0 (Written (record { sort = Ordinary Back; bytes = bytes; line = line }) ∷ xs)
+    ≡ usage_walk rules s deeper source o (unwrap_or source line) xs u
+unfolding walk usage_walk name_of
+usage_walks rules s deeper source o bytes line xs (Refuses f word at) e = rw (e, walk) refl
+usage_walks rules s deeper source o bytes line xs (Opens m actuals used) e = rw (e, walk) refl
 
 -- a run that begins with a usage that is refused fails with its fault
 pub run_refused : (rules : Rules) (s : State) (name : List ℕ) (line : ℕ) (us : List SourceToken) (f : FaultKind) (word : List ℕ) (at : ℕ)
     → usage_of rules s (item_reads None) line [] name (map Written us) ≡ Refuses f word at
     → run_outcome rules s (usage_token name line ∷ us) ≡ fails (fault_at f at word s)
-unfolding run_outcome after_usage
+unfolding run_outcome usage_walk
 run_refused rules s name line us f word at e =
     expand_walk rules s rules.depth None [] (map Written (usage_token name line ∷ us))
-    ∙ walk_usage rules s (deeper_of rules s rules.depth) name line (map Written us) (Refuses f word at) e
+    ∙ usage_walks rules s (deeper_of rules s rules.depth) None [] (96 ∷ name) line (map Written us) (Refuses f word at) e

@@ -1,13 +1,12 @@
--- The actuals of a call: what stands between its parentheses, by the role that each thing has in a call.
+-- The actuals of a call: the role that each thing has in a call, and what a part between its parentheses is as an actual.
 -- A definition that names no source is this project's own.
-use Rattle.std.specs.Prelude.{ℕ, zero, suc, ◌-◌, Bool, true, false, ◌==◌, nat_le, List, [], ◌∷◌, map, reverse, length, drop, slice_index, Option, None, Some, if◌then◌else◌}
+use Rattle.std.specs.Prelude.{ℕ, suc, ◌-◌, Bool, true, false, ◌==◌, List, map, reverse, length, drop, slice_index, Option, None, Some, if◌then◌else◌}
 use Rattle.std.specs.List.{prefix_len}
 use Rattle.rdlpp_scan.specs.declared.token.Kind.{Kind}
 use Rattle.rdlpp_scan.specs.declared.token.Kind.TheVariants.{Blank, LineEnd, LineComment, BlockComment, Opener, Closer, Comma}
 use Rattle.rdlpp_scan.specs.Front.{Breach, DefineLong, DefineCut}
 use Rattle.rdlpp_scan.specs.SourceTokens.{Ordinary, Broken, SourceToken}
 use Rattle.rdlpp_meaning.specs.declared.fault.FaultKind.{FaultKind}
-use Rattle.rdlpp_meaning.specs.declared.fault.FaultKind.TheVariants.{ArgumentsMissing, ArgumentsOpen, ArgumentBytes}
 use Rattle.rdlpp_meaning.specs.State.{breach_kind}
 use Rattle.rdlpp_meaning.specs.Items.{Item, Written, Arg, unlined, unlined_item}
 
@@ -31,24 +30,6 @@ map_call f (Lacking k) = Lacking k
 map_call f (Broke k line) = Broke k line
 map_call f (Bound first further used) = Bound (map f first) (map (map f) further) used
 
--- a thing that is passed over in front of a call
-unfoldable pub passed : {A : Type 0} → Call A → Call A
-passed (Lacking f) = Lacking f
-passed (Broke f line) = Broke f line
-passed (Bound first further used) = Bound first further (suc used)
-
--- a thing in front of the first part of a call
-unfoldable pub put : {A : Type 0} → A → Call A → Call A
-put x (Lacking f) = Lacking f
-put x (Broke f line) = Broke f line
-put x (Bound first further used) = Bound (x ∷ first) further (suc used)
-
--- a comma in front of the first part of a call
-unfoldable pub parted : {A : Type 0} → Call A → Call A
-parted (Lacking f) = Lacking f
-parted (Broke f line) = Broke f line
-parted (Bound first further used) = Bound [] (first ∷ further) (suc used)
-
 -- the level of openers behind a thing (source: this project's profile)
 unfoldable pub level_behind : Role → ℕ → ℕ
 level_behind Start k = suc k
@@ -61,36 +42,6 @@ level_behind r k = k
 unfoldable pub kept_size : Role → ℕ → ℕ
 kept_size Dropped n = 0
 kept_size r n = n
-
--- a thing at a level of openers, which fits what may be kept or not, in front of the rest of a call (source: this project's profile)
-unfoldable pub heed : {A : Type 0} → Role → ℕ → Bool → A → Call A → Call A
-heed End zero fits x rest = Bound [] [] 1
-heed Dropped k fits x rest = passed rest
-heed Halt k fits x rest = Lacking ArgumentsOpen
-heed r k false x rest = Lacking ArgumentBytes
-heed Cut zero true x rest = parted rest
-heed (Ends f line) k true x rest = Broke f line
-heed (Stops f line) k true x rest = Broke f line
-heed r k true x rest = put x rest
-
--- what stands in a call behind its `(`, at a level of openers and with room for so many kept bytes (source: this project's profile)
-unfoldable pub inside_call : {A : Type 0} → (A → Role) → (A → ℕ) → ℕ → ℕ → List A → Call A
-inside_call role size k room [] = Lacking ArgumentsOpen
-inside_call role size k room (x ∷ xs) =
-    heed (role x) k (nat_le (size x) room) x
-    (inside_call role size (level_behind (role x) k) (room - kept_size (role x) (size x)) xs)
-
--- a call behind the name of its macro (source: this project's profile)
-unfoldable pub call_of : {A : Type 0} → (A → Role) → (A → ℕ) → ℕ → List A → Call A
-call_of role size room [] = Lacking ArgumentsMissing
-call_of role size room (x ∷ xs) = elim (role x) [
-  | Space ↦ passed (call_of role size room xs)
-  | Dropped ↦ passed (call_of role size room xs)
-  | Remark ↦ passed (call_of role size room xs)
-  | Start ↦ passed (inside_call role size 0 room xs)
-  | Stops f line ↦ Broke f line
-  | _ ↦ Lacking ArgumentsMissing
-]
 
 -- whether a role is white space
 unfoldable pub is_space : Role → Bool

@@ -1,4 +1,4 @@
--- The scan of a call from the left, a thing at a turn, and the parts of what it keeps.
+-- A call behind the name of its macro: its scan from the left, a thing at a turn, and the parts of what the scan keeps.
 -- A definition that names no source is this project's own.
 use Rattle.std.specs.Prelude.{◌≡◌, ℕ, zero, suc, ◌+◌, ◌-◌, Bool, true, false, nat_le, List, [], ◌∷◌, ◌++◌, length, filter, All, None, Some}
 use Rattle.rdlpp_scan.specs.SourceTokens.{SourceToken}
@@ -75,22 +75,16 @@ pub data Scanned (A : Type 0) : Type 0 where
   Stopped : FaultKind → ℕ → Scanned A
   Closed : List A → ℕ → Scanned A
 
--- a scan with a thing in front that it passes
-unfoldable pub scan_passing : {A : Type 0} → Scanned A → Scanned A
-scan_passing (Refused f) = Refused f
-scan_passing (Stopped f line) = Stopped f line
-scan_passing (Closed kept used) = Closed kept (suc used)
-
--- a scan with a thing in front that it keeps
-unfoldable pub scan_keeping : {A : Type 0} → A → Scanned A → Scanned A
-scan_keeping x (Refused f) = Refused f
-scan_keeping x (Stopped f line) = Stopped f line
-scan_keeping x (Closed kept used) = Closed (x ∷ kept) (suc used)
+-- a scan with things in front that it keeps, of one more that it took
+unfoldable pub scan_onto : {A : Type 0} → List A → Scanned A → Scanned A
+scan_onto front (Refused f) = Refused f
+scan_onto front (Stopped f line) = Stopped f line
+scan_onto front (Closed kept used) = Closed (front ++ kept) (suc used)
 
 -- a scan by what it does at the first thing, in front of the scan of the rest
 unfoldable pub scanned : {A : Type 0} → Turn → A → Scanned A → Scanned A
-scanned Passes x rest = scan_passing rest
-scanned Keeps x rest = scan_keeping x rest
+scanned Passes x rest = scan_onto [] rest
+scanned Keeps x rest = scan_onto (x ∷ []) rest
 scanned Closes x rest = Closed [] 1
 scanned (Refuses f) x rest = Refused f
 scanned (Breaks f line) x rest = Stopped f line
@@ -127,6 +121,10 @@ unfoldable pub call_of_scan : {A : Type 0} → (A → Role) → ℕ → Scanned 
 call_of_scan role k (Refused f) = Lacking f
 call_of_scan role k (Stopped f line) = Broke f line
 call_of_scan role k (Closed kept used) = Bound (split role k kept).first (split role k kept).further used
+
+-- a call behind the name of its macro, with room for so many kept bytes (source: this project's profile)
+abbrev pub call_of : {A : Type 0} → (A → Role) → (A → ℕ) → ℕ → List A → Call A
+call_of role size room xs = call_of_scan role 0 (scan role size Before room xs)
 
 -- the role of a token of a source: a directive ends the run, as a broken `define` does (source: this project's profile)
 unfoldable pub source_role : SourceToken → Role

@@ -11,8 +11,9 @@ use Rattle.rdlpp_meaning.specs.declared.fault.FaultKind.TheVariants.{BareBackquo
 use Rattle.rdlpp_meaning.specs.Outcome.{Outcome, gives, fails, and_then}
 use Rattle.rdlpp_meaning.specs.State.{Rules, State, fault_at, breach_kind}
 use Rattle.rdlpp_meaning.specs.Items.{Item, Written, Arg, listed}
-use Rattle.rdlpp_meaning.specs.Actuals.{Call, Lacking, Broke, Bound, call_of, Reads, item_reads, actual_of}
+use Rattle.rdlpp_meaning.specs.Actuals.{Call, Lacking, Broke, Bound, Reads, item_reads, actual_of}
 use Rattle.rdlpp_meaning.specs.Substitution.{substituted}
+use Rattle.rdlpp_meaning.specs.CallScan.{call_of}
 
 -- what a usage comes to: a fault with its word and line, or a macro whose body is opened, its actuals, and how many things
 -- the usage took behind its name (source: this project's profile)

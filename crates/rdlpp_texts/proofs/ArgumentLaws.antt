@@ -6,14 +6,13 @@ use Rattle.rdlpp_scan.specs.declared.token.Mode.TheVariants.{Plain}
 use Rattle.rdlpp_scan.specs.SourceTokens.{SourceToken}
 use Rattle.rdlpp_meaning.specs.declared.fault.FaultKind.{FaultKind}
 use Rattle.rdlpp_meaning.specs.declared.fault.FaultKind.TheVariants.{ArgumentsMissing, ArgumentsOpen}
-use Rattle.rdlpp_meaning.specs.Actuals.{Lacking, call_of, token_role, not_kept}
-use Rattle.rdlpp_meaning.specs.CallScan.{Inside, Refused, Closed, scan_passing, scan, call_of_scan, is_kept, is_call_text}
+use Rattle.rdlpp_meaning.specs.Actuals.{Lacking, token_role, not_kept}
+use Rattle.rdlpp_meaning.specs.CallScan.{Inside, Refused, Closed, scan_onto, scan, call_of_scan, is_kept, is_call_text, call_of}
 use Rattle.rdlpp_meaning.specs.Expansion.{bytes_of}
 use Rattle.rdlpp_meaning.specs.Substitution.{body_tokens}
 use Rattle.rdlpp_meaning.specs.TextTokens.{text_tokens}
 use Rattle.rdlpp_meaning.proofs.ClosedScans.{behind_cut}
 use Rattle.rdlpp_meaning.proofs.Cover.{body_covered}
-use Rattle.rdlpp_meaning.proofs.LeftScan.{call_is_scan}
 use Rattle.rdlpp_meaning.proofs.TextRanges.{body_text, closes_text, is_one_role, text_cut, text_behind, text_one}
 use Rattle.rdlpp_texts.specs.CallParts.{opener_from, inner_size, inner_tokens}
 use Rattle.rdlpp_texts.proofs.CallLaws.{text_is_text, passing, IsLed, opener_none, opener_some, IsEnded, IsUnclosed, ended}
@@ -49,17 +48,17 @@ opened text from e =
 
 -- a scan that closes behind things that it passes
 passing_closed : {A : Type 0} (n : ℕ) (ks : List A) (used : ℕ) → passing n (Closed ks used) ≡ Closed ks (n + used)
-unfolding passing scan_passing
+unfolding passing scan_onto
 passing_closed zero ks used = let e : used ≡ 0 + used = omega arith in ap (λ i. Closed ks i) e
 passing_closed (suc n) ks used =
     let e : suc (n + used) ≡ suc n + used = omega arith in
-    ap scan_passing (passing_closed n ks used) ∙ ap (λ i. Closed ks i) e
+    ap (scan_onto []) (passing_closed n ks used) ∙ ap (λ i. Closed ks i) e
 
 -- a scan that lacks something behind things that it passes
 passing_refused : {A : Type 0} (n : ℕ) (f : FaultKind) → passing {A = A} n (Refused f) ≡ Refused f
-unfolding passing scan_passing
+unfolding passing scan_onto
 passing_refused zero f = refl
-passing_refused (suc n) f = ap scan_passing (passing_refused n f)
+passing_refused (suc n) f = ap (scan_onto []) (passing_refused n f)
 
 -- where all things pass a test, none is filtered out
 pub filter_all : {A : Type 0} (p : A → Bool) (xs : List A) → All (λ x. p x ≡ true) xs → filter p xs ≡ xs
@@ -92,8 +91,7 @@ pub missing_call : (text : List ℕ) → opener_from 0 (body_tokens text) ≡ No
 unfolding call_of_scan
 missing_call text e room =
     let all = body_is_text text in
-    call_is_scan token_role not_kept room (body_tokens text)
-    ∙ ap (call_of_scan token_role 0) (opener_none (body_tokens text) 0 room all e)
+    ap (call_of_scan token_role 0) (opener_none (body_tokens text) 0 room all e)
 
 -- a call in a text, behind its `(`, that isn't closed: it has all bytes of the text
 pub record IsUnclosedAt (text : List ℕ) (from : ℕ) : Type 0 where
@@ -120,8 +118,7 @@ unclosed_at text from o u =
     record {
       size = ap (λ (ts : List SourceToken). length (bytes_of ts)) u.all ∙ ap length (body_covered (drop from text));
       call = λ room.
-          call_is_scan token_role not_kept room (body_tokens text)
-          ∙ ap (call_of_scan token_role 0) (o.led.scans room
+          ap (call_of_scan token_role 0) (o.led.scans room
           ∙ ap (λ (ts : List SourceToken). passing n (scan token_role not_kept (Inside 0) room ts)) (sym o.rest)
           ∙ ap (passing n) (u.scans room)
           ∙ passing_refused n ArgumentsOpen);
@@ -148,8 +145,7 @@ closed_at text from o c =
       size = omega (arith, one, b.1);
       used = used;
       call = λ room.
-          call_is_scan token_role not_kept room (body_tokens text)
-          ∙ ap (call_of_scan token_role 0) (o.led.scans room
+          ap (call_of_scan token_role 0) (o.led.scans room
           ∙ ap (λ (ts : List SourceToken). passing (suc (length lead)) (scan token_role not_kept (Inside 0) room ts)) (sym o.rest)
           ∙ ap (passing (suc (length lead))) (c.scans room)
           ∙ passing_closed (suc (length lead)) kept (length inner + 1)

@@ -11,8 +11,8 @@ use Rattle.rdlpp_scan.specs.SourceTokens.{SourceToken}
 use Rattle.rdlpp_table.specs.Table.{Formal, Macro}
 use Rattle.rdlpp_meaning.specs.declared.fault.FaultKind.TheVariants.{ArgumentsMissing, ArgumentsOpen, ArgumentCount}
 use Rattle.rdlpp_meaning.specs.State.{Rules}
-use Rattle.rdlpp_meaning.specs.Actuals.{Role, Cut, Call, Lacking, Bound as CallBound, actual_of, call_of, is_space, behind_space, trimmed, token_role, level_behind, not_kept, text_reads}
-use Rattle.rdlpp_meaning.specs.CallScan.{Split, Closed, split_by, split, all_parts, call_of_scan, is_kept}
+use Rattle.rdlpp_meaning.specs.Actuals.{Role, Cut, Call, Lacking, Bound as CallBound, actual_of, is_space, behind_space, trimmed, token_role, level_behind, not_kept, text_reads}
+use Rattle.rdlpp_meaning.specs.CallScan.{Split, Closed, split_by, split, all_parts, call_of_scan, is_kept, call_of}
 use Rattle.rdlpp_meaning.specs.Opens.{part_tokens}
 use Rattle.rdlpp_meaning.specs.Substitution.{body_tokens}
 use Rattle.rdlpp_meaning.proofs.OpenScopes.{range_behind}

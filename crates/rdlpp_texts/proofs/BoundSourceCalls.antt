@@ -8,8 +8,8 @@ use Rattle.rdlpp_meaning.specs.declared.fault.FaultKind.{FaultKind}
 use Rattle.rdlpp_meaning.specs.declared.fault.FaultKind.TheVariants.{ArgumentCount}
 use Rattle.rdlpp_meaning.specs.Outcome.{Outcome}
 use Rattle.rdlpp_meaning.specs.State.{Rules, State}
-use Rattle.rdlpp_meaning.specs.Actuals.{Call, Lacking, Broke, Bound, map_call, call_of, trimmed, token_role, kept, source_reads, actual_of}
-use Rattle.rdlpp_meaning.specs.CallScan.{split, all_parts, call_of_scan}
+use Rattle.rdlpp_meaning.specs.Actuals.{Call, Lacking, Broke, Bound, map_call, trimmed, token_role, kept, source_reads, actual_of}
+use Rattle.rdlpp_meaning.specs.CallScan.{split, all_parts, call_of_scan, call_of}
 use Rattle.rdlpp_meaning.specs.Items.{unlined}
 use Rattle.rdlpp_meaning.specs.Expansion.{usage_token, bytes_of, Refuses, Opens, bound_parts, is_count, usage_of_call, usage_of_formals}
 use Rattle.rdlpp_meaning.specs.Meaning.{Passage, leaves, goes_on, Progress}

@@ -13,7 +13,7 @@ use Rattle.rdlpp_scan.specs.SourceTokens.{Ordinary, SourceToken}
 use Rattle.rdlpp_scan.specs.Tokens.{tokens_from}
 use Rattle.rdlpp_meaning.specs.declared.fault.FaultKind.TheVariants.{ArgumentsMissing, ArgumentsOpen}
 use Rattle.rdlpp_meaning.specs.Actuals.{Role, Space, Dropped, Remark, Start, Up, End, Down, Halt, Ends, Stops, level_behind, kept_size, kind_role, token_role, not_kept}
-use Rattle.rdlpp_meaning.specs.CallScan.{Stand, Before, Inside, Turn, Passes, Keeps, Closes, turn_before, turn_fitting, turn_inside, turn, stand_behind_lead, stand_behind, room_behind, fault_at_end, Scanned, Refused, Closed, scan_passing, scan_keeping, scanned, scan, is_kept, is_call_text}
+use Rattle.rdlpp_meaning.specs.CallScan.{Stand, Before, Inside, Turn, Passes, Keeps, Closes, turn_before, turn_fitting, turn_inside, turn, stand_behind_lead, stand_behind, room_behind, fault_at_end, Scanned, Refused, Closed, scan_onto, scanned, scan, is_kept, is_call_text}
 use Rattle.rdlpp_meaning.specs.Expansion.{bytes_of}
 use Rattle.rdlpp_meaning.specs.Substitution.{spelled}
 use Rattle.rdlpp_meaning.specs.TextTokens.{text_tokens}
@@ -46,7 +46,7 @@ text_is_text m bs = spelled_text (tokens_from m 0 bs) bs
 -- a scan behind so many things that it passes
 unfoldable pub passing : {A : Type 0} → ℕ → Scanned A → Scanned A
 passing zero s = s
-passing (suc n) s = scan_passing (passing n s)
+passing (suc n) s = scan_onto [] (passing n s)
 
 -- how the front of a call up to its `(` lies in tokens that stand from a place on
 pub record IsLed (at n : ℕ) (ts : List SourceToken) : Type 0 where
@@ -62,10 +62,10 @@ pub record IsLed (at n : ℕ) (ts : List SourceToken) : Type 0 where
 none_by : (r : Role) (t : SourceToken) (here : ℕ) (found : Option ℕ) (s : Stand → Scanned SourceToken) → is_call_text r ≡ true
     → (found ≡ None → s Before ≡ Refused ArgumentsMissing) → opener_by r here found ≡ None
     → scanned (turn_before r) t (s (stand_behind_lead r)) ≡ Refused ArgumentsMissing
-unfolding opener_by scanned turn_before stand_behind_lead is_call_text scan_passing
-none_by Space t here found s text rest e = ap scan_passing (rest e)
-none_by Dropped t here found s text rest e = ap scan_passing (rest e)
-none_by Remark t here found s text rest e = ap scan_passing (rest e)
+unfolding opener_by scanned turn_before stand_behind_lead is_call_text scan_onto
+none_by Space t here found s text rest e = ap (scan_onto []) (rest e)
+none_by Dropped t here found s text rest e = ap (scan_onto []) (rest e)
+none_by Remark t here found s text rest e = ap (scan_onto []) (rest e)
 none_by Start t here found s text rest e = absurd (cc)
 none_by (Stops f line) t here found s text rest e = absurd (false≢true text)
 none_by r t here found s text rest e = refl
@@ -87,7 +87,7 @@ unfolding scan turn stand_behind room_behind
 scan_before room t ts r e = ap (λ (q : Role). scanned (turn_before q) t (scan token_role not_kept (stand_behind_lead q) room ts)) e
 
 -- a token in front of such a front of a call
-led : (t : SourceToken) (ts : List SourceToken) (at n : ℕ) → ((room : ℕ) → scan token_role not_kept Before room (t ∷ ts) ≡ scan_passing (scan token_role not_kept Before room ts))
+led : (t : SourceToken) (ts : List SourceToken) (at n : ℕ) → ((room : ℕ) → scan token_role not_kept Before room (t ∷ ts) ≡ scan_onto [] (scan token_role not_kept Before room ts))
     → IsLed (at + length t.bytes) n ts → IsLed at n (t ∷ ts)
 unfolding passing
 led t ts at n step c =
@@ -99,7 +99,7 @@ led t ts at n step c =
       whole = ap (λ us. t ∷ us) c.whole;
       opens = c.opens;
       place = omega (arith, c.place, size);
-      scans = λ room. step room ∙ ap scan_passing (c.scans room);
+      scans = λ room. step room ∙ ap (scan_onto []) (c.scans room);
     }
 
 -- the front of a call by the role of the first token
@@ -175,14 +175,14 @@ pub record IsEnded (level : ℕ) (ts : List SourceToken) : Type 0 where
 
 -- a scan that is refused is so with a thing in front
 refused_front : (kept : Bool) (t : SourceToken) → scanned (cond kept Keeps Passes) t (Refused ArgumentsOpen) ≡ Refused ArgumentsOpen
-unfolding scanned scan_keeping scan_passing
+unfolding scanned scan_onto
 refused_front true t = refl
 refused_front false t = refl
 
 -- one that closes does, and keeps the thing where it is kept
 closed_front : (kept : Bool) (t : SourceToken) (ks : List SourceToken) (n : ℕ)
     → scanned (cond kept Keeps Passes) t (Closed ks (n + 1)) ≡ Closed (cond kept (t ∷ ks) ks) (suc n + 1)
-unfolding scanned scan_keeping scan_passing
+unfolding scanned scan_onto
 closed_front true t ks n = let e : suc (n + 1) ≡ suc n + 1 = omega arith in ap (λ i. Closed (t ∷ ks) i) e
 closed_front false t ks n = let e : suc (n + 1) ≡ suc n + 1 = omega arith in ap (λ i. Closed ks i) e
 

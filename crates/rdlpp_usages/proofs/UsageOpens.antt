@@ -10,7 +10,7 @@ use Rattle.rdlpp_table.specs.View.{macro_at}
 use Rattle.rdlpp_texts.specs.BoundCalls.{range_part}
 use Rattle.rdlpp_texts.specs.SourceBound.{OpensBound}
 use Rattle.rdlpp_texts.proofs.BoundSourceCalls.{source_bound, source_breaks, source_counted, source_lacks}
-use Rattle.rdlpp_meaning.specs.Actuals.{call_of, token_role, kept}
+use Rattle.rdlpp_meaning.specs.Actuals.{token_role, kept}
 use Rattle.rdlpp_meaning.specs.Meaning.{Passage, Progress, goes_on, leaves}
 use Rattle.rdlpp_meaning.specs.Opened.{Waiting}
 use Rattle.rdlpp_meaning.specs.Opens.{Open, Texts, open_body}
@@ -38,6 +38,7 @@ use Rattle.rdlpp_usages.specs.Usages.{is_usage_fault, IsUsageFault, BindsKept, E
 use Rattle.rdlpp_usages.specs.declared.expansion.Opening.{Opening}
 use Rattle.rdlpp_usages.specs.declared.expansion.Opening.TheVariants.{Opened, Refused, Broken}
 use Rattle.rdlpp_usages.proofs.CallLeft.{IsBehind, body_opens, call_opens, call_refused}
+use Rattle.rdlpp_meaning.specs.CallScan.{call_of}
 
 -- a call that was read, in a run with that limit on kept bytes
 read_call : (rules : Rules) (most : ℕ) (ts : List SourceToken) (bytes : List ℕ) (behind : List SourceToken) → rules.argument_bytes ≡ most

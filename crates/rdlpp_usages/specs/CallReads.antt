@@ -7,10 +7,10 @@ use Rattle.rdlpp_scan.specs.SourceTokens.{SourceToken, line_ends}
 use Rattle.rdlpp_scan.specs.Pieces.{is_open}
 use Rattle.rdlpp_meaning.specs.declared.fault.FaultKind.{FaultKind}
 use Rattle.rdlpp_meaning.specs.declared.fault.FaultKind.TheVariants.{ArgumentsMissing, ArgumentsOpen, ArgumentBytes, EmbeddedPerl, OpenString, OpenComment, LineTooLong, SourceTooLong}
-use Rattle.rdlpp_meaning.specs.Actuals.{Broke, Lacking, call_of, map_call, token_role, kept as kept_token}
+use Rattle.rdlpp_meaning.specs.Actuals.{Broke, Lacking, map_call, token_role, kept as kept_token}
 use Rattle.rdlpp_meaning.specs.CallReading.{ReadRefused, ReadStopped, read}
 use Rattle.rdlpp_meaning.specs.CallScan as scan
-use Rattle.rdlpp_meaning.specs.CallScan.{Before, Stand, call_of_scan, is_kept}
+use Rattle.rdlpp_meaning.specs.CallScan.{Before, Stand, call_of_scan, is_kept, call_of}
 use Rattle.rdlpp_meaning.specs.Resumed.{leading}
 use Rattle.rdlpp_meaning.specs.Substitution.{body_tokens}
 use Rattle.rdlpp_meaning.specs.Items.{unlined}
